@@ -1,0 +1,5 @@
+use Rattle.tb_conllu.proofs.Told.{alive}
+use Rattle.tb_conllu.proofs.laws.read_lines_are_alive.Goals as goal
+
+pub returns : goal.returns
+returns c = alive

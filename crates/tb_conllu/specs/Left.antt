@@ -1,0 +1,15 @@
+-- What is left of a file that is read one sentence after another.
+use Rattle.std.specs.Prelude.{◌≡◌, ℕ, ◌+◌, List, [], ◌∷◌, ◌++◌, length}
+use Rattle.tb_conllu.specs.Text.{BlockText, block_lines, text_of}
+use Rattle.tb_conllu.specs.Shape.{IsShaped}
+
+-- the bytes that are left, and how many lines came before them
+pub record Left : Type 0 where
+  pub rest : List ℕ
+  pub line : ℕ
+
+-- the next sentence, and what is left after it
+pub record IsNext (old new : Left) (block : BlockText) : Type 0 where
+  pub shaped : IsShaped block
+  pub text : old.rest ≡ text_of (block ∷ []) ++ new.rest
+  pub place : new.line ≡ old.line + length (block_lines block)

@@ -1,0 +1,11 @@
+pub mod Text
+pub mod Shape
+pub mod Lines
+pub mod Told
+pub mod Begun
+pub mod Words
+pub mod Fault
+pub mod TenFields
+pub mod Plain
+pub mod Refusal
+pub mod Left

@@ -1,0 +1,76 @@
+//! A sentence that grows line by line.
+
+ghost use Rattle.std.specs.Prelude.{◌≡◌, [], ◌∷◌, ◌++◌, OnOk, IfErr, false};
+ghost use Rattle.tb_conllu.specs.Begun.{IsSound, has_rows};
+ghost use Rattle.tb_conllu.specs.Lines.{is_comment, is_empty};
+ghost use Rattle.tb_conllu.specs.Refusal.{IsRefusal, begun, lines_begun};
+ghost use Rattle.tb_conllu.specs.Shape.{IsLineText};
+ghost use Rattle.tb_conllu.specs.declared.fault.ReadFault.TheVariants.{Memory};
+
+use crate::fault::ReadFault;
+use crate::rowline::row_of;
+use crate::rows::{BlockOf, BlockRef, RowOf};
+use crate::text::Text;
+use std::alloc::Global;
+
+/// A sentence with nothing in it.
+pub fn no_block<T: Text>(alloc: Global) -> BlockOf<T>
+    ensures { result ≡ record { comments = []; rows = [] } }
+{
+    BlockOf {
+        comments: Vec::new(alloc),
+        rows: Vec::new(alloc),
+    }
+}
+
+/// Whether the sentence has a row.
+pub fn any_row<T: Text>(block: &BlockOf<T>) -> bool
+    ensures { result ≡ has_rows block.now.rows }
+{
+    !block.rows.is_empty()
+}
+
+fn is_hashed(text: &str) -> bool
+    ensures { result ≡ is_comment text.now }
+{
+    match text.as_bytes().first() {
+        Some(b) => *b == b'#',
+        None => false,
+    }
+}
+
+fn add_comment<T: Text>(block: &mut BlockOf<T>, text: T) -> Result<(), ReadFault>
+    ensures ok { OnOk result (block.new ≡ record { comments = block.old.comments ++ T.bytes text ∷ []; rows = block.old.rows }) }
+    ensures err { IfErr result (λ e. e ≡ Memory) }
+{
+    block.comments.push(text)?;
+    Ok(())
+}
+
+fn add_row<T: Text>(block: &mut BlockOf<T>, row: RowOf<T>) -> Result<(), ReadFault>
+    ensures ok { OnOk result (block.new ≡ record { comments = block.old.comments; rows = block.old.rows ++ row ∷ [] }) }
+    ensures err { IfErr result (λ e. e ≡ Memory) }
+{
+    block.rows.push(row)?;
+    Ok(())
+}
+
+/// Takes the line of this number, which isn't blank, into the sentence; or refuses it with the least code that it has.
+pub fn take_line<'a>(block: &mut BlockRef<'a>, text: &'a str, line: usize) -> Result<(), ReadFault>
+    requires text { IsLineText text.now }
+    requires filled { is_empty text.now ≡ false }
+    ensures lines { OnOk result (lines_begun block.new ≡ lines_begun block.old ++ text.now ∷ []) }
+    ensures sound { OnOk result (IsSound (begun block.old) → IsSound (begun block.new)) }
+    ensures err { IfErr result (IsRefusal line (has_rows block.old.rows) text.now) }
+{
+    if is_hashed(text) {
+        if any_row(block) {
+            return Err(ReadFault::At { line, code: 8 });
+        }
+        return add_comment(block, text);
+    }
+    match row_of(text) {
+        Ok(row) => add_row(block, row),
+        Err(code) => Err(ReadFault::At { line, code }),
+    }
+}

@@ -1,0 +1,43 @@
+//! Laws of files and faults: each function only states a fact about the definitions, and runs nothing.
+
+ghost use Rattle.std.specs.Prelude.{◌≡◌, ◌<◌, ◌+◌, ℕ, List, [], ◌∷◌, ◌++◌, length, false};
+ghost use Rattle.tb_conllu.specs.Begun.{BegunText, IsSound, lines_so_far};
+ghost use Rattle.tb_conllu.specs.Lines.{line_code, came_through};
+ghost use Rattle.tb_conllu.specs.Shape.{AllShaped};
+ghost use Rattle.tb_conllu.specs.Text.{BlockText, text_of, lines_of};
+ghost use Rattle.tb_conllu.specs.Told.{AreLines, IsDead, IsFile, IsNoFile, IsTold};
+
+/// A line at fault is dead, with the lines before it.
+pub fn faulty_line_is_dead()
+    ensures { (before : List (List ℕ)) (told : List ℕ) → AreLines (before ++ told ∷ []) → 0 < line_code (came_through false before) told → IsDead (before ++ told ∷ []) }
+{}
+
+/// Lines that were read without a fault can still become a file.
+pub fn read_lines_are_alive()
+    ensures { (b : BegunText) → IsSound b → IsDead (lines_so_far b) → ⊥ }
+{}
+
+/// Two lists of shaped sentences with one text are equal.
+pub fn one_list_has_a_text()
+    ensures { (f : List ℕ) (bs cs : List BlockText) → IsFile f bs → IsFile f cs → bs ≡ cs }
+{}
+
+/// A file that begins with the text of shaped sentences begins with these sentences.
+pub fn a_file_begins_one_way()
+    ensures { (bs cs : List BlockText) (rest : List ℕ) → AllShaped bs → AllShaped cs → text_of cs ≡ text_of bs ++ rest → (more : List BlockText) × (cs ≡ bs ++ more) × IsFile rest more }
+{}
+
+/// A fault of what follows whole sentences is the fault of the whole, so many lines later.
+pub fn fault_after_sentences()
+    ensures { (bs : List BlockText) (f : List ℕ) (line code : ℕ) → AllShaped bs → IsTold f line code → IsTold (text_of bs ++ f) (length (lines_of bs) + line) code }
+{}
+
+/// Bytes of which a fault is told are no file.
+pub fn told_bytes_are_no_file()
+    ensures { (f : List ℕ) (line code : ℕ) → IsTold f line code → IsNoFile f }
+{}
+
+/// At most one fault is told of any bytes.
+pub fn one_fault_is_told()
+    ensures { (f : List ℕ) (line code other_line other_code : ℕ) → IsTold f line code → IsTold f other_line other_code → (line ≡ other_line) × (code ≡ other_code) }
+{}

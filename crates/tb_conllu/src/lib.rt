@@ -1,0 +1,45 @@
+//! CoNLL-U text read and written exactly: bytes become sentences where they are the text of those sentences, and
+//! otherwise the first line that nothing can mend is told.
+#![tactic(auto)]
+
+mod counts;
+mod fault;
+mod fields;
+mod growing;
+mod id;
+mod ids;
+mod laws;
+mod linetext;
+mod numbers;
+mod owned;
+mod pieces;
+mod round;
+mod rowline;
+mod rows;
+mod sentences;
+mod sink;
+mod spaces;
+#[cfg(test)]
+mod tests;
+mod text;
+mod whole;
+#[cfg(test)]
+mod write_tests;
+mod writer;
+
+pub use counts::{is_word_row, words};
+pub use fault::{ReadFault, WriteFault};
+pub use id::LineId;
+pub use ids::{head_of, id_of};
+pub use laws::{
+    a_file_begins_one_way, fault_after_sentences, faulty_line_is_dead, one_fault_is_told,
+    one_list_has_a_text, read_lines_are_alive, told_bytes_are_no_file,
+};
+pub use owned::{own_block, own_row};
+pub use round::{reread, rewrite};
+pub use rowline::row_of;
+pub use rows::{Block, BlockOf, BlockRef, Row, RowOf, RowRef};
+pub use sentences::Sentences;
+pub use text::Text;
+pub use whole::{read, read_ref};
+pub use writer::{write, write_block_to, write_to};

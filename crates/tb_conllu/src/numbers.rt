@@ -1,0 +1,56 @@
+//! Numbers of one to six digits, without leading zeros.
+
+ghost use Rattle.std.specs.Prelude.{◌≡◌, ◌<◌, ◌≤◌, ℕ, MatchOption, false, true};
+ghost use Rattle.std.specs.List.{list_all};
+ghost use Rattle.std.specs.Fmt.{decimal};
+ghost use Rattle.tb_conllu.specs.Lines.{is_number, is_positive, is_digit};
+ghost use Rattle.tb_conllu.specs.Shape.{IsShort};
+
+fn all_digits(text: &[u8]) -> bool
+    ensures { result ≡ list_all is_digit text.now }
+{
+    text.iter().all(|b| 48 <= *b && *b <= 57)
+}
+
+fn test_number(text: &[u8]) -> bool
+    ensures { result ≡ is_number text.now }
+{
+    if text.is_empty() || text.len() > 6 || !all_digits(text) {
+        return false;
+    }
+    text[0] != 48 || text.len() == 1
+}
+
+fn value(text: &[u8]) -> u32
+    requires { is_number text.now ≡ true }
+    ensures text { decimal result ≡ text.now }
+    ensures bound { IsShort result }
+{
+    let mut n = 0u32;
+    for b in text {
+        n = n * 10 + u32::from(*b - 48);
+    }
+    n
+}
+
+/// The number that a text spells: `0`, or one to six digits of which the first isn't `0`.
+pub fn number(text: &[u8]) -> Option<u32>
+    ensures { MatchOption result (is_number text.now ≡ false) (λ n. (is_number text.now ≡ true) × (decimal n ≡ text.now) × IsShort n) }
+{
+    if test_number(text) {
+        Some(value(text))
+    } else {
+        None
+    }
+}
+
+/// The number that a text spells, where it isn't 0.
+pub fn positive(text: &[u8]) -> Option<u32>
+    ensures { MatchOption result (is_positive text.now ≡ false) (λ n. (is_positive text.now ≡ true) × (decimal n ≡ text.now) × (1 ≤ n) × IsShort n) }
+{
+    let n = number(text)?;
+    if n == 0 {
+        return None;
+    }
+    Some(n)
+}

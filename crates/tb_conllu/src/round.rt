@@ -1,0 +1,35 @@
+//! Reading and writing, one after the other, in either order.
+
+ghost use Rattle.std.specs.Prelude.{◌≡◌, IfOk, MatchResult};
+ghost use Rattle.tb_conllu.specs.Shape.{AllShaped};
+ghost use Rattle.tb_conllu.specs.declared.fault.ReadFault.TheVariants.{Memory};
+
+use crate::fault::ReadFault;
+use crate::rows::Block;
+use crate::whole::read;
+use crate::writer::write;
+use std::alloc::Global;
+
+/// A file read and written: its bytes again.
+///
+/// # Errors
+///
+/// The file's fault, as `read` tells it, or want of memory.
+pub fn rewrite(alloc: Global, bytes: &[u8]) -> Result<Vec<u8>, ReadFault>
+    ensures { IfOk result (λ v. v.items ≡ bytes.now) }
+{
+    let blocks = read(alloc, bytes)?;
+    Ok(write(alloc, &blocks)?)
+}
+
+/// Sentences written and read: where they are shaped as the format asks, the same sentences again.
+///
+/// # Errors
+///
+/// Want of memory; the fault of the text, where a sentence is not shaped so.
+pub fn reread(alloc: Global, blocks: &[Block]) -> Result<Vec<Block>, ReadFault>
+    ensures { AllShaped blocks.now → MatchResult result (λ v. v.items ≡ blocks.now) (λ e. e ≡ Memory) }
+{
+    let bytes = write(alloc, blocks)?;
+    read(alloc, &bytes)
+}

@@ -1,0 +1,54 @@
+//! The row of a word line.
+
+ghost use Rattle.std.specs.Prelude.{◌≡◌, ◌<◌, IfOk, IfErr, ◌||◌};
+ghost use Rattle.tb_conllu.specs.Lines.{word_code};
+ghost use Rattle.tb_conllu.specs.Shape.{has_space, IsLineText, IsRowShaped};
+ghost use Rattle.tb_conllu.specs.Text.{row_line};
+
+use crate::fields::{TenFields, ten_fields};
+use crate::ids::{head_of, id_of};
+use crate::rows::{RowOf, RowRef};
+use crate::spaces::spaced;
+
+fn any_spaced(p: TenFields<'_>) -> bool
+    ensures { result ≡ (has_space p.entry.upos.now || has_space p.entry.xpos.now || has_space p.entry.feats.now || has_space p.entry.head.now || has_space p.entry.deprel.now || has_space p.entry.deps.now) }
+{
+    spaced(p.upos)
+        || spaced(p.xpos)
+        || spaced(p.feats)
+        || spaced(p.head)
+        || spaced(p.deprel)
+        || spaced(p.deps)
+}
+
+/// The row of a word line, which borrows its texts; or the least code of the line, which is 4, 5, 6 or 7.
+pub fn row_of(line: &str) -> Result<RowRef<'_>, u8>
+    ensures ok { IfOk result (λ r. (word_code line.now ≡ 0) × (row_line r ≡ line.now)) }
+    ensures shape { IfOk result (λ r. IsLineText line.now → IsRowShaped r) }
+    ensures code { IfErr result (λ e. (word_code line.now ≡ e) × (0 < e)) }
+{
+    let Some(p) = ten_fields(line) else {
+        return Err(4);
+    };
+    let Some(id) = id_of(p.id) else {
+        return Err(5);
+    };
+    if any_spaced(p) {
+        return Err(6);
+    }
+    let Some(head) = head_of(p.head) else {
+        return Err(7);
+    };
+    Ok(RowOf {
+        id,
+        form: p.form,
+        lemma: p.lemma,
+        upos: p.upos,
+        xpos: p.xpos,
+        feats: p.feats,
+        head,
+        deprel: p.deprel,
+        deps: p.deps,
+        misc: p.misc,
+    })
+}

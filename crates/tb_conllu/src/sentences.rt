@@ -1,0 +1,113 @@
+//! Sentences read one after another.
+
+ghost use Rattle.std.specs.Prelude.{◌≡◌, ◌+◌, ◌<◌, ◌≤◌, ◌^◌, [], ◌∷◌, ◌++◌, IfOk, IfErr, IsTrue, MatchOption, false, length};
+ghost use Rattle.std.specs.List.{list_any};
+ghost use Rattle.tb_conllu.specs.Fault.{IsFaultAfter};
+ghost use Rattle.tb_conllu.specs.Left.{Left, IsNext};
+ghost use Rattle.tb_conllu.specs.Plain.{is_stray};
+ghost use Rattle.tb_conllu.specs.Shape.{IsShaped};
+ghost use Rattle.tb_conllu.specs.Text.{block_lines, text_of};
+
+use crate::fault::ReadFault;
+use crate::fields::is_empty_text;
+use crate::growing::{any_row, no_block, take_line};
+use crate::linetext::{any_stray, line_text};
+use crate::pieces::cut_once;
+use crate::rows::BlockRef;
+use std::alloc::Global;
+use std::marker::Model;
+
+/// A sentence, and where it ends.
+#[derive(Drop)]
+struct Found<'a> {
+    block: BlockRef<'a>,
+    /// What follows the sentence.
+    rest: &'a [u8],
+    /// The number of its last line.
+    line: usize,
+}
+
+/// The first sentence of bytes that come after so many lines. `quiet` says that no byte is a control character other
+/// than tab and line feed.
+fn read_block<'a>(
+    alloc: Global,
+    bytes: &'a [u8],
+    line: usize,
+    quiet: bool,
+) -> Result<Found<'a>, ReadFault>
+    requires room { line + length bytes.now < 2 ^ 63 }
+    requires quiet { IsTrue quiet → list_any is_stray bytes.now ≡ false }
+    requires filled { 0 < length bytes.now }
+    ensures shaped { IfOk result (λ found. IsShaped found.block) }
+    ensures text { IfOk result (λ found. bytes.now ≡ text_of (found.block ∷ []) ++ found.rest.now) }
+    ensures place { IfOk result (λ found. found.line ≡ line + length (block_lines found.block)) }
+    ensures room { IfOk result (λ found. found.line + length found.rest.now ≤ line + length bytes.now) }
+    ensures fault { IfErr result (IsFaultAfter line bytes.now) }
+{
+    let mut block = no_block(alloc);
+    let mut rest = bytes;
+    let mut at = line;
+    while let Some((raw, after)) = cut_once(b'\n', rest) {
+        rest = after;
+        at += 1;
+        let text = line_text(alloc, raw, quiet, at)?;
+        if is_empty_text(text) {
+            if any_row(&block) {
+                return Ok(Found {
+                    block,
+                    rest,
+                    line: at,
+                });
+            }
+            return Err(ReadFault::At { line: at, code: 9 });
+        }
+        take_line(&mut block, text, at)?;
+    }
+    Err(ReadFault::At {
+        line: at + 1,
+        code: 10,
+    })
+}
+
+/// What is left of a file, read one sentence after another: one sentence at a time is in memory.
+#[derive(Drop)]
+pub struct Sentences<'a> {
+    rest: &'a [u8],
+    line: usize,
+    quiet: bool,
+}
+
+impl<'a> Model for Sentences<'a> {
+    ghost Value = { Left };
+
+    ghost view = { λ s. record { rest = s.rest.now; line = s.line } };
+
+    ghost invariant = { λ s. (s.line + length s.rest.now < 2 ^ 63) × (IsTrue s.quiet → list_any is_stray s.rest.now ≡ false) };
+}
+
+impl<'a> Sentences<'a> {
+    /// The whole file.
+    pub fn new(bytes: &'a [u8]) -> Self
+        ensures { result ≡ record { rest = bytes.now; line = 0 } }
+    {
+        Sentences {
+            rest: bytes,
+            line: 0,
+            quiet: !any_stray(bytes),
+        }
+    }
+
+    /// The next sentence, which borrows its texts; `None` where nothing is left. After an `Err` all is left as it was.
+    pub fn read_next(&mut self, alloc: Global) -> Result<Option<BlockRef<'a>>, ReadFault>
+        ensures next { IfOk result (λ o. MatchOption o ((self.old.rest ≡ []) × (self.new ≡ self.old)) (IsNext self.old self.new)) }
+        ensures fault { IfErr result (λ e. IsFaultAfter self.old.line self.old.rest e × (self.new ≡ self.old)) }
+    {
+        if self.rest.is_empty() {
+            return Ok(None);
+        }
+        let found = read_block(alloc, self.rest, self.line, self.quiet)?;
+        self.rest = found.rest;
+        self.line = found.line;
+        Ok(Some(found.block))
+    }
+}

@@ -1,0 +1,24 @@
+//! White space in a field.
+
+ghost use Rattle.std.specs.Prelude.{◌≡◌, take};
+ghost use Rattle.std.specs.List.{list_any};
+ghost use Rattle.tb_conllu.specs.Shape.{has_space};
+ghost use Rattle.tb_conllu.specs.Plain.{is_odd};
+
+/// Whether some byte is no printable ASCII character, or a space. Most fields have none, so they need no second look.
+fn any_odd(bytes: &[u8]) -> bool
+    ensures { result ≡ list_any is_odd bytes.now }
+{
+    let mut odd = false;
+    for b in bytes {
+        odd |= *b <= 32 || *b >= 128;
+    }
+    odd
+}
+
+/// Whether some character of the text is white space.
+pub fn spaced(text: &str) -> bool
+    ensures { result ≡ has_space text.now }
+{
+    any_odd(text.as_bytes()) && text.chars().any(|c| c.is_whitespace())
+}

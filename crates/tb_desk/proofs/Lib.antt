@@ -1,0 +1,3 @@
+pub mod Inputs
+pub mod Counted
+pub mod Outputs

@@ -1,0 +1,47 @@
+-- What the check of a file answers: the reply, its line and the exit status.
+use Rattle.std.specs.Prelude.{◌≡◌, ◌≤◌, ◌<◌, ◌⊎◌, ℕ, List, ◌++◌, length, take, codes, decimal, Option}
+use Rattle.std.specs.List.{sum_by}
+use Rattle.std.specs.Io.KnownBytes.{Appends}
+use Rattle.tb_conllu.specs.Text.{BlockText}
+use Rattle.tb_conllu.specs.Told.{IsFile, IsTold}
+use Rattle.tb_conllu.specs.Words.{words_of}
+use Rattle.tb_desk.specs.declared.reply.CheckReply.{CheckReply}
+use Rattle.tb_desk.specs.declared.reply.CheckReply.TheVariants.{Counts, Read, Long, Memory, Device}
+
+-- the words of all sentences
+abbrev pub words_in : List BlockText → ℕ
+words_in bs = sum_by words_of bs
+
+-- The reply that is true of an input of at most `limit` bytes, or of a longer one. Want of memory and a failed
+-- device may come in place of any other reply.
+abbrev pub IsReplyTo : ℕ → List ℕ → CheckReply → Type 0
+IsReplyTo limit input (Counts sentences words) = (length input ≤ limit) × ((bs : List BlockText) × IsFile input bs × (sentences ≡ length bs) × (words ≡ words_in bs))
+IsReplyTo limit input (Read line code) = (length input ≤ limit) × IsTold input line code
+IsReplyTo limit input Long = limit < length input
+IsReplyTo limit input Memory = Unit {0}
+IsReplyTo limit input Device = Unit {0}
+
+-- a reply's line
+abbrev pub reply_text : CheckReply → List ℕ
+reply_text (Counts sentences words) = codes "sentences " ++ decimal sentences ++ codes " words " ++ decimal words ++ codes "\n"
+reply_text (Read line code) = codes "refused 8 Read " ++ decimal line ++ codes " " ++ decimal code ++ codes "\n"
+reply_text Long = codes "refused long\n"
+reply_text Memory = codes "refused memory\n"
+reply_text Device = codes "refused device\n"
+
+-- 0 done, 1 refused, 3 memory or device
+abbrev pub status_of : CheckReply → ℕ
+status_of (Counts sentences words) = 0
+status_of (Read line code) = 1
+status_of Long = 1
+status_of Memory = 3
+status_of Device = 3
+
+-- The text was written whole and the status is its own; or the writer failed, which held so much of it, and the
+-- status is 3.
+abbrev pub IsWritten : Option (List ℕ) → Option (List ℕ) → List ℕ → ℕ → ℕ → Type 0
+IsWritten old new text own status = (Appends old new text × (status ≡ own)) ⊎ (((k : ℕ) × Appends old new (take k text)) × (status ≡ 3))
+
+-- What is written and answered where the input is known.
+abbrev pub Answers : ℕ → List ℕ → Option (List ℕ) → Option (List ℕ) → ℕ → Type 0
+Answers limit input old new status = (reply : CheckReply) × IsReplyTo limit input reply × IsWritten old new (reply_text reply) (status_of reply) status

@@ -1,0 +1,9 @@
+-- What the words of a command line ask for, the program's name first.
+use Rattle.std.specs.Prelude.{ℕ, List, [], ◌∷◌, Bool, false, bytes_eq, codes}
+
+-- the one word `check`
+abbrev pub asks_check : List (List ℕ) → Bool
+asks_check [] = false
+asks_check (name ∷ []) = false
+asks_check (name ∷ word ∷ []) = bytes_eq word (codes "check")
+asks_check (name ∷ word ∷ next ∷ rest) = false

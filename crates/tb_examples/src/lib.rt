@@ -1,0 +1,7 @@
+//! Tests that go through several crates: worked examples of what the desk answers.
+#![tactic(auto)]
+
+#[cfg(test)]
+mod check_tests;
+#[cfg(test)]
+mod files;

@@ -1,0 +1,12 @@
+pub mod Cells
+pub mod Chains
+pub mod Filters
+pub mod Ordered
+pub mod Parts
+pub mod Relations
+pub mod Repeats
+pub mod Rows
+pub mod Steps
+pub mod Sweeps
+pub mod Unique
+pub mod Words

@@ -1,0 +1,70 @@
+-- Links put before a relation many times are chains.
+use Rattle.std.proofs.Common.{◌≡◌, ◌+◌, ◌-◌, ◌*◌, ◌<◌, ◌≤◌, ◌↔◌, ℕ, zero, suc, List, IsTrue, true, false, Option, Some, arith, sym, ap, subst, inl, inr, refl, true≢false, add-mul, take, drop, ◌++◌, length}
+use Rattle.std.proofs.lemmas.List.{take_at}
+use Rattle.tb_match.specs.Bits.{InTable, Link, Repeated}
+use Rattle.tb_match.specs.Match.{Chain, IsAtMost}
+use Rattle.tb_match.proofs.Chains.{chain_join, chain_split}
+
+module _ (L T : List ℕ) (w last : ℕ) where
+  abbrev link : ℕ → ℕ → Type 0
+  link = Link L w last
+
+  -- with no place of its own: exactly so many links, and then the relation
+  pub after_to : (t i j : ℕ) → Repeated L T w last (IsTrue false) t i j → (m : ℕ) × Chain link t i m × InTable T w m j
+  after_to zero i j h = (i, refl, h)
+  after_to (suc t) i j (inl p) = absurd (true≢false (sym p.0))
+  after_to (suc t) i j (inr (k, l, rest)) = let r = after_to t k j rest in (r.0, (k, l, r.1), r.2)
+
+  pub after_from : (t i j m : ℕ) → Chain link t i m → InTable T w m j → Repeated L T w last (IsTrue false) t i j
+  after_from zero i j m e h = subst (λ x. InTable T w x j) (sym e) h
+  after_from (suc t) i j m (k, l, rest) h = inr (k, l, after_from t k j m rest h)
+
+  -- with each place itself, from no relation: fewer links than turns
+  pub fewer_to : ((a b : ℕ) → InTable T w a b → ⊥) → (t i j : ℕ) → Repeated L T w last (IsTrue true) t i j → (n : ℕ) × (n < t) × Chain link n i j
+  fewer_to none zero i j h = absurd (none i j h)
+  fewer_to none (suc t) i j (inl p) = (0, omega arith, sym p.1)
+  fewer_to none (suc t) i j (inr (k, l, rest)) = let r = fewer_to none t k j rest in (suc (r.0), (let h : r.0 < t = r.1 in omega arith), (k, l, r.2))
+
+  pub fewer_from : (t i j n : ℕ) → n < t → Chain link n i j → Repeated L T w last (IsTrue true) t i j
+  fewer_from zero i j n lt c = absurd (omega arith)
+  fewer_from (suc t) i j zero lt c = inl (refl, sym c)
+  fewer_from (suc t) i j (suc n) lt (k, l, rest) = inr (k, l, fewer_from t k j n (omega arith) rest)
+
+-- in turn: a fixed number of links, and then a chain of some more
+module _ (L T : List ℕ) (w last a : ℕ) (b : Option ℕ)
+    (rows : (i j : ℕ) → i ≤ last → j ≤ last → InTable T w i j ↔ ((k : ℕ) × IsAtMost (a + k) b × Chain (Link L w last) k i j)) where
+  chain_inside : (n i j : ℕ) → i ≤ last → Chain (Link L w last) n i j → j ≤ last
+  chain_inside zero i j here e = subst (λ x. x ≤ last) e here
+  chain_inside (suc n) i j here (k, l, rest) = chain_inside n k j l.1 rest
+
+  pub repeated : (i j : ℕ) → i ≤ last → j ≤ last → Repeated L T w last (IsTrue false) a i j ↔ ((k : ℕ) × (a ≤ k) × IsAtMost k b × Chain (Link L w last) k i j)
+  repeated i j p q = (there, back)
+    where
+      there : Repeated L T w last (IsTrue false) a i j → (k : ℕ) × (a ≤ k) × IsAtMost k b × Chain (Link L w last) k i j
+      there h =
+          let r = after_to L T w last a i j h in
+          let m = (rows r.0 j (chain_inside a i r.0 p r.1) q).0 r.2 in
+          (a + m.0, omega arith, m.1, chain_join (Link L w last) a m.0 i r.0 j r.1 m.2)
+
+      back : ((k : ℕ) × (a ≤ k) × IsAtMost k b × Chain (Link L w last) k i j) → Repeated L T w last (IsTrue false) a i j
+      back (k, le, most, c) =
+          let e : k ≡ a + (k - a) = omega arith in
+          let s = chain_split (Link L w last) a (k - a) i j (subst (λ x. Chain (Link L w last) x i j) e c) in
+          after_from L T w last a i j s.0 s.1 ((rows s.0 j (chain_inside a i s.0 p s.1) q).1 (k - a, subst (λ x. IsAtMost x b) e most, s.2))
+
+pub turns_some : (a b t : ℕ) → a ≤ b → (b - a + 1) * t + a * t ≡ (b + 1) * t
+turns_some a b t le = let e : b ≡ a + (b - a) = omega arith in rw (← add-mul) (ap (λ x. x * t) (let f : b - a + 1 + a ≡ b + 1 = omega arith in f))
+
+pub turns_none : (a t : ℕ) → t + a * t ≤ (a + 2) * t
+turns_none a t = omega arith
+
+-- a slice that was lent whole by a vector, and handed back
+pub lent : (n : ℕ) (new old : List ℕ) → n ≡ length new → take n (new ++ drop (length new) old) ≡ new
+lent n new old e = take_at new (drop (length new) old) n (sym e)
+
+pub fewer : (L T : List ℕ) (w last a b i j : ℕ) → a ≤ b → ((x y : ℕ) → InTable T w x y → ⊥) →
+    Repeated L T w last (IsTrue true) (b - a + 1) i j ↔ ((k : ℕ) × IsAtMost (a + k) (Some b) × Chain (Link L w last) k i j)
+fewer L T w last a b i j le none = (
+  λ h. let r = fewer_to L T w last none (b - a + 1) i j h in let lt : r.0 < b - a + 1 = r.1 in (r.0, omega arith, r.2),
+  λ h. let below : a + h.0 ≤ b = h.1 in fewer_from L T w last (b - a + 1) i j h.0 (omega arith) h.2,
+)

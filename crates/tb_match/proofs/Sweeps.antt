@@ -1,0 +1,105 @@
+-- One sweep over the rows of a table.
+use Rattle.std.proofs.Common.{◌≡◌, ◌+◌, ◌<◌, ◌≤◌, ◌≢◌, ◌↔◌, ◌⊎◌, ℕ, zero, suc, List, IsTrue, arith, sym, subst, inl, inr, ⊎_elim, refl, true, add-one, le_antisymm}
+use Rattle.std.proofs.lemmas.Bool.{cases_lt, cases_eq, cases_order}
+use Rattle.tb_match.specs.Bits.{InTable, Through, Link, triangle}
+use Rattle.tb_match.specs.Match.{Chain}
+use Rattle.tb_match.proofs.Chains.{chain_cut}
+
+pub triangle_step : (m n : ℕ) → m ≡ n + 1 → triangle m ≡ m + triangle n
+triangle_step m n e = rw (e, add-one) refl
+
+pub triangle_le : (m n : ℕ) → m ≤ n → triangle m ≤ triangle n
+triangle_le m zero h = let e : m ≡ 0 = omega arith in rw e (omega arith)
+triangle_le m (suc n) h = ⊎_elim
+    (λ lt. let below : m ≤ n = omega arith in omega (arith, triangle_le m n below))
+    (λ le. let e : m ≡ suc n = le_antisymm h le in rw e (omega arith))
+    (cases_lt m (suc n))
+
+pub le_triangle : (n : ℕ) → n ≤ triangle n
+le_triangle zero = omega arith
+le_triangle (suc n) = omega arith
+
+abbrev pub Reaches : List ℕ → ℕ → ℕ → ℕ → ℕ → Type 0
+Reaches L w last i j = (k : ℕ) × Chain (Link L w last) k i j
+
+-- the row of one place in the backward sweep: the rows after it are closed, and its own is empty
+module _ (L T : List ℕ) (w last place j : ℕ) (inside : place ≤ last) (here : j ≤ last)
+    (done : (m : ℕ) → place < m → m ≤ last → InTable T w m j ↔ Reaches L w last m j)
+    (empty : InTable T w place j → ⊥) where
+  pub close_row : ((IsTrue true × (j ≡ place)) ⊎ Through L T w place (last + 1) j) ↔ Reaches L w last place j
+  close_row = (there, back)
+    where
+      there : ((IsTrue true × (j ≡ place)) ⊎ Through L T w place (last + 1) j) → Reaches L w last place j
+      there (inl (_, e)) = (0, sym e)
+      there (inr (k, from, below, link, row)) =
+          ⊎_elim
+          (λ (lt : place < k). let r = (done k lt (omega arith)).0 row in (suc (r.0), (k, (from, omega arith, link), r.1)))
+          (λ (le : k ≤ place). let e : k ≡ place = omega arith in absurd (empty (subst (λ x. InTable T w x j) e row)))
+          (cases_lt place k)
+
+      of_cut : (place ≡ j) ⊎ ((m : ℕ) × (place < m) × Link L w last place m × ((n : ℕ) × Chain (Link L w last) n m j)) →
+          (IsTrue true × (j ≡ place)) ⊎ Through L T w place (last + 1) j
+      of_cut (inl e) = inl (refl, sym e)
+      of_cut (inr (m, lt, (le, most, link), rest)) = inr (m, le, omega arith, link, (done m lt most).1 rest)
+
+      back : Reaches L w last place j → (IsTrue true × (j ≡ place)) ⊎ Through L T w place (last + 1) j
+      back (k, c) = of_cut (chain_cut (Link L w last) (λ a b r. r.0) k place j c)
+
+abbrev Row : List ℕ → List ℕ → List ℕ → ℕ → ℕ → ℕ → Type 0 → ℕ → Type 0
+Row L T T' w last place K j = InTable T' w place j ↔ ((K × (j ≡ place)) ⊎ Through L T w place (last + 1) j)
+
+-- a step of the backward sweep
+module _ (L T T' : List ℕ) (w last place before : ℕ) where
+  pub closed : (i j : ℕ) → before ≡ place + 1 → place ≤ last →
+      ((a b : ℕ) → before ≤ a → a ≤ last → b ≤ last → InTable T w a b ↔ Reaches L w last a b) →
+      ((a b : ℕ) → a < before → b ≤ last → InTable T w a b → ⊥) →
+      ((b : ℕ) → b ≤ last → Row L T T' w last place (IsTrue true) b) →
+      ((a b : ℕ) → a ≢ place → b ≤ last → InTable T' w a b ↔ InTable T w a b) →
+      place ≤ i → i ≤ last → j ≤ last → InTable T' w i j ↔ Reaches L w last i j
+  closed i j next inside done empty row others from most here = ⊎_elim this other (cases_eq i place)
+    where
+      this : i ≡ place → InTable T' w i j ↔ Reaches L w last i j
+      this e =
+          let r = row j here in
+          let c = close_row L T w last place j inside here (λ m lt le. done m j (omega arith) le here) (empty place j (omega arith) here) in
+          subst (λ x. InTable T' w x j ↔ Reaches L w last x j) (sym e) (λ h. c.0 (r.0 h), λ h. r.1 (c.1 h))
+
+      other : i ≢ place → InTable T' w i j ↔ Reaches L w last i j
+      other ne =
+          let o = others i j ne here in
+          let d = done i j (above ne) most here in
+          (λ h. d.0 (o.0 h), λ h. o.1 (d.1 h))
+        where
+          above : i ≢ place → before ≤ i
+          above ne = ⊎_elim (λ e. absurd (ne e)) (λ h. ⊎_elim (λ l. omega arith) (λ g. omega arith) h) (cases_order i place)
+
+-- a step of the forward sweep
+module _ (L T0 T T' : List ℕ) (w last place : ℕ) (K : Type 0) where
+  pub composed : (i j : ℕ) →
+      ((a b : ℕ) → a < place → b ≤ last → InTable T w a b ↔ ((K × (b ≡ a)) ⊎ Through L T0 w a (last + 1) b)) →
+      ((a b : ℕ) → place ≤ a → b ≤ last → InTable T w a b ↔ InTable T0 w a b) →
+      ((b : ℕ) → b ≤ last → Row L T T' w last place K b) →
+      ((a b : ℕ) → a ≢ place → b ≤ last → InTable T' w a b ↔ InTable T w a b) →
+      i < place + 1 → j ≤ last → InTable T' w i j ↔ ((K × (j ≡ i)) ⊎ Through L T0 w i (last + 1) j)
+  composed i j done rest row others below here = ⊎_elim this other (cases_eq i place)
+    where
+      old : Through L T w place (last + 1) j → Through L T0 w place (last + 1) j
+      old (k, a, b, c, d) = (k, a, b, c, (rest k j a here).0 d)
+
+      new : Through L T0 w place (last + 1) j → Through L T w place (last + 1) j
+      new (k, a, b, c, d) = (k, a, b, c, (rest k j a here).1 d)
+
+      this : i ≡ place → InTable T' w i j ↔ ((K × (j ≡ i)) ⊎ Through L T0 w i (last + 1) j)
+      this e =
+          let r = row j here in
+          subst (λ x. InTable T' w x j ↔ ((K × (j ≡ x)) ⊎ Through L T0 w x (last + 1) j)) (sym e)
+          (λ h. ⊎_elim (λ p. inl p) (λ p. inr (old p)) (r.0 h), λ h. r.1 (⊎_elim (λ p. inl p) (λ p. inr (new p)) h))
+
+      other : i ≢ place → InTable T' w i j ↔ ((K × (j ≡ i)) ⊎ Through L T0 w i (last + 1) j)
+      other ne =
+          let o = others i j ne here in
+          let d = done i j (lower ne) here in
+          (λ h. d.0 (o.0 h), λ h. o.1 (d.1 h))
+        where
+          lower : i ≢ place → i < place
+          lower ne = ⊎_elim (λ e. absurd (ne e)) (λ h. ⊎_elim (λ l. omega arith) (λ g. omega arith) h) (cases_order i place)

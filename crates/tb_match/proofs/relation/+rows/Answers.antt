@@ -1,0 +1,284 @@
+use Rattle.std.proofs.Common.{arith, ◌≡◌, ◌+◌, ◌*◌, ◌<◌, ◌≤◌, ◌^◌, ◌↔◌, ◌⊎◌, ℕ, ◌∷◌, length, drop, sym, ◌∙◌, subst, ap}
+use Rattle.std.proofs.lemmas.Result.{IfOk-weaker}
+use Rattle.tb_match.specs.Bits.{InTable, Through, triangle}
+use Rattle.tb_match.specs.Facts.{Holds}
+use Rattle.tb_match.specs.Match.{Match}
+use Rattle.tb_match.specs.Parts.{EachInTurn, AnyOf, AllProper, weight_of_all}
+use Rattle.tb_match.specs.Weight.{IsProper, weight_of, turns}
+use Rattle.tb_match.proofs.Parts.{Match-Cat, Match-Alt, weight_of-Cat, weight_of-Alt, IsProper-Cat, IsProper-Alt, next_part, weight_ahead, turns_some}
+use Rattle.tb_match.proofs.Relations.{room_within, sequence_more, sequence_forward, repetition_rows, choice_more, room_after, room_for_part, room_after_part, bound_after_part, without_itself}
+use Rattle.tb_match.proofs.Repeats.{lent}
+use Rattle.tb_match.proofs.Sweeps.{le_triangle}
+use Rattle.tb_match.proofs.relation.+rows.Goals as goal
+
+pub rows-returns-in-Cat-clause-rows : goal.rows-returns-in-Cat-clause-rows
+rows-returns-in-Cat-clause-rows t c =
+    IfOk-weaker c.sequence.result _ _ (λ v h i j p q.
+    let r = subst (λ ps. InTable v.items c.args.width i j ↔ EachInTurn (Holds c.args.truth.now) ps i j) c.deref.ensures.value (h i j p q) in
+    let m = Match-Cat (Holds c.args.truth.now) c.in-Cat.parts i j in
+    subst (λ x. InTable v.items c.args.width i j ↔ Match (Holds c.args.truth.now) x i j) (sym c.in-Cat.is) (λ a. m.1 (r.0 a), λ a. r.1 (m.0 a)))
+    c.sequence.ensures.rows
+
+pub rows-returns-in-Cat-clause-bound : goal.rows-returns-in-Cat-clause-bound
+rows-returns-in-Cat-clause-bound t c =
+    let e : weight_of c.args.pat.now ≡ weight_of_all c.deref.result.now = ap weight_of c.in-Cat.is ∙ weight_of-Cat c.in-Cat.parts ∙ ap weight_of_all (sym c.deref.ensures.value) in
+    rw e c.sequence.ensures.bound
+
+pub rows-sequence-requires : goal.rows-sequence-requires
+rows-sequence-requires t c =
+    let x = c.args.truth.now.exprs in
+    let e : weight_of c.args.pat.now ≡ weight_of_all c.deref.result.now = ap weight_of c.in-Cat.is ∙ weight_of-Cat c.in-Cat.parts ∙ ap weight_of_all (sym c.deref.ensures.value) in
+    let proper : AllProper x c.deref.result.now = subst (AllProper x) (sym c.deref.ensures.value) ((IsProper-Cat x c.in-Cat.parts).0 (subst (IsProper x) c.in-Cat.is c.requires.proper)) in (
+      omega (arith, c.decreases),
+      (
+        proper,
+        (
+          c.requires.wide,
+          (
+            c.requires.narrow,
+            (
+              c.requires.spare,
+              (
+                c.requires.small,
+                subst (λ n. c.args.steps.now + n * triangle (c.args.truth.now.words + 1) < 2 ^ 64) e c.requires.countable,
+              ),
+            ),
+          ),
+        ),
+      ),
+    )
+
+pub rows-choice-requires : goal.rows-choice-requires
+rows-choice-requires t c =
+    let x = c.args.truth.now.exprs in
+    let e : weight_of c.args.pat.now ≡ weight_of_all c.deref-in-Alt.result.now = ap weight_of c.in-Alt.is ∙ weight_of-Alt c.in-Alt.parts ∙ ap weight_of_all (sym c.deref-in-Alt.ensures.value) in
+    let proper : AllProper x c.deref-in-Alt.result.now = subst (AllProper x) (sym c.deref-in-Alt.ensures.value) ((IsProper-Alt x c.in-Alt.parts).0 (subst (IsProper x) c.in-Alt.is c.requires.proper)) in (
+      omega (arith, c.decreases),
+      (
+        proper,
+        (
+          c.requires.wide,
+          (
+            c.requires.narrow,
+            (
+              c.requires.spare,
+              (
+                c.requires.small,
+                subst (λ n. c.args.steps.now + n * triangle (c.args.truth.now.words + 1) < 2 ^ 64) e c.requires.countable,
+              ),
+            ),
+          ),
+        ),
+      ),
+    )
+
+pub rows-rows-requires : goal.rows-rows-requires
+rows-rows-requires t c =
+    let x = c.args.truth.now.exprs in
+    let e : weight_of c.args.pat.now ≡ weight_of c.deref-in-Rep.result.now + turns c.in-Rep.least c.in-Rep.most =
+    ap weight_of c.in-Rep.is ∙ ap (λ p. weight_of p + turns c.in-Rep.least c.in-Rep.most) (sym c.deref-in-Rep.ensures) in
+    let more = turns_some c.in-Rep.least c.in-Rep.most in
+    let proper : IsProper x c.deref-in-Rep.result.now = subst (IsProper x) (sym c.deref-in-Rep.ensures) (subst (IsProper x) c.in-Rep.is c.requires.proper).1 in (
+      omega (arith, c.decreases),
+      (
+        proper,
+        (
+          c.requires.wide,
+          (
+            c.requires.narrow,
+            (
+              c.requires.spare,
+              (
+                c.requires.small,
+                room_within (2 ^ 64) c.args.steps.now _ _ (triangle (c.args.truth.now.words + 1)) (weight_of c.args.pat.now) e c.requires.countable,
+              ),
+            ),
+          ),
+        ),
+      ),
+    )
+
+pub sequence-rows-requires : goal.sequence-rows-requires
+sequence-rows-requires t c =
+    let ps = c.args.parts.now in
+    let k = c.loop-part.part-index in
+    let x = c.part-item.result in
+    let T = triangle (c.words-last.result + 1) in
+    let count : c.words-last.result ≡ c.args.truth.now.words = c.words-last.ensures.count in
+    let d : drop k ps ≡ x ∷ drop (k + 1) ps = next_part ps k x c.loop-part-test.true c.part-item.is (λ qs. qs) in
+    let e : weight_of_all (drop k ps) ≡ weight_of x + 1 + weight_of_all (drop (k + 1) ps) = ap weight_of_all d in
+    let ahead = weight_ahead ps k in
+    let room : c.args.steps.now + weight_of_all ps * T < 2 ^ 64 =
+    subst (λ n. c.args.steps.now + weight_of_all c.args.parts.now * triangle (n + 1) < 2 ^ 64) (sym count) c.requires.countable in
+    let enough : c.loop-part.steps + weight_of x * T < 2 ^ 64 =
+    room_for_part (2 ^ 64) c.args.steps.now c.loop-part.steps (weight_of x) _ T (weight_of_all ps) _ e c.loop-part.invariant.bound room in (
+      omega (arith, c.decreases),
+      (
+        (subst (AllProper c.args.truth.now.exprs) d c.loop-part.invariant.proper).0,
+        (
+          c.requires.wide,
+          (
+            c.requires.narrow,
+            (
+              c.loop-part.invariant.wide,
+              (
+                c.requires.small,
+                subst (λ n. c.loop-part.steps + weight_of c.part-item.result * triangle (n + 1) < 2 ^ 64) count enough,
+              ),
+            ),
+          ),
+        ),
+      ),
+    )
+
+pub choice-rows-requires : goal.choice-rows-requires
+choice-rows-requires t c =
+    let ps = c.args.parts.now in
+    let k = c.loop-part.part-index in
+    let x = c.part-item.result in
+    let T = triangle (c.words-last.result + 1) in
+    let count : c.words-last.result ≡ c.args.truth.now.words = c.words-last.ensures.count in
+    let d : drop k ps ≡ x ∷ drop (k + 1) ps = next_part ps k x c.loop-part-test.true c.part-item.is (λ qs. qs) in
+    let e : weight_of_all (drop k ps) ≡ weight_of x + 1 + weight_of_all (drop (k + 1) ps) = ap weight_of_all d in
+    let ahead = weight_ahead ps k in
+    let room : c.args.steps.now + weight_of_all ps * T < 2 ^ 64 =
+    subst (λ n. c.args.steps.now + weight_of_all c.args.parts.now * triangle (n + 1) < 2 ^ 64) (sym count) c.requires.countable in
+    let enough : c.loop-part.steps + weight_of x * T < 2 ^ 64 =
+    room_for_part (2 ^ 64) c.args.steps.now c.loop-part.steps (weight_of x) _ T (weight_of_all ps) _ e c.loop-part.invariant.bound room in (
+      omega (arith, c.decreases),
+      (
+        (subst (AllProper c.args.truth.now.exprs) d c.loop-part.invariant.proper).0,
+        (
+          c.requires.wide,
+          (
+            c.requires.narrow,
+            (
+              c.loop-part.invariant.wide,
+              (
+                c.requires.small,
+                subst (λ n. c.loop-part.steps + weight_of c.part-item.result * triangle (n + 1) < 2 ^ 64) count enough,
+              ),
+            ),
+          ),
+        ),
+      ),
+    )
+
+pub rows-repetition-requires-clause-countable : goal.rows-repetition-requires-clause-countable
+rows-repetition-requires-clause-countable t c =
+    let e : weight_of c.args.pat.now ≡ weight_of c.deref-in-Rep.result.now + turns c.in-Rep.least c.in-Rep.most =
+    ap weight_of c.in-Rep.is ∙ ap (λ p. weight_of p + turns c.in-Rep.least c.in-Rep.most) (sym c.deref-in-Rep.ensures) in
+    subst (λ n. c.rows.new.steps + turns c.in-Rep.least c.in-Rep.most * triangle (n + 1) < 2 ^ 64) (sym c.words.ensures.count)
+    (room_after (2 ^ 64) c.args.steps.now c.rows.new.steps _ _ (triangle (c.args.truth.now.words + 1)) (weight_of c.args.pat.now) e c.rows.ensures.bound c.requires.countable)
+
+pub rows-returns-in-Alt-clause-rows : goal.rows-returns-in-Alt-clause-rows
+rows-returns-in-Alt-clause-rows t c =
+    IfOk-weaker c.choice.result _ _ (λ v h i j p q.
+    let r = subst (λ ps. InTable v.items c.args.width i j ↔ AnyOf (Holds c.args.truth.now) ps i j) c.deref-in-Alt.ensures.value (h i j p q) in
+    let m = Match-Alt (Holds c.args.truth.now) c.in-Alt.parts i j in
+    subst (λ x. InTable v.items c.args.width i j ↔ Match (Holds c.args.truth.now) x i j) (sym c.in-Alt.is) (λ a. m.1 (r.0 a), λ a. r.1 (m.0 a)))
+    c.choice.ensures.rows
+
+pub rows-returns-in-Alt-clause-bound : goal.rows-returns-in-Alt-clause-bound
+rows-returns-in-Alt-clause-bound t c =
+    let e : weight_of c.args.pat.now ≡ weight_of_all c.deref-in-Alt.result.now = ap weight_of c.in-Alt.is ∙ weight_of-Alt c.in-Alt.parts ∙ ap weight_of_all (sym c.deref-in-Alt.ensures.value) in
+    rw e c.choice.ensures.bound
+
+pub rows-returns-in_ok-links-in-Rep-clause-rows : goal.rows-returns-in_ok-links-in-Rep-clause-rows
+rows-returns-in_ok-links-in-Rep-clause-rows t c =
+    let H = Holds c.args.truth.now in
+    let links : (i j : ℕ) → i ≤ c.args.truth.now.words → j ≤ c.args.truth.now.words → InTable c.deref-in-Rep-2.result.now c.args.width i j ↔ Match (Holds c.args.truth.now) c.in-Rep.inner.value i j =
+    λ i j p q. subst (λ xs. InTable xs c.args.width i j ↔ Match (Holds c.args.truth.now) c.in-Rep.inner.value i j) (sym c.deref-in-Rep-2.ensures.value)
+    (subst (λ x. InTable c.in_ok-links-in-Rep.links.items c.args.width i j ↔ Match (Holds c.args.truth.now) x i j) c.deref-in-Rep.ensures (c.in_ok-links-in-Rep.ensures.rows i j p q)) in
+    IfOk-weaker c.repetition.result _ _ (λ v h i j p q.
+    subst (λ x. InTable v.items c.args.width i j ↔ Match (Holds c.args.truth.now) x i j) (sym c.in-Rep.is)
+    (repetition_rows c.args.truth.now c.words.result c.args.width c.words.ensures.count c.deref-in-Rep-2.result.now v.items c.in-Rep.inner.value c.in-Rep.least c.in-Rep.most links h i j p q))
+    c.repetition.ensures.rows
+
+pub choice-merge-requires-clause-countable : goal.choice-merge-requires-clause-countable
+choice-merge-requires-clause-countable t c =
+    let ps = c.args.parts.now in
+    let x = c.part-item.result in
+    let T = triangle (c.words-last.result + 1) in
+    let e : weight_of_all (drop c.loop-part.part-index ps) ≡ weight_of x + 1 + weight_of_all (drop (c.loop-part.part-index + 1) ps) =
+    next_part ps c.loop-part.part-index x c.loop-part-test.true c.part-item.is weight_of_all in
+    let step : c.rows.new.steps ≤ c.loop-part.steps + weight_of x * T =
+    subst (λ n. c.rows.new.steps ≤ c.loop-part.steps + weight_of c.part-item.result * triangle (n + 1)) (sym c.words-last.ensures.count) c.rows.ensures.bound in
+    let room : c.args.steps.now + weight_of_all ps * T < 2 ^ 64 =
+    subst (λ n. c.args.steps.now + weight_of_all c.args.parts.now * triangle (n + 1) < 2 ^ 64) (sym c.words-last.ensures.count) c.requires.countable in
+    room_after_part (2 ^ 64) c.args.steps.now c.loop-part.steps c.rows.new.steps (weight_of x) _ T (weight_of_all ps) _ (c.words-last.result + 1)
+    e c.loop-part.invariant.bound step (le_triangle (c.words-last.result + 1)) room
+
+pub choice-loop-part-preserved : goal.choice-loop-part-preserved
+choice-loop-part-preserved t c =
+    let H = Holds c.args.truth.now in
+    let w = c.args.width in
+    let last = c.words-last.result in
+    let T = triangle (last + 1) in
+    let ps = c.args.parts.now in
+    let k = c.loop-part.part-index in
+    let x = c.part-item.result in
+    let inv = c.loop-part.invariant in
+    let count : last ≡ c.args.truth.now.words = c.words-last.ensures.count in
+    let d : drop k ps ≡ x ∷ drop (k + 1) ps = next_part ps k x c.loop-part-test.true c.part-item.is (λ qs. qs) in
+    let same : length c.deref_mut.result.now ≡ length c.loop-part.table.items = ap length c.deref_mut.ensures.value in
+    let back = lent c.loop-part.table.len c.merge.new.table c.loop-part.table.items (omega (arith, c.loop-part.table.ok.0)) in
+    let step : c.rows.new.steps ≤ c.loop-part.steps + weight_of x * T =
+    subst (λ n. c.rows.new.steps ≤ c.loop-part.steps + weight_of c.part-item.result * triangle (n + 1)) (sym count) c.rows.ensures.bound in
+    let small = le_triangle (last + 1) in
+    record {
+      wide = omega arith;
+      whole = subst (λ xs. length xs ≡ (last + 1) * w) (sym back) (omega arith);
+      proper = (subst (AllProper c.args.truth.now.exprs) d inv.proper).1;
+      rows = λ i j p q.
+          let next : InTable c.deref.result.now w i j ↔ Match H x i j =
+          subst (λ xs. InTable xs w i j ↔ Match H x i j) (sym c.deref.ensures.value) (c.in_ok-next.ensures.rows i j (omega arith) (omega arith)) in
+          let so_far : (InTable c.deref_mut.result.now w i j ⊎ AnyOf H (x ∷ drop (k + 1) ps) i j) ↔ AnyOf H ps i j =
+          subst (λ xs. (InTable xs w i j ⊎ AnyOf H (x ∷ drop (k + 1) ps) i j) ↔ AnyOf H ps i j) (sym c.deref_mut.ensures.value)
+          (subst (λ qs. (InTable c.loop-part.table.items w i j ⊎ AnyOf H qs i j) ↔ AnyOf H ps i j) d (inv.rows i j p q)) in
+          subst (λ xs. (InTable xs w i j ⊎ AnyOf H (drop (k + 1) ps) i j) ↔ AnyOf H ps i j) (sym back)
+          (choice_more H w i j c.deref_mut.result.now c.deref.result.now c.merge.new.table x (drop (k + 1) ps) ps (c.merge.ensures.rows i j p q) next so_far);
+      more = omega arith;
+      bound = bound_after_part c.args.steps.now c.loop-part.steps c.rows.new.steps c.merge.new.steps (weight_of x) (weight_of_all (drop (k + 1) ps)) T (weight_of_all ps) _
+          (ap weight_of_all d) inv.bound step (omega arith);
+    }
+
+pub sequence-loop-part-preserved : goal.sequence-loop-part-preserved
+sequence-loop-part-preserved t c =
+    let H = Holds c.args.truth.now in
+    let w = c.args.width in
+    let last = c.words-last.result in
+    let T = triangle (last + 1) in
+    let ps = c.args.parts.now in
+    let k = c.loop-part.part-index in
+    let x = c.part-item.result in
+    let inv = c.loop-part.invariant in
+    let count : last ≡ c.args.truth.now.words = c.words-last.ensures.count in
+    let d : drop k ps ≡ x ∷ drop (k + 1) ps = next_part ps k x c.loop-part-test.true c.part-item.is (λ qs. qs) in
+    let same : length c.deref_mut.result.now ≡ length c.in_ok-next.next.items = ap length c.deref_mut.ensures.value in
+    let back = lent c.in_ok-next.next.len c.compose.new.table c.in_ok-next.next.items (omega (arith, c.in_ok-next.next.ok.0)) in
+    let step : c.rows.new.steps ≤ c.loop-part.steps + weight_of x * T =
+    subst (λ n. c.rows.new.steps ≤ c.loop-part.steps + weight_of c.part-item.result * triangle (n + 1)) (sym count) c.rows.ensures.bound in
+    let sized : length c.in_ok-next.next.items ≡ (last + 1) * w = subst (λ n. length c.in_ok-next.next.items ≡ (n + 1) * w) (sym count) c.in_ok-next.ensures.whole in
+    let inside : (e v : ℕ) → Holds c.args.truth.now e v → v ≤ last = λ e v h. (let le : v ≤ c.args.truth.now.words = h.1 in omega arith) in
+    let next : (i j : ℕ) → i ≤ last → j ≤ last → InTable c.deref_mut.result.now w i j ↔ Match H x i j =
+    λ i j p q. subst (λ xs. InTable xs w i j ↔ Match H x i j) (sym c.deref_mut.ensures.value) (c.in_ok-next.ensures.rows i j (omega arith) (omega arith)) in
+    let forward : (i j : ℕ) → i ≤ last → j ≤ last → InTable c.deref.result.now w i j → i ≤ j =
+    subst (λ xs. (i j : ℕ) → i ≤ last → j ≤ last → InTable xs w i j → i ≤ j) (sym c.deref.ensures.value) inv.forward in
+    let made : (i j : ℕ) → i ≤ last → j ≤ last → InTable c.compose.new.table w i j ↔ Through c.deref.result.now c.deref_mut.result.now w i (last + 1) j =
+    λ i j p q. without_itself _ _ _ (c.compose.ensures.rows i j p q) in
+    let so_far : (i j : ℕ) → i ≤ last → j ≤ last → ((m : ℕ) × (m ≤ last) × InTable c.deref.result.now w i m × EachInTurn H (x ∷ drop (k + 1) ps) m j) ↔ EachInTurn H ps i j =
+    λ i j p q. subst (λ xs. ((m : ℕ) × (m ≤ last) × InTable xs w i m × EachInTurn H (x ∷ drop (k + 1) ps) m j) ↔ EachInTurn H ps i j) (sym c.deref.ensures.value)
+    (subst (λ qs. ((m : ℕ) × (m ≤ last) × InTable c.loop-part.table.items w i m × EachInTurn H qs m j) ↔ EachInTurn H ps i j) d (inv.rows i j p q)) in
+    record {
+      wide = omega arith;
+      whole = subst (λ xs. length xs ≡ (last + 1) * w) (sym back) (omega arith);
+      proper = (subst (AllProper c.args.truth.now.exprs) d inv.proper).1;
+      forward = subst (λ xs. (i j : ℕ) → i ≤ last → j ≤ last → InTable xs w i j → i ≤ j) (sym back)
+          (sequence_forward last w c.deref.result.now c.deref_mut.result.now c.compose.new.table H inside x (drop (k + 1) ps) ps next forward made so_far);
+      rows = subst (λ xs. (i j : ℕ) → i ≤ last → j ≤ last → ((m : ℕ) × (m ≤ last) × InTable xs w i m × EachInTurn H (drop (k + 1) ps) m j) ↔ EachInTurn H ps i j) (sym back)
+          (sequence_more last w c.deref.result.now c.deref_mut.result.now c.compose.new.table H inside x (drop (k + 1) ps) ps next forward made so_far);
+      more = omega arith;
+      bound = bound_after_part c.args.steps.now c.loop-part.steps c.rows.new.steps c.compose.new.steps (weight_of x) (weight_of_all (drop (k + 1) ps)) T (weight_of_all ps) _
+          (ap weight_of_all d) inv.bound step (omega arith);
+    }

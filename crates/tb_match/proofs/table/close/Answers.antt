@@ -1,0 +1,27 @@
+use Rattle.std.proofs.Common.{arith, ◌≡◌, ◌+◌, ◌-◌, ◌≤◌}
+use Rattle.tb_match.specs.Bits.{triangle}
+use Rattle.tb_match.proofs.Sweeps.{closed, triangle_step, triangle_le}
+use Rattle.tb_match.proofs.table.close.Goals as goal
+
+pub set_row-requires-clause-countable : goal.set_row-requires-clause-countable
+set_row-requires-clause-countable c =
+    let p = c.loop-place.place in
+    let step : triangle (c.args.last + 1 - (p - 1)) ≡ (c.args.last + 1 - (p - 1)) + triangle (c.args.last + 1 - p) = triangle_step _ _ (omega arith) in
+    let le : triangle (c.args.last + 1 - (p - 1)) ≤ triangle (c.args.last + 1) = triangle_le _ _ (omega arith) in
+    omega arith
+
+pub loop-place-preserved : goal.loop-place-preserved
+loop-place-preserved c =
+    let inv = c.loop-place.invariant in
+    let step : triangle (c.args.last + 1 - (c.loop-place.place - 1)) ≡ (c.args.last + 1 - (c.loop-place.place - 1)) + triangle (c.args.last + 1 - c.loop-place.place) = triangle_step _ _ (omega arith) in
+    record {
+      upto = omega arith;
+      wide = omega arith;
+      whole = omega arith;
+      done = λ i j from inside here.
+          closed c.args.links.now c.loop-place.table c.set_row.new.table c.args.width c.args.last (c.loop-place.place - 1) c.loop-place.place i j (omega arith) (omega arith)
+          inv.done inv.empty c.set_row.ensures.row c.set_row.ensures.others from inside here;
+      empty = λ i j below here h. inv.empty i j (omega arith) here ((c.set_row.ensures.others i j (λ e. omega arith) here).0 h);
+      more = omega arith;
+      bound = omega arith;
+    }

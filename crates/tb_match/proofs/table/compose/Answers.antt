@@ -1,0 +1,22 @@
+use Rattle.std.proofs.Common.{arith, ◌≡◌, ◌+◌, ◌-◌, IsTrue}
+use Rattle.tb_match.specs.Bits.{triangle}
+use Rattle.tb_match.proofs.Sweeps.{composed, triangle_step}
+use Rattle.tb_match.proofs.table.compose.Goals as goal
+
+pub loop-place-preserved : goal.loop-place-preserved
+loop-place-preserved c =
+    let inv = c.loop-place.invariant in
+    let step : triangle (c.args.last + 1 - c.loop-place.place) ≡ (c.args.last + 1 - c.loop-place.place) + triangle (c.args.last + 1 - (c.loop-place.place + 1)) = triangle_step _ _ (omega arith) in
+    record {
+      wide = omega arith;
+      whole = omega arith;
+      done = λ i j below here.
+          composed c.args.links.now c.args.table.now c.loop-place.table c.set_row.new.table c.args.width c.args.last c.loop-place.place (IsTrue c.args.keep) i j
+          inv.done inv.rest c.set_row.ensures.row c.set_row.ensures.others below here;
+      rest = λ i j from here.
+          let o = c.set_row.ensures.others i j (λ e. omega arith) here in
+          let r = inv.rest i j (omega arith) here in
+          (λ h. r.0 (o.0 h), λ h. o.1 (r.1 h));
+      more = omega arith;
+      bound = omega arith;
+    }

@@ -1,0 +1,10 @@
+use Rattle.std.proofs.Common.{◌≡◌, ◌+◌, ◌*◌, ◌<◌, ◌≤◌, ℕ, length, ◌↔◌}
+use Rattle.tb_match.specs.Bits.{InTable}
+use Rattle.tb_match.proofs.table.diagonal.Given as goal
+
+abbrev pub invariant-loop-place : goal.invariant-loop-place
+invariant-loop-place l = record {
+  wide : length l.spare ≡ l.width;
+  whole : length l.table.items ≡ (l.last + 1) * l.width;
+  rows : (i j : ℕ) → i < l.place → j ≤ l.last → (InTable l.table.items l.width i j ↔ (i ≡ j));
+}

@@ -1,0 +1,13 @@
+use Rattle.std.proofs.Common.{◌≡◌, ◌+◌, ◌<◌, ◌≤◌, ℕ, length, ◌↔◌, ◌⊎◌}
+use Rattle.tb_match.specs.Bits.{InTable}
+use Rattle.tb_match.proofs.table.merge.Given as goal
+
+abbrev pub invariant-loop-place : goal.invariant-loop-place
+invariant-loop-place l = record {
+  wide : length l.spare ≡ l.width;
+  whole : length l.table ≡ length l.initial.table;
+  done : (i j : ℕ) → i < l.place → j ≤ l.last → (InTable l.table l.width i j ↔ (InTable l.initial.table l.width i j ⊎ InTable l.other l.width i j));
+  rest : (i j : ℕ) → l.place ≤ i → j ≤ l.last → (InTable l.table l.width i j ↔ InTable l.initial.table l.width i j);
+  more : l.initial.steps ≤ l.steps;
+  bound : l.steps ≤ l.initial.steps + l.place;
+}

@@ -1,0 +1,34 @@
+-- Rows of bits, kept in words of 64 bits, and tables of such rows. The bit of place j is bit j % 64 of
+-- word j / 64 of its row.
+use Rattle.std.specs.Prelude.{◌≡◌, ℕ, zero, suc, ◌+◌, ◌*◌, ◌/◌, ◌%◌, ◌<◌, ◌≤◌, ◌⊎◌, List, slice_index}
+use Rattle.std.specs.Int.{bit_at}
+
+-- place j is in the row that begins at word `from`
+unfoldable pub InRow : List ℕ → ℕ → ℕ → Type 0
+InRow cells from j = bit_at (slice_index cells (from + j / 64)) (j % 64) ≡ 1
+
+-- row i of a table whose rows have w words has place j
+abbrev pub InTable : List ℕ → ℕ → ℕ → ℕ → Type 0
+InTable cells w i j = InRow cells (i * w) j
+
+-- from row i of `links` a link leads on to a place below `below`, whose row of `table` has place j
+abbrev pub Through : List ℕ → List ℕ → ℕ → ℕ → ℕ → ℕ → Type 0
+Through links table w i below j = (k : ℕ) × (i ≤ k) × (k < below) × InTable links w i k × InTable table w k j
+
+-- a link of the table from i that leads forward or stays, up to the last place
+abbrev pub Link : List ℕ → ℕ → ℕ → ℕ → ℕ → Type 0
+Link cells w last i j = (i ≤ j) × (j ≤ last) × InTable cells w i j
+
+-- a link of the table that leads strictly forward
+abbrev pub Forward : List ℕ → ℕ → ℕ → ℕ → ℕ → Type 0
+Forward cells w last i j = (i < j) × (j ≤ last) × InTable cells w i j
+
+-- the numbers from 1 to n added up: how many pairs i ≤ j there are of n places
+abbrev pub triangle : ℕ → ℕ
+triangle zero = 0
+triangle (suc n) = (suc n) + triangle n
+
+-- the links put before the table's relation so many times, each time with each place itself where K holds
+abbrev pub Repeated : List ℕ → List ℕ → ℕ → ℕ → Type 0 → ℕ → ℕ → ℕ → Type 0
+Repeated L T w last K zero i j = InTable T w i j
+Repeated L T w last K (suc t) i j = (K × (j ≡ i)) ⊎ ((k : ℕ) × Link L w last i k × Repeated L T w last K t k j)

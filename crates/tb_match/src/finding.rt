@@ -1,0 +1,53 @@
+//! The hits of a pattern.
+
+ghost use Rattle.std.specs.Prelude.{◌+◌, ◌*◌, ◌/◌, ◌≤◌, IfOk};
+ghost use Rattle.tb_match.specs.Hits.{AreHits, HitsAreOneList, IsFound};
+ghost use Rattle.tb_match.specs.Weight.{Fits, weight_of};
+
+use crate::hits::hits_by;
+use crate::pattern::Pat;
+use crate::relation::rows;
+use crate::strategy::Strategy;
+use crate::truth::Truth;
+use std::alloc::{AllocError, Global};
+
+/// What [`find`] found.
+#[derive(Debug, Drop)]
+pub struct Found {
+    /// The hits, by first place and then by last place: `(i, j)` covers the words `i + 1` to `j`.
+    pub hits: Vec<(u32, u32)>,
+    /// How often one row of bits was united into another.
+    pub steps: u64,
+}
+
+/// The hits of the pattern in the sentence of the table, by the strategy, and the number of unions
+/// of bit rows that it took.
+///
+/// It holds at most two tables, and one more for each sequence, choice or repetition that is open
+/// on the way down to a part; a table has a row of one bit for each place, in each of its places.
+/// It takes some stack frames for each level of the pattern.
+pub fn find(
+    alloc: Global,
+    pat: &Pat,
+    truth: &Truth,
+    strategy: Strategy,
+) -> Result<Found, AllocError>
+    requires { Fits truth.now.exprs pat.now }
+    ensures hits { IfOk result (λ f. AreHits strategy (IsFound truth.now pat.now) f.hits.items) }
+    ensures steps { IfOk result (λ f.
+        f.steps ≤ weight_of pat.now * (truth.now.words + 1) * (truth.now.words + 2) / 2) }
+{
+    let last = truth.words();
+    let width = last / 64 + 1;
+    let mut spare = Vec::from_elem(alloc, 0, width)?;
+    let mut steps = 0;
+    let table = rows(alloc, pat, truth, &mut spare, width, &mut steps)?;
+    let hits = hits_by(alloc, strategy, &table, width, last)?;
+    Ok(Found { hits, steps })
+}
+
+/// The hits of a pattern are one list: what [`find`] ensures of them leaves no choice. A law, whose
+/// proof is all that there is to it.
+pub fn hits_are_one_list()
+    ensures { HitsAreOneList }
+{}

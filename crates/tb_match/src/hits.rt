@@ -1,0 +1,163 @@
+//! The hits among the pairs of places of a table of bit rows.
+
+ghost use Rattle.std.specs.Prelude.{◌≡◌, ◌+◌, ◌*◌, ◌/◌, ◌<◌, ◌≤◌, ◌↔◌, ◌⊎◌, ℕ, IfOk, OnOk, length};
+ghost use Rattle.std.specs.List.{AllPairs, Contains};
+ghost use Rattle.tb_match.specs.Bits.{Forward};
+ghost use Rattle.tb_match.specs.Hits.{AreHits, ComesBefore};
+
+use crate::strategy::Strategy;
+use crate::table::has;
+use std::alloc::{AllocError, Global};
+
+/// The least end of a pair from `place`, or one past the last place where there is no pair.
+fn least_end(table: &[u64], width: usize, place: usize, last: usize) -> usize
+    requires wide { last / 64 < width }
+    requires table { length table.now ≡ (last + 1) * width }
+    requires order { place ≤ last }
+    requires small { last ≤ 1000 }
+    ensures limit { result ≤ last + 1 }
+    ensures there { result ≤ last → Forward table.now width last place result }
+    ensures least { (j : ℕ) → Forward table.now width last place j → result ≤ j }
+{
+    for end in place + 1..last + 1 {
+        if has(table, place * width, end) {
+            return end;
+        }
+    }
+    last + 1
+}
+
+/// The greatest end of a pair from `place`, or 0, at which no pair ends, where there is none.
+fn greatest_end(table: &[u64], width: usize, place: usize, last: usize) -> usize
+    requires wide { last / 64 < width }
+    requires table { length table.now ≡ (last + 1) * width }
+    requires order { place ≤ last }
+    requires small { last ≤ 1000 }
+    ensures limit { result ≤ last }
+    ensures there { 0 < result → Forward table.now width last place result }
+    ensures greatest { (j : ℕ) → Forward table.now width last place j → j ≤ result }
+{
+    for end in (place + 1..last + 1).rev() {
+        if has(table, place * width, end) {
+            return end;
+        }
+    }
+    0
+}
+
+/// The pairs that strictly contain no other. From the last place back, only the least end of a
+/// place can be one, and it is where it lies before all those of later places.
+fn shortest(
+    alloc: Global,
+    table: &[u64],
+    width: usize,
+    last: usize,
+) -> Result<Vec<(u32, u32)>, AllocError>
+    requires wide { last / 64 < width }
+    requires table { length table.now ≡ (last + 1) * width }
+    requires small { last ≤ 1000 }
+    ensures { IfOk result (λ v. AreHits Strategy.Shortest (Forward table.now width last) v.items) }
+{
+    let mut hits = Vec::new(alloc);
+    let mut soonest = last + 1;
+    for place in (0..last + 1).rev() {
+        let end = least_end(table, width, place, last);
+        if end < soonest {
+            hits.push((place as u32, end as u32))?;
+            soonest = end;
+        }
+    }
+    hits.reverse();
+    Ok(hits)
+}
+
+/// The pairs that no other strictly contains: the greatest end of a place, where it lies beyond
+/// all those of earlier places.
+fn longest(
+    alloc: Global,
+    table: &[u64],
+    width: usize,
+    last: usize,
+) -> Result<Vec<(u32, u32)>, AllocError>
+    requires wide { last / 64 < width }
+    requires table { length table.now ≡ (last + 1) * width }
+    requires small { last ≤ 1000 }
+    ensures { IfOk result (λ v. AreHits Strategy.Longest (Forward table.now width last) v.items) }
+{
+    let mut hits = Vec::new(alloc);
+    let mut reached = 0;
+    for place in 0..last + 1 {
+        let end = greatest_end(table, width, place, last);
+        if reached < end {
+            hits.push((place as u32, end as u32))?;
+            reached = end;
+        }
+    }
+    Ok(hits)
+}
+
+/// Adds the pairs from `place` to those of earlier places.
+fn push_pairs(
+    hits: &mut Vec<(u32, u32)>,
+    table: &[u64],
+    width: usize,
+    place: usize,
+    last: usize,
+) -> Result<(), AllocError>
+    requires wide { last / 64 < width }
+    requires table { length table.now ≡ (last + 1) * width }
+    requires order { place ≤ last }
+    requires small { last ≤ 1000 }
+    requires ascending { AllPairs ComesBefore hits.old.items }
+    requires earlier { (i j : ℕ) → Contains hits.old.items (i, j) → i < place }
+    ensures ascending { OnOk result (AllPairs ComesBefore hits.new.items) }
+    ensures pairs { OnOk result ((i j : ℕ) → (Contains hits.new.items (i, j)
+        ↔ (Contains hits.old.items (i, j) ⊎ ((i ≡ place) × Forward table.now width last place j)))) }
+{
+    for end in place + 1..last + 1 {
+        if has(table, place * width, end) {
+            let pair = (place as u32, end as u32);
+            hits.push(pair)?;
+        }
+    }
+    Ok(())
+}
+
+/// All pairs.
+fn every(
+    alloc: Global,
+    table: &[u64],
+    width: usize,
+    last: usize,
+) -> Result<Vec<(u32, u32)>, AllocError>
+    requires wide { last / 64 < width }
+    requires table { length table.now ≡ (last + 1) * width }
+    requires small { last ≤ 1000 }
+    ensures { IfOk result (λ v. AreHits Strategy.Every (Forward table.now width last) v.items) }
+{
+    let mut hits = Vec::new(alloc);
+    for place in 0..last + 1 {
+        push_pairs(&mut hits, table, width, place, last)?;
+    }
+    Ok(hits)
+}
+
+/// The pairs that are hits by the strategy.
+pub(crate) fn hits_by(
+    alloc: Global,
+    strategy: Strategy,
+    table: &[u64],
+    width: usize,
+    last: usize,
+) -> Result<Vec<(u32, u32)>, AllocError>
+    requires wide { last / 64 < width }
+    requires table { length table.now ≡ (last + 1) * width }
+    requires small { last ≤ 1000 }
+    ensures { IfOk result (λ v. AreHits strategy (Forward table.now width last) v.items) }
+{
+    match strategy {
+        Strategy::Shortest => shortest(alloc, table, width, last),
+        Strategy::Longest => longest(alloc, table, width, last),
+        Strategy::Every => every(alloc, table, width, last),
+    }
+}

@@ -1,0 +1,229 @@
+//! The relation of a pattern as a table of bit rows.
+
+ghost use Rattle.std.specs.Prelude.{◌≡◌, ◌+◌, ◌-◌, ◌*◌, ◌/◌, ◌<◌, ◌≤◌, ◌^◌, ◌↔◌, ◌⊎◌, ℕ, IfOk, IsTrue, length};
+ghost use Rattle.tb_match.specs.Bits.{InTable, Link, Repeated, triangle};
+ghost use Rattle.tb_match.specs.Match.{Chain, Match, IsAtMost};
+ghost use Rattle.tb_match.specs.Parts.{EachInTurn, AnyOf, AllProper, weight_of_all};
+ghost use Rattle.tb_match.specs.Weight.{IsBetween, weight_of, turns, IsProper};
+ghost use Rattle.tb_match.specs.Facts.{Facts, Holds};
+
+use crate::pattern::Pat;
+use crate::table::{begin, close, compose, diagonal, empty, merge, repeat, store};
+use crate::truth::Truth;
+use std::alloc::{AllocError, Global};
+
+/// The rows of one word of which the expression holds.
+fn token_rows(
+    alloc: Global,
+    expr: u16,
+    truth: &Truth,
+    spare: &mut [u64],
+    width: usize,
+) -> Result<Vec<u64>, AllocError>
+    requires expr { expr < truth.now.exprs }
+    requires wide { truth.now.words / 64 < width }
+    requires narrow { width ≤ 16 }
+    requires spare { length spare.old ≡ width }
+    ensures whole { IfOk result (λ v. length v.items ≡ (truth.now.words + 1) * width) }
+    ensures rows { IfOk result (λ v. (i j : ℕ) → i ≤ truth.now.words → j ≤ truth.now.words →
+        (InTable v.items width i j ↔ ((j ≡ i + 1) × Holds truth.now expr j))) }
+{
+    let last = truth.words();
+    let mut table = empty(alloc, width, last)?;
+    for place in 0..last {
+        if truth.get(expr, place + 1) {
+            begin(spare, place + 1, true);
+            store(&mut table, spare, place);
+        }
+    }
+    Ok(table)
+}
+
+/// The rows of chains of links that may follow the least number of them.
+fn further(
+    alloc: Global,
+    links: &[u64],
+    least: u8,
+    most: Option<u8>,
+    spare: &mut [u64],
+    width: usize,
+    last: usize,
+    steps: &mut u64,
+) -> Result<Vec<u64>, AllocError>
+    requires order { IsBetween least most }
+    requires wide { last / 64 < width }
+    requires narrow { width ≤ 16 }
+    requires spare { length spare.old ≡ width }
+    requires links { length links.now ≡ (last + 1) * width }
+    requires small { last ≤ 1000 }
+    requires countable { steps.old + turns least most * triangle (last + 1) < 2 ^ 64 }
+    ensures whole { IfOk result (λ v. length v.items ≡ (last + 1) * width) }
+    ensures rows { IfOk result (λ v. (i j : ℕ) → i ≤ last → j ≤ last →
+        (InTable v.items width i j ↔ ((k : ℕ) × IsAtMost (least + k) most × Chain (Link links.now width last) k i j))) }
+    ensures more { steps.old ≤ steps.new }
+    ensures bound { steps.new + least * triangle (last + 1) ≤ steps.old + turns least most * triangle (last + 1) }
+{
+    let mut table = empty(alloc, width, last)?;
+    match most {
+        None => {
+            close(links, &mut table, spare, width, last, steps);
+            Ok(table)
+        }
+        Some(most) => {
+            repeat(
+                links,
+                &mut table,
+                spare,
+                width,
+                last,
+                (most - least) as usize + 1,
+                true,
+                steps,
+            );
+            Ok(table)
+        }
+    }
+}
+
+/// The rows of chains of links: at least `least` of them, and at most `most` where it is given.
+fn repetition(
+    alloc: Global,
+    links: &[u64],
+    least: u8,
+    most: Option<u8>,
+    spare: &mut [u64],
+    width: usize,
+    last: usize,
+    steps: &mut u64,
+) -> Result<Vec<u64>, AllocError>
+    requires order { IsBetween least most }
+    requires wide { last / 64 < width }
+    requires narrow { width ≤ 16 }
+    requires spare { length spare.old ≡ width }
+    requires links { length links.now ≡ (last + 1) * width }
+    requires small { last ≤ 1000 }
+    requires countable { steps.old + turns least most * triangle (last + 1) < 2 ^ 64 }
+    ensures whole { IfOk result (λ v. length v.items ≡ (last + 1) * width) }
+    ensures rows { IfOk result (λ v. (i j : ℕ) → i ≤ last → j ≤ last →
+        (InTable v.items width i j ↔ ((k : ℕ) × (least ≤ k) × IsAtMost k most × Chain (Link links.now width last) k i j))) }
+    ensures more { steps.old ≤ steps.new }
+    ensures bound { steps.new ≤ steps.old + turns least most * triangle (last + 1) }
+{
+    let mut table = further(alloc, links, least, most, spare, width, last, steps)?;
+    repeat(
+        links,
+        &mut table,
+        spare,
+        width,
+        last,
+        least as usize,
+        false,
+        steps,
+    );
+    Ok(table)
+}
+
+/// The rows of the parts, one after the other.
+#[cycle(rows)]
+fn sequence(
+    alloc: Global,
+    parts: &[Pat],
+    truth: &Truth,
+    spare: &mut [u64],
+    width: usize,
+    steps: &mut u64,
+) -> Result<Vec<u64>, AllocError>
+    requires proper { AllProper truth.now.exprs parts.now }
+    requires wide { truth.now.words / 64 < width }
+    requires narrow { width ≤ 16 }
+    requires spare { length spare.old ≡ width }
+    requires small { truth.now.words ≤ 1000 }
+    requires countable { steps.old + weight_of_all parts.now * triangle (truth.now.words + 1) < 2 ^ 64 }
+    ensures whole { IfOk result (λ v. length v.items ≡ (truth.now.words + 1) * width) }
+    ensures rows { IfOk result (λ v. (i j : ℕ) → i ≤ truth.now.words → j ≤ truth.now.words →
+        (InTable v.items width i j ↔ EachInTurn (Holds truth.now) parts.now i j)) }
+    ensures more { steps.old ≤ steps.new }
+    ensures bound { steps.new ≤ steps.old + weight_of_all parts.now * triangle (truth.now.words + 1) }
+{
+    let last = truth.words();
+    let mut table = diagonal(alloc, spare, width, last)?;
+    for part in parts {
+        let mut next = rows(alloc, part, truth, spare, width, steps)?;
+        compose(&table, &mut next, spare, width, last, false, steps);
+        table = next;
+    }
+    Ok(table)
+}
+
+/// The rows of any of the parts.
+#[cycle(rows)]
+fn choice(
+    alloc: Global,
+    parts: &[Pat],
+    truth: &Truth,
+    spare: &mut [u64],
+    width: usize,
+    steps: &mut u64,
+) -> Result<Vec<u64>, AllocError>
+    requires proper { AllProper truth.now.exprs parts.now }
+    requires wide { truth.now.words / 64 < width }
+    requires narrow { width ≤ 16 }
+    requires spare { length spare.old ≡ width }
+    requires small { truth.now.words ≤ 1000 }
+    requires countable { steps.old + weight_of_all parts.now * triangle (truth.now.words + 1) < 2 ^ 64 }
+    ensures whole { IfOk result (λ v. length v.items ≡ (truth.now.words + 1) * width) }
+    ensures rows { IfOk result (λ v. (i j : ℕ) → i ≤ truth.now.words → j ≤ truth.now.words →
+        (InTable v.items width i j ↔ AnyOf (Holds truth.now) parts.now i j)) }
+    ensures more { steps.old ≤ steps.new }
+    ensures bound { steps.new ≤ steps.old + weight_of_all parts.now * triangle (truth.now.words + 1) }
+{
+    let last = truth.words();
+    let mut table = empty(alloc, width, last)?;
+    for part in parts {
+        let next = rows(alloc, part, truth, spare, width, steps)?;
+        merge(&mut table, &next, spare, width, last, steps);
+    }
+    Ok(table)
+}
+
+/// The rows of a pattern.
+#[cycle(rows)]
+pub(crate) fn rows(
+    alloc: Global,
+    pat: &Pat,
+    truth: &Truth,
+    spare: &mut [u64],
+    width: usize,
+    steps: &mut u64,
+) -> Result<Vec<u64>, AllocError>
+    requires proper { IsProper truth.now.exprs pat.now }
+    requires wide { truth.now.words / 64 < width }
+    requires narrow { width ≤ 16 }
+    requires spare { length spare.old ≡ width }
+    requires small { truth.now.words ≤ 1000 }
+    requires countable { steps.old + weight_of pat.now * triangle (truth.now.words + 1) < 2 ^ 64 }
+    ensures whole { IfOk result (λ v. length v.items ≡ (truth.now.words + 1) * width) }
+    ensures rows { IfOk result (λ v. (i j : ℕ) → i ≤ truth.now.words → j ≤ truth.now.words →
+        (InTable v.items width i j ↔ Match (Holds truth.now) pat.now i j)) }
+    ensures more { steps.old ≤ steps.new }
+    ensures bound { steps.new ≤ steps.old + weight_of pat.now * triangle (truth.now.words + 1) }
+{
+    match pat {
+        Pat::Tok(expr) => token_rows(alloc, *expr, truth, spare, width),
+        Pat::Cat(parts) => sequence(alloc, parts, truth, spare, width, steps),
+        Pat::Alt(parts) => choice(alloc, parts, truth, spare, width, steps),
+        Pat::Rep(inner, least, most) => {
+            let links = rows(alloc, inner, truth, spare, width, steps)?;
+            repetition(
+                alloc,
+                &links,
+                *least,
+                *most,
+                spare,
+                width,
+                truth.words(),
+                steps,
+            )
+        }
+    }
+}

@@ -1,0 +1,12 @@
+//! Which matches are hits.
+
+/// Which of a pattern's matches are hits. Only matches with at least one word count.
+#[derive(Clone, Copy, Debug, PartialEq, Eq)]
+pub enum Strategy {
+    /// The matches that strictly contain no other match.
+    Shortest,
+    /// The matches that are strictly contained in no other match.
+    Longest,
+    /// All matches.
+    Every,
+}

@@ -1,0 +1,268 @@
+//! Tables of bit rows, one after the other in one slice.
+
+ghost use Rattle.std.specs.Prelude.{◌≡◌, ◌+◌, ◌-◌, ◌*◌, ◌/◌, ◌<◌, ◌≤◌, ◌^◌, ◌↔◌, ◌⊎◌, ◌≢◌, ℕ, IsTrue, IfOk, length};
+ghost use Rattle.tb_match.specs.Bits.{InRow, InTable, Through, Link, Repeated, triangle};
+ghost use Rattle.tb_match.specs.Match.{Chain};
+
+use crate::uniting::unite;
+use std::alloc::{AllocError, Global};
+
+/// Whether the row that begins at `from` has the place.
+pub(crate) fn has(cells: &[u64], from: usize, place: usize) -> bool
+    requires { from + place / 64 < length cells.now }
+    ensures { IsTrue result ↔ InRow cells.now from place }
+{
+    (cells[from + place / 64] >> (place % 64)) & 1 == 1
+}
+
+/// Puts the place into the row.
+fn put(row: &mut [u64], place: usize)
+    requires { place / 64 < length row.old }
+    ensures { (j : ℕ) → (InRow row.new 0 j ↔ (InRow row.old 0 j ⊎ (j ≡ place))) }
+{
+    row[place / 64] |= 1 << (place % 64);
+}
+
+/// Unites into `spare` the row of each place that a link from `first` leads to.
+fn gather(
+    spare: &mut [u64],
+    width: usize,
+    links: &[u64],
+    table: &[u64],
+    first: usize,
+    last: usize,
+    steps: &mut u64,
+)
+    requires wide { last / 64 < width }
+    requires spare { length spare.old ≡ width }
+    requires links { length links.now ≡ (last + 1) * width }
+    requires table { length table.now ≡ (last + 1) * width }
+    requires order { first ≤ last }
+    requires small { last ≤ 1000 }
+    requires countable { steps.old + (last + 1 - first) < 2 ^ 64 }
+    ensures united { (j : ℕ) → j ≤ last →
+        (InRow spare.new 0 j ↔ (InRow spare.old 0 j ⊎ Through links.now table.now width first (last + 1) j)) }
+    ensures more { steps.old ≤ steps.new }
+    ensures bound { steps.new ≤ steps.old + (last + 1 - first) }
+{
+    for k in first..last + 1 {
+        if has(links, first * width, k) {
+            unite(spare, &table[k * width..(k + 1) * width], steps);
+        }
+    }
+}
+
+/// Makes the row empty, or the one place where `keep` says so.
+pub(crate) fn begin(row: &mut [u64], place: usize, keep: bool)
+    requires { place / 64 < length row.old }
+    ensures { (j : ℕ) → (InRow row.new 0 j ↔ (IsTrue keep × (j ≡ place))) }
+{
+    row.fill(0);
+    if keep {
+        put(row, place);
+    }
+}
+
+/// Copies the row into the table.
+pub(crate) fn store(table: &mut [u64], row: &[u64], place: usize)
+    requires { place * length row.now + length row.now ≤ length table.old }
+    ensures stored { (j : ℕ) → j / 64 < length row.now → (InTable table.new (length row.now) place j ↔ InRow row.now 0 j) }
+    ensures others { (i j : ℕ) → i ≢ place → j / 64 < length row.now →
+        (InTable table.new (length row.now) i j ↔ InTable table.old (length row.now) i j) }
+{
+    let at = place * row.len();
+    table[at..at + row.len()].copy_from_slice(row);
+}
+
+/// Makes row `place` of the table the places that its links lead on to, and `place` itself where `keep` says so.
+fn set_row(
+    links: &[u64],
+    table: &mut [u64],
+    spare: &mut [u64],
+    width: usize,
+    place: usize,
+    last: usize,
+    keep: bool,
+    steps: &mut u64,
+)
+    requires wide { last / 64 < width }
+    requires spare { length spare.old ≡ width }
+    requires links { length links.now ≡ (last + 1) * width }
+    requires table { length table.old ≡ (last + 1) * width }
+    requires order { place ≤ last }
+    requires small { last ≤ 1000 }
+    requires countable { steps.old + (last + 1 - place) < 2 ^ 64 }
+    ensures row { (j : ℕ) → j ≤ last →
+        (InTable table.new (width) place j ↔ ((IsTrue keep × (j ≡ place)) ⊎ Through links.now table.old (width) place (last + 1) j)) }
+    ensures others { (i j : ℕ) → i ≢ place → j ≤ last →
+        (InTable table.new width i j ↔ InTable table.old width i j) }
+    ensures more { steps.old ≤ steps.new }
+    ensures bound { steps.new ≤ steps.old + (last + 1 - place) }
+{
+    begin(spare, place, keep);
+    gather(spare, width, links, table, place, last, steps);
+    store(table, spare, place);
+}
+
+/// Makes the table's relation the links' relation followed by the table's, with each place itself where `keep` says so.
+pub(crate) fn compose(
+    links: &[u64],
+    table: &mut [u64],
+    spare: &mut [u64],
+    width: usize,
+    last: usize,
+    keep: bool,
+    steps: &mut u64,
+)
+    requires wide { last / 64 < width }
+    requires spare { length spare.old ≡ width }
+    requires links { length links.now ≡ (last + 1) * width }
+    requires table { length table.old ≡ (last + 1) * width }
+    requires small { last ≤ 1000 }
+    requires countable { steps.old + triangle (last + 1) < 2 ^ 64 }
+    ensures rows { (i j : ℕ) → i ≤ last → j ≤ last →
+        (InTable table.new width i j ↔ ((IsTrue keep × (j ≡ i)) ⊎ Through links.now table.old width i (last + 1) j)) }
+    ensures more { steps.old ≤ steps.new }
+    ensures bound { steps.new ≤ steps.old + triangle (last + 1) }
+{
+    for place in 0..last + 1 {
+        set_row(links, table, spare, width, place, last, keep, steps);
+    }
+}
+
+/// Closes the links: chains of any number of them, in one sweep from the last place to the first.
+pub(crate) fn close(
+    links: &[u64],
+    table: &mut [u64],
+    spare: &mut [u64],
+    width: usize,
+    last: usize,
+    steps: &mut u64,
+)
+    requires wide { last / 64 < width }
+    requires spare { length spare.old ≡ width }
+    requires links { length links.now ≡ (last + 1) * width }
+    requires table { length table.old ≡ (last + 1) * width }
+    requires empty { (i j : ℕ) → i ≤ last → j ≤ last → InTable table.old width i j → ⊥ }
+    requires small { last ≤ 1000 }
+    requires countable { steps.old + triangle (last + 1) < 2 ^ 64 }
+    ensures rows { (i j : ℕ) → i ≤ last → j ≤ last →
+        (InTable table.new width i j ↔ ((k : ℕ) × Chain (Link links.now width last) k i j)) }
+    ensures more { steps.old ≤ steps.new }
+    ensures bound { steps.new ≤ steps.old + triangle (last + 1) }
+{
+    for place in (0..last + 1).rev() {
+        set_row(links, table, spare, width, place, last, true, steps);
+    }
+}
+
+/// Puts the links before the table's relation as many times, each time with each place itself where `keep` says so.
+pub(crate) fn repeat(
+    links: &[u64],
+    table: &mut [u64],
+    spare: &mut [u64],
+    width: usize,
+    last: usize,
+    times: usize,
+    keep: bool,
+    steps: &mut u64,
+)
+    requires wide { last / 64 < width }
+    requires spare { length spare.old ≡ width }
+    requires links { length links.now ≡ (last + 1) * width }
+    requires table { length table.old ≡ (last + 1) * width }
+    requires small { last ≤ 1000 }
+    requires countable { steps.old + times * triangle (last + 1) < 2 ^ 64 }
+    ensures rows { (i j : ℕ) → i ≤ last → j ≤ last →
+        (InTable table.new width i j ↔ Repeated links.now table.old width last (IsTrue keep) times i j) }
+    ensures more { steps.old ≤ steps.new }
+    ensures bound { steps.new ≤ steps.old + times * triangle (last + 1) }
+{
+    for turn in 0..times {
+        compose(links, table, spare, width, last, keep, steps);
+    }
+}
+
+/// Unites each row of the table with that of another.
+pub(crate) fn merge(
+    table: &mut [u64],
+    other: &[u64],
+    spare: &mut [u64],
+    width: usize,
+    last: usize,
+    steps: &mut u64,
+)
+    requires wide { last / 64 < width }
+    requires spare { length spare.old ≡ width }
+    requires other { length other.now ≡ (last + 1) * width }
+    requires table { length table.old ≡ (last + 1) * width }
+    requires small { last ≤ 1000 }
+    requires countable { steps.old + (last + 1) < 2 ^ 64 }
+    ensures rows { (i j : ℕ) → i ≤ last → j ≤ last →
+        (InTable table.new width i j ↔ (InTable table.old width i j ⊎ InTable other.now width i j)) }
+    ensures more { steps.old ≤ steps.new }
+    ensures bound { steps.new ≤ steps.old + (last + 1) }
+{
+    for place in 0..last + 1 {
+        merge_row(table, other, spare, width, place, last, steps);
+    }
+}
+
+/// Unites one row of the table with that of another.
+fn merge_row(
+    table: &mut [u64],
+    other: &[u64],
+    spare: &mut [u64],
+    width: usize,
+    place: usize,
+    last: usize,
+    steps: &mut u64,
+)
+    requires wide { last / 64 < width }
+    requires spare { length spare.old ≡ width }
+    requires other { length other.now ≡ (last + 1) * width }
+    requires table { length table.old ≡ (last + 1) * width }
+    requires order { place ≤ last }
+    requires small { last ≤ 1000 }
+    requires countable { steps.old + 1 < 2 ^ 64 }
+    ensures row { (j : ℕ) → j ≤ last →
+        (InTable table.new width place j ↔ (InTable table.old width place j ⊎ InTable other.now width place j)) }
+    ensures others { (i j : ℕ) → i ≢ place → j ≤ last → (InTable table.new width i j ↔ InTable table.old width i j) }
+    ensures counted { steps.new ≡ steps.old + 1 }
+{
+    spare.copy_from_slice(&table[place * width..(place + 1) * width]);
+    unite(spare, &other[place * width..(place + 1) * width], steps);
+    store(table, spare, place);
+}
+
+/// A table of rows with no place.
+pub(crate) fn empty(alloc: Global, width: usize, last: usize) -> Result<Vec<u64>, AllocError>
+    requires wide { width ≤ 16 }
+    requires small { last ≤ 1000 }
+    ensures whole { IfOk result (λ v. length v.items ≡ (last + 1) * width) }
+    ensures none { IfOk result (λ v. (i j : ℕ) → InTable v.items width i j → ⊥) }
+{
+    Vec::from_elem(alloc, 0, (last + 1) * width)
+}
+
+/// A table in which each row has its own place alone.
+pub(crate) fn diagonal(
+    alloc: Global,
+    spare: &mut [u64],
+    width: usize,
+    last: usize,
+) -> Result<Vec<u64>, AllocError>
+    requires wide { last / 64 < width }
+    requires narrow { width ≤ 16 }
+    requires spare { length spare.old ≡ width }
+    requires small { last ≤ 1000 }
+    ensures whole { IfOk result (λ v. length v.items ≡ (last + 1) * width) }
+    ensures rows { IfOk result (λ v. (i j : ℕ) → i ≤ last → j ≤ last → (InTable v.items width i j ↔ (i ≡ j))) }
+{
+    let mut table = empty(alloc, width, last)?;
+    for place in 0..last + 1 {
+        begin(spare, place, true);
+        store(&mut table, spare, place);
+    }
+    Ok(table)
+}

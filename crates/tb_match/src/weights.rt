@@ -1,0 +1,114 @@
+//! How heavy a pattern is, and whether it is within the limits.
+
+ghost use Rattle.std.specs.Prelude.{◌≡◌, ◌+◌, ◌<◌, ◌≤◌, ◌↔◌, IsTrue, SomeIff};
+ghost use Rattle.tb_match.specs.Parts.{AllProper, weight_of_all};
+ghost use Rattle.tb_match.specs.Weight.{Fits, IsBetween, IsProper, turns, weight_of};
+
+use crate::pattern::Pat;
+
+/// The greatest weight of a pattern that fits.
+const HEAVIEST: u64 = 1_000_000;
+
+/// The greatest number of a repetition.
+const MOST_TIMES: u8 = 32;
+
+/// The weight, where it is within the limit.
+fn limited(weight: u64) -> Option<u64>
+    ensures { SomeIff result (weight ≤ 1000000) weight }
+{
+    if weight <= HEAVIEST {
+        Some(weight)
+    } else {
+        None
+    }
+}
+
+/// What a repetition adds to the weight of what it repeats.
+fn turns_of(least: u8, most: Option<u8>) -> u64
+    ensures count { result ≡ turns least most }
+    ensures limit { result ≤ 257 }
+{
+    match most {
+        None => u64::from(least) + 2,
+        Some(most) => u64::from(most) + 1,
+    }
+}
+
+/// The weights of the parts, and one for each.
+#[cycle(weight)]
+fn weight_of_parts(parts: &[Pat]) -> Option<u64>
+    ensures { SomeIff result (weight_of_all parts.now ≤ 1000000) (weight_of_all parts.now) }
+{
+    let mut sum = 0;
+    for part in parts {
+        let more = weight(part)?;
+        sum = limited(sum + more + 1)?;
+    }
+    Some(sum)
+}
+
+/// The weight of the pattern, or None where it is above 1,000,000. It bounds the work of
+/// [`find`](crate::finding::find): 1 for a word, the parts' weights and 1 for each part of a sequence
+/// or a choice, and for a repetition its greatest number and 1, or its least number and 2 where it
+/// has no greatest one, beside the weight of what it repeats.
+///
+/// It takes no memory, and one stack frame for each level of the pattern.
+#[cycle(weight)]
+pub fn weight(pat: &Pat) -> Option<u64>
+    ensures { SomeIff result (weight_of pat.now ≤ 1000000) (weight_of pat.now) }
+{
+    match pat {
+        Pat::Tok(_) => Some(1),
+        Pat::Cat(parts) => weight_of_parts(parts),
+        Pat::Alt(parts) => weight_of_parts(parts),
+        Pat::Rep(inner, least, most) => limited(weight(inner)? + turns_of(*least, *most)),
+    }
+}
+
+/// Whether the numbers of a repetition are within the limits.
+fn is_between(least: u8, most: Option<u8>) -> bool
+    ensures { IsTrue result ↔ IsBetween least most }
+{
+    match most {
+        None => least <= MOST_TIMES,
+        Some(most) => least <= most && 1 <= most && most <= MOST_TIMES,
+    }
+}
+
+/// Whether each of the parts is proper.
+#[cycle(is_proper)]
+fn are_proper(parts: &[Pat], exprs: u16) -> bool
+    ensures { IsTrue result ↔ AllProper exprs parts.now }
+{
+    for part in parts {
+        if !is_proper(part, exprs) {
+            return false;
+        }
+    }
+    true
+}
+
+/// Whether the pattern names only the first `exprs` expressions, and each of its repetitions has
+/// numbers within the limits.
+#[cycle(is_proper)]
+fn is_proper(pat: &Pat, exprs: u16) -> bool
+    ensures { IsTrue result ↔ IsProper exprs pat.now }
+{
+    match pat {
+        Pat::Tok(expr) => *expr < exprs,
+        Pat::Cat(parts) => are_proper(parts, exprs),
+        Pat::Alt(parts) => are_proper(parts, exprs),
+        Pat::Rep(inner, least, most) => is_between(*least, *most) && is_proper(inner, exprs),
+    }
+}
+
+/// Whether the pattern can be searched for in a table of `exprs` expressions: it names no other
+/// expression, each repetition's numbers are at most 32, the greatest is given as at least 1 and
+/// not below the least, and its weight is at most 1,000,000.
+///
+/// It takes no memory, and one stack frame for each level of the pattern.
+pub fn fits(pat: &Pat, exprs: u16) -> bool
+    ensures { IsTrue result ↔ Fits exprs pat.now }
+{
+    is_proper(pat, exprs) && weight(pat).is_some()
+}

@@ -1,0 +1,11 @@
+pub mod Trims
+pub mod Places
+pub mod Values
+pub mod RowSteps
+pub mod Counts
+pub mod Relations
+pub mod Parts
+pub mod Folds
+pub mod Numerals
+pub mod Walks
+pub mod Kept

@@ -1,0 +1,22 @@
+use Rattle.std.proofs.Common.{ℕ, ◌+◌, ◌-◌, ◌*◌, get_or, sym, ap, refl, ◌∙◌, arith}
+use Rattle.std.proofs.lemmas.Bool.{and_from}
+use Rattle.std.proofs.lemmas.List.Folds.{list_all_more}
+use Rattle.tb_rules.specs.Feats.{is_digit}
+use Rattle.tb_rules.proofs.Numerals.{value_of-no_digit, value_of-large, value_of-whole, digits_value-more}
+use Rattle.tb_rules.proofs.deps.value.Goals as goal
+
+pub returns-then-not-is_digit_byte : goal.returns-then-not-is_digit_byte
+returns-then-not-is_digit_byte c = sym (value_of-no_digit c.args.bytes.now c.loop-b.b-index _ c.loop-b-test.true refl (sym c.is_digit_byte.ensures ∙ c.if-not-is_digit_byte.true))
+
+pub returns-then-value-ge-LIMIT : goal.returns-then-value-ge-LIMIT
+returns-then-value-ge-LIMIT c = sym (value_of-large c.args.bytes.now (c.loop-b.b-index + 1) (omega (arith, digits_value-more c.args.bytes.now c.loop-b.b-index c.loop-b-test.true, c.loop-b.invariant.value)))
+
+pub loop-b-preserved : goal.loop-b-preserved
+loop-b-preserved c = record {
+  digits = list_all_more is_digit c.args.bytes.now c.loop-b.b-index 0 c.loop-b-test.true ∙ and_from _ _ c.loop-b.invariant.digits (sym c.is_digit_byte.ensures ∙ c.if-not-is_digit_byte.false);
+  value = ap (λ (v : ℕ). v * 10 + (get_or c.args.bytes.now c.loop-b.b-index 0 - 48)) c.loop-b.invariant.value ∙ sym (digits_value-more c.args.bytes.now c.loop-b.b-index c.loop-b-test.true);
+  small = omega arith;
+}
+
+pub returns : goal.returns
+returns c = value_of-whole c.args.bytes.now c.loop-b.b-index c.loop-b.value (omega arith) c.loop-b.invariant.digits c.loop-b.invariant.value c.loop-b.invariant.small

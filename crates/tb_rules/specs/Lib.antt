@@ -1,0 +1,11 @@
+pub mod Comments
+pub mod Rows
+pub mod Ids
+pub mod Words
+pub mod Spans
+pub mod Nodes
+pub mod Tree
+pub mod Feats
+pub mod Restored
+pub mod Deps
+pub mod Rules

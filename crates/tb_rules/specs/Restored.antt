@@ -1,0 +1,76 @@
+-- The text that the rows of a sentence spell, and white space that doesn't count.
+-- CoNLL-U format page, "Words, Tokens and Empty Nodes" and "Miscellaneous" (SpaceAfter=No): the text is the forms of
+-- the tokens, a range in place of its words, each followed by a space but where SpaceAfter=No says otherwise.
+-- White space is Unicode's White_Space.
+use Rattle.std.specs.Prelude.{◌≡◌, ℕ, List, [], ◌∷◌, ◌++◌, length, Bool, true, false, ◌&&◌, not, nat_le, ◌==◌, bytes_eq, if◌then◌else◌, codes, chars, encode_utf8_all}
+use Rattle.std.specs.List.{flat_map, list_any, slice_split}
+use Rattle.std.specs.Char.{is_whitespace}
+use Rattle.tb_conllu.specs.declared.id.LineId.{LineId}
+use Rattle.tb_conllu.specs.declared.id.LineId.TheVariants.{Word, Span, Empty}
+use Rattle.tb_conllu.specs.Text.{RowText, BlockText}
+use Rattle.tb_rules.specs.Comments.{texts}
+use Rattle.tb_rules.specs.Feats.{is_bar}
+
+-- ---- white space
+
+-- The characters with each run of white space as one space, and none at the ends. Begun says whether a character
+-- came out before these, gap whether white space came since.
+abbrev pub folded_after : Bool → Bool → List ℕ → List ℕ
+folded_after begun gap [] = []
+folded_after begun gap (c ∷ cs) =
+    if is_whitespace c then folded_after begun true cs else
+    if begun && gap then 32 ∷ c ∷ folded_after true false cs else
+    c ∷ folded_after true false cs
+
+abbrev pub folded : List ℕ → List ℕ
+folded cs = folded_after false false cs
+
+-- ---- the text of rows, as characters
+
+abbrev pub covers : ℕ → LineId → Bool
+covers m (Word n) = false
+covers m (Span a b) = nat_le a m && nat_le m b
+covers m (Empty i k) = false
+
+-- a word that one of the rows, a range, covers
+abbrev pub is_covered : List RowText → ℕ → Bool
+is_covered rs m = list_any (λ r. covers m r.id) rs
+
+-- the ranges, and the words in no range of the sentence
+abbrev pub is_token_id : List RowText → LineId → Bool
+is_token_id rs (Word m) = not (is_covered rs m)
+is_token_id rs (Span a b) = true
+is_token_id rs (Empty i k) = false
+
+-- an item of MISC
+abbrev pub has_no_space_after : RowText → Bool
+has_no_space_after r = list_any (bytes_eq (codes "SpaceAfter=No")) (slice_split is_bar r.misc)
+
+abbrev pub form_and_space : RowText → List ℕ
+form_and_space r = if has_no_space_after r then chars r.form else chars r.form ++ 32 ∷ []
+
+-- what a row of these adds
+abbrev pub token_text : List RowText → RowText → List ℕ
+token_text rs r = if is_token_id rs r.id then form_and_space r else []
+
+-- what the rows spell
+abbrev pub text_of_rows : List RowText → List ℕ
+text_of_rows rs = flat_map (token_text rs) rs
+
+-- the restored text, folded, as UTF-8
+abbrev pub restored_text : BlockText → List ℕ
+restored_text b = encode_utf8_all (folded (text_of_rows b.rows))
+
+-- a text, folded
+abbrev pub folded_text : List ℕ → List ℕ
+folded_text bs = encode_utf8_all (folded (chars bs))
+
+-- The rows spell the text that the comment gives, but for white space.
+pub record IsRestored (b : BlockText) : Type 0 where
+  pub value : List ℕ
+  pub one : texts b ≡ value ∷ []
+  pub same : restored_text b ≡ folded_text value
+
+-- a text that is being folded: what came out, whether white space came since, and the characters to come
+abbrev pub continued : List ℕ → Bool → List ℕ → List ℕ
+continued out gap cs = out ++ encode_utf8_all (folded_after (not (length out == 0)) gap cs)

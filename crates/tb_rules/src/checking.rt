@@ -1,0 +1,116 @@
+//! Rules 1 to 11, one after the other.
+
+ghost use Rattle.std.specs.Prelude.{◌≡◌, OnOk, IfErr, MatchOption};
+ghost use Rattle.tb_rules.specs.Rules.{HasWords, HasSpans, HasNodes, HasFeatures, HasDependencies, KeepsRules, IsRuleFault};
+ghost use Rattle.tb_conllu.specs.Words.{words_of};
+ghost use Rattle.tb_rules.specs.Rows.{IsFirstFault};
+ghost use Rattle.tb_rules.specs.declared.fault.RuleFault.TheVariants.{Memory};
+ghost use Rattle.tb_rules.specs.Words.{word_test};
+ghost use Rattle.tb_rules.specs.Spans.{span_test};
+ghost use Rattle.tb_rules.specs.Nodes.{node_test};
+ghost use Rattle.tb_rules.specs.Feats.{feature_test};
+ghost use Rattle.tb_rules.specs.Deps.{dependency_test};
+
+use crate::comments::{has_sent_id, has_text};
+use crate::deps::dependency_fault;
+use crate::fault::RuleFault;
+use crate::feats::feature_fault;
+use crate::ids::has_ids;
+use crate::nodes::node_fault;
+use crate::spans::span_fault;
+use crate::spelling::is_restored;
+use crate::tree::{has_one_root, has_tree};
+use crate::words::word_fault;
+use std::alloc::Global;
+use tb_conllu::{BlockOf, Text, words};
+
+fn word_row<T: Text>(block: &BlockOf<T>) -> Option<usize>
+    ensures { MatchOption result (HasWords block.now) (IsFirstFault (word_test (words_of block.now)) block.now.rows) }
+{
+    word_fault(&block.rows, words(block))
+}
+
+fn span_row<T: Text>(block: &BlockOf<T>) -> Option<usize>
+    ensures { MatchOption result (HasSpans block.now) (IsFirstFault (span_test (words_of block.now)) block.now.rows) }
+{
+    span_fault(&block.rows, words(block))
+}
+
+fn node_row<T: Text>(block: &BlockOf<T>) -> Option<usize>
+    ensures { MatchOption result (HasNodes block.now) (IsFirstFault node_test block.now.rows) }
+{
+    node_fault(&block.rows)
+}
+
+fn feature_row<T: Text>(block: &BlockOf<T>) -> Option<usize>
+    ensures { MatchOption result (HasFeatures block.now) (IsFirstFault feature_test block.now.rows) }
+{
+    feature_fault(&block.rows)
+}
+
+fn dependency_row<T: Text>(block: &BlockOf<T>) -> Option<usize>
+    ensures { MatchOption result (HasDependencies block.now) (IsFirstFault (dependency_test block.now.rows) block.now.rows) }
+{
+    dependency_fault(&block.rows)
+}
+
+/// The least broken rule of 1 to 11.
+fn first_broken<T: Text>(alloc: Global, block: &BlockOf<T>) -> Result<(), RuleFault>
+    ensures valid { OnOk result (KeepsRules block.now) }
+    ensures fault { IfErr result (IsRuleFault block.now) }
+{
+    if !has_sent_id(block) {
+        return Err(RuleFault::At { rule: 1, row: 0 });
+    }
+    if !has_text(block) {
+        return Err(RuleFault::At { rule: 2, row: 0 });
+    }
+    if !has_ids(block) {
+        return Err(RuleFault::At { rule: 3, row: 0 });
+    }
+    if let Some(row) = word_row(block) {
+        return Err(RuleFault::At { rule: 4, row });
+    }
+    if let Some(row) = span_row(block) {
+        return Err(RuleFault::At { rule: 5, row });
+    }
+    if let Some(row) = node_row(block) {
+        return Err(RuleFault::At { rule: 6, row });
+    }
+    if let Some(row) = feature_row(block) {
+        return Err(RuleFault::At { rule: 7, row });
+    }
+    if let Some(row) = dependency_row(block) {
+        return Err(RuleFault::At { rule: 8, row });
+    }
+    if !has_one_root(block) {
+        return Err(RuleFault::At { rule: 9, row: 0 });
+    }
+    let Ok(tree) = has_tree(alloc, block) else {
+        return Err(RuleFault::Memory);
+    };
+    if !tree {
+        return Err(RuleFault::At { rule: 10, row: 0 });
+    }
+    let Ok(spelled) = is_restored(alloc, block) else {
+        return Err(RuleFault::Memory);
+    };
+    if !spelled {
+        return Err(RuleFault::At { rule: 11, row: 0 });
+    }
+    Ok(())
+}
+
+/// Whether the sentence keeps rules 1 to 11.
+///
+/// # Errors
+///
+/// The least broken rule, with the first row at fault, counted from 1, for rules 4 to 8, and row 0 for the others; or
+/// want of memory.
+pub fn check<T: Text>(alloc: Global, block: &BlockOf<T>) -> Result<(), RuleFault>
+    ensures valid { OnOk result (KeepsRules block.now) }
+    ensures fault { IfErr result (IsRuleFault block.now) }
+    ensures only { KeepsRules block.now → IfErr result (λ e. e ≡ Memory) }
+{
+    first_broken(alloc, block)
+}

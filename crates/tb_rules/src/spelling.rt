@@ -1,0 +1,188 @@
+ghost use Rattle.std.specs.Prelude.{◌≡◌, ◌↔◌, IsTrue, ◌++◌, ◌∷◌, ℕ, List, [], IfOk, OnOk, bytes_eq, string_bytes, chars, encode_utf8, encode_utf8_all, length, not, ◌==◌, ◌&&◌, true, false};
+ghost use Rattle.std.specs.List.{list_any, slice_split};
+ghost use Rattle.tb_rules.specs.Feats.{is_bar};
+ghost use Rattle.tb_rules.specs.Restored.{covers, is_covered, is_token_id, has_no_space_after, form_and_space, token_text, text_of_rows, restored_text, folded, folded_text, IsRestored, continued};
+
+use crate::comments::text;
+use std::alloc::{AllocError, Global};
+use tb_conllu::{BlockOf, LineId, RowOf, Text};
+
+/// A text whose white space is folded as it comes.
+#[derive(Drop)]
+struct Folding {
+    text: String,
+    gap: bool,
+}
+
+fn push_char(text: &mut String, c: char) -> Result<(), AllocError>
+    ensures { OnOk result (string_bytes text.new ≡ string_bytes text.old ++ encode_utf8 c) }
+{
+    text.push(c)?;
+    Ok(())
+}
+
+fn push_spaced(text: &mut String, c: char) -> Result<(), AllocError>
+    ensures { OnOk result (string_bytes text.new ≡ (string_bytes text.old ++ encode_utf8 32) ++ encode_utf8 c) }
+{
+    push_char(text, ' ')?;
+    push_char(text, c)
+}
+
+fn needs_space(folding: &Folding) -> bool
+    ensures { result ≡ (not (length (string_bytes folding.now.text) == 0) && folding.now.gap) }
+{
+    !folding.text.is_empty() && folding.gap
+}
+
+fn put(folding: &mut Folding, c: char) -> Result<(), AllocError>
+    ensures { OnOk result ((next : List ℕ) → continued (string_bytes folding.new.text) folding.new.gap next ≡ continued (string_bytes folding.old.text) folding.old.gap (c ∷ next)) }
+{
+    if c.is_whitespace() {
+        folding.gap = true;
+        return Ok(());
+    }
+    if needs_space(folding) {
+        push_spaced(&mut folding.text, c)?;
+        folding.gap = false;
+        return Ok(());
+    }
+    push_char(&mut folding.text, c)?;
+    folding.gap = false;
+    Ok(())
+}
+
+fn put_text(folding: &mut Folding, text: &str) -> Result<(), AllocError>
+    ensures { OnOk result ((next : List ℕ) → continued (string_bytes folding.new.text) folding.new.gap next ≡ continued (string_bytes folding.old.text) folding.old.gap (chars text.now ++ next)) }
+{
+    for c in text.chars() {
+        put(folding, c)?;
+    }
+    Ok(())
+}
+
+/// The text with each run of white space as one space, and none at the ends.
+fn fold(alloc: Global, text: &str) -> Result<String, AllocError>
+    ensures { IfOk result (λ s. string_bytes s ≡ folded_text text.now) }
+{
+    let mut folding = Folding {
+        text: String::new(alloc),
+        gap: false,
+    };
+    put_text(&mut folding, text)?;
+    Ok(folding.text)
+}
+
+fn is_over(id: LineId, word: u32) -> bool
+    ensures { result ≡ covers word id }
+{
+    match id {
+        LineId::Span(first, last) => first <= word && word <= last,
+        LineId::Word(_) | LineId::Empty(..) => false,
+    }
+}
+
+fn is_in_range<T: Text>(rows: &[RowOf<T>], word: u32) -> bool
+    ensures { result ≡ is_covered rows.now word }
+{
+    rows.iter().any(|row| is_over(row.id, word))
+}
+
+fn is_token<T: Text>(id: LineId, rows: &[RowOf<T>]) -> bool
+    ensures { result ≡ is_token_id rows.now id }
+{
+    match id {
+        LineId::Word(word) => !is_in_range(rows, word),
+        LineId::Span(..) => true,
+        LineId::Empty(..) => false,
+    }
+}
+
+fn has_item(misc: &str, wanted: &str) -> bool
+    ensures { result ≡ list_any (bytes_eq wanted.now) (slice_split is_bar misc.now) }
+{
+    let mut left = misc;
+    while let Some((item, more)) = left.split_once('|') {
+        if wanted == item {
+            return true;
+        }
+        left = more;
+    }
+    wanted == left
+}
+
+fn has_no_space<T: Text>(row: &RowOf<T>) -> bool
+    ensures { result ≡ has_no_space_after row.now }
+{
+    has_item(row.misc.text(), "SpaceAfter=No")
+}
+
+fn put_row<T: Text>(folding: &mut Folding, row: &RowOf<T>) -> Result<(), AllocError>
+    ensures { OnOk result ((next : List ℕ) → continued (string_bytes folding.new.text) folding.new.gap next ≡ continued (string_bytes folding.old.text) folding.old.gap (form_and_space row.now ++ next)) }
+{
+    put_text(folding, row.form.text())?;
+    if !has_no_space(row) {
+        put(folding, ' ')?;
+    }
+    Ok(())
+}
+
+fn put_token<T: Text>(
+    folding: &mut Folding,
+    row: &RowOf<T>,
+    rows: &[RowOf<T>],
+) -> Result<(), AllocError>
+    ensures { OnOk result ((next : List ℕ) → continued (string_bytes folding.new.text) folding.new.gap next ≡ continued (string_bytes folding.old.text) folding.old.gap (token_text rows.now row.now ++ next)) }
+{
+    if !is_token(row.id, rows) {
+        return Ok(());
+    }
+    put_row(folding, row)
+}
+
+fn put_rows<T: Text>(folding: &mut Folding, rows: &[RowOf<T>]) -> Result<(), AllocError>
+    ensures { OnOk result ((next : List ℕ) → continued (string_bytes folding.new.text) folding.new.gap next ≡ continued (string_bytes folding.old.text) folding.old.gap (text_of_rows rows.now ++ next)) }
+{
+    for row in rows {
+        put_token(folding, row, rows)?;
+    }
+    Ok(())
+}
+
+fn spelled<T: Text>(alloc: Global, rows: &[RowOf<T>]) -> Result<String, AllocError>
+    ensures { IfOk result (λ s. string_bytes s ≡ encode_utf8_all (folded (text_of_rows rows.now))) }
+{
+    let mut folding = Folding {
+        text: String::new(alloc),
+        gap: false,
+    };
+    put_rows(&mut folding, rows)?;
+    Ok(folding.text)
+}
+
+/// The text that the rows spell: the forms of ranges and of words in no range, each followed by a space but where
+/// MISC has `SpaceAfter=No`, with each run of white space as one space and none at the ends.
+///
+/// CoNLL-U format page, "Words, Tokens and Empty Nodes" and "Miscellaneous".
+pub fn restored<T: Text>(alloc: Global, block: &BlockOf<T>) -> Result<String, AllocError>
+    ensures { IfOk result (λ s. string_bytes s ≡ restored_text block.now) }
+{
+    spelled(alloc, &block.rows)
+}
+
+fn same_text(first: &str, second: &str) -> bool
+    ensures { IsTrue result ↔ (first.now ≡ second.now) }
+{
+    first == second
+}
+
+/// Whether the rows spell the text that the comment gives, but for white space.
+pub(crate) fn is_restored<T: Text>(alloc: Global, block: &BlockOf<T>) -> Result<bool, AllocError>
+    ensures { IfOk result (λ b. IsTrue b ↔ IsRestored block.now) }
+{
+    let Some(value) = text(block) else {
+        return Ok(false);
+    };
+    let ours = restored(alloc, block)?;
+    let given = fold(alloc, value)?;
+    Ok(same_text(ours.as_str(), given.as_str()))
+}

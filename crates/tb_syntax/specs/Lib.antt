@@ -1,0 +1,4 @@
+pub mod Grammar
+pub mod Machine
+pub mod Pattern
+pub mod Limits
