@@ -1,5 +1,6 @@
 pub mod Cuts
 pub mod Tabs
+pub mod Tights
 pub mod Parts
 pub mod Decimals
 pub mod RowLines

@@ -1,9 +1,10 @@
 -- The first field of a line, and what is cut off by its tab.
-use Rattle.std.proofs.Common.{◌≡◌, ℕ, ◌+◌, ◌<◌, List, [], ◌∷◌, length, false, not, ◌&&◌, refl, sym, ◌∙◌, ap, arith, Option, Some, None, inl, inr, Bor}
-use Rattle.std.specs.Prelude.{◌==◌, MatchOption}
-use Rattle.std.specs.List.{onto_first, position_or_len, before_first, after_first, list_any}
+use Rattle.std.proofs.Common.{◌≡◌, ℕ, ◌+◌, ◌<◌, List, [], ◌∷◌, length, take, drop, get_or, Bool, true, false, not, ◌&&◌, refl, ◌∙◌, ap, arith, inl, inr}
+use Rattle.std.specs.Prelude.{◌==◌}
+use Rattle.std.specs.List.{onto_first, position_or_len, list_any}
 use Rattle.std.proofs.lemmas.Bool.{cases_Bool, cond-true, cond-false}
 use Rattle.std.proofs.lemmas.Bool.Decides.{nat_tests}
+use Rattle.std.proofs.lemmas.List.Sums.{position_or_len_is}
 use Rattle.std.proofs.lemmas.List.Splits.{slice_split_first, length-slice_split, slice_split-cons_no}
 use Rattle.tb_conllu.specs.Lines.{fields, has_ten_fields, is_empty}
 
@@ -19,11 +20,19 @@ none_split (b ∷ bs) h =
           slice_split-cons_no (λ c. c == 9) b bs miss ∙ ap (onto_first b) (none_split bs (omega (arith, e, h)))
     ]
 
-pub next_is : (bs : List ℕ) (r : Option (Bor (List ℕ) × Bor (List ℕ))) → MatchOption r (position_or_len (λ b. b == 9) bs ≡ length bs) (λ x. (position_or_len (λ b. b == 9) bs < length bs) × (x.0.now ≡ before_first (λ b. b == 9) bs) × (x.1.now ≡ after_first (λ b. b == 9) bs)) → MatchOption r (fields bs ≡ bs ∷ []) (λ p. fields bs ≡ p.0.now ∷ fields p.1.now)
-next_is bs None h = none_split bs h
-next_is bs (Some p) h =
-    slice_split_first (λ b. b == 9) bs 0 h.0 ∙ ap (λ a. a ∷ fields (after_first (λ b. b == 9) bs)) (sym h.1)
-    ∙ ap (λ b. p.0.now ∷ fields b) (sym h.2)
+not_so : (b : Bool) → (b ≡ true → ⊥) → b ≡ false
+not_so true h = absurd (h refl)
+not_so false h = refl
+
+-- no place holds a tab
+pub no_tab : (bs : List ℕ) → ((k : ℕ) → k < length bs → (get_or bs k 0 == 9) ≡ true → ⊥) → fields bs ≡ bs ∷ []
+no_tab bs h = none_split bs (position_or_len_is (λ b. b == 9) bs (length bs) 0 (omega arith) (λ k l. not_so (get_or bs k 0 == 9) (h k l)) (λ l. absurd (omega (arith, l))))
+
+-- the first tab stands here
+pub tab_at : (bs : List ℕ) (end : ℕ) → end < length bs → ((k : ℕ) → k < end → (get_or bs k 0 == 9) ≡ true → ⊥) → (get_or bs end 0 == 9) ≡ true → fields bs ≡ take end bs ∷ fields (drop (end + 1) bs)
+tab_at bs end l h hit =
+    let at : position_or_len (λ b. b == 9) bs ≡ end = position_or_len_is (λ b. b == 9) bs end 0 (omega (arith, l)) (λ k m. not_so (get_or bs k 0 == 9) (h k m)) (λ m. hit) in
+    slice_split_first (λ b. b == 9) bs 0 (omega (arith, at, l)) ∙ ap (λ n. take n bs ∷ fields (drop (n + 1) bs)) at
 
 -- more than ten parts aren't ten
 pub eleven : (line a b c d e f g h i j rest : List ℕ) → fields line ≡ a ∷ b ∷ c ∷ d ∷ e ∷ f ∷ g ∷ h ∷ i ∷ j ∷ fields rest → has_ten_fields line ≡ false

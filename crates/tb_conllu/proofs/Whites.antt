@@ -1,4 +1,4 @@
--- Printable ASCII holds no white space.
+-- Printable ASCII holds no white space; bytes below 128 are ASCII.
 use Rattle.std.proofs.Common.{◌≡◌, ℕ, ◌<◌, List, [], ◌∷◌, false, refl, ◌∙◌, ap, arith}
 use Rattle.std.specs.List.{list_any}
 use Rattle.std.specs.Str.{IsAscii}
@@ -7,7 +7,7 @@ use Rattle.std.proofs.lemmas.Bool.{or_parts, or_from}
 use Rattle.std.proofs.lemmas.Bool.Decides.{nat_tests}
 use Rattle.std.proofs.lemmas.Str.{chars-IsAscii}
 use Rattle.std.proofs.lemmas.Str.Ascii.{IsAscii-nil, IsAscii-cons}
-use Rattle.tb_conllu.specs.Plain.{is_odd}
+use Rattle.tb_conllu.specs.Plain.{is_odd, is_high}
 use Rattle.tb_conllu.specs.Shape.{has_space}
 
 between : (b : ℕ) → is_odd b ≡ false → (32 < b) × (b < 128)
@@ -31,3 +31,12 @@ plain_tight (b ∷ bs) h =
 
 pub plain_spaceless : (bs : List ℕ) → list_any is_odd bs ≡ false → has_space bs ≡ false
 plain_spaceless bs h = ap (list_any is_whitespace) (chars-IsAscii bs (plain_ascii bs h)) ∙ plain_tight bs h
+
+low : (b : ℕ) → is_high b ≡ false → b < 128
+low b h = grind (arith, nat_tests)
+
+pub low_ascii : (bs : List ℕ) → list_any is_high bs ≡ false → IsAscii bs
+low_ascii [] h = IsAscii-nil
+low_ascii (b ∷ bs) h =
+    let parts = or_parts (is_high b) (list_any is_high bs) h in
+    IsAscii-cons b bs (low b parts.0) (low_ascii bs parts.1)

@@ -5,6 +5,8 @@ ghost use Rattle.std.specs.List.{list_any};
 ghost use Rattle.tb_conllu.specs.Lines.{fields, has_ten_fields, is_empty};
 ghost use Rattle.tb_conllu.specs.TenFields.{list_of};
 
+use memchr::memchr;
+
 /// The ten fields of a word line, in order.
 #[derive(Clone, Copy)]
 pub struct TenFields<'a> {
@@ -24,7 +26,8 @@ pub struct TenFields<'a> {
 fn next_field(line: &str) -> Option<(&str, &str)>
     ensures { MatchOption result (fields line.now ≡ line.now ∷ []) (λ p. fields line.now ≡ p.0.now ∷ fields p.1.now) }
 {
-    line.split_once('\t')
+    let end = memchr(b'\t', line.as_bytes())?;
+    Some((&line[..end], &line[end + 1..]))
 }
 
 /// The fields of a line that has ten, empty or not.

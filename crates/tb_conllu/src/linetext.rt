@@ -3,7 +3,7 @@
 ghost use Rattle.std.specs.Prelude.{◌≡◌, Bool, IfOk, IfErr, IsTrue, false};
 ghost use Rattle.std.specs.List.{list_any};
 ghost use Rattle.tb_conllu.specs.Lines.{is_nfc_text};
-ghost use Rattle.tb_conllu.specs.Plain.{is_stray};
+ghost use Rattle.tb_conllu.specs.Plain.{is_high, is_stray};
 ghost use Rattle.tb_conllu.specs.Refusal.{IsRefusal};
 ghost use Rattle.tb_conllu.specs.Shape.{is_control, IsLineText};
 
@@ -33,11 +33,22 @@ pub fn any_stray(bytes: &[u8]) -> bool
     seen
 }
 
+/// Whether some byte is a part of a character beyond ASCII.
+fn any_high(bytes: &[u8]) -> bool
+    ensures { result ≡ list_any is_high bytes.now }
+{
+    let mut high = false;
+    for b in bytes {
+        high |= *b >= 128;
+    }
+    high
+}
+
 /// Whether the text is in normalization form C.
 fn is_composed(alloc: Global, text: &str) -> Result<bool, AllocError>
     ensures { IfOk result (λ b. b ≡ is_nfc_text text.now) }
 {
-    if text.is_ascii() {
+    if !any_high(text.as_bytes()) {
         return Ok(true);
     }
     is_nfc(alloc, text)

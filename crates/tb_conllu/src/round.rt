@@ -1,7 +1,10 @@
 //! Reading and writing, one after the other, in either order.
 
-ghost use Rattle.std.specs.Prelude.{◌≡◌, IfOk, MatchResult};
+ghost use Rattle.std.specs.Prelude.{◌≡◌, List, IfOk, IfErr, MatchResult};
+ghost use Rattle.tb_conllu.specs.Fault.{IsReadFault};
 ghost use Rattle.tb_conllu.specs.Shape.{AllShaped};
+ghost use Rattle.tb_conllu.specs.Text.{BlockText, text_of};
+ghost use Rattle.tb_conllu.specs.Told.{IsFile};
 ghost use Rattle.tb_conllu.specs.declared.fault.ReadFault.TheVariants.{Memory};
 
 use crate::fault::ReadFault;
@@ -16,7 +19,9 @@ use std::alloc::Global;
 ///
 /// The file's fault, as `read` tells it, or want of memory.
 pub fn rewrite(alloc: Global, bytes: &[u8]) -> Result<Vec<u8>, ReadFault>
-    ensures { IfOk result (λ v. v.items ≡ bytes.now) }
+    ensures same { IfOk result (λ v. v.items ≡ bytes.now) }
+    ensures told { IfErr result (IsReadFault bytes.now) }
+    ensures only { (bs : List BlockText) → IsFile bytes.now bs → IfErr result (λ e. e ≡ Memory) }
 {
     let blocks = read(alloc, bytes)?;
     Ok(write(alloc, &blocks)?)
@@ -28,7 +33,9 @@ pub fn rewrite(alloc: Global, bytes: &[u8]) -> Result<Vec<u8>, ReadFault>
 ///
 /// Want of memory; the fault of the text, where a sentence is not shaped so.
 pub fn reread(alloc: Global, blocks: &[Block]) -> Result<Vec<Block>, ReadFault>
-    ensures { AllShaped blocks.now → MatchResult result (λ v. v.items ≡ blocks.now) (λ e. e ≡ Memory) }
+    ensures same { AllShaped blocks.now → MatchResult result (λ v. v.items ≡ blocks.now) (λ e. e ≡ Memory) }
+    ensures file { IfOk result (λ v. IsFile (text_of blocks.now) v.items) }
+    ensures told { IfErr result (IsReadFault (text_of blocks.now)) }
 {
     let bytes = write(alloc, blocks)?;
     read(alloc, &bytes)

@@ -1,16 +1,17 @@
 //! The row of a word line.
 
 ghost use Rattle.std.specs.Prelude.{◌≡◌, ◌<◌, IfOk, IfErr, ◌||◌};
-ghost use Rattle.tb_conllu.specs.Lines.{word_code};
+ghost use Rattle.tb_conllu.specs.Lines.{fields, word_code};
 ghost use Rattle.tb_conllu.specs.Shape.{has_space, IsLineText, IsRowShaped};
+ghost use Rattle.tb_conllu.specs.TenFields.{list_of};
 ghost use Rattle.tb_conllu.specs.Text.{row_line};
 
 use crate::fields::{TenFields, ten_fields};
 use crate::ids::{head_of, id_of};
 use crate::rows::{RowOf, RowRef};
-use crate::spaces::spaced;
+use crate::spaces::{any_loose, spaced};
 
-fn any_spaced(p: TenFields<'_>) -> bool
+fn any_field_spaced(p: TenFields<'_>) -> bool
     ensures { result ≡ (has_space p.entry.upos.now || has_space p.entry.xpos.now || has_space p.entry.feats.now || has_space p.entry.head.now || has_space p.entry.deprel.now || has_space p.entry.deps.now) }
 {
     spaced(p.upos)
@@ -19,6 +20,14 @@ fn any_spaced(p: TenFields<'_>) -> bool
         || spaced(p.head)
         || spaced(p.deprel)
         || spaced(p.deps)
+}
+
+/// Whether one of the fields that may hold no white space has some.
+fn any_spaced(line: &str, p: TenFields<'_>) -> bool
+    requires { fields line.now ≡ list_of p }
+    ensures { result ≡ (has_space p.entry.upos.now || has_space p.entry.xpos.now || has_space p.entry.feats.now || has_space p.entry.head.now || has_space p.entry.deprel.now || has_space p.entry.deps.now) }
+{
+    any_loose(line.as_bytes()) && any_field_spaced(p)
 }
 
 /// The row of a word line, which borrows its texts; or the least code of the line, which is 4, 5, 6 or 7.
@@ -33,7 +42,7 @@ pub fn row_of(line: &str) -> Result<RowRef<'_>, u8>
     let Some(id) = id_of(p.id) else {
         return Err(5);
     };
-    if any_spaced(p) {
+    if any_spaced(line, p) {
         return Err(6);
     }
     let Some(head) = head_of(p.head) else {

@@ -3,7 +3,7 @@
 ghost use Rattle.std.specs.Prelude.{◌≡◌, take};
 ghost use Rattle.std.specs.List.{list_any};
 ghost use Rattle.tb_conllu.specs.Shape.{has_space};
-ghost use Rattle.tb_conllu.specs.Plain.{is_odd};
+ghost use Rattle.tb_conllu.specs.Plain.{is_odd, is_loose};
 
 /// Whether some byte is no printable ASCII character, or a space. Most fields have none, so they need no second look.
 fn any_odd(bytes: &[u8]) -> bool
@@ -14,6 +14,17 @@ fn any_odd(bytes: &[u8]) -> bool
         odd |= *b <= 32 || *b >= 128;
     }
     odd
+}
+
+/// The same, tabs aside: most lines have none, so their fields need no look at all.
+pub fn any_loose(bytes: &[u8]) -> bool
+    ensures { result ≡ list_any is_loose bytes.now }
+{
+    let mut loose = false;
+    for b in bytes {
+        loose |= (*b <= 32 || *b >= 128) && *b != 9;
+    }
+    loose
 }
 
 /// Whether some character of the text is white space.

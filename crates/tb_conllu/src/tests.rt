@@ -1,6 +1,6 @@
 use crate::{
     Block, LineId, ReadFault, Row, RowRef, Sentences, head_of, id_of, is_word_row, own_block,
-    own_row, read, read_ref, row_of, words,
+    own_row, read, read_ref, reread, rewrite, row_of, words, write,
 };
 use std::alloc::Global;
 use std::test::Fail;
@@ -212,5 +212,34 @@ fn keeps_a_row(rt: HostRuntime) -> Result<(), Fail> {
     let own = own_row(rt.alloc(), &row)?;
     assert!(rt; own.id == LineId::Empty(8, 1) && own.head.is_none());
     assert!(rt; has_texts(&own, ["w w", "l", "X", "x", "f", "r", "d", "m m"]));
+    Ok(())
+}
+
+#[test]
+fn a_file_written_again_is_the_same(rt: HostRuntime) -> Result<(), Fail> {
+    let alloc = rt.alloc();
+    for file in [DOGS, SEA, COFFEE] {
+        let bytes = rewrite(alloc, file.as_bytes()).ok().ok_or("a file")?;
+        assert_eq!(rt; bytes.as_slice(), file.as_bytes());
+        let blocks = read(alloc, file.as_bytes()).ok().ok_or("a file")?;
+        let again = reread(alloc, &blocks).ok().ok_or("shaped sentences")?;
+        let text = write(alloc, &again)?;
+        assert_eq!(rt; text.as_slice(), file.as_bytes());
+    }
+    let fault = rewrite(alloc, b"# a\n\n").err().ok_or("no file")?;
+    assert!(rt; matches!(fault, ReadFault::At { line: 2, code: 9 }));
+    Ok(())
+}
+
+#[test]
+fn a_sentence_without_rows_is_not_read_again(rt: HostRuntime) -> Result<(), Fail> {
+    let alloc = rt.alloc();
+    let mut blocks: Vec<Block> = Vec::new(alloc);
+    blocks.push(Block {
+        comments: Vec::new(alloc),
+        rows: Vec::new(alloc),
+    })?;
+    let fault = reread(alloc, &blocks).err().ok_or("no sentence")?;
+    assert!(rt; matches!(fault, ReadFault::At { line: 1, code: 9 }));
     Ok(())
 }

@@ -85,11 +85,10 @@ counted_next file old new s w bs b n is h shaped rest line = record {
   words_are = omega (arith, is, h.words_are, words_append bs b);
 }
 
-pub counted_all : (file : List ℕ) (unread : Left) (s w : ℕ) (bs : List BlockText) → IsCounted file unread s w bs → unread.rest ≡ []
-    → (cs : List BlockText) × IsFile file cs × (s ≡ length cs) × (w ≡ words_in cs)
+pub counted_all : (file : List ℕ) (unread : Left) (s w : ℕ) (bs : List BlockText) → IsCounted file unread s w bs → unread.rest ≡ [] → IsFile file bs
 counted_all file unread s w bs h e =
     let whole : file ≡ text_of bs = h.whole ∙ ap (λ l. text_of bs ++ l) e ∙ append-nil (text_of bs) in
-    (bs, record { shaped = h.shaped; text = whole }, h.sentences_are, h.words_are)
+    record { shaped = h.shaped; text = whole }
 
 -- the counts stay below the file's length
 pub counted_room : (file : List ℕ) (old new : Left) (s w : ℕ) (bs : List BlockText) (b : BlockText) → IsCounted file old s w bs

@@ -1,3 +1,5 @@
 pub mod Inputs
 pub mod Counted
 pub mod Outputs
+pub mod Asked
+pub mod Replies

@@ -1,30 +1,52 @@
 -- What the check of a file answers: the reply, its line and the exit status.
-use Rattle.std.specs.Prelude.{◌≡◌, ◌≤◌, ◌<◌, ◌⊎◌, ℕ, List, ◌++◌, length, take, codes, decimal, Option}
+use Rattle.std.specs.Prelude.{◌≡◌, ◌≤◌, ◌<◌, ◌⊎◌, ℕ, List, ◌++◌, length, take, codes, decimal, Bool, true, false, Option, MatchOption}
 use Rattle.std.specs.List.{sum_by}
 use Rattle.std.specs.Io.KnownBytes.{Appends}
 use Rattle.tb_conllu.specs.Text.{BlockText}
 use Rattle.tb_conllu.specs.Told.{IsFile, IsTold}
 use Rattle.tb_conllu.specs.Words.{words_of}
+use Rattle.tb_rules.specs.File.{IsValid, IsFaultAt, IsFileFault, HasTaken}
+use Rattle.tb_rules.specs.declared.filefault.FileFault.{FileFault}
+use Rattle.tb_desk.specs.declared.check.Survey.{Survey}
 use Rattle.tb_desk.specs.declared.reply.CheckReply.{CheckReply}
-use Rattle.tb_desk.specs.declared.reply.CheckReply.TheVariants.{Counts, Read, Long, Memory, Device}
+use Rattle.tb_desk.specs.declared.reply.CheckReply.TheVariants.{Counts, Read, Rule, Long, Memory, Device}
 
 -- the words of all sentences
 abbrev pub words_in : List BlockText → ℕ
 words_in bs = sum_by words_of bs
 
+-- How far the rules have been asked of these sentences: all of them are taken, or their fault was told.
+abbrev pub IsAsked : List (List ℕ) → Option FileFault → List BlockText → Type 0
+IsAsked names told bs = MatchOption told (HasTaken names bs) (IsFileFault bs)
+
+-- What a survey of these sentences tells: how many they are, their words, and the fault of the first that breaks a rule.
+abbrev pub IsSurvey : List BlockText → Survey → Type 0
+IsSurvey bs s = (s.sentences ≡ length bs) × (s.words ≡ words_in bs) × MatchOption s.fault (IsValid bs) (IsFileFault bs)
+
 -- The reply that is true of an input of at most `limit` bytes, or of a longer one. Want of memory and a failed
--- device may come in place of any other reply.
+-- device may come in place of any other reply. A rule is told only of a file that can be read whole.
 abbrev pub IsReplyTo : ℕ → List ℕ → CheckReply → Type 0
-IsReplyTo limit input (Counts sentences words) = (length input ≤ limit) × ((bs : List BlockText) × IsFile input bs × (sentences ≡ length bs) × (words ≡ words_in bs))
+IsReplyTo limit input (Counts sentences words) = (length input ≤ limit) × ((bs : List BlockText) × IsFile input bs × IsValid bs × (sentences ≡ length bs) × (words ≡ words_in bs))
 IsReplyTo limit input (Read line code) = (length input ≤ limit) × IsTold input line code
+IsReplyTo limit input (Rule sentence rule row) = (length input ≤ limit) × ((bs : List BlockText) × IsFile input bs × IsFaultAt bs sentence rule row)
 IsReplyTo limit input Long = limit < length input
 IsReplyTo limit input Memory = Unit {0}
 IsReplyTo limit input Device = Unit {0}
+
+-- whether a reply tells of the input; want of memory and a failed device don't
+abbrev pub tells_of_input : CheckReply → Bool
+tells_of_input (Counts sentences words) = true
+tells_of_input (Read line code) = true
+tells_of_input (Rule sentence rule row) = true
+tells_of_input Long = true
+tells_of_input Memory = false
+tells_of_input Device = false
 
 -- a reply's line
 abbrev pub reply_text : CheckReply → List ℕ
 reply_text (Counts sentences words) = codes "sentences " ++ decimal sentences ++ codes " words " ++ decimal words ++ codes "\n"
 reply_text (Read line code) = codes "refused 8 Read " ++ decimal line ++ codes " " ++ decimal code ++ codes "\n"
+reply_text (Rule sentence rule row) = codes "refused 9 Rule " ++ decimal sentence ++ codes " " ++ decimal rule ++ codes " " ++ decimal row ++ codes "\n"
 reply_text Long = codes "refused long\n"
 reply_text Memory = codes "refused memory\n"
 reply_text Device = codes "refused device\n"
@@ -33,6 +55,7 @@ reply_text Device = codes "refused device\n"
 abbrev pub status_of : CheckReply → ℕ
 status_of (Counts sentences words) = 0
 status_of (Read line code) = 1
+status_of (Rule sentence rule row) = 1
 status_of Long = 1
 status_of Memory = 3
 status_of Device = 3

@@ -1,10 +1,10 @@
 //! The check of a file.
 
-ghost use Rattle.std.specs.Prelude.{◌≡◌, ◌<◌, ◌≤◌, ◌^◌, ℕ, List, length, IfOk, IfErr, IfSome};
+ghost use Rattle.std.specs.Prelude.{◌<◌, ◌≤◌, ◌^◌, ℕ, List, [], ◌∷◌, ◌++◌, length, IfOk, IfErr, IfSome};
 ghost use Rattle.tb_conllu.specs.Fault.{IsReadFault};
 ghost use Rattle.tb_conllu.specs.Text.{BlockText};
 ghost use Rattle.tb_conllu.specs.Told.{IsFile};
-ghost use Rattle.tb_desk.specs.Check.{Answers, IsReplyTo, words_in};
+ghost use Rattle.tb_desk.specs.Check.{Answers, IsAsked, IsReplyTo, IsSurvey};
 ghost use Rattle.tb_desk.specs.Input.{IsInput};
 
 use crate::input::{Input, read_all};
@@ -12,35 +12,94 @@ use crate::output::put_reply;
 use crate::reply::CheckReply;
 use std::alloc::Global;
 use std::io::{Read, Write};
-use tb_conllu::{ReadFault, Sentences, fault_after_sentences, words};
+use tb_conllu::{BlockOf, ReadFault, Sentences, Text, fault_after_sentences, words};
+use tb_rules::{Checker, FileFault, a_fault_stays};
 
 /// The greatest size of a file, in bytes.
 pub const FILE_LIMIT: u64 = 4_194_304;
 
-/// How much a file has.
+/// What is found in a file of sentences.
 #[derive(Clone, Copy, Debug, PartialEq, Eq)]
-pub struct Counts {
+pub struct Survey {
     pub sentences: u64,
     pub words: u64,
+    /// The first sentence that breaks a rule, with its least rule and row; or that memory ran out over the rules.
+    pub fault: Option<FileFault>,
 }
 
-/// Counts the sentences and words of a file, of which one sentence at a time is kept.
-pub fn count(alloc: Global, file: &[u8]) -> Result<Counts, ReadFault>
-    ensures counts { IfOk result (λ c. (bs : List BlockText) × IsFile file.now bs × (c.sentences ≡ length bs) × (c.words ≡ words_in bs)) }
+impl Survey {
+    ghost use Rattle.std.specs.Prelude.{◌≤◌, ℕ, List, length};
+    ghost use Rattle.tb_conllu.specs.Text.{BlockText};
+    ghost use Rattle.tb_conllu.specs.Told.{IsFile};
+    ghost use Rattle.tb_desk.specs.Check.{IsReplyTo, IsSurvey};
+
+    /// What the check answers of the file.
+    fn reply(self) -> CheckReply
+        ensures { (limit : ℕ) (input : List ℕ) (bs : List BlockText) → length input ≤ limit → IsFile input bs → IsSurvey bs self → IsReplyTo limit input result }
+    {
+        match self.fault {
+            None => CheckReply::Counts {
+                sentences: self.sentences,
+                words: self.words,
+            },
+            Some(
+                FileFault::At {
+                    sentence,
+                    rule,
+                    row,
+                },
+            ) => CheckReply::Rule {
+                sentence: sentence as u64,
+                rule,
+                row: row as u64,
+            },
+            Some(FileFault::Memory) => CheckReply::Memory,
+        }
+    }
+}
+
+/// Asks the rules of the next sentence, unless a fault was told before.
+fn ask<T: Text>(
+    checker: &mut Checker,
+    block: &BlockOf<T>,
+    told: Option<FileFault>,
+) -> Option<FileFault>
+    ensures { (before : List BlockText) → IsAsked checker.old told before → IsAsked checker.new result (before ++ block.now ∷ []) }
+{
+    // The law by which a fault of the first sentences is the file's.
+    a_fault_stays();
+    if told.is_some() {
+        return told;
+    }
+    checker.take(block).err()
+}
+
+/// Surveys a file, of which one sentence at a time is kept, and the names of all. It is read to its end, also where a
+/// sentence breaks a rule.
+///
+/// # Errors
+///
+/// Where the bytes are no file, the line that nothing can mend, with its least code, whatever rules the sentences before
+/// it break; or want of memory.
+pub fn survey_file(alloc: Global, file: &[u8]) -> Result<Survey, ReadFault>
+    ensures found { IfOk result (λ s. (bs : List BlockText) × IsFile file.now bs × IsSurvey bs s) }
     ensures fault { IfErr result (IsReadFault file.now) }
 {
     // The law by which a fault of what is left is the file's.
     fault_after_sentences();
     let mut unread = Sentences::new(file);
-    let mut counts = Counts {
+    let mut checker = Checker::new(alloc);
+    let mut found = Survey {
         sentences: 0,
         words: 0,
+        fault: None,
     };
     while let Some(block) = unread.read_next(alloc)? {
-        counts.sentences += 1;
-        counts.words += words(&block) as u64;
+        found.sentences += 1;
+        found.words += words(&block) as u64;
+        found.fault = ask(&mut checker, &block, found.fault);
     }
-    Ok(counts)
+    Ok(found)
 }
 
 /// What the check of a file answers.
@@ -48,11 +107,8 @@ pub fn check_file(alloc: Global, file: &[u8], limit: u64) -> CheckReply
     requires { length file.now ≤ limit }
     ensures { IsReplyTo limit file.now result }
 {
-    match count(alloc, file) {
-        Ok(counts) => CheckReply::Counts {
-            sentences: counts.sentences,
-            words: counts.words,
-        },
+    match survey_file(alloc, file) {
+        Ok(found) => found.reply(),
         Err(ReadFault::At { line, code }) => CheckReply::Read {
             line: line as u64,
             code,

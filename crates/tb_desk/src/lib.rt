@@ -3,12 +3,14 @@
 
 mod check;
 mod input;
+mod laws;
 mod output;
 mod reply;
 mod words;
 
-pub use check::{Counts, FILE_LIMIT, check_file, check_within, count, run_check};
+pub use check::{FILE_LIMIT, Survey, check_file, check_within, run_check, survey_file};
 pub use input::{Input, read_all};
+pub use laws::one_reply_is_true;
 pub use output::{Broken, put_all, put_reply};
 pub use reply::CheckReply;
 pub use words::run_words;

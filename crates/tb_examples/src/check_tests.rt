@@ -8,7 +8,7 @@ use std::test::Fail;
 use tb_desk::{check_within, run_check, run_words};
 
 /// Asserts what the check prints of these bytes, and its status.
-fn assert_prints(rt: &impl Abort, alloc: Global, file: &[u8], line: &str, status: u8) {
+pub(crate) fn assert_prints(rt: &impl Abort, alloc: Global, file: &[u8], line: &str, status: u8) {
     let mut reader = file;
     let mut out = Vec::new(alloc);
     let answered = run_check(alloc, &mut reader, &mut out);
@@ -17,7 +17,12 @@ fn assert_prints(rt: &impl Abort, alloc: Global, file: &[u8], line: &str, status
 }
 
 /// The text with its first such part put in another's place.
-fn changed(alloc: Global, text: &str, old: &str, new: &str) -> Result<String, AllocError> {
+pub(crate) fn changed(
+    alloc: Global,
+    text: &str,
+    old: &str,
+    new: &str,
+) -> Result<String, AllocError> {
     let mut all = String::new(alloc);
     match text.split_once(old) {
         Some((before, after)) => {

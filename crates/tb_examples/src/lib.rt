@@ -5,3 +5,9 @@
 mod check_tests;
 #[cfg(test)]
 mod files;
+#[cfg(test)]
+mod format_tests;
+#[cfg(test)]
+mod rule_tests;
+#[cfg(test)]
+mod samples;

@@ -4,8 +4,10 @@ use Rattle.std.proofs.lemmas.Bool.{cases_lt}
 use Rattle.std.specs.List.{AllPairs, Contains}
 use Rattle.tb_match.specs.declared.strategy.Strategy.{Strategy}
 use Rattle.tb_match.specs.declared.strategy.Strategy.TheVariants.{Shortest, Longest, Every}
-use Rattle.tb_match.specs.Hits.{ComesBefore, IsHit, AreHits}
-use Rattle.tb_match.proofs.Ordered.{push_ascending, cons_ascending, Contains-pushed, Contains-cons}
+use Rattle.tb_match.specs.Hits.{ComesBefore, IsHit, IsFound, IsWord, AreHits}
+use Rattle.tb_match.specs.declared.pattern.Pat.{Tok}
+use Rattle.tb_match.specs.Facts.{Facts, Holds}
+use Rattle.tb_match.proofs.Ordered.{none_in_empty, push_ascending, cons_ascending, Contains-pushed, Contains-cons}
 
 abbrev pair : ℕ → ℕ → ℕ × ℕ
 pair i j = (i, j)
@@ -194,19 +196,17 @@ module _ (R : ℕ → ℕ → Type 0) (place end : ℕ) (old xs : List (ℕ × �
           (λ (ge : end ≤ j). let same : end ≡ j = omega arith in inr (subst (λ x. pair place end ≡ pair x j) (sym e) (ap (λ y. pair place y) same)))
           (cases_lt j end)
 
-  pub pairs_skipped : (R place end → ⊥) → (i j : ℕ) → Contains xs (i, j) ↔ (Contains old (i, j) ⊎ ((i ≡ place) × (j < end + 1) × R place j))
-  pairs_skipped none i j = (λ c. widen ((pairs i j).0 c), λ h. (pairs i j).1 (back h))
+  pub pairs_over : (next : ℕ) → end ≤ next → ((j : ℕ) → end ≤ j → j < next → R place j → ⊥) →
+      (i j : ℕ) → Contains xs (i, j) ↔ (Contains old (i, j) ⊎ ((i ≡ place) × (j < next) × R place j))
+  pairs_over next on none i j = (λ c. widen ((pairs i j).0 c), λ h. (pairs i j).1 (back h))
     where
-      widen : Contains old (i, j) ⊎ ((i ≡ place) × (j < end) × R place j) → Contains old (i, j) ⊎ ((i ≡ place) × (j < end + 1) × R place j)
+      widen : Contains old (i, j) ⊎ ((i ≡ place) × (j < end) × R place j) → Contains old (i, j) ⊎ ((i ≡ place) × (j < next) × R place j)
       widen (inl o) = inl o
       widen (inr (e, lt, r)) = inr (e, omega arith, r)
 
-      back : Contains old (i, j) ⊎ ((i ≡ place) × (j < end + 1) × R place j) → Contains old (i, j) ⊎ ((i ≡ place) × (j < end) × R place j)
+      back : Contains old (i, j) ⊎ ((i ≡ place) × (j < next) × R place j) → Contains old (i, j) ⊎ ((i ≡ place) × (j < end) × R place j)
       back (inl o) = inl o
-      back (inr (e, le, r)) = ⊎_elim
-          (λ lt. inr (e, lt, r))
-          (λ (ge : end ≤ j). let same : j ≡ end = omega arith in absurd (none (subst (λ y. R place y) same r)))
-          (cases_lt j end)
+      back (inr (e, lt, r)) = ⊎_elim (λ below. inr (e, below, r)) (λ ge. absurd (none j ge lt r)) (cases_lt j end)
 
 -- Every: one more place
 pub every_more : (R : ℕ → ℕ → Type 0) (place : ℕ) (old xs : List (ℕ × ℕ)) →
@@ -242,3 +242,54 @@ AreHits-same Longest R S same xs h = (
   ),
 )
 AreHits-same Every R S same xs h = (h.0, λ i j. (λ c. (same i j).0 ((h.1 i j).0 c), λ r. (h.1 i j).1 ((same i j).1 r)))
+
+-- Words: one more of them
+module _ (t : Facts) (e place : ℕ) (xs : List (ℕ × ℕ))
+    (words : (i j : ℕ) → Contains xs (i, j) ↔ ((i < place) × IsWord t e i j)) where
+  pub word_ascending : AllPairs ComesBefore xs → AllPairs ComesBefore (xs ++ (place, place + 1) ∷ [])
+  word_ascending ascending = push_ascending xs (place, place + 1) ascending (λ x c. inl ((words x.0 x.1).0 c).0)
+
+  pub word_pushed : Holds t e (place + 1) → (i j : ℕ) → Contains (xs ++ (place, place + 1) ∷ []) (i, j) ↔ ((i < place + 1) × IsWord t e i j)
+  word_pushed holds = every_more (IsWord t e) place xs (xs ++ (place, place + 1) ∷ []) words pairs
+    where
+      pairs : (i j : ℕ) → Contains (xs ++ (place, place + 1) ∷ []) (i, j) ↔ (Contains xs (i, j) ⊎ ((i ≡ place) × IsWord t e place j))
+      pairs i j = (λ c. there ((Contains-pushed xs (place, place + 1) (i, j)).0 c), λ h. (Contains-pushed xs (place, place + 1) (i, j)).1 (back h))
+        where
+          there : Contains xs (i, j) ⊎ (pair place (place + 1) ≡ pair i j) → Contains xs (i, j) ⊎ ((i ≡ place) × IsWord t e place j)
+          there (inl c) = inl c
+          there (inr q) =
+              let a : place ≡ i = ap (λ (x : ℕ × ℕ). x.0) q in
+              let b : place + 1 ≡ j = ap (λ (x : ℕ × ℕ). x.1) q in
+              inr (sym a, (sym b, subst (Holds t e) b holds))
+
+          back : Contains xs (i, j) ⊎ ((i ≡ place) × IsWord t e place j) → Contains xs (i, j) ⊎ (pair place (place + 1) ≡ pair i j)
+          back (inl c) = inl c
+          back (inr (a, (b, _))) = inr (subst (λ x. pair place (place + 1) ≡ pair x j) (sym a) (ap (λ y. pair place y) (sym b)))
+
+  pub word_passed : (Holds t e (place + 1) → ⊥) → (i j : ℕ) → Contains xs (i, j) ↔ ((i < place + 1) × IsWord t e i j)
+  word_passed none = every_more (IsWord t e) place xs xs words pairs
+    where
+      pairs : (i j : ℕ) → Contains xs (i, j) ↔ (Contains xs (i, j) ⊎ ((i ≡ place) × IsWord t e place j))
+      pairs i j = (λ c. inl c, back)
+        where
+          back : Contains xs (i, j) ⊎ ((i ≡ place) × IsWord t e place j) → Contains xs (i, j)
+          back (inl c) = c
+          back (inr (_, (b, holds))) = absurd (none (subst (Holds t e) b holds))
+
+-- a word contains no other word
+pub words_are_hits : (t : Facts) (e : ℕ) (s : Strategy) (i j : ℕ) → IsWord t e i j ↔ IsHit s (IsWord t e) i j
+words_are_hits t e Shortest i j = (λ r. (r, λ k l x (a, b, other). other (omega (arith, r.0, x.0), omega (arith, r.0, x.0))), λ h. h.0)
+words_are_hits t e Longest i j = (λ r. (r, λ k l x (a, b, other). other (omega (arith, r.0, x.0), omega (arith, r.0, x.0))), λ h. h.0)
+words_are_hits t e Every i j = (λ r. r, λ h. h)
+
+pub words_are_found : (t : Facts) (e i j : ℕ) → IsWord t e i j ↔ IsFound t (Tok e) i j
+words_are_found t e i j = (λ r. (omega (arith, r.0), r.1.1, r), λ f. f.2)
+
+-- where a relation holds nowhere, there is no hit
+pub no_hits : (s : Strategy) (R : ℕ → ℕ → Type 0) → ((i j : ℕ) → R i j → ⊥) → AreHits s R []
+no_hits s R none = (λ i j d _ lt. absurd (omega arith), λ i j. (λ c. absurd (none_in_empty (i, j) c), λ h. absurd (none i j (holds s i j h))))
+  where
+    holds : (s : Strategy) (i j : ℕ) → IsHit s R i j → R i j
+    holds Shortest i j h = h.0
+    holds Longest i j h = h.0
+    holds Every i j h = h

@@ -9,4 +9,5 @@ pub mod Rows
 pub mod Steps
 pub mod Sweeps
 pub mod Unique
+pub mod Walks
 pub mod Words

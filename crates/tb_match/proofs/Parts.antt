@@ -62,6 +62,13 @@ module _ (ps : List Pat) (k : ℕ) (p : Pat) (inside : k < length ps) (at : p �
   pub next_part : {Y : Type 0} → (F : List Pat → Y) → F (drop k ps) ≡ F (p ∷ drop (k + 1) ps)
   next_part F = at_drop_more F ps k p inside ∙ ap (λ q. F (q ∷ drop (k + 1) ps)) (sym at)
 
+-- where all match one after the other, so do those from an index on
+pub each_from : (H : ℕ → ℕ → Type 0) (ps : List Pat) (k i j : ℕ) → EachInTurn H ps i j → (m : ℕ) × EachInTurn H (drop k ps) m j
+each_from H [] zero i j e = (i, e)
+each_from H [] (suc k) i j e = (i, e)
+each_from H (p ∷ ps) zero i j e = (i, e)
+each_from H (p ∷ ps) (suc k) i j (m, x, rest) = each_from H ps k m j rest
+
 pub weight_ahead : (ps : List Pat) (k : ℕ) → weight_of_all (drop k ps) ≤ weight_of_all ps
 weight_ahead [] zero = omega arith
 weight_ahead [] (suc k) = omega arith

@@ -48,6 +48,21 @@ module _ (n w : ℕ) (L : List ℕ) (H : ℕ → ℕ → Type 0) (inside : (e w 
   pub links_from : (k i j : ℕ) → i ≤ n → Chain (Match H p) k i j → Chain (Link L w n) k i j
   links_from k i j h c = (chain_of (Match H p) (Link L w n) (λ a. a ≤ n) (λ a b q r. let s = within n H inside p a b q r in ((s.0, s.1, (rows a b q s.1).1 r), s.1)) k i j h c).0
 
+-- the first part of a sequence
+module _ (n w : ℕ) (T : List ℕ) (H : ℕ → ℕ → Type 0) (inside : (e w : ℕ) → H e w → w ≤ n) (p : Pat) (rest : List Pat)
+    (rows : (i j : ℕ) → i ≤ n → j ≤ n → InTable T w i j ↔ Match H p i j) where
+  pub first_forward : (i j : ℕ) → i ≤ n → j ≤ n → InTable T w i j → i ≤ j
+  first_forward i j a b t = (within n H inside p i j a ((rows i j a b).0 t)).0
+
+  pub first_rows : (i j : ℕ) → i ≤ n → j ≤ n → ((m : ℕ) × (m ≤ n) × InTable T w i m × EachInTurn H rest m j) ↔ EachInTurn H (p ∷ rest) i j
+  first_rows i j a b = (
+    λ (m, le, t, r). (m, (rows i m a le).0 t, r),
+    λ (m, x, r). let s = within n H inside p i m a x in (m, s.1, (rows i m a s.1).1 x, r),
+  )
+
+pub bound_after_first : (start after w rest T all : ℕ) → all ≡ w + 1 + rest → after ≤ start + w * T → after + rest * T ≤ start + all * T
+bound_after_first start after w rest T all e step = rw e (omega arith)
+
 -- one more part of a sequence
 module _ (n w : ℕ) (T N T' : List ℕ) (H : ℕ → ℕ → Type 0) (inside : (e w : ℕ) → H e w → w ≤ n) (p : Pat) (rest all : List Pat)
     (rows : (i j : ℕ) → i ≤ n → j ≤ n → InTable N w i j ↔ Match H p i j)

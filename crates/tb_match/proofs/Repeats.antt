@@ -1,5 +1,5 @@
 -- Links put before a relation many times are chains.
-use Rattle.std.proofs.Common.{◌≡◌, ◌+◌, ◌-◌, ◌*◌, ◌<◌, ◌≤◌, ◌↔◌, ℕ, zero, suc, List, IsTrue, true, false, Option, Some, arith, sym, ap, subst, inl, inr, refl, true≢false, add-mul, take, drop, ◌++◌, length}
+use Rattle.std.proofs.Common.{◌≡◌, ◌+◌, ◌-◌, ◌*◌, ◌≤◌, ◌↔◌, ℕ, zero, suc, List, IsTrue, true, false, Option, Some, arith, sym, ap, subst, inl, inr, refl, true≢false, add-mul, take, drop, ◌++◌, length}
 use Rattle.std.proofs.lemmas.List.{take_at}
 use Rattle.tb_match.specs.Bits.{InTable, Link, Repeated}
 use Rattle.tb_match.specs.Match.{Chain, IsAtMost}
@@ -19,16 +19,18 @@ module _ (L T : List ℕ) (w last : ℕ) where
   after_from zero i j m e h = subst (λ x. InTable T w x j) (sym e) h
   after_from (suc t) i j m (k, l, rest) h = inr (k, l, after_from t k j m rest h)
 
-  -- with each place itself, from no relation: fewer links than turns
-  pub fewer_to : ((a b : ℕ) → InTable T w a b → ⊥) → (t i j : ℕ) → Repeated L T w last (IsTrue true) t i j → (n : ℕ) × (n < t) × Chain link n i j
-  fewer_to none zero i j h = absurd (none i j h)
-  fewer_to none (suc t) i j (inl p) = (0, omega arith, sym p.1)
-  fewer_to none (suc t) i j (inr (k, l, rest)) = let r = fewer_to none t k j rest in (suc (r.0), (let h : r.0 < t = r.1 in omega arith), (k, l, r.2))
+  -- with each place itself, from each place alone: at most as many links as turns
+  module _ (alone : (a b : ℕ) → a ≤ last → b ≤ last → InTable T w a b ↔ (a ≡ b)) where
+    pub few_to : (t i j : ℕ) → i ≤ last → j ≤ last → Repeated L T w last (IsTrue true) t i j → (n : ℕ) × (n ≤ t) × Chain link n i j
+    few_to zero i j p q h = (0, omega arith, (alone i j p q).0 h)
+    few_to (suc t) i j p q (inl h) = (0, omega arith, sym h.1)
+    few_to (suc t) i j p q (inr (k, l, rest)) = let r = few_to t k j l.1 q rest in (suc (r.0), (let h : r.0 ≤ t = r.1 in omega arith), (k, l, r.2))
 
-  pub fewer_from : (t i j n : ℕ) → n < t → Chain link n i j → Repeated L T w last (IsTrue true) t i j
-  fewer_from zero i j n lt c = absurd (omega arith)
-  fewer_from (suc t) i j zero lt c = inl (refl, sym c)
-  fewer_from (suc t) i j (suc n) lt (k, l, rest) = inr (k, l, fewer_from t k j n (omega arith) rest)
+    pub few_from : (t i j n : ℕ) → i ≤ last → j ≤ last → n ≤ t → Chain link n i j → Repeated L T w last (IsTrue true) t i j
+    few_from zero i j zero p q le c = (alone i j p q).1 c
+    few_from zero i j (suc n) p q le c = absurd (omega arith)
+    few_from (suc t) i j zero p q le c = inl (refl, sym c)
+    few_from (suc t) i j (suc n) p q le (k, l, rest) = inr (k, l, few_from t k j n l.1 q (omega arith) rest)
 
 -- in turn: a fixed number of links, and then a chain of some more
 module _ (L T : List ℕ) (w last a : ℕ) (b : Option ℕ)
@@ -62,9 +64,9 @@ turns_none a t = omega arith
 pub lent : (n : ℕ) (new old : List ℕ) → n ≡ length new → take n (new ++ drop (length new) old) ≡ new
 lent n new old e = take_at new (drop (length new) old) n (sym e)
 
-pub fewer : (L T : List ℕ) (w last a b i j : ℕ) → a ≤ b → ((x y : ℕ) → InTable T w x y → ⊥) →
-    Repeated L T w last (IsTrue true) (b - a + 1) i j ↔ ((k : ℕ) × IsAtMost (a + k) (Some b) × Chain (Link L w last) k i j)
-fewer L T w last a b i j le none = (
-  λ h. let r = fewer_to L T w last none (b - a + 1) i j h in let lt : r.0 < b - a + 1 = r.1 in (r.0, omega arith, r.2),
-  λ h. let below : a + h.0 ≤ b = h.1 in fewer_from L T w last (b - a + 1) i j h.0 (omega arith) h.2,
+pub few : (L T : List ℕ) (w last a b i j : ℕ) → a ≤ b → ((x y : ℕ) → x ≤ last → y ≤ last → InTable T w x y ↔ (x ≡ y)) → i ≤ last → j ≤ last →
+    Repeated L T w last (IsTrue true) (b - a) i j ↔ ((k : ℕ) × IsAtMost (a + k) (Some b) × Chain (Link L w last) k i j)
+few L T w last a b i j le alone p q = (
+  λ h. let r = few_to L T w last alone (b - a) i j p q h in let small : r.0 ≤ b - a = r.1 in (r.0, omega arith, r.2),
+  λ h. let below : a + h.0 ≤ b = h.1 in few_from L T w last alone (b - a) i j h.0 p q (omega arith) h.2,
 )

@@ -1,22 +1,15 @@
 -- Places of bit rows, after a write and after a union.
-use Rattle.std.proofs.Common.{◌≡◌, ◌+◌, ◌-◌, ◌*◌, ◌/◌, ◌%◌, ◌^◌, ◌<◌, ◌≤◌, ◌≢◌, ◌↔◌, ◌⊎◌, ℕ, length, List, true, false, bit_or, bit_and, get_or, take, drop, max, IsTrue, nat_eq, arith, ◌∙◌, sym, ap, subst, inl, inr, ⊎_elim, true≢false, refl, zero-add, set, w64, ◌++◌, replicate}
+use Rattle.std.proofs.Common.{◌≡◌, ◌+◌, ◌-◌, ◌*◌, ◌/◌, ◌%◌, ◌^◌, ◌<◌, ◌≤◌, ◌≢◌, ◌↔◌, ◌⊎◌, ℕ, length, List, true, false, bit_or, get_or, take, drop, max, IsTrue, arith, ◌∙◌, sym, ap, subst, inl, inr, ⊎_elim, true≢false, refl, zero-add, set, w64, ◌++◌, replicate}
 use Rattle.std.specs.Int.{bit_at}
 use Rattle.std.specs.Simd.Lanes.{zip2}
 use Rattle.std.proofs.lemmas.Simd.{get_or-zip2}
 use Rattle.std.proofs.lemmas.List.{get_or-take, get_or-drop, get_or-set_same, get_or-set_other, get_or-replicate, length-take, length-drop, length-replicate, get_or-append_right, get_or_append_left, get_or_past}
-use Rattle.std.proofs.lemmas.Bool.{eqb-true, eq-eqb, cases_lt, cases_eq, cases_order}
-use Rattle.std.proofs.lemmas.Nat.Bits.{bit_at_or, bit_at-lt, shr_and_one, bit_at_set_same, bit_at_set_other, bit_at-zero}
+use Rattle.std.proofs.lemmas.Bool.{cases_lt, cases_eq, cases_order}
+use Rattle.std.proofs.lemmas.Nat.Bits.{bit_at_or, bit_at-lt, bit_at_set_same, bit_at_set_other, bit_at-zero}
 use Rattle.std.proofs.lemmas.Nat.{div-add-mod'}
 use Rattle.std.proofs.Math.Nat.{mul-le-mul_right}
 use borrow.Rule.Slice.PartMut.{put_mid}
 use Rattle.tb_match.specs.Bits.{InRow, InTable, Through}
-
-pub InRow_test : (cells : List ℕ) (from place : ℕ) → IsTrue (nat_eq (bit_and (get_or cells (from + place / 64) 0 / 2 ^ (place % 64)) 1) 1) ↔ InRow cells from place
-unfolding InRow
-InRow_test cells from place =
-    let n = get_or cells (from + place / 64) 0 in
-    let e = shr_and_one n (place % 64) in
-    (λ h. sym e ∙ eqb-true _ 1 h, λ h. eq-eqb _ 1 (e ∙ h))
 
 pub InRow_unite : (xs ys : List ℕ) (j : ℕ) → length xs ≡ length ys → j / 64 < length xs → InRow (zip2 bit_or xs ys) 0 j ↔ (InRow xs 0 j ⊎ InRow ys 0 j)
 unfolding InRow
@@ -92,17 +85,27 @@ module _ (L T spare0 spare spare' : List ℕ) (w i k j : ℕ) (from : i ≤ k) (
       narrow (inl p) = inl (so_far.1 (inl p))
       narrow (inr (m, a, b, c, d)) = ⊎_elim (λ lt. inl (so_far.1 (inr (m, a, lt, c, d)))) (λ e. inr (subst (λ x. InTable T w x j) e d)) (below_or_at m k b)
 
-  pub gather_no : (InTable L w i k → ⊥) → InRow spare 0 j ↔ (InRow spare0 0 j ⊎ Through L T w i (k + 1) j)
-  gather_no none =
-      (λ h. widen (so_far.0 h), λ h. narrow h)
-    where
-      widen : (InRow spare0 0 j ⊎ Through L T w i k j) → (InRow spare0 0 j ⊎ Through L T w i (k + 1) j)
-      widen (inl p) = inl p
-      widen (inr (m, a, b, c, d)) = inr (m, a, omega arith, c, d)
+-- places that no link leads to are passed over, as are those whose rows the row has already
+pub gather_over : (L T spare0 spare : List ℕ) (w i k n j : ℕ) → k ≤ n →
+    ((m : ℕ) → k ≤ m → m < n → InTable L w i m → InTable T w m j → InRow spare 0 j) →
+    (InRow spare 0 j ↔ (InRow spare0 0 j ⊎ Through L T w i k j)) → InRow spare 0 j ↔ (InRow spare0 0 j ⊎ Through L T w i n j)
+gather_over L T spare0 spare w i k n j le known so_far = (λ h. widen (so_far.0 h), λ h. narrow h)
+  where
+    widen : (InRow spare0 0 j ⊎ Through L T w i k j) → (InRow spare0 0 j ⊎ Through L T w i n j)
+    widen (inl p) = inl p
+    widen (inr (m, a, b, c, d)) = inr (m, a, omega arith, c, d)
 
-      narrow : (InRow spare0 0 j ⊎ Through L T w i (k + 1) j) → InRow spare 0 j
-      narrow (inl p) = so_far.1 (inl p)
-      narrow (inr (m, a, b, c, d)) = ⊎_elim (λ lt. so_far.1 (inr (m, a, lt, c, d))) (λ e. absurd (none (subst (λ x. InTable L w i x) e c))) (below_or_at m k b)
+    narrow : (InRow spare0 0 j ⊎ Through L T w i n j) → InRow spare 0 j
+    narrow (inl p) = so_far.1 (inl p)
+    narrow (inr (m, a, b, c, d)) = ⊎_elim (λ lt. so_far.1 (inr (m, a, lt, c, d))) (λ ge. known m ge b c d) (cases_lt m k)
+
+-- nothing is gathered yet
+pub gather_none : (L T spare0 : List ℕ) (w i j : ℕ) → InRow spare0 0 j ↔ (InRow spare0 0 j ⊎ Through L T w i i j)
+gather_none L T spare0 w i j = (λ h. inl h, back)
+  where
+    back : (InRow spare0 0 j ⊎ Through L T w i i j) → InRow spare0 0 j
+    back (inl p) = p
+    back (inr (m, a, b, c, d)) = absurd (omega arith)
 
 -- the union with row k of a table
 pub united_row : (spare spare' T : List ℕ) (w k j n : ℕ) → length spare ≡ w → n ≡ w → j / 64 < w → k * w + w ≤ length T → spare' ≡ zip2 bit_or spare (take n (drop (k * w) T)) → InRow spare' 0 j ↔ (InRow spare 0 j ⊎ InTable T w k j)
@@ -192,19 +195,46 @@ pub begun_without : (row : List ℕ) (n place j : ℕ) → row ≡ replicate n 0
 begun_without row n place j zeros =
     (λ h. absurd (InRow_zero n j (subst (λ xs. InRow xs 0 j) zeros h)), λ p. absurd (true≢false (sym p.0)))
 
--- a union of two rows, of a copy of row p of T and of row p of O
-pub merged_row : (T O copy made : List ℕ) (w p j m n : ℕ) → m ≡ w → n ≡ w → j / 64 < w → p * w + w ≤ length T → p * w + w ≤ length O → copy ≡ take m (drop (p * w) T) → made ≡ zip2 bit_or copy (take n (drop (p * w) O)) →
-    InRow made 0 j ↔ (InTable T w p j ⊎ InTable O w p j)
-merged_row T O copy made w p j m n sm sn short roomT roomO e f =
-    let long : length copy ≡ w = ap length e ∙ part_length in
-    let u = united_row copy made O w p j n long sn short roomO f in
-    let q = InRow_part T (p * w) m j (omega arith) in (
-      λ h. ⊎_elim (λ a. inl (q.0 (subst (λ xs. InRow xs 0 j) e a))) (λ b. inr b) (u.0 h),
-      λ h. u.1 (⊎_elim (λ a. inl (subst (λ xs. InRow xs 0 j) (sym e) (q.1 a))) (λ b. inr b) h),
+pub part_long : (T : List ℕ) (p w n : ℕ) → n ≡ w → p * w + w ≤ length T → length (take n (drop (p * w) T)) ≡ n
+part_long T p w n size room = simp (length-take, length-drop) (omega arith)
+
+-- a row of T that was united with that of O, in its place
+pub merged_row : (T O made : List ℕ) (w p j m n : ℕ) → m ≡ w → n ≡ w → j / 64 < w → p * w + w ≤ length T → p * w + w ≤ length O →
+    made ≡ zip2 bit_or (take m (drop (p * w) T)) (take n (drop (p * w) O)) → length made ≡ w →
+    InTable (put_mid (p * w) m T made) w p j ↔ (InTable T w p j ⊎ InTable O w p j)
+merged_row T O made w p j m n sm sn short roomT roomO e long =
+    let u = united_row (take m (drop (p * w) T)) made O w p j n (part_long T p w m sm roomT ∙ sm) sn short roomO e in
+    let q = InRow_part T (p * w) m j (omega arith) in
+    let r = row_written T made (p * w) m w p j refl sm long short roomT in (
+      λ h. ⊎_elim (λ a. inl (q.0 a)) (λ b. inr b) (u.0 (r.0 h)),
+      λ h. r.1 (u.1 (⊎_elim (λ a. inl (q.1 a)) (λ b. inr b) h)),
     )
-  where
-    part_length : length (take m (drop (p * w) T)) ≡ w
-    part_length = simp (length-take, length-drop) (omega arith)
+
+-- a place that was put into a row of T, in its place
+module _ (T made : List ℕ) (w row place n : ℕ) (size : n ≡ w) (long : length made ≡ w) (room : row * w + w ≤ length T)
+    (put : (j : ℕ) → InRow made 0 j ↔ (InRow (take n (drop (row * w) T)) 0 j ⊎ (j ≡ place))) where
+  pub marked_row : (i j : ℕ) → j / 64 < w → InTable (put_mid (row * w) n T made) w i j ↔ (InTable T w i j ⊎ ((i ≡ row) × (j ≡ place)))
+  marked_row i j short = ⊎_elim here other (cases_eq i row)
+    where
+      q : InRow (take n (drop (row * w) T)) 0 j ↔ InTable T w row j
+      q = InRow_part T (row * w) n j (omega arith)
+
+      r : InTable (put_mid (row * w) n T made) w row j ↔ InRow made 0 j
+      r = row_written T made (row * w) n w row j refl size long short room
+
+      there : InTable (put_mid (row * w) n T made) w row j → InTable T w row j ⊎ ((row ≡ row) × (j ≡ place))
+      there h = ⊎_elim (λ a. inl (q.0 a)) (λ b. inr (refl, b)) ((put j).0 (r.0 h))
+
+      back : InTable T w row j ⊎ ((row ≡ row) × (j ≡ place)) → InTable (put_mid (row * w) n T made) w row j
+      back h = r.1 ((put j).1 (⊎_elim (λ a. inl (q.1 a)) (λ b. inr b.1) h))
+
+      here : i ≡ row → InTable (put_mid (row * w) n T made) w i j ↔ (InTable T w i j ⊎ ((i ≡ row) × (j ≡ place)))
+      here e = subst (λ x. InTable (put_mid (row * w) n T made) w x j ↔ (InTable T w x j ⊎ ((x ≡ row) × (j ≡ place)))) (sym e) (there, back)
+
+      other : i ≢ row → InTable (put_mid (row * w) n T made) w i j ↔ (InTable T w i j ⊎ ((i ≡ row) × (j ≡ place)))
+      other ne =
+          let k = row_kept T made (row * w) n w row j refl size long short room i ne in
+          (λ h. inl (k.0 h), λ h. ⊎_elim (λ a. k.1 a) (λ b. absurd (ne b.0)) h)
 
 pub no_row : (cells : List ℕ) (n w i j : ℕ) → cells ≡ replicate n 0 → InTable cells w i j → ⊥
 unfolding InRow

@@ -1,9 +1,9 @@
 -- One sweep over the rows of a table.
 use Rattle.std.proofs.Common.{◌≡◌, ◌+◌, ◌<◌, ◌≤◌, ◌≢◌, ◌↔◌, ◌⊎◌, ℕ, zero, suc, List, IsTrue, arith, sym, subst, inl, inr, ⊎_elim, refl, true, add-one, le_antisymm}
 use Rattle.std.proofs.lemmas.Bool.{cases_lt, cases_eq, cases_order}
-use Rattle.tb_match.specs.Bits.{InTable, Through, Link, triangle}
+use Rattle.tb_match.specs.Bits.{InTable, Through, Link, IsClosed, triangle}
 use Rattle.tb_match.specs.Match.{Chain}
-use Rattle.tb_match.proofs.Chains.{chain_cut}
+use Rattle.tb_match.proofs.Chains.{chain_cut, chain_join}
 
 pub triangle_step : (m n : ℕ) → m ≡ n + 1 → triangle m ≡ m + triangle n
 triangle_step m n e = rw (e, add-one) refl
@@ -21,6 +21,23 @@ le_triangle (suc n) = omega arith
 
 abbrev pub Reaches : List ℕ → ℕ → ℕ → ℕ → ℕ → Type 0
 Reaches L w last i j = (k : ℕ) × Chain (Link L w last) k i j
+
+chain_goes_on : (L : List ℕ) (w last k i j : ℕ) → Chain (Link L w last) k i j → i ≤ j
+chain_goes_on L w last zero i j e = omega arith
+chain_goes_on L w last (suc k) i j (m, r, rest) = let a : i ≤ m = r.0 in omega (arith, chain_goes_on L w last k m j rest)
+
+-- where the rows from `before` on are closed, and those before it are empty, all rows are closed
+pub all_closed : (L T : List ℕ) (w last before : ℕ) →
+    ((a b : ℕ) → before ≤ a → a ≤ last → b ≤ last → InTable T w a b ↔ Reaches L w last a b) →
+    ((a b : ℕ) → a < before → b ≤ last → InTable T w a b → ⊥) → IsClosed T w last
+all_closed L T w last before done empty i k j p q r here row = ⊎_elim
+    (λ lt. absurd (empty i k lt q here))
+    (λ ge.
+    let a = (done i k ge p q).0 here in
+    let on = chain_goes_on L w last a.0 i k a.1 in
+    let b = (done k j (omega arith) q r).0 row in
+    (done i j ge p r).1 (a.0 + b.0, chain_join (Link L w last) a.0 b.0 i k j a.1 b.1))
+    (cases_lt i before)
 
 -- the row of one place in the backward sweep: the rows after it are closed, and its own is empty
 module _ (L T : List ℕ) (w last place j : ℕ) (inside : place ≤ last) (here : j ≤ last)

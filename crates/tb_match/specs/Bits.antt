@@ -23,6 +23,14 @@ Link cells w last i j = (i ≤ j) × (j ≤ last) × InTable cells w i j
 abbrev pub Forward : List ℕ → ℕ → ℕ → ℕ → ℕ → Type 0
 Forward cells w last i j = (i < j) × (j ≤ last) × InTable cells w i j
 
+-- the row of each place of a row is in that row
+abbrev pub IsClosed : List ℕ → ℕ → ℕ → Type 0
+IsClosed cells w last = (i k j : ℕ) → i ≤ last → k ≤ last → j ≤ last → InTable cells w i k → InTable cells w k j → InTable cells w i j
+
+-- the row has the row of the table of each of its places
+abbrev pub HasRowsOf : List ℕ → List ℕ → ℕ → ℕ → Type 0
+HasRowsOf row cells w last = (k j : ℕ) → k ≤ last → j ≤ last → InRow row 0 k → InTable cells w k j → InRow row 0 j
+
 -- the numbers from 1 to n added up: how many pairs i ≤ j there are of n places
 abbrev pub triangle : ℕ → ℕ
 triangle zero = 0

@@ -1,6 +1,6 @@
 -- Which matches are hits: this project's own reading of the matching strategies of CQP ("CQP Interface
 -- and Query Language Manual", on the matching strategy), as relations between all matches of a sentence.
-use Rattle.std.specs.Prelude.{◌≡◌, ℕ, ◌<◌, ◌≤◌, ◌⊎◌, ◌↔◌, List}
+use Rattle.std.specs.Prelude.{◌≡◌, ℕ, ◌+◌, ◌<◌, ◌≤◌, ◌⊎◌, ◌↔◌, List}
 use Rattle.std.specs.List.{AllPairs, Contains}
 use Rattle.tb_match.specs.declared.pattern.Pat.{Pat}
 use Rattle.tb_match.specs.declared.strategy.Strategy.{Strategy}
@@ -11,6 +11,10 @@ use Rattle.tb_match.specs.Facts.{Facts, Holds}
 -- a match that has a word
 abbrev pub IsFound : Facts → Pat → ℕ → ℕ → Type 0
 IsFound t p i j = (i < j) × (j ≤ t.words) × Match (Holds t) p i j
+
+-- the piece from i to j is one word, and the expression holds of it
+abbrev pub IsWord : Facts → ℕ → ℕ → ℕ → Type 0
+IsWord t e i j = (j ≡ i + 1) × Holds t e j
 
 -- the piece from i to j contains the piece from k to l, and is another
 abbrev pub ContainsStrictly : ℕ → ℕ → ℕ → ℕ → Type 0

@@ -4,8 +4,9 @@ ghost use Rattle.std.specs.Prelude.{◌+◌, ◌*◌, ◌/◌, ◌≤◌, IfOk};
 ghost use Rattle.tb_match.specs.Hits.{AreHits, HitsAreOneList, IsFound};
 ghost use Rattle.tb_match.specs.Weight.{Fits, weight_of};
 
-use crate::hits::hits_by;
+use crate::hits::{hits_by, word_hits};
 use crate::pattern::Pat;
+use crate::possible::can_match;
 use crate::relation::rows;
 use crate::strategy::Strategy;
 use crate::truth::Truth;
@@ -23,9 +24,15 @@ pub struct Found {
 /// The hits of the pattern in the sentence of the table, by the strategy, and the number of unions
 /// of bit rows that it took.
 ///
-/// It holds at most two tables, and one more for each sequence, choice or repetition that is open
-/// on the way down to a part; a table has a row of one bit for each place, in each of its places.
-/// It takes some stack frames for each level of the pattern.
+/// A lone word is read off the table, and where a part that each match needs matches nowhere, no
+/// table is made. Otherwise it holds at most two tables of bits, and one more for each sequence,
+/// choice or repetition that is open on the way down to a part; a table has a row for each place,
+/// of one bit for each place: 21 machine words on 20 words, 128,128 bytes on 1,000.
+///
+/// It takes stack for each level of the pattern: some 420 bytes a level as LLVM compiles it for
+/// x86-64, so that a stack of 8 MiB holds some 20,000 levels. Which levels a pattern has is the
+/// caller's care: the query language allows 16 parentheses open at one place, which makes at most
+/// some fifty levels.
 pub fn find(
     alloc: Global,
     pat: &Pat,
@@ -37,6 +44,19 @@ pub fn find(
     ensures steps { IfOk result (λ f.
         f.steps ≤ weight_of pat.now * (truth.now.words + 1) * (truth.now.words + 2) / 2) }
 {
+    if let Pat::Tok(expr) = pat {
+        let words = word_hits(alloc, *expr, truth)?;
+        return Ok(Found {
+            hits: words,
+            steps: 0,
+        });
+    }
+    if !can_match(pat, truth) {
+        return Ok(Found {
+            hits: Vec::new(alloc),
+            steps: 0,
+        });
+    }
     let last = truth.words();
     let width = last / 64 + 1;
     let mut spare = Vec::from_elem(alloc, 0, width)?;

@@ -3,10 +3,13 @@
 ghost use Rattle.std.specs.Prelude.{◌≡◌, ◌+◌, ◌*◌, ◌/◌, ◌<◌, ◌≤◌, ◌↔◌, ◌⊎◌, ℕ, IfOk, OnOk, length};
 ghost use Rattle.std.specs.List.{AllPairs, Contains};
 ghost use Rattle.tb_match.specs.Bits.{Forward};
-ghost use Rattle.tb_match.specs.Hits.{AreHits, ComesBefore};
+ghost use Rattle.tb_match.specs.Facts.{Facts};
+ghost use Rattle.tb_match.specs.Hits.{AreHits, ComesBefore, IsWord};
+ghost use Rattle.tb_match.specs.declared.strategy.Strategy.{Strategy};
 
 use crate::strategy::Strategy;
-use crate::table::has;
+use crate::truth::Truth;
+use crate::walk::next_place;
 use std::alloc::{AllocError, Global};
 
 /// The least end of a pair from `place`, or one past the last place where there is no pair.
@@ -19,30 +22,28 @@ fn least_end(table: &[u64], width: usize, place: usize, last: usize) -> usize
     ensures there { result ≤ last → Forward table.now width last place result }
     ensures least { (j : ℕ) → Forward table.now width last place j → result ≤ j }
 {
-    for end in place + 1..last + 1 {
-        if has(table, place * width, end) {
-            return end;
-        }
-    }
-    last + 1
+    next_place(table, place * width, place + 1, last)
 }
 
-/// The greatest end of a pair from `place`, or 0, at which no pair ends, where there is none.
-fn greatest_end(table: &[u64], width: usize, place: usize, last: usize) -> usize
+/// The greatest end of a pair from `place`, where it lies beyond `reached`, and else `reached`.
+fn furthest_end(table: &[u64], width: usize, place: usize, reached: usize, last: usize) -> usize
     requires wide { last / 64 < width }
     requires table { length table.now ≡ (last + 1) * width }
     requires order { place ≤ last }
+    requires reached { reached ≤ last }
     requires small { last ≤ 1000 }
     ensures limit { result ≤ last }
-    ensures there { 0 < result → Forward table.now width last place result }
+    ensures there { reached < result → Forward table.now width last place result }
     ensures greatest { (j : ℕ) → Forward table.now width last place j → j ≤ result }
 {
-    for end in (place + 1..last + 1).rev() {
-        if has(table, place * width, end) {
-            return end;
-        }
+    let row = place * width;
+    let mut furthest = reached;
+    let mut end = next_place(table, row, reached.max(place) + 1, last);
+    while end <= last {
+        furthest = end;
+        end = next_place(table, row, end + 1, last);
     }
-    0
+    furthest
 }
 
 /// The pairs that strictly contain no other. From the last place back, only the least end of a
@@ -87,7 +88,7 @@ fn longest(
     let mut hits = Vec::new(alloc);
     let mut reached = 0;
     for place in 0..last + 1 {
-        let end = greatest_end(table, width, place, last);
+        let end = furthest_end(table, width, place, reached, last);
         if reached < end {
             hits.push((place as u32, end as u32))?;
             reached = end;
@@ -114,11 +115,12 @@ fn push_pairs(
     ensures pairs { OnOk result ((i j : ℕ) → (Contains hits.new.items (i, j)
         ↔ (Contains hits.old.items (i, j) ⊎ ((i ≡ place) × Forward table.now width last place j)))) }
 {
-    for end in place + 1..last + 1 {
-        if has(table, place * width, end) {
-            let pair = (place as u32, end as u32);
-            hits.push(pair)?;
-        }
+    let row = place * width;
+    let mut end = next_place(table, row, place + 1, last);
+    while end <= last {
+        let pair = (place as u32, end as u32);
+        hits.push(pair)?;
+        end = next_place(table, row, end + 1, last);
     }
     Ok(())
 }
@@ -138,6 +140,25 @@ fn every(
     let mut hits = Vec::new(alloc);
     for place in 0..last + 1 {
         push_pairs(&mut hits, table, width, place, last)?;
+    }
+    Ok(hits)
+}
+
+/// The words of which the expression holds. None contains another, so by each strategy they are the
+/// hits of a lone token.
+pub(crate) fn word_hits(
+    alloc: Global,
+    expr: u16,
+    truth: &Truth,
+) -> Result<Vec<(u32, u32)>, AllocError>
+    requires { expr < truth.now.exprs }
+    ensures { IfOk result (λ v. (s : Strategy) → AreHits s (IsWord truth.now expr) v.items) }
+{
+    let mut hits = Vec::new(alloc);
+    for place in 0..truth.words() {
+        if truth.get(expr, place + 1) {
+            hits.push((place as u32, place as u32 + 1))?;
+        }
     }
     Ok(hits)
 }

@@ -1,11 +1,14 @@
 //! Patterns over the words of a sentence, and where they match: exactly the defined hits, within a bound.
 #![tactic(auto)]
 
+#[cfg(test)]
+mod border_tests;
 mod finding;
 mod hits;
 mod pattern;
 #[cfg(test)]
 mod plain;
+mod possible;
 mod relation;
 mod strategy;
 mod table;
@@ -13,6 +16,7 @@ mod table;
 mod tests;
 mod truth;
 mod uniting;
+mod walk;
 mod weights;
 
 pub use finding::{Found, find, hits_are_one_list};

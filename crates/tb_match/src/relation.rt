@@ -8,22 +8,15 @@ ghost use Rattle.tb_match.specs.Weight.{IsBetween, weight_of, turns, IsProper};
 ghost use Rattle.tb_match.specs.Facts.{Facts, Holds};
 
 use crate::pattern::Pat;
-use crate::table::{begin, close, compose, diagonal, empty, merge, repeat, store};
+use crate::table::{close, compose, diagonal, empty, mark, merge, repeat};
 use crate::truth::Truth;
 use std::alloc::{AllocError, Global};
 
 /// The rows of one word of which the expression holds.
-fn token_rows(
-    alloc: Global,
-    expr: u16,
-    truth: &Truth,
-    spare: &mut [u64],
-    width: usize,
-) -> Result<Vec<u64>, AllocError>
+fn token_rows(alloc: Global, expr: u16, truth: &Truth, width: usize) -> Result<Vec<u64>, AllocError>
     requires expr { expr < truth.now.exprs }
     requires wide { truth.now.words / 64 < width }
     requires narrow { width ≤ 16 }
-    requires spare { length spare.old ≡ width }
     ensures whole { IfOk result (λ v. length v.items ≡ (truth.now.words + 1) * width) }
     ensures rows { IfOk result (λ v. (i j : ℕ) → i ≤ truth.now.words → j ≤ truth.now.words →
         (InTable v.items width i j ↔ ((j ≡ i + 1) × Holds truth.now expr j))) }
@@ -32,8 +25,7 @@ fn token_rows(
     let mut table = empty(alloc, width, last)?;
     for place in 0..last {
         if truth.get(expr, place + 1) {
-            begin(spare, place + 1, true);
-            store(&mut table, spare, place);
+            mark(&mut table, width, place, place + 1);
         }
     }
     Ok(table)
@@ -63,23 +55,16 @@ fn further(
     ensures more { steps.old ≤ steps.new }
     ensures bound { steps.new + least * triangle (last + 1) ≤ steps.old + turns least most * triangle (last + 1) }
 {
-    let mut table = empty(alloc, width, last)?;
     match most {
         None => {
+            let mut table = empty(alloc, width, last)?;
             close(links, &mut table, spare, width, last, steps);
             Ok(table)
         }
         Some(most) => {
-            repeat(
-                links,
-                &mut table,
-                spare,
-                width,
-                last,
-                (most - least) as usize + 1,
-                true,
-                steps,
-            );
+            let mut table = diagonal(alloc, width, last)?;
+            let times = (most - least) as usize;
+            repeat(links, &mut table, spare, width, last, times, true, steps);
             Ok(table)
         }
     }
@@ -146,8 +131,11 @@ fn sequence(
     ensures bound { steps.new ≤ steps.old + weight_of_all parts.now * triangle (truth.now.words + 1) }
 {
     let last = truth.words();
-    let mut table = diagonal(alloc, spare, width, last)?;
-    for part in parts {
+    let Some((first, rest)) = parts.split_first() else {
+        return diagonal(alloc, width, last);
+    };
+    let mut table = rows(alloc, first, truth, spare, width, steps)?;
+    for part in rest {
         let mut next = rows(alloc, part, truth, spare, width, steps)?;
         compose(&table, &mut next, spare, width, last, false, steps);
         table = next;
@@ -181,7 +169,7 @@ fn choice(
     let mut table = empty(alloc, width, last)?;
     for part in parts {
         let next = rows(alloc, part, truth, spare, width, steps)?;
-        merge(&mut table, &next, spare, width, last, steps);
+        merge(&mut table, &next, width, last, steps);
     }
     Ok(table)
 }
@@ -209,7 +197,7 @@ pub(crate) fn rows(
     ensures bound { steps.new ≤ steps.old + weight_of pat.now * triangle (truth.now.words + 1) }
 {
     match pat {
-        Pat::Tok(expr) => token_rows(alloc, *expr, truth, spare, width),
+        Pat::Tok(expr) => token_rows(alloc, *expr, truth, width),
         Pat::Cat(parts) => sequence(alloc, parts, truth, spare, width, steps),
         Pat::Alt(parts) => choice(alloc, parts, truth, spare, width, steps),
         Pat::Rep(inner, least, most) => {

@@ -13,9 +13,13 @@ use std::alloc::{AllocError, Global};
 use std::process::Abort;
 use std::test::Fail;
 
-const STRATEGIES: [Strategy; 3] = [Strategy::Shortest, Strategy::Longest, Strategy::Every];
+pub(crate) const STRATEGIES: [Strategy; 3] = [
+    Strategy::Shortest,
+    Strategy::Longest,
+    Strategy::Every,
+];
 
-fn search(
+pub(crate) fn search(
     rt: &impl Abort,
     alloc: Global,
     pat: &Pat,
@@ -28,14 +32,14 @@ fn search(
 }
 
 /// Makes the expression hold of the word, where the table has both.
-fn mark(truth: &mut Truth, expr: u16, word: usize) {
+pub(crate) fn mark(truth: &mut Truth, expr: u16, word: usize) {
     if expr < truth.exprs() && 1 <= word && word <= truth.words() {
         truth.set(expr, word);
     }
 }
 
 /// A table of one expression that holds of each word.
-fn anything(alloc: Global, words: usize) -> Result<Truth, AllocError>
+pub(crate) fn anything(alloc: Global, words: usize) -> Result<Truth, AllocError>
     requires { words ≤ 1000 }
 {
     let mut truth = Truth::new(alloc, words, 1)?;
@@ -45,11 +49,11 @@ fn anything(alloc: Global, words: usize) -> Result<Truth, AllocError>
     Ok(truth)
 }
 
-fn star(alloc: Global, inner: Pat) -> Result<Pat, AllocError> {
+pub(crate) fn star(alloc: Global, inner: Pat) -> Result<Pat, AllocError> {
     Ok(Pat::Rep(Box::new(alloc, inner)?, 0, None))
 }
 
-fn optional(alloc: Global, inner: Pat) -> Result<Pat, AllocError> {
+pub(crate) fn optional(alloc: Global, inner: Pat) -> Result<Pat, AllocError> {
     Ok(Pat::Rep(Box::new(alloc, inner)?, 0, Some(1)))
 }
 
@@ -331,7 +335,12 @@ fn tabled(alloc: Global, words: usize, bits: u32) -> Result<Truth, AllocError>
 }
 
 /// Fails where the plain program finds other hits.
-fn compare(rt: &impl Abort, alloc: Global, pat: &Pat, truth: &Truth) -> Result<(), AllocError> {
+pub(crate) fn compare(
+    rt: &impl Abort,
+    alloc: Global,
+    pat: &Pat,
+    truth: &Truth,
+) -> Result<(), AllocError> {
     let matches = plain::matches(alloc, pat, truth)?;
     for strategy in STRATEGIES {
         let found = search(rt, alloc, pat, truth, strategy)?;

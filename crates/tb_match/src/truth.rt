@@ -66,6 +66,19 @@ impl Truth {
         self.cells[expr as usize * self.words + (word - 1)]
     }
 
+    /// Whether the expression holds of some word.
+    pub(crate) fn holds_somewhere(&self, expr: u16) -> bool
+        requires { expr < self.now.exprs }
+        ensures { IsTrue result ↔ ((w : ℕ) × Holds self.now expr w) }
+    {
+        for word in 1..self.words + 1 {
+            if self.get(expr, word) {
+                return true;
+            }
+        }
+        false
+    }
+
     /// Makes the expression hold of the word, and leaves all else as it is.
     pub fn set(&mut self, expr: u16, word: usize)
         requires expr { expr < self.old.exprs }

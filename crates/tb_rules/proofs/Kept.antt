@@ -8,13 +8,13 @@ use Rattle.tb_rules.specs.Rules.{KeepsRules, IsBroken, no_sent_id, no_text, no_i
 use Rattle.tb_rules.specs.declared.fault.RuleFault.{RuleFault}
 use Rattle.tb_rules.specs.declared.fault.RuleFault.TheVariants.{At, Memory}
 
-some_row : RowText
+pub some_row : RowText
 some_row = record { id = Word 1; form = []; lemma = []; upos = []; xpos = []; feats = []; head = None; deprel = []; deps = []; misc = [] }
 
-both : (b : Bool) → b ≡ true → b ≡ false → ⊥
+pub both : (b : Bool) → b ≡ true → b ≡ false → ⊥
 both b t f = let e : true ≡ false = sym t ∙ f in cc
 
-passes : (test : RowTest) (rs : List RowText) (row : ℕ) → IsFirstFault test rs row → EachRowPasses test rs → ⊥
+pub passes : (test : RowTest) (rs : List RowText) (row : ℕ) → IsFirstFault test rs row → EachRowPasses test rs → ⊥
 passes test rs row f k = both _ (k f.place some_row f.within) (f.fails some_row)
 
 pub not_kept : (b : BlockText) (rule row : ℕ) → IsBroken b rule row → KeepsRules b → ⊥

@@ -1,11 +1,14 @@
 pub mod Trims
-pub mod Places
 pub mod Values
 pub mod RowSteps
 pub mod Counts
-pub mod Relations
-pub mod Parts
 pub mod Folds
 pub mod Numerals
 pub mod Walks
+pub mod Numbered
+pub mod Covers
+pub mod Compare
 pub mod Kept
+pub mod OneRule
+pub mod Valid
+pub mod Taken

@@ -5,11 +5,12 @@ use Rattle.std.proofs.lemmas.List.{take-append-drop, take_all}
 use Rattle.std.proofs.lemmas.List.Folds.{list_all_at}
 use Rattle.std.proofs.lemmas.List.Sums.{fold-append, fold_more}
 use Rattle.tb_conllu.specs.Text.{RowText}
-use Rattle.tb_rules.specs.Feats.{is_digit}
-use Rattle.tb_rules.specs.Words.{is_colon, is_solid}
+use Rattle.tb_fields.specs.Feats.{is_digit}
+use Rattle.tb_fields.specs.Relations.{is_colon}
+use Rattle.tb_fields.specs.Spaces.{is_solid}
 use Rattle.tb_rules.specs.Deps.{with_digit, digits_value, value_of, head_id, word_id, number_of, is_dot, is_head_there, is_pair, pair_precedes, are_pairs_in_order, are_pairs}
-use Rattle.tb_rules.proofs.Places.{list_any-from_no_place, list_any-from_place}
-use Rattle.tb_rules.proofs.Parts.{and_true, two_tests}
+use Rattle.tb_fields.proofs.Places.{list_any-from_no_place, list_any-from_place}
+use Rattle.tb_fields.proofs.Parts.{and_true, two_tests}
 
 -- a number grows with its digits
 grows : (v : ℕ) (bs : List ℕ) → v ≤ fold with_digit v bs

@@ -5,8 +5,9 @@ use Rattle.std.specs.Str.{bytes_eq}
 use Rattle.std.proofs.lemmas.Bool.{ne_eqb, true≢false}
 use Rattle.std.proofs.lemmas.List.{map-append, append-nil, take-append-drop, take_more}
 use Rattle.std.proofs.lemmas.List.Elements.{filter_map-append}
-use Rattle.tb_rules.specs.Comments.{trimmed, is_equals, value_under, values_of, only}
-use Rattle.tb_rules.proofs.Places.{list_any-from_no_place, list_any-from_place}
+use Rattle.tb_rules.specs.Comments.{trimmed, value_under, values_of, only}
+use Rattle.tb_fields.specs.Feats.{is_equals}
+use Rattle.tb_fields.proofs.Places.{list_any-from_no_place, list_any-from_place}
 
 -- without a hash there is no value
 pub value_under-no_hash : (key bs : List ℕ) → ((rest : List ℕ) → bs ≡ 35 ∷ rest → ⊥) → value_under key bs ≡ None

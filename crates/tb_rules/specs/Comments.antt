@@ -2,9 +2,10 @@
 -- CoNLL-U format page, "Sentence Boundaries and Comments": `# sent_id = ...` and `# text = ...` are required.
 -- Where the page leaves it open, this project is lenient: spaces (U+0020) round key and value mean nothing, and
 -- the key ends at the first `=`.
-use Rattle.std.specs.Prelude.{◌≡◌, ℕ, ◌<◌, List, [], ◌∷◌, length, reverse, Option, Some, None, Bool, false, ◌&&◌, bytes_eq, ◌==◌, if◌then◌else◌}
+use Rattle.std.specs.Prelude.{◌≡◌, ℕ, ◌<◌, List, [], ◌∷◌, length, reverse, Option, Some, None, false, ◌&&◌, bytes_eq, ◌==◌, if◌then◌else◌}
 use Rattle.std.specs.List.{filter_map, list_any, before_first, after_first}
 use Rattle.tb_conllu.specs.Shape.{has_space}
+use Rattle.tb_fields.specs.Feats.{is_equals}
 use Rattle.tb_conllu.specs.Text.{BlockText}
 
 abbrev pub drop_spaces : List ℕ → List ℕ
@@ -14,9 +15,6 @@ drop_spaces (b ∷ bs) = if b == 32 then drop_spaces bs else b ∷ bs
 -- without the spaces at both ends
 abbrev pub trimmed : List ℕ → List ℕ
 trimmed bs = reverse (drop_spaces (reverse (drop_spaces bs)))
-
-abbrev pub is_equals : ℕ → Bool
-is_equals b = b == 61
 
 -- The value that a comment gives to the key: between the hash and the first `=` stands the key.
 abbrev pub value_under : List ℕ → List ℕ → Option (List ℕ)

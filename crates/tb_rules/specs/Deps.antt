@@ -7,10 +7,11 @@ use Rattle.std.specs.List.{list_any, list_all, before_first, after_first, slice_
 use Rattle.tb_conllu.specs.declared.id.LineId.{LineId}
 use Rattle.tb_conllu.specs.declared.id.LineId.TheVariants.{Word, Span, Empty}
 use Rattle.tb_conllu.specs.Text.{RowText}
-use Rattle.tb_rules.specs.Feats.{is_bar, is_digit}
+use Rattle.tb_fields.specs.Feats.{is_bar, is_digit}
 use Rattle.tb_rules.specs.Rows.{RowTest}
-use Rattle.tb_rules.specs.Spans.{is_blank}
-use Rattle.tb_rules.specs.Words.{is_colon, is_solid}
+use Rattle.tb_fields.specs.Blank.{is_blank}
+use Rattle.tb_fields.specs.Relations.{is_colon}
+use Rattle.tb_fields.specs.Spaces.{is_solid}
 
 -- ---- numbers
 

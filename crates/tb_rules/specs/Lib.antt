@@ -5,7 +5,12 @@ pub mod Words
 pub mod Spans
 pub mod Nodes
 pub mod Tree
+pub mod Depths
 pub mod Feats
 pub mod Restored
+pub mod Expected
+pub mod Leading
 pub mod Deps
+pub mod Named
 pub mod Rules
+pub mod File

@@ -5,8 +5,8 @@ use Rattle.tb_conllu.specs.declared.id.LineId.{LineId}
 use Rattle.tb_conllu.specs.declared.id.LineId.TheVariants.{Word, Span, Empty}
 use Rattle.tb_conllu.specs.Text.{RowText}
 use Rattle.tb_rules.specs.Rows.{RowTest}
-use Rattle.tb_rules.specs.Spans.{is_blank}
-use Rattle.tb_rules.specs.Words.{is_universal_tag}
+use Rattle.tb_fields.specs.Blank.{is_blank}
+use Rattle.tb_fields.specs.Tags.{is_universal_tag}
 
 abbrev pub is_fine_as_node : LineId → RowText → Bool
 is_fine_as_node (Word n) r = true

@@ -9,7 +9,7 @@ use Rattle.tb_conllu.specs.declared.id.LineId.{LineId}
 use Rattle.tb_conllu.specs.declared.id.LineId.TheVariants.{Word, Span, Empty}
 use Rattle.tb_conllu.specs.Text.{RowText, BlockText}
 use Rattle.tb_rules.specs.Comments.{texts}
-use Rattle.tb_rules.specs.Feats.{is_bar}
+use Rattle.tb_fields.specs.Feats.{is_bar}
 
 -- ---- white space
 

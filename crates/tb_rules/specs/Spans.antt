@@ -1,17 +1,14 @@
 -- Multiword tokens: rows `a-b` for words that are written as one.
 -- CoNLL-U format page, "Words, Tokens and Empty Nodes": the range stands before its first word, ranges do not
 -- overlap, and all fields but ID, FORM and MISC are empty. FEATS may hold features (page "Morphological Annotation").
-use Rattle.std.specs.Prelude.{ℕ, ◌+◌, max, List, [], ◌∷◌, Bool, true, ◌&&◌, nat_lt, nat_le, ◌==◌, bytes_eq, is_none, count_by}
+use Rattle.std.specs.Prelude.{ℕ, ◌+◌, max, List, Bool, true, ◌&&◌, nat_lt, nat_le, ◌==◌, is_none, count_by}
 use Rattle.std.specs.List.{fold}
 use Rattle.tb_conllu.specs.declared.id.LineId.{LineId}
 use Rattle.tb_conllu.specs.declared.id.LineId.TheVariants.{Word, Span, Empty}
 use Rattle.tb_conllu.specs.Text.{RowText}
 use Rattle.tb_conllu.specs.Words.{is_word}
+use Rattle.tb_fields.specs.Blank.{is_blank}
 use Rattle.tb_rules.specs.Rows.{RowTest}
-
--- `_`
-abbrev pub is_blank : List ℕ → Bool
-is_blank bs = bytes_eq bs (95 ∷ [])
 
 -- LEMMA, UPOS, XPOS, HEAD, DEPREL and DEPS are `_`
 abbrev pub is_bare : RowText → Bool

@@ -1,8 +1,9 @@
 //! Rules 1 to 11, one after the other.
 
-ghost use Rattle.std.specs.Prelude.{◌≡◌, OnOk, IfErr, MatchOption};
-ghost use Rattle.tb_rules.specs.Rules.{HasWords, HasSpans, HasNodes, HasFeatures, HasDependencies, KeepsRules, IsRuleFault};
+ghost use Rattle.std.specs.Prelude.{◌≡◌, OnOk, IfOk, IfErr, MatchOption};
+ghost use Rattle.tb_rules.specs.Rules.{HasWords, HasSpans, HasNodes, HasFeatures, HasDependencies, KeepsTo6, KeepsRules, IsRuleFault};
 ghost use Rattle.tb_conllu.specs.Words.{words_of};
+ghost use Rattle.tb_rules.specs.Ids.{HasIds};
 ghost use Rattle.tb_rules.specs.Rows.{IsFirstFault};
 ghost use Rattle.tb_rules.specs.declared.fault.RuleFault.TheVariants.{Memory};
 ghost use Rattle.tb_rules.specs.Words.{word_test};
@@ -21,7 +22,7 @@ use crate::spans::span_fault;
 use crate::spelling::is_restored;
 use crate::tree::{has_one_root, has_tree};
 use crate::words::word_fault;
-use std::alloc::Global;
+use std::alloc::{AllocError, Global};
 use tb_conllu::{BlockOf, Text, words};
 
 fn word_row<T: Text>(block: &BlockOf<T>) -> Option<usize>
@@ -42,21 +43,22 @@ fn node_row<T: Text>(block: &BlockOf<T>) -> Option<usize>
     node_fault(&block.rows)
 }
 
-fn feature_row<T: Text>(block: &BlockOf<T>) -> Option<usize>
-    ensures { MatchOption result (HasFeatures block.now) (IsFirstFault feature_test block.now.rows) }
+fn feature_row<T: Text>(alloc: Global, block: &BlockOf<T>) -> Result<Option<usize>, AllocError>
+    ensures { IfOk result (λ r. MatchOption r (HasFeatures block.now) (IsFirstFault feature_test block.now.rows)) }
 {
-    feature_fault(&block.rows)
+    feature_fault(alloc, &block.rows)
 }
 
-fn dependency_row<T: Text>(block: &BlockOf<T>) -> Option<usize>
-    ensures { MatchOption result (HasDependencies block.now) (IsFirstFault (dependency_test block.now.rows) block.now.rows) }
+fn dependency_row<T: Text>(alloc: Global, block: &BlockOf<T>) -> Result<Option<usize>, AllocError>
+    requires { HasIds block.now }
+    ensures { IfOk result (λ r. MatchOption r (HasDependencies block.now) (IsFirstFault (dependency_test block.now.rows) block.now.rows)) }
 {
-    dependency_fault(&block.rows)
+    dependency_fault(alloc, &block.rows, words(block))
 }
 
-/// The least broken rule of 1 to 11.
-fn first_broken<T: Text>(alloc: Global, block: &BlockOf<T>) -> Result<(), RuleFault>
-    ensures valid { OnOk result (KeepsRules block.now) }
+/// The least broken rule of 1 to 6: comments, and what each row says by itself and by its place.
+fn check_rows<T: Text>(block: &BlockOf<T>) -> Result<(), RuleFault>
+    ensures valid { OnOk result (KeepsTo6 block.now) }
     ensures fault { IfErr result (IsRuleFault block.now) }
 {
     if !has_sent_id(block) {
@@ -77,10 +79,25 @@ fn first_broken<T: Text>(alloc: Global, block: &BlockOf<T>) -> Result<(), RuleFa
     if let Some(row) = node_row(block) {
         return Err(RuleFault::At { rule: 6, row });
     }
-    if let Some(row) = feature_row(block) {
+    Ok(())
+}
+
+/// The least broken rule of 7 to 11: lists in fields, the tree, and the text.
+fn check_whole<T: Text>(alloc: Global, block: &BlockOf<T>) -> Result<(), RuleFault>
+    requires { KeepsTo6 block.now }
+    ensures valid { OnOk result (KeepsRules block.now) }
+    ensures fault { IfErr result (IsRuleFault block.now) }
+{
+    let Ok(features) = feature_row(alloc, block) else {
+        return Err(RuleFault::Memory);
+    };
+    if let Some(row) = features {
         return Err(RuleFault::At { rule: 7, row });
     }
-    if let Some(row) = dependency_row(block) {
+    let Ok(dependencies) = dependency_row(alloc, block) else {
+        return Err(RuleFault::Memory);
+    };
+    if let Some(row) = dependencies {
         return Err(RuleFault::At { rule: 8, row });
     }
     if !has_one_root(block) {
@@ -99,6 +116,17 @@ fn first_broken<T: Text>(alloc: Global, block: &BlockOf<T>) -> Result<(), RuleFa
         return Err(RuleFault::At { rule: 11, row: 0 });
     }
     Ok(())
+}
+
+/// The least broken rule of 1 to 11.
+fn first_broken<T: Text>(alloc: Global, block: &BlockOf<T>) -> Result<(), RuleFault>
+    ensures valid { OnOk result (KeepsRules block.now) }
+    ensures fault { IfErr result (IsRuleFault block.now) }
+{
+    match check_rows(block) {
+        Ok(()) => check_whole(alloc, block),
+        Err(fault) => Err(fault),
+    }
 }
 
 /// Whether the sentence keeps rules 1 to 11.

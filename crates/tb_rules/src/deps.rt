@@ -1,12 +1,15 @@
-ghost use Rattle.std.specs.Prelude.{◌≡◌, ◌&&◌, MatchOption};
-ghost use Rattle.std.specs.List.{list_any, slice_split};
-ghost use Rattle.tb_rules.specs.Words.{is_solid};
+ghost use Rattle.std.specs.Prelude.{◌≡◌, ◌&&◌, MatchOption, IfOk};
+ghost use Rattle.std.specs.List.{slice_split};
+ghost use Rattle.tb_fields.specs.Spaces.{is_solid};
 ghost use Rattle.tb_rules.specs.Rows.{EachRowPasses, IsFirstFault};
-ghost use Rattle.tb_rules.specs.Feats.{is_bar, is_digit};
-ghost use Rattle.tb_rules.specs.Deps.{is_plain, value_of, number_of, head_id, word_id, node_id, is_word_numbered, is_node_numbered, is_there, is_head_there, place_word, place_node, is_place_in_order, are_heads_in_order, pair_head, is_pair, pair_precedes, are_pairs, is_dependency_text, is_fine_as_dependent, dependency_test};
+ghost use Rattle.tb_fields.specs.Feats.{is_bar, is_digit};
+ghost use Rattle.tb_rules.specs.Named.{AreNumbered};
+ghost use Rattle.tb_rules.specs.Deps.{is_plain, value_of, number_of, head_id, word_id, node_id, is_head_there, place_word, place_node, is_place_in_order, are_heads_in_order, pair_head, is_pair, pair_precedes, are_pairs, is_dependency_text, is_fine_as_dependent, dependency_test};
 
-use crate::words::{is_blank_field, is_solid_text};
+use crate::heads::{Heads, head_stands_in, heads_in};
+use std::alloc::{AllocError, Global};
 use tb_conllu::{LineId, RowOf, Text};
+use tb_fields::{is_blank_field, is_solid_text};
 
 const LIMIT: u32 = 1_000_000;
 
@@ -80,55 +83,6 @@ fn head(text: &str) -> Option<LineId>
     }
 }
 
-fn is_word_with(id: LineId, number: u32) -> bool
-    ensures { result ≡ is_word_numbered number id }
-{
-    match id {
-        LineId::Word(n) => n == number,
-        LineId::Span(..) | LineId::Empty(..) => false,
-    }
-}
-
-fn is_node_with(id: LineId, word: u32, node: u32) -> bool
-    ensures { result ≡ is_node_numbered word node id }
-{
-    match id {
-        LineId::Empty(i, k) => i == word && k == node,
-        LineId::Word(_) | LineId::Span(..) => false,
-    }
-}
-
-fn has_word<T: Text>(rows: &[RowOf<T>], number: u32) -> bool
-    ensures { result ≡ list_any (λ r. is_word_numbered number r.id) rows.now }
-{
-    rows.iter().any(|row| is_word_with(row.id, number))
-}
-
-fn has_node<T: Text>(rows: &[RowOf<T>], word: u32, node: u32) -> bool
-    ensures { result ≡ list_any (λ r. is_node_numbered word node r.id) rows.now }
-{
-    rows.iter().any(|row| is_node_with(row.id, word, node))
-}
-
-fn stands_in<T: Text>(rows: &[RowOf<T>], id: LineId) -> bool
-    ensures { result ≡ is_there rows.now id }
-{
-    match id {
-        LineId::Word(n) => n == 0 || has_word(rows, n),
-        LineId::Span(..) => false,
-        LineId::Empty(i, k) => has_node(rows, i, k),
-    }
-}
-
-fn head_stands_in<T: Text>(rows: &[RowOf<T>], head: Option<LineId>) -> bool
-    ensures { result ≡ is_head_there rows.now head }
-{
-    match head {
-        None => false,
-        Some(id) => stands_in(rows, id),
-    }
-}
-
 fn word_of_place(id: LineId) -> u32
     ensures { result ≡ place_word id }
 {
@@ -177,18 +131,18 @@ fn head_of_pair(pair: &str) -> Option<LineId>
     }
 }
 
-fn are_pair_parts<T: Text>(rows: &[RowOf<T>], front: &str, relation: &str) -> bool
-    ensures { result ≡ (is_head_there rows.now (head_id front.now) && is_solid relation.now) }
+fn are_pair_parts<T: Text>(heads: &Heads<'_, T>, front: &str, relation: &str) -> bool
+    ensures { result ≡ (is_head_there heads.now.rows.now (head_id front.now) && is_solid relation.now) }
 {
-    head_stands_in(rows, head(front)) && is_solid_text(relation)
+    head_stands_in(heads, head(front)) && is_solid_text(relation)
 }
 
-fn is_pair_in<T: Text>(rows: &[RowOf<T>], pair: &str) -> bool
-    ensures { result ≡ is_pair rows.now pair.now }
+fn is_pair_in<T: Text>(heads: &Heads<'_, T>, pair: &str) -> bool
+    ensures { result ≡ is_pair heads.now.rows.now pair.now }
 {
     match pair.split_once(':') {
         None => false,
-        Some((front, relation)) => are_pair_parts(rows, front, relation),
+        Some((front, relation)) => are_pair_parts(heads, front, relation),
     }
 }
 
@@ -208,48 +162,61 @@ fn is_before(pair: &str, text: &str) -> bool
     }
 }
 
-fn pair_is_fine<T: Text>(rows: &[RowOf<T>], pair: &str, more: &str) -> bool
-    ensures { result ≡ (is_pair rows.now pair.now && pair_precedes pair.now (slice_split is_bar more.now)) }
+fn pair_is_fine<T: Text>(heads: &Heads<'_, T>, pair: &str, more: &str) -> bool
+    ensures { result ≡ (is_pair heads.now.rows.now pair.now && pair_precedes pair.now (slice_split is_bar more.now)) }
 {
-    is_pair_in(rows, pair) && is_before(pair, more)
+    is_pair_in(heads, pair) && is_before(pair, more)
 }
 
-fn holds_pairs<T: Text>(rows: &[RowOf<T>], text: &str) -> bool
-    ensures { result ≡ are_pairs rows.now (slice_split is_bar text.now) }
+fn holds_pairs<T: Text>(heads: &Heads<'_, T>, text: &str) -> bool
+    ensures { result ≡ are_pairs heads.now.rows.now (slice_split is_bar text.now) }
 {
     let mut left = text;
     while let Some((pair, more)) = left.split_once('|') {
-        if !pair_is_fine(rows, pair, more) {
+        if !pair_is_fine(heads, pair, more) {
             return false;
         }
         left = more;
     }
-    is_pair_in(rows, left)
+    is_pair_in(heads, left)
 }
 
-fn is_fine_text<T: Text>(rows: &[RowOf<T>], text: &str) -> bool
-    ensures { result ≡ is_dependency_text rows.now text.now }
+fn is_fine_text<T: Text>(heads: &Heads<'_, T>, text: &str) -> bool
+    ensures { result ≡ is_dependency_text heads.now.rows.now text.now }
 {
-    is_blank_field(text) || holds_pairs(rows, text)
+    is_blank_field(text) || holds_pairs(heads, text)
 }
 
-fn is_fine<T: Text>(rows: &[RowOf<T>], row: &RowOf<T>) -> bool
-    ensures { result ≡ is_fine_as_dependent rows.now row.now.id row.now }
+fn is_fine<T: Text>(heads: &Heads<'_, T>, row: &RowOf<T>) -> bool
+    ensures { result ≡ is_fine_as_dependent heads.now.rows.now row.now.id row.now }
 {
     match row.id {
-        LineId::Word(_) | LineId::Empty(..) => is_fine_text(rows, row.deps.text()),
+        LineId::Word(_) | LineId::Empty(..) => is_fine_text(heads, row.deps.text()),
         LineId::Span(..) => true,
     }
 }
 
-/// The first word or empty node whose DEPS are at fault, by the number of its row (from 1).
-pub(crate) fn dependency_fault<T: Text>(rows: &[RowOf<T>]) -> Option<usize>
-    ensures { MatchOption result (EachRowPasses (dependency_test rows.now) rows.now) (IsFirstFault (dependency_test rows.now) rows.now) }
+fn first_fault<T: Text>(heads: &Heads<'_, T>) -> Option<usize>
+    ensures { MatchOption result (EachRowPasses (dependency_test heads.now.rows.now) heads.now.rows.now) (IsFirstFault (dependency_test heads.now.rows.now) heads.now.rows.now) }
 {
-    for (i, row) in rows.iter().enumerate() {
-        if !is_fine(rows, row) {
+    for (i, row) in heads.rows.iter().enumerate() {
+        if !is_fine(heads, row) {
             return Some(i + 1);
         }
     }
     None
+}
+
+/// The first word or empty node whose DEPS are at fault, by the number of its row (from 1), in a sentence of so many
+/// words whose rows carry the right numbers.
+pub(crate) fn dependency_fault<T: Text>(
+    alloc: Global,
+    rows: &[RowOf<T>],
+    words: usize,
+) -> Result<Option<usize>, AllocError>
+    requires { AreNumbered rows.now words }
+    ensures { IfOk result (λ r. MatchOption r (EachRowPasses (dependency_test rows.now) rows.now) (IsFirstFault (dependency_test rows.now) rows.now)) }
+{
+    let heads = heads_in(alloc, rows, words)?;
+    Ok(first_fault(&heads))
 }

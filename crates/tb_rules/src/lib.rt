@@ -3,21 +3,34 @@
 
 mod checking;
 mod comments;
+mod covering;
 mod deps;
 mod fault;
 mod feats;
+mod filefault;
+mod heads;
 mod ids;
+mod laws;
+mod matching;
 mod nodes;
-mod space;
 mod spans;
 mod spelling;
+mod taking;
 mod tree;
 mod words;
 
 pub use checking::check;
 pub use comments::{sent_id, text};
 pub use fault::RuleFault;
+pub use filefault::FileFault;
+pub use laws::{
+    a_broken_rule_is_not_kept, a_fault_stays, faulty_sentences_are_not_valid, one_rule_is_told,
+    one_sentence_is_told,
+};
 pub use spelling::restored;
+pub use taking::{Checker, check_all};
 
+#[cfg(test)]
+mod file_tests;
 #[cfg(test)]
 mod tests;

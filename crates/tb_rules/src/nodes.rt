@@ -2,8 +2,8 @@ ghost use Rattle.std.specs.Prelude.{◌≡◌, MatchOption};
 ghost use Rattle.tb_rules.specs.Rows.{EachRowPasses, IsFirstFault};
 ghost use Rattle.tb_rules.specs.Nodes.{is_fine_as_node, node_test};
 
-use crate::words::{is_blank_field, is_tag};
 use tb_conllu::{LineId, RowOf, Text};
+use tb_fields::{is_blank_field, is_tag};
 
 fn is_fine<T: Text>(row: &RowOf<T>) -> bool
     ensures { result ≡ is_fine_as_node row.now.id row.now }

@@ -2,8 +2,8 @@ ghost use Rattle.std.specs.Prelude.{◌≡◌, MatchOption, max};
 ghost use Rattle.tb_rules.specs.Rows.{EachRowPasses, IsFirstFault};
 ghost use Rattle.tb_rules.specs.Spans.{is_bare, end_of_id, is_fine_as_span, span_test};
 
-use crate::words::is_blank_field;
 use tb_conllu::{LineId, RowOf, Text, is_word_row};
+use tb_fields::is_blank_field;
 
 fn is_bare_row<T: Text>(row: &RowOf<T>) -> bool
     ensures { result ≡ is_bare row.now }
@@ -17,7 +17,7 @@ fn is_bare_row<T: Text>(row: &RowOf<T>) -> bool
 }
 
 /// The last word of a range, 0 of another row.
-fn end_of(id: LineId) -> u32
+pub(crate) fn end_of(id: LineId) -> u32
     ensures { result ≡ end_of_id id }
 {
     match id {

@@ -1,11 +1,16 @@
 ghost use Rattle.std.specs.Prelude.{◌≡◌, ◌↔◌, IsTrue, ◌++◌, ◌∷◌, ℕ, List, [], IfOk, OnOk, bytes_eq, string_bytes, chars, encode_utf8, encode_utf8_all, length, not, ◌==◌, ◌&&◌, true, false};
 ghost use Rattle.std.specs.List.{list_any, slice_split};
-ghost use Rattle.tb_rules.specs.Feats.{is_bar};
-ghost use Rattle.tb_rules.specs.Restored.{covers, is_covered, is_token_id, has_no_space_after, form_and_space, token_text, text_of_rows, restored_text, folded, folded_text, IsRestored, continued};
+ghost use Rattle.tb_fields.specs.Feats.{is_bar};
+ghost use Rattle.tb_rules.specs.Leading.{RangesLead, is_token_after};
+ghost use Rattle.tb_rules.specs.Restored.{is_token_id, has_no_space_after, form_and_space, token_text, text_of_rows, restored_text, folded, folded_text, IsRestored, continued};
 
 use crate::comments::text;
+use crate::covering::{comes_out, ranges_lead};
+use crate::matching::{is_folded, spell};
+use crate::spans::end_of;
 use std::alloc::{AllocError, Global};
-use tb_conllu::{BlockOf, LineId, RowOf, Text};
+use tb_conllu::{BlockOf, RowOf, Text};
+use tb_fields::is_blank_field;
 
 /// A text whose white space is folded as it comes.
 #[derive(Drop)]
@@ -72,31 +77,6 @@ fn fold(alloc: Global, text: &str) -> Result<String, AllocError>
     Ok(folding.text)
 }
 
-fn is_over(id: LineId, word: u32) -> bool
-    ensures { result ≡ covers word id }
-{
-    match id {
-        LineId::Span(first, last) => first <= word && word <= last,
-        LineId::Word(_) | LineId::Empty(..) => false,
-    }
-}
-
-fn is_in_range<T: Text>(rows: &[RowOf<T>], word: u32) -> bool
-    ensures { result ≡ is_covered rows.now word }
-{
-    rows.iter().any(|row| is_over(row.id, word))
-}
-
-fn is_token<T: Text>(id: LineId, rows: &[RowOf<T>]) -> bool
-    ensures { result ≡ is_token_id rows.now id }
-{
-    match id {
-        LineId::Word(word) => !is_in_range(rows, word),
-        LineId::Span(..) => true,
-        LineId::Empty(..) => false,
-    }
-}
-
 fn has_item(misc: &str, wanted: &str) -> bool
     ensures { result ≡ list_any (bytes_eq wanted.now) (slice_split is_bar misc.now) }
 {
@@ -110,10 +90,10 @@ fn has_item(misc: &str, wanted: &str) -> bool
     wanted == left
 }
 
-fn has_no_space<T: Text>(row: &RowOf<T>) -> bool
+pub(crate) fn has_no_space<T: Text>(row: &RowOf<T>) -> bool
     ensures { result ≡ has_no_space_after row.now }
 {
-    has_item(row.misc.text(), "SpaceAfter=No")
+    !is_blank_field(row.misc.text()) && has_item(row.misc.text(), "SpaceAfter=No")
 }
 
 fn put_row<T: Text>(folding: &mut Folding, row: &RowOf<T>) -> Result<(), AllocError>
@@ -130,20 +110,26 @@ fn put_token<T: Text>(
     folding: &mut Folding,
     row: &RowOf<T>,
     rows: &[RowOf<T>],
+    lead: bool,
+    end: u32,
 ) -> Result<(), AllocError>
+    requires { lead ≡ true → is_token_id rows.now row.now.id ≡ is_token_after end row.now.id }
     ensures { OnOk result ((next : List ℕ) → continued (string_bytes folding.new.text) folding.new.gap next ≡ continued (string_bytes folding.old.text) folding.old.gap (token_text rows.now row.now ++ next)) }
 {
-    if !is_token(row.id, rows) {
+    if !comes_out(row.id, rows, lead, end) {
         return Ok(());
     }
     put_row(folding, row)
 }
 
-fn put_rows<T: Text>(folding: &mut Folding, rows: &[RowOf<T>]) -> Result<(), AllocError>
+fn put_rows<T: Text>(folding: &mut Folding, rows: &[RowOf<T>], lead: bool) -> Result<(), AllocError>
+    requires { lead ≡ true → RangesLead rows.now }
     ensures { OnOk result ((next : List ℕ) → continued (string_bytes folding.new.text) folding.new.gap next ≡ continued (string_bytes folding.old.text) folding.old.gap (text_of_rows rows.now ++ next)) }
 {
+    let mut end: u32 = 0;
     for row in rows {
-        put_token(folding, row, rows)?;
+        put_token(folding, row, rows, lead, end)?;
+        end = end.max(end_of(row.id));
     }
     Ok(())
 }
@@ -155,7 +141,7 @@ fn spelled<T: Text>(alloc: Global, rows: &[RowOf<T>]) -> Result<String, AllocErr
         text: String::new(alloc),
         gap: false,
     };
-    put_rows(&mut folding, rows)?;
+    put_rows(&mut folding, rows, ranges_lead(rows))?;
     Ok(folding.text)
 }
 
@@ -169,10 +155,15 @@ pub fn restored<T: Text>(alloc: Global, block: &BlockOf<T>) -> Result<String, Al
     spelled(alloc, &block.rows)
 }
 
-fn same_text(first: &str, second: &str) -> bool
-    ensures { IsTrue result ↔ (first.now ≡ second.now) }
+/// Whether the rows spell the value, but for white space.
+fn is_spelled<T: Text>(alloc: Global, rows: &[RowOf<T>], value: &str) -> Result<bool, AllocError>
+    ensures { IfOk result (λ b. IsTrue b ↔ (encode_utf8_all (folded (text_of_rows rows.now)) ≡ folded_text value.now)) }
 {
-    first == second
+    if is_folded(value) {
+        return Ok(spell(rows, value));
+    }
+    let folded = fold(alloc, value)?;
+    Ok(spell(rows, folded.as_str()))
 }
 
 /// Whether the rows spell the text that the comment gives, but for white space.
@@ -182,7 +173,5 @@ pub(crate) fn is_restored<T: Text>(alloc: Global, block: &BlockOf<T>) -> Result<
     let Some(value) = text(block) else {
         return Ok(false);
     };
-    let ours = restored(alloc, block)?;
-    let given = fold(alloc, value)?;
-    Ok(same_text(ours.as_str(), given.as_str()))
+    is_spelled(alloc, &block.rows, value)
 }

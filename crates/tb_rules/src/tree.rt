@@ -1,6 +1,7 @@
-ghost use Rattle.std.specs.Prelude.{◌≡◌, ◌↔◌, IsTrue, IfOk, count_by};
+ghost use Rattle.std.specs.Prelude.{◌≡◌, ◌<◌, ◌≤◌, ◌↔◌, IsTrue, IfOk, MatchOption, count_by, length};
 ghost use Rattle.tb_rules.specs.Words.{is_root_head};
 ghost use Rattle.tb_rules.specs.Tree.{is_root, HasOneRoot, head_number, heads_of, head_at, ReachesRoot, IsTree, HasTree};
+ghost use Rattle.tb_rules.specs.Depths.{IsDepth, AreDepths};
 
 use std::alloc::{AllocError, Global};
 use tb_conllu::{BlockOf, RowOf, Text, is_word_row};
@@ -58,29 +59,71 @@ fn step(heads: &[u32], at: usize) -> usize
     }
 }
 
-/// Whether steps along the heads lead from the word to the root.
-fn reaches_root(heads: &[u32], word: usize) -> bool
-    ensures { IsTrue result ↔ ReachesRoot heads.now word }
+/// The number of steps from `at` to the root, where it is known: 0 at the root, 1 from beyond the words.
+fn known_depth(heads: &[u32], depths: &[usize], at: usize) -> Option<usize>
+    requires { AreDepths heads.now depths.now }
+    ensures { MatchOption result ((0 < at) × (at ≤ length depths.now)) (IsDepth heads.now at) }
+{
+    if at == 0 {
+        return Some(0);
+    }
+    if at > heads.len() {
+        return Some(1);
+    }
+    match depths[at - 1] {
+        0 => None,
+        depth => Some(depth),
+    }
+}
+
+/// The number of steps from the word to the root, unless there are more than words.
+///
+/// It walks to the first word whose depth is known.
+fn depth(heads: &[u32], depths: &[usize], word: usize) -> Option<usize>
+    requires { AreDepths heads.now depths.now }
+    ensures { MatchOption result (¬ ReachesRoot heads.now word) (λ d. IsDepth heads.now word d × (d ≤ length heads.now)) }
 {
     let mut at = word;
-    for _step in 0..heads.len() {
-        if at == 0 {
-            return true;
+    for steps in 0..=heads.len() {
+        if let Some(rest) = known_depth(heads, depths, at) {
+            if rest > heads.len() - steps {
+                return None;
+            }
+            return Some(steps + rest);
         }
         at = step(heads, at);
     }
-    at == 0
+    None
 }
 
-fn is_tree(heads: &[u32]) -> bool
-    ensures { IsTrue result ↔ IsTree heads.now }
+/// Writes the depths of the word and of those above it, up to the first that is known.
+fn note_depths(heads: &[u32], depths: &mut [usize], word: usize, depth: usize)
+    requires known { AreDepths heads.now depths.old }
+    requires depth { IsDepth heads.now word depth }
+    ensures { AreDepths heads.now depths.new }
 {
-    for k in 0..heads.len() {
-        if !reaches_root(heads, k + 1) {
-            return false;
+    let mut at = word;
+    for left in (0..depth).rev() {
+        if known_depth(heads, depths, at).is_some() {
+            return;
         }
+        depths[at - 1] = left + 1;
+        at = step(heads, at);
     }
-    true
+}
+
+/// Whether each word reaches the root. No word is walked over twice: a walk ends at the first word of a known depth.
+fn is_tree(alloc: Global, heads: &[u32]) -> Result<bool, AllocError>
+    ensures { IfOk result (λ b. IsTrue b ↔ IsTree heads.now) }
+{
+    let mut depths = vec![in alloc; 0usize; heads.len()]?;
+    for k in 0..heads.len() {
+        let Some(depth) = depth(heads, &depths, k + 1) else {
+            return Ok(false);
+        };
+        note_depths(heads, &mut depths, k + 1, depth);
+    }
+    Ok(true)
 }
 
 /// Whether from each word steps along the heads lead to the root.
@@ -88,5 +131,5 @@ pub(crate) fn has_tree<T: Text>(alloc: Global, block: &BlockOf<T>) -> Result<boo
     ensures { IfOk result (λ b. IsTrue b ↔ HasTree block.now) }
 {
     let heads = word_heads(alloc, block)?;
-    Ok(is_tree(&heads))
+    is_tree(alloc, &heads)
 }

@@ -1,136 +1,9 @@
-ghost use Rattle.std.specs.Prelude.{◌≡◌, MatchOption, is_none};
+ghost use Rattle.std.specs.Prelude.{◌≡◌, MatchOption};
 ghost use Rattle.tb_rules.specs.Rows.{EachRowPasses, IsFirstFault};
-ghost use Rattle.tb_rules.specs.Spans.{is_blank};
-ghost use Rattle.tb_rules.specs.Words.{is_universal_tag, is_relation_a_to_c, is_relation_d_to_m, is_relation_n_to_x, is_universal_relation, is_solid, universal_part, is_relation, is_head_of, is_root_head, fits_root, is_word_row_fine, is_fine_as_word, word_test};
+ghost use Rattle.tb_rules.specs.Words.{is_head_of, is_root_head, fits_root, is_word_row_fine, is_fine_as_word, word_test};
 
-use crate::space::has_white_space;
 use tb_conllu::{LineId, RowOf, Text};
-
-/// Whether the field is `_`.
-pub(crate) fn is_blank_field(text: &str) -> bool
-    ensures { result ≡ is_blank text.now }
-{
-    text == "_"
-}
-
-/// Whether the text is one of the 17 universal parts of speech.
-pub(crate) fn is_tag(text: &str) -> bool
-    ensures { result ≡ is_universal_tag text.now }
-{
-    matches!(
-        text,
-        "ADJ"
-            | "ADP"
-            | "ADV"
-            | "AUX"
-            | "CCONJ"
-            | "DET"
-            | "INTJ"
-            | "NOUN"
-            | "NUM"
-            | "PART"
-            | "PRON"
-            | "PROPN"
-            | "PUNCT"
-            | "SCONJ"
-            | "SYM"
-            | "VERB"
-            | "X"
-    )
-}
-
-fn is_a_to_c(text: &str) -> bool
-    ensures { result ≡ is_relation_a_to_c text.now }
-{
-    matches!(
-        text,
-        "acl"
-            | "advcl"
-            | "advmod"
-            | "amod"
-            | "appos"
-            | "aux"
-            | "case"
-            | "cc"
-            | "ccomp"
-            | "clf"
-            | "compound"
-            | "conj"
-            | "cop"
-            | "csubj"
-    )
-}
-
-fn is_d_to_m(text: &str) -> bool
-    ensures { result ≡ is_relation_d_to_m text.now }
-{
-    matches!(
-        text,
-        "dep"
-            | "det"
-            | "discourse"
-            | "dislocated"
-            | "expl"
-            | "fixed"
-            | "flat"
-            | "goeswith"
-            | "iobj"
-            | "list"
-            | "mark"
-    )
-}
-
-fn is_n_to_x(text: &str) -> bool
-    ensures { result ≡ is_relation_n_to_x text.now }
-{
-    matches!(
-        text,
-        "nmod"
-            | "nsubj"
-            | "nummod"
-            | "obj"
-            | "obl"
-            | "orphan"
-            | "parataxis"
-            | "punct"
-            | "reparandum"
-            | "root"
-            | "vocative"
-            | "xcomp"
-    )
-}
-
-fn is_universal(text: &str) -> bool
-    ensures { result ≡ is_universal_relation text.now }
-{
-    is_a_to_c(text) || is_d_to_m(text) || is_n_to_x(text)
-}
-
-/// Whether the text is not empty and holds no white space.
-pub(crate) fn is_solid_text(text: &str) -> bool
-    ensures { result ≡ is_solid text.now }
-{
-    !text.is_empty() && !has_white_space(text)
-}
-
-/// The relation without its subtype.
-fn base_of(relation: &str) -> &str
-    ensures { result.now ≡ universal_part relation.now }
-{
-    match relation.split_once(':') {
-        None => relation,
-        Some((base, _)) => base,
-    }
-}
-
-fn relation_is_fine(relation: &str) -> bool
-    ensures { result ≡ is_relation relation.now }
-{
-    match relation.split_once(':') {
-        None => is_universal(relation),
-        Some((base, subtype)) => is_universal(base) && is_solid_text(subtype),
-    }
-}
+use tb_fields::{is_relation_text, is_tag, relation_base};
 
 fn is_root_number(head: Option<u32>) -> bool
     ensures { result ≡ is_root_head head }
@@ -153,7 +26,7 @@ fn head_is_fine(head: Option<u32>, word: u32, words: usize) -> bool
 fn root_fits(head: Option<u32>, relation: &str) -> bool
     ensures { result ≡ fits_root head relation.now }
 {
-    let is_root = base_of(relation) == "root";
+    let is_root = relation_base(relation) == "root";
     if is_root_number(head) {
         is_root
     } else {
@@ -166,7 +39,7 @@ fn word_row_is_fine<T: Text>(row: &RowOf<T>, word: u32, words: usize) -> bool
 {
     is_tag(row.upos.text())
         && head_is_fine(row.head, word, words)
-        && relation_is_fine(row.deprel.text())
+        && is_relation_text(row.deprel.text())
         && root_fits(row.head, row.deprel.text())
 }
 

@@ -6,8 +6,8 @@ use Rattle.tb_syntax.specs.declared.lexeme.Flag.{Flag}
 use Rattle.tb_syntax.specs.declared.lexeme.Flag.TheVariants as flag
 use Rattle.tb_syntax.specs.declared.lexeme.Lexeme.{Lexeme}
 use Rattle.tb_syntax.specs.declared.lexeme.Lexeme.TheVariants.{LeftParen, RightParen, LeftBracket, RightBracket, Bar, And, Not, Name, Contains, Quote}
-use Rattle.tb_syntax.specs.declared.scan.Mode.{Mode}
-use Rattle.tb_syntax.specs.declared.scan.Mode.TheVariants.{Wants, Quoted, Has, Repeated, Opened, Asks, Tested, Whole}
+use Rattle.tb_syntax.specs.declared.scanning.Mode.{Mode}
+use Rattle.tb_syntax.specs.declared.scanning.Mode.TheVariants.{Wants, Quoted, Has, Repeated, Opened, Asks, Tested, Whole}
 use Rattle.tb_syntax.specs.Grammar.{flag_text, Sign, same, other, sign_lexeme, Test, one_conj, or_test, Conj, one_unit, and_conj, Unit', denied, grouped, compares, contains, test_text, conj_text, unit_text, Repeat, quest, star, plus, exactly, at_least, between, rep_text, Alt, one_cat, or_alt, Cat, one_item, and_cat, Item, once, repeated, Atom, any, brackets, bare, parens, alt_text, cat_text, item_text, atom_text, Ending, nothing, stop, scope, scope_stop, ending_text, Query, query, query_text}
 use Rattle.tb_syntax.specs.Machine.{run, ends, accepts, place, inside, start}
 

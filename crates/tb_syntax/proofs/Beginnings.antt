@@ -4,9 +4,9 @@ use Rattle.std.proofs.lemmas.Bool.{false≢true}
 use Rattle.tb_syntax.specs.declared.lexeme.Attr.TheVariants.{Form}
 use Rattle.tb_syntax.specs.declared.lexeme.Lexeme.{Lexeme}
 use Rattle.tb_syntax.specs.declared.lexeme.Lexeme.TheVariants.{RightParen, RightBracket, RightBrace, Equals, Name, Sentence, Number, Quote}
-use Rattle.tb_syntax.specs.declared.scan.Mode.{Mode}
-use Rattle.tb_syntax.specs.declared.scan.Mode.TheVariants.{Wants, Quoted, Has, Repeated, Braced, Lowest, Ranged, Highest, Opened, Asks, Named, Featured, Signed, Tested, Whole, Scoped, Bounded, Stopped}
-use Rattle.tb_syntax.specs.declared.scan.Place.{Place}
+use Rattle.tb_syntax.specs.declared.scanning.Mode.{Mode}
+use Rattle.tb_syntax.specs.declared.scanning.Mode.TheVariants.{Wants, Quoted, Has, Repeated, Braced, Lowest, Ranged, Highest, Opened, Asks, Named, Featured, Signed, Tested, Whole, Scoped, Bounded, Stopped}
+use Rattle.tb_syntax.specs.declared.scanning.Place.{Place}
 use Rattle.tb_syntax.specs.Grammar.{IsBeginning}
 use Rattle.tb_syntax.specs.Machine.{step, run, ends, accepts, inside, start}
 use Rattle.tb_syntax.proofs.Again.{accepted}

@@ -5,3 +5,13 @@ pub mod Beginnings
 pub mod ScanLemmas
 pub mod Unique
 pub mod Nesting
+pub mod OverTests
+pub mod Counting
+pub mod Repeating
+pub mod Decimals
+pub mod Firsts
+pub mod Lexings
+pub mod Readings
+pub mod TestLemmas
+pub mod PatternLemmas
+pub mod Literals

@@ -4,7 +4,7 @@ use Rattle.std.proofs.Math.Seq.{take-suc}
 use Rattle.std.proofs.lemmas.Bool.{false≢true}
 use Rattle.std.proofs.lemmas.List.{take_all, take-append-drop}
 use Rattle.tb_syntax.specs.declared.lexeme.Lexeme.{Lexeme}
-use Rattle.tb_syntax.specs.declared.scan.Place.{Place}
+use Rattle.tb_syntax.specs.declared.scanning.Place.{Place}
 use Rattle.tb_syntax.specs.Grammar.{IsQuery, IsBeginning}
 use Rattle.tb_syntax.specs.Machine.{run, step, ends, accepts, start}
 use Rattle.tb_syntax.proofs.Again.{accepted}

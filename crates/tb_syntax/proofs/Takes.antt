@@ -5,7 +5,7 @@ use Rattle.tb_syntax.specs.declared.lexeme.Flag.{Flag}
 use Rattle.tb_syntax.specs.declared.lexeme.Flag.TheVariants as flag
 use Rattle.tb_syntax.specs.declared.lexeme.Lexeme.{Lexeme}
 use Rattle.tb_syntax.specs.declared.lexeme.Lexeme.TheVariants.{LeftParen, RightParen, LeftBracket, RightBracket, LeftBrace, RightBrace, Comma, Quest, Star, Plus, Bar, Semicolon, PercentC, PercentL, Within, Sentence, Number, Quote}
-use Rattle.tb_syntax.specs.declared.scan.Mode.TheVariants.{Wants, Quoted, Has, Repeated, Braced, Lowest, Ranged, Highest, Opened, Scoped, Bounded, Stopped}
+use Rattle.tb_syntax.specs.declared.scanning.Mode.TheVariants.{Wants, Quoted, Has, Repeated, Braced, Lowest, Ranged, Highest, Opened, Scoped, Bounded, Stopped}
 use Rattle.tb_syntax.specs.Grammar.{flag_text, Repeat, quest, star, plus, exactly, at_least, between, rep_text, Alt, one_cat, or_alt, one_item, and_cat, Item, once, repeated, Atom, any, brackets, bare, parens, alt_text, cat_text, item_text, atom_text, Ending, nothing, stop, scope, scope_stop, ending_text, query, IsQuery, test_text}
 use Rattle.tb_syntax.specs.Machine.{accepts, place, start}
 use Rattle.tb_syntax.proofs.WithinBrackets.{TakesBrackets, takes_brackets}

@@ -4,41 +4,9 @@ use Rattle.std.proofs.lemmas.Bool.{false≢true}
 use Rattle.tb_syntax.specs.declared.lexeme.Flag.{Flag}
 use Rattle.tb_syntax.specs.declared.lexeme.Flag.TheVariants as flag
 use Rattle.tb_syntax.specs.declared.lexeme.Lexeme.{Lexeme}
-use Rattle.tb_syntax.specs.declared.lexeme.Lexeme.TheVariants.{LeftParen, RightParen, LeftBracket, RightBracket, LeftBrace, Quest, Star, Plus, Bar, And, Not, PercentC, PercentL, Name, Quote}
+use Rattle.tb_syntax.specs.declared.lexeme.Lexeme.TheVariants.{LeftParen, RightParen, LeftBracket, RightBracket, Bar, And, Quote}
+use Rattle.tb_syntax.specs.Follow.{begins_flag, begins_and, begins_bar, begins_unit, begins_atom, begins_rep, EndsConj, EndsTest, EndsItem, EndsCat, EndsAlt}
 use Rattle.tb_syntax.specs.Grammar.{flag_text, Sign, same, other, sign_lexeme, Test, one_conj, or_test, Conj, one_unit, and_conj, Unit', denied, grouped, compares, contains, test_text, conj_text, unit_text, Repeat, quest, star, plus, exactly, at_least, between, rep_text, Alt, one_cat, or_alt, Cat, one_item, and_cat, Item, once, repeated, Atom, any, brackets, bare, parens, alt_text, cat_text, item_text, atom_text, Ending, nothing, stop, scope, scope_stop, ending_text, Query, query, query_text}
-
--- what lexemes go on with
-abbrev begins_flag : List Lexeme → Bool
-begins_flag (PercentC ∷ ls) = true
-begins_flag (PercentL ∷ ls) = true
-begins_flag _ = false
-
-abbrev begins_and : List Lexeme → Bool
-begins_and (And ∷ ls) = true
-begins_and _ = false
-
-abbrev begins_bar : List Lexeme → Bool
-begins_bar (Bar ∷ ls) = true
-begins_bar _ = false
-
-abbrev begins_unit : List Lexeme → Bool
-begins_unit (Not ∷ ls) = true
-begins_unit (LeftParen ∷ ls) = true
-begins_unit (Name a ∷ ls) = true
-begins_unit _ = false
-
-abbrev begins_atom : List Lexeme → Bool
-begins_atom (LeftParen ∷ ls) = true
-begins_atom (LeftBracket ∷ ls) = true
-begins_atom (Quote k ∷ ls) = true
-begins_atom _ = false
-
-abbrev begins_rep : List Lexeme → Bool
-begins_rep (Quest ∷ ls) = true
-begins_rep (Star ∷ ls) = true
-begins_rep (Plus ∷ ls) = true
-begins_rep (LeftBrace ∷ ls) = true
-begins_rep _ = false
 
 clash : (f : List Lexeme → Bool) (x y : List Lexeme) → f x ≡ false → f y ≡ true → x ≡ y → ⊥
 clash f x y p q e = false≢true (sym p ∙ ap f e ∙ q)
@@ -71,19 +39,10 @@ one_rep (between a b) (between c d) x y e = let f : a ≡ c = cc (e) in let g : 
 one_rep _ _ x y e = cc (e)
 
 -- tests
-record EndsConj (ls : List Lexeme) : Type 0 where
-  no_flag : begins_flag ls ≡ false
-  no_and : begins_and ls ≡ false
-
-record EndsTest (ls : List Lexeme) : Type 0 where
-  no_flag : begins_flag ls ≡ false
-  no_and : begins_and ls ≡ false
-  no_bar : begins_bar ls ≡ false
-
-ends_conj : {x : List Lexeme} → EndsTest x → EndsConj x
+pub ends_conj : {x : List Lexeme} → EndsTest x → EndsConj x
 ends_conj h = record { no_flag = h.no_flag; no_and = h.no_and }
 
-before_bar : {x : List Lexeme} → EndsConj (Bar ∷ x)
+pub before_bar : {x : List Lexeme} → EndsConj (Bar ∷ x)
 before_bar = record { no_flag = refl; no_and = refl }
 
 unit_begins : (u : Unit') (x : List Lexeme) → begins_unit (unit_text u ++ x) ≡ true
@@ -92,11 +51,11 @@ unit_begins (grouped t) x = refl
 unit_begins (compares a s k f) x = refl
 unit_begins (contains k f) x = refl
 
-conj_begins : (c : Conj) (x : List Lexeme) → begins_unit (conj_text c ++ x) ≡ true
+pub conj_begins : (c : Conj) (x : List Lexeme) → begins_unit (conj_text c ++ x) ≡ true
 conj_begins (one_unit u) x = unit_begins u x
 conj_begins (and_conj u c) x = rw append_assoc (unit_begins u (And ∷ (conj_text c ++ x)))
 
-test_begins : (t : Test) (x : List Lexeme) → begins_unit (test_text t ++ x) ≡ true
+pub test_begins : (t : Test) (x : List Lexeme) → begins_unit (test_text t ++ x) ≡ true
 test_begins (one_conj c) x = conj_begins c x
 test_begins (or_test c t) x = rw append_assoc (conj_begins c (Bar ∷ (test_text t ++ x)))
 
@@ -159,31 +118,16 @@ mutual
   same_unit _ _ x y p q e = cc (e)
 
 -- patterns
-record EndsItem (ls : List Lexeme) : Type 0 where
-  no_flag : begins_flag ls ≡ false
-  no_rep : begins_rep ls ≡ false
-
-record EndsCat (ls : List Lexeme) : Type 0 where
-  no_flag : begins_flag ls ≡ false
-  no_rep : begins_rep ls ≡ false
-  no_atom : begins_atom ls ≡ false
-
-record EndsAlt (ls : List Lexeme) : Type 0 where
-  no_flag : begins_flag ls ≡ false
-  no_rep : begins_rep ls ≡ false
-  no_atom : begins_atom ls ≡ false
-  no_bar : begins_bar ls ≡ false
-
-ends_item : {x : List Lexeme} → EndsCat x → EndsItem x
+pub ends_item : {x : List Lexeme} → EndsCat x → EndsItem x
 ends_item h = record { no_flag = h.no_flag; no_rep = h.no_rep }
 
-ends_cat : {x : List Lexeme} → EndsAlt x → EndsCat x
+pub ends_cat : {x : List Lexeme} → EndsAlt x → EndsCat x
 ends_cat h = record { no_flag = h.no_flag; no_rep = h.no_rep; no_atom = h.no_atom }
 
-cat_bar : {x : List Lexeme} → EndsCat (Bar ∷ x)
+pub cat_bar : {x : List Lexeme} → EndsCat (Bar ∷ x)
 cat_bar = record { no_flag = refl; no_rep = refl; no_atom = refl }
 
-rep_begins : (r : Repeat) (y : List Lexeme) → begins_rep (rep_text r ++ y) ≡ true
+pub rep_begins : (r : Repeat) (y : List Lexeme) → begins_rep (rep_text r ++ y) ≡ true
 rep_begins quest y = refl
 rep_begins star y = refl
 rep_begins plus y = refl
@@ -191,7 +135,7 @@ rep_begins (exactly a) y = refl
 rep_begins (at_least a) y = refl
 rep_begins (between a b) y = refl
 
-rep_no_flag : (r : Repeat) (y : List Lexeme) → begins_flag (rep_text r ++ y) ≡ false
+pub rep_no_flag : (r : Repeat) (y : List Lexeme) → begins_flag (rep_text r ++ y) ≡ false
 rep_no_flag quest y = refl
 rep_no_flag star y = refl
 rep_no_flag plus y = refl
@@ -205,11 +149,11 @@ atom_begins (brackets t) x = refl
 atom_begins (bare k f) x = refl
 atom_begins (parens a) x = refl
 
-item_begins : (i : Item) (x : List Lexeme) → begins_atom (item_text i ++ x) ≡ true
+pub item_begins : (i : Item) (x : List Lexeme) → begins_atom (item_text i ++ x) ≡ true
 item_begins (once a) x = atom_begins a x
 item_begins (repeated a r) x = rw append_assoc (atom_begins a (rep_text r ++ x))
 
-cat_begins : (c : Cat) (x : List Lexeme) → begins_atom (cat_text c ++ x) ≡ true
+pub cat_begins : (c : Cat) (x : List Lexeme) → begins_atom (cat_text c ++ x) ≡ true
 cat_begins (one_item i) x = item_begins i x
 cat_begins (and_cat i c) x = rw append_assoc (item_begins i (cat_text c ++ x))
 
@@ -220,7 +164,7 @@ before_atom (LeftBracket ∷ ls) h = record { no_flag = refl; no_rep = refl }
 before_atom (Quote k ∷ ls) h = record { no_flag = refl; no_rep = refl }
 before_atom (_ ∷ ls) h = absurd (false≢true h)
 
-before_cat : (c : Cat) (x : List Lexeme) → EndsItem (cat_text c ++ x)
+pub before_cat : (c : Cat) (x : List Lexeme) → EndsItem (cat_text c ++ x)
 before_cat c x = before_atom (cat_text c ++ x) (cat_begins c x)
 
 mutual
@@ -293,7 +237,7 @@ mutual
   same_atom _ _ x y p q e = cc (e)
 
 -- what ends a query
-ends_alt : (e : Ending) → EndsAlt (ending_text e)
+pub ends_alt : (e : Ending) → EndsAlt (ending_text e)
 ends_alt nothing = record { no_flag = refl; no_rep = refl; no_atom = refl; no_bar = refl }
 ends_alt stop = record { no_flag = refl; no_rep = refl; no_atom = refl; no_bar = refl }
 ends_alt scope = record { no_flag = refl; no_rep = refl; no_atom = refl; no_bar = refl }

@@ -7,7 +7,7 @@ use Rattle.tb_syntax.specs.declared.lexeme.Flag.{Flag}
 use Rattle.tb_syntax.specs.declared.lexeme.Flag.TheVariants as flag
 use Rattle.tb_syntax.specs.declared.lexeme.Lexeme.{Lexeme}
 use Rattle.tb_syntax.specs.declared.lexeme.Lexeme.TheVariants.{LeftParen, RightParen, RightBracket, Bar, And, Not, Equals, Differs, PercentC, PercentL, Name, Contains, Quote}
-use Rattle.tb_syntax.specs.declared.scan.Mode.TheVariants.{Has, Asks, Named, Featured, Signed, Tested, Whole}
+use Rattle.tb_syntax.specs.declared.scanning.Mode.TheVariants.{Has, Asks, Named, Featured, Signed, Tested, Whole}
 use Rattle.tb_syntax.specs.Grammar.{flag_text, Sign, same, other, sign_lexeme, Test, one_conj, or_test, one_unit, and_conj, Unit', denied, grouped, compares, contains, test_text, conj_text, unit_text}
 use Rattle.tb_syntax.specs.Machine.{accepts, place, inside}
 

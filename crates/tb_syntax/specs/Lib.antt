@@ -2,3 +2,11 @@ pub mod Grammar
 pub mod Machine
 pub mod Pattern
 pub mod Limits
+pub mod Spelling
+pub mod Lexing
+pub mod First
+pub mod Reading
+pub mod Exprs
+pub mod Trees
+pub mod Follow
+pub mod Parsing

@@ -1,8 +1,11 @@
 -- The limits of a query, as its derivation has them.
-use Rattle.std.specs.Prelude.{ℕ, suc, zero, ◌+◌, Bool, true, false, if◌then◌else◌, Option, Some, None}
+use Rattle.std.specs.Prelude.{ℕ, suc, zero, ◌+◌, Bool, true, false, ◌&&◌, nat_le, if◌then◌else◌, Option, Some, None}
 use Rattle.tb_syntax.specs.declared.lexeme.Lexeme.{Lexeme}
-use Rattle.tb_syntax.specs.declared.lexeme.Lexeme.TheVariants.{LeftParen, RightParen}
-use Rattle.tb_syntax.specs.Grammar.{Test, one_conj, or_test, Conj, one_unit, and_conj, Unit', denied, grouped, compares, contains, Alt, one_cat, or_alt, Cat, one_item, and_cat, Item, once, repeated, Atom, any, brackets, bare, parens, Query, query}
+use Rattle.tb_syntax.specs.declared.lexeme.Lexeme.TheVariants.{LeftParen, RightParen, LeftBracket, RightBracket, RightBrace, Comma, Number, Quote}
+use Rattle.tb_syntax.specs.declared.limits.Bounds.{Bounds}
+use Rattle.tb_syntax.specs.declared.limits.Bounds.TheVariants.{Apart, Least, Ranged}
+use Rattle.tb_syntax.specs.Grammar.{Test, one_conj, or_test, Conj, one_unit, and_conj, Unit', denied, grouped, compares, contains, Repeat, quest, star, plus, exactly, at_least, between, Alt, one_cat, or_alt, Cat, one_item, and_cat, Item, once, repeated, Atom, any, brackets, bare, parens, Query, query}
+use Rattle.tb_syntax.specs.Pattern.{alt_count}
 
 -- at most so many round parentheses are open at one place
 abbrev mutual
@@ -50,3 +53,60 @@ room_after zero LeftParen = None
 room_after (suc r) LeftParen = Some r
 room_after r RightParen = Some (r + 1)
 room_after r _ = Some r
+
+-- how many token expressions a query has
+abbrev pub query_count : Query → ℕ
+query_count (query a e) = alt_count a
+
+-- a lexeme begins a token expression, which a literal does only outside the brackets
+abbrev pub begins_expression : Bool → Lexeme → Bool
+begins_expression inside LeftBracket = true
+begins_expression false (Quote k) = true
+begins_expression inside _ = false
+
+-- whether what follows a lexeme stands within the brackets
+abbrev pub inside_after : Bool → Lexeme → Bool
+inside_after inside LeftBracket = true
+inside_after inside RightBracket = false
+inside_after inside _ = inside
+
+-- The numbers of a repetition are at most `most`; its upper number, where there is one, is at least 1 and not below the lower.
+abbrev pub repeat_fits : ℕ → Repeat → Bool
+repeat_fits most quest = true
+repeat_fits most star = true
+repeat_fits most plus = true
+repeat_fits most (exactly n) = nat_le n most && nat_le 1 n
+repeat_fits most (at_least n) = nat_le n most
+repeat_fits most (between n m) = nat_le n most && (nat_le n m && nat_le 1 m && nat_le m most)
+
+-- each repetition does
+abbrev mutual
+  pub alt_repeats : ℕ → Alt → Bool
+  alt_repeats most (one_cat c) = cat_repeats most c
+  alt_repeats most (or_alt c a) = if cat_repeats most c then alt_repeats most a else false
+
+  pub cat_repeats : ℕ → Cat → Bool
+  cat_repeats most (one_item i) = item_repeats most i
+  cat_repeats most (and_cat i c) = if item_repeats most i then cat_repeats most c else false
+
+  pub item_repeats : ℕ → Item → Bool
+  item_repeats most (once a) = atom_repeats most a
+  item_repeats most (repeated a r) = if atom_repeats most a then repeat_fits most r else false
+
+  pub atom_repeats : ℕ → Atom → Bool
+  atom_repeats most any = true
+  atom_repeats most (brackets t) = true
+  atom_repeats most (bare k f) = true
+  atom_repeats most (parens a) = alt_repeats most a
+
+abbrev pub query_repeats : ℕ → Query → Bool
+query_repeats most (query a e) = alt_repeats most a
+
+-- what is known of a repetition after a lexeme, if its numbers are within the limits so far
+abbrev pub bounds_after : ℕ → Bounds → Lexeme → Option Bounds
+bounds_after most Apart (Number n) = if nat_le n most then Some (Least n) else None
+bounds_after most (Least n) RightBrace = if nat_le 1 n then Some Apart else None
+bounds_after most (Least n) Comma = Some (Ranged n)
+bounds_after most (Ranged n) RightBrace = Some Apart
+bounds_after most (Ranged n) (Number m) = if nat_le n m && nat_le 1 m && nat_le m most then Some Apart else None
+bounds_after most b _ = Some b

@@ -3,9 +3,9 @@ use Rattle.std.specs.Prelude.{ℕ, suc, zero, ◌+◌, List, [], ◌∷◌, Bool
 use Rattle.tb_syntax.specs.declared.lexeme.Attr.TheVariants.{Feats}
 use Rattle.tb_syntax.specs.declared.lexeme.Lexeme.{Lexeme}
 use Rattle.tb_syntax.specs.declared.lexeme.Lexeme.TheVariants.{LeftParen, RightParen, LeftBracket, RightBracket, LeftBrace, RightBrace, Comma, Quest, Star, Plus, Bar, And, Not, Equals, Differs, Semicolon, PercentC, PercentL, Name, Contains, Within, Sentence, Number, Quote}
-use Rattle.tb_syntax.specs.declared.scan.Mode.{Mode}
-use Rattle.tb_syntax.specs.declared.scan.Mode.TheVariants.{Wants, Quoted, Has, Repeated, Braced, Lowest, Ranged, Highest, Opened, Asks, Named, Featured, Signed, Tested, Whole, Scoped, Bounded, Stopped}
-use Rattle.tb_syntax.specs.declared.scan.Place.{Place}
+use Rattle.tb_syntax.specs.declared.scanning.Mode.{Mode}
+use Rattle.tb_syntax.specs.declared.scanning.Mode.TheVariants.{Wants, Quoted, Has, Repeated, Braced, Lowest, Ranged, Highest, Opened, Asks, Named, Featured, Signed, Tested, Whole, Scoped, Bounded, Stopped}
+use Rattle.tb_syntax.specs.declared.scanning.Place.{Place}
 
 abbrev pub inside : Mode → ℕ → ℕ → Place
 inside m n k = record { mode = m; outer = n; inner = k }

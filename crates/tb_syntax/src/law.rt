@@ -1,8 +1,12 @@
 //! Laws of the language.
 
-ghost use Rattle.std.specs.Prelude.{◌≡◌, List};
+ghost use Rattle.std.specs.Prelude.{◌≡◌, ℕ, List};
+ghost use Rattle.std.specs.List.{slice_get};
 ghost use Rattle.tb_syntax.specs.declared.lexeme.Lexeme.{Lexeme};
+ghost use Rattle.tb_syntax.specs.declared.lexing.Span.{Span};
 ghost use Rattle.tb_syntax.specs.Grammar.{Query, query_text};
+ghost use Rattle.tb_syntax.specs.Lexing.{Lexes, bytes_at};
+ghost use Rattle.tb_syntax.specs.Spelling.{IsQuoted};
 ghost use Rattle.tb_syntax.specs.Pattern.{Tree, Tester, Reads};
 
 /// Lexemes have one derivation at most, and so say one thing at most.
@@ -10,4 +14,17 @@ pub fn one_reading()
     ensures derivation { (p q : Query) → query_text p ≡ query_text q → p ≡ q }
     ensures pattern { (ls : List Lexeme) (s t : Tree) (es fs : List Tester) → Reads ls s es → Reads ls t fs → s ≡ t }
     ensures tests { (ls : List Lexeme) (s t : Tree) (es fs : List Tester) → Reads ls s es → Reads ls t fs → es ≡ fs }
+{}
+
+/// A text has one list of lexemes, and each of them one place.
+pub fn one_lexing()
+    ensures lexemes { (text : List ℕ) (ls ms : List Lexeme) (ss ts : List Span) → Lexes 0 0 text ls ss → Lexes 0 0 text ms ts → ls ≡ ms }
+    ensures places { (text : List ℕ) (ls ms : List Lexeme) (ss ts : List Span) → Lexes 0 0 text ls ss → Lexes 0 0 text ms ts → ss ≡ ts }
+{}
+
+/// The bytes at the place of a literal are a literal: they say what
+/// [`unquote`](crate::unquoting::unquote) answers.
+pub fn literals_are_quoted()
+    ensures { (text : List ℕ) (ls : List Lexeme) (ss : List Span) → Lexes 0 0 text ls ss → (i j : ℕ) (s : Span) →
+        slice_get ls i ≡ Some (Lexeme.Quote j) → slice_get ss i ≡ Some s → (said : List ℕ) × IsQuoted (bytes_at text s) said }
 {}

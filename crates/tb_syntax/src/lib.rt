@@ -4,9 +4,32 @@
 //! brackets, bare literals, round parentheses, alternatives and repetitions.
 #![tactic(auto)]
 
-pub mod law;
-pub mod lexeme;
-pub mod limits;
-pub mod scan;
+mod asking;
+mod cursor;
+mod expr;
+mod fault;
+mod law;
+mod lexeme;
+mod lexing;
+mod limits;
+mod parsing;
+mod reading;
+mod scanning;
+mod spelling;
 #[cfg(test)]
 mod tests;
+#[cfg(test)]
+mod text_tests;
+mod tree;
+mod unquoting;
+
+pub use expr::{Expr, Literal};
+pub use fault::Fault;
+pub use law::{literals_are_quoted, one_lexing, one_reading};
+pub use lexeme::{Attr, Flag, Lexeme};
+pub use lexing::{Lexed, Span};
+pub use limits::{count_expressions, nests_within, repeats_within};
+pub use parsing::Parsed;
+pub use reading::{Query, parse, read};
+pub use scanning::scan;
+pub use unquoting::unquote;

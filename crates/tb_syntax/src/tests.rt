@@ -1,9 +1,9 @@
 //! Queries as lists of lexemes. The expected answers were worked out by hand from the grammar.
 
-use crate::law::one_reading;
+use crate::law::{literals_are_quoted, one_lexing, one_reading};
 use crate::lexeme::{Attr, Flag, Lexeme};
-use crate::limits::nests_within;
-use crate::scan::{Mode, Place, scan, step};
+use crate::limits::{count_expressions, nests_within, repeats_within};
+use crate::scanning::{Mode, Place, scan, step};
 
 const OPEN: Lexeme = Lexeme::LeftBracket;
 
@@ -14,6 +14,8 @@ const QUOTE: Lexeme = Lexeme::Quote(0);
 #[test]
 fn nothing_ends_too_early(rt: HostRuntime) {
     one_reading();
+    one_lexing();
+    literals_are_quoted();
     assert!(rt; Flag::Plain != Flag::Literal);
     assert_eq!(rt; scan(&[]), Err(0));
 }
@@ -160,4 +162,61 @@ fn parentheses_are_counted_in_tests_too(rt: HostRuntime) {
     ];
     assert!(rt; nests_within(&lexemes, 2));
     assert!(rt; !nests_within(&lexemes, 1));
+}
+
+// `[word="a"] "b" ([])`: a literal in a test is no token expression
+#[test]
+fn token_expressions_are_counted(rt: HostRuntime) {
+    let lexemes = [
+        OPEN,
+        Lexeme::Name(Attr::Form),
+        Lexeme::Equals,
+        Lexeme::Quote(0),
+        SHUT,
+        Lexeme::Quote(1),
+        Lexeme::LeftParen,
+        OPEN,
+        SHUT,
+        Lexeme::RightParen,
+    ];
+    assert_eq!(rt; count_expressions(&lexemes), 3);
+    assert_eq!(rt; count_expressions(&[OPEN, SHUT]), 1);
+}
+
+// `"a"{n}`, `"a"{n,}`, `"a"{n,m}`
+#[test]
+fn numbers_of_repetitions(rt: HostRuntime) {
+    let exactly = |n| [
+        QUOTE,
+        Lexeme::LeftBrace,
+        Lexeme::Number(n),
+        Lexeme::RightBrace,
+    ];
+    assert!(rt; repeats_within(&exactly(1), 32));
+    assert!(rt; repeats_within(&exactly(32), 32));
+    assert!(rt; !repeats_within(&exactly(33), 32));
+    assert!(rt; !repeats_within(&exactly(0), 32));
+    let at_least = |n| [
+        QUOTE,
+        Lexeme::LeftBrace,
+        Lexeme::Number(n),
+        Lexeme::Comma,
+        Lexeme::RightBrace,
+    ];
+    assert!(rt; repeats_within(&at_least(0), 32));
+    assert!(rt; repeats_within(&at_least(32), 32));
+    assert!(rt; !repeats_within(&at_least(33), 32));
+    let between = |n, m| [
+        QUOTE,
+        Lexeme::LeftBrace,
+        Lexeme::Number(n),
+        Lexeme::Comma,
+        Lexeme::Number(m),
+        Lexeme::RightBrace,
+    ];
+    assert!(rt; repeats_within(&between(0, 32), 32));
+    assert!(rt; repeats_within(&between(32, 32), 32));
+    assert!(rt; !repeats_within(&between(3, 2), 32));
+    assert!(rt; !repeats_within(&between(0, 0), 32));
+    assert!(rt; !repeats_within(&between(0, 33), 32));
 }

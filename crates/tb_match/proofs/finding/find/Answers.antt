@@ -1,9 +1,9 @@
 use Rattle.std.proofs.Common.{◌≡◌, ◌+◌, ◌/◌, ◌≤◌, ◌↔◌, ℕ, arith, sym, subst}
 use Rattle.tb_match.specs.Bits.{Forward, InTable}
-use Rattle.tb_match.specs.Hits.{IsFound}
+use Rattle.tb_match.specs.Hits.{AreHits, IsFound, IsWord}
 use Rattle.tb_match.specs.Match.{Match}
 use Rattle.tb_match.specs.Facts.{Holds}
-use Rattle.tb_match.proofs.Filters.{AreHits-same}
+use Rattle.tb_match.proofs.Filters.{AreHits-same, words_are_found}
 use Rattle.tb_match.proofs.Steps.{steps_limit, steps_countable}
 use Rattle.tb_match.proofs.finding.find.Goals as goal
 
@@ -28,3 +28,10 @@ returns-clause-hits c =
 
 pub returns-clause-steps : goal.returns-clause-steps
 returns-clause-steps c = steps_limit _ _ _ c.rows.ensures.bound
+
+pub returns-in-Tok-clause-hits : goal.returns-in-Tok-clause-hits
+returns-in-Tok-clause-hits c =
+    let truth = c.args.truth.now in
+    let hits = c.in_ok-words.words.items in
+    subst (λ p. AreHits c.args.strategy (IsFound truth p) hits) (sym c.in-Tok.is)
+    (AreHits-same c.args.strategy (IsWord truth c.in-Tok.expr) _ (words_are_found truth c.in-Tok.expr) hits (c.in_ok-words.ensures c.args.strategy))

@@ -11,15 +11,15 @@ pub loop-place-preserved : goal.loop-place-preserved
 loop-place-preserved c =
     let R = Forward c.args.table.now c.args.width c.args.last in
     let place = c.loop-place.place in
-    let end = c.greatest_end-end.result in
+    let end = c.furthest_end-end.result in
     let reached = c.loop-place.reached in
     let xs = c.loop-place.hits.items in
     let inv = c.loop-place.invariant in
     let forward : (i j : ℕ) → Forward c.args.table.now c.args.width c.args.last i j → i < j = λ i j r. r.0 in
-    let far = c.greatest_end-end.ensures.greatest in
+    let far = c.furthest_end-end.ensures.greatest in
     elim c.if-reached-end.branch [
       | then-reached-end+in_ok-push w ↦
-          let there : R place end = c.greatest_end-end.ensures.there (omega arith) in
+          let there : R place end = c.furthest_end-end.ensures.there (omega arith) in
           let beyond : reached < end = w.if-reached-end.true in
           let made : c.if-reached-end.hits.items ≡ xs ++ (place, end) ∷ [] = ap (λ (v : Vec (ℕ × ℕ) Global). v.items) w.hits-is ∙ w.in_ok-push.ensures.items in
           record {

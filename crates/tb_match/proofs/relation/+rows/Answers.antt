@@ -6,7 +6,7 @@ use Rattle.tb_match.specs.Match.{Match}
 use Rattle.tb_match.specs.Parts.{EachInTurn, AnyOf, AllProper, weight_of_all}
 use Rattle.tb_match.specs.Weight.{IsProper, weight_of, turns}
 use Rattle.tb_match.proofs.Parts.{Match-Cat, Match-Alt, weight_of-Cat, weight_of-Alt, IsProper-Cat, IsProper-Alt, next_part, weight_ahead, turns_some}
-use Rattle.tb_match.proofs.Relations.{room_within, sequence_more, sequence_forward, repetition_rows, choice_more, room_after, room_for_part, room_after_part, bound_after_part, without_itself}
+use Rattle.tb_match.proofs.Relations.{room_within, sequence_more, sequence_forward, first_forward, first_rows, bound_after_first, repetition_rows, choice_more, room_after, room_for_part, room_after_part, bound_after_part, without_itself}
 use Rattle.tb_match.proofs.Repeats.{lent}
 use Rattle.tb_match.proofs.Sweeps.{le_triangle}
 use Rattle.tb_match.proofs.relation.+rows.Goals as goal
@@ -91,39 +91,6 @@ rows-rows-requires t c =
               (
                 c.requires.small,
                 room_within (2 ^ 64) c.args.steps.now _ _ (triangle (c.args.truth.now.words + 1)) (weight_of c.args.pat.now) e c.requires.countable,
-              ),
-            ),
-          ),
-        ),
-      ),
-    )
-
-pub sequence-rows-requires : goal.sequence-rows-requires
-sequence-rows-requires t c =
-    let ps = c.args.parts.now in
-    let k = c.loop-part.part-index in
-    let x = c.part-item.result in
-    let T = triangle (c.words-last.result + 1) in
-    let count : c.words-last.result ≡ c.args.truth.now.words = c.words-last.ensures.count in
-    let d : drop k ps ≡ x ∷ drop (k + 1) ps = next_part ps k x c.loop-part-test.true c.part-item.is (λ qs. qs) in
-    let e : weight_of_all (drop k ps) ≡ weight_of x + 1 + weight_of_all (drop (k + 1) ps) = ap weight_of_all d in
-    let ahead = weight_ahead ps k in
-    let room : c.args.steps.now + weight_of_all ps * T < 2 ^ 64 =
-    subst (λ n. c.args.steps.now + weight_of_all c.args.parts.now * triangle (n + 1) < 2 ^ 64) (sym count) c.requires.countable in
-    let enough : c.loop-part.steps + weight_of x * T < 2 ^ 64 =
-    room_for_part (2 ^ 64) c.args.steps.now c.loop-part.steps (weight_of x) _ T (weight_of_all ps) _ e c.loop-part.invariant.bound room in (
-      omega (arith, c.decreases),
-      (
-        (subst (AllProper c.args.truth.now.exprs) d c.loop-part.invariant.proper).0,
-        (
-          c.requires.wide,
-          (
-            c.requires.narrow,
-            (
-              c.loop-part.invariant.wide,
-              (
-                c.requires.small,
-                subst (λ n. c.loop-part.steps + weight_of c.part-item.result * triangle (n + 1) < 2 ^ 64) count enough,
               ),
             ),
           ),
@@ -243,13 +210,39 @@ choice-loop-part-preserved t c =
           (ap weight_of_all d) inv.bound step (omega arith);
     }
 
+pub sequence-loop-part-init : goal.sequence-loop-part-init
+sequence-loop-part-init t c =
+    let H = Holds c.args.truth.now in
+    let w = c.args.width in
+    let last = c.words-last.result in
+    let T = triangle (last + 1) in
+    let ps = c.in-Some.rest.now in
+    let x = c.in-Some.first.now in
+    let table = c.in_ok-table.table.items in
+    let count : last ≡ c.args.truth.now.words = c.words-last.ensures.count in
+    let d : c.args.parts.now ≡ x ∷ ps = c.in-Some.ensures.cases.0 in
+    let inside : (e v : ℕ) → Holds c.args.truth.now e v → v ≤ last = λ e v h. (let le : v ≤ c.args.truth.now.words = h.1 in omega arith) in
+    let rows : (i j : ℕ) → i ≤ last → j ≤ last → InTable table w i j ↔ Match H x i j = λ i j p q. c.in_ok-table.ensures.rows i j (omega arith) (omega arith) in
+    let step : c.rows.new.steps ≤ c.args.steps.now + weight_of x * T =
+    subst (λ n. c.rows.new.steps ≤ c.args.steps.now + weight_of c.in-Some.first.now * triangle (n + 1)) (sym count) c.rows.ensures.bound in
+    record {
+      wide = omega arith;
+      whole = subst (λ n. length table ≡ (n + 1) * w) (sym count) c.in_ok-table.ensures.whole;
+      proper = (subst (AllProper c.args.truth.now.exprs) d c.requires.proper).1;
+      forward = first_forward last w table H inside x ps rows;
+      rows = λ i j p q. subst (λ qs. ((m : ℕ) × (m ≤ last) × InTable table w i m × EachInTurn H ps m j) ↔ EachInTurn H qs i j) (sym d) (first_rows last w table H inside x ps rows i j p q);
+      more = c.rows.ensures.more;
+      bound = bound_after_first c.args.steps.now c.rows.new.steps (weight_of x) (weight_of_all ps) T (weight_of_all c.args.parts.now) (ap weight_of_all d) step;
+    }
+
 pub sequence-loop-part-preserved : goal.sequence-loop-part-preserved
 sequence-loop-part-preserved t c =
     let H = Holds c.args.truth.now in
     let w = c.args.width in
     let last = c.words-last.result in
     let T = triangle (last + 1) in
-    let ps = c.args.parts.now in
+    let ps = c.in-Some.rest.now in
+    let all = c.args.parts.now in
     let k = c.loop-part.part-index in
     let x = c.part-item.result in
     let inv = c.loop-part.invariant in
@@ -257,8 +250,8 @@ sequence-loop-part-preserved t c =
     let d : drop k ps ≡ x ∷ drop (k + 1) ps = next_part ps k x c.loop-part-test.true c.part-item.is (λ qs. qs) in
     let same : length c.deref_mut.result.now ≡ length c.in_ok-next.next.items = ap length c.deref_mut.ensures.value in
     let back = lent c.in_ok-next.next.len c.compose.new.table c.in_ok-next.next.items (omega (arith, c.in_ok-next.next.ok.0)) in
-    let step : c.rows.new.steps ≤ c.loop-part.steps + weight_of x * T =
-    subst (λ n. c.rows.new.steps ≤ c.loop-part.steps + weight_of c.part-item.result * triangle (n + 1)) (sym count) c.rows.ensures.bound in
+    let step : c.rows-in-loop-part.new.steps ≤ c.loop-part.steps + weight_of x * T =
+    subst (λ n. c.rows-in-loop-part.new.steps ≤ c.loop-part.steps + weight_of c.part-item.result * triangle (n + 1)) (sym count) c.rows-in-loop-part.ensures.bound in
     let sized : length c.in_ok-next.next.items ≡ (last + 1) * w = subst (λ n. length c.in_ok-next.next.items ≡ (n + 1) * w) (sym count) c.in_ok-next.ensures.whole in
     let inside : (e v : ℕ) → Holds c.args.truth.now e v → v ≤ last = λ e v h. (let le : v ≤ c.args.truth.now.words = h.1 in omega arith) in
     let next : (i j : ℕ) → i ≤ last → j ≤ last → InTable c.deref_mut.result.now w i j ↔ Match H x i j =
@@ -267,18 +260,18 @@ sequence-loop-part-preserved t c =
     subst (λ xs. (i j : ℕ) → i ≤ last → j ≤ last → InTable xs w i j → i ≤ j) (sym c.deref.ensures.value) inv.forward in
     let made : (i j : ℕ) → i ≤ last → j ≤ last → InTable c.compose.new.table w i j ↔ Through c.deref.result.now c.deref_mut.result.now w i (last + 1) j =
     λ i j p q. without_itself _ _ _ (c.compose.ensures.rows i j p q) in
-    let so_far : (i j : ℕ) → i ≤ last → j ≤ last → ((m : ℕ) × (m ≤ last) × InTable c.deref.result.now w i m × EachInTurn H (x ∷ drop (k + 1) ps) m j) ↔ EachInTurn H ps i j =
-    λ i j p q. subst (λ xs. ((m : ℕ) × (m ≤ last) × InTable xs w i m × EachInTurn H (x ∷ drop (k + 1) ps) m j) ↔ EachInTurn H ps i j) (sym c.deref.ensures.value)
-    (subst (λ qs. ((m : ℕ) × (m ≤ last) × InTable c.loop-part.table.items w i m × EachInTurn H qs m j) ↔ EachInTurn H ps i j) d (inv.rows i j p q)) in
+    let so_far : (i j : ℕ) → i ≤ last → j ≤ last → ((m : ℕ) × (m ≤ last) × InTable c.deref.result.now w i m × EachInTurn H (x ∷ drop (k + 1) ps) m j) ↔ EachInTurn H all i j =
+    λ i j p q. subst (λ xs. ((m : ℕ) × (m ≤ last) × InTable xs w i m × EachInTurn H (x ∷ drop (k + 1) ps) m j) ↔ EachInTurn H all i j) (sym c.deref.ensures.value)
+    (subst (λ qs. ((m : ℕ) × (m ≤ last) × InTable c.loop-part.table.items w i m × EachInTurn H qs m j) ↔ EachInTurn H all i j) d (inv.rows i j p q)) in
     record {
       wide = omega arith;
       whole = subst (λ xs. length xs ≡ (last + 1) * w) (sym back) (omega arith);
       proper = (subst (AllProper c.args.truth.now.exprs) d inv.proper).1;
       forward = subst (λ xs. (i j : ℕ) → i ≤ last → j ≤ last → InTable xs w i j → i ≤ j) (sym back)
-          (sequence_forward last w c.deref.result.now c.deref_mut.result.now c.compose.new.table H inside x (drop (k + 1) ps) ps next forward made so_far);
-      rows = subst (λ xs. (i j : ℕ) → i ≤ last → j ≤ last → ((m : ℕ) × (m ≤ last) × InTable xs w i m × EachInTurn H (drop (k + 1) ps) m j) ↔ EachInTurn H ps i j) (sym back)
-          (sequence_more last w c.deref.result.now c.deref_mut.result.now c.compose.new.table H inside x (drop (k + 1) ps) ps next forward made so_far);
+          (sequence_forward last w c.deref.result.now c.deref_mut.result.now c.compose.new.table H inside x (drop (k + 1) ps) all next forward made so_far);
+      rows = subst (λ xs. (i j : ℕ) → i ≤ last → j ≤ last → ((m : ℕ) × (m ≤ last) × InTable xs w i m × EachInTurn H (drop (k + 1) ps) m j) ↔ EachInTurn H all i j) (sym back)
+          (sequence_more last w c.deref.result.now c.deref_mut.result.now c.compose.new.table H inside x (drop (k + 1) ps) all next forward made so_far);
       more = omega arith;
-      bound = bound_after_part c.args.steps.now c.loop-part.steps c.rows.new.steps c.compose.new.steps (weight_of x) (weight_of_all (drop (k + 1) ps)) T (weight_of_all ps) _
+      bound = bound_after_part c.args.steps.now c.loop-part.steps c.rows-in-loop-part.new.steps c.compose.new.steps (weight_of x) (weight_of_all (drop (k + 1) ps)) T (weight_of_all all) _
           (ap weight_of_all d) inv.bound step (omega arith);
     }

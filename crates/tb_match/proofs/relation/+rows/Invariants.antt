@@ -19,11 +19,11 @@ abbrev pub invariant-sequence-loop-part : goal.invariant-sequence-loop-part
 invariant-sequence-loop-part l = record {
   wide : length l.spare ≡ l.width;
   whole : length l.table.items ≡ (l.last + 1) * l.width;
-  proper : AllProper l.truth.exprs (drop l.part-index l.parts);
+  proper : AllProper l.truth.exprs (drop l.part-index l.rest);
   forward : (i j : ℕ) → i ≤ l.last → j ≤ l.last → InTable l.table.items l.width i j → i ≤ j;
-  rows : (i j : ℕ) → i ≤ l.last → j ≤ l.last → (((m : ℕ) × (m ≤ l.last) × InTable l.table.items l.width i m × EachInTurn (Holds l.truth) (drop l.part-index l.parts) m j) ↔ EachInTurn (Holds l.truth) l.parts i j);
-  more : l.initial.steps ≤ l.steps;
-  bound : l.steps + weight_of_all (drop l.part-index l.parts) * triangle (l.last + 1) ≤ l.initial.steps + weight_of_all l.parts * triangle (l.last + 1);
+  rows : (i j : ℕ) → i ≤ l.last → j ≤ l.last → (((m : ℕ) × (m ≤ l.last) × InTable l.table.items l.width i m × EachInTurn (Holds l.truth) (drop l.part-index l.rest) m j) ↔ EachInTurn (Holds l.truth) l.parts i j);
+  more : l.fn.steps ≤ l.steps;
+  bound : l.steps + weight_of_all (drop l.part-index l.rest) * triangle (l.last + 1) ≤ l.fn.steps + weight_of_all l.parts * triangle (l.last + 1);
 }
 
 abbrev pub invariant-choice-loop-part : goal.invariant-choice-loop-part

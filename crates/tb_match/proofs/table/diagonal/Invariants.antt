@@ -4,7 +4,6 @@ use Rattle.tb_match.proofs.table.diagonal.Given as goal
 
 abbrev pub invariant-loop-place : goal.invariant-loop-place
 invariant-loop-place l = record {
-  wide : length l.spare ≡ l.width;
   whole : length l.table.items ≡ (l.last + 1) * l.width;
-  rows : (i j : ℕ) → i < l.place → j ≤ l.last → (InTable l.table.items l.width i j ↔ (i ≡ j));
+  rows : (i j : ℕ) → j ≤ l.last → (InTable l.table.items l.width i j ↔ ((i < l.place) × (i ≡ j)));
 }

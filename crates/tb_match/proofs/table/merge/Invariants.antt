@@ -4,7 +4,6 @@ use Rattle.tb_match.proofs.table.merge.Given as goal
 
 abbrev pub invariant-loop-place : goal.invariant-loop-place
 invariant-loop-place l = record {
-  wide : length l.spare ≡ l.width;
   whole : length l.table ≡ length l.initial.table;
   done : (i j : ℕ) → i < l.place → j ≤ l.last → (InTable l.table l.width i j ↔ (InTable l.initial.table l.width i j ⊎ InTable l.other l.width i j));
   rest : (i j : ℕ) → l.place ≤ i → j ≤ l.last → (InTable l.table l.width i j ↔ InTable l.initial.table l.width i j);

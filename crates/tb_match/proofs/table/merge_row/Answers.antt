@@ -1,16 +1,28 @@
-use Rattle.std.proofs.Common.{arith, ◌≡◌, ◌+◌, ◌<◌, ◌↔◌, length, subst}
-use Rattle.tb_match.specs.Bits.{InRow, InTable}
-use Rattle.tb_match.proofs.Rows.{merged_row, row_size, row_room, word_of}
+use Rattle.std.proofs.Common.{arith, ◌≡◌, ◌+◌, ◌<◌, length, refl}
+use Rattle.tb_match.proofs.Rows.{merged_row, part_long, row_kept, row_size, row_room, word_of}
 use Rattle.tb_match.proofs.table.merge_row.Goals as goal
 
 pub returns-clause-row : goal.returns-clause-row
 returns-clause-row c = λ j h.
-    let inside : c.args.place < c.args.last + 1 = omega arith in
-    let room = row_room c.args.place c.args.last c.args.width inside in
-    let short = word_of j c.args.last c.args.width h c.requires.wide in
-    let same : length c.unite.new.to ≡ c.args.width = omega arith in
-    let m = merged_row c.args.table.now c.args.other.now c.copy_from_slice.new.self c.unite.new.to c.args.width c.args.place j _ _
-    (row_size c.args.place c.args.width) (row_size c.args.place c.args.width) short (omega arith) (omega arith) c.copy_from_slice.ensures.after c.unite.ensures.words in
-    let s : InTable c.store.new.table c.args.width c.args.place j ↔ InRow c.unite.new.to 0 j =
-    subst (λ w. InTable c.store.new.table w c.args.place j ↔ InRow c.unite.new.to 0 j) same (c.store.ensures.stored j (omega arith)) in
-    (λ p. m.0 (s.0 p), λ p. s.1 (m.1 p))
+    let T = c.args.table.now in
+    let O = c.args.other.now in
+    let w = c.args.width in
+    let p = c.args.place in
+    let inside : p < c.args.last + 1 = omega arith in
+    let room = row_room p c.args.last w inside in
+    let size = row_size p w in
+    let part = part_long T p w _ size (omega (arith, room)) in
+    let long : length c.unite.new.to ≡ w = omega (arith, part, size) in
+    merged_row T O c.unite.new.to w p j _ _ size size (word_of j c.args.last w h c.requires.wide) (omega (arith, room)) (omega (arith, room)) c.unite.ensures.words long
+
+pub returns-clause-others : goal.returns-clause-others
+returns-clause-others c = λ i j ne h.
+    let T = c.args.table.now in
+    let w = c.args.width in
+    let p = c.args.place in
+    let inside : p < c.args.last + 1 = omega arith in
+    let room = row_room p c.args.last w inside in
+    let size = row_size p w in
+    let part = part_long T p w _ size (omega (arith, room)) in
+    let long : length c.unite.new.to ≡ w = omega (arith, part, size) in
+    row_kept T c.unite.new.to _ _ w p j refl size long (word_of j c.args.last w h c.requires.wide) (omega (arith, room)) i ne

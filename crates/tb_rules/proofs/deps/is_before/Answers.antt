@@ -1,6 +1,6 @@
 use Rattle.std.proofs.Common.{sym, ap, ◌∙◌, lit<}
 use Rattle.tb_rules.specs.Deps.{pair_precedes}
-use Rattle.tb_rules.proofs.Places.{parts_at}
+use Rattle.tb_fields.proofs.Places.{parts_at}
 use Rattle.tb_rules.proofs.deps.is_before.Goals as goal
 
 pub returns-in-None : goal.returns-in-None

@@ -1,6 +1,6 @@
 use Rattle.std.proofs.Common.{◌≡◌, ◌<◌, take, true}
 use Rattle.std.specs.List.{list_all}
-use Rattle.tb_rules.specs.Feats.{is_digit}
+use Rattle.tb_fields.specs.Feats.{is_digit}
 use Rattle.tb_rules.specs.Deps.{digits_value}
 use Rattle.tb_rules.proofs.deps.value.Given as goal
 

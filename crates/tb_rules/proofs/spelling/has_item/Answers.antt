@@ -1,7 +1,7 @@
 use Rattle.std.proofs.Common.{◌∙◌, lit<, rules}
 use Rattle.std.specs.Str.{bytes_eq}
-use Rattle.tb_rules.proofs.Places.{parts_at}
-use Rattle.tb_rules.proofs.Parts.{any_here, any_later, any_last}
+use Rattle.tb_fields.proofs.Places.{parts_at}
+use Rattle.tb_fields.proofs.Parts.{any_here, any_later, any_last}
 use Rattle.tb_rules.proofs.spelling.has_item.Goals as goal
 
 pub returns-then-eq : goal.returns-then-eq

@@ -3,7 +3,7 @@ use denote.Text.{Utf8}
 use denote.Shadow.{shadow}
 use Rattle.std.specs.List.{list_any, slice_split}
 use Rattle.std.specs.Str.{bytes_eq}
-use Rattle.tb_rules.specs.Feats.{is_bar}
+use Rattle.tb_fields.specs.Feats.{is_bar}
 use Rattle.tb_rules.proofs.spelling.has_item.Given as goal
 
 abbrev pub invariant-loop-item : goal.invariant-loop-item

@@ -1,0 +1,19 @@
+//! A law of replies: the function only states a fact about the definitions.
+
+ghost use Rattle.std.specs.Prelude.{◌≡◌, ℕ, List, true};
+ghost use Rattle.tb_desk.specs.Check.{IsReplyTo, tells_of_input};
+ghost use Rattle.tb_desk.specs.declared.reply.CheckReply.{CheckReply};
+
+use tb_conllu::{one_fault_is_told, one_list_has_a_text, told_bytes_are_no_file};
+use tb_rules::{faulty_sentences_are_not_valid, one_sentence_is_told};
+
+/// At most one reply is true of an input, want of memory and a failed device aside.
+pub fn one_reply_is_true()
+    ensures { (limit : ℕ) (input : List ℕ) (reply other : CheckReply) → tells_of_input reply ≡ true → tells_of_input other ≡ true → IsReplyTo limit input reply → IsReplyTo limit input other → reply ≡ other }
+{
+    one_list_has_a_text();
+    told_bytes_are_no_file();
+    one_fault_is_told();
+    faulty_sentences_are_not_valid();
+    one_sentence_is_told();
+}

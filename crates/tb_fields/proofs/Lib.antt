@@ -1,0 +1,5 @@
+pub mod Places
+pub mod Parts
+pub mod Relations
+pub mod Twice
+pub mod Ascents

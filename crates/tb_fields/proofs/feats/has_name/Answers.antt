@@ -1,0 +1,21 @@
+use Rattle.std.proofs.Common.{ap, map, ◌∙◌, lit<, rules}
+use Rattle.std.specs.Str.{bytes_eq}
+use Rattle.tb_fields.specs.Feats.{feature_name}
+use Rattle.tb_fields.proofs.Places.{parts_at}
+use Rattle.tb_fields.proofs.Parts.{any_here, any_later, any_last}
+use Rattle.tb_fields.proofs.feats.has_name.Goals as goal
+
+pub returns-then-eq : goal.returns-then-eq
+returns-then-eq c =
+    let parts = rw c.in-Some.is at (parts_at 124 c.loop-item.left.now c.split_once.result c.split_once.ensures.cases (lit< tt)) in
+    any_here (bytes_eq c.args.name.now) _ _ _ (ap (map feature_name) parts.0) (c.if-eq.ensures ∙ ap (bytes_eq c.args.name.now) c.name_of.ensures) ∙ c.loop-item.invariant.1
+
+pub loop-item-preserved : goal.loop-item-preserved
+loop-item-preserved c =
+    let parts = rw c.in-Some.is at (parts_at 124 c.loop-item.left.now c.split_once.result c.split_once.ensures.cases (lit< tt)) in
+    (search rules, any_later (bytes_eq c.args.name.now) _ _ _ (ap (map feature_name) parts.0) (c.if-eq.ensures ∙ ap (bytes_eq c.args.name.now) c.name_of.ensures) ∙ c.loop-item.invariant.1)
+
+pub returns : goal.returns
+returns c =
+    let parts = rw c.in_default.is at (parts_at 124 c.loop-item.left.now c.split_once.result c.split_once.ensures.cases (lit< tt)) in
+    c.eq-2.ensures ∙ (ap (bytes_eq c.args.name.now) c.name_of-2.ensures ∙ (any_last (bytes_eq c.args.name.now) _ _ (ap (map feature_name) parts) ∙ c.loop-item.invariant.1))

@@ -1,0 +1,12 @@
+use Rattle.std.proofs.Common.{◌≡◌, length}
+use denote.Text.{Utf8}
+use denote.Shadow.{shadow}
+use Rattle.std.specs.List.{slice_split}
+use Rattle.tb_fields.specs.Feats.{is_comma, are_values}
+use Rattle.tb_fields.proofs.feats.holds_few_values.Given as goal
+
+abbrev pub invariant-loop-value : goal.invariant-loop-value
+invariant-loop-value l = shadow (Utf8 l.left) × (are_values (slice_split is_comma l.left) ≡ are_values (slice_split is_comma l.fn.text))
+
+abbrev pub decreases-loop-value : goal.decreases-loop-value
+decreases-loop-value l = length l.left

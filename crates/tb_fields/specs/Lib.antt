@@ -1,0 +1,7 @@
+pub mod Blank
+pub mod Spaces
+pub mod Tags
+pub mod Relations
+pub mod Feats
+pub mod Rising
+pub mod Seen

@@ -1,0 +1,9 @@
+ghost use Rattle.std.specs.Prelude.{◌≡◌};
+ghost use Rattle.tb_fields.specs.Blank.{is_blank};
+
+/// Whether the field is `_`, which says nothing.
+pub fn is_blank_field(text: &str) -> bool
+    ensures { result ≡ is_blank text.now }
+{
+    text == "_"
+}

@@ -1,0 +1,307 @@
+ghost use Rattle.std.specs.Prelude.{◌≡◌, ◌&&◌, map, bytes_eq, not, IfOk, ◌||◌, List, ℕ, true};
+ghost use Rattle.tb_fields.specs.Seen.{has_come};
+ghost use Rattle.std.specs.List.{list_any, list_all, slice_split};
+ghost use Rattle.tb_fields.specs.Feats.{is_bar, is_comma, is_capital_or_digit, is_small_or_digit, is_letter_or_digit, is_label, is_layer, is_name, are_values, is_feature, feature_name, is_not_after, precedes, are_features, is_feature_text};
+
+use crate::blank::is_blank_field;
+use crate::repeats::comes_first;
+use crate::rising::holds_rising_features;
+use std::alloc::{AllocError, Global};
+use std::collections::BTreeSet;
+
+/// Texts of so many bytes hold so few values that comparing each with each is quickest.
+const FEW_VALUES: usize = 32;
+
+/// The same for features, whose names are longer.
+const FEW_FEATURES: usize = 128;
+
+fn is_first_byte(b: u8) -> bool
+    ensures { result ≡ is_capital_or_digit b }
+{
+    matches!(b, b'A'..=b'Z' | b'0'..=b'9')
+}
+
+fn is_later_byte(b: u8) -> bool
+    ensures { result ≡ is_letter_or_digit b }
+{
+    matches!(b, b'A'..=b'Z' | b'a'..=b'z' | b'0'..=b'9')
+}
+
+fn is_layer_byte(b: u8) -> bool
+    ensures { result ≡ is_small_or_digit b }
+{
+    matches!(b, b'a'..=b'z' | b'0'..=b'9')
+}
+
+fn are_later_bytes(bytes: &[u8]) -> bool
+    ensures { result ≡ list_all is_letter_or_digit bytes.now }
+{
+    bytes.iter().all(|b| is_later_byte(*b))
+}
+
+fn is_label_bytes(bytes: &[u8]) -> bool
+    ensures { result ≡ is_label bytes.now }
+{
+    if bytes.is_empty() {
+        return false;
+    }
+    is_first_byte(bytes[0]) && are_later_bytes(&bytes[1..])
+}
+
+pub(crate) fn is_label_text(text: &str) -> bool
+    ensures { result ≡ is_label text.now }
+{
+    is_label_bytes(text.as_bytes())
+}
+
+fn are_layer_bytes(bytes: &[u8]) -> bool
+    ensures { result ≡ list_all is_small_or_digit bytes.now }
+{
+    bytes.iter().all(|b| is_layer_byte(*b))
+}
+
+fn is_layer_text(text: &str) -> bool
+    ensures { result ≡ is_layer text.now }
+{
+    match text.split_once(']') {
+        None => false,
+        Some((layer, rest)) => !layer.is_empty()
+            && are_layer_bytes(layer.as_bytes())
+            && rest.is_empty(),
+    }
+}
+
+pub(crate) fn is_name_text(text: &str) -> bool
+    ensures { result ≡ is_name text.now }
+{
+    match text.split_once('[') {
+        None => is_label_text(text),
+        Some((name, layer)) => is_label_text(name) && is_layer_text(layer),
+    }
+}
+
+/// Whether the value stands among the values in the text, which commas separate.
+fn comes_again(value: &str, text: &str) -> bool
+    ensures { result ≡ list_any (bytes_eq value.now) (slice_split is_comma text.now) }
+{
+    let mut left = text;
+    while let Some((next, more)) = left.split_once(',') {
+        if value == next {
+            return true;
+        }
+        left = more;
+    }
+    value == left
+}
+
+fn value_is_fine(value: &str, more: &str) -> bool
+    ensures { result ≡ (is_label value.now && not (list_any (bytes_eq value.now) (slice_split is_comma more.now))) }
+{
+    is_label_text(value) && !comes_again(value, more)
+}
+
+/// The same as `holds_values`; each value is compared with each.
+fn holds_few_values(text: &str) -> bool
+    ensures { result ≡ are_values (slice_split is_comma text.now) }
+{
+    let mut left = text;
+    while let Some((value, more)) = left.split_once(',') {
+        if !value_is_fine(value, more) {
+            return false;
+        }
+        left = more;
+    }
+    is_label_text(left)
+}
+
+/// Whether the value is well formed and had not come before; then it has, from now on.
+fn is_new_value<'a>(seen: &mut BTreeSet<&'a str>, value: &'a str) -> Result<bool, AllocError>
+    ensures new { IfOk result (λ b. b ≡ (is_label value.now && not (has_come seen.old value.now))) }
+    ensures kept { IfOk result (λ b. b ≡ true → (q : List ℕ) → has_come seen.new q ≡ (bytes_eq value.now q || has_come seen.old q)) }
+{
+    if !is_label_text(value) {
+        return Ok(false);
+    }
+    comes_first(seen, value)
+}
+
+/// The same as `holds_values`, in time that hardly grows faster than the text.
+fn holds_many_values(alloc: Global, text: &str) -> Result<bool, AllocError>
+    ensures { IfOk result (λ b. b ≡ are_values (slice_split is_comma text.now)) }
+{
+    let mut seen: BTreeSet<&str> = BTreeSet::new(alloc);
+    let mut left = text;
+    while let Some((value, more)) = left.split_once(',') {
+        if !is_new_value(&mut seen, value)? {
+            return Ok(false);
+        }
+        left = more;
+    }
+    is_new_value(&mut seen, left)
+}
+
+/// Whether commas separate values in the text, none twice.
+fn holds_values(alloc: Global, text: &str) -> Result<bool, AllocError>
+    ensures { IfOk result (λ b. b ≡ are_values (slice_split is_comma text.now)) }
+{
+    if text.len() <= FEW_VALUES {
+        Ok(holds_few_values(text))
+    } else {
+        holds_many_values(alloc, text)
+    }
+}
+
+fn is_feature_item(alloc: Global, item: &str) -> Result<bool, AllocError>
+    ensures { IfOk result (λ b. b ≡ is_feature item.now) }
+{
+    let Some((name, values)) = item.split_once('=') else {
+        return Ok(false);
+    };
+    if !is_name_text(name) {
+        return Ok(false);
+    }
+    holds_values(alloc, values)
+}
+
+fn name_of(item: &str) -> &str
+    ensures { result.now ≡ feature_name item.now }
+{
+    match item.split_once('=') {
+        None => item,
+        Some((name, _)) => name,
+    }
+}
+
+/// Whether the first stands before the second in the order of bytes, or beside it, whatever the case of letters.
+fn is_in_order(first: &[u8], second: &[u8]) -> bool
+    ensures { result ≡ is_not_after first.now second.now }
+{
+    for (i, byte) in first.iter().enumerate() {
+        if i >= second.len() {
+            return false;
+        }
+        let here = byte.to_ascii_lowercase();
+        let there = second[i].to_ascii_lowercase();
+        if here < there {
+            return true;
+        }
+        if there < here {
+            return false;
+        }
+    }
+    true
+}
+
+/// Whether a feature of the text has the name.
+fn has_name(name: &str, text: &str) -> bool
+    ensures { result ≡ list_any (bytes_eq name.now) (map feature_name (slice_split is_bar text.now)) }
+{
+    let mut left = text;
+    while let Some((item, more)) = left.split_once('|') {
+        if name == name_of(item) {
+            return true;
+        }
+        left = more;
+    }
+    name == name_of(left)
+}
+
+fn are_names_in_order(name: &str, item: &str) -> bool
+    ensures { result ≡ is_not_after name.now (feature_name item.now) }
+{
+    is_in_order(name.as_bytes(), name_of(item).as_bytes())
+}
+
+/// Whether the name stands before that of the first feature of the text, or beside it.
+fn is_before(name: &str, text: &str) -> bool
+    ensures { result ≡ precedes name.now (map feature_name (slice_split is_bar text.now)) }
+{
+    match text.split_once('|') {
+        None => are_names_in_order(name, text),
+        Some((item, _)) => are_names_in_order(name, item),
+    }
+}
+
+/// Whether the feature may stand before the others.
+fn feature_is_fine(alloc: Global, item: &str, more: &str) -> Result<bool, AllocError>
+    ensures { IfOk result (λ b. b ≡ (is_feature item.now && (precedes (feature_name item.now) (map feature_name (slice_split is_bar more.now)) && not (list_any (bytes_eq (feature_name item.now)) (map feature_name (slice_split is_bar more.now)))))) }
+{
+    let name = name_of(item);
+    Ok(is_feature_item(alloc, item)? && is_before(name, more) && !has_name(name, more))
+}
+
+/// The same as `holds_features`; each name is compared with each.
+fn holds_few_features(alloc: Global, text: &str) -> Result<bool, AllocError>
+    ensures { IfOk result (λ b. b ≡ are_features (slice_split is_bar text.now)) }
+{
+    let mut left = text;
+    while let Some((item, more)) = left.split_once('|') {
+        if !feature_is_fine(alloc, item, more)? {
+            return Ok(false);
+        }
+        left = more;
+    }
+    is_feature_item(alloc, left)
+}
+
+/// Whether the feature may stand before the others and its name had not come before; then it has, from now on.
+fn is_new_feature<'a>(
+    alloc: Global,
+    seen: &mut BTreeSet<&'a str>,
+    item: &'a str,
+    more: &str,
+) -> Result<bool, AllocError>
+    ensures new { IfOk result (λ b. b ≡ ((is_feature item.now && precedes (feature_name item.now) (map feature_name (slice_split is_bar more.now))) && not (has_come seen.old (feature_name item.now)))) }
+    ensures kept { IfOk result (λ b. b ≡ true → (q : List ℕ) → has_come seen.new q ≡ (bytes_eq (feature_name item.now) q || has_come seen.old q)) }
+{
+    let name = name_of(item);
+    if !(is_feature_item(alloc, item)? && is_before(name, more)) {
+        return Ok(false);
+    }
+    comes_first(seen, name)
+}
+
+/// The same as `holds_features`, in time that hardly grows faster than the text.
+fn holds_many_features(alloc: Global, text: &str) -> Result<bool, AllocError>
+    ensures { IfOk result (λ b. b ≡ are_features (slice_split is_bar text.now)) }
+{
+    let mut seen: BTreeSet<&str> = BTreeSet::new(alloc);
+    let mut left = text;
+    while let Some((item, more)) = left.split_once('|') {
+        if !is_new_feature(alloc, &mut seen, item, more)? {
+            return Ok(false);
+        }
+        left = more;
+    }
+    if !is_feature_item(alloc, left)? {
+        return Ok(false);
+    }
+    comes_first(&mut seen, name_of(left))
+}
+
+/// Whether bars separate features in the text, in the order of their names, no name twice.
+fn holds_features(alloc: Global, text: &str) -> Result<bool, AllocError>
+    ensures { IfOk result (λ b. b ≡ are_features (slice_split is_bar text.now)) }
+{
+    if text.len() <= FEW_FEATURES {
+        holds_few_features(alloc, text)
+    } else {
+        holds_many_features(alloc, text)
+    }
+}
+
+/// Whether the text may stand in FEATS: `_`, or features in the order of their names, joined by bars, no name twice.
+///
+/// CoNLL-U format page, "Morphological Annotation"; UD v2 guidelines, "Morphology: General Principles".
+///
+/// # Errors
+///
+/// Want of memory, which only long lists take.
+pub fn is_feature_list(alloc: Global, text: &str) -> Result<bool, AllocError>
+    ensures { IfOk result (λ b. b ≡ is_feature_text text.now) }
+{
+    if is_blank_field(text) || holds_rising_features(text) {
+        return Ok(true);
+    }
+    holds_features(alloc, text)
+}

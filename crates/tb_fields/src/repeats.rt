@@ -1,0 +1,18 @@
+//! Texts of a long list, none twice.
+
+ghost use Rattle.std.specs.Prelude.{◌≡◌, ◌||◌, List, ℕ, IfOk, OnOk, not, bytes_eq};
+ghost use Rattle.tb_fields.specs.Seen.{has_come};
+
+use std::alloc::AllocError;
+use std::collections::BTreeSet;
+
+/// Whether the text had not come before; from now on it has.
+pub(crate) fn comes_first<'a>(
+    seen: &mut BTreeSet<&'a str>,
+    text: &'a str,
+) -> Result<bool, AllocError>
+    ensures new { IfOk result (λ b. b ≡ not (has_come seen.old text.now)) }
+    ensures kept { OnOk result ((q : List ℕ) → has_come seen.new q ≡ (bytes_eq text.now q || has_come seen.old q)) }
+{
+    Ok(seen.insert(text)?)
+}

@@ -1,0 +1,40 @@
+use Rattle.std.proofs.Common.{arith, ◌<◌, ◌≤◌, ◌+◌, ◌↔◌, ◌⊎◌, ℕ, inl, inr, ⊎_elim}
+use Rattle.tb_match.specs.Bits.{InRow, InTable, HasRowsOf}
+use Rattle.tb_match.proofs.Rows.{gather_yes, gather_over, united_row, row_size, row_room, word_of}
+use Rattle.tb_match.proofs.table.gather_closed.Goals as goal
+
+pub loop-place-preserved : goal.loop-place-preserved
+loop-place-preserved c =
+    let L = c.args.links.now in
+    let T = c.args.table.now in
+    let w = c.args.width in
+    let place = c.loop-place.place in
+    let spare = c.loop-place.spare in
+    let spare' = c.unite.new.to in
+    let inv = c.loop-place.invariant in
+    let after = c.next_unknown-place-in-loop-place.ensures in
+    let below : place < c.args.last + 1 = omega arith in
+    let inside : place ≤ c.args.last = c.loop-place-test.true in
+    let on = after.order (omega arith) in
+    let limit = after.limit in
+    let united : (j : ℕ) → j ≤ c.args.last → InRow spare' 0 j ↔ (InRow spare 0 j ⊎ InTable T w place j) = λ j h.
+    united_row spare spare' T w place j _ inv.wide (row_size place w) (word_of j c.args.last w h c.requires.wide)
+    (omega (arith, row_room place c.args.last w below)) c.unite.ensures.words in
+    let whole : HasRowsOf spare' T w c.args.last = λ k j p q here row.
+    ⊎_elim
+    (λ old. (united j q).1 (inl (inv.whole k j p q old row)))
+    (λ fresh. (united j q).1 (inr (c.requires.closed place k j inside p q fresh row)))
+    ((united k p).0 here) in
+    record {
+      from = omega arith;
+      upto = limit;
+      wide = omega arith;
+      here = λ j h.
+          gather_over L T c.args.spare.now spare' w c.args.first (place + 1) _ j on
+          (λ m a b link row. whole m j (omega arith) h (after.none m a b link) row)
+          (gather_yes L T c.args.spare.now spare spare' w c.args.first place j inv.from (inv.here j h) (inv.link c.loop-place-test.true) (united j h));
+      link = after.there;
+      whole = whole;
+      more = omega arith;
+      bound = omega arith;
+    }

@@ -1,0 +1,4 @@
+pub mod PatternLemmas
+pub mod NeedleLemmas
+pub mod ItemLemmas
+pub mod PlainLemmas

@@ -1,0 +1,4 @@
+pub mod Patterns
+pub mod Literals
+pub mod Items
+pub mod Built

@@ -1,0 +1,14 @@
+//! One literal of a query, and the values that it fits.
+//!
+//! A literal is a pattern in the syntax of Rust's `regex` crate that has to match the whole value,
+//! as in the query language of the Corpus Query Processor (CQP), or the value's own text.
+#![tactic(auto)]
+
+mod cutting;
+mod needle;
+mod pattern;
+#[cfg(test)]
+mod tests;
+
+pub use needle::{Needle, Tester};
+pub use pattern::PatternFault;

@@ -1,0 +1,141 @@
+//! A literal with what was built for it, and what tests values against it.
+
+ghost use Rattle.std.specs.Prelude.{◌≡◌, IfOk, IfErr};
+ghost use Rattle.std.specs.List.{list_any};
+ghost use Rattle.tb_needle.specs.Literals.{IsAccepted, meets};
+ghost use Rattle.tb_needle.specs.Items.{pieces, meets_item};
+
+use crate::cutting::cut;
+use crate::pattern::{PatternFault, compile, compile_unless_plain, finds};
+use regex::{Matcher, Regex};
+use std::alloc::{AllocError, Global};
+use std::marker::Model;
+use tb_syntax::Flag;
+
+/// A literal with what was built for it. Contracts see the literal alone.
+#[derive(Drop)]
+pub struct Needle {
+    text: String,
+    flag: Flag,
+    // None with `%l`, and for a text that fits the equal value alone.
+    built: Option<Regex>,
+}
+
+impl Model for Needle {
+    ghost use Rattle.std.specs.Prelude.{string_bytes};
+    ghost use Rattle.tb_needle.specs.Literals.{PlainLit};
+
+    ghost Value = { PlainLit };
+
+    ghost use Rattle.tb_needle.specs.Built.{StandsFor};
+
+    ghost view = { λ n. record { text = string_bytes n.text; flag = n.flag } };
+
+    ghost invariant = { λ n. StandsFor n.flag (string_bytes n.text) n.built };
+}
+
+/// A needle with what a search writes to: made once for a whole search, and then used for each value.
+#[derive(Drop)]
+pub struct Tester<'n> {
+    text: &'n str,
+    flag: Flag,
+    matcher: Option<Matcher<'n>>,
+}
+
+impl<'n> Model for Tester<'n> {
+    ghost use Rattle.tb_needle.specs.Literals.{PlainLit};
+
+    ghost Value = { PlainLit };
+
+    ghost use Rattle.tb_needle.specs.Built.{SearchesFor};
+
+    ghost view = { λ t. record { text = t.text.now; flag = t.flag } };
+
+    ghost invariant = { λ t. SearchesFor t.flag t.text.now t.matcher };
+}
+
+impl Needle {
+    ghost use Rattle.std.specs.Prelude.{string_bytes};
+
+    /// Builds what the literal needs. With `%l` nothing is built, and no text is refused.
+    pub fn new(alloc: Global, text: String, flag: Flag) -> Result<Needle, PatternFault>
+        ensures value { IfOk result (λ n. n ≡ record { text = string_bytes text; flag = flag }) }
+        ensures accepted { IfOk result (λ _. IsAccepted flag (string_bytes text)) }
+        ensures refused { IfErr result (λ e. e ≡ PatternFault.Syntax → IsAccepted flag (string_bytes text) → ⊥) }
+    {
+        let built = match flag {
+            Flag::Plain => compile_unless_plain(alloc, text.as_str())?,
+            Flag::NoCase => Some(compile(alloc, text.as_str(), true)?),
+            Flag::Literal => None,
+        };
+        Ok(Needle { text, flag, built })
+    }
+
+    /// The literal's text, its quotes aside.
+    pub fn text(&self) -> &str
+        ensures { result.now ≡ self.now.text }
+    {
+        self.text.as_str()
+    }
+
+    /// How the literal is compared.
+    pub fn flag(&self) -> Flag
+        ensures { result ≡ self.now.flag }
+    {
+        self.flag
+    }
+
+    /// What tests values against the literal.
+    pub fn tester(&self, alloc: Global) -> Result<Tester<'_>, AllocError>
+        ensures { IfOk result (λ t. t ≡ self.now) }
+    {
+        let matcher = match &self.built {
+            Some(regex) => Some(regex.matcher(alloc)?),
+            None => None,
+        };
+        Ok(Tester {
+            text: self.text.as_str(),
+            flag: self.flag,
+            matcher,
+        })
+    }
+}
+
+impl<'n> Tester<'n> {
+    /// Whether the literal fits the whole value.
+    pub fn meets(&mut self, value: &str) -> bool
+        ensures value { result ≡ meets self.old value.now }
+        ensures same { self.new ≡ self.old }
+    {
+        if let Some(matcher) = &mut self.matcher {
+            return finds(matcher, value);
+        }
+        value == self.text
+    }
+
+    /// Whether the literal fits some item of a list of features. The list `_` has none.
+    pub fn meets_item(&mut self, feats: &str) -> bool
+        ensures value { result ≡ meets_item self.old feats.now }
+        ensures same { self.new ≡ self.old }
+    {
+        if feats == "_" {
+            return false;
+        }
+        self.meets_piece(feats)
+    }
+
+    /// Whether the literal fits some piece between the bars.
+    fn meets_piece(&mut self, list: &str) -> bool
+        ensures value { result ≡ list_any (meets self.old) (pieces list.now) }
+        ensures same { self.new ≡ self.old }
+    {
+        let mut rest = list;
+        'pieces: while let Some((piece, after)) = cut(rest) {
+            if self.meets(piece) {
+                return true;
+            }
+            rest = after;
+        }
+        self.meets(rest)
+    }
+}

@@ -1,0 +1,160 @@
+-- A sentence that comes after those that were taken: its name is new, or it is told.
+use Rattle.std.proofs.Common.{◌≡◌, ◌⊎◌, inl, inr, ℕ, ◌+◌, List, [], ◌∷◌, ◌++◌, length, map, Bool, true, false, ◌||◌, not, Some, refl, sym, ◌∙◌, ap, subst, arith, append-nil, length-append}
+use Rattle.std.specs.Prelude.{bytes_eq, string_bytes}
+use Rattle.std.specs.List.{AllByRecursion, list_any}
+use Rattle.std.specs.String.{string_eq}
+use Rattle.std.specs.declared.string.String.{String}
+use Rattle.std.proofs.lemmas.List.{length-map, map-append}
+use Rattle.std.proofs.lemmas.List.Concat.{flat_map-append}
+use Rattle.std.proofs.lemmas.List.Folds.{list_any-append}
+use Rattle.std.proofs.lemmas.Slice.Eq.{bytes_eq-Decides}
+use Rattle.indexmap.specs.IndexSet.{insert_key}
+use Rattle.tb_conllu.specs.Text.{BlockText}
+use Rattle.tb_rules.specs.Comments.{sent_ids, only}
+use Rattle.tb_rules.specs.File.{IsNamed, IsFree, HasNewName, IsBrokenAfter, broken, name_twice, IsFaultAt, IsFileFault, IsSentenceFault, names_of, HasTaken}
+use Rattle.tb_rules.specs.Rules.{KeepsRules}
+use Rattle.tb_rules.specs.declared.filefault.FileFault.{FileFault}
+use Rattle.tb_rules.specs.declared.filefault.FileFault.TheVariants.{At, Memory}
+use Rattle.tb_rules.proofs.Valid.{valid_none, valid_next}
+
+-- ---- names
+
+one_name : (b : BlockText) → KeepsRules b → (name : List ℕ) × IsNamed b name
+one_name b k = let id = k.0.0.0.0.0.0.0.0.0.0 in (id.name, id.one)
+
+pub named : (b : BlockText) (name : List ℕ) → KeepsRules b → Some name ≡ only (sent_ids b) → IsNamed b name
+named b name k e =
+    let one = one_name b k in
+    let same : Some name ≡ Some one.0 = e ∙ ap only one.1 in
+    let is : one.0 ≡ name = cc in
+    one.1 ∙ ap (λ n. n ∷ []) is
+
+only_one : (b : BlockText) (name other : List ℕ) → IsNamed b name → IsNamed b other → name ≡ other
+only_one b name other e d = let same : name ∷ [] ≡ other ∷ [] = sym e ∙ d in cc
+
+names_count : (bs : List BlockText) → AllByRecursion KeepsRules bs → length (names_of bs) ≡ length bs
+names_count [] h = refl
+names_count (b ∷ bs) h =
+    let here = ap length (one_name b h.0).1 in
+    let both = length-append (sent_ids b) (names_of bs) in
+    omega (arith, here, both, names_count bs h.1)
+
+names_next : (bs : List BlockText) (b : BlockText) (name : List ℕ) → IsNamed b name → names_of (bs ++ b ∷ []) ≡ names_of bs ++ name ∷ []
+names_next bs b name e = flat_map-append sent_ids bs (b ∷ []) ∙ ap (λ l. names_of bs ++ l) (append-nil (sent_ids b) ∙ e)
+
+same_bytes : (name : List ℕ) → bytes_eq name name ≡ true
+same_bytes name = (bytes_eq-Decides name name).1 refl
+
+equal_bytes : (name other : List ℕ) → bytes_eq name other ≡ true → name ≡ other
+equal_bytes name other h = (bytes_eq-Decides name other).0 h
+
+any_next : (name : List ℕ) (b : BlockText) (bs : List BlockText) → list_any (bytes_eq name) (names_of (b ∷ bs)) ≡ (list_any (bytes_eq name) (sent_ids b) || list_any (bytes_eq name) (names_of bs))
+any_next name b bs = list_any-append (bytes_eq name) (sent_ids b) (names_of bs)
+
+first_false : (x y : Bool) → (x || y) ≡ false → x ≡ false
+first_false true y e = e
+first_false false y e = refl
+
+second_false : (x y : Bool) → (x || y) ≡ false → y ≡ false
+second_false true y e = absurd (let d : true ≡ false = e in cc)
+second_false false y e = e
+
+-- the sentence has another name
+other_name : (b : BlockText) (name : List ℕ) → list_any (bytes_eq name) (sent_ids b) ≡ false → IsNamed b name → ⊥
+other_name b name h is =
+    let found : list_any (bytes_eq name) (name ∷ []) ≡ true = ap (λ t. t || false) (same_bytes name) in
+    let e : true ≡ false = sym found ∙ (sym (ap (list_any (bytes_eq name)) is) ∙ h) in
+    cc
+
+free : (bs : List BlockText) (name : List ℕ) → list_any (bytes_eq name) (names_of bs) ≡ false → IsFree bs name
+free [] name e = tt
+free (b ∷ bs) name e =
+    let all = sym (any_next name b bs) ∙ e in
+    let here = first_false (list_any (bytes_eq name) (sent_ids b)) (list_any (bytes_eq name) (names_of bs)) all in
+    let rest = second_false (list_any (bytes_eq name) (sent_ids b)) (list_any (bytes_eq name) (names_of bs)) all in
+    (other_name b name here, free bs name rest)
+
+-- the first sentence has the name, or one of the others has it
+found_first : (b : BlockText) (bs : List BlockText) (name own : List ℕ) (t : Bool) → IsNamed b own → bytes_eq name own ≡ t → (t || list_any (bytes_eq name) (names_of bs)) ≡ true
+    → (IsNamed b name) ⊎ (list_any (bytes_eq name) (names_of bs) ≡ true)
+found_first b bs name own true one is all = inl (one ∙ ap (λ n. n ∷ []) (sym (equal_bytes name own is)))
+found_first b bs name own false one is all = inr all
+
+not_free : (bs : List BlockText) (name : List ℕ) → AllByRecursion KeepsRules bs → list_any (bytes_eq name) (names_of bs) ≡ true → IsFree bs name → ⊥
+not_free [] name h e f = let d : false ≡ true = e in absurd (cc)
+not_free (b ∷ bs) name h e f =
+    let one = one_name b h.0 in
+    let found : (bytes_eq name one.0 || list_any (bytes_eq name) (names_of bs)) ≡ true = sym (ap (λ l. list_any (bytes_eq name) (l ++ names_of bs)) one.1) ∙ e in
+    elim (found_first b bs name one.0 (bytes_eq name one.0) one.1 refl found) [ inl here ↦ f.0 here | inr rest ↦ not_free bs name h.1 rest f.1 ]
+
+-- ---- what was taken
+
+pub taken_none : (names : List (List ℕ)) → names ≡ [] → HasTaken names []
+taken_none names e = record { valid = valid_none; known = e }
+
+taken_count : (names : List (List ℕ)) (before : List BlockText) → HasTaken names before → length names ≡ length before
+taken_count names before h = ap length h.known ∙ names_count before h.valid.rules
+
+-- a new name
+pub taken_next : (names : List (List ℕ)) (before : List BlockText) (b : BlockText) (name : List ℕ) → HasTaken names before → KeepsRules b → IsNamed b name
+    → list_any (bytes_eq name) names ≡ false → HasTaken (names ++ name ∷ []) (before ++ b ∷ [])
+taken_next names before b name h k is none =
+    let unknown = sym (ap (list_any (bytes_eq name)) h.known) ∙ none in
+    let new : HasNewName before b = λ other own. free before other (subst (λ n. list_any (bytes_eq n) (names_of before) ≡ false) (only_one b name other is own) unknown) in
+    record {
+      valid = valid_next before b h.valid k new;
+      known = ap (λ l. l ++ name ∷ []) h.known ∙ sym (names_next before b name is);
+    }
+
+-- the sentence that comes next is at fault
+told_next : (names : List (List ℕ)) (before : List BlockText) (b : BlockText) (n sentence rule row : ℕ) → HasTaken names before → n ≡ length names → sentence ≡ n + 1
+    → IsBrokenAfter before b rule row → IsFaultAt (before ++ b ∷ []) sentence rule row
+told_next names before b n sentence rule row h e place f =
+    let count = taken_count names before h in
+    record { before = before; told = b; after = []; whole = refl; counted = omega (arith, e, count, place); valid = h.valid; fault = f }
+
+-- a name that came before
+pub taken_twice : (names : List (List ℕ)) (before : List BlockText) (b : BlockText) (name : List ℕ) (n : ℕ) → HasTaken names before → n ≡ length names → KeepsRules b
+    → IsNamed b name → list_any (bytes_eq name) names ≡ true → IsFaultAt (before ++ b ∷ []) (n + 1) 12 0
+taken_twice names before b name n h e k is some =
+    let known = sym (ap (list_any (bytes_eq name)) h.known) ∙ some in
+    told_next names before b n (n + 1) 12 0 h e refl (name_twice k (λ new. not_free before name h.valid.rules known (new name is)))
+
+-- a fault of the sentence by itself
+pub taken_alone : (names : List (List ℕ)) (before : List BlockText) (b : BlockText) (n : ℕ) (e : FileFault) → HasTaken names before → n ≡ length names
+    → IsSentenceFault (n + 1) b e → IsFileFault (before ++ b ∷ []) e
+taken_alone names before b n (At sentence rule row) h e f = told_next names before b n sentence rule row h e f.0 (broken rule row f.1)
+taken_alone names before b n Memory h e f = tt
+
+-- ---- the set of names
+
+key_known : {Y : Type 0} (k : String Y) (keys : List (String Y)) → list_any (string_eq k) keys ≡ list_any (bytes_eq (string_bytes k)) (map string_bytes keys)
+key_known k [] = refl
+key_known k (x ∷ xs) = ap (λ t. string_eq k x || t) (key_known k xs)
+
+pub key_count : {Y : Type 0} (keys : List (String Y)) (names : List (List ℕ)) → map string_bytes keys ≡ names → length keys ≡ length names
+key_count keys names e = sym (length-map keys string_bytes) ∙ ap length e
+
+-- whether the name was there
+pub key_is : {Y : Type 0} (k : String Y) (keys : List (String Y)) (names : List (List ℕ)) (name : List ℕ) (t : Bool) → map string_bytes keys ≡ names → string_bytes k ≡ name
+    → list_any (string_eq k) keys ≡ t → list_any (bytes_eq name) names ≡ t
+key_is k keys names name t e is h =
+    let there = sym (key_known k keys) ∙ h in
+    subst (λ n. list_any (bytes_eq n) names ≡ t) is (subst (λ l. list_any (bytes_eq (string_bytes k)) l ≡ t) e there)
+
+inserted : {Y : Type 0} (k : String Y) (keys : List (String Y)) (t : Bool) → list_any (string_eq k) keys ≡ t → t ≡ false → insert_key string_eq keys k ≡ keys ++ k ∷ []
+inserted k keys t e f = rw (e ∙ f) refl
+
+pub key_added : {Y : Type 0} (k : String Y) (keys new : List (String Y)) (names : List (List ℕ)) (name : List ℕ) → map string_bytes keys ≡ names → string_bytes k ≡ name
+    → list_any (string_eq k) keys ≡ false → new ≡ insert_key string_eq keys k → names ++ name ∷ [] ≡ map string_bytes new
+key_added k keys new names name e is none new_is =
+    let all = ap (map string_bytes) (new_is ∙ inserted k keys false none refl) ∙ map-append string_bytes keys (k ∷ []) in
+    sym (all ∙ ap (λ l. l ++ string_bytes k ∷ []) e ∙ ap (λ n. names ++ n ∷ []) is)
+
+pub not_false : (t : Bool) → false ≡ not t → t ≡ true
+not_false true e = refl
+not_false false e = let d : false ≡ true = e in absurd (cc)
+
+pub not_true : (t : Bool) → true ≡ not t → t ≡ false
+not_true true e = let d : true ≡ false = e in absurd (cc)
+not_true false e = refl

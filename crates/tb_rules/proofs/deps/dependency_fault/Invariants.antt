@@ -1,6 +1,0 @@
-use Rattle.tb_rules.specs.Rows.{FirstRowsPass}
-use Rattle.tb_rules.specs.Deps.{dependency_test}
-use Rattle.tb_rules.proofs.deps.dependency_fault.Given as goal
-
-abbrev pub invariant-loop-i : goal.invariant-loop-i
-invariant-loop-i g l = FirstRowsPass (dependency_test l.rows) l.rows l.i

@@ -1,0 +1,49 @@
+use Rattle.std.proofs.Common.{◌∷◌, [], ◌++◌, rules, sym, ◌∙◌, subst, true, false}
+use Rattle.std.specs.List.{list_any}
+use Rattle.std.specs.String.{string_eq}
+use Rattle.tb_rules.specs.File.{HasTaken}
+use Rattle.tb_rules.proofs.Taken.{taken_alone, taken_twice, taken_next, named, key_count, key_is, key_added, not_false, not_true}
+use Rattle.tb_rules.proofs.Valid.{only_memory}
+use Rattle.tb_rules.proofs.taking.Checker.take.Goals as goal
+use Rattle.tb_rules.proofs.taking.Checker.take.Goals.{in-Ok-true, in-Ok-false, in-Err}
+
+pub returns-in_err-check_alone-clause-fault : goal.returns-in_err-check_alone-clause-fault
+returns-in_err-check_alone-clause-fault g c = λ before h.
+    let count = c.len-sentence.ensures.len ∙ key_count c.self.inside.names.keys c.args.self.now c.self.view_is in
+    let fault = taken_alone c.args.self.now before c.args.block.now c.len-sentence.result c.in_err-check_alone.field-0.0 h count c.in_err-check_alone.ensures.fault in
+    search (rules, fault)
+
+pub returns-in_err-check_alone-clause-only : goal.returns-in_err-check_alone-clause-only
+returns-in_err-check_alone-clause-only g c = λ before h v.
+    only_memory (before ++ c.args.block.now ∷ []) c.from_residual.result (returns-in_err-check_alone-clause-fault g c before h) v
+
+pub returns-clause-valid : goal.returns-clause-valid
+returns-clause-valid g c = λ before h. elim c.match-insert.branch [
+  | in-Ok-true w ↦
+      let keys = c.self.inside.names.keys in
+      let none = not_true (list_any (string_eq c.in-Ok.owned) keys) (sym w.in-Ok-true.field-0-test ∙ w.in-Ok-true.ensures.added) in
+      let is = named c.args.block.now c.in-Some.name.now c.in_ok-check_alone.ensures.valid c.in-Some.ensures in
+      let unknown = key_is c.in-Ok.owned keys c.args.self.now c.in-Some.name.now false c.self.view_is c.in-Ok.ensures.ok none in
+      let next = taken_next c.args.self.now before c.args.block.now c.in-Some.name.now h c.in_ok-check_alone.ensures.valid is unknown in
+      let added = key_added c.in-Ok.owned keys c.insert.new.self.keys c.args.self.now c.in-Some.name.now c.self.view_is c.in-Ok.ensures.ok none w.in-Ok-true.ensures.keys in
+      rw w.result-is (subst (λ l. HasTaken l (before ++ c.args.block.now ∷ [])) added next)
+  | in-Ok-false w ↦ rw w.result-is tt
+  | in-Err w ↦ rw w.result-is tt
+]
+
+pub returns-clause-fault : goal.returns-clause-fault
+returns-clause-fault g c = λ before h. elim c.match-insert.branch [
+  | in-Ok-true w ↦ rw w.result-is tt
+  | in-Ok-false w ↦
+      let keys = c.self.inside.names.keys in
+      let some = not_false (list_any (string_eq c.in-Ok.owned) keys) (sym w.in-Ok-false.field-0-test ∙ w.in-Ok-false.ensures.added) in
+      let is = named c.args.block.now c.in-Some.name.now c.in_ok-check_alone.ensures.valid c.in-Some.ensures in
+      let known = key_is c.in-Ok.owned keys c.args.self.now c.in-Some.name.now true c.self.view_is c.in-Ok.ensures.ok some in
+      let count = c.len-sentence.ensures.len ∙ key_count keys c.args.self.now c.self.view_is in
+      rw w.result-is (taken_twice c.args.self.now before c.args.block.now c.in-Some.name.now c.len-sentence.result h count c.in_ok-check_alone.ensures.valid is known)
+  | in-Err w ↦ rw w.result-is tt
+]
+
+pub returns-clause-only : goal.returns-clause-only
+returns-clause-only g c = λ before h v.
+    only_memory (before ++ c.args.block.now ∷ []) c.match-insert.result (returns-clause-fault g c before h) v

@@ -1,0 +1,63 @@
+-- The sentences of one file: each keeps the rules of a sentence by itself, and each has a name of its own.
+-- CoNLL-U format page, "Sentence Boundaries and Comments": the sentence-level comment `sent_id` is the sentence's
+-- identifier, and it is unique. That a file is where it is unique is this project's own reading.
+use Rattle.std.specs.Prelude.{◌≡◌, ℕ, ◌+◌, List, [], ◌∷◌, ◌++◌, length}
+use Rattle.std.specs.List.{AllByRecursion, flat_map}
+use Rattle.tb_conllu.specs.Text.{BlockText}
+use Rattle.tb_rules.specs.declared.filefault.FileFault.{FileFault}
+use Rattle.tb_rules.specs.declared.filefault.FileFault.TheVariants.{At, Memory}
+use Rattle.tb_rules.specs.Comments.{sent_ids}
+use Rattle.tb_rules.specs.Rules.{KeepsRules, IsBroken}
+
+-- The sentence has this name: the value of its one comment with the key sent_id.
+abbrev pub IsNamed : BlockText → List ℕ → Type 0
+IsNamed b name = sent_ids b ≡ name ∷ []
+
+-- No sentence of these has the name.
+abbrev pub IsFree : List BlockText → List ℕ → Type 0
+IsFree bs name = AllByRecursion (λ b. IsNamed b name → ⊥) bs
+
+-- Rule 12: no sentence before it has its name.
+abbrev pub HasNewName : List BlockText → BlockText → Type 0
+HasNewName before b = (name : List ℕ) → IsNamed b name → IsFree before name
+
+-- Each sentence keeps rules 1 to 11, and none has the name of one before it.
+pub record IsValid (bs : List BlockText) : Type 0 where
+  pub rules : AllByRecursion KeepsRules bs
+  pub names : (before : List BlockText) (b : BlockText) (after : List BlockText) → bs ≡ before ++ b ∷ after → HasNewName before b
+
+-- The rule that a sentence breaks after these, with its row: of rules 1 to 11 the least one; rule 12 where those hold.
+pub data IsBrokenAfter (before : List BlockText) (b : BlockText) : ℕ → ℕ → Type 0 where
+  broken : (rule row : ℕ) → IsBroken b rule row → IsBrokenAfter before b rule row
+  name_twice : KeepsRules b → (HasNewName before b → ⊥) → IsBrokenAfter before b 12 0
+
+-- The first sentence at fault, counted from 1: those before it are valid.
+pub record IsFaultAt (bs : List BlockText) (sentence rule row : ℕ) : Type 0 where
+  pub before : List BlockText
+  pub told : BlockText
+  pub after : List BlockText
+  pub whole : bs ≡ before ++ told ∷ after
+  pub counted : sentence ≡ length before + 1
+  pub valid : IsValid before
+  pub fault : IsBrokenAfter before told rule row
+
+-- want of memory says nothing of the sentences
+abbrev pub IsFileFault : List BlockText → FileFault → Type 0
+IsFileFault bs (At sentence rule row) = IsFaultAt bs sentence rule row
+IsFileFault bs Memory = Unit {0}
+
+-- ---- sentences that come one after another
+
+-- the fault of the sentence with this number by itself
+abbrev pub IsSentenceFault : ℕ → BlockText → FileFault → Type 0
+IsSentenceFault n b (At sentence rule row) = (sentence ≡ n) × IsBroken b rule row
+IsSentenceFault n b Memory = Unit {0}
+
+-- the names of sentences, in order
+abbrev pub names_of : List BlockText → List (List ℕ)
+names_of bs = flat_map sent_ids bs
+
+-- These sentences have been taken: they are valid, and these are their names.
+pub record HasTaken (names : List (List ℕ)) (bs : List BlockText) : Type 0 where
+  pub valid : IsValid bs
+  pub known : names ≡ names_of bs

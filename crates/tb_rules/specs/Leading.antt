@@ -1,0 +1,34 @@
+-- Ranges that stand before their words, so that the ranges before a word tell whether it is in one.
+use Rattle.std.specs.Prelude.{◌≡◌, ℕ, ◌<◌, List, length, take, slice_index_or, Bool, true, false, ◌&&◌, not, nat_lt, nat_le}
+use Rattle.tb_conllu.specs.declared.id.LineId.{LineId}
+use Rattle.tb_conllu.specs.declared.id.LineId.TheVariants.{Word, Span, Empty}
+use Rattle.tb_conllu.specs.Text.{RowText}
+use Rattle.tb_rules.specs.Restored.{is_covered}
+use Rattle.tb_rules.specs.Spans.{greatest_end}
+
+-- a word is in a range where it is at most the greatest end of the ranges before it
+abbrev pub RangesLead : List RowText → Type 0
+RangesLead rs = (k w : ℕ) (d : RowText) → k < length rs → (slice_index_or rs k d).id ≡ Word w → is_covered rs w ≡ nat_le w (greatest_end (take k rs))
+
+-- a range, or a word after this end
+abbrev pub is_token_after : ℕ → LineId → Bool
+is_token_after end (Word w) = not (nat_le w end)
+is_token_after end (Span a b) = true
+is_token_after end (Empty i k) = false
+
+-- the number of a word, and the first word of a range; 0 of other rows
+abbrev pub number_of_id : LineId → ℕ
+number_of_id (Word w) = w
+number_of_id (Span a b) = 0
+number_of_id (Empty i k) = 0
+
+abbrev pub start_of_id : LineId → ℕ
+start_of_id (Word w) = 0
+start_of_id (Span a b) = a
+start_of_id (Empty i k) = 0
+
+-- a word not before the starts that came, and a range that starts after the words that came
+abbrev pub ascends : ℕ → ℕ → LineId → Bool
+ascends word start (Word w) = nat_lt 0 w && nat_le start w
+ascends word start (Span a b) = nat_lt word a
+ascends word start (Empty i k) = true

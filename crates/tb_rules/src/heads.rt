@@ -1,0 +1,122 @@
+//! The words and the empty nodes that a head may name.
+
+ghost use Rattle.std.specs.Prelude.{◌≡◌, ◌+◌, ◌<◌, ◌^◌, IfOk, slice_index, slice_set, vec_len};
+ghost use Rattle.std.specs.List.{list_any};
+ghost use Rattle.tb_rules.specs.Deps.{is_word_numbered, is_node_numbered, is_there, is_head_there};
+ghost use Rattle.tb_rules.specs.Named.{is_node_id, AreNumbered, AreNodeCounts, TellIds};
+
+use std::alloc::{AllocError, Global};
+use tb_conllu::{LineId, RowOf, Text};
+
+/// The rows of a sentence, and the counts that tell which IDs they carry.
+#[derive(Drop)]
+pub(crate) struct Heads<'a, T: Text> {
+    pub(crate) rows: &'a [RowOf<T>],
+    words: usize,
+    nodes: Vec<usize>,
+    ghost told: { TellIds rows.now words nodes.items },
+}
+
+fn is_node<T: Text>(row: &RowOf<T>) -> bool
+    ensures { result ≡ is_node_id row.now.id }
+{
+    match row.id {
+        LineId::Word(_) | LineId::Span(..) => false,
+        LineId::Empty(..) => true,
+    }
+}
+
+fn has_nodes<T: Text>(rows: &[RowOf<T>]) -> bool
+    ensures { result ≡ list_any (λ r. is_node_id r.id) rows.now }
+{
+    rows.iter().any(|row| is_node(row))
+}
+
+fn count_one(counts: &mut Vec<usize>, place: usize)
+    requires within { place < vec_len counts.old }
+    requires fits { slice_index counts.old.items place + 1 < 2 ^ 64 }
+    ensures { counts.new.items ≡ slice_set counts.old.items place (slice_index counts.old.items place + 1) }
+{
+    counts[place] += 1;
+}
+
+/// How many empty nodes stand after each word, and before the first.
+fn counts<T: Text>(alloc: Global, rows: &[RowOf<T>], words: usize) -> Result<Vec<usize>, AllocError>
+    requires { AreNumbered rows.now words }
+    ensures { IfOk result (λ v. AreNodeCounts rows.now v.items) }
+{
+    let mut nodes = vec![in alloc; 0usize; words + 1]?;
+    for row in rows {
+        if let LineId::Empty(word, _) = row.id {
+            count_one(&mut nodes, word as usize);
+        }
+    }
+    Ok(nodes)
+}
+
+/// The counts of the empty nodes. A sentence without them takes no memory.
+fn node_counts<T: Text>(
+    alloc: Global,
+    rows: &[RowOf<T>],
+    words: usize,
+) -> Result<Vec<usize>, AllocError>
+    requires { AreNumbered rows.now words }
+    ensures { IfOk result (λ v. AreNodeCounts rows.now v.items) }
+{
+    if has_nodes(rows) {
+        counts(alloc, rows, words)
+    } else {
+        Ok(Vec::new(alloc))
+    }
+}
+
+/// The IDs of a sentence of so many words, whose rows carry the right numbers.
+pub(crate) fn heads_in<T: Text>(
+    alloc: Global,
+    rows: &[RowOf<T>],
+    words: usize,
+) -> Result<Heads<'_, T>, AllocError>
+    requires { AreNumbered rows.now words }
+    ensures { IfOk result (λ h. h.rows.now ≡ rows.now) }
+{
+    let nodes = node_counts(alloc, rows, words)?;
+    Ok(Heads { rows, words, nodes })
+}
+
+fn has_word<T: Text>(heads: &Heads<'_, T>, number: u32) -> bool
+    ensures { result ≡ list_any (λ r. is_word_numbered number r.id) heads.now.rows.now }
+{
+    number > 0 && number as usize <= heads.words
+}
+
+fn nodes_after<T: Text>(heads: &Heads<'_, T>, word: u32) -> usize
+    ensures { result ≡ slice_index heads.now.nodes.items word }
+{
+    heads.nodes.get(word as usize).copied().unwrap_or(0)
+}
+
+fn has_node<T: Text>(heads: &Heads<'_, T>, word: u32, node: u32) -> bool
+    ensures { result ≡ list_any (λ r. is_node_numbered word node r.id) heads.now.rows.now }
+{
+    node > 0 && node as usize <= nodes_after(heads, word)
+}
+
+fn stands_in<T: Text>(heads: &Heads<'_, T>, id: LineId) -> bool
+    ensures { result ≡ is_there heads.now.rows.now id }
+{
+    match id {
+        LineId::Word(n) => n == 0 || has_word(heads, n),
+        LineId::Span(..) => false,
+        LineId::Empty(i, k) => has_node(heads, i, k),
+    }
+}
+
+/// Whether the head is the root, a word or an empty node of the sentence.
+pub(crate) fn head_stands_in<T: Text>(heads: &Heads<'_, T>, head: Option<LineId>) -> bool
+    ensures { result ≡ is_head_there heads.now.rows.now head }
+{
+    match head {
+        None => false,
+        Some(id) => stands_in(heads, id),
+    }
+}

@@ -1,0 +1,111 @@
+//! The sentences of a file, checked one after another.
+
+ghost use Rattle.std.specs.Prelude.{◌≡◌, ℕ, List, [], ◌∷◌, ◌++◌, OnOk, OnErr, IfErr, map, string_bytes};
+ghost use Rattle.tb_conllu.specs.Text.{BlockText};
+ghost use Rattle.tb_rules.specs.File.{IsValid, IsFileFault, IsSentenceFault, HasTaken};
+ghost use Rattle.tb_rules.specs.Rules.{KeepsRules};
+ghost use Rattle.tb_rules.specs.declared.filefault.FileFault.TheVariants.{Memory};
+
+use crate::checking::check;
+use crate::comments::sent_id;
+use crate::fault::RuleFault;
+use crate::filefault::FileFault;
+use indexmap::IndexSet;
+use std::alloc::Global;
+use std::marker::Model;
+use tb_conllu::{BlockOf, Text};
+
+/// Rules 1 to 11 of the sentence with this number.
+fn check_alone<T: Text>(alloc: Global, block: &BlockOf<T>, sentence: usize) -> Result<(), FileFault>
+    ensures valid { OnOk result (KeepsRules block.now) }
+    ensures fault { IfErr result (IsSentenceFault sentence block.now) }
+{
+    match check(alloc, block) {
+        Ok(()) => Ok(()),
+        Err(RuleFault::At { rule, row }) => Err(FileFault::At {
+            sentence,
+            rule,
+            row,
+        }),
+        Err(RuleFault::Memory) => Err(FileFault::Memory),
+    }
+}
+
+/// Takes the sentences of a file one after another, of which it keeps the names. A contract sees it as these names, in
+/// order.
+#[derive(Drop)]
+pub struct Checker {
+    alloc: Global,
+    names: IndexSet<String>,
+}
+
+impl Model for Checker {
+    ghost Value = { List (List ℕ) };
+
+    ghost view = { λ c. map string_bytes c.names.keys };
+}
+
+impl Checker {
+    /// No sentence has been taken yet. Takes no memory.
+    pub fn new(alloc: Global) -> Self
+        ensures { HasTaken result [] }
+    {
+        Checker {
+            alloc,
+            names: IndexSet::new(alloc),
+        }
+    }
+
+    /// Takes the next sentence. Rule 12 is asked last: that no sentence before has its `sent_id`.
+    ///
+    /// # Errors
+    ///
+    /// The sentence's number in the file, with its least broken rule and its row; or want of memory. The sentence is
+    /// not taken then, and all is as before.
+    pub fn take<T: Text>(&mut self, block: &BlockOf<T>) -> Result<(), FileFault>
+        ensures valid { (before : List BlockText) → HasTaken self.old before → OnOk result (HasTaken self.new (before ++ block.now ∷ [])) }
+        ensures fault { (before : List BlockText) → HasTaken self.old before → IfErr result (IsFileFault (before ++ block.now ∷ [])) }
+        ensures only { (before : List BlockText) → HasTaken self.old before → IsValid (before ++ block.now ∷ []) → IfErr result (λ e. e ≡ Memory) }
+        ensures kept { OnErr result (self.new ≡ self.old) }
+    {
+        let sentence = self.names.len() + 1;
+        check_alone(self.alloc, block, sentence)?;
+        let Some(name) = sent_id(block) else {
+            return Err(FileFault::At {
+                sentence,
+                rule: 1,
+                row: 0,
+            });
+        };
+        let Ok(owned) = String::from_str(self.alloc, name) else {
+            return Err(FileFault::Memory);
+        };
+        match self.names.insert(owned) {
+            Ok(true) => Ok(()),
+            Ok(false) => Err(FileFault::At {
+                sentence,
+                rule: 12,
+                row: 0,
+            }),
+            Err(_) => Err(FileFault::Memory),
+        }
+    }
+}
+
+/// Whether each sentence of a file keeps rules 1 to 11, and none has the `sent_id` of one before it.
+///
+/// # Errors
+///
+/// The first sentence that breaks a rule, counted from 1, with its least broken rule of 1 to 12 and, for rules 4 to 8,
+/// its first row at fault, counted from 1, else 0; or want of memory.
+pub fn check_all<T: Text>(alloc: Global, blocks: &[BlockOf<T>]) -> Result<(), FileFault>
+    ensures valid { OnOk result (IsValid blocks.now) }
+    ensures fault { IfErr result (IsFileFault blocks.now) }
+    ensures only { IsValid blocks.now → IfErr result (λ e. e ≡ Memory) }
+{
+    let mut checker = Checker::new(alloc);
+    for block in blocks {
+        checker.take(block)?;
+    }
+    Ok(())
+}

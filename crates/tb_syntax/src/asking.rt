@@ -1,0 +1,106 @@
+//! Reading the tests between brackets.
+
+ghost use Rattle.std.specs.Prelude.{◌≡◌, ◌∷◌, ◌≤◌, ◌-◌, length, map, IfOk};
+ghost use Rattle.tb_syntax.specs.Exprs.{tester};
+ghost use Rattle.tb_syntax.specs.Parsing.{ReadsUnit, ReadsUnits, ReadsConj, ReadsConjs, ReadsTest};
+
+use crate::cursor::{head, literal_at, tail};
+use crate::expr::{Expr, any, both_of, denied, either_of, item, whole};
+use crate::lexeme::{Attr, Lexeme};
+use std::alloc::{AllocError, Global};
+
+/// The comparison of a column whose name has been read.
+fn comparison_at(
+    alloc: Global,
+    attr: Attr,
+    lexemes: &[Lexeme],
+) -> Result<(Expr, &[Lexeme]), AllocError>
+    ensures exact { IfOk result (λ x. ReadsUnit (Lexeme.Name attr ∷ lexemes.now) (tester x.0) x.1.now) }
+    ensures shorter { IfOk result (λ x. length x.1.now ≤ length lexemes.now) }
+{
+    let (literal, rest) = literal_at(tail(lexemes));
+    match head(lexemes) {
+        Lexeme::Contains => Ok((item(literal), rest)),
+        Lexeme::Differs => Ok((denied(alloc, whole(attr, literal))?, rest)),
+        _ => Ok((whole(attr, literal), rest)),
+    }
+}
+
+/// The unit of a test.
+#[cycle(asking)]
+fn unit_at(alloc: Global, lexemes: &[Lexeme]) -> Result<(Expr, &[Lexeme]), AllocError>
+    ensures exact { IfOk result (λ x. ReadsUnit lexemes.now (tester x.0) x.1.now) }
+    ensures shorter { IfOk result (λ x. length x.1.now ≤ length lexemes.now - 1) }
+{
+    let rest = tail(lexemes);
+    match head(lexemes) {
+        Lexeme::Not => {
+            let (expr, rest) = unit_at(alloc, rest)?;
+            Ok((denied(alloc, expr)?, rest))
+        }
+        Lexeme::LeftParen => {
+            let (expr, rest) = test_at(alloc, rest)?;
+            Ok((expr, tail(rest)))
+        }
+        Lexeme::Name(attr) => comparison_at(alloc, attr, rest),
+        _ => Ok((any(), rest)),
+    }
+}
+
+/// Puts the units of a conjunction after the parts.
+#[cycle(asking)]
+fn units_at<'s>(
+    alloc: Global,
+    lexemes: &'s [Lexeme],
+    parts: &mut Vec<Expr>,
+) -> Result<&'s [Lexeme], AllocError>
+    ensures exact { IfOk result (λ rest. ReadsUnits lexemes.now (map tester parts.old.items) (map tester parts.new.items) rest.now) }
+    ensures shorter { IfOk result (λ rest. length rest.now ≤ length lexemes.now - 1) }
+{
+    let (unit, rest) = unit_at(alloc, lexemes)?;
+    parts.push(unit)?;
+    match head(rest) {
+        Lexeme::And => units_at(alloc, tail(rest), parts),
+        _ => Ok(rest),
+    }
+}
+
+/// The conjunction.
+#[cycle(asking)]
+fn conj_at(alloc: Global, lexemes: &[Lexeme]) -> Result<(Expr, &[Lexeme]), AllocError>
+    ensures exact { IfOk result (λ x. ReadsConj lexemes.now (tester x.0) x.1.now) }
+    ensures shorter { IfOk result (λ x. length x.1.now ≤ length lexemes.now - 1) }
+{
+    let mut parts = Vec::new(alloc);
+    let rest = units_at(alloc, lexemes, &mut parts)?;
+    Ok((both_of(parts), rest))
+}
+
+/// Puts the conjunctions of a disjunction after the parts.
+#[cycle(asking)]
+fn conjs_at<'s>(
+    alloc: Global,
+    lexemes: &'s [Lexeme],
+    parts: &mut Vec<Expr>,
+) -> Result<&'s [Lexeme], AllocError>
+    ensures exact { IfOk result (λ rest. ReadsConjs lexemes.now (map tester parts.old.items) (map tester parts.new.items) rest.now) }
+    ensures shorter { IfOk result (λ rest. length rest.now ≤ length lexemes.now - 1) }
+{
+    let (conj, rest) = conj_at(alloc, lexemes)?;
+    parts.push(conj)?;
+    match head(rest) {
+        Lexeme::Bar => conjs_at(alloc, tail(rest), parts),
+        _ => Ok(rest),
+    }
+}
+
+/// The test.
+#[cycle(asking)]
+pub(crate) fn test_at(alloc: Global, lexemes: &[Lexeme]) -> Result<(Expr, &[Lexeme]), AllocError>
+    ensures exact { IfOk result (λ x. ReadsTest lexemes.now (tester x.0) x.1.now) }
+    ensures shorter { IfOk result (λ x. length x.1.now ≤ length lexemes.now - 1) }
+{
+    let mut parts = Vec::new(alloc);
+    let rest = conjs_at(alloc, lexemes, &mut parts)?;
+    Ok((either_of(parts), rest))
+}

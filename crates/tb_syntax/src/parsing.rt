@@ -1,0 +1,213 @@
+//! Reading patterns.
+
+ghost use Rattle.std.specs.Prelude.{◌≡◌, ◌∷◌, ◌≤◌, ◌-◌, length, map, IfOk};
+ghost use Rattle.tb_syntax.specs.Exprs.{tester};
+ghost use Rattle.tb_syntax.specs.Follow.{begins_atom};
+ghost use Rattle.tb_syntax.specs.Trees.{tree};
+ghost use Rattle.tb_syntax.specs.Parsing.{ReadsNumbers, ReadsRepeat, ReadsExpr, ReadsAtom, ReadsItem, ReadsItems, ReadsCat, ReadsCats, ReadsAlt, ReadsQuery};
+
+use crate::asking::test_at;
+use crate::cursor::{head, literal_at, tail};
+use crate::expr::{Expr, any, whole};
+use crate::lexeme::{Attr, Lexeme};
+use crate::tree::{alt_of, cat_of, repeated, tok};
+use std::alloc::{AllocError, Global};
+use tb_match::Pat;
+
+/// The numbers of a repetition, whose brace has been read: how often at least and at most.
+fn numbers_at(lexemes: &[Lexeme]) -> ((u8, Option<u8>), &[Lexeme])
+    ensures exact { ReadsNumbers lexemes.now result.0 result.1.now }
+    ensures shorter { length result.1.now ≤ length lexemes.now }
+{
+    let least = match head(lexemes) {
+        Lexeme::Number(least) => least,
+        _ => 0,
+    };
+    let rest = tail(lexemes);
+    match head(rest) {
+        Lexeme::Comma => match head(tail(rest)) {
+            Lexeme::Number(most) => ((least, Some(most)), tail(tail(tail(rest)))),
+            _ => ((least, None), tail(tail(rest))),
+        },
+        _ => ((least, Some(least)), tail(rest)),
+    }
+}
+
+/// The repetition that stands there, if one does.
+fn repeat_at(lexemes: &[Lexeme]) -> (Option<(u8, Option<u8>)>, &[Lexeme])
+    ensures exact { ReadsRepeat lexemes.now result.0 result.1.now }
+    ensures shorter { length result.1.now ≤ length lexemes.now }
+{
+    match head(lexemes) {
+        Lexeme::Quest => (Some((0, Some(1))), tail(lexemes)),
+        Lexeme::Star => (Some((0, None)), tail(lexemes)),
+        Lexeme::Plus => (Some((1, None)), tail(lexemes)),
+        Lexeme::LeftBrace => {
+            let (bounds, rest) = numbers_at(tail(lexemes));
+            (Some(bounds), rest)
+        }
+        _ => (None, lexemes),
+    }
+}
+
+/// The token expression that stands there.
+fn expr_at(alloc: Global, lexemes: &[Lexeme]) -> Result<(Expr, &[Lexeme]), AllocError>
+    ensures exact { IfOk result (λ x. ReadsExpr lexemes.now (tester x.0) x.1.now) }
+    ensures shorter { IfOk result (λ x. length x.1.now ≤ length lexemes.now - 1) }
+{
+    let rest = tail(lexemes);
+    match head(lexemes) {
+        Lexeme::LeftBracket => match head(rest) {
+            Lexeme::RightBracket => Ok((any(), tail(rest))),
+            _ => {
+                let (test, rest) = test_at(alloc, rest)?;
+                Ok((test, tail(rest)))
+            }
+        },
+        _ => {
+            let (literal, rest) = literal_at(lexemes);
+            Ok((whole(Attr::Form, literal), rest))
+        }
+    }
+}
+
+/// The atom.
+#[cycle(parsing)]
+fn atom_at<'s>(
+    alloc: Global,
+    lexemes: &'s [Lexeme],
+    exprs: &mut Vec<Expr>,
+) -> Result<(Pat, &'s [Lexeme]), AllocError>
+    ensures exact { IfOk result (λ x. ReadsAtom lexemes.now (map tester exprs.old.items) (map tester exprs.new.items) (tree x.0) x.1.now) }
+    ensures shorter { IfOk result (λ x. length x.1.now ≤ length lexemes.now - 1) }
+{
+    match head(lexemes) {
+        Lexeme::LeftParen => {
+            let (alt, rest) = alt_at(alloc, tail(lexemes), exprs)?;
+            Ok((alt, tail(rest)))
+        }
+        _ => {
+            let (expr, rest) = expr_at(alloc, lexemes)?;
+            let number = exprs.len().min(65535) as u16;
+            exprs.push(expr)?;
+            Ok((tok(number), rest))
+        }
+    }
+}
+
+/// The atom, and its repetition.
+#[cycle(parsing)]
+fn item_at<'s>(
+    alloc: Global,
+    lexemes: &'s [Lexeme],
+    exprs: &mut Vec<Expr>,
+) -> Result<(Pat, &'s [Lexeme]), AllocError>
+    ensures exact { IfOk result (λ x. ReadsItem lexemes.now (map tester exprs.old.items) (map tester exprs.new.items) (tree x.0) x.1.now) }
+    ensures shorter { IfOk result (λ x. length x.1.now ≤ length lexemes.now - 1) }
+{
+    let (atom, rest) = atom_at(alloc, lexemes, exprs)?;
+    let (bounds, rest) = repeat_at(rest);
+    match bounds {
+        Some(times) => Ok((repeated(alloc, atom, times.0, times.1)?, rest)),
+        None => Ok((atom, rest)),
+    }
+}
+
+/// Whether an atom begins there.
+fn begins_atom(lexemes: &[Lexeme]) -> bool
+    ensures { result ≡ begins_atom lexemes.now }
+{
+    matches!(
+        head(lexemes),
+        Lexeme::LeftParen | Lexeme::LeftBracket | Lexeme::Quote(_)
+    )
+}
+
+/// Puts the items of a sequence after the parts.
+#[cycle(parsing)]
+fn items_at<'s>(
+    alloc: Global,
+    lexemes: &'s [Lexeme],
+    parts: &mut Vec<Pat>,
+    exprs: &mut Vec<Expr>,
+) -> Result<&'s [Lexeme], AllocError>
+    ensures exact { IfOk result (λ rest. ReadsItems lexemes.now (map tester exprs.old.items) (map tester exprs.new.items) (map tree parts.old.items) (map tree parts.new.items) rest.now) }
+    ensures shorter { IfOk result (λ rest. length rest.now ≤ length lexemes.now - 1) }
+{
+    let (item, rest) = item_at(alloc, lexemes, exprs)?;
+    parts.push(item)?;
+    if begins_atom(rest) {
+        return items_at(alloc, rest, parts, exprs);
+    }
+    Ok(rest)
+}
+
+/// The sequence.
+#[cycle(parsing)]
+fn cat_at<'s>(
+    alloc: Global,
+    lexemes: &'s [Lexeme],
+    exprs: &mut Vec<Expr>,
+) -> Result<(Pat, &'s [Lexeme]), AllocError>
+    ensures exact { IfOk result (λ x. ReadsCat lexemes.now (map tester exprs.old.items) (map tester exprs.new.items) (tree x.0) x.1.now) }
+    ensures shorter { IfOk result (λ x. length x.1.now ≤ length lexemes.now - 1) }
+{
+    let mut parts = Vec::new(alloc);
+    let rest = items_at(alloc, lexemes, &mut parts, exprs)?;
+    Ok((cat_of(parts), rest))
+}
+
+/// Puts the sequences of a choice after the parts.
+#[cycle(parsing)]
+fn cats_at<'s>(
+    alloc: Global,
+    lexemes: &'s [Lexeme],
+    parts: &mut Vec<Pat>,
+    exprs: &mut Vec<Expr>,
+) -> Result<&'s [Lexeme], AllocError>
+    ensures exact { IfOk result (λ rest. ReadsCats lexemes.now (map tester exprs.old.items) (map tester exprs.new.items) (map tree parts.old.items) (map tree parts.new.items) rest.now) }
+    ensures shorter { IfOk result (λ rest. length rest.now ≤ length lexemes.now - 1) }
+{
+    let (cat, rest) = cat_at(alloc, lexemes, exprs)?;
+    parts.push(cat)?;
+    match head(rest) {
+        Lexeme::Bar => cats_at(alloc, tail(rest), parts, exprs),
+        _ => Ok(rest),
+    }
+}
+
+/// The choice.
+#[cycle(parsing)]
+fn alt_at<'s>(
+    alloc: Global,
+    lexemes: &'s [Lexeme],
+    exprs: &mut Vec<Expr>,
+) -> Result<(Pat, &'s [Lexeme]), AllocError>
+    ensures exact { IfOk result (λ x. ReadsAlt lexemes.now (map tester exprs.old.items) (map tester exprs.new.items) (tree x.0) x.1.now) }
+    ensures shorter { IfOk result (λ x. length x.1.now ≤ length lexemes.now - 1) }
+{
+    let mut parts = Vec::new(alloc);
+    let rest = cats_at(alloc, lexemes, &mut parts, exprs)?;
+    Ok((alt_of(parts), rest))
+}
+
+/// A query that has been parsed.
+#[derive(Debug, Drop)]
+pub struct Parsed {
+    /// Its pattern, over the numbers of its token expressions.
+    pub pat: Pat,
+    /// Its token expressions, as they stand in the text.
+    pub exprs: Vec<Expr>,
+}
+
+/// What a query says, of its lexemes.
+///
+/// Of lexemes that are no query the answer does not matter. The stack is as deep as parentheses are
+/// open, and a sequence, a choice or a chain of `!` is long.
+pub(crate) fn parse_lexemes(alloc: Global, lexemes: &[Lexeme]) -> Result<Parsed, AllocError>
+    ensures { IfOk result (λ p. ReadsQuery lexemes.now (tree p.pat) (map tester p.exprs.items)) }
+{
+    let mut exprs = Vec::new(alloc);
+    let (pat, _) = alt_at(alloc, lexemes, &mut exprs)?;
+    Ok(Parsed { pat, exprs })
+}

@@ -1,0 +1,51 @@
+//! Patterns over token expressions.
+
+ghost use Rattle.std.specs.Prelude.{◌≡◌, map, IfOk};
+ghost use Rattle.tb_syntax.specs.Trees.{tree};
+ghost use Rattle.tb_syntax.specs.Pattern.{tok, rep, cat_of, alt_of};
+
+use std::alloc::{AllocError, Global};
+use tb_match::Pat;
+
+/// The word of which this expression holds.
+pub(crate) fn tok(expr: u16) -> Pat
+    ensures { tree result ≡ tok expr }
+{
+    Pat::Tok(expr)
+}
+
+/// The pattern repeated.
+pub(crate) fn repeated(
+    alloc: Global,
+    pat: Pat,
+    least: u8,
+    most: Option<u8>,
+) -> Result<Pat, AllocError>
+    ensures { IfOk result (λ p. tree p ≡ rep (tree pat) least most) }
+{
+    Ok(Pat::Rep(Box::new(alloc, pat)?, least, most))
+}
+
+/// The sequence of the parts, which is the part itself where there is one.
+pub(crate) fn cat_of(mut parts: Vec<Pat>) -> Pat
+    ensures { tree result ≡ cat_of (map tree parts.items) }
+{
+    if parts.len() == 1 {
+        if let Some(part) = parts.pop() {
+            return part;
+        }
+    }
+    Pat::Cat(parts)
+}
+
+/// The choice between the parts, which is the part itself where there is one.
+pub(crate) fn alt_of(mut parts: Vec<Pat>) -> Pat
+    ensures { tree result ≡ alt_of (map tree parts.items) }
+{
+    if parts.len() == 1 {
+        if let Some(part) = parts.pop() {
+            return part;
+        }
+    }
+    Pat::Alt(parts)
+}
