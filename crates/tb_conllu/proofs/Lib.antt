@@ -13,8 +13,10 @@ pub mod FirstMark
 pub mod IdTexts
 pub mod Splits
 pub mod RowCodes
+pub mod FirstBytes
 pub mod Whites
 pub mod TextCodes
+pub mod Latin
 pub mod Steps
 pub mod Reading
 pub mod Files

@@ -163,3 +163,16 @@ pub fields_text : (line : List ℕ) → IsLineText line → AllByRecursion IsLin
 fields_text line h =
     let P : List ℕ → Type 0 = IsLineText in
     parts_from_line (fields line) (fields_lack line) (subst P (sym (join_split line)) h)
+
+utf8_from_line : (fs : List (List ℕ)) → IsUtf8 (join_with_byte 9 fs) → AllByRecursion IsUtf8 fs
+utf8_from_line [] h = tt
+utf8_from_line (f ∷ []) h = (h, tt)
+utf8_from_line (f ∷ g ∷ fs) h =
+    let p = utf8_parts f (join_with_byte 9 (g ∷ fs)) h in
+    (p.0, utf8_from_line (g ∷ fs) p.1)
+
+-- each field of a line that is UTF-8 is
+pub fields_utf8 : (line : List ℕ) → IsUtf8 line → AllByRecursion IsUtf8 (fields line)
+fields_utf8 line h =
+    let P : List ℕ → Type 0 = IsUtf8 in
+    utf8_from_line (fields line) (subst P (sym (join_split line)) h)

@@ -1,14 +1,9 @@
 -- The codes of a line that is no text of a file.
-use Rattle.std.proofs.Common.{◌≡◌, ℕ, List, Bool, true, false, not, sym, ◌∙◌, ap, inl, inr}
-use Rattle.std.specs.Prelude.{bytes_eq}
+use Rattle.std.proofs.Common.{◌≡◌, ℕ, List, Bool, true, false, not, ◌∙◌, ap, inl, inr}
 use Rattle.std.specs.List.{list_any}
-use Rattle.std.specs.Str.{IsUtf8, is_utf8, IsAscii}
+use Rattle.std.specs.Str.{IsUtf8, is_utf8}
 use Rattle.std.proofs.lemmas.Bool.{cases_Bool, cond-true, cond-false}
-use Rattle.std.proofs.lemmas.Slice.Eq.{bytes_eq-Decides}
-use Rattle.std.proofs.lemmas.Str.{IsUtf8-from_is_utf8, is_utf8-from_IsUtf8, chars-IsAscii}
-use Rattle.std.proofs.lemmas.Str.Ascii.{All-from_ascii}
-use Rattle.unicode_normalization.specs.Forms.{nfc, Nfc}
-use Rattle.unicode_normalization.proofs.FormsLemmas.{normalize-ascii}
+use Rattle.std.proofs.lemmas.Str.{IsUtf8-from_is_utf8, is_utf8-from_IsUtf8}
 use Rattle.tb_conllu.specs.Shape.{is_control}
 use Rattle.tb_conllu.specs.Lines.{line_code, is_nfc_text}
 
@@ -23,10 +18,3 @@ no_nfc_code came raw u h = cond-false _ _ _ (ap not (is_utf8-from_IsUtf8 raw u))
 
 pub control_code : (came : Bool) (raw : List ℕ) → IsUtf8 raw → is_nfc_text raw ≡ true → list_any is_control raw ≡ true → line_code came raw ≡ 3
 control_code came raw u n h = cond-false _ _ _ (ap not (is_utf8-from_IsUtf8 raw u)) ∙ cond-false _ _ _ (ap not n) ∙ cond-true _ _ _ h
-
--- ASCII is NFC
-pub ascii_nfc : (bs : List ℕ) → IsAscii bs → true ≡ is_nfc_text bs
-ascii_nfc bs h =
-    let same = chars-IsAscii bs h in
-    let form : nfc bs ≡ bs = normalize-ascii Nfc bs (All-from_ascii bs h) in
-    sym (ap (λ cs. bytes_eq (nfc cs) cs) same ∙ (bytes_eq-Decides (nfc bs) bs).1 form)

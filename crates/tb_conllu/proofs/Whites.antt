@@ -1,42 +1,65 @@
--- Printable ASCII holds no white space; bytes below 128 are ASCII.
-use Rattle.std.proofs.Common.{◌≡◌, ℕ, ◌<◌, List, [], ◌∷◌, false, refl, ◌∙◌, ap, arith}
+-- A character of white space begins with one of a few bytes.
+use Rattle.std.proofs.Common.{◌≡◌, ℕ, ◌+◌, ◌<◌, ◌≤◌, ◌/◌, List, [], ◌∷◌, false, refl, sym, ◌∙◌, ap, arith, ◌⊎◌, inl, inr}
 use Rattle.std.specs.List.{list_any}
-use Rattle.std.specs.Str.{IsAscii}
+use Rattle.std.specs.Str.{IsUtf8, chars}
 use Rattle.std.specs.Char.{is_whitespace}
-use Rattle.std.proofs.lemmas.Bool.{or_parts, or_from}
+use Rattle.std.proofs.lemmas.Bool.{or_parts, or_from, cases_lt}
 use Rattle.std.proofs.lemmas.Bool.Decides.{nat_tests}
-use Rattle.std.proofs.lemmas.Str.{chars-IsAscii}
-use Rattle.std.proofs.lemmas.Str.Ascii.{IsAscii-nil, IsAscii-cons}
-use Rattle.tb_conllu.specs.Plain.{is_odd, is_high}
+use Rattle.std.proofs.lemmas.List.Folds.{list_any-append}
+use Rattle.std.proofs.lemmas.Str.{encodes-chars}
+use Rattle.tb_conllu.specs.Plain.{begins_white}
 use Rattle.tb_conllu.specs.Shape.{has_space}
+use Rattle.tb_conllu.proofs.FirstBytes.{one, two, three, four, first_fails}
+use lib.Utf8.{encode, encodes}
 
-between : (b : ℕ) → is_odd b ≡ false → (32 < b) × (b < 128)
-between b h = (grind (arith, nat_tests), grind (arith, nat_tests))
+of_one : (c : ℕ) → c < 128 → begins_white c ≡ false → is_whitespace c ≡ false
+of_one c l h = grind (arith, nat_tests)
 
-no_white : (b : ℕ) → 32 < b → b < 128 → is_whitespace b ≡ false
-no_white b l h = grind (arith, nat_tests)
+not_194 : (q : ℕ) → begins_white (192 + q) ≡ false → (q < 2) ⊎ (3 ≤ q)
+not_194 q h = elim (cases_lt q 2) [
+  | inl low ↦ inl low
+  | inr up ↦ elim (cases_lt q 3) [
+    | inl equal ↦ absurd (grind (arith, nat_tests))
+    | inr high ↦ inr high
+  ]
+]
 
-plain_ascii : (bs : List ℕ) → list_any is_odd bs ≡ false → IsAscii bs
-plain_ascii [] h = IsAscii-nil
-plain_ascii (b ∷ bs) h =
-    let parts = or_parts (is_odd b) (list_any is_odd bs) h in
-    IsAscii-cons b bs (between b parts.0).1 (plain_ascii bs parts.1)
+of_two : (c q : ℕ) → q ≡ c / 64 → 128 ≤ c → c < 2048 → begins_white (192 + q) ≡ false → is_whitespace c ≡ false
+of_two c q e l g h =
+    let above : 192 ≤ c = elim (not_194 q h) [ inl low ↦ absurd (omega (arith, e, low)) | inr high ↦ omega (arith, e, high) ] in
+    grind (arith, nat_tests)
 
-plain_tight : (bs : List ℕ) → list_any is_odd bs ≡ false → list_any is_whitespace bs ≡ false
-plain_tight [] h = refl
-plain_tight (b ∷ bs) h =
-    let parts = or_parts (is_odd b) (list_any is_odd bs) h in
-    let range = between b parts.0 in
-    or_from (is_whitespace b) (list_any is_whitespace bs) (no_white b range.0 range.1) (plain_tight bs parts.1)
+not_225 : (q : ℕ) → begins_white (224 + q) ≡ false → (q < 1) ⊎ (4 ≤ q)
+not_225 q h = elim (cases_lt q 1) [
+  | inl low ↦ inl low
+  | inr up ↦ elim (cases_lt q 4) [
+    | inl mid ↦ absurd (grind (arith, nat_tests))
+    | inr high ↦ inr high
+  ]
+]
 
-pub plain_spaceless : (bs : List ℕ) → list_any is_odd bs ≡ false → has_space bs ≡ false
-plain_spaceless bs h = ap (list_any is_whitespace) (chars-IsAscii bs (plain_ascii bs h)) ∙ plain_tight bs h
+of_three : (c q : ℕ) → q ≡ c / 4096 → 2048 ≤ c → c < 65536 → begins_white (224 + q) ≡ false → is_whitespace c ≡ false
+of_three c q e l g h = elim (not_225 q h) [
+  | inl low ↦ (let under : c < 4096 = omega (arith, e, low) in grind (arith, nat_tests))
+  | inr high ↦ (let above : 16384 ≤ c = omega (arith, e, high) in grind (arith, nat_tests))
+]
 
-low : (b : ℕ) → is_high b ≡ false → b < 128
-low b h = grind (arith, nat_tests)
+of_four : (c : ℕ) → 65536 ≤ c → is_whitespace c ≡ false
+of_four c l = grind (arith, nat_tests)
 
-pub low_ascii : (bs : List ℕ) → list_any is_high bs ≡ false → IsAscii bs
-low_ascii [] h = IsAscii-nil
-low_ascii (b ∷ bs) h =
-    let parts = or_parts (is_high b) (list_any is_high bs) h in
-    IsAscii-cons b bs (low b parts.0) (low_ascii bs parts.1)
+one_char : (c : ℕ) → list_any begins_white (encode c) ≡ false → is_whitespace c ≡ false
+one_char c h = elim (first_fails begins_white c h) [
+  | one small f ↦ of_one c small f
+  | two great short f ↦ of_two c (c / 64) refl great short f
+  | three long mid f ↦ of_three c (c / 4096) refl long mid f
+  | four far f ↦ of_four c far
+]
+
+no_white : (cs : List ℕ) → list_any begins_white (encodes cs) ≡ false → list_any is_whitespace cs ≡ false
+no_white [] h = refl
+no_white (c ∷ cs) h =
+    let parts = or_parts (list_any begins_white (encode c)) (list_any begins_white (encodes cs)) (sym (list_any-append begins_white (encode c) (encodes cs)) ∙ h) in
+    or_from (is_whitespace c) (list_any is_whitespace cs) (one_char c parts.0) (no_white cs parts.1)
+
+pub spaceless : (bs : List ℕ) → IsUtf8 bs → list_any begins_white bs ≡ false → has_space bs ≡ false
+spaceless bs u h = no_white (chars bs) (ap (list_any begins_white) (encodes-chars bs u) ∙ h)

@@ -1,17 +1,18 @@
 -- Bytes that need a second look.
 use Rattle.std.specs.Prelude.{ℕ, Bool, ◌||◌, ◌&&◌, not, nat_le, nat_lt, ◌==◌}
 
--- a byte that is a space, a control character, or a part of a character beyond ASCII
-abbrev pub is_odd : ℕ → Bool
-is_odd b = nat_le b 32 || nat_le 128 b
+-- a byte that white space may begin with: a space or a control character, the first byte of U+0080 to U+00BF, or one
+-- of U+1000 to U+3FFF
+abbrev pub begins_white : ℕ → Bool
+begins_white b = nat_le b 32 || b == 194 || (nat_le 225 b && nat_le b 227)
 
--- a part of a character beyond ASCII
-abbrev pub is_high : ℕ → Bool
-is_high b = nat_le 128 b
+-- the first byte of a character from U+0300 on; those below are starters that NFC leaves as they are
+abbrev pub is_beyond_latin : ℕ → Bool
+is_beyond_latin b = nat_le 204 b
 
--- an odd byte other than tab
+-- the same, tabs aside
 abbrev pub is_loose : ℕ → Bool
-is_loose b = is_odd b && not (b == 9)
+is_loose b = begins_white b && not (b == 9)
 
 -- a control character other than tab and line feed
 abbrev pub is_stray : ℕ → Bool

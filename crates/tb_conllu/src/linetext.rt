@@ -3,7 +3,7 @@
 ghost use Rattle.std.specs.Prelude.{◌≡◌, Bool, IfOk, IfErr, IsTrue, false};
 ghost use Rattle.std.specs.List.{list_any};
 ghost use Rattle.tb_conllu.specs.Lines.{is_nfc_text};
-ghost use Rattle.tb_conllu.specs.Plain.{is_high, is_stray};
+ghost use Rattle.tb_conllu.specs.Plain.{is_beyond_latin, is_stray};
 ghost use Rattle.tb_conllu.specs.Refusal.{IsRefusal};
 ghost use Rattle.tb_conllu.specs.Shape.{is_control, IsLineText};
 
@@ -33,22 +33,23 @@ pub fn any_stray(bytes: &[u8]) -> bool
     seen
 }
 
-/// Whether some byte is a part of a character beyond ASCII.
-fn any_high(bytes: &[u8]) -> bool
-    ensures { result ≡ list_any is_high bytes.now }
+/// Whether some character is U+0300 or above, by the first bytes of characters. Normalization form C leaves those
+/// below as they are.
+fn any_beyond_latin(bytes: &[u8]) -> bool
+    ensures { result ≡ list_any is_beyond_latin bytes.now }
 {
-    let mut high = false;
+    let mut beyond = false;
     for b in bytes {
-        high |= *b >= 128;
+        beyond |= *b >= 204;
     }
-    high
+    beyond
 }
 
 /// Whether the text is in normalization form C.
 fn is_composed(alloc: Global, text: &str) -> Result<bool, AllocError>
     ensures { IfOk result (λ b. b ≡ is_nfc_text text.now) }
 {
-    if !any_high(text.as_bytes()) {
+    if !any_beyond_latin(text.as_bytes()) {
         return Ok(true);
     }
     is_nfc(alloc, text)

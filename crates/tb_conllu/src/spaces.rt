@@ -3,26 +3,26 @@
 ghost use Rattle.std.specs.Prelude.{◌≡◌, take};
 ghost use Rattle.std.specs.List.{list_any};
 ghost use Rattle.tb_conllu.specs.Shape.{has_space};
-ghost use Rattle.tb_conllu.specs.Plain.{is_odd, is_loose};
+ghost use Rattle.tb_conllu.specs.Plain.{begins_white, is_loose};
 
-/// Whether some byte is no printable ASCII character, or a space. Most fields have none, so they need no second look.
-fn any_odd(bytes: &[u8]) -> bool
-    ensures { result ≡ list_any is_odd bytes.now }
+/// Whether some byte may begin white space. In most fields none does, so they need no second look.
+fn any_white_start(bytes: &[u8]) -> bool
+    ensures { result ≡ list_any begins_white bytes.now }
 {
-    let mut odd = false;
+    let mut white = false;
     for b in bytes {
-        odd |= *b <= 32 || *b >= 128;
+        white |= *b <= 32 || *b == 194 || (225 <= *b && *b <= 227);
     }
-    odd
+    white
 }
 
-/// The same, tabs aside: most lines have none, so their fields need no look at all.
+/// The same, tabs aside: in most lines none does, so their fields need no look at all.
 pub fn any_loose(bytes: &[u8]) -> bool
     ensures { result ≡ list_any is_loose bytes.now }
 {
     let mut loose = false;
     for b in bytes {
-        loose |= (*b <= 32 || *b >= 128) && *b != 9;
+        loose |= (*b <= 32 || *b == 194 || (225 <= *b && *b <= 227)) && *b != 9;
     }
     loose
 }
@@ -31,5 +31,5 @@ pub fn any_loose(bytes: &[u8]) -> bool
 pub fn spaced(text: &str) -> bool
     ensures { result ≡ has_space text.now }
 {
-    any_odd(text.as_bytes()) && text.chars().any(|c| c.is_whitespace())
+    any_white_start(text.as_bytes()) && text.chars().any(|c| c.is_whitespace())
 }

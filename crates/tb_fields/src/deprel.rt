@@ -74,6 +74,9 @@ fn is_universal(text: &str) -> bool
 pub fn relation_base(relation: &str) -> &str
     ensures { result.now ≡ universal_part relation.now }
 {
+    if is_universal(relation) {
+        return relation;
+    }
     match relation.split_once(':') {
         None => relation,
         Some((base, _)) => base,
@@ -86,8 +89,11 @@ pub fn relation_base(relation: &str) -> &str
 pub fn is_relation_text(relation: &str) -> bool
     ensures { result ≡ is_relation relation.now }
 {
+    if is_universal(relation) {
+        return true;
+    }
     match relation.split_once(':') {
-        None => is_universal(relation),
+        None => false,
         Some((base, subtype)) => is_universal(base) && is_solid_text(subtype),
     }
 }

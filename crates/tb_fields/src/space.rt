@@ -1,11 +1,26 @@
 ghost use Rattle.std.specs.Prelude.{◌≡◌};
-ghost use Rattle.tb_fields.specs.Spaces.{has_space, is_solid};
+ghost use Rattle.std.specs.List.{list_any};
+ghost use Rattle.tb_fields.specs.Spaces.{has_space, begins_white, is_solid};
+
+/// Whether white space may begin with the byte.
+fn may_begin_white(b: u8) -> bool
+    ensures { result ≡ begins_white b }
+{
+    matches!(b, 0..=32 | 194 | 225..=227)
+}
+
+/// Whether some byte may begin white space. In most texts none does, so they need no second look.
+fn any_white_start(bytes: &[u8]) -> bool
+    ensures { result ≡ list_any begins_white bytes.now }
+{
+    bytes.iter().any(|b| may_begin_white(*b))
+}
 
 /// Whether some character of the text is white space (Unicode's `White_Space`).
 pub fn has_white_space(text: &str) -> bool
     ensures { result ≡ has_space text.now }
 {
-    text.chars().any(|c| c.is_whitespace())
+    any_white_start(text.as_bytes()) && text.chars().any(|c| c.is_whitespace())
 }
 
 /// Whether the text is not empty and holds no white space.

@@ -1,14 +1,18 @@
 -- A sentence that comes after those that were taken: its name is new, or it is told.
-use Rattle.std.proofs.Common.{◌≡◌, ◌⊎◌, inl, inr, ℕ, ◌+◌, List, [], ◌∷◌, ◌++◌, length, map, Bool, true, false, ◌||◌, not, Some, refl, sym, ◌∙◌, ap, subst, arith, append-nil, length-append}
+use Rattle.std.proofs.Common.{◌≡◌, ◌⊎◌, inl, inr, ℕ, ◌+◌, List, [], ◌∷◌, ◌++◌, length, map, Bool, true, false, cond, ◌||◌, not, Some, refl, sym, ◌∙◌, ap, subst, arith, append-nil, length-append}
 use Rattle.std.specs.Prelude.{bytes_eq, string_bytes}
 use Rattle.std.specs.List.{AllByRecursion, list_any}
-use Rattle.std.specs.String.{string_eq}
+use Rattle.std.specs.String.{string_cmp}
+use Rattle.std.specs.BTreeMap.{is_at}
+use Rattle.std.specs.BTreeSet.{BTreeSet, Updates, contains_text}
+use Rattle.std.specs.Ordering.{nat_cmp}
+use Rattle.std.specs.Cmp.Lexicographic.{slice_cmp, nat_list_eq_equiv}
 use Rattle.std.specs.declared.string.String.{String}
-use Rattle.std.proofs.lemmas.List.{length-map, map-append}
+use Rattle.std.proofs.lemmas.List.{length-map}
 use Rattle.std.proofs.lemmas.List.Concat.{flat_map-append}
 use Rattle.std.proofs.lemmas.List.Folds.{list_any-append}
+use Rattle.std.proofs.lemmas.Map.Text.{is_eq-slice_cmp, btree_set_updates_text}
 use Rattle.std.proofs.lemmas.Slice.Eq.{bytes_eq-Decides}
-use Rattle.indexmap.specs.IndexSet.{insert_key}
 use Rattle.tb_conllu.specs.Text.{BlockText}
 use Rattle.tb_rules.specs.Comments.{sent_ids, only}
 use Rattle.tb_rules.specs.File.{IsNamed, IsFree, HasNewName, IsBrokenAfter, broken, name_twice, IsFaultAt, IsFileFault, IsSentenceFault, names_of, HasTaken}
@@ -31,13 +35,6 @@ named b name k e =
 
 only_one : (b : BlockText) (name other : List ℕ) → IsNamed b name → IsNamed b other → name ≡ other
 only_one b name other e d = let same : name ∷ [] ≡ other ∷ [] = sym e ∙ d in cc
-
-names_count : (bs : List BlockText) → AllByRecursion KeepsRules bs → length (names_of bs) ≡ length bs
-names_count [] h = refl
-names_count (b ∷ bs) h =
-    let here = ap length (one_name b h.0).1 in
-    let both = length-append (sent_ids b) (names_of bs) in
-    omega (arith, here, both, names_count bs h.1)
 
 names_next : (bs : List BlockText) (b : BlockText) (name : List ℕ) → IsNamed b name → names_of (bs ++ b ∷ []) ≡ names_of bs ++ name ∷ []
 names_next bs b name e = flat_map-append sent_ids bs (b ∷ []) ∙ ap (λ l. names_of bs ++ l) (append-nil (sent_ids b) ∙ e)
@@ -90,34 +87,50 @@ not_free (b ∷ bs) name h e f =
 -- ---- what was taken
 
 pub taken_none : (names : List (List ℕ)) → names ≡ [] → HasTaken names []
-taken_none names e = record { valid = valid_none; known = e }
+taken_none names e = record { valid = valid_none; counted = ap length e; known = λ q. ap (list_any (bytes_eq q)) e }
 
-taken_count : (names : List (List ℕ)) (before : List BlockText) → HasTaken names before → length names ≡ length before
-taken_count names before h = ap length h.known ∙ names_count before h.valid.rules
+-- one name more, wherever it stands in the order
+abbrev pub Adds : List (List ℕ) → List ℕ → List (List ℕ) → Type 0
+Adds old name new = (length new ≡ length old + 1) × ((q : List ℕ) → list_any (bytes_eq q) new ≡ cond (bytes_eq name q) true (list_any (bytes_eq q) old))
+
+or_last : (here there : Bool) → cond here true there ≡ (there || (here || false))
+or_last true true = refl
+or_last true false = refl
+or_last false true = refl
+or_last false false = refl
+
+known_next : (old new : List (List ℕ)) (before : List BlockText) (b : BlockText) (name q : List ℕ) → HasTaken old before → IsNamed b name → Adds old name new
+    → list_any (bytes_eq q) new ≡ list_any (bytes_eq q) (names_of (before ++ b ∷ []))
+known_next old new before b name q h is more =
+    let all = ap (list_any (bytes_eq q)) (names_next before b name is) ∙ list_any-append (bytes_eq q) (names_of before) (name ∷ []) in
+    let here = ap (λ t. cond t true (list_any (bytes_eq q) old)) (nat_list_eq_equiv.symm name q) ∙ ap (λ t. cond (bytes_eq q name) true t) (h.known q) in
+    more.1 q ∙ here ∙ or_last (bytes_eq q name) (list_any (bytes_eq q) (names_of before)) ∙ sym all
 
 -- a new name
-pub taken_next : (names : List (List ℕ)) (before : List BlockText) (b : BlockText) (name : List ℕ) → HasTaken names before → KeepsRules b → IsNamed b name
-    → list_any (bytes_eq name) names ≡ false → HasTaken (names ++ name ∷ []) (before ++ b ∷ [])
-taken_next names before b name h k is none =
-    let unknown = sym (ap (list_any (bytes_eq name)) h.known) ∙ none in
-    let new : HasNewName before b = λ other own. free before other (subst (λ n. list_any (bytes_eq n) (names_of before) ≡ false) (only_one b name other is own) unknown) in
+pub taken_next : (old new : List (List ℕ)) (before : List BlockText) (b : BlockText) (name : List ℕ) → HasTaken old before → KeepsRules b → IsNamed b name
+    → list_any (bytes_eq name) old ≡ false → Adds old name new → HasTaken new (before ++ b ∷ [])
+taken_next old new before b name h k is none more =
+    let unknown = sym (h.known name) ∙ none in
+    let first : HasNewName before b = λ other own. free before other (subst (λ n. list_any (bytes_eq n) (names_of before) ≡ false) (only_one b name other is own) unknown) in
+    let whole = length-append before (b ∷ []) in
     record {
-      valid = valid_next before b h.valid k new;
-      known = ap (λ l. l ++ name ∷ []) h.known ∙ sym (names_next before b name is);
+      valid = valid_next before b h.valid k first;
+      counted = omega (arith, more.0, h.counted, whole);
+      known = λ q. known_next old new before b name q h is more;
     }
 
 -- the sentence that comes next is at fault
 told_next : (names : List (List ℕ)) (before : List BlockText) (b : BlockText) (n sentence rule row : ℕ) → HasTaken names before → n ≡ length names → sentence ≡ n + 1
     → IsBrokenAfter before b rule row → IsFaultAt (before ++ b ∷ []) sentence rule row
 told_next names before b n sentence rule row h e place f =
-    let count = taken_count names before h in
+    let count = h.counted in
     record { before = before; told = b; after = []; whole = refl; counted = omega (arith, e, count, place); valid = h.valid; fault = f }
 
 -- a name that came before
 pub taken_twice : (names : List (List ℕ)) (before : List BlockText) (b : BlockText) (name : List ℕ) (n : ℕ) → HasTaken names before → n ≡ length names → KeepsRules b
     → IsNamed b name → list_any (bytes_eq name) names ≡ true → IsFaultAt (before ++ b ∷ []) (n + 1) 12 0
 taken_twice names before b name n h e k is some =
-    let known = sym (ap (list_any (bytes_eq name)) h.known) ∙ some in
+    let known = sym (h.known name) ∙ some in
     told_next names before b n (n + 1) 12 0 h e refl (name_twice k (λ new. not_free before name h.valid.rules known (new name is)))
 
 -- a fault of the sentence by itself
@@ -128,28 +141,32 @@ taken_alone names before b n Memory h e f = tt
 
 -- ---- the set of names
 
-key_known : {Y : Type 0} (k : String Y) (keys : List (String Y)) → list_any (string_eq k) keys ≡ list_any (bytes_eq (string_bytes k)) (map string_bytes keys)
-key_known k [] = refl
-key_known k (x ∷ xs) = ap (λ t. string_eq k x || t) (key_known k xs)
+text_known : {Y : Type 0} (q : List ℕ) (keys : List (String Y)) → list_any (is_at (λ k. slice_cmp nat_cmp q (string_bytes k))) keys ≡ list_any (bytes_eq q) (map string_bytes keys)
+text_known q [] = refl
+text_known q (x ∷ xs) = ap (λ t. t || list_any (is_at (λ k. slice_cmp nat_cmp q (string_bytes k))) xs) (is_eq-slice_cmp q (string_bytes x)) ∙ ap (λ t. bytes_eq q (string_bytes x) || t) (text_known q xs)
 
 pub key_count : {Y : Type 0} (keys : List (String Y)) (names : List (List ℕ)) → map string_bytes keys ≡ names → length keys ≡ length names
 key_count keys names e = sym (length-map keys string_bytes) ∙ ap length e
 
 -- whether the name was there
 pub key_is : {Y : Type 0} (k : String Y) (keys : List (String Y)) (names : List (List ℕ)) (name : List ℕ) (t : Bool) → map string_bytes keys ≡ names → string_bytes k ≡ name
-    → list_any (string_eq k) keys ≡ t → list_any (bytes_eq name) names ≡ t
+    → list_any (is_at (string_cmp k)) keys ≡ t → list_any (bytes_eq name) names ≡ t
 key_is k keys names name t e is h =
-    let there = sym (key_known k keys) ∙ h in
+    let there = sym (text_known (string_bytes k) keys) ∙ h in
     subst (λ n. list_any (bytes_eq n) names ≡ t) is (subst (λ l. list_any (bytes_eq (string_bytes k)) l ≡ t) e there)
 
-inserted : {Y : Type 0} (k : String Y) (keys : List (String Y)) (t : Bool) → list_any (string_eq k) keys ≡ t → t ≡ false → insert_key string_eq keys k ≡ keys ++ k ∷ []
-inserted k keys t e f = rw (e ∙ f) refl
-
-pub key_added : {Y : Type 0} (k : String Y) (keys new : List (String Y)) (names : List (List ℕ)) (name : List ℕ) → map string_bytes keys ≡ names → string_bytes k ≡ name
-    → list_any (string_eq k) keys ≡ false → new ≡ insert_key string_eq keys k → names ++ name ∷ [] ≡ map string_bytes new
-key_added k keys new names name e is none new_is =
-    let all = ap (map string_bytes) (new_is ∙ inserted k keys false none refl) ∙ map-append string_bytes keys (k ∷ []) in
-    sym (all ∙ ap (λ l. l ++ string_bytes k ∷ []) e ∙ ap (λ n. names ++ n ∷ []) is)
+pub key_added : {Y : Type 0} (k : String Y) (old new : BTreeSet (String Y)) (names : List (List ℕ)) (name : List ℕ) → map string_bytes old.keys ≡ names → string_bytes k ≡ name
+    → Updates string_cmp old new k true → (added : Bool) → added ≡ true → length new.keys ≡ length old.keys + cond added 1 0 → Adds names name (map string_bytes new.keys)
+key_added k old new names name e is more added new_key grown =
+    let count = grown ∙ ap (λ t. length old.keys + cond t 1 0) new_key in
+    let sizes = key_count old.keys names e in
+    let after = key_count new.keys (map string_bytes new.keys) refl in
+    let found = btree_set_updates_text (string_bytes k) old new true more in (
+      omega (arith, sizes, after, count),
+      λ q. sym (text_known q new.keys) ∙ found q
+          ∙ ap (λ n. cond (bytes_eq n q) true (contains_text old q)) is
+          ∙ ap (λ t. cond (bytes_eq name q) true t) (text_known q old.keys ∙ ap (list_any (bytes_eq q)) e),
+    )
 
 pub not_false : (t : Bool) → false ≡ not t → t ≡ true
 not_false true e = refl

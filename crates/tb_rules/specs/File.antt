@@ -1,8 +1,8 @@
 -- The sentences of one file: each keeps the rules of a sentence by itself, and each has a name of its own.
 -- CoNLL-U format page, "Sentence Boundaries and Comments": the sentence-level comment `sent_id` is the sentence's
 -- identifier, and it is unique. That a file is where it is unique is this project's own reading.
-use Rattle.std.specs.Prelude.{◌≡◌, ℕ, ◌+◌, List, [], ◌∷◌, ◌++◌, length}
-use Rattle.std.specs.List.{AllByRecursion, flat_map}
+use Rattle.std.specs.Prelude.{◌≡◌, ℕ, ◌+◌, List, [], ◌∷◌, ◌++◌, length, bytes_eq}
+use Rattle.std.specs.List.{AllByRecursion, flat_map, list_any}
 use Rattle.tb_conllu.specs.Text.{BlockText}
 use Rattle.tb_rules.specs.declared.filefault.FileFault.{FileFault}
 use Rattle.tb_rules.specs.declared.filefault.FileFault.TheVariants.{At, Memory}
@@ -57,7 +57,8 @@ IsSentenceFault n b Memory = Unit {0}
 abbrev pub names_of : List BlockText → List (List ℕ)
 names_of bs = flat_map sent_ids bs
 
--- These sentences have been taken: they are valid, and these are their names.
+-- These sentences have been taken: they are valid, and these are their names, in whatever order.
 pub record HasTaken (names : List (List ℕ)) (bs : List BlockText) : Type 0 where
   pub valid : IsValid bs
-  pub known : names ≡ names_of bs
+  pub counted : length names ≡ length bs
+  pub known : (name : List ℕ) → list_any (bytes_eq name) names ≡ list_any (bytes_eq name) (names_of bs)

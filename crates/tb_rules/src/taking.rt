@@ -10,8 +10,8 @@ use crate::checking::check;
 use crate::comments::sent_id;
 use crate::fault::RuleFault;
 use crate::filefault::FileFault;
-use indexmap::IndexSet;
 use std::alloc::Global;
+use std::collections::BTreeSet;
 use std::marker::Model;
 use tb_conllu::{BlockOf, Text};
 
@@ -32,11 +32,12 @@ fn check_alone<T: Text>(alloc: Global, block: &BlockOf<T>, sentence: usize) -> R
 }
 
 /// Takes the sentences of a file one after another, of which it keeps the names. A contract sees it as these names, in
-/// order.
+/// the order of their bytes.
 #[derive(Drop)]
 pub struct Checker {
     alloc: Global,
-    names: IndexSet<String>,
+    // In order, not hashed: no file can make its names collide.
+    names: BTreeSet<String>,
 }
 
 impl Model for Checker {
@@ -52,7 +53,7 @@ impl Checker {
     {
         Checker {
             alloc,
-            names: IndexSet::new(alloc),
+            names: BTreeSet::new(alloc),
         }
     }
 

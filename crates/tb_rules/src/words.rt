@@ -1,4 +1,5 @@
-ghost use Rattle.std.specs.Prelude.{◌≡◌, MatchOption};
+ghost use Rattle.std.specs.Prelude.{◌≡◌, MatchOption, bytes_eq, codes};
+ghost use Rattle.tb_fields.specs.Relations.{universal_part};
 ghost use Rattle.tb_rules.specs.Rows.{EachRowPasses, IsFirstFault};
 ghost use Rattle.tb_rules.specs.Words.{is_head_of, is_root_head, fits_root, is_word_row_fine, is_fine_as_word, word_test};
 
@@ -23,10 +24,21 @@ fn head_is_fine(head: Option<u32>, word: u32, words: usize) -> bool
     }
 }
 
+/// Whether the relation is `root`, alone or with a subtype; most relations differ in their first byte.
+fn is_root_relation(relation: &str) -> bool
+    ensures { result ≡ bytes_eq (universal_part relation.now) (codes "root") }
+{
+    let bytes = relation.as_bytes();
+    if bytes.is_empty() || bytes[0] != b'r' {
+        return false;
+    }
+    relation_base(relation) == "root"
+}
+
 fn root_fits(head: Option<u32>, relation: &str) -> bool
     ensures { result ≡ fits_root head relation.now }
 {
-    let is_root = relation_base(relation) == "root";
+    let is_root = is_root_relation(relation);
     if is_root_number(head) {
         is_root
     } else {

@@ -1,7 +1,8 @@
-use Rattle.std.proofs.Common.{◌∷◌, [], ◌++◌, rules, sym, ◌∙◌, subst, true, false}
+use Rattle.std.proofs.Common.{◌∷◌, [], ◌++◌, rules, sym, ◌∙◌, map, true, false}
 use Rattle.std.specs.List.{list_any}
-use Rattle.std.specs.String.{string_eq}
-use Rattle.tb_rules.specs.File.{HasTaken}
+use Rattle.std.specs.BTreeMap.{is_at}
+use Rattle.std.specs.String.{string_cmp}
+use Rattle.std.specs.Prelude.{string_bytes}
 use Rattle.tb_rules.proofs.Taken.{taken_alone, taken_twice, taken_next, named, key_count, key_is, key_added, not_false, not_true}
 use Rattle.tb_rules.proofs.Valid.{only_memory}
 use Rattle.tb_rules.proofs.taking.Checker.take.Goals as goal
@@ -21,12 +22,11 @@ pub returns-clause-valid : goal.returns-clause-valid
 returns-clause-valid g c = λ before h. elim c.match-insert.branch [
   | in-Ok-true w ↦
       let keys = c.self.inside.names.keys in
-      let none = not_true (list_any (string_eq c.in-Ok.owned) keys) (sym w.in-Ok-true.field-0-test ∙ w.in-Ok-true.ensures.added) in
+      let none = not_true (list_any (is_at (string_cmp c.in-Ok.owned)) keys) (sym w.in-Ok-true.field-0-test ∙ w.in-Ok-true.ensures.added) in
       let is = named c.args.block.now c.in-Some.name.now c.in_ok-check_alone.ensures.valid c.in-Some.ensures in
       let unknown = key_is c.in-Ok.owned keys c.args.self.now c.in-Some.name.now false c.self.view_is c.in-Ok.ensures.ok none in
-      let next = taken_next c.args.self.now before c.args.block.now c.in-Some.name.now h c.in_ok-check_alone.ensures.valid is unknown in
-      let added = key_added c.in-Ok.owned keys c.insert.new.self.keys c.args.self.now c.in-Some.name.now c.self.view_is c.in-Ok.ensures.ok none w.in-Ok-true.ensures.keys in
-      rw w.result-is (subst (λ l. HasTaken l (before ++ c.args.block.now ∷ [])) added next)
+      let added = key_added c.in-Ok.owned c.self.inside.names c.insert.new.self c.args.self.now c.in-Some.name.now c.self.view_is c.in-Ok.ensures.ok w.in-Ok-true.ensures.updates w.in-Ok-true.field-0 w.in-Ok-true.field-0-test w.in-Ok-true.ensures.len in
+      rw w.result-is (taken_next c.args.self.now (map string_bytes c.insert.new.self.keys) before c.args.block.now c.in-Some.name.now h c.in_ok-check_alone.ensures.valid is unknown added)
   | in-Ok-false w ↦ rw w.result-is tt
   | in-Err w ↦ rw w.result-is tt
 ]
@@ -36,7 +36,7 @@ returns-clause-fault g c = λ before h. elim c.match-insert.branch [
   | in-Ok-true w ↦ rw w.result-is tt
   | in-Ok-false w ↦
       let keys = c.self.inside.names.keys in
-      let some = not_false (list_any (string_eq c.in-Ok.owned) keys) (sym w.in-Ok-false.field-0-test ∙ w.in-Ok-false.ensures.added) in
+      let some = not_false (list_any (is_at (string_cmp c.in-Ok.owned)) keys) (sym w.in-Ok-false.field-0-test ∙ w.in-Ok-false.ensures.added) in
       let is = named c.args.block.now c.in-Some.name.now c.in_ok-check_alone.ensures.valid c.in-Some.ensures in
       let known = key_is c.in-Ok.owned keys c.args.self.now c.in-Some.name.now true c.self.view_is c.in-Ok.ensures.ok some in
       let count = c.len-sentence.ensures.len ∙ key_count keys c.args.self.now c.self.view_is in
