@@ -38,13 +38,13 @@ fn reads_features(rt: HostRuntime) -> Result<(), Fail> {
 #[test]
 fn tells_values_repeated_far_apart(rt: HostRuntime) -> Result<(), Fail> {
     let fine =
-        "A=A1,A2,A3,A4,A5,A6,A7,A8,A9,B1,B2,B3,B4,B5,B6,B7,B8,B9,C1,C2,C3,C4,C5,C6,C7,C8,C9,D1,D2,D3,D4,D5,D6,D7,D8,D9,E1,E2,E3,E4";
+        "A=A1,A2,A3,A4,A5,A6,A7,A8,A9,B1,B2,B3,B4,B5,B6,B7,B8,B9,C1,C2,C3,C4,C5,C6,C7,C8,C9,F1,F2,F3,F4,F5,F6,F7,F8,F9,E1,E2,E3,E4";
     assert!(rt; is_feature_list(rt.alloc(), fine)?);
     let again =
-        "A=A1,A2,A3,A4,A5,A6,A7,A8,A9,B1,B2,B3,B4,B5,B6,B7,B8,B9,C1,C2,C3,C4,C5,C6,C7,C8,C9,D1,D2,D3,D4,D5,D6,D7,D8,D9,E1,E2,E3,A1";
+        "A=A1,A2,A3,A4,A5,A6,A7,A8,A9,B1,B2,B3,B4,B5,B6,B7,B8,B9,C1,C2,C3,C4,C5,C6,C7,C8,C9,F1,F2,F3,F4,F5,F6,F7,F8,F9,E1,E2,E3,A1";
     assert!(rt; !is_feature_list(rt.alloc(), again)?);
     let small =
-        "A=A1,A2,A3,A4,A5,A6,A7,A8,A9,B1,B2,B3,B4,B5,B6,B7,B8,B9,C1,C2,C3,C4,C5,C6,C7,C8,C9,D1,D2,D3,D4,D5,D6,D7,D8,D9,E1,E2,E3,e4";
+        "A=A1,A2,A3,A4,A5,A6,A7,A8,A9,B1,B2,B3,B4,B5,B6,B7,B8,B9,C1,C2,C3,C4,C5,C6,C7,C8,C9,F1,F2,F3,F4,F5,F6,F7,F8,F9,E1,E2,E3,e4";
     assert!(rt; !is_feature_list(rt.alloc(), small)?);
     Ok(())
 }
