@@ -19,4 +19,5 @@ pub mod TextCodes
 pub mod Latin
 pub mod Steps
 pub mod Reading
+pub mod Held
 pub mod Files

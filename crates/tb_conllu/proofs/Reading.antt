@@ -219,7 +219,3 @@ pub sentence_some : (block : BlockText) → 0 < length (text_of (block ∷ []))
 sentence_some block =
     let e : text_of (block ∷ []) ++ [] ≡ ended (lines_begun block) ++ 10 ∷ [] = ap (λ ls. ended ls ++ []) (no_more block ∙ lines_done block) ∙ more_lines (lines_begun block) [] [] in
     omega (arith, ap length e, length-append (text_of (block ∷ [])) [], length-append (ended (lines_begun block)) (10 ∷ []))
-
--- what follows in quiet bytes is quiet
-pub quiet_rest : (bytes text rest : List ℕ) → list_any is_stray bytes ≡ false → bytes ≡ text ++ rest → list_any is_stray rest ≡ false
-quiet_rest bytes text rest h e = (or_parts (list_any is_stray text) (list_any is_stray rest) (sym (list_any-append is_stray text rest) ∙ ap (list_any is_stray) (sym e) ∙ h)).1

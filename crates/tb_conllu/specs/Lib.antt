@@ -7,5 +7,6 @@ pub mod Words
 pub mod Fault
 pub mod TenFields
 pub mod Plain
+pub mod Tested
 pub mod Refusal
 pub mod Left

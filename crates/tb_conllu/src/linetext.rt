@@ -1,15 +1,29 @@
 //! The text of one line.
 
-ghost use Rattle.std.specs.Prelude.{◌≡◌, Bool, IfOk, IfErr, IsTrue, false};
+ghost use Rattle.std.specs.Prelude.{◌≡◌, Bool, IfOk, IfErr, IsTrue, MatchOption, not, false};
 ghost use Rattle.std.specs.List.{list_any};
+ghost use Rattle.std.specs.Str.{IsUtf8};
 ghost use Rattle.tb_conllu.specs.Lines.{is_nfc_text};
 ghost use Rattle.tb_conllu.specs.Plain.{is_beyond_latin, is_stray};
 ghost use Rattle.tb_conllu.specs.Refusal.{IsRefusal};
 ghost use Rattle.tb_conllu.specs.Shape.{is_control, IsLineText};
+ghost use Rattle.tb_conllu.specs.Tested.{HoldsOf, HoldsOfLine};
 
 use crate::fault::ReadFault;
+use simdutf8::is_utf8;
 use std::alloc::{AllocError, Global};
 use unicode_normalization::is_nfc;
+
+/// What one look at all bytes told, which then holds of each of their lines.
+#[derive(Clone, Copy)]
+pub struct Tested {
+    /// No byte is a control character other than tab and line feed.
+    pub quiet: bool,
+    /// The bytes are UTF-8.
+    pub utf8: bool,
+    /// No character is U+0300 or above.
+    pub latin: bool,
+}
 
 /// Whether some byte is a control character other than tab.
 fn any_control(bytes: &[u8]) -> bool
@@ -23,7 +37,7 @@ fn any_control(bytes: &[u8]) -> bool
 }
 
 /// Whether some byte is a control character other than tab and line feed.
-pub fn any_stray(bytes: &[u8]) -> bool
+fn any_stray(bytes: &[u8]) -> bool
     ensures { result ≡ list_any is_stray bytes.now }
 {
     let mut seen = false;
@@ -45,35 +59,67 @@ fn any_beyond_latin(bytes: &[u8]) -> bool
     beyond
 }
 
-/// Whether the text is in normalization form C.
-fn is_composed(alloc: Global, text: &str) -> Result<bool, AllocError>
+/// What there is to tell of all bytes.
+pub fn test_all(bytes: &[u8]) -> Tested
+    ensures { HoldsOf result bytes.now }
+{
+    Tested {
+        quiet: !any_stray(bytes),
+        utf8: is_utf8(bytes),
+        latin: !any_beyond_latin(bytes),
+    }
+}
+
+/// The text of bytes that are UTF-8, `None` of others. `known` says that they are.
+fn as_text(raw: &[u8], known: bool) -> Option<&str>
+    requires { IsTrue known → IsUtf8 raw.now }
+    ensures { MatchOption result (¬ (IsUtf8 raw.now)) (λ text. (text.now ≡ raw.now) × IsUtf8 raw.now) }
+{
+    if known {
+        // No line is tested again.
+        return Some(unsafe { std::str::from_utf8_unchecked(raw) });
+    }
+    std::str::from_utf8(raw).ok()
+}
+
+/// Whether no character is U+0300 or above. `known` says that none is.
+fn is_latin(bytes: &[u8], known: bool) -> bool
+    requires { IsTrue known → list_any is_beyond_latin bytes.now ≡ false }
+    ensures { result ≡ not (list_any is_beyond_latin bytes.now) }
+{
+    known || !any_beyond_latin(bytes)
+}
+
+/// Whether the text is in normalization form C. `latin` says that no character is U+0300 or above.
+fn is_composed(alloc: Global, text: &str, latin: bool) -> Result<bool, AllocError>
+    requires { IsTrue latin → list_any is_beyond_latin text.now ≡ false }
     ensures { IfOk result (λ b. b ≡ is_nfc_text text.now) }
 {
-    if !any_beyond_latin(text.as_bytes()) {
+    if is_latin(text.as_bytes(), latin) {
         return Ok(true);
     }
     is_nfc(alloc, text)
 }
 
 /// The text of the line of this number, where it is UTF-8 (else code 1), NFC (else 2) and without control
-/// characters other than tab (else 3). `quiet` says that the line is known to have none.
+/// characters other than tab (else 3).
 pub fn line_text<'a>(
     alloc: Global,
     raw: &'a [u8],
-    quiet: bool,
+    tested: Tested,
     line: usize,
 ) -> Result<&'a str, ReadFault>
-    requires { IsTrue quiet → list_any is_control raw.now ≡ false }
+    requires { HoldsOfLine tested raw.now }
     ensures ok { IfOk result (λ text. (text.now ≡ raw.now) × IsLineText raw.now) }
     ensures err { IfErr result (λ e. (came : Bool) → IsRefusal line came raw.now e) }
 {
-    let Ok(text) = std::str::from_utf8(raw) else {
+    let Some(text) = as_text(raw, tested.utf8) else {
         return Err(ReadFault::At { line, code: 1 });
     };
-    if !is_composed(alloc, text)? {
+    if !is_composed(alloc, text, tested.latin)? {
         return Err(ReadFault::At { line, code: 2 });
     }
-    if !quiet && any_control(raw) {
+    if !tested.quiet && any_control(raw) {
         return Err(ReadFault::At { line, code: 3 });
     }
     Ok(text)

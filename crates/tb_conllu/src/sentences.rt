@@ -1,17 +1,16 @@
 //! Sentences read one after another.
 
-ghost use Rattle.std.specs.Prelude.{◌≡◌, ◌+◌, ◌<◌, ◌≤◌, ◌^◌, [], ◌∷◌, ◌++◌, IfOk, IfErr, IsTrue, MatchOption, false, length};
-ghost use Rattle.std.specs.List.{list_any};
+ghost use Rattle.std.specs.Prelude.{◌≡◌, ◌+◌, ◌<◌, ◌≤◌, ◌^◌, [], ◌∷◌, ◌++◌, IfOk, IfErr, MatchOption, length};
 ghost use Rattle.tb_conllu.specs.Fault.{IsFaultAfter};
 ghost use Rattle.tb_conllu.specs.Left.{Left, IsNext};
-ghost use Rattle.tb_conllu.specs.Plain.{is_stray};
 ghost use Rattle.tb_conllu.specs.Shape.{IsShaped};
+ghost use Rattle.tb_conllu.specs.Tested.{HoldsOf};
 ghost use Rattle.tb_conllu.specs.Text.{block_lines, text_of};
 
 use crate::fault::ReadFault;
 use crate::fields::is_empty_text;
 use crate::growing::{any_row, no_block, take_line};
-use crate::linetext::{any_stray, line_text};
+use crate::linetext::{Tested, line_text, test_all};
 use crate::pieces::cut_once;
 use crate::rows::BlockRef;
 use std::alloc::Global;
@@ -27,21 +26,21 @@ struct Found<'a> {
     line: usize,
 }
 
-/// The first sentence of bytes that come after so many lines. `quiet` says that no byte is a control character other
-/// than tab and line feed.
+/// The first sentence of bytes that come after so many lines.
 fn read_block<'a>(
     alloc: Global,
     bytes: &'a [u8],
     line: usize,
-    quiet: bool,
+    tested: Tested,
 ) -> Result<Found<'a>, ReadFault>
     requires room { line + length bytes.now < 2 ^ 63 }
-    requires quiet { IsTrue quiet → list_any is_stray bytes.now ≡ false }
+    requires tested { HoldsOf tested bytes.now }
     requires filled { 0 < length bytes.now }
     ensures shaped { IfOk result (λ found. IsShaped found.block) }
     ensures text { IfOk result (λ found. bytes.now ≡ text_of (found.block ∷ []) ++ found.rest.now) }
     ensures place { IfOk result (λ found. found.line ≡ line + length (block_lines found.block)) }
     ensures room { IfOk result (λ found. found.line + length found.rest.now ≤ line + length bytes.now) }
+    ensures tested { IfOk result (λ found. HoldsOf tested found.rest.now) }
     ensures fault { IfErr result (IsFaultAfter line bytes.now) }
 {
     let mut block = no_block(alloc);
@@ -50,7 +49,7 @@ fn read_block<'a>(
     while let Some((raw, after)) = cut_once(b'\n', rest) {
         rest = after;
         at += 1;
-        let text = line_text(alloc, raw, quiet, at)?;
+        let text = line_text(alloc, raw, tested, at)?;
         if is_empty_text(text) {
             if any_row(&block) {
                 return Ok(Found {
@@ -74,7 +73,7 @@ fn read_block<'a>(
 pub struct Sentences<'a> {
     rest: &'a [u8],
     line: usize,
-    quiet: bool,
+    tested: Tested,
 }
 
 impl<'a> Model for Sentences<'a> {
@@ -82,7 +81,7 @@ impl<'a> Model for Sentences<'a> {
 
     ghost view = { λ s. record { rest = s.rest.now; line = s.line } };
 
-    ghost invariant = { λ s. (s.line + length s.rest.now < 2 ^ 63) × (IsTrue s.quiet → list_any is_stray s.rest.now ≡ false) };
+    ghost invariant = { λ s. (s.line + length s.rest.now < 2 ^ 63) × HoldsOf s.tested s.rest.now };
 }
 
 impl<'a> Sentences<'a> {
@@ -93,7 +92,7 @@ impl<'a> Sentences<'a> {
         Sentences {
             rest: bytes,
             line: 0,
-            quiet: !any_stray(bytes),
+            tested: test_all(bytes),
         }
     }
 
@@ -105,7 +104,7 @@ impl<'a> Sentences<'a> {
         if self.rest.is_empty() {
             return Ok(None);
         }
-        let found = read_block(alloc, self.rest, self.line, self.quiet)?;
+        let found = read_block(alloc, self.rest, self.line, self.tested)?;
         self.rest = found.rest;
         self.line = found.line;
         Ok(Some(found.block))

@@ -21,10 +21,14 @@ fn is_first_byte(b: u8) -> bool
     matches!(b, b'A'..=b'Z' | b'0'..=b'9')
 }
 
+/// Most bytes are small letters, so these are asked for first.
 fn is_later_byte(b: u8) -> bool
     ensures { result ≡ is_letter_or_digit b }
 {
-    matches!(b, b'A'..=b'Z' | b'a'..=b'z' | b'0'..=b'9')
+    if b >= b'a' {
+        return b <= b'z';
+    }
+    is_first_byte(b)
 }
 
 fn is_layer_byte(b: u8) -> bool

@@ -6,6 +6,7 @@ pub mod Parts
 pub mod Relations
 pub mod Repeats
 pub mod Rows
+pub mod Runs
 pub mod Steps
 pub mod Sweeps
 pub mod Unique

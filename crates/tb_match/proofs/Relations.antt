@@ -1,7 +1,7 @@
 -- What a pattern matches, by its parts.
 use Rattle.std.proofs.Common.{IsTrue, false, true≢false, ◌≡◌, ◌+◌, ◌*◌, ◌<◌, ◌≤◌, ◌↔◌, ◌⊎◌, ℕ, zero, suc, List, ◌∷◌, Option, arith, sym, subst, inl, inr, ⊎_elim}
 use Rattle.tb_match.specs.declared.pattern.Pat.{Pat, Tok, Cat', Alt', Rep', Row_of-Pat, end_of-Pat, more_of-Pat}
-use Rattle.tb_match.specs.Bits.{InTable, Link, Through}
+use Rattle.tb_match.specs.Bits.{InTable, Link}
 use Rattle.tb_match.specs.Facts.{Facts, Holds}
 use Rattle.tb_match.specs.Match.{Chain, Match, MatchInTurn, MatchOne, IsAtMost}
 use Rattle.tb_match.specs.Parts.{EachInTurn, AnyOf}
@@ -64,30 +64,26 @@ pub bound_after_first : (start after w rest T all : ℕ) → all ≡ w + 1 + res
 bound_after_first start after w rest T all e step = rw e (omega arith)
 
 -- one more part of a sequence
-module _ (n w : ℕ) (T N T' : List ℕ) (H : ℕ → ℕ → Type 0) (inside : (e w : ℕ) → H e w → w ≤ n) (p : Pat) (rest all : List Pat)
-    (rows : (i j : ℕ) → i ≤ n → j ≤ n → InTable N w i j ↔ Match H p i j)
+module _ (n w : ℕ) (T T' : List ℕ) (H : ℕ → ℕ → Type 0) (inside : (e w : ℕ) → H e w → w ≤ n) (p : Pat) (rest all : List Pat)
     (forward : (i j : ℕ) → i ≤ n → j ≤ n → InTable T w i j → i ≤ j)
-    (made : (i j : ℕ) → i ≤ n → j ≤ n → InTable T' w i j ↔ Through T N w i (n + 1) j)
+    (made : (i j : ℕ) → i ≤ n → j ≤ n → InTable T' w i j ↔ ((k : ℕ) × (k ≤ n) × InTable T w i k × Match H p k j))
     (so_far : (i j : ℕ) → i ≤ n → j ≤ n → ((m : ℕ) × (m ≤ n) × InTable T w i m × EachInTurn H (p ∷ rest) m j) ↔ EachInTurn H all i j) where
   pub sequence_forward : (i j : ℕ) → i ≤ n → j ≤ n → InTable T' w i j → i ≤ j
-  sequence_forward i j a b t =
-      of_through ((made i j a b).0 t)
+  sequence_forward i j a b t = of_part ((made i j a b).0 t)
     where
-      of_through : Through T N w i (n + 1) j → i ≤ j
-      of_through (k, from, below, link, row) =
-          let le : k ≤ n = omega arith in
-          let f : k ≤ j = (within n H inside p k j le ((rows k j le b).0 row)).0 in omega arith
+      of_part : ((k : ℕ) × (k ≤ n) × InTable T w i k × Match H p k j) → i ≤ j
+      of_part (k, le, link, m) =
+          let f : i ≤ k = forward i k a le link in
+          let g : k ≤ j = (within n H inside p k j le m).0 in omega arith
 
   pub sequence_more : (i j : ℕ) → i ≤ n → j ≤ n → ((m : ℕ) × (m ≤ n) × InTable T' w i m × EachInTurn H rest m j) ↔ EachInTurn H all i j
   sequence_more i j a b = (there, back)
     where
       there : ((m : ℕ) × (m ≤ n) × InTable T' w i m × EachInTurn H rest m j) → EachInTurn H all i j
-      there (m, le, t, r) = middle m le r ((made i m a le).0 t)
+      there (m, le, t, r) = middle m r ((made i m a le).0 t)
         where
-          middle : (m : ℕ) → m ≤ n → EachInTurn H rest m j → Through T N w i (n + 1) m → EachInTurn H all i j
-          middle m le r (k, from, below, link, row) =
-              let in_k : k ≤ n = omega arith in
-              (so_far i j a b).0 (k, in_k, link, (m, (rows k m in_k le).0 row, r))
+          middle : (m : ℕ) → EachInTurn H rest m j → ((k : ℕ) × (k ≤ n) × InTable T w i k × Match H p k m) → EachInTurn H all i j
+          middle m r (k, in_k, link, x) = (so_far i j a b).0 (k, in_k, link, (m, x, r))
 
       back : EachInTurn H all i j → (m : ℕ) × (m ≤ n) × InTable T' w i m × EachInTurn H rest m j
       back h = from_parts ((so_far i j a b).1 h)
@@ -95,7 +91,7 @@ module _ (n w : ℕ) (T N T' : List ℕ) (H : ℕ → ℕ → Type 0) (inside : 
           from_parts : ((m : ℕ) × (m ≤ n) × InTable T w i m × EachInTurn H (p ∷ rest) m j) → (m : ℕ) × (m ≤ n) × InTable T' w i m × EachInTurn H rest m j
           from_parts (k, le, link, (m, x, r)) =
               let s = within n H inside p k m le x in
-              (m, s.1, (made i m a s.1).1 (k, forward i k a le link, omega arith, link, (rows k m le s.1).1 x), r)
+              (m, s.1, (made i m a s.1).1 (k, le, link, x), r)
 
 -- the rows of a repetition, from those of what it repeats
 module _ (t : Facts) (n w : ℕ) (same : n ≡ t.words) (L V : List ℕ) (p : Pat) (a : ℕ) (b : Option ℕ)

@@ -72,8 +72,40 @@ fn patterns(alloc: Global) -> Result<Vec<Pat>, AllocError> {
     Ok(all)
 }
 
+/// Words, optional words and runs of words first, in the middle and last.
+fn short_ways(alloc: Global) -> Result<Vec<Pat>, AllocError> {
+    let phrase = vec![in alloc;
+        optional(alloc, Pat::Tok(0))?,
+        star(alloc, Pat::Tok(1))?,
+        Pat::Tok(0),
+    ]?;
+    let either = Pat::Alt(vec![in alloc; Pat::Tok(0), Pat::Tok(1)]?);
+    let all = vec![in alloc;
+        optional(alloc, Pat::Tok(0))?,
+        star(alloc, Pat::Tok(1))?,
+        Pat::Cat(vec![in alloc; Pat::Tok(0), Pat::Tok(1), Pat::Tok(1)]?),
+        Pat::Cat(vec![in alloc;
+            star(alloc, Pat::Tok(1))?,
+            Pat::Tok(0),
+            optional(alloc, Pat::Tok(1))?
+        ]?),
+        Pat::Cat(vec![in alloc; optional(alloc, Pat::Tok(1))?, star(alloc, Pat::Tok(0))?]?),
+        Pat::Cat(vec![in alloc;
+            optional(alloc, Pat::Tok(0))?,
+            optional(alloc, Pat::Tok(0))?
+        ]?),
+        Pat::Cat(vec![in alloc; star(alloc, Pat::Tok(0))?, star(alloc, Pat::Tok(1))?]?),
+        Pat::Cat(vec![in alloc; either, star(alloc, Pat::Tok(1))?, Pat::Tok(0)]?),
+        times(alloc, Pat::Cat(phrase), 1, None)?,
+    ]?;
+    Ok(all)
+}
+
 fn compare_each(rt: &impl Abort, alloc: Global, truth: &Truth) -> Result<(), AllocError> {
     for pat in &patterns(alloc)? {
+        compare(rt, alloc, pat, truth)?;
+    }
+    for pat in &short_ways(alloc)? {
         compare(rt, alloc, pat, truth)?;
     }
     Ok(())
@@ -177,6 +209,38 @@ fn a_part_that_holds_nowhere(rt: HostRuntime) -> Result<(), Fail> {
             let found = search(&rt, alloc, &pat, &truth, strategy)?;
             assert!(rt; found.hits.is_empty() && found.steps == 0);
         }
+    }
+    Ok(())
+}
+
+/// `[0] [1]* [0]?` where 0 holds of the first and the last word, and 1 of each.
+#[test]
+fn a_run_to_the_last_word(rt: HostRuntime) -> Result<(), Fail> {
+    let alloc = rt.alloc();
+    let parts = vec![in alloc;
+        Pat::Tok(0),
+        star(alloc, Pat::Tok(1))?,
+        optional(alloc, Pat::Tok(0))?,
+    ]?;
+    let pat = Pat::Cat(parts);
+    for words in [2, 62, 63, 64, 65, 127, 128, 1000] {
+        assert!(rt; words <= 1000);
+        let mut truth = Truth::new(alloc, words, 2)?;
+        mark(&mut truth, 0, 1);
+        mark(&mut truth, 0, words);
+        for word in 1..words + 1 {
+            mark(&mut truth, 1, word);
+        }
+        let last = words as u32;
+        let longest = search(&rt, alloc, &pat, &truth, Strategy::Longest)?;
+        assert_eq!(rt; longest.hits.as_slice(), [(0, last)].as_slice());
+        let shortest = search(&rt, alloc, &pat, &truth, Strategy::Shortest)?;
+        assert_eq!(rt;
+            shortest.hits.as_slice(),
+            [(0, 1), (last - 1, last)].as_slice()
+        );
+        let every = search(&rt, alloc, &pat, &truth, Strategy::Every)?;
+        assert_eq!(rt; every.hits.len(), words + 1);
     }
     Ok(())
 }

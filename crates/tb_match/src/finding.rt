@@ -29,8 +29,8 @@ pub struct Found {
 /// choice or repetition that is open on the way down to a part; a table has a row for each place,
 /// of one bit for each place: 21 machine words on 20 words, 128,128 bytes on 1,000.
 ///
-/// It takes stack for each level of the pattern: some 420 bytes a level as LLVM compiles it for
-/// x86-64, so that a stack of 8 MiB holds some 20,000 levels. Which levels a pattern has is the
+/// It takes stack for each level of the pattern: some 470 bytes a level as LLVM compiles it for
+/// x86-64, so that a stack of 8 MiB holds some 18,000 levels. Which levels a pattern has is the
 /// caller's care: the query language allows 16 parentheses open at one place, which makes at most
 /// some fifty levels.
 pub fn find(

@@ -14,6 +14,7 @@ mod strategy;
 mod table;
 #[cfg(test)]
 mod tests;
+mod token;
 mod truth;
 mod uniting;
 mod walk;

@@ -9,6 +9,9 @@ ghost use Rattle.tb_match.specs.Facts.{Facts, Holds};
 
 use crate::pattern::Pat;
 use crate::table::{close, compose, diagonal, empty, mark, merge, repeat};
+use crate::token::{
+    optional_token_of, optional_token_rows, run_on, short_run_of, step_over, token_of,
+};
 use crate::truth::Truth;
 use std::alloc::{AllocError, Global};
 
@@ -136,11 +139,52 @@ fn sequence(
     };
     let mut table = rows(alloc, first, truth, spare, width, steps)?;
     for part in rest {
-        let mut next = rows(alloc, part, truth, spare, width, steps)?;
-        compose(&table, &mut next, spare, width, last, false, steps);
-        table = next;
+        table = followed(alloc, table, part, truth, spare, width, steps)?;
     }
     Ok(table)
+}
+
+/// The rows of the table followed by the part. A word, an optional word or a run of words needs no
+/// rows of its own.
+#[cycle(rows)]
+fn followed(
+    alloc: Global,
+    mut table: Vec<u64>,
+    part: &Pat,
+    truth: &Truth,
+    spare: &mut [u64],
+    width: usize,
+    steps: &mut u64,
+) -> Result<Vec<u64>, AllocError>
+    requires proper { IsProper truth.now.exprs part.now }
+    requires wide { truth.now.words / 64 < width }
+    requires narrow { width ≤ 16 }
+    requires spare { length spare.old ≡ width }
+    requires small { truth.now.words ≤ 1000 }
+    requires table { length table.items ≡ (truth.now.words + 1) * width }
+    requires forward { (i j : ℕ) → i ≤ truth.now.words → j ≤ truth.now.words → InTable table.items width i j → i ≤ j }
+    requires countable { steps.old + (weight_of part.now + 1) * triangle (truth.now.words + 1) < 2 ^ 64 }
+    ensures whole { IfOk result (λ v. length v.items ≡ (truth.now.words + 1) * width) }
+    ensures rows { IfOk result (λ v. (i j : ℕ) → i ≤ truth.now.words → j ≤ truth.now.words →
+        (InTable v.items width i j ↔
+        ((k : ℕ) × (k ≤ truth.now.words) × InTable table.items width i k × Match (Holds truth.now) part.now k j))) }
+    ensures more { steps.old ≤ steps.new }
+    ensures bound { steps.new ≤ steps.old + (weight_of part.now + 1) * triangle (truth.now.words + 1) }
+{
+    if let Some(expr) = token_of(part) {
+        return step_over(alloc, &table, expr, truth, width, false);
+    }
+    if let Some(expr) = optional_token_of(part) {
+        return step_over(alloc, &table, expr, truth, width, true);
+    }
+    if let Some(expr) = short_run_of(part, truth) {
+        run_on(&mut table, expr, truth, width);
+        return Ok(table);
+    }
+    let mut next = rows(alloc, part, truth, spare, width, steps)?;
+    let last = truth.words();
+    compose(&table, &mut next, spare, width, last, false, steps);
+    Ok(next)
 }
 
 /// The rows of any of the parts.
@@ -196,6 +240,9 @@ pub(crate) fn rows(
     ensures more { steps.old ≤ steps.new }
     ensures bound { steps.new ≤ steps.old + weight_of pat.now * triangle (truth.now.words + 1) }
 {
+    if let Some(expr) = optional_token_of(pat) {
+        return optional_token_rows(alloc, expr, truth, width);
+    }
     match pat {
         Pat::Tok(expr) => token_rows(alloc, *expr, truth, width),
         Pat::Cat(parts) => sequence(alloc, parts, truth, spare, width, steps),

@@ -1,6 +1,6 @@
 //! A literal with what was built for it, and what tests values against it.
 
-ghost use Rattle.std.specs.Prelude.{◌≡◌, IfOk, IfErr};
+ghost use Rattle.std.specs.Prelude.{◌≡◌, IfOk, IfErr, IsOk};
 ghost use Rattle.std.specs.List.{list_any};
 ghost use Rattle.tb_needle.specs.Literals.{IsAccepted, meets};
 ghost use Rattle.tb_needle.specs.Items.{pieces, meets_item};
@@ -62,6 +62,7 @@ impl Needle {
         ensures value { IfOk result (λ n. n ≡ record { text = string_bytes text; flag = flag }) }
         ensures accepted { IfOk result (λ _. IsAccepted flag (string_bytes text)) }
         ensures refused { IfErr result (λ e. e ≡ PatternFault.Syntax → IsAccepted flag (string_bytes text) → ⊥) }
+        ensures literal { flag ≡ Flag.Literal → IsOk result }
     {
         let built = match flag {
             Flag::Plain => compile_unless_plain(alloc, text.as_str())?,
@@ -85,9 +86,10 @@ impl Needle {
         self.flag
     }
 
-    /// What tests values against the literal.
+    /// What tests values against the literal. With `%l` it takes no memory.
     pub fn tester(&self, alloc: Global) -> Result<Tester<'_>, AllocError>
-        ensures { IfOk result (λ t. t ≡ self.now) }
+        ensures value { IfOk result (λ t. t ≡ self.now) }
+        ensures literal { self.now.flag ≡ Flag.Literal → IsOk result }
     {
         let matcher = match &self.built {
             Some(regex) => Some(regex.matcher(alloc)?),

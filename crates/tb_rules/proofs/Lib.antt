@@ -3,6 +3,7 @@ pub mod Values
 pub mod RowSteps
 pub mod Counts
 pub mod Folds
+pub mod Refolds
 pub mod Numerals
 pub mod Walks
 pub mod Numbered

@@ -4,8 +4,8 @@ use Rattle.std.specs.Prelude.{IfErr, Result, Ok, Err}
 use Rattle.std.specs.List.{AllByRecursion}
 use Rattle.std.proofs.lemmas.List.{take_more, take-append-drop}
 use Rattle.tb_conllu.specs.Text.{BlockText}
-use Rattle.tb_rules.specs.File.{HasNewName, IsValid, IsBrokenAfter, broken, name_twice, IsFaultAt, IsFileFault}
-use Rattle.tb_rules.specs.Rules.{KeepsRules}
+use Rattle.tb_rules.specs.File.{HasNewName, IsValid, IsCutShort, IsBrokenAfter, broken, name_twice, IsFaultAt, IsFileFault}
+use Rattle.tb_rules.specs.Rules.{KeepsTo6, KeepsRules}
 use Rattle.tb_rules.specs.declared.filefault.FileFault.{FileFault}
 use Rattle.tb_rules.specs.declared.filefault.FileFault.TheVariants.{At, Memory}
 use Rattle.tb_rules.proofs.Kept.{not_kept}
@@ -148,3 +148,11 @@ fault_inside bs i b e h is f =
     let more : take i bs ++ b ∷ [] ≡ take (i + 1) bs = ap (λ x. take i bs ++ x ∷ []) is ∙ sym (take_more bs i b h) in
     let whole : take (i + 1) bs ++ drop (i + 1) bs ≡ bs = take-append-drop (i + 1) bs in
     subst (λ l. IsFileFault l e) whole (file_fault_stays (take (i + 1) bs) (drop (i + 1) bs) e (subst (λ l. IsFileFault l e) more f))
+
+-- the place where memory was wanting, in the whole list
+pub cut_short : (bs : List BlockText) (i : ℕ) (b : BlockText) → i < length bs → b ≡ get_or bs i b → IsValid (take i bs) → KeepsTo6 b → IsCutShort bs
+cut_short bs i b h is v k =
+    let more : take i bs ++ b ∷ [] ≡ take (i + 1) bs = ap (λ x. take i bs ++ x ∷ []) is ∙ sym (take_more bs i b h) in
+    let whole : take (i + 1) bs ++ drop (i + 1) bs ≡ bs = take-append-drop (i + 1) bs in
+    let parts : (take i bs ++ b ∷ []) ++ drop (i + 1) bs ≡ bs = ap (λ l. l ++ drop (i + 1) bs) more ∙ whole in
+    record { before = take i bs; next = b; after = drop (i + 1) bs; whole = sym parts ∙ append_assoc (take i bs) (b ∷ []) (drop (i + 1) bs); valid = v; kept = k }

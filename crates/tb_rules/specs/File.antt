@@ -7,7 +7,7 @@ use Rattle.tb_conllu.specs.Text.{BlockText}
 use Rattle.tb_rules.specs.declared.filefault.FileFault.{FileFault}
 use Rattle.tb_rules.specs.declared.filefault.FileFault.TheVariants.{At, Memory}
 use Rattle.tb_rules.specs.Comments.{sent_ids}
-use Rattle.tb_rules.specs.Rules.{KeepsRules, IsBroken}
+use Rattle.tb_rules.specs.Rules.{KeepsTo6, KeepsRules, IsBroken}
 
 -- The sentence has this name: the value of its one comment with the key sent_id.
 abbrev pub IsNamed : BlockText → List ℕ → Type 0
@@ -41,7 +41,16 @@ pub record IsFaultAt (bs : List BlockText) (sentence rule row : ℕ) : Type 0 wh
   pub valid : IsValid before
   pub fault : IsBrokenAfter before told rule row
 
--- want of memory says nothing of the sentences
+-- What want of memory leaves to be known: some of the sentences keeps rules 1 to 6, and those before it are valid.
+pub record IsCutShort (bs : List BlockText) : Type 0 where
+  pub before : List BlockText
+  pub next : BlockText
+  pub after : List BlockText
+  pub whole : bs ≡ before ++ next ∷ after
+  pub valid : IsValid before
+  pub kept : KeepsTo6 next
+
+-- want of memory is no fault of the sentences
 abbrev pub IsFileFault : List BlockText → FileFault → Type 0
 IsFileFault bs (At sentence rule row) = IsFaultAt bs sentence rule row
 IsFileFault bs Memory = Unit {0}

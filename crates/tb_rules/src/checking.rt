@@ -60,6 +60,7 @@ fn dependency_row<T: Text>(alloc: Global, block: &BlockOf<T>) -> Result<Option<u
 fn check_rows<T: Text>(block: &BlockOf<T>) -> Result<(), RuleFault>
     ensures valid { OnOk result (KeepsTo6 block.now) }
     ensures fault { IfErr result (IsRuleFault block.now) }
+    ensures memory { IfErr result (λ e. e ≡ Memory → ⊥) }
 {
     if !has_sent_id(block) {
         return Err(RuleFault::At { rule: 1, row: 0 });
@@ -122,6 +123,7 @@ fn check_whole<T: Text>(alloc: Global, block: &BlockOf<T>) -> Result<(), RuleFau
 fn first_broken<T: Text>(alloc: Global, block: &BlockOf<T>) -> Result<(), RuleFault>
     ensures valid { OnOk result (KeepsRules block.now) }
     ensures fault { IfErr result (IsRuleFault block.now) }
+    ensures memory { IfErr result (λ e. e ≡ Memory → KeepsTo6 block.now) }
 {
     match check_rows(block) {
         Ok(()) => check_whole(alloc, block),
@@ -134,11 +136,12 @@ fn first_broken<T: Text>(alloc: Global, block: &BlockOf<T>) -> Result<(), RuleFa
 /// # Errors
 ///
 /// The least broken rule, with the first row at fault, counted from 1, for rules 4 to 8, and row 0 for the others; or
-/// want of memory.
+/// want of memory, which comes only where rules 1 to 6 are kept.
 pub fn check<T: Text>(alloc: Global, block: &BlockOf<T>) -> Result<(), RuleFault>
     ensures valid { OnOk result (KeepsRules block.now) }
     ensures fault { IfErr result (IsRuleFault block.now) }
     ensures only { KeepsRules block.now → IfErr result (λ e. e ≡ Memory) }
+    ensures memory { IfErr result (λ e. e ≡ Memory → KeepsTo6 block.now) }
 {
     first_broken(alloc, block)
 }

@@ -4,7 +4,7 @@ ghost use Rattle.std.specs.Prelude.{◌≡◌, ◌≢◌, ◌↔◌, IsTrue, ◌
 ghost use Rattle.tb_fields.specs.Spaces.{is_solid};
 ghost use Rattle.tb_rules.specs.Leading.{RangesLead, is_token_after};
 ghost use Rattle.tb_rules.specs.Expected.{gap_text, Refuses, Leaves};
-ghost use Rattle.tb_rules.specs.Restored.{is_token_id, form_and_space, token_text, text_of_rows, folded, folded_text};
+ghost use Rattle.tb_rules.specs.Restored.{is_token_id, form_and_space, token_text, text_of_rows, folded};
 
 use crate::covering::{comes_out, ranges_lead};
 use crate::spans::end_of;
@@ -197,16 +197,6 @@ fn take_rows<'a, T: Text>(
         end = end.max(end_of(row.id));
     }
     Some(now)
-}
-
-/// Whether the text has no white space but single spaces between its characters.
-pub(crate) fn is_folded(text: &str) -> bool
-    ensures { IsTrue result ↔ (folded_text text.now ≡ text.now) }
-{
-    match take_text(from_start(text), text) {
-        None => false,
-        Some(now) => now.rest.is_empty(),
-    }
 }
 
 /// Whether the rows spell the text.

@@ -6,7 +6,7 @@ ghost use Rattle.tb_rules.specs.Restored.{is_token_id, has_no_space_after, form_
 
 use crate::comments::text;
 use crate::covering::{comes_out, ranges_lead};
-use crate::matching::{is_folded, spell};
+use crate::matching::spell;
 use crate::spans::end_of;
 use std::alloc::{AllocError, Global};
 use tb_conllu::{BlockOf, RowOf, Text};
@@ -159,8 +159,9 @@ pub fn restored<T: Text>(alloc: Global, block: &BlockOf<T>) -> Result<String, Al
 fn is_spelled<T: Text>(alloc: Global, rows: &[RowOf<T>], value: &str) -> Result<bool, AllocError>
     ensures { IfOk result (λ b. IsTrue b ↔ (encode_utf8_all (folded (text_of_rows rows.now)) ≡ folded_text value.now)) }
 {
-    if is_folded(value) {
-        return Ok(spell(rows, value));
+    // What rows spell is folded, so a value that they spell is folded too.
+    if spell(rows, value) {
+        return Ok(true);
     }
     let folded = fold(alloc, value)?;
     Ok(spell(rows, folded.as_str()))

@@ -2,8 +2,8 @@
 
 ghost use Rattle.std.specs.Prelude.{◌≡◌, ℕ, List, [], ◌∷◌, ◌++◌, OnOk, OnErr, IfErr, map, string_bytes};
 ghost use Rattle.tb_conllu.specs.Text.{BlockText};
-ghost use Rattle.tb_rules.specs.File.{IsValid, IsFileFault, IsSentenceFault, HasTaken};
-ghost use Rattle.tb_rules.specs.Rules.{KeepsRules};
+ghost use Rattle.tb_rules.specs.File.{IsValid, IsCutShort, IsFileFault, IsSentenceFault, HasTaken};
+ghost use Rattle.tb_rules.specs.Rules.{KeepsTo6, KeepsRules};
 ghost use Rattle.tb_rules.specs.declared.filefault.FileFault.TheVariants.{Memory};
 
 use crate::checking::check;
@@ -19,6 +19,7 @@ use tb_conllu::{BlockOf, Text};
 fn check_alone<T: Text>(alloc: Global, block: &BlockOf<T>, sentence: usize) -> Result<(), FileFault>
     ensures valid { OnOk result (KeepsRules block.now) }
     ensures fault { IfErr result (IsSentenceFault sentence block.now) }
+    ensures memory { IfErr result (λ e. e ≡ Memory → KeepsTo6 block.now) }
 {
     match check(alloc, block) {
         Ok(()) => Ok(()),
@@ -61,12 +62,13 @@ impl Checker {
     ///
     /// # Errors
     ///
-    /// The sentence's number in the file, with its least broken rule and its row; or want of memory. The sentence is
-    /// not taken then, and all is as before.
+    /// The sentence's number in the file, with its least broken rule and its row; or want of memory, which comes only
+    /// where the sentence keeps rules 1 to 6. The sentence is not taken then, and all is as before.
     pub fn take<T: Text>(&mut self, block: &BlockOf<T>) -> Result<(), FileFault>
         ensures valid { (before : List BlockText) → HasTaken self.old before → OnOk result (HasTaken self.new (before ++ block.now ∷ [])) }
         ensures fault { (before : List BlockText) → HasTaken self.old before → IfErr result (IsFileFault (before ++ block.now ∷ [])) }
         ensures only { (before : List BlockText) → HasTaken self.old before → IsValid (before ++ block.now ∷ []) → IfErr result (λ e. e ≡ Memory) }
+        ensures memory { IfErr result (λ e. e ≡ Memory → KeepsTo6 block.now) }
         ensures kept { OnErr result (self.new ≡ self.old) }
     {
         let sentence = self.names.len() + 1;
@@ -98,11 +100,13 @@ impl Checker {
 /// # Errors
 ///
 /// The first sentence that breaks a rule, counted from 1, with its least broken rule of 1 to 12 and, for rules 4 to 8,
-/// its first row at fault, counted from 1, else 0; or want of memory.
+/// its first row at fault, counted from 1, else 0; or want of memory, which comes only at a sentence that keeps rules 1
+/// to 6.
 pub fn check_all<T: Text>(alloc: Global, blocks: &[BlockOf<T>]) -> Result<(), FileFault>
     ensures valid { OnOk result (IsValid blocks.now) }
     ensures fault { IfErr result (IsFileFault blocks.now) }
     ensures only { IsValid blocks.now → IfErr result (λ e. e ≡ Memory) }
+    ensures memory { IfErr result (λ e. e ≡ Memory → IsCutShort blocks.now) }
 {
     let mut checker = Checker::new(alloc);
     for block in blocks {

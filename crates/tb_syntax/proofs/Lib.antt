@@ -11,7 +11,10 @@ pub mod Repeating
 pub mod Decimals
 pub mod Firsts
 pub mod Lexings
-pub mod Readings
 pub mod TestLemmas
 pub mod PatternLemmas
+pub mod Quotes
 pub mod Literals
+pub mod Sayings
+pub mod Fitting
+pub mod Readings

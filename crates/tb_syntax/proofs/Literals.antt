@@ -1,15 +1,17 @@
 -- Each literal of a text stands between its quotes, at its place.
-use Rattle.std.proofs.Common.{◌≡◌, ℕ, suc, zero, ◌+◌, ◌-◌, min, List, [], ◌∷◌, ◌++◌, length, take, drop, codes, Bool, true, false, ◌&&◌, nat_eq, if◌then◌else◌, Option, Some, None, option_map, refl, sym, ap, subst, ◌∙◌, append_assoc, length-append, arith, inl, inr}
+use Rattle.std.proofs.Common.{◌≡◌, ℕ, suc, zero, ◌+◌, ◌-◌, ◌≤◌, min, List, [], ◌∷◌, ◌++◌, length, take, drop, get_or, codes, Bool, true, false, ◌&&◌, nat_eq, if◌then◌else◌, Option, Some, None, option_map, refl, sym, ap, subst, ◌∙◌, append_assoc, length-append, arith, inl, inr}
 use Rattle.std.proofs.lemmas.Bool.{false≢true}
-use Rattle.std.proofs.Math.Seq.{take-append_seam, drop-append_seam}
+use Rattle.std.proofs.lemmas.Str.{IsCharBoundary-before_ascii, IsCharBoundary-after_ascii}
+use Rattle.std.proofs.Math.Seq.{take-append_seam, drop-append_seam, get_or-append_seam}
 use Rattle.std.specs.List.{slice_get}
-use Rattle.std.specs.Str.{bytes_eq}
+use Rattle.std.specs.Str.{bytes_eq, IsUtf8, IsCharBoundary}
 use Rattle.tb_syntax.specs.declared.lexeme.Attr.{Attr}
 use Rattle.tb_syntax.specs.declared.lexeme.Lexeme.{Lexeme}
 use Rattle.tb_syntax.specs.declared.lexeme.Lexeme.TheVariants.{LeftParen, RightParen, LeftBracket, RightBracket, LeftBrace, RightBrace, Comma, Quest, Star, Plus, Bar, And, Not, Equals, Differs, Semicolon, PercentC, PercentL, Name, Contains, Within, Sentence, Number, Quote}
 use Rattle.tb_syntax.specs.declared.lexing.Span.{Span}
 use Rattle.tb_syntax.specs.Spelling.{column, word, number, decimal_from, double_mark, single_mark, is_quote, doubled, Starts, of_letters, of_digits, of_two_marks, of_one_mark, of_quotes, IsQuoted}
 use Rattle.tb_syntax.specs.Lexing.{Lexes, literals_after, bytes_at}
+use Rattle.tb_syntax.proofs.Quotes.{quotes_are_ascii}
 
 -- only quotes begin a literal
 
@@ -86,25 +88,44 @@ some_lexeme l m e = cc (e)
 some_span : (s t : Span) → Some s ≡ Some t → s ≡ t
 some_span s t e = cc (e)
 
+-- a literal stands in the text, from where its span starts to where it ends
+pub record Stands (text : List ℕ) (s : Span) : Type 0 where
+  front : List ℕ
+  back : List ℕ
+  quote : ℕ
+  said : List ℕ
+  opens : is_quote quote ≡ true
+  parts : text ≡ front ++ ((quote ∷ (doubled quote said ++ quote ∷ [])) ++ back)
+  from : s.start ≡ length front
+  to : s.end ≡ length front + length (quote ∷ (doubled quote said ++ quote ∷ []))
+
 here : (pre text gap tail rest : List ℕ) (at k j : ℕ) (s : Span) → length pre ≡ at → text ≡ gap ++ tail → s.start ≡ at + length gap → s.end + length rest ≡ s.start + length tail →
-    Starts k tail (Quote j) rest → (said : List ℕ) × IsQuoted (bytes_at (pre ++ text) s) said
+    Starts k tail (Quote j) rest → Stands (pre ++ text) s
 here pre text gap tail rest at k j s n e from to starts =
     let x = quoted k j tail rest starts in
     let piece : List ℕ = x.quote ∷ (doubled x.quote x.said ++ x.quote ∷ []) in
     let whole : tail ≡ piece ++ rest = x.parts ∙ ap (λ y. x.quote ∷ y) (sym (append_assoc (doubled x.quote x.said) (x.quote ∷ []) rest)) in
-    let text_parts : pre ++ text ≡ (pre ++ gap) ++ (piece ++ rest) = ap (λ y. pre ++ y) (e ∙ ap (λ y. gap ++ y) whole) ∙ sym (append_assoc pre gap (piece ++ rest)) in
     let sizes = length-append pre gap in
     let tails = ap length whole ∙ length-append piece rest in
-    (x.said, (x.quote, x.opens, ap (λ y. bytes_at y s) text_parts ∙ between (pre ++ gap) piece rest s (omega arith) (omega arith)))
+    record {
+      front = pre ++ gap;
+      back = rest;
+      quote = x.quote;
+      said = x.said;
+      opens = x.opens;
+      parts = ap (λ y. pre ++ y) (e ∙ ap (λ y. gap ++ y) whole) ∙ sym (append_assoc pre gap (piece ++ rest));
+      from = omega arith;
+      to = omega arith;
+    }
 
 at_place : (pre text : List ℕ) (at k : ℕ) (ls : List Lexeme) (ss : List Span) → length pre ≡ at → Lexes at k text ls ss →
-    (i j : ℕ) (span : Span) → slice_get ls i ≡ Some (Quote j) → slice_get ss i ≡ Some span → (said : List ℕ) × IsQuoted (bytes_at (pre ++ text) span) said
+    (i j : ℕ) (span : Span) → slice_get ls i ≡ Some (Quote j) → slice_get ss i ≡ Some span → Stands (pre ++ text) span
 at_place pre text at k [] ss n h i j span e f = cc (e)
 at_place pre text at k (l ∷ ls) [] n h i j span e f = absurd h
 at_place pre text at k (l ∷ ls) (s ∷ ss) n (gap, tail, p, white, black, start, inl (rest, starts, end, more)) zero j span e f =
     let literal = some_lexeme l (Quote j) e in
     let place = some_span s span f in
-    subst (λ x. (said : List ℕ) × IsQuoted (bytes_at (pre ++ text) x) said) place
+    subst (λ x. Stands (pre ++ text) x) place
     (here pre text gap tail rest at k j s n p start end (subst (λ x. Starts k tail x rest) literal starts))
 at_place pre text at k (l ∷ ls) (s ∷ ss) n (gap, tail, p, white, black, start, inl (rest, starts, end, more)) (suc i) j span e f =
     let c = cut_of k tail l rest starts in
@@ -112,13 +133,51 @@ at_place pre text at k (l ∷ ls) (s ∷ ss) n (gap, tail, p, white, black, star
     let whole : pre ++ text ≡ front ++ rest =
     ap (λ y. pre ++ y) (p ∙ ap (λ y. gap ++ y) c.parts) ∙ sym (append_assoc pre gap (c.front ++ rest)) ∙ sym (append_assoc (pre ++ gap) c.front rest) in
     let size : length front ≡ s.end = omega (arith, length-append (pre ++ gap) c.front, length-append pre gap, ap length c.parts, length-append c.front rest) in
-    subst (λ y. (said : List ℕ) × IsQuoted (bytes_at y span) said) (sym whole) (at_place front rest s.end (literals_after k l) ls ss size more i j span e f)
+    subst (λ y. Stands y span) (sym whole) (at_place front rest s.end (literals_after k l) ls ss size more i j span e f)
 at_place pre text at k (l ∷ ls) (s ∷ ss) n (gap, tail, p, white, black, start, inr (none, stray, end, lo, so)) zero j span e f =
     let literal = some_lexeme l (Quote j) e in cc (literal, stray)
 at_place pre text at k (l ∷ ls) (s ∷ ss) n (gap, tail, p, white, black, start, inr (none, stray, end, lo, so)) (suc i) j span e f =
     let nothing = ap (λ x. slice_get x i) lo in cc (nothing, e)
 
+pub literal_stands : (text : List ℕ) (ls : List Lexeme) (ss : List Span) → Lexes 0 0 text ls ss →
+    (i j : ℕ) (span : Span) → slice_get ls i ≡ Some (Quote j) → slice_get ss i ≡ Some span → Stands text span
+literal_stands text ls ss h i j span e f = at_place [] text 0 0 ls ss refl h i j span e f
+
+pub quoted_there : (text : List ℕ) (span : Span) → Stands text span → (said : List ℕ) × IsQuoted (bytes_at text span) said
+quoted_there text span s = (
+  s.said,
+  (s.quote, s.opens, ap (λ y. bytes_at y span) s.parts ∙ between s.front (s.quote ∷ (doubled s.quote s.said ++ s.quote ∷ [])) s.back span s.from s.to),
+)
+
 -- the bytes at the place of a literal are a literal
 pub literal_quoted : (text : List ℕ) (ls : List Lexeme) (ss : List Span) → Lexes 0 0 text ls ss →
     (i j : ℕ) (span : Span) → slice_get ls i ≡ Some (Quote j) → slice_get ss i ≡ Some span → (said : List ℕ) × IsQuoted (bytes_at text span) said
-literal_quoted text ls ss h i j span e f = at_place [] text 0 0 ls ss refl h i j span e f
+literal_quoted text ls ss h i j span e f = quoted_there text span (literal_stands text ls ss h i j span e f)
+
+-- a text may be cut where a literal begins, and where it ends
+
+pub not_reversed : (text : List ℕ) (span : Span) → Stands text span → span.start ≤ span.end
+not_reversed text span s = let from = s.from in let to = s.to in omega arith
+
+pub cut_before : (text : List ℕ) (span : Span) → Stands text span → IsCharBoundary text span.start
+cut_before text span s =
+    let after = (doubled s.quote s.said ++ s.quote ∷ []) ++ s.back in
+    let first : get_or text span.start 0 ≡ s.quote =
+    ap (λ n. get_or text n 0) s.from ∙ ap (λ y. get_or y (length s.front) 0) s.parts ∙ get_or-append_seam s.front s.quote after 0 in
+    let small = quotes_are_ascii s.quote s.opens in
+    let from = s.from in
+    let size = ap length s.parts ∙ length-append s.front (s.quote ∷ after) in
+    IsCharBoundary-before_ascii text span.start (omega arith) (omega arith)
+
+pub cut_after : (text : List ℕ) (span : Span) → IsUtf8 text → Stands text span → IsCharBoundary text span.end
+cut_after text span utf8 s =
+    let inner = s.quote ∷ doubled s.quote s.said in
+    let before = s.front ++ inner in
+    let parts : text ≡ before ++ s.quote ∷ s.back =
+    s.parts ∙ ap (λ x. s.front ++ x) (append_assoc inner (s.quote ∷ []) s.back) ∙ sym (append_assoc s.front inner (s.quote ∷ s.back)) in
+    let last : get_or text (length before) 0 ≡ s.quote = ap (λ y. get_or y (length before) 0) parts ∙ get_or-append_seam before s.quote s.back 0 in
+    let small = quotes_are_ascii s.quote s.opens in
+    let size = ap length parts ∙ length-append before (s.quote ∷ s.back) in
+    let to = s.to in
+    let end : length before + 1 ≡ span.end = omega (arith, length-append s.front inner, length-append inner (s.quote ∷ [])) in
+    subst (λ n. IsCharBoundary text n) end (IsCharBoundary-after_ascii text (length before) utf8 (omega arith) (omega arith))

@@ -175,6 +175,10 @@ mutual
   atom_size (bare k f) = refl
   atom_size (parens a) = alt_size a
 
+-- a query has as many token expressions as it counts
+pub query_size : (q : Query) → length (query_testers q) ≡ query_count q
+query_size (query a e) = alt_size a
+
 -- sequences
 
 more_items_at : (ls rest left : List Lexeme) (old mid new : List Tester) (t : Tree) (before after : List Tree) → ReadsItem ls old mid t rest → begins_atom rest ≡ true →

@@ -1,11 +1,23 @@
--- A text that is no query, told by its lexemes.
-use Rattle.std.proofs.Common.{◌≡◌, ℕ, ◌≤◌, List, length, ap, subst, ◌∙◌, arith}
+-- A text and its lexemes: what is wrong with one that is no query, and what one says that is a query.
+use Rattle.std.proofs.Common.{◌≡◌, ℕ, ◌≤◌, List, length, map, sym, ap, subst, ◌∙◌, arith}
+use Rattle.std.proofs.lemmas.List.{length-map}
+use Rattle.tb_match.specs.declared.pattern.Pat.{Pat}
+use Rattle.tb_match.specs.Weight.{Fits}
+use Rattle.tb_syntax.specs.declared.expr.Expr.{Expr}
 use Rattle.tb_syntax.specs.declared.lexeme.Lexeme.{Lexeme}
 use Rattle.tb_syntax.specs.declared.lexing.Span.{Span}
 use Rattle.tb_syntax.specs.declared.fault.Fault.TheVariants.{Syntax}
 use Rattle.tb_syntax.specs.Lexing.{Lexes}
-use Rattle.tb_syntax.specs.Reading.{IsWrongAt, IsFault, byte_of}
+use Rattle.tb_syntax.specs.Exprs.{tester}
+use Rattle.tb_syntax.specs.Limits.{query_count}
+use Rattle.tb_syntax.specs.Parsing.{ReadsQuery}
+use Rattle.tb_syntax.specs.Pattern.{Tree, Tester, query_tree, query_testers}
+use Rattle.tb_syntax.specs.Reading.{IsAccepted, IsWrongAt, IsFault, byte_of}
+use Rattle.tb_syntax.specs.Saying.{IsSaid, Says}
+use Rattle.tb_syntax.specs.Trees.{tree}
+use Rattle.tb_syntax.proofs.Fitting.{query_fits}
 use Rattle.tb_syntax.proofs.Lexings.{few}
+use Rattle.tb_syntax.proofs.PatternLemmas.{query_size}
 
 pub short : (text : List ℕ) (ls ms : List Lexeme) (ss : List Span) → length text ≤ 2000 → Lexes 0 0 text ls ss → ms ≡ ls → length ms ≤ 2000
 short text ls ms ss le h e =
@@ -20,3 +32,33 @@ wrong text bytes ls ms ss ts i b same le h e f w at = (
   (omega (arith, ap length same), subst (λ t. Lexes 0 0 t ls ss) same h),
   (i, subst (λ xs. IsWrongAt xs i) e w, at ∙ ap (λ x. byte_of x i (length bytes)) f ∙ ap (λ t. byte_of ss i (length t)) same),
 )
+
+-- what is read of the lexemes of a query within the limits
+read_off : (text : List ℕ) (ls ms : List Lexeme) (ss : List Span) (t : Tree) (es : List Tester) (h : IsAccepted text ls ss) → ms ≡ ls → ReadsQuery ms t es →
+    (t ≡ query_tree h.0) × (es ≡ query_testers h.0)
+read_off text ls ms ss t es (q, within) same reads = let count = within.2 in reads.at q (within.1 ∙ sym same) (omega arith)
+
+pub says : (text : List ℕ) (ls ms : List Lexeme) (ss : List Span) (t : Tree) (es : List Tester) (said : List (List ℕ)) → IsAccepted text ls ss → ms ≡ ls → ReadsQuery ms t es →
+    IsSaid text ls ss said → Says text t es said
+says text ls ms ss t es said h same reads literals =
+    let r = read_off text ls ms ss t es h same reads in
+    (ls, ss, (h.0, h.1, sym r.0, sym r.1), literals)
+
+-- a query within the limits has so many token expressions
+counted : (text : List ℕ) (ls ms : List Lexeme) (ss : List Span) (t : Tree) (xs : List Expr) (h : IsAccepted text ls ss) → ms ≡ ls → ReadsQuery ms t (map tester xs) →
+    length xs ≡ query_count h.0
+counted text ls ms ss t xs h same reads = sym (length-map xs tester) ∙ ap length (read_off text ls ms ss t (map tester xs) h same reads).1 ∙ query_size h.0
+
+pub few_tests : (text : List ℕ) (ls ms : List Lexeme) (ss : List Span) (t : Tree) (xs : List Expr) → IsAccepted text ls ss → ms ≡ ls → ReadsQuery ms t (map tester xs) →
+    length xs ≤ 32
+few_tests text ls ms ss t xs h same reads =
+    let count = counted text ls ms ss t xs h same reads in
+    let limit = h.1.2 in
+    omega arith
+
+pub fits : (text : List ℕ) (ls ms : List Lexeme) (ss : List Span) (p : Pat) (xs : List Expr) → IsAccepted text ls ss → ms ≡ ls → ReadsQuery ms (tree p) (map tester xs) →
+    Fits (length xs) p
+fits text ls ms ss p xs h same reads =
+    let size = few text ls ss h.1.0.1 in
+    let limit = h.1.0.0 in
+    query_fits h.0 (length xs) p h.1.4 (omega (arith, ap length h.1.1)) (counted text ls ms ss (tree p) xs h same reads) (read_off text ls ms ss (tree p) (map tester xs) h same reads).0

@@ -6,6 +6,7 @@ pub mod Spelling
 pub mod Lexing
 pub mod First
 pub mod Reading
+pub mod Saying
 pub mod Exprs
 pub mod Trees
 pub mod Follow

@@ -6,6 +6,7 @@ ghost use Rattle.tb_syntax.specs.declared.lexeme.Lexeme.{Lexeme};
 ghost use Rattle.tb_syntax.specs.declared.lexing.Span.{Span};
 ghost use Rattle.tb_syntax.specs.Grammar.{Query, query_text};
 ghost use Rattle.tb_syntax.specs.Lexing.{Lexes, bytes_at};
+ghost use Rattle.tb_syntax.specs.Saying.{Says};
 ghost use Rattle.tb_syntax.specs.Spelling.{IsQuoted};
 ghost use Rattle.tb_syntax.specs.Pattern.{Tree, Tester, Reads};
 
@@ -22,9 +23,20 @@ pub fn one_lexing()
     ensures places { (text : List ℕ) (ls ms : List Lexeme) (ss ts : List Span) → Lexes 0 0 text ls ss → Lexes 0 0 text ms ts → ss ≡ ts }
 {}
 
-/// The bytes at the place of a literal are a literal: they say what
-/// [`unquote`](crate::unquoting::unquote) answers.
+/// The bytes at the place of a literal are a literal: they say something.
 pub fn literals_are_quoted()
     ensures { (text : List ℕ) (ls : List Lexeme) (ss : List Span) → Lexes 0 0 text ls ss → (i j : ℕ) (s : Span) →
         slice_get ls i ≡ Some (Lexeme.Quote j) → slice_get ss i ≡ Some s → (said : List ℕ) × IsQuoted (bytes_at text s) said }
+{}
+
+/// The bytes of a literal say one thing at most.
+pub fn one_unquoting()
+    ensures { (bytes s t : List ℕ) → IsQuoted bytes s → IsQuoted bytes t → s ≡ t }
+{}
+
+/// A text says one thing at most.
+pub fn one_saying()
+    ensures pattern { (text : List ℕ) (t u : Tree) (es fs : List Tester) (said told : List (List ℕ)) → Says text t es said → Says text u fs told → t ≡ u }
+    ensures tests { (text : List ℕ) (t u : Tree) (es fs : List Tester) (said told : List (List ℕ)) → Says text t es said → Says text u fs told → es ≡ fs }
+    ensures literals { (text : List ℕ) (t u : Tree) (es fs : List Tester) (said told : List (List ℕ)) → Says text t es said → Says text u fs told → said ≡ told }
 {}

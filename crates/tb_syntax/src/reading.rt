@@ -1,7 +1,11 @@
 //! Reading the text of a query.
 
-ghost use Rattle.std.specs.Prelude.{map, IfOk, IfErr, ◌≡◌};
-ghost use Rattle.tb_syntax.specs.Reading.{IsAccepted, IsRead, IsFault, byte_of};
+ghost use Rattle.std.specs.Prelude.{length, map, IfOk, IfErr, ◌≡◌, ◌≤◌};
+ghost use Rattle.std.specs.String.{string_bytes};
+ghost use Rattle.tb_match.specs.Weight.{Fits};
+ghost use Rattle.tb_syntax.specs.Reading.{IsAccepted, IsFault, byte_of};
+ghost use Rattle.tb_syntax.specs.Saying.{Says};
+ghost use Rattle.tb_syntax.specs.declared.fault.Fault.TheVariants.{Memory};
 ghost use Rattle.tb_syntax.specs.Exprs.{tester};
 ghost use Rattle.tb_syntax.specs.Trees.{tree};
 
@@ -10,6 +14,7 @@ use crate::lexing::{Lexed, Span, lex};
 use crate::limits::{count_expressions, nests_within, repeats_within};
 use crate::parsing::{Parsed, parse_lexemes};
 use crate::scanning::scan;
+use crate::unquoting::unquote_all;
 use std::alloc::Global;
 
 /// The greatest number of bytes of a query.
@@ -36,10 +41,12 @@ fn byte_of(spans: &[Span], place: usize, end: usize) -> usize
 
 /// The lexemes of a query.
 ///
-/// Errors: what is wrong with a text that is no query within the limits, or want of memory.
+/// Errors: what is wrong with a text that is no query within the limits, or want of memory, which comes
+/// only of texts within the limit of length.
 pub fn read(alloc: Global, text: &str) -> Result<Lexed, Fault>
     ensures query { IfOk result (λ x. IsAccepted text.now x.lexemes.items x.spans.items) }
     ensures fault { IfErr result (λ e. IsFault text.now e) }
+    ensures memory { IfErr result (λ e. e ≡ Memory → length text.now ≤ 2000) }
 {
     let bytes = text.as_bytes();
     if bytes.len() > LONGEST {
@@ -62,23 +69,30 @@ pub fn read(alloc: Global, text: &str) -> Result<Lexed, Fault>
     Ok(lexed)
 }
 
-/// A query: its lexemes, and what they say.
+/// A query: what it says.
 #[derive(Debug, Drop)]
 pub struct Query {
-    /// Its lexemes and their places; of a literal they tell where its text stands.
-    pub lexed: Lexed,
     /// Its pattern and its token expressions.
     pub parsed: Parsed,
+    /// What each of its literals says, in the order of the text. The token expressions know them by
+    /// their numbers.
+    pub literals: Vec<String>,
 }
 
-/// What a query says.
+/// What a query says. Its pattern names only its own token expressions, of which there are at most
+/// 32, and is within the limits of a search.
 ///
-/// Errors: what is wrong with a text that is no query within the limits, or want of memory.
+/// Errors: what is wrong with a text that is no query within the limits, or want of memory, which comes
+/// only of texts within the limit of length.
 pub fn parse(alloc: Global, text: &str) -> Result<Query, Fault>
-    ensures query { IfOk result (λ x. IsRead text.now x.lexed.lexemes.items x.lexed.spans.items (tree x.parsed.pat) (map tester x.parsed.exprs.items)) }
+    ensures query { IfOk result (λ x. Says text.now (tree x.parsed.pat) (map tester x.parsed.exprs.items) (map string_bytes x.literals.items)) }
+    ensures fits { IfOk result (λ x. Fits (length x.parsed.exprs.items) x.parsed.pat) }
+    ensures few { IfOk result (λ x. length x.parsed.exprs.items ≤ 32) }
     ensures fault { IfErr result (λ e. IsFault text.now e) }
+    ensures memory { IfErr result (λ e. e ≡ Memory → length text.now ≤ 2000) }
 {
     let lexed = read(alloc, text)?;
     let parsed = parse_lexemes(alloc, lexed.lexemes.as_slice())?;
-    Ok(Query { lexed, parsed })
+    let literals = unquote_all(alloc, text, &lexed)?;
+    Ok(Query { parsed, literals })
 }

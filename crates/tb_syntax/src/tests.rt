@@ -1,6 +1,6 @@
 //! Queries as lists of lexemes. The expected answers were worked out by hand from the grammar.
 
-use crate::law::{literals_are_quoted, one_lexing, one_reading};
+use crate::law::{literals_are_quoted, one_lexing, one_reading, one_saying, one_unquoting};
 use crate::lexeme::{Attr, Flag, Lexeme};
 use crate::limits::{count_expressions, nests_within, repeats_within};
 use crate::scanning::{Mode, Place, scan, step};
@@ -16,6 +16,8 @@ fn nothing_ends_too_early(rt: HostRuntime) {
     one_reading();
     one_lexing();
     literals_are_quoted();
+    one_unquoting();
+    one_saying();
     assert!(rt; Flag::Plain != Flag::Literal);
     assert_eq!(rt; scan(&[]), Err(0));
 }

@@ -5,7 +5,6 @@ use crate::fault::Fault;
 use crate::lexeme::{Attr, Flag, Lexeme};
 use crate::lexing::Span;
 use crate::reading::{parse, read};
-use crate::unquoting::unquote;
 use std::alloc::{AllocError, Global};
 use std::test::Fail;
 use tb_match::{Pat, fits};
@@ -238,20 +237,43 @@ fn lexemes_have_places(rt: HostRuntime) {
 }
 
 #[test]
-fn what_literals_say(rt: HostRuntime) -> Result<(), Fail> {
+fn what_a_literal_says(rt: HostRuntime) {
     let alloc = rt.alloc();
     let literals = [
         ("\"a\"\"b\"", "a\"b"),
         ("'it''s'", "it's"),
+        ("\"it's\"", "it's"),
         ("\"it''s\"", "it''s"),
         ("\"\\\\\"", "\\\\"),
         ("\"\"", ""),
         ("\"\"\"\"", "\""),
-        ("'\u{e9}'", "\u{e9}"),
+        ("''''''", "''"),
+        ("\"\"\"a\"\"\"", "\"a\""),
+        ("\"Straße\"", "Straße"),
+        ("\"Stra\"\"ße\"", "Stra\"ße"),
+        ("'ß''ß'", "ß'ß"),
+        ("\"हि\"\"न्दी\"", "हि\"न्दी"),
+        ("'🙂''''🙂'", "🙂''🙂"),
     ];
     for (literal, said) in literals {
-        let bytes = unquote(alloc, literal.as_bytes())?;
-        assert_eq!(rt; bytes.as_slice(), said.as_bytes());
+        let query = parse(alloc, literal).expect(&rt, "a query");
+        assert_eq!(rt; query.literals.len(), 1);
+        for told in &query.literals {
+            assert_eq!(rt; told.as_str(), said);
+        }
     }
-    Ok(())
+}
+
+#[test]
+fn literals_stand_in_the_order_of_the_text(rt: HostRuntime) {
+    let alloc = rt.alloc();
+    let text = "'d' [lemma=\"c\"%c | feats contains 'b|''x'%l] ([] \"\"\"a\"\"\"%l)* 'ß'%c";
+    let query = parse(alloc, text).expect(&rt, "a query");
+    let said = ["d", "c", "b|'x", "\"a\"", "ß"];
+    assert_eq!(rt; query.literals.len(), said.len());
+    for (told, said) in query.literals.iter().zip(said.iter()) {
+        assert_eq!(rt; told.as_str(), *said);
+    }
+    let none = parse(alloc, "[]+").expect(&rt, "a query");
+    assert_eq!(rt; none.literals.len(), 0);
 }

@@ -1,37 +1,64 @@
 //! What a literal says.
 
-ghost use Rattle.std.specs.Prelude.{◌≡◌, ℕ, List, IfOk, false};
+ghost use Rattle.std.specs.Prelude.{◌≡◌, ◌<◌, ℕ, List, map, IfOk, false};
+ghost use Rattle.std.specs.String.{string_bytes};
 ghost use Rattle.tb_syntax.specs.First.{said_of};
+ghost use Rattle.tb_syntax.specs.Lexing.{Lexes};
+ghost use Rattle.tb_syntax.specs.Saying.{IsSaid};
 ghost use Rattle.tb_syntax.specs.Spelling.{IsQuoted};
 
+use crate::lexeme::Lexeme;
+use crate::lexing::Lexed;
 use std::alloc::{AllocError, Global};
 
 /// What a literal says that stands after its opening quote, with its closing one.
-fn said_after(alloc: Global, quote: u8, bytes: &[u8]) -> Result<Vec<u8>, AllocError>
-    ensures { IfOk result (λ v. v.items ≡ said_of quote false bytes.now) }
+fn said_after(alloc: Global, quote: char, text: &str) -> Result<String, AllocError>
+    ensures { quote < 128 → IfOk result (λ s. string_bytes s ≡ said_of quote false text.now) }
 {
-    let mut said = Vec::new(alloc);
-    let mut shut = false;
-    for byte in bytes {
-        if quote == *byte && !shut {
-            shut = true;
-        } else {
-            said.push(*byte)?;
-            shut = false;
-        }
+    let mut said = String::with_capacity(alloc, text.len())?;
+    let mut rest = text;
+    while let Some((before, after)) = rest.split_once(quote) {
+        said.push_str(before)?;
+        let Some(more) = after.strip_prefix(quote) else {
+            rest = after;
+            continue;
+        };
+        said.push(quote)?;
+        rest = more;
     }
+    said.push_str(rest)?;
     Ok(said)
 }
 
-/// What a literal says, of its bytes: those between its quotes, where a quote of this kind that is
-/// written twice is one.
+/// What a literal says: the text between its quotes, where a quote of this kind that is written
+/// twice is one.
 ///
-/// Of bytes that are no literal the answer does not matter.
-pub fn unquote(alloc: Global, literal: &[u8]) -> Result<Vec<u8>, AllocError>
-    ensures { (s : List ℕ) → IsQuoted literal.now s → IfOk result (λ v. v.items ≡ s) }
+/// Of a text that is no literal the answer does not matter.
+pub(crate) fn unquote(alloc: Global, literal: &str) -> Result<String, AllocError>
+    ensures { (s : List ℕ) → IsQuoted literal.now s → IfOk result (λ v. string_bytes v ≡ s) }
 {
-    match literal.split_first() {
-        Some((quote, rest)) => said_after(alloc, *quote, rest),
-        None => Ok(Vec::new(alloc)),
+    let mut rest = literal.chars();
+    match rest.next() {
+        Some(quote) => said_after(alloc, quote, rest.as_str()),
+        None => Ok(String::new(alloc)),
     }
+}
+
+/// What the literals of a text say, in the order of the text.
+pub(crate) fn unquote_all(
+    alloc: Global,
+    text: &str,
+    lexed: &Lexed,
+) -> Result<Vec<String>, AllocError>
+    requires { Lexes 0 0 text.now lexed.now.lexemes.items lexed.now.spans.items }
+    ensures { IfOk result (λ v. IsSaid text.now lexed.now.lexemes.items lexed.now.spans.items (map string_bytes v.items)) }
+{
+    let mut literals = Vec::new(alloc);
+    for (i, lexeme) in lexed.lexemes.iter().enumerate() {
+        if let Lexeme::Quote(_) = lexeme {
+            let span = lexed.spans[i];
+            literals.push(unquote(alloc, &text[span.start..span.end])?)?;
+        }
+    }
+    Ok(literals)
 }

@@ -1,8 +1,12 @@
-use Rattle.std.proofs.Common.{sym, ◌∙◌, ap}
+use Rattle.std.proofs.Common.{◌≡◌, Bool, true, false, not, refl, sym, ◌∙◌, ap}
 use Rattle.std.specs.List.{list_any}
 use Rattle.tb_conllu.specs.Plain.{is_beyond_latin}
 use Rattle.tb_conllu.proofs.Latin.{latin_nfc}
 use Rattle.tb_conllu.proofs.linetext.is_composed.Goals as goal
 
-pub returns-then-not-any_beyond_latin : goal.returns-then-not-any_beyond_latin
-returns-then-not-any_beyond_latin c = latin_nfc c.args.text.now c.utf8.text (ap (list_any is_beyond_latin) (sym c.as_bytes.ensures.value) ∙ sym c.any_beyond_latin.ensures ∙ c.if-not-any_beyond_latin.true)
+not_so : (b : Bool) → not b ≡ true → b ≡ false
+not_so true h = sym h
+not_so false h = refl
+
+pub returns-then-is_latin : goal.returns-then-is_latin
+returns-then-is_latin c = latin_nfc c.args.text.now c.utf8.text (ap (list_any is_beyond_latin) (sym c.as_bytes.ensures.value) ∙ not_so _ (sym c.is_latin.ensures ∙ c.if-is_latin.true))

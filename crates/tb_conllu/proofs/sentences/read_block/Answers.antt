@@ -1,13 +1,15 @@
-use Rattle.std.proofs.Common.{◌≡◌, ◌+◌, sym, ◌∙◌, ap, true}
+use Rattle.std.proofs.Common.{◌≡◌, ◌+◌, ◌∷◌, ◌++◌, [], List, ℕ, sym, ◌∙◌, ap, true}
 use Rattle.std.proofs.lemmas.Result.{err_from_is_err_and}
 use Rattle.tb_conllu.specs.Begun.{has_rows}
 use Rattle.tb_conllu.specs.Lines.{is_empty}
 use Rattle.tb_conllu.specs.declared.fault.ReadFault.TheVariants.{At}
-use Rattle.tb_conllu.proofs.Reading.{quiet_raw, line_told, blank_refused, end_told}
+use Rattle.tb_conllu.specs.Refusal.{lines_begun}
+use Rattle.tb_conllu.proofs.Reading.{line_read, line_told, blank_refused, end_told}
+use Rattle.tb_conllu.proofs.Held.{line_holds, after_holds}
 use Rattle.tb_conllu.proofs.sentences.read_block.Goals as goal
 
 pub line_text-requires : goal.line_text-requires
-line_text-requires c quiet = quiet_raw c.loop-raw.rest.now c.in-Some.raw.now c.in-Some.after.now (c.loop-raw.invariant.quiet quiet) c.in-Some.ensures.1 c.in-Some.ensures.0
+line_text-requires c = line_holds c.args.tested c.loop-raw.rest.now c.in-Some.raw.now c.in-Some.after.now c.loop-raw.invariant.tested c.in-Some.ensures.1 c.in-Some.ensures.0
 
 pub returns-in_err-text-clause-fault : goal.returns-in_err-text-clause-fault
 returns-in_err-text-clause-fault c =
@@ -28,3 +30,14 @@ returns-in_err-take_line-clause-fault c =
 
 pub returns-clause-fault : goal.returns-clause-fault
 returns-clause-fault c = end_told c.args.bytes.now c.args.line c.loop-raw.block c.loop-raw.rest.now c.loop-raw.at c.loop-raw.invariant.read c.in_default.ensures c.requires.filled
+
+pub returns-then-any_row-clause-tested : goal.returns-then-any_row-clause-tested
+returns-then-any_row-clause-tested c = after_holds c.args.tested c.loop-raw.rest.now c.in-Some.raw.now c.in-Some.after.now c.loop-raw.invariant.tested c.in-Some.ensures.1
+
+pub loop-raw-preserved : goal.loop-raw-preserved
+loop-raw-preserved c =
+    let old : List (List ℕ) = lines_begun c.loop-raw.block in
+    record {
+      read = line_read c.args.bytes.now c.args.line c.loop-raw.block c.take_line.new.block c.loop-raw.rest.now c.in-Some.raw.now c.in-Some.after.now c.loop-raw.at c.loop-raw.invariant.read c.in-Some.ensures.1 (c.in_ok-take_line.ensures.lines ∙ ap (λ (x : List ℕ). old ++ x ∷ []) c.in_ok-text.ensures.ok.0) c.in_ok-take_line.ensures.sound;
+      tested = after_holds c.args.tested c.loop-raw.rest.now c.in-Some.raw.now c.in-Some.after.now c.loop-raw.invariant.tested c.in-Some.ensures.1;
+    }

@@ -1,14 +1,15 @@
-use Rattle.std.proofs.Common.{arith, ◌≡◌, ◌+◌, ◌*◌, ◌<◌, ◌≤◌, ◌^◌, ◌↔◌, ◌⊎◌, ℕ, ◌∷◌, length, drop, sym, ◌∙◌, subst, ap}
+use Rattle.std.proofs.Common.{arith, ◌≡◌, ◌+◌, ◌*◌, ◌<◌, ◌≤◌, ◌^◌, ◌↔◌, ◌⊎◌, ℕ, ◌∷◌, length, drop, IsTrue, true, sym, ◌∙◌, subst, ap}
 use Rattle.std.proofs.lemmas.Result.{IfOk-weaker}
-use Rattle.tb_match.specs.Bits.{InTable, Through, triangle}
+use Rattle.tb_match.specs.Bits.{InTable, triangle}
 use Rattle.tb_match.specs.Facts.{Holds}
 use Rattle.tb_match.specs.Match.{Match}
 use Rattle.tb_match.specs.Parts.{EachInTurn, AnyOf, AllProper, weight_of_all}
 use Rattle.tb_match.specs.Weight.{IsProper, weight_of, turns}
 use Rattle.tb_match.proofs.Parts.{Match-Cat, Match-Alt, weight_of-Cat, weight_of-Alt, IsProper-Cat, IsProper-Alt, next_part, weight_ahead, turns_some}
-use Rattle.tb_match.proofs.Relations.{room_within, sequence_more, sequence_forward, first_forward, first_rows, bound_after_first, repetition_rows, choice_more, room_after, room_for_part, room_after_part, bound_after_part, without_itself}
+use Rattle.tb_match.proofs.Relations.{room_within, sequence_more, sequence_forward, first_forward, first_rows, bound_after_first, repetition_rows, choice_more, room_after, room_for_part, room_after_part, bound_after_part}
 use Rattle.tb_match.proofs.Repeats.{lent}
 use Rattle.tb_match.proofs.Sweeps.{le_triangle}
+use Rattle.tb_match.proofs.Runs.{Stepped, Run, stepped_match, run_match}
 use Rattle.tb_match.proofs.relation.+rows.Goals as goal
 
 pub rows-returns-in-Cat-clause-rows : goal.rows-returns-in-Cat-clause-rows
@@ -248,30 +249,56 @@ sequence-loop-part-preserved t c =
     let inv = c.loop-part.invariant in
     let count : last ≡ c.args.truth.now.words = c.words-last.ensures.count in
     let d : drop k ps ≡ x ∷ drop (k + 1) ps = next_part ps k x c.loop-part-test.true c.part-item.is (λ qs. qs) in
-    let same : length c.deref_mut.result.now ≡ length c.in_ok-next.next.items = ap length c.deref_mut.ensures.value in
-    let back = lent c.in_ok-next.next.len c.compose.new.table c.in_ok-next.next.items (omega (arith, c.in_ok-next.next.ok.0)) in
-    let step : c.rows-in-loop-part.new.steps ≤ c.loop-part.steps + weight_of x * T =
-    subst (λ n. c.rows-in-loop-part.new.steps ≤ c.loop-part.steps + weight_of c.part-item.result * triangle (n + 1)) (sym count) c.rows-in-loop-part.ensures.bound in
-    let sized : length c.in_ok-next.next.items ≡ (last + 1) * w = subst (λ n. length c.in_ok-next.next.items ≡ (n + 1) * w) (sym count) c.in_ok-next.ensures.whole in
     let inside : (e v : ℕ) → Holds c.args.truth.now e v → v ≤ last = λ e v h. (let le : v ≤ c.args.truth.now.words = h.1 in omega arith) in
-    let next : (i j : ℕ) → i ≤ last → j ≤ last → InTable c.deref_mut.result.now w i j ↔ Match H x i j =
-    λ i j p q. subst (λ xs. InTable xs w i j ↔ Match H x i j) (sym c.deref_mut.ensures.value) (c.in_ok-next.ensures.rows i j (omega arith) (omega arith)) in
-    let forward : (i j : ℕ) → i ≤ last → j ≤ last → InTable c.deref.result.now w i j → i ≤ j =
-    subst (λ xs. (i j : ℕ) → i ≤ last → j ≤ last → InTable xs w i j → i ≤ j) (sym c.deref.ensures.value) inv.forward in
-    let made : (i j : ℕ) → i ≤ last → j ≤ last → InTable c.compose.new.table w i j ↔ Through c.deref.result.now c.deref_mut.result.now w i (last + 1) j =
-    λ i j p q. without_itself _ _ _ (c.compose.ensures.rows i j p q) in
-    let so_far : (i j : ℕ) → i ≤ last → j ≤ last → ((m : ℕ) × (m ≤ last) × InTable c.deref.result.now w i m × EachInTurn H (x ∷ drop (k + 1) ps) m j) ↔ EachInTurn H all i j =
-    λ i j p q. subst (λ xs. ((m : ℕ) × (m ≤ last) × InTable xs w i m × EachInTurn H (x ∷ drop (k + 1) ps) m j) ↔ EachInTurn H all i j) (sym c.deref.ensures.value)
-    (subst (λ qs. ((m : ℕ) × (m ≤ last) × InTable c.loop-part.table.items w i m × EachInTurn H qs m j) ↔ EachInTurn H all i j) d (inv.rows i j p q)) in
+    let before = c.loop-part.table.items in
+    let after = c.in_ok-table-2.table.items in
+    let step : c.followed.new.steps ≤ c.loop-part.steps + (weight_of x + 1) * T =
+    subst (λ n. c.followed.new.steps ≤ c.loop-part.steps + (weight_of c.part-item.result + 1) * triangle (n + 1)) (sym count) c.followed.ensures.bound in
+    let made : (i j : ℕ) → i ≤ last → j ≤ last → InTable after w i j ↔ ((m : ℕ) × (m ≤ last) × InTable before w i m × Match H x m j) =
+    λ i j p q. subst (λ n. InTable c.in_ok-table-2.table.items c.args.width i j ↔ ((m : ℕ) × (m ≤ n) × InTable c.loop-part.table.items c.args.width i m × Match (Holds c.args.truth.now) c.part-item.result m j)) (sym count)
+    (c.in_ok-table-2.ensures.rows i j (omega arith) (omega arith)) in
+    let so_far : (i j : ℕ) → i ≤ last → j ≤ last → ((m : ℕ) × (m ≤ last) × InTable before w i m × EachInTurn H (x ∷ drop (k + 1) ps) m j) ↔ EachInTurn H all i j =
+    λ i j p q. subst (λ qs. ((m : ℕ) × (m ≤ last) × InTable before w i m × EachInTurn H qs m j) ↔ EachInTurn H all i j) d (inv.rows i j p q) in
     record {
       wide = omega arith;
-      whole = subst (λ xs. length xs ≡ (last + 1) * w) (sym back) (omega arith);
+      whole = subst (λ n. length c.in_ok-table-2.table.items ≡ (n + 1) * c.args.width) (sym count) c.in_ok-table-2.ensures.whole;
       proper = (subst (AllProper c.args.truth.now.exprs) d inv.proper).1;
-      forward = subst (λ xs. (i j : ℕ) → i ≤ last → j ≤ last → InTable xs w i j → i ≤ j) (sym back)
-          (sequence_forward last w c.deref.result.now c.deref_mut.result.now c.compose.new.table H inside x (drop (k + 1) ps) all next forward made so_far);
-      rows = subst (λ xs. (i j : ℕ) → i ≤ last → j ≤ last → ((m : ℕ) × (m ≤ last) × InTable xs w i m × EachInTurn H (drop (k + 1) ps) m j) ↔ EachInTurn H all i j) (sym back)
-          (sequence_more last w c.deref.result.now c.deref_mut.result.now c.compose.new.table H inside x (drop (k + 1) ps) all next forward made so_far);
+      forward = sequence_forward last w before after H inside x (drop (k + 1) ps) all inv.forward made so_far;
+      rows = sequence_more last w before after H inside x (drop (k + 1) ps) all inv.forward made so_far;
       more = omega arith;
-      bound = bound_after_part c.args.steps.now c.loop-part.steps c.rows-in-loop-part.new.steps c.compose.new.steps (weight_of x) (weight_of_all (drop (k + 1) ps)) T (weight_of_all all) _
-          (ap weight_of_all d) inv.bound step (omega arith);
+      bound = bound_after_part c.args.steps.now c.loop-part.steps (c.loop-part.steps + weight_of x * T) c.followed.new.steps (weight_of x) (weight_of_all (drop (k + 1) ps)) T (weight_of_all all) _
+          (ap weight_of_all d) inv.bound (omega arith) (omega (arith, step));
     }
+
+pub followed-returns-in-Some-optional_token_of-clause-rows : goal.followed-returns-in-Some-optional_token_of-clause-rows
+followed-returns-in-Some-optional_token_of-clause-rows t c =
+    let facts = c.args.truth.now in
+    let e = c.in-Some-optional_token_of.expr in
+    let w = c.args.width in
+    IfOk-weaker c.step_over-in-Some-optional_token_of.result _ _ (λ v h i j p q.
+    let r = subst (λ xs. InTable v.items w i j ↔ Stepped xs w i (IsTrue true) facts e (facts.words + 1) j) c.deref-in-Some-optional_token_of.ensures.value (h i j p q) in
+    let m = stepped_match c.args.table.items w i facts.words facts e j (Match (Holds facts) c.args.part.now)
+    (λ k. c.optional_token_of.ensures.word e c.in-Some-optional_token_of.is facts k j) in
+    (λ a. m.0 (r.0 a), λ a. r.1 (m.1 a)))
+    c.step_over-in-Some-optional_token_of.ensures.rows
+
+pub followed-run_on-requires-clause-expr : goal.followed-run_on-requires-clause-expr
+followed-run_on-requires-clause-expr t c =
+    c.short_run_of.ensures.proper c.in-Some-short_run_of.expr c.args.truth.now.exprs c.in-Some-short_run_of.is c.requires.proper
+
+pub followed-returns-in-Some-short_run_of-clause-rows : goal.followed-returns-in-Some-short_run_of-clause-rows
+followed-returns-in-Some-short_run_of-clause-rows t c = λ i j p q.
+    let facts = c.args.truth.now in
+    let e = c.in-Some-short_run_of.expr in
+    let w = c.args.width in
+    let v : c.deref_mut.result.now ≡ c.args.table.items = c.deref_mut.ensures.value in
+    let same : length c.deref_mut.result.now ≡ length c.args.table.items = ap length v in
+    let back = lent c.args.table.len c.run_on.new.table c.args.table.items (omega (arith, c.args.table.ok.0)) in
+    let r = subst (λ xs. InTable c.run_on.new.table w i j ↔ Run xs w i facts.words facts e j) v (c.run_on.ensures.rows i j p q) in
+    let m = run_match c.args.table.items w i facts.words facts e j (Match (Holds facts) c.args.part.now)
+    (λ k. c.short_run_of.ensures.words e c.in-Some-short_run_of.is facts k j) in
+    subst (λ xs. InTable xs w i j ↔ ((k : ℕ) × (k ≤ facts.words) × InTable c.args.table.items w i k × Match (Holds facts) c.args.part.now k j)) (sym back) (λ a. m.0 (r.0 a), λ a. r.1 (m.1 a))
+
+pub followed-step_over-requires-in-Some-optional_token_of-clause-expr : goal.followed-step_over-requires-in-Some-optional_token_of-clause-expr
+followed-step_over-requires-in-Some-optional_token_of-clause-expr t c =
+    c.optional_token_of.ensures.proper c.in-Some-optional_token_of.expr c.args.truth.now.exprs c.in-Some-optional_token_of.is c.requires.proper

@@ -7,13 +7,16 @@ use Rattle.tb_match.proofs.relation.+rows.Given as goal
 
 -- a pattern is heavier than what stands in it
 abbrev pub decreases-rows : goal.decreases-rows
-decreases-rows l = 2 * weight_of l.pat.now + 1
+decreases-rows l = 3 * weight_of l.pat.now + 1
 
 abbrev pub decreases-sequence : goal.decreases-sequence
-decreases-sequence l = 2 * weight_of_all l.parts.now
+decreases-sequence l = 3 * weight_of_all l.parts.now
+
+abbrev pub decreases-followed : goal.decreases-followed
+decreases-followed l = 3 * weight_of l.part.now + 2
 
 abbrev pub decreases-choice : goal.decreases-choice
-decreases-choice l = 2 * weight_of_all l.parts.now
+decreases-choice l = 3 * weight_of_all l.parts.now
 
 abbrev pub invariant-sequence-loop-part : goal.invariant-sequence-loop-part
 invariant-sequence-loop-part l = record {

@@ -1,0 +1,10 @@
+use Rattle.std.proofs.Common.{◌≡◌, ◌+◌, ◌*◌, ◌<◌, ◌≤◌, ◌↔◌, ◌⊎◌, ℕ, length}
+use Rattle.tb_match.specs.Bits.{InTable}
+use Rattle.tb_match.specs.Hits.{IsWord}
+use Rattle.tb_match.proofs.token.optional_token_rows.Given as goal
+
+abbrev pub invariant-loop-place : goal.invariant-loop-place
+invariant-loop-place l = record {
+  whole : length l.table.items ≡ (l.last + 1) * l.width;
+  rows : (i j : ℕ) → j ≤ l.last → (InTable l.table.items l.width i j ↔ ((i < l.place) × ((j ≡ i) ⊎ IsWord l.truth l.expr i j)));
+}

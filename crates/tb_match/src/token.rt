@@ -1,0 +1,260 @@
+//! Parts of a pattern that are one word, an optional word or a run of words: no table of their own
+//! is made for them, the places of a row step over the words.
+
+ghost use Rattle.std.specs.Prelude.{◌≡◌, ◌+◌, ◌*◌, ◌/◌, ◌<◌, ◌≤◌, ◌↔◌, ◌⊎◌, ◌≢◌, ℕ, IsTrue, IfOk, length, Some, None};
+ghost use Rattle.tb_match.specs.Bits.{InTable};
+ghost use Rattle.tb_match.specs.Facts.{Facts, Holds};
+ghost use Rattle.tb_match.specs.Hits.{IsWord};
+ghost use Rattle.tb_match.specs.Match.{Chain, Match};
+ghost use Rattle.tb_match.specs.Weight.{IsProper};
+
+use crate::pattern::Pat;
+use crate::table::{LAST_OF_WORD, empty, mark};
+use crate::truth::Truth;
+use crate::walk::next_place;
+use std::alloc::{AllocError, Global};
+
+/// The expression of a pattern that is one word.
+pub(crate) fn token_of(pat: &Pat) -> Option<u16>
+    ensures word { (e : ℕ) → result ≡ Some e → (t : Facts) (i j : ℕ) → (Match (Holds t) pat.now i j ↔ IsWord t e i j) }
+    ensures proper { (e n : ℕ) → result ≡ Some e → IsProper n pat.now → e < n }
+{
+    match pat {
+        Pat::Tok(expr) => Some(*expr),
+        _ => None,
+    }
+}
+
+/// Whether the numbers are those of `?`.
+fn is_optional(least: u8, most: Option<u8>) -> bool
+    ensures { IsTrue result → (least ≡ 0) × (most ≡ Some 1) }
+{
+    match most {
+        Some(most) => least == 0 && most == 1,
+        None => false,
+    }
+}
+
+/// Whether the numbers are those of `*`.
+fn is_starred(least: u8, most: Option<u8>) -> bool
+    ensures { IsTrue result → (least ≡ 0) × (most ≡ None) }
+{
+    least == 0 && most.is_none()
+}
+
+/// The expression of a pattern that is one word or nothing.
+pub(crate) fn optional_token_of(pat: &Pat) -> Option<u16>
+    ensures word { (e : ℕ) → result ≡ Some e → (t : Facts) (i j : ℕ) →
+        (Match (Holds t) pat.now i j ↔ ((j ≡ i) ⊎ IsWord t e i j)) }
+    ensures proper { (e n : ℕ) → result ≡ Some e → IsProper n pat.now → e < n }
+{
+    match pat {
+        Pat::Rep(inner, least, most) if is_optional(*least, *most) => token_of(inner),
+        _ => None,
+    }
+}
+
+/// The expression of a pattern that is any number of words, one after the other.
+fn starred_token_of(pat: &Pat) -> Option<u16>
+    ensures words { (e : ℕ) → result ≡ Some e → (t : Facts) (i j : ℕ) →
+        (Match (Holds t) pat.now i j ↔ ((k : ℕ) × Chain (IsWord t e) k i j)) }
+    ensures proper { (e n : ℕ) → result ≡ Some e → IsProper n pat.now → e < n }
+{
+    match pat {
+        Pat::Rep(inner, least, most) if is_starred(*least, *most) => token_of(inner),
+        _ => None,
+    }
+}
+
+/// How many words a run may have to be walked word by word.
+const SHORT_RUN: usize = 8;
+
+/// Whether the expression holds of no more than a few words in a row. It decides only which of two
+/// ways is taken: a row of short runs is walked in little time, one of long runs is not.
+fn has_short_runs(expr: u16, truth: &Truth) -> bool
+    requires expr { expr < truth.now.exprs }
+{
+    let mut start = 0;
+    for word in 1..truth.words() + 1 {
+        if !truth.get(expr, word) {
+            start = word;
+        } else if word > SHORT_RUN && word - SHORT_RUN > start {
+            return false;
+        }
+    }
+    true
+}
+
+/// The expression of a pattern that is any number of words, one after the other, where it holds of
+/// no more than a few in a row.
+pub(crate) fn short_run_of(pat: &Pat, truth: &Truth) -> Option<u16>
+    requires { IsProper truth.now.exprs pat.now }
+    ensures words { (e : ℕ) → result ≡ Some e → (t : Facts) (i j : ℕ) →
+        (Match (Holds t) pat.now i j ↔ ((k : ℕ) × Chain (IsWord t e) k i j)) }
+    ensures proper { (e n : ℕ) → result ≡ Some e → IsProper n pat.now → e < n }
+{
+    let Some(expr) = starred_token_of(pat) else {
+        return None;
+    };
+    if has_short_runs(expr, truth) {
+        Some(expr)
+    } else {
+        None
+    }
+}
+
+/// Puts into the row the place, where `keep` says so, and the next one, where the expression holds
+/// of the word between them.
+#[inline(always)]
+fn mark_step(
+    table: &mut [u64],
+    row: usize,
+    place: usize,
+    expr: u16,
+    truth: &Truth,
+    width: usize,
+    keep: bool,
+)
+    requires expr { expr < truth.now.exprs }
+    requires wide { truth.now.words / 64 < width }
+    requires row { row * width + width ≤ length table.old }
+    requires place { place ≤ truth.now.words }
+    ensures marked { (i j : ℕ) → j ≤ truth.now.words →
+        (InTable table.new width i j ↔ (InTable table.old width i j ⊎
+        ((i ≡ row) × ((IsTrue keep × (j ≡ place)) ⊎ IsWord truth.now expr place j)))) }
+{
+    if keep {
+        mark(table, width, row, place);
+    }
+    if place < truth.words() && truth.get(expr, place + 1) {
+        mark(table, width, row, place + 1);
+    }
+}
+
+/// The rows of one word of which the expression holds, or of nothing.
+pub(crate) fn optional_token_rows(
+    alloc: Global,
+    expr: u16,
+    truth: &Truth,
+    width: usize,
+) -> Result<Vec<u64>, AllocError>
+    requires expr { expr < truth.now.exprs }
+    requires wide { truth.now.words / 64 < width }
+    requires narrow { width ≤ 16 }
+    ensures whole { IfOk result (λ v. length v.items ≡ (truth.now.words + 1) * width) }
+    ensures rows { IfOk result (λ v. (i j : ℕ) → i ≤ truth.now.words → j ≤ truth.now.words →
+        (InTable v.items width i j ↔ ((j ≡ i) ⊎ IsWord truth.now expr i j))) }
+{
+    let last = truth.words();
+    let mut table = empty(alloc, width, last)?;
+    for place in 0..last + 1 {
+        mark_step(&mut table, place, place, expr, truth, width, true);
+    }
+    Ok(table)
+}
+
+/// Puts into the row of `next` the places of the row of `table`, where `keep` says so, and those
+/// one word further on.
+#[inline(always)]
+fn step_row(
+    table: &[u64],
+    next: &mut [u64],
+    row: usize,
+    expr: u16,
+    truth: &Truth,
+    width: usize,
+    last: usize,
+    keep: bool,
+)
+    requires expr { expr < truth.now.exprs }
+    requires last { last ≡ truth.now.words }
+    requires small { last ≤ 1000 }
+    requires wide { truth.now.words / 64 < width }
+    requires table { length table.now ≡ (truth.now.words + 1) * width }
+    requires next { length next.old ≡ (truth.now.words + 1) * width }
+    requires row { row ≤ truth.now.words }
+    ensures stepped { (i j : ℕ) → j ≤ truth.now.words →
+        (InTable next.new width i j ↔ (InTable next.old width i j ⊎
+        ((i ≡ row) × ((k : ℕ) × (k < truth.now.words + 1) × InTable table.now width row k ×
+        ((IsTrue keep × (j ≡ k)) ⊎ IsWord truth.now expr k j))))) }
+{
+    let from = row * width;
+    let mut place = next_place(table, from, 0, last);
+    while place <= last {
+        mark_step(next, row, place, expr, truth, width, keep);
+        place = next_place(table, from, place + 1, last);
+    }
+}
+
+/// The rows of the table followed by one word of which the expression holds; also those of the
+/// table itself where `keep` says so.
+pub(crate) fn step_over(
+    alloc: Global,
+    table: &[u64],
+    expr: u16,
+    truth: &Truth,
+    width: usize,
+    keep: bool,
+) -> Result<Vec<u64>, AllocError>
+    requires expr { expr < truth.now.exprs }
+    requires wide { truth.now.words / 64 < width }
+    requires narrow { width ≤ 16 }
+    requires table { length table.now ≡ (truth.now.words + 1) * width }
+    ensures whole { IfOk result (λ v. length v.items ≡ (truth.now.words + 1) * width) }
+    ensures rows { IfOk result (λ v. (i j : ℕ) → i ≤ truth.now.words → j ≤ truth.now.words →
+        (InTable v.items width i j ↔ ((k : ℕ) × (k < truth.now.words + 1) × InTable table.now width i k ×
+        ((IsTrue keep × (j ≡ k)) ⊎ IsWord truth.now expr k j)))) }
+{
+    let last = truth.words();
+    let mut next = empty(alloc, width, last)?;
+    for row in 0..last + 1 {
+        if width == 1 {
+            let last = last.min(LAST_OF_WORD);
+            step_row(table, &mut next, row, expr, truth, 1, last, keep);
+        } else {
+            step_row(table, &mut next, row, expr, truth, width, last, keep);
+        }
+    }
+    Ok(next)
+}
+
+/// Puts into the row each place that a run of words of which the expression holds leads to. A place
+/// that is put is walked over in its turn.
+#[inline(always)]
+fn run_row(table: &mut [u64], row: usize, expr: u16, truth: &Truth, width: usize, last: usize)
+    requires expr { expr < truth.now.exprs }
+    requires last { last ≡ truth.now.words }
+    requires small { last ≤ 1000 }
+    requires wide { truth.now.words / 64 < width }
+    requires table { length table.old ≡ (truth.now.words + 1) * width }
+    requires row { row ≤ truth.now.words }
+    ensures row { (j : ℕ) → j ≤ truth.now.words → (InTable table.new width row j ↔
+        ((k : ℕ) × (k ≤ truth.now.words) × InTable table.old width row k × ((n : ℕ) × Chain (IsWord truth.now expr) n k j))) }
+    ensures others { (i j : ℕ) → i ≢ row → j ≤ truth.now.words → (InTable table.new width i j ↔ InTable table.old width i j) }
+{
+    let from = row * width;
+    let mut place = next_place(table, from, 0, last);
+    while place <= last {
+        mark_step(table, row, place, expr, truth, width, false);
+        place = next_place(table, from, place + 1, last);
+    }
+}
+
+/// Makes the table's relation its own followed by any number of words of which the expression
+/// holds.
+pub(crate) fn run_on(table: &mut [u64], expr: u16, truth: &Truth, width: usize)
+    requires expr { expr < truth.now.exprs }
+    requires wide { truth.now.words / 64 < width }
+    requires table { length table.old ≡ (truth.now.words + 1) * width }
+    ensures rows { (i j : ℕ) → i ≤ truth.now.words → j ≤ truth.now.words → (InTable table.new width i j ↔
+        ((k : ℕ) × (k ≤ truth.now.words) × InTable table.old width i k × ((n : ℕ) × Chain (IsWord truth.now expr) n k j))) }
+{
+    let last = truth.words();
+    for row in 0..last + 1 {
+        if width == 1 {
+            run_row(table, row, expr, truth, 1, last.min(LAST_OF_WORD));
+        } else {
+            run_row(table, row, expr, truth, width, last);
+        }
+    }
+}

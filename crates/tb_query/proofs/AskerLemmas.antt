@@ -1,0 +1,50 @@
+-- The parts of a conjunction or a disjunction, from turn to turn.
+use Rattle.std.proofs.Common.{◌≡◌, ◌<◌, ◌+◌, ℕ, List, length, get_or, drop, map, Bool, true, false, if◌then◌else◌, sym, ap, ◌∙◌, refl, add-one, drop-cons, arith, Box, Vec, Global}
+use Rattle.std.proofs.lemmas.List.{length-map}
+use Rattle.std.proofs.Math.ListN.{set, get_or-map}
+use Rattle.std.proofs.Math.Seq.{map-set_same}
+use Rattle.tb_conllu.specs.Text.{RowText}
+use Rattle.tb_query.specs.declared.asker.Asker.{Asker}
+use Rattle.tb_query.specs.declared.asker.Asker.TheVariants.{Denied, Both, Either, rolls-Denied, rolls-Both, rolls-Either}
+use Rattle.tb_query.specs.declared.asker.Asker.TheOpen.{Asker-F}
+use Rattle.tb_query.specs.declared.asker.Asker.TheFolds.{fold-roll-Asker}
+use Rattle.tb_query.specs.Askers.{asked, asked_step}
+use Rattle.tb_query.specs.Tests.{Test, tests, denied, all_of, some_of}
+use Rattle.tb_query.specs.Meaning.{holds, all_hold, some_hold}
+
+all_at : (ts : List Test) (i : ℕ) (r : RowText) (d : Test) → i < length ts →
+    all_hold (tests (drop i ts)) r ≡ (if holds (get_or ts i d) r then all_hold (tests (drop (i + 1) ts)) r else false)
+all_at ts i r d lt = rw (add-one, drop-cons ts i d lt) refl
+
+some_at : (ts : List Test) (i : ℕ) (r : RowText) (d : Test) → i < length ts →
+    some_hold (tests (drop i ts)) r ≡ (if holds (get_or ts i d) r then true else some_hold (tests (drop (i + 1) ts)) r)
+some_at ts i r d lt = rw (add-one, drop-cons ts i d lt) refl
+
+module _ (xs : List Asker) (ts : List Test) (i : ℕ) (d : Asker) (same : map asked xs ≡ ts) where
+  -- one part was asked, and is asked for what it was
+  pub same_after : (y : Asker) → asked y ≡ asked (get_or xs i d) → map asked (set xs i y) ≡ ts
+  same_after y e = map-set_same asked xs i y d e ∙ same
+
+  test_at : get_or ts i (asked d) ≡ asked (get_or xs i d)
+  test_at = ap (λ us. get_or us i (asked d)) (sym same) ∙ get_or-map asked xs i d
+
+  pub all_next : (r : RowText) (b : Bool) → i < length xs → b ≡ holds (asked (get_or xs i d)) r →
+      all_hold (tests (drop i ts)) r ≡ (if b then all_hold (tests (drop (i + 1) ts)) r else false)
+  all_next r b lt e =
+      all_at ts i r (asked d) (omega (arith, length-map xs asked, ap length same))
+      ∙ ap (λ c. if c then all_hold (tests (drop (i + 1) ts)) r else false) (ap (λ u. holds u r) test_at ∙ sym e)
+
+  pub some_next : (r : RowText) (b : Bool) → i < length xs → b ≡ holds (asked (get_or xs i d)) r →
+      some_hold (tests (drop i ts)) r ≡ (if b then true else some_hold (tests (drop (i + 1) ts)) r)
+  some_next r b lt e =
+      some_at ts i r (asked d) (omega (arith, length-map xs asked, ap length same))
+      ∙ ap (λ c. if c then true else some_hold (tests (drop (i + 1) ts)) r) (ap (λ u. holds u r) test_at ∙ sym e)
+
+pub asked-Denied : (b : Box Asker Global) → asked (Denied b) ≡ denied (asked b.value)
+asked-Denied b = ap asked (sym (rolls-Denied b)) ∙ fold-roll-Asker Test asked_step (Asker-F.Denied b)
+
+pub asked-Both : (v : Vec Asker Global) → asked (Both v) ≡ all_of (tests (map asked v.items))
+asked-Both v = ap asked (sym (rolls-Both v)) ∙ fold-roll-Asker Test asked_step (Asker-F.Both v)
+
+pub asked-Either : (v : Vec Asker Global) → asked (Either v) ≡ some_of (tests (map asked v.items))
+asked-Either v = ap asked (sym (rolls-Either v)) ∙ fold-roll-Asker Test asked_step (Asker-F.Either v)

@@ -1,0 +1,10 @@
+pub mod Attachments
+pub mod Variants
+pub mod Numbering
+pub mod Refusals
+pub mod Queries
+pub mod OneReading
+pub mod TextsInOrder
+mod AskerLemmas
+mod TableLemmas
+mod Alike

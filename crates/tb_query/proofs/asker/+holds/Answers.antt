@@ -1,0 +1,73 @@
+use Rattle.std.proofs.Common.{◌≡◌, ◌<◌, ◌+◌, length, map, drop, sym, ap, ◌∙◌, arith, true, false, if◌then◌else◌, rules}
+use Rattle.std.specs.Vec.{with_items}
+use Rattle.std.proofs.lemmas.List.{with_items_is}
+use Rattle.tb_query.specs.Askers.{asked}
+use Rattle.tb_query.specs.Tests.{tests, denied, all_of, some_of}
+use Rattle.tb_query.specs.Meaning.{all_hold, some_hold}
+use Rattle.tb_query.specs.declared.asker.Asker.TheVariants.{outs-Denied, outs-Both, outs-Either}
+use Rattle.tb_query.proofs.AskerLemmas.{asked-Denied, asked-Both, asked-Either, same_after, all_next, some_next}
+use Rattle.tb_query.proofs.asker.+holds.Goals as goal
+
+pub holds-returns-in-Denied-clause-same : goal.holds-returns-in-Denied-clause-same
+holds-returns-in-Denied-clause-same g t c =
+    rw (c.in-Denied.is, outs-Denied c.in-Denied.inner)
+    (asked-Denied _ ∙ ap denied (c.holds.ensures.same ∙ ap asked (c.deref_mut.ensures.value ∙ ap (λ b. b.value) c.in-Denied.inner-is)) ∙ sym (asked-Denied c.in-Denied.inner))
+
+pub holds-returns-in-Both-clause-same : goal.holds-returns-in-Both-clause-same
+holds-returns-in-Both-clause-same g t c =
+    let parts = c.in-Both.parts in
+    let long : length c.all_hold.new.askers ≡ parts.len = c.all_hold.auto.askers ∙ c.deref_mut-in-Both.ensures.len ∙ ap (λ v. v.len) c.in-Both.parts-is in
+    let items = ap (map asked) (with_items_is parts c.all_hold.new.askers long) ∙ c.all_hold.ensures.same ∙ ap (map asked) (c.deref_mut-in-Both.ensures.value ∙ ap (λ v. v.items) c.in-Both.parts-is) in
+    rw (c.in-Both.is, outs-Both parts) (asked-Both (with_items parts c.all_hold.new.askers) ∙ ap (λ ts. all_of (tests ts)) items ∙ sym (asked-Both parts))
+
+pub holds-returns-in-Either-clause-same : goal.holds-returns-in-Either-clause-same
+holds-returns-in-Either-clause-same g t c =
+    let parts = c.in-Either.parts in
+    let long : length c.some_hold.new.askers ≡ parts.len = c.some_hold.auto.askers ∙ c.deref_mut-in-Either.ensures.len ∙ ap (λ v. v.len) c.in-Either.parts-is in
+    let items = ap (map asked) (with_items_is parts c.some_hold.new.askers long) ∙ c.some_hold.ensures.same ∙ ap (map asked) (c.deref_mut-in-Either.ensures.value ∙ ap (λ v. v.items) c.in-Either.parts-is) in
+    rw (c.in-Either.is, outs-Either parts) (asked-Either (with_items parts c.some_hold.new.askers) ∙ ap (λ ts. some_of (tests ts)) items ∙ sym (asked-Either parts))
+
+pub all_hold-returns-then-not-holds-clause-answer :
+    goal.all_hold-returns-then-not-holds-clause-answer
+all_hold-returns-then-not-holds-clause-answer g t c =
+    let l = c.loop-asker in
+    let inside : l.asker-index < length l.askers = omega (arith, l.invariant.ahead.0) in
+    let next = all_next l.askers (map asked c.args.askers.now) l.asker-index c.asker-item.result l.invariant.same c.args.row.now c.holds.result inside c.holds.ensures.answer in
+    sym (l.invariant.rest ∙ next ∙ ap (λ b. if b then all_hold (tests (drop (l.asker-index + 1) (map asked c.args.askers.now))) c.args.row.now else false) c.if-not-holds.true)
+
+pub all_hold-returns-then-not-holds-clause-same : goal.all_hold-returns-then-not-holds-clause-same
+all_hold-returns-then-not-holds-clause-same g t c =
+    same_after _ _ _ c.asker-item.result c.loop-asker.invariant.same _ c.holds.ensures.same
+
+pub all_hold-loop-asker-preserved : goal.all_hold-loop-asker-preserved
+all_hold-loop-asker-preserved g t c =
+    let l = c.loop-asker in
+    let inside : l.asker-index < length l.askers = omega (arith, l.invariant.ahead.0) in
+    let next = all_next l.askers (map asked c.args.askers.now) l.asker-index c.asker-item.result l.invariant.same c.args.row.now c.holds.result inside c.holds.ensures.answer in
+    record {
+      ahead = search rules;
+      same = same_after _ _ _ c.asker-item.result l.invariant.same _ c.holds.ensures.same;
+      rest = l.invariant.rest ∙ next ∙ ap (λ b. if b then all_hold (tests (drop (l.asker-index + 1) (map asked c.args.askers.now))) c.args.row.now else false) c.if-not-holds.false;
+    }
+
+pub some_hold-returns-then-holds-clause-answer : goal.some_hold-returns-then-holds-clause-answer
+some_hold-returns-then-holds-clause-answer g t c =
+    let l = c.loop-asker in
+    let inside : l.asker-index < length l.askers = omega (arith, l.invariant.ahead.0) in
+    let next = some_next l.askers (map asked c.args.askers.now) l.asker-index c.asker-item.result l.invariant.same c.args.row.now c.holds.result inside c.holds.ensures.answer in
+    sym (l.invariant.rest ∙ next ∙ ap (λ b. if b then true else some_hold (tests (drop (l.asker-index + 1) (map asked c.args.askers.now))) c.args.row.now) c.if-holds.true)
+
+pub some_hold-returns-then-holds-clause-same : goal.some_hold-returns-then-holds-clause-same
+some_hold-returns-then-holds-clause-same g t c =
+    same_after _ _ _ c.asker-item.result c.loop-asker.invariant.same _ c.holds.ensures.same
+
+pub some_hold-loop-asker-preserved : goal.some_hold-loop-asker-preserved
+some_hold-loop-asker-preserved g t c =
+    let l = c.loop-asker in
+    let inside : l.asker-index < length l.askers = omega (arith, l.invariant.ahead.0) in
+    let next = some_next l.askers (map asked c.args.askers.now) l.asker-index c.asker-item.result l.invariant.same c.args.row.now c.holds.result inside c.holds.ensures.answer in
+    record {
+      ahead = search rules;
+      same = same_after _ _ _ c.asker-item.result l.invariant.same _ c.holds.ensures.same;
+      rest = l.invariant.rest ∙ next ∙ ap (λ b. if b then true else some_hold (tests (drop (l.asker-index + 1) (map asked c.args.askers.now))) c.args.row.now) c.if-holds.false;
+    }

@@ -1,0 +1,38 @@
+use Rattle.std.proofs.Common.{◌≡◌, ◌↔◌, List, length, map, filter, sym, ap, ◌∙◌, subst}
+use Rattle.std.proofs.lemmas.List.{length-map, with_items_is}
+use Rattle.std.proofs.lemmas.List.Sums.{length-filter}
+use Rattle.tb_conllu.specs.Text.{BlockText, RowText}
+use Rattle.tb_conllu.specs.Words.{is_word}
+use Rattle.tb_match.specs.Facts.{Holds}
+use Rattle.tb_query.specs.Askers.{asked}
+use Rattle.tb_query.specs.Tests.{Test}
+use Rattle.tb_query.specs.Meaning.{word_rows, HoldsOf}
+use Rattle.tb_query.specs.Search.{Asked, IsSearchable}
+use Rattle.tb_query.proofs.searcher.Searcher.truth.Goals as goal
+
+pub fill-requires-clause-words : goal.fill-requires-clause-words
+fill-requires-clause-words g c =
+    let rows : c.deref.result.now ≡ c.args.block.now.rows = c.deref.ensures.value ∙ ap (λ (b : BlockText). b.rows) c.block.view_is in
+    c.in_ok-truth.ensures.words ∙ c.words.ensures ∙ sym (ap (λ (rs : List RowText). length (filter is_word rs)) rows ∙ length-filter is_word c.args.block.now.rows)
+
+pub invariant_of-self : goal.invariant_of-self
+invariant_of-self g c =
+    let askers = c.self.inside.askers in
+    let long : length c.fill.new.askers ≡ askers.len = c.fill.auto.askers ∙ c.deref_mut.ensures.len in
+    let tests = ap (map asked) (with_items_is askers c.fill.new.askers long) ∙ c.fill.ensures.same ∙ ap (map asked) c.deref_mut.ensures.value in
+    subst (λ (ts : List Test). IsSearchable (record { pat = c.self.inside.pat.now; tests = ts })) (sym tests) c.self.invariant
+
+pub returns-clause-truth : goal.returns-clause-truth
+returns-clause-truth g c =
+    let askers = c.self.inside.askers in
+    let block = c.args.block.now in
+    let query = c.args.self.now in
+    let truth = c.fill.new.truth in
+    let rows : c.deref.result.now ≡ block.rows = c.deref.ensures.value ∙ ap (λ (b : BlockText). b.rows) c.block.view_is in
+    let tests : map asked c.deref_mut.result.now ≡ query.tests = ap (map asked) c.deref_mut.ensures.value ∙ ap (λ (q : Asked). q.tests) c.self.view_is in
+    let count : askers.len ≡ length query.tests = askers.ok.0 ∙ sym (length-map askers.items asked) ∙ ap (λ (q : Asked). length q.tests) c.self.view_is in (
+      c.fill.ensures.words ∙ c.in_ok-truth.ensures.words ∙ c.words.ensures,
+      c.fill.ensures.exprs ∙ c.in_ok-truth.ensures.exprs ∙ c.len-exprs.ensures ∙ count,
+      λ e w. subst (λ (ts : List Test). Holds truth e w ↔ HoldsOf ts (word_rows block) e w) tests
+          (subst (λ (rs : List RowText). Holds truth e w ↔ HoldsOf (map asked c.deref_mut.result.now) (filter is_word rs) e w) rows (c.fill.ensures.held e w)),
+    )

@@ -1,0 +1,66 @@
+-- What a text asks, and what is wrong with one that asks nothing.
+use Rattle.std.specs.Prelude.{◌≡◌, ℕ, ◌+◌, List, [], ◌∷◌, ◌++◌, length, map}
+use Rattle.std.specs.List.{slice_get}
+use Rattle.std.specs.Option.{unwrap_or}
+use Rattle.tb_syntax.specs.declared.expr.Literal.{Literal}
+use Rattle.tb_syntax.specs.declared.fault.Fault.TheVariants as told
+use Rattle.tb_syntax.specs.Pattern.{Tree, Tester, every, whole, feature, not, both, either, Testers, no_test, and_test}
+use Rattle.tb_syntax.specs.Reading as syntax
+use Rattle.tb_syntax.specs.Saying.{Says}
+use Rattle.tb_syntax.specs.Trees.{tree}
+use Rattle.tb_needle.specs.Literals.{PlainLit, IsAccepted}
+use Rattle.tb_query.specs.declared.fault.QueryFault.{QueryFault}
+use Rattle.tb_query.specs.declared.fault.QueryFault.TheVariants.{TooLong, Syntax, TooMany, TooDeep, Repeat, Pattern, Memory}
+use Rattle.tb_query.specs.Tests.{Test, any, column, item, denied, all_of, some_of, Tests, no_more, and_more, literals_of}
+use Rattle.tb_query.specs.Search.{Asked}
+
+-- what literal k says, counted from 0
+abbrev pub text_of : List (List ℕ) → ℕ → List ℕ
+text_of said k = unwrap_or (slice_get said k) []
+
+-- a literal with what it says in the place of its number
+abbrev pub with_text : List (List ℕ) → Literal → PlainLit
+with_text said l = record { text = text_of said l.number; flag = l.flag }
+
+-- a token expression, with what its literals say in the place of their numbers
+abbrev mutual
+  pub with_texts : List (List ℕ) → Tester → Test
+  with_texts said every = any
+  with_texts said (whole a k f) = column a (with_text said (record { number = k; flag = f }))
+  with_texts said (feature k f) = item (with_text said (record { number = k; flag = f }))
+  with_texts said (not t) = denied (with_texts said t)
+  with_texts said (both ts) = all_of (all_with_texts said ts)
+  with_texts said (either ts) = some_of (all_with_texts said ts)
+
+  pub all_with_texts : List (List ℕ) → Testers → Tests
+  all_with_texts said no_test = no_more
+  all_with_texts said (and_test t ts) = and_more (with_texts said t) (all_with_texts said ts)
+
+-- the text is a query within the limits, whose pattern and token expressions are these
+abbrev pub Reads : List ℕ → Tree → List Test → Type 0
+Reads text t ts = (es : List Tester) × (said : List (List ℕ)) × Says text t es said × (ts ≡ map (with_texts said) es)
+
+-- each literal is a pattern, but with %l any text is one
+abbrev pub AreAccepted : List PlainLit → Type 0
+AreAccepted [] = Unit {0}
+AreAccepted (l ∷ ls) = IsAccepted l.flag l.text × AreAccepted ls
+
+-- literal k, counted from 1, is the first that is none
+abbrev pub IsFirstRefused : List PlainLit → ℕ → Type 0
+IsFirstRefused ls k =
+    (before : List PlainLit) × (l : PlainLit) × (after : List PlainLit) × (ls ≡ before ++ l ∷ after) × (k ≡ length before + 1)
+    × AreAccepted before × (IsAccepted l.flag l.text → ⊥)
+
+-- the text asks this
+abbrev pub IsQuery : List ℕ → Asked → Type 0
+IsQuery text q = Reads text (tree q.pat) q.tests × AreAccepted (literals_of q.tests)
+
+-- What is wrong with a text. The first of these is told that holds.
+abbrev pub IsFault : List ℕ → QueryFault → Type 0
+IsFault text TooLong = syntax.IsFault text told.TooLong
+IsFault text (Syntax b) = syntax.IsFault text (told.Syntax b)
+IsFault text TooMany = syntax.IsFault text told.TooMany
+IsFault text TooDeep = syntax.IsFault text told.TooDeep
+IsFault text Repeat = syntax.IsFault text told.Repeat
+IsFault text (Pattern k) = (t : Tree) × (ts : List Test) × Reads text t ts × IsFirstRefused (literals_of ts) k
+IsFault text Memory = Unit {0}

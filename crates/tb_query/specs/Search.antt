@@ -1,0 +1,33 @@
+-- What a query finds in a sentence.
+use Rattle.std.specs.Prelude.{◌≡◌, ℕ, ◌<◌, ◌≤◌, ◌↔◌, List, length}
+use Rattle.tb_conllu.specs.Text.{BlockText}
+use Rattle.tb_conllu.specs.Words.{words_of}
+use Rattle.tb_match.specs.declared.pattern.Pat.{Pat}
+use Rattle.tb_match.specs.declared.strategy.Strategy.{Strategy}
+use Rattle.tb_match.specs.Facts.{Facts, Holds}
+use Rattle.tb_match.specs.Hits.{AreHits}
+use Rattle.tb_match.specs.Match.{Match}
+use Rattle.tb_match.specs.Weight.{Fits}
+use Rattle.tb_query.specs.Tests.{Test}
+use Rattle.tb_query.specs.Meaning.{word_rows, HoldsOf}
+
+-- what is asked: a pattern over tests, which it names by their numbers
+pub record Asked : Type 0 where
+  pub pat : Pat
+  pub tests : List Test
+
+-- a query within the limits of a search
+abbrev pub IsSearchable : Asked → Type 0
+IsSearchable q = Fits (length q.tests) q.pat × (length q.tests ≤ 32)
+
+-- the table tells of each test and each word of the sentence whether the one holds of the other
+abbrev pub IsTruthOf : List Test → BlockText → Facts → Type 0
+IsTruthOf ts b f = (f.words ≡ words_of b) × (f.exprs ≡ length ts) × ((e w : ℕ) → Holds f e w ↔ HoldsOf ts (word_rows b) e w)
+
+-- a match that has a word: it covers the words i + 1 to j
+abbrev pub Finds : Asked → BlockText → ℕ → ℕ → Type 0
+Finds q b i j = (i < j) × (j ≤ words_of b) × Match (HoldsOf q.tests (word_rows b)) q.pat i j
+
+-- the hits of a query in a sentence
+abbrev pub AreHitsIn : Strategy → Asked → BlockText → List (ℕ × ℕ) → Type 0
+AreHitsIn s q b hits = AreHits s (Finds q b) hits

@@ -1,0 +1,116 @@
+//! From token expressions that name their literals by number to those with needles.
+
+ghost use Rattle.std.specs.Prelude.{◌≡◌, ◌+◌, ◌∷◌, [], map, string_bytes, IfOk, IfErr};
+ghost use Rattle.tb_needle.specs.Literals.{IsAccepted};
+ghost use Rattle.tb_syntax.specs.Exprs.{tester};
+ghost use Rattle.tb_query.specs.Exprs.{test};
+ghost use Rattle.tb_query.specs.Labels.{labels, labels_of, IsRefusalAmong};
+ghost use Rattle.tb_query.specs.Reading.{text_of, with_text, with_texts, AreAccepted};
+ghost use Rattle.tb_query.specs.Tests.{any, column, item, denied, all_of, some_of, tests, literals, literals_of};
+
+use crate::expr::Expr;
+use crate::fault::QueryFault;
+use std::alloc::{AllocError, Global};
+use tb_needle::{Needle, PatternFault};
+use tb_syntax::{Attr, Expr as Numbered, Literal};
+
+/// What the literal says.
+fn text_of(alloc: Global, texts: &[String], literal: Literal) -> Result<String, AllocError>
+    ensures { IfOk result (λ s. string_bytes s ≡ text_of (map string_bytes texts.now) literal.number) }
+{
+    match texts.get(usize::from(literal.number)) {
+        Some(text) => text.clone(),
+        None => Ok(String::new(alloc)),
+    }
+}
+
+/// The needle of the literal.
+fn needle_of(alloc: Global, texts: &[String], literal: Literal) -> Result<Needle, QueryFault>
+    ensures value { IfOk result (λ n. n ≡ with_text (map string_bytes texts.now) literal) }
+    ensures accepted { IfOk result (λ n. IsAccepted n.flag n.text) }
+    ensures refused { IfErr result (λ e. IsRefusalAmong (map string_bytes texts.now) (literal ∷ []) e) }
+{
+    let text = text_of(alloc, texts, literal)?;
+    match Needle::new(alloc, text, literal.flag) {
+        Ok(needle) => Ok(needle),
+        Err(PatternFault::Syntax) => Err(QueryFault::Pattern(u64::from(literal.number) + 1)),
+        Err(PatternFault::Memory) => Err(QueryFault::Memory),
+    }
+}
+
+/// Any word.
+fn any() -> Expr
+    ensures { test result ≡ any }
+{
+    Expr::Any
+}
+
+/// The whole value of a column.
+fn whole(attr: Attr, needle: Needle) -> Expr
+    ensures { test result ≡ column attr needle }
+{
+    Expr::Whole(attr, needle)
+}
+
+/// Some item of the features.
+fn item(needle: Needle) -> Expr
+    ensures { test result ≡ item needle }
+{
+    Expr::Item(needle)
+}
+
+/// What holds where the expression does not.
+fn denied(alloc: Global, expr: Expr) -> Result<Expr, AllocError>
+    ensures { IfOk result (λ e. test e ≡ denied (test expr)) }
+{
+    Ok(Expr::Denied(Box::new(alloc, expr)?))
+}
+
+/// Each of the expressions.
+fn both(exprs: Vec<Expr>) -> Expr
+    ensures { test result ≡ all_of (tests (map test exprs.items)) }
+{
+    Expr::Both(exprs)
+}
+
+/// Some of the expressions.
+fn either(exprs: Vec<Expr>) -> Expr
+    ensures { test result ≡ some_of (tests (map test exprs.items)) }
+{
+    Expr::Either(exprs)
+}
+
+/// The expression with the needles of its literals.
+#[cycle(attaching)]
+fn attach(alloc: Global, texts: &[String], expr: &Numbered) -> Result<Expr, QueryFault>
+    ensures value { IfOk result (λ e. test e ≡ with_texts (map string_bytes texts.now) (tester expr.now)) }
+    ensures accepted { IfOk result (λ _. AreAccepted (map (with_text (map string_bytes texts.now)) (labels (tester expr.now)))) }
+    ensures refused { IfErr result (λ e. IsRefusalAmong (map string_bytes texts.now) (labels (tester expr.now)) e) }
+{
+    match expr {
+        Numbered::Any => Ok(any()),
+        Numbered::Whole(attr, literal) => Ok(whole(*attr, needle_of(alloc, texts, *literal)?)),
+        Numbered::Item(literal) => Ok(item(needle_of(alloc, texts, *literal)?)),
+        Numbered::Denied(inner) => Ok(denied(alloc, attach(alloc, texts, inner)?)?),
+        Numbered::Both(parts) => Ok(both(attach_all(alloc, texts, parts)?)),
+        Numbered::Either(parts) => Ok(either(attach_all(alloc, texts, parts)?)),
+    }
+}
+
+/// The expressions with the needles of their literals.
+#[cycle(attaching)]
+pub(crate) fn attach_all(
+    alloc: Global,
+    texts: &[String],
+    exprs: &[Numbered],
+) -> Result<Vec<Expr>, QueryFault>
+    ensures values { IfOk result (λ v. map test v.items ≡ map (with_texts (map string_bytes texts.now)) (map tester exprs.now)) }
+    ensures accepted { IfOk result (λ _. AreAccepted (map (with_text (map string_bytes texts.now)) (labels_of (map tester exprs.now)))) }
+    ensures refused { IfErr result (λ e. IsRefusalAmong (map string_bytes texts.now) (labels_of (map tester exprs.now)) e) }
+{
+    let mut attached = Vec::new(alloc);
+    for expr in exprs {
+        attached.push(attach(alloc, texts, expr)?)?;
+    }
+    Ok(attached)
+}

@@ -1,0 +1,60 @@
+//! What can be wrong with the text of a query.
+
+ghost use Rattle.std.specs.Prelude.{◌≡◌};
+ghost use Rattle.tb_query.specs.declared.fault.QueryFault.TheVariants.{Memory};
+ghost use Rattle.tb_query.specs.Told.{query_fault};
+
+use std::alloc::{AllocError, AllocFailed};
+use tb_syntax::Fault;
+
+/// Why a text was not read as a query. The first of them in this order is told.
+#[derive(Clone, Copy, PartialEq, Eq, Debug)]
+pub enum QueryFault {
+    /// It has more than 2,000 bytes.
+    TooLong,
+    /// It is outside the grammar. The byte, counted from 0, is where the first lexeme begins, or what
+    /// is none, that no query can have there; the length of the text where it only ends too early.
+    Syntax(u64),
+    /// It has more than 32 token expressions.
+    TooMany,
+    /// More than 16 round parentheses are open at one place.
+    TooDeep,
+    /// A repetition has a number above 32, an upper number of 0, or one below its lower number.
+    Repeat,
+    /// A literal is no pattern. It is the first such one, counted from 1 over all literals of the
+    /// text, those with `%l` too.
+    Pattern(u64),
+    /// There was no memory for it, or a pattern is too large.
+    Memory,
+}
+
+impl From<AllocError> for QueryFault {
+    ghost from_gives = { λ _ e. e ≡ Memory };
+
+    fn from(_: AllocError) -> Self {
+        QueryFault::Memory
+    }
+}
+
+impl<T: Drop> From<AllocFailed<T>> for QueryFault {
+    ghost from_gives = { λ _ e. e ≡ Memory };
+
+    fn from(_: AllocFailed<T>) -> Self {
+        QueryFault::Memory
+    }
+}
+
+impl From<Fault> for QueryFault {
+    ghost from_gives = { λ f e. e ≡ query_fault f };
+
+    fn from(fault: Fault) -> Self {
+        match fault {
+            Fault::TooLong => QueryFault::TooLong,
+            Fault::Syntax(byte) => QueryFault::Syntax(byte as u64),
+            Fault::TooMany => QueryFault::TooMany,
+            Fault::TooDeep => QueryFault::TooDeep,
+            Fault::Repeat => QueryFault::Repeat,
+            Fault::Memory => QueryFault::Memory,
+        }
+    }
+}

@@ -1,0 +1,37 @@
+//! Laws of what texts ask.
+
+ghost use Rattle.std.specs.Prelude.{◌≡◌, ℕ, List, map};
+ghost use Rattle.tb_syntax.specs.Pattern.{Tree, Tester};
+ghost use Rattle.tb_syntax.specs.Saying.{Says};
+ghost use Rattle.tb_needle.specs.Literals.{PlainLit};
+ghost use Rattle.tb_query.specs.declared.fault.QueryFault.{QueryFault};
+ghost use Rattle.tb_query.specs.declared.fault.QueryFault.TheVariants.{Memory};
+ghost use Rattle.tb_query.specs.Reading.{IsFault, IsQuery, Reads, with_texts};
+ghost use Rattle.tb_query.specs.Search.{Asked};
+ghost use Rattle.tb_query.specs.Tests.{Test, literals_of};
+
+use tb_syntax::{one_lexing, one_reading, one_saying};
+
+/// A text says one thing at most: one pattern, over one list of token expressions.
+pub fn a_text_has_one_reading()
+    ensures pattern { (text : List ℕ) (t u : Tree) (ts us : List Test) → Reads text t ts → Reads text u us → t ≡ u }
+    ensures tests { (text : List ℕ) (t u : Tree) (ts us : List Test) → Reads text t ts → Reads text u us → ts ≡ us }
+{
+    one_saying();
+}
+
+/// Of a text that is a query no fault is told but want of memory.
+pub fn a_query_has_no_fault()
+    ensures { (text : List ℕ) (q : Asked) (e : QueryFault) → IsQuery text q → IsFault text e → e ≡ Memory }
+{
+    a_text_has_one_reading();
+    one_lexing();
+    one_reading();
+}
+
+/// The literals of the token expressions say, one after the other, what the literals of the text
+/// say.
+pub fn literals_stand_in_order()
+    ensures { (text : List ℕ) (t : Tree) (es : List Tester) (said : List (List ℕ)) → Says text t es said →
+        map (λ (l : PlainLit). l.text) (literals_of (map (with_texts said) es)) ≡ said }
+{}

@@ -1,0 +1,40 @@
+//! Queries: what a text asks of sentences, and what it finds in them.
+//!
+//! The language is that of the Corpus Query Processor (CQP), cut down; its patterns are those of Rust's
+//! `regex` crate. A text is read by [`parse`](crate::reading::parse), and a sentence is searched by
+//! [`Query::hits`](crate::query::Query::hits), or many of them by one
+//! [`Searcher`](crate::searcher::Searcher).
+#![tactic(auto)]
+
+mod asker;
+mod attaching;
+mod expr;
+mod fault;
+mod filling;
+#[cfg(test)]
+mod guide_cases;
+#[cfg(test)]
+mod guide_tests;
+#[cfg(test)]
+mod hit_lists;
+mod laws;
+#[cfg(test)]
+mod parse_tests;
+mod query;
+#[cfg(test)]
+mod random_tests;
+mod reading;
+#[cfg(test)]
+mod samples;
+#[cfg(test)]
+mod search_tests;
+mod searcher;
+#[cfg(test)]
+mod worked_tests;
+
+pub use expr::Expr;
+pub use fault::QueryFault;
+pub use laws::{a_query_has_no_fault, a_text_has_one_reading, literals_stand_in_order};
+pub use query::Query;
+pub use reading::parse;
+pub use searcher::Searcher;

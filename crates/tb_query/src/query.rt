@@ -1,0 +1,96 @@
+//! Queries, with what was built for their literals.
+
+ghost use Rattle.std.specs.Prelude.{◌≡◌, ◌+◌, ◌*◌, ◌/◌, ◌≤◌, IfOk, map};
+ghost use Rattle.tb_conllu.specs.Words.{words_of};
+ghost use Rattle.tb_match.specs.Weight.{weight_of};
+ghost use Rattle.tb_query.specs.Exprs.{test};
+ghost use Rattle.tb_query.specs.Search.{Asked, IsSearchable, IsTruthOf, AreHitsIn};
+
+use crate::expr::Expr;
+use crate::searcher::Searcher;
+use std::alloc::{AllocError, Global};
+use std::marker::Model;
+use tb_conllu::{BlockOf, Text};
+use tb_match::{Found, Pat, Strategy, Truth};
+
+/// A query: a pattern over token expressions, which it names by their numbers.
+#[derive(Drop)]
+pub struct Query {
+    pat: Pat,
+    exprs: Vec<Expr>,
+}
+
+impl Model for Query {
+    ghost use Rattle.std.specs.Prelude.{map};
+    ghost use Rattle.tb_query.specs.Search.{Asked, IsSearchable};
+
+    ghost Value = { Asked };
+
+    ghost use Rattle.tb_query.specs.Codes.{coded_asked};
+
+    ghost coded = { coded_asked };
+
+    ghost use Rattle.tb_query.specs.Exprs.{test};
+
+    ghost view = { λ q. record { pat = q.pat; tests = map test q.exprs.items } };
+
+    ghost invariant = { λ q. IsSearchable (record { pat = q.pat; tests = map test q.exprs.items }) };
+}
+
+impl Query {
+    /// A query of its parts.
+    pub(crate) fn new(pat: Pat, exprs: Vec<Expr>) -> Query
+        requires { IsSearchable (record { pat = pat; tests = map test exprs.items }) }
+        ensures { result ≡ record { pat = pat; tests = map test exprs.items } }
+    {
+        Query { pat, exprs }
+    }
+
+    /// The pattern. Its expressions are numbers of [`Query::exprs`], counted from 0.
+    pub fn pat(&self) -> &Pat
+        ensures { result.now ≡ self.now.pat }
+    {
+        &self.pat
+    }
+
+    /// The token expressions, in their order.
+    pub fn exprs(&self) -> &[Expr]
+        ensures { map test result.now ≡ self.now.tests }
+    {
+        &self.exprs
+    }
+
+    /// The query made ready for a search over many sentences.
+    pub fn searcher(&self, alloc: Global) -> Result<Searcher<'_>, AllocError>
+        ensures { IfOk result (λ s. s ≡ self.now) }
+    {
+        Searcher::new(alloc, &self.pat, &self.exprs)
+    }
+
+    /// Which expressions hold of which words of the sentence. For many sentences, make one
+    /// [`Query::searcher`].
+    pub fn truth<T: Text>(&self, alloc: Global, block: &BlockOf<T>) -> Result<Truth, AllocError>
+        requires { words_of block.now ≤ 1000 }
+        ensures { IfOk result (λ t. IsTruthOf self.now.tests block.now t) }
+    {
+        let mut searcher = self.searcher(alloc)?;
+        searcher.truth(alloc, block)
+    }
+
+    /// The hits of the query in the sentence, by the strategy, and the number of unions of bit rows
+    /// that it took. For many sentences, make one [`Query::searcher`].
+    pub fn hits<T: Text>(
+        &self,
+        alloc: Global,
+        block: &BlockOf<T>,
+        strategy: Strategy,
+    ) -> Result<Found, AllocError>
+        requires { words_of block.now ≤ 1000 }
+        ensures hits { IfOk result (λ f. AreHitsIn strategy self.now block.now f.hits.items) }
+        ensures steps { IfOk result (λ f.
+            f.steps ≤ weight_of self.now.pat * (words_of block.now + 1) * (words_of block.now + 2) / 2) }
+    {
+        let mut searcher = self.searcher(alloc)?;
+        searcher.hits(alloc, block, strategy)
+    }
+}

@@ -1,0 +1,28 @@
+//! From the text of a query to what it asks.
+
+ghost use Rattle.std.specs.Prelude.{◌≡◌, ◌≤◌, length, IfOk, IfErr};
+ghost use Rattle.tb_query.specs.declared.fault.QueryFault.TheVariants.{Memory};
+ghost use Rattle.tb_query.specs.Reading.{IsQuery, IsFault};
+
+use crate::attaching::attach_all;
+use crate::fault::QueryFault;
+use crate::query::Query;
+use std::alloc::Global;
+
+/// What the text asks.
+///
+/// Errors: what is wrong with a text that is no query, or want of memory, which comes only of texts
+/// within the limit of length.
+pub fn parse(alloc: Global, text: &str) -> Result<Query, QueryFault>
+    ensures query { IfOk result (λ q. IsQuery text.now q) }
+    ensures fault { IfErr result (λ e. IsFault text.now e) }
+    ensures memory { IfErr result (λ e. e ≡ Memory → length text.now ≤ 2000) }
+{
+    let read = tb_syntax::parse(alloc, text)?;
+    let exprs = attach_all(
+        alloc,
+        read.literals.as_slice(),
+        read.parsed.exprs.as_slice(),
+    )?;
+    Ok(Query::new(read.parsed.pat, exprs))
+}

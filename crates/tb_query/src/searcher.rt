@@ -1,0 +1,85 @@
+//! A query made ready for a search.
+
+ghost use Rattle.std.specs.Prelude.{◌≡◌, ◌+◌, ◌*◌, ◌/◌, ◌≤◌, IfOk, map};
+ghost use Rattle.tb_conllu.specs.Words.{words_of};
+ghost use Rattle.tb_match.specs.Weight.{weight_of};
+ghost use Rattle.tb_query.specs.Exprs.{test};
+ghost use Rattle.tb_query.specs.Search.{Asked, IsSearchable, IsTruthOf, AreHitsIn};
+
+use crate::asker::{Asker, askers_of};
+use crate::expr::Expr;
+use crate::filling::fill;
+use std::alloc::{AllocError, Global};
+use std::marker::Model;
+use tb_conllu::{BlockOf, Text, words};
+use tb_match::{Found, Pat, Strategy, Truth, find};
+
+/// A query with what a search writes to: made once for a whole search, and then used for each
+/// sentence.
+#[derive(Drop)]
+pub struct Searcher<'q> {
+    pat: &'q Pat,
+    askers: Vec<Asker<'q>>,
+}
+
+impl<'q> Model for Searcher<'q> {
+    ghost use Rattle.std.specs.Prelude.{map};
+    ghost use Rattle.tb_query.specs.Search.{Asked, IsSearchable};
+
+    ghost Value = { Asked };
+
+    ghost use Rattle.tb_query.specs.Codes.{coded_asked};
+
+    ghost coded = { coded_asked };
+
+    ghost use Rattle.tb_query.specs.Askers.{asked};
+
+    ghost view = { λ s. record { pat = s.pat.now; tests = map asked s.askers.items } };
+
+    ghost invariant = { λ s. IsSearchable (record { pat = s.pat.now; tests = map asked s.askers.items }) };
+}
+
+impl<'q> Searcher<'q> {
+    /// Makes the parts of a query ready for a search.
+    pub(crate) fn new(
+        alloc: Global,
+        pat: &'q Pat,
+        exprs: &'q [Expr],
+    ) -> Result<Searcher<'q>, AllocError>
+        requires { IsSearchable (record { pat = pat.now; tests = map test exprs.now }) }
+        ensures { IfOk result (λ s. s ≡ record { pat = pat.now; tests = map test exprs.now }) }
+    {
+        let askers = askers_of(alloc, exprs)?;
+        Ok(Searcher { pat, askers })
+    }
+
+    /// Which expressions hold of which words of the sentence.
+    pub fn truth<T: Text>(&mut self, alloc: Global, block: &BlockOf<T>) -> Result<Truth, AllocError>
+        requires { words_of block.now ≤ 1000 }
+        ensures truth { IfOk result (λ t. IsTruthOf self.old.tests block.now t) }
+        ensures same { self.new ≡ self.old }
+    {
+        let exprs = self.askers.len() as u16;
+        let mut truth = Truth::new(alloc, words(block), exprs)?;
+        fill(&mut self.askers, &block.rows, &mut truth);
+        Ok(truth)
+    }
+
+    /// The hits of the query in the sentence, by the strategy, and the number of unions of bit rows
+    /// that it took.
+    pub fn hits<T: Text>(
+        &mut self,
+        alloc: Global,
+        block: &BlockOf<T>,
+        strategy: Strategy,
+    ) -> Result<Found, AllocError>
+        requires { words_of block.now ≤ 1000 }
+        ensures hits { IfOk result (λ f. AreHitsIn strategy self.old block.now f.hits.items) }
+        ensures steps { IfOk result (λ f.
+            f.steps ≤ weight_of self.old.pat * (words_of block.now + 1) * (words_of block.now + 2) / 2) }
+        ensures same { self.new ≡ self.old }
+    {
+        let truth = self.truth(alloc, block)?;
+        find(alloc, self.pat, &truth, strategy)
+    }
+}

@@ -1,0 +1,22 @@
+-- What a text says in whole: its pattern, its token expressions, and what its literals say.
+use Rattle.std.specs.Prelude.{◌≡◌, ℕ, List, [], ◌∷◌}
+use Rattle.tb_syntax.specs.declared.lexeme.Lexeme.{Lexeme}
+use Rattle.tb_syntax.specs.declared.lexeme.Lexeme.TheVariants.{Quote}
+use Rattle.tb_syntax.specs.declared.lexing.Span.{Span}
+use Rattle.tb_syntax.specs.Lexing.{bytes_at}
+use Rattle.tb_syntax.specs.Pattern.{Tree, Tester}
+use Rattle.tb_syntax.specs.Reading.{IsRead}
+use Rattle.tb_syntax.specs.Spelling.{IsQuoted}
+
+-- The literals among the lexemes say this, in the order of the text.
+abbrev pub IsSaid : List ℕ → List Lexeme → List Span → List (List ℕ) → Type 0
+IsSaid text [] [] said = said ≡ []
+IsSaid text (Quote k ∷ ls) (s ∷ ss) [] = ⊥
+IsSaid text (Quote k ∷ ls) (s ∷ ss) (w ∷ said) = IsQuoted (bytes_at text s) w × IsSaid text ls ss said
+IsSaid text (l ∷ ls) (s ∷ ss) said = IsSaid text ls ss said
+IsSaid text _ _ _ = ⊥
+
+-- The text is a query within the limits, and says this: its pattern over its token expressions, and what each of its literals says,
+-- which the token expressions know by their numbers.
+abbrev pub Says : List ℕ → Tree → List Tester → List (List ℕ) → Type 0
+Says text t es said = (ls : List Lexeme) × (ss : List Span) × IsRead text ls ss t es × IsSaid text ls ss said
