@@ -10,7 +10,7 @@ ghost use Rattle.tb_query.specs.Reading.{IsFault, IsQuery, Reads, with_texts};
 ghost use Rattle.tb_query.specs.Search.{Asked};
 ghost use Rattle.tb_query.specs.Tests.{Test, literals_of};
 
-use tb_syntax::{one_lexing, one_reading, one_saying};
+use tb_syntax::{one_fault, one_lexing, one_reading, one_saying};
 
 /// A text says one thing at most: one pattern, over one list of token expressions.
 pub fn a_text_has_one_reading()
@@ -27,6 +27,16 @@ pub fn a_query_has_no_fault()
     a_text_has_one_reading();
     one_lexing();
     one_reading();
+}
+
+/// At most one fault is told of a text, want of memory aside.
+pub fn a_text_has_one_fault()
+    ensures { (text : List ℕ) (e f : QueryFault) → IsFault text e → IsFault text f → (e ≡ Memory → ⊥) → (f ≡ Memory → ⊥) → e ≡ f }
+{
+    a_text_has_one_reading();
+    one_lexing();
+    one_reading();
+    one_fault();
 }
 
 /// The literals of the token expressions say, one after the other, what the literals of the text

@@ -34,7 +34,9 @@ mod worked_tests;
 
 pub use expr::Expr;
 pub use fault::QueryFault;
-pub use laws::{a_query_has_no_fault, a_text_has_one_reading, literals_stand_in_order};
+pub use laws::{
+    a_query_has_no_fault, a_text_has_one_fault, a_text_has_one_reading, literals_stand_in_order,
+};
 pub use query::Query;
 pub use reading::parse;
 pub use searcher::Searcher;

@@ -18,3 +18,4 @@ pub mod Literals
 pub mod Sayings
 pub mod Fitting
 pub mod Readings
+pub mod OneFault

@@ -2,10 +2,13 @@
 
 ghost use Rattle.std.specs.Prelude.{◌≡◌, ℕ, List};
 ghost use Rattle.std.specs.List.{slice_get};
+ghost use Rattle.tb_syntax.specs.declared.fault.Fault.{Fault};
+ghost use Rattle.tb_syntax.specs.declared.fault.Fault.TheVariants.{Memory};
 ghost use Rattle.tb_syntax.specs.declared.lexeme.Lexeme.{Lexeme};
 ghost use Rattle.tb_syntax.specs.declared.lexing.Span.{Span};
 ghost use Rattle.tb_syntax.specs.Grammar.{Query, query_text};
 ghost use Rattle.tb_syntax.specs.Lexing.{Lexes, bytes_at};
+ghost use Rattle.tb_syntax.specs.Reading.{IsFault};
 ghost use Rattle.tb_syntax.specs.Saying.{Says};
 ghost use Rattle.tb_syntax.specs.Spelling.{IsQuoted};
 ghost use Rattle.tb_syntax.specs.Pattern.{Tree, Tester, Reads};
@@ -39,4 +42,9 @@ pub fn one_saying()
     ensures pattern { (text : List ℕ) (t u : Tree) (es fs : List Tester) (said told : List (List ℕ)) → Says text t es said → Says text u fs told → t ≡ u }
     ensures tests { (text : List ℕ) (t u : Tree) (es fs : List Tester) (said told : List (List ℕ)) → Says text t es said → Says text u fs told → es ≡ fs }
     ensures literals { (text : List ℕ) (t u : Tree) (es fs : List Tester) (said told : List (List ℕ)) → Says text t es said → Says text u fs told → said ≡ told }
+{}
+
+/// At most one fault is told of a text, want of memory aside.
+pub fn one_fault()
+    ensures { (text : List ℕ) (e f : Fault) → IsFault text e → IsFault text f → (e ≡ Memory → ⊥) → (f ≡ Memory → ⊥) → e ≡ f }
 {}

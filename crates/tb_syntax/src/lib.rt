@@ -25,7 +25,7 @@ mod unquoting;
 
 pub use expr::{Expr, Literal};
 pub use fault::Fault;
-pub use law::{literals_are_quoted, one_lexing, one_reading, one_saying, one_unquoting};
+pub use law::{literals_are_quoted, one_fault, one_lexing, one_reading, one_saying, one_unquoting};
 pub use lexeme::{Attr, Flag, Lexeme};
 pub use lexing::{Lexed, Span};
 pub use limits::{count_expressions, nests_within, repeats_within};
