@@ -52,6 +52,16 @@ pub fn noun_phrases(alloc: Global) -> Result<Pat, AllocError> {
     Ok(Pat::Cat(parts))
 }
 
+/// `([upos="DET"]? [upos="ADJ"]* [upos="NOUN"])+`
+pub fn noun_groups(alloc: Global) -> Result<Pat, AllocError> {
+    let parts = vec![in alloc;
+        optional(alloc, Pat::Tok(0))?,
+        star(alloc, Pat::Tok(1))?,
+        Pat::Tok(2),
+    ]?;
+    Ok(Pat::Rep(Box::new(alloc, Pat::Cat(parts))?, 1, None))
+}
+
 /// `([upos="DET"] | [upos="ADJ"] | [upos="NOUN"])+ | ([upos="VERB"] [upos="ADV"]*)*`
 pub fn three_or_stars(alloc: Global) -> Result<Pat, AllocError> {
     let one = Pat::Alt(vec![in alloc; Pat::Tok(0), Pat::Tok(1), Pat::Tok(2)]?);

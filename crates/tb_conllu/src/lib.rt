@@ -19,12 +19,8 @@ mod rows;
 mod sentences;
 mod sink;
 mod spaces;
-#[cfg(test)]
-mod tests;
 mod text;
 mod whole;
-#[cfg(test)]
-mod write_tests;
 mod writer;
 
 pub use counts::{is_word_row, words};

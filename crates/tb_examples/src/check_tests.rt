@@ -1,134 +1,153 @@
 //! What `check` prints of small files, of broken ones, and where a reader or a writer fails.
 
-use crate::files::{COFFEE_AND_TEA, DOGS_BARK, VAMONOS};
-use std::alloc::{AllocError, Global};
+use crate::cases::{Question, assert_answers, changed, unfolded};
+use crate::files::{DOGS_BARK, file_of};
+use std::alloc::Global;
 use std::io::{self, ErrorKind, Read, Write};
-use std::process::Abort;
 use std::test::Fail;
 use tb_desk::{check_within, run_check, run_words};
 
-/// Asserts what the check prints of these bytes, and its status.
-pub(crate) fn assert_prints(rt: &impl Abort, alloc: Global, file: &[u8], line: &str, status: u8) {
+/// The status, and the line that was printed.
+fn told(alloc: Global, status: u8, out: &[u8]) -> Result<String, Fail> {
+    let line = str::from_utf8(out)?.strip_suffix('\n').ok_or("a line")?;
+    Ok(format!(in alloc; "{status} {line}")?)
+}
+
+/// What the check tells of these bytes.
+pub(crate) fn told_of(alloc: Global, file: &[u8]) -> Result<String, Fail> {
     let mut reader = file;
     let mut out = Vec::new(alloc);
-    let answered = run_check(alloc, &mut reader, &mut out);
-    assert_eq!(rt; answered, status, "of {file:?}");
-    assert_eq!(rt; out.as_slice(), line.as_bytes(), "of {file:?}");
+    let status = run_check(alloc, &mut reader, &mut out);
+    told(alloc, status, &out)
 }
 
-/// The text with its first such part put in another's place.
-pub(crate) fn changed(
-    alloc: Global,
-    text: &str,
-    old: &str,
-    new: &str,
-) -> Result<String, AllocError> {
-    let mut all = String::new(alloc);
-    match text.split_once(old) {
-        Some((before, after)) => {
-            all.push_str(before)?;
-            all.push_str(new)?;
-            all.push_str(after)?;
-        }
-        None => all.push_str(text)?,
+/// What the check tells of a text, in which `¶` stands for a line feed.
+struct Text;
+
+impl Question for Text {
+    fn answer(&self, alloc: Global, asked: &str) -> Result<String, Fail> {
+        let file = unfolded(alloc, asked)?;
+        told_of(alloc, file.as_bytes())
     }
-    Ok(all)
 }
+
+/// What the check tells of the file `NAMES`, or, asked `NAMES: OLD -> NEW`, of the file after this change.
+pub(crate) struct File;
+
+impl Question for File {
+    fn answer(&self, alloc: Global, asked: &str) -> Result<String, Fail> {
+        let (names, change) = asked.split_once(": ").unwrap_or((asked, " -> "));
+        let file = file_of(alloc, names)?;
+        told_of(alloc, changed(alloc, file.as_str(), change)?.as_bytes())
+    }
+}
+
+const SMALL_FILES: &str = "\
+    empty => 0 sentences 0 words 0\n\
+    D => 0 sentences 1 words 3\n\
+    V => 0 sentences 1 words 5\n\
+    C => 0 sentences 1 words 6\n";
 
 #[test]
-fn counts_sentences_and_words(rt: HostRuntime) {
-    let alloc = rt.alloc();
-    assert_prints(&rt, alloc, b"", "sentences 0 words 0\n", 0);
-    assert_prints(&rt, alloc, DOGS_BARK.as_bytes(), "sentences 1 words 3\n", 0);
-    assert_prints(&rt, alloc, VAMONOS.as_bytes(), "sentences 1 words 5\n", 0);
-    assert_prints(
-        &rt,
-        alloc,
-        COFFEE_AND_TEA.as_bytes(),
-        "sentences 1 words 6\n",
-        0,
-    );
+fn counts_sentences_and_words(rt: HostRuntime) -> Result<(), Fail> {
+    assert_answers(&rt, rt.alloc(), &File, SMALL_FILES, 4)
 }
+
+/// What the check tells of so many bytes of the file D.
+struct Prefix;
+
+impl Question for Prefix {
+    fn answer(&self, alloc: Global, asked: &str) -> Result<String, Fail> {
+        let length = asked.parse::<usize>()?;
+        told_of(alloc, DOGS_BARK.as_bytes().get(..length).ok_or("a prefix")?)
+    }
+}
+
+const ENDS: &str = "\
+    149 => 1 refused 8 Read 6 10\n\
+    148 => 1 refused 8 Read 5 10\n\
+    35 => 1 refused 8 Read 3 10\n\
+    100 => 1 refused 8 Read 4 10\n";
 
 #[test]
 fn tells_an_end_that_is_missing(rt: HostRuntime) -> Result<(), Fail> {
-    let alloc = rt.alloc();
-    let file = DOGS_BARK.as_bytes();
-    assert_eq!(rt; file.len(), 150);
-    assert_prints(&rt, alloc, &file[..149], "refused 8 Read 6 10\n", 1);
-    assert_prints(&rt, alloc, &file[..148], "refused 8 Read 5 10\n", 1);
-    assert_prints(&rt, alloc, &file[..35], "refused 8 Read 3 10\n", 1);
-    assert_prints(&rt, alloc, &file[..100], "refused 8 Read 4 10\n", 1);
-    Ok(())
+    assert_eq!(rt; DOGS_BARK.len(), 150);
+    assert_answers(&rt, rt.alloc(), &Prefix, ENDS, 4)
 }
+
+const LINES_AT_FAULT: &str = "\
+    D: \t_\tSpaceAfter=No¶ -> \tSpaceAfter=No¶# x¶ => 1 refused 8 Read 4 4\n\
+    D: s1¶ -> s1\r¶ => 1 refused 8 Read 1 3\n\
+    D: ¶3\t -> ¶# x¶3\t => 1 refused 8 Read 5 8\n";
+
+const FIRST_LINES_AT_FAULT: &str = "\
+    ¶ => 1 refused 8 Read 1 9\n\
+    # a¶¶ => 1 refused 8 Read 2 9\n\
+    # e\u{301}¶ => 1 refused 8 Read 1 2\n";
 
 #[test]
 fn tells_the_first_line_at_fault(rt: HostRuntime) -> Result<(), Fail> {
     let alloc = rt.alloc();
-    let short = changed(
-        alloc,
-        DOGS_BARK,
-        "\t_\tSpaceAfter=No\n",
-        "\tSpaceAfter=No\n# x\n",
-    )?;
-    assert_prints(&rt, alloc, short.as_bytes(), "refused 8 Read 4 4\n", 1);
-    assert_prints(&rt, alloc, b"\n", "refused 8 Read 1 9\n", 1);
-    assert_prints(&rt, alloc, b"# a\n\n", "refused 8 Read 2 9\n", 1);
-    assert_prints(&rt, alloc, b"\xff\n", "refused 8 Read 1 1\n", 1);
-    assert_prints(
-        &rt,
-        alloc,
-        "# e\u{301}\n".as_bytes(),
-        "refused 8 Read 1 2\n",
-        1,
-    );
-    let returns = changed(alloc, DOGS_BARK, "s1\n", "s1\r\n")?;
-    assert_prints(&rt, alloc, returns.as_bytes(), "refused 8 Read 1 3\n", 1);
-    let late = changed(alloc, DOGS_BARK, "\n3\t", "\n# x\n3\t")?;
-    assert_prints(&rt, alloc, late.as_bytes(), "refused 8 Read 5 8\n", 1);
+    assert_answers(&rt, alloc, &File, LINES_AT_FAULT, 3)?;
+    assert_answers(&rt, alloc, &Text, FIRST_LINES_AT_FAULT, 3)?;
+    assert_eq!(rt; told_of(alloc, b"\xff\n")?.as_str(), "1 refused 8 Read 1 1");
     Ok(())
 }
+
+const NUMBERS_AT_FAULT: &str = "\
+    D: ¶1\tDogs -> ¶01\tDogs => 1 refused 8 Read 3 5\n\
+    D: ¶1\tDogs -> ¶1-\tDogs => 1 refused 8 Read 3 5\n\
+    D: ¶1\tDogs -> ¶1000000\tDogs => 1 refused 8 Read 3 5\n\
+    D: ¶1\tDogs -> ¶3.0\tDogs => 1 refused 8 Read 3 5\n\
+    D: ¶1\tDogs -> ¶0\tDogs => 1 refused 8 Read 3 5\n\
+    D: ¶1\tDogs -> ¶0-1\tDogs => 1 refused 8 Read 3 5\n\
+    D: ¶1\tDogs -> ¶x\tDogs => 1 refused 8 Read 3 5\n\
+    D: \t2\tnsubj -> \tx\tnsubj => 1 refused 8 Read 3 7\n\
+    D: \t2\tnsubj -> \t-1\tnsubj => 1 refused 8 Read 3 7\n\
+    D: \t2\tnsubj -> \t1000000\tnsubj => 1 refused 8 Read 3 7\n\
+    D: \t2\tnsubj -> \t02\tnsubj => 1 refused 8 Read 3 7\n\
+    D: NOUN\t_ -> NOUN\tN N => 1 refused 8 Read 3 6\n";
 
 #[test]
 fn tells_numbers_of_the_wrong_form(rt: HostRuntime) -> Result<(), Fail> {
-    let alloc = rt.alloc();
-    for id in ["01", "1-", "1000000", "3.0", "0", "0-1", "x"] {
-        let mut line = String::new(alloc);
-        line.push_str("\n")?;
-        line.push_str(id)?;
-        line.push_str("\tDogs")?;
-        let file = changed(alloc, DOGS_BARK, "\n1\tDogs", line.as_str())?;
-        assert_prints(&rt, alloc, file.as_bytes(), "refused 8 Read 3 5\n", 1);
-    }
-    for head in ["x", "-1", "1000000", "02"] {
-        let mut field = String::new(alloc);
-        field.push_str("\t")?;
-        field.push_str(head)?;
-        field.push_str("\tnsubj")?;
-        let file = changed(alloc, DOGS_BARK, "\t2\tnsubj", field.as_str())?;
-        assert_prints(&rt, alloc, file.as_bytes(), "refused 8 Read 3 7\n", 1);
-    }
-    let spaced = changed(alloc, DOGS_BARK, "NOUN\t_", "NOUN\tN N")?;
-    assert_prints(&rt, alloc, spaced.as_bytes(), "refused 8 Read 3 6\n", 1);
-    Ok(())
+    assert_answers(&rt, rt.alloc(), &File, NUMBERS_AT_FAULT, 12)
 }
+
+/// What the check tells of the file D within so many bytes.
+struct Within;
+
+impl Question for Within {
+    fn answer(&self, alloc: Global, asked: &str) -> Result<String, Fail> {
+        let limit = u64::from(asked.parse::<u32>()?);
+        let mut reader = DOGS_BARK.as_bytes();
+        let mut out = Vec::new(alloc);
+        let status = check_within(alloc, &mut reader, &mut out, limit);
+        told(alloc, status, &out)
+    }
+}
+
+/// What the check tells of so many line feeds.
+struct LineFeeds;
+
+impl Question for LineFeeds {
+    fn answer(&self, alloc: Global, asked: &str) -> Result<String, Fail> {
+        let feeds = Vec::from_elem(alloc, b'\n', asked.parse::<usize>()?)?;
+        told_of(alloc, &feeds)
+    }
+}
+
+const LIMITS: &str = "\
+    150 => 0 sentences 1 words 3\n\
+    149 => 1 refused long\n";
+
+const GREATEST_FILES: &str = "\
+    4194304 => 1 refused 8 Read 1 9\n\
+    4194305 => 1 refused long\n";
 
 #[test]
 fn takes_so_many_bytes(rt: HostRuntime) -> Result<(), Fail> {
-    let alloc = rt.alloc();
-    let mut whole = DOGS_BARK.as_bytes();
-    let mut out = Vec::new(alloc);
-    assert_eq!(rt; check_within(alloc, &mut whole, &mut out, 150), 0);
-    assert_eq!(rt; out.as_slice(), b"sentences 1 words 3\n".as_slice());
-    let mut longer = DOGS_BARK.as_bytes();
-    let mut refusal = Vec::new(alloc);
-    assert_eq!(rt; check_within(alloc, &mut longer, &mut refusal, 149), 1);
-    assert_eq!(rt; refusal.as_slice(), b"refused long\n".as_slice());
-    let mut feeds = Vec::from_elem(alloc, b'\n', 4_194_304)?;
-    assert_prints(&rt, alloc, &feeds, "refused 8 Read 1 9\n", 1);
-    feeds.push(b'\n')?;
-    assert_prints(&rt, alloc, &feeds, "refused long\n", 1);
-    Ok(())
+    assert_answers(&rt, rt.alloc(), &Within, LIMITS, 2)?;
+    assert_answers(&rt, rt.alloc(), &LineFeeds, GREATEST_FILES, 2)
 }
 
 /// Gives some bytes, and then fails.
@@ -170,39 +189,45 @@ impl Write for BrokenWriter {
 }
 
 #[test]
-fn answers_where_a_read_or_a_write_fails(rt: HostRuntime) {
+fn answers_where_a_read_or_a_write_fails(rt: HostRuntime) -> Result<(), Fail> {
     let alloc = rt.alloc();
     for end in [0, 1, 149, 150] {
         let mut reader = BrokenReader {
-            rest: DOGS_BARK.as_bytes(),
+            rest: DOGS_BARK.as_bytes().get(..end).ok_or("a prefix")?,
         };
-        if end < reader.rest.len() {
-            reader.rest = &reader.rest[..end];
-        }
         let mut out = Vec::new(alloc);
-        assert_eq!(rt; run_check(alloc, &mut reader, &mut out), 3);
-        assert_eq!(rt; out.as_slice(), b"refused device\n".as_slice());
+        let status = run_check(alloc, &mut reader, &mut out);
+        assert_eq!(rt; told(alloc, status, &out)?.as_str(), "3 refused device");
     }
     for room in [0, 1, 19] {
         let mut reader = DOGS_BARK.as_bytes();
         let mut out = BrokenWriter { room };
         assert_eq!(rt; run_check(alloc, &mut reader, &mut out), 3);
     }
+    Ok(())
 }
+
+/// What is told of the file D where these are the words of the command line.
+struct Words;
+
+impl Question for Words {
+    fn answer(&self, alloc: Global, asked: &str) -> Result<String, Fail> {
+        let mut words = Vec::new(alloc);
+        for word in asked.split(' ') {
+            words.push(String::from_str(alloc, word)?)?;
+        }
+        let mut reader = DOGS_BARK.as_bytes();
+        let mut out = Vec::new(alloc);
+        let status = run_words(alloc, &words, &mut reader, &mut out);
+        told(alloc, status, &out)
+    }
+}
+
+const COMMAND_LINES: &str = "\
+    treedesk => 2 refused usage\n\
+    treedesk check => 0 sentences 1 words 3\n";
 
 #[test]
 fn takes_the_one_word(rt: HostRuntime) -> Result<(), Fail> {
-    let alloc = rt.alloc();
-    let mut words = Vec::new(alloc);
-    words.push(String::from_str(alloc, "treedesk")?)?;
-    let mut nothing = DOGS_BARK.as_bytes();
-    let mut usage = Vec::new(alloc);
-    assert_eq!(rt; run_words(alloc, &words, &mut nothing, &mut usage), 2);
-    assert_eq!(rt; usage.as_slice(), b"refused usage\n".as_slice());
-    words.push(String::from_str(alloc, "check")?)?;
-    let mut reader = DOGS_BARK.as_bytes();
-    let mut out = Vec::new(alloc);
-    assert_eq!(rt; run_words(alloc, &words, &mut reader, &mut out), 0);
-    assert_eq!(rt; out.as_slice(), b"sentences 1 words 3\n".as_slice());
-    Ok(())
+    assert_answers(&rt, rt.alloc(), &Words, COMMAND_LINES, 2)
 }

@@ -14,6 +14,3 @@ pub use deprel::{is_relation_text, relation_base};
 pub use feats::is_feature_list;
 pub use space::{has_white_space, is_solid_text};
 pub use tags::is_tag;
-
-#[cfg(test)]
-mod tests;

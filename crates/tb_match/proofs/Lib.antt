@@ -1,6 +1,8 @@
 pub mod Cells
 pub mod Chains
+pub mod Closures
 pub mod Filters
+pub mod Masks
 pub mod Ordered
 pub mod Parts
 pub mod Relations

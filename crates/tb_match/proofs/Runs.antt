@@ -1,9 +1,11 @@
 -- Words that the places of a row step over.
 use Rattle.std.proofs.Common.{◌≡◌, ◌+◌, ◌<◌, ◌≤◌, ◌↔◌, ◌⊎◌, ℕ, zero, suc, List, Option, Some, None, IsTrue, true, arith, sym, subst, inl, inr, ⊎_elim, refl}
 use Rattle.tb_match.specs.Bits.{InTable}
-use Rattle.tb_match.specs.Facts.{Facts}
+use Rattle.std.specs.Int.{bit_at}
+use Rattle.tb_match.specs.Facts.{Facts, Holds}
 use Rattle.tb_match.specs.Hits.{IsWord}
 use Rattle.tb_match.specs.Match.{Chain, IsAtMost}
+use Rattle.tb_match.proofs.Masks.{Over, over_forward}
 
 -- from a place of the row below `below`, to itself where K holds, or over one word
 abbrev pub Stepped : List ℕ → ℕ → ℕ → Type 0 → Facts → ℕ → ℕ → ℕ → Type 0
@@ -63,3 +65,34 @@ module _ (T : List ℕ) (w row n : ℕ) (t : Facts) (e j : ℕ) (M : ℕ → ℕ
 
   pub run_match : ((k : ℕ) → M k j ↔ ((l : ℕ) × Chain (IsWord t e) l k j)) → Run T w row n t e j ↔ ((k : ℕ) × (k ≤ n) × InTable T w row k × M k j)
   run_match same = (λ (k, le, r, s). (k, le, r, (same k).1 s), λ (k, le, r, m). (k, le, r, (same k).0 m))
+
+-- what a mask says of places, said of the words of a sentence
+module _ (T T' : List ℕ) (t : Facts) (e ends i j : ℕ) (mask : (b : ℕ) → (bit_at ends b ≡ 1) ↔ Holds t e b) (here : j ≤ t.words) where
+  pub stepped_over : (K : Type 0) → (InTable T' 1 i j ↔ ((K × InTable T 1 i j) ⊎ ((k : ℕ) × (j ≡ k + 1) × InTable T 1 i k × (bit_at ends j ≡ 1)))) →
+      InTable T' 1 i j ↔ Stepped T 1 i K t e (t.words + 1) j
+  stepped_over K step = (λ p. there (step.0 p), λ p. step.1 (back p))
+    where
+      there : ((K × InTable T 1 i j) ⊎ ((k : ℕ) × (j ≡ k + 1) × InTable T 1 i k × (bit_at ends j ≡ 1))) → Stepped T 1 i K t e (t.words + 1) j
+      there (inl (keep, p)) = (j, omega arith, p, inl (keep, refl))
+      there (inr (k, next, p, b)) = (k, omega arith, p, inr (next, (mask j).0 b))
+
+      back : Stepped T 1 i K t e (t.words + 1) j → (K × InTable T 1 i j) ⊎ ((k : ℕ) × (j ≡ k + 1) × InTable T 1 i k × (bit_at ends j ≡ 1))
+      back (k, lt, p, inl (keep, same)) = inl (keep, subst (λ x. InTable T 1 i x) (sym same) p)
+      back (k, lt, p, inr (next, holds)) = inr (k, next, p, (mask j).1 holds)
+
+  pub run_over : t.words < 64 → (InTable T' 1 i j ↔ ((k : ℕ) × (k < 64) × InTable T 1 i k × ((n : ℕ) × Chain (Over ends) n k j))) →
+      InTable T' 1 i j ↔ Run T 1 i t.words t e j
+  run_over short run = (
+    λ p. let r = run.0 p in
+        let le : r.0 ≤ j = over_forward ends r.3.0 r.0 j r.3.1 in
+        (r.0, omega arith, r.2, (r.3.0, chain_map (Over ends) (IsWord t e) (λ a b o. (o.0, (mask b).0 o.1)) r.3.0 r.0 j r.3.1)),
+    λ (k, le, p, (n, links)). run.1 (k, omega arith, p, (n, chain_map (IsWord t e) (Over ends) (λ a b o. (o.0, (mask b).1 o.1)) n k j links)),
+  )
+
+-- a step from each place alone
+pub from_itself : (D : List ℕ) (w n i j : ℕ) (t : Facts) (e : ℕ) (K : Type 0) → ((a b : ℕ) → a ≤ n → b ≤ n → InTable D w a b ↔ (a ≡ b)) → i ≤ n →
+    Stepped D w i K t e (n + 1) j ↔ ((K × (j ≡ i)) ⊎ IsWord t e i j)
+from_itself D w n i j t e K alone here = (
+  λ (k, lt, p, s). subst (λ x. (K × (j ≡ x)) ⊎ IsWord t e x j) (sym ((alone i k here (omega arith)).0 p)) s,
+  λ s. (i, omega arith, (alone i i here here).1 refl, s),
+)

@@ -12,6 +12,9 @@ use crate::strategy::Strategy;
 use crate::truth::Truth;
 use std::alloc::{AllocError, Global};
 
+/// The machine words of a row of the longest sentence.
+const WIDEST: usize = 16;
+
 /// What [`find`] found.
 #[derive(Debug, Drop)]
 pub struct Found {
@@ -59,9 +62,9 @@ pub fn find(
     }
     let last = truth.words();
     let width = last / 64 + 1;
-    let mut spare = Vec::from_elem(alloc, 0, width)?;
+    let mut spare = [0; WIDEST];
     let mut steps = 0;
-    let table = rows(alloc, pat, truth, &mut spare, width, &mut steps)?;
+    let table = rows(alloc, pat, truth, &mut spare[..width], width, &mut steps)?;
     let hits = hits_by(alloc, strategy, &table, width, last)?;
     Ok(Found { hits, steps })
 }

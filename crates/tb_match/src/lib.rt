@@ -1,19 +1,14 @@
 //! Patterns over the words of a sentence, and where they match: exactly the defined hits, within a bound.
 #![tactic(auto)]
 
-#[cfg(test)]
-mod border_tests;
 mod finding;
 mod hits;
+mod narrow;
 mod pattern;
-#[cfg(test)]
-mod plain;
 mod possible;
 mod relation;
 mod strategy;
 mod table;
-#[cfg(test)]
-mod tests;
 mod token;
 mod truth;
 mod uniting;

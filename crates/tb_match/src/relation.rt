@@ -1,12 +1,13 @@
 //! The relation of a pattern as a table of bit rows.
 
-ghost use Rattle.std.specs.Prelude.{◌≡◌, ◌+◌, ◌-◌, ◌*◌, ◌/◌, ◌<◌, ◌≤◌, ◌^◌, ◌↔◌, ◌⊎◌, ℕ, IfOk, IsTrue, length};
+ghost use Rattle.std.specs.Prelude.{◌≡◌, ◌+◌, ◌-◌, ◌*◌, ◌/◌, ◌<◌, ◌≤◌, ◌^◌, ◌↔◌, ◌⊎◌, ℕ, IfOk, IsTrue, length, None};
 ghost use Rattle.tb_match.specs.Bits.{InTable, Link, Repeated, triangle};
 ghost use Rattle.tb_match.specs.Match.{Chain, Match, IsAtMost};
 ghost use Rattle.tb_match.specs.Parts.{EachInTurn, AnyOf, AllProper, weight_of_all};
 ghost use Rattle.tb_match.specs.Weight.{IsBetween, weight_of, turns, IsProper};
 ghost use Rattle.tb_match.specs.Facts.{Facts, Holds};
 
+use crate::narrow::chain_words;
 use crate::pattern::Pat;
 use crate::table::{close, compose, diagonal, empty, mark, merge, repeat};
 use crate::token::{
@@ -15,8 +16,13 @@ use crate::token::{
 use crate::truth::Truth;
 use std::alloc::{AllocError, Global};
 
-/// The rows of one word of which the expression holds.
-fn token_rows(alloc: Global, expr: u16, truth: &Truth, width: usize) -> Result<Vec<u64>, AllocError>
+/// The rows of one word of which the expression holds, marked one by one.
+fn marked_rows(
+    alloc: Global,
+    expr: u16,
+    truth: &Truth,
+    width: usize,
+) -> Result<Vec<u64>, AllocError>
     requires expr { expr < truth.now.exprs }
     requires wide { truth.now.words / 64 < width }
     requires narrow { width ≤ 16 }
@@ -32,6 +38,22 @@ fn token_rows(alloc: Global, expr: u16, truth: &Truth, width: usize) -> Result<V
         }
     }
     Ok(table)
+}
+
+/// The rows of one word of which the expression holds.
+fn token_rows(alloc: Global, expr: u16, truth: &Truth, width: usize) -> Result<Vec<u64>, AllocError>
+    requires expr { expr < truth.now.exprs }
+    requires wide { truth.now.words / 64 < width }
+    requires narrow { width ≤ 16 }
+    ensures whole { IfOk result (λ v. length v.items ≡ (truth.now.words + 1) * width) }
+    ensures rows { IfOk result (λ v. (i j : ℕ) → i ≤ truth.now.words → j ≤ truth.now.words →
+        (InTable v.items width i j ↔ ((j ≡ i + 1) × Holds truth.now expr j))) }
+{
+    if width == 1 {
+        let places = diagonal(alloc, width, truth.words())?;
+        return step_over(alloc, places, expr, truth, width, false);
+    }
+    marked_rows(alloc, expr, truth, width)
 }
 
 /// The rows of chains of links that may follow the least number of them.
@@ -73,8 +95,9 @@ fn further(
     }
 }
 
-/// The rows of chains of links: at least `least` of them, and at most `most` where it is given.
-fn repetition(
+/// The rows of chains of links, by sweeps over a table of their own: at least `least` of them, and
+/// at most `most` where it is given.
+fn swept(
     alloc: Global,
     links: &[u64],
     least: u8,
@@ -109,6 +132,45 @@ fn repetition(
         steps,
     );
     Ok(table)
+}
+
+/// Whether the links are to be chained in their own table: where the numbers are those of `+` and
+/// a row is one machine word.
+fn is_chained_in_place(least: u8, most: Option<u8>, width: usize) -> bool
+    ensures { IsTrue result → (least ≡ 1) × (most ≡ None) × (width ≡ 1) }
+{
+    least == 1 && most.is_none() && width == 1
+}
+
+/// The rows of chains of links: at least `least` of them, and at most `most` where it is given.
+fn repetition(
+    alloc: Global,
+    mut links: Vec<u64>,
+    least: u8,
+    most: Option<u8>,
+    spare: &mut [u64],
+    width: usize,
+    last: usize,
+    steps: &mut u64,
+) -> Result<Vec<u64>, AllocError>
+    requires order { IsBetween least most }
+    requires wide { last / 64 < width }
+    requires narrow { width ≤ 16 }
+    requires spare { length spare.old ≡ width }
+    requires links { length links.items ≡ (last + 1) * width }
+    requires small { last ≤ 1000 }
+    requires countable { steps.old + turns least most * triangle (last + 1) < 2 ^ 64 }
+    ensures whole { IfOk result (λ v. length v.items ≡ (last + 1) * width) }
+    ensures rows { IfOk result (λ v. (i j : ℕ) → i ≤ last → j ≤ last →
+        (InTable v.items width i j ↔ ((k : ℕ) × (least ≤ k) × IsAtMost k most × Chain (Link links.items width last) k i j))) }
+    ensures more { steps.old ≤ steps.new }
+    ensures bound { steps.new ≤ steps.old + turns least most * triangle (last + 1) }
+{
+    if is_chained_in_place(least, most, width) {
+        chain_words(&mut links, last, steps);
+        return Ok(links);
+    }
+    swept(alloc, &links, least, most, spare, width, last, steps)
 }
 
 /// The rows of the parts, one after the other.
@@ -172,10 +234,10 @@ fn followed(
     ensures bound { steps.new ≤ steps.old + (weight_of part.now + 1) * triangle (truth.now.words + 1) }
 {
     if let Some(expr) = token_of(part) {
-        return step_over(alloc, &table, expr, truth, width, false);
+        return step_over(alloc, table, expr, truth, width, false);
     }
     if let Some(expr) = optional_token_of(part) {
-        return step_over(alloc, &table, expr, truth, width, true);
+        return step_over(alloc, table, expr, truth, width, true);
     }
     if let Some(expr) = short_run_of(part, truth) {
         run_on(&mut table, expr, truth, width);
@@ -251,7 +313,7 @@ pub(crate) fn rows(
             let links = rows(alloc, inner, truth, spare, width, steps)?;
             repetition(
                 alloc,
-                &links,
+                links,
                 *least,
                 *most,
                 spare,

@@ -118,7 +118,7 @@ pub(crate) fn store(table: &mut [u64], row: &[u64], place: usize)
 }
 
 /// The last place of a row of one word.
-pub(crate) const LAST_OF_WORD: usize = 63;
+const LAST_OF_WORD: usize = 63;
 
 /// Makes row `place` of the table the places that its links lead on to, and `place` itself where `keep` says so.
 #[inline(always)]

@@ -8,8 +8,9 @@ ghost use Rattle.tb_match.specs.Hits.{IsWord};
 ghost use Rattle.tb_match.specs.Match.{Chain, Match};
 ghost use Rattle.tb_match.specs.Weight.{IsProper};
 
+use crate::narrow::{ends_of, run_words, step_words};
 use crate::pattern::Pat;
-use crate::table::{LAST_OF_WORD, empty, mark};
+use crate::table::{diagonal, empty, mark};
 use crate::truth::Truth;
 use crate::walk::next_place;
 use std::alloc::{AllocError, Global};
@@ -146,6 +147,10 @@ pub(crate) fn optional_token_rows(
         (InTable v.items width i j ↔ ((j ≡ i) ⊎ IsWord truth.now expr i j))) }
 {
     let last = truth.words();
+    if width == 1 {
+        let places = diagonal(alloc, width, last)?;
+        return step_over(alloc, places, expr, truth, width, true);
+    }
     let mut table = empty(alloc, width, last)?;
     for place in 0..last + 1 {
         mark_step(&mut table, place, place, expr, truth, width, true);
@@ -186,9 +191,9 @@ fn step_row(
     }
 }
 
-/// The rows of the table followed by one word of which the expression holds; also those of the
-/// table itself where `keep` says so.
-pub(crate) fn step_over(
+/// The rows of the table followed by one word of which the expression holds, walked place by place;
+/// also those of the table itself where `keep` says so.
+fn walk_over(
     alloc: Global,
     table: &[u64],
     expr: u16,
@@ -208,14 +213,35 @@ pub(crate) fn step_over(
     let last = truth.words();
     let mut next = empty(alloc, width, last)?;
     for row in 0..last + 1 {
-        if width == 1 {
-            let last = last.min(LAST_OF_WORD);
-            step_row(table, &mut next, row, expr, truth, 1, last, keep);
-        } else {
-            step_row(table, &mut next, row, expr, truth, width, last, keep);
-        }
+        step_row(table, &mut next, row, expr, truth, width, last, keep);
     }
     Ok(next)
+}
+
+/// The rows of the table followed by one word of which the expression holds; also those of the
+/// table itself where `keep` says so.
+pub(crate) fn step_over(
+    alloc: Global,
+    mut table: Vec<u64>,
+    expr: u16,
+    truth: &Truth,
+    width: usize,
+    keep: bool,
+) -> Result<Vec<u64>, AllocError>
+    requires expr { expr < truth.now.exprs }
+    requires wide { truth.now.words / 64 < width }
+    requires narrow { width ≤ 16 }
+    requires table { length table.items ≡ (truth.now.words + 1) * width }
+    ensures whole { IfOk result (λ v. length v.items ≡ (truth.now.words + 1) * width) }
+    ensures rows { IfOk result (λ v. (i j : ℕ) → i ≤ truth.now.words → j ≤ truth.now.words →
+        (InTable v.items width i j ↔ ((k : ℕ) × (k < truth.now.words + 1) × InTable table.items width i k ×
+        ((IsTrue keep × (j ≡ k)) ⊎ IsWord truth.now expr k j)))) }
+{
+    if width == 1 {
+        step_words(&mut table, ends_of(expr, truth), keep);
+        return Ok(table);
+    }
+    walk_over(alloc, &table, expr, truth, width, keep)
 }
 
 /// Puts into the row each place that a run of words of which the expression holds leads to. A place
@@ -241,8 +267,8 @@ fn run_row(table: &mut [u64], row: usize, expr: u16, truth: &Truth, width: usize
 }
 
 /// Makes the table's relation its own followed by any number of words of which the expression
-/// holds.
-pub(crate) fn run_on(table: &mut [u64], expr: u16, truth: &Truth, width: usize)
+/// holds, walked place by place.
+fn walk_on(table: &mut [u64], expr: u16, truth: &Truth, width: usize)
     requires expr { expr < truth.now.exprs }
     requires wide { truth.now.words / 64 < width }
     requires table { length table.old ≡ (truth.now.words + 1) * width }
@@ -251,10 +277,22 @@ pub(crate) fn run_on(table: &mut [u64], expr: u16, truth: &Truth, width: usize)
 {
     let last = truth.words();
     for row in 0..last + 1 {
-        if width == 1 {
-            run_row(table, row, expr, truth, 1, last.min(LAST_OF_WORD));
-        } else {
-            run_row(table, row, expr, truth, width, last);
-        }
+        run_row(table, row, expr, truth, width, last);
+    }
+}
+
+/// Makes the table's relation its own followed by any number of words of which the expression
+/// holds.
+pub(crate) fn run_on(table: &mut [u64], expr: u16, truth: &Truth, width: usize)
+    requires expr { expr < truth.now.exprs }
+    requires wide { truth.now.words / 64 < width }
+    requires table { length table.old ≡ (truth.now.words + 1) * width }
+    ensures rows { (i j : ℕ) → i ≤ truth.now.words → j ≤ truth.now.words → (InTable table.new width i j ↔
+        ((k : ℕ) × (k ≤ truth.now.words) × InTable table.old width i k × ((n : ℕ) × Chain (IsWord truth.now expr) n k j))) }
+{
+    if width == 1 {
+        run_words(table, ends_of(expr, truth));
+    } else {
+        walk_on(table, expr, truth, width);
     }
 }

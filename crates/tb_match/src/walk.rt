@@ -7,7 +7,7 @@ ghost use Rattle.tb_match.specs.Bits.{InRow};
 /// The bits of a word whose lowest bit stands for place `base`, without those of places before
 /// `from`.
 #[inline(always)]
-fn bits_from(word: u64, base: usize, from: usize) -> u64
+pub(crate) fn bits_from(word: u64, base: usize, from: usize) -> u64
     requires { from < base + 64 }
     ensures { (i : ℕ) → i < 64 → ((bit_at result i ≡ 1) ↔ ((bit_at word i ≡ 1) × (from ≤ base + i))) }
 {

@@ -7,8 +7,6 @@
 mod cutting;
 mod needle;
 mod pattern;
-#[cfg(test)]
-mod tests;
 
 pub use needle::{Needle, Tester};
 pub use pattern::PatternFault;

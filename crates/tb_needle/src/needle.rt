@@ -105,7 +105,20 @@ impl Needle {
 
 impl<'n> Tester<'n> {
     /// Whether the literal fits the whole value.
+    #[inline]
     pub fn meets(&mut self, value: &str) -> bool
+        ensures value { result ≡ meets self.old value.now }
+        ensures same { self.new ≡ self.old }
+    {
+        if self.matcher.is_some() {
+            return self.meets_by_matcher(value);
+        }
+        value == self.text
+    }
+
+    /// The same by the matcher, where there is one: out of line, so that the comparison is not.
+    #[inline(never)]
+    fn meets_by_matcher(&mut self, value: &str) -> bool
         ensures value { result ≡ meets self.old value.now }
         ensures same { self.new ≡ self.old }
     {

@@ -11,26 +11,10 @@ mod attaching;
 mod expr;
 mod fault;
 mod filling;
-#[cfg(test)]
-mod guide_cases;
-#[cfg(test)]
-mod guide_tests;
-#[cfg(test)]
-mod hit_lists;
 mod laws;
-#[cfg(test)]
-mod parse_tests;
 mod query;
-#[cfg(test)]
-mod random_tests;
 mod reading;
-#[cfg(test)]
-mod samples;
-#[cfg(test)]
-mod search_tests;
 mod searcher;
-#[cfg(test)]
-mod worked_tests;
 
 pub use expr::Expr;
 pub use fault::QueryFault;

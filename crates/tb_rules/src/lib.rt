@@ -29,8 +29,3 @@ pub use laws::{
 };
 pub use spelling::restored;
 pub use taking::{Checker, check_all};
-
-#[cfg(test)]
-mod file_tests;
-#[cfg(test)]
-mod tests;

@@ -16,10 +16,6 @@ mod parsing;
 mod reading;
 mod scanning;
 mod spelling;
-#[cfg(test)]
-mod tests;
-#[cfg(test)]
-mod text_tests;
 mod tree;
 mod unquoting;
 

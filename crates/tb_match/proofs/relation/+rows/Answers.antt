@@ -1,4 +1,4 @@
-use Rattle.std.proofs.Common.{arith, ◌≡◌, ◌+◌, ◌*◌, ◌<◌, ◌≤◌, ◌^◌, ◌↔◌, ◌⊎◌, ℕ, ◌∷◌, length, drop, IsTrue, true, sym, ◌∙◌, subst, ap}
+use Rattle.std.proofs.Common.{arith, ◌≡◌, ◌+◌, ◌*◌, ◌<◌, ◌≤◌, ◌^◌, ◌↔◌, ◌⊎◌, ℕ, ◌∷◌, length, drop, sym, ◌∙◌, subst, ap}
 use Rattle.std.proofs.lemmas.Result.{IfOk-weaker}
 use Rattle.tb_match.specs.Bits.{InTable, triangle}
 use Rattle.tb_match.specs.Facts.{Holds}
@@ -9,7 +9,7 @@ use Rattle.tb_match.proofs.Parts.{Match-Cat, Match-Alt, weight_of-Cat, weight_of
 use Rattle.tb_match.proofs.Relations.{room_within, sequence_more, sequence_forward, first_forward, first_rows, bound_after_first, repetition_rows, choice_more, room_after, room_for_part, room_after_part, bound_after_part}
 use Rattle.tb_match.proofs.Repeats.{lent}
 use Rattle.tb_match.proofs.Sweeps.{le_triangle}
-use Rattle.tb_match.proofs.Runs.{Stepped, Run, stepped_match, run_match}
+use Rattle.tb_match.proofs.Runs.{Run, stepped_match, run_match}
 use Rattle.tb_match.proofs.relation.+rows.Goals as goal
 
 pub rows-returns-in-Cat-clause-rows : goal.rows-returns-in-Cat-clause-rows
@@ -155,12 +155,11 @@ rows-returns-in-Alt-clause-bound t c =
 pub rows-returns-in_ok-links-in-Rep-clause-rows : goal.rows-returns-in_ok-links-in-Rep-clause-rows
 rows-returns-in_ok-links-in-Rep-clause-rows t c =
     let H = Holds c.args.truth.now in
-    let links : (i j : ℕ) → i ≤ c.args.truth.now.words → j ≤ c.args.truth.now.words → InTable c.deref-in-Rep-2.result.now c.args.width i j ↔ Match (Holds c.args.truth.now) c.in-Rep.inner.value i j =
-    λ i j p q. subst (λ xs. InTable xs c.args.width i j ↔ Match (Holds c.args.truth.now) c.in-Rep.inner.value i j) (sym c.deref-in-Rep-2.ensures.value)
-    (subst (λ x. InTable c.in_ok-links-in-Rep.links.items c.args.width i j ↔ Match (Holds c.args.truth.now) x i j) c.deref-in-Rep.ensures (c.in_ok-links-in-Rep.ensures.rows i j p q)) in
+    let links : (i j : ℕ) → i ≤ c.args.truth.now.words → j ≤ c.args.truth.now.words → InTable c.in_ok-links-in-Rep.links.items c.args.width i j ↔ Match (Holds c.args.truth.now) c.in-Rep.inner.value i j =
+    λ i j p q. subst (λ x. InTable c.in_ok-links-in-Rep.links.items c.args.width i j ↔ Match (Holds c.args.truth.now) x i j) c.deref-in-Rep.ensures (c.in_ok-links-in-Rep.ensures.rows i j p q) in
     IfOk-weaker c.repetition.result _ _ (λ v h i j p q.
     subst (λ x. InTable v.items c.args.width i j ↔ Match (Holds c.args.truth.now) x i j) (sym c.in-Rep.is)
-    (repetition_rows c.args.truth.now c.words.result c.args.width c.words.ensures.count c.deref-in-Rep-2.result.now v.items c.in-Rep.inner.value c.in-Rep.least c.in-Rep.most links h i j p q))
+    (repetition_rows c.args.truth.now c.words.result c.args.width c.words.ensures.count c.in_ok-links-in-Rep.links.items v.items c.in-Rep.inner.value c.in-Rep.least c.in-Rep.most links h i j p q))
     c.repetition.ensures.rows
 
 pub choice-merge-requires-clause-countable : goal.choice-merge-requires-clause-countable
@@ -276,7 +275,7 @@ followed-returns-in-Some-optional_token_of-clause-rows t c =
     let e = c.in-Some-optional_token_of.expr in
     let w = c.args.width in
     IfOk-weaker c.step_over-in-Some-optional_token_of.result _ _ (λ v h i j p q.
-    let r = subst (λ xs. InTable v.items w i j ↔ Stepped xs w i (IsTrue true) facts e (facts.words + 1) j) c.deref-in-Some-optional_token_of.ensures.value (h i j p q) in
+    let r = h i j p q in
     let m = stepped_match c.args.table.items w i facts.words facts e j (Match (Holds facts) c.args.part.now)
     (λ k. c.optional_token_of.ensures.word e c.in-Some-optional_token_of.is facts k j) in
     (λ a. m.0 (r.0 a), λ a. r.1 (m.1 a)))

@@ -1,0 +1,47 @@
+//! What a literal fits, as text.
+
+use crate::cases::cut;
+use crate::writing::shown;
+use std::alloc::{AllocError, Global};
+use std::process::Abort;
+use std::test::Fail;
+use tb_needle::{Needle, PatternFault, Tester};
+use tb_syntax::Flag;
+
+/// The literal of a text.
+pub(crate) fn needle(alloc: Global, text: &str, flag: Flag) -> Result<Needle, PatternFault> {
+    Needle::new(alloc, String::from_str(alloc, text)?, flag)
+}
+
+/// Whether the tester's literal fits the value, or some item of it.
+pub(crate) fn fits(tester: &mut Tester<'_>, value: &str, by_items: bool) -> bool {
+    if by_items {
+        tester.meets_item(value)
+    } else {
+        tester.meets(value)
+    }
+}
+
+/// Whether the literal before `at` fits the value after it, or some item of it.
+pub(crate) fn fit(
+    rt: &impl Abort,
+    alloc: Global,
+    text: &str,
+    flag: Flag,
+    by_items: bool,
+) -> Result<String, Fail> {
+    let (literal, value) = cut(rt, text, " at ");
+    let needle = needle(alloc, literal, flag)?;
+    let mut tester = needle.tester(alloc)?;
+    let told = if fits(&mut tester, value, by_items) {
+        "yes"
+    } else {
+        "no"
+    };
+    Ok(String::from_str(alloc, told)?)
+}
+
+/// Why the literal is refused, if it is.
+pub(crate) fn refusal(alloc: Global, text: &str, flag: Flag) -> Result<String, Fail> {
+    Ok(shown(alloc, &needle(alloc, text, flag).err())?)
+}

@@ -1,0 +1,179 @@
+//! Literals and values. What is expected follows from the documentation of Rust's regex crate, the
+//! manual of CQP and the CoNLL-U format page, worked out by hand.
+
+use crate::cases::assert_cases;
+use crate::literals::{fits, needle};
+use crate::questions::Question;
+use std::test::Fail;
+use tb_syntax::Flag;
+
+/// A pattern matches the whole value. A text without signs fits itself alone. Classes are those of Unicode, and a dot
+/// is one character. An underscore is a value as any other. A dot is no line feed, and an end of a line is no end of the
+/// value. The empty pattern fits the empty value alone.
+const PLAIN: &str = r"a|ab at ab => yes
+a|ab at a => yes
+a at ab => no
+b at ab => no
+a|b at cb => no
+go at go => yes
+go at Go => no
+g. at go => yes
+.*ing at singing => yes
+.*ing at ing => yes
+.*ing at things => no
+NOUN at NOUN => yes
+NOUN at NOUNS => no
+NOUN at PRONOUN => no
+NOUN at noun => no
+Straße at Straße => yes
+Straße at Strasse => no
+it's 5 at it's 5 => yes
+\p{Lu}.* at Straße => yes
+\p{Lu}.* at straße => no
+stra.e at straße => yes
+stra..e at straße => no
+über at ÜBER => no
+_ at _ => yes
+1×a.b␣at␣a␤b => no
+1×a␣at␣a␤ => no
+1×(?m)^a$␣at␣b␤a => no
+.* at  => yes
+ at  => yes
+ at a => no";
+
+/// Case is that of Unicode.
+const NO_CASE: &str = r"NOUN at noun => yes
+go at Go => yes
+GO at go => yes
+go|stop at STOP => yes
+go at gone => no
+über at ÜBER => yes
+g(?-i:o) at Go => yes
+g(?-i:o) at GO => no
+ at  => yes
+ at   => no";
+
+/// With %l the text is the value.
+const LITERAL: &str = r"g. at Go => no
+g. at go => no
+g. at g. => yes
+g. at G. => no
+( at ( => yes
+a|b at a => no
+ at  => yes
+ at a => no";
+
+#[test]
+fn literals_fit_whole_values(rt: HostRuntime) -> Result<(), Fail> {
+    for (flag, cases) in [
+        (Flag::Plain, PLAIN),
+        (Flag::NoCase, NO_CASE),
+        (Flag::Literal, LITERAL),
+    ] {
+        assert_cases(&rt, rt.alloc(), Question::Value(flag), cases)?;
+    }
+    Ok(())
+}
+
+/// A comma parts the values of one item. An underscore stands for no item.
+const PLAIN_ITEMS: &str = "\
+    Number=Plur at Case=Nom|Number=Plur => yes\n\
+    Case=Nom at Case=Nom|Number=Plur => yes\n\
+    Case=Nom at Abbr=Yes|Case=Nom|Number=Plur => yes\n\
+    Number=Plur at Number=Plur => yes\n\
+    Plur at Case=Nom|Number=Plur => no\n\
+    Number=.* at Case=Nom|Number=Plur => yes\n\
+    Case=.*Plur at Case=Nom|Number=Plur => no\n\
+    Case=Nom.Number=Plur at Case=Nom|Number=Plur => no\n\
+    number=plur at Case=Nom|Number=Plur => no\n\
+    PronType=Int at PronType=Int,Rel => no\n\
+    PronType=Int,Rel at PronType=Int,Rel => yes\n\
+    _ at _ => no\n\
+    .* at _ => no\n";
+
+const LITERAL_ITEMS: &str = "\
+    Number=Plur at Case=Nom|Number=Plur => yes\n\
+    Case=Nom|Number=Plur at Case=Nom|Number=Plur => no\n\
+    _ at _ => no\n";
+
+#[test]
+fn literals_fit_items(rt: HostRuntime) -> Result<(), Fail> {
+    for (flag, cases) in [
+        (Flag::Plain, PLAIN_ITEMS),
+        (Flag::NoCase, "number=plur at Case=Nom|Number=Plur => yes"),
+        (Flag::Literal, LITERAL_ITEMS),
+    ] {
+        assert_cases(&rt, rt.alloc(), Question::Item(flag), cases)?;
+    }
+    Ok(())
+}
+
+#[test]
+fn one_tester_serves_many_values(rt: HostRuntime) -> Result<(), Fail> {
+    let needle = needle(rt.alloc(), "a+", Flag::NoCase)?;
+    assert!(rt; needle.text() == "a+" && needle.flag() == Flag::NoCase);
+    let mut tester = needle.tester(rt.alloc())?;
+    for (value, by_items, want) in [
+        ("a", false, true),
+        ("b", false, false),
+        ("AA", false, true),
+        ("", false, false),
+        ("ab", false, false),
+        ("aAa", false, true),
+        ("_", false, false),
+        ("b|A|c", true, true),
+        ("b|ab|", true, false),
+        ("_", true, false),
+        ("a", false, true),
+    ] {
+        assert!(rt; fits(&mut tester, value, by_items) == want);
+    }
+    Ok(())
+}
+
+/// The second to fourth are no pattern alone, though they are one wrapped; the next two are none wrapped, though they
+/// are one alone, since a comment runs to the end of a line. Then nests: each pair of parentheses is a level, and what
+/// wraps the text adds two; regex allows 250. The last two are too large, which is a want of memory.
+const REFUSED: &str = r"( => Some(Syntax)
+a)|(b => Some(Syntax)
+a)|(?:b => Some(Syntax)
+)( => Some(Syntax)
+(?x)a# => Some(Syntax)
+(?x) a # b => Some(Syntax)
+[ => Some(Syntax)
+* => Some(Syntax)
+a{2,1} => Some(Syntax)
+\p{Nothing} => Some(Syntax)
+\8 => Some(Syntax)
+248×( a 248×) => None
+249×( a 249×) => Some(Syntax)
+1000×( a 1000×) => Some(Syntax)
+(a{1000}){1000} => Some(Memory)
+a{4294967295} => Some(Memory)";
+
+/// With `%l` no text is refused.
+const TAKEN: &str = r"( => None
+a)|(b => None
+a)|(?:b => None
+)( => None
+(?x)a# => None
+(?x) a # b => None
+[ => None
+* => None
+a{2,1} => None
+\p{Nothing} => None
+\8 => None
+(a{1000}){1000} => None
+a{4294967295} => None";
+
+#[test]
+fn texts_outside_the_grammar_are_refused(rt: HostRuntime) -> Result<(), Fail> {
+    for (flag, cases) in [
+        (Flag::Plain, REFUSED),
+        (Flag::NoCase, REFUSED),
+        (Flag::Literal, TAKEN),
+    ] {
+        assert_cases(&rt, rt.alloc(), Question::Refusal(flag), cases)?;
+    }
+    Ok(())
+}

@@ -1,0 +1,137 @@
+//! Patterns and tables of truths as short texts.
+
+use std::alloc::{AllocError, Global};
+use std::process::Abort;
+use tb_match::{Pat, Truth};
+
+/// A part of a pattern's text, which stands after the patterns that it is made of.
+#[derive(Clone, Copy)]
+pub(crate) enum Node {
+    /// One word of which the expression with this number holds.
+    Word(u16),
+    /// The last so many patterns, one after the other.
+    Sequence(usize),
+    /// Any one of the last so many patterns.
+    Choice(usize),
+    /// The last pattern repeated.
+    Repeated(u8, Option<u8>),
+}
+
+/// What is made of the parts by a node.
+fn made(alloc: Global, node: Node, mut parts: Vec<Pat>) -> Result<Option<Pat>, AllocError> {
+    match node {
+        Node::Word(expr) => Ok(Some(Pat::Tok(expr))),
+        Node::Sequence(_) => Ok(Some(Pat::Cat(parts))),
+        Node::Choice(_) => Ok(Some(Pat::Alt(parts))),
+        Node::Repeated(least, most) => match parts.pop() {
+            Some(inner) => Ok(Some(Pat::Rep(Box::new(alloc, inner)?, least, most))),
+            None => Ok(None),
+        },
+    }
+}
+
+/// Puts a node in the place of the last patterns, which it is made of, and says whether there were enough.
+pub(crate) fn put(alloc: Global, pats: &mut Vec<Pat>, node: Node) -> Result<bool, AllocError> {
+    let count = match node {
+        Node::Word(_) => 0,
+        Node::Sequence(count) | Node::Choice(count) => count,
+        Node::Repeated(_, _) => 1,
+    };
+    if pats.len() < count {
+        return Ok(false);
+    }
+    let parts = pats.split_off(pats.len() - count)?;
+    let Some(pat) = made(alloc, node, parts)? else {
+        return Ok(false);
+    };
+    pats.push(pat)?;
+    Ok(true)
+}
+
+/// The value of a decimal digit.
+fn digit(sign: u8) -> u8 {
+    sign & 15
+}
+
+/// The node that is written so: `*`, `+`, `?` and `{2,4}` repeat, `.3` is a sequence and `|3` a choice of three
+/// patterns, and a digit is a word.
+fn node_of(token: &[u8]) -> Node {
+    match token {
+        [b'*'] => Node::Repeated(0, None),
+        [b'+'] => Node::Repeated(1, None),
+        [b'?'] => Node::Repeated(0, Some(1)),
+        [b'{', least, b',', most, b'}'] => Node::Repeated(digit(*least), Some(digit(*most))),
+        [b'.', count] => Node::Sequence(usize::from(digit(*count))),
+        [b'|', count] => Node::Choice(usize::from(digit(*count))),
+        [expr] => Node::Word(u16::from(digit(*expr))),
+        _ => Node::Sequence(0),
+    }
+}
+
+/// The pattern of a text, whose nodes stand after what they are made of: `0 1 * .2` for `[0] [1]*`.
+pub(crate) fn pattern(rt: &impl Abort, alloc: Global, text: &str) -> Result<Pat, AllocError> {
+    let mut pats = Vec::new(alloc);
+    for token in text.split(' ') {
+        let ready = put(alloc, &mut pats, node_of(token.as_bytes()))?;
+        assert!(rt; ready, "the parts of the node are there");
+    }
+    let only = pats.pop();
+    assert!(rt; pats.is_empty(), "the text is one pattern");
+    match only {
+        Some(pat) => Ok(pat),
+        None => panic!(rt; "the text is a pattern"),
+    }
+}
+
+/// Whether an expression, known by a letter, holds of a word of a sentence of so many words.
+fn holds(letter: char, word: usize, words: usize) -> bool {
+    match letter {
+        'a' => true,
+        'f' => word == 1,
+        'r' => word > 1,
+        'p' => word.saturating_add(1) == words,
+        'l' => word == words,
+        'e' => word == 1 || word == words,
+        // Every third word and the last two, the others and the last one.
+        's' => word % 3 == 0 || word.saturating_add(1) >= words,
+        't' => word % 3 != 0 || word == words,
+        // Words round the end of the first machine word, and after it.
+        'b' => matches!(word, 1 | 61 | 62 | 63 | 64 | 65 | 66 | 127 | 128),
+        'c' => matches!(word, 2 | 64 | 65 | 66 | 67 | 128),
+        // "the old book on the table in the room": determiners, adjectives, nouns and prepositions.
+        'D' => matches!(word, 1 | 5 | 8),
+        'J' => word == 2,
+        'N' => matches!(word, 3 | 6 | 9),
+        'P' => matches!(word, 4 | 7),
+        _ => false,
+    }
+}
+
+/// Makes the expression hold of the word, where the table has both.
+pub(crate) fn mark(truth: &mut Truth, expr: u16, word: usize) {
+    if expr < truth.exprs() && 1 <= word && word <= truth.words() {
+        truth.set(expr, word);
+    }
+}
+
+/// The table of a sentence of so many words that has an expression for each letter.
+pub(crate) fn table(
+    rt: &impl Abort,
+    alloc: Global,
+    letters: &str,
+    words: usize,
+) -> Result<Truth, AllocError> {
+    let exprs = letters.len();
+    assert!(rt; exprs <= 32 && words <= 1000, "a table within the limits");
+    let mut truth = Truth::new(alloc, words, exprs as u16)?;
+    let mut expr: u16 = 0;
+    for letter in letters.chars() {
+        for word in 1..words + 1 {
+            if holds(letter, word, words) {
+                mark(&mut truth, expr, word);
+            }
+        }
+        expr = expr.saturating_add(1);
+    }
+    Ok(truth)
+}
