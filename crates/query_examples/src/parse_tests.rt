@@ -4,6 +4,9 @@
 use crate::cases::assert_cases;
 use crate::questions::Question;
 use std::test::Fail;
+use tb_query::{
+    a_query_has_no_fault, a_text_has_one_fault, a_text_has_one_reading, literals_stand_in_order,
+};
 
 /// Queries; the limits, reached and passed; texts outside the grammar; the first literal that is no pattern; the first
 /// of several faults; a pattern that is too large, which is a want of memory.
@@ -55,6 +58,10 @@ const QUERIES: &str = r#""a""b" => Tok(0) Form Plain <a"b>
 
 #[test]
 fn queries_are_parsed(rt: HostRuntime) -> Result<(), Fail> {
+    a_text_has_one_reading();
+    a_text_has_one_fault();
+    a_query_has_no_fault();
+    literals_stand_in_order();
     assert_cases(&rt, rt.alloc(), Question::QueryFault, FAULTS)?;
     assert_cases(&rt, rt.alloc(), Question::Query, QUERIES)
 }

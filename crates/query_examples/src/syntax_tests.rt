@@ -5,8 +5,8 @@ use crate::lexemes::lexemes;
 use crate::questions::Question;
 use std::test::Fail;
 use tb_syntax::{
-    Flag, Lexeme, count_expressions, literals_are_quoted, nests_within, one_lexing, one_reading,
-    one_saying, one_unquoting, scan,
+    Flag, Lexeme, count_expressions, literals_are_quoted, nests_within, one_fault, one_lexing,
+    one_reading, one_saying, one_unquoting, scan,
 };
 
 /// Nothing ends too early; a parenthesis may be opened, but not shut, at first; two queries of every production; then
@@ -32,6 +32,7 @@ fn lexemes_are_scanned(rt: HostRuntime) -> Result<(), Fail> {
     literals_are_quoted();
     one_unquoting();
     one_saying();
+    one_fault();
     assert!(rt; Flag::Plain != Flag::Literal);
     assert!(rt; scan(&[]) == Err(0));
     assert_cases(&rt, rt.alloc(), Question::Scan, SCANS)
