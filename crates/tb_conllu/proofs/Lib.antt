@@ -21,3 +21,4 @@ pub mod Steps
 pub mod Reading
 pub mod Held
 pub mod Files
+pub mod Outputs

@@ -10,3 +10,4 @@ pub mod Plain
 pub mod Tested
 pub mod Refusal
 pub mod Left
+pub mod Sunk

@@ -36,6 +36,7 @@ pub use round::{reread, rewrite};
 pub use rowline::row_of;
 pub use rows::{Block, BlockOf, BlockRef, Row, RowOf, RowRef};
 pub use sentences::Sentences;
+pub use sink::Sink;
 pub use text::Text;
 pub use whole::{read, read_ref};
-pub use writer::{write, write_block_to, write_to};
+pub use writer::{put_block, put_blocks, put_number, write, write_block_to, write_to};

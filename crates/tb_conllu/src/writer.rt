@@ -14,9 +14,14 @@ use itoa::Buffer;
 use std::alloc::{AllocError, Global};
 use std::io::Write;
 
-fn put_number<S: Sink>(number: u32, out: &mut S) -> Result<(), S::Refusal>
+/// Puts a number in decimal digits. Takes no memory.
+///
+/// # Errors
+///
+/// The sink refused a piece.
+pub fn put_number<S: Sink>(number: u32, out: &mut S) -> Result<(), S::Refusal>
     ensures put { OnOk result (Appends (S.held out.old) (S.held out.new) (decimal number)) }
-    ensures refused { IfErr result S.IsRefusal }
+    ensures refused { IfErr result (S.IsRefusal out.new) }
 {
     let mut digits = Buffer::new();
     out.put(digits.format(number).as_bytes())
@@ -25,7 +30,7 @@ fn put_number<S: Sink>(number: u32, out: &mut S) -> Result<(), S::Refusal>
 /// Two numbers with a mark between them.
 fn put_pair<S: Sink>(first: u32, mark: u8, second: u32, out: &mut S) -> Result<(), S::Refusal>
     ensures put { OnOk result (Appends (S.held out.old) (S.held out.new) (decimal first ++ mark ∷ decimal second)) }
-    ensures refused { IfErr result S.IsRefusal }
+    ensures refused { IfErr result (S.IsRefusal out.new) }
 {
     put_number(first, out)?;
     out.put(&[mark])?;
@@ -34,7 +39,7 @@ fn put_pair<S: Sink>(first: u32, mark: u8, second: u32, out: &mut S) -> Result<(
 
 fn put_id<S: Sink>(id: LineId, out: &mut S) -> Result<(), S::Refusal>
     ensures put { OnOk result (Appends (S.held out.old) (S.held out.new) (id_text id)) }
-    ensures refused { IfErr result S.IsRefusal }
+    ensures refused { IfErr result (S.IsRefusal out.new) }
 {
     match id {
         LineId::Word(number) => put_number(number, out),
@@ -46,7 +51,7 @@ fn put_id<S: Sink>(id: LineId, out: &mut S) -> Result<(), S::Refusal>
 /// A tab and a head.
 fn put_head<S: Sink>(head: Option<u32>, out: &mut S) -> Result<(), S::Refusal>
     ensures put { OnOk result (Appends (S.held out.old) (S.held out.new) (9 ∷ head_text head)) }
-    ensures refused { IfErr result S.IsRefusal }
+    ensures refused { IfErr result (S.IsRefusal out.new) }
 {
     match head {
         Some(number) => {
@@ -60,7 +65,7 @@ fn put_head<S: Sink>(head: Option<u32>, out: &mut S) -> Result<(), S::Refusal>
 /// Each text after a tab.
 fn put_fields<S: Sink>(fields: &[&str], out: &mut S) -> Result<(), S::Refusal>
     ensures put { OnOk result (Appends (S.held out.old) (S.held out.new) (flat_map (λ field. 9 ∷ field.now) fields.now)) }
-    ensures refused { IfErr result S.IsRefusal }
+    ensures refused { IfErr result (S.IsRefusal out.new) }
 {
     for field in fields {
         out.put(b"\t")?;
@@ -71,7 +76,7 @@ fn put_fields<S: Sink>(fields: &[&str], out: &mut S) -> Result<(), S::Refusal>
 
 fn put_row<T: Text, S: Sink>(row: &RowOf<T>, out: &mut S) -> Result<(), S::Refusal>
     ensures put { OnOk result (Appends (S.held out.old) (S.held out.new) (row_line row.now ++ 10 ∷ [])) }
-    ensures refused { IfErr result S.IsRefusal }
+    ensures refused { IfErr result (S.IsRefusal out.new) }
 {
     put_id(row.id, out)?;
     put_fields(
@@ -91,7 +96,7 @@ fn put_row<T: Text, S: Sink>(row: &RowOf<T>, out: &mut S) -> Result<(), S::Refus
 
 fn put_rows<T: Text, S: Sink>(rows: &[RowOf<T>], out: &mut S) -> Result<(), S::Refusal>
     ensures put { OnOk result (Appends (S.held out.old) (S.held out.new) (flat_map (λ row. row_line row ++ 10 ∷ []) rows.now)) }
-    ensures refused { IfErr result S.IsRefusal }
+    ensures refused { IfErr result (S.IsRefusal out.new) }
 {
     for row in rows {
         put_row(row, out)?;
@@ -101,7 +106,7 @@ fn put_rows<T: Text, S: Sink>(rows: &[RowOf<T>], out: &mut S) -> Result<(), S::R
 
 fn put_comments<T: Text, S: Sink>(comments: &[T], out: &mut S) -> Result<(), S::Refusal>
     ensures put { OnOk result (Appends (S.held out.old) (S.held out.new) (flat_map (λ comment. T.bytes comment ++ 10 ∷ []) comments.now)) }
-    ensures refused { IfErr result S.IsRefusal }
+    ensures refused { IfErr result (S.IsRefusal out.new) }
 {
     for comment in comments {
         out.put(comment.text().as_bytes())?;
@@ -110,18 +115,30 @@ fn put_comments<T: Text, S: Sink>(comments: &[T], out: &mut S) -> Result<(), S::
     Ok(())
 }
 
-fn put_block<T: Text, S: Sink>(block: &BlockOf<T>, out: &mut S) -> Result<(), S::Refusal>
+/// Puts the text of one sentence: its comments, its rows and a blank line. Takes no memory.
+///
+/// Any sentence is put as it is; it reads back where it is shaped as the format asks.
+///
+/// # Errors
+///
+/// The sink refused a piece.
+pub fn put_block<T: Text, S: Sink>(block: &BlockOf<T>, out: &mut S) -> Result<(), S::Refusal>
     ensures put { OnOk result (Appends (S.held out.old) (S.held out.new) (text_of (block.now ∷ []))) }
-    ensures refused { IfErr result S.IsRefusal }
+    ensures refused { IfErr result (S.IsRefusal out.new) }
 {
     put_comments(&block.comments, out)?;
     put_rows(&block.rows, out)?;
     out.put(b"\n")
 }
 
-fn put_blocks<T: Text, S: Sink>(blocks: &[BlockOf<T>], out: &mut S) -> Result<(), S::Refusal>
+/// Puts the text of the sentences, in order. Takes no memory.
+///
+/// # Errors
+///
+/// The sink refused a piece.
+pub fn put_blocks<T: Text, S: Sink>(blocks: &[BlockOf<T>], out: &mut S) -> Result<(), S::Refusal>
     ensures put { OnOk result (Appends (S.held out.old) (S.held out.new) (text_of blocks.now)) }
-    ensures refused { IfErr result S.IsRefusal }
+    ensures refused { IfErr result (S.IsRefusal out.new) }
 {
     for sentence in blocks {
         put_block(sentence, out)?;
@@ -129,9 +146,7 @@ fn put_blocks<T: Text, S: Sink>(blocks: &[BlockOf<T>], out: &mut S) -> Result<()
     Ok(())
 }
 
-/// Appends the text of one sentence: its comments, its rows and a blank line. Takes no memory.
-///
-/// Any sentence is written as it is; it reads back where it is shaped as the format asks.
+/// Appends the text of one sentence to what a writer holds, as `put_block` does. Takes no memory.
 ///
 /// # Errors
 ///
@@ -142,7 +157,7 @@ pub fn write_block_to<T: Text, W: Write>(block: &BlockOf<T>, out: &mut W) -> Res
     put_block(block, out)
 }
 
-/// Appends the text of the sentences, in order. Takes no memory.
+/// Appends the text of the sentences, in order, to what a writer holds, as `put_blocks` does. Takes no memory.
 ///
 /// # Errors
 ///
