@@ -7,17 +7,11 @@ use Rattle.tb_conllu.specs.Text.{BlockText, block_lines, lines_of, text_of}
 use Rattle.tb_conllu.specs.Shape.{IsShaped, AllShaped}
 use Rattle.tb_conllu.specs.Told.{IsFile, IsNoFile, IsTold}
 use Rattle.tb_conllu.specs.Fault.{IsFaultAfter, IsReadFault}
-use Rattle.tb_conllu.specs.Left.{Left, IsNext}
+use Rattle.tb_conllu.specs.Left.{Left, IsNext, IsReadTo}
 use Rattle.tb_conllu.proofs.Told.{all_append}
 use Rattle.tb_conllu.proofs.Reading.{sentence_some}
 use Rattle.tb_conllu.proofs.OneList.{one_list}
 use Rattle.tb_conllu.proofs.Faults.{text_of-append, told_after}
-
--- whole sentences that were read, and what is left
-pub record IsReadTo (bytes : List ℕ) (done : List BlockText) (left : Left) : Type 0 where
-  pub shaped : AllShaped done
-  pub whole : bytes ≡ text_of done ++ left.rest
-  pub place : left.line ≡ length (lines_of done)
 
 pub read_nothing : (bytes : List ℕ) (done : List BlockText) (left : Left) → done ≡ [] → left ≡ record { rest = bytes; line = 0 } → IsReadTo bytes done left
 read_nothing bytes done left none e =
@@ -66,3 +60,39 @@ only_these f done h bs file = one_list f done bs h file
 
 pub next_shorter : (old new : Left) (block : BlockText) → IsNext old new block → length new.rest < length old.rest
 next_shorter old new block h = omega (arith, sentence_some block, ap length h.text, length-append (text_of (block ∷ [])) new.rest)
+
+-- the sentences that are left are the file's last
+pub read_rest : (bytes : List ℕ) (done more : List BlockText) (left : Left) → IsReadTo bytes done left → IsFile left.rest more → IsFile bytes (done ++ more)
+read_rest bytes done more left h rest = record {
+  shaped = all_append IsShaped done more h.shaped rest.shaped;
+  text = h.whole ∙ ap (λ x. text_of done ++ x) rest.text ∙ sym (text_of-append done more);
+}
+
+-- the same of what is left in the middle of a file
+pub record IsReadFrom (old : Left) (bs : List BlockText) (now : Left) : Type 0 where
+  pub shaped : AllShaped bs
+  pub whole : old.rest ≡ text_of bs ++ now.rest
+  pub place : now.line ≡ old.line + length (lines_of bs)
+
+pub from_here : (old : Left) → IsReadFrom old [] old
+from_here old = record { shaped = tt; whole = refl; place = omega arith }
+
+pub from_next : (old mid new : Left) (bs : List BlockText) (block : BlockText) → IsReadFrom old bs mid → IsNext mid new block → IsReadFrom old (bs ++ block ∷ []) new
+from_next old mid new bs block h next =
+    let done : IsReadTo old.rest bs (record { rest = mid.rest; line = length (lines_of bs) }) = record { shaped = h.shaped; whole = h.whole; place = refl } in
+    let here : IsNext (record { rest = mid.rest; line = length (lines_of bs) }) (record { rest = new.rest; line = length (lines_of bs) + length (block_lines block) }) block = record { shaped = next.shaped; text = next.text; place = refl } in
+    let more = read_more old.rest bs (bs ++ block ∷ []) (record { rest = mid.rest; line = length (lines_of bs) }) (record { rest = new.rest; line = length (lines_of bs) + length (block_lines block) }) block done here refl in
+    let place = more.place in
+    let before = h.place in
+    let after = next.place in
+    record { shaped = more.shaped; whole = more.whole; place = omega arith }
+
+pub from_end : (old now : Left) (bs : List BlockText) → IsReadFrom old bs now → now.rest ≡ [] → IsFile old.rest bs
+from_end old now bs h none = record { shaped = h.shaped; text = h.whole ∙ ap (λ x. text_of bs ++ x) none ∙ append-nil (text_of bs) }
+
+pub from_fault : (old now : Left) (bs : List BlockText) (e : ReadFault) → IsReadFrom old bs now → IsFaultAfter now.line now.rest e → IsFaultAfter old.line old.rest e
+from_fault old now bs Memory h f = tt
+from_fault old now bs (At line code) h (n, place, told) =
+    let P : List ℕ → Type 0 = λ x. IsTold x (length (lines_of bs) + n) code in
+    let before = h.place in
+    (length (lines_of bs) + n, omega arith, subst P (sym h.whole) (told_after bs now.rest n code h.shaped told))

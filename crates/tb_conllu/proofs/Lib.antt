@@ -22,3 +22,4 @@ pub mod Reading
 pub mod Held
 pub mod Files
 pub mod Outputs
+pub mod Encoded

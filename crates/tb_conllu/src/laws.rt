@@ -1,6 +1,9 @@
 //! Laws of files and faults: each function only states a fact about the definitions, and runs nothing.
 
 ghost use Rattle.std.specs.Prelude.{◌≡◌, ◌<◌, ◌+◌, ℕ, List, [], ◌∷◌, ◌++◌, length, false};
+ghost use Rattle.tb_conllu.specs.Fault.{IsFaultAfter, IsReadFault};
+ghost use Rattle.tb_conllu.specs.Left.{Left, IsNext, IsReadTo};
+ghost use Rattle.tb_conllu.specs.declared.fault.ReadFault.{ReadFault};
 ghost use Rattle.tb_conllu.specs.Begun.{BegunText, IsSound, lines_so_far};
 ghost use Rattle.tb_conllu.specs.Lines.{line_code, came_through};
 ghost use Rattle.tb_conllu.specs.Shape.{AllShaped};
@@ -40,4 +43,13 @@ pub fn told_bytes_are_no_file()
 /// At most one fault is told of any bytes.
 pub fn one_fault_is_told()
     ensures { (f : List ℕ) (line code other_line other_code : ℕ) → IsTold f line code → IsTold f other_line other_code → (line ≡ other_line) × (code ≡ other_code) }
+{}
+
+/// A file that is read one sentence after another: what the next one leaves, the end, all that is left, and a fault.
+pub fn a_file_is_read_in_order()
+    ensures begin { (f : List ℕ) → IsReadTo f [] (record { rest = f; line = 0 }) }
+    ensures next { (f : List ℕ) (bs : List BlockText) (old new : Left) (b : BlockText) → IsReadTo f bs old → IsNext old new b → IsReadTo f (bs ++ b ∷ []) new }
+    ensures end { (f : List ℕ) (bs : List BlockText) (left : Left) → IsReadTo f bs left → left.rest ≡ [] → IsFile f bs }
+    ensures rest { (f : List ℕ) (bs more : List BlockText) (left : Left) → IsReadTo f bs left → IsFile left.rest more → IsFile f (bs ++ more) }
+    ensures fault { (f : List ℕ) (bs : List BlockText) (left : Left) (e : ReadFault) → IsReadTo f bs left → IsFaultAfter left.line left.rest e → IsReadFault f e }
 {}

@@ -28,14 +28,14 @@ pub use fault::{ReadFault, WriteFault};
 pub use id::LineId;
 pub use ids::{head_of, id_of};
 pub use laws::{
-    a_file_begins_one_way, fault_after_sentences, faulty_line_is_dead, one_fault_is_told,
-    one_list_has_a_text, read_lines_are_alive, told_bytes_are_no_file,
+    a_file_begins_one_way, a_file_is_read_in_order, fault_after_sentences, faulty_line_is_dead,
+    one_fault_is_told, one_list_has_a_text, read_lines_are_alive, told_bytes_are_no_file,
 };
 pub use owned::{own_block, own_row};
 pub use round::{reread, rewrite};
 pub use rowline::row_of;
 pub use rows::{Block, BlockOf, BlockRef, Row, RowOf, RowRef};
-pub use sentences::Sentences;
+pub use sentences::{Passage, Sentences};
 pub use sink::Sink;
 pub use text::Text;
 pub use whole::{read, read_ref};

@@ -1,11 +1,13 @@
 //! Sentences read one after another.
 
-ghost use Rattle.std.specs.Prelude.{◌≡◌, ◌+◌, ◌<◌, ◌≤◌, ◌^◌, [], ◌∷◌, ◌++◌, IfOk, IfErr, MatchOption, length};
+ghost use Rattle.std.specs.Prelude.{◌≡◌, ◌+◌, ◌<◌, ◌≤◌, ◌-◌, ◌^◌, List, [], ◌∷◌, ◌++◌, IfOk, IfErr, IfSome, OnOk, MatchOption, length, take};
+ghost use Rattle.std.specs.Str.{IsUtf8};
 ghost use Rattle.tb_conllu.specs.Fault.{IsFaultAfter};
 ghost use Rattle.tb_conllu.specs.Left.{Left, IsNext};
 ghost use Rattle.tb_conllu.specs.Shape.{IsShaped};
 ghost use Rattle.tb_conllu.specs.Tested.{HoldsOf};
-ghost use Rattle.tb_conllu.specs.Text.{block_lines, text_of};
+ghost use Rattle.tb_conllu.specs.Text.{BlockText, block_lines, text_of};
+ghost use Rattle.tb_conllu.specs.Told.{IsFile};
 
 use crate::fault::ReadFault;
 use crate::fields::is_empty_text;
@@ -68,6 +70,30 @@ fn read_block<'a>(
     })
 }
 
+/// A sentence, and its text: the bytes of the file that it was read of.
+#[derive(Drop)]
+pub struct Passage<'a> {
+    pub block: BlockRef<'a>,
+    pub text: &'a str,
+}
+
+/// The bytes before those that are left, of which so many are left.
+fn before_rest(bytes: &[u8], left: usize) -> &[u8]
+    requires { left ≤ length bytes.now }
+    ensures { result.now ≡ take (length bytes.now - left) bytes.now }
+{
+    &bytes[..bytes.len() - left]
+}
+
+/// The text of bytes that are known to be UTF-8.
+fn known_text(bytes: &[u8]) -> &str
+    requires { IsUtf8 bytes.now }
+    ensures { result.now ≡ bytes.now }
+{
+    // Their lines were tested, or all bytes at once.
+    unsafe { std::str::from_utf8_unchecked(bytes) }
+}
+
 /// What is left of a file, read one sentence after another: one sentence at a time is in memory.
 #[derive(Drop)]
 pub struct Sentences<'a> {
@@ -108,5 +134,36 @@ impl<'a> Sentences<'a> {
         self.rest = found.rest;
         self.line = found.line;
         Ok(Some(found.block))
+    }
+
+    /// The next sentence with its text; `None` where nothing is left. After an `Err` all is left as it was. The texts of
+    /// all sentences, one after the other, are the file. No byte is copied, and none is tested again.
+    pub fn read_passage(&mut self, alloc: Global) -> Result<Option<Passage<'a>>, ReadFault>
+        ensures next { IfOk result (λ o. MatchOption o ((self.old.rest ≡ []) × (self.new ≡ self.old)) (λ p. IsNext self.old self.new p.block)) }
+        ensures text { IfOk result (λ o. IfSome o (λ p. p.text.now ≡ text_of (p.block ∷ []))) }
+        ensures fault { IfErr result (λ e. IsFaultAfter self.old.line self.old.rest e × (self.new ≡ self.old)) }
+    {
+        let unread = self.rest;
+        let Some(block) = self.read_next(alloc)? else {
+            return Ok(None);
+        };
+        let text = known_text(before_rest(unread, self.rest.len()));
+        Ok(Some(Passage { block, text }))
+    }
+
+    /// Reads what is left to its end, and keeps nothing of it.
+    ///
+    /// # Errors
+    ///
+    /// The fault of what was left, or want of memory.
+    pub fn read_rest(&mut self, alloc: Global) -> Result<(), ReadFault>
+        ensures file { OnOk result ((bs : List BlockText) × IsFile self.old.rest bs) }
+        ensures end { OnOk result (self.new.rest ≡ []) }
+        ensures fault { IfErr result (IsFaultAfter self.old.line self.old.rest) }
+    {
+        while let Some(block) = self.read_next(alloc)? {
+            drop(block);
+        }
+        Ok(())
     }
 }

@@ -1,5 +1,5 @@
 use Rattle.std.proofs.Common.{length}
-use Rattle.tb_conllu.proofs.Files.{IsReadTo}
+use Rattle.tb_conllu.specs.Left.{IsReadTo}
 use Rattle.tb_conllu.proofs.whole.read.Given as goal
 
 abbrev pub invariant-loop-all : goal.invariant-loop-all
