@@ -1,0 +1,104 @@
+//! States of a batch, events, and kinds of moves, with the words that stand for them in texts.
+
+/// Where a batch stands, and with it each of its sentences that is not pulled.
+#[derive(Clone, Copy, PartialEq, Eq, Debug)]
+pub enum State {
+    Opened,
+    Assigned,
+    Submitted,
+    Adjudicated,
+    Released,
+    Withdrawn,
+}
+
+impl State {
+    ghost use Rattle.std.specs.Prelude.{◌≡◌};
+    ghost use Rattle.tb_core.specs.Words.{state_word};
+
+    /// The word for the state. Takes no memory.
+    pub fn word(self) -> &'static str
+        ensures { result.now ≡ state_word self }
+    {
+        match self {
+            State::Opened => "open",
+            State::Assigned => "assigned",
+            State::Submitted => "submitted",
+            State::Adjudicated => "adjudicated",
+            State::Released => "released",
+            State::Withdrawn => "withdrawn",
+        }
+    }
+}
+
+/// What moves a batch from one state to another.
+#[derive(Clone, Copy, PartialEq, Eq, Debug)]
+pub enum Event {
+    Assign,
+    Unassign,
+    Submit,
+    SendBack,
+    Adjudicate,
+    Release,
+    Withdraw,
+    Reopen,
+}
+
+impl Event {
+    ghost use Rattle.std.specs.Prelude.{◌≡◌};
+    ghost use Rattle.tb_core.specs.Words.{event_word};
+
+    /// The word for the event. Takes no memory.
+    pub fn word(self) -> &'static str
+        ensures { result.now ≡ event_word self }
+    {
+        match self {
+            Event::Assign => "assign",
+            Event::Unassign => "unassign",
+            Event::Submit => "submit",
+            Event::SendBack => "send-back",
+            Event::Adjudicate => "adjudicate",
+            Event::Release => "release",
+            Event::Withdraw => "withdraw",
+            Event::Reopen => "reopen",
+        }
+    }
+}
+
+/// What a move records.
+#[derive(Clone, Copy, PartialEq, Eq, Debug)]
+pub enum Kind {
+    Import,
+    Step(Event),
+    Correct,
+    Pull,
+    Restore,
+}
+
+impl Kind {
+    ghost use Rattle.std.specs.Prelude.{◌≡◌};
+    ghost use Rattle.tb_core.specs.Words.{kind_word};
+
+    /// The word for the kind; of an event, the event's. Takes no memory.
+    pub fn word(self) -> &'static str
+        ensures { result.now ≡ kind_word self }
+    {
+        match self {
+            Kind::Import => "import",
+            Kind::Step(event) => event.word(),
+            Kind::Correct => "correct",
+            Kind::Pull => "pull",
+            Kind::Restore => "restore",
+        }
+    }
+}
+
+/// What an event makes of the worker of a batch.
+#[derive(Clone, Copy, PartialEq, Eq, Debug)]
+pub enum Worker {
+    /// The worker stays.
+    Keep,
+    /// The user who asked becomes the worker.
+    Caller,
+    /// Nobody works on the batch.
+    Cleared,
+}

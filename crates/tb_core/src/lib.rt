@@ -1,0 +1,16 @@
+//! The desk machine: batches, sentences and moves, what each command is answered, and what every state keeps.
+#![tactic(auto)]
+
+mod kinds;
+mod limits;
+mod moves;
+mod refusals;
+mod replies;
+mod sums;
+
+pub use kinds::{Event, Kind, State, Worker};
+pub use limits::Limits;
+pub use moves::Move;
+pub use refusals::{Fault, Refusal};
+pub use replies::{Corrected, Imported, Moved, Pulled, Restored};
+pub use sums::Totals;
