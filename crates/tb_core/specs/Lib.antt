@@ -1,3 +1,15 @@
 pub mod Words
 pub mod Moves
 pub mod Refusals
+pub mod Names
+pub mod Machine
+pub mod Events
+pub mod Deciding
+pub mod Acts
+pub mod Reaching
+pub mod Totals
+pub mod Keeping
+pub mod Commands
+pub mod Tests
+pub mod Steps
+pub mod Rows

@@ -1,6 +1,7 @@
 //! The desk machine: batches, sentences and moves, what each command is answered, and what every state keeps.
 #![tactic(auto)]
 
+mod deciding;
 mod kinds;
 mod limits;
 mod moves;
@@ -8,6 +9,7 @@ mod refusals;
 mod replies;
 mod sums;
 
+pub use deciding::{decide_correct, decide_event, decide_pull, decide_restore, good_name};
 pub use kinds::{Event, Kind, State, Worker};
 pub use limits::Limits;
 pub use moves::Move;

@@ -1,0 +1,62 @@
+-- Totals of the states, the net of the moves, and totals that are kept from move to move.
+use Rattle.std.specs.Prelude.{◌≡◌, ℕ, ◌+◌, ◌-◌, ◌<◌, ◌≤◌, ◌^◌, List, [], ◌∷◌, Bool, false, Option, Some, None, slice_index}
+use Rattle.tb_core.specs.declared.kinds.State.{State}
+use Rattle.tb_core.specs.declared.sums.Totals.{Totals}
+use Rattle.tb_core.specs.Events.{state_place, is_state}
+use Rattle.tb_core.specs.Moves.{MoveText}
+use Rattle.tb_core.specs.Machine.{Batch, Sentence, Machine, state_in, weigh, when, one, words}
+
+-- the sum of a weight over the sentences in a state
+abbrev pub in_state : List Batch → State → (Sentence → ℕ) → Sentence → ℕ
+in_state bs st w x = when (is_state (state_in bs x) st) (w x)
+
+abbrev pub total : (Sentence → ℕ) → Machine → State → ℕ
+total w s st = weigh (in_state s.batches st w) s.sentences
+
+-- ---- the net of the moves
+
+abbrev pub is_from : Option State → State → Bool
+is_from None st = false
+is_from (Some a) st = is_state a st
+
+abbrev pub sum_moves : (MoveText → ℕ) → List MoveText → ℕ
+sum_moves f [] = 0
+sum_moves f (m ∷ ms) = f m + sum_moves f ms
+
+-- what a move takes out of a state and brings into it, by one of its counts
+abbrev pub out_of : State → (MoveText → ℕ) → MoveText → ℕ
+out_of st f m = when (is_from m.from st) (f m)
+
+abbrev pub into : State → (MoveText → ℕ) → MoveText → ℕ
+into st f m = when (is_state m.to st) (f m)
+
+-- The total of a state is the net of the moves: what is there, with what left it, is what came.
+pub record IsNet (s : Machine) (st : State) : Type 0 where
+  pub sentences : total one s st + sum_moves (out_of st (λ m. m.sentences)) s.moves ≡ sum_moves (into st (λ m. m.sentences)) s.moves
+  pub words : total words s st + sum_moves (out_of st (λ m. m.words_out)) s.moves ≡ sum_moves (into st (λ m. m.words_in)) s.moves
+
+-- ---- stored totals
+
+abbrev pub sentences_in : Totals → State → ℕ
+sentences_in t st = slice_index t.sentences (state_place st)
+
+abbrev pub words_in : Totals → State → ℕ
+words_in t st = slice_index t.words (state_place st)
+
+-- Each state has what leaves it, and what is there afterwards fits 64 bits.
+abbrev pub Takes : (State → ℕ) → Option State → State → ℕ → ℕ → Type 0
+Takes sums from to leaving coming = (st : State) → (when (is_from from st) leaving ≤ sums st) × (sums st - when (is_from from st) leaving + when (is_state to st) coming < 2 ^ 64)
+
+pub record TakesMove (t : Totals) (m : MoveText) : Type 0 where
+  pub sentences : Takes (sentences_in t) m.from m.to m.sentences m.sentences
+  pub words : Takes (words_in t) m.from m.to m.words_out m.words_in
+
+-- The move has been made: each state has lost what left it and has got what came to it, and nothing else changed.
+pub record IsApplied (old : Totals) (m : MoveText) (new : Totals) : Type 0 where
+  pub sentences : (st : State) → sentences_in new st + out_of st (λ x. x.sentences) m ≡ sentences_in old st + into st (λ x. x.sentences) m
+  pub words : (st : State) → words_in new st + out_of st (λ x. x.words_out) m ≡ words_in old st + into st (λ x. x.words_in) m
+
+-- stored totals that are those of a state of the desk
+pub record StandFor (t : Totals) (s : Machine) : Type 0 where
+  pub sentences : (st : State) → sentences_in t st ≡ total one s st
+  pub words : (st : State) → words_in t st ≡ total words s st
