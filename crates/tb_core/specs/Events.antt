@@ -41,7 +41,7 @@ only_from a s = is_state s a
 abbrev pub any_but : State → State → Bool
 any_but a s = not (is_state s a)
 
---                      from                    to           worker   asked by
+-- in each row: from, to, what becomes of the worker, who may ask
 abbrev pub event_row : Event → Row
 event_row Assign = row (only_from Opened) Assigned Caller anyone
 event_row Unassign = row (only_from Assigned) Opened Cleared the_worker

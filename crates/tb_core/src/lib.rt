@@ -3,6 +3,7 @@
 
 mod deciding;
 mod kinds;
+mod laws;
 mod limits;
 mod moves;
 mod refusals;
@@ -11,6 +12,7 @@ mod sums;
 
 pub use deciding::{decide_correct, decide_event, decide_pull, decide_restore, good_name};
 pub use kinds::{Event, Kind, State, Worker};
+pub use laws::reached_states_are_well;
 pub use limits::Limits;
 pub use moves::Move;
 pub use refusals::{Fault, Refusal};

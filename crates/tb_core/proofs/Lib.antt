@@ -1,0 +1,4 @@
+mod Weights
+mod Lists
+mod Named
+mod Keeps
