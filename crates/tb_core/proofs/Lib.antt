@@ -2,3 +2,7 @@ mod Weights
 mod Lists
 mod Named
 mod Keeps
+mod Balance
+mod Extending
+mod Same
+mod ReadsBack

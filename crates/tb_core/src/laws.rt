@@ -1,11 +1,52 @@
 //! Laws of the machine: each function only states a fact about the definitions, and runs nothing.
 
-ghost use Rattle.tb_core.specs.Machine.{Machine};
-ghost use Rattle.tb_core.specs.Reaching.{Reached};
-ghost use Rattle.tb_core.specs.Keeping.{IsWell};
+ghost use Rattle.std.specs.Prelude.{◌≡◌, ◌+◌, ℕ, List, [], ◌∷◌, length};
+ghost use Rattle.std.specs.List.{AllByRecursion};
+ghost use Rattle.tb_conllu.specs.Text.{BlockText, text_of};
+ghost use Rattle.tb_conllu.specs.Told.{IsFile};
+ghost use Rattle.tb_rules.specs.File.{IsValid};
+ghost use Rattle.tb_core.specs.declared.kinds.State.{State};
+ghost use Rattle.tb_core.specs.declared.kinds.State.TheVariants.{Opened, Assigned, Submitted, Adjudicated, Released, Withdrawn};
+ghost use Rattle.tb_core.specs.Machine.{Machine, Sentence, one, bodies_of};
+ghost use Rattle.tb_core.specs.Reaching.{Reached, Later};
+ghost use Rattle.tb_core.specs.Keeping.{IsWell, Extends};
+ghost use Rattle.tb_core.specs.Rows.{rows_of};
+ghost use Rattle.tb_core.specs.Totals.{IsNet, total};
+
+use tb_conllu::one_list_has_a_text;
 
 /// What every reached state keeps: names and `sent_id`s are each once; each sentence is of one batch; nobody works on an
 /// open or withdrawn batch; each revision of a sentence keeps the rules, with one `sent_id` and one text.
 pub fn reached_states_are_well()
     ensures { (s : Machine) → Reached s → IsWell s }
 {}
+
+/// Nothing is lost: a later state has the names of all batches, all sentences with their `sent_id`s, batches and revisions,
+/// and all moves, at their places, and maybe more after them.
+pub fn later_states_extend()
+    ensures { (s t : Machine) → Later s t → Extends s t }
+{}
+
+/// In every reached state the total of each of the six states is the net of the moves.
+pub fn totals_are_nets()
+    ensures { (s : Machine) (st : State) → Reached s → IsNet s st }
+{}
+
+/// The sentences of the six states are all sentences.
+pub fn each_sentence_is_in_one_state()
+    ensures { (s : Machine) → total one s Opened + total one s Assigned + total one s Submitted + total one s Adjudicated + total one s Released + total one s Withdrawn ≡ length s.sentences }
+{}
+
+/// Each revision of a reached state is a valid sentence, and its text reads back as this sentence and nothing else.
+pub fn revisions_read_back()
+    ensures { (s : Machine) → Reached s → AllByRecursion (λ (x : Sentence). AllByRecursion (λ (b : BlockText). IsValid (b ∷ []) × IsFile (text_of (b ∷ [])) (b ∷ []) × ((bs : List BlockText) → IsFile (text_of (b ∷ [])) bs → bs ≡ b ∷ [])) (bodies_of x)) s.sentences }
+{
+    one_list_has_a_text();
+}
+
+/// Two reached states with the same rows are equal.
+pub fn rows_tell_the_state()
+    ensures { (s t : Machine) → Reached s → Reached t → rows_of s ≡ rows_of t → s ≡ t }
+{
+    one_list_has_a_text();
+}

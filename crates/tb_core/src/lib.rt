@@ -12,7 +12,10 @@ mod sums;
 
 pub use deciding::{decide_correct, decide_event, decide_pull, decide_restore, good_name};
 pub use kinds::{Event, Kind, State, Worker};
-pub use laws::reached_states_are_well;
+pub use laws::{
+    each_sentence_is_in_one_state, later_states_extend, reached_states_are_well,
+    revisions_read_back, rows_tell_the_state, totals_are_nets,
+};
 pub use limits::Limits;
 pub use moves::Move;
 pub use refusals::{Fault, Refusal};
