@@ -37,26 +37,34 @@ pub record IsNet (s : Machine) (st : State) : Type 0 where
 
 -- ---- stored totals
 
-abbrev pub sentences_in : Totals → State → ℕ
-sentences_in t st = slice_index t.sentences (state_place st)
+-- one of six sums, in the order of the states
+abbrev pub at_state : List ℕ → State → ℕ
+at_state sums st = slice_index sums (state_place st)
 
-abbrev pub words_in : Totals → State → ℕ
-words_in t st = slice_index t.words (state_place st)
+-- each state has what leaves it
+abbrev pub HasEnough : List ℕ → Option State → ℕ → Type 0
+HasEnough sums from leaving = (st : State) → when (is_from from st) leaving ≤ at_state sums st
 
--- Each state has what leaves it, and what is there afterwards fits 64 bits.
-abbrev pub Takes : (State → ℕ) → Option State → State → ℕ → ℕ → Type 0
-Takes sums from to leaving coming = (st : State) → (when (is_from from st) leaving ≤ sums st) × (sums st - when (is_from from st) leaving + when (is_state to st) coming < 2 ^ 64)
+-- what is there afterwards fits 64 bits
+abbrev pub HasSpace : List ℕ → Option State → State → ℕ → ℕ → Type 0
+HasSpace sums from to leaving coming = (st : State) → at_state sums st - when (is_from from st) leaving + when (is_state to st) coming < 2 ^ 64
 
-pub record TakesMove (t : Totals) (m : MoveText) : Type 0 where
-  pub sentences : Takes (sentences_in t) m.from m.to m.sentences m.sentences
-  pub words : Takes (words_in t) m.from m.to m.words_out m.words_in
+pub record Takes (t : Totals) (m : MoveText) : Type 0 where
+  pub sentences_there : HasEnough t.sentences m.from m.sentences
+  pub sentences_fit : HasSpace t.sentences m.from m.to m.sentences m.sentences
+  pub words_there : HasEnough t.words m.from m.words_out
+  pub words_fit : HasSpace t.words m.from m.to m.words_out m.words_in
 
--- The move has been made: each state has lost what left it and has got what came to it, and nothing else changed.
-pub record IsApplied (old : Totals) (m : MoveText) (new : Totals) : Type 0 where
-  pub sentences : (st : State) → sentences_in new st + out_of st (λ x. x.sentences) m ≡ sentences_in old st + into st (λ x. x.sentences) m
-  pub words : (st : State) → words_in new st + out_of st (λ x. x.words_out) m ≡ words_in old st + into st (λ x. x.words_in) m
+-- each state has lost what left it and has got what came to it, and nothing else changed
+abbrev pub Shifts : List ℕ → List ℕ → Option State → State → ℕ → ℕ → Type 0
+Shifts old new from to leaving coming = (st : State) → at_state new st + when (is_from from st) leaving ≡ at_state old st + when (is_state to st) coming
 
--- stored totals that are those of a state of the desk
+-- The move has been made.
+pub record IsApplied (old new : Totals) (m : MoveText) : Type 0 where
+  pub sentences : Shifts old.sentences new.sentences m.from m.to m.sentences m.sentences
+  pub words : Shifts old.words new.words m.from m.to m.words_out m.words_in
+
+-- The stored totals are those of a state of the desk.
 pub record StandFor (t : Totals) (s : Machine) : Type 0 where
-  pub sentences : (st : State) → sentences_in t st ≡ total one s st
-  pub words : (st : State) → words_in t st ≡ total words s st
+  pub sentences : (st : State) → at_state t.sentences st ≡ total one s st
+  pub words : (st : State) → at_state t.words st ≡ total words s st
