@@ -89,31 +89,19 @@ fn check_whole<T: Text>(alloc: Global, block: &BlockOf<T>) -> Result<(), RuleFau
     ensures valid { OnOk result (KeepsRules block.now) }
     ensures fault { IfErr result (IsRuleFault block.now) }
 {
-    let Ok(features) = feature_row(alloc, block) else {
-        return Err(RuleFault::Memory);
-    };
-    if let Some(row) = features {
+    if let Some(row) = feature_row(alloc, block)? {
         return Err(RuleFault::At { rule: 7, row });
     }
-    let Ok(dependencies) = dependency_row(alloc, block) else {
-        return Err(RuleFault::Memory);
-    };
-    if let Some(row) = dependencies {
+    if let Some(row) = dependency_row(alloc, block)? {
         return Err(RuleFault::At { rule: 8, row });
     }
     if !has_one_root(block) {
         return Err(RuleFault::At { rule: 9, row: 0 });
     }
-    let Ok(tree) = has_tree(alloc, block) else {
-        return Err(RuleFault::Memory);
-    };
-    if !tree {
+    if !has_tree(alloc, block)? {
         return Err(RuleFault::At { rule: 10, row: 0 });
     }
-    let Ok(spelled) = is_restored(alloc, block) else {
-        return Err(RuleFault::Memory);
-    };
-    if !spelled {
+    if !is_restored(alloc, block)? {
         return Err(RuleFault::At { rule: 11, row: 0 });
     }
     Ok(())

@@ -2,7 +2,7 @@ ghost use Rattle.std.specs.Prelude.{◌≡◌, ◌↔◌, IsTrue, map, reverse};
 ghost use Rattle.std.specs.Option.{option_copied};
 ghost use Rattle.tb_rules.specs.Comments.{drop_spaces, trimmed, value_under, values_of, only, sent_ids, texts, HasSentId, HasText};
 
-use tb_conllu::{BlockOf, Text};
+use tb_conllu::{BlockOf, BlockRef, Text};
 use tb_fields::has_white_space;
 
 const SENT_ID: &str = "sent_id";
@@ -69,6 +69,22 @@ fn only_value<'a, T: Text>(comments: &'a [T], key: &str) -> Option<&'a str>
     found
 }
 
+/// The one value that comments, which are borrowed, give to the key.
+fn only_borrowed<'a>(comments: &[&'a str], key: &str) -> Option<&'a str>
+    ensures { option_copied result ≡ only (values_of key.now (map (λ c. c.now) comments.now)) }
+{
+    let mut first: Option<&'a str> = None;
+    for comment in comments {
+        if let Some(value) = value_with(comment, key) {
+            if first.is_some() {
+                return None;
+            }
+            first = Some(value);
+        }
+    }
+    first
+}
+
 /// The name of the sentence: the value of its one comment with key `sent_id`, None where there is none or more
 /// than one. Takes no memory.
 ///
@@ -77,6 +93,13 @@ pub fn sent_id<'a, T: Text>(block: &'a BlockOf<T>) -> Option<&'a str>
     ensures { option_copied result ≡ only (sent_ids block.now) }
 {
     only_value(&block.comments, SENT_ID)
+}
+
+/// The name of a sentence that borrows its texts, which outlives the sentence. Takes no memory.
+pub fn sent_id_ref<'a>(block: &BlockRef<'a>) -> Option<&'a str>
+    ensures { option_copied result ≡ only (sent_ids block.now) }
+{
+    only_borrowed(&block.comments, SENT_ID)
 }
 
 /// The text of the sentence: the value of its one comment with key `text`, None where there is none or more than

@@ -1,3 +1,11 @@
+ghost use Rattle.tb_rules.specs.declared.filefault.FileFault.TheVariants.{Memory};
+ghost use Rattle.std.specs.Prelude.{◌≡◌};
+
+use crate::fault::RuleFault;
+use std::alloc::AllocError;
+use std::error::Error;
+use std::fmt;
+
 /// Why the sentences of a file break the rules.
 #[derive(Clone, Copy, Debug, PartialEq, Eq)]
 pub enum FileFault {
@@ -11,3 +19,26 @@ pub enum FileFault {
     /// Memory ran out.
     Memory,
 }
+
+impl From<AllocError> for FileFault {
+    ghost from_gives = { λ _ e. e ≡ Memory };
+
+    fn from(_: AllocError) -> Self {
+        FileFault::Memory
+    }
+}
+
+impl fmt::Display for FileFault {
+    fn fmt<W: fmt::Write>(&self, f: &mut fmt::Formatter<W>) -> fmt::Result {
+        match *self {
+            FileFault::At {
+                sentence,
+                rule,
+                row,
+            } => write!(f, "sentence {sentence}, {}", RuleFault::At { rule, row }),
+            FileFault::Memory => f.write_str("out of memory"),
+        }
+    }
+}
+
+impl Error for FileFault {}

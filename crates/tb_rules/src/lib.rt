@@ -20,7 +20,7 @@ mod tree;
 mod words;
 
 pub use checking::check;
-pub use comments::{sent_id, text};
+pub use comments::{sent_id, sent_id_ref, text};
 pub use fault::RuleFault;
 pub use filefault::FileFault;
 pub use laws::{

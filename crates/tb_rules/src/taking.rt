@@ -80,9 +80,7 @@ impl Checker {
                 row: 0,
             });
         };
-        let Ok(owned) = String::from_str(self.alloc, name) else {
-            return Err(FileFault::Memory);
-        };
+        let owned = String::from_str(self.alloc, name)?;
         match self.names.insert(owned) {
             Ok(true) => Ok(()),
             Ok(false) => Err(FileFault::At {

@@ -22,10 +22,10 @@ pub returns-clause-valid : goal.returns-clause-valid
 returns-clause-valid g c = λ before h. elim c.match-insert.branch [
   | in-Ok-true w ↦
       let keys = c.self.inside.names.keys in
-      let none = not_true (list_any (is_at (string_cmp c.in-Ok.owned)) keys) (sym w.in-Ok-true.field-0-test ∙ w.in-Ok-true.ensures.added) in
+      let none = not_true (list_any (is_at (string_cmp c.in_ok-owned.owned)) keys) (sym w.in-Ok-true.field-0-test ∙ w.in-Ok-true.ensures.added) in
       let is = named c.args.block.now c.in-Some.name.now c.in_ok-check_alone.ensures.valid c.in-Some.ensures in
-      let unknown = key_is c.in-Ok.owned keys c.args.self.now c.in-Some.name.now false c.self.view_is c.in-Ok.ensures.ok none in
-      let added = key_added c.in-Ok.owned c.self.inside.names c.insert.new.self c.args.self.now c.in-Some.name.now c.self.view_is c.in-Ok.ensures.ok w.in-Ok-true.ensures.updates w.in-Ok-true.field-0 w.in-Ok-true.field-0-test w.in-Ok-true.ensures.len in
+      let unknown = key_is c.in_ok-owned.owned keys c.args.self.now c.in-Some.name.now false c.self.view_is c.in_ok-owned.ensures.ok none in
+      let added = key_added c.in_ok-owned.owned c.self.inside.names c.insert.new.self c.args.self.now c.in-Some.name.now c.self.view_is c.in_ok-owned.ensures.ok w.in-Ok-true.ensures.updates w.in-Ok-true.field-0 w.in-Ok-true.field-0-test w.in-Ok-true.ensures.len in
       rw w.result-is (taken_next c.args.self.now (map string_bytes c.insert.new.self.keys) before c.args.block.now c.in-Some.name.now h c.in_ok-check_alone.ensures.valid is unknown added)
   | in-Ok-false w ↦ rw w.result-is tt
   | in-Err w ↦ rw w.result-is tt
@@ -36,9 +36,9 @@ returns-clause-fault g c = λ before h. elim c.match-insert.branch [
   | in-Ok-true w ↦ rw w.result-is tt
   | in-Ok-false w ↦
       let keys = c.self.inside.names.keys in
-      let some = not_false (list_any (is_at (string_cmp c.in-Ok.owned)) keys) (sym w.in-Ok-false.field-0-test ∙ w.in-Ok-false.ensures.added) in
+      let some = not_false (list_any (is_at (string_cmp c.in_ok-owned.owned)) keys) (sym w.in-Ok-false.field-0-test ∙ w.in-Ok-false.ensures.added) in
       let is = named c.args.block.now c.in-Some.name.now c.in_ok-check_alone.ensures.valid c.in-Some.ensures in
-      let known = key_is c.in-Ok.owned keys c.args.self.now c.in-Some.name.now true c.self.view_is c.in-Ok.ensures.ok some in
+      let known = key_is c.in_ok-owned.owned keys c.args.self.now c.in-Some.name.now true c.self.view_is c.in_ok-owned.ensures.ok some in
       let count = c.len-sentence.ensures.len ∙ key_count keys c.args.self.now c.self.view_is in
       rw w.result-is (taken_twice c.args.self.now before c.args.block.now c.in-Some.name.now c.len-sentence.result h count c.in_ok-check_alone.ensures.valid is known)
   | in-Err w ↦ rw w.result-is tt
