@@ -1,0 +1,13 @@
+use Rattle.std.proofs.Common.{◌∙◌, ap, map}
+use Rattle.std.proofs.lemmas.Result.{IfOk-weaker}
+use Rattle.tb_report.specs.Tables.{total_of}
+use Rattle.tb_report.specs.Kept.{ranked_row}
+use Rattle.tb_report.proofs.Ranking.{same_total}
+use Rattle.tb_report.proofs.freq.Freq.rows.Goals as goal
+
+pub returns-clause-sum : goal.returns-clause-sum
+returns-clause-sum c =
+    let ranks = c.in_ok-ranks.ranks.items in
+    IfOk-weaker c.owned_rows.result _ _
+    (λ v same. ap total_of (same ∙ ap (map ranked_row) c.deref.ensures.value) ∙ same_total c.args.self.now (map ranked_row ranks) c.in_ok-ranks.ensures)
+    c.owned_rows.ensures

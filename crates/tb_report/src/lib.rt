@@ -1,0 +1,6 @@
+//! Reports on what a search found: frequency tables.
+#![tactic(auto)]
+
+mod freq;
+
+pub use freq::Freq;
