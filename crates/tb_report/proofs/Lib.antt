@@ -1,3 +1,5 @@
 pub mod Rows
 pub mod Counting
 pub mod Ranking
+pub mod OneTable
+pub mod OneRanking

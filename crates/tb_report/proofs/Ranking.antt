@@ -20,7 +20,7 @@ use Rattle.tb_report.specs.Kept.{ranked_row}
 pub rank_total : IsTotalOrder rank
 rank_total = then_total (on_total (λ (r : Row). r.1) (back_total nat_cmp_total)) (on_total (λ (r : Row). r.0) nat_list_cmp_total)
 
-equal_after : (r s : Ordering) → ordering_then r s ≡ Equal → s ≡ Equal
+pub equal_after : (r s : Ordering) → ordering_then r s ≡ Equal → s ≡ Equal
 equal_after Less s e = absurd (true≢false (ap is_lt e))
 equal_after Equal s e = e
 equal_after Greater s e = absurd (true≢false (ap (λ o. is_lt (ordering_reverse o)) e))

@@ -2,5 +2,10 @@
 #![tactic(auto)]
 
 mod freq;
+mod laws;
 
 pub use freq::Freq;
+pub use laws::{
+    counts_sum_to_keys, keys_have_one_table, order_of_keys_is_nothing, table_has_one_ranking,
+    tables_add_up,
+};
