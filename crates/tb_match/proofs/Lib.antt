@@ -2,6 +2,7 @@ pub mod Cells
 pub mod Chains
 pub mod Closures
 pub mod Filters
+pub mod Limits
 pub mod Masks
 pub mod Ordered
 pub mod Parts

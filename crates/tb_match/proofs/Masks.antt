@@ -1,7 +1,8 @@
 -- Rows of one machine word: places put in, moved one place on, and kept where a mask has them.
-use Rattle.std.proofs.Common.{◌≡◌, ◌+◌, ◌-◌, ◌*◌, ◌/◌, ◌%◌, ◌^◌, ◌<◌, ◌≤◌, ◌≢◌, ◌↔◌, ◌⊎◌, ℕ, zero, suc, List, bit_and, bit_or, get_or, arith, sym, ◌∙◌, ap, subst, inl, inr, ⊎_elim, refl, w64}
+use Rattle.std.proofs.Common.{◌≡◌, ◌+◌, ◌-◌, ◌*◌, ◌/◌, ◌%◌, ◌^◌, ◌<◌, ◌≤◌, ◌≢◌, ◌↔◌, ◌⊎◌, ℕ, zero, suc, List, bit_and, bit_or, get_or, set, length, zero-add, arith, sym, ◌∙◌, ap, subst, inl, inr, ⊎_elim, refl, w64}
 use Rattle.std.specs.Int.{bit_at, bit_not}
 use Rattle.std.proofs.lemmas.Bool.{cases_eq, cases_lt}
+use Rattle.std.proofs.lemmas.List.{get_or-set_same, get_or-set_other}
 use Rattle.std.proofs.lemmas.Nat.{div-add-mod', shr-shr}
 use Rattle.std.proofs.lemmas.Nat.Bits.{bit_at_or, bit_at_and, bit_at-lt, bit_at-zero, bit_at_above, bit_at_set_same, bit_at_set_other, bit_at_cat_low, bit_at_cat_high, bit_at_clear_same, bit_at_clear_other, bit_at_ones, bit_at_ones_above}
 use Rattle.tb_match.specs.Bits.{InRow, InTable}
@@ -149,3 +150,29 @@ bits_to row last j short h =
     let none = bit_at_ones_above 64 (s + j) (omega arith) in
     (λ p. absurd (omega (arith, moved, none, (b.0 p).1)), λ p. absurd (let le : j ≤ last = p.1 in omega arith)))
     (cases_lt j (last + 1))
+
+same_place : (a b : ℕ) → a / 64 ≡ b / 64 → a % 64 ≡ b % 64 → a ≡ b
+same_place a b p q = omega (arith, div-add-mod' a 64, div-add-mod' b 64)
+
+-- a row without a place, whose word was written
+pub row_without : (row : List ℕ) (place v j : ℕ) → place / 64 < length row →
+    ((b : ℕ) → b < 64 → (bit_at v b ≡ 1) ↔ ((bit_at (get_or row (place / 64) 0) b ≡ 1) × (b ≢ place % 64))) →
+    InRow (set row (place / 64) v) 0 j ↔ (InRow row 0 j × (j ≢ place))
+unfolding InRow
+row_without row place v j short made = ⊎_elim same other (cases_eq (j / 64) (place / 64))
+  where
+    inside : j % 64 < 64
+    inside = omega (arith, div-add-mod' j 64)
+
+    same : j / 64 ≡ place / 64 → (bit_at (get_or (set row (place / 64) v) (0 + j / 64) 0) (j % 64) ≡ 1) ↔ ((bit_at (get_or row (0 + j / 64) 0) (j % 64) ≡ 1) × (j ≢ place))
+    same e =
+        let m = made (j % 64) inside in
+        rw (zero-add, e, get_or-set_same row (place / 64) v 0 short) (
+          λ h. let p = m.0 h in (p.0, λ same. p.1 (ap (λ x. x % 64) same)),
+          λ h. m.1 (h.0, λ q. h.1 (same_place j place e q)),
+        )
+
+    other : j / 64 ≢ place / 64 → (bit_at (get_or (set row (place / 64) v) (0 + j / 64) 0) (j % 64) ≡ 1) ↔ ((bit_at (get_or row (0 + j / 64) 0) (j % 64) ≡ 1) × (j ≢ place))
+    other ne =
+        let e = ap (λ n. bit_at n (j % 64)) (get_or-set_other row (place / 64) (0 + j / 64) v 0 (λ q. ne (sym (zero-add (j / 64)) ∙ q))) in
+        (λ h. (sym e ∙ h, λ same. ne (ap (λ x. x / 64) same)), λ h. e ∙ h.0)

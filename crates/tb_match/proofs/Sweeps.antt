@@ -22,7 +22,7 @@ le_triangle (suc n) = omega arith
 abbrev pub Reaches : List ℕ → ℕ → ℕ → ℕ → ℕ → Type 0
 Reaches L w last i j = (k : ℕ) × Chain (Link L w last) k i j
 
-chain_goes_on : (L : List ℕ) (w last k i j : ℕ) → Chain (Link L w last) k i j → i ≤ j
+pub chain_goes_on : (L : List ℕ) (w last k i j : ℕ) → Chain (Link L w last) k i j → i ≤ j
 chain_goes_on L w last zero i j e = omega arith
 chain_goes_on L w last (suc k) i j (m, r, rest) = let a : i ≤ m = r.0 in omega (arith, chain_goes_on L w last k m j rest)
 

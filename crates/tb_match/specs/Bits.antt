@@ -2,6 +2,7 @@
 -- word j / 64 of its row.
 use Rattle.std.specs.Prelude.{◌≡◌, ℕ, zero, suc, ◌+◌, ◌*◌, ◌/◌, ◌%◌, ◌<◌, ◌≤◌, ◌⊎◌, List, slice_index}
 use Rattle.std.specs.Int.{bit_at}
+use Rattle.tb_match.specs.Match.{Chain}
 
 -- place j is in the row that begins at word `from`
 unfoldable pub InRow : List ℕ → ℕ → ℕ → Type 0
@@ -22,6 +23,14 @@ Link cells w last i j = (i ≤ j) × (j ≤ last) × InTable cells w i j
 -- a link of the table that leads strictly forward
 abbrev pub Forward : List ℕ → ℕ → ℕ → ℕ → ℕ → Type 0
 Forward cells w last i j = (i < j) × (j ≤ last) × InTable cells w i j
+
+-- each link of the table leads forward or stays
+abbrev pub IsForward : List ℕ → ℕ → ℕ → Type 0
+IsForward cells w last = (i j : ℕ) → i ≤ last → j ≤ last → InTable cells w i j → i ≤ j
+
+-- from i at most t links of the table lead to j
+abbrev pub Within : List ℕ → ℕ → ℕ → ℕ → ℕ → ℕ → Type 0
+Within cells w last t i j = (k : ℕ) × (k ≤ t) × Chain (Link cells w last) k i j
 
 -- the row of each place of a row is in that row
 abbrev pub IsClosed : List ℕ → ℕ → ℕ → Type 0

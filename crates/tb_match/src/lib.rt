@@ -1,6 +1,7 @@
 //! Patterns over the words of a sentence, and where they match: exactly the defined hits, within a bound.
 #![tactic(auto)]
 
+mod bounded;
 mod finding;
 mod hits;
 mod narrow;

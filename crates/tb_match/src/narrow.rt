@@ -86,7 +86,7 @@ pub(crate) fn run_words(table: &mut [u64], ends: u64)
 
 /// The bits, without that of the place.
 #[inline(always)]
-fn without_place(bits: u64, place: usize) -> u64
+pub(crate) fn without_place(bits: u64, place: usize) -> u64
     requires { place < 64 }
     ensures places { (j : ℕ) → j < 64 → ((bit_at result j ≡ 1) ↔ ((bit_at bits j ≡ 1) × (j ≢ place))) }
     ensures shrinks { result ≤ bits }

@@ -1,12 +1,13 @@
 //! The relation of a pattern as a table of bit rows.
 
 ghost use Rattle.std.specs.Prelude.{◌≡◌, ◌+◌, ◌-◌, ◌*◌, ◌/◌, ◌<◌, ◌≤◌, ◌^◌, ◌↔◌, ◌⊎◌, ℕ, IfOk, IsTrue, length, None};
-ghost use Rattle.tb_match.specs.Bits.{InTable, Link, Repeated, triangle};
+ghost use Rattle.tb_match.specs.Bits.{InTable, IsForward, Link, Repeated, Within, triangle};
 ghost use Rattle.tb_match.specs.Match.{Chain, Match, IsAtMost};
 ghost use Rattle.tb_match.specs.Parts.{EachInTurn, AnyOf, AllProper, weight_of_all};
 ghost use Rattle.tb_match.specs.Weight.{IsBetween, weight_of, turns, IsProper};
 ghost use Rattle.tb_match.specs.Facts.{Facts, Holds};
 
+use crate::bounded::{leave, limit};
 use crate::narrow::chain_words;
 use crate::pattern::Pat;
 use crate::table::{close, compose, diagonal, empty, mark, merge, repeat};
@@ -56,7 +57,7 @@ fn token_rows(alloc: Global, expr: u16, truth: &Truth, width: usize) -> Result<V
     marked_rows(alloc, expr, truth, width)
 }
 
-/// The rows of chains of links that may follow the least number of them.
+/// The rows of chains of links that may follow so many of them as `least` says.
 fn further(
     alloc: Global,
     links: &[u64],
@@ -72,6 +73,7 @@ fn further(
     requires narrow { width ≤ 16 }
     requires spare { length spare.old ≡ width }
     requires links { length links.now ≡ (last + 1) * width }
+    requires forward { IsForward links.now width last }
     requires small { last ≤ 1000 }
     requires countable { steps.old + turns least most * triangle (last + 1) < 2 ^ 64 }
     ensures whole { IfOk result (λ v. length v.items ≡ (last + 1) * width) }
@@ -80,23 +82,51 @@ fn further(
     ensures more { steps.old ≤ steps.new }
     ensures bound { steps.new + least * triangle (last + 1) ≤ steps.old + turns least most * triangle (last + 1) }
 {
-    match most {
-        None => {
-            let mut table = empty(alloc, width, last)?;
-            close(links, &mut table, spare, width, last, steps);
-            Ok(table)
-        }
-        Some(most) => {
-            let mut table = diagonal(alloc, width, last)?;
-            let times = (most - least) as usize;
-            repeat(links, &mut table, spare, width, last, times, true, steps);
-            Ok(table)
-        }
-    }
+    let mut table = empty(alloc, width, last)?;
+    close(links, &mut table, spare, width, last, steps);
+    let Some(most) = most else {
+        return Ok(table);
+    };
+    let times = (most - least) as usize;
+    limit(&mut table, spare, links, width, last, times, steps);
+    Ok(table)
 }
 
-/// The rows of chains of links, by sweeps over a table of their own: at least `least` of them, and
-/// at most `most` where it is given.
+/// The rows of chains of links that may follow all but one of the least number of them.
+fn begun(
+    alloc: Global,
+    links: &[u64],
+    least: u8,
+    most: Option<u8>,
+    spare: &mut [u64],
+    width: usize,
+    last: usize,
+    steps: &mut u64,
+) -> Result<Vec<u64>, AllocError>
+    requires order { IsBetween least most }
+    requires wide { last / 64 < width }
+    requires narrow { width ≤ 16 }
+    requires spare { length spare.old ≡ width }
+    requires links { length links.now ≡ (last + 1) * width }
+    requires forward { IsForward links.now width last }
+    requires small { last ≤ 1000 }
+    requires countable { steps.old + turns least most * triangle (last + 1) < 2 ^ 64 }
+    ensures whole { IfOk result (λ v. length v.items ≡ (last + 1) * width) }
+    ensures rows { IfOk result (λ v. (i j : ℕ) → i ≤ last → j ≤ last →
+        (InTable v.items width i j ↔ ((k : ℕ) × (least ≤ least - 1 + k) × IsAtMost (least - 1 + k) most × Chain (Link links.now width last) k i j))) }
+    ensures more { steps.old ≤ steps.new }
+    ensures bound { steps.new + (least - 1) * triangle (last + 1) ≤ steps.old + turns least most * triangle (last + 1) }
+{
+    if least == 0 {
+        return further(alloc, links, 0, most, spare, width, last, steps);
+    }
+    let mut table = further(alloc, links, least - 1, most, spare, width, last, steps)?;
+    leave(&mut table, links, width, last);
+    Ok(table)
+}
+
+/// The rows of chains of links, in a table of their own: at least `least` of them, and at most
+/// `most` where it is given.
 fn swept(
     alloc: Global,
     links: &[u64],
@@ -112,6 +142,7 @@ fn swept(
     requires narrow { width ≤ 16 }
     requires spare { length spare.old ≡ width }
     requires links { length links.now ≡ (last + 1) * width }
+    requires forward { IsForward links.now width last }
     requires small { last ≤ 1000 }
     requires countable { steps.old + turns least most * triangle (last + 1) < 2 ^ 64 }
     ensures whole { IfOk result (λ v. length v.items ≡ (last + 1) * width) }
@@ -120,17 +151,9 @@ fn swept(
     ensures more { steps.old ≤ steps.new }
     ensures bound { steps.new ≤ steps.old + turns least most * triangle (last + 1) }
 {
-    let mut table = further(alloc, links, least, most, spare, width, last, steps)?;
-    repeat(
-        links,
-        &mut table,
-        spare,
-        width,
-        last,
-        least as usize,
-        false,
-        steps,
-    );
+    let mut table = begun(alloc, links, least, most, spare, width, last, steps)?;
+    let times = least.saturating_sub(1) as usize;
+    repeat(links, &mut table, spare, width, last, times, false, steps);
     Ok(table)
 }
 
@@ -158,6 +181,7 @@ fn repetition(
     requires narrow { width ≤ 16 }
     requires spare { length spare.old ≡ width }
     requires links { length links.items ≡ (last + 1) * width }
+    requires forward { IsForward links.items width last }
     requires small { last ≤ 1000 }
     requires countable { steps.old + turns least most * triangle (last + 1) < 2 ^ 64 }
     ensures whole { IfOk result (λ v. length v.items ≡ (last + 1) * width) }

@@ -1,4 +1,4 @@
-use Rattle.std.proofs.Common.{arith, ◌≡◌, ◌+◌, ◌*◌, ◌<◌, ◌≤◌, ◌^◌, ◌↔◌, ◌⊎◌, ℕ, ◌∷◌, length, drop, sym, ◌∙◌, subst, ap}
+use Rattle.std.proofs.Common.{arith, ◌≡◌, ◌+◌, ◌*◌, ◌<◌, ◌≤◌, ◌^◌, ◌↔◌, ◌⊎◌, ℕ, [], ◌∷◌, length, drop, sym, ◌∙◌, subst, ap}
 use Rattle.std.proofs.lemmas.Result.{IfOk-weaker}
 use Rattle.tb_match.specs.Bits.{InTable, triangle}
 use Rattle.tb_match.specs.Facts.{Holds}
@@ -138,6 +138,18 @@ rows-repetition-requires-clause-countable t c =
     ap weight_of c.in-Rep.is ∙ ap (λ p. weight_of p + turns c.in-Rep.least c.in-Rep.most) (sym c.deref-in-Rep.ensures) in
     subst (λ n. c.rows.new.steps + turns c.in-Rep.least c.in-Rep.most * triangle (n + 1) < 2 ^ 64) (sym c.words.ensures.count)
     (room_after (2 ^ 64) c.args.steps.now c.rows.new.steps _ _ (triangle (c.args.truth.now.words + 1)) (weight_of c.args.pat.now) e c.rows.ensures.bound c.requires.countable)
+
+pub rows-repetition-requires-clause-forward : goal.rows-repetition-requires-clause-forward
+rows-repetition-requires-clause-forward t c =
+    let last = c.words.result in
+    let H = Holds c.args.truth.now in
+    let w = c.args.width in
+    let links = c.in_ok-links-in-Rep.links.items in
+    let count : last ≡ c.args.truth.now.words = c.words.ensures.count in
+    let inside : (e v : ℕ) → Holds c.args.truth.now e v → v ≤ last = λ e v h. (let le : v ≤ c.args.truth.now.words = h.1 in omega arith) in
+    let rows : (i j : ℕ) → i ≤ last → j ≤ last → InTable links w i j ↔ Match H c.in-Rep.inner.value i j =
+    λ i j p q. subst (λ x. InTable c.in_ok-links-in-Rep.links.items c.args.width i j ↔ Match (Holds c.args.truth.now) x i j) c.deref-in-Rep.ensures (c.in_ok-links-in-Rep.ensures.rows i j (omega arith) (omega arith)) in
+    first_forward last w links H inside c.in-Rep.inner.value [] rows
 
 pub rows-returns-in-Alt-clause-rows : goal.rows-returns-in-Alt-clause-rows
 rows-returns-in-Alt-clause-rows t c =
