@@ -24,6 +24,43 @@ pub fn nested_stars(alloc: Global, levels: usize) -> Result<Pat, AllocError> {
     Ok(pat)
 }
 
+/// The pattern in so many repetitions, one within the other.
+pub fn nested(
+    alloc: Global,
+    inner: Pat,
+    levels: usize,
+    least: u8,
+    most: Option<u8>,
+) -> Result<Pat, AllocError> {
+    let mut pat = inner;
+    for _ in 0..levels {
+        pat = Pat::Rep(Box::new(alloc, pat)?, least, most);
+    }
+    Ok(pat)
+}
+
+/// So many of the pattern one after the other, each within so many repetitions of a word.
+pub fn side_by_side(
+    alloc: Global,
+    count: usize,
+    levels: usize,
+    least: u8,
+    most: Option<u8>,
+) -> Result<Pat, AllocError> {
+    let mut parts = Vec::new(alloc);
+    for _ in 0..count {
+        parts.push(nested(alloc, Pat::Tok(0), levels, least, most)?)?;
+    }
+    Ok(Pat::Cat(parts))
+}
+
+/// `([upos="NOUN"]+ | [upos="VERB"])`, where the first half of the words are nouns and the others verbs: long rows of
+/// links, and long chains of them.
+pub fn runs_or_words(alloc: Global) -> Result<Pat, AllocError> {
+    let runs = Pat::Rep(Box::new(alloc, Pat::Tok(1))?, 1, None);
+    Ok(Pat::Alt(vec![in alloc; runs, Pat::Tok(2)]?))
+}
+
 /// `[upos="NOUN"]`
 pub fn lone_token() -> Pat {
     Pat::Tok(2)
@@ -118,13 +155,15 @@ pub fn tagged(alloc: Global, words: usize, seed: u32) -> Result<Truth, AllocErro
     Ok(truth)
 }
 
-/// A table of one expression that holds of each word.
+/// A table of three expressions, of which the first holds of each word, the second of the first half of them, and the
+/// third of the others.
 pub fn anything(alloc: Global, words: usize) -> Result<Truth, AllocError>
     requires { words ≤ 1000 }
 {
-    let mut truth = Truth::new(alloc, words, 1)?;
+    let mut truth = Truth::new(alloc, words, 3)?;
     for word in 1..words + 1 {
         mark(&mut truth, 0, word);
+        mark(&mut truth, if word <= words / 2 { 1 } else { 2 }, word);
     }
     Ok(truth)
 }
