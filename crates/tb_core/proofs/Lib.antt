@@ -6,3 +6,7 @@ mod Balance
 mod Extending
 mod Same
 mod ReadsBack
+mod Chains
+mod Repeats
+mod Again
+mod Leading

@@ -1,14 +1,18 @@
 //! Laws of the machine: each function only states a fact about the definitions, and runs nothing.
 
-ghost use Rattle.std.specs.Prelude.{◌≡◌, ◌+◌, ℕ, List, [], ◌∷◌, length};
+ghost use Rattle.std.specs.Prelude.{◌≡◌, ◌+◌, ◌≤◌, ℕ, List, [], ◌∷◌, length, true};
 ghost use Rattle.std.specs.List.{AllByRecursion};
 ghost use Rattle.tb_conllu.specs.Text.{BlockText, text_of};
 ghost use Rattle.tb_conllu.specs.Told.{IsFile};
 ghost use Rattle.tb_rules.specs.File.{IsValid};
 ghost use Rattle.tb_core.specs.declared.kinds.State.{State};
 ghost use Rattle.tb_core.specs.declared.kinds.State.TheVariants.{Opened, Assigned, Submitted, Adjudicated, Released, Withdrawn};
-ghost use Rattle.tb_core.specs.Machine.{Machine, Sentence, one, bodies_of};
-ghost use Rattle.tb_core.specs.Reaching.{Reached, Later};
+ghost use Rattle.tb_core.specs.declared.limits.Limits.{Limits};
+ghost use Rattle.tb_core.specs.Names.{is_name};
+ghost use Rattle.tb_core.specs.Machine.{Machine, Sentence, one, rev, bodies_of};
+ghost use Rattle.tb_core.specs.Reaching.{Reached, Later, IsReachable};
+ghost use Rattle.tb_core.specs.Commands.{Command, import_file, correct, Reply, Answer, replied, HasSentence};
+ghost use Rattle.tb_core.specs.Steps.{Steps};
 ghost use Rattle.tb_core.specs.Keeping.{IsWell, Extends};
 ghost use Rattle.tb_core.specs.Rows.{rows_of};
 ghost use Rattle.tb_core.specs.Totals.{IsNet, total};
@@ -50,3 +54,26 @@ pub fn rows_tell_the_state()
 {
     one_list_has_a_text();
 }
+
+/// A command leads to a later state, or to the same.
+pub fn commands_lead_on()
+    ensures { (l : Limits) (s t : Machine) (c : Command) (a : Answer) → Steps l s c a t → Later s t }
+{}
+
+/// Under limits of at most 1,000,000 sentences and 1,000,000,000 moves a command leads from a state within the largest
+/// limits to one within them.
+pub fn commands_stay_within_limits()
+    ensures { (l : Limits) (s t : Machine) (c : Command) (a : Answer) → l.sentences ≤ 1000000 → l.moves ≤ 1000000000 → IsReachable s → Steps l s c a t → IsReachable t }
+{}
+
+/// An import that had a reply, sent again in any later state by anyone with a good name, has this reply again and changes
+/// nothing.
+pub fn imports_repeat()
+    ensures { (l k : Limits) (s t u : Machine) (name user other body : List ℕ) (r : Reply) → Reached s → Steps l s (import_file name user body) (replied r) t → Later t u → is_name other ≡ true → Steps k u (import_file name other body) (replied r) u }
+{}
+
+/// A correction that had a reply, sent again by its user while its revision is current, has this reply again and changes
+/// nothing.
+pub fn corrections_repeat()
+    ensures { (l k : Limits) (s t u : Machine) (n base : ℕ) (user body : List ℕ) (r : Reply) (place : ℕ) (y : Sentence) → Steps l s (correct n base user body) (replied r) t → Later t u → HasSentence u n place y → rev y ≡ base + 1 → Steps k u (correct n base user body) (replied r) u }
+{}

@@ -13,7 +13,8 @@ mod sums;
 pub use deciding::{decide_correct, decide_event, decide_pull, decide_restore, good_name};
 pub use kinds::{Event, Kind, State, Worker};
 pub use laws::{
-    each_sentence_is_in_one_state, later_states_extend, reached_states_are_well,
+    commands_lead_on, commands_stay_within_limits, corrections_repeat,
+    each_sentence_is_in_one_state, imports_repeat, later_states_extend, reached_states_are_well,
     revisions_read_back, rows_tell_the_state, totals_are_nets,
 };
 pub use limits::Limits;
