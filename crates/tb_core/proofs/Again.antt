@@ -32,13 +32,13 @@ still_current x y h e =
     let none = nothing_more h.more (omega (arith, sizes, old, new, e)) in
     snoc_last y.before y.current x.before x.current (h.revised ∙ (ap (λ l. revisions x ++ l) none ∙ append-nil (revisions x)))
 
-abbrev the_reply : ℕ → ℕ → ℕ → Reply
+abbrev pub the_reply : ℕ → ℕ → ℕ → Reply
 the_reply n k w = corrected_to (record { sentence = n; rev = k; words = w })
 
 reply_is : (n m a b v w : ℕ) → n ≡ m → a ≡ b → v ≡ w → the_reply n a v ≡ the_reply m b w
 reply_is n m a b v w p q r = ap (λ z. the_reply z a v) p ∙ (ap (λ z. the_reply m z v) q ∙ ap (λ z. the_reply m b z) r)
 
-same_place : (n i j : ℕ) → n ≡ i + 1 → n ≡ j + 1 → i ≡ j
+pub same_place : (n i j : ℕ) → n ≡ i + 1 → n ≡ j + 1 → i ≡ j
 same_place n i j a b = omega (arith, a, b)
 
 -- an accepted correction is a repeat in the state that it leaves

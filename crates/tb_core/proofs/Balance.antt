@@ -158,7 +158,7 @@ sum-next f [] m = omega arith
 sum-next f (x ∷ ms) m = let e = sum-next f ms m in omega (arith, e)
 
 -- as many sentences leave a state as the move names
-counted : (s : Machine) (a : Act) (st : State) → IsAllowed s a → when (is_from (from_state s a) st) (leaves one s a) ≡ when (is_from (from_state s a) st) (enters one s a)
+pub counted : (s : Machine) (a : Act) (st : State) → IsAllowed s a → when (is_from (from_state s a) st) (leaves one s a) ≡ when (is_from (from_state s a) st) (enters one s a)
 counted s (importing name user bodies) st k = refl
 counted s (stepping place event user) st k = refl
 counted s (correcting place user body) st k =

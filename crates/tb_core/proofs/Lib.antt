@@ -10,3 +10,7 @@ mod Chains
 mod Repeats
 mod Again
 mod Leading
+mod Once
+mod Judged
+mod Always
+mod Stored

@@ -8,6 +8,8 @@ ghost use Rattle.tb_rules.specs.File.{IsValid};
 ghost use Rattle.tb_core.specs.declared.kinds.State.{State};
 ghost use Rattle.tb_core.specs.declared.kinds.State.TheVariants.{Opened, Assigned, Submitted, Adjudicated, Released, Withdrawn};
 ghost use Rattle.tb_core.specs.declared.limits.Limits.{Limits};
+ghost use Rattle.tb_core.specs.declared.sums.Totals.{Totals};
+ghost use Rattle.tb_core.specs.Acts.{Act, IsAllowed, after, move_of};
 ghost use Rattle.tb_core.specs.Names.{is_name};
 ghost use Rattle.tb_core.specs.Machine.{Machine, Sentence, one, rev, bodies_of};
 ghost use Rattle.tb_core.specs.Reaching.{Reached, Later, IsReachable};
@@ -15,9 +17,10 @@ ghost use Rattle.tb_core.specs.Commands.{Command, import_file, correct, Reply, A
 ghost use Rattle.tb_core.specs.Steps.{Steps};
 ghost use Rattle.tb_core.specs.Keeping.{IsWell, Extends};
 ghost use Rattle.tb_core.specs.Rows.{rows_of};
-ghost use Rattle.tb_core.specs.Totals.{IsNet, total};
+ghost use Rattle.tb_core.specs.Totals.{IsNet, total, Takes, IsApplied, StandFor};
 
-use tb_conllu::one_list_has_a_text;
+use tb_conllu::{one_fault_is_told, one_list_has_a_text};
+use tb_rules::one_sentence_is_told;
 
 /// What every reached state keeps: names and `sent_id`s are each once; each sentence is of one batch; nobody works on an
 /// open or withdrawn batch; each revision of a sentence keeps the rules, with one `sent_id` and one text.
@@ -76,4 +79,29 @@ pub fn imports_repeat()
 /// nothing.
 pub fn corrections_repeat()
     ensures { (l k : Limits) (s t u : Machine) (n base : ℕ) (user body : List ℕ) (r : Reply) (place : ℕ) (y : Sentence) → Steps l s (correct n base user body) (replied r) t → Later t u → HasSentence u n place y → rev y ≡ base + 1 → Steps k u (correct n base user body) (replied r) u }
+{}
+
+/// A command has one answer in a reached state, and leaves one state.
+pub fn each_command_ends_one_way()
+    ensures { (l : Limits) (s t u : Machine) (c : Command) (a b : Answer) → Reached s → Steps l s c a t → Steps l s c b u → (a ≡ b) × (t ≡ u) }
+{
+    one_list_has_a_text();
+    one_fault_is_told();
+    one_sentence_is_told();
+}
+
+/// No command is without an answer, in any state.
+pub fn each_command_ends()
+    ensures { (l : Limits) (s : Machine) (c : Command) → ((a : Answer) (t : Machine) → Steps l s c a t → ⊥) → ⊥ }
+{}
+
+/// Stored totals that stand for a state take the move of each accepted command, as long as it stays within the largest
+/// limits.
+pub fn stored_totals_take_moves()
+    ensures { (s : Machine) (a : Act) (t : Totals) → IsReachable s → IsAllowed s a → IsReachable (after s a) → StandFor t s → Takes t (move_of s a) }
+{}
+
+/// Once the move is made they stand for the next state.
+pub fn stored_totals_stand()
+    ensures { (s : Machine) (a : Act) (t u : Totals) → Reached s → IsAllowed s a → StandFor t s → IsApplied t u (move_of s a) → StandFor u (after s a) }
 {}

@@ -13,9 +13,10 @@ mod sums;
 pub use deciding::{decide_correct, decide_event, decide_pull, decide_restore, good_name};
 pub use kinds::{Event, Kind, State, Worker};
 pub use laws::{
-    commands_lead_on, commands_stay_within_limits, corrections_repeat,
-    each_sentence_is_in_one_state, imports_repeat, later_states_extend, reached_states_are_well,
-    revisions_read_back, rows_tell_the_state, totals_are_nets,
+    commands_lead_on, commands_stay_within_limits, corrections_repeat, each_command_ends,
+    each_command_ends_one_way, each_sentence_is_in_one_state, imports_repeat, later_states_extend,
+    reached_states_are_well, revisions_read_back, rows_tell_the_state, stored_totals_stand,
+    stored_totals_take_moves, totals_are_nets,
 };
 pub use limits::Limits;
 pub use moves::Move;

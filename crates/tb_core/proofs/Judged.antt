@@ -1,0 +1,176 @@
+-- Bytes are a file or have a fault, and sentences are valid or have one: it cannot be that neither is so.
+use Rattle.std.proofs.Common.{◌≡◌, ◌⊎◌, inl, inr, ℕ, zero, suc, ◌+◌, ◌≤◌, ◌<◌, List, [], ◌∷◌, ◌++◌, length, get_or, take, Bool, true, false, ◌||◌, eqb, refl, sym, ◌∙◌, ap, subst, arith, append_assoc, append-nil, length-append}
+use Rattle.std.specs.Prelude.{◌==◌, slice_index_or}
+use Rattle.std.specs.List.{AllByRecursion, list_any, flat_map}
+use Rattle.std.proofs.lemmas.Bool.Decides.{eqb_tells}
+use Rattle.std.proofs.lemmas.List.Concat.{flat_map-append}
+use Rattle.tb_conllu.specs.Text.{RowText, BlockText, text_of, ended}
+use Rattle.tb_conllu.specs.Shape.{AllShaped}
+use Rattle.tb_conllu.specs.Words.{words_of}
+use Rattle.tb_conllu.specs.Lines.{line_code, came_through}
+use Rattle.tb_conllu.specs.Told.{IsLine, AreLines, IsFile, IsDead, IsNoFile, IsLineFault, IsUnended, IsTold}
+use Rattle.tb_rules.specs.Deps.{dependency_test}
+use Rattle.tb_rules.specs.Feats.{feature_test}
+use Rattle.tb_rules.specs.Nodes.{node_test}
+use Rattle.tb_rules.specs.Spans.{span_test}
+use Rattle.tb_rules.specs.Words.{word_test}
+use Rattle.tb_rules.specs.Rows.{RowTest, FirstRowsPass, EachRowPasses, IsFirstFault}
+use Rattle.tb_rules.specs.Rules.{HasWords, HasSpans, HasNodes, HasFeatures, HasDependencies, KeepsTo3, KeepsTo4, KeepsTo5, KeepsTo6, KeepsTo7, KeepsTo8, KeepsTo9, KeepsTo10, KeepsRules, IsBroken, no_sent_id, no_text, no_ids, word_fault, span_fault, node_fault, feature_fault, dependency_fault, no_one_root, no_tree, not_restored}
+use Rattle.tb_rules.specs.File.{IsNamed, IsFree, HasNewName, IsValid, IsBrokenAfter, broken, name_twice, IsFaultAt}
+use Rattle.tb_core.proofs.Weights.{all_append}
+use Rattle.tb_core.proofs.Lists.{head_is, tail_is}
+
+-- ---- bytes
+
+-- bytes cut into lines, and what follows the last line feed
+record Cut (f : List ℕ) : Type 0 where
+  pub lines : List (List ℕ)
+  pub rest : List ℕ
+  pub whole : f ≡ ended lines ++ rest
+  pub cut : AreLines lines
+  pub cut_rest : IsLine rest
+
+begun_by : (b : ℕ) (f : List ℕ) → (b == 10) ≡ false → Cut f → Cut (b ∷ f)
+begun_by b f h c = with_lines c.lines c.rest c.whole c.cut c.cut_rest where
+  with_lines : (lines : List (List ℕ)) (rest : List ℕ) → f ≡ ended lines ++ rest → AreLines lines → IsLine rest → Cut (b ∷ f)
+  with_lines [] rest whole cut cut_rest = record { lines = []; rest = b ∷ rest; whole = ap (λ l. b ∷ l) whole; cut = tt; cut_rest = ap (λ t. t || list_any (λ x. x == 10) rest) h ∙ cut_rest }
+  with_lines (l ∷ ls) rest whole cut cut_rest = record { lines = (b ∷ l) ∷ ls; rest = rest; whole = ap (λ m. b ∷ m) whole; cut = (ap (λ t. t || list_any (λ x. x == 10) l) h ∙ cut.0, cut.1); cut_rest = cut_rest }
+
+ended_by : (b : ℕ) (f : List ℕ) → b ≡ 10 → Cut f → Cut (b ∷ f)
+ended_by b f h c = record { lines = [] ∷ c.lines; rest = c.rest; whole = ap (λ x. x ∷ f) h ∙ ap (λ l. 10 ∷ l) c.whole; cut = (refl, c.cut); cut_rest = c.cut_rest }
+
+cut_of : (f : List ℕ) → Cut f
+cut_of [] = record { lines = []; rest = []; whole = refl; cut = tt; cut_rest = refl }
+cut_of (b ∷ f) = elim (eqb_tells b 10) [ inl y ↦ ended_by b f y.1 (cut_of f) | inr n ↦ begun_by b f n.0 (cut_of f) ]
+
+front_lines : (us vs : List (List ℕ)) → AreLines (us ++ vs) → AreLines us
+front_lines [] vs h = tt
+front_lines (u ∷ us) vs h = (h.0, front_lines us vs h.1)
+
+ended-append : (us vs : List (List ℕ)) → ended (us ++ vs) ≡ ended us ++ ended vs
+ended-append us vs = flat_map-append (λ l. l ++ 10 ∷ []) us vs
+
+abbrev NoTold : List ℕ → Type 0
+NoTold f = (line code : ℕ) → IsTold f line code → ⊥
+
+-- where no fault is told, each line that comes is alive
+alive_through : (f : List ℕ) → NoTold f → (before ls : List (List ℕ)) (rest : List ℕ) → f ≡ ended (before ++ ls) ++ rest → AreLines (before ++ ls) → (IsDead before → ⊥) → IsDead (before ++ ls) → ⊥
+alive_through f none before [] rest whole cut alive = subst (λ l. IsDead l → ⊥) (sym (append-nil before)) alive
+alive_through f none before (l ∷ ls) rest whole cut alive =
+    let joined = sym (append_assoc before (l ∷ []) ls) in
+    let next_whole : f ≡ ended ((before ++ l ∷ []) ++ ls) ++ rest = whole ∙ ap (λ m. ended m ++ rest) joined in
+    let next_cut = subst AreLines joined cut in
+    let here : f ≡ ended (before ++ l ∷ []) ++ (ended ls ++ rest) = next_whole ∙ (ap (λ m. m ++ rest) (ended-append (before ++ l ∷ []) ls) ∙ append_assoc (ended (before ++ l ∷ [])) (ended ls) rest) in
+    let next = alive_through f none (before ++ l ∷ []) ls rest next_whole next_cut (λ dead. none (length before + 1) (line_code (came_through false before) l) (inl (record {
+      before = before;
+      told = l;
+      rest = ended ls ++ rest;
+      whole = here;
+      cut = front_lines (before ++ l ∷ []) ls next_cut;
+      place = refl;
+      dead = dead;
+      alive = alive;
+      least = refl;
+    }))) in
+    λ dead. next (subst IsDead joined dead)
+
+pub read_some : (f : List ℕ) → NoTold f → ((bs : List BlockText) → IsFile f bs → ⊥) → ⊥
+read_some f none unless =
+    let c = cut_of f in
+    let alive = alive_through f none [] c.lines c.rest c.whole c.cut (λ dead. dead [] [] tt refl) in
+    none (length c.lines + 1) 10 (inr (
+      record {
+        before = c.lines;
+        rest = c.rest;
+        whole = c.whole;
+        cut = c.cut;
+        cut_rest = c.cut_rest;
+        place = refl;
+        alive = alive;
+        no_file = λ bs shaped text. unless bs (record { shaped = shaped; text = text });
+      },
+      refl,
+    ))
+
+-- ---- rules
+
+other_default : (rs : List RowText) (i : ℕ) (c d : RowText) → i < length rs → slice_index_or rs i c ≡ slice_index_or rs i d
+other_default [] i c d h = absurd (omega arith)
+other_default (r ∷ rs) zero c d h = refl
+other_default (r ∷ rs) (suc i) c d h = other_default rs i c d (omega arith)
+
+one_passes : (test : RowTest) (rs : List RowText) → ((row : ℕ) → IsFirstFault test rs row → ⊥) → (n : ℕ) → n < length rs → FirstRowsPass test rs n → (d : RowText) (b : Bool) → b ≡ test (take n rs) (slice_index_or rs n d)
+    → test (take n rs) (slice_index_or rs n d) ≡ true
+one_passes test rs none n l before d true e = sym e
+one_passes test rs none n l before d false e =
+    absurd (none (n + 1) (record { place = n; counted = refl; within = l; fails = λ c. ap (λ r. test (take n rs) r) (other_default rs n c d l) ∙ sym e; before = before }))
+
+pass_to : (test : RowTest) (rs : List RowText) → ((row : ℕ) → IsFirstFault test rs row → ⊥) → (n : ℕ) → n ≤ length rs → FirstRowsPass test rs n
+pass_to test rs none zero l = λ k d h. absurd (omega arith)
+pass_to test rs none (suc n) l =
+    let before = pass_to test rs none n (omega arith) in
+    λ k d h. elim (eqb_tells k n) [
+      | inl y ↦ subst (λ i. test (take i rs) (slice_index_or rs i d) ≡ true) (sym y.1) (one_passes test rs none n (omega arith) before d (test (take n rs) (slice_index_or rs n d)) refl)
+      | inr m ↦ before k d (omega (arith, m.1, h))
+    ]
+
+rows_pass : (test : RowTest) (rs : List RowText) → ((row : ℕ) → IsFirstFault test rs row → ⊥) → EachRowPasses test rs
+rows_pass test rs none = pass_to test rs none (length rs) (omega arith)
+
+rules_some : (b : BlockText) → ((rule row : ℕ) → IsBroken b rule row → ⊥) → (KeepsRules b → ⊥) → ⊥
+rules_some b none unless = none 1 0 (no_sent_id (λ h1. none 2 0 (no_text h1 (λ h2. none 3 0 (no_ids (h1, h2) (λ h3.
+    let k3 : KeepsTo3 b = ((h1, h2), h3) in
+    let h4 : HasWords b = rows_pass (word_test (words_of b)) b.rows (λ row f. none 4 row (word_fault row k3 f)) in
+    let k4 : KeepsTo4 b = (k3, h4) in
+    let h5 : HasSpans b = rows_pass (span_test (words_of b)) b.rows (λ row f. none 5 row (span_fault row k4 f)) in
+    let k5 : KeepsTo5 b = (k4, h5) in
+    let h6 : HasNodes b = rows_pass node_test b.rows (λ row f. none 6 row (node_fault row k5 f)) in
+    let k6 : KeepsTo6 b = (k5, h6) in
+    let h7 : HasFeatures b = rows_pass feature_test b.rows (λ row f. none 7 row (feature_fault row k6 f)) in
+    let k7 : KeepsTo7 b = (k6, h7) in
+    let h8 : HasDependencies b = rows_pass (dependency_test b.rows) b.rows (λ row f. none 8 row (dependency_fault row k7 f)) in
+    let k8 : KeepsTo8 b = (k7, h8) in
+    none 9 0 (no_one_root k8 (λ h9.
+    let k9 : KeepsTo9 b = (k8, h9) in
+    none 10 0 (no_tree k9 (λ h10.
+    let k10 : KeepsTo10 b = (k9, h10) in
+    none 11 0 (not_restored k10 (λ h11. unless (k10, h11)))))))))))))
+
+-- ---- files
+
+snoc_split : {X : Type 0} (xs : List X) (z : X) (us : List X) (c : X) (vs : List X) → xs ++ z ∷ [] ≡ us ++ c ∷ vs → ((rest : List X) × (xs ≡ us ++ c ∷ rest)) ⊎ ((c ≡ z) × (us ≡ xs))
+snoc_split [] z [] c vs e = inr (sym (head_is z c [] vs e), refl)
+snoc_split (x ∷ xs) z [] c vs e = inl (xs, ap (λ y. y ∷ xs) (head_is x c (xs ++ z ∷ []) vs e))
+snoc_split [] z (u ∷ us) c vs e = let n = ap length e in let m = length-append us (c ∷ vs) in absurd (omega (arith, n, m))
+snoc_split (x ∷ xs) z (u ∷ us) c vs e =
+    let h = head_is x u (xs ++ z ∷ []) (us ++ c ∷ vs) e in
+    elim (snoc_split xs z us c vs (tail_is x u (xs ++ z ∷ []) (us ++ c ∷ vs) e)) [
+      | inl w ↦ inl (w.0, ap (λ a. a ∷ xs) h ∙ ap (λ l. u ∷ l) w.1)
+      | inr w ↦ inr (w.0, ap (λ a. a ∷ us) (sym h) ∙ ap (λ l. x ∷ l) w.1)
+    ]
+
+valid_next : (before : List BlockText) (b : BlockText) → IsValid before → KeepsRules b → HasNewName before b → IsValid (before ++ b ∷ [])
+valid_next before b valid kept new = record {
+  rules = all_append KeepsRules before (b ∷ []) valid.rules (kept, tt);
+  names = λ us c vs e name is. elim (snoc_split before b us c vs e) [
+    | inl w ↦ valid.names us c w.0 w.1 name is
+    | inr w ↦ subst (λ l. IsFree l name) (sym w.1) (new name (subst (λ x. IsNamed x name) w.0 is))
+  ];
+}
+
+abbrev NoFault : List BlockText → Type 0
+NoFault bs = (sentence rule row : ℕ) → IsFaultAt bs sentence rule row → ⊥
+
+valid_from : (before rest : List BlockText) → IsValid before → NoFault (before ++ rest) → (IsValid (before ++ rest) → ⊥) → ⊥
+valid_from before [] valid none unless = unless (subst IsValid (sym (append-nil before)) valid)
+valid_from before (b ∷ rest) valid none unless =
+    let joined = sym (append_assoc before (b ∷ []) rest) in
+    let told = λ (rule row : ℕ) (f : IsBrokenAfter before b rule row). none (length before + 1) rule row (record { before = before; told = b; after = rest; whole = refl; counted = refl; valid = valid; fault = f }) in
+    rules_some b (λ rule row h. told rule row (broken rule row h)) (λ kept. told 12 0 (name_twice kept (λ new.
+    valid_from (before ++ b ∷ []) rest (valid_next before b valid kept new) (subst NoFault joined none) (subst (λ l. IsValid l → ⊥) joined unless))))
+
+valid_none : IsValid []
+valid_none = record { rules = tt; names = λ before b after e. let n = ap length e in let m = length-append before (b ∷ after) in absurd (omega (arith, n, m)) }
+
+pub valid_some : (bs : List BlockText) → NoFault bs → (IsValid bs → ⊥) → ⊥
+valid_some bs none unless = valid_from [] bs valid_none none unless
