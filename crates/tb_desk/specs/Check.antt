@@ -1,12 +1,15 @@
 -- What the check of a file answers: the reply, its line and the exit status.
-use Rattle.std.specs.Prelude.{◌≡◌, ◌≤◌, ◌<◌, ◌⊎◌, ℕ, List, ◌++◌, length, take, codes, decimal, Bool, true, false, Option, MatchOption}
+use Rattle.std.specs.Prelude.{◌≡◌, ◌≤◌, ◌<◌, ◌⊎◌, ℕ, List, ◌++◌, length, codes, decimal, Bool, true, false, Option, IfSome, MatchOption}
 use Rattle.std.specs.List.{sum_by}
 use Rattle.std.specs.Io.KnownBytes.{Appends}
+use Rattle.tb_conllu.specs.Sunk.{AppendsPart}
 use Rattle.tb_conllu.specs.Text.{BlockText}
 use Rattle.tb_conllu.specs.Told.{IsFile, IsTold}
 use Rattle.tb_conllu.specs.Words.{words_of}
-use Rattle.tb_rules.specs.File.{IsValid, IsFaultAt, IsFileFault, HasTaken}
+use Rattle.tb_rules.specs.File.{IsValid, IsFaultAt, IsCutShort, HasTaken}
 use Rattle.tb_rules.specs.declared.filefault.FileFault.{FileFault}
+use Rattle.tb_rules.specs.declared.filefault.FileFault.TheVariants.{At}
+use Rattle.tb_rules.specs.declared.filefault.FileFault.TheVariants as rules
 use Rattle.tb_desk.specs.declared.check.Survey.{Survey}
 use Rattle.tb_desk.specs.declared.reply.CheckReply.{CheckReply}
 use Rattle.tb_desk.specs.declared.reply.CheckReply.TheVariants.{Counts, Read, Rule, Long, Memory, Device}
@@ -15,13 +18,19 @@ use Rattle.tb_desk.specs.declared.reply.CheckReply.TheVariants.{Counts, Read, Ru
 abbrev pub words_in : List BlockText → ℕ
 words_in bs = sum_by words_of bs
 
+-- The fault that is told of sentences: the first that breaks a rule; want of memory is told only at a sentence that keeps
+-- rules 1 to 6, after valid ones.
+abbrev pub IsToldFault : List BlockText → FileFault → Type 0
+IsToldFault bs (At sentence rule row) = IsFaultAt bs sentence rule row
+IsToldFault bs rules.Memory = IsCutShort bs
+
 -- How far the rules have been asked of these sentences: all of them are taken, or their fault was told.
 abbrev pub IsAsked : List (List ℕ) → Option FileFault → List BlockText → Type 0
-IsAsked names told bs = MatchOption told (HasTaken names bs) (IsFileFault bs)
+IsAsked names told bs = MatchOption told (HasTaken names bs) (IsToldFault bs)
 
 -- What a survey of these sentences tells: how many they are, their words, and the fault of the first that breaks a rule.
 abbrev pub IsSurvey : List BlockText → Survey → Type 0
-IsSurvey bs s = (s.sentences ≡ length bs) × (s.words ≡ words_in bs) × MatchOption s.fault (IsValid bs) (IsFileFault bs)
+IsSurvey bs s = (s.sentences ≡ length bs) × (s.words ≡ words_in bs) × MatchOption s.fault (IsValid bs) (IsToldFault bs)
 
 -- The reply that is true of an input of at most `limit` bytes, or of a longer one. Want of memory and a failed
 -- device may come in place of any other reply. A rule is told only of a file that can be read whole.
@@ -60,11 +69,16 @@ status_of Long = 1
 status_of Memory = 3
 status_of Device = 3
 
--- The text was written whole and the status is its own; or the writer failed, which held so much of it, and the
--- status is 3.
-abbrev pub IsWritten : Option (List ℕ) → Option (List ℕ) → List ℕ → ℕ → ℕ → Type 0
-IsWritten old new text own status = (Appends old new text × (status ≡ own)) ⊎ (((k : ℕ) × Appends old new (take k text)) × (status ≡ 3))
+-- The text was written whole and the status is its own; or the sink refused it, for one of its reasons, holds a part
+-- of it from the front, and the status is 3.
+abbrev pub IsWritten : {Reason : Type 0} → Option (List ℕ) → Option (List ℕ) → List ℕ → ℕ → (Reason → Type 0) → ℕ → Type 0
+IsWritten {Reason} old new text own is_refusal status =
+    (Appends old new text × (status ≡ own)) ⊎ (AppendsPart old new text × ((reason : Reason) × is_refusal reason) × (status ≡ 3))
 
--- What is written and answered where the input is known.
-abbrev pub Answers : ℕ → List ℕ → Option (List ℕ) → Option (List ℕ) → ℕ → Type 0
-Answers limit input old new status = (reply : CheckReply) × IsReplyTo limit input reply × IsWritten old new (reply_text reply) (status_of reply) status
+-- What is written and answered, where this is known of the reply.
+abbrev pub Answers : {Reason : Type 0} → (CheckReply → Type 0) → Option (List ℕ) → Option (List ℕ) → (Reason → Type 0) → ℕ → Type 0
+Answers known old new is_refusal status = (reply : CheckReply) × known reply × IsWritten old new (reply_text reply) (status_of reply) is_refusal status
+
+-- The reply is true of the input, where a reader tells what it will give.
+abbrev pub IsReplyToRead : ℕ → Option (List ℕ) → CheckReply → Type 0
+IsReplyToRead limit input reply = IfSome input (λ bytes. IsReplyTo limit bytes reply)

@@ -1,18 +1,19 @@
 //! The check of a file.
 
-ghost use Rattle.std.specs.Prelude.{◌<◌, ◌≤◌, ◌^◌, ℕ, List, [], ◌∷◌, ◌++◌, length, IfOk, IfErr, IfSome};
+ghost use Rattle.std.specs.Prelude.{◌≢◌, ◌<◌, ◌≤◌, ◌^◌, ℕ, List, [], ◌∷◌, ◌++◌, length, IfOk, IfErr};
 ghost use Rattle.tb_conllu.specs.Fault.{IsReadFault};
 ghost use Rattle.tb_conllu.specs.Text.{BlockText};
 ghost use Rattle.tb_conllu.specs.Told.{IsFile};
-ghost use Rattle.tb_desk.specs.Check.{Answers, IsAsked, IsReplyTo, IsSurvey};
+ghost use Rattle.tb_desk.specs.Check.{Answers, IsAsked, IsReplyTo, IsReplyToRead, IsSurvey};
 ghost use Rattle.tb_desk.specs.Input.{IsInput};
+ghost use Rattle.tb_desk.specs.declared.reply.CheckReply.TheVariants.{Device};
 
 use crate::input::{Input, read_all};
 use crate::output::put_reply;
 use crate::reply::CheckReply;
 use std::alloc::Global;
-use std::io::{Read, Write};
-use tb_conllu::{BlockOf, ReadFault, Sentences, Text, fault_after_sentences, words};
+use std::io::Read;
+use tb_conllu::{BlockOf, ReadFault, Sentences, Sink, Text, fault_after_sentences, words};
 use tb_rules::{Checker, FileFault, a_fault_stays};
 
 /// The greatest size of a file, in bytes.
@@ -28,14 +29,16 @@ pub struct Survey {
 }
 
 impl Survey {
-    ghost use Rattle.std.specs.Prelude.{◌≤◌, ℕ, List, length};
+    ghost use Rattle.std.specs.Prelude.{◌≢◌, ◌≤◌, ℕ, List, length};
     ghost use Rattle.tb_conllu.specs.Text.{BlockText};
     ghost use Rattle.tb_conllu.specs.Told.{IsFile};
     ghost use Rattle.tb_desk.specs.Check.{IsReplyTo, IsSurvey};
+    ghost use Rattle.tb_desk.specs.declared.reply.CheckReply.TheVariants.{Device};
 
     /// What the check answers of the file.
     fn reply(self) -> CheckReply
-        ensures { (limit : ℕ) (input : List ℕ) (bs : List BlockText) → length input ≤ limit → IsFile input bs → IsSurvey bs self → IsReplyTo limit input result }
+        ensures reply { (limit : ℕ) (input : List ℕ) (bs : List BlockText) → length input ≤ limit → IsFile input bs → IsSurvey bs self → IsReplyTo limit input result }
+        ensures no_device { result ≢ Device }
     {
         match self.fault {
             None => CheckReply::Counts {
@@ -102,10 +105,11 @@ pub fn survey_file(alloc: Global, file: &[u8]) -> Result<Survey, ReadFault>
     Ok(found)
 }
 
-/// What the check of a file answers.
+/// What the check of a file answers. No device is in it.
 pub fn check_file(alloc: Global, file: &[u8], limit: u64) -> CheckReply
     requires { length file.now ≤ limit }
-    ensures { IsReplyTo limit file.now result }
+    ensures reply { IsReplyTo limit file.now result }
+    ensures no_device { result ≢ Device }
 {
     match survey_file(alloc, file) {
         Ok(found) => found.reply(),
@@ -130,18 +134,21 @@ fn check_input(alloc: Global, input: &Input, limit: u64) -> CheckReply
 }
 
 /// Checks at most so many bytes, writes the reply, and gives the exit status.
-pub fn check_within<R: Read, W: Write>(alloc: Global, reader: &mut R, out: &mut W, limit: u64) -> u8
+///
+/// Whatever the reader, one of the replies is written whole, with its own status, or the sink refused it. Where the
+/// reader tells what it will give, the reply is the one that is true of it.
+pub fn check_within<R: Read, S: Sink>(alloc: Global, reader: &mut R, out: &mut S, limit: u64) -> u8
     requires { limit < 2 ^ 32 }
-    ensures { IfSome (R.remaining reader.old) (λ input. Answers limit input (W.contents out.old) (W.contents out.new) result) }
+    ensures { Answers (IsReplyToRead limit (R.remaining reader.old)) (S.held out.old) (S.held out.new) (S.IsRefusal out.new) result }
 {
     let input = read_all(alloc, reader, limit);
     let reply = check_input(alloc, &input, limit);
     put_reply(out, reply.line().as_str(), reply.status())
 }
 
-/// Checks what the reader gives, writes the reply, and gives the exit status.
-pub fn run_check<R: Read, W: Write>(alloc: Global, reader: &mut R, out: &mut W) -> u8
-    ensures { IfSome (R.remaining reader.old) (λ input. Answers FILE_LIMIT input (W.contents out.old) (W.contents out.new) result) }
+/// Checks what the reader gives, up to 4,194,304 bytes, writes the reply, and gives the exit status, as `check_within`.
+pub fn run_check<R: Read, S: Sink>(alloc: Global, reader: &mut R, out: &mut S) -> u8
+    ensures { Answers (IsReplyToRead FILE_LIMIT (R.remaining reader.old)) (S.held out.old) (S.held out.new) (S.IsRefusal out.new) result }
 {
     check_within(alloc, reader, out, FILE_LIMIT)
 }

@@ -11,6 +11,6 @@ mod words;
 pub use check::{FILE_LIMIT, Survey, check_file, check_within, run_check, survey_file};
 pub use input::{Input, read_all};
 pub use laws::one_reply_is_true;
-pub use output::{Broken, put_all, put_reply};
+pub use output::put_reply;
 pub use reply::CheckReply;
 pub use words::run_words;

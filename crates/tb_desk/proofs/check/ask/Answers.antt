@@ -1,4 +1,4 @@
-use Rattle.std.proofs.Common.{◌∷◌, [], ◌++◌, sym, ◌∙◌}
+use Rattle.std.proofs.Common.{sym, ◌∙◌}
 use Rattle.tb_desk.proofs.Asked.{asked_before, asked_next, none_before}
 use Rattle.tb_desk.proofs.check.ask.Goals as goal
 
@@ -9,4 +9,4 @@ returns-then-is_some g c = λ before h.
 pub returns : goal.returns
 returns g c = λ before h.
     let taken = none_before c.args.checker.now c.args.told before (sym c.is_some.ensures ∙ c.if-is_some.false) h in
-    rw c.err.ensures.value (asked_next c.take.new.self (before ++ c.args.block.now ∷ []) c.take.result (c.take.ensures.valid before taken) (c.take.ensures.fault before taken))
+    rw c.err.ensures.value (asked_next c.args.checker.now c.take.new.self before c.args.block.now c.take.result taken (c.take.ensures.valid before taken) (c.take.ensures.fault before taken) c.take.ensures.memory)

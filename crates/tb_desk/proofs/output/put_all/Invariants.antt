@@ -1,6 +1,0 @@
-use Rattle.std.proofs.Common.{◌≤◌, length, take}
-use Rattle.std.specs.Io.KnownBytes.{Appends}
-use Rattle.tb_desk.proofs.output.put_all.Given as goal
-
-abbrev pub invariant-loop-attempt : goal.invariant-loop-attempt
-invariant-loop-attempt g l = (l.written ≤ length l.text) × Appends (g.W.Write.contents l.initial.out) (g.W.Write.contents l.out) (take l.written l.text)
