@@ -1,0 +1,9 @@
+pub mod Bodies
+pub mod Chains
+pub mod Numbers
+pub mod Parsed
+pub mod Reading
+pub mod Staged
+pub mod Steps
+pub mod Texts
+pub mod Values

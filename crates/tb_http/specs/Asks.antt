@@ -1,0 +1,91 @@
+-- What the bytes of a request ask, by tests in their order. A request is that of RFC 9112, sections 2 to 6, cut down: one
+-- head, and a body of the length that Content-Length tells.
+use Rattle.std.specs.Prelude.{◌≡◌, ◌<◌, ◌≤◌, ℕ, List, length, take, map, Some, None, ⊤}
+use Rattle.httparse.specs.Grammar.{RequestHead}
+use Rattle.httparse.specs.Spans.{name_and_value}
+use Rattle.tb_http.specs.declared.asks.RequestFault.{RequestFault}
+use Rattle.tb_http.specs.declared.asks.RequestFault.TheVariants.{Head, Length, Path, Method, Long, Body}
+use Rattle.tb_http.specs.declared.asks.Ask.{Ask}
+use Rattle.tb_http.specs.declared.asks.Ask.TheVariants as ask
+use Rattle.tb_http.specs.Actions.{Act, Place, place_of, act_of, allow_of, act_by}
+use Rattle.tb_http.specs.Head.{BeginsWithHead}
+use Rattle.tb_http.specs.Headers.{Header, body_length, user_of}
+use Rattle.tb_http.specs.Stage.{Stage}
+
+-- an action, who asks for it, and the body that comes with it
+pub record CallText : Type 0 where
+  pub act : Act
+  pub user : List ℕ
+  pub body : List ℕ
+
+-- what bytes ask: nothing, for a reason, or a call
+pub data Told : Type 0 where
+  refused : RequestFault → Told
+  called : CallText → Told
+
+-- the headers of a head
+abbrev pub headers_of : RequestHead → List Header
+headers_of head = map name_and_value head.fields
+
+-- a head, the user that it names, and what follows it
+pub record Front : Type 0 where
+  pub head : RequestHead
+  pub user : List ℕ
+  pub rest : List ℕ
+
+-- the bytes begin with that head within the limits, and it names no user twice
+pub record IsFront (bytes : List ℕ) (front : Front) : Type 0 where
+  pub begins : BeginsWithHead bytes front.head front.rest
+  pub named : user_of (headers_of front.head) ≡ Some front.user
+
+-- refused for that reason where P holds
+abbrev pub Tells : RequestFault → Type 0 → Told → Type 0
+Tells why P told = P × (told ≡ refused why)
+
+abbrev pub call_text : Act → List ℕ → List ℕ → Told
+call_text act user body = called record { act = act; user = user; body = body }
+
+-- the body: so many bytes follow
+abbrev pub AsksBody : Front → ℕ → Act → Told → Type 0
+AsksBody f n act told = Stage (List ℕ) Told
+    (Tells Body (length f.rest < n)) (λ body. (n ≤ length f.rest) × (body ≡ take n f.rest))
+    (λ body t. t ≡ call_text act f.user body) told
+
+-- the length is within the limit
+abbrev pub AsksLong : ℕ → Front → ℕ → Act → Told → Type 0
+AsksLong limit f n act told = Stage ⊤ Told
+    (Tells Long (limit < n)) (λ _. n ≤ limit)
+    (λ _. AsksBody f n act) told
+
+-- the method is one of the target's
+abbrev pub AsksMethod : ℕ → Front → ℕ → Place → Told → Type 0
+AsksMethod limit f n place told = Stage Act Told
+    (Tells (Method (allow_of place)) (act_of place f.head.method ≡ None)) (λ act. act_of place f.head.method ≡ Some act)
+    (AsksLong limit f n) told
+
+-- the target stands for something
+abbrev pub AsksPath : ℕ → Front → ℕ → Told → Type 0
+AsksPath limit f n told = Stage Place Told
+    (Tells Path (place_of f.head.target ≡ None)) (λ place. place_of f.head.target ≡ Some place)
+    (AsksMethod limit f n) told
+
+-- the headers tell one length
+abbrev pub AsksLength : ℕ → Front → Told → Type 0
+AsksLength limit f told = Stage ℕ Told
+    (Tells Length (body_length (headers_of f.head) ≡ None)) (λ n. body_length (headers_of f.head) ≡ Some n)
+    (AsksPath limit f) told
+
+-- what the bytes ask, where a body has at most `limit` bytes: a head, its length, path, method, the limit, the body
+abbrev pub Asks : ℕ → List ℕ → Told → Type 0
+Asks limit bytes told = Stage Front Told
+    (Tells Head ((f : Front) → ¬ (IsFront bytes f))) (IsFront bytes)
+    (AsksLength limit) told
+
+-- bytes ask one thing
+abbrev pub AsksOneThing : Type 0
+AsksOneThing = (limit : ℕ) (bytes : List ℕ) (told other : Told) → Asks limit bytes told → Asks limit bytes other → told ≡ other
+
+-- what an answer of the code tells
+abbrev pub told_by : Ask → Told
+told_by (ask.Refused why) = refused why
+told_by (ask.Call call) = called record { act = act_by call.action; user = call.user.now; body = call.body.items }

@@ -1,0 +1,166 @@
+//! What the bytes of a request ask, from any reader.
+
+ghost use Rattle.std.specs.Prelude.{◌≡◌, ◌≤◌, ◌++◌, length, option_map, IfOk, IfSome};
+ghost use Rattle.httparse.specs.Spans.{IsRequestOf, IsRequestWithin};
+ghost use Rattle.tb_http.specs.Actions.{act_by};
+ghost use Rattle.tb_http.specs.Asks.{Asks, AsksOneThing, call_text, told_by};
+
+use crate::actions::{Action, Allow, resource_of};
+use crate::head::{BodyFault, HEAD_BYTES, HEADERS, read_body, read_head};
+use crate::headers::{body_length, user_of};
+use crate::routes::Routes;
+use httparse::spans::{EMPTY_HEADER_SPAN, HeaderSpan, RequestSpans};
+use std::alloc::Global;
+use std::io::Read;
+use std::str::from_utf8;
+
+/// The most bytes of a body.
+pub const BODY_BYTES: usize = 4_194_304;
+
+/// Why a request asks nothing. Of several reasons the first in this order is told.
+#[derive(Clone, Copy, Debug, PartialEq, Eq)]
+pub enum RequestFault {
+    /// The bytes begin with no request head of at most 8,192 bytes and 32 headers, or Desk-User stands in it twice.
+    Head,
+    /// There is a Transfer-Encoding, more than one Content-Length, or one that is no number.
+    Length,
+    /// The target is no path of the desk.
+    Path,
+    /// The method is none of the path's, which are these.
+    Method(Allow),
+    /// The body has more than 4,194,304 bytes.
+    Long,
+    /// Fewer bytes follow than Content-Length tells.
+    Body,
+}
+
+/// A call of the desk.
+#[derive(Debug, Drop)]
+pub struct Call<'b> {
+    pub action: Action<'b>,
+    /// The value of Desk-User, empty where there is none or it is no UTF-8.
+    pub user: &'b str,
+    pub body: Vec<u8>,
+}
+
+/// What a request asks.
+#[derive(Debug, Drop)]
+pub enum Ask<'b> {
+    Refused(RequestFault),
+    Call(Call<'b>),
+}
+
+/// Why it isn't known what a request asks.
+#[derive(Clone, Copy, Debug, PartialEq, Eq)]
+pub enum AskFault {
+    /// The reader failed.
+    Broken,
+    /// Memory was refused.
+    Memory,
+}
+
+/// Bytes ask one thing.
+pub fn bytes_ask_one_thing()
+    ensures { AsksOneThing }
+{}
+
+/// A call whose texts stand in the buffer.
+fn make_call<'b>(action: Action<'b>, user: &'b str, body: Vec<u8>) -> Ask<'b>
+    ensures { told_by result ≡ call_text (act_by action.entry) user.now body.items }
+{
+    Ask::Call(Call { action, user, body })
+}
+
+/// What is asked by the head in the buffer and by the bytes after it, of which some stand there already.
+fn ask_after<'b, R: Read>(
+    alloc: Global,
+    routes: &Routes,
+    reader: &mut R,
+    buf: &'b [u8],
+    headers: &[HeaderSpan],
+    spans: RequestSpans,
+    limit: usize,
+) -> Result<Ask<'b>, AskFault>
+    requires small { limit ≤ 4194304 }
+    requires room { length buf.now ≤ 8192 }
+    requires few { length headers.now ≤ 32 }
+    requires inside { IsRequestWithin buf.now headers.now spans }
+    requires head { IsRequestOf buf.now headers.now spans }
+    ensures { IfOk result (λ ask. IfSome (R.remaining reader.old) (λ later. Asks limit (buf.now ++ later) (told_by ask))) }
+{
+    let named = &headers[..spans.headers];
+    let Ok(user) = user_of(buf, named) else {
+        return Ok(Ask::Refused(RequestFault::Head));
+    };
+    let Ok(length) = body_length(buf, named, limit) else {
+        return Ok(Ask::Refused(RequestFault::Length));
+    };
+    let Ok(target) = from_utf8(spans.path.of(buf)) else {
+        return Ok(Ask::Refused(RequestFault::Path));
+    };
+    let Some(resource) = resource_of(routes, target) else {
+        return Ok(Ask::Refused(RequestFault::Path));
+    };
+    let method = spans.method.of(buf);
+    let Some(action) = resource.action(method) else {
+        return Ok(Ask::Refused(RequestFault::Method(resource.allow())));
+    };
+    let Some(n) = length else {
+        return Ok(Ask::Refused(RequestFault::Long));
+    };
+    let came = &buf[spans.len..];
+    let start = &came[..came.len().min(n)];
+    match read_body(alloc, reader, start, n) {
+        Ok(Some(body)) => Ok(make_call(action, user, body)),
+        Ok(None) => Ok(Ask::Refused(RequestFault::Body)),
+        Err(BodyFault::Read) => Err(AskFault::Broken),
+        Err(BodyFault::Memory) => Err(AskFault::Memory),
+    }
+}
+
+/// What the bytes of the reader ask, where a body has at most `limit` bytes.
+fn ask_within<'b, R: Read>(
+    alloc: Global,
+    routes: &Routes,
+    reader: &mut R,
+    buf: &'b mut [u8],
+    headers: &mut [HeaderSpan],
+    limit: usize,
+) -> Result<Ask<'b>, AskFault>
+    requires small { limit ≤ 4194304 }
+    requires room { length buf.old ≡ 8192 }
+    requires headers { length headers.old ≡ 32 }
+    ensures { IfOk result (λ ask. IfSome (R.remaining reader.old) (λ bytes. Asks limit bytes (told_by ask))) }
+{
+    match read_head(reader, buf, headers) {
+        Err(_) => Err(AskFault::Broken),
+        Ok(None) => Ok(Ask::Refused(RequestFault::Head)),
+        Ok(Some(head)) => ask_after(
+            alloc,
+            routes,
+            reader,
+            &buf[..head.filled],
+            headers,
+            head.spans,
+            limit,
+        ),
+    }
+}
+
+/// What the bytes of the reader ask. At most one head and one body are taken, and nothing is read after the body. The
+/// head is read into `buf`, and the texts of the call lie there.
+///
+/// # Errors
+///
+/// The reader failed, or memory was refused for the body.
+pub fn read_ask<'b, R: Read>(
+    alloc: Global,
+    routes: &Routes,
+    reader: &mut R,
+    buf: &'b mut [u8; HEAD_BYTES],
+) -> Result<Ask<'b>, AskFault>
+    ensures { IfOk result (λ ask. IfSome (R.remaining reader.old) (λ bytes. Asks BODY_BYTES bytes (told_by ask))) }
+{
+    let mut headers = [EMPTY_HEADER_SPAN; HEADERS];
+    ask_within(alloc, routes, reader, buf, &mut headers, BODY_BYTES)
+}

@@ -1,0 +1,105 @@
+//! The head of a request, and then its body, from any reader.
+
+ghost use Rattle.std.specs.Prelude.{◌≡◌, ◌≤◌, ◌<◌, ◌++◌, length, take, IfOk, IfSome, IfNone};
+ghost use Rattle.std.specs.Io.KnownBytes.{Consumes};
+ghost use Rattle.httparse.specs.Spans.{IsRequestOf, IsRequestWithin};
+ghost use Rattle.tb_http.specs.Head.{HasNoHead};
+
+use httparse::Status;
+use httparse::spans::{HeaderSpan, RequestSpans, parse_request};
+use std::alloc::Global;
+use std::io::Read;
+
+/// The most bytes of a head.
+pub const HEAD_BYTES: usize = 8192;
+
+/// The most headers of a head.
+pub const HEADERS: usize = 32;
+
+/// The reader failed.
+#[derive(Clone, Copy, Debug, PartialEq, Eq)]
+pub struct BrokenRead;
+
+/// A head in the first bytes of a buffer.
+#[derive(Clone, Copy, Debug)]
+pub struct Head {
+    pub spans: RequestSpans,
+    /// How many bytes of the buffer came.
+    pub filled: usize,
+}
+
+/// Reads until a head is whole, or until none can come.
+pub fn read_head<R: Read>(
+    reader: &mut R,
+    buf: &mut [u8],
+    headers: &mut [HeaderSpan],
+) -> Result<Option<Head>, BrokenRead>
+    requires room { length buf.old ≡ HEAD_BYTES }
+    requires headers { length headers.old ≡ HEADERS }
+    ensures within { IfOk result (λ r. IfSome r (λ h. h.filled ≤ length buf.new)) }
+    ensures taken { IfOk result (λ r. IfSome r (λ h. Consumes (R.remaining reader.old) (R.remaining reader.new) (take h.filled buf.new))) }
+    ensures spans { IfOk result (λ r. IfSome r (λ h. IsRequestWithin (take h.filled buf.new) headers.new h.spans)) }
+    ensures head { IfOk result (λ r. IfSome r (λ h. IsRequestOf (take h.filled buf.new) headers.new h.spans)) }
+    ensures none { IfOk result (λ r. IfNone r (IfSome (R.remaining reader.old) HasNoHead)) }
+{
+    let mut filled = 0;
+    'reads: loop {
+        match parse_request(&buf[..filled], headers) {
+            Ok(Status::Complete(spans)) => return Ok(Some(Head { spans, filled })),
+            Ok(Status::Partial) => {}
+            Err(_) => return Ok(None),
+        }
+        if filled == buf.len() {
+            return Ok(None);
+        }
+        let Ok(n) = reader.read(&mut buf[filled..]) else {
+            return Err(BrokenRead);
+        };
+        if n == 0 {
+            return Ok(None);
+        }
+        filled += n;
+    }
+}
+
+/// Why a body didn't come.
+#[derive(Clone, Copy, Debug, PartialEq, Eq)]
+pub enum BodyFault {
+    Read,
+    Memory,
+}
+
+/// Reads the rest of a body of n bytes, of which the first stand in `start`, and nothing after it.
+pub fn read_body<R: Read>(
+    alloc: Global,
+    reader: &mut R,
+    start: &[u8],
+    n: usize,
+) -> Result<Option<Vec<u8>>, BodyFault>
+    requires few { length start.now ≤ n }
+    requires small { n ≤ 4194304 }
+    ensures whole { IfOk result (λ r. IfSome r (λ body.
+        IfSome (R.remaining reader.old) (λ rest. body.items ≡ take n (start.now ++ rest)))) }
+    ensures length { IfOk result (λ r. IfSome r (λ body. length body.items ≡ n)) }
+    ensures short { IfOk result (λ r. IfNone r (IfSome (R.remaining reader.old) (λ rest. length (start.now ++ rest) < n))) }
+{
+    let mut body = match Vec::from_slice(alloc, start) {
+        Ok(body) => body,
+        Err(_) => return Err(BodyFault::Memory),
+    };
+    let mut chunk = [0u8; 4096];
+    'reads: while body.len() < n {
+        let room = (n - body.len()).min(4096);
+        let part = &mut chunk[..room];
+        let Ok(count) = reader.read(part) else {
+            return Err(BodyFault::Read);
+        };
+        if count == 0 {
+            return Ok(None);
+        }
+        if body.extend_from_slice(&part[..count]).is_err() {
+            return Err(BodyFault::Memory);
+        }
+    }
+    Ok(Some(body))
+}
