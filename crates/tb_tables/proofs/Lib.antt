@@ -1,0 +1,9 @@
+pub mod Texts
+pub mod Steps
+pub mod Lists
+pub mod Keyed
+pub mod Meaning
+pub mod Inside
+pub mod Making
+pub mod Filling
+pub mod Commands

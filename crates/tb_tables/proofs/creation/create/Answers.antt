@@ -1,0 +1,35 @@
+use Rattle.std.proofs.Common.{◌≡◌, arith, rules, sym, subst, IsTrue}
+use Rattle.sqlite.specs.State.{HasCleanDisk}
+use Rattle.sqlite.specs.Held.{state}
+use Rattle.tb_tables.specs.Changes.{Holds}
+use Rattle.tb_tables.specs.Making.{IsBlank, empty_tables}
+use Rattle.tb_tables.proofs.Commands.{on_err, failed_back, begins_kept, committed_holds, blank_begins, blank_again}
+use Rattle.tb_tables.proofs.creation.create.Goals as goal
+
+pub returns-clause-ok : goal.returns-clause-ok
+returns-clause-ok g c clean blank =
+    let old = c.args.conn.now in
+    let begun = c.transaction-tx.result.conn.now in
+    let last = c.make_all.new.tx.conn.now in
+    let end = c.commit.new.self.0 in
+    let same : end ≡ c.conn-2-1.given.0 = search rules in
+    let late : HasCleanDisk (state g.S.Store end) = search rules in
+    let was : HasCleanDisk (state g.S.Store last) = omega (arith, c.commit.ensures.survives.clean) in
+    let made = c.in_ok-make_all.ensures.ok was (blank_begins g.S.Store old begun c.transaction-tx.ensures.begun blank) in
+    let ok = c.in_ok-commit.ensures.ok late in
+    subst (λ h. Holds g.S.Store h empty_tables) same (committed_holds g.S.Store last end empty_tables made.0 made.1 c.commit.ensures.ended ok.1)
+
+pub returns-in_err-commit-clause-err : goal.returns-in_err-commit-clause-err
+returns-in_err-commit-clause-err g c clean is_open = on_err c.from_residual-in_err-commit.result (λ blank.
+    let old = c.args.conn.now in
+    let begun = c.transaction-tx.result.conn.now in
+    let last = c.make_all.new.tx.conn.now in
+    let end = c.commit.new.self.0 in
+    let same : end ≡ c.conn-2-1.given.0 = search rules in
+    let late : HasCleanDisk (state g.S.Store end) = search rules in
+    let opened = subst (λ h. IsTrue (state g.S.Store h).is_open) (sym same) is_open in
+    let was : HasCleanDisk (state g.S.Store last) = omega (arith, c.commit.ensures.survives.clean) in
+    let kept = begins_kept g.S.Store old begun last c.transaction-tx.ensures.begun (c.make_all.ensures.kept was) in
+    let made = c.in_ok-make_all.ensures.ok was (blank_begins g.S.Store old begun c.transaction-tx.ensures.begun blank) in
+    let back = failed_back g.S.Store last end _ made.0.begun (c.in_err-commit.ensures.err late) in
+    subst (IsBlank g.S.Store) same (blank_again g.S.Store old last end blank kept c.commit.ensures.ended opened back))

@@ -1,0 +1,26 @@
+use Rattle.sqlite.specs.Held.{state}
+use Rattle.tb_tables.proofs.Inside.{kept_by}
+use Rattle.tb_tables.proofs.Meaning.{puts_pulled, stands_pulled}
+use Rattle.tb_tables.proofs.insert.insert_pulled.Goals as goal
+
+pub returns-clause-ok : goal.returns-clause-ok
+returns-clause-ok g c clean inside d =
+    let old = state g.S.Store c.args.tx.now.conn.now in
+    let new = state g.S.Store c.execute.new.self.conn.now in
+    let ran = c.in_ok-execute.ensures.runs clean inside.begun in
+    let puts = puts_pulled old new c.args.sent c.in_ok-execute.field-0 inside.schema (rw c.params-to_sql.ensures at ran.0) in
+    record { inside = record { begun = ran.1.mode; schema = puts.sets.schema }; committed = ran.1.committed_is; stands = stands_pulled old new d c.args.sent puts }
+
+pub returns-clause-inside : goal.returns-clause-inside
+returns-clause-inside g c clean inside =
+    let old = state g.S.Store c.args.tx.now.conn.now in
+    let new = state g.S.Store c.execute.new.self.conn.now in
+    let ran = c.in_ok-execute.ensures.runs clean inside.begun in
+    let puts = puts_pulled old new c.args.sent c.in_ok-execute.field-0 inside.schema (rw c.params-to_sql.ensures at ran.0) in
+    record { begun = ran.1.mode; schema = puts.sets.schema }
+
+pub returns-clause-kept : goal.returns-clause-kept
+returns-clause-kept g c clean = kept_by g.S.Store _ _ c.args.tx.now.conn.now c.execute.new.self.conn.now c.execute.ensures.ended (c.execute.ensures.runs clean)
+
+pub returns-in_err-execute-clause-kept : goal.returns-in_err-execute-clause-kept
+returns-in_err-execute-clause-kept g c clean = kept_by g.S.Store _ _ c.args.tx.now.conn.now c.execute.new.self.conn.now c.execute.ensures.ended (c.execute.ensures.runs clean)

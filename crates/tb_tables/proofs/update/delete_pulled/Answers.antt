@@ -1,0 +1,29 @@
+use Rattle.sqlite.specs.Held.{state}
+use Rattle.tb_tables.proofs.Inside.{kept_by}
+use Rattle.tb_tables.proofs.Meaning.{removes_pulled, deleted_pulled, stands_numbers}
+use Rattle.std.proofs.Common.{not, filter, ◌==◌}
+use Rattle.tb_tables.proofs.update.delete_pulled.Goals as goal
+
+pub returns-clause-ok : goal.returns-clause-ok
+returns-clause-ok g c clean inside d holds =
+    let old = state g.S.Store c.args.tx.now.conn.now in
+    let new = state g.S.Store c.execute.new.self.conn.now in
+    let ran = c.in_ok-execute.ensures.runs clean inside.begun in
+    let n = c.args.sent in
+    let sets = removes_pulled old new n d.pulled c.in_ok-execute.field-0 inside.schema holds.pulled (rw c.params-to_sql.ensures at ran.0) in
+    record {
+      inside = record { begun = ran.1.mode; schema = sets.1.schema };
+      committed = ran.1.committed_is;
+      stands = stands_numbers old new d (filter (λ m. not (m == n)) d.pulled) sets.0 sets.1 sets.2;
+    }
+
+pub returns-clause-inside : goal.returns-clause-inside
+returns-clause-inside g c clean inside =
+    let ran = c.in_ok-execute.ensures.runs clean inside.begun in
+    record { begun = ran.1.mode; schema = deleted_pulled (state g.S.Store c.args.tx.now.conn.now) (state g.S.Store c.execute.new.self.conn.now) _ c.in_ok-execute.field-0 inside.schema ran.0 }
+
+pub returns-clause-kept : goal.returns-clause-kept
+returns-clause-kept g c clean = kept_by g.S.Store _ _ c.args.tx.now.conn.now c.execute.new.self.conn.now c.execute.ensures.ended (c.execute.ensures.runs clean)
+
+pub returns-in_err-execute-clause-kept : goal.returns-in_err-execute-clause-kept
+returns-in_err-execute-clause-kept g c clean = kept_by g.S.Store _ _ c.args.tx.now.conn.now c.execute.new.self.conn.now c.execute.ensures.ended (c.execute.ensures.runs clean)

@@ -1,0 +1,31 @@
+use Rattle.std.proofs.Common.{◌-◌, arith, slice_set}
+use Rattle.sqlite.specs.Held.{state}
+use Rattle.tb_tables.specs.Records.{Batch}
+use Rattle.tb_tables.proofs.Inside.{kept_by}
+use Rattle.tb_tables.proofs.Meaning.{sets_batch, stands_batches, updated_batch}
+use Rattle.tb_tables.proofs.update.update_batch.Goals as goal
+
+pub returns-clause-ok : goal.returns-clause-ok
+returns-clause-ok g c clean inside d b is holds =
+    let old = state g.S.Store c.args.tx.now.conn.now in
+    let new = state g.S.Store c.execute.new.self.conn.now in
+    let ran = c.in_ok-execute.ensures.runs clean inside.begun in
+    let n = c.args.no in
+    let after : Batch = record b { state = c.args.in_state; worker = c.args.worker.now } in
+    let sets = sets_batch old new n (n - 1) c.args.in_state c.args.worker.now d.batches b c.in_ok-execute.field-0 inside.schema holds.batches (omega (arith, c.requires)) is (rw (c.params-to_sql.ensures, c.params-to_sql-2.ensures, c.params-to_sql-3.ensures) at ran.0) in
+    record {
+      inside = record { begun = ran.1.mode; schema = sets.1.schema };
+      committed = ran.1.committed_is;
+      stands = stands_batches old new d (slice_set d.batches (n - 1) after) sets.0 sets.1 sets.2;
+    }
+
+pub returns-clause-inside : goal.returns-clause-inside
+returns-clause-inside g c clean inside =
+    let ran = c.in_ok-execute.ensures.runs clean inside.begun in
+    record { begun = ran.1.mode; schema = updated_batch (state g.S.Store c.args.tx.now.conn.now) (state g.S.Store c.execute.new.self.conn.now) _ c.in_ok-execute.field-0 inside.schema ran.0 }
+
+pub returns-clause-kept : goal.returns-clause-kept
+returns-clause-kept g c clean = kept_by g.S.Store _ _ c.args.tx.now.conn.now c.execute.new.self.conn.now c.execute.ensures.ended (c.execute.ensures.runs clean)
+
+pub returns-in_err-execute-clause-kept : goal.returns-in_err-execute-clause-kept
+returns-in_err-execute-clause-kept g c clean = kept_by g.S.Store _ _ c.args.tx.now.conn.now c.execute.new.self.conn.now c.execute.ensures.ended (c.execute.ensures.runs clean)

@@ -1,0 +1,6 @@
+pub mod Layout
+pub mod Texts
+pub mod Records
+pub mod Changes
+pub mod Making
+pub mod Values
