@@ -1,0 +1,13 @@
+//! Tests of the desk machine: decisions, the texts of refusals and faults, and totals.
+#![tactic(auto)]
+
+#[cfg(test)]
+mod cases;
+#[cfg(test)]
+mod decision_tests;
+#[cfg(test)]
+mod reading;
+#[cfg(test)]
+mod text_tests;
+#[cfg(test)]
+mod total_tests;
