@@ -3,3 +3,5 @@ pub mod Counting
 pub mod Ranking
 pub mod OneTable
 pub mod OneRanking
+pub mod WordLists
+pub mod HitTexts

@@ -1,0 +1,126 @@
+//! Keyword lines and keys of hits.
+
+ghost use Rattle.std.specs.Prelude.{◌≡◌, ℕ, ◌+◌, ◌-◌, ◌<◌, ◌≤◌, ◌∷◌, ◌++◌, [], IfErr, IfOk, List, OnOk, decimal, drop, filter, map, string_bytes, take};
+ghost use Rattle.std.specs.Io.KnownBytes.{Appends};
+ghost use Rattle.tb_conllu.specs.Words.{is_word, words_of};
+ghost use Rattle.tb_report.specs.Keywords.{after, before, joined, key_of, keyword_line, of_hit};
+ghost use Rattle.tb_rules.specs.Rules.{KeepsRules};
+
+use crate::words::{after_words, push_words, put_words};
+use std::alloc::{AllocError, Global};
+use tb_conllu::{BlockOf, RowOf, Sink, Text, put_number};
+use tb_rules::sent_id;
+use tb_syntax::Attr;
+
+/// A number, and a tab.
+fn put_number_column<S: Sink>(number: u32, out: &mut S) -> Result<(), S::Refusal>
+    ensures put { OnOk result (Appends (S.held out.old) (S.held out.new) (decimal number ++ 9 ∷ [])) }
+    ensures refused { IfErr result (S.IsRefusal out.new) }
+{
+    put_number(number, out)?;
+    out.put(b"\t")
+}
+
+/// Words, and a tab.
+fn put_words_column<T: Text, S: Sink>(
+    rows: &[RowOf<T>],
+    words: usize,
+    out: &mut S,
+) -> Result<(), S::Refusal>
+    ensures put { OnOk result (Appends (S.held out.old) (S.held out.new) (joined (take words (map (λ row. row.form) (filter is_word rows.now))) ++ 9 ∷ [])) }
+    ensures refused { IfErr result (S.IsRefusal out.new) }
+{
+    put_words(rows, words, out)?;
+    out.put(b"\t")
+}
+
+/// The first three columns, each before a tab.
+fn put_place<S: Sink>(name: &str, hit: (u32, u32), out: &mut S) -> Result<(), S::Refusal>
+    requires { hit.0 < hit.1 }
+    ensures put { OnOk result (Appends (S.held out.old) (S.held out.new) (name.now ++ 9 ∷ (decimal (hit.0 + 1) ++ 9 ∷ (decimal hit.1 ++ 9 ∷ [])))) }
+    ensures refused { IfErr result (S.IsRefusal out.new) }
+{
+    let (start, end) = hit;
+    out.put(name.as_bytes())?;
+    out.put(b"\t")?;
+    put_number_column(start + 1, out)?;
+    put_number_column(end, out)
+}
+
+/// The last three columns, with a tab between each two, and the end of the line.
+fn put_forms<T: Text, S: Sink>(
+    rows: &[RowOf<T>],
+    hit: (u32, u32),
+    context: u8,
+    out: &mut S,
+) -> Result<(), S::Refusal>
+    requires { hit.0 < hit.1 }
+    ensures put { OnOk result ((forms : List (List ℕ)) → (forms ≡ map (λ row. row.form) (filter is_word rows.now))
+        → Appends (S.held out.old) (S.held out.new)
+        (joined (before context hit.0 forms) ++ 9 ∷ (joined (of_hit hit.0 hit.1 forms) ++ 9 ∷ (joined (after context hit.1 forms) ++ 10 ∷ [])))) }
+    ensures refused { IfErr result (S.IsRefusal out.new) }
+{
+    let start = hit.0 as usize;
+    let end = hit.1 as usize;
+    let context = context as usize;
+    let first = start.saturating_sub(context);
+    let left = after_words(rows, first);
+    let matched = after_words(left, start - first);
+    let right = after_words(matched, end - start);
+    put_words_column(left, start - first, out)?;
+    put_words_column(matched, end - start, out)?;
+    put_words(right, context, out)?;
+    out.put(b"\n")
+}
+
+/// Puts the keyword line of a hit: `sent_id`, the numbers of its first word and its last, and the forms of `context`
+/// words before it, of its own words and of `context` words after it, or of all on that side where there are fewer;
+/// a tab between each two columns, one space between each two words, and LF at the end. Takes no memory.
+///
+/// A hit `(i, j)` covers the words `i + 1` to `j`.
+///
+/// # Errors
+///
+/// The sink refused a piece.
+pub fn kwic<T: Text, S: Sink>(
+    block: &BlockOf<T>,
+    hit: (u32, u32),
+    context: u8,
+    out: &mut S,
+) -> Result<(), S::Refusal>
+    requires first { hit.0 < hit.1 }
+    requires last { hit.1 ≤ words_of block.now }
+    requires context { context ≤ 20 }
+    requires rules { KeepsRules block.now }
+    ensures put { OnOk result (Appends (S.held out.old) (S.held out.new) (keyword_line block.now hit context)) }
+    ensures refused { IfErr result (S.IsRefusal out.new) }
+{
+    let name = sent_id(block).unwrap();
+    put_place(name, hit, out)?;
+    put_forms(&block.rows, hit, context, out)
+}
+
+/// The values of a hit's words in one column, with one space between each two.
+///
+/// A hit `(i, j)` covers the words `i + 1` to `j`.
+///
+/// # Errors
+///
+/// No memory is left.
+pub fn key<T: Text>(
+    alloc: Global,
+    block: &BlockOf<T>,
+    hit: (u32, u32),
+    column: Attr,
+) -> Result<String, AllocError>
+    requires first { hit.0 < hit.1 }
+    requires last { hit.1 ≤ words_of block.now }
+    ensures { IfOk result (λ s. string_bytes s ≡ key_of column block.now hit) }
+{
+    let start = hit.0 as usize;
+    let end = hit.1 as usize;
+    let rows = after_words(&block.rows, start);
+    let mut key = String::new(alloc);
+    push_words(rows, end - start, column, &mut key)?;
+    Ok(key)
+}

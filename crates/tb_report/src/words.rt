@@ -1,0 +1,111 @@
+//! Words of a sentence, some after some others, joined by spaces.
+
+ghost use Rattle.std.specs.Prelude.{◌≡◌, ◌∷◌, ◌++◌, [], IfErr, OnOk, Bool, drop, filter, if◌then◌else◌, map, string_bytes, take};
+ghost use Rattle.std.specs.Io.KnownBytes.{Appends};
+ghost use Rattle.tb_conllu.specs.Words.{is_word};
+ghost use Rattle.tb_query.specs.Meaning.{value_of};
+ghost use Rattle.tb_report.specs.Keywords.{joined};
+
+use std::alloc::AllocError;
+use tb_conllu::{RowOf, Sink, Text, is_word_row};
+use tb_syntax::Attr;
+
+/// The rows behind the first `words` words.
+pub(crate) fn after_words<T: Text>(rows: &[RowOf<T>], words: usize) -> &[RowOf<T>]
+    ensures { filter is_word result.now ≡ drop words (filter is_word rows.now) }
+{
+    let mut rest = rows;
+    let mut left = words;
+    while left > 0 {
+        let Some((row, more)) = rest.split_first() else {
+            return rest;
+        };
+        if is_word_row(row) {
+            left -= 1;
+        }
+        rest = more;
+    }
+    rest
+}
+
+/// The value of a column.
+fn value_of<T: Text>(column: Attr, row: &RowOf<T>) -> &str
+    ensures { result.now ≡ value_of column row.now }
+{
+    match column {
+        Attr::Form => row.form.text(),
+        Attr::Lemma => row.lemma.text(),
+        Attr::Upos => row.upos.text(),
+        Attr::Xpos => row.xpos.text(),
+        Attr::Feats => row.feats.text(),
+        Attr::Deprel => row.deprel.text(),
+    }
+}
+
+/// A text, after a space where it isn't the first.
+fn put_next<S: Sink>(is_first: bool, text: &str, out: &mut S) -> Result<(), S::Refusal>
+    ensures put { OnOk result (Appends (S.held out.old) (S.held out.new) (if is_first then text.now else 32 ∷ text.now)) }
+    ensures refused { IfErr result (S.IsRefusal out.new) }
+{
+    if !is_first {
+        out.put(b" ")?;
+    }
+    out.put(text.as_bytes())
+}
+
+/// The forms of the first `words` words, or of all where they are fewer.
+pub(crate) fn put_words<T: Text, S: Sink>(
+    rows: &[RowOf<T>],
+    words: usize,
+    out: &mut S,
+) -> Result<(), S::Refusal>
+    ensures put { OnOk result (Appends (S.held out.old) (S.held out.new) (joined (take words (map (λ row. row.form) (filter is_word rows.now))))) }
+    ensures refused { IfErr result (S.IsRefusal out.new) }
+{
+    let mut done = 0;
+    for row in rows {
+        if done == words {
+            return Ok(());
+        }
+        if !is_word_row(row) {
+            continue;
+        }
+        put_next(done == 0, row.form.text(), out)?;
+        done += 1;
+    }
+    Ok(())
+}
+
+/// A text, after a space where it isn't the first.
+fn push_next(is_first: bool, text: &str, key: &mut String) -> Result<(), AllocError>
+    ensures { OnOk result (string_bytes key.new ≡ string_bytes key.old ++ (if is_first then text.now else 32 ∷ text.now)) }
+{
+    if !is_first {
+        key.push(' ')?;
+    }
+    key.push_str(text)
+}
+
+/// The values of the first `words` words, or of all where they are fewer, after those of the key.
+pub(crate) fn push_words<T: Text>(
+    rows: &[RowOf<T>],
+    words: usize,
+    column: Attr,
+    key: &mut String,
+) -> Result<(), AllocError>
+    requires { string_bytes key.old ≡ [] }
+    ensures { OnOk result (string_bytes key.new ≡ joined (take words (map (value_of column) (filter is_word rows.now)))) }
+{
+    let mut done = 0;
+    for row in rows {
+        if done == words {
+            return Ok(());
+        }
+        if !is_word_row(row) {
+            continue;
+        }
+        push_next(done == 0, value_of(column, row), key)?;
+        done += 1;
+    }
+    Ok(())
+}
