@@ -43,6 +43,14 @@ base_of text = if bytes_eq text (codes "0") then Some 0 else number_of text
 abbrev pub context_of : List ℕ → Option ℕ
 context_of text = option_and_then (within 20) (base_of text)
 
+-- a port: 0 to 65535, without leading zeros
+abbrev pub port_of : List ℕ → Option ℕ
+port_of text = option_and_then (within 65535) (base_of text)
+
+-- a number of requests: 1 to 10 digits
+abbrev pub requests_of : List ℕ → Option ℕ
+requests_of text = if nat_lt 0 (length text) && (nat_le (length text) 10 && list_all is_ascii_digit text) then Some (digits_value 10 text) else None
+
 -- the event with that word
 abbrev pub event_of : List ℕ → Option Event
 event_of text =

@@ -3,5 +3,8 @@ pub mod Asks
 pub mod Forms
 pub mod Head
 pub mod Headers
+pub mod Heads
+pub mod Replies
 pub mod Routes
 pub mod Stage
+pub mod Status

@@ -1,9 +1,9 @@
 //! The forms of values: segments of a target, numbers, and words.
 
-ghost use Rattle.std.specs.Prelude.{◌≡◌, ◌≤◌, bytes_eq, option_map, IfSome};
+ghost use Rattle.std.specs.Prelude.{◌≡◌, ◌≤◌, ◌&&◌, length, nat_lt, nat_le, bytes_eq, option_map, IfSome};
 ghost use Rattle.std.specs.List.{before_first, after_first, list_all};
 ghost use Rattle.std.specs.Char.{is_ascii_digit};
-ghost use Rattle.tb_http.specs.Forms.{is_slash, segment_of, is_number as is_number_text, name_of, number_of, base_of, context_of, event_of, strategy_of, attribute_of};
+ghost use Rattle.tb_http.specs.Forms.{is_slash, segment_of, is_number as is_number_text, name_of, number_of, base_of, context_of, port_of, requests_of, event_of, strategy_of, attribute_of};
 
 use tb_core::Event;
 use tb_match::Strategy;
@@ -101,6 +101,36 @@ pub fn context_of(text: &str) -> Option<u8>
         Some(number) if number <= 20 => Some(number as u8),
         _ => None,
     }
+}
+
+/// A port: 0 to 65535, without leading zeros.
+pub fn port_of(text: &str) -> Option<u16>
+    ensures { result ≡ port_of text.now }
+{
+    match base_of(text) {
+        Some(number) if number <= 65_535 => Some(number as u16),
+        _ => None,
+    }
+}
+
+/// 1 to 10 digits.
+fn is_short_numeral(text: &[u8]) -> bool
+    ensures { result ≡ nat_lt 0 (length text.now) && (nat_le (length text.now) 10 && list_all is_ascii_digit text.now) }
+{
+    if text.is_empty() || text.len() > 10 {
+        return false;
+    }
+    all_digits(text)
+}
+
+/// A number of requests: 1 to 10 digits.
+pub fn requests_of(text: &str) -> Option<u64>
+    ensures { result ≡ requests_of text.now }
+{
+    if !is_short_numeral(text.as_bytes()) {
+        return None;
+    }
+    text.parse::<u64>().ok()
 }
 
 /// The event with that word.

@@ -17,11 +17,11 @@ pub const HEAD_BYTES: usize = 8192;
 pub const HEADERS: usize = 32;
 
 /// The reader failed.
-#[derive(Clone, Copy, Debug, PartialEq, Eq)]
+#[derive(Clone, Copy)]
 pub struct BrokenRead;
 
 /// A head in the first bytes of a buffer.
-#[derive(Clone, Copy, Debug)]
+#[derive(Clone, Copy)]
 pub struct Head {
     pub spans: RequestSpans,
     /// How many bytes of the buffer came.
@@ -63,7 +63,7 @@ pub fn read_head<R: Read>(
 }
 
 /// Why a body didn't come.
-#[derive(Clone, Copy, Debug, PartialEq, Eq)]
+#[derive(Clone, Copy)]
 pub enum BodyFault {
     Read,
     Memory,

@@ -26,7 +26,7 @@ fn value_under<'b>(buf: &'b [u8], header: &HeaderSpan, name: &[u8]) -> Option<&'
 }
 
 /// A header stands there more than once.
-#[derive(Clone, Copy, Debug, PartialEq, Eq)]
+#[derive(Clone, Copy)]
 pub struct Repeated;
 
 /// The value of the one header with that name, if there is one.
@@ -76,7 +76,7 @@ fn number_within(digits: &[u8], limit: usize) -> Option<usize>
 }
 
 /// The length of a body is told by another header, twice, or not by a number.
-#[derive(Clone, Copy, Debug, PartialEq, Eq)]
+#[derive(Clone, Copy)]
 pub struct BadLength;
 
 /// The length of the body, where it is within the limit.

@@ -7,7 +7,7 @@ use matchit::{InsertError, Router};
 use std::alloc::Global;
 
 /// A route of the desk.
-#[derive(Clone, Copy, Debug, PartialEq, Eq)]
+#[derive(Clone, Copy)]
 pub enum Route {
     /// `/batches/{name}`
     Batch,
