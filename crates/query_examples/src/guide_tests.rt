@@ -30,7 +30,7 @@ fn queries_do_what_the_guide_says(rt: HostRuntime) -> Result<(), Fail> {
         let sentences = sentences_of(&rt, alloc, file)?;
         assert!(rt; sentences.len() == 2);
     }
-    assert!(rt; FINDS.lines().count() == 73 && FAULTS.lines().count() == 35);
+    assert!(rt; FINDS.lines().count() == 73 && FAULTS.lines().count() == 37);
     for (question, cases) in [
         (Question::SampleHits, FINDS),
         (Question::QueryFault, FAULTS),

@@ -8,9 +8,9 @@ use std::test::Fail;
 use tb_needle::{Needle, PatternFault, Tester};
 use tb_syntax::Flag;
 
-/// The literal of a text.
+/// The literal of a text, of at most ten mebibytes.
 pub(crate) fn needle(alloc: Global, text: &str, flag: Flag) -> Result<Needle, PatternFault> {
-    Needle::new(alloc, String::from_str(alloc, text)?, flag)
+    Needle::new(alloc, String::from_str(alloc, text)?, flag, 10 << 20)
 }
 
 /// Whether the tester's literal fits the value, or some item of it.

@@ -82,8 +82,10 @@ fn put_expr(told: &mut String, expr: &Expr) -> Result<(), AllocError> {
             told.push_str("Item ")?;
             put_needle(told, needle)?;
         }
-        Expr::Denied(inner) => {
-            told.push_str("Denied ")?;
+        Expr::Denied(times, inner) => {
+            for _ in 0..*times {
+                told.push_str("Denied ")?;
+            }
             put_expr(told, inner)?;
         }
         Expr::Both(parts) => {

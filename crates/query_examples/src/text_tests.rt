@@ -60,7 +60,7 @@ const TREES: &str =
 []{2} => Rep(Tok(0), 2, Some(2)) [Any] fits
 []{2,} => Rep(Tok(0), 2, None) [Any] fits
 ([]){2,3} => Rep(Tok(0), 2, Some(3)) [Any] fits
-[!(word='x'%c | lemma!="y") & feats contains "z"%l] => Tok(0) [Both([Denied(Either([Whole(Form, Literal { number: 0, flag: NoCase }), Denied(Whole(Lemma, Literal { number: 1, flag: Plain }))])), Item(Literal { number: 2, flag: Literal })])] fits
+[!(word='x'%c | lemma!="y") & feats contains "z"%l] => Tok(0) [Both([Denied(1, Either([Whole(Form, Literal { number: 0, flag: NoCase }), Denied(1, Whole(Lemma, Literal { number: 1, flag: Plain }))])), Item(Literal { number: 2, flag: Literal })])] fits
 [word="a"] => Tok(0) [Whole(Form, Literal { number: 0, flag: Plain })] fits
 [lemma="a"] => Tok(0) [Whole(Lemma, Literal { number: 0, flag: Plain })] fits
 [upos="a"] => Tok(0) [Whole(Upos, Literal { number: 0, flag: Plain })] fits

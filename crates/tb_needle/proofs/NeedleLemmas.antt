@@ -1,5 +1,5 @@
 -- What a test of a value says, by the flag.
-use Rattle.std.proofs.Common.{◌≡◌, ◌<◌, ℕ, List, None, Some, Bool, IsUtf8, slice_index, refl, sym}
+use Rattle.std.proofs.Common.{◌≡◌, ◌<◌, ℕ, List, None, Some, Bool, IsUtf8, slice_index, refl, sym, Box, Global}
 use Rattle.std.specs.Str.{bytes_eq}
 use Rattle.regex.specs.Strings.{matcher_pattern}
 use Rattle.regex.specs.declared.string.matcher.Matcher.{Matcher}
@@ -9,8 +9,8 @@ use Rattle.tb_needle.specs.Patterns.{finds}
 use Rattle.tb_needle.specs.Built.{Means, SearchesFor}
 use Rattle.tb_needle.specs.Literals.{meets_as}
 
-pub met_by_matcher : (flag : Flag) (text value : List ℕ) (m : Matcher) (r : Bool) → SearchesFor flag text (Some m) →
-    ((source : List ℕ) → Means (matcher_pattern m) source → r ≡ finds source value) → r ≡ meets_as flag text value
+pub met_by_matcher : (flag : Flag) (text value : List ℕ) (m : Box Matcher Global) (r : Bool) → SearchesFor flag text (Some m) →
+    ((source : List ℕ) → Means (matcher_pattern m.value) source → r ≡ finds source value) → r ≡ meets_as flag text value
 met_by_matcher Plain text value m r h f = f _ h
 met_by_matcher NoCase text value m r h f = f _ h
 met_by_matcher Literal text value m r h f = absurd h

@@ -1,5 +1,5 @@
 -- From regex's contracts to the words of specs/Pattern.
-use Rattle.std.proofs.Common.{◌≡◌, ◌≢◌, ◌≤◌, ◌<◌, inl, inr, ℕ, List, Option, None, Some, IsSomeAnd, IfSome, arith, refl, is_some}
+use Rattle.std.proofs.Common.{◌≡◌, ◌≢◌, ◌≤◌, ◌<◌, inl, inr, ℕ, List, Option, None, Some, IsSomeAnd, IfSome, arith, refl, is_some, true, ap, ◌∙◌}
 use Rattle.std.specs.Prelude.{⊤}
 use Rattle.regex_hir.specs.declared.hir.Hir.{Hir}
 use Rattle.regex_syntax.specs.Verdict.{Reads, Refuses}
@@ -9,6 +9,9 @@ use Rattle.regex_syntax.specs.declared.error.ErrorKind.{ErrorKind}
 use Rattle.regex_syntax.specs.declared.error.ErrorKind.TheVariants.{OutOfMemory}
 use Rattle.regex.specs.Patterns.{Re, find_str, default_config}
 use Rattle.regex.specs.Strings.{regex_pattern, regex_source, regex_config, IsReadFromSource}
+use Rattle.regex_syntax.specs.declared.Config.{Config}
+use Rattle.regex.specs.Views.{builder_config, with_size_limit}
+use Rattle.regex.specs.declared.builder.RegexBuilder.{RegexBuilder}
 use Rattle.regex.specs.declared.string.regex.Regex.{Regex}
 use Rattle.regex.proofs.OnLiterals.{is_match_as_written, same_refl}
 use Rattle.tb_needle.specs.Patterns.{IsPattern, read_pattern, tree_finds, finds}
@@ -31,6 +34,11 @@ too_deep (Some x) depth most h k = omega arith
 none_holds : {A : Type 0} (o : Option A) (P : A → Type 0) → o ≡ None → IsSomeAnd o P → ⊥
 none_holds None P e h = h
 none_holds (Some x) P e h = cc
+
+-- a limit of size changes no option
+pub limited : (made entry : RegexBuilder) (most : ℕ) → made ≡ with_size_limit entry most → builder_config entry ≡ default_config →
+    record (builder_config made) { utf8 = true } ≡ default_config
+limited made entry most e d = ap (λ (b : RegexBuilder). record (builder_config b) { utf8 = true }) e ∙ ap (λ (g : Config). record g { utf8 = true }) d
 
 -- what was refused, not for memory, is none
 pub outside_of_refuses : (source : List ℕ) (kind : ErrorKind) → Refuses default_config source kind → kind ≢ OutOfMemory → IsPattern source → ⊥

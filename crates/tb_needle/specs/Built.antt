@@ -1,6 +1,8 @@
 -- How what is built for a literal stands for it.
 use Rattle.std.specs.Prelude.{◌≡◌, ◌<◌, ℕ, List, Option, None, Some, false, true, is_some, option_map, slice_index, IsUtf8}
 use Rattle.std.specs.Str.{bytes_eq}
+use Rattle.std.specs.declared.boxed.Box.{Box}
+use Rattle.std.specs.Global.{Global}
 use Rattle.regex.specs.Patterns.{Re, find_str}
 use Rattle.regex.specs.Strings.{regex_pattern, matcher_pattern}
 use Rattle.regex.specs.declared.string.regex.Regex.{Regex}
@@ -26,8 +28,8 @@ IsBuiltFor NoCase text None = ⊥
 IsBuiltFor Literal text (Some re) = ⊥
 IsBuiltFor Literal text None = Unit {0}
 
-abbrev pub StandsFor : Flag → List ℕ → Option Regex → Type 0
-StandsFor flag text built = IsBuiltFor flag text (option_map regex_pattern built)
+abbrev pub StandsFor : Flag → List ℕ → Option (Box Regex Global) → Type 0
+StandsFor flag text built = IsBuiltFor flag text (option_map (λ r. regex_pattern r.value) built)
 
-abbrev pub SearchesFor : Flag → List ℕ → Option Matcher → Type 0
-SearchesFor flag text matcher = IsBuiltFor flag text (option_map matcher_pattern matcher)
+abbrev pub SearchesFor : Flag → List ℕ → Option (Box Matcher Global) → Type 0
+SearchesFor flag text matcher = IsBuiltFor flag text (option_map (λ m. matcher_pattern m.value) matcher)

@@ -9,6 +9,7 @@ use crate::cutting::cut;
 use crate::pattern::{PatternFault, compile, compile_unless_plain, finds};
 use regex::{Matcher, Regex};
 use std::alloc::{AllocError, Global};
+use std::fmt;
 use std::marker::Model;
 use tb_syntax::Flag;
 
@@ -18,7 +19,7 @@ pub struct Needle {
     text: String,
     flag: Flag,
     // None with `%l`, and for a text that fits the equal value alone.
-    built: Option<Regex>,
+    built: Option<Box<Regex>>,
 }
 
 impl Model for Needle {
@@ -34,12 +35,21 @@ impl Model for Needle {
     ghost invariant = { λ n. StandsFor n.flag (string_bytes n.text) n.built };
 }
 
+impl fmt::Debug for Needle {
+    fn fmt<W: fmt::Write>(&self, f: &mut fmt::Formatter<W>) -> fmt::Result {
+        f.debug_struct("Needle")
+            .field("text", &self.text)
+            .field("flag", &self.flag)
+            .finish()
+    }
+}
+
 /// A needle with what a search writes to: made once for a whole search, and then used for each value.
 #[derive(Drop)]
 pub struct Tester<'n> {
     text: &'n str,
     flag: Flag,
-    matcher: Option<Matcher<'n>>,
+    matcher: Option<Box<Matcher<'n>>>,
 }
 
 impl<'n> Model for Tester<'n> {
@@ -57,16 +67,17 @@ impl<'n> Model for Tester<'n> {
 impl Needle {
     ghost use Rattle.std.specs.Prelude.{string_bytes};
 
-    /// Builds what the literal needs. With `%l` nothing is built, and no text is refused.
-    pub fn new(alloc: Global, text: String, flag: Flag) -> Result<Needle, PatternFault>
+    /// Builds what the literal needs, of at most so many bytes. With `%l` nothing is built, and no
+    /// text is refused.
+    pub fn new(alloc: Global, text: String, flag: Flag, most: usize) -> Result<Needle, PatternFault>
         ensures value { IfOk result (λ n. n ≡ record { text = string_bytes text; flag = flag }) }
         ensures accepted { IfOk result (λ _. IsAccepted flag (string_bytes text)) }
         ensures refused { IfErr result (λ e. e ≡ PatternFault.Syntax → IsAccepted flag (string_bytes text) → ⊥) }
         ensures literal { flag ≡ Flag.Literal → IsOk result }
     {
         let built = match flag {
-            Flag::Plain => compile_unless_plain(alloc, text.as_str())?,
-            Flag::NoCase => Some(compile(alloc, text.as_str(), true)?),
+            Flag::Plain => compile_unless_plain(alloc, text.as_str(), most)?,
+            Flag::NoCase => Some(compile(alloc, text.as_str(), true, most)?),
             Flag::Literal => None,
         };
         Ok(Needle { text, flag, built })
@@ -92,7 +103,7 @@ impl Needle {
         ensures literal { self.now.flag ≡ Flag.Literal → IsOk result }
     {
         let matcher = match &self.built {
-            Some(regex) => Some(regex.matcher(alloc)?),
+            Some(regex) => Some(Box::new(alloc, regex.matcher(alloc)?)?),
             None => None,
         };
         Ok(Tester {

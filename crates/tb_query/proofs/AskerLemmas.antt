@@ -1,6 +1,7 @@
 -- The parts of a conjunction or a disjunction, from turn to turn.
-use Rattle.std.proofs.Common.{◌≡◌, ◌<◌, ◌+◌, ℕ, List, length, get_or, drop, map, Bool, true, false, if◌then◌else◌, sym, ap, ◌∙◌, refl, add-one, drop-cons, arith, Box, Vec, Global}
+use Rattle.std.proofs.Common.{◌≡◌, ◌<◌, ◌+◌, ℕ, zero, suc, not, List, length, get_or, drop, map, Bool, true, false, if◌then◌else◌, sym, ap, ◌∙◌, refl, add-one, drop-cons, arith, Box, Vec, Global}
 use Rattle.std.proofs.lemmas.List.{length-map}
+use Rattle.std.proofs.lemmas.Bool.Decides.{nat_tests}
 use Rattle.std.proofs.Math.ListN.{set, get_or-map}
 use Rattle.std.proofs.Math.Seq.{map-set_same}
 use Rattle.tb_conllu.specs.Text.{RowText}
@@ -9,8 +10,8 @@ use Rattle.tb_query.specs.declared.asker.Asker.TheVariants.{Denied, Both, Either
 use Rattle.tb_query.specs.declared.asker.Asker.TheOpen.{Asker-F}
 use Rattle.tb_query.specs.declared.asker.Asker.TheFolds.{fold-roll-Asker}
 use Rattle.tb_query.specs.Askers.{asked, asked_step}
-use Rattle.tb_query.specs.Tests.{Test, tests, denied, all_of, some_of}
-use Rattle.tb_query.specs.Meaning.{holds, all_hold, some_hold}
+use Rattle.tb_query.specs.Tests.{Test, tests, denied, denied_times, all_of, some_of}
+use Rattle.tb_query.specs.Meaning.{is_odd, holds, all_hold, some_hold}
 
 all_at : (ts : List Test) (i : ℕ) (r : RowText) (d : Test) → i < length ts →
     all_hold (tests (drop i ts)) r ≡ (if holds (get_or ts i d) r then all_hold (tests (drop (i + 1) ts)) r else false)
@@ -40,8 +41,34 @@ module _ (xs : List Asker) (ts : List Test) (i : ℕ) (d : Asker) (same : map as
       some_at ts i r (asked d) (omega (arith, length-map xs asked, ap length same))
       ∙ ap (λ c. if c then true else some_hold (tests (drop (i + 1) ts)) r) (ap (λ u. holds u r) test_at ∙ sym e)
 
-pub asked-Denied : (b : Box Asker Global) → asked (Denied b) ≡ denied (asked b.value)
-asked-Denied b = ap asked (sym (rolls-Denied b)) ∙ fold-roll-Asker Test asked_step (Asker-F.Denied b)
+pub asked-Denied : (n : ℕ) (b : Box Asker Global) → asked (Denied n b) ≡ denied_times n (asked b.value)
+asked-Denied n b = ap asked (sym (rolls-Denied n b)) ∙ fold-roll-Asker Test asked_step (Asker-F.Denied n b)
+
+-- denials, one after the other
+
+abbrev turned : ℕ → Bool → Bool
+turned zero b = b
+turned (suc n) b = turned n (not b)
+
+denied_turned : (n : ℕ) (t : Test) (r : RowText) → holds (denied_times n t) r ≡ turned n (holds t r)
+denied_turned zero t r = refl
+denied_turned (suc n) t r = denied_turned n (denied t) r
+
+odd_next : (n : ℕ) → is_odd (suc n) ≡ not (is_odd n)
+odd_next n = grind (arith, nat_tests)
+
+turn : (o b : Bool) → (if o then not (not b) else not b) ≡ (if not o then not b else b)
+turn true true = refl
+turn true false = refl
+turn false true = refl
+turn false false = refl
+
+turned_is : (n : ℕ) (b : Bool) → turned n b ≡ (if is_odd n then not b else b)
+turned_is zero b = refl
+turned_is (suc n) b = turned_is n (not b) ∙ turn (is_odd n) b ∙ ap (λ o. if o then not b else b) (sym (odd_next n))
+
+pub denied_holds : (n : ℕ) (t : Test) (r : RowText) → holds (denied_times n t) r ≡ (if is_odd n then not (holds t r) else holds t r)
+denied_holds n t r = denied_turned n t r ∙ turned_is n (holds t r)
 
 pub asked-Both : (v : Vec Asker Global) → asked (Both v) ≡ all_of (tests (map asked v.items))
 asked-Both v = ap asked (sym (rolls-Both v)) ∙ fold-roll-Asker Test asked_step (Asker-F.Both v)

@@ -1,13 +1,14 @@
 -- What the expressions with parts are as tests.
-use Rattle.std.proofs.Common.{◌≡◌, ℕ, List, [], ◌∷◌, ◌++◌, map, Vec, Global, sym, ap, ◌∙◌, append_assoc}
+use Rattle.std.proofs.Common.{◌≡◌, ℕ, zero, suc, refl, Box, List, [], ◌∷◌, ◌++◌, map, Vec, Global, sym, ap, ◌∙◌, append_assoc}
 use Rattle.tb_syntax.specs.declared.expr.Expr.{Expr}
-use Rattle.tb_syntax.specs.declared.expr.Expr.TheVariants.{Both, Either, rolls-Both, rolls-Either}
+use Rattle.tb_syntax.specs.declared.expr.Expr.TheVariants.{Denied, Both, Either, rolls-Denied, rolls-Both, rolls-Either}
 use Rattle.tb_syntax.specs.declared.expr.Expr.TheFolds.{fold-roll-Expr}
 use Rattle.tb_syntax.specs.Exprs.{tester, tester_step}
-use Rattle.tb_syntax.specs.Pattern.{Tester, both, either, testers}
+use Rattle.tb_syntax.specs.Pattern.{Tester, not, both, either, testers}
+use Rattle.tb_syntax.specs.Pattern.{denied_times as tester_times}
 use Rattle.tb_query.specs.Labels.{labels, labels_of}
 use Rattle.tb_query.specs.Reading.{with_texts}
-use Rattle.tb_query.specs.Tests.{Test, all_of, some_of, tests}
+use Rattle.tb_query.specs.Tests.{Test, denied_times, all_of, some_of, tests}
 use Rattle.tb_query.proofs.Attachments.{parts_labels, parts_tests}
 
 pub tester-Both : (parts : Vec Expr Global) → tester (Both parts) ≡ both (testers (map tester parts.items))
@@ -15,6 +16,30 @@ tester-Both parts = ap tester (sym (rolls-Both parts)) ∙ fold-roll-Expr Tester
 
 pub tester-Either : (parts : Vec Expr Global) → tester (Either parts) ≡ either (testers (map tester parts.items))
 tester-Either parts = ap tester (sym (rolls-Either parts)) ∙ fold-roll-Expr Tester tester_step _
+
+pub tester-Denied : (n : ℕ) (inner : Box Expr Global) → tester (Denied n inner) ≡ tester_times n (tester inner.value)
+tester-Denied n inner = ap tester (sym (rolls-Denied n inner)) ∙ fold-roll-Expr Tester tester_step _
+
+-- what is denied, however often
+
+times_value : (said : List (List ℕ)) (n : ℕ) (t : Tester) → with_texts said (tester_times n t) ≡ denied_times n (with_texts said t)
+times_value said zero t = refl
+times_value said (suc n) t = times_value said n (not t)
+
+times_labels : (n : ℕ) (t : Tester) → labels (tester_times n t) ≡ labels t
+times_labels zero t = refl
+times_labels (suc n) t = times_labels n (not t)
+
+denied_as : (expr : Expr) (n : ℕ) (inner : Box Expr Global) (x : Expr) → expr ≡ Denied n inner → x ≡ inner.value → tester expr ≡ tester_times n (tester x)
+denied_as expr n inner x e f = ap tester e ∙ tester-Denied n inner ∙ ap (λ z. tester_times n (tester z)) (sym f)
+
+pub denied_labels : (expr : Expr) (n : ℕ) (inner : Box Expr Global) (x : Expr) → expr ≡ Denied n inner → x ≡ inner.value → labels (tester x) ≡ labels (tester expr)
+denied_labels expr n inner x e f = sym (ap labels (denied_as expr n inner x e f) ∙ times_labels n (tester x))
+
+pub denied_value : (said : List (List ℕ)) (expr : Expr) (n : ℕ) (inner : Box Expr Global) (x : Expr) (t : Test) → expr ≡ Denied n inner → x ≡ inner.value →
+    t ≡ with_texts said (tester x) → denied_times n t ≡ with_texts said (tester expr)
+denied_value said expr n inner x t e f h =
+    ap (denied_times n) h ∙ sym (ap (with_texts said) (denied_as expr n inner x e f) ∙ times_value said n (tester x))
 
 -- the same of what a match has found, whose parts are taken as a slice
 

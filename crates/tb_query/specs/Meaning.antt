@@ -1,6 +1,6 @@
 -- When a token expression holds of a word (The CQP Query Language Manual, on token expressions): values are compared as they
 -- stand in the file, an underscore too.
-use Rattle.std.specs.Prelude.{◌≡◌, ℕ, ◌-◌, ◌≤◌, List, Bool, true, false, not, Some, if◌then◌else◌, filter}
+use Rattle.std.specs.Prelude.{◌≡◌, ℕ, nat_eq, ◌%◌, ◌-◌, ◌≤◌, List, Bool, true, false, not, Some, if◌then◌else◌, filter}
 use Rattle.std.specs.List.{slice_get}
 use Rattle.tb_conllu.specs.Text.{RowText, BlockText}
 use Rattle.tb_conllu.specs.Words.{is_word}
@@ -9,6 +9,9 @@ use Rattle.tb_syntax.specs.declared.lexeme.Attr.TheVariants.{Form, Lemma, Upos, 
 use Rattle.tb_needle.specs.Literals.{meets}
 use Rattle.tb_needle.specs.Items.{meets_item}
 use Rattle.tb_query.specs.Tests.{Test, any, column, item, denied, all_of, some_of, Tests, no_more, and_more}
+
+abbrev pub is_odd : ℕ → Bool
+is_odd n = nat_eq (n % 2) 1
 
 -- the value of a column
 abbrev pub value_of : Attr → RowText → List ℕ

@@ -1,5 +1,5 @@
 -- Token expressions without where they lie in memory: what is asked of one word. Each literal stands with its text.
-use Rattle.std.specs.Prelude.{List, [], ◌∷◌, ◌++◌}
+use Rattle.std.specs.Prelude.{ℕ, zero, suc, List, [], ◌∷◌, ◌++◌}
 use Rattle.tb_syntax.specs.declared.lexeme.Attr.{Attr}
 use Rattle.tb_needle.specs.Literals.{PlainLit}
 
@@ -18,6 +18,11 @@ mutual
   pub data Tests : Type 0 where
     no_more : Tests
     and_more : Test → Tests → Tests
+
+-- denied so many times
+abbrev pub denied_times : ℕ → Test → Test
+denied_times zero t = t
+denied_times (suc n) t = denied_times n (denied t)
 
 abbrev pub tests : List Test → Tests
 tests [] = no_more

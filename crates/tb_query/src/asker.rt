@@ -1,15 +1,18 @@
 //! Token expressions with what a search writes to.
 
-ghost use Rattle.std.specs.Prelude.{◌≡◌, IfOk, map};
+ghost use Rattle.std.specs.Prelude.{◌≡◌, ℕ, not, if◌then◌else◌, IfOk, map};
+ghost use Rattle.std.specs.Global.{Global};
+ghost use Rattle.std.specs.declared.boxed.Box.{Box};
+ghost use Rattle.tb_query.specs.declared.asker.Asker.{Asker};
 ghost use Rattle.tb_query.specs.Askers.{asked};
 ghost use Rattle.tb_query.specs.Exprs.{test};
-ghost use Rattle.tb_query.specs.Meaning.{value_of, holds, all_hold, some_hold};
+ghost use Rattle.tb_query.specs.Meaning.{value_of, is_odd, holds, all_hold, some_hold};
 ghost use Rattle.tb_query.specs.Tests.{tests};
 
 use crate::expr::Expr;
 use std::alloc::{AllocError, Global};
 use tb_conllu::{RowOf, Text};
-use tb_needle::Tester;
+use tb_needle::{Needle, Tester};
 use tb_syntax::Attr;
 
 /// A column of a word, and what its value is tested against.
@@ -26,9 +29,18 @@ pub(crate) enum Asker<'q> {
     Any,
     Whole(Column<'q>),
     Item(Tester<'q>),
-    Denied(Box<Asker<'q>>),
+    Denied(usize, Box<Asker<'q>>),
     Both(Vec<Asker<'q>>),
     Either(Vec<Asker<'q>>),
+}
+
+/// What tests values against the literal. Out of line, so that what it makes takes no stack at each
+/// level of an expression.
+#[inline(never)]
+fn tester_of(alloc: Global, needle: &Needle) -> Result<Tester<'_>, AllocError>
+    ensures { IfOk result (λ t. t ≡ needle.now) }
+{
+    needle.tester(alloc)
 }
 
 /// Makes a token expression ready for a search.
@@ -40,10 +52,13 @@ fn asker_of(alloc: Global, expr: &Expr) -> Result<Asker<'_>, AllocError>
         Expr::Any => Ok(Asker::Any),
         Expr::Whole(attr, needle) => Ok(Asker::Whole(Column {
             attr: *attr,
-            tester: needle.tester(alloc)?,
+            tester: tester_of(alloc, needle)?,
         })),
-        Expr::Item(needle) => Ok(Asker::Item(needle.tester(alloc)?)),
-        Expr::Denied(inner) => Ok(Asker::Denied(Box::new(alloc, asker_of(alloc, inner)?)?)),
+        Expr::Item(needle) => Ok(Asker::Item(tester_of(alloc, needle)?)),
+        Expr::Denied(times, inner) => {
+            let asker = asker_of(alloc, inner)?;
+            Ok(Asker::Denied(*times, Box::new(alloc, asker)?))
+        }
         Expr::Both(parts) => Ok(Asker::Both(askers_of(alloc, parts)?)),
         Expr::Either(parts) => Ok(Asker::Either(askers_of(alloc, parts)?)),
     }
@@ -75,17 +90,35 @@ fn value_of<T: Text>(attr: Attr, row: &RowOf<T>) -> &str
     }
 }
 
+/// Whether the expression is one that is denied an odd number of times.
+fn is_odd_denial(asker: &Asker<'_>) -> bool
+    ensures { (n : ℕ) (inner : Box Asker Global) → asker.now ≡ Asker.Denied n inner → result ≡ is_odd n }
+{
+    match asker {
+        Asker::Denied(times, _) => *times % 2 == 1,
+        _ => false,
+    }
+}
+
+/// What holds of an expression that is denied, an odd number of times or an even one.
+fn denied(odd: bool, held: bool) -> bool
+    ensures { result ≡ (if odd then not held else held) }
+{
+    if odd { !held } else { held }
+}
+
 /// Whether the expression holds of the word.
 #[cycle(holds)]
 pub(crate) fn holds<T: Text>(asker: &mut Asker<'_>, row: &RowOf<T>) -> bool
     ensures answer { result ≡ holds (asked asker.old) row.now }
     ensures same { asked asker.new ≡ asked asker.old }
 {
+    let odd = is_odd_denial(asker);
     match asker {
         Asker::Any => true,
         Asker::Whole(column) => column.tester.meets(value_of(column.attr, row)),
         Asker::Item(tester) => tester.meets_item(row.feats.text()),
-        Asker::Denied(inner) => !holds(inner, row),
+        Asker::Denied(_, inner) => denied(odd, holds(inner, row)),
         Asker::Both(parts) => all_hold(parts, row),
         Asker::Either(parts) => some_hold(parts, row),
     }

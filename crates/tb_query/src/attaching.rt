@@ -6,13 +6,21 @@ ghost use Rattle.tb_syntax.specs.Exprs.{tester};
 ghost use Rattle.tb_query.specs.Exprs.{test};
 ghost use Rattle.tb_query.specs.Labels.{labels, labels_of, IsRefusalAmong};
 ghost use Rattle.tb_query.specs.Reading.{text_of, with_text, with_texts, AreAccepted};
-ghost use Rattle.tb_query.specs.Tests.{any, column, item, denied, all_of, some_of, tests, literals, literals_of};
+ghost use Rattle.tb_query.specs.Tests.{any, column, item, denied_times, all_of, some_of, tests, literals, literals_of};
 
 use crate::expr::Expr;
 use crate::fault::QueryFault;
 use std::alloc::{AllocError, Global};
 use tb_needle::{Needle, PatternFault};
 use tb_syntax::{Attr, Expr as Numbered, Literal};
+
+/// How many bytes the patterns of a query may take together, as they are built.
+const ALL_PATTERNS: usize = 16 << 20;
+
+/// How many bytes a pattern may take, as it is built, of a query with so many literals.
+fn pattern_bytes(literals: usize) -> usize {
+    ALL_PATTERNS / literals.max(2)
+}
 
 /// What the literal says.
 fn text_of(alloc: Global, texts: &[String], literal: Literal) -> Result<String, AllocError>
@@ -24,14 +32,15 @@ fn text_of(alloc: Global, texts: &[String], literal: Literal) -> Result<String, 
     }
 }
 
-/// The needle of the literal.
+/// The needle of the literal. Out of line, so that what it builds takes no stack at each level.
+#[inline(never)]
 fn needle_of(alloc: Global, texts: &[String], literal: Literal) -> Result<Needle, QueryFault>
     ensures value { IfOk result (λ n. n ≡ with_text (map string_bytes texts.now) literal) }
     ensures accepted { IfOk result (λ n. IsAccepted n.flag n.text) }
     ensures refused { IfErr result (λ e. IsRefusalAmong (map string_bytes texts.now) (literal ∷ []) e) }
 {
     let text = text_of(alloc, texts, literal)?;
-    match Needle::new(alloc, text, literal.flag) {
+    match Needle::new(alloc, text, literal.flag, pattern_bytes(texts.len())) {
         Ok(needle) => Ok(needle),
         Err(PatternFault::Syntax) => Err(QueryFault::Pattern(u64::from(literal.number) + 1)),
         Err(PatternFault::Memory) => Err(QueryFault::Memory),
@@ -59,11 +68,11 @@ fn item(needle: Needle) -> Expr
     Expr::Item(needle)
 }
 
-/// What holds where the expression does not.
-fn denied(alloc: Global, expr: Expr) -> Result<Expr, AllocError>
-    ensures { IfOk result (λ e. test e ≡ denied (test expr)) }
+/// The expression denied so many times.
+fn denied(alloc: Global, times: usize, expr: Expr) -> Result<Expr, AllocError>
+    ensures { IfOk result (λ e. test e ≡ denied_times times (test expr)) }
 {
-    Ok(Expr::Denied(Box::new(alloc, expr)?))
+    Ok(Expr::Denied(times, Box::new(alloc, expr)?))
 }
 
 /// Each of the expressions.
@@ -91,7 +100,10 @@ fn attach(alloc: Global, texts: &[String], expr: &Numbered) -> Result<Expr, Quer
         Numbered::Any => Ok(any()),
         Numbered::Whole(attr, literal) => Ok(whole(*attr, needle_of(alloc, texts, *literal)?)),
         Numbered::Item(literal) => Ok(item(needle_of(alloc, texts, *literal)?)),
-        Numbered::Denied(inner) => Ok(denied(alloc, attach(alloc, texts, inner)?)?),
+        Numbered::Denied(times, inner) => {
+            let attached = attach(alloc, texts, inner)?;
+            Ok(denied(alloc, *times, attached)?)
+        }
         Numbered::Both(parts) => Ok(both(attach_all(alloc, texts, parts)?)),
         Numbered::Either(parts) => Ok(either(attach_all(alloc, texts, parts)?)),
     }

@@ -5,6 +5,8 @@ ghost use Rattle.tb_query.specs.declared.fault.QueryFault.TheVariants.{Memory};
 ghost use Rattle.tb_query.specs.Told.{query_fault};
 
 use std::alloc::{AllocError, AllocFailed};
+use std::error::Error;
+use std::fmt;
 use tb_syntax::Fault;
 
 /// Why a text was not read as a query. The first of them in this order is told.
@@ -27,6 +29,24 @@ pub enum QueryFault {
     /// There was no memory for it, or a pattern is too large.
     Memory,
 }
+
+impl fmt::Display for QueryFault {
+    fn fmt<W: fmt::Write>(&self, f: &mut fmt::Formatter<W>) -> fmt::Result {
+        match self {
+            QueryFault::TooLong => f.write_str("longer than 2,000 bytes"),
+            QueryFault::Syntax(byte) => write!(f, "outside the grammar at byte {byte}"),
+            QueryFault::TooMany => f.write_str("more than 32 token expressions"),
+            QueryFault::TooDeep => f.write_str("more than 16 round parentheses open at one place"),
+            QueryFault::Repeat => f.write_str(
+                "a repetition with a number that is too large or too small",
+            ),
+            QueryFault::Pattern(literal) => write!(f, "literal {literal} is no pattern"),
+            QueryFault::Memory => f.write_str("out of memory, or a pattern is too large"),
+        }
+    }
+}
+
+impl Error for QueryFault {}
 
 impl From<AllocError> for QueryFault {
     ghost from_gives = { λ _ e. e ≡ Memory };

@@ -24,3 +24,5 @@ pub use laws::{
 pub use query::Query;
 pub use reading::parse;
 pub use searcher::Searcher;
+pub use tb_needle::Needle;
+pub use tb_syntax::{Attr, Flag};

@@ -1,8 +1,8 @@
 //! Queries, with what was built for their literals.
 
-ghost use Rattle.std.specs.Prelude.{◌≡◌, ◌+◌, ◌*◌, ◌/◌, ◌≤◌, IfOk, map};
+ghost use Rattle.std.specs.Prelude.{◌≡◌, ◌+◌, ◌*◌, ◌/◌, ◌≤◌, IfOk, length, map};
 ghost use Rattle.tb_conllu.specs.Words.{words_of};
-ghost use Rattle.tb_match.specs.Weight.{weight_of};
+ghost use Rattle.tb_match.specs.Weight.{Fits, weight_of};
 ghost use Rattle.tb_query.specs.Exprs.{test};
 ghost use Rattle.tb_query.specs.Search.{Asked, IsSearchable, IsTruthOf, AreHitsIn};
 
@@ -14,7 +14,7 @@ use tb_conllu::{BlockOf, Text};
 use tb_match::{Found, Pat, Strategy, Truth};
 
 /// A query: a pattern over token expressions, which it names by their numbers.
-#[derive(Drop)]
+#[derive(Debug, Drop)]
 pub struct Query {
     pat: Pat,
     exprs: Vec<Expr>,
@@ -46,16 +46,19 @@ impl Query {
         Query { pat, exprs }
     }
 
-    /// The pattern. Its expressions are numbers of [`Query::exprs`], counted from 0.
+    /// The pattern. Its expressions are numbers of [`Query::exprs`], counted from 0: it can be searched
+    /// for in a table of so many.
     pub fn pat(&self) -> &Pat
-        ensures { result.now ≡ self.now.pat }
+        ensures pat { result.now ≡ self.now.pat }
+        ensures fits { Fits (length self.now.tests) result.now }
     {
         &self.pat
     }
 
-    /// The token expressions, in their order.
+    /// The token expressions, in their order: at most 32.
     pub fn exprs(&self) -> &[Expr]
-        ensures { map test result.now ≡ self.now.tests }
+        ensures tests { map test result.now ≡ self.now.tests }
+        ensures few { length result.now ≤ 32 }
     {
         &self.exprs
     }

@@ -1,6 +1,7 @@
 //! From the text of a query to what it asks.
 
 ghost use Rattle.std.specs.Prelude.{◌≡◌, ◌≤◌, length, IfOk, IfErr};
+ghost use Rattle.tb_match.specs.Weight.{Fits};
 ghost use Rattle.tb_query.specs.declared.fault.QueryFault.TheVariants.{Memory};
 ghost use Rattle.tb_query.specs.Reading.{IsQuery, IsFault};
 
@@ -9,12 +10,14 @@ use crate::fault::QueryFault;
 use crate::query::Query;
 use std::alloc::Global;
 
-/// What the text asks.
+/// What the text asks: a pattern over at most 32 token expressions, which it names by their numbers.
 ///
 /// Errors: what is wrong with a text that is no query, or want of memory, which comes only of texts
 /// within the limit of length.
 pub fn parse(alloc: Global, text: &str) -> Result<Query, QueryFault>
     ensures query { IfOk result (λ q. IsQuery text.now q) }
+    ensures fits { IfOk result (λ q. Fits (length q.tests) q.pat) }
+    ensures few { IfOk result (λ q. length q.tests ≤ 32) }
     ensures fault { IfErr result (λ e. IsFault text.now e) }
     ensures memory { IfErr result (λ e. e ≡ Memory → length text.now ≤ 2000) }
 {

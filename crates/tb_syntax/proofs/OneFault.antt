@@ -7,7 +7,6 @@ use Rattle.tb_syntax.specs.declared.fault.Fault.TheVariants.{TooLong, Syntax, To
 use Rattle.tb_syntax.specs.declared.lexeme.Lexeme.{Lexeme}
 use Rattle.tb_syntax.specs.declared.lexing.Span.{Span}
 use Rattle.tb_syntax.specs.Grammar.{Query, query_text, IsBeginning}
-use Rattle.tb_syntax.specs.Lexing.{Lexes}
 use Rattle.tb_syntax.specs.Limits.{query_count, query_nests, query_repeats}
 use Rattle.tb_syntax.specs.Reading.{IsText, IsWrongAt, IsFault, byte_of}
 use Rattle.tb_syntax.proofs.Lexings.{one_lexing}

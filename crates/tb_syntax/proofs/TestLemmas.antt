@@ -1,5 +1,5 @@
 -- What is read of a test, from part to part.
-use Rattle.std.proofs.Common.{◌≡◌, List, [], ◌∷◌, ◌++◌, map, Result, Ok, Err, IfOk, false, refl, sym, ap, subst, ◌∙◌, append_assoc}
+use Rattle.std.proofs.Common.{◌≡◌, ◌≤◌, ◌+◌, ℕ, add-one, arith, length, List, [], ◌∷◌, ◌++◌, map, Result, Ok, Err, IfOk, false, refl, sym, ap, subst, ◌∙◌, append_assoc}
 use Rattle.std.proofs.lemmas.Bool.{false≢true}
 use Rattle.std.proofs.lemmas.List.{map-append}
 use Rattle.tb_syntax.specs.declared.expr.Expr.{Expr}
@@ -12,7 +12,7 @@ use Rattle.tb_syntax.specs.Exprs.{tester}
 use Rattle.tb_syntax.specs.Follow.{begins_flag, begins_and, begins_bar, EndsConj, EndsTest}
 use Rattle.tb_syntax.specs.Grammar.{flag_text, same, other, Test, one_conj, or_test, Conj, one_unit, and_conj, Unit', denied, grouped, compares, contains, test_text, conj_text, unit_text}
 use Rattle.tb_syntax.specs.Parsing.{head, tail, ReadsLiteral, ReadsUnit, ReadsUnits, ReadsConj, ReadsConjs, ReadsTest}
-use Rattle.tb_syntax.specs.Pattern.{Tester, whole, feature, not, test_parts, conj_parts, unit_tester}
+use Rattle.tb_syntax.specs.Pattern.{Tester, whole, feature, not, test_parts, conj_parts, unit_tester, denied_times}
 use Rattle.tb_syntax.proofs.Unique.{ends_conj, before_bar}
 
 -- comparisons
@@ -94,6 +94,17 @@ denied_at ls rest t r h (contains k m) end f e = let first = ap head e in cc (fi
 
 pub denied_read : (ls tl rest : List Lexeme) (t : Tester) → tl ≡ tail ls → ReadsUnit tl t rest → head ls ≡ Not → ReadsUnit ls (not t) rest
 denied_read ls tl rest t s r h = record { at = λ u end f e. denied_at ls rest t (subst (λ x. ReadsUnit x t rest) s r) h u end f e }
+
+-- a lexeme stands there
+pub some_left : (ls : List Lexeme) → head ls ≡ Not → 1 ≤ length ls
+some_left [] h = cc (h)
+some_left (l ∷ ls) h = omega arith
+
+-- one more `!` before what is denied so many times
+pub one_denial : (ls here next end : List Lexeme) (n : ℕ) → ((t : Tester) → ReadsUnit here t end → ReadsUnit ls (denied_times n t) end) →
+    next ≡ tail here → head here ≡ Not → (t : Tester) → ReadsUnit next t end → ReadsUnit ls (denied_times (n + 1) t) end
+one_denial ls here next end n f s h t r =
+    subst (λ k. ReadsUnit ls (denied_times k t) end) (sym (add-one n)) (f (not t) (denied_read here next end t s r h))
 
 closing : {x : List Lexeme} → EndsTest (RightParen ∷ x)
 closing = record { no_flag = refl; no_and = refl; no_bar = refl }

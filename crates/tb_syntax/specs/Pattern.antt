@@ -1,5 +1,5 @@
 -- What a query says: its pattern over token expressions, and those expressions, each without where it lies in memory.
-use Rattle.std.specs.Prelude.{◌≡◌, ℕ, ◌+◌, List, [], ◌∷◌, ◌++◌, Option, None, Some}
+use Rattle.std.specs.Prelude.{◌≡◌, ℕ, zero, suc, ◌+◌, List, [], ◌∷◌, ◌++◌, Option, None, Some}
 use Rattle.tb_syntax.specs.declared.lexeme.Attr.{Attr}
 use Rattle.tb_syntax.specs.declared.lexeme.Attr.TheVariants.{Form}
 use Rattle.tb_syntax.specs.declared.lexeme.Flag.{Flag}
@@ -23,6 +23,11 @@ mutual
 abbrev pub testers : List Tester → Testers
 testers [] = no_test
 testers (t ∷ ts) = and_test t (testers ts)
+
+-- denied so many times
+abbrev pub denied_times : ℕ → Tester → Tester
+denied_times zero t = t
+denied_times (suc n) t = denied_times n (not t)
 
 -- a conjunction, a disjunction of one is that one
 abbrev pub both_of : List Tester → Tester

@@ -1,8 +1,10 @@
 //! Reading the tests between brackets.
 
-ghost use Rattle.std.specs.Prelude.{◌≡◌, ◌∷◌, ◌≤◌, ◌-◌, length, map, IfOk};
+ghost use Rattle.std.specs.Prelude.{◌≡◌, ◌∷◌, ◌≤◌, ◌-◌, List, length, map, IfOk};
+ghost use Rattle.tb_syntax.specs.declared.lexeme.Lexeme.{Lexeme};
 ghost use Rattle.tb_syntax.specs.Exprs.{tester};
-ghost use Rattle.tb_syntax.specs.Parsing.{ReadsUnit, ReadsUnits, ReadsConj, ReadsConjs, ReadsTest};
+ghost use Rattle.tb_syntax.specs.Parsing.{head, ReadsUnit, ReadsUnits, ReadsConj, ReadsConjs, ReadsTest};
+ghost use Rattle.tb_syntax.specs.Pattern.{Tester, denied_times};
 
 use crate::cursor::{head, literal_at, tail};
 use crate::expr::{Expr, any, both_of, denied, either_of, item, whole};
@@ -21,8 +23,40 @@ fn comparison_at(
     let (literal, rest) = literal_at(tail(lexemes));
     match head(lexemes) {
         Lexeme::Contains => Ok((item(literal), rest)),
-        Lexeme::Differs => Ok((denied(alloc, whole(attr, literal))?, rest)),
+        Lexeme::Differs => Ok((denied(alloc, 1, whole(attr, literal))?, rest)),
         _ => Ok((whole(attr, literal), rest)),
+    }
+}
+
+/// The number of `!` that stand there, and what is left after them.
+fn denials_at(lexemes: &[Lexeme]) -> (usize, &[Lexeme])
+    ensures exact { (t : Tester) (end : List Lexeme) → ReadsUnit result.1.now t end → ReadsUnit lexemes.now (denied_times result.0 t) end }
+    ensures all { head result.1.now ≡ Lexeme.Not → ⊥ }
+    ensures shorter { length result.1.now ≤ length lexemes.now }
+{
+    let mut times = 0;
+    let mut rest = lexemes;
+    while head(rest) == Lexeme::Not {
+        rest = tail(rest);
+        times += 1;
+    }
+    (times, rest)
+}
+
+/// The unit of a test, before which no `!` stands.
+#[cycle(asking)]
+fn plain_unit_at(alloc: Global, lexemes: &[Lexeme]) -> Result<(Expr, &[Lexeme]), AllocError>
+    ensures exact { (head lexemes.now ≡ Lexeme.Not → ⊥) → IfOk result (λ x. ReadsUnit lexemes.now (tester x.0) x.1.now) }
+    ensures shorter { IfOk result (λ x. length x.1.now ≤ length lexemes.now - 1) }
+{
+    let rest = tail(lexemes);
+    match head(lexemes) {
+        Lexeme::LeftParen => {
+            let (expr, rest) = test_at(alloc, rest)?;
+            Ok((expr, tail(rest)))
+        }
+        Lexeme::Name(attr) => comparison_at(alloc, attr, rest),
+        _ => Ok((any(), rest)),
     }
 }
 
@@ -32,19 +66,9 @@ fn unit_at(alloc: Global, lexemes: &[Lexeme]) -> Result<(Expr, &[Lexeme]), Alloc
     ensures exact { IfOk result (λ x. ReadsUnit lexemes.now (tester x.0) x.1.now) }
     ensures shorter { IfOk result (λ x. length x.1.now ≤ length lexemes.now - 1) }
 {
-    let rest = tail(lexemes);
-    match head(lexemes) {
-        Lexeme::Not => {
-            let (expr, rest) = unit_at(alloc, rest)?;
-            Ok((denied(alloc, expr)?, rest))
-        }
-        Lexeme::LeftParen => {
-            let (expr, rest) = test_at(alloc, rest)?;
-            Ok((expr, tail(rest)))
-        }
-        Lexeme::Name(attr) => comparison_at(alloc, attr, rest),
-        _ => Ok((any(), rest)),
-    }
+    let (times, denied_part) = denials_at(lexemes);
+    let (expr, rest) = plain_unit_at(alloc, denied_part)?;
+    Ok((denied(alloc, times, expr)?, rest))
 }
 
 /// Puts the units of a conjunction after the parts.

@@ -2,7 +2,7 @@
 
 ghost use Rattle.std.specs.Prelude.{◌≡◌, map, IfOk};
 ghost use Rattle.tb_syntax.specs.Exprs.{tester};
-ghost use Rattle.tb_syntax.specs.Pattern.{every, whole, feature, not, both_of, either_of};
+ghost use Rattle.tb_syntax.specs.Pattern.{every, whole, feature, denied_times, both_of, either_of};
 
 use crate::lexeme::{Attr, Flag};
 use std::alloc::{AllocError, Global};
@@ -24,8 +24,9 @@ pub enum Expr {
     Whole(Attr, Literal),
     /// Some item of the word's features meets the literal.
     Item(Literal),
-    /// The expression does not hold.
-    Denied(Box<Expr>),
+    /// The expression, denied so many times: once for each `!` before it. They are counted, so that
+    /// the depth of an expression is that of its parentheses, however long a chain of `!` is.
+    Denied(usize, Box<Expr>),
     /// Each of the expressions holds.
     Both(Vec<Expr>),
     /// Some of the expressions holds.
@@ -53,11 +54,14 @@ pub(crate) fn item(literal: Literal) -> Expr
     Expr::Item(literal)
 }
 
-/// What holds where the expression does not.
-pub(crate) fn denied(alloc: Global, expr: Expr) -> Result<Expr, AllocError>
-    ensures { IfOk result (λ e. tester e ≡ not (tester expr)) }
+/// The expression denied so many times, which is the expression itself where that is none.
+pub(crate) fn denied(alloc: Global, times: usize, expr: Expr) -> Result<Expr, AllocError>
+    ensures { IfOk result (λ e. tester e ≡ denied_times times (tester expr)) }
 {
-    Ok(Expr::Denied(Box::new(alloc, expr)?))
+    if times == 0 {
+        return Ok(expr);
+    }
+    Ok(Expr::Denied(times, Box::new(alloc, expr)?))
 }
 
 /// The conjunction of the parts, which is the part itself where there is one.

@@ -1,17 +1,30 @@
-use Rattle.std.proofs.Common.{◌≡◌, ◌<◌, ◌+◌, length, map, drop, sym, ap, ◌∙◌, arith, true, false, if◌then◌else◌, rules}
+use Rattle.std.proofs.Common.{◌≡◌, ◌<◌, ◌+◌, length, map, drop, sym, ap, ◌∙◌, arith, true, false, not, if◌then◌else◌, rules}
 use Rattle.std.specs.Vec.{with_items}
 use Rattle.std.proofs.lemmas.List.{with_items_is}
 use Rattle.tb_query.specs.Askers.{asked}
-use Rattle.tb_query.specs.Tests.{tests, denied, all_of, some_of}
-use Rattle.tb_query.specs.Meaning.{all_hold, some_hold}
+use Rattle.tb_query.specs.Tests.{tests, denied_times, all_of, some_of}
+use Rattle.tb_query.specs.Meaning.{holds, is_odd, all_hold, some_hold}
 use Rattle.tb_query.specs.declared.asker.Asker.TheVariants.{outs-Denied, outs-Both, outs-Either}
-use Rattle.tb_query.proofs.AskerLemmas.{asked-Denied, asked-Both, asked-Either, same_after, all_next, some_next}
+use Rattle.tb_query.proofs.AskerLemmas.{asked-Denied, asked-Both, asked-Either, denied_holds, same_after, all_next, some_next}
 use Rattle.tb_query.proofs.asker.+holds.Goals as goal
 
 pub holds-returns-in-Denied-clause-same : goal.holds-returns-in-Denied-clause-same
 holds-returns-in-Denied-clause-same g t c =
-    rw (c.in-Denied.is, outs-Denied c.in-Denied.inner)
-    (asked-Denied _ ∙ ap denied (c.holds.ensures.same ∙ ap asked (c.deref_mut.ensures.value ∙ ap (λ b. b.value) c.in-Denied.inner-is)) ∙ sym (asked-Denied c.in-Denied.inner))
+    let n = c.in-Denied.field-0 in
+    rw (c.in-Denied.is, outs-Denied n c.in-Denied.inner)
+    (asked-Denied n _ ∙ ap (denied_times n) (c.holds.ensures.same ∙ ap asked (c.deref_mut.ensures.value ∙ ap (λ b. b.value) c.in-Denied.inner-is)) ∙ sym (asked-Denied n c.in-Denied.inner))
+
+pub holds-returns-in-Denied-clause-answer : goal.holds-returns-in-Denied-clause-answer
+holds-returns-in-Denied-clause-answer g t c =
+    let n = c.in-Denied.field-0 in
+    let row = c.args.row.now in
+    let odd = c.is_odd_denial-odd.ensures n c.in-Denied.inner c.in-Denied.is in
+    let held = c.holds.ensures.answer ∙ ap (λ a. holds (asked a) row) (c.deref_mut.ensures.value ∙ ap (λ b. b.value) c.in-Denied.inner-is) in
+    c.denied.ensures
+    ∙ ap (λ o. if o then not c.holds.result else c.holds.result) odd
+    ∙ ap (λ h. if is_odd n then not h else h) held
+    ∙ sym (denied_holds n (asked c.in-Denied.inner.value) row)
+    ∙ ap (λ t. holds t row) (sym (ap asked c.in-Denied.is ∙ asked-Denied n c.in-Denied.inner))
 
 pub holds-returns-in-Both-clause-same : goal.holds-returns-in-Both-clause-same
 holds-returns-in-Both-clause-same g t c =

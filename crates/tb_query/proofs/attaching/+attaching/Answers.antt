@@ -7,8 +7,28 @@ use Rattle.tb_query.specs.Exprs.{test}
 use Rattle.tb_query.specs.Labels.{labels, labels_of, IsRefusalAmong}
 use Rattle.tb_query.specs.Reading.{with_text, with_texts, AreAccepted}
 use Rattle.tb_query.proofs.Attachments.{accepted_append, refused_after}
-use Rattle.tb_query.proofs.Variants.{both_value, either_value, both_labels, either_labels, one_more}
+use Rattle.tb_query.proofs.Variants.{denied_labels, denied_value, both_value, either_value, both_labels, either_labels, one_more}
 use Rattle.tb_query.proofs.attaching.+attaching.Goals as goal
+
+pub attach-returns-in_err-attached-in-Denied-clause-refused : goal.attach-returns-in_err-attached-in-Denied-clause-refused
+attach-returns-in_err-attached-in-Denied-clause-refused t c =
+    let said = map string_bytes c.args.texts.now in
+    let p = err_from_is_err_and c.from_residual-in_err-attached-in-Denied.result c.from_residual-in_err-attached-in-Denied.ensures.1 in
+    let same = denied_labels c.args.expr.now c.in-Denied.times c.in-Denied.inner c.deref.result.now c.in-Denied.is c.deref.ensures in
+    rw (p.1, p.2) (subst (λ ls. IsRefusalAmong said ls c.in_err-attached-in-Denied.field-0.0) same c.in_err-attached-in-Denied.ensures.refused)
+
+pub attach-returns-in_ok-denied-in-Denied-clause-value : goal.attach-returns-in_ok-denied-in-Denied-clause-value
+attach-returns-in_ok-denied-in-Denied-clause-value t c =
+    let said = map string_bytes c.args.texts.now in
+    c.in_ok-denied-in-Denied.ensures
+    ∙ denied_value said c.args.expr.now c.in-Denied.times c.in-Denied.inner c.deref.result.now (test c.in_ok-attached-in-Denied.attached) c.in-Denied.is
+    c.deref.ensures c.in_ok-attached-in-Denied.ensures.value
+
+pub attach-returns-in_ok-denied-in-Denied-clause-accepted : goal.attach-returns-in_ok-denied-in-Denied-clause-accepted
+attach-returns-in_ok-denied-in-Denied-clause-accepted t c =
+    let said = map string_bytes c.args.texts.now in
+    let same = denied_labels c.args.expr.now c.in-Denied.times c.in-Denied.inner c.deref.result.now c.in-Denied.is c.deref.ensures in
+    subst (λ (ls : List Literal). AreAccepted (map (with_text said) ls)) same c.in_ok-attached-in-Denied.ensures.accepted
 
 pub attach-returns-in_err-attach_all-in-Both-clause-refused : goal.attach-returns-in_err-attach_all-in-Both-clause-refused
 attach-returns-in_err-attach_all-in-Both-clause-refused t c =

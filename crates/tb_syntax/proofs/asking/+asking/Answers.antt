@@ -3,23 +3,17 @@ use Rattle.std.specs.Borrow.{Bor}
 use Rattle.tb_syntax.specs.declared.lexeme.Lexeme.{Lexeme}
 use Rattle.tb_syntax.specs.Exprs.{tester}
 use Rattle.tb_syntax.specs.Parsing.{ReadsUnits, ReadsConjs}
-use Rattle.tb_syntax.proofs.TestLemmas.{denied_read, grouped_read, no_unit, more_units, last_unit, more_conjs, last_conj, pushed, same_unit, if_ok}
+use Rattle.tb_syntax.proofs.TestLemmas.{grouped_read, no_unit, more_units, last_unit, more_conjs, last_conj, pushed, if_ok}
 use Rattle.tb_syntax.proofs.asking.+asking.Goals as goal
 
-pub unit_at-returns-in_ok-denied-in-Not-clause-exact : goal.unit_at-returns-in_ok-denied-in-Not-clause-exact
-unit_at-returns-in_ok-denied-in-Not-clause-exact t c =
-    same_unit _ _ _ _ c.in_ok-denied-in-Not.ensures
-    (denied_read c.args.lexemes.now c.tail-rest.result.now c.in_ok-expr-in-Not.rest.now (tester c.in_ok-expr-in-Not.expr) c.tail-rest.ensures.rest
-    c.in_ok-expr-in-Not.ensures.exact (sym c.head.ensures ∙ c.in-Not.is))
-
-pub unit_at-returns-in_ok-expr-in-LeftParen-clause-exact : goal.unit_at-returns-in_ok-expr-in-LeftParen-clause-exact
-unit_at-returns-in_ok-expr-in-LeftParen-clause-exact t c =
+pub plain_unit_at-returns-in_ok-expr-in-LeftParen-clause-exact : goal.plain_unit_at-returns-in_ok-expr-in-LeftParen-clause-exact
+plain_unit_at-returns-in_ok-expr-in-LeftParen-clause-exact t c _ =
     grouped_read c.args.lexemes.now c.tail-rest.result.now c.in_ok-expr-in-LeftParen.rest.now c.tail.result.now _ c.tail-rest.ensures.rest
     c.in_ok-expr-in-LeftParen.ensures.exact c.tail.ensures.rest (sym c.head.ensures ∙ c.in-LeftParen.is)
 
-pub unit_at-returns-in_default-clause-exact : goal.unit_at-returns-in_default-clause-exact
-unit_at-returns-in_default-clause-exact t c =
-    no_unit c.args.lexemes.now c.tail-rest.result.now _ (λ h. c.in_default.not-LeftParen (c.head.ensures ∙ h)) (λ h. c.in_default.not-Not (c.head.ensures ∙ h))
+pub plain_unit_at-returns-in_default-clause-exact : goal.plain_unit_at-returns-in_default-clause-exact
+plain_unit_at-returns-in_default-clause-exact t c plain =
+    no_unit c.args.lexemes.now c.tail-rest.result.now _ (λ h. c.in_default.not-LeftParen (c.head.ensures ∙ h)) plain
     (λ a h. c.in_default.not-Name a (c.head.ensures ∙ h))
 
 pub units_at-returns-in-And-clause-exact : goal.units_at-returns-in-And-clause-exact

@@ -15,3 +15,6 @@ decreases-units_at l = 6 * length l.lexemes.now + 2
 
 abbrev pub decreases-unit_at : goal.decreases-unit_at
 decreases-unit_at l = 6 * length l.lexemes.now + 1
+
+abbrev pub decreases-plain_unit_at : goal.decreases-plain_unit_at
+decreases-plain_unit_at l = 6 * length l.lexemes.now
