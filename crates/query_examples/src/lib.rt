@@ -21,6 +21,8 @@ mod match_tests;
 #[cfg(test)]
 mod needle_tests;
 #[cfg(test)]
+mod nesting_tests;
+#[cfg(test)]
 mod parse_tests;
 #[cfg(test)]
 mod patterns;
@@ -38,6 +40,8 @@ mod reading;
 mod samples;
 #[cfg(test)]
 mod search_tests;
+#[cfg(test)]
+mod surface_tests;
 #[cfg(test)]
 mod syntax_tests;
 #[cfg(test)]
