@@ -24,7 +24,7 @@ continue_refl : (xs : List Sentence) → Continue xs xs
 continue_refl [] = tt
 continue_refl (x ∷ xs) = (same_sentence x x refl refl refl, continue_refl xs)
 
-continue_trans : (xs ys zs : List Sentence) → Continue xs ys → Continue ys zs → Continue xs zs
+pub continue_trans : (xs ys zs : List Sentence) → Continue xs ys → Continue ys zs → Continue xs zs
 continue_trans [] ys zs a b = tt
 continue_trans (x ∷ xs) [] zs a b = absurd a
 continue_trans (x ∷ xs) (y ∷ ys) [] a b = absurd b

@@ -1,16 +1,16 @@
-mod Weights
-mod Lists
-mod Named
-mod Keeps
-mod Balance
-mod Extending
-mod Same
-mod ReadsBack
-mod Chains
-mod Repeats
-mod Again
-mod Leading
-mod Once
-mod Judged
-mod Always
-mod Stored
+pub mod Weights
+pub mod Lists
+pub mod Named
+pub mod Keeps
+pub mod Balance
+pub mod Extending
+pub mod Same
+pub mod ReadsBack
+pub mod Chains
+pub mod Repeats
+pub mod Again
+pub mod Leading
+pub mod Once
+pub mod Judged
+pub mod Always
+pub mod Stored

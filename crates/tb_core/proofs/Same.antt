@@ -17,7 +17,7 @@ IsOneList = (f : List ℕ) (bs cs : List BlockText) → IsFile f bs → IsFile f
 one_body : IsOneList → (a b : BlockText) → IsLawful a → IsLawful b → text_of (a ∷ []) ≡ text_of (b ∷ []) → a ≡ b
 one_body u a b h g e = head_is a b [] [] (u (text_of (a ∷ [])) (a ∷ []) (b ∷ []) (record { shaped = (h.shaped, tt); text = refl }) (record { shaped = (g.shaped, tt); text = e }))
 
-sentence_is : (x y : Sentence) → x.sent_id ≡ y.sent_id → x.batch ≡ y.batch → x.pulled ≡ y.pulled → x.before ≡ y.before → x.current ≡ y.current → x ≡ y
+pub sentence_is : (x y : Sentence) → x.sent_id ≡ y.sent_id → x.batch ≡ y.batch → x.pulled ≡ y.pulled → x.before ≡ y.before → x.current ≡ y.current → x ≡ y
 sentence_is x y p q r s t =
     ap (λ z. let w : Sentence = record { sent_id = z; batch = x.batch; pulled = x.pulled; before = x.before; current = x.current } in w) p
     ∙ (ap (λ z. let w : Sentence = record { sent_id = y.sent_id; batch = z; pulled = x.pulled; before = x.before; current = x.current } in w) q
@@ -25,7 +25,7 @@ sentence_is x y p q r s t =
     ∙ (ap (λ z. let w : Sentence = record { sent_id = y.sent_id; batch = y.batch; pulled = y.pulled; before = z; current = x.current } in w) s
     ∙ ap (λ z. let w : Sentence = record { sent_id = y.sent_id; batch = y.batch; pulled = y.pulled; before = y.before; current = z } in w) t)))
 
-machine_is : (s f : Machine) → s.batches ≡ f.batches → s.sentences ≡ f.sentences → s.moves ≡ f.moves → s ≡ f
+pub machine_is : (s f : Machine) → s.batches ≡ f.batches → s.sentences ≡ f.sentences → s.moves ≡ f.moves → s ≡ f
 machine_is s f p q r =
     ap (λ z. let w : Machine = record { batches = z; sentences = s.sentences; moves = s.moves } in w) p
     ∙ (ap (λ z. let w : Machine = record { batches = f.batches; sentences = z; moves = s.moves } in w) q ∙ ap (λ z. let w : Machine = record { batches = f.batches; sentences = f.sentences; moves = z } in w) r)

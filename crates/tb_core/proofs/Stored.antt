@@ -96,12 +96,14 @@ last_of : (P : BlockText → Type 0) (rs : List Revision) (c : Revision) → All
 last_of P [] c h = h.0
 last_of P (r ∷ rs) c h = last_of P rs c h.1
 
-few_words : (x : Sentence) → IsFine x → words x ≤ 1000
-few_words x h =
-    let current : IsLawful x.current.body = last_of IsLawful x.before x.current h.lawful in
-    let three : KeepsTo3 x.current.body = to_3 x.current.body current.rules in
-    let ids : HasIds x.current.body = three.1 in
+pub few_in : (b : BlockText) → IsLawful b → words_of b ≤ 1000
+few_in b h =
+    let three : KeepsTo3 b = to_3 b h.rules in
+    let ids : HasIds b = three.1 in
     ids.few
+
+pub few_words : (x : Sentence) → IsFine x → words x ≤ 1000
+few_words x h = few_in x.current.body (last_of IsLawful x.before x.current h.lawful)
 
 words_below : (xs : List Sentence) → AllByRecursion IsFine xs → weigh words xs ≤ 1000 * length xs
 words_below [] h = omega arith

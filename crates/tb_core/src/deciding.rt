@@ -53,29 +53,6 @@ fn may_lead(event: Event, state: State) -> bool
     }
 }
 
-fn target(event: Event) -> State
-    ensures { result ≡ goes_to event }
-{
-    match event {
-        Event::Assign | Event::SendBack => State::Assigned,
-        Event::Unassign | Event::Reopen => State::Opened,
-        Event::Submit => State::Submitted,
-        Event::Adjudicate => State::Adjudicated,
-        Event::Release => State::Released,
-        Event::Withdraw => State::Withdrawn,
-    }
-}
-
-fn worker_after(event: Event) -> Worker
-    ensures { result ≡ makes_worker event }
-{
-    match event {
-        Event::Assign => Worker::Caller,
-        Event::Unassign | Event::Withdraw | Event::Reopen => Worker::Cleared,
-        Event::Submit | Event::SendBack | Event::Adjudicate | Event::Release => Worker::Keep,
-    }
-}
-
 fn by_worker<X: Drop>(worker: &str, user: &str, value: X) -> Result<X, Refusal>
     ensures { result ≡ allowed the_worker worker.now user.now value }
 {
@@ -112,7 +89,7 @@ pub fn decide_event(
     if !may_lead(event, state) {
         return Err(Refusal::WrongState(state));
     }
-    let makes = (target(event), worker_after(event));
+    let makes = (event.target(), event.worker());
     match event {
         Event::Unassign | Event::Submit => by_worker(worker, user, makes),
         Event::SendBack | Event::Adjudicate => by_others(worker, user, makes),
@@ -120,7 +97,12 @@ pub fn decide_event(
     }
 }
 
-fn correctable(state: State, worker: &str, user: &str) -> Result<(), Refusal>
+/// Whether the user may correct a sentence that is in this state, whatever its current revision.
+///
+/// # Errors
+///
+/// The first of `WrongState`, with the state; `NotYours` in assigned, `OwnWork` in submitted.
+pub fn correctable(state: State, worker: &str, user: &str) -> Result<(), Refusal>
     ensures { result ≡ may_correct state worker.now user.now }
 {
     match state {

@@ -46,6 +46,7 @@ pub enum Event {
 impl Event {
     ghost use Rattle.std.specs.Prelude.{◌≡◌};
     ghost use Rattle.tb_core.specs.Words.{event_word};
+    ghost use Rattle.tb_core.specs.Events.{goes_to, makes_worker};
 
     /// The word for the event. Takes no memory.
     pub fn word(self) -> &'static str
@@ -60,6 +61,31 @@ impl Event {
             Event::Release => "release",
             Event::Withdraw => "withdraw",
             Event::Reopen => "reopen",
+        }
+    }
+
+    /// The state to which the event leads. Takes no memory.
+    pub fn target(self) -> State
+        ensures { result ≡ goes_to self }
+    {
+        match self {
+            Event::Assign | Event::SendBack => State::Assigned,
+            Event::Unassign | Event::Reopen => State::Opened,
+            Event::Submit => State::Submitted,
+            Event::Adjudicate => State::Adjudicated,
+            Event::Release => State::Released,
+            Event::Withdraw => State::Withdrawn,
+        }
+    }
+
+    /// What the event makes of the worker. Takes no memory.
+    pub fn worker(self) -> Worker
+        ensures { result ≡ makes_worker self }
+    {
+        match self {
+            Event::Assign => Worker::Caller,
+            Event::Unassign | Event::Withdraw | Event::Reopen => Worker::Cleared,
+            Event::Submit | Event::SendBack | Event::Adjudicate | Event::Release => Worker::Keep,
         }
     }
 }

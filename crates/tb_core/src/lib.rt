@@ -10,7 +10,9 @@ mod refusals;
 mod replies;
 mod sums;
 
-pub use deciding::{decide_correct, decide_event, decide_pull, decide_restore, good_name};
+pub use deciding::{
+    correctable, decide_correct, decide_event, decide_pull, decide_restore, good_name,
+};
 pub use kinds::{Event, Kind, State, Worker};
 pub use laws::{
     commands_lead_on, commands_stay_within_limits, corrections_repeat, each_command_ends,
