@@ -1,0 +1,52 @@
+-- What one turn of a loop over rows reads.
+use Rattle.std.proofs.Common.{◌≡◌, ◌≢◌, ℕ, zero, suc, ◌+◌, ◌<◌, List, [], ◌∷◌, ◌++◌, map, length, take, get_or, refl, sym, ap, ap₂, subst, ◌∙◌, arith, All}
+use Rattle.std.proofs.Math.Seq.{take-suc}
+use Rattle.std.proofs.lemmas.List.{map-append, length-map}
+use Rattle.sqlite.specs.Order.{Row}
+use Rattle.tb_tables.specs.Records.{numbered}
+use Rattle.tb_tables.proofs.Keyed.{numbered_more}
+
+module _ {X : Type 0} (row : ℕ → X → Row) where
+  length-numbered : (k : ℕ) (xs : List X) → length (numbered row k xs) ≡ length xs
+  length-numbered k [] = refl
+  length-numbered k (x ∷ xs) = ap suc (length-numbered (suc k) xs)
+
+  numbered_at : (k i : ℕ) (xs : List X) (d : Row) (dx : X) → i < length xs → get_or (numbered row k xs) i d ≡ row (k + i) (get_or xs i dx)
+  numbered_at k i [] d dx low = absurd (omega (arith, low))
+  numbered_at k zero (x ∷ xs) d dx low = let same : k ≡ k + 0 = omega arith in ap (λ m. row m x) same
+  numbered_at k (suc i) (x ∷ xs) d dx low = let same : suc k + i ≡ k + suc i = omega arith in numbered_at (suc k) i xs d dx (omega (arith, low)) ∙ ap (λ m. row m (get_or xs i dx)) same
+
+  pub read_more : {S : Type 0} (of : S → X) (rows : List Row) (found : List S) (k : ℕ) (r : Row) (s : S) → k < length rows → length found ≡ k → take k rows ≡ numbered row 1 (map of found)
+      → get_or rows k r ≡ r → r ≡ row (k + 1) (of s) → take (k + 1) rows ≡ numbered row 1 (map of (found ++ s ∷ []))
+  read_more of rows found k r s low len so at is =
+      let no_is : k + 1 ≡ 1 + length (map of found) = omega (arith, len, length-map found of) in
+      let next : k + 1 ≡ suc k = omega arith in
+      ap (λ j. take j rows) next ∙ take-suc rows k r low ∙ ap₂ (λ a b. a ++ b ∷ []) so (at ∙ is ∙ ap (λ m. row m (of s)) no_is)
+      ∙ sym (numbered_more row 1 (map of found) (of s)) ∙ ap (numbered row 1) (sym (map-append of found (s ∷ [])))
+
+  pub form_here : (Is : X → Type 0) (rows : List Row) (k : ℕ) (r : Row) (dx : X) → k < length rows → get_or rows k r ≡ r → ((x : X) → Is x → r ≢ row (k + 1) x)
+      → (xs : List X) → All Is xs → rows ≢ numbered row 1 xs
+  form_here Is rows k r dx low at apart xs each e =
+      let within : k < length xs = omega (arith, low, ap length e, length-numbered 1 xs) in
+      let is = sym at ∙ ap (λ rs. get_or rs k r) e ∙ numbered_at 1 k xs r dx within in
+      let no_is : 1 + k ≡ k + 1 = omega arith in
+      apart (get_or xs k dx) (each k dx within) (is ∙ ap (λ m. row m (get_or xs k dx)) no_is)
+
+module _ {X : Type 0} (row : X → Row) where
+  map_at : (i : ℕ) (xs : List X) (d : Row) (dx : X) → i < length xs → get_or (map row xs) i d ≡ row (get_or xs i dx)
+  map_at i [] d dx low = absurd (omega (arith, low))
+  map_at zero (x ∷ xs) d dx low = refl
+  map_at (suc i) (x ∷ xs) d dx low = map_at i xs d dx (omega (arith, low))
+
+  pub map_more : {S : Type 0} (of : S → X) (rows : List Row) (found : List S) (k : ℕ) (r : Row) (s : S) → k < length rows → take k rows ≡ map row (map of found)
+      → get_or rows k r ≡ r → r ≡ row (of s) → take (k + 1) rows ≡ map row (map of (found ++ s ∷ []))
+  map_more of rows found k r s low so at is =
+      let next : k + 1 ≡ suc k = omega arith in
+      ap (λ j. take j rows) next ∙ take-suc rows k r low ∙ ap₂ (λ a b. a ++ b ∷ []) so (at ∙ is)
+      ∙ sym (map-append row (map of found) (of s ∷ [])) ∙ ap (map row) (sym (map-append of found (s ∷ [])))
+
+  pub form_among : (Is : X → Type 0) (rows : List Row) (k : ℕ) (r : Row) (dx : X) → k < length rows → get_or rows k r ≡ r → ((x : X) → Is x → r ≢ row x)
+      → (xs : List X) → All Is xs → rows ≢ map row xs
+  form_among Is rows k r dx low at apart xs each e =
+      let within : k < length xs = omega (arith, low, ap length e, length-map xs row) in
+      apart (get_or xs k dx) (each k dx within) (sym at ∙ ap (λ rs. get_or rs k r) e ∙ map_at k xs r dx within)

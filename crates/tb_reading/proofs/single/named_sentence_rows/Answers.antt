@@ -1,0 +1,32 @@
+use Rattle.std.proofs.Common.{refl, [], ◌∷◌, pos, map, ◌+◌, ◌-◌, arith, filter, map-id, subst}
+use Rattle.sqlite.specs.declared.types.Value.TheVariants.{Null, Int, Text}
+use Rattle.sqlite.specs.Order.{Row}
+use Rattle.sqlite.specs.Held.{state}
+use Rattle.sqlite.specs.Program.{overlay}
+use Rattle.sqlite.proofs.Callers.{reads_as}
+use Rattle.std.specs.Prelude.{IsPermutation}
+use Rattle.tb_tables.specs.Layout.{desk_schema}
+use Rattle.tb_tables.specs.Records.{sentence_view, sentence_shown, numbered}
+use Rattle.tb_reading.specs.Found.{has_number, has_name, has_pair, key_alone}
+use Rattle.tb_reading.proofs.Queries.{select_named_sentence, select_named_sentence_is, select_named_sentence_terms}
+use Rattle.tb_reading.proofs.Picked.{picked, found_numbered}
+use Rattle.tb_reading.proofs.Shown.{if_ok, when_ok, shown_same, commits_nothing}
+use Rattle.tb_reading.proofs.single.named_sentence_rows.Goals as goal
+
+pub returns-clause-same : goal.returns-clause-same
+returns-clause-same g c clean = when_ok c.query_all.result (c.query_all.ensures.ok clean) (λ rows shown has.
+    shown_same select_named_sentence _ (state g.S.Store c.args.conn.now) (state g.S.Store c.query_all.new.self) desk_schema rows.items select_named_sentence_is.1 has shown)
+
+pub returns-clause-survives : goal.returns-clause-survives
+returns-clause-survives g c has =
+    commits_nothing select_named_sentence _ (state g.S.Store c.args.conn.now) (state g.S.Store c.query_all.new.self) desk_schema select_named_sentence_is.1 has c.query_all.ensures.survives
+
+pub returns-clause-found : goal.returns-clause-found
+returns-clause-found g c clean = if_ok c.query_all.result (c.query_all.ensures.ok clean) (λ rows shown has xs holds.
+    let old = state g.S.Store c.args.conn.now in
+    let new = state g.S.Store c.query_all.new.self in
+    let params = Text c.args.sent_id.now ∷ [] in
+    let given = rw (c.params-to_sql.ensures) at shown in
+    let answer = (reads_as select_named_sentence params old new desk_schema has _ select_named_sentence_is.0 select_named_sentence_is.1 select_named_sentence_is.2 rows.items given).answer Null in
+    let same = picked 3 _ select_named_sentence_terms (overlay old.now.trees []) params rows.items answer sentence_view (has_name c.args.sent_id.now) key_alone refl (λ _. refl) (numbered sentence_shown 1 xs) holds in
+    same)

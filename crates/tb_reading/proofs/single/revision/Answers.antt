@@ -1,0 +1,14 @@
+use Rattle.std.proofs.Common.{◌≡◌, ◌-◌, rules, sym, subst, ap, ◌∙◌, slice_get, option_map, IsPermutation}
+use Rattle.sqlite.specs.Held.{state}
+use Rattle.tb_tables.specs.Values.{revision_of}
+use Rattle.tb_reading.proofs.Picked.{revision_found}
+use Rattle.tb_reading.proofs.Shown.{if_ok, on_ok}
+use Rattle.tb_reading.proofs.single.revision.Goals as goal
+
+pub returns-clause-ok : goal.returns-clause-ok
+returns-clause-ok g c clean = if_ok c.first_revision.result c.first_revision.ensures.first (λ found told has xs holds.
+    let same : c.as_slice.result.now ≡ c.in_ok-rows.rows.items = search rules in
+    revision_found c.args.sent c.args.rev (option_map revision_of found) xs _ told (subst (IsPermutation _) (sym same) (c.in_ok-rows.ensures.found clean has xs holds)))
+
+pub returns-clause-same : goal.returns-clause-same
+returns-clause-same g c clean = on_ok c.first_revision.result (c.in_ok-rows.ensures.same clean)

@@ -1,0 +1,21 @@
+use Rattle.std.proofs.Common.{◌≡◌, rules, sym, subst, IsPermutation, map, ◌∙◌}
+use Rattle.std.proofs.lemmas.List.Sorted.{IsPermutation-sym}
+use Rattle.sqlite.specs.Held.{state}
+use Rattle.tb_tables.specs.Records.{revision_view}
+use Rattle.tb_reading.proofs.Ordered.{same_numbers, same_revisions}
+use Rattle.tb_reading.proofs.Shown.{if_ok, on_ok}
+use Rattle.tb_reading.proofs.whole.revisions.Goals as goal
+
+pub returns-clause-ok : goal.returns-clause-ok
+returns-clause-ok g c clean = if_ok c.revisions_in.result c.revisions_in.ensures.ok (λ v is has.
+    let views = map revision_view ((state g.S.Store c.args.conn.now).now.trees 5) in
+    let same : c.as_slice.result.now ≡ c.in_ok-rows.rows.items = search rules in
+    IsPermutation-sym views _ (subst (IsPermutation views) is (subst (IsPermutation views) (sym same) (c.in_ok-rows.ensures.all clean has))))
+
+pub returns-clause-same : goal.returns-clause-same
+returns-clause-same g c clean = on_ok c.revisions_in.result (c.in_ok-rows.ensures.same clean)
+
+pub returns-clause-order : goal.returns-clause-order
+returns-clause-order g c clean = if_ok c.revisions_in.result c.revisions_in.ensures.ok (λ v is has xs each up holds.
+    let same : c.as_slice.result.now ≡ c.in_ok-rows.rows.items = search rules in
+    same_revisions _ xs (sym is ∙ same ∙ c.in_ok-rows.ensures.order clean has xs each up holds))

@@ -1,0 +1,34 @@
+use Rattle.std.proofs.Common.{refl, [], ◌∷◌}
+use Rattle.sqlite.specs.declared.types.Value.TheVariants.{Null}
+use Rattle.sqlite.specs.Order.{column}
+use Rattle.sqlite.specs.Held.{state}
+use Rattle.sqlite.specs.Program.{overlay}
+use Rattle.sqlite.proofs.Callers.{reads_as}
+use Rattle.tb_tables.specs.Layout.{desk_schema}
+use Rattle.tb_tables.specs.Records.{total_view, total_shown, numbered}
+use Rattle.std.proofs.Common.{map, rules}
+use Rattle.std.proofs.lemmas.List.Elements.{recursion_from_All}
+use Rattle.tb_reading.proofs.Queries.{select_totals, select_totals_is, select_totals_terms, rising}
+use Rattle.tb_reading.proofs.Ordered.{all_shown, by_order, keyed, first, IsFirst, first_in_order, rises, placed, numbers_rise, numbers_placed, keyed_twice, pair, IsPair, pair_in_order, revisions_rise, revisions_placed}
+use Rattle.tb_reading.proofs.Shown.{if_ok, when_ok, shown_same, commits_nothing}
+use Rattle.tb_reading.proofs.whole.total_rows.Goals as goal
+
+pub returns-clause-same : goal.returns-clause-same
+returns-clause-same g c clean = when_ok c.query_all.result (c.query_all.ensures.ok clean) (λ rows shown has.
+    shown_same select_totals _ (state g.S.Store c.args.conn.now) (state g.S.Store c.query_all.new.self) desk_schema rows.items select_totals_is.1 has shown)
+
+pub returns-clause-survives : goal.returns-clause-survives
+returns-clause-survives g c has =
+    commits_nothing select_totals _ (state g.S.Store c.args.conn.now) (state g.S.Store c.query_all.new.self) desk_schema select_totals_is.1 has c.query_all.ensures.survives
+
+pub returns-clause-all : goal.returns-clause-all
+returns-clause-all g c clean = if_ok c.query_all.result (c.query_all.ensures.ok clean) (λ rows shown has.
+    let old = state g.S.Store c.args.conn.now in
+    let new = state g.S.Store c.query_all.new.self in
+    all_shown 8 select_totals_terms (rising 0 ∷ []) (λ r. column r 0 ∷ []) total_view (λ _. refl) (overlay old.now.trees []) rows.items ((reads_as select_totals [] old new desk_schema has _ select_totals_is.0 select_totals_is.1 select_totals_is.2 rows.items shown).answer Null))
+
+pub returns-clause-order : goal.returns-clause-order
+returns-clause-order g c clean = if_ok c.query_all.result (c.query_all.ensures.ok clean) (λ rows shown has xs same.
+    let old = state g.S.Store c.args.conn.now in
+    let new = state g.S.Store c.query_all.new.self in
+    by_order 8 select_totals_terms (rising 0 ∷ []) (λ r. column r 0 ∷ []) total_view (λ _. refl) (overlay old.now.trees []) rows.items ((reads_as select_totals [] old new desk_schema has _ select_totals_is.0 select_totals_is.1 select_totals_is.2 rows.items shown).answer Null) (numbered total_shown 1 xs) keyed first IsFirst (λ _. refl) (λ _. refl) (rises total_shown (λ _ _. refl) 1 xs) (placed total_shown (λ _ _. refl) 1 xs) (first_in_order 0 8 select_totals_terms) same)

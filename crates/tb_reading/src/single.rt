@@ -1,0 +1,183 @@
+//! Single records, by their number or their name.
+
+ghost use Rattle.std.specs.Prelude.{ℕ, ◌≡◌, ◌≢◌, ◌<◌, ◌^◌, ◌-◌, map, false, List, [], ◌∷◌, Contains, All, Err, Option, None, option_map, slice_get, IfOk, IfSome, OnOk, IsPermutation, filter};
+ghost use Rattle.std.specs.Option.{option_to_list};
+ghost use Rattle.sqlite.specs.Order.{column};
+ghost use Rattle.sqlite.specs.State.{HasCleanDisk, IsUnchanged, Survives};
+ghost use Rattle.sqlite.specs.Held.{state};
+ghost use Rattle.tb_tables.specs.Layout.{desk_schema};
+ghost use Rattle.tb_tables.specs.Records.{Batch, Sentence, Revision, Shows, numbered, batch_shown, sentence_shown, revision_shown, number_shown, batch_view, sentence_view, revision_view};
+ghost use Rattle.tb_tables.specs.Values.{batch_of, sentence_of, revision_of};
+ghost use Rattle.tb_reading.specs.Readable.{IsBatch, IsSentence, IsRevision};
+ghost use Rattle.tb_reading.specs.Found.{IsNumberOf, IsRevisionAt, has_name, has_pair, key_alone};
+
+use crate::error::ReadError;
+use crate::records::{batch_in, number_in, revision_in, sentence_in};
+use sqlite::{Alter, Connection, Error, Row, params};
+use tb_tables::{BatchRow, RevisionRow, SentenceRow};
+
+fn first_batch(rows: &[Row], number: u64) -> Result<Option<BatchRow>, ReadError>
+    ensures ok { IfOk result (λ found. (x : Option Batch) → rows.now ≡ map (batch_shown number) (option_to_list x) → option_map batch_of found ≡ x) }
+    ensures form { result ≡ Err ReadError.Form → (x : Option Batch) → IfSome x IsBatch → rows.now ≢ map (batch_shown number) (option_to_list x) }
+{
+    match rows.first() {
+        Some(row) => Ok(Some(batch_in(row, number)?)),
+        None => Ok(None),
+    }
+}
+
+fn batch_rows<S: Alter>(conn: &mut Connection<S>, number: u32) -> Result<Vec<Row>, Error>
+    requires row { 0 < number }
+    ensures found { HasCleanDisk (state S.Store conn.new) → IfOk result (λ rows. (state S.Store conn.old).now.schema ≡ desk_schema → (xs : List Batch) → Shows batch_view (numbered batch_shown 1 xs) ((state S.Store conn.old).now.trees 1) → rows.items ≡ map (batch_shown number) (option_to_list (slice_get xs (number - 1)))) }
+    ensures same { HasCleanDisk (state S.Store conn.new) → OnOk result ((state S.Store conn.old).now.schema ≡ desk_schema → IsUnchanged (state S.Store conn.old) (state S.Store conn.new)) }
+    ensures mode { conn.old.in_transaction ≡ false → conn.new.in_transaction ≡ false }
+    ensures survives { (state S.Store conn.old).now.schema ≡ desk_schema → Survives (state S.Store conn.old) (state S.Store conn.new) (λ _. ⊥) }
+{
+    conn.query_all(
+        "SELECT no, name, state, worker FROM batches WHERE no = ?1",
+        params![number],
+    )
+}
+
+/// The batch that has this number, if there is one.
+pub fn batch<S: Alter>(conn: &mut Connection<S>, number: u32) -> Result<Option<BatchRow>, ReadError>
+    requires row { 0 < number }
+    ensures ok { HasCleanDisk (state S.Store conn.new) → IfOk result (λ found. (state S.Store conn.old).now.schema ≡ desk_schema → (xs : List Batch) → Shows batch_view (numbered batch_shown 1 xs) ((state S.Store conn.old).now.trees 1) → option_map batch_of found ≡ slice_get xs (number - 1)) }
+    ensures form { HasCleanDisk (state S.Store conn.new) → result ≡ Err ReadError.Form → (state S.Store conn.old).now.schema ≡ desk_schema → (xs : List Batch) → All IsBatch xs → ¬ Shows batch_view (numbered batch_shown 1 xs) ((state S.Store conn.old).now.trees 1) }
+    ensures same { HasCleanDisk (state S.Store conn.new) → OnOk result ((state S.Store conn.old).now.schema ≡ desk_schema → IsUnchanged (state S.Store conn.old) (state S.Store conn.new)) }
+    ensures mode { conn.old.in_transaction ≡ false → conn.new.in_transaction ≡ false }
+    ensures survives { (state S.Store conn.old).now.schema ≡ desk_schema → Survives (state S.Store conn.old) (state S.Store conn.new) (λ _. ⊥) }
+{
+    let rows = batch_rows(conn, number)?;
+    first_batch(rows.as_slice(), u64::from(number))
+}
+
+fn first_sentence(rows: &[Row], number: u64) -> Result<Option<SentenceRow>, ReadError>
+    ensures ok { IfOk result (λ found. (x : Option Sentence) → rows.now ≡ map (sentence_shown number) (option_to_list x) → option_map sentence_of found ≡ x) }
+    ensures form { result ≡ Err ReadError.Form → (x : Option Sentence) → IfSome x IsSentence → rows.now ≢ map (sentence_shown number) (option_to_list x) }
+{
+    match rows.first() {
+        Some(row) => Ok(Some(sentence_in(row, number)?)),
+        None => Ok(None),
+    }
+}
+
+fn sentence_rows<S: Alter>(conn: &mut Connection<S>, number: u32) -> Result<Vec<Row>, Error>
+    requires row { 0 < number }
+    ensures found { HasCleanDisk (state S.Store conn.new) → IfOk result (λ rows. (state S.Store conn.old).now.schema ≡ desk_schema → (xs : List Sentence) → Shows sentence_view (numbered sentence_shown 1 xs) ((state S.Store conn.old).now.trees 3) → rows.items ≡ map (sentence_shown number) (option_to_list (slice_get xs (number - 1)))) }
+    ensures same { HasCleanDisk (state S.Store conn.new) → OnOk result ((state S.Store conn.old).now.schema ≡ desk_schema → IsUnchanged (state S.Store conn.old) (state S.Store conn.new)) }
+    ensures mode { conn.old.in_transaction ≡ false → conn.new.in_transaction ≡ false }
+    ensures survives { (state S.Store conn.old).now.schema ≡ desk_schema → Survives (state S.Store conn.old) (state S.Store conn.new) (λ _. ⊥) }
+{
+    conn.query_all(
+        "SELECT no, sent_id, batch, rev, words FROM sentences WHERE no = ?1",
+        params![number],
+    )
+}
+
+/// The sentence that has this number, if there is one.
+pub fn sentence<S: Alter>(
+    conn: &mut Connection<S>,
+    number: u32,
+) -> Result<Option<SentenceRow>, ReadError>
+    requires row { 0 < number }
+    ensures ok { HasCleanDisk (state S.Store conn.new) → IfOk result (λ found. (state S.Store conn.old).now.schema ≡ desk_schema → (xs : List Sentence) → Shows sentence_view (numbered sentence_shown 1 xs) ((state S.Store conn.old).now.trees 3) → option_map sentence_of found ≡ slice_get xs (number - 1)) }
+    ensures form { HasCleanDisk (state S.Store conn.new) → result ≡ Err ReadError.Form → (state S.Store conn.old).now.schema ≡ desk_schema → (xs : List Sentence) → All IsSentence xs → ¬ Shows sentence_view (numbered sentence_shown 1 xs) ((state S.Store conn.old).now.trees 3) }
+    ensures same { HasCleanDisk (state S.Store conn.new) → OnOk result ((state S.Store conn.old).now.schema ≡ desk_schema → IsUnchanged (state S.Store conn.old) (state S.Store conn.new)) }
+    ensures mode { conn.old.in_transaction ≡ false → conn.new.in_transaction ≡ false }
+    ensures survives { (state S.Store conn.old).now.schema ≡ desk_schema → Survives (state S.Store conn.old) (state S.Store conn.new) (λ _. ⊥) }
+{
+    let rows = sentence_rows(conn, number)?;
+    first_sentence(rows.as_slice(), u64::from(number))
+}
+
+fn named_batch_rows<S: Alter>(conn: &mut Connection<S>, name: &str) -> Result<Vec<Row>, Error>
+    ensures found { HasCleanDisk (state S.Store conn.new) → IfOk result (λ rows. (state S.Store conn.old).now.schema ≡ desk_schema → (xs : List Batch) → Shows batch_view (numbered batch_shown 1 xs) ((state S.Store conn.old).now.trees 1) → IsPermutation (map key_alone (filter (has_name name.now) (numbered batch_shown 1 xs))) rows.items) }
+    ensures same { HasCleanDisk (state S.Store conn.new) → OnOk result ((state S.Store conn.old).now.schema ≡ desk_schema → IsUnchanged (state S.Store conn.old) (state S.Store conn.new)) }
+    ensures mode { conn.old.in_transaction ≡ false → conn.new.in_transaction ≡ false }
+    ensures survives { (state S.Store conn.old).now.schema ≡ desk_schema → Survives (state S.Store conn.old) (state S.Store conn.new) (λ _. ⊥) }
+{
+    conn.query_all("SELECT no FROM batches WHERE name = ?1", params![name])
+}
+
+/// The number of a batch of this name, if there is one.
+pub fn batch_named<S: Alter>(conn: &mut Connection<S>, name: &str) -> Result<Option<u32>, ReadError>
+    ensures ok { HasCleanDisk (state S.Store conn.new) → IfOk result (λ found. (state S.Store conn.old).now.schema ≡ desk_schema → (xs : List Batch) → Shows batch_view (numbered batch_shown 1 xs) ((state S.Store conn.old).now.trees 1) → IsNumberOf (λ x. x.name) name.now xs found) }
+    ensures same { HasCleanDisk (state S.Store conn.new) → OnOk result ((state S.Store conn.old).now.schema ≡ desk_schema → IsUnchanged (state S.Store conn.old) (state S.Store conn.new)) }
+    ensures mode { conn.old.in_transaction ≡ false → conn.new.in_transaction ≡ false }
+    ensures survives { (state S.Store conn.old).now.schema ≡ desk_schema → Survives (state S.Store conn.old) (state S.Store conn.new) (λ _. ⊥) }
+{
+    let rows = named_batch_rows(conn, name)?;
+    first_number(rows.as_slice())
+}
+
+fn named_sentence_rows<S: Alter>(conn: &mut Connection<S>, sent_id: &str) -> Result<Vec<Row>, Error>
+    ensures found { HasCleanDisk (state S.Store conn.new) → IfOk result (λ rows. (state S.Store conn.old).now.schema ≡ desk_schema → (xs : List Sentence) → Shows sentence_view (numbered sentence_shown 1 xs) ((state S.Store conn.old).now.trees 3) → IsPermutation (map key_alone (filter (has_name sent_id.now) (numbered sentence_shown 1 xs))) rows.items) }
+    ensures same { HasCleanDisk (state S.Store conn.new) → OnOk result ((state S.Store conn.old).now.schema ≡ desk_schema → IsUnchanged (state S.Store conn.old) (state S.Store conn.new)) }
+    ensures mode { conn.old.in_transaction ≡ false → conn.new.in_transaction ≡ false }
+    ensures survives { (state S.Store conn.old).now.schema ≡ desk_schema → Survives (state S.Store conn.old) (state S.Store conn.new) (λ _. ⊥) }
+{
+    conn.query_all(
+        "SELECT no FROM sentences WHERE sent_id = ?1",
+        params![sent_id],
+    )
+}
+
+/// The number of a sentence of this sent_id, if there is one.
+pub fn sentence_named<S: Alter>(
+    conn: &mut Connection<S>,
+    sent_id: &str,
+) -> Result<Option<u32>, ReadError>
+    ensures ok { HasCleanDisk (state S.Store conn.new) → IfOk result (λ found. (state S.Store conn.old).now.schema ≡ desk_schema → (xs : List Sentence) → Shows sentence_view (numbered sentence_shown 1 xs) ((state S.Store conn.old).now.trees 3) → IsNumberOf (λ x. x.sent_id) sent_id.now xs found) }
+    ensures same { HasCleanDisk (state S.Store conn.new) → OnOk result ((state S.Store conn.old).now.schema ≡ desk_schema → IsUnchanged (state S.Store conn.old) (state S.Store conn.new)) }
+    ensures mode { conn.old.in_transaction ≡ false → conn.new.in_transaction ≡ false }
+    ensures survives { (state S.Store conn.old).now.schema ≡ desk_schema → Survives (state S.Store conn.old) (state S.Store conn.new) (λ _. ⊥) }
+{
+    let rows = named_sentence_rows(conn, sent_id)?;
+    first_number(rows.as_slice())
+}
+
+fn first_number(rows: &[Row]) -> Result<Option<u32>, ReadError>
+    ensures first { IfOk result (λ found. (found ≡ None → rows.now ≡ []) × IfSome found (λ n. Contains rows.now (number_shown n))) }
+{
+    match rows.first() {
+        Some(row) => Ok(Some(number_in(row)?)),
+        None => Ok(None),
+    }
+}
+
+fn revision_rows<S: Alter>(conn: &mut Connection<S>, sent: u32, rev: u32) -> Result<Vec<Row>, Error>
+    ensures found { HasCleanDisk (state S.Store conn.new) → IfOk result (λ rows. (state S.Store conn.old).now.schema ≡ desk_schema → (xs : List Revision) → Shows revision_view (map revision_shown xs) ((state S.Store conn.old).now.trees 5) → IsPermutation (filter (has_pair sent rev) (map revision_shown xs)) rows.items) }
+    ensures same { HasCleanDisk (state S.Store conn.new) → OnOk result ((state S.Store conn.old).now.schema ≡ desk_schema → IsUnchanged (state S.Store conn.old) (state S.Store conn.new)) }
+    ensures mode { conn.old.in_transaction ≡ false → conn.new.in_transaction ≡ false }
+    ensures survives { (state S.Store conn.old).now.schema ≡ desk_schema → Survives (state S.Store conn.old) (state S.Store conn.new) (λ _. ⊥) }
+{
+    conn.query_all(
+        "SELECT sent, rev, who, body FROM revisions WHERE sent = ?1 AND rev = ?2",
+        params![sent, rev],
+    )
+}
+
+fn first_revision(rows: &[Row]) -> Result<Option<RevisionRow>, ReadError>
+    ensures first { IfOk result (λ found. (option_map revision_of found ≡ None → rows.now ≡ []) × IfSome (option_map revision_of found) (λ r. Contains rows.now (revision_shown r))) }
+{
+    match rows.first() {
+        Some(row) => Ok(Some(revision_in(row)?)),
+        None => Ok(None),
+    }
+}
+
+/// The revision of a sentence that has this number, if there is one.
+pub fn revision<S: Alter>(
+    conn: &mut Connection<S>,
+    sent: u32,
+    rev: u32,
+) -> Result<Option<RevisionRow>, ReadError>
+    ensures ok { HasCleanDisk (state S.Store conn.new) → IfOk result (λ found. (state S.Store conn.old).now.schema ≡ desk_schema → (xs : List Revision) → Shows revision_view (map revision_shown xs) ((state S.Store conn.old).now.trees 5) → IsRevisionAt sent rev xs (option_map revision_of found)) }
+    ensures same { HasCleanDisk (state S.Store conn.new) → OnOk result ((state S.Store conn.old).now.schema ≡ desk_schema → IsUnchanged (state S.Store conn.old) (state S.Store conn.new)) }
+    ensures mode { conn.old.in_transaction ≡ false → conn.new.in_transaction ≡ false }
+    ensures survives { (state S.Store conn.old).now.schema ≡ desk_schema → Survives (state S.Store conn.old) (state S.Store conn.new) (λ _. ⊥) }
+{
+    let rows = revision_rows(conn, sent, rev)?;
+    first_revision(rows.as_slice())
+}
