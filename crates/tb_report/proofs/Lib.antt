@@ -5,3 +5,4 @@ pub mod OneTable
 pub mod OneRanking
 pub mod WordLists
 pub mod HitTexts
+pub mod CsvRows

@@ -83,14 +83,14 @@ same_rows (e ∷ t) (f ∷ u) up up' same =
     let key : e.0 ≡ f.0 = first_key e f t u up up' same (slice_cmp nat_cmp e.0 f.0) refl in
     let first : e ≡ f = first_row e f t u up up' same key in
     let rest : t ≡ u = same_rows t u (sorted_tail (slice_cmp nat_cmp) e.0 (keys_of t) up) (sorted_tail (slice_cmp nat_cmp) f.0 (keys_of u) up')
-        (λ q. others_same e f t u up up' same key q (bytes_eq q e.0) refl) in
+    (λ q. others_same e f t u up up' same key q (bytes_eq q e.0) refl) in
     λ i. first i ∷ rest i
 
 pub one_table : (keys : List (List ℕ)) (t u : List Row) → IsTableOf keys t → IsTableOf keys u → t ≡ u
 one_table keys t u a b =
     let found : (v : List Row) → IsTable v → (q : List ℕ) → IfSome (lookup (bytes_eq q) v) (λ n. 0 < n) = λ v is q. All-lookup (λ n. 0 < n) (bytes_eq q) v (counted v is.counted) in
     same_rows t u a.is_table.ascending b.is_table.ascending
-        (λ q. positive (lookup (bytes_eq q) t) (lookup (bytes_eq q) u) (found t a.is_table q) (found u b.is_table q) (a.counts q ∙ sym (b.counts q)))
+    (λ q. positive (lookup (bytes_eq q) t) (lookup (bytes_eq q) u) (found t a.is_table q) (found u b.is_table q) (a.counts q ∙ sym (b.counts q)))
 
 -- ---- sums
 
@@ -115,11 +115,11 @@ module _ (q k x : List ℕ) (xs : List (List ℕ)) where
       let head : times q (x ∷ xs) ≡ cond (bytes_eq q x) 1 0 + times q xs = sum_by-cons (λ y. cond (bytes_eq q y) 1 0) x xs in
       let gone : cond (bytes_eq q x) 1 0 + times q xs ≡ times q xs = rw no (omega arith) in
       let kept : times q (filter (λ y. not (bytes_eq k y)) (x ∷ xs)) ≡ times q (filter (λ y. not (bytes_eq k y)) xs) =
-          ap (λ b. times q (cond (not b) (x ∷ filter (λ y. not (bytes_eq k y)) xs) (filter (λ y. not (bytes_eq k y)) xs))) same in
+      ap (λ b. times q (cond (not b) (x ∷ filter (λ y. not (bytes_eq k y)) xs) (filter (λ y. not (bytes_eq k y)) xs))) same in
       kept ∙ rest ∙ sym (head ∙ gone)
   skips apart rest false differs =
       let kept : times q (filter (λ y. not (bytes_eq k y)) (x ∷ xs)) ≡ times q (x ∷ filter (λ y. not (bytes_eq k y)) xs) =
-          ap (λ b. times q (cond (not b) (x ∷ filter (λ y. not (bytes_eq k y)) xs) (filter (λ y. not (bytes_eq k y)) xs))) differs in
+      ap (λ b. times q (cond (not b) (x ∷ filter (λ y. not (bytes_eq k y)) xs) (filter (λ y. not (bytes_eq k y)) xs))) differs in
       kept ∙ sum_by-cons (λ y. cond (bytes_eq q y) 1 0) x (filter (λ y. not (bytes_eq k y)) xs) ∙ ap (λ n. cond (bytes_eq q x) 1 0 + n) rest
       ∙ sym (sum_by-cons (λ y. cond (bytes_eq q y) 1 0) x xs)
 
@@ -129,7 +129,7 @@ module _ (k x : List ℕ) (xs : List (List ℕ)) where
       ap (λ b. times k (cond (not b) (x ∷ filter (λ y. not (bytes_eq k y)) xs) (filter (λ y. not (bytes_eq k y)) xs))) same ∙ rest
   drops rest false differs =
       let head : times k (x ∷ filter (λ y. not (bytes_eq k y)) xs) ≡ 0 =
-          sum_by-cons (λ y. cond (bytes_eq k y) 1 0) x (filter (λ y. not (bytes_eq k y)) xs) ∙ λ i. cond (differs i) 1 0 + rest i in
+      sum_by-cons (λ y. cond (bytes_eq k y) 1 0) x (filter (λ y. not (bytes_eq k y)) xs) ∙ λ i. cond (differs i) 1 0 + rest i in
       ap (λ b. times k (cond (not b) (x ∷ filter (λ y. not (bytes_eq k y)) xs) (filter (λ y. not (bytes_eq k y)) xs))) differs ∙ head
 
 times_without : (q k : List ℕ) (keys : List (List ℕ)) → bytes_eq q k ≡ false → times q (filter (λ x. not (bytes_eq k x)) keys) ≡ times q keys

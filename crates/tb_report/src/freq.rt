@@ -52,6 +52,11 @@ impl Freq {
         self.total
     }
 
+    /// Where memory comes from.
+    pub(crate) fn allocator(&self) -> Global {
+        self.alloc
+    }
+
     /// The rows in the order of a report.
     pub(crate) fn ranking(&self) -> Result<Vec<Rank<'_>>, AllocError>
         ensures { IfOk result (λ v. IsRankingOf self.now (map ranked_row v.items)) }

@@ -1,11 +1,15 @@
-//! Reports on what a search found: keyword lines, keys of hits, and frequency tables.
+//! Reports on what a search found: keyword lines, keys of hits, and frequency tables, and CSV.
 #![tactic(auto)]
 
+mod csvs;
+mod fault;
 mod freq;
 mod keyword;
 mod laws;
 mod words;
 
+pub use csvs::{csv_freq, csv_moves, csv_totals};
+pub use fault::ReportFault;
 pub use freq::Freq;
 pub use keyword::{key, kwic};
 pub use laws::{

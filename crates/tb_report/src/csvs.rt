@@ -1,0 +1,269 @@
+//! Frequency tables, totals and moves as CSV.
+
+ghost use Rattle.std.specs.Prelude.{◌≡◌, [], ◌∷◌, IfOk, List, OnOk, Some, map};
+ghost use Rattle.std.specs.Io.KnownBytes.{Appends, Keeps};
+ghost use Rattle.csv.specs.Writing.{text_written};
+ghost use Rattle.tb_core.specs.Events.{state_place};
+ghost use Rattle.tb_core.specs.Words.{kind_word, state_word};
+ghost use Rattle.tb_report.specs.Csv.{IsBetweenRows, PutsRows, freq_csv, freq_fields, from_word, move_fields, moves_csv, moves_head, totals_csv, totals_fields};
+ghost use Rattle.tb_report.specs.Kept.{ranked_row};
+ghost use Rattle.tb_report.specs.Tables.{IsRankingOf, Row};
+
+use crate::fault::ReportFault;
+use crate::freq::{Freq, Rank};
+use csv::{Writer, WriterBuilder};
+use itoa::Buffer;
+use std::alloc::Global;
+use std::cmp::Reverse;
+use std::io::Write;
+use tb_conllu::Sink;
+use tb_core::{Move, State, Totals};
+
+/// A table that grows in memory, where only want of memory stops it.
+type Rows = Writer<Vec<u8>>;
+
+fn put_row<W: Write + Drop>(rows: &mut Writer<W>, fields: &[&[u8]]) -> Result<(), ReportFault>
+    ensures { OnOk result (PutsRows W.contents rows.old rows.new (map (λ f. f.now) fields.now ∷ [])) }
+{
+    match rows.write_fields(fields) {
+        Ok(()) => Ok(()),
+        Err(_) => Err(ReportFault::Memory),
+    }
+}
+
+fn put_rank<W: Write + Drop>(rows: &mut Writer<W>, rank: &Rank<'_>) -> Result<(), ReportFault>
+    ensures { OnOk result (PutsRows W.contents rows.old rows.new (freq_fields (ranked_row rank.now) ∷ [])) }
+{
+    let (Reverse(count), key) = *rank;
+    let mut digits = Buffer::new();
+    put_row(rows, &[key.as_bytes(), digits.format(count).as_bytes()])
+}
+
+fn put_ranks<W: Write + Drop>(rows: &mut Writer<W>, ranks: &[Rank<'_>]) -> Result<(), ReportFault>
+    ensures { OnOk result (PutsRows W.contents rows.old rows.new (map (λ rank. freq_fields (ranked_row rank)) ranks.now)) }
+{
+    for rank in ranks {
+        put_rank(rows, rank)?;
+    }
+    Ok(())
+}
+
+/// The place of a state among the six.
+fn place(state: State) -> usize
+    ensures { result ≡ state_place state }
+{
+    match state {
+        State::Opened => 0,
+        State::Assigned => 1,
+        State::Submitted => 2,
+        State::Adjudicated => 3,
+        State::Released => 4,
+        State::Withdrawn => 5,
+    }
+}
+
+fn put_state<W: Write + Drop>(
+    rows: &mut Writer<W>,
+    totals: &Totals,
+    state: State,
+) -> Result<(), ReportFault>
+    ensures { OnOk result (PutsRows W.contents rows.old rows.new (totals_fields totals.now state ∷ [])) }
+{
+    let place = place(state);
+    let mut sentences = Buffer::new();
+    let mut words = Buffer::new();
+    put_row(
+        rows,
+        &[
+            state.word().as_bytes(),
+            sentences.format(totals.sentences[place]).as_bytes(),
+            words.format(totals.words[place]).as_bytes(),
+        ],
+    )
+}
+
+fn put_states<W: Write + Drop>(
+    rows: &mut Writer<W>,
+    totals: &Totals,
+    states: &[State],
+) -> Result<(), ReportFault>
+    ensures { OnOk result (PutsRows W.contents rows.old rows.new (map (totals_fields totals.now) states.now)) }
+{
+    for state in states {
+        put_state(rows, totals, *state)?;
+    }
+    Ok(())
+}
+
+fn word_of_kind(step: &Move) -> &str
+    ensures { result.now ≡ kind_word step.now.kind }
+{
+    step.kind.word()
+}
+
+/// The word for the state that sentences left.
+fn word_from(step: &Move) -> &str
+    ensures { result.now ≡ from_word step.now.from }
+{
+    match step.from {
+        None => "none",
+        Some(state) => state.word(),
+    }
+}
+
+/// The word for the state that sentences came to.
+fn word_to(step: &Move) -> &str
+    ensures { result.now ≡ state_word step.now.to }
+{
+    step.to.word()
+}
+
+fn put_move<W: Write + Drop>(rows: &mut Writer<W>, step: &Move) -> Result<(), ReportFault>
+    ensures { OnOk result (PutsRows W.contents rows.old rows.new (move_fields step.now ∷ [])) }
+{
+    let mut no = Buffer::new();
+    let mut batch = Buffer::new();
+    let mut sent = Buffer::new();
+    let mut sentences = Buffer::new();
+    let mut words_out = Buffer::new();
+    let mut words_in = Buffer::new();
+    put_row(
+        rows,
+        &[
+            no.format(step.no).as_bytes(),
+            word_of_kind(step).as_bytes(),
+            batch.format(step.batch).as_bytes(),
+            sent.format(step.sent).as_bytes(),
+            word_from(step).as_bytes(),
+            word_to(step).as_bytes(),
+            sentences.format(step.sentences).as_bytes(),
+            words_out.format(step.words_out).as_bytes(),
+            words_in.format(step.words_in).as_bytes(),
+            step.who.as_bytes(),
+        ],
+    )
+}
+
+fn put_moves<W: Write + Drop>(rows: &mut Writer<W>, moves: &[Move]) -> Result<(), ReportFault>
+    ensures { OnOk result (PutsRows W.contents rows.old rows.new (map move_fields moves.now)) }
+{
+    for step in moves {
+        put_move(rows, step)?;
+    }
+    Ok(())
+}
+
+/// A table without rows.
+fn new_rows(alloc: Global) -> Rows
+    ensures between { IsBetweenRows result }
+    ensures empty { text_written (λ w. Some w.items) result ≡ Some [] }
+{
+    WriterBuilder::new().from_writer(Vec::new(alloc))
+}
+
+/// The bytes of the rows.
+fn finish(rows: Rows) -> Result<Vec<u8>, ReportFault>
+    ensures { IfOk result (λ v. Keeps (text_written (λ w. Some w.items) rows) (Some v.items)) }
+{
+    match rows.into_inner() {
+        Ok(text) => Ok(text),
+        Err(_) => Err(ReportFault::Memory),
+    }
+}
+
+fn freq_text(freq: &Freq) -> Result<Vec<u8>, ReportFault>
+    ensures { IfOk result (λ v. (rows : List Row) × IsRankingOf freq.now rows × (v.items ≡ freq_csv rows)) }
+{
+    let ranks = freq.ranking()?;
+    let mut rows = new_rows(freq.allocator());
+    put_row(&mut rows, &["key".as_bytes(), "count".as_bytes()])?;
+    put_ranks(&mut rows, &ranks)?;
+    finish(rows)
+}
+
+fn totals_text(alloc: Global, totals: &Totals) -> Result<Vec<u8>, ReportFault>
+    ensures { IfOk result (λ v. v.items ≡ totals_csv totals.now) }
+{
+    let mut rows = new_rows(alloc);
+    let head = [
+        "state".as_bytes(),
+        "sentences".as_bytes(),
+        "words".as_bytes(),
+    ];
+    put_row(&mut rows, &head)?;
+    let states = [
+        State::Opened,
+        State::Assigned,
+        State::Submitted,
+        State::Adjudicated,
+        State::Released,
+        State::Withdrawn,
+    ];
+    put_states(&mut rows, totals, &states)?;
+    finish(rows)
+}
+
+fn put_moves_head<W: Write + Drop>(rows: &mut Writer<W>) -> Result<(), ReportFault>
+    ensures { OnOk result (PutsRows W.contents rows.old rows.new (moves_head ∷ [])) }
+{
+    let head = [
+        "no".as_bytes(),
+        "kind".as_bytes(),
+        "batch".as_bytes(),
+        "sentence".as_bytes(),
+        "from".as_bytes(),
+        "to".as_bytes(),
+        "sentences".as_bytes(),
+        "words_out".as_bytes(),
+        "words_in".as_bytes(),
+        "who".as_bytes(),
+    ];
+    put_row(rows, &head)
+}
+
+fn moves_text(alloc: Global, moves: &[Move]) -> Result<Vec<u8>, ReportFault>
+    ensures { IfOk result (λ v. v.items ≡ moves_csv moves.now) }
+{
+    let mut rows = new_rows(alloc);
+    put_moves_head(&mut rows)?;
+    put_moves(&mut rows, moves)?;
+    finish(rows)
+}
+
+/// Appends a frequency table: the head line `key,count` and a line for each key, the greatest count first, keys of one
+/// count by their bytes. Each line ends with LF, and a field is quoted only where it must be.
+///
+/// # Errors
+///
+/// No memory is left, and nothing was written; or the writer failed.
+pub fn csv_freq<W: Write>(freq: &Freq, out: &mut W) -> Result<(), ReportFault>
+    ensures { OnOk result ((rows : List Row) × IsRankingOf freq.now rows × Appends (W.contents out.old) (W.contents out.new) (freq_csv rows)) }
+{
+    let text = freq_text(freq)?;
+    Ok(out.put(&text)?)
+}
+
+/// Appends totals: the head line `state,sentences,words` and a line for each of the six states.
+///
+/// # Errors
+///
+/// No memory is left, and nothing was written; or the writer failed.
+pub fn csv_totals<W: Write>(alloc: Global, totals: &Totals, out: &mut W) -> Result<(), ReportFault>
+    ensures { OnOk result (Appends (W.contents out.old) (W.contents out.new) (totals_csv totals.now)) }
+{
+    let text = totals_text(alloc, totals)?;
+    Ok(out.put(&text)?)
+}
+
+/// Appends moves: the head line `no,kind,batch,sentence,from,to,sentences,words_out,words_in,who` and a line for each.
+/// Where a move is of a whole batch, its sentence is 0; where sentences left no state, `from` is `none`.
+///
+/// # Errors
+///
+/// No memory is left, and nothing was written; or the writer failed.
+pub fn csv_moves<W: Write>(alloc: Global, moves: &[Move], out: &mut W) -> Result<(), ReportFault>
+    ensures { OnOk result (Appends (W.contents out.old) (W.contents out.new) (moves_csv moves.now)) }
+{
+    let text = moves_text(alloc, moves)?;
+    Ok(out.put(&text)?)
+}
