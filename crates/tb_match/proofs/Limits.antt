@@ -1,7 +1,7 @@
 -- Chains of at most so many links, and of at least one.
-use Rattle.std.proofs.Common.{◌≡◌, ◌+◌, ◌-◌, ◌*◌, ◌<◌, ◌≤◌, ◌≢◌, ◌↔◌, ◌⊎◌, ℕ, zero, suc, List, Option, Some, None, IsTrue, true, false, arith, sym, subst, inl, inr, ⊎_elim, refl}
+use Rattle.std.proofs.Common.{◌≡◌, ◌+◌, ◌-◌, ◌*◌, ◌<◌, ◌≤◌, ◌≢◌, ◌↔◌, ◌⊎◌, ℕ, zero, suc, List, Option, Some, None, IsTrue, Bool, true, false, true≢false, ◌&&◌, arith, sym, subst, inl, inr, ⊎_elim, refl}
 use Rattle.std.proofs.lemmas.Bool.{cases_lt, cases_eq}
-use Rattle.tb_match.specs.Bits.{InRow, InTable, IsForward, Link, Within, triangle}
+use Rattle.tb_match.specs.Bits.{InRow, InTable, IsClosed, IsForward, HasLinksOf, Link, Within, triangle}
 use Rattle.std.proofs.Math.Nat.{mul-le-mul_right}
 use Rattle.tb_match.specs.Match.{Chain, IsAtMost}
 use Rattle.tb_match.specs.Weight.{IsBetween, turns}
@@ -118,6 +118,17 @@ some_least L V T w last a b i j here some order rows left =
       λ (k, le, most, c). let r = s.1 (k, omega arith, most, c) in left.1 (rows.1 r.0, r.1),
     )
 
+-- the same without a greatest number
+pub some_unlimited : (L V T : List ℕ) (w last a : ℕ) (b : Option ℕ) (i j : ℕ) → i ≤ last → 1 ≤ a → IsBetween a b →
+    (InTable T w i j ↔ ((k : ℕ) × IsAtMost (a - 1 + k) None × Chain (Link L w last) k i j)) →
+    (InTable V w i j ↔ (InTable T w i j × ((j ≢ i) ⊎ InTable L w i i))) →
+    InTable V w i j ↔ ((k : ℕ) × (a ≤ a - 1 + k) × IsAtMost (a - 1 + k) None × Chain (Link L w last) k i j)
+some_unlimited L V T w last a b i j here some order = some_least L V T w last a None i j here some (small b order)
+  where
+    small : (b : Option ℕ) → IsBetween a b → IsBetween a None
+    small None h = h
+    small (Some b) (low, le, one, most) = low
+
 -- the same where the least number is none
 pub any_least : (L T : List ℕ) (w last : ℕ) (b : Option ℕ) (i j : ℕ) →
     (InTable T w i j ↔ ((k : ℕ) × IsAtMost (0 + k) b × Chain (Link L w last) k i j)) →
@@ -134,3 +145,27 @@ within_limit L w last a b i j le = (
   λ (k, small, c). (k, omega arith, c),
   λ h. let small : a + h.0 ≤ b = h.1 in (h.0, omega arith, h.2),
 )
+
+-- rows of chains without a greatest number
+module _ (L T : List ℕ) (w last m a : ℕ) (least : m ≤ a)
+    (rows : (i j : ℕ) → i ≤ last → j ≤ last → InTable T w i j ↔ ((k : ℕ) × (a ≤ m + k) × IsAtMost (m + k) None × Chain (Link L w last) k i j)) where
+  pub chains_closed : IsClosed T w 0 last
+  chains_closed i k j from p q r here row =
+      let x = (rows i k p q).0 here in
+      let y = (rows k j q r).0 row in
+      let enough : a ≤ m + x.0 = x.1 in
+      (rows i j p r).1 (x.0 + y.0, omega arith, tt, chain_join (Link L w last) x.0 y.0 i k j x.3 y.3)
+
+  pub chains_linked : HasLinksOf T L w last
+  chains_linked i k j p q here link =
+      let x = (rows i k p q).0 here in
+      let enough : a ≤ m + x.0 = x.1 in
+      (rows i j p link.1).1 (x.0 + 1, omega arith, tt, chain_join (Link L w last) x.0 1 i k j x.3 (j, link, refl))
+
+  pub chains_forward : IsForward T w last
+  chains_forward i j p q here = let x = (rows i j p q).0 here in chain_goes_on L w last x.0 i j x.3
+
+pub both_true : (a b : Bool) → IsTrue (a && b) → IsTrue a × IsTrue b
+both_true true true h = (refl, refl)
+both_true true false h = absurd (true≢false (sym h))
+both_true false b h = absurd (true≢false (sym h))

@@ -1,5 +1,5 @@
 -- What a pattern matches, by its parts.
-use Rattle.std.proofs.Common.{IsTrue, false, true≢false, ◌≡◌, ◌+◌, ◌*◌, ◌<◌, ◌≤◌, ◌↔◌, ◌⊎◌, ℕ, zero, suc, List, ◌∷◌, Option, arith, sym, subst, inl, inr, ⊎_elim}
+use Rattle.std.proofs.Common.{◌≡◌, ◌+◌, ◌*◌, ◌<◌, ◌≤◌, ◌↔◌, ◌⊎◌, ℕ, zero, suc, List, ◌∷◌, Option, arith, sym, subst, inl, inr, ⊎_elim}
 use Rattle.tb_match.specs.declared.pattern.Pat.{Pat, Tok, Cat', Alt', Rep', Row_of-Pat, end_of-Pat, more_of-Pat}
 use Rattle.tb_match.specs.Bits.{InTable, Link}
 use Rattle.tb_match.specs.Facts.{Facts, Holds}
@@ -142,10 +142,6 @@ room_after_part limit start before after w rest T all ahead more e h step small 
 pub bound_after_part : (start before after end w rest T all ahead : ℕ) → ahead ≡ w + 1 + rest → before + ahead * T ≤ start + all * T → after ≤ before + w * T → end ≤ after + T → end + rest * T ≤ start + all * T
 bound_after_part start before after end w rest T all ahead e h step last =
     let f : before + (w + 1 + rest) * T ≤ start + all * T = subst (λ n. before + n * T ≤ start + all * T) e h in omega arith
-
--- the rows that a composition makes where it keeps no place itself
-pub without_itself : (A B C : Type 0) → (A ↔ ((IsTrue false × B) ⊎ C)) → A ↔ C
-without_itself A B C h = (λ a. ⊎_elim (λ p. absurd (true≢false (sym p.0))) (λ c. c) (h.0 a), λ c. h.1 (inr c))
 
 pub room_within : (limit start w v T all : ℕ) → all ≡ w + v → start + all * T < limit → start + w * T < limit
 room_within limit start w v T all e q = let f : start + (w + v) * T < limit = subst (λ n. start + n * T < limit) e q in omega arith

@@ -1,7 +1,7 @@
 -- Links put before a relation many times are chains.
-use Rattle.std.proofs.Common.{◌≡◌, ◌+◌, ◌-◌, ◌*◌, ◌≤◌, ◌↔◌, ℕ, zero, suc, List, IsTrue, true, false, Option, Some, arith, sym, ap, subst, inl, inr, refl, true≢false, add-mul, take, drop, ◌++◌, length}
+use Rattle.std.proofs.Common.{◌≡◌, ◌+◌, ◌-◌, ◌*◌, ◌<◌, ◌≤◌, ◌↔◌, ℕ, add-one, zero, suc, List, IsTrue, true, false, Option, Some, arith, sym, ap, subst, inl, inr, refl, true≢false, add-mul, take, drop, ◌++◌, length}
 use Rattle.std.proofs.lemmas.List.{take_at}
-use Rattle.tb_match.specs.Bits.{InTable, Link, Repeated}
+use Rattle.tb_match.specs.Bits.{InTable, Link, Repeated, Through}
 use Rattle.tb_match.specs.Match.{Chain, IsAtMost}
 use Rattle.tb_match.proofs.Chains.{chain_join, chain_split}
 use Rattle.tb_match.proofs.Limits.{chain_ends}
@@ -10,29 +10,38 @@ module _ (L T : List ℕ) (w last : ℕ) where
   abbrev link : ℕ → ℕ → Type 0
   link = Link L w last
 
-  -- with no place of its own: exactly so many links, and then the relation
-  pub after_to : (t i j : ℕ) → Repeated L T w last (IsTrue false) t i j → (m : ℕ) × Chain link t i m × InTable T w m j
+  pub after_to : (t i j : ℕ) → Repeated L T w last t i j → (m : ℕ) × Chain link t i m × InTable T w m j
   after_to zero i j h = (i, refl, h)
-  after_to (suc t) i j (inl p) = absurd (true≢false (sym p.0))
-  after_to (suc t) i j (inr (k, l, rest)) = let r = after_to t k j rest in (r.0, (k, l, r.1), r.2)
+  after_to (suc t) i j (k, l, rest) = let r = after_to t k j rest in (r.0, (k, l, r.1), r.2)
 
-  pub after_from : (t i j m : ℕ) → Chain link t i m → InTable T w m j → Repeated L T w last (IsTrue false) t i j
+  pub after_from : (t i j m : ℕ) → Chain link t i m → InTable T w m j → Repeated L T w last t i j
   after_from zero i j m e h = subst (λ x. InTable T w x j) (sym e) h
-  after_from (suc t) i j m (k, l, rest) h = inr (k, l, after_from t k j m rest h)
+  after_from (suc t) i j m (k, l, rest) h = (k, l, after_from t k j m rest h)
+
+-- one turn more
+pub one_turn : (L T0 T T' : List ℕ) (w last t i j : ℕ) → j ≤ last → (InTable T' w i j ↔ Through L T w i (last + 1) j) →
+    ((m : ℕ) → m ≤ last → InTable T w m j ↔ Repeated L T0 w last t m j) → InTable T' w i j ↔ Repeated L T0 w last (t + 1) i j
+one_turn L T0 T T' w last t i j here made rows = rw add-one (
+  λ h. there (made.0 h),
+  λ (m, (le, most, link), rest). made.1 (m, le, omega arith, link, (rows m most).1 rest),
+)
+  where
+    there : Through L T w i (last + 1) j → Repeated L T0 w last (suc t) i j
+    there (m, le, lt, link, rest) = let most : m ≤ last = omega arith in (m, (le, most, link), (rows m most).0 rest)
 
 -- in turn: a fixed number of links, and then a chain of some more
 module _ (L T : List ℕ) (w last m a : ℕ) (b : Option ℕ) (least : m ≤ a)
     (rows : (i j : ℕ) → i ≤ last → j ≤ last → InTable T w i j ↔ ((k : ℕ) × (a ≤ m + k) × IsAtMost (m + k) b × Chain (Link L w last) k i j)) where
-  pub repeated : (i j : ℕ) → i ≤ last → j ≤ last → Repeated L T w last (IsTrue false) m i j ↔ ((k : ℕ) × (a ≤ k) × IsAtMost k b × Chain (Link L w last) k i j)
+  pub repeated : (i j : ℕ) → i ≤ last → j ≤ last → Repeated L T w last m i j ↔ ((k : ℕ) × (a ≤ k) × IsAtMost k b × Chain (Link L w last) k i j)
   repeated i j p q = (there, back)
     where
-      there : Repeated L T w last (IsTrue false) m i j → (k : ℕ) × (a ≤ k) × IsAtMost k b × Chain (Link L w last) k i j
+      there : Repeated L T w last m i j → (k : ℕ) × (a ≤ k) × IsAtMost k b × Chain (Link L w last) k i j
       there h =
           let r = after_to L T w last m i j h in
           let n = (rows r.0 j (chain_ends L w last m i r.0 p r.1) q).0 r.2 in
           (m + n.0, n.1, n.2, chain_join (Link L w last) m n.0 i r.0 j r.1 n.3)
 
-      back : ((k : ℕ) × (a ≤ k) × IsAtMost k b × Chain (Link L w last) k i j) → Repeated L T w last (IsTrue false) m i j
+      back : ((k : ℕ) × (a ≤ k) × IsAtMost k b × Chain (Link L w last) k i j) → Repeated L T w last m i j
       back (k, le, most, c) =
           let e : k ≡ m + (k - m) = omega arith in
           let s = chain_split (Link L w last) m (k - m) i j (subst (λ x. Chain (Link L w last) x i j) e c) in

@@ -1,7 +1,7 @@
 -- One sweep over the rows of a table.
 use Rattle.std.proofs.Common.{◌≡◌, ◌+◌, ◌<◌, ◌≤◌, ◌≢◌, ◌↔◌, ◌⊎◌, ℕ, zero, suc, List, IsTrue, arith, sym, subst, inl, inr, ⊎_elim, refl, true, add-one, le_antisymm}
 use Rattle.std.proofs.lemmas.Bool.{cases_lt, cases_eq, cases_order}
-use Rattle.tb_match.specs.Bits.{InTable, Through, Link, IsClosed, triangle}
+use Rattle.tb_match.specs.Bits.{InTable, Through, Link, IsClosed, IsForward, HasLinksOf, triangle}
 use Rattle.tb_match.specs.Match.{Chain}
 use Rattle.tb_match.proofs.Chains.{chain_cut, chain_join}
 
@@ -29,8 +29,8 @@ chain_goes_on L w last (suc k) i j (m, r, rest) = let a : i ≤ m = r.0 in omega
 -- where the rows from `before` on are closed, and those before it are empty, all rows are closed
 pub all_closed : (L T : List ℕ) (w last before : ℕ) →
     ((a b : ℕ) → before ≤ a → a ≤ last → b ≤ last → InTable T w a b ↔ Reaches L w last a b) →
-    ((a b : ℕ) → a < before → b ≤ last → InTable T w a b → ⊥) → IsClosed T w last
-all_closed L T w last before done empty i k j p q r here row = ⊎_elim
+    ((a b : ℕ) → a < before → b ≤ last → InTable T w a b → ⊥) → (first : ℕ) → IsClosed T w first last
+all_closed L T w last before done empty first i k j from p q r here row = ⊎_elim
     (λ lt. absurd (empty i k lt q here))
     (λ ge.
     let a = (done i k ge p q).0 here in
@@ -91,13 +91,13 @@ module _ (L T T' : List ℕ) (w last place before : ℕ) where
           above ne = ⊎_elim (λ e. absurd (ne e)) (λ h. ⊎_elim (λ l. omega arith) (λ g. omega arith) h) (cases_order i place)
 
 -- a step of the forward sweep
-module _ (L T0 T T' : List ℕ) (w last place : ℕ) (K : Type 0) where
+module _ (L T0 T T' : List ℕ) (w last place : ℕ) where
   pub composed : (i j : ℕ) →
-      ((a b : ℕ) → a < place → b ≤ last → InTable T w a b ↔ ((K × (b ≡ a)) ⊎ Through L T0 w a (last + 1) b)) →
+      ((a b : ℕ) → a < place → b ≤ last → InTable T w a b ↔ Through L T0 w a (last + 1) b) →
       ((a b : ℕ) → place ≤ a → b ≤ last → InTable T w a b ↔ InTable T0 w a b) →
-      ((b : ℕ) → b ≤ last → Row L T T' w last place K b) →
+      ((b : ℕ) → b ≤ last → InTable T' w place b ↔ Through L T w place (last + 1) b) →
       ((a b : ℕ) → a ≢ place → b ≤ last → InTable T' w a b ↔ InTable T w a b) →
-      i < place + 1 → j ≤ last → InTable T' w i j ↔ ((K × (j ≡ i)) ⊎ Through L T0 w i (last + 1) j)
+      i < place + 1 → j ≤ last → InTable T' w i j ↔ Through L T0 w i (last + 1) j
   composed i j done rest row others below here = ⊎_elim this other (cases_eq i place)
     where
       old : Through L T w place (last + 1) j → Through L T0 w place (last + 1) j
@@ -106,13 +106,13 @@ module _ (L T0 T T' : List ℕ) (w last place : ℕ) (K : Type 0) where
       new : Through L T0 w place (last + 1) j → Through L T w place (last + 1) j
       new (k, a, b, c, d) = (k, a, b, c, (rest k j a here).1 d)
 
-      this : i ≡ place → InTable T' w i j ↔ ((K × (j ≡ i)) ⊎ Through L T0 w i (last + 1) j)
+      this : i ≡ place → InTable T' w i j ↔ Through L T0 w i (last + 1) j
       this e =
           let r = row j here in
-          subst (λ x. InTable T' w x j ↔ ((K × (j ≡ x)) ⊎ Through L T0 w x (last + 1) j)) (sym e)
-          (λ h. ⊎_elim (λ p. inl p) (λ p. inr (old p)) (r.0 h), λ h. r.1 (⊎_elim (λ p. inl p) (λ p. inr (new p)) h))
+          subst (λ x. InTable T' w x j ↔ Through L T0 w x (last + 1) j) (sym e)
+          (λ h. old (r.0 h), λ h. r.1 (new h))
 
-      other : i ≢ place → InTable T' w i j ↔ ((K × (j ≡ i)) ⊎ Through L T0 w i (last + 1) j)
+      other : i ≢ place → InTable T' w i j ↔ Through L T0 w i (last + 1) j
       other ne =
           let o = others i j ne here in
           let d = done i j (lower ne) here in
@@ -120,3 +120,31 @@ module _ (L T0 T T' : List ℕ) (w last place : ℕ) (K : Type 0) where
         where
           lower : i ≢ place → i < place
           lower ne = ⊎_elim (λ e. absurd (ne e)) (λ h. ⊎_elim (λ l. omega arith) (λ g. omega arith) h) (cases_order i place)
+
+-- closed rows stay so where the links are put before them
+module _ (L T T' : List ℕ) (w last : ℕ) (linked : HasLinksOf T L w last)
+    (made : (i j : ℕ) → i ≤ last → j ≤ last → InTable T' w i j ↔ Through L T w i (last + 1) j) where
+  pub closed_before : IsClosed T w 0 last → IsClosed T' w 0 last
+  closed_before closed i k j from p q r here row =
+      let a = (made i k p q).0 here in
+      let b = (made k j q r).0 row in
+      through a b
+    where
+      through : Through L T w i (last + 1) k → Through L T w k (last + 1) j → InTable T' w i j
+      through (m, le, lt, link, to) (n, on, less, next, rest) =
+          let inside : m ≤ last = omega arith in
+          let within : n ≤ last = omega arith in
+          let onward = linked m k n inside q to (on, within, next) in
+          (made i j p r).1 (m, le, lt, link, closed m n j (omega arith) inside within r onward rest)
+
+  pub linked_before : HasLinksOf T' L w last
+  linked_before i k j p q here next = through ((made i k p q).0 here)
+    where
+      through : Through L T w i (last + 1) k → InTable T' w i j
+      through (m, le, lt, link, to) = (made i j p next.1).1 (m, le, lt, link, linked m k j (omega arith) q to next)
+
+  pub forward_before : IsForward T w last → IsForward T' w last
+  forward_before forward i j p q here = through ((made i j p q).0 here)
+    where
+      through : Through L T w i (last + 1) j → i ≤ j
+      through (m, le, lt, link, to) = let on : m ≤ j = forward m j (omega arith) q to in omega arith

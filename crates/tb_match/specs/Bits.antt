@@ -32,9 +32,13 @@ IsForward cells w last = (i j : ℕ) → i ≤ last → j ≤ last → InTable c
 abbrev pub Within : List ℕ → ℕ → ℕ → ℕ → ℕ → ℕ → Type 0
 Within cells w last t i j = (k : ℕ) × (k ≤ t) × Chain (Link cells w last) k i j
 
--- the row of each place of a row is in that row
-abbrev pub IsClosed : List ℕ → ℕ → ℕ → Type 0
-IsClosed cells w last = (i k j : ℕ) → i ≤ last → k ≤ last → j ≤ last → InTable cells w i k → InTable cells w k j → InTable cells w i j
+-- the rows from place `first` on have the row of each of their places
+abbrev pub IsClosed : List ℕ → ℕ → ℕ → ℕ → Type 0
+IsClosed cells w first last = (i k j : ℕ) → first ≤ i → i ≤ last → k ≤ last → j ≤ last → InTable cells w i k → InTable cells w k j → InTable cells w i j
+
+-- each row has the links of each of its places
+abbrev pub HasLinksOf : List ℕ → List ℕ → ℕ → ℕ → Type 0
+HasLinksOf cells links w last = (i k j : ℕ) → i ≤ last → k ≤ last → InTable cells w i k → Link links w last k j → InTable cells w i j
 
 -- the row has the row of the table of each of its places
 abbrev pub HasRowsOf : List ℕ → List ℕ → ℕ → ℕ → Type 0
@@ -45,7 +49,7 @@ abbrev pub triangle : ℕ → ℕ
 triangle zero = 0
 triangle (suc n) = (suc n) + triangle n
 
--- the links put before the table's relation so many times, each time with each place itself where K holds
-abbrev pub Repeated : List ℕ → List ℕ → ℕ → ℕ → Type 0 → ℕ → ℕ → ℕ → Type 0
-Repeated L T w last K zero i j = InTable T w i j
-Repeated L T w last K (suc t) i j = (K × (j ≡ i)) ⊎ ((k : ℕ) × Link L w last i k × Repeated L T w last K t k j)
+-- the links put before the table's relation so many times
+abbrev pub Repeated : List ℕ → List ℕ → ℕ → ℕ → ℕ → ℕ → ℕ → Type 0
+Repeated L T w last zero i j = InTable T w i j
+Repeated L T w last (suc t) i j = (k : ℕ) × Link L w last i k × Repeated L T w last t k j

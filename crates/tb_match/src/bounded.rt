@@ -89,8 +89,8 @@ fn is_same(row: &[u64], other: &[u64]) -> bool
     *row == *other
 }
 
-/// Makes the row the places that at most so many links lead to from the place. Once it is the row
-/// of any number of links, further turns add nothing.
+/// Makes the row the places that at most so many links lead to from the place, and says whether it is
+/// the row of any number of links. Once it is, further turns add nothing.
 #[inline(always)]
 fn limit_row(
     row: &mut [u64],
@@ -103,7 +103,7 @@ fn limit_row(
     last: usize,
     times: usize,
     steps: &mut u64,
-)
+) -> bool
     requires wide { last / 64 < width }
     requires row { length row.old ≡ width }
     requires before { length before.old ≡ width }
@@ -115,6 +115,7 @@ fn limit_row(
     requires closed { (j : ℕ) → j ≤ last → (InRow closed.now 0 j ↔ ((k : ℕ) × Chain (Link links.now width last) k place j)) }
     requires countable { steps.old + times * (last + 1 - place) < 2 ^ 64 }
     ensures row { (j : ℕ) → j ≤ last → (InRow row.new 0 j ↔ Within links.now width last times place j) }
+    ensures same { IsTrue result → row.new ≡ closed.now }
     ensures more { steps.old ≤ steps.new }
     ensures bound { steps.new ≤ steps.old + times * (last + 1 - place) }
 {
@@ -122,13 +123,14 @@ fn limit_row(
     begin(done, place, false);
     for turn in 0..times {
         if is_same(row, closed) {
-            return;
+            return true;
         }
         extend(row, before, done, links, width, place, last, steps);
     }
+    is_same(row, closed)
 }
 
-/// The same in a table, of which the row has any number of links.
+/// The same in a table, of which the row is that of any number of links.
 #[inline(always)]
 fn limit_place(
     table: &mut [u64],
@@ -141,7 +143,7 @@ fn limit_place(
     last: usize,
     times: usize,
     steps: &mut u64,
-)
+) -> bool
     requires wide { last / 64 < width }
     requires spare { length spare.old ≡ width }
     requires before { length before.old ≡ width }
@@ -154,18 +156,21 @@ fn limit_place(
     requires closed { (j : ℕ) → j ≤ last → (InTable table.old width place j ↔ ((k : ℕ) × Chain (Link links.now width last) k place j)) }
     requires countable { steps.old + times * (last + 1 - place) < 2 ^ 64 }
     ensures row { (j : ℕ) → j ≤ last → (InTable table.new width place j ↔ Within links.now width last times place j) }
+    ensures same { IsTrue result → (j : ℕ) → j ≤ last → (InTable table.new width place j ↔ InTable table.old width place j) }
     ensures others { (i j : ℕ) → i ≢ place → j ≤ last → (InTable table.new width i j ↔ InTable table.old width i j) }
     ensures more { steps.old ≤ steps.new }
     ensures bound { steps.new ≤ steps.old + times * (last + 1 - place) }
 {
     let closed = &table[place * width..(place + 1) * width];
-    limit_row(
+    let same = limit_row(
         spare, closed, before, done, links, width, place, last, times, steps,
     );
     store(table, spare, place);
+    same
 }
 
-/// Makes the rows of any number of links those of at most so many, place by place.
+/// Makes the rows of any number of links those of at most so many, place by place, and says whether
+/// they are the same.
 fn limit_places(
     table: &mut [u64],
     spare: &mut [u64],
@@ -176,7 +181,7 @@ fn limit_places(
     last: usize,
     times: usize,
     steps: &mut u64,
-)
+) -> bool
     requires wide { last / 64 < width }
     requires spare { length spare.old ≡ width }
     requires before { length before.old ≡ width }
@@ -188,17 +193,21 @@ fn limit_places(
     requires closed { (i j : ℕ) → i ≤ last → j ≤ last → (InTable table.old width i j ↔ ((k : ℕ) × Chain (Link links.now width last) k i j)) }
     requires countable { steps.old + times * triangle (last + 1) < 2 ^ 64 }
     ensures rows { (i j : ℕ) → i ≤ last → j ≤ last → (InTable table.new width i j ↔ Within links.now width last times i j) }
+    ensures same { IsTrue result → (i j : ℕ) → i ≤ last → j ≤ last → (InTable table.new width i j ↔ InTable table.old width i j) }
     ensures more { steps.old ≤ steps.new }
     ensures bound { steps.new ≤ steps.old + times * triangle (last + 1) }
 {
+    let mut same = true;
     for place in 0..last + 1 {
-        limit_place(
+        same &= limit_place(
             table, spare, before, done, links, width, place, last, times, steps,
         );
     }
+    same
 }
 
-/// Makes the rows of any number of links those of at most so many.
+/// Makes the rows of any number of links those of at most so many, and says whether they are the
+/// same.
 pub(crate) fn limit(
     table: &mut [u64],
     spare: &mut [u64],
@@ -207,7 +216,7 @@ pub(crate) fn limit(
     last: usize,
     times: usize,
     steps: &mut u64,
-)
+) -> bool
     requires wide { last / 64 < width }
     requires narrow { width ≤ 16 }
     requires spare { length spare.old ≡ width }
@@ -218,6 +227,7 @@ pub(crate) fn limit(
     requires closed { (i j : ℕ) → i ≤ last → j ≤ last → (InTable table.old width i j ↔ ((k : ℕ) × Chain (Link links.now width last) k i j)) }
     requires countable { steps.old + times * triangle (last + 1) < 2 ^ 64 }
     ensures rows { (i j : ℕ) → i ≤ last → j ≤ last → (InTable table.new width i j ↔ Within links.now width last times i j) }
+    ensures same { IsTrue result → (i j : ℕ) → i ≤ last → j ≤ last → (InTable table.new width i j ↔ InTable table.old width i j) }
     ensures more { steps.old ≤ steps.new }
     ensures bound { steps.new ≤ steps.old + times * triangle (last + 1) }
 {
@@ -233,7 +243,7 @@ pub(crate) fn limit(
         last,
         times,
         steps,
-    );
+    )
 }
 
 /// Takes the place out of the row.

@@ -20,7 +20,12 @@ const WIDEST: usize = 16;
 pub struct Found {
     /// The hits, by first place and then by last place: `(i, j)` covers the words `i + 1` to `j`.
     pub hits: Vec<(u32, u32)>,
-    /// How often one row of bits was united into another.
+    /// How often one row of a table was united into another: the calls of [`unite`](crate::uniting::unite).
+    ///
+    /// Not counted is what makes no union of two rows: the walks over the places of a row, copies and
+    /// comparisons of rows, and a word, an optional word or a short run of words, whose rows are
+    /// marked place by place, or shifted and masked where a row is one machine word. So `[a] [b]?`
+    /// takes no step.
     pub steps: u64,
 }
 
@@ -32,8 +37,8 @@ pub struct Found {
 /// choice or repetition that is open on the way down to a part; a table has a row for each place,
 /// of one bit for each place: 21 machine words on 20 words, 128,128 bytes on 1,000.
 ///
-/// It takes stack for each level of the pattern: some 470 bytes a level as LLVM compiles it for
-/// x86-64, so that a stack of 8 MiB holds some 18,000 levels. Which levels a pattern has is the
+/// It takes stack for each level of the pattern: 448 bytes a level as LLVM compiles it for x86-64, so
+/// that 2 MiB hold some 4,600 levels, and 8 MiB some 18,700. Which levels a pattern has is the
 /// caller's care: the query language allows 16 parentheses open at one place, which makes at most
 /// some fifty levels.
 pub fn find(

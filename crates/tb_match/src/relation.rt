@@ -1,7 +1,7 @@
 //! The relation of a pattern as a table of bit rows.
 
 ghost use Rattle.std.specs.Prelude.{◌≡◌, ◌+◌, ◌-◌, ◌*◌, ◌/◌, ◌<◌, ◌≤◌, ◌^◌, ◌↔◌, ◌⊎◌, ℕ, IfOk, IsTrue, length, None};
-ghost use Rattle.tb_match.specs.Bits.{InTable, IsForward, Link, Repeated, Within, triangle};
+ghost use Rattle.tb_match.specs.Bits.{InTable, IsClosed, IsForward, HasLinksOf, Link, Repeated, Through, Within, triangle};
 ghost use Rattle.tb_match.specs.Match.{Chain, Match, IsAtMost};
 ghost use Rattle.tb_match.specs.Parts.{EachInTurn, AnyOf, AllProper, weight_of_all};
 ghost use Rattle.tb_match.specs.Weight.{IsBetween, weight_of, turns, IsProper};
@@ -57,6 +57,13 @@ fn token_rows(alloc: Global, expr: u16, truth: &Truth, width: usize) -> Result<V
     marked_rows(alloc, expr, truth, width)
 }
 
+/// The rows of chains of links, and whether no greatest number ends them sooner.
+#[derive(Drop)]
+struct Chains {
+    rows: Vec<u64>,
+    unlimited: bool,
+}
+
 /// The rows of chains of links that may follow so many of them as `least` says.
 fn further(
     alloc: Global,
@@ -67,7 +74,7 @@ fn further(
     width: usize,
     last: usize,
     steps: &mut u64,
-) -> Result<Vec<u64>, AllocError>
+) -> Result<Chains, AllocError>
     requires order { IsBetween least most }
     requires wide { last / 64 < width }
     requires narrow { width ≤ 16 }
@@ -76,20 +83,25 @@ fn further(
     requires forward { IsForward links.now width last }
     requires small { last ≤ 1000 }
     requires countable { steps.old + turns least most * triangle (last + 1) < 2 ^ 64 }
-    ensures whole { IfOk result (λ v. length v.items ≡ (last + 1) * width) }
+    ensures whole { IfOk result (λ v. length v.rows.items ≡ (last + 1) * width) }
     ensures rows { IfOk result (λ v. (i j : ℕ) → i ≤ last → j ≤ last →
-        (InTable v.items width i j ↔ ((k : ℕ) × IsAtMost (least + k) most × Chain (Link links.now width last) k i j))) }
+        (InTable v.rows.items width i j ↔ ((k : ℕ) × IsAtMost (least + k) most × Chain (Link links.now width last) k i j))) }
+    ensures unlimited { IfOk result (λ v. IsTrue v.unlimited → (i j : ℕ) → i ≤ last → j ≤ last →
+        (InTable v.rows.items width i j ↔ ((k : ℕ) × IsAtMost (least + k) None × Chain (Link links.now width last) k i j))) }
     ensures more { steps.old ≤ steps.new }
     ensures bound { steps.new + least * triangle (last + 1) ≤ steps.old + turns least most * triangle (last + 1) }
 {
-    let mut table = empty(alloc, width, last)?;
-    close(links, &mut table, spare, width, last, steps);
+    let mut rows = empty(alloc, width, last)?;
+    close(links, &mut rows, spare, width, last, steps);
     let Some(most) = most else {
-        return Ok(table);
+        return Ok(Chains {
+            rows,
+            unlimited: true,
+        });
     };
     let times = (most - least) as usize;
-    limit(&mut table, spare, links, width, last, times, steps);
-    Ok(table)
+    let unlimited = limit(&mut rows, spare, links, width, last, times, steps);
+    Ok(Chains { rows, unlimited })
 }
 
 /// The rows of chains of links that may follow all but one of the least number of them.
@@ -102,7 +114,7 @@ fn begun(
     width: usize,
     last: usize,
     steps: &mut u64,
-) -> Result<Vec<u64>, AllocError>
+) -> Result<Chains, AllocError>
     requires order { IsBetween least most }
     requires wide { last / 64 < width }
     requires narrow { width ≤ 16 }
@@ -111,18 +123,23 @@ fn begun(
     requires forward { IsForward links.now width last }
     requires small { last ≤ 1000 }
     requires countable { steps.old + turns least most * triangle (last + 1) < 2 ^ 64 }
-    ensures whole { IfOk result (λ v. length v.items ≡ (last + 1) * width) }
+    ensures whole { IfOk result (λ v. length v.rows.items ≡ (last + 1) * width) }
     ensures rows { IfOk result (λ v. (i j : ℕ) → i ≤ last → j ≤ last →
-        (InTable v.items width i j ↔ ((k : ℕ) × (least ≤ least - 1 + k) × IsAtMost (least - 1 + k) most × Chain (Link links.now width last) k i j))) }
+        (InTable v.rows.items width i j ↔ ((k : ℕ) × (least ≤ least - 1 + k) × IsAtMost (least - 1 + k) most × Chain (Link links.now width last) k i j))) }
+    ensures unlimited { IfOk result (λ v. IsTrue v.unlimited → (i j : ℕ) → i ≤ last → j ≤ last →
+        (InTable v.rows.items width i j ↔ ((k : ℕ) × (least ≤ least - 1 + k) × IsAtMost (least - 1 + k) None × Chain (Link links.now width last) k i j))) }
     ensures more { steps.old ≤ steps.new }
     ensures bound { steps.new + (least - 1) * triangle (last + 1) ≤ steps.old + turns least most * triangle (last + 1) }
 {
     if least == 0 {
         return further(alloc, links, 0, most, spare, width, last, steps);
     }
-    let mut table = further(alloc, links, least - 1, most, spare, width, last, steps)?;
-    leave(&mut table, links, width, last);
-    Ok(table)
+    let Chains {
+        mut rows,
+        unlimited,
+    } = further(alloc, links, least - 1, most, spare, width, last, steps)?;
+    leave(&mut rows, links, width, last);
+    Ok(Chains { rows, unlimited })
 }
 
 /// The rows of chains of links, in a table of their own: at least `least` of them, and at most
@@ -151,10 +168,15 @@ fn swept(
     ensures more { steps.old ≤ steps.new }
     ensures bound { steps.new ≤ steps.old + turns least most * triangle (last + 1) }
 {
-    let mut table = begun(alloc, links, least, most, spare, width, last, steps)?;
+    let Chains {
+        mut rows,
+        unlimited,
+    } = begun(alloc, links, least, most, spare, width, last, steps)?;
     let times = least.saturating_sub(1) as usize;
-    repeat(links, &mut table, spare, width, last, times, false, steps);
-    Ok(table)
+    repeat(
+        links, &mut rows, spare, width, last, times, unlimited, steps,
+    );
+    Ok(rows)
 }
 
 /// Whether the links are to be chained in their own table: where the numbers are those of `+` and

@@ -1,7 +1,7 @@
 //! Tables of bit rows, one after the other in one slice.
 
 ghost use Rattle.std.specs.Prelude.{◌≡◌, ◌+◌, ◌-◌, ◌*◌, ◌/◌, ◌<◌, ◌≤◌, ◌^◌, ◌↔◌, ◌⊎◌, ◌≢◌, ℕ, IsTrue, IfOk, length, true};
-ghost use Rattle.tb_match.specs.Bits.{InRow, InTable, Through, Link, Repeated, IsClosed, HasRowsOf, triangle};
+ghost use Rattle.tb_match.specs.Bits.{InRow, InTable, Through, Link, Repeated, IsClosed, IsForward, HasLinksOf, HasRowsOf, triangle};
 ghost use Rattle.tb_match.specs.Match.{Chain};
 
 use crate::uniting::unite;
@@ -67,7 +67,7 @@ fn gather_closed(
     requires order { first ≤ last }
     requires small { last ≤ 1000 }
     requires countable { steps.old + (last + 1 - first) < 2 ^ 64 }
-    requires closed { IsClosed table.now width last }
+    requires closed { IsClosed table.now width first last }
     requires whole { HasRowsOf spare.old table.now width last }
     ensures united { (j : ℕ) → j ≤ last →
         (InRow spare.new 0 j ↔ (InRow spare.old 0 j ⊎ Through links.now table.now width first (last + 1) j)) }
@@ -120,7 +120,41 @@ pub(crate) fn store(table: &mut [u64], row: &[u64], place: usize)
 /// The last place of a row of one word.
 const LAST_OF_WORD: usize = 63;
 
-/// Makes row `place` of the table the places that its links lead on to, and `place` itself where `keep` says so.
+/// Unites into the empty row that of each place that a link from `first` leads to. Where the rows
+/// are closed, those that the row has already are left out.
+#[inline(always)]
+fn gather_all(
+    spare: &mut [u64],
+    width: usize,
+    links: &[u64],
+    table: &[u64],
+    first: usize,
+    last: usize,
+    closed: bool,
+    steps: &mut u64,
+)
+    requires wide { last / 64 < width }
+    requires spare { length spare.old ≡ width }
+    requires links { length links.now ≡ (last + 1) * width }
+    requires table { length table.now ≡ (last + 1) * width }
+    requires order { first ≤ last }
+    requires small { last ≤ 1000 }
+    requires countable { steps.old + (last + 1 - first) < 2 ^ 64 }
+    requires closed { IsTrue closed → IsClosed table.now width first last }
+    requires empty { (j : ℕ) → j ≤ last → InRow spare.old 0 j → ⊥ }
+    ensures united { (j : ℕ) → j ≤ last →
+        (InRow spare.new 0 j ↔ Through links.now table.now width first (last + 1) j) }
+    ensures more { steps.old ≤ steps.new }
+    ensures bound { steps.new ≤ steps.old + (last + 1 - first) }
+{
+    if closed {
+        gather_closed(spare, width, links, table, first, last, steps);
+    } else {
+        gather(spare, width, links, table, first, last, steps);
+    }
+}
+
+/// Makes row `place` of the table the places that its links lead on to.
 #[inline(always)]
 fn set_row(
     links: &[u64],
@@ -129,7 +163,7 @@ fn set_row(
     width: usize,
     place: usize,
     last: usize,
-    keep: bool,
+    closed: bool,
     steps: &mut u64,
 )
     requires wide { last / 64 < width }
@@ -139,8 +173,9 @@ fn set_row(
     requires order { place ≤ last }
     requires small { last ≤ 1000 }
     requires countable { steps.old + (last + 1 - place) < 2 ^ 64 }
+    requires closed { IsTrue closed → IsClosed table.old width place last }
     ensures row { (j : ℕ) → j ≤ last →
-        (InTable table.new (width) place j ↔ ((IsTrue keep × (j ≡ place)) ⊎ Through links.now table.old (width) place (last + 1) j)) }
+        (InTable table.new width place j ↔ Through links.now table.old width place (last + 1) j) }
     ensures others { (i j : ℕ) → i ≢ place → j ≤ last →
         (InTable table.new width i j ↔ InTable table.old width i j) }
     ensures more { steps.old ≤ steps.new }
@@ -148,20 +183,21 @@ fn set_row(
 {
     if width == 1 {
         let mut row = [0; 1];
-        begin(&mut row, place, keep);
-        gather(
+        begin(&mut row, place, false);
+        gather_all(
             &mut row,
             1,
             links,
             table,
             place,
             last.min(LAST_OF_WORD),
+            closed,
             steps,
         );
         store(table, &row, place);
     } else {
-        begin(spare, place, keep);
-        gather(spare, width, links, table, place, last, steps);
+        begin(spare, place, false);
+        gather_all(spare, width, links, table, place, last, closed, steps);
         store(table, spare, place);
     }
 }
@@ -184,7 +220,7 @@ fn set_closed_row(
     requires order { place ≤ last }
     requires small { last ≤ 1000 }
     requires countable { steps.old + (last + 1 - place) < 2 ^ 64 }
-    requires closed { IsClosed table.old width last }
+    requires closed { IsClosed table.old width place last }
     requires empty { (j : ℕ) → j ≤ last → InTable table.old width place j → ⊥ }
     ensures row { (j : ℕ) → j ≤ last →
         (InTable table.new (width) place j ↔ ((IsTrue true × (j ≡ place)) ⊎ Through links.now table.old (width) place (last + 1) j)) }
@@ -213,14 +249,15 @@ fn set_closed_row(
     }
 }
 
-/// Makes the table's relation the links' relation followed by the table's, with each place itself where `keep` says so.
+/// Makes the table's relation the links' relation followed by the table's. Where the table is closed
+/// this costs less.
 pub(crate) fn compose(
     links: &[u64],
     table: &mut [u64],
     spare: &mut [u64],
     width: usize,
     last: usize,
-    keep: bool,
+    closed: bool,
     steps: &mut u64,
 )
     requires wide { last / 64 < width }
@@ -229,13 +266,15 @@ pub(crate) fn compose(
     requires table { length table.old ≡ (last + 1) * width }
     requires small { last ≤ 1000 }
     requires countable { steps.old + triangle (last + 1) < 2 ^ 64 }
+    requires closed { IsTrue closed → IsClosed table.old width 0 last }
+    requires forward { IsTrue closed → IsForward table.old width last }
     ensures rows { (i j : ℕ) → i ≤ last → j ≤ last →
-        (InTable table.new width i j ↔ ((IsTrue keep × (j ≡ i)) ⊎ Through links.now table.old width i (last + 1) j)) }
+        (InTable table.new width i j ↔ Through links.now table.old width i (last + 1) j) }
     ensures more { steps.old ≤ steps.new }
     ensures bound { steps.new ≤ steps.old + triangle (last + 1) }
 {
     for place in 0..last + 1 {
-        set_row(links, table, spare, width, place, last, keep, steps);
+        set_row(links, table, spare, width, place, last, closed, steps);
     }
 }
 
@@ -266,7 +305,8 @@ pub(crate) fn close(
     }
 }
 
-/// Puts the links before the table's relation as many times, each time with each place itself where `keep` says so.
+/// Puts the links before the table's relation as many times. Where the table is closed, and has the
+/// links of each of its places, this costs less.
 pub(crate) fn repeat(
     links: &[u64],
     table: &mut [u64],
@@ -274,7 +314,7 @@ pub(crate) fn repeat(
     width: usize,
     last: usize,
     times: usize,
-    keep: bool,
+    closed: bool,
     steps: &mut u64,
 )
     requires wide { last / 64 < width }
@@ -283,13 +323,16 @@ pub(crate) fn repeat(
     requires table { length table.old ≡ (last + 1) * width }
     requires small { last ≤ 1000 }
     requires countable { steps.old + times * triangle (last + 1) < 2 ^ 64 }
+    requires closed { IsTrue closed → IsClosed table.old width 0 last }
+    requires linked { IsTrue closed → HasLinksOf table.old links.now width last }
+    requires forward { IsTrue closed → IsForward table.old width last }
     ensures rows { (i j : ℕ) → i ≤ last → j ≤ last →
-        (InTable table.new width i j ↔ Repeated links.now table.old width last (IsTrue keep) times i j) }
+        (InTable table.new width i j ↔ Repeated links.now table.old width last times i j) }
     ensures more { steps.old ≤ steps.new }
     ensures bound { steps.new ≤ steps.old + times * triangle (last + 1) }
 {
     for turn in 0..times {
-        compose(links, table, spare, width, last, keep, steps);
+        compose(links, table, spare, width, last, closed, steps);
     }
 }
 

@@ -1,6 +1,5 @@
-use Rattle.std.proofs.Common.{◌≡◌, ◌+◌, ◌*◌, ◌<◌, ◌≤◌, ◌-◌, ℕ, length, ◌↔◌}
-use Rattle.tb_match.specs.Bits.{InTable, Link, Within, triangle}
-use Rattle.tb_match.specs.Match.{Chain}
+use Rattle.std.proofs.Common.{◌≡◌, ◌+◌, ◌*◌, ◌<◌, ◌≤◌, ◌-◌, ℕ, length, ◌↔◌, IsTrue}
+use Rattle.tb_match.specs.Bits.{InTable, Within, triangle}
 use Rattle.tb_match.proofs.bounded.limit_places.Given as goal
 
 abbrev pub invariant-loop-place : goal.invariant-loop-place
@@ -10,7 +9,8 @@ invariant-loop-place l = record {
   done : length l.done ≡ l.width;
   whole : length l.table ≡ length l.initial.table;
   rows : (i j : ℕ) → i < l.place → j ≤ l.last → (InTable l.table l.width i j ↔ Within l.links l.width l.last l.times i j);
-  rest : (i j : ℕ) → l.place ≤ i → i ≤ l.last → j ≤ l.last → (InTable l.table l.width i j ↔ ((k : ℕ) × Chain (Link l.links l.width l.last) k i j));
+  rest : (i j : ℕ) → l.place ≤ i → j ≤ l.last → (InTable l.table l.width i j ↔ InTable l.initial.table l.width i j);
+  same : IsTrue l.same → (i j : ℕ) → i < l.place → j ≤ l.last → (InTable l.table l.width i j ↔ InTable l.initial.table l.width i j);
   more : l.initial.steps ≤ l.steps;
   bound : l.steps + l.times * triangle (l.last + 1 - l.place) ≤ l.initial.steps + l.times * triangle (l.last + 1);
 }

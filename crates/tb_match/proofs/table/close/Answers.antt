@@ -12,7 +12,7 @@ set_closed_row-requires-clause-countable c =
 
 pub set_closed_row-requires-clause-closed : goal.set_closed_row-requires-clause-closed
 set_closed_row-requires-clause-closed c =
-    all_closed c.args.links.now c.loop-place.table c.args.width c.args.last c.loop-place.place c.loop-place.invariant.done c.loop-place.invariant.empty
+    all_closed c.args.links.now c.loop-place.table c.args.width c.args.last c.loop-place.place c.loop-place.invariant.done c.loop-place.invariant.empty _
 
 pub loop-place-preserved : goal.loop-place-preserved
 loop-place-preserved c =

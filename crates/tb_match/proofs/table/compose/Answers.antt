@@ -1,4 +1,4 @@
-use Rattle.std.proofs.Common.{arith, ◌≡◌, ◌+◌, ◌-◌, IsTrue}
+use Rattle.std.proofs.Common.{arith, ◌≡◌, ◌+◌, ◌-◌, ◌≤◌, ℕ}
 use Rattle.tb_match.specs.Bits.{triangle}
 use Rattle.tb_match.proofs.Sweeps.{composed, triangle_step}
 use Rattle.tb_match.proofs.table.compose.Goals as goal
@@ -11,7 +11,7 @@ loop-place-preserved c =
       wide = omega arith;
       whole = omega arith;
       done = λ i j below here.
-          composed c.args.links.now c.args.table.now c.loop-place.table c.set_row.new.table c.args.width c.args.last c.loop-place.place (IsTrue c.args.keep) i j
+          composed c.args.links.now c.args.table.now c.loop-place.table c.set_row.new.table c.args.width c.args.last c.loop-place.place i j
           inv.done inv.rest c.set_row.ensures.row c.set_row.ensures.others below here;
       rest = λ i j from here.
           let o = c.set_row.ensures.others i j (λ e. omega arith) here in
@@ -20,3 +20,11 @@ loop-place-preserved c =
       more = omega arith;
       bound = omega arith;
     }
+
+pub set_row-requires-clause-closed : goal.set_row-requires-clause-closed
+set_row-requires-clause-closed c = λ is i k j from p q r here row.
+    let inv = c.loop-place.invariant in
+    let old = (inv.rest i k from q).0 here in
+    let on : i ≤ k = c.requires.forward is i k p q old in
+    let onward : c.loop-place.place ≤ k = omega arith in
+    (inv.rest i j from r).1 (c.requires.closed is i k j (omega arith) p q r old ((inv.rest k j onward r).0 row))

@@ -1,4 +1,4 @@
-use Rattle.std.proofs.Common.{◌≡◌, ◌+◌, ◌<◌, ◌≤◌, ◌-◌, ℕ, length, ◌↔◌, ◌⊎◌, IsTrue}
+use Rattle.std.proofs.Common.{◌≡◌, ◌+◌, ◌<◌, ◌≤◌, ◌-◌, ℕ, length, ◌↔◌}
 use Rattle.tb_match.specs.Bits.{InTable, Through, triangle}
 use Rattle.tb_match.proofs.table.compose.Given as goal
 
@@ -6,7 +6,7 @@ abbrev pub invariant-loop-place : goal.invariant-loop-place
 invariant-loop-place l = record {
   wide : length l.spare ≡ l.width;
   whole : length l.table ≡ length l.initial.table;
-  done : (i j : ℕ) → i < l.place → j ≤ l.last → (InTable l.table l.width i j ↔ ((IsTrue l.keep × (j ≡ i)) ⊎ Through l.links l.initial.table l.width i (l.last + 1) j));
+  done : (i j : ℕ) → i < l.place → j ≤ l.last → (InTable l.table l.width i j ↔ Through l.links l.initial.table l.width i (l.last + 1) j);
   rest : (i j : ℕ) → l.place ≤ i → j ≤ l.last → (InTable l.table l.width i j ↔ InTable l.initial.table l.width i j);
   more : l.initial.steps ≤ l.steps;
   bound : l.steps + triangle (l.last + 1 - l.place) ≤ l.initial.steps + triangle (l.last + 1);

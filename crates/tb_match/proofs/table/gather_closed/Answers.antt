@@ -23,7 +23,7 @@ loop-place-preserved c =
     let whole : HasRowsOf spare' T w c.args.last = λ k j p q here row.
     ⊎_elim
     (λ old. (united j q).1 (inl (inv.whole k j p q old row)))
-    (λ fresh. (united j q).1 (inr (c.requires.closed place k j inside p q fresh row)))
+    (λ fresh. (united j q).1 (inr (c.requires.closed place k j inv.from inside p q fresh row)))
     ((united k p).0 here) in
     record {
       from = omega arith;
