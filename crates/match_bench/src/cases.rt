@@ -39,6 +39,19 @@ pub fn nested(
     Ok(pat)
 }
 
+/// A word in a sequence in a choice in a repetition, and so on, so many levels deep.
+pub fn chained_parts(alloc: Global, levels: usize) -> Result<Pat, AllocError> {
+    let mut pat = Pat::Tok(0);
+    for level in 0..levels {
+        pat = match level % 3 {
+            0 => Pat::Cat(vec![in alloc; pat]?),
+            1 => Pat::Alt(vec![in alloc; pat]?),
+            _ => Pat::Rep(Box::new(alloc, pat)?, 1, Some(1)),
+        };
+    }
+    Ok(pat)
+}
+
 /// So many of the pattern one after the other, each within so many repetitions of a word.
 pub fn side_by_side(
     alloc: Global,

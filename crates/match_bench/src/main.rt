@@ -1,5 +1,5 @@
 //! Times the matcher: the best of many rounds of each case. `match_bench times` prints a line a case, and
-//! `match_bench groups` one case alone, `match_bench repetitions` repetitions within one another; without a word it only says so, since times are never the same twice.
+//! `match_bench groups` one case alone, `match_bench repetitions` repetitions within one another, and `match_bench depth N` tries a pattern N levels deep; without a word it only says so, since times are never the same twice.
 #![tactic(auto)]
 
 ghost use Rattle.std.specs.Prelude.{◌≤◌};
@@ -8,10 +8,10 @@ mod cases;
 mod rounds;
 
 use cases::{
-    four_tokens, lone_token, nested, nested_stars, noun_groups, noun_phrases, runs_or_words,
-    side_by_side, three_or_stars,
+    chained_parts, four_tokens, lone_token, nested, nested_stars, noun_groups, noun_phrases,
+    runs_or_words, side_by_side, three_or_stars,
 };
-use rounds::{lone_sentences, long_sentence, sentences, unions};
+use rounds::{deep_pattern, lone_sentences, long_sentence, sentences, unions};
 use std::{env, io};
 use tb_match::{Pat, Strategy};
 
@@ -119,6 +119,13 @@ fn repetitions(rt: HostRuntime) -> io::Result<()> {
     long_sentence(rt, "2 of 17 nested {1,32}", &twice, Strategy::Longest)
 }
 
+/// Tries a pattern so many levels deep, which takes stack for each.
+fn depth(rt: HostRuntime, levels: &str) -> io::Result<()> {
+    let levels = levels.parse().unwrap_or(1000);
+    let pat = chained_parts(rt.alloc(), levels)?;
+    deep_pattern(rt, pat)
+}
+
 /// Times the noun groups alone, so that other tools can count what they cost.
 fn groups(rt: HostRuntime) -> io::Result<()> {
     let groups = noun_groups(rt.alloc())?;
@@ -127,10 +134,12 @@ fn groups(rt: HostRuntime) -> io::Result<()> {
 
 fn main(rt: HostRuntime) -> io::Result<()> {
     let words: Vec<String> = env::args(&rt)?.collect(rt.alloc())?;
+    let levels = words.get(2).map_or("1000", |word| word.as_str());
     match words.get(1) {
         Some(word) if word.as_str() == "times" => times(rt),
         Some(word) if word.as_str() == "groups" => groups(rt),
         Some(word) if word.as_str() == "repetitions" => repetitions(rt),
-        _ => println!(rt; "usage: match_bench times | groups | repetitions"),
+        Some(word) if word.as_str() == "depth" => depth(rt, levels),
+        _ => println!(rt; "usage: match_bench times | groups | repetitions | depth N"),
     }
 }

@@ -6,7 +6,7 @@ use crate::cases::{anything, tagged};
 use std::alloc::{AllocError, Global};
 use std::io;
 use std::time::Instant;
-use tb_match::{Found, Pat, Strategy, Truth, find, fits, unite};
+use tb_match::{Found, Pat, Strategy, Truth, find, fits, unite, weight};
 
 /// The hits, where the pattern fits the table.
 fn search(alloc: Global, pat: &Pat, truth: &Truth, by: Strategy) -> Result<Found, AllocError> {
@@ -35,6 +35,23 @@ pub fn long_sentence(rt: HostRuntime, name: &str, pat: &Pat, by: Strategy) -> io
         steps = found.steps;
     }
     println!(rt; "1000 words, {name}: {best} us, {hits} hits, {steps} steps")
+}
+
+/// Weighs the pattern, tests it, searches for it in a sentence of ten words and lets it go, and says so after each: with a
+/// small stack the last line tells how far it came.
+pub fn deep_pattern(rt: HostRuntime, pat: Pat) -> io::Result<()> {
+    let alloc = rt.alloc();
+    let truth = anything(alloc, 10)?;
+    let weighs = weight(&pat).unwrap_or(0);
+    println!(rt; "weight {weighs}")?;
+    let fit = fits(&pat, truth.exprs());
+    println!(rt; "fits {fit}")?;
+    if fit {
+        let found = search(alloc, &pat, &truth, Strategy::Longest)?;
+        println!(rt; "found {}", found.hits.len())?;
+    }
+    drop(pat);
+    println!(rt; "gone")
 }
 
 /// Hits and steps of all the sentences.

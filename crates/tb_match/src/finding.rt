@@ -37,8 +37,8 @@ pub struct Found {
 /// choice or repetition that is open on the way down to a part; a table has a row for each place,
 /// of one bit for each place: 21 machine words on 20 words, 128,128 bytes on 1,000.
 ///
-/// It takes stack for each level of the pattern: 448 bytes a level as LLVM compiles it for x86-64, so
-/// that 2 MiB hold some 4,600 levels, and 8 MiB some 18,700. Which levels a pattern has is the
+/// It takes stack for each level of the pattern: less than 500 bytes a level as compiled for x86-64,
+/// so that 2 MiB hold some 4,400 levels, and 8 MiB some 18,000. Which levels a pattern has is the
 /// caller's care: the query language allows 16 parentheses open at one place, which makes at most
 /// some fifty levels.
 pub fn find(

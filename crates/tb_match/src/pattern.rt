@@ -6,6 +6,9 @@
 /// A match goes from a place of the sentence to a place, where place `i` stands after the first
 /// `i` words. Which expression holds of which word is told by a table
 /// ([`Truth`](crate::truth::Truth)), so a pattern names expressions by number alone.
+///
+/// A pattern may be built to any depth, but what walks it takes stack for each level, letting it go
+/// too: see [`find`](crate::finding::find) for how many levels a stack holds.
 #[derive(Debug, PartialEq, Eq, Drop)]
 pub enum Pat {
     /// One word of which the expression with this number, counted from 0, holds.

