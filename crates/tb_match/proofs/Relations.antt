@@ -1,5 +1,5 @@
 -- What a pattern matches, by its parts.
-use Rattle.std.proofs.Common.{◌≡◌, ◌+◌, ◌*◌, ◌<◌, ◌≤◌, ◌↔◌, ◌⊎◌, ℕ, zero, suc, List, ◌∷◌, Option, arith, sym, subst, inl, inr, ⊎_elim}
+use Rattle.std.proofs.Common.{◌≡◌, ◌+◌, ◌*◌, ◌<◌, ◌≤◌, ◌↔◌, ◌⊎◌, ℕ, zero, suc, List, ◌∷◌, Option, arith, subst, inl, inr, ⊎_elim}
 use Rattle.tb_match.specs.declared.pattern.Pat.{Pat, Tok, Cat', Alt', Rep', Row_of-Pat, end_of-Pat, more_of-Pat}
 use Rattle.tb_match.specs.Bits.{InTable, Link}
 use Rattle.tb_match.specs.Facts.{Facts, Holds}

@@ -1,5 +1,5 @@
 -- Links put before a relation many times are chains.
-use Rattle.std.proofs.Common.{◌≡◌, ◌+◌, ◌-◌, ◌*◌, ◌<◌, ◌≤◌, ◌↔◌, ℕ, add-one, zero, suc, List, IsTrue, true, false, Option, Some, arith, sym, ap, subst, inl, inr, refl, true≢false, add-mul, take, drop, ◌++◌, length}
+use Rattle.std.proofs.Common.{◌≡◌, ◌+◌, ◌-◌, ◌*◌, ◌≤◌, ◌↔◌, ℕ, add-one, zero, suc, List, Option, arith, sym, ap, subst, refl, add-mul, take, drop, ◌++◌, length}
 use Rattle.std.proofs.lemmas.List.{take_at}
 use Rattle.tb_match.specs.Bits.{InTable, Link, Repeated, Through}
 use Rattle.tb_match.specs.Match.{Chain, IsAtMost}

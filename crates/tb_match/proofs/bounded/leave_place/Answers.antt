@@ -1,6 +1,4 @@
-use Rattle.std.proofs.Common.{arith, ◌≡◌, ◌+◌, ◌*◌, ◌-◌, ◌≤◌, ◌↔◌, ◌⊎◌, length, refl, inl, inr, ⊎_elim}
-use borrow.Rule.Slice.PartMut.{put_mid}
-use Rattle.tb_match.specs.Bits.{InRow, InTable}
+use Rattle.std.proofs.Common.{arith, ◌+◌, ◌*◌, ◌-◌, ◌≤◌, length, refl, inl, ⊎_elim}
 use Rattle.tb_match.proofs.Rows.{InRow_part, part_long, row_kept, row_room, row_size, row_written, word_of}
 use Rattle.tb_match.proofs.bounded.leave_place.Goals as goal
 

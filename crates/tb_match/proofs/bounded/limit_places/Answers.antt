@@ -1,7 +1,6 @@
-use Rattle.std.proofs.Common.{arith, ◌≡◌, ◌+◌, ◌*◌, ◌-◌, ◌<◌, ◌≤◌, ◌≢◌, ◌↔◌, ◌⊎◌, ℕ, sym, subst, ⊎_elim}
+use Rattle.std.proofs.Common.{arith, ◌≡◌, ◌+◌, ◌-◌, ◌<◌, ◌≤◌, ◌↔◌, sym, subst, ⊎_elim}
 use Rattle.std.proofs.lemmas.Bool.{cases_lt}
-use Rattle.tb_match.specs.Bits.{InTable, Link, Within, triangle}
-use Rattle.tb_match.specs.Match.{Chain}
+use Rattle.tb_match.specs.Bits.{InTable, Within}
 use Rattle.tb_match.proofs.Limits.{both_true, turns_step}
 use Rattle.tb_match.proofs.bounded.limit_places.Goals as goal
 

@@ -1,4 +1,4 @@
-use Rattle.std.proofs.Common.{arith, ◌≡◌, ◌+◌, ◌*◌, ◌-◌, ◌≤◌, ◌↔◌, ℕ, sym, subst}
+use Rattle.std.proofs.Common.{arith, ◌≡◌, ◌+◌, ◌*◌, ◌-◌, ◌↔◌, ℕ, sym, subst}
 use Rattle.tb_match.specs.Bits.{InRow, Link}
 use Rattle.tb_match.specs.Match.{Chain}
 use Rattle.tb_match.proofs.Limits.{within_all, within_extended, within_from}

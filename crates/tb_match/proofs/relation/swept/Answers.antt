@@ -1,4 +1,4 @@
-use Rattle.std.proofs.Common.{arith, ◌≡◌, ◌+◌, ◌-◌, ◌≤◌, ◌↔◌, ℕ, None, length, sym, subst, ap}
+use Rattle.std.proofs.Common.{arith, ◌≡◌, ◌-◌, ◌≤◌, ◌↔◌, ℕ, length, sym, subst, ap}
 use Rattle.tb_match.specs.Bits.{InTable, IsClosed, IsForward, HasLinksOf, Link, Repeated}
 use Rattle.tb_match.specs.Match.{Chain, IsAtMost}
 use Rattle.tb_match.proofs.Limits.{chains_closed, chains_linked, chains_forward}

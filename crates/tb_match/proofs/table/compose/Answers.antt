@@ -1,4 +1,4 @@
-use Rattle.std.proofs.Common.{arith, ◌≡◌, ◌+◌, ◌-◌, ◌≤◌, ℕ}
+use Rattle.std.proofs.Common.{arith, ◌≡◌, ◌+◌, ◌-◌, ◌≤◌}
 use Rattle.tb_match.specs.Bits.{triangle}
 use Rattle.tb_match.proofs.Sweeps.{composed, triangle_step}
 use Rattle.tb_match.proofs.table.compose.Goals as goal

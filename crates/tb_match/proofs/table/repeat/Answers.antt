@@ -1,5 +1,4 @@
-use Rattle.std.proofs.Common.{arith, ◌≡◌, ◌+◌, ◌*◌, ◌≤◌, ◌<◌, ◌↔◌, ℕ}
-use Rattle.tb_match.specs.Bits.{InTable, Link, Repeated, Through, triangle}
+use Rattle.std.proofs.Common.{arith}
 use Rattle.tb_match.proofs.Sweeps.{closed_before, linked_before, forward_before}
 use Rattle.tb_match.proofs.Repeats.{one_turn}
 use Rattle.tb_match.proofs.table.repeat.Goals as goal
