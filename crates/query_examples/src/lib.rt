@@ -5,6 +5,8 @@
 #[cfg(test)]
 mod border_tests;
 #[cfg(test)]
+mod bound_tests;
+#[cfg(test)]
 mod cases;
 #[cfg(test)]
 mod guide_cases;
