@@ -1,9 +1,9 @@
 -- One more of a key in a map.
-use Rattle.std.proofs.Common.{◌≡◌, ℕ, ◌+◌, ◌<◌, ◌≤◌, Bool, true, false, cond, List, [], ◌∷◌, ◌++◌, String, BTreeMap, Option, Some, None, IsSome, refl, sym, ap, ◌∙◌, subst, arith, string_bytes, unwrap_or, sum}
-use Rattle.std.specs.BTreeMap.{is_at, get, get_by_text, IsOrdered, UpdatesBy, WritesThrough, insert_entry}
+use Rattle.std.proofs.Common.{◌≡◌, ℕ, ◌+◌, ◌<◌, ◌≤◌, Bool, true, false, cond, List, [], ◌∷◌, ◌++◌, String, BTreeMap, Some, None, IsSome, refl, sym, ap, ◌∙◌, subst, arith, string_bytes, unwrap_or, sum}
+use Rattle.std.specs.BTreeMap.{is_at, get_by_text, IsOrdered, UpdatesBy, WritesThrough, insert_entry}
 use Rattle.std.specs.Cmp.Lexicographic.{slice_cmp, bytes_decides, nat_list_eq_equiv}
 use Rattle.std.specs.List.{All}
-use Rattle.std.specs.Map.{keys_of, values_of, lookup, update}
+use Rattle.std.specs.Map.{values_of, lookup}
 use Rattle.std.specs.Ordering.{nat_cmp}
 use Rattle.std.specs.Str.{bytes_eq}
 use Rattle.std.specs.String.{string_cmp, string_cmp_total}
@@ -12,7 +12,7 @@ use Rattle.std.proofs.lemmas.Map.Entries.{sum_by-set_value, sum_by-insert_entry}
 use Rattle.std.proofs.lemmas.Map.Steps.{lookup-le-sum}
 use Rattle.std.proofs.lemmas.Map.Text.{btree_map_updates_text}
 use Rattle.std.proofs.lemmas.Map.Views.{All-values-set_value, All-values-insert_entry}
-use Rattle.tb_report.specs.Tables.{Row, IsTable, IsTableOf, CountsOneMore, count_in, total_of, times, one_if_same}
+use Rattle.tb_report.specs.Tables.{Row, IsTable, IsTableOf, CountsOneMore, count_in, total_of, one_if_same}
 use Rattle.tb_report.specs.Kept.{rows_of}
 use Rattle.tb_report.proofs.Rows.{lookup_rows, values_rows, ascending_rows}
 

@@ -1,13 +1,11 @@
 -- The texts of a hit and of the words round it, as parts of those of the sentence.
-use Rattle.std.proofs.Common.{◌≡◌, ℕ, ◌+◌, ◌-◌, ◌<◌, ◌≤◌, List, [], ◌∷◌, ◌++◌, map, filter, take, drop, refl, sym, ap, ◌∙◌, subst, arith, append_assoc, Option}
+use Rattle.std.proofs.Common.{◌≡◌, ℕ, ◌+◌, ◌-◌, ◌<◌, List, [], ◌∷◌, ◌++◌, map, take, drop, refl, sym, ap, ◌∙◌, subst, arith, append_assoc, Option}
 use Rattle.std.specs.Io.KnownBytes.{Appends}
-use Rattle.std.specs.Fmt.{decimal}
 use Rattle.std.specs.List.{join_with_byte}
 use Rattle.std.proofs.KnownBytes.{Appends-trans}
 use Rattle.std.proofs.lemmas.List.{drop-take, drop-map, drop-drop}
-use Rattle.tb_conllu.specs.Text.{RowText, BlockText}
-use Rattle.tb_conllu.specs.Words.{is_word}
-use Rattle.tb_report.specs.Keywords.{joined, before, of_hit, after, columns}
+use Rattle.tb_conllu.specs.Text.{RowText}
+use Rattle.tb_report.specs.Keywords.{joined, before, of_hit, after}
 
 -- what stands behind the first words
 pub behind : (f : RowText → List ℕ) (words rest : List RowText) (i : ℕ) → rest ≡ drop i words → map f rest ≡ drop i (map f words)

@@ -1,11 +1,11 @@
 -- A table has one ranking.
-use Rattle.std.proofs.Common.{◌≡◌, ℕ, true, List, sym, ap, true≢false}
+use Rattle.std.proofs.Common.{◌≡◌, List, sym}
 use Rattle.std.specs.BTreeMap.{is_at}
 use Rattle.std.specs.declared.cmp.Ordering.{Ordering}
 use Rattle.std.specs.declared.cmp.Ordering.TheVariants.{Less, Equal, Greater}
 use Rattle.std.specs.Cmp.Lexicographic.{slice_cmp}
 use Rattle.std.specs.List.Sorted.{IsPermutation}
-use Rattle.std.specs.Ordering.{nat_cmp, is_eq, ordering_then}
+use Rattle.std.specs.Ordering.{nat_cmp, ordering_then}
 use Rattle.std.proofs.lemmas.List.Sorted.{IsPermutation-sym, IsPermutation-trans, list_any-IsPermutation}
 use Rattle.std.proofs.lemmas.Map.Lookups.{btree_set_from_contains, exact_bytes, exact_unsigned}
 use Rattle.tb_report.specs.Tables.{Row, IsRankingOf, rank}

@@ -8,7 +8,7 @@ use Rattle.std.specs.Map.{keys_of, values_of, lookup}
 use Rattle.std.specs.Option.{IfSome}
 use Rattle.std.specs.declared.cmp.Ordering.{Ordering}
 use Rattle.std.specs.declared.cmp.Ordering.TheVariants.{Less, Equal, Greater}
-use Rattle.std.specs.Ordering.{nat_cmp, is_eq, ordering_reverse}
+use Rattle.std.specs.Ordering.{nat_cmp, ordering_reverse}
 use Rattle.std.specs.Str.{bytes_eq}
 use Rattle.std.proofs.lemmas.Option.{none-some}
 use Rattle.std.proofs.lemmas.Cmp.{eq_by_cmp_equiv}

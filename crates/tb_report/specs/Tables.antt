@@ -1,5 +1,5 @@
 -- Frequency tables: keys, as their bytes, each with how often it occurs.
-use Rattle.std.specs.Prelude.{◌≡◌, ℕ, ◌+◌, ◌<◌, Bool, List, if◌then◌else◌, count_by, sum, unwrap_or}
+use Rattle.std.specs.Prelude.{◌≡◌, ℕ, ◌+◌, ◌<◌, List, if◌then◌else◌, count_by, sum, unwrap_or}
 use Rattle.std.specs.List.{All}
 use Rattle.std.specs.List.Sorted.{IsStrictlySortedBy, IsPermutation}
 use Rattle.std.specs.Map.{keys_of, values_of, lookup}

@@ -1,4 +1,4 @@
-use Rattle.std.proofs.Common.{◌≡◌, [], ◌∷◌, ◌++◌, ℕ, List, Some, map, subst, ◌∙◌, ap}
+use Rattle.std.proofs.Common.{◌≡◌, [], ◌∷◌, ℕ, List, Some, map, subst, ◌∙◌, ap}
 use Rattle.std.proofs.lemmas.Result.{IfOk-weaker}
 use Rattle.tb_report.specs.Csv.{PutsRows, freq_fields, freq_head}
 use Rattle.tb_report.specs.Kept.{ranked_row}

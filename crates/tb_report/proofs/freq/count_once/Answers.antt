@@ -1,4 +1,4 @@
-use Rattle.std.proofs.Common.{◌≡◌, ℕ, ◌+◌, ◌<◌, None, refl, String, BTreeMap, Global, sym, subst, arith, string_bytes}
+use Rattle.std.proofs.Common.{◌≡◌, ℕ, ◌+◌, None, refl, String, BTreeMap, Global, sym, subst, arith, string_bytes}
 use Rattle.std.proofs.lemmas.Result.{IfOk-at_ok}
 use Rattle.std.specs.BTreeMap.{get_by_text}
 use Rattle.tb_report.specs.Kept.{rows_of}

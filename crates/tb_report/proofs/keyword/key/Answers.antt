@@ -1,4 +1,4 @@
-use Rattle.std.proofs.Common.{◌≡◌, ◌-◌, ◌∙◌, ap, drop, filter, List, map, sym, take}
+use Rattle.std.proofs.Common.{◌≡◌, ◌-◌, ◌∙◌, ap, drop, filter, List, take}
 use Rattle.tb_conllu.specs.Text.{RowText, BlockText}
 use Rattle.tb_conllu.specs.Words.{is_word}
 use Rattle.tb_query.specs.Meaning.{value_of, word_rows}

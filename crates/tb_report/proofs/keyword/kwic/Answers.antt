@@ -8,7 +8,7 @@ use Rattle.tb_conllu.specs.Text.{RowText, BlockText}
 use Rattle.tb_conllu.specs.Words.{is_word}
 use Rattle.tb_core.specs.Machine.{sent_id_of}
 use Rattle.tb_query.specs.Meaning.{word_rows}
-use Rattle.tb_report.specs.Keywords.{joined, before, of_hit, after, columns, keyword_line}
+use Rattle.tb_report.specs.Keywords.{joined, before, of_hit, after}
 use Rattle.tb_report.proofs.HitTexts.{six_columns}
 use Rattle.tb_report.proofs.keyword.kwic.Goals as goal
 

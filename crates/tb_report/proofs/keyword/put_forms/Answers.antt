@@ -1,5 +1,4 @@
-use Rattle.std.proofs.Common.{◌∙◌, ap, filter, subst, sym}
-use Rattle.std.specs.Io.KnownBytes.{Appends}
+use Rattle.std.proofs.Common.{filter}
 use Rattle.std.proofs.lemmas.Result.{on_ok_weaker}
 use Rattle.tb_conllu.specs.Text.{RowText}
 use Rattle.tb_conllu.specs.Words.{is_word}

@@ -1,4 +1,4 @@
-use Rattle.std.proofs.Common.{◌≡◌, ◌++◌, ◌∙◌, ap, arith, length, string_bytes, subst, sym}
+use Rattle.std.proofs.Common.{◌++◌, ◌∙◌, ap, arith, length, sym}
 use Rattle.tb_query.specs.Meaning.{value_of}
 use Rattle.tb_report.specs.Keywords.{joined}
 use Rattle.tb_report.proofs.WordLists.{first_words, joined_word, no_word, one_more_word, texts_of, next_text}

@@ -1,9 +1,8 @@
 use Rattle.std.proofs.Common.{◌∙◌, ap, arith, length, subst, sym}
 use Rattle.std.specs.Io.KnownBytes.{Appends}
-use Rattle.std.proofs.lemmas.List.{length-append}
 use Rattle.tb_conllu.specs.Text.{RowText}
 use Rattle.tb_report.specs.Keywords.{joined}
-use Rattle.tb_report.proofs.WordLists.{first_words, joined_put, next_word, no_word, one_more_word, texts_of}
+use Rattle.tb_report.proofs.WordLists.{first_words, joined_put, no_word, one_more_word, texts_of}
 use Rattle.tb_report.proofs.words.put_words.Goals as goal
 
 pub returns-then-done-words-clause-put : goal.returns-then-done-words-clause-put

@@ -1,6 +1,5 @@
-use Rattle.std.proofs.Common.{arith, ◌≡◌, [], sym, subst}
+use Rattle.std.proofs.Common.{arith, ◌≡◌, []}
 use Rattle.std.specs.List.Sorted.{IsStrictlySortedBy}
-use Rattle.tb_report.specs.Kept.{rows_of}
 use Rattle.tb_report.specs.Tables.{IsTable, total_of}
 use Rattle.tb_report.proofs.freq.Freq.new.Goals as goal
 
