@@ -4,10 +4,12 @@
 
 mod creation;
 mod insert;
+mod layout;
 mod rows;
 mod update;
 
 pub use creation::{create, is_blank, left_by_a_crash};
 pub use insert::{insert_batch, insert_move, insert_pulled, insert_revision, insert_sentence};
+pub use layout::has_desk_names;
 pub use rows::{BatchRow, MoveRow, RevisionRow, SentenceRow, TotalRow};
 pub use update::{delete_pulled, update_batch, update_sentence, update_total};
