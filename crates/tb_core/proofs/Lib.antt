@@ -14,3 +14,5 @@ pub mod Once
 pub mod Judged
 pub mod Always
 pub mod Stored
+pub mod Bodies
+pub mod Alike

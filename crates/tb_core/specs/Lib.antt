@@ -13,3 +13,5 @@ pub mod Commands
 pub mod Tests
 pub mod Steps
 pub mod Rows
+pub mod Taking
+pub mod SameRows

@@ -1,6 +1,8 @@
 //! The desk machine: batches, sentences and moves, what each command is answered, and what every state keeps.
 #![tactic(auto)]
 
+mod bodyfault;
+mod correction;
 mod deciding;
 mod kinds;
 mod laws;
@@ -8,8 +10,11 @@ mod limits;
 mod moves;
 mod refusals;
 mod replies;
+mod sameness;
 mod sums;
+mod taking;
 
+pub use correction::{take_one, take_one_ref};
 pub use deciding::{
     correctable, decide_correct, decide_event, decide_pull, decide_restore, good_name,
 };
@@ -25,3 +30,4 @@ pub use moves::Move;
 pub use refusals::{Fault, Refusal};
 pub use replies::{Corrected, Imported, Moved, Pulled, Restored};
 pub use sums::Totals;
+pub use taking::{Taken, take_file, take_file_ref};

@@ -7,9 +7,9 @@ use std::alloc::Global;
 use std::io::{self, ErrorKind, Write};
 use std::test::Fail;
 use tb_conllu::{
-    WriteFault, a_file_begins_one_way, fault_after_sentences, faulty_line_is_dead,
-    one_fault_is_told, one_list_has_a_text, read_lines_are_alive, read_ref, told_bytes_are_no_file,
-    write, write_block_to, write_to,
+    WriteFault, a_file_begins_one_way, a_file_is_read_in_order, fault_after_sentences,
+    faulty_line_is_dead, one_fault_is_told, one_list_has_a_text, read_lines_are_alive, read_ref,
+    told_bytes_are_no_file, write, write_block_to, write_to,
 };
 
 /// Whether the sentences of a file are written as its text, by each of the three writers.
@@ -88,6 +88,7 @@ fn laws_of_files_are_called(_rt: HostRuntime) {
     read_lines_are_alive();
     one_list_has_a_text();
     a_file_begins_one_way();
+    a_file_is_read_in_order();
     fault_after_sentences();
     told_bytes_are_no_file();
     one_fault_is_told();

@@ -1,0 +1,104 @@
+//! The bodies of imports and corrections, taken.
+
+ghost use Rattle.std.specs.Prelude.{◌≡◌, ◌∷◌, [], ℕ, List, IfOk, IfErr, MatchResult, map};
+ghost use Rattle.tb_conllu.specs.Text.{BlockText, text_of};
+ghost use Rattle.tb_core.specs.Taking.{IsBody, IsBodyRefused, IsTakingFault, TakenText, taken_of};
+ghost use Rattle.tb_core.specs.declared.refusals.Fault.TheVariants.{Memory};
+
+use crate::bodyfault::told_first;
+use crate::refusals::{Fault, Refusal};
+use std::alloc::Global;
+use std::marker::Model;
+use tb_conllu::{
+    Block, Passage, Sentences, a_file_is_read_in_order, one_list_has_a_text, read,
+    told_bytes_are_no_file, words,
+};
+use tb_rules::{Checker, a_fault_stays, faulty_sentences_are_not_valid, sent_id_ref};
+
+/// What is kept of a sentence of a body that is taken. It borrows from the body.
+#[derive(Drop)]
+pub struct Taken<'a> {
+    /// Its name.
+    pub sent_id: &'a str,
+    /// How many words it has.
+    pub words: u64,
+    /// Its text, with the blank line: the slice of the body that it was read of.
+    pub text: &'a str,
+}
+
+impl<'a> Model for Taken<'a> {
+    ghost Value = { TakenText };
+
+    ghost view = { λ t. record { sent_id = t.sent_id.now; words = t.words; text = t.text.now } };
+}
+
+/// What is kept of a sentence that was read.
+fn kept<'a>(passage: &Passage<'a>) -> Taken<'a>
+    requires { passage.now.text.now ≡ text_of (passage.now.block ∷ []) }
+    ensures { result ≡ taken_of passage.now.block }
+{
+    Taken {
+        sent_id: sent_id_ref(&passage.block).unwrap_or(""),
+        words: words(&passage.block) as u64,
+        text: passage.text,
+    }
+}
+
+/// The sentences of a body, as `take_file_ref` gives them.
+fn sentences_of<'a>(alloc: Global, body: &'a [u8]) -> Result<Vec<Taken<'a>>, Fault>
+    ensures taken { IfOk result (λ v. (bs : List BlockText) × IsBody body.now bs × (v.items ≡ map taken_of bs)) }
+    ensures refused { IfErr result (IsTakingFault (IsBodyRefused body.now)) }
+{
+    // The laws by which what was read, and what is left, tell of the body.
+    a_file_is_read_in_order();
+    a_fault_stays();
+    let mut unread = Sentences::new(body);
+    let mut checker = Checker::new(alloc);
+    let mut all: Vec<Taken<'a>> = Vec::new(alloc);
+    while let Some(passage) = unread.read_passage(alloc)? {
+        if let Err(broken) = checker.take(&passage.block) {
+            return Err(told_first(alloc, &mut unread, broken));
+        }
+        all.push(kept(&passage))?;
+    }
+    if all.is_empty() {
+        return Err(Fault::from(Refusal::Empty));
+    }
+    Ok(all)
+}
+
+/// The sentences of a body that is a file of valid sentences, of which one at least is there. Their texts, one after the
+/// other, are the body.
+///
+/// # Errors
+///
+/// The first that holds: `Read`, the line that nothing can mend, with its least code; `Rule`, of a body that can be read
+/// whole, the first sentence that breaks a rule; `Empty`. Or want of memory.
+pub fn take_file_ref<'a>(alloc: Global, body: &'a [u8]) -> Result<Vec<Taken<'a>>, Fault>
+    ensures taken { IfOk result (λ v. (bs : List BlockText) × IsBody body.now bs × (v.items ≡ map taken_of bs)) }
+    ensures refused { IfErr result (IsTakingFault (IsBodyRefused body.now)) }
+    ensures only { (bs : List BlockText) → IsBody body.now bs → MatchResult result (λ v. v.items ≡ map taken_of bs) (λ e. e ≡ Memory) }
+{
+    // The laws by which a body is answered one way.
+    one_list_has_a_text();
+    told_bytes_are_no_file();
+    faulty_sentences_are_not_valid();
+    sentences_of(alloc, body)
+}
+
+/// The sentences of a body, which hold their texts; or its refusal, as `take_file_ref` tells it.
+///
+/// # Errors
+///
+/// Those of `take_file_ref`.
+pub fn take_file(alloc: Global, body: &[u8]) -> Result<Vec<Block>, Fault>
+    ensures taken { IfOk result (λ v. IsBody body.now v.items) }
+    ensures refused { IfErr result (IsTakingFault (IsBodyRefused body.now)) }
+    ensures only { (bs : List BlockText) → IsBody body.now bs → MatchResult result (λ v. v.items ≡ bs) (λ e. e ≡ Memory) }
+{
+    // The law by which the sentences that were checked are those that are read.
+    one_list_has_a_text();
+    let checked = take_file_ref(alloc, body)?;
+    drop(checked);
+    Ok(read(alloc, body)?)
+}
