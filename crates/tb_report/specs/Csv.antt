@@ -9,7 +9,7 @@ use Rattle.tb_core.specs.declared.kinds.State.{State}
 use Rattle.tb_core.specs.declared.kinds.State.TheVariants.{Opened, Assigned, Submitted, Adjudicated, Released, Withdrawn}
 use Rattle.tb_core.specs.declared.sums.Totals.{Totals}
 use Rattle.tb_core.specs.Moves.{MoveText}
-use Rattle.tb_core.specs.Totals.{sentences_in, words_in}
+use Rattle.tb_core.specs.Totals.{at_state}
 use Rattle.tb_core.specs.Words.{state_word, kind_word}
 use Rattle.tb_report.specs.Tables.{Row}
 
@@ -38,7 +38,7 @@ abbrev pub all_states : List State
 all_states = Opened ∷ Assigned ∷ Submitted ∷ Adjudicated ∷ Released ∷ Withdrawn ∷ []
 
 abbrev pub totals_fields : Totals → State → List (List ℕ)
-totals_fields t state = state_word state ∷ decimal (sentences_in t state) ∷ decimal (words_in t state) ∷ []
+totals_fields t state = state_word state ∷ decimal (at_state t.sentences state) ∷ decimal (at_state t.words state) ∷ []
 
 -- a line for each state
 abbrev pub totals_csv : Totals → List ℕ
