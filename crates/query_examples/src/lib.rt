@@ -5,8 +5,6 @@
 #[cfg(test)]
 mod border_tests;
 #[cfg(test)]
-mod bound_tests;
-#[cfg(test)]
 mod cases;
 #[cfg(test)]
 mod guide_cases;
