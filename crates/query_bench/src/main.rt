@@ -1,16 +1,24 @@
-//! Times queries: reading their texts, and searching the sentences of a CoNLL-U file on standard input, which is read once
-//! before. The best of many rounds is told. `query_bench times < FILE` prints a line a case; without the word it only says
-//! so, since times are never the same twice.
+//! Times queries: reading their texts, and searching sentences. `query_bench times < FILE` searches those of a CoNLL-U file
+//! on standard input, which is read once before; `query_bench drawn` searches sentences of drawn tags, `query_bench
+//! repetitions` one of 1,000 words for repetitions within one another, both with tables made before, and `query_bench depth
+//! N` tries a pattern N levels deep. Each line tells the least time of many rounds; without a word the program only says
+//! what it can do, since times are never the same twice.
 #![tactic(auto)]
 
+mod drawn;
+mod matching;
 mod queries;
 mod rounds;
 
-use queries::{NOUN_PHRASES, SEARCHES};
+use drawn::{halves, many};
+use matching::{depth, matching};
+use queries::{NOUN_PHRASES, PATTERNS, REPETITIONS, SEARCHES};
 use rounds::{parsing, searching};
+use std::alloc::{AllocError, Global};
 use std::env;
 use std::io::{self, Read};
 use tb_conllu::{BlockRef, read_ref};
+use tb_match::Strategy;
 
 /// Times all searches of the sentences.
 fn searches(rt: HostRuntime, sentences: &[BlockRef<'_>]) -> io::Result<()> {
@@ -33,10 +41,62 @@ fn times(rt: HostRuntime) -> io::Result<()> {
     }
 }
 
+/// Times patterns over 1,000 sentences of so many words.
+fn drawn_sentences(rt: HostRuntime, words: u32) -> io::Result<()> {
+    let sentences = many(rt.alloc(), words)?;
+    for (name, text) in PATTERNS {
+        print!(rt; "{words} words, {name},")?;
+        matching(rt, text, &sentences, Strategy::Longest)?;
+    }
+    Ok(())
+}
+
+/// The text of repetitions within one another, several times.
+fn repeated(
+    alloc: Global,
+    times: usize,
+    levels: usize,
+    inner: &str,
+    numbers: &str,
+) -> Result<String, AllocError> {
+    let mut once = String::new(alloc);
+    once.push_str(inner)?;
+    for level in 0..levels {
+        if level > 0 {
+            once.insert(0, '(')?;
+            once.push(')')?;
+        }
+        once.push_str(numbers)?;
+    }
+    once.push(' ')?;
+    once.repeat(alloc, times)
+}
+
+/// Times repetitions within one another over one sentence of 1,000 words.
+fn repetitions(rt: HostRuntime) -> io::Result<()> {
+    let alloc = rt.alloc();
+    let sentences = halves(alloc)?;
+    for (times, levels, inner, numbers) in REPETITIONS {
+        let text = repeated(alloc, times, levels, inner, numbers)?;
+        print!(rt; "{times} of {levels} levels of {inner}{numbers},")?;
+        matching(rt, text.as_str(), &sentences, Strategy::Longest)?;
+    }
+    Ok(())
+}
+
 fn main(rt: HostRuntime) -> io::Result<()> {
     let words: Vec<String> = env::args(&rt)?.collect(rt.alloc())?;
+    let levels = words.get(2).map_or("1000", |word| word.as_str());
     match words.get(1) {
         Some(word) if word.as_str() == "times" => times(rt),
-        _ => println!(rt; "usage: query_bench times < FILE"),
+        Some(word) if word.as_str() == "drawn" => {
+            for count in [18, 20, 60, 64, 100] {
+                drawn_sentences(rt, count)?;
+            }
+            Ok(())
+        }
+        Some(word) if word.as_str() == "repetitions" => repetitions(rt),
+        Some(word) if word.as_str() == "depth" => depth(rt, levels.parse().unwrap_or(1000)),
+        _ => println!(rt; "usage: query_bench times < FILE | drawn | repetitions | depth N"),
     }
 }

@@ -9,7 +9,7 @@ use tb_query::{Query, QueryFault, parse};
 
 /// Sentences of more rows are left out. A search takes 1,000 words, and there are no more words than
 /// rows: so the words are counted by the searcher alone, and not once more beforehand.
-const MOST_ROWS: usize = 1000;
+pub const MOST_ROWS: usize = 1000;
 
 /// Times reading the text of a query: the least and the mean of 2,000 rounds.
 pub fn parsing(rt: HostRuntime, name: &str, text: &str) -> io::Result<()> {

@@ -5,6 +5,8 @@
 #[cfg(test)]
 mod border_tests;
 #[cfg(test)]
+mod bound_tests;
+#[cfg(test)]
 mod cases;
 #[cfg(test)]
 mod guide_cases;
@@ -36,6 +38,8 @@ mod questions;
 mod random_tests;
 #[cfg(test)]
 mod reading;
+#[cfg(test)]
+mod repetitions;
 #[cfg(test)]
 mod samples;
 #[cfg(test)]

@@ -3,6 +3,7 @@
 use crate::hit_lists::{hits_of, sample_hits};
 use crate::literals::{fit, refusal};
 use crate::queries::{held, literals, placed, query, repeats, scanned, tree};
+use crate::repetitions::known_hits;
 use crate::writing::shown;
 use std::alloc::Global;
 use std::process::Abort;
@@ -41,6 +42,8 @@ pub(crate) enum Question {
     Hits(Strategy, &'static str),
     /// What it finds in a sample, which stands before it with the strategy.
     SampleHits,
+    /// What repetitions within one another find in 1,000 words, and whether by as many unions as they may take.
+    Repetition,
 }
 
 /// What the text is answered with.
@@ -65,5 +68,6 @@ pub(crate) fn answer(
         Question::Held(file) => held(rt, alloc, text, file),
         Question::Hits(by, file) => hits_of(rt, alloc, text, by, file, ""),
         Question::SampleHits => sample_hits(rt, alloc, text),
+        Question::Repetition => Ok(known_hits(rt, alloc, text)?),
     }
 }

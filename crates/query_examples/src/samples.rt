@@ -77,12 +77,12 @@ const ENGLISH: &str = "\
 const HINDI: &str = "\
     # sent_id = hi-1\n\
     # text = राम ने मीठा फल खाया।\n\
-    1\tराम\tराम\tPROPN\t_\tCase=Acc|Gender=Masc|Number=Sing\t5\tnsubj\t_\t_\n\
-    2\tने\tने\tADP\t_\tCase=Erg\t1\tcase\t_\t_\n\
-    3\tमीठा\tमीठा\tADJ\t_\tCase=Nom|Gender=Masc|Number=Sing\t4\tamod\t_\t_\n\
-    4\tफल\tफल\tNOUN\t_\tCase=Nom|Gender=Masc|Number=Sing\t5\tobj\t_\t_\n\
-    5\tखाया\tखा\tVERB\t_\tAspect=Perf|Gender=Masc|Number=Sing|VerbForm=Part\t0\troot\t_\tSpaceAfter=No\n\
-    6\t।\t।\tPUNCT\t_\t_\t5\tpunct\t_\t_\n\
+    1\tराम\tराम\tPROPN\t_\tCase=Acc|Gender=Masc|Number=Sing\t5\tnsubj\t5:nsubj\t_\n\
+    2\tने\tने\tADP\t_\tCase=Erg\t1\tcase\t1:case\t_\n\
+    3\tमीठा\tमीठा\tADJ\t_\tCase=Nom|Gender=Masc|Number=Sing\t4\tamod\t4:amod\t_\n\
+    4\tफल\tफल\tNOUN\t_\tCase=Nom|Gender=Masc|Number=Sing\t5\tobj\t5:obj\t_\n\
+    5\tखाया\tखा\tVERB\t_\tAspect=Perf|Gender=Masc|Number=Sing|VerbForm=Part\t0\troot\t0:root\tSpaceAfter=No\n\
+    6\t।\t।\tPUNCT\t_\t_\t5\tpunct\t5:punct\t_\n\
     \n\
     # sent_id = hi-2\n\
     # text = बच्चे पार्क में खेलते हैं।\n\

@@ -1,6 +1,7 @@
 pub mod Cells
 pub mod Chains
 pub mod Closures
+pub mod Doubles
 pub mod Filters
 pub mod Limits
 pub mod Masks

@@ -107,6 +107,42 @@ pub turns_less : (a : ℕ) (b : Option ℕ) (T : ℕ) → 1 ≤ a → turns (a -
 turns_less a None T some = let le : a - 1 + 2 ≤ a + 2 = omega arith in mul-le-mul_right T le
 turns_less a (Some b) T some = omega arith
 
+pub turns_fewer : (a c : ℕ) (b : Option ℕ) (T : ℕ) → c ≤ a → turns c b * T ≤ turns a b * T
+turns_fewer a c None T few = let le : c + 2 ≤ a + 2 = omega arith in mul-le-mul_right T le
+turns_fewer a c (Some b) T few = omega arith
+
+pub between_fewer : (a c : ℕ) (b : Option ℕ) → c ≤ a → IsBetween a b → IsBetween c b
+between_fewer a c None few h = omega arith
+between_fewer a c (Some b) few (small, le, one, most) = (omega arith, omega arith, one, most)
+
+at_most : (a : ℕ) (b : Option ℕ) → IsBetween a b → IsAtMost a b
+at_most a None h = tt
+at_most a (Some b) (small, le, one, most) = le
+
+-- where a link leads from each place to itself, a chain of fewer links is also one of more
+module _ (L : List ℕ) (w last : ℕ) (stay : (i : ℕ) → i ≤ last → InTable L w i i) where
+  staying : (n i : ℕ) → i ≤ last → Chain (Link L w last) n i i
+  staying zero i here = refl
+  staying (suc n) i here = (i, (omega arith, here, stay i here), staying n i here)
+
+  longer : (a : ℕ) (b : Option ℕ) (i j : ℕ) → IsBetween a b → i ≤ last →
+      ((k : ℕ) × IsAtMost k b × Chain (Link L w last) k i j) → (k : ℕ) × (a ≤ k) × IsAtMost k b × Chain (Link L w last) k i j
+  longer a b i j order here (k, most, c) = ⊎_elim
+      (λ (lt : k < a).
+      let e : a - k + k ≡ a = omega arith in
+      (a, omega arith, at_most a b order, subst (λ n. Chain (Link L w last) n i j) e (chain_join (Link L w last) (a - k) k i i j (staying (a - k) i here) c)))
+      (λ (ge : a ≤ k). (k, ge, most, c))
+      (cases_lt k a)
+
+-- a lower least number does as well, where chains may be made longer
+pub lower_least : (L : List ℕ) (w last a c : ℕ) (b : Option ℕ) (i j : ℕ) → IsBetween a b → c ≤ a → i ≤ last →
+    ((c ≡ a) ⊎ ((i : ℕ) → i ≤ last → InTable L w i i)) →
+    ((k : ℕ) × (c ≤ k) × IsAtMost k b × Chain (Link L w last) k i j) ↔ ((k : ℕ) × (a ≤ k) × IsAtMost k b × Chain (Link L w last) k i j)
+lower_least L w last a c b i j order few here h = (
+  λ (k, le, most, d). ⊎_elim (λ e. (k, omega arith, most, d)) (λ stay. longer L w last stay a b i j order here (k, most, d)) h,
+  λ (k, le, most, d). (k, omega arith, most, d),
+)
+
 -- at least one link, where it follows all but one of the least number
 pub some_least : (L V T : List ℕ) (w last a : ℕ) (b : Option ℕ) (i j : ℕ) → i ≤ last → 1 ≤ a → IsBetween a b →
     (InTable T w i j ↔ ((k : ℕ) × IsAtMost (a - 1 + k) b × Chain (Link L w last) k i j)) →

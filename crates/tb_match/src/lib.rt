@@ -2,6 +2,7 @@
 #![tactic(auto)]
 
 mod bounded;
+mod doubling;
 mod finding;
 mod hits;
 mod narrow;

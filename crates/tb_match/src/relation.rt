@@ -8,13 +8,15 @@ ghost use Rattle.tb_match.specs.Weight.{IsBetween, weight_of, turns, IsProper};
 ghost use Rattle.tb_match.specs.Facts.{Facts, Holds};
 
 use crate::bounded::{leave, limit};
+use crate::doubling::repeat;
 use crate::narrow::chain_words;
 use crate::pattern::Pat;
-use crate::table::{close, compose, diagonal, empty, mark, merge, repeat};
+use crate::table::{close, compose, diagonal, empty, mark, merge};
 use crate::token::{
     optional_token_of, optional_token_rows, run_on, short_run_of, step_over, token_of,
 };
 use crate::truth::Truth;
+use crate::walk::next_place;
 use std::alloc::{AllocError, Global};
 
 /// The rows of one word of which the expression holds, marked one by one.
@@ -146,7 +148,7 @@ fn begun(
 /// `most` where it is given.
 fn swept(
     alloc: Global,
-    links: &[u64],
+    links: &mut [u64],
     least: u8,
     most: Option<u8>,
     spare: &mut [u64],
@@ -158,13 +160,13 @@ fn swept(
     requires wide { last / 64 < width }
     requires narrow { width ≤ 16 }
     requires spare { length spare.old ≡ width }
-    requires links { length links.now ≡ (last + 1) * width }
-    requires forward { IsForward links.now width last }
+    requires links { length links.old ≡ (last + 1) * width }
+    requires forward { IsForward links.old width last }
     requires small { last ≤ 1000 }
     requires countable { steps.old + turns least most * triangle (last + 1) < 2 ^ 64 }
     ensures whole { IfOk result (λ v. length v.items ≡ (last + 1) * width) }
     ensures rows { IfOk result (λ v. (i j : ℕ) → i ≤ last → j ≤ last →
-        (InTable v.items width i j ↔ ((k : ℕ) × (least ≤ k) × IsAtMost k most × Chain (Link links.now width last) k i j))) }
+        (InTable v.items width i j ↔ ((k : ℕ) × (least ≤ k) × IsAtMost k most × Chain (Link links.old width last) k i j))) }
     ensures more { steps.old ≤ steps.new }
     ensures bound { steps.new ≤ steps.old + turns least most * triangle (last + 1) }
 {
@@ -177,6 +179,37 @@ fn swept(
         links, &mut rows, spare, width, last, times, unlimited, steps,
     );
     Ok(rows)
+}
+
+/// Whether a link leads from each place to itself, as where the pattern matches no words.
+fn all_stay(links: &[u64], width: usize, last: usize) -> bool
+    requires wide { last / 64 < width }
+    requires links { length links.now ≡ (last + 1) * width }
+    requires small { last ≤ 1000 }
+    ensures { IsTrue result → (i : ℕ) → i ≤ last → InTable links.now width i i }
+{
+    for place in 0..last + 1 {
+        if next_place(links, place * width, place, place) > place {
+            return false;
+        }
+    }
+    true
+}
+
+/// The least number of links that has to be asked for. Where a link leads from each place to
+/// itself, a chain of fewer links is also one of more.
+fn least_needed(links: &[u64], least: u8, width: usize, last: usize) -> u8
+    requires wide { last / 64 < width }
+    requires links { length links.now ≡ (last + 1) * width }
+    requires small { last ≤ 1000 }
+    ensures fewer { result ≤ least }
+    ensures same { (result ≡ least) ⊎ ((i : ℕ) → i ≤ last → InTable links.now width i i) }
+{
+    if least > 1 && all_stay(links, width, last) {
+        0
+    } else {
+        least
+    }
 }
 
 /// Whether the links are to be chained in their own table: where the numbers are those of `+` and
@@ -216,7 +249,8 @@ fn repetition(
         chain_words(&mut links, last, steps);
         return Ok(links);
     }
-    swept(alloc, &links, least, most, spare, width, last, steps)
+    let needed = least_needed(&links, least, width, last);
+    swept(alloc, &mut links, needed, most, spare, width, last, steps)
 }
 
 /// The rows of the parts, one after the other.

@@ -1,7 +1,7 @@
 //! Tables of bit rows, one after the other in one slice.
 
 ghost use Rattle.std.specs.Prelude.{◌≡◌, ◌+◌, ◌-◌, ◌*◌, ◌/◌, ◌<◌, ◌≤◌, ◌^◌, ◌↔◌, ◌⊎◌, ◌≢◌, ℕ, IsTrue, IfOk, length, true};
-ghost use Rattle.tb_match.specs.Bits.{InRow, InTable, Through, Link, Repeated, IsClosed, IsForward, HasLinksOf, HasRowsOf, triangle};
+ghost use Rattle.tb_match.specs.Bits.{InRow, InTable, Through, Link, IsClosed, IsForward, HasRowsOf, triangle};
 ghost use Rattle.tb_match.specs.Match.{Chain};
 
 use crate::uniting::unite;
@@ -118,12 +118,12 @@ pub(crate) fn store(table: &mut [u64], row: &[u64], place: usize)
 }
 
 /// The last place of a row of one word.
-const LAST_OF_WORD: usize = 63;
+pub(crate) const LAST_OF_WORD: usize = 63;
 
 /// Unites into the empty row that of each place that a link from `first` leads to. Where the rows
 /// are closed, those that the row has already are left out.
 #[inline(always)]
-fn gather_all(
+pub(crate) fn gather_all(
     spare: &mut [u64],
     width: usize,
     links: &[u64],
@@ -302,37 +302,6 @@ pub(crate) fn close(
 {
     for place in (0..last + 1).rev() {
         set_closed_row(links, table, spare, width, place, last, steps);
-    }
-}
-
-/// Puts the links before the table's relation as many times. Where the table is closed, and has the
-/// links of each of its places, this costs less.
-pub(crate) fn repeat(
-    links: &[u64],
-    table: &mut [u64],
-    spare: &mut [u64],
-    width: usize,
-    last: usize,
-    times: usize,
-    closed: bool,
-    steps: &mut u64,
-)
-    requires wide { last / 64 < width }
-    requires spare { length spare.old ≡ width }
-    requires links { length links.now ≡ (last + 1) * width }
-    requires table { length table.old ≡ (last + 1) * width }
-    requires small { last ≤ 1000 }
-    requires countable { steps.old + times * triangle (last + 1) < 2 ^ 64 }
-    requires closed { IsTrue closed → IsClosed table.old width 0 last }
-    requires linked { IsTrue closed → HasLinksOf table.old links.now width last }
-    requires forward { IsTrue closed → IsForward table.old width last }
-    ensures rows { (i j : ℕ) → i ≤ last → j ≤ last →
-        (InTable table.new width i j ↔ Repeated links.now table.old width last times i j) }
-    ensures more { steps.old ≤ steps.new }
-    ensures bound { steps.new ≤ steps.old + times * triangle (last + 1) }
-{
-    for turn in 0..times {
-        compose(links, table, spare, width, last, closed, steps);
     }
 }
 

@@ -1,4 +1,4 @@
-use Rattle.std.proofs.Common.{arith, ◌≡◌, ◌-◌, ◌≤◌, ◌↔◌, ℕ, length, sym, subst, ap}
+use Rattle.std.proofs.Common.{arith, ◌≡◌, ◌+◌, ◌-◌, ◌≤◌, ◌↔◌, ℕ, length, sym, subst, ap}
 use Rattle.tb_match.specs.Bits.{InTable, IsClosed, IsForward, HasLinksOf, Link, Repeated}
 use Rattle.tb_match.specs.Match.{Chain, IsAtMost}
 use Rattle.tb_match.proofs.Limits.{chains_closed, chains_linked, chains_forward}
@@ -19,6 +19,17 @@ pub repeat-requires-clause-forward : goal.repeat-requires-clause-forward
 repeat-requires-clause-forward c = λ is.
     subst (λ xs. IsForward xs c.args.width c.args.last) (sym c.deref_mut.ensures.value)
     (chains_forward c.args.links.now c.in_ok-rows.field-0.rows.items c.args.width c.args.last (c.args.least - 1) c.args.least (omega arith) (c.in_ok-rows.ensures.unlimited is))
+
+pub repeat-requires-clause-chains : goal.repeat-requires-clause-chains
+repeat-requires-clause-chains c = λ is two i j p q.
+    let w = c.args.width in
+    let last = c.args.last in
+    let times : c.saturating_sub-times.result ≡ c.args.least - 1 = c.saturating_sub-times.ensures in
+    let rows = c.in_ok-rows.ensures.unlimited is i j p q in
+    subst (λ xs. InTable xs w i j ↔ ((k : ℕ) × (1 ≤ k) × Chain (Link c.args.links.now w last) k i j)) (sym c.deref_mut.ensures.value) (
+      λ h. let r = rows.0 h in let enough : c.args.least ≤ c.args.least - 1 + r.0 = r.1 in (r.0, omega arith, r.3),
+      λ (k, some, chain). rows.1 (k, omega arith, tt, chain),
+    )
 
 pub returns-clause-rows : goal.returns-clause-rows
 returns-clause-rows c = λ i j p q.

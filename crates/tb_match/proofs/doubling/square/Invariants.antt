@@ -1,0 +1,13 @@
+use Rattle.std.proofs.Common.{◌≡◌, ◌+◌, ◌<◌, ◌≤◌, ◌-◌, ℕ, length, ◌↔◌}
+use Rattle.tb_match.specs.Bits.{InTable, Through, triangle}
+use Rattle.tb_match.proofs.doubling.square.Given as goal
+
+abbrev pub invariant-loop-place : goal.invariant-loop-place
+invariant-loop-place l = record {
+  wide : length l.spare ≡ l.width;
+  whole : length l.links ≡ length l.initial.links;
+  done : (i j : ℕ) → i < l.place → j ≤ l.last → (InTable l.links l.width i j ↔ Through l.initial.links l.initial.links l.width i (l.last + 1) j);
+  rest : (i j : ℕ) → l.place ≤ i → j ≤ l.last → (InTable l.links l.width i j ↔ InTable l.initial.links l.width i j);
+  more : l.initial.steps ≤ l.steps;
+  bound : l.steps + triangle (l.last + 1 - l.place) ≤ l.initial.steps + triangle (l.last + 1);
+}
