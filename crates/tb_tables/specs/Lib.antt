@@ -4,4 +4,4 @@ pub mod Records
 pub mod Changes
 pub mod Making
 pub mod Values
-pub mod Named
+pub mod Commands

@@ -119,6 +119,7 @@ pub fn create<S: Alter>(conn: &mut Connection<S>) -> Result<(), Error>
     requires autocommit { conn.old.in_transaction ≡ false }
     ensures ok { HasCleanDisk (state S.Store conn.new) → OnOk result (IsBlank S.Store conn.old → Holds S.Store conn.new empty_tables) }
     ensures err { HasCleanDisk (state S.Store conn.new) → IsTrue (state S.Store conn.new).is_open → OnErr result (IsBlank S.Store conn.old → IsBlank S.Store conn.new) }
+    ensures mode { conn.new.in_transaction ≡ false }
     ensures crash { Survives (state S.Store conn.old) (state S.Store conn.new) (λ db. IsBlank S.Store conn.old → Stands empty_tables db) }
 {
     let mut tx = conn.transaction();
