@@ -1,5 +1,5 @@
 -- A row is known by its length and its columns.
-use Rattle.std.proofs.Common.{◌≡◌, ℕ, suc, List, [], ◌∷◌, length, refl, ap₂, arith}
+use Rattle.std.proofs.Common.{◌≡◌, ℕ, suc, [], ◌∷◌, length, refl, ap₂, arith}
 use Rattle.sqlite.specs.Order.{Row, column}
 
 -- the columns from a place on are these

@@ -5,3 +5,7 @@ pub mod Order
 pub mod Ordered
 pub mod Shown
 pub mod Picked
+pub mod Sifted
+pub mod Staying
+pub mod Streaming
+pub mod Lent

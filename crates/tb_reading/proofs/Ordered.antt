@@ -1,5 +1,5 @@
 -- What SELECT without WHERE shows, and that ORDER BY decides the list.
-use Rattle.std.proofs.Common.{◌≡◌, inl, inr, ℕ, suc, ◌+◌, ◌*◌, ◌^◌, ◌<◌, ◌≤◌, pos, false, List, [], ◌∷◌, map, map-id, get_or, refl, sym, ap, ap₂, subst, subst₂, ◌∙◌, arith, All, IsPermutation, is_lt, flat_map, Equal}
+use Rattle.std.proofs.Common.{◌≡◌, inl, inr, ℕ, suc, ◌+◌, ◌*◌, ◌^◌, ◌<◌, ◌≤◌, pos, false, List, [], ◌∷◌, map, map-id, get_or, refl, sym, ap, ap₂, subst, subst₂, ◌∙◌, arith, IsPermutation, is_lt, flat_map, Equal}
 use Rattle.std.proofs.lemmas.List.Elements.{All-from_recursion}
 use Rattle.std.proofs.lemmas.List.Sorted.{IsPermutation-trans, IsPermutation-map, IsNonDecreasingBy-from_all_adjacent, All-permutation}
 use Rattle.std.specs.List.{AllByRecursion}
@@ -16,7 +16,9 @@ use Rattle.sqlite_trees.specs.Tree.{IsAscending}
 use Rattle.sqlite_trees.proofs.ListLemmas.{map-map}
 use Rattle.tb_tables.specs.Records.{Revision, Shows, numbered, number_shown, revision_shown}
 use Rattle.tb_tables.proofs.Texts.{simple}
-use Rattle.tb_tables.proofs.Lists.{lower, tied, higher}
+use Rattle.tb_tables.proofs.Lists.{lower, tied}
+use Rattle.tb_reading.specs.declared.work.Work.{Work}
+use Rattle.tb_reading.specs.Found.{work_shown}
 use Rattle.tb_reading.specs.Readable.{IsRevision, ComesBefore}
 use Rattle.tb_reading.proofs.Queries.{rising}
 use Rattle.tb_reading.proofs.Order.{unique}
@@ -136,23 +138,42 @@ before_below : (r s : Revision) → r.rev < 2 ^ 32 → s.rev < 2 ^ 32 → ComesB
 before_below r s lr ls (inl h) = omega (arith, h, lr)
 before_below r s lr ls (inr h) = omega (arith, h.0, h.1)
 
-revisions_above : (r : Revision) (xs : List Revision) → IsRevision r → AllByRecursion IsRevision xs → AllByRecursion (ComesBefore r) xs
-    → AllByRecursion (λ o. r.sent * 2 ^ 32 + r.rev < pair o) (map keyed_twice (map revision_shown xs))
-revisions_above r [] is each h = tt
-revisions_above r (x ∷ xs) is each h = (before_below r x is.rev_fits each.0.rev_fits h.0, revisions_above r xs is each.1 h.1)
+module _ (out : Row → Row) where
+  abbrev pub paired : Row → Output
+  paired r = (column r 0 ∷ column r 1 ∷ [], out r)
 
-pub revisions_rise : (xs : List Revision) → AllByRecursion IsRevision xs → IsAscending ComesBefore xs → IsAscending (λ a b. pair a < pair b) (map keyed_twice (map revision_shown xs))
-revisions_rise [] each h = tt
-revisions_rise (x ∷ xs) each h = (revisions_above x xs each.0 each.1 h.0, revisions_rise xs each.1 h.1)
+  revisions_above : (r : Revision) (xs : List Revision) → IsRevision r → AllByRecursion IsRevision xs → AllByRecursion (ComesBefore r) xs
+      → AllByRecursion (λ o. r.sent * 2 ^ 32 + r.rev < pair o) (map paired (map revision_shown xs))
+  revisions_above r [] is each h = tt
+  revisions_above r (x ∷ xs) is each h = (before_below r x is.rev_fits each.0.rev_fits h.0, revisions_above r xs is each.1 h.1)
 
-pub revisions_placed : (xs : List Revision) → AllByRecursion IsRevision xs → AllByRecursion IsPair (map keyed_twice (map revision_shown xs))
-revisions_placed [] each = tt
-revisions_placed (x ∷ xs) each = (record { one = refl; two = refl; low = each.0.rev_fits }, revisions_placed xs each.1)
+  pub revisions_rise : (xs : List Revision) → AllByRecursion IsRevision xs → IsAscending ComesBefore xs → IsAscending (λ a b. pair a < pair b) (map paired (map revision_shown xs))
+  revisions_rise [] each h = tt
+  revisions_rise (x ∷ xs) each h = (revisions_above x xs each.0 each.1 h.0, revisions_rise xs each.1 h.1)
+
+  pub revisions_placed : (xs : List Revision) → AllByRecursion IsRevision xs → AllByRecursion IsPair (map paired (map revision_shown xs))
+  revisions_placed [] each = tt
+  revisions_placed (x ∷ xs) each = (record { one = refl; two = refl; low = each.0.rev_fits }, revisions_placed xs each.1)
 
 -- ---- records that show the same are the same
 
+work_alike : (a b : Work) → a.number ≡ b.number → a.rev ≡ b.rev → a.words ≡ b.words → a ≡ b
+work_alike a b n r w = ap (λ k. record { number = k; rev = a.rev; words = a.words }) n ∙ ap (λ k. record { number = b.number; rev = k; words = a.words }) r ∙ ap (λ k. record { number = b.number; rev = b.rev; words = k }) w
+
+work_same : (a b : Work) → work_shown a ≡ work_shown b → a ≡ b
+work_same a b e =
+    let n : a.number ≡ b.number = cc in
+    let r : a.rev ≡ b.rev = cc in
+    let w : a.words ≡ b.words = cc in
+    work_alike a b n r w
+
 number_same : (m n : ℕ) → number_shown m ≡ number_shown n → m ≡ n
 number_same m n e = cc
+
+revision_alike : (a b : Revision) → a.sent ≡ b.sent → a.rev ≡ b.rev → a.who ≡ b.who → a.body ≡ b.body → a ≡ b
+revision_alike a b s r w t =
+    ap (λ k. record { sent = k; rev = a.rev; who = a.who; body = a.body }) s ∙ ap (λ k. record { sent = b.sent; rev = k; who = a.who; body = a.body }) r
+    ∙ ap (λ k. record { sent = b.sent; rev = b.rev; who = k; body = a.body }) w ∙ ap (λ k. record { sent = b.sent; rev = b.rev; who = b.who; body = k }) t
 
 pub revision_same : (a b : Revision) → revision_shown a ≡ revision_shown b → a ≡ b
 revision_same a b e =
@@ -160,10 +181,9 @@ revision_same a b e =
     let r : a.rev ≡ b.rev = cc in
     let w : a.who ≡ b.who = cc in
     let t : a.body ≡ b.body = cc in
-    ap (λ k. record { sent = k; rev = a.rev; who = a.who; body = a.body }) s ∙ ap (λ k. record { sent = b.sent; rev = k; who = a.who; body = a.body }) r
-    ∙ ap (λ k. record { sent = b.sent; rev = b.rev; who = k; body = a.body }) w ∙ ap (λ k. record { sent = b.sent; rev = b.rev; who = b.who; body = k }) t
+    revision_alike a b s r w t
 
-same_list : {X : Type 0} (row : X → Row) → ((a b : X) → row a ≡ row b → a ≡ b) → (xs ys : List X) → map row xs ≡ map row ys → xs ≡ ys
+pub same_list : {X : Type 0} (row : X → Row) → ((a b : X) → row a ≡ row b → a ≡ b) → (xs ys : List X) → map row xs ≡ map row ys → xs ≡ ys
 same_list row same [] [] e = refl
 same_list row same [] (y ∷ ys) e = absurd cc
 same_list row same (x ∷ xs) [] e = absurd cc
@@ -177,3 +197,6 @@ same_numbers = same_list number_shown number_same
 
 pub same_revisions : (xs ys : List Revision) → map revision_shown xs ≡ map revision_shown ys → xs ≡ ys
 same_revisions = same_list revision_shown revision_same
+
+pub same_work : (xs ys : List Work) → map work_shown xs ≡ map work_shown ys → xs ≡ ys
+same_work = same_list work_shown work_same

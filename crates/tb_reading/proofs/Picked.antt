@@ -1,5 +1,5 @@
 -- What SELECT .. WHERE shows of rows that show records.
-use Rattle.std.proofs.Common.{◌≡◌, ◌≢◌, inl, inr, ℕ, zero, suc, ◌+◌, ◌-◌, ◌<◌, ◌&&◌, pos, Bool, true, false, List, [], ◌∷◌, map, map-id, length, get_or, filter, flat_map, if◌then◌else◌, Option, Some, None, slice_get, refl, sym, ap, ap₂, subst, subst₂, ◌∙◌, arith, IsPermutation, Contains, IfSome}
+use Rattle.std.proofs.Common.{◌≡◌, ◌≢◌, inl, inr, ℕ, zero, suc, ◌+◌, ◌-◌, ◌<◌, ◌≤◌, ◌^◌, ◌↔◌, ◌==◌, not, IsTrue, pos, Bool, true, false, List, [], ◌∷◌, map, map-id, length, filter, flat_map, if◌then◌else◌, Option, Some, None, slice_get, refl, sym, ap, ap₂, subst, ◌∙◌, arith, IsPermutation, Contains, All, IfSome}
 use Rattle.std.specs.List.{AllByRecursion}
 use Rattle.std.specs.Option.{option_to_list}
 use Rattle.std.specs.Str.{bytes_eq}
@@ -7,11 +7,12 @@ use Rattle.std.proofs.lemmas.Map.Text.{is_eq-slice_cmp}
 use Rattle.std.proofs.lemmas.Slice.Eq.{bytes_eq-Decides}
 use Rattle.std.proofs.lemmas.Bool.Decides.{not_from_Decides}
 use Rattle.std.proofs.lemmas.List.{nil_from_length}
+use Rattle.std.proofs.Math.Dec.{eqb-suc-zero}
+use Rattle.std.proofs.lemmas.List.Elements.{All-contains, All-from_recursion, recursion_from_All}
 use Rattle.tb_reading.proofs.Order.{contains_cases, contains_later}
 use Rattle.tb_reading.proofs.Ordered.{revision_same}
 use Rattle.std.proofs.lemmas.Bool.{cases_Bool, cases_lt}
-use Rattle.std.proofs.lemmas.List.Sorted.{IsPermutation-sym, IsPermutation-trans, IsPermutation-map, length_permutation, Contains-permutation}
-use Rattle.sqlite.specs.declared.types.Value.{Value}
+use Rattle.std.proofs.lemmas.List.Sorted.{IsPermutation-sym, IsPermutation-trans, IsPermutation-map, length_permutation, Contains-permutation, All-permutation}
 use Rattle.sqlite.specs.declared.types.Value.TheVariants.{Int, Text}
 use Rattle.sqlite.specs.Order.{Row, column}
 use Rattle.sqlite.specs.Tree.{Trees}
@@ -25,7 +26,7 @@ use Rattle.tb_tables.specs.Records.{Revision, Shows, numbered, number_shown, rev
 use Rattle.tb_tables.proofs.Texts.{simple}
 use Rattle.tb_tables.proofs.Meaning.{all_answers}
 use Rattle.tb_tables.proofs.Lists.{differs_below, differs_above, equals_same}
-use Rattle.tb_reading.specs.Found.{IsNumberOf, IsRevisionAt, equals, has_number, has_name, has_pair, key_alone}
+use Rattle.tb_reading.specs.Found.{IsNumberOf, IsRevisionAt, HasUnreadable, equals, has_number, has_name, has_pair, key_alone}
 
 module _ (tree : ℕ) (where_terms project : List Term) (db : Trees) (params : Row) (rows : List Row) (a : IsAnswer (simple tree where_terms project []) db params rows) (view : Row → Row) (test : Row → Bool) (out : Row → Row) where
   picks : (T : List Row) → ((r : Row) → eval_all project (params ∷ r ∷ []) ≡ out (view r))
@@ -77,7 +78,7 @@ text_test : (a b : List ℕ) → equals (Text a) (Text b) ≡ bytes_eq a b
 unfolding binary
 text_test a b = rw (value_cmp-Text a b, is_eq-slice_cmp a b) (truth (bytes_eq a b))
 
-int_same : (m n : ℕ) → equals (Int (pos m)) (Int (pos n)) ≡ true → m ≡ n
+pub int_same : (m n : ℕ) → equals (Int (pos m)) (Int (pos n)) ≡ true → m ≡ n
 int_same m n h = elim (cases_lt m n) [
   | inl less ↦ absurd (let e = rw (differs_below m n less) at h in cc)
   | inr ge ↦ elim (cases_lt n m) [ inl more ↦ absurd (let e = rw (differs_above m n more) at h in cc) | inr le ↦ omega (arith, ge, le) ]
@@ -155,3 +156,60 @@ pub revision_found : (s v : ℕ) (found : Option Revision) (xs : List Revision) 
     → IsPermutation (filter (has_pair s v) (map revision_shown xs)) rows → IsRevisionAt s v xs found
 revision_found s v None xs rows told same = pair_none s v xs (nil_from_length _ (sym (length_permutation _ rows same) ∙ ap length (told.0 refl)))
 revision_found s v (Some r) xs rows told same = pair_some s v xs r (Contains-permutation rows _ (revision_shown r) (IsPermutation-sym _ rows same) told.1)
+
+-- ---- by a number alone
+
+kept_number : (n : ℕ) (xs : List ℕ) → Contains xs n → 0 < length (filter (has_number n) (map number_shown xs))
+kept_number n [] h = absurd (omega (arith, h.1))
+kept_number n (x ∷ xs) h = elim (cases_Bool (equals (Int (pos x)) (Int (pos n)))) [
+  | inl met ↦ rw met (omega arith)
+  | inr other ↦ elim (contains_cases x xs n h) [ inl is ↦ absurd (int_differs x n other is) | inr more ↦ rw other (kept_number n xs more) ]
+]
+
+number_kept : (n : ℕ) (xs : List ℕ) → 0 < length (filter (has_number n) (map number_shown xs)) → Contains xs n
+number_kept n [] low = absurd (omega (arith, low))
+number_kept n (x ∷ xs) low = elim (cases_Bool (equals (Int (pos x)) (Int (pos n)))) [
+  | inl met ↦ (0, omega arith, int_same x n met)
+  | inr other ↦ contains_later x xs n (number_kept n xs (rw other at low))
+]
+
+pub is_among : (n : ℕ) (xs : List ℕ) (rows : List Row) → IsPermutation (filter (has_number n) (map number_shown xs)) rows → (0 < length rows) ↔ Contains xs n
+is_among n xs rows same =
+    let count = length_permutation (filter (has_number n) (map number_shown xs)) rows same in
+    ((λ low. number_kept n xs (omega (arith, low, count))), (λ within. let low = kept_number n xs within in omega (arith, low, count)))
+
+-- ---- rows that can be read
+
+module _ {X : Type 0} (Is : X → Type 0) (shown : X → Row) where
+  abbrev pub Tells : Row → Type 0
+  Tells row = (x : X) × Is x × (row ≡ shown x)
+
+  pub none_unreadable : (wanted rows : List Row) → AllByRecursion Tells wanted → IsPermutation wanted rows → ¬ HasUnreadable Is shown rows
+  none_unreadable wanted rows each same (row, within, none) =
+      let it = All-contains Tells rows row (All-permutation Tells wanted rows same (All-from_recursion Tells wanted each)) within in
+      none it.0 it.1 it.2
+
+  told_kept : (test : Row → Bool) (xs : List X) → AllByRecursion Is xs → AllByRecursion Tells (filter test (map shown xs))
+  told_kept test [] each = tt
+  told_kept test (x ∷ xs) each = elim (cases_Bool (test (shown x))) [
+    | inl met ↦ rw met ((x, each.0, refl), told_kept test xs each.1)
+    | inr other ↦ rw other (told_kept test xs each.1)
+  ]
+
+  pub kept_readable : (test : Row → Bool) (xs : List X) (rows : List Row) → All Is xs → IsPermutation (filter test (map shown xs)) rows → ¬ HasUnreadable Is shown rows
+  kept_readable test xs rows each same = none_unreadable (filter test (map shown xs)) rows (told_kept test xs (recursion_from_All Is xs each)) same
+
+module _ {X : Type 0} (row : ℕ → X → Row) (keyed : (n : ℕ) (x : X) → column (row n x) 0 ≡ Int (pos n)) (test : Row → Bool) where
+  told_keys : (k : ℕ) (xs : List X) → k + length xs ≤ 2 ^ 32 → AllByRecursion (Tells (λ n. n < 2 ^ 32) number_shown) (map key_alone (filter test (numbered row k xs)))
+  told_keys k [] h = tt
+  told_keys k (x ∷ xs) h = elim (cases_Bool (test (row k x))) [
+    | inl met ↦ rw met ((k, omega (arith, h), ap (λ v. v ∷ []) (keyed k x)), told_keys (suc k) xs (omega (arith, h)))
+    | inr other ↦ rw other (told_keys (suc k) xs (omega (arith, h)))
+  ]
+
+  pub keys_readable : (xs : List X) (rows : List Row) → length xs < 2 ^ 32 → IsPermutation (map key_alone (filter test (numbered row 1 xs))) rows → ¬ HasUnreadable (λ n. n < 2 ^ 32) number_shown rows
+  keys_readable xs rows low same = none_unreadable (λ n. n < 2 ^ 32) number_shown (map key_alone (filter test (numbered row 1 xs))) rows (told_keys 1 xs (omega (arith, low))) same
+
+pub is_some_row : (b : Bool) (n : ℕ) → b ≡ (n == 0) → IsTrue (not b) ↔ (0 < n)
+is_some_row b zero e = rw e ((λ h. absurd (let off : false ≡ true = h in cc)), λ low. absurd (omega (arith, low)))
+is_some_row b (suc n) e = rw e ((λ _. omega arith), λ _. ap not (eqb-suc-zero n))

@@ -134,3 +134,43 @@ select_revision_terms = col 1 1 ∷ col 1 2 ∷ col 1 3 ∷ col 1 4 ∷ []
 pub select_revision_is : (command_of (understood desk_schema select_revision) ≡ Select (record { lets = []; body = simple 5 (op2 (Compare Eq Binary) (col 1 1) (col 0 0) ∷ op2 (Compare Eq Binary) (col 1 2) (col 0 1) ∷ []) select_revision_terms [] }) (codes "sent" ∷ codes "rev" ∷ codes "who" ∷ codes "body" ∷ [])) × IsPlain (understood desk_schema select_revision) × (reads_listing desk_schema select_revision ≡ false)
 unfolding understood everything
 select_revision_is = (refl, (refl, refl), refl)
+
+abbrev pub select_one_pulled : List ℕ
+select_one_pulled = codes "SELECT sent FROM pulled WHERE sent = ?1"
+
+abbrev pub select_one_pulled_terms : List Term
+select_one_pulled_terms = col 1 0 ∷ []
+
+pub select_one_pulled_is : (command_of (understood desk_schema select_one_pulled) ≡ Select (record { lets = []; body = simple 9 (by_number ∷ []) select_one_pulled_terms [] }) (codes "sent" ∷ [])) × IsPlain (understood desk_schema select_one_pulled) × (reads_listing desk_schema select_one_pulled ≡ false)
+unfolding understood everything
+select_one_pulled_is = (refl, (refl, refl), refl)
+
+abbrev pub select_work : List ℕ
+select_work = codes "SELECT no, rev, words FROM sentences WHERE batch = ?1 ORDER BY no"
+
+abbrev pub select_work_terms : List Term
+select_work_terms = col 1 0 ∷ col 1 4 ∷ col 1 5 ∷ []
+
+pub select_work_is : (command_of (understood desk_schema select_work) ≡ Select (record { lets = []; body = simple 3 (op2 (Compare Eq Binary) (col 1 3) (col 0 0) ∷ []) select_work_terms (rising 0 ∷ []) }) (codes "no" ∷ codes "rev" ∷ codes "words" ∷ [])) × IsPlain (understood desk_schema select_work) × (reads_listing desk_schema select_work ≡ false)
+unfolding understood everything
+select_work_is = (refl, (refl, refl), refl)
+
+abbrev pub select_heads : List ℕ
+select_heads = codes "SELECT batch, rev FROM sentences ORDER BY no"
+
+abbrev pub select_heads_terms : List Term
+select_heads_terms = col 1 3 ∷ col 1 4 ∷ []
+
+pub select_heads_is : (command_of (understood desk_schema select_heads) ≡ Select (record { lets = []; body = simple 3 [] select_heads_terms (rising 0 ∷ []) }) (codes "batch" ∷ codes "rev" ∷ [])) × IsPlain (understood desk_schema select_heads) × (reads_listing desk_schema select_heads ≡ false)
+unfolding understood everything
+select_heads_is = (refl, (refl, refl), refl)
+
+abbrev pub select_bodies : List ℕ
+select_bodies = codes "SELECT sent, rev, body FROM revisions ORDER BY sent, rev"
+
+abbrev pub select_bodies_terms : List Term
+select_bodies_terms = col 1 1 ∷ col 1 2 ∷ col 1 4 ∷ []
+
+pub select_bodies_is : (command_of (understood desk_schema select_bodies) ≡ Select (record { lets = []; body = simple 5 [] select_bodies_terms (rising 1 ∷ rising 2 ∷ []) }) (codes "sent" ∷ codes "rev" ∷ codes "body" ∷ [])) × IsPlain (understood desk_schema select_bodies) × (reads_listing desk_schema select_bodies ≡ false)
+unfolding understood everything
+select_bodies_is = (refl, (refl, refl), refl)

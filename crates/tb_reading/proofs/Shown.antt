@@ -1,5 +1,5 @@
 -- What a read leaves of the connection.
-use Rattle.std.proofs.Common.{◌≡◌, ℕ, List, Result, Ok, Err, IfOk, OnOk, subst, sym}
+use Rattle.std.proofs.Common.{◌≡◌, ℕ, List, Result, Ok, Err, IfOk, OnOk, OnErr, subst, sym}
 use Rattle.sqlite.specs.Order.{Row}
 use Rattle.sqlite.specs.Listing.{understood}
 use Rattle.sqlite.specs.Clock.{timed}
@@ -16,6 +16,10 @@ pub on_ok : {T E X : Type 0} (r : Result T E) → X → OnOk r X
 on_ok (Ok t) x = x
 on_ok (Err e) x = tt
 
+pub on_err_then : {T E X Y : Type 0} (r : Result T E) → OnErr r X → (X → Y) → OnErr r Y
+on_err_then (Ok t) h f = tt
+on_err_then (Err e) h f = f h
+
 pub when_ok : {T E X : Type 0} {P : T → Type 0} (r : Result T E) → IfOk r P → ((x : T) → P x → X) → OnOk r X
 when_ok (Ok x) h f = f x h
 when_ok (Err e) h f = tt
@@ -29,3 +33,7 @@ shown_same sql params old new schema rows plain has h =
 
 pub commits_nothing : (sql : List ℕ) (params : Row) (old new : State) (schema : Schema) → IsPlain (understood schema sql) → old.now.schema ≡ schema → Survives old new (CommitsShowing sql params old) → Survives old new (λ _. ⊥)
 commits_nothing sql params old new schema plain has = survives_weaker old new _ _ (λ _ db. never_commits sql params old db (subst (λ s. IsPlain (understood s sql)) (sym has) plain))
+
+-- what was shown, at the parameters as values
+pub shown_at : (sql : List ℕ) (old new : State) (rows : List Row) (params given : Row) → Shown sql given old new rows → given ≡ params → Shown sql params old new rows
+shown_at sql old new rows params given h same = subst (λ ps. Shown sql ps old new rows) same h

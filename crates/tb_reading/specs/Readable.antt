@@ -1,6 +1,8 @@
 -- Records that columns can be read back as: texts in UTF-8, numbers of 32 bits.
 use Rattle.std.specs.Prelude.{◌≡◌, ◌⊎◌, ◌<◌, ◌^◌, IsUtf8}
 use Rattle.tb_tables.specs.Records.{Batch, Sentence, Revision, Move, Total}
+use Rattle.tb_reading.specs.declared.stream.Head.{Head}
+use Rattle.tb_reading.specs.declared.work.Work.{Work}
 
 pub record IsBatch (x : Batch) : Type 0 where
   pub name_fits : IsUtf8 x.name
@@ -33,6 +35,15 @@ pub record IsRevision (x : Revision) : Type 0 where
   pub rev_fits : x.rev < 2 ^ 32
   pub who_fits : IsUtf8 x.who
   pub body_fits : IsUtf8 x.body
+
+pub record IsWork (x : Work) : Type 0 where
+  pub number_fits : x.number < 2 ^ 32
+  pub rev_fits : x.rev < 2 ^ 32
+  pub words_fits : x.words < 2 ^ 32
+
+pub record IsHead (x : Head) : Type 0 where
+  pub batch_fits : x.batch < 2 ^ 32
+  pub rev_fits : x.rev < 2 ^ 32
 
 -- revisions in the order of their sentences, and within a sentence in that of their numbers
 abbrev pub ComesBefore : Revision → Revision → Type 0

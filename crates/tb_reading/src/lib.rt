@@ -1,12 +1,18 @@
-//! Reading the tables of a desk: whole tables in the order of their keys, and single records, each statement with its
-//! meaning over lists of records.
+//! Reading the tables of a desk: whole tables in the order of their keys, single records, and rows one at a time while
+//! the connection is lent, each statement with its meaning over lists of records.
 #![tactic(auto)]
 
+mod cursor;
 mod error;
 mod records;
 mod single;
+mod stream;
 mod whole;
+mod work;
 
+pub use cursor::{Body, bodies, next_body};
 pub use error::ReadError;
-pub use single::{batch, batch_named, revision, sentence, sentence_named};
+pub use single::{batch, batch_named, is_pulled, revision, sentence, sentence_named};
+pub use stream::{Head, heads};
 pub use whole::{batches, moves, pulled, revisions, sentences, totals, versions};
+pub use work::{Work, sentences_of};

@@ -12,7 +12,7 @@ use sqlite::{Error, ErrorCode, Row};
 use std::alloc::Global;
 use tb_tables::{BatchRow, MoveRow, RevisionRow, SentenceRow, TotalRow};
 
-fn number_at(row: &Row, at: usize) -> Result<u32, ReadError>
+pub(crate) fn number_at(row: &Row, at: usize) -> Result<u32, ReadError>
     requires { at < length row.now }
     ensures ok { IfOk result (λ n. column row.now at ≡ Int (pos n)) }
     ensures form { result ≡ Err ReadError.Form → (n : ℕ) → n < 2 ^ 32 → column row.now at ≢ Int (pos n) }

@@ -1,15 +1,16 @@
 //! Single records, by their number or their name.
 
-ghost use Rattle.std.specs.Prelude.{ℕ, ◌≡◌, ◌≢◌, ◌<◌, ◌^◌, ◌-◌, map, false, List, [], ◌∷◌, Contains, All, Err, Option, None, option_map, slice_get, IfOk, IfSome, OnOk, IsPermutation, filter};
+ghost use Rattle.std.specs.Prelude.{ℕ, ◌≡◌, ◌≢◌, ◌<◌, ◌^◌, ◌-◌, ◌↔◌, map, length, false, IsTrue, List, [], ◌∷◌, Contains, All, Err, Option, None, option_map, slice_get, IfOk, IfSome, OnOk, IsPermutation, filter};
 ghost use Rattle.std.specs.Option.{option_to_list};
 ghost use Rattle.sqlite.specs.Order.{column};
 ghost use Rattle.sqlite.specs.State.{HasCleanDisk, IsUnchanged, Survives};
 ghost use Rattle.sqlite.specs.Held.{state};
 ghost use Rattle.tb_tables.specs.Layout.{desk_schema};
-ghost use Rattle.tb_tables.specs.Records.{Batch, Sentence, Revision, Shows, numbered, batch_shown, sentence_shown, revision_shown, number_shown, batch_view, sentence_view, revision_view};
+ghost use Rattle.tb_tables.specs.Changes.{Holds};
+ghost use Rattle.tb_tables.specs.Records.{Tables, Batch, Sentence, Revision, Shows, numbered, batch_shown, sentence_shown, revision_shown, number_shown, batch_view, sentence_view, revision_view, number_view};
 ghost use Rattle.tb_tables.specs.Values.{batch_of, sentence_of, revision_of};
 ghost use Rattle.tb_reading.specs.Readable.{IsBatch, IsSentence, IsRevision};
-ghost use Rattle.tb_reading.specs.Found.{IsNumberOf, IsRevisionAt, has_name, has_pair, key_alone};
+ghost use Rattle.tb_reading.specs.Found.{IsNumberOf, IsRevisionAt, HasUnreadable, has_number, has_name, has_pair, key_alone};
 
 use crate::error::ReadError;
 use crate::records::{batch_in, number_in, revision_in, sentence_in};
@@ -31,6 +32,8 @@ fn batch_rows<S: Alter>(conn: &mut Connection<S>, number: u32) -> Result<Vec<Row
     ensures found { HasCleanDisk (state S.Store conn.new) → IfOk result (λ rows. (state S.Store conn.old).now.schema ≡ desk_schema → (xs : List Batch) → Shows batch_view (numbered batch_shown 1 xs) ((state S.Store conn.old).now.trees 1) → rows.items ≡ map (batch_shown number) (option_to_list (slice_get xs (number - 1)))) }
     ensures same { HasCleanDisk (state S.Store conn.new) → OnOk result ((state S.Store conn.old).now.schema ≡ desk_schema → IsUnchanged (state S.Store conn.old) (state S.Store conn.new)) }
     ensures mode { conn.old.in_transaction ≡ false → conn.new.in_transaction ≡ false }
+    ensures kept { HasCleanDisk (state S.Store conn.new) → IsTrue (state S.Store conn.new).is_open → (d : Tables) → Holds S.Store conn.old d → Holds S.Store conn.new d }
+    ensures lasts { Survives (state S.Store conn.old) (state S.Store conn.new) (λ _. (state S.Store conn.old).now.schema ≢ desk_schema) }
     ensures survives { (state S.Store conn.old).now.schema ≡ desk_schema → Survives (state S.Store conn.old) (state S.Store conn.new) (λ _. ⊥) }
 {
     conn.query_all(
@@ -46,6 +49,8 @@ pub fn batch<S: Alter>(conn: &mut Connection<S>, number: u32) -> Result<Option<B
     ensures form { HasCleanDisk (state S.Store conn.new) → result ≡ Err ReadError.Form → (state S.Store conn.old).now.schema ≡ desk_schema → (xs : List Batch) → All IsBatch xs → ¬ Shows batch_view (numbered batch_shown 1 xs) ((state S.Store conn.old).now.trees 1) }
     ensures same { HasCleanDisk (state S.Store conn.new) → OnOk result ((state S.Store conn.old).now.schema ≡ desk_schema → IsUnchanged (state S.Store conn.old) (state S.Store conn.new)) }
     ensures mode { conn.old.in_transaction ≡ false → conn.new.in_transaction ≡ false }
+    ensures kept { HasCleanDisk (state S.Store conn.new) → IsTrue (state S.Store conn.new).is_open → (d : Tables) → Holds S.Store conn.old d → Holds S.Store conn.new d }
+    ensures lasts { Survives (state S.Store conn.old) (state S.Store conn.new) (λ _. (state S.Store conn.old).now.schema ≢ desk_schema) }
     ensures survives { (state S.Store conn.old).now.schema ≡ desk_schema → Survives (state S.Store conn.old) (state S.Store conn.new) (λ _. ⊥) }
 {
     let rows = batch_rows(conn, number)?;
@@ -67,6 +72,8 @@ fn sentence_rows<S: Alter>(conn: &mut Connection<S>, number: u32) -> Result<Vec<
     ensures found { HasCleanDisk (state S.Store conn.new) → IfOk result (λ rows. (state S.Store conn.old).now.schema ≡ desk_schema → (xs : List Sentence) → Shows sentence_view (numbered sentence_shown 1 xs) ((state S.Store conn.old).now.trees 3) → rows.items ≡ map (sentence_shown number) (option_to_list (slice_get xs (number - 1)))) }
     ensures same { HasCleanDisk (state S.Store conn.new) → OnOk result ((state S.Store conn.old).now.schema ≡ desk_schema → IsUnchanged (state S.Store conn.old) (state S.Store conn.new)) }
     ensures mode { conn.old.in_transaction ≡ false → conn.new.in_transaction ≡ false }
+    ensures kept { HasCleanDisk (state S.Store conn.new) → IsTrue (state S.Store conn.new).is_open → (d : Tables) → Holds S.Store conn.old d → Holds S.Store conn.new d }
+    ensures lasts { Survives (state S.Store conn.old) (state S.Store conn.new) (λ _. (state S.Store conn.old).now.schema ≢ desk_schema) }
     ensures survives { (state S.Store conn.old).now.schema ≡ desk_schema → Survives (state S.Store conn.old) (state S.Store conn.new) (λ _. ⊥) }
 {
     conn.query_all(
@@ -85,6 +92,8 @@ pub fn sentence<S: Alter>(
     ensures form { HasCleanDisk (state S.Store conn.new) → result ≡ Err ReadError.Form → (state S.Store conn.old).now.schema ≡ desk_schema → (xs : List Sentence) → All IsSentence xs → ¬ Shows sentence_view (numbered sentence_shown 1 xs) ((state S.Store conn.old).now.trees 3) }
     ensures same { HasCleanDisk (state S.Store conn.new) → OnOk result ((state S.Store conn.old).now.schema ≡ desk_schema → IsUnchanged (state S.Store conn.old) (state S.Store conn.new)) }
     ensures mode { conn.old.in_transaction ≡ false → conn.new.in_transaction ≡ false }
+    ensures kept { HasCleanDisk (state S.Store conn.new) → IsTrue (state S.Store conn.new).is_open → (d : Tables) → Holds S.Store conn.old d → Holds S.Store conn.new d }
+    ensures lasts { Survives (state S.Store conn.old) (state S.Store conn.new) (λ _. (state S.Store conn.old).now.schema ≢ desk_schema) }
     ensures survives { (state S.Store conn.old).now.schema ≡ desk_schema → Survives (state S.Store conn.old) (state S.Store conn.new) (λ _. ⊥) }
 {
     let rows = sentence_rows(conn, number)?;
@@ -95,6 +104,8 @@ fn named_batch_rows<S: Alter>(conn: &mut Connection<S>, name: &str) -> Result<Ve
     ensures found { HasCleanDisk (state S.Store conn.new) → IfOk result (λ rows. (state S.Store conn.old).now.schema ≡ desk_schema → (xs : List Batch) → Shows batch_view (numbered batch_shown 1 xs) ((state S.Store conn.old).now.trees 1) → IsPermutation (map key_alone (filter (has_name name.now) (numbered batch_shown 1 xs))) rows.items) }
     ensures same { HasCleanDisk (state S.Store conn.new) → OnOk result ((state S.Store conn.old).now.schema ≡ desk_schema → IsUnchanged (state S.Store conn.old) (state S.Store conn.new)) }
     ensures mode { conn.old.in_transaction ≡ false → conn.new.in_transaction ≡ false }
+    ensures kept { HasCleanDisk (state S.Store conn.new) → IsTrue (state S.Store conn.new).is_open → (d : Tables) → Holds S.Store conn.old d → Holds S.Store conn.new d }
+    ensures lasts { Survives (state S.Store conn.old) (state S.Store conn.new) (λ _. (state S.Store conn.old).now.schema ≢ desk_schema) }
     ensures survives { (state S.Store conn.old).now.schema ≡ desk_schema → Survives (state S.Store conn.old) (state S.Store conn.new) (λ _. ⊥) }
 {
     conn.query_all("SELECT no FROM batches WHERE name = ?1", params![name])
@@ -103,8 +114,11 @@ fn named_batch_rows<S: Alter>(conn: &mut Connection<S>, name: &str) -> Result<Ve
 /// The number of a batch of this name, if there is one.
 pub fn batch_named<S: Alter>(conn: &mut Connection<S>, name: &str) -> Result<Option<u32>, ReadError>
     ensures ok { HasCleanDisk (state S.Store conn.new) → IfOk result (λ found. (state S.Store conn.old).now.schema ≡ desk_schema → (xs : List Batch) → Shows batch_view (numbered batch_shown 1 xs) ((state S.Store conn.old).now.trees 1) → IsNumberOf (λ x. x.name) name.now xs found) }
+    ensures form { HasCleanDisk (state S.Store conn.new) → result ≡ Err ReadError.Form → (state S.Store conn.old).now.schema ≡ desk_schema → (xs : List Batch) → length xs < 2 ^ 32 → ¬ Shows batch_view (numbered batch_shown 1 xs) ((state S.Store conn.old).now.trees 1) }
     ensures same { HasCleanDisk (state S.Store conn.new) → OnOk result ((state S.Store conn.old).now.schema ≡ desk_schema → IsUnchanged (state S.Store conn.old) (state S.Store conn.new)) }
     ensures mode { conn.old.in_transaction ≡ false → conn.new.in_transaction ≡ false }
+    ensures kept { HasCleanDisk (state S.Store conn.new) → IsTrue (state S.Store conn.new).is_open → (d : Tables) → Holds S.Store conn.old d → Holds S.Store conn.new d }
+    ensures lasts { Survives (state S.Store conn.old) (state S.Store conn.new) (λ _. (state S.Store conn.old).now.schema ≢ desk_schema) }
     ensures survives { (state S.Store conn.old).now.schema ≡ desk_schema → Survives (state S.Store conn.old) (state S.Store conn.new) (λ _. ⊥) }
 {
     let rows = named_batch_rows(conn, name)?;
@@ -115,6 +129,8 @@ fn named_sentence_rows<S: Alter>(conn: &mut Connection<S>, sent_id: &str) -> Res
     ensures found { HasCleanDisk (state S.Store conn.new) → IfOk result (λ rows. (state S.Store conn.old).now.schema ≡ desk_schema → (xs : List Sentence) → Shows sentence_view (numbered sentence_shown 1 xs) ((state S.Store conn.old).now.trees 3) → IsPermutation (map key_alone (filter (has_name sent_id.now) (numbered sentence_shown 1 xs))) rows.items) }
     ensures same { HasCleanDisk (state S.Store conn.new) → OnOk result ((state S.Store conn.old).now.schema ≡ desk_schema → IsUnchanged (state S.Store conn.old) (state S.Store conn.new)) }
     ensures mode { conn.old.in_transaction ≡ false → conn.new.in_transaction ≡ false }
+    ensures kept { HasCleanDisk (state S.Store conn.new) → IsTrue (state S.Store conn.new).is_open → (d : Tables) → Holds S.Store conn.old d → Holds S.Store conn.new d }
+    ensures lasts { Survives (state S.Store conn.old) (state S.Store conn.new) (λ _. (state S.Store conn.old).now.schema ≢ desk_schema) }
     ensures survives { (state S.Store conn.old).now.schema ≡ desk_schema → Survives (state S.Store conn.old) (state S.Store conn.new) (λ _. ⊥) }
 {
     conn.query_all(
@@ -129,8 +145,11 @@ pub fn sentence_named<S: Alter>(
     sent_id: &str,
 ) -> Result<Option<u32>, ReadError>
     ensures ok { HasCleanDisk (state S.Store conn.new) → IfOk result (λ found. (state S.Store conn.old).now.schema ≡ desk_schema → (xs : List Sentence) → Shows sentence_view (numbered sentence_shown 1 xs) ((state S.Store conn.old).now.trees 3) → IsNumberOf (λ x. x.sent_id) sent_id.now xs found) }
+    ensures form { HasCleanDisk (state S.Store conn.new) → result ≡ Err ReadError.Form → (state S.Store conn.old).now.schema ≡ desk_schema → (xs : List Sentence) → length xs < 2 ^ 32 → ¬ Shows sentence_view (numbered sentence_shown 1 xs) ((state S.Store conn.old).now.trees 3) }
     ensures same { HasCleanDisk (state S.Store conn.new) → OnOk result ((state S.Store conn.old).now.schema ≡ desk_schema → IsUnchanged (state S.Store conn.old) (state S.Store conn.new)) }
     ensures mode { conn.old.in_transaction ≡ false → conn.new.in_transaction ≡ false }
+    ensures kept { HasCleanDisk (state S.Store conn.new) → IsTrue (state S.Store conn.new).is_open → (d : Tables) → Holds S.Store conn.old d → Holds S.Store conn.new d }
+    ensures lasts { Survives (state S.Store conn.old) (state S.Store conn.new) (λ _. (state S.Store conn.old).now.schema ≢ desk_schema) }
     ensures survives { (state S.Store conn.old).now.schema ≡ desk_schema → Survives (state S.Store conn.old) (state S.Store conn.new) (λ _. ⊥) }
 {
     let rows = named_sentence_rows(conn, sent_id)?;
@@ -139,6 +158,7 @@ pub fn sentence_named<S: Alter>(
 
 fn first_number(rows: &[Row]) -> Result<Option<u32>, ReadError>
     ensures first { IfOk result (λ found. (found ≡ None → rows.now ≡ []) × IfSome found (λ n. Contains rows.now (number_shown n))) }
+    ensures form { result ≡ Err ReadError.Form → HasUnreadable (λ n. n < 2 ^ 32) number_shown rows.now }
 {
     match rows.first() {
         Some(row) => Ok(Some(number_in(row)?)),
@@ -150,6 +170,8 @@ fn revision_rows<S: Alter>(conn: &mut Connection<S>, sent: u32, rev: u32) -> Res
     ensures found { HasCleanDisk (state S.Store conn.new) → IfOk result (λ rows. (state S.Store conn.old).now.schema ≡ desk_schema → (xs : List Revision) → Shows revision_view (map revision_shown xs) ((state S.Store conn.old).now.trees 5) → IsPermutation (filter (has_pair sent rev) (map revision_shown xs)) rows.items) }
     ensures same { HasCleanDisk (state S.Store conn.new) → OnOk result ((state S.Store conn.old).now.schema ≡ desk_schema → IsUnchanged (state S.Store conn.old) (state S.Store conn.new)) }
     ensures mode { conn.old.in_transaction ≡ false → conn.new.in_transaction ≡ false }
+    ensures kept { HasCleanDisk (state S.Store conn.new) → IsTrue (state S.Store conn.new).is_open → (d : Tables) → Holds S.Store conn.old d → Holds S.Store conn.new d }
+    ensures lasts { Survives (state S.Store conn.old) (state S.Store conn.new) (λ _. (state S.Store conn.old).now.schema ≢ desk_schema) }
     ensures survives { (state S.Store conn.old).now.schema ≡ desk_schema → Survives (state S.Store conn.old) (state S.Store conn.new) (λ _. ⊥) }
 {
     conn.query_all(
@@ -160,6 +182,7 @@ fn revision_rows<S: Alter>(conn: &mut Connection<S>, sent: u32, rev: u32) -> Res
 
 fn first_revision(rows: &[Row]) -> Result<Option<RevisionRow>, ReadError>
     ensures first { IfOk result (λ found. (option_map revision_of found ≡ None → rows.now ≡ []) × IfSome (option_map revision_of found) (λ r. Contains rows.now (revision_shown r))) }
+    ensures form { result ≡ Err ReadError.Form → HasUnreadable IsRevision revision_shown rows.now }
 {
     match rows.first() {
         Some(row) => Ok(Some(revision_in(row)?)),
@@ -174,10 +197,38 @@ pub fn revision<S: Alter>(
     rev: u32,
 ) -> Result<Option<RevisionRow>, ReadError>
     ensures ok { HasCleanDisk (state S.Store conn.new) → IfOk result (λ found. (state S.Store conn.old).now.schema ≡ desk_schema → (xs : List Revision) → Shows revision_view (map revision_shown xs) ((state S.Store conn.old).now.trees 5) → IsRevisionAt sent rev xs (option_map revision_of found)) }
+    ensures form { HasCleanDisk (state S.Store conn.new) → result ≡ Err ReadError.Form → (state S.Store conn.old).now.schema ≡ desk_schema → (xs : List Revision) → All IsRevision xs → ¬ Shows revision_view (map revision_shown xs) ((state S.Store conn.old).now.trees 5) }
     ensures same { HasCleanDisk (state S.Store conn.new) → OnOk result ((state S.Store conn.old).now.schema ≡ desk_schema → IsUnchanged (state S.Store conn.old) (state S.Store conn.new)) }
     ensures mode { conn.old.in_transaction ≡ false → conn.new.in_transaction ≡ false }
+    ensures kept { HasCleanDisk (state S.Store conn.new) → IsTrue (state S.Store conn.new).is_open → (d : Tables) → Holds S.Store conn.old d → Holds S.Store conn.new d }
+    ensures lasts { Survives (state S.Store conn.old) (state S.Store conn.new) (λ _. (state S.Store conn.old).now.schema ≢ desk_schema) }
     ensures survives { (state S.Store conn.old).now.schema ≡ desk_schema → Survives (state S.Store conn.old) (state S.Store conn.new) (λ _. ⊥) }
 {
     let rows = revision_rows(conn, sent, rev)?;
     first_revision(rows.as_slice())
+}
+
+fn pulled_rows<S: Alter>(conn: &mut Connection<S>, sent: u32) -> Result<Vec<Row>, Error>
+    ensures found { HasCleanDisk (state S.Store conn.new) → IfOk result (λ rows. (state S.Store conn.old).now.schema ≡ desk_schema → (xs : List ℕ) → Shows number_view (map number_shown xs) ((state S.Store conn.old).now.trees 9) → IsPermutation (filter (has_number sent) (map number_shown xs)) rows.items) }
+    ensures same { HasCleanDisk (state S.Store conn.new) → OnOk result ((state S.Store conn.old).now.schema ≡ desk_schema → IsUnchanged (state S.Store conn.old) (state S.Store conn.new)) }
+    ensures mode { conn.old.in_transaction ≡ false → conn.new.in_transaction ≡ false }
+    ensures kept { HasCleanDisk (state S.Store conn.new) → IsTrue (state S.Store conn.new).is_open → (d : Tables) → Holds S.Store conn.old d → Holds S.Store conn.new d }
+    ensures lasts { Survives (state S.Store conn.old) (state S.Store conn.new) (λ _. (state S.Store conn.old).now.schema ≢ desk_schema) }
+    ensures survives { (state S.Store conn.old).now.schema ≡ desk_schema → Survives (state S.Store conn.old) (state S.Store conn.new) (λ _. ⊥) }
+{
+    conn.query_all("SELECT sent FROM pulled WHERE sent = ?1", params![sent])
+}
+
+/// Whether the sentence with this number is pulled. `Form` is never answered.
+pub fn is_pulled<S: Alter>(conn: &mut Connection<S>, sent: u32) -> Result<bool, ReadError>
+    ensures ok { HasCleanDisk (state S.Store conn.new) → IfOk result (λ found. (state S.Store conn.old).now.schema ≡ desk_schema → (xs : List ℕ) → Shows number_view (map number_shown xs) ((state S.Store conn.old).now.trees 9) → (IsTrue found ↔ Contains xs sent)) }
+    ensures form { ¬ (result ≡ Err ReadError.Form) }
+    ensures same { HasCleanDisk (state S.Store conn.new) → OnOk result ((state S.Store conn.old).now.schema ≡ desk_schema → IsUnchanged (state S.Store conn.old) (state S.Store conn.new)) }
+    ensures mode { conn.old.in_transaction ≡ false → conn.new.in_transaction ≡ false }
+    ensures kept { HasCleanDisk (state S.Store conn.new) → IsTrue (state S.Store conn.new).is_open → (d : Tables) → Holds S.Store conn.old d → Holds S.Store conn.new d }
+    ensures lasts { Survives (state S.Store conn.old) (state S.Store conn.new) (λ _. (state S.Store conn.old).now.schema ≢ desk_schema) }
+    ensures survives { (state S.Store conn.old).now.schema ≡ desk_schema → Survives (state S.Store conn.old) (state S.Store conn.new) (λ _. ⊥) }
+{
+    let rows = pulled_rows(conn, sent)?;
+    Ok(!rows.is_empty())
 }

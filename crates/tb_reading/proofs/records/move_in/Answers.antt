@@ -1,7 +1,5 @@
 use Rattle.std.proofs.Common.{◌≡◌, length, pos, arith, ap, ◌∙◌}
 use Rattle.sqlite.specs.declared.types.Value.TheVariants.{Int}
-use Rattle.tb_tables.specs.Records.{move_shown}
-use Rattle.tb_tables.specs.Values.{move_of}
 use Rattle.tb_reading.proofs.Columns.{same_row}
 use Rattle.tb_reading.proofs.records.move_in.Goals as goal
 

@@ -1,4 +1,4 @@
-use Rattle.std.proofs.Common.{◌≡◌, ◌≢◌, ◌+◌, ◌<◌, ◌^◌, ℕ, [], ◌∷◌, map, map-id, take, arith, rules, subst, sym, ap, ◌∙◌, Err}
+use Rattle.std.proofs.Common.{◌≡◌, ◌≢◌, ◌+◌, ◌<◌, ◌^◌, ℕ, map, map-id, take, arith, rules, subst, sym, ap, ◌∙◌, Err}
 use Rattle.std.proofs.lemmas.Result.{err_from_is_err_and}
 use Rattle.tb_reading.specs.declared.error.ReadError.TheVariants.{Form}
 use Rattle.tb_tables.specs.Records.{number_shown}

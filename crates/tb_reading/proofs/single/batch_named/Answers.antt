@@ -1,7 +1,7 @@
-use Rattle.std.proofs.Common.{refl, ◌≡◌, ◌-◌, rules, sym, subst, ap, ◌∙◌, slice_get, option_map, IsPermutation}
-use Rattle.sqlite.specs.Held.{state}
+use Rattle.std.proofs.Common.{refl, ◌≡◌, rules, sym, subst, IsPermutation}
 use Rattle.tb_tables.specs.Records.{Batch, batch_shown}
-use Rattle.tb_reading.proofs.Picked.{number_found}
+use Rattle.tb_reading.specs.Found.{has_name}
+use Rattle.tb_reading.proofs.Picked.{number_found, keys_readable}
 use Rattle.tb_reading.proofs.Shown.{if_ok, on_ok}
 use Rattle.tb_reading.proofs.single.batch_named.Goals as goal
 
@@ -12,3 +12,8 @@ returns-clause-ok g c clean = if_ok c.first_number.result c.first_number.ensures
 
 pub returns-clause-same : goal.returns-clause-same
 returns-clause-same g c clean = on_ok c.first_number.result (c.in_ok-rows.ensures.same clean)
+
+pub returns-clause-form : goal.returns-clause-form
+returns-clause-form g c clean failed has xs low holds =
+    let same : c.as_slice.result.now ≡ c.in_ok-rows.rows.items = search rules in
+    keys_readable batch_shown (λ _ _. refl) (has_name c.args.name.now) xs _ low (subst (IsPermutation _) (sym same) (c.in_ok-rows.ensures.found clean has xs holds)) (c.first_number.ensures.form failed)

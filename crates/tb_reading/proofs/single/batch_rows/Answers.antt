@@ -1,16 +1,16 @@
-use Rattle.std.proofs.Common.{refl, [], ◌∷◌, pos, map, ◌+◌, ◌-◌, arith, filter, map-id, subst}
-use Rattle.sqlite.specs.declared.types.Value.TheVariants.{Null, Int, Text}
+use Rattle.std.proofs.Common.{rules, refl, [], ◌∷◌, pos, ◌-◌, arith}
+use Rattle.sqlite.specs.declared.types.Value.TheVariants.{Null, Int}
 use Rattle.sqlite.specs.Order.{Row}
 use Rattle.sqlite.specs.Held.{state}
 use Rattle.sqlite.specs.Program.{overlay}
 use Rattle.sqlite.proofs.Callers.{reads_as}
-use Rattle.std.specs.Prelude.{IsPermutation}
 use Rattle.tb_tables.specs.Layout.{desk_schema}
 use Rattle.tb_tables.specs.Records.{batch_view, batch_shown, numbered}
-use Rattle.tb_reading.specs.Found.{has_number, has_name, has_pair, key_alone}
+use Rattle.tb_reading.specs.Found.{has_number}
 use Rattle.tb_reading.proofs.Queries.{select_batch, select_batch_is, select_batch_terms}
 use Rattle.tb_reading.proofs.Picked.{picked, found_numbered}
-use Rattle.tb_reading.proofs.Shown.{if_ok, when_ok, shown_same, commits_nothing}
+use Rattle.tb_reading.proofs.Staying.{either_way, shown_stays, failed_stays, lasts}
+use Rattle.tb_reading.proofs.Shown.{if_ok, when_ok, shown_same, commits_nothing, shown_at}
 use Rattle.tb_reading.proofs.single.batch_rows.Goals as goal
 
 pub returns-clause-same : goal.returns-clause-same
@@ -26,7 +26,18 @@ returns-clause-found g c clean = if_ok c.query_all.result (c.query_all.ensures.o
     let old = state g.S.Store c.args.conn.now in
     let new = state g.S.Store c.query_all.new.self in
     let params = Int (pos c.args.number) ∷ [] in
-    let given = rw (c.params-to_sql.ensures) at shown in
+    let given = shown_at select_batch old new rows.items params _ shown (search rules) in
     let answer = (reads_as select_batch params old new desk_schema has _ select_batch_is.0 select_batch_is.1 select_batch_is.2 rows.items given).answer Null in
     let same = picked 1 _ select_batch_terms (overlay old.now.trees []) params rows.items answer batch_view (has_number c.args.number) (λ (r : Row). r) refl (λ _. refl) (numbered batch_shown 1 xs) holds in
     found_numbered batch_shown (λ _ _. refl) c.args.number (c.args.number - 1) xs rows.items (omega (arith, c.requires)) same)
+
+pub returns-clause-kept : goal.returns-clause-kept
+returns-clause-kept g c clean opened d holds =
+    let old = c.args.conn.now in
+    let new = c.query_all.new.self in
+    either_way c.query_all.result (c.query_all.ensures.ok clean) (c.query_all.ensures.err clean)
+    (λ rows shown. shown_stays g.S.Store select_batch _ old new d rows.items select_batch_is.1 holds shown)
+    (λ e failed. failed_stays g.S.Store select_batch _ old new d e select_batch_is.1 holds opened failed)
+
+pub returns-clause-lasts : goal.returns-clause-lasts
+returns-clause-lasts g c = lasts select_batch _ (state g.S.Store c.args.conn.now) (state g.S.Store c.query_all.new.self) select_batch_is.1 c.query_all.ensures.survives

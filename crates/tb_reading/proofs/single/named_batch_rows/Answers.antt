@@ -1,16 +1,15 @@
-use Rattle.std.proofs.Common.{refl, [], ◌∷◌, pos, map, ◌+◌, ◌-◌, arith, filter, map-id, subst}
-use Rattle.sqlite.specs.declared.types.Value.TheVariants.{Null, Int, Text}
-use Rattle.sqlite.specs.Order.{Row}
+use Rattle.std.proofs.Common.{rules, refl, [], ◌∷◌}
+use Rattle.sqlite.specs.declared.types.Value.TheVariants.{Null, Text}
 use Rattle.sqlite.specs.Held.{state}
 use Rattle.sqlite.specs.Program.{overlay}
 use Rattle.sqlite.proofs.Callers.{reads_as}
-use Rattle.std.specs.Prelude.{IsPermutation}
 use Rattle.tb_tables.specs.Layout.{desk_schema}
 use Rattle.tb_tables.specs.Records.{batch_view, batch_shown, numbered}
-use Rattle.tb_reading.specs.Found.{has_number, has_name, has_pair, key_alone}
+use Rattle.tb_reading.specs.Found.{has_name, key_alone}
 use Rattle.tb_reading.proofs.Queries.{select_named_batch, select_named_batch_is, select_named_batch_terms}
 use Rattle.tb_reading.proofs.Picked.{picked, found_numbered}
-use Rattle.tb_reading.proofs.Shown.{if_ok, when_ok, shown_same, commits_nothing}
+use Rattle.tb_reading.proofs.Staying.{either_way, shown_stays, failed_stays, lasts}
+use Rattle.tb_reading.proofs.Shown.{if_ok, when_ok, shown_same, commits_nothing, shown_at}
 use Rattle.tb_reading.proofs.single.named_batch_rows.Goals as goal
 
 pub returns-clause-same : goal.returns-clause-same
@@ -26,7 +25,18 @@ returns-clause-found g c clean = if_ok c.query_all.result (c.query_all.ensures.o
     let old = state g.S.Store c.args.conn.now in
     let new = state g.S.Store c.query_all.new.self in
     let params = Text c.args.name.now ∷ [] in
-    let given = rw (c.params-to_sql.ensures) at shown in
+    let given = shown_at select_named_batch old new rows.items params _ shown (search rules) in
     let answer = (reads_as select_named_batch params old new desk_schema has _ select_named_batch_is.0 select_named_batch_is.1 select_named_batch_is.2 rows.items given).answer Null in
     let same = picked 1 _ select_named_batch_terms (overlay old.now.trees []) params rows.items answer batch_view (has_name c.args.name.now) key_alone refl (λ _. refl) (numbered batch_shown 1 xs) holds in
     same)
+
+pub returns-clause-kept : goal.returns-clause-kept
+returns-clause-kept g c clean opened d holds =
+    let old = c.args.conn.now in
+    let new = c.query_all.new.self in
+    either_way c.query_all.result (c.query_all.ensures.ok clean) (c.query_all.ensures.err clean)
+    (λ rows shown. shown_stays g.S.Store select_named_batch _ old new d rows.items select_named_batch_is.1 holds shown)
+    (λ e failed. failed_stays g.S.Store select_named_batch _ old new d e select_named_batch_is.1 holds opened failed)
+
+pub returns-clause-lasts : goal.returns-clause-lasts
+returns-clause-lasts g c = lasts select_named_batch _ (state g.S.Store c.args.conn.now) (state g.S.Store c.query_all.new.self) select_named_batch_is.1 c.query_all.ensures.survives

@@ -1,7 +1,9 @@
-use Rattle.std.proofs.Common.{◌≡◌, ◌-◌, rules, sym, subst, ap, ◌∙◌, slice_get, option_map, IsPermutation}
-use Rattle.sqlite.specs.Held.{state}
+use Rattle.std.proofs.Common.{◌≡◌, rules, sym, subst, option_map, IsPermutation}
 use Rattle.tb_tables.specs.Values.{revision_of}
-use Rattle.tb_reading.proofs.Picked.{revision_found}
+use Rattle.tb_tables.specs.Records.{revision_shown}
+use Rattle.tb_reading.specs.Readable.{IsRevision}
+use Rattle.tb_reading.specs.Found.{has_pair}
+use Rattle.tb_reading.proofs.Picked.{revision_found, kept_readable}
 use Rattle.tb_reading.proofs.Shown.{if_ok, on_ok}
 use Rattle.tb_reading.proofs.single.revision.Goals as goal
 
@@ -12,3 +14,8 @@ returns-clause-ok g c clean = if_ok c.first_revision.result c.first_revision.ens
 
 pub returns-clause-same : goal.returns-clause-same
 returns-clause-same g c clean = on_ok c.first_revision.result (c.in_ok-rows.ensures.same clean)
+
+pub returns-clause-form : goal.returns-clause-form
+returns-clause-form g c clean failed has xs each holds =
+    let same : c.as_slice.result.now ≡ c.in_ok-rows.rows.items = search rules in
+    kept_readable IsRevision revision_shown (has_pair c.args.sent c.args.rev) xs _ each (subst (IsPermutation _) (sym same) (c.in_ok-rows.ensures.found clean has xs holds)) (c.first_revision.ensures.form failed)

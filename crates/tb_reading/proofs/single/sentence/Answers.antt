@@ -1,5 +1,4 @@
-use Rattle.std.proofs.Common.{◌≡◌, ◌-◌, rules, sym, subst, ap, ◌∙◌, slice_get, option_map, IsPermutation}
-use Rattle.sqlite.specs.Held.{state}
+use Rattle.std.proofs.Common.{◌≡◌, ◌-◌, rules, ap, ◌∙◌, slice_get}
 use Rattle.std.proofs.Common.{map}
 use Rattle.std.specs.Option.{option_to_list}
 use Rattle.tb_tables.specs.Records.{sentence_shown}

@@ -6,10 +6,9 @@ use Rattle.sqlite.specs.Program.{overlay}
 use Rattle.sqlite.proofs.Callers.{reads_as}
 use Rattle.tb_tables.specs.Layout.{desk_schema}
 use Rattle.tb_tables.specs.Records.{batch_view, batch_shown, numbered}
-use Rattle.std.proofs.Common.{map, rules}
-use Rattle.std.proofs.lemmas.List.Elements.{recursion_from_All}
 use Rattle.tb_reading.proofs.Queries.{select_batches, select_batches_is, select_batches_terms, rising}
 use Rattle.tb_reading.proofs.Ordered.{all_shown, by_order, keyed, first, IsFirst, first_in_order, rises, placed, numbers_rise, numbers_placed, keyed_twice, pair, IsPair, pair_in_order, revisions_rise, revisions_placed}
+use Rattle.tb_reading.proofs.Staying.{either_way, shown_stays, failed_stays, lasts}
 use Rattle.tb_reading.proofs.Shown.{if_ok, when_ok, shown_same, commits_nothing}
 use Rattle.tb_reading.proofs.whole.batch_rows.Goals as goal
 
@@ -32,3 +31,14 @@ returns-clause-order g c clean = if_ok c.query_all.result (c.query_all.ensures.o
     let old = state g.S.Store c.args.conn.now in
     let new = state g.S.Store c.query_all.new.self in
     by_order 1 select_batches_terms (rising 0 ∷ []) (λ r. column r 0 ∷ []) batch_view (λ _. refl) (overlay old.now.trees []) rows.items ((reads_as select_batches [] old new desk_schema has _ select_batches_is.0 select_batches_is.1 select_batches_is.2 rows.items shown).answer Null) (numbered batch_shown 1 xs) keyed first IsFirst (λ _. refl) (λ _. refl) (rises batch_shown (λ _ _. refl) 1 xs) (placed batch_shown (λ _ _. refl) 1 xs) (first_in_order 0 1 select_batches_terms) same)
+
+pub returns-clause-kept : goal.returns-clause-kept
+returns-clause-kept g c clean opened d holds =
+    let old = c.args.conn.now in
+    let new = c.query_all.new.self in
+    either_way c.query_all.result (c.query_all.ensures.ok clean) (c.query_all.ensures.err clean)
+    (λ rows shown. shown_stays g.S.Store select_batches _ old new d rows.items select_batches_is.1 holds shown)
+    (λ e failed. failed_stays g.S.Store select_batches _ old new d e select_batches_is.1 holds opened failed)
+
+pub returns-clause-lasts : goal.returns-clause-lasts
+returns-clause-lasts g c = lasts select_batches _ (state g.S.Store c.args.conn.now) (state g.S.Store c.query_all.new.self) select_batches_is.1 c.query_all.ensures.survives

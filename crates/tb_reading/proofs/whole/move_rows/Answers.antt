@@ -6,10 +6,9 @@ use Rattle.sqlite.specs.Program.{overlay}
 use Rattle.sqlite.proofs.Callers.{reads_as}
 use Rattle.tb_tables.specs.Layout.{desk_schema}
 use Rattle.tb_tables.specs.Records.{move_view, move_shown, numbered}
-use Rattle.std.proofs.Common.{map, rules}
-use Rattle.std.proofs.lemmas.List.Elements.{recursion_from_All}
 use Rattle.tb_reading.proofs.Queries.{select_moves, select_moves_is, select_moves_terms, rising}
 use Rattle.tb_reading.proofs.Ordered.{all_shown, by_order, keyed, first, IsFirst, first_in_order, rises, placed, numbers_rise, numbers_placed, keyed_twice, pair, IsPair, pair_in_order, revisions_rise, revisions_placed}
+use Rattle.tb_reading.proofs.Staying.{either_way, shown_stays, failed_stays, lasts}
 use Rattle.tb_reading.proofs.Shown.{if_ok, when_ok, shown_same, commits_nothing}
 use Rattle.tb_reading.proofs.whole.move_rows.Goals as goal
 
@@ -32,3 +31,14 @@ returns-clause-order g c clean = if_ok c.query_all.result (c.query_all.ensures.o
     let old = state g.S.Store c.args.conn.now in
     let new = state g.S.Store c.query_all.new.self in
     by_order 7 select_moves_terms (rising 0 ∷ []) (λ r. column r 0 ∷ []) move_view (λ _. refl) (overlay old.now.trees []) rows.items ((reads_as select_moves [] old new desk_schema has _ select_moves_is.0 select_moves_is.1 select_moves_is.2 rows.items shown).answer Null) (numbered move_shown 1 xs) keyed first IsFirst (λ _. refl) (λ _. refl) (rises move_shown (λ _ _. refl) 1 xs) (placed move_shown (λ _ _. refl) 1 xs) (first_in_order 0 7 select_moves_terms) same)
+
+pub returns-clause-kept : goal.returns-clause-kept
+returns-clause-kept g c clean opened d holds =
+    let old = c.args.conn.now in
+    let new = c.query_all.new.self in
+    either_way c.query_all.result (c.query_all.ensures.ok clean) (c.query_all.ensures.err clean)
+    (λ rows shown. shown_stays g.S.Store select_moves _ old new d rows.items select_moves_is.1 holds shown)
+    (λ e failed. failed_stays g.S.Store select_moves _ old new d e select_moves_is.1 holds opened failed)
+
+pub returns-clause-lasts : goal.returns-clause-lasts
+returns-clause-lasts g c = lasts select_moves _ (state g.S.Store c.args.conn.now) (state g.S.Store c.query_all.new.self) select_moves_is.1 c.query_all.ensures.survives

@@ -2,7 +2,7 @@ use Rattle.std.proofs.Common.{◌≡◌, rules, sym, subst, IsPermutation, map, 
 use Rattle.std.proofs.lemmas.List.Sorted.{IsPermutation-sym}
 use Rattle.sqlite.specs.Held.{state}
 use Rattle.tb_tables.specs.Records.{number_view}
-use Rattle.tb_reading.proofs.Ordered.{same_numbers, same_revisions}
+use Rattle.tb_reading.proofs.Ordered.{same_numbers}
 use Rattle.tb_reading.proofs.Shown.{if_ok, on_ok}
 use Rattle.tb_reading.proofs.whole.pulled.Goals as goal
 

@@ -6,10 +6,11 @@ use Rattle.sqlite.specs.Program.{overlay}
 use Rattle.sqlite.proofs.Callers.{reads_as}
 use Rattle.tb_tables.specs.Layout.{desk_schema}
 use Rattle.tb_tables.specs.Records.{revision_view, revision_shown}
-use Rattle.std.proofs.Common.{map, rules}
+use Rattle.std.proofs.Common.{map}
 use Rattle.std.proofs.lemmas.List.Elements.{recursion_from_All}
 use Rattle.tb_reading.proofs.Queries.{select_revisions, select_revisions_is, select_revisions_terms, rising}
 use Rattle.tb_reading.proofs.Ordered.{all_shown, by_order, keyed, first, IsFirst, first_in_order, rises, placed, numbers_rise, numbers_placed, keyed_twice, pair, IsPair, pair_in_order, revisions_rise, revisions_placed}
+use Rattle.tb_reading.proofs.Staying.{either_way, shown_stays, failed_stays, lasts}
 use Rattle.tb_reading.proofs.Shown.{if_ok, when_ok, shown_same, commits_nothing}
 use Rattle.tb_reading.proofs.whole.revision_rows.Goals as goal
 
@@ -31,4 +32,15 @@ pub returns-clause-order : goal.returns-clause-order
 returns-clause-order g c clean = if_ok c.query_all.result (c.query_all.ensures.ok clean) (λ rows shown has xs each up same.
     let old = state g.S.Store c.args.conn.now in
     let new = state g.S.Store c.query_all.new.self in
-    by_order 5 select_revisions_terms (rising 1 ∷ rising 2 ∷ []) (λ r. column r 1 ∷ column r 2 ∷ []) revision_view (λ _. refl) (overlay old.now.trees []) rows.items ((reads_as select_revisions [] old new desk_schema has _ select_revisions_is.0 select_revisions_is.1 select_revisions_is.2 rows.items shown).answer Null) (map revision_shown xs) keyed_twice pair IsPair (λ _. refl) (λ _. refl) (revisions_rise xs (recursion_from_All _ xs each) up) (revisions_placed xs (recursion_from_All _ xs each)) (pair_in_order 5 select_revisions_terms) same)
+    by_order 5 select_revisions_terms (rising 1 ∷ rising 2 ∷ []) (λ r. column r 1 ∷ column r 2 ∷ []) revision_view (λ _. refl) (overlay old.now.trees []) rows.items ((reads_as select_revisions [] old new desk_schema has _ select_revisions_is.0 select_revisions_is.1 select_revisions_is.2 rows.items shown).answer Null) (map revision_shown xs) keyed_twice pair IsPair (λ _. refl) (λ _. refl) (revisions_rise (λ r. r) xs (recursion_from_All _ xs each) up) (revisions_placed (λ r. r) xs (recursion_from_All _ xs each)) (pair_in_order 5 select_revisions_terms) same)
+
+pub returns-clause-kept : goal.returns-clause-kept
+returns-clause-kept g c clean opened d holds =
+    let old = c.args.conn.now in
+    let new = c.query_all.new.self in
+    either_way c.query_all.result (c.query_all.ensures.ok clean) (c.query_all.ensures.err clean)
+    (λ rows shown. shown_stays g.S.Store select_revisions _ old new d rows.items select_revisions_is.1 holds shown)
+    (λ e failed. failed_stays g.S.Store select_revisions _ old new d e select_revisions_is.1 holds opened failed)
+
+pub returns-clause-lasts : goal.returns-clause-lasts
+returns-clause-lasts g c = lasts select_revisions _ (state g.S.Store c.args.conn.now) (state g.S.Store c.query_all.new.self) select_revisions_is.1 c.query_all.ensures.survives

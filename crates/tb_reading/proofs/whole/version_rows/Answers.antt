@@ -6,10 +6,10 @@ use Rattle.sqlite.specs.Program.{overlay}
 use Rattle.sqlite.proofs.Callers.{reads_as}
 use Rattle.tb_tables.specs.Layout.{desk_schema}
 use Rattle.tb_tables.specs.Records.{meta_view, number_shown}
-use Rattle.std.proofs.Common.{map, rules}
-use Rattle.std.proofs.lemmas.List.Elements.{recursion_from_All}
+use Rattle.std.proofs.Common.{map}
 use Rattle.tb_reading.proofs.Queries.{select_versions, select_versions_is, select_versions_terms, rising}
 use Rattle.tb_reading.proofs.Ordered.{all_shown, by_order, keyed, first, IsFirst, first_in_order, rises, placed, numbers_rise, numbers_placed, keyed_twice, pair, IsPair, pair_in_order, revisions_rise, revisions_placed}
+use Rattle.tb_reading.proofs.Staying.{either_way, shown_stays, failed_stays, lasts}
 use Rattle.tb_reading.proofs.Shown.{if_ok, when_ok, shown_same, commits_nothing}
 use Rattle.tb_reading.proofs.whole.version_rows.Goals as goal
 
@@ -32,3 +32,14 @@ returns-clause-order g c clean = if_ok c.query_all.result (c.query_all.ensures.o
     let old = state g.S.Store c.args.conn.now in
     let new = state g.S.Store c.query_all.new.self in
     by_order 0 select_versions_terms (rising 1 ∷ []) (λ r. column r 1 ∷ []) meta_view (λ _. refl) (overlay old.now.trees []) rows.items ((reads_as select_versions [] old new desk_schema has _ select_versions_is.0 select_versions_is.1 select_versions_is.2 rows.items shown).answer Null) (map number_shown xs) keyed first IsFirst (λ _. refl) (λ _. refl) (numbers_rise xs up) (numbers_placed xs) (first_in_order 1 0 select_versions_terms) same)
+
+pub returns-clause-kept : goal.returns-clause-kept
+returns-clause-kept g c clean opened d holds =
+    let old = c.args.conn.now in
+    let new = c.query_all.new.self in
+    either_way c.query_all.result (c.query_all.ensures.ok clean) (c.query_all.ensures.err clean)
+    (λ rows shown. shown_stays g.S.Store select_versions _ old new d rows.items select_versions_is.1 holds shown)
+    (λ e failed. failed_stays g.S.Store select_versions _ old new d e select_versions_is.1 holds opened failed)
+
+pub returns-clause-lasts : goal.returns-clause-lasts
+returns-clause-lasts g c = lasts select_versions _ (state g.S.Store c.args.conn.now) (state g.S.Store c.query_all.new.self) select_versions_is.1 c.query_all.ensures.survives

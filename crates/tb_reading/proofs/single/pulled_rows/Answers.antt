@@ -1,0 +1,44 @@
+use Rattle.std.proofs.Common.{rules, refl, [], ◌∷◌, pos, map, filter, map-id, subst}
+use Rattle.sqlite.specs.declared.types.Value.TheVariants.{Null, Int}
+use Rattle.sqlite.specs.Order.{Row}
+use Rattle.sqlite.specs.Held.{state}
+use Rattle.sqlite.specs.Program.{overlay}
+use Rattle.sqlite.proofs.Callers.{reads_as}
+use Rattle.std.specs.Prelude.{IsPermutation}
+use Rattle.tb_tables.specs.Layout.{desk_schema}
+use Rattle.tb_tables.specs.Records.{number_view, number_shown}
+use Rattle.tb_reading.specs.Found.{has_number}
+use Rattle.tb_reading.proofs.Queries.{select_one_pulled, select_one_pulled_is, select_one_pulled_terms}
+use Rattle.tb_reading.proofs.Picked.{picked}
+use Rattle.tb_reading.proofs.Staying.{either_way, shown_stays, failed_stays, lasts}
+use Rattle.tb_reading.proofs.Shown.{if_ok, when_ok, shown_same, commits_nothing, shown_at}
+use Rattle.tb_reading.proofs.single.pulled_rows.Goals as goal
+
+pub returns-clause-same : goal.returns-clause-same
+returns-clause-same g c clean = when_ok c.query_all.result (c.query_all.ensures.ok clean) (λ rows shown has.
+    shown_same select_one_pulled _ (state g.S.Store c.args.conn.now) (state g.S.Store c.query_all.new.self) desk_schema rows.items select_one_pulled_is.1 has shown)
+
+pub returns-clause-survives : goal.returns-clause-survives
+returns-clause-survives g c has =
+    commits_nothing select_one_pulled _ (state g.S.Store c.args.conn.now) (state g.S.Store c.query_all.new.self) desk_schema select_one_pulled_is.1 has c.query_all.ensures.survives
+
+pub returns-clause-found : goal.returns-clause-found
+returns-clause-found g c clean = if_ok c.query_all.result (c.query_all.ensures.ok clean) (λ rows shown has xs holds.
+    let old = state g.S.Store c.args.conn.now in
+    let new = state g.S.Store c.query_all.new.self in
+    let params = Int (pos c.args.sent) ∷ [] in
+    let given = shown_at select_one_pulled old new rows.items params _ shown (search rules) in
+    let answer = (reads_as select_one_pulled params old new desk_schema has _ select_one_pulled_is.0 select_one_pulled_is.1 select_one_pulled_is.2 rows.items given).answer Null in
+    let same = picked 9 _ select_one_pulled_terms (overlay old.now.trees []) params rows.items answer number_view (has_number c.args.sent) (λ (r : Row). r) refl (λ _. refl) (map number_shown xs) holds in
+    subst (λ l. IsPermutation l rows.items) (map-id (filter (has_number c.args.sent) (map number_shown xs))) same)
+
+pub returns-clause-kept : goal.returns-clause-kept
+returns-clause-kept g c clean opened d holds =
+    let old = c.args.conn.now in
+    let new = c.query_all.new.self in
+    either_way c.query_all.result (c.query_all.ensures.ok clean) (c.query_all.ensures.err clean)
+    (λ rows shown. shown_stays g.S.Store select_one_pulled _ old new d rows.items select_one_pulled_is.1 holds shown)
+    (λ e failed. failed_stays g.S.Store select_one_pulled _ old new d e select_one_pulled_is.1 holds opened failed)
+
+pub returns-clause-lasts : goal.returns-clause-lasts
+returns-clause-lasts g c = lasts select_one_pulled _ (state g.S.Store c.args.conn.now) (state g.S.Store c.query_all.new.self) select_one_pulled_is.1 c.query_all.ensures.survives
