@@ -1,0 +1,28 @@
+use Rattle.std.proofs.Common.{refl, arith}
+use Rattle.sqlite.specs.State.{HasCleanDisk}
+use Rattle.sqlite.specs.Held.{state}
+use Rattle.tb_tables.specs.Records.{Revision}
+use Rattle.tb_tables.specs.Changes.{with_revision, sentence_replaced}
+use Rattle.tb_tables.specs.Commands.{after_correction}
+use Rattle.tb_tables.specs.Values.{move_of, total_of}
+use Rattle.tb_writing.proofs.Commands.{changes_then}
+use Rattle.tb_writing.proofs.Numbers.{follows_too}
+use Rattle.tb_writing.proofs.correcting.correct.Goals as goal
+
+pub returns-clause-ok : goal.returns-clause-ok
+returns-clause-ok g c clean inside d s is follows stands =
+    let old = state g.S.Store c.args.tx.now.conn.now in
+    let first = state g.S.Store c.insert_revision.new.tx.conn.now in
+    let second = state g.S.Store c.update_sentence.new.tx.conn.now in
+    let new = state g.S.Store c.record.new.tx.conn.now in
+    let change = c.args.change.now in
+    let later : HasCleanDisk second = omega (arith, c.record.ensures.survives.clean) in
+    let early : HasCleanDisk first = omega (arith, c.update_sentence.ensures.survives.clean) in
+    let r : Revision = record { sent = c.args.number; rev = c.args.rev; who = c.args.who.now; body = c.args.body.now } in
+    let written = with_revision d r in
+    let current = sentence_replaced written c.args.number (record s { rev = c.args.rev; words = c.args.words }) in
+    let one = c.in_ok-insert_revision.ensures.ok early inside d in
+    let two = c.in_ok-update_sentence.ensures.ok later one.inside written s is (one.stands stands) in
+    let three = c.in_ok-record.ensures.ok clean two.inside current (follows_too d current change refl refl follows) (two.stands (one.stands stands)) in
+    let after = after_correction d c.args.number s r c.args.words (move_of change.row) (total_of change.left) (total_of change.reached) in
+    changes_then old first new d written after one (changes_then first second new written current after two three)

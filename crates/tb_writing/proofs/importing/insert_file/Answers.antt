@@ -1,0 +1,18 @@
+use Rattle.std.proofs.Common.{[], arith}
+use Rattle.sqlite.specs.State.{HasCleanDisk}
+use Rattle.sqlite.specs.Held.{state}
+use Rattle.tb_tables.specs.Changes.{with_batch}
+use Rattle.tb_tables.specs.Commands.{with_items}
+use Rattle.tb_writing.proofs.Commands.{changes_then}
+use Rattle.tb_writing.proofs.importing.insert_file.Goals as goal
+
+pub returns-clause-ok : goal.returns-clause-ok
+returns-clause-ok g c clean inside d number first =
+    let old = state g.S.Store c.args.tx.now.conn.now in
+    let mid = state g.S.Store c.insert_batch.new.tx.conn.now in
+    let new = state g.S.Store c.insert_items.new.tx.conn.now in
+    let was : HasCleanDisk mid = omega (arith, c.insert_items.ensures.survives.clean) in
+    let opened = with_batch d (record { name = c.args.name.now; state = 1; worker = [] }) in
+    let one = c.in_ok-insert_batch.ensures.ok was inside d number in
+    let two = c.in_ok-insert_items.ensures.ok clean one.inside opened first in
+    changes_then old mid new d opened (with_items c.args.number c.args.who.now opened c.args.items.now) one two

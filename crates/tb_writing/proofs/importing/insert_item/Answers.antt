@@ -1,0 +1,24 @@
+use Rattle.std.proofs.Common.{ℕ, ◌≡◌, arith, rules, subst}
+use Rattle.sqlite.specs.State.{HasCleanDisk}
+use Rattle.sqlite.specs.Held.{state}
+use Rattle.tb_tables.specs.Records.{Revision}
+use Rattle.tb_tables.specs.Changes.{Changes, with_sentence, with_revision}
+use Rattle.tb_tables.specs.Commands.{Item, with_item}
+use Rattle.tb_writing.proofs.Commands.{changes_then}
+use Rattle.tb_writing.proofs.importing.insert_item.Goals as goal
+
+pub returns-clause-ok : goal.returns-clause-ok
+returns-clause-ok g c clean inside d at =
+    let old = state g.S.Store c.args.tx.now.conn.now in
+    let mid = state g.S.Store c.insert_sentence.new.tx.conn.now in
+    let new = state g.S.Store c.insert_revision.new.tx.conn.now in
+    let item : Item = record { sent_id = c.item.inside.sent_id.now; words = c.item.inside.words; body = c.item.inside.body.now } in
+    let same : item ≡ c.args.item.now = search rules in
+    let was : HasCleanDisk mid = omega (arith, c.insert_revision.ensures.survives.clean) in
+    let between = with_sentence d (record { sent_id = item.sent_id; batch = c.args.batch; rev = 1; words = item.words }) in
+    let r : ℕ → Revision = λ n. record { sent = n; rev = 1; who = c.args.who.now; body = item.body } in
+    let one = c.in_ok-insert_sentence.ensures.ok was inside d at in
+    let two = c.in_ok-insert_revision.ensures.ok clean one.inside between in
+    let made = changes_then old mid new d between (with_revision between (r c.args.number)) one two in
+    let numbered = subst (λ n. Changes old new d (with_revision between (r n))) at made in
+    subst (λ i. Changes old new d (with_item c.args.batch c.args.who.now d i)) same numbered

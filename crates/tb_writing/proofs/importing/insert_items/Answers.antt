@@ -1,0 +1,45 @@
+use Rattle.std.proofs.Common.{◌≡◌, ◌+◌, length, take, arith, rules, subst, sym, ◌∙◌}
+use Rattle.sqlite.specs.State.{HasCleanDisk}
+use Rattle.sqlite.specs.Held.{state}
+use Rattle.sqlite.proofs.StateLemmas.{survives_then}
+use Rattle.tb_tables.specs.Records.{Tables}
+use Rattle.tb_tables.specs.Changes.{Changes}
+use Rattle.tb_tables.specs.Commands.{with_item, with_items}
+use Rattle.tb_writing.proofs.Commands.{kept_then, changes_then}
+use Rattle.tb_writing.proofs.Numbers.{one_longer, one_more}
+use Rattle.tb_writing.proofs.importing.insert_items.Goals as goal
+
+pub loop-item-preserved : goal.loop-item-preserved
+loop-item-preserved g c =
+    let old = state g.S.Store c.args.tx.now.conn.now in
+    let now = state g.S.Store c.loop-item.tx.conn.now in
+    let new = state g.S.Store c.insert_item.new.tx.conn.now in
+    let inv = c.loop-item.invariant in
+    let one = c.insert_item.ensures in
+    let step = with_item c.args.batch c.args.who.now in
+    let counted : (d done : Tables) → c.loop-item.number ≡ 1 + length done.sentences → with_items c.args.batch c.args.who.now d (take (c.loop-item.item-index + 1) c.args.items.now) ≡ step done c.item-item.result
+    → c.loop-item.number + 1 ≡ 1 + length (with_items c.args.batch c.args.who.now d (take (c.loop-item.item-index + 1) c.args.items.now)).sentences =
+    λ d done so is. let long = one_longer c.args.batch c.args.who.now done c.item-item.result in rw is (omega (arith, so, long)) in
+    let more : (d : Tables) → with_items c.args.batch c.args.who.now d (take (c.loop-item.item-index + 1) c.args.items.now) ≡ step (with_items c.args.batch c.args.who.now d (take c.loop-item.item-index c.args.items.now)) c.item-item.result =
+    λ d. one_more c.args.batch c.args.who.now d c.args.items.now c.loop-item.item-index c.item-item.result (omega (arith, c.loop-item-test.true)) (search rules) in (
+      one.same_reference ∙ inv.0,
+      survives_then old now new _ _ (λ _. ⊥) (λ _ db none. none) (λ _ db none. none) inv.1 one.survives,
+      omega (arith, inv.2),
+      λ clean.
+          let was : HasCleanDisk now = omega (arith, one.survives.clean) in
+          let so = inv.3 was in (
+            kept_then old now new so.0 (one.kept clean),
+            λ inside.
+                let far = so.1 inside in (
+                  c.in_ok-insert_item.ensures.inside clean far.0,
+                  λ d first.
+                      let done = with_items c.args.batch c.args.who.now d (take c.loop-item.item-index c.args.items.now) in
+                      let went = far.1 d first in
+                      let next = c.in_ok-insert_item.ensures.ok clean far.0 done went.1 in
+                      let all = changes_then old now new d done (step done c.item-item.result) went.0 next in (
+                        subst (Changes old new d) (sym (more d)) all,
+                        counted d done went.1 (more d),
+                      ),
+                ),
+          ),
+    )

@@ -1,0 +1,71 @@
+use Rattle.std.proofs.Common.{◌≡◌, ◌+◌, length, arith, rules, sym, subst, IsTrue}
+use Rattle.sqlite.specs.Tree.{Trees}
+use Rattle.sqlite.specs.State.{HasCleanDisk, Survives}
+use Rattle.sqlite.specs.Held.{state}
+use Rattle.tb_tables.specs.Records.{Tables, Stands}
+use Rattle.tb_tables.specs.Changes.{Holds}
+use Rattle.tb_tables.specs.Commands.{after_import}
+use Rattle.tb_tables.specs.Values.{move_of, total_of}
+use Rattle.tb_writing.specs.Premises.{Follows}
+use Rattle.tb_writing.proofs.Commands.{on_err, begins_inside, committed_holds, failed_holds, command_survives}
+use Rattle.tb_writing.proofs.importing.write_import.Goals as goal
+
+pub returns-clause-ok : goal.returns-clause-ok
+returns-clause-ok g c clean d holds number first follows =
+    let old = c.args.conn.now in
+    let begun = c.transaction-tx.result.conn.now in
+    let last = c.import.new.tx.conn.now in
+    let end = c.commit.new.self.0 in
+    let change = c.args.change.now in
+    let same : end ≡ c.conn-2-1.given.0 = search rules in
+    let late : HasCleanDisk (state g.S.Store end) = search rules in
+    let was : HasCleanDisk (state g.S.Store last) = omega (arith, c.commit.ensures.survives.clean) in
+    let after = after_import d c.args.name.now c.args.who.now c.args.items.now (move_of change.row) (total_of change.left) (total_of change.reached) in
+    let start = begins_inside g.S.Store old begun last end c.transaction-tx.ensures.begun d holds in
+    let made = c.in_ok-import.ensures.ok was start.0 d number first follows start.1 in
+    let ok = c.in_ok-commit.ensures.ok late in
+    subst (λ h. Holds g.S.Store h after) same (committed_holds g.S.Store old begun last end c.transaction-tx.ensures.begun d after holds made c.commit.ensures.ended ok.1)
+
+pub returns-in_err-commit-clause-err : goal.returns-in_err-commit-clause-err
+returns-in_err-commit-clause-err g c clean is_open = on_err c.from_residual-in_err-commit.result (λ d holds.
+    let old = c.args.conn.now in
+    let begun = c.transaction-tx.result.conn.now in
+    let last = c.import.new.tx.conn.now in
+    let end = c.commit.new.self.0 in
+    let same : end ≡ c.conn-2-1.given.0 = search rules in
+    let late : HasCleanDisk (state g.S.Store end) = search rules in
+    let opened = subst (λ h. IsTrue (state g.S.Store h).is_open) (sym same) is_open in
+    let was : HasCleanDisk (state g.S.Store last) = omega (arith, c.commit.ensures.survives.clean) in
+    subst (λ h. Holds g.S.Store h d) same (failed_holds g.S.Store old begun last end c.transaction-tx.ensures.begun _ d holds (c.import.ensures.kept was) (c.in_ok-import.ensures.inside was) c.commit.ensures.ended opened (c.in_err-commit.ensures.err late)))
+
+pub returns-clause-crash : goal.returns-clause-crash
+returns-clause-crash g c =
+    let old = c.args.conn.now in
+    let begun = c.transaction-tx.result.conn.now in
+    let last = c.import.new.tx.conn.now in
+    let end = c.commit.new.self.0 in
+    let change = c.args.change.now in
+    let same : end ≡ c.conn-2-1.given.0 = search rules in
+    let P = λ (db : Trees). (d : Tables) → Holds g.S.Store old d → c.args.number ≡ 1 + length d.batches → c.args.first ≡ 1 + length d.sentences → Follows d change → Stands (after_import d c.args.name.now c.args.who.now c.args.items.now (move_of change.row) (total_of change.left) (total_of change.reached)) db in
+    let written : HasCleanDisk (state g.S.Store last) → P (state g.S.Store last).now.trees =
+    λ was d holds number first follows.
+    let start = begins_inside g.S.Store old begun last end c.transaction-tx.ensures.begun d holds in
+    (c.in_ok-import.ensures.ok was start.0 d number first follows start.1).stands start.1 in
+    subst (λ h. Survives (state g.S.Store old) (state g.S.Store h) P) same
+    (command_survives g.S.Store old begun last end c.transaction-tx.ensures.begun P c.import.ensures.survives c.commit.ensures.survives written)
+
+pub returns-in_err-commit-clause-crash : goal.returns-in_err-commit-clause-crash
+returns-in_err-commit-clause-crash g c =
+    let old = c.args.conn.now in
+    let begun = c.transaction-tx.result.conn.now in
+    let last = c.import.new.tx.conn.now in
+    let end = c.commit.new.self.0 in
+    let change = c.args.change.now in
+    let same : end ≡ c.conn-2-1.given.0 = search rules in
+    let P = λ (db : Trees). (d : Tables) → Holds g.S.Store old d → c.args.number ≡ 1 + length d.batches → c.args.first ≡ 1 + length d.sentences → Follows d change → Stands (after_import d c.args.name.now c.args.who.now c.args.items.now (move_of change.row) (total_of change.left) (total_of change.reached)) db in
+    let written : HasCleanDisk (state g.S.Store last) → P (state g.S.Store last).now.trees =
+    λ was d holds number first follows.
+    let start = begins_inside g.S.Store old begun last end c.transaction-tx.ensures.begun d holds in
+    (c.in_ok-import.ensures.ok was start.0 d number first follows start.1).stands start.1 in
+    subst (λ h. Survives (state g.S.Store old) (state g.S.Store h) P) same
+    (command_survives g.S.Store old begun last end c.transaction-tx.ensures.begun P c.import.ensures.survives c.commit.ensures.survives written)

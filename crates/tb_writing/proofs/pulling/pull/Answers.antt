@@ -1,0 +1,21 @@
+use Rattle.std.proofs.Common.{refl, arith}
+use Rattle.sqlite.specs.State.{HasCleanDisk}
+use Rattle.sqlite.specs.Held.{state}
+use Rattle.tb_tables.specs.Changes.{with_pulled}
+use Rattle.tb_tables.specs.Commands.{after_pull}
+use Rattle.tb_tables.specs.Values.{move_of, total_of}
+use Rattle.tb_writing.proofs.Commands.{changes_then}
+use Rattle.tb_writing.proofs.Numbers.{follows_too}
+use Rattle.tb_writing.proofs.pulling.pull.Goals as goal
+
+pub returns-clause-ok : goal.returns-clause-ok
+returns-clause-ok g c clean inside d follows stands =
+    let old = state g.S.Store c.args.tx.now.conn.now in
+    let mid = state g.S.Store c.insert_pulled.new.tx.conn.now in
+    let new = state g.S.Store c.record.new.tx.conn.now in
+    let change = c.args.change.now in
+    let was : HasCleanDisk mid = omega (arith, c.record.ensures.survives.clean) in
+    let between = with_pulled d c.args.number in
+    let one = c.in_ok-insert_pulled.ensures.ok was inside d in
+    let two = c.in_ok-record.ensures.ok clean one.inside between (follows_too d between change refl refl follows) (one.stands stands) in
+    changes_then old mid new d between (after_pull d c.args.number (move_of change.row) (total_of change.left) (total_of change.reached)) one two

@@ -1,0 +1,28 @@
+use Rattle.std.proofs.Common.{◌≡◌, ◌≤◌, length, arith}
+use Rattle.sqlite.specs.State.{HasCleanDisk}
+use Rattle.sqlite.specs.Held.{state}
+use Rattle.tb_tables.specs.Changes.{with_move}
+use Rattle.tb_tables.specs.Commands.{with_total}
+use Rattle.tb_tables.specs.Values.{move_of, total_of}
+use Rattle.tb_writing.proofs.Commands.{changes_then}
+use Rattle.tb_writing.proofs.Numbers.{total_count}
+use Rattle.tb_writing.proofs.recording.record.Goals as goal
+
+pub returns-clause-ok : goal.returns-clause-ok
+returns-clause-ok g c clean inside d follows stands =
+    let old = state g.S.Store c.args.tx.now.conn.now in
+    let first = state g.S.Store c.insert_move.new.tx.conn.now in
+    let second = state g.S.Store c.write_total.new.tx.conn.now in
+    let new = state g.S.Store c.write_total-2.new.tx.conn.now in
+    let change = c.args.change.now in
+    let later : HasCleanDisk second = omega (arith, c.write_total-2.ensures.survives.clean) in
+    let early : HasCleanDisk first = omega (arith, c.write_total.ensures.survives.clean) in
+    let moved = with_move d (move_of change.row) in
+    let left = with_total moved change.row.from (total_of change.left) in
+    let after = with_total left change.row.to (total_of change.reached) in
+    let one = c.in_ok-insert_move.ensures.ok early inside d follows.number in
+    let two = c.in_ok-write_total.ensures.ok later one.inside moved follows.left (one.stands stands) in
+    let count : length left.totals ≡ length d.totals = total_count moved change.row.from (total_of change.left) in
+    let low : change.row.to ≤ length left.totals = omega (arith, count, follows.reached) in
+    let three = c.in_ok-write_total-2.ensures.ok clean two.inside left low (two.stands (one.stands stands)) in
+    changes_then old first new d moved after one (changes_then first second new moved left after two three)

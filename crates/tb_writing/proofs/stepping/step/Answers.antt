@@ -1,0 +1,21 @@
+use Rattle.std.proofs.Common.{refl, arith}
+use Rattle.sqlite.specs.State.{HasCleanDisk}
+use Rattle.sqlite.specs.Held.{state}
+use Rattle.tb_tables.specs.Changes.{batch_replaced}
+use Rattle.tb_tables.specs.Commands.{after_event}
+use Rattle.tb_tables.specs.Values.{move_of, total_of}
+use Rattle.tb_writing.proofs.Commands.{changes_then}
+use Rattle.tb_writing.proofs.Numbers.{follows_too}
+use Rattle.tb_writing.proofs.stepping.step.Goals as goal
+
+pub returns-clause-ok : goal.returns-clause-ok
+returns-clause-ok g c clean inside d b is follows stands =
+    let old = state g.S.Store c.args.tx.now.conn.now in
+    let mid = state g.S.Store c.update_batch.new.tx.conn.now in
+    let new = state g.S.Store c.record.new.tx.conn.now in
+    let change = c.args.change.now in
+    let was : HasCleanDisk mid = omega (arith, c.record.ensures.survives.clean) in
+    let between = batch_replaced d c.args.number (record b { state = c.args.in_state; worker = c.args.worker.now }) in
+    let one = c.in_ok-update_batch.ensures.ok was inside d b is stands in
+    let two = c.in_ok-record.ensures.ok clean one.inside between (follows_too d between change refl refl follows) (one.stands stands) in
+    changes_then old mid new d between (after_event d c.args.number b c.args.in_state c.args.worker.now (move_of change.row) (total_of change.left) (total_of change.reached)) one two

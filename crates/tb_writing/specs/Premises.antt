@@ -1,0 +1,10 @@
+-- When a change follows the records that are there.
+use Rattle.std.specs.Prelude.{◌≡◌, ◌+◌, ◌≤◌, length}
+use Rattle.tb_tables.specs.Records.{Tables}
+use Rattle.tb_writing.specs.declared.recording.Change.{Change}
+
+-- its move has the next number, and there are totals of the state that it leaves and of the one that it reaches
+pub record Follows (d : Tables) (change : Change) : Type 0 where
+  pub number : change.number ≡ 1 + length d.moves
+  pub left : change.row.from ≤ length d.totals
+  pub reached : change.row.to ≤ length d.totals

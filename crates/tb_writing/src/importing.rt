@@ -1,0 +1,144 @@
+//! The import of a file.
+
+ghost use Rattle.std.specs.Prelude.{◌≡◌, ◌+◌, ◌<◌, ◌^◌, length, false, [], IsTrue, OnOk, OnErr};
+ghost use Rattle.sqlite.specs.State.{HasCleanDisk, KeepsCommit, Survives};
+ghost use Rattle.sqlite.specs.Held.{state};
+ghost use Rattle.tb_tables.specs.Records.{Tables, Stands};
+ghost use Rattle.tb_tables.specs.Changes.{IsInside, Changes, Holds, with_batch};
+ghost use Rattle.tb_tables.specs.Values.{move_of, total_of};
+ghost use Rattle.tb_tables.specs.Commands.{Item as ItemRecord, with_item, with_items, after_import};
+ghost use Rattle.tb_writing.specs.Premises.{Follows};
+
+use crate::recording::{Change, record};
+use sqlite::{Alter, Connection, Error, Transaction};
+use std::marker::Model;
+use tb_tables::{insert_batch, insert_revision, insert_sentence};
+
+/// A sentence of an imported file. It borrows from the body.
+#[derive(Drop)]
+pub struct Item<'a> {
+    pub sent_id: &'a str,
+    /// How many words it has.
+    pub words: u32,
+    /// Its text, the blank line included.
+    pub body: &'a str,
+}
+
+impl<'a> Model for Item<'a> {
+    ghost Value = { ItemRecord };
+
+    ghost view = { λ i. record { sent_id = i.sent_id.now; words = i.words; body = i.body.now } };
+}
+
+/// Adds a sentence under the next number, with its first revision.
+fn insert_item<S: Alter>(
+    tx: &mut Transaction<'_, S>,
+    number: u32,
+    batch: u32,
+    who: &str,
+    item: &Item<'_>,
+) -> Result<(), Error>
+    ensures same_reference { tx.new.conn.ghost_name ≡ tx.old.conn.ghost_name }
+    ensures ok { HasCleanDisk (state S.Store tx.new.conn.now) → OnOk result (IsInside (state S.Store tx.old.conn.now) → (d : Tables) → number ≡ 1 + length d.sentences → Changes (state S.Store tx.old.conn.now) (state S.Store tx.new.conn.now) d (with_item batch who.now d item.now)) }
+    ensures inside { HasCleanDisk (state S.Store tx.new.conn.now) → OnOk result (IsInside (state S.Store tx.old.conn.now) → IsInside (state S.Store tx.new.conn.now)) }
+    ensures kept { HasCleanDisk (state S.Store tx.new.conn.now) → KeepsCommit (state S.Store tx.old.conn.now) (state S.Store tx.new.conn.now) }
+    ensures survives { Survives (state S.Store tx.old.conn.now) (state S.Store tx.new.conn.now) (λ _. ⊥) }
+{
+    insert_sentence(tx, number, item.sent_id, batch, 1, item.words)?;
+    insert_revision(tx, number, 1, who, item.body)?;
+    Ok(())
+}
+
+/// Adds all of them in order, from this number on.
+fn insert_items<S: Alter>(
+    tx: &mut Transaction<'_, S>,
+    first: u32,
+    batch: u32,
+    who: &str,
+    items: &[Item<'_>],
+) -> Result<(), Error>
+    requires fits { first + length items.now < 2 ^ 32 }
+    ensures same_reference { tx.new.conn.ghost_name ≡ tx.old.conn.ghost_name }
+    ensures ok { HasCleanDisk (state S.Store tx.new.conn.now) → OnOk result (IsInside (state S.Store tx.old.conn.now) → (d : Tables) → first ≡ 1 + length d.sentences → Changes (state S.Store tx.old.conn.now) (state S.Store tx.new.conn.now) d (with_items batch who.now d items.now)) }
+    ensures inside { HasCleanDisk (state S.Store tx.new.conn.now) → OnOk result (IsInside (state S.Store tx.old.conn.now) → IsInside (state S.Store tx.new.conn.now)) }
+    ensures kept { HasCleanDisk (state S.Store tx.new.conn.now) → KeepsCommit (state S.Store tx.old.conn.now) (state S.Store tx.new.conn.now) }
+    ensures survives { Survives (state S.Store tx.old.conn.now) (state S.Store tx.new.conn.now) (λ _. ⊥) }
+{
+    let mut number = first;
+    for item in items {
+        insert_item(tx, number, batch, who, item)?;
+        number += 1;
+    }
+    Ok(())
+}
+
+/// Adds a batch under the next number, open and without a worker, and its sentences.
+fn insert_file<S: Alter>(
+    tx: &mut Transaction<'_, S>,
+    number: u32,
+    first: u32,
+    name: &str,
+    who: &str,
+    items: &[Item<'_>],
+) -> Result<(), Error>
+    requires fits { first + length items.now < 2 ^ 32 }
+    ensures same_reference { tx.new.conn.ghost_name ≡ tx.old.conn.ghost_name }
+    ensures ok { HasCleanDisk (state S.Store tx.new.conn.now) → OnOk result (IsInside (state S.Store tx.old.conn.now) → (d : Tables) → number ≡ 1 + length d.batches → first ≡ 1 + length d.sentences → Changes (state S.Store tx.old.conn.now) (state S.Store tx.new.conn.now) d (with_items number who.now (with_batch d (record { name = name.now; state = 1; worker = [] })) items.now)) }
+    ensures inside { HasCleanDisk (state S.Store tx.new.conn.now) → OnOk result (IsInside (state S.Store tx.old.conn.now) → IsInside (state S.Store tx.new.conn.now)) }
+    ensures kept { HasCleanDisk (state S.Store tx.new.conn.now) → KeepsCommit (state S.Store tx.old.conn.now) (state S.Store tx.new.conn.now) }
+    ensures survives { Survives (state S.Store tx.old.conn.now) (state S.Store tx.new.conn.now) (λ _. ⊥) }
+{
+    insert_batch(tx, number, name, 1, "")?;
+    insert_items(tx, first, number, who, items)?;
+    Ok(())
+}
+
+/// Writes the batch, its sentences, and the move.
+fn import<S: Alter>(
+    tx: &mut Transaction<'_, S>,
+    number: u32,
+    first: u32,
+    name: &str,
+    who: &str,
+    items: &[Item<'_>],
+    change: &Change,
+) -> Result<(), Error>
+    requires fits { first + length items.now < 2 ^ 32 }
+    ensures same_reference { tx.new.conn.ghost_name ≡ tx.old.conn.ghost_name }
+    ensures ok { HasCleanDisk (state S.Store tx.new.conn.now) → OnOk result (IsInside (state S.Store tx.old.conn.now) → (d : Tables) → number ≡ 1 + length d.batches → first ≡ 1 + length d.sentences → Follows d change.now → Stands d (state S.Store tx.old.conn.now).now.trees → Changes (state S.Store tx.old.conn.now) (state S.Store tx.new.conn.now) d (after_import d name.now who.now items.now (move_of change.now.row) (total_of change.now.left) (total_of change.now.reached))) }
+    ensures inside { HasCleanDisk (state S.Store tx.new.conn.now) → OnOk result (IsInside (state S.Store tx.old.conn.now) → IsInside (state S.Store tx.new.conn.now)) }
+    ensures kept { HasCleanDisk (state S.Store tx.new.conn.now) → KeepsCommit (state S.Store tx.old.conn.now) (state S.Store tx.new.conn.now) }
+    ensures survives { Survives (state S.Store tx.old.conn.now) (state S.Store tx.new.conn.now) (λ _. ⊥) }
+{
+    insert_file(tx, number, first, name, who, items)?;
+    record(tx, change)?;
+    Ok(())
+}
+
+/// Adds a batch under this number, open and without a worker, with its sentences numbered from `first` on, each in its
+/// first revision, by this user. All with the move, in one transaction.
+///
+/// # Errors
+///
+/// What the database answers. The records are then those of before.
+pub fn write_import<S: Alter>(
+    conn: &mut Connection<S>,
+    number: u32,
+    first: u32,
+    name: &str,
+    who: &str,
+    items: &[Item<'_>],
+    change: &Change,
+) -> Result<(), Error>
+    requires autocommit { conn.old.in_transaction ≡ false }
+    requires fits { first + length items.now < 2 ^ 32 }
+    ensures ok { HasCleanDisk (state S.Store conn.new) → OnOk result ((d : Tables) → Holds S.Store conn.old d → number ≡ 1 + length d.batches → first ≡ 1 + length d.sentences → Follows d change.now → Holds S.Store conn.new (after_import d name.now who.now items.now (move_of change.now.row) (total_of change.now.left) (total_of change.now.reached))) }
+    ensures err { HasCleanDisk (state S.Store conn.new) → IsTrue (state S.Store conn.new).is_open → OnErr result ((d : Tables) → Holds S.Store conn.old d → Holds S.Store conn.new d) }
+    ensures crash { Survives (state S.Store conn.old) (state S.Store conn.new) (λ db. (d : Tables) → Holds S.Store conn.old d → number ≡ 1 + length d.batches → first ≡ 1 + length d.sentences → Follows d change.now → Stands (after_import d name.now who.now items.now (move_of change.now.row) (total_of change.now.left) (total_of change.now.reached)) db) }
+    ensures mode { conn.new.in_transaction ≡ false }
+{
+    let mut tx = conn.transaction();
+    import(&mut tx, number, first, name, who, items, change)?;
+    tx.commit()?;
+    Ok(())
+}

@@ -1,0 +1,58 @@
+//! A change of the totals with its move: what every command writes last.
+
+ghost use Rattle.std.specs.Prelude.{◌≡◌, ◌≤◌, length, OnOk};
+ghost use Rattle.sqlite.specs.State.{HasCleanDisk, KeepsCommit, Survives};
+ghost use Rattle.sqlite.specs.Held.{state};
+ghost use Rattle.tb_tables.specs.Records.{Tables, Stands};
+ghost use Rattle.tb_tables.specs.Changes.{IsInside, Changes};
+ghost use Rattle.tb_tables.specs.Values.{move_of, total_of};
+ghost use Rattle.tb_tables.specs.Commands.{with_total, recorded};
+ghost use Rattle.tb_writing.specs.Premises.{Follows};
+
+use sqlite::{Alter, Error, Transaction};
+use tb_tables::{MoveRow, TotalRow, insert_move, update_total};
+
+/// A move, and what it makes of the totals.
+#[derive(Debug, Drop)]
+pub struct Change {
+    /// The number of the move, from 1.
+    pub number: u32,
+    pub row: MoveRow,
+    /// The totals, after the move, of the state that it leaves; of no meaning where it leaves none.
+    pub left: TotalRow,
+    /// The totals, after the move, of the state that it reaches.
+    pub reached: TotalRow,
+}
+
+/// Gives the totals of a state their numbers. State 0 is none, and nothing is written for it.
+fn write_total<S: Alter>(
+    tx: &mut Transaction<'_, S>,
+    in_state: u32,
+    total: &TotalRow,
+) -> Result<(), Error>
+    ensures same_reference { tx.new.conn.ghost_name ≡ tx.old.conn.ghost_name }
+    ensures ok { HasCleanDisk (state S.Store tx.new.conn.now) → OnOk result (IsInside (state S.Store tx.old.conn.now) → (d : Tables) → in_state ≤ length d.totals → Stands d (state S.Store tx.old.conn.now).now.trees → Changes (state S.Store tx.old.conn.now) (state S.Store tx.new.conn.now) d (with_total d in_state (total_of total.now))) }
+    ensures inside { HasCleanDisk (state S.Store tx.new.conn.now) → OnOk result (IsInside (state S.Store tx.old.conn.now) → IsInside (state S.Store tx.new.conn.now)) }
+    ensures kept { HasCleanDisk (state S.Store tx.new.conn.now) → KeepsCommit (state S.Store tx.old.conn.now) (state S.Store tx.new.conn.now) }
+    ensures survives { Survives (state S.Store tx.old.conn.now) (state S.Store tx.new.conn.now) (λ _. ⊥) }
+{
+    if in_state == 0 {
+        return Ok(());
+    }
+    update_total(tx, in_state, total.sentences, total.words)?;
+    Ok(())
+}
+
+/// Writes a move and its totals. A move that leaves a state for the same one leaves it with the totals as reached.
+pub(crate) fn record<S: Alter>(tx: &mut Transaction<'_, S>, change: &Change) -> Result<(), Error>
+    ensures same_reference { tx.new.conn.ghost_name ≡ tx.old.conn.ghost_name }
+    ensures ok { HasCleanDisk (state S.Store tx.new.conn.now) → OnOk result (IsInside (state S.Store tx.old.conn.now) → (d : Tables) → Follows d change.now → Stands d (state S.Store tx.old.conn.now).now.trees → Changes (state S.Store tx.old.conn.now) (state S.Store tx.new.conn.now) d (recorded d (move_of change.now.row) (total_of change.now.left) (total_of change.now.reached))) }
+    ensures inside { HasCleanDisk (state S.Store tx.new.conn.now) → OnOk result (IsInside (state S.Store tx.old.conn.now) → IsInside (state S.Store tx.new.conn.now)) }
+    ensures kept { HasCleanDisk (state S.Store tx.new.conn.now) → KeepsCommit (state S.Store tx.old.conn.now) (state S.Store tx.new.conn.now) }
+    ensures survives { Survives (state S.Store tx.old.conn.now) (state S.Store tx.new.conn.now) (λ _. ⊥) }
+{
+    insert_move(tx, change.number, &change.row)?;
+    write_total(tx, change.row.from, &change.left)?;
+    write_total(tx, change.row.to, &change.reached)?;
+    Ok(())
+}
