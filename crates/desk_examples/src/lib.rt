@@ -1,6 +1,8 @@
-//! Tests of the desk machine: decisions, the texts of refusals and faults, and totals.
+//! Tests of the desk machine: decisions, bodies, the texts of refusals and faults, and totals.
 #![tactic(auto)]
 
+#[cfg(test)]
+mod body_tests;
 #[cfg(test)]
 mod cases;
 #[cfg(test)]
