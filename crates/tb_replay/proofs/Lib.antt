@@ -1,0 +1,10 @@
+mod Course
+mod Full
+mod Smalls
+mod Parts
+mod Filed
+mod Exact
+mod ExactImport
+mod Ends
+mod Loops
+mod Summed

@@ -1,0 +1,24 @@
+use Rattle.std.proofs.Common.{◌≡◌, ◌+◌, ◌-◌, false, get_or, refl, ◌∙◌, ap, arith}
+use Rattle.tb_core.specs.Moves.{MoveText}
+use Rattle.tb_replay.specs.Slots.{Mark, Slot, no_mark, no_slot, small}
+use Rattle.tb_replay.specs.Playing.{mark_next, mark_flagged}
+use Rattle.tb_replay.proofs.Loops.{both_written}
+use Rattle.tb_replay.proofs.replaying.step_restore.Goals as goal
+
+pub returns-clause-next : goal.returns-clause-next
+returns-clause-next c = λ v.
+    let slots = c.args.slots.now in
+    let marks = c.args.marks.now in
+    let x : Mark = c.mark_of-mark.result in
+    let i = c.saturating_sub-place.result in
+    let j = c.args.change.now.sent - 1 in
+    let b : Slot = record { state = c.slot.inside.state; worker = c.slot.inside.worker.now; sentences = c.slot.inside.sentences; words = c.slot.inside.words } in
+    let p : i ≡ j = c.saturating_sub-place.ensures ∙ ap (λ (m : MoveText). m.sent - 1) c.change.view_is in
+    let is : x ≡ get_or marks i no_mark = c.mark_of-mark.ensures in
+    let slot : b ≡ get_or slots (x.batch - 1) no_slot = c.slot.view_is ∙ (c.slot_of-slot.ensures ∙ ap (λ k. get_or slots k no_slot) c.saturating_sub.ensures) in
+    let there : x ≡ get_or marks j no_mark = is ∙ ap (λ k. get_or marks k no_mark) p in
+    let s : b.sentences + 1 ≡ b.sentences + 1 - 0 = omega arith in
+    let w : b.words + x.words ≡ b.words + x.words - 0 = omega arith in
+    both_written 1 0 x.words 0 (mark_flagged false) slots c.put_both.new.slots marks c.put_both.new.marks c.args.count i j x (mark_flagged false x) b (b.sentences + 1) (b.words + x.words)
+    p is slot s w refl c.put_both.ensures.slots c.put_both.ensures.marks
+    ∙ ap (λ (z : Mark). mark_next 1 0 z.words 0 (mark_flagged false) (get_or marks j no_mark) j (small slots marks c.args.count)) there

@@ -1,0 +1,15 @@
+-- What is to be seen of batches and sentences alone, without the moves.
+use Rattle.std.specs.Prelude.{◌≡◌, true}
+use Rattle.std.specs.List.{AllByRecursion}
+use Rattle.tb_core.specs.Names.{is_name, AreApart}
+use Rattle.tb_core.specs.Machine.{Batch, Machine}
+use Rattle.tb_core.specs.Acts.{names_of, ids_of}
+use Rattle.tb_core.specs.Keeping.{IsFine}
+
+-- Batches have good names, each its own; sentences have each its own `sent_id`; each revision keeps the rules, with the
+-- `sent_id` and the text of its sentence, and differs from the one before.
+pub record AreFine (f : Machine) : Type 0 where
+  pub named : AllByRecursion (λ (b : Batch). is_name b.name ≡ true) f.batches
+  pub names : AreApart (names_of f.batches)
+  pub ids : AreApart (ids_of f.sentences)
+  pub sentences : AllByRecursion IsFine f.sentences

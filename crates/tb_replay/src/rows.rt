@@ -1,0 +1,53 @@
+//! The rows of a desk, with texts that lie elsewhere. Contracts see each text as its bytes.
+
+ghost use Rattle.tb_core.specs.Machine.{Batch};
+ghost use Rattle.tb_replay.specs.Entries.{RevisionRow, EntryRow};
+
+use std::marker::Model;
+use tb_core::State;
+
+/// A batch.
+#[derive(Drop)]
+pub struct BatchRow<'a> {
+    pub name: &'a str,
+    pub state: State,
+    /// Whoever works on it, or the empty text.
+    pub worker: &'a str,
+}
+
+impl<'a> Model for BatchRow<'a> {
+    ghost Value = { Batch };
+
+    ghost view = { λ b. record { name = b.name.now; state = b.state; worker = b.worker.now } };
+}
+
+/// A revision, without its text.
+#[derive(Drop)]
+pub struct Revision<'a> {
+    /// The user who made it.
+    pub who: &'a str,
+    /// How many words its text has.
+    pub words: u64,
+}
+
+impl<'a> Model for Revision<'a> {
+    ghost Value = { RevisionRow };
+
+    ghost view = { λ r. record { who = r.who.now; words = r.words } };
+}
+
+/// A sentence, without its texts.
+#[derive(Drop)]
+pub struct Entry<'a> {
+    /// The number of its batch, from 1.
+    pub batch: u64,
+    pub pulled: bool,
+    /// Its revisions, oldest first.
+    pub revisions: Vec<Revision<'a>>,
+}
+
+impl<'a> Model for Entry<'a> {
+    ghost Value = { EntryRow };
+
+    ghost view = { λ e. record { batch = e.batch; pulled = e.pulled; revisions = e.revisions.items } };
+}

@@ -1,0 +1,87 @@
+//! Totals of the six states, by the rows of batches and sentences.
+
+ghost use Rattle.std.specs.Prelude.{◌≡◌, ◌↔◌, ◌+◌, ◌<◌, ◌≤◌, ◌^◌, length, IsTrue, IsSome, IfSome};
+ghost use Rattle.tb_core.specs.declared.kinds.State.{State as AnyState};
+ghost use Rattle.tb_core.specs.Events.{state_place, is_state};
+ghost use Rattle.tb_core.specs.Machine.{Machine, when};
+ghost use Rattle.tb_core.specs.Totals.{at_state, StandFor};
+ghost use Rattle.tb_replay.specs.Entries.{entries_of};
+ghost use Rattle.tb_replay.specs.Fine.{AreFine};
+ghost use Rattle.tb_replay.specs.Sums.{entry_state, last_count};
+
+use crate::rows::{BatchRow, Entry, Revision};
+use tb_core::{State, Totals};
+
+/// The place of a state among the six.
+fn place_of(state: State) -> usize
+    ensures place { result ≡ state_place state }
+    ensures bound { result < 6 }
+{
+    match state {
+        State::Opened => 0,
+        State::Assigned => 1,
+        State::Submitted => 2,
+        State::Adjudicated => 3,
+        State::Released => 4,
+        State::Withdrawn => 5,
+    }
+}
+
+/// The state of a sentence: withdrawn where it is pulled, else that of its batch.
+fn state_of(batches: &[BatchRow<'_>], entry: &Entry<'_>) -> State
+    ensures { result ≡ entry_state batches.now entry.now }
+{
+    if entry.pulled {
+        return State::Withdrawn;
+    }
+    let place = entry.batch.saturating_sub(1);
+    match batches.get(place as usize) {
+        Some(batch) => batch.state,
+        None => State::Withdrawn,
+    }
+}
+
+/// The words of the last revision.
+fn last_words(revisions: &[Revision<'_>]) -> u64
+    ensures { result ≡ last_count revisions.now }
+{
+    match revisions.last() {
+        Some(revision) => revision.words,
+        None => 0,
+    }
+}
+
+/// Adds to the sum of a state. `false` where that passes 64 bits.
+fn add(sums: &mut [u64; 6], state: State, more: u64) -> bool
+    ensures fits { IsTrue result ↔ at_state sums.old state + more < 2 ^ 64 }
+    ensures added { IsTrue result → (st : AnyState) → at_state sums.new st ≡ at_state sums.old st + when (is_state state st) more }
+{
+    let place = place_of(state);
+    let Some(sum) = sums[place].checked_add(more) else {
+        return false;
+    };
+    sums[place] = sum;
+    true
+}
+
+/// Of each state its sentences and the words of their current revisions, as the rows of a desk have them. `None` where a
+/// sum passes 64 bits, which isn't so where the rows are fine and no more than 1,000,000 sentences. Takes no memory.
+pub fn totals_of(batches: &[BatchRow<'_>], entries: &[Entry<'_>]) -> Option<Totals>
+    ensures sums { (f : Machine) → batches.now ≡ f.batches → entries.now ≡ entries_of f.sentences → IfSome result (λ t. StandFor t f) }
+    ensures told { (f : Machine) → batches.now ≡ f.batches → entries.now ≡ entries_of f.sentences → AreFine f → length f.sentences ≤ 1000000 → IsSome result }
+{
+    let mut totals = Totals {
+        sentences: [0; 6],
+        words: [0; 6],
+    };
+    for entry in entries {
+        let state = state_of(batches, entry);
+        if !add(&mut totals.sentences, state, 1) {
+            return None;
+        }
+        if !add(&mut totals.words, state, last_words(&entry.revisions)) {
+            return None;
+        }
+    }
+    Some(totals)
+}
