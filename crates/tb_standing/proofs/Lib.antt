@@ -1,0 +1,11 @@
+pub mod Telling
+pub mod Places
+pub mod Sums
+pub mod Order
+pub mod Next
+pub mod Lasting
+pub mod Encodings
+pub mod Fits
+pub mod Single
+pub mod Alone
+pub mod Telltale

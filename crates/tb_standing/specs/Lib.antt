@@ -1,0 +1,5 @@
+pub mod Numbers
+pub mod Standing
+pub mod Written
+pub mod Fitting
+pub mod Found
