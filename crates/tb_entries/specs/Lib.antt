@@ -1,0 +1,4 @@
+pub mod Unfit
+pub mod Course
+pub mod File
+pub mod Apart
