@@ -1,0 +1,6 @@
+pub mod Asked
+pub mod Choosing
+pub mod OneList
+pub mod Put
+pub mod Rises
+pub mod Walking

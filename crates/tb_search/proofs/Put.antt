@@ -1,0 +1,57 @@
+-- What is put of the sentences that are wanted, where the tables stand for a desk.
+use Rattle.std.proofs.Common.{◌≡◌, ◌≢◌, List, map, filter, Bool, Option, Result, Ok, Err, OnOk, IfErr, ℕ, ap, subst, ◌∙◌, arith}
+use Rattle.std.specs.Io.KnownBytes.{Appends}
+use Rattle.sqlite.specs.Store.{Ghosts}
+use Rattle.sqlite.specs.Effect.{Database}
+use Rattle.sqlite.specs.Held.{Held, state}
+use Rattle.sqlite.specs.State.{HasCleanDisk, IsUnchanged, Survives}
+use Rattle.sqlite.proofs.StateLemmas.{survives_then}
+use Rattle.sqlite_trees.specs.Tree.{IsAscending}
+use Rattle.std.specs.List.{All}
+use Rattle.tb_core.specs.Machine.{Machine, Sentence}
+use Rattle.tb_core.specs.Rows.{revisions_from}
+use Rattle.tb_tables.specs.Layout.{desk_schema}
+use Rattle.tb_tables.specs.Records.{Revision, Shows, revision_shown, revision_view}
+use Rattle.tb_standing.specs.Standing.{IsDesk, tables_of, revision_record}
+use Rattle.tb_standing.specs.Fitting.{IsReadable}
+use Rattle.tb_reading.specs.Readable.{IsRevision, ComesBefore}
+use Rattle.tb_reading.proofs.Staying.{unchanged_holds}
+use Rattle.tb_search.specs.declared.picks.Pick.{Pick}
+use Rattle.tb_search.specs.declared.stopped.Stopped.{Stopped}
+use Rattle.tb_search.specs.Picked.{picked, bodies, IsCut, picks_from}
+use Rattle.tb_search.specs.Released.{current_text, IsCutShort}
+use Rattle.tb_search.proofs.Asked.{currents, text_is, cut_is}
+use Rattle.tb_search.proofs.Rises.{revisions_rise, revisions_fit}
+
+pub if_put : {X Y : Type 0} (r : Result Unit Stopped) → (X → Y) → OnOk r X → OnOk r Y
+if_put (Ok t) f h = f h
+if_put (Err e) f h = tt
+
+pub if_cut : {P Q : Stopped → Type 0} (r : Result Unit Stopped) → ((e : Stopped) → P e → Q e) → IfErr r P → IfErr r Q
+if_cut (Ok t) f h = tt
+if_cut (Err e) f h = f e h
+
+abbrev pub rows_of : Machine → List Revision
+rows_of s = map revision_record (revisions_from 1 s.sentences)
+
+module _ {S : Type 0} (g : Ghosts S) where
+  pub desk_same : (old new : Held S) (s : Machine) → IsDesk g old s → IsUnchanged (state g old) (state g new) → IsDesk g new s
+  desk_same old new s desk same = record { reachable = desk.reachable; holds = unchanged_holds g old new (tables_of s) desk.holds same }
+
+  pub lasts_then : (a b c : Held S) → (HasCleanDisk (state g b) → (state g a).now.schema ≡ desk_schema → IsUnchanged (state g a) (state g b))
+      → Survives (state g a) (state g b) (λ _. (state g a).now.schema ≢ desk_schema) → Survives (state g b) (state g c) (λ _. (state g b).now.schema ≢ desk_schema)
+      → Survives (state g a) (state g c) (λ _. (state g a).now.schema ≢ desk_schema)
+  lasts_then a b c same one two = survives_then (state g a) (state g b) (state g c) _ _ _ (λ _ _ other. other) (λ clean _ other has. other (ap (λ (d : Database). d.schema) (same (omega (arith, clean, two.clean)) has).0.now_is ∙ has)) one two
+
+  module _ (c : Held S) (s : Machine) (wanted : Sentence → Bool) (picks : List Pick) (is : picks ≡ picks_from wanted 1 s.sentences) (desk : IsDesk g c s) (readable : IsReadable (tables_of s)) (o a : Option (List ℕ)) where
+    pub put_whole : ((state g c).now.schema ≡ desk_schema → (xs : List Revision) → All IsRevision xs → IsAscending ComesBefore xs → Shows revision_view (map revision_shown xs) ((state g c).now.trees 5) → Appends o a (bodies (picked picks xs)))
+        → Appends o a (current_text (filter wanted s.sentences))
+    put_whole told =
+        let got = told desk.holds.schema (rows_of s) (revisions_fit (rows_of s) readable.revisions) (revisions_rise 1 s.sentences) desk.holds.stands.revisions in
+        subst (Appends o a) (ap (λ ps. bodies (picked ps (rows_of s))) is ∙ text_is (picked (picks_from wanted 1 s.sentences) (rows_of s)) (filter wanted s.sentences) (currents wanted 1 s.sentences)) got
+
+    pub put_part : (e : Stopped) → ((state g c).now.schema ≡ desk_schema → (xs : List Revision) → All IsRevision xs → IsAscending ComesBefore xs → Shows revision_view (map revision_shown xs) ((state g c).now.trees 5) → IsCut e o a (picked picks xs))
+        → IsCutShort e o a (filter wanted s.sentences)
+    put_part e told =
+        let got = told desk.holds.schema (rows_of s) (revisions_fit (rows_of s) readable.revisions) (revisions_rise 1 s.sentences) desk.holds.stands.revisions in
+        cut_is e o a (picked (picks_from wanted 1 s.sentences) (rows_of s)) (filter wanted s.sentences) (currents wanted 1 s.sentences) (subst (λ ps. IsCut e o a (picked ps (rows_of s))) is got)

@@ -1,0 +1,29 @@
+use Rattle.std.proofs.Common.{◌≡◌, map, refl, ap, ◌∙◌, rules, arith}
+use Rattle.sqlite.specs.Held.{state}
+use Rattle.sqlite.specs.State.{HasCleanDisk}
+use Rattle.tb_core.specs.Rows.{pulled_from}
+use Rattle.tb_tables.specs.Records.{batch_shown, batch_view}
+use Rattle.tb_tables.specs.Values.{batch_of}
+use Rattle.tb_standing.specs.Standing.{batch_record}
+use Rattle.tb_reading.proofs.Shown.{if_ok}
+use Rattle.tb_search.proofs.OneList.{one_list, same_batch}
+use Rattle.tb_search.proofs.Rises.{pulled_rise}
+use Rattle.tb_search.proofs.Put.{desk_same, lasts_then}
+use Rattle.tb_search.proofs.export.released_among.Goals as goal
+
+pub returns-in_err-pulled-clause-lasts : goal.returns-in_err-pulled-clause-lasts
+returns-in_err-pulled-clause-lasts g c = lasts_then g.S.Store c.args.conn.now c.batches.new.conn c.pulled.new.conn c.in_ok-batches.ensures.same c.batches.ensures.lasts c.pulled.ensures.lasts
+
+pub returns-clause-picked : goal.returns-clause-picked
+returns-clause-picked g c clean = if_ok c.released_of.result c.released_of.ensures.picked (λ v told s desk heads_are.
+    let mid : HasCleanDisk (state g.S.Store c.batches.new.conn) = omega (arith, clean, c.pulled.ensures.lasts.clean) in
+    let still = desk_same g.S.Store c.args.conn.now c.batches.new.conn s desk (c.in_ok-batches.ensures.same mid desk.holds.schema) in
+    let read_batches : c.as_slice.result.now ≡ c.in_ok-batches.batches.items = search rules in
+    let read_pulled : c.as_slice-2.result.now ≡ c.in_ok-pulled.pulled.items = search rules in
+    let batches_are : map batch_of c.in_ok-batches.batches.items ≡ map batch_record s.batches =
+    one_list batch_shown (λ n x. refl) same_batch batch_view (map batch_record s.batches) (map batch_of c.in_ok-batches.batches.items) _ desk.holds.stands.batches (c.in_ok-batches.ensures.ok mid desk.holds.schema) in
+    let pulled_are = c.in_ok-pulled.ensures.order clean still.holds.schema (pulled_from 1 s.sentences) (pulled_rise 1 s.sentences) still.holds.stands.pulled in
+    told s.batches s.sentences (ap (map batch_of) read_batches ∙ batches_are) (read_pulled ∙ pulled_are) heads_are)
+
+pub returns-clause-lasts : goal.returns-clause-lasts
+returns-clause-lasts g c = lasts_then g.S.Store c.args.conn.now c.batches.new.conn c.pulled.new.conn c.in_ok-batches.ensures.same c.batches.ensures.lasts c.pulled.ensures.lasts

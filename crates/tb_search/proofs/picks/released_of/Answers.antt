@@ -1,0 +1,33 @@
+use Rattle.std.proofs.Common.{◌≡◌, ◌+◌, ◌<◌, ◌++◌, ◌∷◌, [], cond, drop, get_or, length, ap, ◌∙◌, arith}
+use Rattle.tb_core.specs.declared.kinds.State.TheVariants.{Released, Withdrawn}
+use Rattle.tb_core.specs.Events.{is_state}
+use Rattle.tb_core.specs.Machine.{batch_with}
+use Rattle.tb_reading.specs.declared.stream.Head.{Head}
+use Rattle.tb_search.specs.Released.{is_released}
+use Rattle.tb_search.specs.Picked.{begins, picks_from}
+use Rattle.tb_search.proofs.Choosing.{read_at, then_come, then_so}
+use Rattle.tb_search.proofs.picks.released_of.Goals as goal
+
+pub loop-head-preserved : goal.loop-head-preserved
+loop-head-preserved c =
+    let i = c.loop-head.head-index in
+    let heads = c.args.heads.now in
+    let h : Head = get_or heads i (record { batch = 0; rev = 0 }) in
+    let at = c.loop-head.at in
+    let found = c.loop-head.found.items in
+    let pulled = c.args.pulled.now in
+    let low : i < length heads = omega (arith, c.loop-head-test.true) in
+    let got = read_at heads i (record { batch = 0; rev = 0 }) low in
+    let is_pulled = c.stands_at-is_pulled in
+    let is_wanted = c.is_released-is_wanted in
+    let number : c.loop-head.number + 1 ≡ i + 1 = ap (λ n. n + 1) c.loop-head.invariant.0 in
+    let stands : is_pulled.result ≡ begins (drop at pulled) (i + 1) = is_pulled.ensures.value ∙ ap (λ n. begins (drop at pulled) n) number in (
+      number,
+      λ bs xs is pulled_is heads_is.
+          let was = c.loop-head.invariant.1 bs xs is pulled_is heads_is in
+          let known = is_wanted.ensures bs is ∙ ap (λ b. is_state (cond b Withdrawn (batch_with bs h.batch).state) Released) stands in (
+            ap (λ l. l ++ picks_from (is_released bs) (i + 1 + 1) (drop (i + 1) xs)) (c.in_ok-push_where.ensures.more ∙ ap (λ n. found ++ cond is_wanted.result (record { sent = n; rev = h.rev } ∷ []) []) number)
+            ∙ then_so bs xs i heads h pulled found at low got heads_is was.0 was.1 is_wanted.result known,
+            then_come bs xs i heads h pulled found at low got heads_is was.0 was.1 c.stepped-at.result (c.stepped-at.ensures ∙ ap (λ b. cond b (at + 1) at) stands),
+          ),
+    )

@@ -1,0 +1,18 @@
+use Rattle.std.proofs.Common.{◌≡◌, ◌≢◌, false, List, map, All}
+use Rattle.sqlite.specs.State.{HasCleanDisk, IsUnchanged, Survives}
+use Rattle.sqlite.specs.Held.{state}
+use Rattle.sqlite_trees.specs.Tree.{IsAscending}
+use Rattle.tb_tables.specs.Layout.{desk_schema}
+use Rattle.tb_tables.specs.Records.{Revision, Shows, revision_shown, revision_view}
+use Rattle.tb_reading.specs.Readable.{IsRevision, ComesBefore}
+use Rattle.tb_search.proofs.Walking.{IsWalked}
+use Rattle.tb_search.proofs.walk.put_picked.Given as goal
+
+abbrev pub invariant-rows : goal.invariant-rows
+invariant-rows g l =
+    let old = state g.S.Store l.fn.conn in
+    let now = state g.S.Store l.rows.conn.now in
+    (l.rows.conn.ghost_name ≡ l.initial.rows.conn.ghost_name) × (l.fn.conn.in_transaction ≡ false → l.rows.conn.now.in_transaction ≡ false) × Survives old now (λ _. old.now.schema ≢ desk_schema)
+    × (HasCleanDisk now → old.now.schema ≡ desk_schema → IsUnchanged old now)
+    × (HasCleanDisk now → old.now.schema ≡ desk_schema → (xs : List Revision) → All IsRevision xs → IsAscending ComesBefore xs → Shows revision_view (map revision_shown xs) (old.now.trees 5)
+    → IsWalked g.S.Store l.rows.conn.now l.picks l.next (g.W.Sink.held l.initial.out) (g.W.Sink.held l.out) xs)

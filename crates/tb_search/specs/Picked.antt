@@ -1,0 +1,41 @@
+-- Revisions that are asked for by sentence and number.
+use Rattle.std.specs.Prelude.{ℕ, ◌+◌, List, [], ◌∷◌, take, cond, Bool, false, ◌&&◌, nat_eq, Option}
+use Rattle.std.specs.List.{flat_map}
+use Rattle.std.specs.Io.KnownBytes.{Appends}
+use Rattle.tb_conllu.specs.Sunk.{AppendsPart}
+use Rattle.tb_core.specs.Machine.{Sentence, rev}
+use Rattle.tb_tables.specs.Records.{Revision}
+use Rattle.tb_reading.specs.declared.work.Work.{Work}
+use Rattle.tb_search.specs.declared.picks.Pick.{Pick}
+use Rattle.tb_search.specs.declared.stopped.Stopped.{Stopped}
+use Rattle.tb_search.specs.declared.stopped.Stopped.TheVariants.{Output}
+
+abbrev pub asks : Pick → ℕ → ℕ → Bool
+asks p sent rev = nat_eq p.sent sent && nat_eq p.rev rev
+
+-- of revisions in order, those that are asked for in this order
+abbrev pub picked : List Pick → List Revision → List Revision
+picked [] rs = []
+picked (p ∷ ps) [] = []
+picked (p ∷ ps) (r ∷ rs) = cond (asks p r.sent r.rev) (r ∷ picked ps rs) (picked (p ∷ ps) rs)
+
+abbrev pub bodies : List Revision → List ℕ
+bodies rs = flat_map (λ (r : Revision). r.body) rs
+
+-- what a sink has of them where a call ends early
+abbrev pub IsCut : Stopped → Option (List ℕ) → Option (List ℕ) → List Revision → Type 0
+IsCut Output old new rs = AppendsPart old new (bodies rs)
+IsCut _ old new rs = (k : ℕ) × Appends old new (bodies (take k rs))
+
+-- the current revisions of the sentences that are wanted, where the first of the list has this number
+abbrev pub picks_from : (Sentence → Bool) → ℕ → List Sentence → List Pick
+picks_from wanted n [] = []
+picks_from wanted n (x ∷ xs) = cond (wanted x) (record { sent = n; rev = rev x } ∷ picks_from wanted (n + 1) xs) (picks_from wanted (n + 1) xs)
+
+-- the list begins with this number
+abbrev pub begins : List ℕ → ℕ → Bool
+begins [] n = false
+begins (m ∷ ms) n = nat_eq m n
+
+abbrev pub pick_of : Work → Pick
+pick_of w = record { sent = w.number; rev = w.rev }

@@ -1,0 +1,51 @@
+//! Why a walk over the sentences of a desk ends early.
+
+use sqlite::{Error, ErrorCode};
+use std::alloc::AllocFailed;
+use tb_reading::ReadError;
+
+/// Why a walk ends early.
+#[derive(Debug, Drop)]
+pub enum Stopped {
+    /// The tables could not be read, or memory was wanting.
+    Read(ReadError),
+    /// What the text was put into has refused a piece of it.
+    Output,
+}
+
+impl<T: Drop> From<AllocFailed<T>> for Stopped {
+    ghost use Rattle.std.specs.Prelude.{◌≡◌};
+    ghost use Rattle.sqlite.specs.declared.error.Error.TheVariants.{SqliteFailure};
+    ghost use Rattle.sqlite.specs.declared.error.ErrorCode.TheVariants.{OutOfMemory};
+    ghost use Rattle.tb_reading.specs.declared.error.ReadError.TheVariants.{Store};
+    ghost use Rattle.tb_search.specs.declared.stopped.Stopped.TheVariants.{Read};
+
+    ghost from_gives = { λ _ e. e ≡ Read (Store (SqliteFailure OutOfMemory)) };
+
+    fn from(_: AllocFailed<T>) -> Stopped {
+        Stopped::Read(ReadError::Store(Error::SqliteFailure(ErrorCode::OutOfMemory)))
+    }
+}
+
+impl From<ReadError> for Stopped {
+    ghost use Rattle.std.specs.Prelude.{◌≡◌};
+    ghost use Rattle.tb_search.specs.declared.stopped.Stopped.TheVariants.{Read};
+
+    ghost from_gives = { λ x e. e ≡ Read x };
+
+    fn from(error: ReadError) -> Stopped {
+        Stopped::Read(error)
+    }
+}
+
+impl From<Error> for Stopped {
+    ghost use Rattle.std.specs.Prelude.{◌≡◌};
+    ghost use Rattle.tb_reading.specs.declared.error.ReadError.TheVariants.{Store};
+    ghost use Rattle.tb_search.specs.declared.stopped.Stopped.TheVariants.{Read};
+
+    ghost from_gives = { λ x e. e ≡ Read (Store x) };
+
+    fn from(error: Error) -> Stopped {
+        Stopped::Read(ReadError::Store(error))
+    }
+}
