@@ -1,0 +1,35 @@
+use Rattle.std.proofs.Common.{◌∙◌, sym, ap, subst, arith, Err}
+use Rattle.tb_reading.proofs.Shown.{if_ok}
+use Rattle.tb_store.specs.Standing.{StandsFor}
+use Rattle.tb_store.proofs.Unchanged.{desk_kept}
+use Rattle.tb_store.proofs.Standings.{still_stands, sentence_there, err_is, refuses_revision}
+use Rattle.tb_store.proofs.desk.Desk.revision.Goals as goal
+
+pub returns-clause-kept : goal.returns-clause-kept
+returns-clause-kept g c clean opened s stands =
+    let here = subst (λ k. StandsFor g.S.Store k s) (sym c.self.view_is) stands in
+    still_stands g.S.Store _ c.revision.new.conn s (desk_kept g.S.Store c.self.inside.conn c.revision.new.conn (c.revision.ensures.kept clean opened) s here.desk) here
+
+pub returns-clause-answered : goal.returns-clause-answered
+returns-clause-answered g c clean = if_ok c.revision.result (c.revision.ensures.answered clean) (λ text told s stands.
+    let here = subst (λ k. StandsFor g.S.Store k s) (sym c.self.view_is) stands in
+    let fits = c.in-Some.ensures.stands in
+    let it = sentence_there s c.args.number c.in-Some.number fits.0 fits.1 (omega (arith, fits.2, stands.sentences, here.sentences)) in
+    let read = told s here.desk it.0 it.1 in
+    record { place = _; found = it.0; there = it.2; given = read.0; current = read.1; told = read.2 })
+
+pub returns-clause-no_sentence : goal.returns-clause-no_sentence
+returns-clause-no_sentence g c s stands lacks =
+    let here = subst (λ k. StandsFor g.S.Store k s) (sym c.self.view_is) stands in
+    let fits = c.in-Some.ensures.stands in
+    let it = sentence_there s c.args.number c.in-Some.number fits.0 fits.1 (omega (arith, fits.2, stands.sentences, here.sentences)) in
+    absurd (lacks _ it.0 it.2)
+
+pub returns-clause-refused : goal.returns-clause-refused
+returns-clause-refused g c clean = err_is c.revision.result (λ e is s stands.
+    let here = subst (λ k. StandsFor g.S.Store k s) (sym c.self.view_is) stands in
+    let fits = c.in-Some.ensures.stands in
+    let it = sentence_there s c.args.number c.in-Some.number fits.0 fits.1 (omega (arith, fits.2, stands.sentences, here.sentences)) in
+    refuses_revision s c.args.number c.args.rev e (λ r same.
+    let told = c.revision.ensures.refused clean r (is ∙ ap Err same) in
+    (told.0, (_, it.0, it.2, told.1 s here.desk it.0 it.1))))

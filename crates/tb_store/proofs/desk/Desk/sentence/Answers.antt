@@ -1,0 +1,26 @@
+use Rattle.std.proofs.Common.{sym, subst, arith}
+use Rattle.tb_reading.proofs.Shown.{if_ok}
+use Rattle.tb_store.specs.Standing.{StandsFor}
+use Rattle.tb_store.proofs.Unchanged.{desk_kept}
+use Rattle.tb_store.proofs.Standings.{still_stands, sentence_there}
+use Rattle.tb_store.proofs.desk.Desk.sentence.Goals as goal
+
+pub returns-clause-kept : goal.returns-clause-kept
+returns-clause-kept g c clean opened s stands =
+    let here = subst (λ k. StandsFor g.S.Store k s) (sym c.self.view_is) stands in
+    still_stands g.S.Store _ c.sentence.new.conn s (desk_kept g.S.Store c.self.inside.conn c.sentence.new.conn (c.sentence.ensures.kept clean opened) s here.desk) here
+
+pub returns-clause-answered : goal.returns-clause-answered
+returns-clause-answered g c clean = if_ok c.sentence.result (c.sentence.ensures.answered clean) (λ current told s stands.
+    let here = subst (λ k. StandsFor g.S.Store k s) (sym c.self.view_is) stands in
+    let fits = c.in-Some.ensures.stands in
+    let it = sentence_there s c.args.number c.in-Some.number fits.0 fits.1 (omega (arith, fits.2, stands.sentences, here.sentences)) in
+    let read = told s here.desk it.0 it.1 in
+    record { place = _; found = it.0; there = it.2; current = read.0; told = read.1 })
+
+pub returns-clause-refused : goal.returns-clause-refused
+returns-clause-refused g c s stands =
+    let here = subst (λ k. StandsFor g.S.Store k s) (sym c.self.view_is) stands in
+    let fits = c.in-Some.ensures.stands in
+    let it = sentence_there s c.args.number c.in-Some.number fits.0 fits.1 (omega (arith, fits.2, stands.sentences, here.sentences)) in
+    ((λ e place x has. c.sentence.ensures.refused _ e), (λ lacks. absurd (lacks _ it.0 it.2)))

@@ -1,0 +1,42 @@
+-- What the state of a desk answers.
+use Rattle.std.specs.Prelude.{◌≡◌, ◌⊎◌, ℕ, ◌-◌, ◌<◌, List, [], ◌∷◌, Some, slice_get, ⊤}
+use Rattle.tb_conllu.specs.Text.{text_of}
+use Rattle.tb_core.specs.declared.refusals.Refusal.TheVariants.{NoSuchSentence, NoSuchRevision}
+use Rattle.tb_core.specs.declared.refusals.Fault.{Fault}
+use Rattle.tb_core.specs.declared.refusals.Fault.TheVariants.{Refused}
+use Rattle.tb_core.specs.Machine.{Machine, Sentence, Revision, revisions, rev}
+use Rattle.tb_core.specs.Commands.{HasSentence}
+
+-- the revision of a sentence with this number, from 1
+pub record HasRevision (x : Sentence) (n : ℕ) (r : Revision) : Type 0 where
+  pub counted : 0 < n
+  pub there : slice_get (revisions x) (n - 1) ≡ Some r
+
+-- the text of this revision of this sentence
+pub record IsTextOf (s : Machine) (sentence revision : ℕ) (text : List ℕ) : Type 0 where
+  pub place : ℕ
+  pub found : Sentence
+  pub there : HasSentence s sentence place found
+  pub given : Revision
+  pub current : HasRevision found revision given
+  pub told : text ≡ text_of (given.body ∷ [])
+
+-- the number and the text of the current revision of this sentence
+pub record IsCurrent (s : Machine) (sentence revision : ℕ) (text : List ℕ) : Type 0 where
+  pub place : ℕ
+  pub found : Sentence
+  pub there : HasSentence s sentence place found
+  pub current : revision ≡ rev found
+  pub told : text ≡ text_of (found.current.body ∷ [])
+
+abbrev pub HasNoSentence : Machine → ℕ → Type 0
+HasNoSentence s n = (place : ℕ) (x : Sentence) → HasSentence s n place x → ⊥
+
+-- the sentence stands, and has no such revision
+abbrev pub HasNoRevision : Machine → ℕ → ℕ → Type 0
+HasNoRevision s n k = (place : ℕ) × (x : Sentence) × HasSentence s n place x × ((r : Revision) → HasRevision x k r → ⊥)
+
+-- of refusals, those that the state gives; any fault of the store may come
+abbrev pub RefusesRevision : Machine → ℕ → ℕ → Fault → Type 0
+RefusesRevision s n k (Refused r) = ((r ≡ NoSuchSentence) × HasNoSentence s n) ⊎ ((r ≡ NoSuchRevision) × HasNoRevision s n k)
+RefusesRevision s n k _ = ⊤

@@ -1,0 +1,39 @@
+-- What a desk keeps: its connection, its limits, and what it read or wrote last of counts and totals.
+use Rattle.std.specs.Prelude.{◌≡◌, ◌≤◌, ℕ, false, refl}
+use Rattle.std.specs.Coded.{Coded, code_by, coded×, coded_ℕ}
+use Rattle.sqlite.specs.Held.{Held, held_code}
+use Rattle.tb_core.specs.contracts.limits.Limits as limits
+use Rattle.tb_core.specs.contracts.sums.Totals as totals
+use Rattle.tb_core.specs.declared.limits.Limits.{Limits}
+use Rattle.tb_core.specs.declared.sums.Totals.{Totals}
+
+-- `batches`, `sentences` and `moves` are how many there are
+pub record Kept (S : Type 0) : Type 0 where
+  pub conn : Held S
+  pub limits : Limits
+  pub batches : ℕ
+  pub sentences : ℕ
+  pub moves : ℕ
+  pub totals : Totals
+
+abbrev pub kept_code : {S : Type 0} → Coded S → Coded (Kept S)
+kept_code {S} store =
+    code_by (Held S × (Limits × (ℕ × (ℕ × (ℕ × Totals)))))
+    (coded× (held_code store) (coded× limits.the_row.coded (coded× coded_ℕ (coded× coded_ℕ (coded× coded_ℕ totals.the_row.coded)))))
+    (λ d. (d.conn, (d.limits, (d.batches, (d.sentences, (d.moves, d.totals))))))
+    (λ p. record { conn = p.0; limits = p.1.0; batches = p.1.1.0; sentences = p.1.1.1.0; moves = p.1.1.1.1.0; totals = p.1.1.1.1.1 })
+    (λ _. refl)
+
+-- limits of at most 1,000,000 sentences and hits and 1,000,000,000 moves
+pub record IsWithin (l : Limits) : Type 0 where
+  pub sentences : l.sentences ≤ 1000000
+  pub moves : l.moves ≤ 1000000000
+  pub hits : l.hits ≤ 1000000
+
+-- what each call needs of a desk, whatever the store holds: it is in no transaction, and there is room for one more of each
+pub record IsReady {S : Type 0} (d : Kept S) : Type 0 where
+  pub autocommit : d.conn.in_transaction ≡ false
+  pub limited : IsWithin d.limits
+  pub batches : d.batches ≤ d.moves
+  pub sentences : d.sentences ≤ 1000000
+  pub moves : d.moves ≤ 1000000000

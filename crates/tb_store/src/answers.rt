@@ -1,0 +1,10 @@
+//! What a desk is asked and answers.
+
+/// The current revision of a sentence.
+#[derive(Debug, Drop)]
+pub struct Current {
+    /// Its number, from 1.
+    pub rev: u64,
+    /// The text of the sentence, its blank line included.
+    pub body: String,
+}

@@ -1,0 +1,161 @@
+//! Reads of a desk's tables, told as facts of the state for which they stand. Whatever a read answers, they stand for it still.
+
+ghost use Rattle.std.specs.Prelude.{◌≡◌, ◌≢◌, ℕ, ◌-◌, ◌<◌, map, false, [], ◌∷◌, Some, Err, slice_get, string_bytes, IsTrue, IfOk, OnOk};
+ghost use Rattle.sqlite.specs.State.{HasCleanDisk, IsUnchanged, Survives};
+ghost use Rattle.sqlite.specs.Held.{state};
+ghost use Rattle.tb_conllu.specs.Text.{text_of};
+ghost use Rattle.tb_tables.specs.Layout.{desk_schema};
+ghost use Rattle.tb_tables.specs.Records.{Tables};
+ghost use Rattle.tb_tables.specs.Changes.{Holds};
+ghost use Rattle.tb_core.specs.declared.refusals.Refusal.{Refusal as AnyRefusal};
+ghost use Rattle.tb_core.specs.Machine.{Machine, Sentence, Revision, rev as rev_of};
+ghost use Rattle.tb_core.specs.Totals.{StandFor};
+ghost use Rattle.tb_standing.specs.Standing.{IsDesk};
+ghost use Rattle.tb_store.specs.Answers.{HasRevision};
+
+use crate::answers::Current;
+use crate::faults;
+use crate::moving::read_moves;
+use sqlite::{Alter, Connection};
+use std::alloc::Global;
+use tb_core::{Fault, Move, Refusal, Totals};
+use tb_tables::TotalRow;
+
+/// The totals of six rows.
+fn six_totals(rows: &[TotalRow]) -> Result<Totals, Fault>
+    ensures rows { IfOk result (λ t. (t.sentences ≡ map (λ r. r.sentences) rows.now) × (t.words ≡ map (λ r. r.words) rows.now)) }
+    ensures refused { (r : AnyRefusal) → result ≢ Err (Fault.Refused r) }
+{
+    match rows {
+        [a, b, c, d, e, f] => Ok(Totals {
+            sentences: [
+                u64::from(a.sentences),
+                u64::from(b.sentences),
+                u64::from(c.sentences),
+                u64::from(d.sentences),
+                u64::from(e.sentences),
+                u64::from(f.sentences),
+            ],
+            words: [
+                u64::from(a.words),
+                u64::from(b.words),
+                u64::from(c.words),
+                u64::from(d.words),
+                u64::from(e.words),
+                u64::from(f.words),
+            ],
+        }),
+        _ => Err(Fault::NotADesk),
+    }
+}
+
+/// The totals of the six states.
+pub(crate) fn totals<S: Alter>(alloc: Global, conn: &mut Connection<S>) -> Result<Totals, Fault>
+    ensures answered { HasCleanDisk (state S.Store conn.new) → IfOk result (λ t. (s : Machine) → IsDesk S.Store conn.old s → StandFor t s) }
+    ensures refused { (r : AnyRefusal) → result ≢ Err (Fault.Refused r) }
+    ensures same { HasCleanDisk (state S.Store conn.new) → OnOk result ((state S.Store conn.old).now.schema ≡ desk_schema → IsUnchanged (state S.Store conn.old) (state S.Store conn.new)) }
+    ensures mode { conn.old.in_transaction ≡ false → conn.new.in_transaction ≡ false }
+    ensures kept { HasCleanDisk (state S.Store conn.new) → IsTrue (state S.Store conn.new).is_open → (d : Tables) → Holds S.Store conn.old d → Holds S.Store conn.new d }
+    ensures lasts { Survives (state S.Store conn.old) (state S.Store conn.new) (λ _. (state S.Store conn.old).now.schema ≢ desk_schema) }
+{
+    match tb_reading::totals(alloc, conn) {
+        Ok(rows) => six_totals(rows.as_slice()),
+        Err(error) => Err(faults::of_read(error)),
+    }
+}
+
+/// The number of the current revision of the sentence with this number, which stands.
+pub(crate) fn current<S: Alter>(conn: &mut Connection<S>, number: u32) -> Result<u32, Fault>
+    requires { 0 < number }
+    ensures answered { HasCleanDisk (state S.Store conn.new) → IfOk result (λ n. (s : Machine) → IsDesk S.Store conn.old s → (x : Sentence) → slice_get s.sentences (number - 1) ≡ Some x → n ≡ rev_of x) }
+    ensures refused { (r : AnyRefusal) → result ≢ Err (Fault.Refused r) }
+    ensures same { HasCleanDisk (state S.Store conn.new) → OnOk result ((state S.Store conn.old).now.schema ≡ desk_schema → IsUnchanged (state S.Store conn.old) (state S.Store conn.new)) }
+    ensures mode { conn.old.in_transaction ≡ false → conn.new.in_transaction ≡ false }
+    ensures kept { HasCleanDisk (state S.Store conn.new) → IsTrue (state S.Store conn.new).is_open → (d : Tables) → Holds S.Store conn.old d → Holds S.Store conn.new d }
+    ensures lasts { Survives (state S.Store conn.old) (state S.Store conn.new) (λ _. (state S.Store conn.old).now.schema ≢ desk_schema) }
+{
+    match tb_reading::sentence(conn, number) {
+        Ok(Some(row)) => Ok(row.rev),
+        Ok(None) => Err(Fault::NotADesk),
+        Err(error) => Err(faults::of_read(error)),
+    }
+}
+
+/// The text of a revision of the sentence with this number, both of which stand.
+pub(crate) fn text<S: Alter>(
+    conn: &mut Connection<S>,
+    number: u32,
+    rev: u32,
+) -> Result<String, Fault>
+    requires { 0 < number }
+    ensures answered { HasCleanDisk (state S.Store conn.new) → IfOk result (λ t. (s : Machine) → IsDesk S.Store conn.old s → (x : Sentence) → slice_get s.sentences (number - 1) ≡ Some x → (q : Revision) × HasRevision x rev q × (string_bytes t ≡ text_of (q.body ∷ []))) }
+    ensures refused { (r : AnyRefusal) → result ≢ Err (Fault.Refused r) }
+    ensures same { HasCleanDisk (state S.Store conn.new) → OnOk result ((state S.Store conn.old).now.schema ≡ desk_schema → IsUnchanged (state S.Store conn.old) (state S.Store conn.new)) }
+    ensures mode { conn.old.in_transaction ≡ false → conn.new.in_transaction ≡ false }
+    ensures kept { HasCleanDisk (state S.Store conn.new) → IsTrue (state S.Store conn.new).is_open → (d : Tables) → Holds S.Store conn.old d → Holds S.Store conn.new d }
+    ensures lasts { Survives (state S.Store conn.old) (state S.Store conn.new) (λ _. (state S.Store conn.old).now.schema ≢ desk_schema) }
+{
+    match tb_reading::revision(conn, number, rev) {
+        Ok(Some(row)) => Ok(row.body),
+        Ok(None) => Err(Fault::NotADesk),
+        Err(error) => Err(faults::of_read(error)),
+    }
+}
+
+/// The current revision of the sentence with this number, which stands.
+pub(crate) fn sentence<S: Alter>(conn: &mut Connection<S>, number: u32) -> Result<Current, Fault>
+    requires { 0 < number }
+    ensures answered { HasCleanDisk (state S.Store conn.new) → IfOk result (λ c. (s : Machine) → IsDesk S.Store conn.old s → (x : Sentence) → slice_get s.sentences (number - 1) ≡ Some x → (c.rev ≡ rev_of x) × (string_bytes c.body ≡ text_of (x.current.body ∷ []))) }
+    ensures refused { (r : AnyRefusal) → result ≢ Err (Fault.Refused r) }
+    ensures same { HasCleanDisk (state S.Store conn.new) → OnOk result ((state S.Store conn.old).now.schema ≡ desk_schema → IsUnchanged (state S.Store conn.old) (state S.Store conn.new)) }
+    ensures mode { conn.old.in_transaction ≡ false → conn.new.in_transaction ≡ false }
+    ensures kept { HasCleanDisk (state S.Store conn.new) → IsTrue (state S.Store conn.new).is_open → (d : Tables) → Holds S.Store conn.old d → Holds S.Store conn.new d }
+    ensures lasts { Survives (state S.Store conn.old) (state S.Store conn.new) (λ _. (state S.Store conn.old).now.schema ≢ desk_schema) }
+{
+    let rev = current(conn, number)?;
+    let body = text(conn, number, rev)?;
+    Ok(Current {
+        rev: u64::from(rev),
+        body,
+    })
+}
+
+/// The text of a revision of the sentence with this number, which stands.
+///
+/// # Errors
+///
+/// `NoSuchRevision`, where the sentence has no revision with this number.
+pub(crate) fn revision<S: Alter>(
+    conn: &mut Connection<S>,
+    number: u32,
+    rev: u64,
+) -> Result<String, Fault>
+    requires { 0 < number }
+    ensures answered { HasCleanDisk (state S.Store conn.new) → IfOk result (λ t. (s : Machine) → IsDesk S.Store conn.old s → (x : Sentence) → slice_get s.sentences (number - 1) ≡ Some x → (q : Revision) × HasRevision x rev q × (string_bytes t ≡ text_of (q.body ∷ []))) }
+    ensures refused { HasCleanDisk (state S.Store conn.new) → (r : AnyRefusal) → result ≡ Err (Fault.Refused r) → (r ≡ Refusal.NoSuchRevision) × ((s : Machine) → IsDesk S.Store conn.old s → (x : Sentence) → slice_get s.sentences (number - 1) ≡ Some x → (q : Revision) → HasRevision x rev q → ⊥) }
+    ensures same { HasCleanDisk (state S.Store conn.new) → OnOk result ((state S.Store conn.old).now.schema ≡ desk_schema → IsUnchanged (state S.Store conn.old) (state S.Store conn.new)) }
+    ensures mode { conn.old.in_transaction ≡ false → conn.new.in_transaction ≡ false }
+    ensures kept { HasCleanDisk (state S.Store conn.new) → IsTrue (state S.Store conn.new).is_open → (d : Tables) → Holds S.Store conn.old d → Holds S.Store conn.new d }
+    ensures lasts { Survives (state S.Store conn.old) (state S.Store conn.new) (λ _. (state S.Store conn.old).now.schema ≢ desk_schema) }
+{
+    let last = current(conn, number)?;
+    if rev == 0 || rev > u64::from(last) {
+        return Err(Fault::Refused(Refusal::NoSuchRevision));
+    }
+    text(conn, number, rev as u32)
+}
+
+/// The moves, in their order.
+pub(crate) fn moves<S: Alter>(alloc: Global, conn: &mut Connection<S>) -> Result<Vec<Move>, Fault>
+    ensures answered { HasCleanDisk (state S.Store conn.new) → IfOk result (λ v. (s : Machine) → IsDesk S.Store conn.old s → v.items ≡ s.moves) }
+    ensures refused { (r : AnyRefusal) → result ≢ Err (Fault.Refused r) }
+    ensures same { HasCleanDisk (state S.Store conn.new) → OnOk result ((state S.Store conn.old).now.schema ≡ desk_schema → IsUnchanged (state S.Store conn.old) (state S.Store conn.new)) }
+    ensures mode { conn.old.in_transaction ≡ false → conn.new.in_transaction ≡ false }
+    ensures kept { HasCleanDisk (state S.Store conn.new) → IsTrue (state S.Store conn.new).is_open → (d : Tables) → Holds S.Store conn.old d → Holds S.Store conn.new d }
+    ensures lasts { Survives (state S.Store conn.old) (state S.Store conn.new) (λ _. (state S.Store conn.old).now.schema ≢ desk_schema) }
+{
+    match tb_reading::moves(alloc, conn) {
+        Ok(rows) => read_moves(alloc, rows.as_slice()),
+        Err(error) => Err(faults::of_read(error)),
+    }
+}

@@ -1,0 +1,337 @@
+ghost use Rattle.std.specs.Prelude.{◌≡◌, ◌≢◌, ◌↔◌, ◌<◌, ◌≤◌, false, None, Err, string_bytes, IsTrue, IfOk, IfErr, IfSome};
+ghost use Rattle.sqlite.specs.State.{HasCleanDisk, Survives};
+ghost use Rattle.sqlite.specs.Held.{state};
+ghost use Rattle.sqlite.specs.Steps.{over_memory};
+ghost use Rattle.tb_tables.specs.Records.{Stands};
+ghost use Rattle.tb_tables.specs.Making.{no_schema, IsBlank};
+ghost use Rattle.tb_core.specs.declared.refusals.Refusal.{Refusal as AnyRefusal};
+ghost use Rattle.tb_core.specs.Machine.{Machine, empty_machine};
+ghost use Rattle.tb_core.specs.Totals.{StandFor};
+ghost use Rattle.tb_core.specs.Commands.{Answer, correct as correct_it, event_on, pull as pull_it, restore as restore_it, replied, refused as refused_by, moved_on, corrected_to, pulled_out, restored_to};
+ghost use Rattle.tb_core.specs.Steps.{Steps};
+ghost use Rattle.tb_store.specs.Working.{counts_of};
+ghost use Rattle.tb_standing.specs.Standing.{tables_of};
+ghost use Rattle.tb_store.specs.Kept.{Kept, IsWithin};
+ghost use Rattle.tb_store.specs.Standing.{StandsFor, unlimited, no_totals};
+ghost use Rattle.tb_store.specs.Answers.{IsCurrent, IsTextOf, HasNoSentence, RefusesRevision};
+
+use crate::answers::Current;
+use crate::counted::Counts;
+use crate::{asking, correcting, faults, pulling, stepping};
+use sqlite::{Alter, Connection, MemStore};
+use std::alloc::Global;
+use std::marker::Model;
+use tb_core::{Corrected, Event, Fault, Limits, Move, Moved, Pulled, Refusal, Restored, Totals};
+
+/// A desk: the connection that holds its tables, its limits, and the counts and totals that it read or wrote last, so that the
+/// next numbers are known without asking the database.
+pub struct Desk<S: Alter> {
+    conn: Connection<S>,
+    alloc: Global,
+    limits: Limits,
+    batches: u32,
+    sentences: u32,
+    moves: u32,
+    totals: Totals,
+}
+
+impl<S: Alter> Model for Desk<S> {
+    ghost use Rattle.tb_store.specs.Kept.{Kept, kept_code, IsReady};
+
+    ghost Value = { Kept S };
+
+    ghost coded = { kept_code S.code };
+
+    ghost view = { λ d. record { conn = d.conn; limits = d.limits; batches = d.batches; sentences = d.sentences; moves = d.moves; totals = d.totals } };
+
+    ghost invariant = { λ d. IsReady (record { conn = d.conn; limits = d.limits; batches = d.batches; sentences = d.sentences; moves = d.moves; totals = d.totals }) };
+}
+
+/// Why no desk was made, and the connection that was given for it.
+pub struct Unmade<S: Alter> {
+    pub fault: Fault,
+    pub conn: Connection<S>,
+}
+
+impl<S: Alter> Desk<S> {
+    /// The desk of a blank database, in which it makes the tables of a desk without a batch, and whose step limit it takes off.
+    /// A database that is not blank is `NotADesk`, and is not touched. A fault gives the connection back, over a database that
+    /// is as blank as before where the store is still open; a crash on the way leaves it blank, or the whole tables.
+    pub fn make(
+        alloc: Global,
+        mut conn: Connection<S>,
+        limits: Limits,
+    ) -> Result<Desk<S>, Unmade<S>>
+        requires autocommit { conn.in_transaction ≡ false }
+        requires within { IsWithin limits }
+        ensures made { IfOk result (λ d. HasCleanDisk (state S.Store d.conn) → IsBlank S.Store conn → StandsFor S.Store d empty_machine) }
+        ensures limits { IfOk result (λ d. d.limits ≡ limits) }
+        ensures blank { IfOk result (λ _. (state S.Store conn).now.schema ≡ no_schema) }
+        ensures used { IfErr result (λ u. (u.fault ≡ Fault.NotADesk) ↔ ((state S.Store conn).now.schema ≢ no_schema)) }
+        ensures untouched { IfErr result (λ u. u.fault ≡ Fault.NotADesk → u.conn ≡ conn) }
+        ensures again { IfErr result (λ u. HasCleanDisk (state S.Store u.conn) → IsTrue (state S.Store u.conn).is_open → IsBlank S.Store conn → IsBlank S.Store u.conn) }
+        ensures crash { IfOk result (λ d. Survives (state S.Store (unlimited conn)) (state S.Store d.conn) (λ db. IsBlank S.Store conn → Stands (tables_of empty_machine) db)) }
+        ensures crash_on_the_way { IfErr result (λ u. u.fault ≢ Fault.NotADesk → Survives (state S.Store (unlimited conn)) (state S.Store u.conn) (λ db. IsBlank S.Store conn → Stands (tables_of empty_machine) db)) }
+    {
+        if !tb_tables::is_blank(&conn) {
+            return Err(Unmade {
+                fault: Fault::NotADesk,
+                conn,
+            });
+        }
+        conn.set_step_limit(None);
+        match tb_tables::create(&mut conn) {
+            Ok(()) => Ok(Desk::empty(alloc, conn, limits)),
+            Err(error) => Err(Unmade {
+                fault: faults::of_making(error),
+                conn,
+            }),
+        }
+    }
+
+    /// The desk without a batch, over this connection.
+    fn empty(alloc: Global, conn: Connection<S>, limits: Limits) -> Desk<S>
+        requires autocommit { conn.in_transaction ≡ false }
+        requires within { IsWithin limits }
+        ensures { result ≡ record { conn = conn; limits = limits; batches = 0; sentences = 0; moves = 0; totals = no_totals } }
+    {
+        Desk {
+            conn,
+            alloc,
+            limits,
+            batches: 0,
+            sentences: 0,
+            moves: 0,
+            totals: Totals {
+                sentences: [0; 6],
+                words: [0; 6],
+            },
+        }
+    }
+
+    /// The connection, for whoever closes it.
+    pub fn into_connection(self) -> Connection<S>
+        ensures { result ≡ self.conn }
+    {
+        let Desk {
+            conn,
+            alloc: _,
+            limits: _,
+            batches: _,
+            sentences: _,
+            moves: _,
+            totals: _,
+        } = self;
+        conn
+    }
+}
+
+impl<S: Alter> Desk<S> {
+    /// The number of a sentence that stands.
+    fn standing(&self, number: u64) -> Option<u32>
+        ensures stands { IfSome result (λ n. (n ≡ number) × (0 < n) × (n ≤ self.now.sentences)) }
+        ensures lacks { result ≡ None → 0 < number → number ≤ self.now.sentences → ⊥ }
+    {
+        if number == 0 || number > u64::from(self.sentences) {
+            return None;
+        }
+        Some(number as u32)
+    }
+
+    /// The totals of the six states. Nothing is refused.
+    pub fn totals(&mut self) -> Result<Totals, Fault>
+        ensures answered { HasCleanDisk (state S.Store self.new.conn) → IfOk result (λ t. (s : Machine) → StandsFor S.Store self.old s → StandFor t s) }
+        ensures refused { (r : AnyRefusal) → result ≢ Err (Fault.Refused r) }
+        ensures kept { HasCleanDisk (state S.Store self.new.conn) → IsTrue (state S.Store self.new.conn).is_open → (s : Machine) → StandsFor S.Store self.old s → StandsFor S.Store self.new s }
+        ensures crash { (s : Machine) → StandsFor S.Store self.old s → Survives (state S.Store self.old.conn) (state S.Store self.new.conn) (λ _. ⊥) }
+    {
+        asking::totals(self.alloc, &mut self.conn)
+    }
+
+    /// All moves, in their order. Nothing is refused.
+    pub fn moves(&mut self) -> Result<Vec<Move>, Fault>
+        ensures answered { HasCleanDisk (state S.Store self.new.conn) → IfOk result (λ v. (s : Machine) → StandsFor S.Store self.old s → v.items ≡ s.moves) }
+        ensures refused { (r : AnyRefusal) → result ≢ Err (Fault.Refused r) }
+        ensures kept { HasCleanDisk (state S.Store self.new.conn) → IsTrue (state S.Store self.new.conn).is_open → (s : Machine) → StandsFor S.Store self.old s → StandsFor S.Store self.new s }
+        ensures crash { (s : Machine) → StandsFor S.Store self.old s → Survives (state S.Store self.old.conn) (state S.Store self.new.conn) (λ _. ⊥) }
+    {
+        asking::moves(self.alloc, &mut self.conn)
+    }
+
+    /// The current revision of the sentence with this number, from 1.
+    ///
+    /// # Errors
+    ///
+    /// `NoSuchSentence`.
+    pub fn sentence(&mut self, number: u64) -> Result<Current, Fault>
+        ensures answered { HasCleanDisk (state S.Store self.new.conn) → IfOk result (λ c. (s : Machine) → StandsFor S.Store self.old s → IsCurrent s number c.rev (string_bytes c.body)) }
+        ensures refused { (s : Machine) → StandsFor S.Store self.old s → (result ≡ Err (Fault.Refused Refusal.NoSuchSentence)) ↔ HasNoSentence s number }
+        ensures alone { (r : AnyRefusal) → result ≡ Err (Fault.Refused r) → r ≡ Refusal.NoSuchSentence }
+        ensures kept { HasCleanDisk (state S.Store self.new.conn) → IsTrue (state S.Store self.new.conn).is_open → (s : Machine) → StandsFor S.Store self.old s → StandsFor S.Store self.new s }
+        ensures crash { (s : Machine) → StandsFor S.Store self.old s → Survives (state S.Store self.old.conn) (state S.Store self.new.conn) (λ _. ⊥) }
+    {
+        let Some(number) = self.standing(number) else {
+            return Err(Fault::Refused(Refusal::NoSuchSentence));
+        };
+        asking::sentence(&mut self.conn, number)
+    }
+
+    /// The text of a revision of a sentence, both counted from 1.
+    ///
+    /// # Errors
+    ///
+    /// `NoSuchSentence`, `NoSuchRevision`; the first that holds.
+    pub fn revision(&mut self, number: u64, rev: u64) -> Result<String, Fault>
+        ensures answered { HasCleanDisk (state S.Store self.new.conn) → IfOk result (λ t. (s : Machine) → StandsFor S.Store self.old s → IsTextOf s number rev (string_bytes t)) }
+        ensures no_sentence { (s : Machine) → StandsFor S.Store self.old s → HasNoSentence s number → result ≡ Err (Fault.Refused Refusal.NoSuchSentence) }
+        ensures refused { HasCleanDisk (state S.Store self.new.conn) → IfErr result (λ e. (s : Machine) → StandsFor S.Store self.old s → RefusesRevision s number rev e) }
+        ensures kept { HasCleanDisk (state S.Store self.new.conn) → IsTrue (state S.Store self.new.conn).is_open → (s : Machine) → StandsFor S.Store self.old s → StandsFor S.Store self.new s }
+        ensures crash { (s : Machine) → StandsFor S.Store self.old s → Survives (state S.Store self.old.conn) (state S.Store self.new.conn) (λ _. ⊥) }
+    {
+        let Some(number) = self.standing(number) else {
+            return Err(Fault::Refused(Refusal::NoSuchSentence));
+        };
+        asking::revision(&mut self.conn, number, rev)
+    }
+}
+
+impl<S: Alter> Desk<S> {
+    /// Gives the sentence with this number, from 1, a new revision, whose text is the body: the sentence of a CoNLL-U file of
+    /// one. `base` is the number of the revision that was corrected. Sent again while its revision is current, it has the
+    /// same reply, and changes nothing.
+    ///
+    /// # Errors
+    ///
+    /// `BadName`, `NoSuchSentence`; of one that is no repeat `WrongState`, `NotYours`, `OwnWork`, `Stale`; `Read`, `Rule`,
+    /// `Empty`, `NotOne`; `SentIdChanged`, `TextChanged`, `NothingChanged`; `Full`. The first that holds.
+    pub fn correct(
+        &mut self,
+        number: u64,
+        base: u64,
+        user: &str,
+        body: &[u8],
+    ) -> Result<Corrected, Fault>
+        ensures answered { HasCleanDisk (state S.Store self.new.conn) → IfOk result (λ reply. (s : Machine) → StandsFor S.Store self.old s → (t : Machine) × Steps self.old.limits s (correct_it number base user.now body.now) (replied (corrected_to reply)) t × StandsFor S.Store self.new t) }
+        ensures refused { HasCleanDisk (state S.Store self.new.conn) → IfErr result (λ e. (r : AnyRefusal) → e ≡ Fault.Refused r → (s : Machine) → StandsFor S.Store self.old s → Steps self.old.limits s (correct_it number base user.now body.now) (refused_by r) s × StandsFor S.Store self.new s) }
+        ensures kept { HasCleanDisk (state S.Store self.new.conn) → IsTrue (state S.Store self.new.conn).is_open → IfErr result (λ _. (s : Machine) → StandsFor S.Store self.old s → StandsFor S.Store self.new s) }
+        ensures crash { Survives (state S.Store self.old.conn) (state S.Store self.new.conn) (λ db. (s : Machine) → StandsFor S.Store self.old s → (a : Answer) × (t : Machine) × Steps self.old.limits s (correct_it number base user.now body.now) a t × Stands (tables_of t) db) }
+        ensures limits { self.new.limits ≡ self.old.limits }
+    {
+        let counts = self.counts();
+        let Some(at) = self.standing(number) else {
+            return Err(correcting::missing(number, base, user, body));
+        };
+        let (reply, totals) = correcting::correct(
+            self.alloc,
+            &mut self.conn,
+            &counts,
+            at,
+            base,
+            user,
+            body,
+        )?;
+        if let Some(next) = totals {
+            self.moves += 1;
+            self.totals = next;
+        }
+        Ok(reply)
+    }
+}
+
+impl Desk<MemStore> {
+    /// A desk in memory. The only fault is want of memory.
+    pub fn in_memory(alloc: Global, limits: Limits) -> Result<Desk<MemStore>, Fault>
+        requires { IsWithin limits }
+        ensures stands { IfOk result (λ d. StandsFor over_memory d empty_machine) }
+        ensures limits { IfOk result (λ d. d.limits ≡ limits) }
+    {
+        let conn = Connection::open_in_memory(alloc)?;
+        match Desk::make(alloc, conn, limits) {
+            Ok(desk) => Ok(desk),
+            Err(Unmade { fault, conn: _ }) => Err(fault),
+        }
+    }
+}
+
+impl<S: Alter> Desk<S> {
+    /// What the desk knows without asking the database.
+    fn counts(&self) -> Counts
+        ensures { result ≡ counts_of self.now }
+    {
+        Counts {
+            limits: self.limits,
+            moves: self.moves,
+            totals: self.totals,
+        }
+    }
+
+    /// An event on the batch with this name.
+    ///
+    /// # Errors
+    ///
+    /// The first of `BadName`, `NoSuchBatch`; `WrongState`, `NotYours`, `OwnWork`; `Full`.
+    pub fn event(&mut self, name: &str, event: Event, user: &str) -> Result<Moved, Fault>
+        ensures answered { HasCleanDisk (state S.Store self.new.conn) → IfOk result (λ m. (s : Machine) → StandsFor S.Store self.old s → (t : Machine) × Steps self.old.limits s (event_on name.now event user.now) (replied (moved_on m)) t × StandsFor S.Store self.new t) }
+        ensures refused { HasCleanDisk (state S.Store self.new.conn) → IfErr result (λ e. (r : AnyRefusal) → e ≡ Fault.Refused r → (s : Machine) → StandsFor S.Store self.old s → Steps self.old.limits s (event_on name.now event user.now) (refused_by r) s × StandsFor S.Store self.new s) }
+        ensures kept { HasCleanDisk (state S.Store self.new.conn) → IsTrue (state S.Store self.new.conn).is_open → IfErr result (λ _. (s : Machine) → StandsFor S.Store self.old s → StandsFor S.Store self.new s) }
+        ensures crash { Survives (state S.Store self.old.conn) (state S.Store self.new.conn) (λ db. (s : Machine) → StandsFor S.Store self.old s → (a : Answer) × (t : Machine) × Steps self.old.limits s (event_on name.now event user.now) a t × Stands (tables_of t) db) }
+        ensures limits { self.new.limits ≡ self.old.limits }
+    {
+        let counts = self.counts();
+        let (reply, totals) = stepping::event(
+            self.alloc,
+            &mut self.conn,
+            &counts,
+            name,
+            event,
+            user,
+        )?;
+        self.moves += 1;
+        self.totals = totals;
+        Ok(reply)
+    }
+
+    /// Pulls the sentence with this number, from 1, out of its batch.
+    ///
+    /// # Errors
+    ///
+    /// The first of `BadName`, `NoSuchSentence`; `WrongState`, `Pulled`; `Full`.
+    pub fn pull(&mut self, number: u64, user: &str) -> Result<Pulled, Fault>
+        ensures answered { HasCleanDisk (state S.Store self.new.conn) → IfOk result (λ reply. (s : Machine) → StandsFor S.Store self.old s → (t : Machine) × Steps self.old.limits s (pull_it number user.now) (replied (pulled_out reply)) t × StandsFor S.Store self.new t) }
+        ensures refused { HasCleanDisk (state S.Store self.new.conn) → IfErr result (λ e. (r : AnyRefusal) → e ≡ Fault.Refused r → (s : Machine) → StandsFor S.Store self.old s → Steps self.old.limits s (pull_it number user.now) (refused_by r) s × StandsFor S.Store self.new s) }
+        ensures kept { HasCleanDisk (state S.Store self.new.conn) → IsTrue (state S.Store self.new.conn).is_open → IfErr result (λ _. (s : Machine) → StandsFor S.Store self.old s → StandsFor S.Store self.new s) }
+        ensures crash { Survives (state S.Store self.old.conn) (state S.Store self.new.conn) (λ db. (s : Machine) → StandsFor S.Store self.old s → (a : Answer) × (t : Machine) × Steps self.old.limits s (pull_it number user.now) a t × Stands (tables_of t) db) }
+        ensures limits { self.new.limits ≡ self.old.limits }
+    {
+        let counts = self.counts();
+        let Some(at) = self.standing(number) else {
+            return Err(pulling::no_pull(&counts, number, user));
+        };
+        let (reply, totals) = pulling::pull(self.alloc, &mut self.conn, &counts, at, user)?;
+        self.moves += 1;
+        self.totals = totals;
+        Ok(reply)
+    }
+
+    /// Brings the pulled sentence with this number, from 1, back to its batch.
+    ///
+    /// # Errors
+    ///
+    /// The first of `BadName`, `NoSuchSentence`; `WrongState`, `NotPulled`; `Full`.
+    pub fn restore(&mut self, number: u64, user: &str) -> Result<Restored, Fault>
+        ensures answered { HasCleanDisk (state S.Store self.new.conn) → IfOk result (λ reply. (s : Machine) → StandsFor S.Store self.old s → (t : Machine) × Steps self.old.limits s (restore_it number user.now) (replied (restored_to reply)) t × StandsFor S.Store self.new t) }
+        ensures refused { HasCleanDisk (state S.Store self.new.conn) → IfErr result (λ e. (r : AnyRefusal) → e ≡ Fault.Refused r → (s : Machine) → StandsFor S.Store self.old s → Steps self.old.limits s (restore_it number user.now) (refused_by r) s × StandsFor S.Store self.new s) }
+        ensures kept { HasCleanDisk (state S.Store self.new.conn) → IsTrue (state S.Store self.new.conn).is_open → IfErr result (λ _. (s : Machine) → StandsFor S.Store self.old s → StandsFor S.Store self.new s) }
+        ensures crash { Survives (state S.Store self.old.conn) (state S.Store self.new.conn) (λ db. (s : Machine) → StandsFor S.Store self.old s → (a : Answer) × (t : Machine) × Steps self.old.limits s (restore_it number user.now) a t × Stands (tables_of t) db) }
+        ensures limits { self.new.limits ≡ self.old.limits }
+    {
+        let counts = self.counts();
+        let Some(at) = self.standing(number) else {
+            return Err(pulling::no_restore(&counts, number, user));
+        };
+        let (reply, totals) = pulling::restore(self.alloc, &mut self.conn, &counts, at, user)?;
+        self.moves += 1;
+        self.totals = totals;
+        Ok(reply)
+    }
+}
