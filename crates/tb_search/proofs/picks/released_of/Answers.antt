@@ -27,7 +27,7 @@ loop-head-preserved c =
           let was = c.loop-head.invariant.1 bs xs is pulled_is heads_is in
           let known = is_wanted.ensures bs is ∙ ap (λ b. is_state (cond b Withdrawn (batch_with bs h.batch).state) Released) stands in (
             ap (λ l. l ++ picks_from (is_released bs) (i + 1 + 1) (drop (i + 1) xs)) (c.in_ok-push_where.ensures.more ∙ ap (λ n. found ++ cond is_wanted.result (record { sent = n; rev = h.rev } ∷ []) []) number)
-            ∙ then_so bs xs i heads h pulled found at low got heads_is was.0 was.1 is_wanted.result known,
+                ∙ then_so bs xs i heads h pulled found at low got heads_is was.0 was.1 is_wanted.result known,
             then_come bs xs i heads h pulled found at low got heads_is was.0 was.1 c.stepped-at.result (c.stepped-at.ensures ∙ ap (λ b. cond b (at + 1) at) stands),
           ),
     )
