@@ -1,12 +1,4 @@
 pub mod Beginning
 pub mod OneList
-pub mod Telling
-pub mod Unchanged
+pub mod SixTotals
 pub mod Standings
-pub mod Numbering
-pub mod Finds
-pub mod Committed
-pub mod Summing
-pub mod Stepped
-pub mod Corrected
-pub mod Pulled

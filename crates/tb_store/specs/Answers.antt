@@ -1,16 +1,12 @@
 -- What the state of a desk answers.
-use Rattle.std.specs.Prelude.{◌≡◌, ◌⊎◌, ℕ, ◌-◌, ◌<◌, List, [], ◌∷◌, Some, slice_get, ⊤}
+use Rattle.std.specs.Prelude.{◌≡◌, ◌⊎◌, ℕ, List, [], ◌∷◌, ⊤}
 use Rattle.tb_conllu.specs.Text.{text_of}
 use Rattle.tb_core.specs.declared.refusals.Refusal.TheVariants.{NoSuchSentence, NoSuchRevision}
 use Rattle.tb_core.specs.declared.refusals.Fault.{Fault}
 use Rattle.tb_core.specs.declared.refusals.Fault.TheVariants.{Refused}
-use Rattle.tb_core.specs.Machine.{Machine, Sentence, Revision, revisions, rev}
+use Rattle.tb_core.specs.Machine.{Machine, Sentence, Revision, rev}
 use Rattle.tb_core.specs.Commands.{HasSentence}
-
--- the revision of a sentence with this number, from 1
-pub record HasRevision (x : Sentence) (n : ℕ) (r : Revision) : Type 0 where
-  pub counted : 0 < n
-  pub there : slice_get (revisions x) (n - 1) ≡ Some r
+use Rattle.tb_acting.specs.Revisions.{HasRevision}
 
 -- the text of this revision of this sentence
 pub record IsTextOf (s : Machine) (sentence revision : ℕ) (text : List ℕ) : Type 0 where

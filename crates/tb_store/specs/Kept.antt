@@ -6,6 +6,8 @@ use Rattle.tb_core.specs.contracts.limits.Limits as limits
 use Rattle.tb_core.specs.contracts.sums.Totals as totals
 use Rattle.tb_core.specs.declared.limits.Limits.{Limits}
 use Rattle.tb_core.specs.declared.sums.Totals.{Totals}
+use Rattle.tb_acting.specs.declared.counted.Counts.{Counts}
+use Rattle.tb_acting.specs.Working.{IsWithin}
 
 -- `batches`, `sentences` and `moves` are how many there are
 pub record Kept (S : Type 0) : Type 0 where
@@ -24,12 +26,6 @@ kept_code {S} store =
     (λ p. record { conn = p.0; limits = p.1.0; batches = p.1.1.0; sentences = p.1.1.1.0; moves = p.1.1.1.1.0; totals = p.1.1.1.1.1 })
     (λ _. refl)
 
--- limits of at most 1,000,000 sentences and hits and 1,000,000,000 moves
-pub record IsWithin (l : Limits) : Type 0 where
-  pub sentences : l.sentences ≤ 1000000
-  pub moves : l.moves ≤ 1000000000
-  pub hits : l.hits ≤ 1000000
-
 -- what each call needs of a desk, whatever the store holds: it is in no transaction, and there is room for one more of each
 pub record IsReady {S : Type 0} (d : Kept S) : Type 0 where
   pub autocommit : d.conn.in_transaction ≡ false
@@ -37,3 +33,7 @@ pub record IsReady {S : Type 0} (d : Kept S) : Type 0 where
   pub batches : d.batches ≤ d.moves
   pub sentences : d.sentences ≤ 1000000
   pub moves : d.moves ≤ 1000000000
+
+-- what of it a command needs beside the tables
+abbrev pub counts_of : {S : Type 0} → Kept S → Counts
+counts_of d = record { limits = d.limits; moves = d.moves; totals = d.totals }

@@ -1,12 +1,3 @@
-pub mod Faults
 pub mod Kept
 pub mod Standing
 pub mod Answers
-pub mod Numbered
-pub mod Finding
-pub mod ReadOf
-pub mod Recorded
-pub mod Working
-pub mod Stepping
-pub mod Correcting
-pub mod Pulling

@@ -11,13 +11,12 @@ ghost use Rattle.tb_core.specs.declared.refusals.Refusal.{Refusal as AnyRefusal}
 ghost use Rattle.tb_core.specs.Machine.{Machine, Sentence, Revision, rev as rev_of};
 ghost use Rattle.tb_core.specs.Totals.{StandFor};
 ghost use Rattle.tb_standing.specs.Standing.{IsDesk};
-ghost use Rattle.tb_store.specs.Answers.{HasRevision};
+ghost use Rattle.tb_acting.specs.Revisions.{HasRevision};
 
 use crate::answers::Current;
-use crate::faults;
-use crate::moving::read_moves;
 use sqlite::{Alter, Connection};
 use std::alloc::Global;
+use tb_acting::{faults, read_moves};
 use tb_core::{Fault, Move, Refusal, Totals};
 use tb_tables::TotalRow;
 

@@ -9,18 +9,18 @@ ghost use Rattle.tb_core.specs.Machine.{Machine, empty_machine};
 ghost use Rattle.tb_core.specs.Totals.{StandFor};
 ghost use Rattle.tb_core.specs.Commands.{Answer, correct as correct_it, event_on, pull as pull_it, restore as restore_it, replied, refused as refused_by, moved_on, corrected_to, pulled_out, restored_to};
 ghost use Rattle.tb_core.specs.Steps.{Steps};
-ghost use Rattle.tb_store.specs.Working.{counts_of};
+ghost use Rattle.tb_acting.specs.Working.{IsWithin};
 ghost use Rattle.tb_standing.specs.Standing.{tables_of};
-ghost use Rattle.tb_store.specs.Kept.{Kept, IsWithin};
+ghost use Rattle.tb_store.specs.Kept.{Kept, counts_of};
 ghost use Rattle.tb_store.specs.Standing.{StandsFor, unlimited, no_totals};
 ghost use Rattle.tb_store.specs.Answers.{IsCurrent, IsTextOf, HasNoSentence, RefusesRevision};
 
 use crate::answers::Current;
-use crate::counted::Counts;
-use crate::{asking, correcting, faults, pulling, stepping};
+use crate::asking;
 use sqlite::{Alter, Connection, MemStore};
 use std::alloc::Global;
 use std::marker::Model;
+use tb_acting::{Counts, faults};
 use tb_core::{Corrected, Event, Fault, Limits, Move, Moved, Pulled, Refusal, Restored, Totals};
 
 /// A desk: the connection that holds its tables, its limits, and the counts and totals that it read or wrote last, so that the
@@ -219,9 +219,9 @@ impl<S: Alter> Desk<S> {
     {
         let counts = self.counts();
         let Some(at) = self.standing(number) else {
-            return Err(correcting::missing(number, base, user, body));
+            return Err(tb_acting::no_correction(number, base, user, body));
         };
-        let (reply, totals) = correcting::correct(
+        let (reply, totals) = tb_acting::correct(
             self.alloc,
             &mut self.conn,
             &counts,
@@ -278,7 +278,7 @@ impl<S: Alter> Desk<S> {
         ensures limits { self.new.limits ≡ self.old.limits }
     {
         let counts = self.counts();
-        let (reply, totals) = stepping::event(
+        let (reply, totals) = tb_acting::event(
             self.alloc,
             &mut self.conn,
             &counts,
@@ -305,9 +305,9 @@ impl<S: Alter> Desk<S> {
     {
         let counts = self.counts();
         let Some(at) = self.standing(number) else {
-            return Err(pulling::no_pull(&counts, number, user));
+            return Err(tb_acting::no_pull(&counts, number, user));
         };
-        let (reply, totals) = pulling::pull(self.alloc, &mut self.conn, &counts, at, user)?;
+        let (reply, totals) = tb_acting::pull(self.alloc, &mut self.conn, &counts, at, user)?;
         self.moves += 1;
         self.totals = totals;
         Ok(reply)
@@ -327,9 +327,9 @@ impl<S: Alter> Desk<S> {
     {
         let counts = self.counts();
         let Some(at) = self.standing(number) else {
-            return Err(pulling::no_restore(&counts, number, user));
+            return Err(tb_acting::no_restore(&counts, number, user));
         };
-        let (reply, totals) = pulling::restore(self.alloc, &mut self.conn, &counts, at, user)?;
+        let (reply, totals) = tb_acting::restore(self.alloc, &mut self.conn, &counts, at, user)?;
         self.moves += 1;
         self.totals = totals;
         Ok(reply)

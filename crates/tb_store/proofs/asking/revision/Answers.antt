@@ -1,6 +1,6 @@
 use Rattle.std.proofs.Common.{arith}
 use Rattle.tb_reading.proofs.Shown.{if_ok}
-use Rattle.tb_store.proofs.Unchanged.{desk_same, lasts_then}
+use Rattle.tb_acting.proofs.Unchanged.{desk_same, lasts_then}
 use Rattle.tb_store.proofs.asking.revision.Goals as goal
 
 pub returns-clause-answered : goal.returns-clause-answered

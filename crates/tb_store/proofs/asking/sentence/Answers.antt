@@ -3,8 +3,8 @@ use Rattle.sqlite.specs.Held.{state}
 use Rattle.sqlite.specs.State.{HasCleanDisk}
 use Rattle.tb_conllu.specs.Text.{text_of}
 use Rattle.tb_core.specs.Machine.{Revision}
-use Rattle.tb_store.proofs.Telling.{current_is}
-use Rattle.tb_store.proofs.Unchanged.{desk_same, lasts_then}
+use Rattle.tb_acting.proofs.Telling.{current_is}
+use Rattle.tb_acting.proofs.Unchanged.{desk_same, lasts_then}
 use Rattle.tb_store.proofs.asking.sentence.Goals as goal
 
 pub returns-clause-answered : goal.returns-clause-answered

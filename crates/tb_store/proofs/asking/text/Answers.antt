@@ -1,6 +1,6 @@
 use Rattle.tb_tables.specs.Values.{revision_of}
 use Rattle.tb_standing.specs.Standing.{tables_of}
-use Rattle.tb_store.proofs.Telling.{text_told}
+use Rattle.tb_acting.proofs.Telling.{text_told}
 use Rattle.tb_store.proofs.asking.text.Goals as goal
 
 pub returns-in-Ok-Some-clause-answered : goal.returns-in-Ok-Some-clause-answered

@@ -3,20 +3,19 @@ use Rattle.std.proofs.lemmas.Result.{err_from_is_err_and}
 use Rattle.sqlite.specs.Held.{state}
 use Rattle.sqlite.proofs.StateLemmas.{survives_weaker}
 use Rattle.tb_core.specs.declared.refusals.Fault.TheVariants.{Refused}
-use Rattle.tb_core.specs.Commands.{replied, refused, corrected_to}
-use Rattle.tb_store.specs.declared.counted.Counts.{Counts}
+use Rattle.tb_core.specs.Commands.{replied, refused, correct, corrected_to}
+use Rattle.tb_acting.specs.declared.counted.Counts.{Counts}
 use Rattle.tb_store.specs.Kept.{Kept}
 use Rattle.tb_store.specs.Standing.{StandsFor}
-use Rattle.tb_store.specs.Working.{IsCounted}
-use Rattle.tb_store.proofs.Unchanged.{desk_kept}
-use Rattle.tb_store.proofs.Standings.{still_stands, sentence_within, err_is}
-use Rattle.tb_store.proofs.Corrected.{same_steps}
+use Rattle.tb_acting.specs.Working.{IsCounted}
+use Rattle.tb_acting.proofs.Unchanged.{desk_kept}
+use Rattle.tb_store.proofs.Standings.{still_stands, sentence_within, err_is, same_numbered}
 use Rattle.tb_store.proofs.desk.Desk.correct.Goals as goal
 
 pub returns-in_default-clause-refused : goal.returns-in_default-clause-refused
 returns-in_default-clause-refused g c clean r is s stands =
     let here = subst (λ k. StandsFor g.S.Store k s) (sym c.self.view_is) stands in (
-      c.missing.ensures.refused r is c.args.self.now.limits s (λ place x has.
+      c.no_correction.ensures.refused r is c.args.self.now.limits s (λ place x has.
           let low = sentence_within s c.args.number place x has in
           c.in_default.ensures.lacks refl low.0 (omega (arith, low.1, stands.sentences, here.sentences))),
       stands,
@@ -31,7 +30,7 @@ returns-in_err-reply-clause-refused g c clean = err_is c.from_residual.result (�
     let counted : IsCounted c.counts-counts.result s = subst (λ (k : Counts). IsCounted k s) (sym c.counts-counts.ensures) (record { moves = stands.moves; totals = stands.totals }) in
     let limits = ap (λ (k : Counts). k.limits) c.counts-counts.ensures in
     let refusal = c.correct.ensures.refused clean r failed s here.desk counted (omega (arith, fits.2, stands.sentences, here.sentences)) in
-    (same_steps _ _ s _ _ c.args.base c.args.user.now c.args.body.now (refused r) s limits fits.0 refusal.0, still_stands g.S.Store _ c.correct.new.conn s refusal.1 here))
+    (same_numbered (λ n. correct n c.args.base c.args.user.now c.args.body.now) _ _ s _ _ (refused r) s limits fits.0 refusal.0, still_stands g.S.Store _ c.correct.new.conn s refusal.1 here))
 
 pub returns-in_err-reply-clause-kept : goal.returns-in_err-reply-clause-kept
 returns-in_err-reply-clause-kept g c clean opened = err_is c.from_residual.result (λ e is s stands.
@@ -47,7 +46,7 @@ returns-in-Some-totals-clause-answered g c clean s stands =
     let answered = rw c.in-Some-totals.is at c.in_ok-reply.ensures.answered in
     let made = answered clean s here.desk counted (omega (arith, fits.2, stands.sentences, here.sentences)) in (
       made.next,
-      same_steps _ _ s _ _ c.args.base c.args.user.now c.args.body.now (replied (corrected_to c.in_ok-reply.reply)) made.next limits fits.0 made.steps,
+      same_numbered (λ n. correct n c.args.base c.args.user.now c.args.body.now) _ _ s _ _ (replied (corrected_to c.in_ok-reply.reply)) made.next limits fits.0 made.steps,
       record {
         desk = made.desk;
         batches = here.batches ∙ sym made.batches;
@@ -66,4 +65,4 @@ returns-in-Some-totals-clause-crash g c =
     let counted : IsCounted c.counts-counts.result s = subst (λ (k : Counts). IsCounted k s) (sym c.counts-counts.ensures) (record { moves = stands.moves; totals = stands.totals }) in
     let limits = ap (λ (k : Counts). k.limits) c.counts-counts.ensures in
     let left = whole s here.desk counted (omega (arith, fits.2, stands.sentences, here.sentences)) in
-    (left.0, left.1, same_steps _ _ s _ _ c.args.base c.args.user.now c.args.body.now left.0 left.1 limits fits.0 left.2, left.3)) c.correct.ensures.crash)
+    (left.0, left.1, same_numbered (λ n. correct n c.args.base c.args.user.now c.args.body.now) _ _ s _ _ left.0 left.1 limits fits.0 left.2, left.3)) c.correct.ensures.crash)

@@ -1,8 +1,9 @@
 use Rattle.std.proofs.Common.{sym, subst, arith}
 use Rattle.tb_reading.proofs.Shown.{if_ok}
 use Rattle.tb_store.specs.Standing.{StandsFor}
-use Rattle.tb_store.proofs.Unchanged.{desk_kept}
-use Rattle.tb_store.proofs.Standings.{still_stands, sentence_there}
+use Rattle.tb_acting.proofs.Unchanged.{desk_kept}
+use Rattle.tb_acting.proofs.There.{sentence_there}
+use Rattle.tb_store.proofs.Standings.{still_stands}
 use Rattle.tb_store.proofs.desk.Desk.sentence.Goals as goal
 
 pub returns-clause-kept : goal.returns-clause-kept

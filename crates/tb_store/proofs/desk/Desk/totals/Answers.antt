@@ -1,6 +1,6 @@
 use Rattle.std.proofs.Common.{sym, subst}
 use Rattle.tb_store.specs.Standing.{StandsFor}
-use Rattle.tb_store.proofs.Unchanged.{desk_kept}
+use Rattle.tb_acting.proofs.Unchanged.{desk_kept}
 use Rattle.tb_store.proofs.Standings.{still_stands}
 use Rattle.tb_store.proofs.desk.Desk.totals.Goals as goal
 

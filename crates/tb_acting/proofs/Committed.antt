@@ -1,0 +1,137 @@
+-- What is written of an allowed act stands for the state after it.
+use Rattle.std.proofs.Common.{◌≡◌, ℕ, ◌+◌, ◌-◌, ◌<◌, List, [], ◌∷◌, length, Some, slice_get, option_map, refl, sym, ap, subst, ◌∙◌, arith}
+use Rattle.std.proofs.lemmas.List.{length-map}
+use Rattle.std.proofs.lemmas.Option.{slice_get-map}
+use Rattle.sqlite.specs.Tree.{Trees}
+use Rattle.tb_core.specs.declared.kinds.State.{State}
+use Rattle.tb_core.specs.declared.kinds.State.TheVariants.{Opened, Withdrawn}
+use Rattle.tb_core.specs.declared.sums.Totals.{Totals}
+use Rattle.tb_core.specs.Machine as machine
+use Rattle.tb_core.specs.Machine.{Machine, batch_with}
+use Rattle.tb_core.specs.Acts.{Act, IsAllowed, importing, correcting, pulling, restoring, after, state_at}
+use Rattle.tb_core.specs.Acts.{move_of as move_made}
+use Rattle.tb_core.specs.Reaching.{Reached}
+use Rattle.tb_core.specs.Keeping.{IsWell}
+use Rattle.tb_core.specs.Totals.{StandFor}
+use Rattle.tb_conllu.specs.Text.{BlockText, text_of}
+use Rattle.tb_conllu.specs.Words.{words_of}
+use Rattle.tb_tables.specs.Records.{Move, Revision, Stands}
+use Rattle.tb_tables.specs.Values.{move_of, total_of}
+use Rattle.tb_tables.specs.Commands.{Item, after_import, after_correction, after_pull, after_restore}
+use Rattle.tb_tables.specs.declared.rows.TotalRow.{TotalRow}
+use Rattle.tb_writing.specs.declared.recording.Change.{Change}
+use Rattle.tb_writing.specs.Premises.{Follows}
+use Rattle.tb_standing.specs.Numbers.{state_number, from_number}
+use Rattle.tb_standing.specs.Standing.{tables_of, sentence_record, batch_record, move_record, total_record}
+use Rattle.tb_standing.specs.Written.{import_written, correction_written, pull_written, restore_written}
+use Rattle.tb_standing.proofs.Telling.{state_within, before_within}
+use Rattle.tb_standing.proofs.Places.{total_is}
+use Rattle.tb_standing.proofs.Next.{import_next, correction_next, pull_next, restore_next}
+use Rattle.tb_acting.specs.Recorded.{IsTotalOf, IsWritten, IsMadeRevision, IsMadeBatch}
+use Rattle.tb_acting.proofs.Finds.{own_batch, own_state}
+
+pub total_told : (t : Totals) (s : Machine) (st : State) (row : TotalRow) → StandFor t s → IsTotalOf t st row → total_of row ≡ total_record s st
+total_told t s st row stand is = total_is (total_of row) (total_record s st) (is.sentences ∙ stand.sentences st) (is.words ∙ stand.words st)
+
+pub follows : (s : Machine) (a : Act) (c : Change) → IsWritten s a c → Follows (tables_of s) c
+follows s a c w =
+    let six : length (tables_of s).totals ≡ 6 = refl in
+    let from : c.row.from ≡ from_number (move_made s a).from = ap (λ (m : Move). m.from) w.change.row in
+    let to : c.row.to ≡ state_number (move_made s a).to = ap (λ (m : Move). m.to) w.change.row in
+    let low = before_within (move_made s a).from in
+    let high = state_within (move_made s a).to in
+    record {
+      number = (let counted : c.number ≡ length s.moves + 1 = w.change.number in omega (arith, counted, length-map s.moves move_record));
+      left = omega (arith, six, from, low);
+      reached = omega (arith, six, to, high.1);
+    }
+
+sentence_told : (s : Machine) (place : ℕ) (x : machine.Sentence) → slice_get s.sentences place ≡ Some x → slice_get (tables_of s).sentences place ≡ Some (sentence_record x)
+sentence_told s place x there = slice_get-map sentence_record s.sentences place ∙ ap (option_map sentence_record) there
+
+batch_told : (s : Machine) (place : ℕ) (x : machine.Sentence) → IsWell s → slice_get s.sentences place ≡ Some x → slice_get (tables_of s).batches (x.batch - 1) ≡ Some (batch_record (batch_with s.batches x.batch))
+batch_told s place x well there = slice_get-map batch_record s.batches (x.batch - 1) ∙ ap (option_map batch_record) (own_batch s place x well.placed there)
+
+module _ (s : Machine) (number : ℕ) (user : List ℕ) (c : Change) (above : 0 < number) (reached : Reached s) (well : IsWell s) where
+  pub pull_stands : IsAllowed s (pulling (number - 1) user) → IsWritten s (pulling (number - 1) user) c → (trees : Trees)
+      → Stands (after_pull (tables_of s) number (move_of c.row) (total_of c.left) (total_of c.reached)) trees → Stands (tables_of (after s (pulling (number - 1) user))) trees
+  pull_stands allowed w trees h =
+      let place = number - 1 in
+      let a : Act = pulling place user in
+      let st = state_at s place in
+      let left : total_of c.left ≡ total_record (after s a) st = total_told w.totals (after s a) st c.left w.stand (w.change.left st refl) in
+      let to : total_of c.reached ≡ total_record (after s a) Withdrawn = total_told w.totals (after s a) Withdrawn c.reached w.stand w.change.reached in
+      let at : number ≡ place + 1 = omega (arith, above) in
+      let same : after_pull (tables_of s) number (move_of c.row) (total_of c.left) (total_of c.reached) ≡ pull_written s place user st =
+      ap (λ m. after_pull (tables_of s) number m (total_of c.left) (total_of c.reached)) w.change.row
+      ∙ ap (λ l. after_pull (tables_of s) number (move_record (move_made s a)) l (total_of c.reached)) left
+      ∙ ap (λ r. after_pull (tables_of s) number (move_record (move_made s a)) (total_record (after s a) st) r) to
+      ∙ ap (λ n. after_pull (tables_of s) n (move_record (move_made s a)) (total_record (after s a) st) (total_record (after s a) Withdrawn)) at in
+      pull_next s place user reached allowed (sentence_record allowed.sentence) (sentence_told s place allowed.sentence allowed.there)
+      (batch_record (batch_with s.batches allowed.sentence.batch)) (batch_told s place allowed.sentence well allowed.there) st (ap state_number (own_state s place allowed.sentence allowed.there)) trees
+      (subst (λ d. Stands d trees) same h)
+
+  pub restore_stands : IsAllowed s (restoring (number - 1) user) → IsWritten s (restoring (number - 1) user) c → (trees : Trees)
+      → Stands (after_restore (tables_of s) number (move_of c.row) (total_of c.left) (total_of c.reached)) trees → Stands (tables_of (after s (restoring (number - 1) user))) trees
+  restore_stands allowed w trees h =
+      let place = number - 1 in
+      let a : Act = restoring place user in
+      let st = state_at s place in
+      let left : total_of c.left ≡ total_record (after s a) Withdrawn = total_told w.totals (after s a) Withdrawn c.left w.stand (w.change.left Withdrawn refl) in
+      let to : total_of c.reached ≡ total_record (after s a) st = total_told w.totals (after s a) st c.reached w.stand w.change.reached in
+      let at : number ≡ place + 1 = omega (arith, above) in
+      let same : after_restore (tables_of s) number (move_of c.row) (total_of c.left) (total_of c.reached) ≡ restore_written s place user st =
+      ap (λ m. after_restore (tables_of s) number m (total_of c.left) (total_of c.reached)) w.change.row
+      ∙ ap (λ l. after_restore (tables_of s) number (move_record (move_made s a)) l (total_of c.reached)) left
+      ∙ ap (λ r. after_restore (tables_of s) number (move_record (move_made s a)) (total_record (after s a) Withdrawn) r) to
+      ∙ ap (λ n. after_restore (tables_of s) n (move_record (move_made s a)) (total_record (after s a) Withdrawn) (total_record (after s a) st)) at in
+      let next = restore_next s place user reached allowed (sentence_record allowed.sentence) (sentence_told s place allowed.sentence allowed.there)
+      (batch_record (batch_with s.batches allowed.sentence.batch)) (batch_told s place allowed.sentence well allowed.there) st (ap state_number (own_state s place allowed.sentence allowed.there)) in
+      subst (λ d. Stands d trees) (same ∙ next) h
+
+pub correction_stands : (s : Machine) (number : ℕ) (user : List ℕ) (body : BlockText) (x : machine.Sentence) (r k : ℕ) (text : List ℕ) (c : Change) → 0 < number → Reached s → IsWell s → IsMadeRevision s number body x r k text
+    → IsAllowed s (correcting (number - 1) user body) → IsWritten s (correcting (number - 1) user body) c → (trees : Trees)
+    → Stands (after_correction (tables_of s) number (sentence_record x) (record { sent = number; rev = r; who = user; body = text }) k (move_of c.row) (total_of c.left) (total_of c.reached)) trees → Stands (tables_of (after s (correcting (number - 1) user body))) trees
+correction_stands s number user body x r k text c above reached well is allowed w trees h =
+    let place = number - 1 in
+    let a : Act = correcting place user body in
+    let row = sentence_record x in
+    let st = state_at s place in
+    let left : total_of c.left ≡ total_record (after s a) st = total_told w.totals (after s a) st c.left w.stand (w.change.left st refl) in
+    let there : total_of c.reached ≡ total_record (after s a) st = total_told w.totals (after s a) st c.reached w.stand w.change.reached in
+    let at : number ≡ place + 1 = omega (arith, above) in
+    let m = move_record (move_made s a) in
+    let t = total_record (after s a) st in
+    let written : Revision = record { sent = number; rev = r; who = user; body = text } in
+    let next : Revision = record { sent = place + 1; rev = row.rev + 1; who = user; body = text_of (body ∷ []) } in
+    let revised : written ≡ next =
+    ap (λ n. record { sent = n; rev = r; who = user; body = text }) at ∙ ap (λ n. record { sent = place + 1; rev = n; who = user; body = text }) is.next
+    ∙ ap (λ b. record { sent = place + 1; rev = row.rev + 1; who = user; body = b }) is.told in
+    let same : after_correction (tables_of s) number row written k (move_of c.row) (total_of c.left) (total_of c.reached) ≡ correction_written s place user body row st =
+    ap (λ y. after_correction (tables_of s) number row written k y (total_of c.left) (total_of c.reached)) w.change.row
+    ∙ ap (λ y. after_correction (tables_of s) number row written k m y (total_of c.reached)) left
+    ∙ ap (λ y. after_correction (tables_of s) number row written k m t y) there
+    ∙ ap (λ y. after_correction (tables_of s) number row y k m t t) revised
+    ∙ ap (λ y. after_correction (tables_of s) number row next y m t t) is.counted
+    ∙ ap (λ y. after_correction (tables_of s) y row next (words_of body) m t t) at in
+    correction_next s place user body reached allowed row (sentence_told s place x is.there) (batch_record (batch_with s.batches x.batch)) (batch_told s place x well is.there) st (ap state_number (own_state s place x is.there)) trees
+    (subst (λ d. Stands d trees) same h)
+
+-- ---- an import
+
+pub import_stands : (s : Machine) (name user : List ℕ) (bodies : List BlockText) (number first : ℕ) (items : List Item) (c : Change) → Reached s → IsMadeBatch s number first bodies items → IsAllowed s (importing name user bodies)
+    → IsWritten s (importing name user bodies) c → after_import (tables_of s) name user items (move_of c.row) (total_of c.left) (total_of c.reached) ≡ tables_of (after s (importing name user bodies))
+import_stands s name user bodies number first items c reached is allowed w =
+    let a : Act = importing name user bodies in
+    let there : total_of c.reached ≡ total_record (after s a) Opened = total_told w.totals (after s a) Opened c.reached w.stand w.change.reached in
+    let same : after_import (tables_of s) name user items (move_of c.row) (total_of c.left) (total_of c.reached) ≡ import_written s name user bodies (total_of c.left) =
+    λ j. after_import (tables_of s) name user (is.told j) (w.change.row j) (total_of c.left) (there j) in
+    same ∙ import_next s name user bodies reached allowed (total_of c.left)
+
+pub next_batch : (s : Machine) (number first : ℕ) (bodies : List BlockText) (items : List Item) → IsMadeBatch s number first bodies items → (number ≡ 1 + length (tables_of s).batches) × (first ≡ 1 + length (tables_of s).sentences)
+next_batch s number first bodies items is =
+    let batches = length-map s.batches batch_record in
+    let sentences = length-map s.sentences sentence_record in
+    let n = is.next in
+    let f = is.first_next in
+    (omega (arith, n, batches), omega (arith, f, sentences))

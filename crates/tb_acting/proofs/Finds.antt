@@ -1,0 +1,98 @@
+-- What is found by a name or a number.
+use Rattle.std.proofs.Common.{◌≡◌, ◌≢◌, ℕ, zero, suc, ◌+◌, ◌-◌, ◌<◌, List, [], ◌∷◌, map, length, Bool, true, false, cond, Option, Some, None, slice_get, IsTrue, ◌↔◌, refl, sym, ap, subst, ◌∙◌, arith, inl, inr, Contains, slice_index_or}
+use Rattle.std.specs.List.{AllByRecursion}
+use Rattle.std.proofs.lemmas.Option.{slice_get-map}
+use Rattle.tb_core.specs.Names.{Lacks}
+use Rattle.tb_core.specs.Machine as machine
+use Rattle.tb_core.specs.Machine.{Machine, batch_with, no_batch}
+use Rattle.tb_core.specs.Acts.{ids_of, state_at}
+use Rattle.tb_core.specs.Keeping.{IsPlaced}
+use Rattle.tb_core.specs.Rows.{pulled_from}
+use Rattle.tb_core.proofs.Weights.{weight_there}
+use Rattle.tb_tables.specs.Records.{Batch, Sentence}
+use Rattle.tb_standing.specs.Standing.{batch_record, sentence_record}
+use Rattle.tb_reading.specs.Found.{IsNumberOf}
+use Rattle.tb_reading.proofs.Order.{contains_cases, contains_later}
+use Rattle.tb_acting.specs.Finding.{HasNumber}
+
+lacks_all : {X Y : Type 0} (f : X → Y) (name_of : Y → List ℕ) (xs : List X) (name : List ℕ) → AllByRecursion (λ y. name_of y ≢ name) (map f xs) → Lacks (map (λ x. name_of (f x)) xs) name
+lacks_all f name_of [] name h = tt
+lacks_all f name_of (x ∷ xs) name h = ((λ e. h.0 (sym e)), lacks_all f name_of xs name h.1)
+
+got_of : {X Y : Type 0} (f : X → Y) (xs : List X) (i : ℕ) (y : Y) → slice_get (map f xs) i ≡ Some y → (x : X) × (slice_get xs i ≡ Some x) × (f x ≡ y)
+got_of f [] i y e = absurd cc
+got_of f (x ∷ xs) zero y e = (x, refl, (let same : Some (f x) ≡ Some y = e in cc))
+got_of f (x ∷ xs) (suc i) y e = got_of f xs i y e
+
+lacks_none : (ts : List (List ℕ)) (i : ℕ) (t name : List ℕ) → slice_get ts i ≡ Some t → t ≡ name → Lacks ts name → ⊥
+lacks_none [] i t name e is h = absurd cc
+lacks_none (u ∷ ts) zero t name e is h = let same : Some u ≡ Some t = e in let one : u ≡ t = cc in h.0 (sym (one ∙ is))
+lacks_none (u ∷ ts) (suc i) t name e is h = lacks_none ts i t name e is h.1
+
+pub number_told : (s : Machine) (name : List ℕ) (found : Option ℕ) → IsNumberOf (λ (x : Batch). x.name) name (map batch_record s.batches) found → HasNumber s name found
+number_told s name None h = lacks_all batch_record (λ (x : Batch). x.name) s.batches name h
+number_told s name (Some n) h =
+    let it = got_of batch_record s.batches (n - 1) h.0 h.2 in
+    (it.0, h.1, it.1, ap (λ (x : Batch). x.name) it.2 ∙ h.3)
+
+pub id_free : (s : Machine) (id : List ℕ) → IsNumberOf (λ (x : Sentence). x.sent_id) id (map sentence_record s.sentences) None → Lacks (ids_of s.sentences) id
+id_free s id h = lacks_all sentence_record (λ (x : Sentence). x.sent_id) s.sentences id h
+
+pub id_taken : (s : Machine) (id : List ℕ) (n : ℕ) → IsNumberOf (λ (x : Sentence). x.sent_id) id (map sentence_record s.sentences) (Some n) → Lacks (ids_of s.sentences) id → ⊥
+id_taken s id n h lacks =
+    let it = got_of sentence_record s.sentences (n - 1) h.0 h.2 in
+    lacks_none (ids_of s.sentences) (n - 1) it.0.sent_id id (slice_get-map (λ (x : machine.Sentence). x.sent_id) s.sentences (n - 1) ∙ ap (λ o. some_id o) it.1) (ap (λ (x : Sentence). x.sent_id) it.2 ∙ h.3) lacks
+  where
+    some_id : Option machine.Sentence → Option (List ℕ)
+    some_id None = None
+    some_id (Some x) = Some x.sent_id
+
+-- ---- the batch of a sentence
+
+placed : (n : ℕ) (xs : List machine.Sentence) (i : ℕ) (x : machine.Sentence) → AllByRecursion (IsPlaced n) xs → slice_get xs i ≡ Some x → IsPlaced n x
+placed n [] i x all e = absurd cc
+placed n (y ∷ xs) zero x all e = let same : Some y ≡ Some x = e in let one : y ≡ x = cc in subst (IsPlaced n) one all.0
+placed n (y ∷ xs) (suc i) x all e = placed n xs i x all.1 e
+
+got_batch : (bs : List machine.Batch) (i : ℕ) → i < length bs → slice_get bs i ≡ Some (slice_index_or bs i no_batch)
+got_batch [] i low = absurd (omega (arith, low))
+got_batch (b ∷ bs) zero low = refl
+got_batch (b ∷ bs) (suc i) low = got_batch bs i (omega (arith, low))
+
+pub own_batch : (s : Machine) (i : ℕ) (x : machine.Sentence) → AllByRecursion (IsPlaced (length s.batches)) s.sentences → slice_get s.sentences i ≡ Some x → slice_get s.batches (x.batch - 1) ≡ Some (batch_with s.batches x.batch)
+own_batch s i x all there =
+    let at = placed (length s.batches) s.sentences i x all there in
+    got_batch s.batches (x.batch - 1) (omega (arith, at.0, at.1))
+
+-- ---- whether a sentence is pulled
+
+above_none : (n m : ℕ) (xs : List machine.Sentence) → m < n → Contains (pulled_from n xs) m → ⊥
+above_none n m [] low h = omega (arith, h.1)
+above_none n m (x ∷ xs) low h = by (above_none (n + 1) m xs (omega (arith, low))) x.pulled h
+  where
+    by : (Contains (pulled_from (n + 1) xs) m → ⊥) → (b : Bool) → Contains (cond b (n ∷ pulled_from (n + 1) xs) (pulled_from (n + 1) xs)) m → ⊥
+    by none true k = elim (contains_cases n (pulled_from (n + 1) xs) m k) [ inl is ↦ omega (arith, is, low) | inr more ↦ none more ]
+    by none false k = none k
+
+pub pulled_told : (n i : ℕ) (xs : List machine.Sentence) (x : machine.Sentence) (found : Bool) → slice_get xs i ≡ Some x → (IsTrue found ↔ Contains (pulled_from n xs) (n + i)) → found ≡ x.pulled
+pulled_told n i [] x found e h = absurd cc
+pulled_told n zero (y ∷ xs) x found e h =
+    let same : Some y ≡ Some x = e in
+    let one : y ≡ x = cc in
+    by y.pulled found (subst (λ m. IsTrue found ↔ Contains (cond y.pulled (n ∷ pulled_from (n + 1) xs) (pulled_from (n + 1) xs)) m) (let z : n + 0 ≡ n = omega arith in z) h) ∙ ap (λ (z : machine.Sentence). z.pulled) one
+  where
+    by : (b f : Bool) → (IsTrue f ↔ Contains (cond b (n ∷ pulled_from (n + 1) xs) (pulled_from (n + 1) xs)) n) → f ≡ b
+    by true true k = refl
+    by true false k = absurd (let e : false ≡ true = k.1 (0, omega arith, refl) in cc)
+    by false true k = absurd (above_none (n + 1) n xs (omega arith) (k.0 refl))
+    by false false k = refl
+pulled_told n (suc i) (y ∷ xs) x found e h =
+    pulled_told (n + 1) i xs x found e (further y.pulled (subst (λ m. IsTrue found ↔ Contains (cond y.pulled (n ∷ pulled_from (n + 1) xs) (pulled_from (n + 1) xs)) m) (let z : n + suc i ≡ (n + 1) + i = omega arith in z) h))
+  where
+    further : (b : Bool) → (IsTrue found ↔ Contains (cond b (n ∷ pulled_from (n + 1) xs) (pulled_from (n + 1) xs)) ((n + 1) + i)) → IsTrue found ↔ Contains (pulled_from (n + 1) xs) ((n + 1) + i)
+    further true k = ((λ t. elim (contains_cases n (pulled_from (n + 1) xs) ((n + 1) + i) (k.0 t)) [ inl is ↦ absurd (omega (arith, is)) | inr more ↦ more ]), (λ there. k.1 (contains_later n (pulled_from (n + 1) xs) ((n + 1) + i) there)))
+    further false k = k
+
+-- the state of its batch is that at its place
+pub own_state : (s : Machine) (place : ℕ) (x : machine.Sentence) → slice_get s.sentences place ≡ Some x → (batch_with s.batches x.batch).state ≡ state_at s place
+own_state s place x there = ap (λ n. (batch_with s.batches n).state) (sym (weight_there (λ (y : machine.Sentence). y.batch) s.sentences place x there))

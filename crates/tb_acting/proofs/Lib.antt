@@ -1,0 +1,10 @@
+pub mod Unchanged
+pub mod There
+pub mod Telling
+pub mod Numbering
+pub mod Finds
+pub mod Committed
+pub mod Summing
+pub mod Stepped
+pub mod Corrected
+pub mod Pulled

@@ -1,0 +1,29 @@
+use Rattle.std.proofs.Common.{◌≡◌, sym, subst}
+use Rattle.sqlite.specs.Held.{state}
+use Rattle.sqlite.proofs.StateLemmas.{survives_weaker}
+use Rattle.tb_core.specs.Acts.{importing}
+use Rattle.tb_tables.specs.Records.{Tables, Stands}
+use Rattle.tb_tables.specs.Changes.{Holds}
+use Rattle.tb_standing.specs.Standing.{tables_of}
+use Rattle.tb_acting.proofs.Committed.{follows, import_stands, next_batch}
+use Rattle.tb_acting.proofs.committing.commit_import.Goals as goal
+
+pub returns-in-Ok-clause-made : goal.returns-in-Ok-clause-made
+returns-in-Ok-clause-made g c clean s bodies desk is allowed reachable written =
+    let act = importing c.args.name.now c.args.who.now bodies in
+    let next = next_batch s c.args.number c.args.first bodies c.args.items.now is in
+    let holds = c.in-Ok.ensures.ok clean (tables_of s) desk.holds next.0 next.1 (follows s act c.args.change.now written) in
+    let same = import_stands s c.args.name.now c.args.who.now bodies c.args.number c.args.first c.args.items.now c.args.change.now desk.reachable.reached is allowed written in
+    record { reachable = reachable; holds = subst (λ (d : Tables). Holds g.S.Store c.write_import.new.conn d) same holds }
+
+pub returns-in-Ok-clause-crash : goal.returns-in-Ok-clause-crash
+returns-in-Ok-clause-crash g c = survives_weaker (state g.S.Store c.args.conn.now) (state g.S.Store c.write_import.new.conn) _ _ (λ _ db whole s bodies desk is allowed written.
+    let next = next_batch s c.args.number c.args.first bodies c.args.items.now is in
+    let same = import_stands s c.args.name.now c.args.who.now bodies c.args.number c.args.first c.args.items.now c.args.change.now desk.reachable.reached is allowed written in
+    subst (λ (d : Tables). Stands d db) same (whole (tables_of s) desk.holds next.0 next.1 (follows s (importing c.args.name.now c.args.who.now bodies) c.args.change.now written))) c.write_import.ensures.crash
+
+pub returns-in-Err-clause-crash : goal.returns-in-Err-clause-crash
+returns-in-Err-clause-crash g c = survives_weaker (state g.S.Store c.args.conn.now) (state g.S.Store c.write_import.new.conn) _ _ (λ _ db whole s bodies desk is allowed written.
+    let next = next_batch s c.args.number c.args.first bodies c.args.items.now is in
+    let same = import_stands s c.args.name.now c.args.who.now bodies c.args.number c.args.first c.args.items.now c.args.change.now desk.reachable.reached is allowed written in
+    subst (λ (d : Tables). Stands d db) same (whole (tables_of s) desk.holds next.0 next.1 (follows s (importing c.args.name.now c.args.who.now bodies) c.args.change.now written))) c.write_import.ensures.crash

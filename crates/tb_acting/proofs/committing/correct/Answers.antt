@@ -1,0 +1,35 @@
+use Rattle.std.proofs.Common.{◌-◌, ◌∙◌, ap, option_map}
+use Rattle.std.proofs.lemmas.Option.{slice_get-map}
+use Rattle.sqlite.specs.Held.{state}
+use Rattle.sqlite.proofs.StateLemmas.{survives_weaker}
+use Rattle.tb_core.specs.Acts.{correcting}
+use Rattle.tb_standing.specs.Standing.{tables_of, sentence_record}
+use Rattle.tb_acting.proofs.Committed.{follows, correction_stands}
+use Rattle.tb_acting.proofs.committing.correct.Goals as goal
+
+pub returns-in-Ok-clause-made : goal.returns-in-Ok-clause-made
+returns-in-Ok-clause-made g c clean s body x desk is allowed reachable written =
+    let well = c.reached_states_are_well.ensures s desk.reachable.reached in
+    let holds = c.in-Ok.ensures.ok clean (tables_of s) desk.holds (sentence_record x) (slice_get-map sentence_record s.sentences (c.args.number - 1) ∙ ap (option_map sentence_record) is.there) (follows s (correcting (c.args.number - 1) c.args.who.now body) c.args.change.now written) in
+    record {
+      reachable = reachable;
+      holds = record {
+        autocommit = holds.autocommit;
+        is_open = holds.is_open;
+        schema = holds.schema;
+        settled = holds.settled;
+        stands = correction_stands s c.args.number c.args.who.now body x c.args.rev c.args.words c.args.text.now c.args.change.now c.requires.row desk.reachable.reached well is allowed written (state g.S.Store c.write_correction.new.conn).now.trees holds.stands;
+      };
+    }
+
+pub returns-in-Ok-clause-crash : goal.returns-in-Ok-clause-crash
+returns-in-Ok-clause-crash g c = survives_weaker (state g.S.Store c.args.conn.now) (state g.S.Store c.write_correction.new.conn) _ _ (λ _ db whole s body x desk is allowed written.
+    let well = c.reached_states_are_well.ensures s desk.reachable.reached in
+    correction_stands s c.args.number c.args.who.now body x c.args.rev c.args.words c.args.text.now c.args.change.now c.requires.row desk.reachable.reached well is allowed written db
+    (whole (tables_of s) desk.holds (sentence_record x) (slice_get-map sentence_record s.sentences (c.args.number - 1) ∙ ap (option_map sentence_record) is.there) (follows s (correcting (c.args.number - 1) c.args.who.now body) c.args.change.now written))) c.write_correction.ensures.crash
+
+pub returns-in-Err-clause-crash : goal.returns-in-Err-clause-crash
+returns-in-Err-clause-crash g c = survives_weaker (state g.S.Store c.args.conn.now) (state g.S.Store c.write_correction.new.conn) _ _ (λ _ db whole s body x desk is allowed written.
+    let well = c.reached_states_are_well.ensures s desk.reachable.reached in
+    correction_stands s c.args.number c.args.who.now body x c.args.rev c.args.words c.args.text.now c.args.change.now c.requires.row desk.reachable.reached well is allowed written db
+    (whole (tables_of s) desk.holds (sentence_record x) (slice_get-map sentence_record s.sentences (c.args.number - 1) ∙ ap (option_map sentence_record) is.there) (follows s (correcting (c.args.number - 1) c.args.who.now body) c.args.change.now written))) c.write_correction.ensures.crash

@@ -1,0 +1,32 @@
+use Rattle.std.proofs.Common.{◌-◌}
+use Rattle.sqlite.specs.Held.{state}
+use Rattle.sqlite.proofs.StateLemmas.{survives_weaker}
+use Rattle.tb_standing.specs.Standing.{tables_of}
+use Rattle.tb_acting.proofs.Committed.{follows, pull_stands}
+use Rattle.tb_core.specs.Acts.{pulling}
+use Rattle.tb_acting.proofs.committing.pull.Goals as goal
+
+pub returns-in-Ok-clause-made : goal.returns-in-Ok-clause-made
+returns-in-Ok-clause-made g c clean s user desk allowed reachable written =
+    let holds = c.in-Ok.ensures.ok clean (tables_of s) desk.holds (follows s (pulling (c.args.number - 1) user) c.args.change.now written) in
+    let well = c.reached_states_are_well.ensures s desk.reachable.reached in
+    record {
+      reachable = reachable;
+      holds = record {
+        autocommit = holds.autocommit;
+        is_open = holds.is_open;
+        schema = holds.schema;
+        settled = holds.settled;
+        stands = pull_stands s c.args.number user c.args.change.now c.requires.row desk.reachable.reached well allowed written (state g.S.Store c.write_pull.new.conn).now.trees holds.stands;
+      };
+    }
+
+pub returns-in-Ok-clause-crash : goal.returns-in-Ok-clause-crash
+returns-in-Ok-clause-crash g c = survives_weaker (state g.S.Store c.args.conn.now) (state g.S.Store c.write_pull.new.conn) _ _ (λ _ db whole s user desk allowed written.
+    let well = c.reached_states_are_well.ensures s desk.reachable.reached in
+    pull_stands s c.args.number user c.args.change.now c.requires.row desk.reachable.reached well allowed written db (whole (tables_of s) desk.holds (follows s (pulling (c.args.number - 1) user) c.args.change.now written))) c.write_pull.ensures.crash
+
+pub returns-in-Err-clause-crash : goal.returns-in-Err-clause-crash
+returns-in-Err-clause-crash g c = survives_weaker (state g.S.Store c.args.conn.now) (state g.S.Store c.write_pull.new.conn) _ _ (λ _ db whole s user desk allowed written.
+    let well = c.reached_states_are_well.ensures s desk.reachable.reached in
+    pull_stands s c.args.number user c.args.change.now c.requires.row desk.reachable.reached well allowed written db (whole (tables_of s) desk.holds (follows s (pulling (c.args.number - 1) user) c.args.change.now written))) c.write_pull.ensures.crash

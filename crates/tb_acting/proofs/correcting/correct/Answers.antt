@@ -1,0 +1,70 @@
+use Rattle.std.proofs.Common.{◌≡◌, ◌-◌, refl, sym, subst, arith, Err, length-append, [], ◌∷◌}
+use Rattle.std.proofs.lemmas.Result.{err_from_is_err_and}
+use Rattle.sqlite.specs.Held.{state}
+use Rattle.sqlite.specs.State.{HasCleanDisk}
+use Rattle.sqlite.proofs.StateLemmas.{survives_then, survives_weaker}
+use Rattle.tb_core.specs.declared.refusals.Fault.TheVariants.{Refused}
+use Rattle.tb_core.specs.Acts.{correcting, corrected, after, move_of}
+use Rattle.tb_core.specs.Commands.{correct, replied, corrected_to}
+use Rattle.tb_core.proofs.Weights.{length-changed}
+use Rattle.tb_tables.proofs.Commands.{same_holds}
+use Rattle.tb_acting.specs.Correcting.{PlanText, IsPlannedCorrection}
+use Rattle.tb_acting.proofs.Unchanged.{desk_same}
+use Rattle.tb_acting.proofs.correcting.correct.Goals as goal
+
+pub returns-in_err-reply-clause-refused : goal.returns-in_err-reply-clause-refused
+returns-in_err-reply-clause-refused g c clean r is s desk counted within =
+    let told = err_from_is_err_and c.from_residual.result c.from_residual.ensures.1 in
+    let failed : c.planned.result ≡ Err (Refused r) = let was = c.in_err-reply.was in let one = told.1 in let two = told.2 in cc in
+    c.planned.ensures.refused clean r failed s desk counted within
+
+pub returns-in_err-reply-clause-crash : goal.returns-in_err-reply-clause-crash
+returns-in_err-reply-clause-crash g c = survives_weaker (state g.S.Store c.args.conn.now) (state g.S.Store c.planned.new.conn) _ _ (λ _ _ other s desk counted within. absurd (other desk.holds.schema)) c.planned.ensures.lasts
+
+pub returns-in_default-clause-crash : goal.returns-in_default-clause-crash
+returns-in_default-clause-crash g c = survives_weaker (state g.S.Store c.args.conn.now) (state g.S.Store c.planned.new.conn) _ _ (λ _ _ other s desk counted within. absurd (other desk.holds.schema)) c.planned.ensures.lasts
+
+pub returns-in_err-correct-clause-kept : goal.returns-in_err-correct-clause-kept
+returns-in_err-correct-clause-kept g c clean opened =
+    let told = err_from_is_err_and c.from_residual-in_err-correct.result c.from_residual-in_err-correct.ensures.1 in
+    let mid : HasCleanDisk (state g.S.Store c.planned.new.conn) = omega (arith, clean, c.correct.ensures.crash.clean) in
+    let kept = c.in_err-correct.ensures.kept clean opened in
+    rw told.1 (λ d holds. kept d (same_holds g.S.Store c.args.conn.now c.planned.new.conn d holds (c.in_ok-reply.ensures.same mid holds.schema)))
+
+pub returns-in_err-correct-clause-crash : goal.returns-in_err-correct-clause-crash
+returns-in_err-correct-clause-crash g c = survives_then (state g.S.Store c.args.conn.now) (state g.S.Store c.planned.new.conn) (state g.S.Store c.correct.new.conn) _ _ _ (λ _ _ other s desk counted within. absurd (other desk.holds.schema)) (λ clean db whole s desk counted within.
+    let mid : HasCleanDisk (state g.S.Store c.planned.new.conn) = omega (arith, clean, c.correct.ensures.crash.clean) in
+    let first = desk_same g.S.Store c.args.conn.now c.planned.new.conn s desk (c.in_ok-reply.ensures.same mid desk.holds.schema) in
+    let answered = rw c.in-Some.is at c.in_ok-reply.ensures.answered in
+    let plan = answered mid s desk counted within in
+    let held = subst (λ (p : PlanText). IsPlannedCorrection s c.args.number c.args.user.now plan.0 p) (sym c.plan.view_is) plan.1 in
+    (replied (corrected_to c.in_ok-reply.reply), after s (correcting (c.args.number - 1) c.args.user.now plan.0), plan.3, whole s plan.0 held.sentence first held.made plan.2 held.change)) c.planned.ensures.lasts c.correct.ensures.crash
+
+pub returns-clause-crash : goal.returns-clause-crash
+returns-clause-crash g c = survives_then (state g.S.Store c.args.conn.now) (state g.S.Store c.planned.new.conn) (state g.S.Store c.correct.new.conn) _ _ _ (λ _ _ other s desk counted within. absurd (other desk.holds.schema)) (λ clean db whole s desk counted within.
+    let mid : HasCleanDisk (state g.S.Store c.planned.new.conn) = omega (arith, clean, c.correct.ensures.crash.clean) in
+    let first = desk_same g.S.Store c.args.conn.now c.planned.new.conn s desk (c.in_ok-reply.ensures.same mid desk.holds.schema) in
+    let answered = rw c.in-Some.is at c.in_ok-reply.ensures.answered in
+    let plan = answered mid s desk counted within in
+    let held = subst (λ (p : PlanText). IsPlannedCorrection s c.args.number c.args.user.now plan.0 p) (sym c.plan.view_is) plan.1 in
+    (replied (corrected_to c.in_ok-reply.reply), after s (correcting (c.args.number - 1) c.args.user.now plan.0), plan.3, whole s plan.0 held.sentence first held.made plan.2 held.change)) c.planned.ensures.lasts c.correct.ensures.crash
+
+pub returns-clause-answered : goal.returns-clause-answered
+returns-clause-answered g c clean s desk counted within =
+    let mid : HasCleanDisk (state g.S.Store c.planned.new.conn) = omega (arith, clean, c.correct.ensures.crash.clean) in
+    let first = desk_same g.S.Store c.args.conn.now c.planned.new.conn s desk (c.in_ok-reply.ensures.same mid desk.holds.schema) in
+    let answered = rw c.in-Some.is at c.in_ok-reply.ensures.answered in
+    let plan = answered mid s desk counted within in
+    let held = subst (λ (p : PlanText). IsPlannedCorrection s c.args.number c.args.user.now plan.0 p) (sym c.plan.view_is) plan.1 in
+    let a = correcting (c.args.number - 1) c.args.user.now plan.0 in
+    let limits = c.requires.within in
+    let reachable = c.commands_stay_within_limits.ensures c.args.counts.now.limits s (after s a) (correct c.args.number c.args.base c.args.user.now c.args.body.now) (replied (corrected_to c.in_ok-reply.reply)) limits.sentences limits.moves desk.reachable plan.3 in
+    record {
+      next = after s a;
+      steps = plan.3;
+      desk = c.in_ok-correct.ensures.made clean s plan.0 held.sentence first held.made plan.2 reachable held.change;
+      totals = held.totals;
+      batches = refl;
+      sentences = length-changed (corrected c.args.user.now plan.0) s.sentences (c.args.number - 1);
+      moves = length-append s.moves (move_of s a ∷ []);
+    }

@@ -1,0 +1,19 @@
+use Rattle.std.proofs.Common.{arith}
+use Rattle.sqlite.specs.Held.{state}
+use Rattle.sqlite.specs.State.{HasCleanDisk}
+use Rattle.tb_acting.proofs.Unchanged.{desk_same, lasts_then}
+use Rattle.tb_acting.proofs.correcting.find_current.Goals as goal
+
+pub returns-in_err-row-clause-lasts : goal.returns-in_err-row-clause-lasts
+returns-in_err-row-clause-lasts g c = lasts_then g.S.Store c.args.conn.now c.find_sentence.new.conn c.current_row.new.conn c.in_ok-sentence.ensures.same c.find_sentence.ensures.lasts c.current_row.ensures.lasts
+
+pub returns-clause-lasts : goal.returns-clause-lasts
+returns-clause-lasts g c = lasts_then g.S.Store c.args.conn.now c.find_sentence.new.conn c.current_row.new.conn c.in_ok-sentence.ensures.same c.find_sentence.ensures.lasts c.current_row.ensures.lasts
+
+pub returns-clause-answered : goal.returns-clause-answered
+returns-clause-answered g c clean s desk x there =
+    let mid : HasCleanDisk (state g.S.Store c.find_sentence.new.conn) = omega (arith, clean, c.current_row.ensures.lasts.clean) in
+    let first = c.in_ok-sentence.ensures.answered mid s desk x there in
+    let still = desk_same g.S.Store c.args.conn.now c.find_sentence.new.conn s desk (c.in_ok-sentence.ensures.same mid desk.holds.schema) in
+    let row = c.in_ok-row.ensures.answered clean s still x there first.rev in
+    record { sentence = first; who = row.0; body = row.1 }

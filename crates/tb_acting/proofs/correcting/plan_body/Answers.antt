@@ -1,0 +1,23 @@
+use Rattle.std.proofs.Common.{◌≡◌, ◌∙◌, ◌-◌, ap, subst, sym, Err}
+use Rattle.std.proofs.lemmas.Result.{err_from_is_err_and}
+use Rattle.tb_core.specs.declared.refusals.Fault.TheVariants.{Refused}
+use Rattle.tb_core.specs.Acts.{correcting, after}
+use Rattle.tb_core.specs.Commands.{Reply, correct, replied, corrected_to}
+use Rattle.tb_core.specs.Steps.{Steps}
+use Rattle.tb_acting.proofs.Corrected.{reply_is}
+use Rattle.tb_acting.proofs.correcting.plan_body.Goals as goal
+
+pub returns-in_err-passage-clause-refused : goal.returns-in_err-passage-clause-refused
+returns-in_err-passage-clause-refused c r is s base x reached counted read named =
+    let told = err_from_is_err_and c.from_residual.result c.from_residual.ensures.1 in
+    let failed : c.take.result ≡ Err (Refused r) = let was = c.in_err-passage.was in let one = told.1 in let two = told.2 in cc in
+    c.take.ensures.refused r failed s c.args.number base c.args.user.now (c.args.number - 1) x reached named (c.as_str.ensures.value ∙ read.body) counted.moves
+
+pub returns-clause-answered : goal.returns-clause-answered
+returns-clause-answered c s base x reached counted read named =
+    let got = c.in_ok-passage.ensures.accepted s c.args.number base c.args.user.now (c.args.number - 1) x reached named (c.as_str.ensures.value ∙ read.body) counted.moves in
+    let b = c.in_ok-passage.passage.block in
+    let plan = c.in_ok-plan.ensures.planned s x reached got.0 counted named.has.there read got.2 in
+    let act = correcting (c.args.number - 1) c.args.user.now b in
+    let same = ap corrected_to c.reply_of.ensures ∙ reply_is s c.args.number plan.sentence c.args.user.now b _ _ _ c.requires plan.made in
+    (b, plan, got.0, subst (λ (r : Reply). Steps c.args.counts.now.limits s (correct c.args.number base c.args.user.now c.args.body.now) (replied r) (after s act)) (sym same) got.1)

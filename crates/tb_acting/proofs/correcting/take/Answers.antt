@@ -1,0 +1,21 @@
+use Rattle.std.proofs.Common.{◌≡◌, ◌∙◌, [], ◌∷◌, subst, rules}
+use Rattle.tb_conllu.specs.Told.{IsFile}
+use Rattle.tb_acting.proofs.There.{both_ok}
+use Rattle.tb_acting.proofs.Corrected.{stored_alone, body_is_text}
+use Rattle.tb_acting.proofs.correcting.take.Goals as goal
+
+pub returns-clause-refused : goal.returns-clause-refused
+returns-clause-refused c r is s n base user place x reached named text moves =
+    let file : IsFile c.args.text.now c.in-Ok.blocks.items = subst (λ t. IsFile t c.in-Ok.blocks.items) c.as_bytes.ensures.value c.in-Ok.ensures.file in
+    let all : c.in-Ok.blocks.items ≡ x.current.body ∷ [] = stored_alone s place x c.args.text.now c.in-Ok.blocks.items (c.revisions_read_back.ensures s reached) named.has.there text file in
+    let cur : c.in-Some.current.now ≡ x.current.body = search rules in
+    let told = rw is at c.judge_correction_body.ensures.refused in
+    told s n base user place x reached named cur (c.from.ensures ∙ moves)
+
+pub returns-clause-accepted : goal.returns-clause-accepted
+returns-clause-accepted c = both_ok c.judge_correction_body.result c.judge_correction_body.ensures.accepted c.judge_correction_body.ensures.text (λ p got spelled s n base user place x reached named text moves.
+    let file : IsFile c.args.text.now c.in-Ok.blocks.items = subst (λ t. IsFile t c.in-Ok.blocks.items) c.as_bytes.ensures.value c.in-Ok.ensures.file in
+    let all : c.in-Ok.blocks.items ≡ x.current.body ∷ [] = stored_alone s place x c.args.text.now c.in-Ok.blocks.items (c.revisions_read_back.ensures s reached) named.has.there text file in
+    let cur : c.in-Some.current.now ≡ x.current.body = search rules in
+    let done = got s n base user place x reached named cur (c.from.ensures ∙ moves) in
+    (done.0, done.1, spelled ∙ body_is_text c.args.counts.now.limits s n base user c.args.body.now place x _ named.fresh named.has done.1))

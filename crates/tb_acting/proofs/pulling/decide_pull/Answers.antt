@@ -1,0 +1,30 @@
+use Rattle.std.proofs.Common.{◌≡◌, ◌∙◌, ◌-◌, subst, sym}
+use Rattle.tb_core.specs.declared.refusals.Refusal.{Refusal}
+use Rattle.tb_core.specs.Acts.{pulling, after}
+use Rattle.tb_core.specs.Commands.{Reply, pull, replied, refused}
+use Rattle.tb_core.specs.Steps.{Steps}
+use Rattle.tb_reading.proofs.Shown.{if_ok}
+use Rattle.tb_acting.proofs.Pulled.{sentence_found}
+use Rattle.tb_acting.proofs.pulling.decide_pull.Goals as goal
+
+pub returns-in-Err-clause-refused : goal.returns-in-Err-clause-refused
+returns-in-Err-clause-refused c r is s x reached counted there read =
+    let n = c.args.number in
+    let user = c.args.user.now in
+    let refuses = rw c.from.ensures at c.in-Err.ensures.refused in
+    let same : c.in-Err.refusal ≡ r = cc in
+    subst (λ (q : Refusal). Steps c.args.counts.now.limits s (pull n user) (refused q) s) same (refuses s (sentence_found s n x c.args.read.now c.requires there read) (c.from-2.ensures ∙ counted.moves))
+
+pub returns-in-Ok-clause-answered : goal.returns-in-Ok-clause-answered
+returns-in-Ok-clause-answered c = if_ok c.plan_pull.result c.plan_pull.ensures.planned (λ r plans s x reached counted there read.
+    let n = c.args.number in
+    let user = c.args.user.now in
+    let act = pulling (n - 1) user in
+    let accepts = rw c.from.ensures at c.in-Ok.ensures.accepted in
+    let got = accepts s (sentence_found s n x c.args.read.now c.requires there read) (c.from-2.ensures ∙ counted.moves) in
+    let plan = plans s x reached got.0 counted there read in
+    record {
+      prepared = plan.0;
+      allowed = got.0;
+      steps = subst (λ (q : Reply). Steps c.args.counts.now.limits s (pull n user) (replied q) (after s act)) (sym plan.1) got.1;
+    })

@@ -1,0 +1,17 @@
+use Rattle.std.proofs.Common.{refl}
+use Rattle.tb_reading.proofs.Shown.{if_ok}
+use Rattle.tb_acting.proofs.There.{sentence_there}
+use Rattle.tb_acting.proofs.Unchanged.{desk_same}
+use Rattle.tb_acting.proofs.pulling.restore_planned.Goals as goal
+
+pub returns-clause-answered : goal.returns-clause-answered
+returns-clause-answered g c clean = if_ok c.decide_restore.result c.decide_restore.ensures.answered (λ r told s desk counted within.
+    let it = sentence_there s c.args.number c.args.number refl c.requires within in
+    told s it.0 desk.reachable.reached counted it.1 (c.in_ok-read.ensures.answered clean s desk it.0 it.1))
+
+pub returns-clause-refused : goal.returns-clause-refused
+returns-clause-refused g c clean r is s desk counted within =
+    let it = sentence_there s c.args.number c.args.number refl c.requires within in (
+      c.decide_restore.ensures.refused r is s it.0 desk.reachable.reached counted it.1 (c.in_ok-read.ensures.answered clean s desk it.0 it.1),
+      desk_same g.S.Store c.args.conn.now c.find_sentence.new.conn s desk (c.in_ok-read.ensures.same clean desk.holds.schema),
+    )

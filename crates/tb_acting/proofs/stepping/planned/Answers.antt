@@ -1,0 +1,36 @@
+use Rattle.std.proofs.Common.{◌≡◌, Option, option_map, subst, arith, Result, Err}
+use Rattle.std.proofs.lemmas.Result.{err_from_is_err_and}
+use Rattle.sqlite.specs.Held.{state}
+use Rattle.sqlite.specs.State.{HasCleanDisk}
+use Rattle.tb_core.specs.declared.refusals.Fault.TheVariants.{Refused}
+use Rattle.tb_judge.specs.Found.{FindsBatch}
+use Rattle.tb_reading.proofs.Shown.{if_ok}
+use Rattle.tb_acting.specs.declared.finding.BatchRead.{BatchRead}
+use Rattle.tb_acting.specs.Stepping.{seen_of}
+use Rattle.tb_acting.proofs.Unchanged.{desk_same, lasts_then}
+use Rattle.tb_acting.proofs.Stepped.{planned_event}
+use Rattle.tb_acting.proofs.stepping.planned.Goals as goal
+
+pub returns-in_err-batch-clause-refused : goal.returns-in_err-batch-clause-refused
+returns-in_err-batch-clause-refused g c clean r is s desk counted =
+    let told = err_from_is_err_and c.from_residual-in_err-batch.result c.from_residual-in_err-batch.ensures.1 in
+    let failed : c.judge.result ≡ Err (Refused r) = let was = c.in_err-batch.was in let one = told.1 in let two = told.2 in cc in (
+      c.judge.ensures.refused r failed s desk.reachable.reached (c.in_ok-found.ensures.answered clean s desk) counted.moves,
+      desk_same g.S.Store c.args.conn.now c.find_batch.new.conn s desk (c.in_ok-found.ensures.same clean desk.holds.schema),
+    )
+
+pub returns-in_err-sums-clause-lasts : goal.returns-in_err-sums-clause-lasts
+returns-in_err-sums-clause-lasts g c = lasts_then g.S.Store c.args.conn.now c.find_batch.new.conn c.find_work.new.conn c.in_ok-found.ensures.same c.find_batch.ensures.lasts c.find_work.ensures.lasts
+
+pub returns-clause-answered : goal.returns-clause-answered
+returns-clause-answered g c clean = if_ok c.plan.result c.plan.ensures.planned (λ p told s desk counted.
+    let mid : HasCleanDisk (state g.S.Store c.find_batch.new.conn) = omega (arith, clean, c.find_work.ensures.lasts.clean) in
+    let found = c.in_ok-found.ensures.answered mid s desk in
+    let first = desk_same g.S.Store c.args.conn.now c.find_batch.new.conn s desk (c.in_ok-found.ensures.same mid desk.holds.schema) in
+    let here = subst (λ (o : Option BatchRead). FindsBatch s c.args.name.now (option_map seen_of o)) c.in_ok-batch.ensures.found.0 found in
+    let judged = c.in_ok-batch.ensures.accepted s desk.reachable.reached found counted.moves in
+    planned_event c.args.counts.now.limits s c.args.counts.now c.args.name.now c.args.event c.args.user.now c.in_ok-batch.batch c.in_ok-batch.makes c.in_ok-sums.sums p desk.reachable.reached counted here c.in_ok-batch.ensures.found.1
+    (c.in_ok-sums.ensures.answered clean s first) judged (told s))
+
+pub returns-clause-lasts : goal.returns-clause-lasts
+returns-clause-lasts g c = lasts_then g.S.Store c.args.conn.now c.find_batch.new.conn c.find_work.new.conn c.in_ok-found.ensures.same c.find_batch.ensures.lasts c.find_work.ensures.lasts

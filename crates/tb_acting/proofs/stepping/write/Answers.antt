@@ -1,0 +1,33 @@
+use Rattle.std.proofs.Common.{◌≡◌, string_bytes, rules}
+use Rattle.sqlite.specs.Held.{state}
+use Rattle.sqlite.proofs.StateLemmas.{survives_weaker}
+use Rattle.tb_core.specs.Acts.{stepping}
+use Rattle.tb_standing.specs.Standing.{tables_of, batch_record}
+use Rattle.tb_acting.proofs.Committed.{follows}
+use Rattle.tb_acting.proofs.Stepped.{event_stands, row_there, prepared_written}
+use Rattle.tb_acting.proofs.stepping.write.Goals as goal
+
+pub returns-in-Ok-clause-done : goal.returns-in-Ok-clause-done
+returns-in-Ok-clause-done g c clean s desk place event user plan allowed =
+    let who : c.as_str.result.now ≡ string_bytes c.args.plan.now.worker = search rules in
+    let ok = c.in-Ok.ensures.ok in
+    let holds = ok clean (tables_of s) desk.holds (batch_record plan.batch) (row_there s place event user c.args.plan.now plan) (follows s (stepping place event user) c.args.plan.now.prepared.change (prepared_written s place event user c.args.plan.now plan)) in
+    record {
+      autocommit = holds.autocommit;
+      is_open = holds.is_open;
+      schema = holds.schema;
+      settled = holds.settled;
+      stands = event_stands c.events_stand.ensures s place event user c.args.plan.now plan c.as_str.result.now who desk.reachable.reached allowed (state g.S.Store c.write_event.new.conn).now.trees holds.stands;
+    }
+
+pub returns-in-Ok-clause-crash : goal.returns-in-Ok-clause-crash
+returns-in-Ok-clause-crash g c = survives_weaker (state g.S.Store c.args.conn.now) (state g.S.Store c.write_event.new.conn) _ _ (λ _ db whole s desk place event user plan allowed.
+    let who : c.as_str.result.now ≡ string_bytes c.args.plan.now.worker = search rules in
+    event_stands c.events_stand.ensures s place event user c.args.plan.now plan c.as_str.result.now who desk.reachable.reached allowed db
+    (whole (tables_of s) desk.holds (batch_record plan.batch) (row_there s place event user c.args.plan.now plan) (follows s (stepping place event user) c.args.plan.now.prepared.change (prepared_written s place event user c.args.plan.now plan)))) c.write_event.ensures.crash
+
+pub returns-in-Err-clause-crash : goal.returns-in-Err-clause-crash
+returns-in-Err-clause-crash g c = survives_weaker (state g.S.Store c.args.conn.now) (state g.S.Store c.write_event.new.conn) _ _ (λ _ db whole s desk place event user plan allowed.
+    let who : c.as_str.result.now ≡ string_bytes c.args.plan.now.worker = search rules in
+    event_stands c.events_stand.ensures s place event user c.args.plan.now plan c.as_str.result.now who desk.reachable.reached allowed db
+    (whole (tables_of s) desk.holds (batch_record plan.batch) (row_there s place event user c.args.plan.now plan) (follows s (stepping place event user) c.args.plan.now.prepared.change (prepared_written s place event user c.args.plan.now plan)))) c.write_event.ensures.crash

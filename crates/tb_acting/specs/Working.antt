@@ -1,0 +1,60 @@
+-- What a command knows of a desk beside its tables, and what it leaves of both.
+use Rattle.std.specs.Prelude.{◌≡◌, ℕ, ◌+◌, ◌≤◌, List, length, Option, Some, cond, Bool, false, ◌||◌, [], ◌∷◌, nat_eq, string_bytes}
+use Rattle.sqlite.specs.Store.{Ghosts}
+use Rattle.sqlite.specs.Held.{Held}
+use Rattle.tb_core.specs.declared.sums.Totals.{Totals}
+use Rattle.tb_core.specs.declared.limits.Limits.{Limits}
+use Rattle.tb_core.specs.Machine.{Machine}
+use Rattle.tb_core.specs.Acts.{Act, after}
+use Rattle.tb_core.specs.Acts.{move_of as move_made}
+use Rattle.tb_core.specs.Commands.{Command, Reply, replied}
+use Rattle.tb_core.specs.Steps.{Steps}
+use Rattle.tb_core.specs.Totals.{StandFor}
+use Rattle.tb_standing.specs.Standing.{IsDesk}
+use Rattle.tb_reading.specs.declared.work.Work.{Work}
+use Rattle.tb_acting.specs.declared.counted.Counts.{Counts}
+use Rattle.tb_acting.specs.declared.preparing.Prepared.{Prepared}
+use Rattle.tb_acting.specs.Recorded.{IsChangeOf}
+
+-- limits of at most 1,000,000 sentences and hits and 1,000,000,000 moves
+pub record IsWithin (l : Limits) : Type 0 where
+  pub sentences : l.sentences ≤ 1000000
+  pub moves : l.moves ≤ 1000000000
+  pub hits : l.hits ≤ 1000000
+
+-- the counts and totals are those of this state
+pub record IsCounted (k : Counts) (s : Machine) : Type 0 where
+  pub moves : k.moves ≡ length s.moves
+  pub totals : StandFor k.totals s
+
+-- what is written with an accepted command, and the totals after it
+pub record IsPrepared (s : Machine) (a : Act) (p : Prepared) : Type 0 where
+  pub stand : StandFor p.totals (after s a)
+  pub change : IsChangeOf p.totals (move_made s a) p.change
+
+-- The command is answered so, the desk stands for the state after it, and these are the totals; batches and sentences are
+-- as many as before.
+pub record IsDone {S : Type 0} (g : Ghosts S) (l : Limits) (s : Machine) (c : Command) (r : Reply) (new : Held S) (t : Totals) : Type 0 where
+  pub next : Machine
+  pub steps : Steps l s c (replied r) next
+  pub desk : IsDesk g new next
+  pub totals : StandFor t next
+  pub batches : length next.batches ≡ length s.batches
+  pub sentences : length next.sentences ≡ length s.sentences
+  pub moves : length next.moves ≡ length s.moves + 1
+
+-- ---- what of a batch is not pulled
+
+abbrev pub is_listed : ℕ → List ℕ → Bool
+is_listed n [] = false
+is_listed n (m ∷ ms) = nat_eq m n || is_listed n ms
+
+-- the weight of a sentence, none where it is pulled
+abbrev pub unless_pulled : List ℕ → (Work → ℕ) → Work → ℕ
+unless_pulled pulled w item = cond (is_listed item.number pulled) 0 (w item)
+
+abbrev pub each_one : Work → ℕ
+each_one item = 1
+
+abbrev pub its_words : Work → ℕ
+its_words item = item.words

@@ -1,0 +1,115 @@
+//! The writes of accepted acts: each is one transaction, after which the tables stand for the state that the act leads to.
+
+ghost use Rattle.std.specs.Prelude.{◌≡◌, ◌≢◌, ◌+◌, ◌-◌, ◌^◌, ◌<◌, ℕ, List, length, Err, false, IsTrue, OnOk, OnErr};
+ghost use Rattle.sqlite.specs.State.{HasCleanDisk, Survives};
+ghost use Rattle.sqlite.specs.Held.{state};
+ghost use Rattle.tb_tables.specs.Records.{Tables, Stands};
+ghost use Rattle.tb_tables.specs.Changes.{Holds};
+ghost use Rattle.tb_core.specs.declared.refusals.Refusal.{Refusal as AnyRefusal};
+ghost use Rattle.tb_core.specs.Machine.{Machine, Sentence};
+ghost use Rattle.tb_conllu.specs.Text.{BlockText};
+ghost use Rattle.tb_core.specs.Acts.{IsAllowed, importing, correcting, pulling, restoring, after};
+ghost use Rattle.tb_core.specs.Reaching.{IsReachable};
+ghost use Rattle.tb_standing.specs.Standing.{tables_of, IsDesk};
+ghost use Rattle.tb_acting.specs.Recorded.{IsWritten, IsMadeRevision, IsMadeBatch};
+
+use crate::faults;
+use sqlite::{Alter, Connection};
+use tb_core::{Fault, reached_states_are_well};
+use tb_writing::{Change, Item, write_correction, write_import, write_pull, write_restore};
+
+/// Writes an import in one transaction: the batch under this number, and its sentences from the number `first` on, both
+/// counted from 1.
+///
+/// # Errors
+///
+/// Only what the store fails at; the tables are then as before where the store is still open.
+pub fn commit_import<S: Alter>(
+    conn: &mut Connection<S>,
+    number: u32,
+    first: u32,
+    name: &str,
+    who: &str,
+    items: &[Item<'_>],
+    change: &Change,
+) -> Result<(), Fault>
+    requires autocommit { conn.old.in_transaction ≡ false }
+    requires fits { first + length items.now < 2 ^ 32 }
+    ensures made { HasCleanDisk (state S.Store conn.new) → OnOk result ((s : Machine) (bodies : List BlockText) → IsDesk S.Store conn.old s → IsMadeBatch s number first bodies items.now → IsAllowed s (importing name.now who.now bodies) → IsReachable (after s (importing name.now who.now bodies)) → IsWritten s (importing name.now who.now bodies) change.now → IsDesk S.Store conn.new (after s (importing name.now who.now bodies))) }
+    ensures refused { (r : AnyRefusal) → result ≢ Err (Fault.Refused r) }
+    ensures kept { HasCleanDisk (state S.Store conn.new) → IsTrue (state S.Store conn.new).is_open → OnErr result ((d : Tables) → Holds S.Store conn.old d → Holds S.Store conn.new d) }
+    ensures crash { Survives (state S.Store conn.old) (state S.Store conn.new) (λ db. (s : Machine) (bodies : List BlockText) → IsDesk S.Store conn.old s → IsMadeBatch s number first bodies items.now → IsAllowed s (importing name.now who.now bodies) → IsWritten s (importing name.now who.now bodies) change.now → Stands (tables_of (after s (importing name.now who.now bodies))) db) }
+    ensures mode { conn.new.in_transaction ≡ false }
+{
+    match write_import(conn, number, first, name, who, items, change) {
+        Ok(()) => Ok(()),
+        Err(error) => Err(faults::of_error(error)),
+    }
+}
+
+/// A correction of the sentence with this number, from 1: its new current revision, with so many words, by this user.
+pub(crate) fn correct<S: Alter>(
+    conn: &mut Connection<S>,
+    number: u32,
+    rev: u32,
+    words: u32,
+    who: &str,
+    text: &str,
+    change: &Change,
+) -> Result<(), Fault>
+    requires autocommit { conn.old.in_transaction ≡ false }
+    requires row { 0 < number }
+    ensures made { HasCleanDisk (state S.Store conn.new) → OnOk result ((s : Machine) (body : BlockText) (x : Sentence) → IsDesk S.Store conn.old s → IsMadeRevision s number body x rev words text.now → IsAllowed s (correcting (number - 1) who.now body) → IsReachable (after s (correcting (number - 1) who.now body)) → IsWritten s (correcting (number - 1) who.now body) change.now → IsDesk S.Store conn.new (after s (correcting (number - 1) who.now body))) }
+    ensures refused { (r : AnyRefusal) → result ≢ Err (Fault.Refused r) }
+    ensures kept { HasCleanDisk (state S.Store conn.new) → IsTrue (state S.Store conn.new).is_open → OnErr result ((d : Tables) → Holds S.Store conn.old d → Holds S.Store conn.new d) }
+    ensures crash { Survives (state S.Store conn.old) (state S.Store conn.new) (λ db. (s : Machine) (body : BlockText) (x : Sentence) → IsDesk S.Store conn.old s → IsMadeRevision s number body x rev words text.now → IsAllowed s (correcting (number - 1) who.now body) → IsWritten s (correcting (number - 1) who.now body) change.now → Stands (tables_of (after s (correcting (number - 1) who.now body))) db) }
+    ensures mode { conn.new.in_transaction ≡ false }
+{
+    reached_states_are_well();
+    match write_correction(conn, number, rev, words, who, text, change) {
+        Ok(()) => Ok(()),
+        Err(error) => Err(faults::of_error(error)),
+    }
+}
+
+/// A pull of the sentence with this number, from 1.
+pub(crate) fn pull<S: Alter>(
+    conn: &mut Connection<S>,
+    number: u32,
+    change: &Change,
+) -> Result<(), Fault>
+    requires autocommit { conn.old.in_transaction ≡ false }
+    requires row { 0 < number }
+    ensures made { HasCleanDisk (state S.Store conn.new) → OnOk result ((s : Machine) (user : List ℕ) → IsDesk S.Store conn.old s → IsAllowed s (pulling (number - 1) user) → IsReachable (after s (pulling (number - 1) user)) → IsWritten s (pulling (number - 1) user) change.now → IsDesk S.Store conn.new (after s (pulling (number - 1) user))) }
+    ensures refused { (r : AnyRefusal) → result ≢ Err (Fault.Refused r) }
+    ensures kept { HasCleanDisk (state S.Store conn.new) → IsTrue (state S.Store conn.new).is_open → OnErr result ((d : Tables) → Holds S.Store conn.old d → Holds S.Store conn.new d) }
+    ensures crash { Survives (state S.Store conn.old) (state S.Store conn.new) (λ db. (s : Machine) (user : List ℕ) → IsDesk S.Store conn.old s → IsAllowed s (pulling (number - 1) user) → IsWritten s (pulling (number - 1) user) change.now → Stands (tables_of (after s (pulling (number - 1) user))) db) }
+    ensures mode { conn.new.in_transaction ≡ false }
+{
+    reached_states_are_well();
+    match write_pull(conn, number, change) {
+        Ok(()) => Ok(()),
+        Err(error) => Err(faults::of_error(error)),
+    }
+}
+
+/// The way back of a pulled sentence with this number, from 1.
+pub(crate) fn restore<S: Alter>(
+    conn: &mut Connection<S>,
+    number: u32,
+    change: &Change,
+) -> Result<(), Fault>
+    requires autocommit { conn.old.in_transaction ≡ false }
+    requires row { 0 < number }
+    ensures made { HasCleanDisk (state S.Store conn.new) → OnOk result ((s : Machine) (user : List ℕ) → IsDesk S.Store conn.old s → IsAllowed s (restoring (number - 1) user) → IsReachable (after s (restoring (number - 1) user)) → IsWritten s (restoring (number - 1) user) change.now → IsDesk S.Store conn.new (after s (restoring (number - 1) user))) }
+    ensures refused { (r : AnyRefusal) → result ≢ Err (Fault.Refused r) }
+    ensures kept { HasCleanDisk (state S.Store conn.new) → IsTrue (state S.Store conn.new).is_open → OnErr result ((d : Tables) → Holds S.Store conn.old d → Holds S.Store conn.new d) }
+    ensures crash { Survives (state S.Store conn.old) (state S.Store conn.new) (λ db. (s : Machine) (user : List ℕ) → IsDesk S.Store conn.old s → IsAllowed s (restoring (number - 1) user) → IsWritten s (restoring (number - 1) user) change.now → Stands (tables_of (after s (restoring (number - 1) user))) db) }
+    ensures mode { conn.new.in_transaction ≡ false }
+{
+    reached_states_are_well();
+    match write_restore(conn, number, change) {
+        Ok(()) => Ok(()),
+        Err(error) => Err(faults::of_error(error)),
+    }
+}

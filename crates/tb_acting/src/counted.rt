@@ -1,0 +1,30 @@
+//! What a desk knows beside its tables.
+
+ghost use Rattle.std.specs.Prelude.{◌≡◌, ◌≢◌, ◌+◌, ◌≤◌, Err, IfOk};
+ghost use Rattle.tb_core.specs.declared.refusals.Refusal.{Refusal as AnyRefusal};
+
+use tb_core::{Fault, Limits, Totals};
+
+/// What a desk knows without asking the database, as its commands need it.
+#[derive(Clone, Copy, Debug)]
+pub struct Counts {
+    pub limits: Limits,
+    /// How many moves stand.
+    pub moves: u32,
+    pub totals: Totals,
+}
+
+/// The number of the next move, from 1.
+///
+/// # Errors
+///
+/// `NotADesk` at 1,000,000,000 moves: a desk at its limit never comes here, since its commands are refused as `Full`.
+pub fn next_move(counts: &Counts) -> Result<u32, Fault>
+    ensures next { IfOk result (λ n. (n ≡ counts.now.moves + 1) × (n ≤ 1000000000)) }
+    ensures refused { (r : AnyRefusal) → result ≢ Err (Fault.Refused r) }
+{
+    if counts.moves >= 1_000_000_000 {
+        return Err(Fault::NotADesk);
+    }
+    Ok(counts.moves + 1)
+}

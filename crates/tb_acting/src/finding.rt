@@ -1,0 +1,191 @@
+//! What a command reads of a desk before it is judged.
+
+ghost use Rattle.std.specs.Prelude.{◌≡◌, ◌≢◌, ◌-◌, ◌<◌, Some, Err, slice_get, option_map, string_bytes, IsTrue, IfOk, OnOk, MatchBool, false};
+ghost use Rattle.sqlite.specs.State.{HasCleanDisk, IsUnchanged, Survives};
+ghost use Rattle.sqlite.specs.Held.{state};
+ghost use Rattle.tb_tables.specs.Layout.{desk_schema};
+ghost use Rattle.tb_tables.specs.Records.{Tables};
+ghost use Rattle.tb_tables.specs.Changes.{Holds};
+ghost use Rattle.tb_core.specs.declared.refusals.Refusal.{Refusal as AnyRefusal};
+ghost use Rattle.tb_core.specs.declared.kinds.State.{State as AnyState};
+ghost use Rattle.tb_core.specs.Names.{Lacks};
+ghost use Rattle.tb_core.specs.Machine.{Machine, Batch, Sentence};
+ghost use Rattle.tb_core.specs.Acts.{ids_of};
+ghost use Rattle.tb_tables.specs.Values.{sentence_of};
+ghost use Rattle.tb_standing.specs.Numbers.{state_number};
+ghost use Rattle.tb_standing.specs.Standing.{IsDesk, sentence_record};
+ghost use Rattle.tb_judge.specs.Found.{FindsBatch};
+ghost use Rattle.tb_acting.specs.Finding.{HasNumber};
+ghost use Rattle.tb_acting.specs.ReadOf.{IsRead};
+
+use crate::faults;
+use sqlite::{Alter, Connection};
+use tb_core::{Fault, State, reached_states_are_well};
+use tb_standing::state_numbered;
+use tb_tables::{BatchRow, SentenceRow};
+
+/// A batch, as it was read.
+#[derive(Debug, Drop)]
+pub struct BatchRead {
+    /// Its number, from 1.
+    pub number: u32,
+    pub state: State,
+    /// Who works on it, empty for nobody.
+    pub worker: String,
+}
+
+/// The number of the batch with this name, from 1, or none where no batch has it. Nothing is refused.
+pub fn batch_number<S: Alter>(conn: &mut Connection<S>, name: &str) -> Result<Option<u32>, Fault>
+    ensures answered { HasCleanDisk (state S.Store conn.new) → IfOk result (λ found. (s : Machine) → IsDesk S.Store conn.old s → HasNumber s name.now found) }
+    ensures refused { (r : AnyRefusal) → result ≢ Err (Fault.Refused r) }
+    ensures same { HasCleanDisk (state S.Store conn.new) → OnOk result ((state S.Store conn.old).now.schema ≡ desk_schema → IsUnchanged (state S.Store conn.old) (state S.Store conn.new)) }
+    ensures mode { conn.old.in_transaction ≡ false → conn.new.in_transaction ≡ false }
+    ensures kept { HasCleanDisk (state S.Store conn.new) → IsTrue (state S.Store conn.new).is_open → (d : Tables) → Holds S.Store conn.old d → Holds S.Store conn.new d }
+    ensures lasts { Survives (state S.Store conn.old) (state S.Store conn.new) (λ _. (state S.Store conn.old).now.schema ≢ desk_schema) }
+{
+    match tb_reading::batch_named(conn, name) {
+        Ok(found) => Ok(found),
+        Err(error) => Err(faults::of_read(error)),
+    }
+}
+
+/// A row as a batch.
+fn read_batch(row: BatchRow, number: u32) -> Result<BatchRead, Fault>
+    ensures batch { IfOk result (λ f. (st : AnyState) → row.state ≡ state_number st → (f.number ≡ number) × (f.state ≡ st) × (f.worker ≡ row.worker)) }
+    ensures refused { (r : AnyRefusal) → result ≢ Err (Fault.Refused r) }
+{
+    let Some(state) = state_numbered(row.state) else {
+        return Err(Fault::NotADesk);
+    };
+    Ok(BatchRead {
+        number,
+        state,
+        worker: row.worker,
+    })
+}
+
+/// The batch with this number, from 1, which stands.
+fn batch<S: Alter>(conn: &mut Connection<S>, number: u32) -> Result<BatchRead, Fault>
+    ensures answered { HasCleanDisk (state S.Store conn.new) → IfOk result (λ f. (s : Machine) → IsDesk S.Store conn.old s → (b : Batch) → slice_get s.batches (number - 1) ≡ Some b → (f.number ≡ number) × (f.state ≡ b.state) × (string_bytes f.worker ≡ b.worker)) }
+    ensures refused { (r : AnyRefusal) → result ≢ Err (Fault.Refused r) }
+    ensures same { HasCleanDisk (state S.Store conn.new) → OnOk result ((state S.Store conn.old).now.schema ≡ desk_schema → IsUnchanged (state S.Store conn.old) (state S.Store conn.new)) }
+    ensures mode { conn.old.in_transaction ≡ false → conn.new.in_transaction ≡ false }
+    ensures kept { HasCleanDisk (state S.Store conn.new) → IsTrue (state S.Store conn.new).is_open → (d : Tables) → Holds S.Store conn.old d → Holds S.Store conn.new d }
+    ensures lasts { Survives (state S.Store conn.old) (state S.Store conn.new) (λ _. (state S.Store conn.old).now.schema ≢ desk_schema) }
+{
+    if number == 0 {
+        return Err(Fault::NotADesk);
+    }
+    match tb_reading::batch(conn, number) {
+        Ok(Some(row)) => read_batch(row, number),
+        Ok(None) => Err(Fault::NotADesk),
+        Err(error) => Err(faults::of_read(error)),
+    }
+}
+
+/// The batch with this name, or none where no batch has it. Nothing is refused.
+pub fn find_batch<S: Alter>(
+    conn: &mut Connection<S>,
+    name: &str,
+) -> Result<Option<BatchRead>, Fault>
+    ensures answered { HasCleanDisk (state S.Store conn.new) → IfOk result (λ found. (s : Machine) → IsDesk S.Store conn.old s → FindsBatch s name.now (option_map (λ f. record { number = f.number; state = f.state; worker = string_bytes f.worker }) found)) }
+    ensures refused { (r : AnyRefusal) → result ≢ Err (Fault.Refused r) }
+    ensures same { HasCleanDisk (state S.Store conn.new) → OnOk result ((state S.Store conn.old).now.schema ≡ desk_schema → IsUnchanged (state S.Store conn.old) (state S.Store conn.new)) }
+    ensures mode { conn.old.in_transaction ≡ false → conn.new.in_transaction ≡ false }
+    ensures kept { HasCleanDisk (state S.Store conn.new) → IsTrue (state S.Store conn.new).is_open → (d : Tables) → Holds S.Store conn.old d → Holds S.Store conn.new d }
+    ensures lasts { Survives (state S.Store conn.old) (state S.Store conn.new) (λ _. (state S.Store conn.old).now.schema ≢ desk_schema) }
+{
+    let Some(number) = batch_number(conn, name)? else {
+        return Ok(None);
+    };
+    let found = batch(conn, number)?;
+    Ok(Some(found))
+}
+
+/// A sentence, as it was read.
+#[derive(Debug, Drop)]
+pub struct SentenceRead {
+    /// The number of its batch, from 1.
+    pub batch: u32,
+    /// The state of that batch.
+    pub state: State,
+    /// Who works on it, empty for nobody.
+    pub worker: String,
+    pub pulled: bool,
+    /// The number of its current revision, and the words of that.
+    pub rev: u32,
+    pub words: u32,
+}
+
+/// The row of the sentence with this number, from 1, which stands.
+fn sentence_row<S: Alter>(conn: &mut Connection<S>, number: u32) -> Result<SentenceRow, Fault>
+    requires { 0 < number }
+    ensures answered { HasCleanDisk (state S.Store conn.new) → IfOk result (λ f. (s : Machine) → IsDesk S.Store conn.old s → (x : Sentence) → slice_get s.sentences (number - 1) ≡ Some x → sentence_of f ≡ sentence_record x) }
+    ensures refused { (r : AnyRefusal) → result ≢ Err (Fault.Refused r) }
+    ensures same { HasCleanDisk (state S.Store conn.new) → OnOk result ((state S.Store conn.old).now.schema ≡ desk_schema → IsUnchanged (state S.Store conn.old) (state S.Store conn.new)) }
+    ensures mode { conn.old.in_transaction ≡ false → conn.new.in_transaction ≡ false }
+    ensures kept { HasCleanDisk (state S.Store conn.new) → IsTrue (state S.Store conn.new).is_open → (d : Tables) → Holds S.Store conn.old d → Holds S.Store conn.new d }
+    ensures lasts { Survives (state S.Store conn.old) (state S.Store conn.new) (λ _. (state S.Store conn.old).now.schema ≢ desk_schema) }
+{
+    match tb_reading::sentence(conn, number) {
+        Ok(Some(row)) => Ok(row),
+        Ok(None) => Err(Fault::NotADesk),
+        Err(error) => Err(faults::of_read(error)),
+    }
+}
+
+/// Whether the sentence with this number, from 1, which stands, is pulled.
+fn is_pulled<S: Alter>(conn: &mut Connection<S>, number: u32) -> Result<bool, Fault>
+    requires { 0 < number }
+    ensures answered { HasCleanDisk (state S.Store conn.new) → IfOk result (λ pulled. (s : Machine) → IsDesk S.Store conn.old s → (x : Sentence) → slice_get s.sentences (number - 1) ≡ Some x → pulled ≡ x.pulled) }
+    ensures refused { (r : AnyRefusal) → result ≢ Err (Fault.Refused r) }
+    ensures same { HasCleanDisk (state S.Store conn.new) → OnOk result ((state S.Store conn.old).now.schema ≡ desk_schema → IsUnchanged (state S.Store conn.old) (state S.Store conn.new)) }
+    ensures mode { conn.old.in_transaction ≡ false → conn.new.in_transaction ≡ false }
+    ensures kept { HasCleanDisk (state S.Store conn.new) → IsTrue (state S.Store conn.new).is_open → (d : Tables) → Holds S.Store conn.old d → Holds S.Store conn.new d }
+    ensures lasts { Survives (state S.Store conn.old) (state S.Store conn.new) (λ _. (state S.Store conn.old).now.schema ≢ desk_schema) }
+{
+    match tb_reading::is_pulled(conn, number) {
+        Ok(pulled) => Ok(pulled),
+        Err(error) => Err(faults::of_read(error)),
+    }
+}
+
+/// The sentence with this number, from 1, which stands, with what stands of its batch. Nothing is refused.
+pub fn find_sentence<S: Alter>(conn: &mut Connection<S>, number: u32) -> Result<SentenceRead, Fault>
+    requires { 0 < number }
+    ensures answered { HasCleanDisk (state S.Store conn.new) → IfOk result (λ f. (s : Machine) → IsDesk S.Store conn.old s → (x : Sentence) → slice_get s.sentences (number - 1) ≡ Some x → IsRead s x f) }
+    ensures refused { (r : AnyRefusal) → result ≢ Err (Fault.Refused r) }
+    ensures same { HasCleanDisk (state S.Store conn.new) → OnOk result ((state S.Store conn.old).now.schema ≡ desk_schema → IsUnchanged (state S.Store conn.old) (state S.Store conn.new)) }
+    ensures mode { conn.old.in_transaction ≡ false → conn.new.in_transaction ≡ false }
+    ensures kept { HasCleanDisk (state S.Store conn.new) → IsTrue (state S.Store conn.new).is_open → (d : Tables) → Holds S.Store conn.old d → Holds S.Store conn.new d }
+    ensures lasts { Survives (state S.Store conn.old) (state S.Store conn.new) (λ _. (state S.Store conn.old).now.schema ≢ desk_schema) }
+{
+    reached_states_are_well();
+    let row = sentence_row(conn, number)?;
+    let of = batch(conn, row.batch)?;
+    let pulled = is_pulled(conn, number)?;
+    Ok(SentenceRead {
+        batch: row.batch,
+        state: of.state,
+        worker: of.worker,
+        pulled,
+        rev: row.rev,
+        words: row.words,
+    })
+}
+
+/// Whether a sentence has this `sent_id`, pulled or not. Nothing is refused.
+pub fn is_taken<S: Alter>(conn: &mut Connection<S>, sent_id: &str) -> Result<bool, Fault>
+    ensures answered { HasCleanDisk (state S.Store conn.new) → IfOk result (λ taken. (s : Machine) → IsDesk S.Store conn.old s → MatchBool taken (Lacks (ids_of s.sentences) sent_id.now → ⊥) (Lacks (ids_of s.sentences) sent_id.now)) }
+    ensures refused { (r : AnyRefusal) → result ≢ Err (Fault.Refused r) }
+    ensures same { HasCleanDisk (state S.Store conn.new) → OnOk result ((state S.Store conn.old).now.schema ≡ desk_schema → IsUnchanged (state S.Store conn.old) (state S.Store conn.new)) }
+    ensures mode { conn.old.in_transaction ≡ false → conn.new.in_transaction ≡ false }
+    ensures kept { HasCleanDisk (state S.Store conn.new) → IsTrue (state S.Store conn.new).is_open → (d : Tables) → Holds S.Store conn.old d → Holds S.Store conn.new d }
+    ensures lasts { Survives (state S.Store conn.old) (state S.Store conn.new) (λ _. (state S.Store conn.old).now.schema ≢ desk_schema) }
+{
+    match tb_reading::sentence_named(conn, sent_id) {
+        Ok(Some(_)) => Ok(true),
+        Ok(None) => Ok(false),
+        Err(error) => Err(faults::of_read(error)),
+    }
+}

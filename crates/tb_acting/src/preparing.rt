@@ -1,0 +1,36 @@
+//! What is written with every accepted command, and the totals after it.
+
+ghost use Rattle.std.specs.Prelude.{◌≡◌, ◌≢◌, Err, IfOk};
+ghost use Rattle.tb_core.specs.declared.refusals.Refusal.{Refusal as AnyRefusal};
+ghost use Rattle.tb_core.specs.Machine.{Machine};
+ghost use Rattle.tb_core.specs.Acts.{Act, IsAllowed};
+ghost use Rattle.tb_core.specs.Acts.{move_of as move_made};
+ghost use Rattle.tb_core.specs.Reaching.{Reached};
+ghost use Rattle.tb_acting.specs.Working.{IsCounted, IsPrepared};
+
+use crate::counted::Counts;
+use crate::recording::record;
+use tb_core::{Fault, Move, Totals, stored_totals_stand};
+use tb_writing::Change;
+
+/// The rows that are written with a command, and the totals after it.
+#[derive(Debug, Drop)]
+pub struct Prepared {
+    pub change: Change,
+    pub totals: Totals,
+}
+
+/// What is written with a command of this move.
+///
+/// # Errors
+///
+/// Nothing is refused; `NotADesk` where the totals do not take the move, as those of a desk do.
+pub fn prepare(counts: &Counts, step: Move) -> Result<Prepared, Fault>
+    ensures prepared { IfOk result (λ p. (s : Machine) (a : Act) → Reached s → IsAllowed s a → IsCounted counts.now s → step ≡ move_made s a → IsPrepared s a p) }
+    ensures refused { (r : AnyRefusal) → result ≢ Err (Fault.Refused r) }
+{
+    stored_totals_stand();
+    let mut totals = counts.totals;
+    let change = record(&mut totals, step)?;
+    Ok(Prepared { change, totals })
+}

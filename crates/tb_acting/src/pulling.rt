@@ -1,0 +1,307 @@
+//! A pull of a sentence, and its way back.
+
+ghost use Rattle.std.specs.Prelude.{◌≡◌, ◌≢◌, ◌+◌, ◌-◌, ◌<◌, ◌≤◌, length, Some, Err, slice_get, string_bytes, false, IsTrue, IfOk, OnOk, OnErr};
+ghost use Rattle.sqlite.specs.State.{HasCleanDisk, IsUnchanged, Survives};
+ghost use Rattle.sqlite.specs.Held.{state};
+ghost use Rattle.tb_tables.specs.Layout.{desk_schema};
+ghost use Rattle.tb_tables.specs.Records.{Tables, Stands};
+ghost use Rattle.tb_tables.specs.Changes.{Holds};
+ghost use Rattle.tb_core.specs.declared.refusals.Refusal.{Refusal as AnyRefusal};
+ghost use Rattle.tb_core.specs.Machine.{Machine, Sentence};
+ghost use Rattle.tb_core.specs.Acts.{pulling, restoring, IsAllowed};
+ghost use Rattle.tb_core.specs.Reaching.{Reached};
+ghost use Rattle.tb_core.specs.Commands.{Answer, pull as pull_it, restore as restore_it, pulled_out, restored_to, refused as refused_by, reply_to};
+ghost use Rattle.tb_core.specs.Steps.{Steps};
+ghost use Rattle.tb_standing.specs.Standing.{tables_of, IsDesk};
+ghost use Rattle.tb_judge.specs.Found.{LacksSentence};
+ghost use Rattle.tb_acting.specs.ReadOf.{IsRead};
+ghost use Rattle.tb_acting.specs.Working.{IsWithin, IsCounted, IsPrepared, IsDone};
+ghost use Rattle.tb_acting.specs.Pulling.{pull_move, restore_move, IsJudged};
+
+use crate::committing;
+use crate::counted::{Counts, next_move};
+use crate::finding::{SentenceRead, find_sentence};
+use crate::preparing::{Prepared, prepare};
+use sqlite::{Alter, Connection};
+use std::alloc::Global;
+use tb_core::{Fault, Kind, Move, Pulled, Restored, State, Totals, commands_stay_within_limits};
+use tb_judge::{SentenceFound, judge_pull, judge_restore};
+
+/// The move of a pull of this sentence.
+fn pull_by(who: String, no: u32, number: u32, read: &SentenceRead) -> Move
+    ensures { result ≡ pull_move no number read.now (string_bytes who) }
+{
+    Move {
+        no: u64::from(no),
+        kind: Kind::Pull,
+        batch: u64::from(read.batch),
+        sent: u64::from(number),
+        from: Some(read.state),
+        to: State::Withdrawn,
+        sentences: 1,
+        words_out: u64::from(read.words),
+        words_in: u64::from(read.words),
+        who,
+    }
+}
+
+/// What a pull is answered, and what it writes.
+fn plan_pull(
+    alloc: Global,
+    counts: &Counts,
+    number: u32,
+    user: &str,
+    read: &SentenceRead,
+) -> Result<(Pulled, Prepared), Fault>
+    requires { 0 < number }
+    ensures planned { IfOk result (λ r. (s : Machine) (x : Sentence) → Reached s → IsAllowed s (pulling (number - 1) user.now) → IsCounted counts.now s → slice_get s.sentences (number - 1) ≡ Some x → IsRead s x read.now
+        → IsPrepared s (pulling (number - 1) user.now) r.1 × (pulled_out r.0 ≡ reply_to s (pulling (number - 1) user.now))) }
+    ensures room { IfOk result (λ _. counts.now.moves + 1 ≤ 1000000000) }
+    ensures refused { (r : AnyRefusal) → result ≢ Err (Fault.Refused r) }
+{
+    let no = next_move(counts)?;
+    let who = String::from_str(alloc, user)?;
+    let prepared = prepare(counts, pull_by(who, no, number, read))?;
+    Ok((
+        Pulled {
+            sentence: u64::from(number),
+            words: u64::from(read.words),
+        },
+        prepared,
+    ))
+}
+
+/// The reply to a pull that is not refused, and what it writes.
+fn decide_pull(
+    alloc: Global,
+    counts: &Counts,
+    number: u32,
+    user: &str,
+    read: &SentenceRead,
+) -> Result<(Pulled, Prepared), Fault>
+    requires { 0 < number }
+    ensures answered { IfOk result (λ r. (s : Machine) (x : Sentence) → Reached s → IsCounted counts.now s → slice_get s.sentences (number - 1) ≡ Some x → IsRead s x read.now
+        → IsJudged counts.now.limits s (pull_it number user.now) (pulling (number - 1) user.now) (pulled_out r.0) r.1) }
+    ensures refused { (r : AnyRefusal) → result ≡ Err (Fault.Refused r) → (s : Machine) (x : Sentence) → Reached s → IsCounted counts.now s → slice_get s.sentences (number - 1) ≡ Some x → IsRead s x read.now
+        → Steps counts.now.limits s (pull_it number user.now) (refused_by r) s }
+    ensures room { IfOk result (λ _. counts.now.moves + 1 ≤ 1000000000) }
+{
+    let found = SentenceFound {
+        state: read.state,
+        pulled: read.pulled,
+    };
+    match judge_pull(
+        &counts.limits,
+        u64::from(number),
+        user,
+        Some(found),
+        u64::from(counts.moves),
+    ) {
+        Ok(()) => plan_pull(alloc, counts, number, user, read),
+        Err(refusal) => Err(Fault::Refused(refusal)),
+    }
+}
+
+/// Reads the sentence of a pull, which stands, and judges the pull.
+fn pull_planned<S: Alter>(
+    alloc: Global,
+    conn: &mut Connection<S>,
+    counts: &Counts,
+    number: u32,
+    user: &str,
+) -> Result<(Pulled, Prepared), Fault>
+    requires { 0 < number }
+    ensures answered { HasCleanDisk (state S.Store conn.new) → IfOk result (λ r. (s : Machine) → IsDesk S.Store conn.old s → IsCounted counts.now s → number ≤ length s.sentences
+        → IsJudged counts.now.limits s (pull_it number user.now) (pulling (number - 1) user.now) (pulled_out r.0) r.1) }
+    ensures refused { HasCleanDisk (state S.Store conn.new) → (r : AnyRefusal) → result ≡ Err (Fault.Refused r) → (s : Machine) → IsDesk S.Store conn.old s → IsCounted counts.now s → number ≤ length s.sentences
+        → Steps counts.now.limits s (pull_it number user.now) (refused_by r) s × IsDesk S.Store conn.new s }
+    ensures room { IfOk result (λ _. counts.now.moves + 1 ≤ 1000000000) }
+    ensures same { HasCleanDisk (state S.Store conn.new) → OnOk result ((state S.Store conn.old).now.schema ≡ desk_schema → IsUnchanged (state S.Store conn.old) (state S.Store conn.new)) }
+    ensures mode { conn.old.in_transaction ≡ false → conn.new.in_transaction ≡ false }
+    ensures kept { HasCleanDisk (state S.Store conn.new) → IsTrue (state S.Store conn.new).is_open → (d : Tables) → Holds S.Store conn.old d → Holds S.Store conn.new d }
+    ensures lasts { Survives (state S.Store conn.old) (state S.Store conn.new) (λ _. (state S.Store conn.old).now.schema ≢ desk_schema) }
+{
+    let read = find_sentence(conn, number)?;
+    decide_pull(alloc, counts, number, user, &read)
+}
+
+/// Pulls the sentence with this number, from 1, which stands; with the reply, the totals after it.
+///
+/// # Errors
+///
+/// The first of `BadName`; `WrongState`, `Pulled`; `Full`.
+pub fn pull<S: Alter>(
+    alloc: Global,
+    conn: &mut Connection<S>,
+    counts: &Counts,
+    number: u32,
+    user: &str,
+) -> Result<(Pulled, Totals), Fault>
+    requires autocommit { conn.old.in_transaction ≡ false }
+    requires row { 0 < number }
+    requires within { IsWithin counts.now.limits }
+    ensures answered { HasCleanDisk (state S.Store conn.new) → IfOk result (λ r. (s : Machine) → IsDesk S.Store conn.old s → IsCounted counts.now s → number ≤ length s.sentences
+        → IsDone S.Store counts.now.limits s (pull_it number user.now) (pulled_out r.0) conn.new r.1) }
+    ensures refused { HasCleanDisk (state S.Store conn.new) → (r : AnyRefusal) → result ≡ Err (Fault.Refused r) → (s : Machine) → IsDesk S.Store conn.old s → IsCounted counts.now s → number ≤ length s.sentences
+        → Steps counts.now.limits s (pull_it number user.now) (refused_by r) s × IsDesk S.Store conn.new s }
+    ensures room { IfOk result (λ _. counts.now.moves + 1 ≤ 1000000000) }
+    ensures kept { HasCleanDisk (state S.Store conn.new) → IsTrue (state S.Store conn.new).is_open → OnErr result ((d : Tables) → Holds S.Store conn.old d → Holds S.Store conn.new d) }
+    ensures crash { Survives (state S.Store conn.old) (state S.Store conn.new) (λ db. (s : Machine) → IsDesk S.Store conn.old s → IsCounted counts.now s → number ≤ length s.sentences
+        → (a : Answer) × (t : Machine) × Steps counts.now.limits s (pull_it number user.now) a t × Stands (tables_of t) db) }
+    ensures mode { conn.new.in_transaction ≡ false }
+{
+    commands_stay_within_limits();
+    let (reply, prepared) = pull_planned(alloc, conn, counts, number, user)?;
+    committing::pull(conn, number, &prepared.change)?;
+    Ok((reply, prepared.totals))
+}
+
+/// The refusal of a pull of a sentence that does not stand.
+pub fn no_pull(counts: &Counts, number: u64, user: &str) -> Fault
+    ensures refused { (r : AnyRefusal) → result ≡ Fault.Refused r → (s : Machine) → LacksSentence s number → counts.now.moves ≡ length s.moves → Steps counts.now.limits s (pull_it number user.now) (refused_by r) s }
+{
+    match judge_pull(&counts.limits, number, user, None, u64::from(counts.moves)) {
+        Err(refusal) => Fault::Refused(refusal),
+        Ok(_) => Fault::NotADesk,
+    }
+}
+
+/// The move of a restore of this sentence.
+fn restore_by(who: String, no: u32, number: u32, read: &SentenceRead) -> Move
+    ensures { result ≡ restore_move no number read.now (string_bytes who) }
+{
+    Move {
+        no: u64::from(no),
+        kind: Kind::Restore,
+        batch: u64::from(read.batch),
+        sent: u64::from(number),
+        from: Some(State::Withdrawn),
+        to: read.state,
+        sentences: 1,
+        words_out: u64::from(read.words),
+        words_in: u64::from(read.words),
+        who,
+    }
+}
+
+/// What a restore is answered, and what it writes.
+fn plan_restore(
+    alloc: Global,
+    counts: &Counts,
+    number: u32,
+    user: &str,
+    read: &SentenceRead,
+) -> Result<(Restored, Prepared), Fault>
+    requires { 0 < number }
+    ensures planned { IfOk result (λ r. (s : Machine) (x : Sentence) → Reached s → IsAllowed s (restoring (number - 1) user.now) → IsCounted counts.now s → slice_get s.sentences (number - 1) ≡ Some x → IsRead s x read.now
+        → IsPrepared s (restoring (number - 1) user.now) r.1 × (restored_to r.0 ≡ reply_to s (restoring (number - 1) user.now))) }
+    ensures room { IfOk result (λ _. counts.now.moves + 1 ≤ 1000000000) }
+    ensures refused { (r : AnyRefusal) → result ≢ Err (Fault.Refused r) }
+{
+    let no = next_move(counts)?;
+    let who = String::from_str(alloc, user)?;
+    let prepared = prepare(counts, restore_by(who, no, number, read))?;
+    Ok((
+        Restored {
+            sentence: u64::from(number),
+            state: read.state,
+            words: u64::from(read.words),
+        },
+        prepared,
+    ))
+}
+
+/// The reply to a restore that is not refused, and what it writes.
+fn decide_restore(
+    alloc: Global,
+    counts: &Counts,
+    number: u32,
+    user: &str,
+    read: &SentenceRead,
+) -> Result<(Restored, Prepared), Fault>
+    requires { 0 < number }
+    ensures answered { IfOk result (λ r. (s : Machine) (x : Sentence) → Reached s → IsCounted counts.now s → slice_get s.sentences (number - 1) ≡ Some x → IsRead s x read.now
+        → IsJudged counts.now.limits s (restore_it number user.now) (restoring (number - 1) user.now) (restored_to r.0) r.1) }
+    ensures refused { (r : AnyRefusal) → result ≡ Err (Fault.Refused r) → (s : Machine) (x : Sentence) → Reached s → IsCounted counts.now s → slice_get s.sentences (number - 1) ≡ Some x → IsRead s x read.now
+        → Steps counts.now.limits s (restore_it number user.now) (refused_by r) s }
+    ensures room { IfOk result (λ _. counts.now.moves + 1 ≤ 1000000000) }
+{
+    let found = SentenceFound {
+        state: read.state,
+        pulled: read.pulled,
+    };
+    match judge_restore(
+        &counts.limits,
+        u64::from(number),
+        user,
+        Some(found),
+        u64::from(counts.moves),
+    ) {
+        Ok(_) => plan_restore(alloc, counts, number, user, read),
+        Err(refusal) => Err(Fault::Refused(refusal)),
+    }
+}
+
+/// Reads the sentence of a restore, which stands, and judges the restore.
+fn restore_planned<S: Alter>(
+    alloc: Global,
+    conn: &mut Connection<S>,
+    counts: &Counts,
+    number: u32,
+    user: &str,
+) -> Result<(Restored, Prepared), Fault>
+    requires { 0 < number }
+    ensures answered { HasCleanDisk (state S.Store conn.new) → IfOk result (λ r. (s : Machine) → IsDesk S.Store conn.old s → IsCounted counts.now s → number ≤ length s.sentences
+        → IsJudged counts.now.limits s (restore_it number user.now) (restoring (number - 1) user.now) (restored_to r.0) r.1) }
+    ensures refused { HasCleanDisk (state S.Store conn.new) → (r : AnyRefusal) → result ≡ Err (Fault.Refused r) → (s : Machine) → IsDesk S.Store conn.old s → IsCounted counts.now s → number ≤ length s.sentences
+        → Steps counts.now.limits s (restore_it number user.now) (refused_by r) s × IsDesk S.Store conn.new s }
+    ensures room { IfOk result (λ _. counts.now.moves + 1 ≤ 1000000000) }
+    ensures same { HasCleanDisk (state S.Store conn.new) → OnOk result ((state S.Store conn.old).now.schema ≡ desk_schema → IsUnchanged (state S.Store conn.old) (state S.Store conn.new)) }
+    ensures mode { conn.old.in_transaction ≡ false → conn.new.in_transaction ≡ false }
+    ensures kept { HasCleanDisk (state S.Store conn.new) → IsTrue (state S.Store conn.new).is_open → (d : Tables) → Holds S.Store conn.old d → Holds S.Store conn.new d }
+    ensures lasts { Survives (state S.Store conn.old) (state S.Store conn.new) (λ _. (state S.Store conn.old).now.schema ≢ desk_schema) }
+{
+    let read = find_sentence(conn, number)?;
+    decide_restore(alloc, counts, number, user, &read)
+}
+
+/// Restores the sentence with this number, from 1, which stands; with the reply, the totals after it.
+///
+/// # Errors
+///
+/// The first of `BadName`; `WrongState`, `NotPulled`; `Full`.
+pub fn restore<S: Alter>(
+    alloc: Global,
+    conn: &mut Connection<S>,
+    counts: &Counts,
+    number: u32,
+    user: &str,
+) -> Result<(Restored, Totals), Fault>
+    requires autocommit { conn.old.in_transaction ≡ false }
+    requires row { 0 < number }
+    requires within { IsWithin counts.now.limits }
+    ensures answered { HasCleanDisk (state S.Store conn.new) → IfOk result (λ r. (s : Machine) → IsDesk S.Store conn.old s → IsCounted counts.now s → number ≤ length s.sentences
+        → IsDone S.Store counts.now.limits s (restore_it number user.now) (restored_to r.0) conn.new r.1) }
+    ensures refused { HasCleanDisk (state S.Store conn.new) → (r : AnyRefusal) → result ≡ Err (Fault.Refused r) → (s : Machine) → IsDesk S.Store conn.old s → IsCounted counts.now s → number ≤ length s.sentences
+        → Steps counts.now.limits s (restore_it number user.now) (refused_by r) s × IsDesk S.Store conn.new s }
+    ensures room { IfOk result (λ _. counts.now.moves + 1 ≤ 1000000000) }
+    ensures kept { HasCleanDisk (state S.Store conn.new) → IsTrue (state S.Store conn.new).is_open → OnErr result ((d : Tables) → Holds S.Store conn.old d → Holds S.Store conn.new d) }
+    ensures crash { Survives (state S.Store conn.old) (state S.Store conn.new) (λ db. (s : Machine) → IsDesk S.Store conn.old s → IsCounted counts.now s → number ≤ length s.sentences
+        → (a : Answer) × (t : Machine) × Steps counts.now.limits s (restore_it number user.now) a t × Stands (tables_of t) db) }
+    ensures mode { conn.new.in_transaction ≡ false }
+{
+    commands_stay_within_limits();
+    let (reply, prepared) = restore_planned(alloc, conn, counts, number, user)?;
+    committing::restore(conn, number, &prepared.change)?;
+    Ok((reply, prepared.totals))
+}
+
+/// The refusal of a restore of a sentence that does not stand.
+pub fn no_restore(counts: &Counts, number: u64, user: &str) -> Fault
+    ensures refused { (r : AnyRefusal) → result ≡ Fault.Refused r → (s : Machine) → LacksSentence s number → counts.now.moves ≡ length s.moves → Steps counts.now.limits s (restore_it number user.now) (refused_by r) s }
+{
+    match judge_restore(&counts.limits, number, user, None, u64::from(counts.moves)) {
+        Err(refusal) => Fault::Refused(refusal),
+        Ok(_) => Fault::NotADesk,
+    }
+}

@@ -1,0 +1,125 @@
+//! What every accepted act writes last: its move, and what the move makes of the totals.
+
+ghost use Rattle.std.specs.Prelude.{◌≡◌, ◌≢◌, ◌<◌, Some, Err, slice_index, IfOk};
+ghost use Rattle.tb_core.specs.declared.kinds.State.{State as AnyState};
+ghost use Rattle.tb_core.specs.declared.refusals.Refusal.{Refusal as AnyRefusal};
+ghost use Rattle.tb_core.specs.Totals.{at_state, IsApplied};
+ghost use Rattle.tb_tables.specs.Values.{move_of};
+ghost use Rattle.tb_standing.specs.Standing.{move_record};
+ghost use Rattle.tb_acting.specs.Recorded.{IsTotalOf, IsChangeOf};
+
+use tb_core::{Fault, Move, State, Totals};
+use tb_standing::{number_before, number_of_kind, number_of_state};
+use tb_tables::{MoveRow, TotalRow};
+use tb_writing::Change;
+
+/// A number of a desk, none of which needs more than 32 bits.
+///
+/// # Errors
+///
+/// `NotADesk` from 2^32 on.
+pub fn narrow(number: u64) -> Result<u32, Fault>
+    ensures same { IfOk result (λ n. n ≡ number) }
+    ensures refused { (r : AnyRefusal) → result ≢ Err (Fault.Refused r) }
+{
+    if number > u64::from(u32::MAX) {
+        return Err(Fault::NotADesk);
+    }
+    Ok(number as u32)
+}
+
+fn total_at(totals: &Totals, place: usize) -> Result<TotalRow, Fault>
+    requires { place < 6 }
+    ensures row { IfOk result (λ t. (t.sentences ≡ slice_index totals.now.sentences place) × (t.words ≡ slice_index totals.now.words place)) }
+    ensures refused { (r : AnyRefusal) → result ≢ Err (Fault.Refused r) }
+{
+    let sentences = narrow(totals.sentences[place])?;
+    let words = narrow(totals.words[place])?;
+    Ok(TotalRow { sentences, words })
+}
+
+/// The row of the totals of a state.
+fn total_row(totals: &Totals, state: State) -> Result<TotalRow, Fault>
+    ensures row { IfOk result (λ t. IsTotalOf totals.now state t) }
+    ensures refused { (r : AnyRefusal) → result ≢ Err (Fault.Refused r) }
+{
+    match state {
+        State::Opened => total_at(totals, 0),
+        State::Assigned => total_at(totals, 1),
+        State::Submitted => total_at(totals, 2),
+        State::Adjudicated => total_at(totals, 3),
+        State::Released => total_at(totals, 4),
+        State::Withdrawn => total_at(totals, 5),
+    }
+}
+
+/// The same of the state that a move leaves; zeros where it leaves none.
+fn left_row(totals: &Totals, from: Option<State>) -> Result<TotalRow, Fault>
+    ensures row { IfOk result (λ t. (st : AnyState) → from ≡ Some st → IsTotalOf totals.now st t) }
+    ensures refused { (r : AnyRefusal) → result ≢ Err (Fault.Refused r) }
+{
+    match from {
+        Some(state) => total_row(totals, state),
+        None => Ok(TotalRow {
+            sentences: 0,
+            words: 0,
+        }),
+    }
+}
+
+/// The row of a move.
+fn move_row(moved: Move) -> Result<MoveRow, Fault>
+    ensures row { IfOk result (λ row. move_of row ≡ move_record moved) }
+    ensures refused { (r : AnyRefusal) → result ≢ Err (Fault.Refused r) }
+{
+    let batch = narrow(moved.batch)?;
+    let sent = narrow(moved.sent)?;
+    let sentences = narrow(moved.sentences)?;
+    let words_out = narrow(moved.words_out)?;
+    let words_in = narrow(moved.words_in)?;
+    Ok(MoveRow {
+        kind: number_of_kind(moved.kind),
+        batch,
+        sent,
+        from: number_before(moved.from),
+        to: number_of_state(moved.to),
+        sentences,
+        words_out,
+        words_in,
+        who: moved.who,
+    })
+}
+
+/// The change of the tables that a move is, where these are the totals after it.
+fn change_of(totals: &Totals, moved: Move) -> Result<Change, Fault>
+    ensures change { IfOk result (λ c. IsChangeOf totals.now moved c) }
+    ensures refused { (r : AnyRefusal) → result ≢ Err (Fault.Refused r) }
+{
+    let number = narrow(moved.no)?;
+    let left = left_row(totals, moved.from)?;
+    let reached = total_row(totals, moved.to)?;
+    let row = move_row(moved)?;
+    Ok(Change {
+        number,
+        row,
+        left,
+        reached,
+    })
+}
+
+/// Makes the move over the totals, and tells what it changes in the tables.
+///
+/// # Errors
+///
+/// Nothing is refused; `NotADesk` where the totals do not take the move, as those of a desk do.
+pub fn record(totals: &mut Totals, moved: Move) -> Result<Change, Fault>
+    ensures applied { IfOk result (λ _. IsApplied totals.old totals.new moved) }
+    ensures change { IfOk result (λ c. IsChangeOf totals.new moved c) }
+    ensures refused { (r : AnyRefusal) → result ≢ Err (Fault.Refused r) }
+{
+    if !totals.takes(&moved) {
+        return Err(Fault::NotADesk);
+    }
+    totals.apply(&moved);
+    change_of(totals, moved)
+}
