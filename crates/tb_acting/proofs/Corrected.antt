@@ -11,7 +11,7 @@ use Rattle.tb_core.specs.Machine as machine
 use Rattle.tb_core.specs.Machine.{Machine, bodies_of, one, words, change_at, rev}
 use Rattle.tb_core.specs.Acts.{Act, correcting, corrected, after, state_at, batch_at}
 use Rattle.tb_core.specs.Acts.{move_of as move_made}
-use Rattle.tb_core.specs.Commands.{Answer, replied, correct, corrected_to, HasSentence, Ending, ending, Means, reply_to}
+use Rattle.tb_core.specs.Commands.{replied, correct, corrected_to, HasSentence, Ending, ending, Means, reply_to}
 use Rattle.tb_core.specs.Tests.{RepeatsCorrection}
 use Rattle.tb_core.specs.Steps.{Steps}
 use Rattle.tb_core.proofs.Chains.{Replied, replied_repeat, replied_new, correct_replied}

@@ -1,5 +1,5 @@
 -- What is written of an allowed event stands for the state after it.
-use Rattle.std.proofs.Common.{◌≡◌, ℕ, zero, suc, ◌+◌, ◌-◌, ◌<◌, ◌≤◌, List, [], ◌∷◌, ◌++◌, map, length, Option, Some, None, slice_get, slice_index_or, option_map, refl, sym, ap, subst, ◌∙◌, arith, string_bytes}
+use Rattle.std.proofs.Common.{◌≡◌, ℕ, zero, suc, ◌+◌, ◌-◌, List, [], ◌∷◌, ◌++◌, length, Some, None, slice_get, slice_index_or, option_map, refl, sym, ap, subst, ◌∙◌, arith, string_bytes}
 use Rattle.std.proofs.lemmas.Option.{slice_get-map, same_Some}
 use Rattle.sqlite.specs.Tree.{Trees}
 use Rattle.tb_core.specs.declared.kinds.State.{State}
@@ -7,7 +7,6 @@ use Rattle.tb_core.specs.declared.kinds.Event.{Event}
 use Rattle.tb_core.specs.declared.kinds.Worker.{Worker}
 use Rattle.tb_core.specs.declared.kinds.Kind.TheVariants.{Step}
 use Rattle.tb_core.specs.Events.{goes_to, makes_worker}
-use Rattle.tb_core.specs.Moves.{MoveText}
 use Rattle.tb_core.specs.Machine as machine
 use Rattle.tb_core.specs.Machine.{Machine, no_batch, weigh, at_work, one, words, change_at}
 use Rattle.tb_core.specs.Acts.{Act, IsAllowed, stepping, after, with_worker}
@@ -17,7 +16,7 @@ use Rattle.tb_core.specs.Commands.{event_on, replied, moved_on, reply_to}
 use Rattle.tb_core.specs.Steps.{Steps}
 use Rattle.tb_judge.specs.Found.{FindsBatch}
 use Rattle.tb_core.specs.Reaching.{Reached}
-use Rattle.tb_tables.specs.Records.{Batch, Total, Stands}
+use Rattle.tb_tables.specs.Records.{Batch, Stands}
 use Rattle.tb_tables.specs.Values.{move_of, total_of}
 use Rattle.tb_tables.specs.Commands.{after_event}
 use Rattle.tb_writing.specs.declared.recording.Change.{Change}

@@ -1,27 +1,16 @@
 -- What the rows of a desk tell of its state.
-use Rattle.std.proofs.Common.{◌≡◌, ℕ, suc, ◌+◌, ◌-◌, ◌<◌, List, [], ◌∷◌, ◌++◌, map, length, Some, slice_get, option_map, refl, sym, ap, subst, ◌∙◌, arith, inl, inr, Contains}
-use Rattle.std.proofs.lemmas.Option.{slice_get-map}
+use Rattle.std.proofs.Common.{◌≡◌, ℕ, suc, ◌+◌, ◌-◌, ◌<◌, List, [], ◌∷◌, ◌++◌, map, length, Some, slice_get, refl, sym, ap, subst, ◌∙◌, arith, inl, inr, Contains}
 use Rattle.std.proofs.lemmas.List.Elements.{Contains-append_cases}
 use Rattle.std.proofs.lemmas.List.{map-append}
 use Rattle.tb_conllu.specs.Text.{text_of}
 use Rattle.tb_core.specs.Machine as machine
 use Rattle.tb_core.specs.Machine.{Machine, revisions, rev}
 use Rattle.tb_core.specs.Rows.{revision_rows, revisions_from}
-use Rattle.tb_tables.specs.Records.{Revision, Sentence}
-use Rattle.tb_standing.specs.Standing.{revision_record, sentence_record}
+use Rattle.tb_tables.specs.Records.{Revision}
+use Rattle.tb_standing.specs.Standing.{revision_record}
 use Rattle.tb_reading.specs.Found.{IsRevisionAt}
 use Rattle.tb_reading.proofs.Order.{contains_cases}
 use Rattle.tb_acting.specs.Revisions.{HasRevision}
-
--- ---- sentences
-
-pub current_told : (s : Machine) (x : machine.Sentence) (i : ℕ) (found : Sentence) → Some found ≡ slice_get (map sentence_record s.sentences) i → slice_get s.sentences i ≡ Some x → found.rev ≡ rev x
-current_told s x i found is there =
-    let both : Some found ≡ Some (sentence_record x) = is ∙ slice_get-map sentence_record s.sentences i ∙ ap (option_map sentence_record) there in
-    let same : found ≡ sentence_record x = cc in
-    ap (λ (r : Sentence). r.rev) same
-
--- ---- revisions
 
 -- the row has the text of the revision, and who gave it
 abbrev Tells : Revision → machine.Revision → Type 0

@@ -4,7 +4,7 @@ use Rattle.sqlite.specs.Store.{Ghosts}
 use Rattle.sqlite.specs.Effect.{Database}
 use Rattle.sqlite.specs.Held.{Held, state}
 use Rattle.sqlite.specs.State.{HasCleanDisk, IsUnchanged, Survives}
-use Rattle.sqlite.proofs.StateLemmas.{survives_then, survives_weaker}
+use Rattle.sqlite.proofs.StateLemmas.{survives_then}
 use Rattle.sqlite.proofs.Callers.{unchanged_then}
 use Rattle.tb_core.specs.Machine.{Machine}
 use Rattle.tb_tables.specs.Layout.{desk_schema}
@@ -30,16 +30,8 @@ module _ {S : Type 0} (g : Ghosts S) where
         → Survives (state g a) (state g c) (λ _. (state g a).now.schema ≢ desk_schema)
     lasts_then same one two = survives_then (state g a) (state g b) (state g c) _ _ _ (λ _ _ other. other) (λ clean _ other has. other (schema_stays (same (omega (arith, clean, two.clean)) has) has)) one two
 
-    pub kept_then : HasCleanDisk (state g c) → Survives (state g b) (state g c) (λ _. (state g b).now.schema ≢ desk_schema)
-        → (HasCleanDisk (state g b) → (state g a).now.schema ≡ desk_schema → IsUnchanged (state g a) (state g b)) → ((d : Tables) → Holds g b d → Holds g c d) → (d : Tables) → Holds g a d → Holds g c d
-    kept_then clean two same kept d holds = kept d (same_holds g a b d holds (same (omega (arith, clean, two.clean)) holds.schema))
-
     pub same_two : Survives (state g b) (state g c) (λ _. (state g b).now.schema ≢ desk_schema) → (HasCleanDisk (state g b) → (state g a).now.schema ≡ desk_schema → IsUnchanged (state g a) (state g b))
         → (HasCleanDisk (state g c) → (state g b).now.schema ≡ desk_schema → IsUnchanged (state g b) (state g c)) → HasCleanDisk (state g c) → (state g a).now.schema ≡ desk_schema → IsUnchanged (state g a) (state g c)
     same_two two one more clean has =
         let first = one (omega (arith, clean, two.clean)) has in
         unchanged_then (state g a) (state g b) (state g c) first (more clean (schema_stays first has))
-
-  -- what a read on the tables of a desk survives
-  pub survived : (old new : Held S) (s : Machine) → IsDesk g old s → Survives (state g old) (state g new) (λ _. (state g old).now.schema ≢ desk_schema) → Survives (state g old) (state g new) (λ _. ⊥)
-  survived old new s desk = survives_weaker (state g old) (state g new) _ _ (λ _ _ other. other desk.holds.schema)

@@ -1,5 +1,5 @@
 -- What an accepted event is answered, and what it writes.
-use Rattle.std.specs.Prelude.{◌≡◌, ℕ, ◌+◌, ◌<◌, List, Some, string_bytes}
+use Rattle.std.specs.Prelude.{◌≡◌, ℕ, ◌+◌, List, Some, string_bytes}
 use Rattle.tb_core.specs.declared.kinds.Event.{Event}
 use Rattle.tb_core.specs.declared.kinds.Kind.TheVariants.{Step}
 use Rattle.tb_core.specs.Events.{goes_to, makes_worker}

@@ -1,5 +1,5 @@
 -- What a command knows of a desk beside its tables, and what it leaves of both.
-use Rattle.std.specs.Prelude.{◌≡◌, ℕ, ◌+◌, ◌≤◌, List, length, Option, Some, cond, Bool, false, ◌||◌, [], ◌∷◌, nat_eq, string_bytes}
+use Rattle.std.specs.Prelude.{◌≡◌, ℕ, ◌+◌, ◌≤◌, List, length, cond, Bool, false, ◌||◌, [], ◌∷◌, nat_eq}
 use Rattle.sqlite.specs.Store.{Ghosts}
 use Rattle.sqlite.specs.Held.{Held}
 use Rattle.tb_core.specs.declared.sums.Totals.{Totals}

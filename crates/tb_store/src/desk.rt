@@ -1,26 +1,32 @@
-ghost use Rattle.std.specs.Prelude.{◌≡◌, ◌≢◌, ◌↔◌, ◌<◌, ◌≤◌, false, None, Err, string_bytes, IsTrue, IfOk, IfErr, IfSome};
+ghost use Rattle.std.specs.Prelude.{◌≡◌, ◌≢◌, ◌↔◌, ◌<◌, ◌≤◌, ℕ, false, None, Some, Err, string_bytes, IsTrue, IfOk, IfErr, IfSome, OnOk};
+ghost use Rattle.std.specs.Io.KnownBytes.{Appends};
 ghost use Rattle.sqlite.specs.State.{HasCleanDisk, Survives};
 ghost use Rattle.sqlite.specs.Held.{state};
 ghost use Rattle.sqlite.specs.Steps.{over_memory};
 ghost use Rattle.tb_tables.specs.Records.{Stands};
 ghost use Rattle.tb_tables.specs.Making.{no_schema, IsBlank};
 ghost use Rattle.tb_core.specs.declared.refusals.Refusal.{Refusal as AnyRefusal};
+ghost use Rattle.tb_core.specs.Names.{is_name};
 ghost use Rattle.tb_core.specs.Machine.{Machine, empty_machine};
 ghost use Rattle.tb_core.specs.Totals.{StandFor};
 ghost use Rattle.tb_core.specs.Commands.{Answer, correct as correct_it, event_on, pull as pull_it, restore as restore_it, replied, refused as refused_by, moved_on, corrected_to, pulled_out, restored_to};
 ghost use Rattle.tb_core.specs.Steps.{Steps};
+ghost use Rattle.tb_search.specs.Released.{released, in_batch, current_text};
+ghost use Rattle.tb_acting.specs.Finding.{HasNumber};
 ghost use Rattle.tb_acting.specs.Working.{IsWithin};
 ghost use Rattle.tb_standing.specs.Standing.{tables_of};
 ghost use Rattle.tb_store.specs.Kept.{Kept, counts_of};
 ghost use Rattle.tb_store.specs.Standing.{StandsFor, unlimited, no_totals};
 ghost use Rattle.tb_store.specs.Answers.{IsCurrent, IsTextOf, HasNoSentence, RefusesRevision};
+ghost use Rattle.tb_store.specs.Exports.{IsBrokenOff, IsPartOfBatch, RefusesBatch};
 
 use crate::answers::Current;
-use crate::asking;
+use crate::{asking, exporting};
 use sqlite::{Alter, Connection, MemStore};
 use std::alloc::Global;
 use std::marker::Model;
 use tb_acting::{Counts, faults};
+use tb_conllu::Sink;
 use tb_core::{Corrected, Event, Fault, Limits, Move, Moved, Pulled, Refusal, Restored, Totals};
 
 /// A desk: the connection that holds its tables, its limits, and the counts and totals that it read or wrote last, so that the
@@ -192,6 +198,42 @@ impl<S: Alter> Desk<S> {
             return Err(Fault::Refused(Refusal::NoSuchSentence));
         };
         asking::revision(&mut self.conn, number, rev)
+    }
+}
+
+impl<S: Alter> Desk<S> {
+    /// Puts the text of all released sentences, by number: the current revision of each, as it is stored. One sentence is in
+    /// memory at a time, and two numbers of each. Nothing is refused.
+    ///
+    /// # Errors
+    ///
+    /// `Output`, where the sink refuses a piece: it may then hold a first part of the text. After any other fault it holds whole
+    /// sentences.
+    pub fn export_released<W: Sink>(&mut self, out: &mut W) -> Result<(), Fault>
+        ensures put { HasCleanDisk (state S.Store self.new.conn) → OnOk result ((s : Machine) → StandsFor S.Store self.old s → Appends (W.held out.old) (W.held out.new) (current_text (released s))) }
+        ensures part { HasCleanDisk (state S.Store self.new.conn) → IfErr result (λ e. (s : Machine) → StandsFor S.Store self.old s → IsBrokenOff e (W.held out.old) (W.held out.new) (released s)) }
+        ensures refused { (r : AnyRefusal) → result ≢ Err (Fault.Refused r) }
+        ensures kept { HasCleanDisk (state S.Store self.new.conn) → IsTrue (state S.Store self.new.conn).is_open → (s : Machine) → StandsFor S.Store self.old s → StandsFor S.Store self.new s }
+        ensures crash { (s : Machine) → StandsFor S.Store self.old s → Survives (state S.Store self.old.conn) (state S.Store self.new.conn) (λ _. ⊥) }
+    {
+        exporting::released(self.alloc, &mut self.conn, out)
+    }
+
+    /// Puts the text of all sentences of the batch with this name, pulled ones too, as `export_released` does.
+    ///
+    /// # Errors
+    ///
+    /// The first of `BadName`, `NoSuchBatch`; `Output`, as in `export_released`.
+    pub fn export_batch<W: Sink>(&mut self, name: &str, out: &mut W) -> Result<(), Fault>
+        ensures put { HasCleanDisk (state S.Store self.new.conn) → OnOk result ((s : Machine) → StandsFor S.Store self.old s → (n : ℕ) × HasNumber s name.now (Some n) × Appends (W.held out.old) (W.held out.new) (current_text (in_batch s n))) }
+        ensures part { HasCleanDisk (state S.Store self.new.conn) → IfErr result (λ e. (s : Machine) → StandsFor S.Store self.old s → IsPartOfBatch s name.now e (W.held out.old) (W.held out.new)) }
+        ensures bad_name { is_name name.now ≡ false → result ≡ Err (Fault.Refused Refusal.BadName) }
+        ensures refused { HasCleanDisk (state S.Store self.new.conn) → IfErr result (λ e. (s : Machine) → StandsFor S.Store self.old s → RefusesBatch s name.now e) }
+        ensures none { (r : AnyRefusal) → result ≡ Err (Fault.Refused r) → W.held out.new ≡ W.held out.old }
+        ensures kept { HasCleanDisk (state S.Store self.new.conn) → IsTrue (state S.Store self.new.conn).is_open → (s : Machine) → StandsFor S.Store self.old s → StandsFor S.Store self.new s }
+        ensures crash { (s : Machine) → StandsFor S.Store self.old s → Survives (state S.Store self.old.conn) (state S.Store self.new.conn) (λ _. ⊥) }
+    {
+        exporting::batch(self.alloc, &mut self.conn, name, out)
     }
 }
 

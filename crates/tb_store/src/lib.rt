@@ -4,6 +4,7 @@
 mod answers;
 mod asking;
 mod desk;
+mod exporting;
 
 pub use answers::Current;
 pub use desk::{Desk, Unmade};

@@ -1,4 +1,4 @@
-use Rattle.std.proofs.Common.{◌≡◌, subst}
+use Rattle.std.proofs.Common.{subst}
 use Rattle.tb_core.specs.Totals.{IsApplied}
 use Rattle.tb_acting.specs.Recorded.{IsChangeOf}
 use Rattle.tb_acting.proofs.preparing.prepare.Goals as goal

@@ -1,5 +1,4 @@
-use Rattle.std.proofs.Common.{◌≡◌, ℕ, ◌+◌, length, ap, ◌∙◌, rules}
-use Rattle.tb_core.specs.Events.{goes_to, makes_worker}
+use Rattle.std.proofs.Common.{◌≡◌, ◌+◌, length, ap, ◌∙◌, rules}
 use Rattle.tb_core.specs.Acts.{stepping, with_worker}
 use Rattle.tb_core.specs.Commands.{moved_on}
 use Rattle.tb_standing.specs.Numbers.{state_number}
