@@ -1,4 +1,4 @@
 pub mod Beginning
-pub mod OneList
+pub mod Alike
 pub mod SixTotals
 pub mod Standings

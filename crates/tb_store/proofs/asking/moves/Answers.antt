@@ -3,7 +3,8 @@ use Rattle.sqlite.specs.Held.{state}
 use Rattle.tb_tables.specs.Records.{move_shown, move_view}
 use Rattle.tb_tables.specs.Values.{move_of}
 use Rattle.tb_standing.specs.Standing.{tables_of}
-use Rattle.tb_store.proofs.OneList.{one_list, same_move}
+use Rattle.tb_search.proofs.OneList.{one_list}
+use Rattle.tb_store.proofs.Alike.{same_move}
 use Rattle.tb_acting.proofs.Numbering.{moves_are_numbered, same_moves}
 use Rattle.tb_acting.proofs.There.{both_ok}
 use Rattle.tb_store.proofs.asking.moves.Goals as goal

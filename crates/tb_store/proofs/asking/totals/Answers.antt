@@ -5,7 +5,8 @@ use Rattle.tb_tables.specs.Values.{total_of}
 use Rattle.tb_tables.specs.declared.rows.TotalRow.{TotalRow}
 use Rattle.tb_reading.proofs.Shown.{if_ok}
 use Rattle.tb_standing.specs.Standing.{tables_of}
-use Rattle.tb_store.proofs.OneList.{one_list, same_total}
+use Rattle.tb_search.proofs.OneList.{one_list}
+use Rattle.tb_store.proofs.Alike.{same_total}
 use Rattle.tb_store.proofs.SixTotals.{totals_stand}
 use Rattle.tb_store.proofs.asking.totals.Goals as goal
 

@@ -4,7 +4,6 @@ use Rattle.sqlite.specs.Held.{Held, state}
 use Rattle.sqlite.specs.State.{Survives}
 use Rattle.sqlite.proofs.StateLemmas.{survives_weaker}
 use Rattle.tb_core.specs.declared.refusals.Fault.TheVariants.{Refused}
-use Rattle.tb_core.specs.declared.limits.Limits.{Limits}
 use Rattle.tb_core.specs.Machine.{Machine}
 use Rattle.tb_core.specs.Commands.{Answer, event_on, replied, refused, moved_on}
 use Rattle.tb_core.specs.Steps.{Steps}
