@@ -30,7 +30,8 @@ use tb_conllu::Sink;
 use tb_core::{Corrected, Event, Fault, Limits, Move, Moved, Pulled, Refusal, Restored, Totals};
 
 /// A desk: the connection that holds its tables, its limits, and the counts and totals that it read or wrote last, so that the
-/// next numbers are known without asking the database.
+/// next numbers are known without asking the database. It may be let go at any time: what it answered to have done stands.
+#[derive(Drop)]
 pub struct Desk<S: Alter> {
     conn: Connection<S>,
     alloc: Global,
@@ -54,6 +55,7 @@ impl<S: Alter> Model for Desk<S> {
 }
 
 /// Why no desk was made, and the connection that was given for it.
+#[derive(Drop)]
 pub struct Unmade<S: Alter> {
     pub fault: Fault,
     pub conn: Connection<S>,
