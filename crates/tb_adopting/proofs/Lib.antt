@@ -1,0 +1,4 @@
+mod Agreeing
+mod Numbering
+mod Six
+mod Joined

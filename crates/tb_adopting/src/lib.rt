@@ -1,0 +1,9 @@
+//! Whether a store is a desk: its tables are read whole, and their rows tested against the states that accepted commands
+//! reach. Nothing is changed.
+#![tactic(auto)]
+
+mod summing;
+mod telling;
+mod turning;
+
+pub use telling::{Standing, TableRows, standing_in};
