@@ -20,12 +20,6 @@ module _ {X Y Z : Type 0} (f : X → Z) (g : Y → Z) where
       let whole : take (k + 1) ys ≡ take k ys ++ y ∷ [] = ap (λ j. take j ys) next ∙ take-suc ys k y low ∙ ap (λ z. take k ys ++ z ∷ []) (sym there) in
       map-append f found (x ∷ []) ∙ ap₂ (λ a b. a ++ b ∷ []) so is ∙ sym (map-append g (take k ys) (y ∷ [])) ∙ ap (map g) (sym whole)
 
-  pub as_many : (xs : List X) (ys : List Y) → map f xs ≡ map g ys → length xs ≡ length ys
-  as_many [] [] e = refl
-  as_many [] (b ∷ ys) e = absurd (let s = ap length e in omega (arith, s))
-  as_many (a ∷ xs) [] e = absurd (let s = ap length e in omega (arith, s))
-  as_many (a ∷ xs) (b ∷ ys) e = ap (λ n. suc n) (as_many xs ys (tail_is (f a) (g b) (map f xs) (map g ys) e))
-
 -- elements that are told by what they show
 pub alike : {X Z : Type 0} (f : X → Z) → ((x y : X) → f x ≡ f y → x ≡ y) → (xs ys : List X) → map f xs ≡ map f ys → xs ≡ ys
 alike f same [] [] e = refl

@@ -2,3 +2,5 @@ mod Agreeing
 mod Numbering
 mod Six
 mod Joined
+mod Read
+mod Rises

@@ -2,8 +2,12 @@
 //! reach. Nothing is changed.
 #![tactic(auto)]
 
+mod faults;
+mod opening;
+mod reading;
 mod summing;
 mod telling;
 mod turning;
 
+pub use opening::read_desk;
 pub use telling::{Standing, TableRows, standing_in};

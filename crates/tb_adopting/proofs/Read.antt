@@ -1,0 +1,116 @@
+-- What one read tells, and several in a row.
+use Rattle.std.proofs.Common.{◌≡◌, ◌≢◌, false, Result, Ok, Err, OnOk, IfOk, IsTrue, sym, ap, subst, ◌∙◌, arith}
+use Rattle.sqlite.specs.Store.{Ghosts}
+use Rattle.sqlite.specs.Effect.{Database}
+use Rattle.sqlite.specs.Held.{Held, state}
+use Rattle.sqlite.specs.State.{HasCleanDisk, IsUnchanged, Survives}
+use Rattle.sqlite.proofs.StateLemmas.{survives_then}
+use Rattle.sqlite.proofs.Callers.{unchanged_then}
+use Rattle.sqlite_trees.specs.Tree.{Trees}
+use Rattle.tb_core.specs.declared.refusals.Fault.{Fault}
+use Rattle.tb_core.specs.declared.refusals.Fault.TheVariants.{Refused, NotADesk}
+use Rattle.tb_core.specs.declared.refusals.Refusal.{Refusal}
+use Rattle.tb_core.specs.Machine.{Machine}
+use Rattle.tb_core.specs.Reaching.{IsReachable}
+use Rattle.tb_tables.specs.Layout.{desk_schema}
+use Rattle.tb_tables.specs.Records.{Tables, Stands}
+use Rattle.tb_tables.specs.Changes.{Holds}
+use Rattle.tb_standing.specs.Standing.{tables_of}
+use Rattle.tb_reading.proofs.Staying.{unchanged_holds}
+use Rattle.tb_adopting.specs.Reads.{HasRead}
+
+-- where the trees stand for a reachable state
+abbrev pub Unstood : Trees → Type 0
+Unstood trees = (s : Machine) → IsReachable s → Stands (tables_of s) trees → ⊥
+
+ok_is_no_err : {X Y : Type 0} {E : Type 0} (x : X) (e : E) → let r : Result X E = Ok x in r ≡ Err e → Y
+ok_is_no_err x e h = absurd (cc)
+
+err_is : (X : Type 0) (e f : Fault) → let r : Result X Fault = Err e in r ≡ Err f → e ≡ f
+err_is X e f h = cc
+
+-- ---- one read
+
+module _ {S : Type 0} (g : Ghosts S) (old new : Held S) (mode : old.in_transaction ≡ false → new.in_transaction ≡ false)
+    (kept : HasCleanDisk (state g new) → IsTrue (state g new).is_open → (d : Tables) → Holds g old d → Holds g new d) (lasts : Survives (state g old) (state g new) (λ _. (state g old).now.schema ≢ desk_schema)) where
+  pub read_well : {X : Type 0} (x : X) (IsShown : X → Trees → Type 0) (IsHeld : X → Tables → Type 0) → (HasCleanDisk (state g new) → (state g old).now.schema ≡ desk_schema → IsShown x (state g old).now.trees)
+      → (HasCleanDisk (state g new) → (state g old).now.schema ≡ desk_schema → (s : Machine) → IsReachable s → Stands (tables_of s) (state g old).now.trees → IsHeld x (tables_of s))
+      → (HasCleanDisk (state g new) → (state g old).now.schema ≡ desk_schema → IsUnchanged (state g old) (state g new)) → HasRead g old new (Ok x) IsShown IsHeld
+  read_well x IsShown IsHeld shown told same = record {
+    shown = shown;
+    told = told;
+    unfit = λ clean q. ok_is_no_err x NotADesk q;
+    refused = λ r q. ok_is_no_err x (Refused r) q;
+    same = same;
+    mode = mode;
+    kept = kept;
+    lasts = lasts;
+  }
+
+  pub read_badly : {X : Type 0} (e : Fault) (IsShown : X → Trees → Type 0) (IsHeld : X → Tables → Type 0) → (HasCleanDisk (state g new) → e ≡ NotADesk → (state g old).now.schema ≡ desk_schema → Unstood (state g old).now.trees)
+      → ((r : Refusal) → e ≢ Refused r) → HasRead g old new (Err e) IsShown IsHeld
+  read_badly {X = X} e IsShown IsHeld unfit refused = record {
+    shown = λ clean. tt;
+    told = λ clean. tt;
+    unfit = λ clean q. unfit clean (err_is X e NotADesk q);
+    refused = λ r q. refused r (err_is X e (Refused r) q);
+    same = λ clean. tt;
+    mode = mode;
+    kept = kept;
+    lasts = lasts;
+  }
+
+-- ---- a read after another
+
+both_shown : {Y : Type 0} {A : Type 0} {P Q : Y → Type 0} (r : Result Y Fault) → A → IfOk r (λ y. A → P y) → ((y : Y) → P y → Q y) → IfOk r Q
+both_shown (Ok y) a h f = f y (h a)
+both_shown (Err e) a h f = tt
+
+if_ok_under : {Y A : Type 0} (P : Y → Type 0) (r : Result Y Fault) → (A → IfOk r P) → IfOk r (λ y. A → P y)
+if_ok_under P (Ok y) h = h
+if_ok_under P (Err e) h = tt
+
+on_ok_under : {Y A B : Type 0} (r : Result Y Fault) → OnOk r B → (B → A) → OnOk r A
+on_ok_under (Ok y) b f = f b
+on_ok_under (Err e) b f = tt
+
+module _ {S X Y : Type 0} (g : Ghosts S) (a b c : Held S) (x : X) (P : X → Trees → Type 0) (I : X → Tables → Type 0) (one : HasRead g a b (Ok x) P I) (r : Result Y Fault) (Q : Y → Trees → Type 0) (J : Y → Tables → Type 0) (two : HasRead g b c r Q J) where
+  middle : HasCleanDisk (state g c) → HasCleanDisk (state g b)
+  middle clean = let n = two.lasts.clean in omega (arith, clean, n)
+
+  unmoved : HasCleanDisk (state g c) → (state g a).now.schema ≡ desk_schema → (state g b).now ≡ (state g a).now
+  unmoved clean has = (one.same (middle clean) has).0.now_is
+
+  schema_stays : HasCleanDisk (state g c) → (state g a).now.schema ≡ desk_schema → (state g b).now.schema ≡ desk_schema
+  schema_stays clean has = ap (λ (d : Database). d.schema) (unmoved clean has) ∙ has
+
+  trees_stay : HasCleanDisk (state g c) → (state g a).now.schema ≡ desk_schema → (state g b).now.trees ≡ (state g a).now.trees
+  trees_stay clean has = ap (λ (d : Database). d.trees) (unmoved clean has)
+
+  pub read_both : HasRead g a c r (λ y trees. P x trees × Q y trees) (λ y d. I x d × J y d)
+  read_both = record {
+    shown = λ clean. if_ok_under (λ y. P x (state g a).now.trees × Q y (state g a).now.trees) r (λ has. both_shown r (schema_stays clean has) (two.shown clean) (λ y q. (one.shown (middle clean) has, subst (Q y) (trees_stay clean has) q)));
+    told = λ clean. if_ok_under (λ y. (s : Machine) → IsReachable s → Stands (tables_of s) (state g a).now.trees → I x (tables_of s) × J y (tables_of s)) r (λ has. both_shown r (schema_stays clean has) (two.told clean) (λ y q s reach stands. (one.told (middle clean) has s reach stands, q s reach (subst (Stands (tables_of s)) (sym (trees_stay clean has)) stands))));
+    unfit = λ clean q has s reach stands. two.unfit clean q (schema_stays clean has) s reach (subst (Stands (tables_of s)) (sym (trees_stay clean has)) stands);
+    refused = two.refused;
+    same = λ clean. on_ok_under r (two.same clean) (λ more has. unchanged_then (state g a) (state g b) (state g c) (one.same (middle clean) has) (more (schema_stays clean has)));
+    mode = λ m. two.mode (one.mode m);
+    kept = λ clean is_open d holds. two.kept clean is_open d (unchanged_holds g a b d holds (one.same (middle clean) holds.schema));
+    lasts = survives_then (state g a) (state g b) (state g c) _ _ _ (λ _ _ other. other) (λ clean _ other has. other (schema_stays clean has)) one.lasts two.lasts;
+  }
+
+-- ---- what is made of it
+
+-- a fault is passed on
+pub read_failed : {S X Y : Type 0} (g : Ghosts S) (a b : Held S) (e f : Fault) (r : Result Y Fault) (P : X → Trees → Type 0) (I : X → Tables → Type 0) (Q : Y → Trees → Type 0) (J : Y → Tables → Type 0) → r ≡ Err f → f ≡ e → HasRead g a b (Err e) P I
+    → HasRead g a b r Q J
+read_failed {X = X} g a b e f r P I Q J made is h =
+    subst (λ w. HasRead g a b w Q J) (sym made)
+    (read_badly g a b h.mode h.kept h.lasts f Q J (λ clean q. h.unfit clean (ap (λ (k : Fault). let w : Result X Fault = Err k in w) (sym is ∙ q))) (λ r q. h.refused r (ap (λ (k : Fault). let w : Result X Fault = Err k in w) (sym is ∙ q))))
+
+-- another value is made
+pub read_as : {S X Y : Type 0} (g : Ghosts S) (a b : Held S) (x : X) (y : Y) (P : X → Trees → Type 0) (I : X → Tables → Type 0) (Q : Y → Trees → Type 0) (J : Y → Tables → Type 0) → ((t : Trees) → P x t → Q y t)
+    → ((t : Trees) (d : Tables) → Stands d t → P x t → I x d → J y d) → HasRead g a b (Ok x) P I → HasRead g a b (Ok y) Q J
+read_as g a b x y P I Q J shown told h =
+    read_well g a b h.mode h.kept h.lasts y Q J (λ clean has. shown (state g a).now.trees (h.shown clean has))
+    (λ clean has s reach stands. told (state g a).now.trees (tables_of s) stands (h.shown clean has) (h.told clean has s reach stands)) (λ clean has. h.same clean has)

@@ -1,0 +1,62 @@
+//! Whether a store is a desk.
+//!
+//! A store is the desk of a state where four things hold: the connection is open and in no transaction; what it sees is
+//! what the last commit left; the schema is exactly that of the seven tables; and their rows are those of a state that
+//! accepted commands reach within the largest limits. The second follows from the first. The first is known of an open
+//! connection once a read has answered, so all four are found out here, and `NotADesk` is told exactly: it comes where the
+//! connection is in a transaction, the schema is another, or the rows are those of no such state. A read that the store
+//! cuts short, for whatever reason, is the device's.
+
+ghost use Rattle.std.specs.Prelude.{◌≡◌, ◌≢◌, ◌≤◌, false, Err, IsTrue, IfOk, OnOk};
+ghost use Rattle.sqlite.specs.State.{HasCleanDisk, IsUnchanged, Survives};
+ghost use Rattle.sqlite.specs.Held.{state};
+ghost use Rattle.tb_core.specs.declared.refusals.Refusal.{Refusal as AnyRefusal};
+ghost use Rattle.tb_core.specs.Machine.{Machine};
+ghost use Rattle.tb_tables.specs.Records.{Tables};
+ghost use Rattle.tb_tables.specs.Changes.{Holds};
+ghost use Rattle.tb_standing.specs.Standing.{IsDesk};
+ghost use Rattle.tb_adopting.specs.Told.{IsStanding};
+ghost use Rattle.tb_adopting.specs.Reads.{LooksLikeDesk};
+
+use crate::faults::of_unfit;
+use crate::reading::read_rows;
+use crate::telling::{Standing, standing_in};
+use sqlite::{Alter, Connection};
+use std::alloc::Global;
+use tb_core::Fault;
+use tb_tables::has_desk_schema;
+
+/// Whether the connection is in no transaction, and its database has exactly the tables of a desk.
+fn may_be_desk<S: Alter>(conn: &Connection<S>) -> bool
+    ensures looks { IsTrue result → LooksLikeDesk S.Store conn.now }
+    ensures differs { result ≡ false → (s : Machine) → IsDesk S.Store conn.now s → ⊥ }
+{
+    conn.is_autocommit() && has_desk_schema(conn)
+}
+
+/// Reads all tables of a store, and tests whether it is a desk: what a desk keeps of the state for which they stand. The
+/// rows of all tables are in memory at a time, with the texts of all revisions; the sentence of each text is parsed once.
+/// Nothing is changed, whatever it answers.
+///
+/// # Errors
+///
+/// `NotADesk`, where the store is the desk of no state; want of memory; or the store's.
+pub fn read_desk<S: Alter>(alloc: Global, conn: &mut Connection<S>) -> Result<Standing, Fault>
+    ensures answered { HasCleanDisk (state S.Store conn.new) → IfOk result (λ x. (s : Machine) × IsDesk S.Store conn.new s × IsStanding x s) }
+    ensures counts { IfOk result (λ x. (x.batches ≤ x.moves) × (x.sentences ≤ 1000000) × (x.moves ≤ 1000000000)) }
+    ensures unfit { HasCleanDisk (state S.Store conn.new) → result ≡ Err Fault.NotADesk → (s : Machine) → IsDesk S.Store conn.old s → ⊥ }
+    ensures refused { (r : AnyRefusal) → result ≢ Err (Fault.Refused r) }
+    ensures same { HasCleanDisk (state S.Store conn.new) → OnOk result (IsUnchanged (state S.Store conn.old) (state S.Store conn.new)) }
+    ensures mode { conn.old.in_transaction ≡ false → conn.new.in_transaction ≡ false }
+    ensures kept { HasCleanDisk (state S.Store conn.new) → IsTrue (state S.Store conn.new).is_open → (d : Tables) → Holds S.Store conn.old d → Holds S.Store conn.new d }
+    ensures survives { Survives (state S.Store conn.old) (state S.Store conn.new) (λ _. ⊥) }
+{
+    if !may_be_desk(conn) {
+        return Err(Fault::NotADesk);
+    }
+    let rows = read_rows(alloc, conn)?;
+    match standing_in(alloc, &rows) {
+        Ok(standing) => Ok(standing),
+        Err(unfit) => Err(of_unfit(unfit)),
+    }
+}
