@@ -42,7 +42,8 @@ fn may_be_desk<S: Alter>(conn: &Connection<S>) -> bool
 ///
 /// `NotADesk`, where the store is the desk of no state; want of memory; or the store's.
 pub fn read_desk<S: Alter>(alloc: Global, conn: &mut Connection<S>) -> Result<Standing, Fault>
-    ensures answered { HasCleanDisk (state S.Store conn.new) → IfOk result (λ x. (s : Machine) × IsDesk S.Store conn.new s × IsStanding x s) }
+    ensures answered { HasCleanDisk (state S.Store conn.new) → IfOk result (λ x. (s : Machine) × IsDesk S.Store conn.old s × IsDesk S.Store conn.new s × IsStanding x s) }
+    ensures autocommit { OnOk result (conn.new.in_transaction ≡ false) }
     ensures counts { IfOk result (λ x. (x.batches ≤ x.moves) × (x.sentences ≤ 1000000) × (x.moves ≤ 1000000000)) }
     ensures unfit { HasCleanDisk (state S.Store conn.new) → result ≡ Err Fault.NotADesk → (s : Machine) → IsDesk S.Store conn.old s → ⊥ }
     ensures refused { (r : AnyRefusal) → result ≢ Err (Fault.Refused r) }
