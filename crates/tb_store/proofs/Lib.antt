@@ -2,3 +2,4 @@ pub mod Beginning
 pub mod Alike
 pub mod SixTotals
 pub mod Standings
+pub mod Adopted

@@ -14,7 +14,7 @@ ghost use Rattle.tb_core.specs.Steps.{Steps};
 ghost use Rattle.tb_search.specs.Released.{released, in_batch, current_text};
 ghost use Rattle.tb_acting.specs.Finding.{HasNumber};
 ghost use Rattle.tb_acting.specs.Working.{IsWithin};
-ghost use Rattle.tb_standing.specs.Standing.{tables_of};
+ghost use Rattle.tb_standing.specs.Standing.{tables_of, IsDesk};
 ghost use Rattle.tb_store.specs.Kept.{Kept, counts_of};
 ghost use Rattle.tb_store.specs.Standing.{StandsFor, unlimited, no_totals};
 ghost use Rattle.tb_store.specs.Answers.{IsCurrent, IsTextOf, HasNoSentence, RefusesRevision};
@@ -26,6 +26,7 @@ use sqlite::{Alter, Connection, MemStore};
 use std::alloc::Global;
 use std::marker::Model;
 use tb_acting::{Counts, faults};
+use tb_adopting::{Standing, read_desk};
 use tb_conllu::Sink;
 use tb_core::{Corrected, Event, Fault, Limits, Move, Moved, Pulled, Refusal, Restored, Totals};
 
@@ -131,6 +132,54 @@ impl<S: Alter> Desk<S> {
             totals: _,
         } = self;
         conn
+    }
+}
+
+impl<S: Alter> Desk<S> {
+    /// The desk of a store that is one, whose step limit it takes off: all its tables are read and tested, and nothing is
+    /// changed. The rows of all tables are in memory at a time, with the texts of all revisions. A fault gives the connection
+    /// back, over a store that is as it was.
+    ///
+    /// # Errors
+    ///
+    /// `NotADesk`, where the store is the desk of no state, or the connection is in a transaction.
+    pub fn adopt(
+        alloc: Global,
+        mut conn: Connection<S>,
+        limits: Limits,
+    ) -> Result<Desk<S>, Unmade<S>>
+        requires within { IsWithin limits }
+        ensures adopted { IfOk result (λ d. HasCleanDisk (state S.Store d.conn) → (s : Machine) × IsDesk S.Store conn s × StandsFor S.Store d s) }
+        ensures limits { IfOk result (λ d. d.limits ≡ limits) }
+        ensures unfit { IfErr result (λ u. HasCleanDisk (state S.Store u.conn) → u.fault ≡ Fault.NotADesk → (s : Machine) → IsDesk S.Store conn s → ⊥) }
+        ensures refused { IfErr result (λ u. (r : AnyRefusal) → u.fault ≢ Fault.Refused r) }
+        ensures again { IfErr result (λ u. HasCleanDisk (state S.Store u.conn) → IsTrue (state S.Store u.conn).is_open → (s : Machine) → IsDesk S.Store conn s → IsDesk S.Store u.conn s) }
+        ensures crash { IfOk result (λ d. Survives (state S.Store (unlimited conn)) (state S.Store d.conn) (λ _. ⊥)) }
+        ensures crash_on_the_way { IfErr result (λ u. Survives (state S.Store (unlimited conn)) (state S.Store u.conn) (λ _. ⊥)) }
+    {
+        conn.set_step_limit(None);
+        match read_desk(alloc, &mut conn) {
+            Ok(standing) => Ok(Desk::over(alloc, conn, limits, standing)),
+            Err(fault) => Err(Unmade { fault, conn }),
+        }
+    }
+
+    /// The desk over this connection, with these counts and totals.
+    fn over(alloc: Global, conn: Connection<S>, limits: Limits, standing: Standing) -> Desk<S>
+        requires autocommit { conn.in_transaction ≡ false }
+        requires within { IsWithin limits }
+        requires counts { (standing.batches ≤ standing.moves) × (standing.sentences ≤ 1000000) × (standing.moves ≤ 1000000000) }
+        ensures { result ≡ record { conn = conn; limits = limits; batches = standing.batches; sentences = standing.sentences; moves = standing.moves; totals = standing.totals } }
+    {
+        Desk {
+            conn,
+            alloc,
+            limits,
+            batches: standing.batches,
+            sentences: standing.sentences,
+            moves: standing.moves,
+            totals: standing.totals,
+        }
     }
 }
 

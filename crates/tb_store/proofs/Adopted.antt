@@ -1,0 +1,32 @@
+-- The desk of a store that was read, and the connection without a step limit.
+use Rattle.std.proofs.Common.{◌≡◌}
+use Rattle.sqlite.specs.Store.{Ghosts}
+use Rattle.sqlite.specs.Held.{Held}
+use Rattle.tb_core.specs.declared.limits.Limits.{Limits}
+use Rattle.tb_core.specs.Machine.{Machine}
+use Rattle.tb_standing.specs.Standing.{IsDesk}
+use Rattle.tb_adopting.specs.declared.telling.Standing.{Standing}
+use Rattle.tb_adopting.specs.Told.{IsStanding}
+use Rattle.tb_store.specs.Kept.{Kept}
+use Rattle.tb_store.specs.Standing.{StandsFor, unlimited}
+
+module _ {S : Type 0} (g : Ghosts S) where
+  -- the limit says nothing of what is held
+
+  pub desk_unlimited : (c d : Held S) → d ≡ unlimited c → (s : Machine) → IsDesk g c s → IsDesk g d s
+  desk_unlimited c d is s desk = rw is (record {
+    reachable = desk.reachable;
+    holds = record { autocommit = desk.holds.autocommit; is_open = desk.holds.is_open; schema = desk.holds.schema; settled = desk.holds.settled; stands = desk.holds.stands };
+  })
+
+  lifted : (c : Held S) (s : Machine) → IsDesk g (unlimited c) s → IsDesk g c s
+  lifted c s desk = record {
+    reachable = desk.reachable;
+    holds = record { autocommit = desk.holds.autocommit; is_open = desk.holds.is_open; schema = desk.holds.schema; settled = desk.holds.settled; stands = desk.holds.stands };
+  }
+
+  pub desk_before : (c d : Held S) → d ≡ unlimited c → (s : Machine) → IsDesk g d s → IsDesk g c s
+  desk_before c d is s desk = lifted c s (rw is at desk)
+
+  pub stands_over : (k : Kept S) (conn : Held S) (l : Limits) (x : Standing) → k ≡ record { conn = conn; limits = l; batches = x.batches; sentences = x.sentences; moves = x.moves; totals = x.totals } → (s : Machine) → IsDesk g conn s → IsStanding x s → StandsFor g k s
+  stands_over k conn l x is s desk h = rw is (record { desk = desk; batches = h.batches; sentences = h.sentences; moves = h.moves; totals = h.totals })
