@@ -1,0 +1,28 @@
+use Rattle.std.proofs.Common.{◌≡◌, ◌≢◌, ◌++◌, List, ℕ, subst, ◌∙◌}
+use Rattle.std.specs.Prelude.{MatchOption}
+use Rattle.std.proofs.lemmas.Bool.Decides.{Decides-eqb}
+use Rattle.std.proofs.lemmas.Slice.Eq.{strip_prefix_is}
+use Rattle.tb_tables.specs.Values.{revision_of}
+use Rattle.tb_standing.specs.Standing.{tables_of}
+use Rattle.tb_importing.proofs.Left.{left_from}
+use Rattle.tb_importing.proofs.Firstly.{first_told}
+use Rattle.tb_importing.proofs.firsts.after_first.Goals as goal
+
+pub returns-in-Ok-Some-clause-left : goal.returns-in-Ok-Some-clause-left
+returns-in-Ok-Some-clause-left g c = left_from g.S.Store c.args.conn.now c.revision.new.conn c.revision.ensures.mode c.revision.ensures.kept c.revision.ensures.lasts
+
+pub returns-in-Ok-None-clause-left : goal.returns-in-Ok-None-clause-left
+returns-in-Ok-None-clause-left g c = left_from g.S.Store c.args.conn.now c.revision.new.conn c.revision.ensures.mode c.revision.ensures.kept c.revision.ensures.lasts
+
+pub returns-in-Err-clause-left : goal.returns-in-Err-clause-left
+returns-in-Err-clause-left g c = left_from g.S.Store c.args.conn.now c.revision.new.conn c.revision.ensures.mode c.revision.ensures.kept c.revision.ensures.lasts
+
+pub returns-in-Ok-Some-clause-answered : goal.returns-in-Ok-Some-clause-answered
+returns-in-Ok-Some-clause-answered g c clean s b desk first =
+    let read = rw c.in-Ok-Some.field-0-is at c.in-Ok-Some.ensures.ok in
+    let found = read clean desk.holds.schema (tables_of s).revisions desk.holds.stands.revisions in
+    let row = revision_of c.in-Ok-Some.row in
+    let of = (c.records_tell_what_stands.ensures.revisions s row).0 found.0 in
+    let body = c.as_bytes.ensures.value ∙ first_told s c.args.number b row first of found.1 found.2 in
+    subst (λ p. MatchOption c.strip_prefix.result ((more : List ℕ) → c.args.text.now ≢ p ++ more) (λ more. c.args.text.now ≡ p ++ more.now)) body
+    (strip_prefix_is Decides-eqb c.args.text.now c.as_bytes.result.now c.strip_prefix.result c.strip_prefix.ensures.cases)

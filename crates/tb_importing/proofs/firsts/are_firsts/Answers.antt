@@ -1,0 +1,38 @@
+use Rattle.std.proofs.Common.{◌<◌, ◌≤◌, length, arith}
+use Rattle.sqlite.specs.Held.{state}
+use Rattle.sqlite.specs.State.{HasCleanDisk}
+use Rattle.tb_importing.proofs.Left.{left_then, stays_then, desk_stays}
+use Rattle.tb_importing.proofs.Follows.{next_of, one_more, other_text, ended}
+use Rattle.tb_importing.proofs.firsts.are_firsts.Goals as goal
+
+pub returns-in_default-clause-answered : goal.returns-in_default-clause-answered
+returns-in_default-clause-answered g c clean s bs desk firsts =
+    let inv = c.loop-one.invariant in
+    let i = c.loop-one.one-index in
+    let low : i < length c.args.work.now = omega (arith, c.loop-one-test.true) in
+    let mid : HasCleanDisk (state g.S.Store c.loop-one.conn) = omega (arith, clean, c.after_first.ensures.left.lasts.clean) in
+    let here = desk_stays g.S.Store c.args.conn.now c.loop-one.conn inv.1 mid s desk in
+    let next = next_of s c.args.work.now bs i low firsts in
+    let told = rw c.in_default.is at (c.in_ok-more.ensures.answered clean s next.body here next.first) in
+    other_text s c.args.work.now bs c.args.text.now firsts i c.loop-one.rest.now next (inv.2 mid s bs firsts desk) told
+
+pub loop-one-preserved : goal.loop-one-preserved
+loop-one-preserved g c =
+    let inv = c.loop-one.invariant in
+    let i = c.loop-one.one-index in
+    let low : i < length c.args.work.now = omega (arith, c.loop-one-test.true) in
+    let read = c.after_first.ensures.left in (
+      left_then g.S.Store c.args.conn.now c.loop-one.conn c.after_first.new.conn inv.0 inv.1 read,
+      stays_then g.S.Store c.args.conn.now c.loop-one.conn c.after_first.new.conn inv.1 read c.in_ok-more.ensures.stays,
+      λ clean s bs firsts desk.
+          let mid : HasCleanDisk (state g.S.Store c.loop-one.conn) = omega (arith, clean, read.lasts.clean) in
+          let here = desk_stays g.S.Store c.args.conn.now c.loop-one.conn inv.1 mid s desk in
+          let next = next_of s c.args.work.now bs i low firsts in
+          let told = rw c.in-Some.is at (c.in_ok-more.ensures.answered clean s next.body here next.first) in
+          one_more s c.args.work.now bs c.args.text.now firsts i c.loop-one.rest.now c.in-Some.more.now next (inv.2 mid s bs firsts desk) told,
+    )
+
+pub returns-clause-answered : goal.returns-clause-answered
+returns-clause-answered g c clean s bs desk firsts =
+    let past : length c.args.work.now ≤ c.loop-one.one-index = omega (arith, c.loop-one-test.false) in
+    ended s c.args.work.now bs c.args.text.now firsts c.loop-one.one-index c.loop-one.rest.now c.is_empty.result past (c.loop-one.invariant.2 clean s bs firsts desk) c.is_empty.ensures

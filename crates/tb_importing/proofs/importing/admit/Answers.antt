@@ -1,0 +1,26 @@
+use Rattle.std.proofs.Common.{◌≡◌, length, ap, subst, ◌∙◌}
+use Rattle.std.proofs.lemmas.Result.{err_from_is_err_and}
+use Rattle.std.proofs.lemmas.List.{length-map}
+use Rattle.tb_core.specs.declared.refusals.Refusal.{Refusal}
+use Rattle.tb_core.specs.Commands.{import_file, refused}
+use Rattle.tb_core.specs.Steps.{Steps}
+use Rattle.tb_core.specs.Taking.{taken_of}
+use Rattle.tb_importing.proofs.Left.{desk_stays}
+use Rattle.tb_importing.proofs.importing.admit.Goals as goal
+
+pub returns-in_err-judge_import_after-clause-refused : goal.returns-in_err-judge_import_after-clause-refused
+returns-in_err-judge_import_after-clause-refused g c clean r is s name user body bs desk known taken is_taken =
+    let told = err_from_is_err_and c.from_residual-in_err-judge_import_after.result c.from_residual-in_err-judge_import_after.ensures.1 in
+    let one = told.1 in
+    let two = told.2 in
+    let same : c.in_err-judge_import_after.field-0.0 ≡ r = cc in
+    let found = c.in_ok-standing.ensures.answered clean s bs desk is_taken in
+    let many = ap length is_taken ∙ length-map bs taken_of in
+    let refusal = c.in_err-judge_import_after.ensures.refused s name user body bs taken found many (c.from.ensures ∙ known.sentences) (c.from-2.ensures ∙ known.counted.moves) in
+    (subst (λ (q : Refusal). Steps c.args.known.now.counts.limits s (import_file name user body) (refused q) s) same refusal, desk_stays g.S.Store c.args.conn.now c.first_taken.new.conn c.in_ok-standing.ensures.stays clean s desk)
+
+pub returns-clause-accepted : goal.returns-clause-accepted
+returns-clause-accepted g c clean s name user body bs desk known taken is_taken =
+    let found = c.in_ok-standing.ensures.answered clean s bs desk is_taken in
+    let many = ap length is_taken ∙ length-map bs taken_of in
+    c.in_ok-judge_import_after.ensures.accepted s name user body bs taken found many (c.from.ensures ∙ known.sentences) (c.from-2.ensures ∙ known.counted.moves)

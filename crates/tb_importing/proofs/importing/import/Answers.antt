@@ -1,0 +1,80 @@
+use Rattle.std.proofs.Common.{◌≡◌, subst, arith, Err}
+use Rattle.std.proofs.lemmas.Result.{err_from_is_err_and}
+use Rattle.sqlite.specs.Held.{state}
+use Rattle.sqlite.specs.State.{HasCleanDisk}
+use Rattle.sqlite.proofs.StateLemmas.{survives_then, survives_weaker}
+use Rattle.tb_core.specs.declared.refusals.Refusal.{Refusal}
+use Rattle.tb_core.specs.declared.refusals.Fault.TheVariants.{Refused}
+use Rattle.tb_core.specs.Commands.{import_file, refused}
+use Rattle.tb_core.specs.Steps.{Steps}
+use Rattle.tb_standing.specs.Standing.{tables_of}
+use Rattle.tb_importing.proofs.Left.{desk_stays}
+use Rattle.tb_importing.proofs.importing.import.Goals as goal
+
+-- ---- a refusal by the names, and a repeat
+
+pub returns-in_err-found-clause-crash : goal.returns-in_err-found-clause-crash
+returns-in_err-found-clause-crash g c = survives_weaker (state g.S.Store c.args.conn.now) (state g.S.Store c.find_name.new.conn) _ _ (λ _ _ none s desk known. absurd (none (tables_of s) desk.holds)) c.find_name.ensures.left.lasts
+
+pub returns-in_err-reply-clause-refused : goal.returns-in_err-reply-clause-refused
+returns-in_err-reply-clause-refused g c clean r is s desk known =
+    let told = err_from_is_err_and c.from_residual-in_err-reply.result c.from_residual-in_err-reply.ensures.1 in
+    let one = told.1 in
+    let two = told.2 in
+    let same : c.in_err-reply.field-0.0 ≡ r = cc in
+    let refusal = c.in_err-reply.ensures.refused c.args.known.now.counts.limits s c.args.body.now in
+    (subst (λ (q : Refusal). Steps c.args.known.now.counts.limits s (import_file c.args.name.now c.args.user.now c.args.body.now) (refused q) s) same refusal, desk_stays g.S.Store c.args.conn.now c.find_name.new.conn c.in_ok-found.ensures.stays clean s desk)
+
+pub returns-in_err-reply-clause-crash : goal.returns-in_err-reply-clause-crash
+returns-in_err-reply-clause-crash g c = survives_weaker (state g.S.Store c.args.conn.now) (state g.S.Store c.find_name.new.conn) _ _ (λ _ _ none s desk known. absurd (none (tables_of s) desk.holds)) c.find_name.ensures.left.lasts
+
+pub returns-in-Repeat-clause-answered : goal.returns-in-Repeat-clause-answered
+returns-in-Repeat-clause-answered g c clean s desk known =
+    let repeated = rw c.in-Repeat.is at c.in_ok-reply.ensures.repeated in
+    (repeated c.args.known.now.counts.limits s c.args.body.now (c.in_ok-found.ensures.answered clean s desk), desk_stays g.S.Store c.args.conn.now c.find_name.new.conn c.in_ok-found.ensures.stays clean s desk)
+
+pub returns-in-Repeat-clause-crash : goal.returns-in-Repeat-clause-crash
+returns-in-Repeat-clause-crash g c = survives_weaker (state g.S.Store c.args.conn.now) (state g.S.Store c.find_name.new.conn) _ _ (λ _ _ none s desk known. absurd (none (tables_of s) desk.holds)) c.find_name.ensures.left.lasts
+
+-- ---- an import that is no repeat
+
+pub returns-in_err-reply-in-Goes-clause-refused : goal.returns-in_err-reply-in-Goes-clause-refused
+returns-in_err-reply-in-Goes-clause-refused g c clean r is s desk known =
+    let told = err_from_is_err_and c.from_residual-in_err-reply-in-Goes.result c.from_residual-in_err-reply-in-Goes.ensures.1 in
+    let failed : c.import_new.result ≡ Err (Refused r) = let was = c.in_err-reply-in-Goes.was in let one = told.1 in let two = told.2 in cc in
+    let mid : HasCleanDisk (state g.S.Store c.find_name.new.conn) = omega (arith, clean, c.import_new.ensures.crash.clean) in
+    let here = desk_stays g.S.Store c.args.conn.now c.find_name.new.conn c.in_ok-found.ensures.stays mid s desk in
+    let found = c.in_ok-found.ensures.answered mid s desk in
+    let goes = rw c.in-Goes.is at c.in_ok-reply.ensures.goes in
+    c.import_new.ensures.refused clean r failed s here known (goes s c.args.body.now desk.reachable.reached found) found
+
+pub returns-in_err-reply-in-Goes-clause-kept : goal.returns-in_err-reply-in-Goes-clause-kept
+returns-in_err-reply-in-Goes-clause-kept g c clean opened =
+    let told = err_from_is_err_and c.from_residual-in_err-reply-in-Goes.result c.from_residual-in_err-reply-in-Goes.ensures.1 in
+    let mid : HasCleanDisk (state g.S.Store c.find_name.new.conn) = omega (arith, clean, c.import_new.ensures.crash.clean) in
+    let kept = c.in_err-reply-in-Goes.ensures.kept clean opened in
+    rw told.1 (λ d holds. kept d (c.in_ok-found.ensures.stays mid d holds))
+
+pub returns-in_err-reply-in-Goes-clause-crash : goal.returns-in_err-reply-in-Goes-clause-crash
+returns-in_err-reply-in-Goes-clause-crash g c = survives_then (state g.S.Store c.args.conn.now) (state g.S.Store c.find_name.new.conn) (state g.S.Store c.import_new.new.conn) _ _ _ (λ _ _ none s desk known. absurd (none (tables_of s) desk.holds)) (λ clean db whole s desk known.
+    let mid : HasCleanDisk (state g.S.Store c.find_name.new.conn) = omega (arith, clean, c.import_new.ensures.crash.clean) in
+    let here = desk_stays g.S.Store c.args.conn.now c.find_name.new.conn c.in_ok-found.ensures.stays mid s desk in
+    let found = c.in_ok-found.ensures.answered mid s desk in
+    let goes = rw c.in-Goes.is at c.in_ok-reply.ensures.goes in
+    whole s here known (goes s c.args.body.now desk.reachable.reached found) found) c.find_name.ensures.left.lasts c.import_new.ensures.crash
+
+pub returns-in_ok-reply-in-Goes-clause-crash : goal.returns-in_ok-reply-in-Goes-clause-crash
+returns-in_ok-reply-in-Goes-clause-crash g c = survives_then (state g.S.Store c.args.conn.now) (state g.S.Store c.find_name.new.conn) (state g.S.Store c.import_new.new.conn) _ _ _ (λ _ _ none s desk known. absurd (none (tables_of s) desk.holds)) (λ clean db whole s desk known.
+    let mid : HasCleanDisk (state g.S.Store c.find_name.new.conn) = omega (arith, clean, c.import_new.ensures.crash.clean) in
+    let here = desk_stays g.S.Store c.args.conn.now c.find_name.new.conn c.in_ok-found.ensures.stays mid s desk in
+    let found = c.in_ok-found.ensures.answered mid s desk in
+    let goes = rw c.in-Goes.is at c.in_ok-reply.ensures.goes in
+    whole s here known (goes s c.args.body.now desk.reachable.reached found) found) c.find_name.ensures.left.lasts c.import_new.ensures.crash
+
+pub returns-in_ok-reply-in-Goes-clause-answered : goal.returns-in_ok-reply-in-Goes-clause-answered
+returns-in_ok-reply-in-Goes-clause-answered g c clean s desk known =
+    let mid : HasCleanDisk (state g.S.Store c.find_name.new.conn) = omega (arith, clean, c.import_new.ensures.crash.clean) in
+    let here = desk_stays g.S.Store c.args.conn.now c.find_name.new.conn c.in_ok-found.ensures.stays mid s desk in
+    let found = c.in_ok-found.ensures.answered mid s desk in
+    let goes = rw c.in-Goes.is at c.in_ok-reply.ensures.goes in
+    c.in_ok-reply-in-Goes.ensures.answered clean s here known (goes s c.args.body.now desk.reachable.reached found) found

@@ -1,0 +1,79 @@
+use Rattle.std.proofs.Common.{◌≡◌, ◌+◌, [], ◌∷◌, length, length-append, map, ap, sym, subst, ◌∙◌, arith, Err}
+use Rattle.std.proofs.lemmas.Result.{err_from_is_err_and}
+use Rattle.std.proofs.lemmas.List.{length-map}
+use Rattle.sqlite.specs.Held.{state}
+use Rattle.sqlite.specs.State.{HasCleanDisk}
+use Rattle.sqlite.proofs.StateLemmas.{survives_then, survives_weaker}
+use Rattle.tb_core.specs.declared.refusals.Fault.TheVariants.{Refused}
+use Rattle.tb_core.specs.Acts.{importing, after, new_batch, new_sentence, move_of}
+use Rattle.tb_core.specs.Commands.{Reply, import_file, replied, reply_to}
+use Rattle.tb_core.specs.Steps.{Steps}
+use Rattle.tb_reading.proofs.Shown.{if_ok}
+use Rattle.tb_standing.specs.Standing.{tables_of}
+use Rattle.tb_importing.proofs.Left.{desk_stays, kept_if}
+use Rattle.tb_importing.proofs.Meaning.{taking_refused, told_sentences}
+use Rattle.tb_importing.proofs.importing.import_new.Goals as goal
+
+-- ---- the body is refused
+
+pub returns-in_err-taken-clause-refused : goal.returns-in_err-taken-clause-refused
+returns-in_err-taken-clause-refused g c clean r is s desk known named found =
+    let told = err_from_is_err_and c.from_residual.result c.from_residual.ensures.1 in
+    let one = told.1 in
+    let two = told.2 in
+    let same : c.in_err-taken.field-0.0 ≡ Refused r = cc in
+    let refusal = taking_refused _ c.in_err-taken.field-0.0 r same c.in_err-taken.ensures.refused in
+    (refusal c.args.known.now.counts.limits s c.args.name.now c.args.user.now named found, desk)
+
+pub returns-in_err-admit-clause-refused : goal.returns-in_err-admit-clause-refused
+returns-in_err-admit-clause-refused g c clean r is s desk known named found =
+    let told = err_from_is_err_and c.from_residual-in_err-admit.result c.from_residual-in_err-admit.ensures.1 in
+    let failed : c.admit.result ≡ Err (Refused r) = let was = c.in_err-admit.was in let one = told.1 in let two = told.2 in cc in
+    let taken = c.in_ok-taken.ensures.taken in
+    let goes = c.in_ok-taken.ensures.goes s c.args.name.now c.args.user.now taken.0 named found taken.1 in
+    c.admit.ensures.refused clean r failed s c.args.name.now c.args.user.now c.args.body.now taken.0 desk known goes (c.as_slice.ensures.value ∙ taken.2)
+
+pub returns-in_err-admit-clause-crash : goal.returns-in_err-admit-clause-crash
+returns-in_err-admit-clause-crash g c = survives_weaker (state g.S.Store c.args.conn.now) (state g.S.Store c.admit.new.conn) _ _ (λ _ _ none s desk known named found. absurd (none (tables_of s) desk.holds)) c.admit.ensures.left.lasts
+
+-- ---- it is written
+
+pub returns-clause-kept : goal.returns-clause-kept
+returns-clause-kept g c clean opened =
+    let mid : HasCleanDisk (state g.S.Store c.admit.new.conn) = omega (arith, clean, c.write.ensures.crash.clean) in
+    kept_if c.write.result (λ kept d holds. kept d (c.in_ok-admit.ensures.stays mid d holds)) (c.write.ensures.kept clean opened)
+
+pub returns-clause-crash : goal.returns-clause-crash
+returns-clause-crash g c = survives_then (state g.S.Store c.args.conn.now) (state g.S.Store c.admit.new.conn) (state g.S.Store c.write.new.conn) _ _ _ (λ _ _ none s desk known named found. absurd (none (tables_of s) desk.holds)) (λ clean db whole s desk known named found.
+    let mid : HasCleanDisk (state g.S.Store c.admit.new.conn) = omega (arith, clean, c.write.ensures.crash.clean) in
+    let here = desk_stays g.S.Store c.args.conn.now c.admit.new.conn c.in_ok-admit.ensures.stays mid s desk in
+    let taken = c.in_ok-taken.ensures.taken in
+    let bs = taken.0 in
+    let goes = c.in_ok-taken.ensures.goes s c.args.name.now c.args.user.now bs named found taken.1 in
+    let allowed = c.in_ok-admit.ensures.accepted mid s c.args.name.now c.args.user.now c.args.body.now bs desk known goes (c.as_slice.ensures.value ∙ taken.2) in
+    let act = importing c.args.name.now c.args.user.now bs in
+    (replied (reply_to s act), after s act, allowed.1, whole s bs here known (c.as_slice-2.ensures.value ∙ taken.2) allowed.0)) c.admit.ensures.left.lasts c.write.ensures.crash
+
+pub returns-clause-answered : goal.returns-clause-answered
+returns-clause-answered g c clean = if_ok c.write.result (c.write.ensures.answered clean) (λ r told s desk known named found.
+    let mid : HasCleanDisk (state g.S.Store c.admit.new.conn) = omega (arith, clean, c.write.ensures.crash.clean) in
+    let here = desk_stays g.S.Store c.args.conn.now c.admit.new.conn c.in_ok-admit.ensures.stays mid s desk in
+    let taken = c.in_ok-taken.ensures.taken in
+    let bs = taken.0 in
+    let name = c.args.name.now in
+    let user = c.args.user.now in
+    let goes = c.in_ok-taken.ensures.goes s name user bs named found taken.1 in
+    let allowed = c.in_ok-admit.ensures.accepted mid s name user c.args.body.now bs desk known goes (c.as_slice.ensures.value ∙ taken.2) in
+    let a = importing name user bs in
+    let limits = c.requires.within in
+    let reachable = c.commands_stay_within_limits.ensures c.args.known.now.counts.limits s (after s a) (import_file name user c.args.body.now) (replied (reply_to s a)) limits.sentences limits.moves desk.reachable allowed.1 in
+    let done = told s bs here known (c.as_slice-2.ensures.value ∙ taken.2) allowed.0 reachable in
+    record {
+      next = after s a;
+      steps = subst (λ (q : Reply). Steps c.args.known.now.counts.limits s (import_file name user c.args.body.now) (replied q) (after s a)) (sym done.2) allowed.1;
+      desk = done.0;
+      totals = done.1;
+      batches = length-append s.batches (new_batch name ∷ []);
+      sentences = length-append s.sentences (map (new_sentence (length s.batches + 1) user) bs) ∙ ap (λ n. length s.sentences + n) (length-map bs (new_sentence (length s.batches + 1) user) ∙ sym (ap told_sentences done.2));
+      moves = length-append s.moves (move_of s a ∷ []);
+    })

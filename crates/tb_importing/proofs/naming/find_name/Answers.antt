@@ -1,0 +1,29 @@
+use Rattle.std.proofs.Common.{◌≡◌, ◌+◌, ◌-◌, arith}
+use Rattle.sqlite.specs.Held.{state}
+use Rattle.sqlite.specs.State.{HasCleanDisk}
+use Rattle.tb_reading.proofs.Shown.{if_ok}
+use Rattle.tb_importing.proofs.Left.{left_from, stays_from, left_then, stays_then, desk_stays, stays_if}
+use Rattle.tb_importing.proofs.naming.find_name.Goals as goal
+
+pub returns-in_err-number-clause-left : goal.returns-in_err-number-clause-left
+returns-in_err-number-clause-left g c = left_from g.S.Store c.args.conn.now c.batch_number.new.conn c.batch_number.ensures.mode c.batch_number.ensures.kept c.batch_number.ensures.lasts
+
+pub returns-in_default-clause-left : goal.returns-in_default-clause-left
+returns-in_default-clause-left g c = left_from g.S.Store c.args.conn.now c.batch_number.new.conn c.batch_number.ensures.mode c.batch_number.ensures.kept c.batch_number.ensures.lasts
+
+pub returns-clause-left : goal.returns-clause-left
+returns-clause-left g c =
+    let read = c.batch_number.ensures in
+    left_then g.S.Store c.args.conn.now c.batch_number.new.conn c.compare.new.conn (left_from g.S.Store c.args.conn.now c.batch_number.new.conn read.mode read.kept read.lasts) (stays_from g.S.Store c.args.conn.now c.batch_number.new.conn c.in_ok-number.ensures.same) c.compare.ensures.left
+
+pub returns-clause-stays : goal.returns-clause-stays
+returns-clause-stays g c = stays_if c.compare.result (λ more. stays_then g.S.Store c.args.conn.now c.batch_number.new.conn c.compare.new.conn (stays_from g.S.Store c.args.conn.now c.batch_number.new.conn c.in_ok-number.ensures.same) c.compare.ensures.left more) c.compare.ensures.stays
+
+pub returns-clause-answered : goal.returns-clause-answered
+returns-clause-answered g c clean = if_ok c.compare.result (c.compare.ensures.answered clean) (λ found told s desk.
+    let mid : HasCleanDisk (state g.S.Store c.batch_number.new.conn) = omega (arith, clean, c.compare.ensures.left.lasts.clean) in
+    let stays = stays_from g.S.Store c.args.conn.now c.batch_number.new.conn c.in_ok-number.ensures.same in
+    let here = desk_stays g.S.Store c.args.conn.now c.batch_number.new.conn stays mid s desk in
+    let number = rw c.in-Some.is at (c.in_ok-number.ensures.answered mid s desk) in
+    let at : c.in-Some.number ≡ (c.in-Some.number - 1) + 1 = (let above = number.1 in omega (arith, above)) in
+    told s c.args.name.now (c.in-Some.number - 1) number.0 here (record { there = number.2; named = number.3 }) at)

@@ -1,0 +1,57 @@
+use Rattle.std.proofs.Common.{◌≡◌, ◌+◌, ◌<◌, ◌≤◌, length, ap, subst, arith, ℕ, List}
+use Rattle.sqlite.specs.Held.{state}
+use Rattle.sqlite.specs.State.{HasCleanDisk}
+use Rattle.tb_core.specs.Names.{Lacks}
+use Rattle.tb_core.specs.Acts.{ids_of}
+use Rattle.tb_core.specs.Taking.{TakenText}
+use Rattle.tb_core.specs.Tests.{IsFirstTaken}
+use Rattle.tb_importing.proofs.Left.{left_from, stays_from, left_then, stays_then, desk_stays}
+use Rattle.tb_importing.proofs.Takes.{one_free, first_of, all_free}
+use Rattle.tb_importing.proofs.taken.first_taken.Goals as goal
+
+pub returns-in_err-is_taken-clause-left : goal.returns-in_err-is_taken-clause-left
+returns-in_err-is_taken-clause-left g c =
+    let read = c.is_taken.ensures in
+    left_then g.S.Store c.args.conn.now c.loop-one.conn c.is_taken.new.conn c.loop-one.invariant.1 c.loop-one.invariant.2 (left_from g.S.Store c.loop-one.conn c.is_taken.new.conn read.mode read.kept read.lasts)
+
+pub returns-then-branch-clause-left : goal.returns-then-branch-clause-left
+returns-then-branch-clause-left g c =
+    let read = c.is_taken.ensures in
+    left_then g.S.Store c.args.conn.now c.loop-one.conn c.is_taken.new.conn c.loop-one.invariant.1 c.loop-one.invariant.2 (left_from g.S.Store c.loop-one.conn c.is_taken.new.conn read.mode read.kept read.lasts)
+
+pub returns-then-branch-clause-answered : goal.returns-then-branch-clause-answered
+returns-then-branch-clause-answered g c clean s bs desk is =
+    let inv = c.loop-one.invariant in
+    let i = c.loop-one.one-index in
+    let mid : HasCleanDisk (state g.S.Store c.loop-one.conn) = omega (arith, clean, c.is_taken.ensures.lasts.clean) in
+    let here = desk_stays g.S.Store c.args.conn.now c.loop-one.conn inv.2 mid s desk in
+    let told = rw c.if-branch.true at (c.in_ok-is_taken.ensures.answered clean s here) in
+    let named = ap (λ (t : TakenText). t.sent_id) c.one.view_is in
+    let low : i < length c.args.taken.now = omega (arith, c.loop-one-test.true) in
+    let at : i + 1 ≡ c.loop-one.number + 1 = (let same = inv.0 in omega (arith, same)) in
+    subst (λ k. IsFirstTaken (ids_of s.sentences) bs k) at
+    (first_of (ids_of s.sentences) bs c.args.taken.now i c.one-item.result low c.one-item.is is (inv.3 mid s desk) (subst (λ (n : List ℕ). Lacks (ids_of s.sentences) n → ⊥) named told))
+
+pub loop-one-preserved : goal.loop-one-preserved
+loop-one-preserved g c =
+    let inv = c.loop-one.invariant in
+    let i = c.loop-one.one-index in
+    let read = c.is_taken.ensures in
+    let left = left_from g.S.Store c.loop-one.conn c.is_taken.new.conn read.mode read.kept read.lasts in
+    let stays = stays_from g.S.Store c.loop-one.conn c.is_taken.new.conn c.in_ok-is_taken.ensures.same in
+    let low : i < length c.args.taken.now = omega (arith, c.loop-one-test.true) in (
+      (let same = inv.0 in omega (arith, same)),
+      left_then g.S.Store c.args.conn.now c.loop-one.conn c.is_taken.new.conn inv.1 inv.2 left,
+      stays_then g.S.Store c.args.conn.now c.loop-one.conn c.is_taken.new.conn inv.2 left stays,
+      λ clean s desk.
+          let mid : HasCleanDisk (state g.S.Store c.loop-one.conn) = omega (arith, clean, read.lasts.clean) in
+          let here = desk_stays g.S.Store c.args.conn.now c.loop-one.conn inv.2 mid s desk in
+          let told = rw c.if-branch.false at (c.in_ok-is_taken.ensures.answered clean s here) in
+          let named = ap (λ (t : TakenText). t.sent_id) c.one.view_is in
+          one_free (ids_of s.sentences) c.args.taken.now i c.one-item.result low c.one-item.is (inv.3 mid s desk) (subst (Lacks (ids_of s.sentences)) named told),
+    )
+
+pub returns-clause-answered : goal.returns-clause-answered
+returns-clause-answered g c clean s bs desk is =
+    let past : length c.args.taken.now ≤ c.loop-one.one-index = omega (arith, c.loop-one-test.false) in
+    all_free (ids_of s.sentences) bs c.args.taken.now c.loop-one.one-index past is (c.loop-one.invariant.3 clean s desk)

@@ -1,0 +1,11 @@
+use Rattle.std.proofs.Common.{◌≡◌, ◌+◌, ◌<◌, length, arith, ap, ◌∙◌, rules}
+use Rattle.tb_core.specs.Taking.{TakenText}
+use Rattle.tb_importing.proofs.Counting.{sum_more}
+use Rattle.tb_importing.proofs.words.words_in.Goals as goal
+
+pub loop-one-preserved : goal.loop-one-preserved
+loop-one-preserved c =
+    let low : c.loop-one.one-index < length c.args.taken.now = omega (arith, c.loop-one-test.true) in
+    let sum : c.in-Some.more ≡ c.loop-one.total + c.one.inside.words = search rules in
+    let its : c.one.inside.words ≡ c.one-item.result.words = ap (λ (t : TakenText). t.words) c.one.view_is in
+    sum_more c.args.taken.now c.loop-one.one-index c.one-item.result c.loop-one.total c.in-Some.more low c.one-item.is (sum ∙ ap (λ n. c.loop-one.total + n) its) c.loop-one.invariant

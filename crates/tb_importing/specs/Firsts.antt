@@ -1,0 +1,24 @@
+-- First revisions of sentences that were found by their numbers.
+use Rattle.std.specs.Prelude.{◌≡◌, ◌≢◌, ℕ, ◌-◌, ◌<◌, List, [], ◌∷◌, Some, slice_get, Bool, MatchBool}
+use Rattle.tb_conllu.specs.Text.{BlockText, text_of}
+use Rattle.tb_core.specs.Machine.{Machine, Sentence}
+use Rattle.tb_core.specs.Tests.{first_body}
+use Rattle.tb_reading.specs.declared.work.Work.{Work}
+
+-- the first revision of the sentence with this number
+pub record IsFirst (s : Machine) (number : ℕ) (b : BlockText) : Type 0 where
+  pub counted : 0 < number
+  pub sentence : Sentence
+  pub there : slice_get s.sentences (number - 1) ≡ Some sentence
+  pub body : b ≡ first_body sentence
+
+-- those of these sentences, in order
+abbrev pub AreFirsts : Machine → List Work → List BlockText → Type 0
+AreFirsts s [] [] = Unit {0}
+AreFirsts s [] (b ∷ bs) = ⊥
+AreFirsts s (w ∷ ws) [] = ⊥
+AreFirsts s (w ∷ ws) (b ∷ bs) = IsFirst s w.number b × AreFirsts s ws bs
+
+-- whether it is the text of these sentences
+abbrev pub Tells : Bool → List ℕ → List BlockText → Type 0
+Tells same text bs = MatchBool same (text ≡ text_of bs) (text ≢ text_of bs)

@@ -1,0 +1,158 @@
+//! An import, from its name to its commit.
+
+ghost use Rattle.std.specs.Prelude.{◌≡◌, ◌≢◌, ◌+◌, ◌≤◌, ℕ, List, map, Err, false, IsTrue, IfOk, IfSome, OnOk, OnErr};
+ghost use Rattle.sqlite.specs.State.{HasCleanDisk, Survives};
+ghost use Rattle.sqlite.specs.Held.{state};
+ghost use Rattle.tb_conllu.specs.Text.{BlockText};
+ghost use Rattle.tb_tables.specs.Records.{Tables, Stands};
+ghost use Rattle.tb_tables.specs.Changes.{Holds};
+ghost use Rattle.tb_core.specs.declared.refusals.Refusal.{Refusal as AnyRefusal};
+ghost use Rattle.tb_core.specs.Machine.{Machine};
+ghost use Rattle.tb_core.specs.Acts.{importing, IsAllowed, after};
+ghost use Rattle.tb_core.specs.Reaching.{IsReachable};
+ghost use Rattle.tb_core.specs.Commands.{Answer, import_file, imported, replied, refused as refused_by, reply_to};
+ghost use Rattle.tb_core.specs.Steps.{Steps};
+ghost use Rattle.tb_core.specs.Taking.{taken_of};
+ghost use Rattle.tb_core.specs.Totals.{StandFor};
+ghost use Rattle.tb_standing.specs.Standing.{tables_of, IsDesk};
+ghost use Rattle.tb_judge.specs.Found.{FindsName};
+ghost use Rattle.tb_judge.specs.Parts.{IsNamedImport, IsTakenImport};
+ghost use Rattle.tb_acting.specs.Working.{IsWithin};
+ghost use Rattle.tb_importing.specs.Leaving.{IsLeft, Stays};
+ghost use Rattle.tb_importing.specs.Planned.{IsKnown, HasImported, Imports};
+
+use crate::known::Known;
+use crate::naming::find_name;
+use crate::planning::{items_of, plan};
+use crate::taken::first_taken;
+use sqlite::{Alter, Connection};
+use std::alloc::Global;
+use tb_acting::commit_import;
+use tb_core::{Fault, Imported, Taken, Totals, commands_stay_within_limits};
+use tb_judge::{Judged, NameFound, judge_import_after, judge_import_before, judge_import_body};
+
+/// The last tests of an import, of its sentences against those that stand.
+fn admit<S: Alter>(
+    conn: &mut Connection<S>,
+    known: &Known,
+    taken: &[Taken<'_>],
+) -> Result<(), Fault>
+    ensures refused { HasCleanDisk (state S.Store conn.new) → (r : AnyRefusal) → result ≡ Err (Fault.Refused r) → (s : Machine) (name user body : List ℕ) (bs : List BlockText) → IsDesk S.Store conn.old s → IsKnown known.now s
+        → IsTakenImport s name user body bs → taken.now ≡ map taken_of bs → Steps known.now.counts.limits s (import_file name user body) (refused_by r) s × IsDesk S.Store conn.new s }
+    ensures accepted { HasCleanDisk (state S.Store conn.new) → OnOk result ((s : Machine) (name user body : List ℕ) (bs : List BlockText) → IsDesk S.Store conn.old s → IsKnown known.now s
+        → IsTakenImport s name user body bs → taken.now ≡ map taken_of bs
+        → let act = importing name user bs in
+        IsAllowed s act × Steps known.now.counts.limits s (import_file name user body) (replied (reply_to s act)) (after s act)) }
+    ensures stays { OnOk result (Stays S.Store conn.old conn.new) }
+    ensures left { IsLeft S.Store conn.old conn.new }
+{
+    let standing = first_taken(conn, taken)?;
+    judge_import_after(
+        &known.counts.limits,
+        taken.len() as u64,
+        standing,
+        u64::from(known.sentences),
+        u64::from(known.counts.moves),
+    )?;
+    Ok(())
+}
+
+/// Writes an import that is allowed, of these sentences; with its reply, the totals after it.
+fn write<S: Alter>(
+    alloc: Global,
+    conn: &mut Connection<S>,
+    known: &Known,
+    name: &str,
+    user: &str,
+    taken: &[Taken<'_>],
+) -> Result<(Imported, Totals), Fault>
+    requires autocommit { conn.old.in_transaction ≡ false }
+    ensures answered { HasCleanDisk (state S.Store conn.new) → IfOk result (λ r. (s : Machine) (bs : List BlockText) → IsDesk S.Store conn.old s → IsKnown known.now s → taken.now ≡ map taken_of bs
+        → let act = importing name.now user.now bs in
+        IsAllowed s act → IsReachable (after s act) → IsDesk S.Store conn.new (after s act) × StandFor r.1 (after s act) × (imported r.0 ≡ reply_to s act)) }
+    ensures refused { (r : AnyRefusal) → result ≢ Err (Fault.Refused r) }
+    ensures room { IfOk result (λ r. (known.now.counts.moves + 1 ≤ 1000000000) × (known.now.sentences + r.0.sentences ≤ 1000000)) }
+    ensures kept { HasCleanDisk (state S.Store conn.new) → IsTrue (state S.Store conn.new).is_open → OnErr result ((d : Tables) → Holds S.Store conn.old d → Holds S.Store conn.new d) }
+    ensures crash { Survives (state S.Store conn.old) (state S.Store conn.new) (λ db. (s : Machine) (bs : List BlockText) → IsDesk S.Store conn.old s → IsKnown known.now s → taken.now ≡ map taken_of bs
+        → IsAllowed s (importing name.now user.now bs) → Stands (tables_of (after s (importing name.now user.now bs))) db) }
+    ensures mode { conn.new.in_transaction ≡ false }
+{
+    let items = items_of(alloc, taken)?;
+    let plan = plan(alloc, known, user, taken)?;
+    commit_import(
+        conn,
+        plan.number,
+        plan.first,
+        name,
+        user,
+        items.as_slice(),
+        &plan.prepared.change,
+    )?;
+    Ok((plan.reply, plan.prepared.totals))
+}
+
+/// An import that is no repeat, where its name is this to the batches that stand; with its reply, the totals after it.
+fn import_new<S: Alter>(
+    alloc: Global,
+    conn: &mut Connection<S>,
+    known: &Known,
+    name: &str,
+    user: &str,
+    body: &[u8],
+    found: NameFound,
+) -> Result<(Imported, Totals), Fault>
+    requires autocommit { conn.old.in_transaction ≡ false }
+    requires within { IsWithin known.now.counts.limits }
+    ensures answered { HasCleanDisk (state S.Store conn.new) → IfOk result (λ r. (s : Machine) → IsDesk S.Store conn.old s → IsKnown known.now s → IsNamedImport s name.now user.now body.now → FindsName s name.now body.now found
+        → HasImported S.Store known.now.counts.limits s name.now user.now body.now conn.new r.0 r.1) }
+    ensures refused { HasCleanDisk (state S.Store conn.new) → (r : AnyRefusal) → result ≡ Err (Fault.Refused r) → (s : Machine) → IsDesk S.Store conn.old s → IsKnown known.now s → IsNamedImport s name.now user.now body.now → FindsName s name.now body.now found
+        → Steps known.now.counts.limits s (import_file name.now user.now body.now) (refused_by r) s × IsDesk S.Store conn.new s }
+    ensures room { IfOk result (λ r. (known.now.counts.moves + 1 ≤ 1000000000) × (known.now.sentences + r.0.sentences ≤ 1000000)) }
+    ensures kept { HasCleanDisk (state S.Store conn.new) → IsTrue (state S.Store conn.new).is_open → OnErr result ((d : Tables) → Holds S.Store conn.old d → Holds S.Store conn.new d) }
+    ensures crash { Survives (state S.Store conn.old) (state S.Store conn.new) (λ db. (s : Machine) → IsDesk S.Store conn.old s → IsKnown known.now s → IsNamedImport s name.now user.now body.now → FindsName s name.now body.now found
+        → (a : Answer) × (t : Machine) × Steps known.now.counts.limits s (import_file name.now user.now body.now) a t × Stands (tables_of t) db) }
+    ensures mode { conn.new.in_transaction ≡ false }
+{
+    commands_stay_within_limits();
+    let taken = judge_import_body(alloc, body, found)?;
+    admit(conn, known, taken.as_slice())?;
+    write(alloc, conn, known, name, user, taken.as_slice())
+}
+
+/// Imports a file as a new batch with this name; with the reply, the totals after it, none where the import is a repeat and
+/// nothing is written. The body is a file of valid CoNLL-U sentences, and `known` is what is known of the desk. The import that
+/// made the batch, sent again by anyone at any later time, has the same reply: it is known by the first revisions of the batch's
+/// sentences, byte for byte.
+///
+/// # Errors
+///
+/// `BadName`, of the batch's name or the user's; of an import that is no repeat `Read`, `Rule`, `Empty`; `NameTaken`;
+/// `SentIdTaken`, with the place in the file, from 1, of the first such sentence; `Full`. The first that holds.
+pub fn import<S: Alter>(
+    alloc: Global,
+    conn: &mut Connection<S>,
+    known: &Known,
+    name: &str,
+    user: &str,
+    body: &[u8],
+) -> Result<(Imported, Option<Totals>), Fault>
+    requires autocommit { conn.old.in_transaction ≡ false }
+    requires within { IsWithin known.now.counts.limits }
+    ensures answered { HasCleanDisk (state S.Store conn.new) → IfOk result (λ r. (s : Machine) → IsDesk S.Store conn.old s → IsKnown known.now s → Imports S.Store known.now.counts.limits s name.now user.now body.now conn.new r.0 r.1) }
+    ensures refused { HasCleanDisk (state S.Store conn.new) → (r : AnyRefusal) → result ≡ Err (Fault.Refused r) → (s : Machine) → IsDesk S.Store conn.old s → IsKnown known.now s
+        → Steps known.now.counts.limits s (import_file name.now user.now body.now) (refused_by r) s × IsDesk S.Store conn.new s }
+    ensures room { IfOk result (λ r. IfSome r.1 (λ _. (known.now.counts.moves + 1 ≤ 1000000000) × (known.now.sentences + r.0.sentences ≤ 1000000))) }
+    ensures kept { HasCleanDisk (state S.Store conn.new) → IsTrue (state S.Store conn.new).is_open → OnErr result ((d : Tables) → Holds S.Store conn.old d → Holds S.Store conn.new d) }
+    ensures crash { Survives (state S.Store conn.old) (state S.Store conn.new) (λ db. (s : Machine) → IsDesk S.Store conn.old s → IsKnown known.now s
+        → (a : Answer) × (t : Machine) × Steps known.now.counts.limits s (import_file name.now user.now body.now) a t × Stands (tables_of t) db) }
+    ensures mode { conn.new.in_transaction ≡ false }
+{
+    let found = find_name(alloc, conn, name, body)?;
+    match judge_import_before(name, user, found)? {
+        Judged::Repeat(reply) => Ok((reply, None)),
+        Judged::Goes => {
+            let (reply, totals) = import_new(alloc, conn, known, name, user, body, found)?;
+            Ok((reply, Some(totals)))
+        }
+    }
+}

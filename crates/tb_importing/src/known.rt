@@ -1,0 +1,10 @@
+use tb_acting::Counts;
+
+/// What a desk knows without asking the database, as an import needs it: beside what every command needs, how many batches
+/// and sentences stand.
+#[derive(Clone, Copy, Debug)]
+pub struct Known {
+    pub counts: Counts,
+    pub batches: u32,
+    pub sentences: u32,
+}

@@ -1,0 +1,101 @@
+//! What the name of an import is to the batches that stand.
+
+ghost use Rattle.std.specs.Prelude.{◌≡◌, ◌≢◌, ◌+◌, ℕ, List, map, Err, IfOk, OnOk};
+ghost use Rattle.sqlite.specs.State.{HasCleanDisk};
+ghost use Rattle.sqlite.specs.Held.{state};
+ghost use Rattle.tb_conllu.specs.Text.{text_of};
+ghost use Rattle.tb_core.specs.declared.refusals.Refusal.{Refusal as AnyRefusal};
+ghost use Rattle.tb_core.specs.Machine.{Machine, Batch};
+ghost use Rattle.tb_core.specs.Reaching.{Reached};
+ghost use Rattle.tb_core.specs.Commands.{imported, HasBatch};
+ghost use Rattle.tb_core.specs.Tests.{first_bodies, import_reply};
+ghost use Rattle.tb_standing.specs.Standing.{IsDesk, sentence_record};
+ghost use Rattle.tb_reading.specs.Found.{work_of};
+ghost use Rattle.tb_judge.specs.Found.{FindsName};
+ghost use Rattle.tb_importing.specs.Leaving.{IsLeft, Stays};
+
+use crate::firsts::are_firsts;
+use crate::words::words_of_text;
+use sqlite::{Alter, Connection};
+use std::alloc::Global;
+use tb_acting::{batch_number, faults};
+use tb_conllu::one_list_has_a_text;
+use tb_core::{Fault, Imported, reached_states_are_well};
+use tb_judge::NameFound;
+use tb_reading::Work;
+
+/// The sentences of the batch with this number, pulled ones too.
+fn read_work<S: Alter>(
+    alloc: Global,
+    conn: &mut Connection<S>,
+    number: u32,
+) -> Result<Vec<Work>, Fault>
+    ensures answered { HasCleanDisk (state S.Store conn.new) → IfOk result (λ v. (s : Machine) → IsDesk S.Store conn.old s → v.items ≡ work_of number 1 (map sentence_record s.sentences)) }
+    ensures refused { (r : AnyRefusal) → result ≢ Err (Fault.Refused r) }
+    ensures stays { OnOk result (Stays S.Store conn.old conn.new) }
+    ensures left { IsLeft S.Store conn.old conn.new }
+{
+    match tb_reading::sentences_of(alloc, conn, number) {
+        Ok(work) => Ok(work),
+        Err(error) => Err(faults::of_read(error)),
+    }
+}
+
+/// The reply to the import that made the batch with this number. These are its sentences, and this is the text of their first
+/// revisions.
+fn reply_again(alloc: Global, number: u32, work: &[Work], text: &[u8]) -> Result<Imported, Fault>
+    ensures answered { IfOk result (λ r. (s : Machine) → Reached s → work.now ≡ work_of number 1 (map sentence_record s.sentences) → text.now ≡ text_of (first_bodies number s.sentences) → imported r ≡ import_reply s number) }
+    ensures refused { (r : AnyRefusal) → result ≢ Err (Fault.Refused r) }
+{
+    // The laws by which the text is that of one list of sentences, and these are valid and stand in order.
+    one_list_has_a_text();
+    reached_states_are_well();
+    let Some(first) = work.first() else {
+        return Err(Fault::NotADesk);
+    };
+    let words = words_of_text(alloc, text)?;
+    Ok(Imported {
+        batch: u64::from(number),
+        first: u64::from(first.number),
+        sentences: work.len() as u64,
+        words,
+    })
+}
+
+/// What a body is to the batch with this number, which has the name of its import.
+fn compare<S: Alter>(
+    alloc: Global,
+    conn: &mut Connection<S>,
+    number: u32,
+    body: &[u8],
+) -> Result<NameFound, Fault>
+    ensures answered { HasCleanDisk (state S.Store conn.new) → IfOk result (λ found. (s : Machine) (name : List ℕ) (place : ℕ) (b : Batch) → IsDesk S.Store conn.old s → HasBatch s name place b → number ≡ place + 1 → FindsName s name body.now found) }
+    ensures refused { (r : AnyRefusal) → result ≢ Err (Fault.Refused r) }
+    ensures stays { OnOk result (Stays S.Store conn.old conn.new) }
+    ensures left { IsLeft S.Store conn.old conn.new }
+{
+    let work = read_work(alloc, conn, number)?;
+    if !are_firsts(conn, work.as_slice(), body)? {
+        return Ok(NameFound::Taken);
+    }
+    let reply = reply_again(alloc, number, work.as_slice(), body)?;
+    Ok(NameFound::Same(reply))
+}
+
+/// What the name of an import with this body is to the batches that stand.
+pub(crate) fn find_name<S: Alter>(
+    alloc: Global,
+    conn: &mut Connection<S>,
+    name: &str,
+    body: &[u8],
+) -> Result<NameFound, Fault>
+    ensures answered { HasCleanDisk (state S.Store conn.new) → IfOk result (λ found. (s : Machine) → IsDesk S.Store conn.old s → FindsName s name.now body.now found) }
+    ensures refused { (r : AnyRefusal) → result ≢ Err (Fault.Refused r) }
+    ensures stays { OnOk result (Stays S.Store conn.old conn.new) }
+    ensures left { IsLeft S.Store conn.old conn.new }
+{
+    let Some(number) = batch_number(conn, name)? else {
+        return Ok(NameFound::Free);
+    };
+    compare(alloc, conn, number, body)
+}

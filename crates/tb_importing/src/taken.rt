@@ -1,0 +1,36 @@
+//! Which sentence of a file has a `sent_id` that stands.
+
+ghost use Rattle.std.specs.Prelude.{◌≡◌, ◌≢◌, List, map, Err, IfOk, OnOk};
+ghost use Rattle.sqlite.specs.State.{HasCleanDisk};
+ghost use Rattle.sqlite.specs.Held.{state};
+ghost use Rattle.tb_conllu.specs.Text.{BlockText};
+ghost use Rattle.tb_core.specs.declared.refusals.Refusal.{Refusal as AnyRefusal};
+ghost use Rattle.tb_core.specs.Machine.{Machine};
+ghost use Rattle.tb_core.specs.Taking.{taken_of};
+ghost use Rattle.tb_standing.specs.Standing.{IsDesk};
+ghost use Rattle.tb_judge.specs.Found.{FindsId};
+ghost use Rattle.tb_importing.specs.Leaving.{IsLeft, Stays};
+
+use sqlite::{Alter, Connection};
+use tb_acting::is_taken;
+use tb_core::{Fault, Taken};
+
+/// The first of these sentences, counted from 1, whose `sent_id` stands. No sentence after it is asked for.
+pub(crate) fn first_taken<S: Alter>(
+    conn: &mut Connection<S>,
+    taken: &[Taken<'_>],
+) -> Result<Option<u64>, Fault>
+    ensures answered { HasCleanDisk (state S.Store conn.new) → IfOk result (λ found. (s : Machine) (bs : List BlockText) → IsDesk S.Store conn.old s → taken.now ≡ map taken_of bs → FindsId s bs found) }
+    ensures refused { (r : AnyRefusal) → result ≢ Err (Fault.Refused r) }
+    ensures stays { OnOk result (Stays S.Store conn.old conn.new) }
+    ensures left { IsLeft S.Store conn.old conn.new }
+{
+    let mut number = 0;
+    for one in taken {
+        number += 1;
+        if is_taken(conn, one.sent_id)? {
+            return Ok(Some(number));
+        }
+    }
+    Ok(None)
+}
