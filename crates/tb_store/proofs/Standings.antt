@@ -1,5 +1,5 @@
 -- What a desk that stands for a state knows, and what a read leaves of it.
-use Rattle.std.proofs.Common.{◌≡◌, ℕ, ◌<◌, ◌≤◌, length, refl, subst, arith, inr, Result, Ok, Err, IfErr}
+use Rattle.std.proofs.Common.{◌≡◌, ℕ, ◌<◌, ◌≤◌, length, refl, sym, subst, arith, inr, Result, Ok, Err, IfErr}
 use Rattle.std.proofs.lemmas.Option.{slice_get_within}
 use Rattle.sqlite.specs.Store.{Ghosts}
 use Rattle.sqlite.specs.Held.{Held}
@@ -12,7 +12,9 @@ use Rattle.tb_core.specs.declared.limits.Limits.{Limits}
 use Rattle.tb_core.specs.Commands.{HasSentence, Command, Answer}
 use Rattle.tb_core.specs.Steps.{Steps}
 use Rattle.tb_standing.specs.Standing.{IsDesk}
-use Rattle.tb_store.specs.Kept.{Kept}
+use Rattle.tb_importing.specs.declared.known.Known.{Known}
+use Rattle.tb_importing.specs.Planned.{IsKnown}
+use Rattle.tb_store.specs.Kept.{Kept, known_of}
 use Rattle.tb_store.specs.Standing.{StandsFor}
 use Rattle.tb_store.specs.Answers.{HasNoRevision, RefusesRevision}
 
@@ -40,3 +42,7 @@ refuses_revision s n k Output h = tt
 pub same_numbered : (command : ℕ → Command) (l k : Limits) (s : Machine) (m n : ℕ) (a : Answer) (t : Machine) → l ≡ k → m ≡ n → Steps l s (command m) a t → Steps k s (command n) a t
 same_numbered command l k s m n a t same is h =
     subst (λ (j : Limits). Steps j s (command n) a t) same (subst (λ i. Steps l s (command i) a t) is h)
+
+-- what it knows for an import is that of the state
+pub is_known : {S : Type 0} (g : Ghosts S) (d : Kept S) (k : Known) (s : Machine) → k ≡ known_of d → StandsFor g d s → IsKnown k s
+is_known g d k s is stands = subst (λ (j : Known). IsKnown j s) (sym is) (record { counted = record { moves = stands.moves; totals = stands.totals }; batches = stands.batches; sentences = stands.sentences })

@@ -8,6 +8,7 @@ use Rattle.tb_core.specs.declared.limits.Limits.{Limits}
 use Rattle.tb_core.specs.declared.sums.Totals.{Totals}
 use Rattle.tb_acting.specs.declared.counted.Counts.{Counts}
 use Rattle.tb_acting.specs.Working.{IsWithin}
+use Rattle.tb_importing.specs.declared.known.Known.{Known}
 
 -- `batches`, `sentences` and `moves` are how many there are
 pub record Kept (S : Type 0) : Type 0 where
@@ -37,3 +38,7 @@ pub record IsReady {S : Type 0} (d : Kept S) : Type 0 where
 -- what of it a command needs beside the tables
 abbrev pub counts_of : {S : Type 0} → Kept S → Counts
 counts_of d = record { limits = d.limits; moves = d.moves; totals = d.totals }
+
+-- and what an import needs
+abbrev pub known_of : {S : Type 0} → Kept S → Known
+known_of d = record { counts = counts_of d; batches = d.batches; sentences = d.sentences }

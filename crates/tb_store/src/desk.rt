@@ -9,13 +9,13 @@ ghost use Rattle.tb_core.specs.declared.refusals.Refusal.{Refusal as AnyRefusal}
 ghost use Rattle.tb_core.specs.Names.{is_name};
 ghost use Rattle.tb_core.specs.Machine.{Machine, empty_machine};
 ghost use Rattle.tb_core.specs.Totals.{StandFor};
-ghost use Rattle.tb_core.specs.Commands.{Answer, correct as correct_it, event_on, pull as pull_it, restore as restore_it, replied, refused as refused_by, moved_on, corrected_to, pulled_out, restored_to};
+ghost use Rattle.tb_core.specs.Commands.{Answer, correct as correct_it, event_on, import_file, imported, pull as pull_it, restore as restore_it, replied, refused as refused_by, moved_on, corrected_to, pulled_out, restored_to};
 ghost use Rattle.tb_core.specs.Steps.{Steps};
 ghost use Rattle.tb_search.specs.Released.{released, in_batch, current_text};
 ghost use Rattle.tb_acting.specs.Finding.{HasNumber};
 ghost use Rattle.tb_acting.specs.Working.{IsWithin};
 ghost use Rattle.tb_standing.specs.Standing.{tables_of, IsDesk};
-ghost use Rattle.tb_store.specs.Kept.{Kept, counts_of};
+ghost use Rattle.tb_store.specs.Kept.{Kept, counts_of, known_of};
 ghost use Rattle.tb_store.specs.Standing.{StandsFor, unlimited, no_totals};
 ghost use Rattle.tb_store.specs.Answers.{IsCurrent, IsTextOf, HasNoSentence, RefusesRevision};
 ghost use Rattle.tb_store.specs.Exports.{IsBrokenOff, IsPartOfBatch, RefusesBatch};
@@ -28,7 +28,10 @@ use std::marker::Model;
 use tb_acting::{Counts, faults};
 use tb_adopting::{Standing, read_desk};
 use tb_conllu::Sink;
-use tb_core::{Corrected, Event, Fault, Limits, Move, Moved, Pulled, Refusal, Restored, Totals};
+use tb_core::{
+    Corrected, Event, Fault, Imported, Limits, Move, Moved, Pulled, Refusal, Restored, Totals,
+};
+use tb_importing::Known;
 
 /// A desk: the connection that holds its tables, its limits, and the counts and totals that it read or wrote last, so that the
 /// next numbers are known without asking the database. It may be let go at any time: what it answered to have done stands.
@@ -425,6 +428,51 @@ impl<S: Alter> Desk<S> {
         let (reply, totals) = tb_acting::restore(self.alloc, &mut self.conn, &counts, at, user)?;
         self.moves += 1;
         self.totals = totals;
+        Ok(reply)
+    }
+}
+
+impl<S: Alter> Desk<S> {
+    /// What the desk knows without asking the database, as an import needs it.
+    fn known(&self) -> Known
+        ensures { result ≡ known_of self.now }
+    {
+        Known {
+            counts: self.counts(),
+            batches: self.batches,
+            sentences: self.sentences,
+        }
+    }
+
+    /// Imports a file of CoNLL-U, whose sentences become a new batch with this name. Sent again, by anyone and at any later
+    /// time, it has the same reply, and changes nothing: it is known by the first revisions of the batch's sentences.
+    ///
+    /// # Errors
+    ///
+    /// `BadName`, of the batch's name or the user's; of an import that is no repeat `Read`, `Rule`, `Empty`; `NameTaken`;
+    /// `SentIdTaken`, with the place in the file, from 1, of the first such sentence; `Full`. The first that holds.
+    pub fn import(&mut self, name: &str, user: &str, body: &[u8]) -> Result<Imported, Fault>
+        ensures answered { HasCleanDisk (state S.Store self.new.conn) → IfOk result (λ reply. (s : Machine) → StandsFor S.Store self.old s → (t : Machine) × Steps self.old.limits s (import_file name.now user.now body.now) (replied (imported reply)) t × StandsFor S.Store self.new t) }
+        ensures refused { HasCleanDisk (state S.Store self.new.conn) → IfErr result (λ e. (r : AnyRefusal) → e ≡ Fault.Refused r → (s : Machine) → StandsFor S.Store self.old s → Steps self.old.limits s (import_file name.now user.now body.now) (refused_by r) s × StandsFor S.Store self.new s) }
+        ensures kept { HasCleanDisk (state S.Store self.new.conn) → IsTrue (state S.Store self.new.conn).is_open → IfErr result (λ _. (s : Machine) → StandsFor S.Store self.old s → StandsFor S.Store self.new s) }
+        ensures crash { Survives (state S.Store self.old.conn) (state S.Store self.new.conn) (λ db. (s : Machine) → StandsFor S.Store self.old s → (a : Answer) × (t : Machine) × Steps self.old.limits s (import_file name.now user.now body.now) a t × Stands (tables_of t) db) }
+        ensures limits { self.new.limits ≡ self.old.limits }
+    {
+        let known = self.known();
+        let (reply, totals) = tb_importing::import(
+            self.alloc,
+            &mut self.conn,
+            &known,
+            name,
+            user,
+            body,
+        )?;
+        if let Some(after) = totals {
+            self.batches += 1;
+            self.sentences += reply.sentences as u32;
+            self.moves += 1;
+            self.totals = after;
+        }
         Ok(reply)
     }
 }
