@@ -3,6 +3,7 @@
 ghost use Rattle.std.specs.Prelude.{◌≡◌, ℕ, ◌+◌, ◌-◌, ◌<◌, ◌≤◌, ◌∷◌, ◌++◌, [], IfErr, IfOk, List, OnOk, decimal, drop, filter, map, string_bytes, take};
 ghost use Rattle.std.specs.Io.KnownBytes.{Appends};
 ghost use Rattle.tb_conllu.specs.Words.{is_word, words_of};
+ghost use Rattle.tb_core.specs.Machine.{sent_id_of};
 ghost use Rattle.tb_report.specs.Keywords.{after, before, joined, key_of, keyword_line, of_hit};
 ghost use Rattle.tb_rules.specs.Rules.{KeepsRules};
 
@@ -96,6 +97,28 @@ pub fn kwic<T: Text, S: Sink>(
     ensures refused { IfErr result (S.IsRefusal out.new) }
 {
     let name = sent_id(block).unwrap();
+    kwic_named(name, block, hit, context, out)
+}
+
+/// Puts the keyword line of a hit in a sentence whose `sent_id` is at hand: what many lines of one sentence share is then
+/// read once, and the sentence need keep no other rule.
+///
+/// # Errors
+///
+/// The sink refused a piece.
+pub fn kwic_named<T: Text, S: Sink>(
+    name: &str,
+    block: &BlockOf<T>,
+    hit: (u32, u32),
+    context: u8,
+    out: &mut S,
+) -> Result<(), S::Refusal>
+    requires named { name.now ≡ sent_id_of block.now }
+    requires first { hit.0 < hit.1 }
+    requires last { hit.1 ≤ words_of block.now }
+    ensures put { OnOk result (Appends (S.held out.old) (S.held out.new) (keyword_line block.now hit context)) }
+    ensures refused { IfErr result (S.IsRefusal out.new) }
+{
     put_place(name, hit, out)?;
     put_forms(&block.rows, hit, context, out)
 }

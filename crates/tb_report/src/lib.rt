@@ -11,7 +11,7 @@ mod words;
 pub use csvs::{csv_freq, csv_moves, csv_totals};
 pub use fault::ReportFault;
 pub use freq::Freq;
-pub use keyword::{key, kwic};
+pub use keyword::{key, kwic, kwic_named};
 pub use laws::{
     counts_sum_to_keys, keys_have_one_table, order_of_keys_is_nothing, table_has_one_ranking,
     tables_add_up,
