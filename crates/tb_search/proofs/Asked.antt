@@ -1,12 +1,7 @@
 -- The revisions that a walk asks for are the current ones of the sentences that are wanted.
-use Rattle.std.proofs.Common.{◌≡◌, ℕ, suc, ◌+◌, ◌<◌, List, [], ◌∷◌, ◌++◌, map, filter, take, length, Bool, true, false, cond, ◌&&◌, nat_eq, Option, refl, sym, ap, subst, ◌∙◌, arith}
-use Rattle.std.specs.List.{flat_map}
-use Rattle.std.specs.Io.KnownBytes.{Appends}
+use Rattle.std.proofs.Common.{◌≡◌, ℕ, suc, ◌+◌, ◌<◌, List, [], ◌∷◌, ◌++◌, map, filter, length, Bool, true, false, cond, ◌&&◌, nat_eq, refl, ap, ◌∙◌, arith}
 use Rattle.std.proofs.lemmas.Bool.Decides.{nat_tests}
-use Rattle.std.proofs.lemmas.List.{take-map}
-use Rattle.std.proofs.lemmas.List.Folds.{flat_map-map}
 use Rattle.tb_conllu.specs.Text.{text_of}
-use Rattle.tb_conllu.proofs.Faults.{text_of-append}
 use Rattle.tb_core.specs.Machine as machine
 use Rattle.tb_core.specs.Machine.{Sentence, revisions, rev}
 use Rattle.tb_core.specs.Rows.{RevisionRow, revision_rows, revisions_from}
@@ -14,12 +9,10 @@ use Rattle.tb_tables.specs.Records.{Revision}
 use Rattle.tb_standing.specs.Standing.{revision_record, sentence_record}
 use Rattle.tb_reading.specs.Found.{work_of}
 use Rattle.tb_search.specs.declared.picks.Pick.{Pick}
-use Rattle.tb_search.specs.declared.stopped.Stopped.{Stopped}
-use Rattle.tb_search.specs.declared.stopped.Stopped.TheVariants.{Output, Read}
-use Rattle.tb_search.specs.Released.{current_text, IsCutShort}
-use Rattle.tb_search.specs.Picked.{picked, bodies, IsCut, picks_from, pick_of}
+use Rattle.tb_search.specs.Picked.{picked, bodies, picks_from, pick_of}
+use Rattle.tb_search.specs.Visited.{texts}
 
-abbrev pub body_of : Revision → List ℕ
+abbrev body_of : Revision → List ℕ
 body_of r = r.body
 
 abbrev pub text : Sentence → List ℕ
@@ -65,7 +58,8 @@ begins_past wanted n m (x ∷ xs) low = by (begins_past wanted n (m + 1) xs (ome
     by later true = grind (arith, nat_tests, low)
     by later false = later
 
-pub currents : (wanted : Sentence → Bool) (n : ℕ) (xs : List Sentence) → map body_of (picked (picks_from wanted n xs) (map revision_record (revisions_from n xs))) ≡ map text (filter wanted xs)
+-- the bodies that are asked for are the texts of the sentences that are wanted
+pub currents : (wanted : Sentence → Bool) (n : ℕ) (xs : List Sentence) → bodies (picked (picks_from wanted n xs) (map revision_record (revisions_from n xs))) ≡ texts (filter wanted xs)
 currents wanted n [] = refl
 currents wanted n (x ∷ xs) = by (currents wanted (n + 1) xs) (wanted x)
   where
@@ -73,20 +67,6 @@ currents wanted n (x ∷ xs) = by (currents wanted (n + 1) xs) (wanted x)
         → map body_of (picked (cond b (record { sent = n; rev = rev x } ∷ picks_from wanted (n + 1) xs) (picks_from wanted (n + 1) xs)) (map revision_record (revision_rows n 1 (revisions x) ++ revisions_from (n + 1) xs))) ≡ map text (cond b (x ∷ filter wanted xs) (filter wanted xs))
     by later true = takes n 1 (rev x) x.before x.current (picks_from wanted (n + 1) xs) (revisions_from (n + 1) xs) (omega arith) ∙ ap (λ l. text x ∷ l) later
     by later false = ap (map body_of) (skips n 1 (revisions x) (picks_from wanted (n + 1) xs) (revisions_from (n + 1) xs) (begins_past wanted n (n + 1) xs (omega arith))) ∙ later
-
--- ---- their text
-
-joined : (xs : List Sentence) → flat_map (λ t. t) (map text xs) ≡ current_text xs
-joined [] = refl
-joined (x ∷ xs) = ap (λ l. text x ++ l) (joined xs) ∙ sym (text_of-append (x.current.body ∷ []) (map (λ (y : Sentence). y.current.body) xs))
-
-pub text_is : (rs : List Revision) (xs : List Sentence) → map body_of rs ≡ map text xs → bodies rs ≡ current_text xs
-text_is rs xs e = sym (flat_map-map (λ t. t) body_of rs) ∙ ap (flat_map (λ t. t)) e ∙ joined xs
-
-pub cut_is : (e : Stopped) (o a : Option (List ℕ)) (rs : List Revision) (xs : List Sentence) → map body_of rs ≡ map text xs → IsCut e o a rs → IsCutShort e o a xs
-cut_is Output o a rs xs same (k, put) = (k, subst (λ b. Appends o a (take k b)) (text_is rs xs same) put)
-cut_is (Read error) o a rs xs same (k, put) =
-    (k, subst (Appends o a) (text_is (take k rs) (take k xs) (sym (take-map body_of k rs) ∙ ap (take k) same ∙ take-map text k xs)) put)
 
 -- ---- those of a batch
 

@@ -1,6 +1,9 @@
 pub mod Asked
 pub mod Choosing
 pub mod OneList
-pub mod Put
+pub mod Visiting
 pub mod Rises
 pub mod Walking
+mod Copied
+mod Found
+mod Seeking

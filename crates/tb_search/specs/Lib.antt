@@ -1,2 +1,4 @@
 pub mod Released
 pub mod Picked
+pub mod Visited
+pub mod Searched

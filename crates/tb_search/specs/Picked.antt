@@ -1,14 +1,9 @@
 -- Revisions that are asked for by sentence and number.
-use Rattle.std.specs.Prelude.{ℕ, ◌+◌, List, [], ◌∷◌, take, cond, Bool, false, ◌&&◌, nat_eq, Option}
-use Rattle.std.specs.List.{flat_map}
-use Rattle.std.specs.Io.KnownBytes.{Appends}
-use Rattle.tb_conllu.specs.Sunk.{AppendsPart}
+use Rattle.std.specs.Prelude.{ℕ, ◌+◌, List, [], ◌∷◌, map, cond, Bool, false, ◌&&◌, nat_eq}
 use Rattle.tb_core.specs.Machine.{Sentence, rev}
 use Rattle.tb_tables.specs.Records.{Revision}
 use Rattle.tb_reading.specs.declared.work.Work.{Work}
 use Rattle.tb_search.specs.declared.picks.Pick.{Pick}
-use Rattle.tb_search.specs.declared.stopped.Stopped.{Stopped}
-use Rattle.tb_search.specs.declared.stopped.Stopped.TheVariants.{Output}
 
 abbrev pub asks : Pick → ℕ → ℕ → Bool
 asks p sent rev = nat_eq p.sent sent && nat_eq p.rev rev
@@ -19,13 +14,8 @@ picked [] rs = []
 picked (p ∷ ps) [] = []
 picked (p ∷ ps) (r ∷ rs) = cond (asks p r.sent r.rev) (r ∷ picked ps rs) (picked (p ∷ ps) rs)
 
-abbrev pub bodies : List Revision → List ℕ
-bodies rs = flat_map (λ (r : Revision). r.body) rs
-
--- what a sink has of them where a call ends early
-abbrev pub IsCut : Stopped → Option (List ℕ) → Option (List ℕ) → List Revision → Type 0
-IsCut Output old new rs = AppendsPart old new (bodies rs)
-IsCut _ old new rs = (k : ℕ) × Appends old new (bodies (take k rs))
+abbrev pub bodies : List Revision → List (List ℕ)
+bodies rs = map (λ (r : Revision). r.body) rs
 
 -- the current revisions of the sentences that are wanted, where the first of the list has this number
 abbrev pub picks_from : (Sentence → Bool) → ℕ → List Sentence → List Pick

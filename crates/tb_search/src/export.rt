@@ -1,6 +1,6 @@
 //! The text of released sentences, and that of a batch.
 
-ghost use Rattle.std.specs.Prelude.{◌≡◌, ◌≢◌, ◌<◌, ◌^◌, length, false, map, nat_eq, Err, IsTrue, IfOk, IfErr, OnOk};
+ghost use Rattle.std.specs.Prelude.{◌≡◌, ◌≢◌, false, nat_eq, Err, IsTrue, IfOk, IfErr, OnOk};
 ghost use Rattle.std.specs.Io.KnownBytes.{Appends};
 ghost use Rattle.sqlite.specs.State.{HasCleanDisk, IsUnchanged, Survives};
 ghost use Rattle.sqlite.specs.Held.{state};
@@ -8,54 +8,19 @@ ghost use Rattle.tb_tables.specs.Layout.{desk_schema};
 ghost use Rattle.tb_tables.specs.Records.{Tables};
 ghost use Rattle.tb_tables.specs.Changes.{Holds};
 ghost use Rattle.tb_core.specs.Machine.{Machine};
-ghost use Rattle.tb_standing.specs.Standing.{IsDesk, sentence_record};
-ghost use Rattle.tb_reading.specs.Streams.{head_of};
-ghost use Rattle.tb_search.specs.Released.{released, in_batch, current_text, IsCutShort, is_released as is_in_release};
+ghost use Rattle.tb_standing.specs.Standing.{IsDesk};
+ghost use Rattle.tb_search.specs.Released.{released, in_batch, current_text, IsCutShort};
 ghost use Rattle.tb_search.specs.Picked.{picks_from};
 
-use crate::picks::{Pick, picks_of, released_of};
+use crate::copying::Copying;
+use crate::picks::{Pick, picks_of};
+use crate::released::visit_released;
 use crate::stopped::Stopped;
-use crate::walk::put_picked;
+use crate::walk::visit_picked;
 use sqlite::{Alter, Connection};
 use std::alloc::Global;
 use tb_conllu::Sink;
-use tb_reading::{Head, ReadError};
 use tb_standing::desk_rows_are_readable;
-
-/// The current revisions of released sentences, where batch and current revision of each sentence are at hand.
-fn released_among<S: Alter>(
-    alloc: Global,
-    conn: &mut Connection<S>,
-    heads: &[Head],
-) -> Result<Vec<Pick>, Stopped>
-    requires { length heads.now < 2 ^ 32 }
-    ensures picked { HasCleanDisk (state S.Store conn.new) → IfOk result (λ v. (s : Machine) → IsDesk S.Store conn.old s → heads.now ≡ map head_of (map sentence_record s.sentences) → v.items ≡ picks_from (is_in_release s.batches) 1 s.sentences) }
-    ensures refused { result ≢ Err Stopped.Output }
-    ensures same { HasCleanDisk (state S.Store conn.new) → OnOk result ((state S.Store conn.old).now.schema ≡ desk_schema → IsUnchanged (state S.Store conn.old) (state S.Store conn.new)) }
-    ensures mode { conn.old.in_transaction ≡ false → conn.new.in_transaction ≡ false }
-    ensures kept { HasCleanDisk (state S.Store conn.new) → IsTrue (state S.Store conn.new).is_open → (d : Tables) → Holds S.Store conn.old d → Holds S.Store conn.new d }
-    ensures lasts { Survives (state S.Store conn.old) (state S.Store conn.new) (λ _. (state S.Store conn.old).now.schema ≢ desk_schema) }
-{
-    let batches = tb_reading::batches(alloc, conn)?;
-    let pulled = tb_reading::pulled(alloc, conn)?;
-    released_of(alloc, batches.as_slice(), pulled.as_slice(), heads)
-}
-
-/// The current revisions of released sentences, by number.
-fn released_picks<S: Alter>(alloc: Global, conn: &mut Connection<S>) -> Result<Vec<Pick>, Stopped>
-    ensures picked { HasCleanDisk (state S.Store conn.new) → IfOk result (λ v. (s : Machine) → IsDesk S.Store conn.old s → v.items ≡ picks_from (is_in_release s.batches) 1 s.sentences) }
-    ensures refused { result ≢ Err Stopped.Output }
-    ensures same { HasCleanDisk (state S.Store conn.new) → OnOk result ((state S.Store conn.old).now.schema ≡ desk_schema → IsUnchanged (state S.Store conn.old) (state S.Store conn.new)) }
-    ensures mode { conn.old.in_transaction ≡ false → conn.new.in_transaction ≡ false }
-    ensures kept { HasCleanDisk (state S.Store conn.new) → IsTrue (state S.Store conn.new).is_open → (d : Tables) → Holds S.Store conn.old d → Holds S.Store conn.new d }
-    ensures survives { (state S.Store conn.old).now.schema ≡ desk_schema → Survives (state S.Store conn.old) (state S.Store conn.new) (λ _. ⊥) }
-{
-    let heads = tb_reading::heads(alloc, conn)?;
-    if heads.len() > u32::MAX as usize {
-        return Err(Stopped::Read(ReadError::Form));
-    }
-    released_among(alloc, conn, heads.as_slice())
-}
 
 /// The current revisions of the sentences of a batch, by number.
 fn batch_picks<S: Alter>(
@@ -91,9 +56,7 @@ pub fn export_released<S: Alter, W: Sink>(
     ensures kept { HasCleanDisk (state S.Store conn.new) → IsTrue (state S.Store conn.new).is_open → (d : Tables) → Holds S.Store conn.old d → Holds S.Store conn.new d }
     ensures survives { (state S.Store conn.old).now.schema ≡ desk_schema → Survives (state S.Store conn.old) (state S.Store conn.new) (λ _. ⊥) }
 {
-    desk_rows_are_readable();
-    let picks = released_picks(alloc, conn)?;
-    put_picked(conn, picks.as_slice(), out)
+    visit_released(alloc, conn, &mut Copying, out)
 }
 
 /// Puts the text of all sentences of the batch with this number, pulled ones too, as `export_released` does.
@@ -115,5 +78,5 @@ pub fn export_numbered<S: Alter, W: Sink>(
 {
     desk_rows_are_readable();
     let picks = batch_picks(alloc, conn, batch)?;
-    put_picked(conn, picks.as_slice(), out)
+    visit_picked(conn, picks.as_slice(), &mut Copying, out)
 }

@@ -1,7 +1,8 @@
 //! Why a walk over the sentences of a desk ends early.
 
 use sqlite::{Error, ErrorCode};
-use std::alloc::AllocFailed;
+use std::alloc::{AllocError, AllocFailed};
+use tb_conllu::ReadFault;
 use tb_reading::ReadError;
 
 /// Why a walk ends early.
@@ -24,6 +25,39 @@ impl<T: Drop> From<AllocFailed<T>> for Stopped {
 
     fn from(_: AllocFailed<T>) -> Stopped {
         Stopped::Read(ReadError::Store(Error::SqliteFailure(ErrorCode::OutOfMemory)))
+    }
+}
+
+impl From<AllocError> for Stopped {
+    ghost use Rattle.std.specs.Prelude.{◌≡◌};
+    ghost use Rattle.sqlite.specs.declared.error.Error.TheVariants.{SqliteFailure};
+    ghost use Rattle.sqlite.specs.declared.error.ErrorCode.TheVariants.{OutOfMemory};
+    ghost use Rattle.tb_reading.specs.declared.error.ReadError.TheVariants.{Store};
+    ghost use Rattle.tb_search.specs.declared.stopped.Stopped.TheVariants.{Read};
+
+    ghost from_gives = { λ _ e. e ≡ Read (Store (SqliteFailure OutOfMemory)) };
+
+    fn from(_: AllocError) -> Stopped {
+        Stopped::Read(ReadError::Store(Error::SqliteFailure(ErrorCode::OutOfMemory)))
+    }
+}
+
+impl From<ReadFault> for Stopped {
+    ghost use Rattle.std.specs.Prelude.{◌≡◌, ◌⊎◌};
+    ghost use Rattle.sqlite.specs.declared.error.Error.TheVariants.{SqliteFailure};
+    ghost use Rattle.sqlite.specs.declared.error.ErrorCode.TheVariants.{OutOfMemory};
+    ghost use Rattle.tb_reading.specs.declared.error.ReadError.TheVariants.{Store, Form};
+    ghost use Rattle.tb_search.specs.declared.stopped.Stopped.TheVariants.{Read};
+
+    ghost from_gives = { λ _ e. (e ≡ Read (Store (SqliteFailure OutOfMemory))) ⊎ (e ≡ Read Form) };
+
+    fn from(fault: ReadFault) -> Stopped {
+        match fault {
+            ReadFault::Memory => {
+                Stopped::Read(ReadError::Store(Error::SqliteFailure(ErrorCode::OutOfMemory)))
+            }
+            ReadFault::At { .. } => Stopped::Read(ReadError::Form),
+        }
     }
 }
 

@@ -1,20 +1,10 @@
-use Rattle.std.proofs.Common.{◌≡◌, ◌∙◌, rules, arith}
-use Rattle.sqlite.specs.Held.{state}
-use Rattle.sqlite.specs.State.{HasCleanDisk}
-use Rattle.tb_search.specs.Released.{is_released}
-use Rattle.tb_search.proofs.Put.{if_put, if_cut, desk_same, put_whole, put_part}
+use Rattle.tb_search.specs.Released.{released}
+use Rattle.tb_search.proofs.Copied.{all_copied, cut_short}
+use Rattle.tb_search.proofs.Visiting.{if_put, if_cut}
 use Rattle.tb_search.proofs.export.export_released.Goals as goal
 
 pub returns-clause-put : goal.returns-clause-put
-returns-clause-put g c clean = if_put c.put_picked.result (λ told s desk.
-    let mid : HasCleanDisk (state g.S.Store c.released_picks.new.conn) = omega (arith, clean, c.put_picked.ensures.lasts.clean) in
-    let still = desk_same g.S.Store c.args.conn.now c.released_picks.new.conn s desk (c.in_ok-picks.ensures.same mid desk.holds.schema) in
-    let picks : c.as_slice.result.now ≡ c.in_ok-picks.picks.items = search rules in
-    put_whole g.S.Store c.released_picks.new.conn s (is_released s.batches) c.as_slice.result.now (picks ∙ c.in_ok-picks.ensures.picked mid s desk) still (c.desk_rows_are_readable.ensures s desk.reachable) (g.W.Sink.held c.args.out.now) (g.W.Sink.held c.put_picked.new.out) told) (c.put_picked.ensures.put clean)
+returns-clause-put g c clean = if_put c.visit_released.result (λ told s desk. all_copied g.W.Sink.held (released s) _ c.args.out.now _ c.visit_released.new.filled (told s desk)) (c.visit_released.ensures.taken clean)
 
 pub returns-clause-part : goal.returns-clause-part
-returns-clause-part g c clean = if_cut c.put_picked.result (λ e told s desk.
-    let mid : HasCleanDisk (state g.S.Store c.released_picks.new.conn) = omega (arith, clean, c.put_picked.ensures.lasts.clean) in
-    let still = desk_same g.S.Store c.args.conn.now c.released_picks.new.conn s desk (c.in_ok-picks.ensures.same mid desk.holds.schema) in
-    let picks : c.as_slice.result.now ≡ c.in_ok-picks.picks.items = search rules in
-    put_part g.S.Store c.released_picks.new.conn s (is_released s.batches) c.as_slice.result.now (picks ∙ c.in_ok-picks.ensures.picked mid s desk) still (c.desk_rows_are_readable.ensures s desk.reachable) (g.W.Sink.held c.args.out.now) (g.W.Sink.held c.put_picked.new.out) e told) (c.put_picked.ensures.part clean)
+returns-clause-part g c clean = if_cut c.visit_released.result (λ e told s desk. cut_short g.W.Sink.held (released s) _ c.args.out.now e c.visit_released.new.filled (told s desk)) (c.visit_released.ensures.halted clean)

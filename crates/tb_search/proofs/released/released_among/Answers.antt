@@ -8,8 +8,8 @@ use Rattle.tb_standing.specs.Standing.{batch_record}
 use Rattle.tb_reading.proofs.Shown.{if_ok}
 use Rattle.tb_search.proofs.OneList.{one_list, same_batch}
 use Rattle.tb_search.proofs.Rises.{pulled_rise}
-use Rattle.tb_search.proofs.Put.{desk_same, lasts_then}
-use Rattle.tb_search.proofs.export.released_among.Goals as goal
+use Rattle.tb_search.proofs.Visiting.{desk_same, lasts_then}
+use Rattle.tb_search.proofs.released.released_among.Goals as goal
 
 pub returns-in_err-pulled-clause-lasts : goal.returns-in_err-pulled-clause-lasts
 returns-in_err-pulled-clause-lasts g c = lasts_then g.S.Store c.args.conn.now c.batches.new.conn c.pulled.new.conn c.in_ok-batches.ensures.same c.batches.ensures.lasts c.pulled.ensures.lasts

@@ -6,18 +6,16 @@ use Rattle.sqlite.specs.Held.{state}
 use Rattle.sqlite.proofs.StateLemmas.{survives_then, survives_weaker}
 use Rattle.sqlite.proofs.Callers.{unchanged_then}
 use Rattle.tb_tables.specs.Layout.{desk_schema}
-use Rattle.sqlite.specs.declared.error.Error.TheVariants.{SqliteFailure}
-use Rattle.sqlite.specs.declared.error.ErrorCode.TheVariants.{TooBig}
-use Rattle.tb_reading.specs.declared.error.ReadError.TheVariants.{Store}
-use Rattle.tb_search.proofs.Walking.{walk_starts, none_left, some_put, one_more, one_refused, err_cut}
-use Rattle.tb_search.proofs.walk.put_picked.Goals as goal
+use Rattle.tb_search.specs.Picked.{picked, bodies}
+use Rattle.tb_search.proofs.Walking.{walk_starts, halts_here, none_left, some_taken, one_more, one_stopped, err_is}
+use Rattle.tb_search.proofs.walk.visit_picked.Goals as goal
 
 -- ---- one turn
 
 pub rows-init : goal.rows-init
 rows-init g c =
     let made = c.in_ok-rows.ensures in
-    (refl, made.mode, made.lasts, made.same, (λ clean has xs each rises shows. walk_starts g.S.Store _ c.args.picks.now (g.W.Sink.held c.args.out.now) xs (made.ok clean has xs each rises shows)))
+    (refl, made.mode, made.lasts, made.same, (λ clean has xs each rises shows. walk_starts g.S.Store g.V.Visitor.Takes _ c.args.picks.now c.args.visitor.now c.args.filled.now xs (made.ok clean has xs each rises shows)))
 
 pub rows-preserved : goal.rows-preserved
 rows-preserved g c =
@@ -29,7 +27,6 @@ rows-preserved g c =
     let inv = c.rows.invariant in
     let picks = c.args.picks.now in
     let next = c.rows.next in
-    let o = g.W.Sink.held c.args.out.now in
     let low : next < length picks = search rules in
     let here = drop_more picks next (record { sent = 0; rev = 0 }) low in (
       moved.same_reference ∙ inv.0,
@@ -39,10 +36,15 @@ rows-preserved g c =
       (λ clean has xs each rises shows.
           let was = inv.4 (omega (arith, clean, moved.survives.clean)) has xs each rises shows in
           let gone = (rw (c.in_ok-body.was, c.in-Some.is) at (moved.ok clean)) was.left was.coming in
-          one_more g.S.Store c.rows.rows.conn.now picks o (g.W.Sink.held c.rows.out) xs conn next (get_or picks next (record { sent = 0; rev = 0 })) c.in-Some.body was here gone (g.W.Sink.held c.put_asked.new.out) _ c.in_ok-next.ensures.put),
+          one_more g.V.Visitor.Takes g.V.Visitor.Stops g.S.Store c.rows.rows.conn.now picks c.args.visitor.now c.args.filled.now c.rows.visitor c.rows.filled xs conn next (get_or picks next (record { sent = 0; rev = 0 })) c.in-Some.body was here gone _ c.visit_asked.new.visitor c.visit_asked.new.filled c.in_ok-next.ensures.taken),
     )
 
 -- ---- what each exit leaves
+
+pub returns-in_err-rows-clause-halted : goal.returns-in_err-rows-clause-halted
+returns-in_err-rows-clause-halted g c clean =
+    let told = err_from_is_err_and c.from_residual.result c.from_residual.ensures.1 in
+    err_is _ _ _ told.0 told.1 told.2 (λ has xs each rises shows. halts_here g.V.Visitor.Takes g.V.Visitor.Stops (bodies (picked c.args.picks.now xs)) c.args.visitor.now c.args.filled.now _)
 
 pub returns-then-next-picks-clause-lasts : goal.returns-then-next-picks-clause-lasts
 returns-then-next-picks-clause-lasts g c =
@@ -77,38 +79,37 @@ returns-clause-lasts g c =
     let here = c.rows.invariant.2 in
     survives_weaker old _ (λ _. old.now.schema ≢ desk_schema) (λ _. old.now.schema ≢ desk_schema) (λ _ db other. other) (search rules)
 
-pub returns-in_default-clause-put : goal.returns-in_default-clause-put
-returns-in_default-clause-put g c clean has xs each rises shows =
+pub returns-in_default-clause-taken : goal.returns-in_default-clause-taken
+returns-in_default-clause-taken g c clean has xs each rises shows =
     let moved = c.next_body.follows.holds-at-none in
     let late : HasCleanDisk (state g.S.Store c.next_body.follows.lender-at-none.conn.now) = search rules in
     let was = c.rows.invariant.4 (omega (arith, moved.survives.clean)) has xs each rises shows in
     let ended = (rw (c.in_ok-body.was, c.in_default.is) at (moved.ok late)) was.left was.coming in
-    none_left g.S.Store c.rows.rows.conn.now c.args.picks.now (g.W.Sink.held c.args.out.now) (g.W.Sink.held c.rows.out) xs c.rows.next was ended
+    none_left g.V.Visitor.Takes g.V.Visitor.Stops g.S.Store c.rows.rows.conn.now c.args.picks.now c.args.visitor.now c.args.filled.now c.rows.visitor c.rows.filled xs c.rows.next was ended
 
-pub returns-in_err-body-clause-part : goal.returns-in_err-body-clause-part
-returns-in_err-body-clause-part g c clean =
+pub returns-in_err-body-clause-halted : goal.returns-in_err-body-clause-halted
+returns-in_err-body-clause-halted g c clean =
     let moved = c.next_body.follows.holds-at-none in
     let late : HasCleanDisk (state g.S.Store c.next_body.follows.lender-at-none.conn.now) = search rules in
     let told = err_from_is_err_and c.from_residual-in_err-body.result c.from_residual-in_err-body.ensures.1 in
-    err_cut _ _ _ told.0 told.1 told.2 (λ has xs each rises shows.
-    some_put g.S.Store c.rows.rows.conn.now c.args.picks.now (g.W.Sink.held c.args.out.now) (g.W.Sink.held c.rows.out) xs c.rows.next c.in_err-body.field-0.0 (c.rows.invariant.4 (omega (arith, moved.survives.clean)) has xs each rises shows))
+    err_is _ _ _ told.0 told.1 told.2 (λ has xs each rises shows.
+    some_taken g.V.Visitor.Takes g.V.Visitor.Stops g.S.Store c.rows.rows.conn.now c.args.picks.now c.args.visitor.now c.args.filled.now c.rows.visitor c.rows.filled xs c.rows.next _ (c.rows.invariant.4 (omega (arith, moved.survives.clean)) has xs each rises shows))
 
-pub returns-in_err-next-clause-part : goal.returns-in_err-next-clause-part
-returns-in_err-next-clause-part g c clean =
+pub returns-in_err-next-clause-halted : goal.returns-in_err-next-clause-halted
+returns-in_err-next-clause-halted g c clean =
     let moved = c.next_body.follows.holds-at-none in
     let late : HasCleanDisk (state g.S.Store c.next_body.follows.lender-at-none.conn.now) = search rules in
     let told = err_from_is_err_and c.from_residual-in_err-next.result c.from_residual-in_err-next.ensures.1 in
-    let refused = rw c.in_err-next.was at c.put_asked.ensures.refused in
-    let part = rw c.in_err-next.was at c.put_asked.ensures.part in
+    let stopped = rw c.in_err-next.was at c.visit_asked.ensures.stopped in
     let picks = c.args.picks.now in
     let low : c.rows.next < length picks = search rules in
     let here = drop_more picks c.rows.next (record { sent = 0; rev = 0 }) low in
-    err_cut _ _ _ told.0 told.1 (told.2 ∙ refused.0) (λ has xs each rises shows.
+    err_is _ _ _ told.0 told.1 told.2 (λ has xs each rises shows.
     let was = c.rows.invariant.4 (omega (arith, moved.survives.clean)) has xs each rises shows in
     let gone = (rw (c.in_ok-body.was, c.in-Some.is) at (moved.ok late)) was.left was.coming in
-    one_refused g.S.Store c.rows.rows.conn.now picks (g.W.Sink.held c.args.out.now) (g.W.Sink.held c.rows.out) xs c.next_body.follows.lender-at-none.conn.now c.rows.next (get_or picks c.rows.next (record { sent = 0; rev = 0 })) c.in-Some.body was here gone (g.W.Sink.held c.put_asked.new.out) refused.1 part)
+    one_stopped g.V.Visitor.Takes g.V.Visitor.Stops g.S.Store c.rows.rows.conn.now picks c.args.visitor.now c.args.filled.now c.rows.visitor c.rows.filled xs c.next_body.follows.lender-at-none.conn.now c.rows.next (get_or picks c.rows.next (record { sent = 0; rev = 0 })) c.in-Some.body was here gone _ c.visit_asked.new.filled stopped.0 stopped.1)
 
-pub returns-clause-part : goal.returns-clause-part
-returns-clause-part g c clean has xs each rises shows =
+pub returns-clause-halted : goal.returns-clause-halted
+returns-clause-halted g c clean has xs each rises shows =
     let late : HasCleanDisk (state g.S.Store c.rows.rows.conn.now) = search rules in
-    some_put g.S.Store c.rows.rows.conn.now c.args.picks.now (g.W.Sink.held c.args.out.now) (g.W.Sink.held c.rows.out) xs c.rows.next (Store (SqliteFailure TooBig)) (c.rows.invariant.4 late has xs each rises shows)
+    some_taken g.V.Visitor.Takes g.V.Visitor.Stops g.S.Store c.rows.rows.conn.now c.args.picks.now c.args.visitor.now c.args.filled.now c.rows.visitor c.rows.filled xs c.rows.next _ (c.rows.invariant.4 late has xs each rises shows)

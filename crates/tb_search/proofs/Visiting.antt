@@ -1,6 +1,5 @@
--- What is put of the sentences that are wanted, where the tables stand for a desk.
-use Rattle.std.proofs.Common.{◌≡◌, ◌≢◌, List, map, filter, Bool, Option, Result, Ok, Err, OnOk, IfErr, ℕ, ap, subst, ◌∙◌, arith}
-use Rattle.std.specs.Io.KnownBytes.{Appends}
+-- What is visited of the sentences that are wanted, where the tables stand for a desk.
+use Rattle.std.proofs.Common.{◌≡◌, ◌≢◌, List, map, filter, Bool, Result, Ok, Err, OnOk, IfErr, ap, subst, ◌∙◌, arith}
 use Rattle.sqlite.specs.Store.{Ghosts}
 use Rattle.sqlite.specs.Effect.{Database}
 use Rattle.sqlite.specs.Held.{Held, state}
@@ -18,9 +17,9 @@ use Rattle.tb_reading.specs.Readable.{IsRevision, ComesBefore}
 use Rattle.tb_reading.proofs.Staying.{unchanged_holds}
 use Rattle.tb_search.specs.declared.picks.Pick.{Pick}
 use Rattle.tb_search.specs.declared.stopped.Stopped.{Stopped}
-use Rattle.tb_search.specs.Picked.{picked, bodies, IsCut, picks_from}
-use Rattle.tb_search.specs.Released.{current_text, IsCutShort}
-use Rattle.tb_search.proofs.Asked.{currents, text_is, cut_is}
+use Rattle.tb_search.specs.Picked.{picked, bodies, picks_from}
+use Rattle.tb_search.specs.Visited.{Taking, Stopping, AllTaken, Halted, texts}
+use Rattle.tb_search.proofs.Asked.{currents}
 use Rattle.tb_search.proofs.Rises.{revisions_rise, revisions_fit}
 
 pub if_put : {X Y : Type 0} (r : Result Unit Stopped) → (X → Y) → OnOk r X → OnOk r Y
@@ -43,15 +42,17 @@ module _ {S : Type 0} (g : Ghosts S) where
       → Survives (state g a) (state g c) (λ _. (state g a).now.schema ≢ desk_schema)
   lasts_then a b c same one two = survives_then (state g a) (state g b) (state g c) _ _ _ (λ _ _ other. other) (λ clean _ other has. other (ap (λ (d : Database). d.schema) (same (omega (arith, clean, two.clean)) has).0.now_is ∙ has)) one two
 
-  module _ (c : Held S) (s : Machine) (wanted : Sentence → Bool) (picks : List Pick) (is : picks ≡ picks_from wanted 1 s.sentences) (desk : IsDesk g c s) (readable : IsReadable (tables_of s)) (o a : Option (List ℕ)) where
-    pub put_whole : ((state g c).now.schema ≡ desk_schema → (xs : List Revision) → All IsRevision xs → IsAscending ComesBefore xs → Shows revision_view (map revision_shown xs) ((state g c).now.trees 5) → Appends o a (bodies (picked picks xs)))
-        → Appends o a (current_text (filter wanted s.sentences))
-    put_whole told =
-        let got = told desk.holds.schema (rows_of s) (revisions_fit (rows_of s) readable.revisions) (revisions_rise 1 s.sentences) desk.holds.stands.revisions in
-        subst (Appends o a) (ap (λ ps. bodies (picked ps (rows_of s))) is ∙ text_is (picked (picks_from wanted 1 s.sentences) (rows_of s)) (filter wanted s.sentences) (currents wanted 1 s.sentences)) got
+  module _ {V O : Type 0} (takes : Taking V O) (stops : Stopping V O) (c : Held S) (s : Machine) (wanted : Sentence → Bool) (picks : List Pick) (is : picks ≡ picks_from wanted 1 s.sentences) (desk : IsDesk g c s) (readable : IsReadable (tables_of s)) (v : V) (o : O) where
+    asked_are : bodies (picked picks (rows_of s)) ≡ texts (filter wanted s.sentences)
+    asked_are = ap (λ ps. bodies (picked ps (rows_of s))) is ∙ currents wanted 1 s.sentences
 
-    pub put_part : (e : Stopped) → ((state g c).now.schema ≡ desk_schema → (xs : List Revision) → All IsRevision xs → IsAscending ComesBefore xs → Shows revision_view (map revision_shown xs) ((state g c).now.trees 5) → IsCut e o a (picked picks xs))
-        → IsCutShort e o a (filter wanted s.sentences)
-    put_part e told =
-        let got = told desk.holds.schema (rows_of s) (revisions_fit (rows_of s) readable.revisions) (revisions_rise 1 s.sentences) desk.holds.stands.revisions in
-        cut_is e o a (picked (picks_from wanted 1 s.sentences) (rows_of s)) (filter wanted s.sentences) (currents wanted 1 s.sentences) (subst (λ ps. IsCut e o a (picked ps (rows_of s))) is got)
+    -- what is visited are the texts of the sentences that are wanted
+    pub all_visited : (w : V) (q : O) → ((state g c).now.schema ≡ desk_schema → (xs : List Revision) → All IsRevision xs → IsAscending ComesBefore xs → Shows revision_view (map revision_shown xs) ((state g c).now.trees 5) → AllTaken takes v o (bodies (picked picks xs)) w q)
+        → AllTaken takes v o (texts (filter wanted s.sentences)) w q
+    all_visited w q told =
+        subst (λ ts. AllTaken takes v o ts w q) asked_are (told desk.holds.schema (rows_of s) (revisions_fit (rows_of s) readable.revisions) (revisions_rise 1 s.sentences) desk.holds.stands.revisions)
+
+    pub some_visited : (e : Stopped) (q : O) → ((state g c).now.schema ≡ desk_schema → (xs : List Revision) → All IsRevision xs → IsAscending ComesBefore xs → Shows revision_view (map revision_shown xs) ((state g c).now.trees 5) → Halted takes stops v o (bodies (picked picks xs)) e q)
+        → Halted takes stops v o (texts (filter wanted s.sentences)) e q
+    some_visited e q told =
+        subst (λ ts. Halted takes stops v o ts e q) asked_are (told desk.holds.schema (rows_of s) (revisions_fit (rows_of s) readable.revisions) (revisions_rise 1 s.sentences) desk.holds.stands.revisions)

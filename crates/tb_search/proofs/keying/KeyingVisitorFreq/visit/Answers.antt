@@ -1,0 +1,24 @@
+use Rattle.std.proofs.Common.{◌≡◌, ◌++◌, map, sym, ap, subst, ◌∙◌, rules}
+use Rattle.tb_conllu.specs.Text.{BlockText}
+use Rattle.tb_query.specs.Search.{AreHitsIn}
+use Rattle.tb_report.specs.Keywords.{key_of}
+use Rattle.tb_report.specs.Tables.{IsTableOf}
+use Rattle.tb_search.specs.declared.seeker.Seeker.{Seeker}
+use Rattle.tb_search.specs.declared.keying.Keying.{Keying}
+use Rattle.tb_search.proofs.Found.{keys_are}
+use Rattle.tb_search.proofs.Visiting.{if_put}
+use Rattle.tb_search.proofs.keying.KeyingVisitorFreq.visit.Goals as goal
+
+pub returns-clause-taken : goal.returns-clause-taken
+returns-clause-taken c = if_put c.count_hits.result (λ told b is.
+    let v : Keying = c.args.self.now in
+    let hits = c.in_ok-hits.hits.items in
+    let same : c.in_ok-block.block ≡ b = c.in_ok-block.ensures b is in
+    let listed : c.as_slice.result.now ≡ hits = search rules in (
+      hits,
+      subst (λ (x : BlockText). AreHitsIn v.seeker.strategy v.seeker.searcher x hits) same c.in_ok-hits.ensures.hits,
+      (
+        ap (λ (s : Seeker). record { seeker = s; column = v.column }) c.hits.ensures.same,
+        λ ks are. subst (λ l. IsTableOf (ks ++ l) c.count_hits.new.table) (ap (map (key_of v.column c.in_ok-block.block)) listed ∙ ap (λ (x : BlockText). map (key_of v.column x) hits) same ∙ sym (keys_are v.column b hits)) (told ks are),
+      ),
+    )) c.count_hits.ensures

@@ -1,0 +1,28 @@
+use Rattle.std.proofs.Common.{◌≡◌, ◌∙◌, rules, arith}
+use Rattle.std.proofs.lemmas.Result.{err_from_is_err_and}
+use Rattle.sqlite.specs.Held.{state}
+use Rattle.sqlite.specs.State.{HasCleanDisk}
+use Rattle.tb_search.specs.Released.{is_released, released}
+use Rattle.tb_search.specs.Visited.{texts}
+use Rattle.tb_search.proofs.Visiting.{if_put, if_cut, desk_same, all_visited, some_visited}
+use Rattle.tb_search.proofs.Walking.{halts_here, err_is}
+use Rattle.tb_search.proofs.released.visit_released.Goals as goal
+
+pub returns-clause-taken : goal.returns-clause-taken
+returns-clause-taken g c clean = if_put c.visit_picked.result (λ told s desk.
+    let mid : HasCleanDisk (state g.S.Store c.released_picks.new.conn) = omega (arith, clean, c.visit_picked.ensures.lasts.clean) in
+    let still = desk_same g.S.Store c.args.conn.now c.released_picks.new.conn s desk (c.in_ok-picks.ensures.same mid desk.holds.schema) in
+    let picks : c.as_slice.result.now ≡ c.in_ok-picks.picks.items = search rules in
+    all_visited g.S.Store g.V.Visitor.Takes g.V.Visitor.Stops c.released_picks.new.conn s (is_released s.batches) c.as_slice.result.now (picks ∙ c.in_ok-picks.ensures.picked mid s desk) still (c.desk_rows_are_readable.ensures s desk.reachable) c.args.visitor.now c.args.filled.now _ c.visit_picked.new.filled told) (c.visit_picked.ensures.taken clean)
+
+pub returns-clause-halted : goal.returns-clause-halted
+returns-clause-halted g c clean = if_cut c.visit_picked.result (λ e told s desk.
+    let mid : HasCleanDisk (state g.S.Store c.released_picks.new.conn) = omega (arith, clean, c.visit_picked.ensures.lasts.clean) in
+    let still = desk_same g.S.Store c.args.conn.now c.released_picks.new.conn s desk (c.in_ok-picks.ensures.same mid desk.holds.schema) in
+    let picks : c.as_slice.result.now ≡ c.in_ok-picks.picks.items = search rules in
+    some_visited g.S.Store g.V.Visitor.Takes g.V.Visitor.Stops c.released_picks.new.conn s (is_released s.batches) c.as_slice.result.now (picks ∙ c.in_ok-picks.ensures.picked mid s desk) still (c.desk_rows_are_readable.ensures s desk.reachable) c.args.visitor.now c.args.filled.now e c.visit_picked.new.filled told) (c.visit_picked.ensures.halted clean)
+
+pub returns-in_err-picks-clause-halted : goal.returns-in_err-picks-clause-halted
+returns-in_err-picks-clause-halted g c clean =
+    let told = err_from_is_err_and c.from_residual.result c.from_residual.ensures.1 in
+    err_is _ _ _ told.0 told.1 told.2 (λ s desk. halts_here g.V.Visitor.Takes g.V.Visitor.Stops (texts (released s)) c.args.visitor.now c.args.filled.now _)

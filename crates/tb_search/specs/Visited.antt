@@ -1,0 +1,27 @@
+-- Texts that are visited one after the other.
+use Rattle.std.specs.Prelude.{◌≡◌, ℕ, List, [], ◌∷◌, ◌⊎◌, map}
+use Rattle.tb_conllu.specs.Text.{text_of}
+use Rattle.tb_core.specs.Machine.{Sentence}
+use Rattle.tb_search.specs.declared.stopped.Stopped.{Stopped}
+
+-- the texts of the current revisions of sentences
+abbrev pub texts : List Sentence → List (List ℕ)
+texts xs = map (λ (x : Sentence). text_of (x.current.body ∷ [])) xs
+
+-- what a text makes of a visitor and of what it fills
+abbrev pub Taking : Type 0 → Type 0 → Type 1
+Taking V O = V → O → List ℕ → V → O → Type 0
+
+-- what is left where the walk stops at a text
+abbrev pub Stopping : Type 0 → Type 0 → Type 1
+Stopping V O = V → O → List ℕ → Stopped → O → Type 0
+
+-- all of them were taken
+abbrev pub AllTaken : {V O : Type 0} → Taking V O → V → O → List (List ℕ) → V → O → Type 0
+AllTaken takes v o [] w q = (w ≡ v) × (q ≡ o)
+AllTaken {V} {O} takes v o (t ∷ ts) w q = (u : V) × (p : O) × takes v o t u p × AllTaken takes u p ts w q
+
+-- the walk ended before the first of them, at it, or after it; or after the last
+abbrev pub Halted : {V O : Type 0} → Taking V O → Stopping V O → V → O → List (List ℕ) → Stopped → O → Type 0
+Halted takes stops v o [] e q = q ≡ o
+Halted {V} {O} takes stops v o (t ∷ ts) e q = (q ≡ o) ⊎ stops v o t e q ⊎ ((u : V) × (p : O) × takes v o t u p × Halted takes stops u p ts e q)

@@ -1,0 +1,78 @@
+//! Keys of hits that are counted.
+
+ghost use Rattle.std.specs.Prelude.{◌≡◌, ◌<◌, ◌≤◌, ◌++◌, ◌∷◌, [], ℕ, All, List, OnOk, map};
+ghost use Rattle.tb_conllu.specs.Words.{words_of};
+ghost use Rattle.tb_report.specs.Keywords.{key_of};
+ghost use Rattle.tb_report.specs.Tables.{IsTableOf};
+ghost use Rattle.tb_query.specs.Search.{Asked, AreHitsIn};
+
+use crate::seeker::{Seeker, sentence_in};
+use crate::stopped::Stopped;
+use crate::visitor::Visitor;
+use sqlite::{Error, ErrorCode};
+use std::alloc::Global;
+use tb_conllu::BlockRef;
+use tb_query::Attr;
+use tb_reading::ReadError;
+use tb_report::{Freq, key};
+
+/// Counts the key of one hit.
+fn count_hit(
+    alloc: Global,
+    block: &BlockRef<'_>,
+    hit: (u32, u32),
+    column: Attr,
+    table: &mut Freq,
+) -> Result<(), Stopped>
+    requires first { hit.0 < hit.1 }
+    requires last { hit.1 ≤ words_of block.now }
+    ensures { OnOk result ((keys : List (List ℕ)) → IsTableOf keys table.old → IsTableOf (keys ++ key_of column block.now hit ∷ []) table.new) }
+{
+    if table.total() == u64::MAX {
+        return Err(Stopped::Read(ReadError::Store(Error::SqliteFailure(ErrorCode::TooBig))));
+    }
+    let key = key(alloc, block, hit, column)?;
+    table.add(key.as_str())?;
+    Ok(())
+}
+
+/// Counts the keys of the hits of a sentence.
+fn count_hits(
+    alloc: Global,
+    block: &BlockRef<'_>,
+    hits: &[(u32, u32)],
+    column: Attr,
+    table: &mut Freq,
+) -> Result<(), Stopped>
+    requires { All (λ h. (h.0 < h.1) × (h.1 ≤ words_of block.now)) hits.now }
+    ensures { OnOk result ((keys : List (List ℕ)) → IsTableOf keys table.old → IsTableOf (keys ++ map (key_of column block.now) hits.now) table.new) }
+{
+    for hit in hits {
+        count_hit(alloc, block, *hit, column, table)?;
+    }
+    Ok(())
+}
+
+/// Counts the keys of the hits of a query.
+#[derive(Drop)]
+pub(crate) struct Keying<'q> {
+    pub seeker: Seeker<'q>,
+    pub column: Attr,
+}
+
+impl<'q> Visitor<Freq> for Keying<'q> {
+    ghost use Rattle.std.specs.Prelude.{◌≡◌, ◌++◌, ℕ, List};
+    ghost use Rattle.tb_report.specs.Tables.{IsTableOf};
+    ghost use Rattle.tb_search.specs.Searched.{Meets, keys as keys_of};
+
+    ghost Takes = { λ v o body w p. Meets v.seeker.strategy v.seeker.searcher body (λ found. (w ≡ v) × ((keys : List (List ℕ)) → IsTableOf keys o → IsTableOf (keys ++ keys_of v.column found) p)) };
+
+    ghost Stops = { λ _ _ _ _ _. Unit {0} };
+
+    fn visit(&mut self, body: &[u8], filled: &mut Freq) -> Result<(), Stopped> {
+        let alloc = self.seeker.alloc;
+        let block = sentence_in(alloc, body)?;
+        let hits = self.seeker.hits(&block)?;
+        count_hits(alloc, &block, hits.as_slice(), self.column, filled)
+    }
+}

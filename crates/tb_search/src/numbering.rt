@@ -1,0 +1,29 @@
+//! Hits that are counted.
+
+ghost use Rattle.std.specs.Prelude.{◌≡◌};
+
+use crate::seeker::{Seeker, raised, sentence_in};
+use crate::stopped::Stopped;
+use crate::visitor::Visitor;
+
+/// Counts the hits of a query.
+#[derive(Drop)]
+pub(crate) struct Numbering<'q> {
+    pub seeker: Seeker<'q>,
+}
+
+impl<'q> Visitor<u64> for Numbering<'q> {
+    ghost use Rattle.std.specs.Prelude.{◌≡◌, ◌+◌, length};
+    ghost use Rattle.tb_search.specs.Searched.{Meets};
+
+    ghost Takes = { λ v o body w p. Meets v.seeker.strategy v.seeker.searcher body (λ found. (w ≡ v) × (p ≡ o + length found)) };
+
+    ghost Stops = { λ _ _ _ _ _. Unit {0} };
+
+    fn visit(&mut self, body: &[u8], filled: &mut u64) -> Result<(), Stopped> {
+        let block = sentence_in(self.seeker.alloc, body)?;
+        let hits = self.seeker.hits(&block)?;
+        *filled = raised(*filled, hits.len())?;
+        Ok(())
+    }
+}

@@ -1,0 +1,121 @@
+//! What is found in released text: its keyword lines, the table of its keys, its number.
+
+ghost use Rattle.std.specs.Prelude.{◌≡◌, ℕ, List, length, false, IsTrue, IfOk, IfErr};
+ghost use Rattle.std.specs.Io.KnownBytes.{Appends};
+ghost use Rattle.sqlite.specs.State.{HasCleanDisk, Survives};
+ghost use Rattle.sqlite.specs.Held.{state};
+ghost use Rattle.tb_conllu.specs.Text.{BlockText};
+ghost use Rattle.tb_match.specs.declared.strategy.Strategy.{Strategy as AnyStrategy};
+ghost use Rattle.tb_query.specs.Search.{Asked};
+ghost use Rattle.tb_tables.specs.Layout.{desk_schema};
+ghost use Rattle.tb_tables.specs.Records.{Tables};
+ghost use Rattle.tb_tables.specs.Changes.{Holds};
+ghost use Rattle.tb_core.specs.Machine.{Machine};
+ghost use Rattle.tb_standing.specs.Standing.{IsDesk};
+ghost use Rattle.tb_report.specs.Tables.{IsTableOf};
+ghost use Rattle.tb_search.specs.Searched.{AreFound, IsBrokenOff, Occurrence, answer, keys, searched};
+
+use crate::keying::Keying;
+use crate::listing::{Listing, put_total};
+use crate::numbering::Numbering;
+use crate::released::visit_released;
+use crate::seeker::Seeker;
+use crate::stopped::Stopped;
+use sqlite::{Alter, Connection};
+use std::alloc::Global;
+use tb_conllu::Sink;
+use tb_core::revisions_read_back;
+use tb_match::Strategy;
+use tb_query::{Attr, Query};
+use tb_report::Freq;
+
+/// How many hits a query has in released text: in the current revisions of the sentences that are released. One sentence is in
+/// memory at a time. Whatever it answers, the desk stays as it was.
+///
+/// # Errors
+///
+/// The tables could not be read, or memory was wanting.
+pub fn number_released<S: Alter>(
+    alloc: Global,
+    conn: &mut Connection<S>,
+    query: &Query,
+    strategy: Strategy,
+) -> Result<u64, Stopped>
+    ensures answered { HasCleanDisk (state S.Store conn.new) → IfOk result (λ n. (s : Machine) → IsDesk S.Store conn.old s → (found : List Occurrence) × AreFound strategy query.now (searched s) found × (n ≡ length found)) }
+    ensures mode { conn.old.in_transaction ≡ false → conn.new.in_transaction ≡ false }
+    ensures kept { HasCleanDisk (state S.Store conn.new) → IsTrue (state S.Store conn.new).is_open → (d : Tables) → Holds S.Store conn.old d → Holds S.Store conn.new d }
+    ensures survives { (state S.Store conn.old).now.schema ≡ desk_schema → Survives (state S.Store conn.old) (state S.Store conn.new) (λ _. ⊥) }
+{
+    revisions_read_back();
+    let seeker = Seeker::new(alloc, query, strategy)?;
+    let mut numbering = Numbering { seeker };
+    let mut number = 0;
+    visit_released(alloc, conn, &mut numbering, &mut number)?;
+    Ok(number)
+}
+
+/// The frequency table of the hits of a query in released text: of each hit its values in one column. One sentence is in
+/// memory at a time, beside the table. Whatever it answers, the desk stays as it was.
+///
+/// # Errors
+///
+/// Those of `number_released`.
+pub fn count_released<S: Alter>(
+    alloc: Global,
+    conn: &mut Connection<S>,
+    query: &Query,
+    strategy: Strategy,
+    column: Attr,
+) -> Result<Freq, Stopped>
+    ensures answered { HasCleanDisk (state S.Store conn.new) → IfOk result (λ table. (s : Machine) → IsDesk S.Store conn.old s → (found : List Occurrence) × AreFound strategy query.now (searched s) found × IsTableOf (keys column found) table) }
+    ensures mode { conn.old.in_transaction ≡ false → conn.new.in_transaction ≡ false }
+    ensures kept { HasCleanDisk (state S.Store conn.new) → IsTrue (state S.Store conn.new).is_open → (d : Tables) → Holds S.Store conn.old d → Holds S.Store conn.new d }
+    ensures survives { (state S.Store conn.old).now.schema ≡ desk_schema → Survives (state S.Store conn.old) (state S.Store conn.new) (λ _. ⊥) }
+{
+    revisions_read_back();
+    let seeker = Seeker::new(alloc, query, strategy)?;
+    let mut keying = Keying { seeker, column };
+    let mut table = Freq::new(alloc);
+    visit_released(alloc, conn, &mut keying, &mut table)?;
+    Ok(table)
+}
+
+/// Puts a keyword line for each hit of a query in released text, with `context` words on each side: by the number of the
+/// sentence, and in a sentence as the strategy lists them; then the line `hits N`, which no keyword line is, so an output
+/// without it is an answer that broke off. Answers how many hits there are. One sentence is in memory at a time. Whatever it
+/// answers, the desk stays as it was.
+///
+/// # Errors
+///
+/// `Output`, where the sink refuses a piece: it may hold a first part of the answer then. After any other it holds whole
+/// keyword lines, those of the first hits.
+pub fn search_released<S: Alter, W: Sink>(
+    alloc: Global,
+    conn: &mut Connection<S>,
+    query: &Query,
+    strategy: Strategy,
+    context: u8,
+    out: &mut W,
+) -> Result<u64, Stopped>
+    ensures answered { HasCleanDisk (state S.Store conn.new) → IfOk result (λ n. (s : Machine) → IsDesk S.Store conn.old s → (found : List Occurrence) × AreFound strategy query.now (searched s) found × (n ≡ length found) × Appends (W.held out.old) (W.held out.new) (answer context found)) }
+    ensures broken { HasCleanDisk (state S.Store conn.new) → IfErr result (λ e. (s : Machine) → IsDesk S.Store conn.old s → (found : List Occurrence) → AreFound strategy query.now (searched s) found → IsBrokenOff e (W.held out.old) (W.held out.new) context found) }
+    ensures mode { conn.old.in_transaction ≡ false → conn.new.in_transaction ≡ false }
+    ensures kept { HasCleanDisk (state S.Store conn.new) → IsTrue (state S.Store conn.new).is_open → (d : Tables) → Holds S.Store conn.old d → Holds S.Store conn.new d }
+    ensures survives { (state S.Store conn.old).now.schema ≡ desk_schema → Survives (state S.Store conn.old) (state S.Store conn.new) (λ _. ⊥) }
+{
+    revisions_read_back();
+    let seeker = Seeker::new(alloc, query, strategy)?;
+    let mut listing = Listing {
+        seeker,
+        context,
+        found: 0,
+    };
+    visit_released(alloc, conn, &mut listing, out)?;
+    put_total(listing.found, out)?;
+    Ok(listing.found)
+}
+
+/// What is found in sentences is one list: an answer is fixed by the query, the strategy and the text.
+pub fn one_list_is_found()
+    ensures { (s : AnyStrategy) (q : Asked) (bs : List BlockText) (found others : List Occurrence) → AreFound s q bs found → AreFound s q bs others → found ≡ others }
+{}

@@ -1,0 +1,88 @@
+//! Sentences, read back from their texts, and what is found in them.
+
+ghost use Rattle.std.specs.Prelude.{◌≡◌, ◌<◌, ◌≤◌, ◌+◌, All, IfOk, MatchOption, length, [], ◌∷◌};
+ghost use Rattle.tb_conllu.specs.Text.{BlockText};
+ghost use Rattle.tb_conllu.specs.Told.{IsFile};
+ghost use Rattle.tb_conllu.specs.Words.{words_of};
+ghost use Rattle.tb_query.specs.Search.{AreHitsIn};
+
+use crate::stopped::Stopped;
+use sqlite::{Error, ErrorCode};
+use std::alloc::Global;
+use tb_conllu::{BlockRef, read_ref, words};
+use tb_match::{Found, Strategy};
+use tb_query::{Query, Searcher};
+use tb_reading::ReadError;
+
+/// The sentence, where there is one alone.
+fn only_of<'a>(mut blocks: Vec<BlockRef<'a>>) -> Option<BlockRef<'a>>
+    ensures { MatchOption result (length blocks.entry.items ≡ 1 → ⊥) (λ b. blocks.entry.items ≡ b ∷ []) }
+{
+    let Some(last) = blocks.pop() else {
+        return None;
+    };
+    if !blocks.is_empty() {
+        return None;
+    }
+    Some(last)
+}
+
+/// The sentence of which this is the text. It borrows from the text.
+pub(crate) fn sentence_in<'a>(alloc: Global, body: &'a [u8]) -> Result<BlockRef<'a>, Stopped>
+    ensures { IfOk result (λ b. (x : BlockText) → IsFile body.now (x ∷ []) → b ≡ x) }
+{
+    let blocks = read_ref(alloc, body)?;
+    let Some(block) = only_of(blocks) else {
+        return Err(Stopped::Read(ReadError::Form));
+    };
+    Ok(block)
+}
+
+/// A count and some more.
+pub(crate) fn raised(count: u64, more: usize) -> Result<u64, Stopped>
+    ensures { IfOk result (λ n. n ≡ count + more) }
+{
+    match count.checked_add(more as u64) {
+        Some(sum) => Ok(sum),
+        None => Err(Stopped::Read(ReadError::Store(Error::SqliteFailure(ErrorCode::TooBig)))),
+    }
+}
+
+/// A query that is looked for in one sentence after the other.
+#[derive(Drop)]
+pub(crate) struct Seeker<'q> {
+    pub alloc: Global,
+    pub searcher: Searcher<'q>,
+    pub strategy: Strategy,
+}
+
+impl<'q> Seeker<'q> {
+    /// Makes a query ready.
+    pub(crate) fn new(
+        alloc: Global,
+        query: &'q Query,
+        strategy: Strategy,
+    ) -> Result<Seeker<'q>, Stopped>
+        ensures { IfOk result (λ s. (s.searcher ≡ query.now) × (s.strategy ≡ strategy)) }
+    {
+        let searcher = query.searcher(alloc)?;
+        Ok(Seeker {
+            alloc,
+            searcher,
+            strategy,
+        })
+    }
+
+    /// Its hits in a sentence.
+    pub(crate) fn hits(&mut self, block: &BlockRef<'_>) -> Result<Vec<(u32, u32)>, Stopped>
+        ensures hits { IfOk result (λ v. AreHitsIn self.old.strategy self.old.searcher block.now v.items) }
+        ensures lie { IfOk result (λ v. All (λ h. (h.0 < h.1) × (h.1 ≤ words_of block.now)) v.items) }
+        ensures same { self.new ≡ self.old }
+    {
+        if words(block) > 1000 {
+            return Err(Stopped::Read(ReadError::Form));
+        }
+        let Found { hits, .. } = self.searcher.hits(self.alloc, block, self.strategy)?;
+        Ok(hits)
+    }
+}

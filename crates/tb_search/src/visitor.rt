@@ -1,0 +1,23 @@
+//! What is done with the texts that a walk comes to.
+
+ghost use Rattle.std.specs.Prelude.{ℕ, List, IfErr, OnOk};
+
+use crate::stopped::Stopped;
+
+/// What is done with the texts of the sentences that a walk is asked for: each is seen once, while no other is in
+/// memory, and something is filled by it.
+pub(crate) trait Visitor<O> {
+    ghost use Rattle.std.specs.Prelude.{ℕ, List};
+    ghost use Rattle.tb_search.specs.declared.stopped.Stopped.{Stopped};
+
+    // what a text makes of the visitor and of what is filled
+    ghost Takes: { Self → O → List ℕ → Self → O → Type 0 };
+
+    // what is left of what is filled where the walk stops at a text
+    ghost Stops: { Self → O → List ℕ → Stopped → O → Type 0 };
+
+    /// Comes to a text.
+    fn visit(&mut self, body: &[u8], filled: &mut O) -> Result<(), Stopped>
+        ensures taken { OnOk result (Takes self.old filled.old body.now self.new filled.new) }
+        ensures stopped { IfErr result (λ e. Stops self.old filled.old body.now e filled.new) };
+}
