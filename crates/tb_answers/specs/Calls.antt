@@ -1,0 +1,66 @@
+-- The calls of a desk, as a line of words makes them, and what each writes and leaves.
+use Rattle.std.specs.Prelude.{◌≡◌, ◌⊎◌, ℕ, List, Option, Some, None, IsTrue}
+use Rattle.sqlite.specs.Store.{Ghosts}
+use Rattle.sqlite.specs.State.{Survives}
+use Rattle.sqlite.specs.Held.{state}
+use Rattle.tb_core.specs.declared.limits.Limits.{Limits}
+use Rattle.tb_core.specs.Machine.{Machine}
+use Rattle.tb_core.specs.Commands.{Command, event_on, correct, pull, restore}
+use Rattle.tb_http.specs.declared.replies.Reply.{Reply}
+use Rattle.tb_http.specs.Replies.{reply_text, exit_of}
+use Rattle.tb_line.specs.Lines.{Said, step_batch, show, totals, moves}
+use Rattle.tb_line.specs.Lines.{correct as correct_said, pull as pull_said, restore as restore_said}
+use Rattle.tb_store.specs.Kept.{Kept}
+use Rattle.tb_store.specs.Standing.{StandsFor}
+use Rattle.tb_answers.specs.declared.calls.DeskCommand.{DeskCommand}
+use Rattle.tb_answers.specs.declared.calls.DeskCommand.TheVariants as command
+use Rattle.tb_answers.specs.declared.calls.DeskCall.{DeskCall}
+use Rattle.tb_answers.specs.declared.calls.DeskCall.TheVariants as call
+use Rattle.tb_answers.specs.declared.questions.Question.{Question}
+use Rattle.tb_answers.specs.declared.questions.Question.TheVariants as question
+use Rattle.tb_answers.specs.Commanded.{IsAnswered, HoldsAnEnd}
+use Rattle.tb_answers.specs.Asked.{IsBody, IsToldOf}
+
+-- a call of a desk, as plain data
+pub data CallText : Type 0 where
+  commands : Command → CallText
+  asks : Question → CallText
+
+-- the plain data of the code's command and of its call
+abbrev pub command_by : DeskCommand → Command
+command_by (command.Event name event user) = event_on name.now event user.now
+command_by (command.Correct n base user body) = correct n base user.now body.now
+command_by (command.Pull n user) = pull n user.now
+command_by (command.Restore n user) = restore n user.now
+
+abbrev pub call_by : DeskCall → CallText
+call_by (call.Command c) = commands (command_by c)
+call_by (call.Question q) = asks q
+
+-- what is asked where a sentence is to be shown
+abbrev pub question_of : ℕ → Option ℕ → Question
+question_of n None = question.Sentence n
+question_of n (Some rev) = question.Revision n rev
+
+-- the call that a line makes, with this body for a correction; check, new, migrate, import, export, search, count and serve make none
+abbrev pub call_in : Said → (body : List ℕ) → Option CallText
+call_in (step_batch db user name event) body = Some (commands (event_on name event user))
+call_in (correct_said db user n base) body = Some (commands (correct n base user body))
+call_in (pull_said db user n) body = Some (commands (pull n user))
+call_in (restore_said db user n) body = Some (commands (restore n user))
+call_in (show db n rev) body = Some (asks (question_of n rev))
+call_in (totals db) body = Some (asks question.Totals)
+call_in (moves db) body = Some (asks question.Moves)
+call_in _ body = None
+
+-- The text of a call in a state, and its own exit status: a reply with its status, or the body of a question with 0.
+abbrev pub IsOutput : {S : Type 0} → Ghosts S → Limits → Machine → CallText → (new : Kept S) → (text : List ℕ) → (own : ℕ) → Type 0
+IsOutput g l s (commands c) new text own = (r : Reply) × IsAnswered g l s c new r × (text ≡ reply_text r) × (own ≡ exit_of r)
+IsOutput g l s (asks q) new text own =
+    (IsTrue (state g new.conn).is_open → StandsFor g new s)
+    × (((rev : Option ℕ) × IsBody s q rev text × (own ≡ 0)) ⊎ ((r : Reply) × IsToldOf s q r × (text ≡ reply_text r) × (own ≡ exit_of r)))
+
+-- A crash of a command leaves the tables of a state in which it ends; one of a question writes nothing.
+abbrev pub IsSafe : {S : Type 0} → Ghosts S → CallText → (old new : Kept S) → Type 0
+IsSafe g (commands c) old new = Survives (state g old.conn) (state g new.conn) (HoldsAnEnd g old c)
+IsSafe g (asks q) old new = (s : Machine) → StandsFor g old s → Survives (state g old.conn) (state g new.conn) (λ _. ⊥)

@@ -1,0 +1,49 @@
+-- What a command of a user is answered over a connection, as a line, and what it leaves.
+use Rattle.std.specs.Prelude.{◌≡◌, ◌⊎◌, ℕ, IsTrue}
+use Rattle.sqlite.specs.Store.{Ghosts}
+use Rattle.sqlite.specs.Held.{state}
+use Rattle.sqlite.specs.Tree.{Trees}
+use Rattle.tb_tables.specs.Records.{Stands}
+use Rattle.tb_core.specs.declared.limits.Limits.{Limits}
+use Rattle.tb_core.specs.declared.refusals.Fault.{Fault}
+use Rattle.tb_core.specs.declared.refusals.Fault.TheVariants.{Refused, Memory, Device, NotADesk, Output}
+use Rattle.tb_core.specs.Machine.{Machine}
+use Rattle.tb_core.specs.Commands.{Command, Answer, replied, refused, imported, moved_on, corrected_to, pulled_out, restored_to}
+use Rattle.tb_core.specs.Steps.{Steps}
+use Rattle.tb_http.specs.declared.replies.Reply.{Reply}
+use Rattle.tb_http.specs.declared.replies.Reply.TheVariants as reply
+use Rattle.tb_standing.specs.Standing.{tables_of}
+use Rattle.tb_store.specs.Kept.{Kept}
+use Rattle.tb_store.specs.Standing.{StandsFor}
+
+-- the reply for an answer of the machine
+abbrev pub reply_for : Answer → Reply
+reply_for (replied (imported r)) = reply.Imported r
+reply_for (replied (moved_on r)) = reply.Moved r
+reply_for (replied (corrected_to r)) = reply.Corrected r
+reply_for (replied (pulled_out r)) = reply.Pulled r
+reply_for (replied (restored_to r)) = reply.Restored r
+reply_for (refused r) = reply.Refused r
+
+-- the reply for a fault of a desk; no call writes any output of its own
+abbrev pub reply_for_fault : Fault → Reply
+reply_for_fault (Refused r) = reply.Refused r
+reply_for_fault Memory = reply.Memory
+reply_for_fault Device = reply.Device
+reply_for_fault NotADesk = reply.Desk
+reply_for_fault Output = reply.Device
+
+-- the replies that say nothing of the state: want of memory, a failed device, tables that are no desk's
+abbrev pub IsFailure : Reply → Type 0
+IsFailure r = (r ≡ reply.Memory) ⊎ (r ≡ reply.Device) ⊎ (r ≡ reply.Desk)
+
+-- In this state the command has the machine's answer, and the desk stands for the state after it; or the call failed, and where
+-- the store is open the desk stands for the state still.
+abbrev pub IsAnswered : {S : Type 0} → Ghosts S → Limits → Machine → Command → (new : Kept S) → Reply → Type 0
+IsAnswered g l s c new r =
+    ((a : Answer) × (t : Machine) × Steps l s c a t × StandsFor g new t × (r ≡ reply_for a))
+    ⊎ (IsFailure r × (IsTrue (state g new.conn).is_open → StandsFor g new s))
+
+-- the tables of a state in which the command ends
+abbrev pub HoldsAnEnd : {S : Type 0} → Ghosts S → (old : Kept S) → Command → Trees → Type 0
+HoldsAnEnd g old c db = (s : Machine) → StandsFor g old s → (a : Answer) × (t : Machine) × Steps old.limits s c a t × Stands (tables_of t) db

@@ -1,0 +1,4 @@
+pub mod Commanded
+pub mod Asked
+pub mod Output
+pub mod Calls

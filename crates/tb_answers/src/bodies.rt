@@ -1,0 +1,157 @@
+//! What a desk is asked, answered by texts.
+
+ghost use Rattle.std.specs.Prelude.{◌≡◌, Some, None, Err, string_bytes, IsTrue, IfOk, IfErr};
+ghost use Rattle.sqlite.specs.State.{HasCleanDisk, Survives};
+ghost use Rattle.sqlite.specs.Held.{state};
+ghost use Rattle.tb_core.specs.Machine.{Machine};
+ghost use Rattle.tb_report.specs.Csv.{totals_csv, moves_csv};
+ghost use Rattle.tb_store.specs.Standing.{StandsFor};
+ghost use Rattle.tb_store.specs.Answers.{IsCurrent, IsTextOf, HasNoSentence};
+ghost use Rattle.tb_answers.specs.Commanded.{IsFailure};
+ghost use Rattle.tb_answers.specs.Asked.{totals_text, IsBody, IsToldOf};
+
+use crate::commands::reply_for_fault;
+use crate::questions::{Body, Question};
+use sqlite::Alter;
+use std::alloc::Global;
+use tb_core::{Move, Refusal, Totals};
+use tb_http::Reply;
+use tb_report::{csv_moves, csv_totals};
+use tb_store::{Current, Desk};
+
+/// Totals as CSV. A text in memory lacks nothing but memory.
+fn totals_text(alloc: Global, totals: &Totals) -> Result<Vec<u8>, Reply>
+    ensures text { IfOk result (λ v. v.items ≡ totals_csv totals.now) }
+    ensures failed { IfErr result IsFailure }
+{
+    let mut text = Vec::new(alloc);
+    match csv_totals(alloc, totals, &mut text) {
+        Ok(()) => Ok(text),
+        Err(_) => Err(Reply::Memory),
+    }
+}
+
+/// Moves as CSV.
+fn moves_text(alloc: Global, moves: &[Move]) -> Result<Vec<u8>, Reply>
+    ensures text { IfOk result (λ v. v.items ≡ moves_csv moves.now) }
+    ensures failed { IfErr result IsFailure }
+{
+    let mut text = Vec::new(alloc);
+    match csv_moves(alloc, moves, &mut text) {
+        Ok(()) => Ok(text),
+        Err(_) => Err(Reply::Memory),
+    }
+}
+
+/// Sentences and words of the six states, as CSV. Nothing is refused.
+pub fn totals<S: Alter>(alloc: Global, desk: &mut Desk<S>) -> Result<Vec<u8>, Reply>
+    ensures answered { HasCleanDisk (state S.Store desk.new.conn) → IfOk result (λ v. (s : Machine) → StandsFor S.Store desk.old s → v.items ≡ totals_text s) }
+    ensures failed { IfErr result IsFailure }
+    ensures kept { HasCleanDisk (state S.Store desk.new.conn) → IsTrue (state S.Store desk.new.conn).is_open → (s : Machine) → StandsFor S.Store desk.old s → StandsFor S.Store desk.new s }
+    ensures crash { (s : Machine) → StandsFor S.Store desk.old s → Survives (state S.Store desk.old.conn) (state S.Store desk.new.conn) (λ _. ⊥) }
+{
+    match desk.totals() {
+        Ok(totals) => totals_text(alloc, &totals),
+        Err(fault) => Err(reply_for_fault(fault)),
+    }
+}
+
+/// All moves in their order, as CSV. Nothing is refused.
+pub fn moves<S: Alter>(alloc: Global, desk: &mut Desk<S>) -> Result<Vec<u8>, Reply>
+    ensures answered { HasCleanDisk (state S.Store desk.new.conn) → IfOk result (λ v. (s : Machine) → StandsFor S.Store desk.old s → v.items ≡ moves_csv s.moves) }
+    ensures failed { IfErr result IsFailure }
+    ensures kept { HasCleanDisk (state S.Store desk.new.conn) → IsTrue (state S.Store desk.new.conn).is_open → (s : Machine) → StandsFor S.Store desk.old s → StandsFor S.Store desk.new s }
+    ensures crash { (s : Machine) → StandsFor S.Store desk.old s → Survives (state S.Store desk.old.conn) (state S.Store desk.new.conn) (λ _. ⊥) }
+{
+    match desk.moves() {
+        Ok(moves) => moves_text(alloc, moves.as_slice()),
+        Err(fault) => Err(reply_for_fault(fault)),
+    }
+}
+
+/// The current revision of the sentence with this number, from 1.
+///
+/// # Errors
+///
+/// `NoSuchSentence`, or a failure.
+pub fn sentence<S: Alter>(desk: &mut Desk<S>, number: u64) -> Result<Current, Reply>
+    ensures answered { HasCleanDisk (state S.Store desk.new.conn) → IfOk result (λ c. (s : Machine) → StandsFor S.Store desk.old s → IsCurrent s number c.rev (string_bytes c.body)) }
+    ensures missing { (s : Machine) → StandsFor S.Store desk.old s → HasNoSentence s number → result ≡ Err (Reply.Refused Refusal.NoSuchSentence) }
+    ensures told { IfErr result (λ r. (s : Machine) → StandsFor S.Store desk.old s → IsToldOf s (Question.Sentence number) r) }
+    ensures kept { HasCleanDisk (state S.Store desk.new.conn) → IsTrue (state S.Store desk.new.conn).is_open → (s : Machine) → StandsFor S.Store desk.old s → StandsFor S.Store desk.new s }
+    ensures crash { (s : Machine) → StandsFor S.Store desk.old s → Survives (state S.Store desk.old.conn) (state S.Store desk.new.conn) (λ _. ⊥) }
+{
+    match desk.sentence(number) {
+        Ok(current) => Ok(current),
+        Err(fault) => Err(reply_for_fault(fault)),
+    }
+}
+
+/// The text of a revision of a sentence, both counted from 1.
+///
+/// # Errors
+///
+/// `NoSuchSentence`, `NoSuchRevision`, the first that holds; or a failure.
+pub fn revision<S: Alter>(desk: &mut Desk<S>, number: u64, rev: u64) -> Result<String, Reply>
+    ensures answered { HasCleanDisk (state S.Store desk.new.conn) → IfOk result (λ t. (s : Machine) → StandsFor S.Store desk.old s → IsTextOf s number rev (string_bytes t)) }
+    ensures missing { (s : Machine) → StandsFor S.Store desk.old s → HasNoSentence s number → result ≡ Err (Reply.Refused Refusal.NoSuchSentence) }
+    ensures told { HasCleanDisk (state S.Store desk.new.conn) → IfErr result (λ r. (s : Machine) → StandsFor S.Store desk.old s → IsToldOf s (Question.Revision number rev) r) }
+    ensures kept { HasCleanDisk (state S.Store desk.new.conn) → IsTrue (state S.Store desk.new.conn).is_open → (s : Machine) → StandsFor S.Store desk.old s → StandsFor S.Store desk.new s }
+    ensures crash { (s : Machine) → StandsFor S.Store desk.old s → Survives (state S.Store desk.old.conn) (state S.Store desk.new.conn) (λ _. ⊥) }
+{
+    match desk.revision(number, rev) {
+        Ok(text) => Ok(text),
+        Err(fault) => Err(reply_for_fault(fault)),
+    }
+}
+
+/// A text alone.
+fn body_of(text: Vec<u8>) -> Body
+    ensures text { result.text.items ≡ text.items }
+    ensures rev { result.rev ≡ None }
+{
+    Body { text, rev: None }
+}
+
+/// The text of a sentence with the number of its revision.
+fn body_of_current(current: Current) -> Body
+    ensures text { result.text.items ≡ string_bytes current.body }
+    ensures rev { result.rev ≡ Some current.rev }
+{
+    let Current { rev, body } = current;
+    Body {
+        text: body.into_bytes(),
+        rev: Some(rev),
+    }
+}
+
+/// The text that a question has.
+///
+/// # Errors
+///
+/// The refusals of the question, or a failure.
+pub fn ask<S: Alter>(alloc: Global, desk: &mut Desk<S>, question: Question) -> Result<Body, Reply>
+    ensures answered { HasCleanDisk (state S.Store desk.new.conn) → IfOk result (λ b. (s : Machine) → StandsFor S.Store desk.old s → IsBody s question b.rev b.text.items) }
+    ensures told { HasCleanDisk (state S.Store desk.new.conn) → IfErr result (λ r. (s : Machine) → StandsFor S.Store desk.old s → IsToldOf s question r) }
+    ensures kept { HasCleanDisk (state S.Store desk.new.conn) → IsTrue (state S.Store desk.new.conn).is_open → (s : Machine) → StandsFor S.Store desk.old s → StandsFor S.Store desk.new s }
+    ensures crash { (s : Machine) → StandsFor S.Store desk.old s → Survives (state S.Store desk.old.conn) (state S.Store desk.new.conn) (λ _. ⊥) }
+{
+    match question {
+        Question::Sentence { number } => match sentence(desk, number) {
+            Ok(current) => Ok(body_of_current(current)),
+            Err(reply) => Err(reply),
+        },
+        Question::Revision { number, rev } => match revision(desk, number, rev) {
+            Ok(text) => Ok(body_of(text.into_bytes())),
+            Err(reply) => Err(reply),
+        },
+        Question::Totals => match totals(alloc, desk) {
+            Ok(text) => Ok(body_of(text)),
+            Err(reply) => Err(reply),
+        },
+        Question::Moves => match moves(alloc, desk) {
+            Ok(text) => Ok(body_of(text)),
+            Err(reply) => Err(reply),
+        },
+    }
+}

@@ -1,0 +1,94 @@
+//! The calls of a desk, as a line of words makes them.
+
+ghost use Rattle.std.specs.Prelude.{◌≡◌, option_map};
+ghost use Rattle.tb_line.specs.Lines.{said_by};
+ghost use Rattle.tb_answers.specs.Calls.{call_by, call_in, question_of};
+
+use crate::questions::Question;
+use tb_core::Event;
+use tb_line::Line;
+
+/// A command of a user.
+#[derive(Clone, Copy, Debug)]
+pub enum DeskCommand<'a> {
+    Event {
+        name: &'a str,
+        event: Event,
+        user: &'a str,
+    },
+    Correct {
+        number: u64,
+        base: u64,
+        user: &'a str,
+        body: &'a [u8],
+    },
+    Pull {
+        number: u64,
+        user: &'a str,
+    },
+    Restore {
+        number: u64,
+        user: &'a str,
+    },
+}
+
+/// A call that changes a desk, or asks it for a text.
+#[derive(Clone, Copy, Debug)]
+pub enum DeskCall<'a> {
+    Command(DeskCommand<'a>),
+    Question(Question),
+}
+
+/// The question for a sentence, or for one of its revisions.
+fn shown(number: u64, rev: Option<u64>) -> Question
+    ensures { result ≡ question_of number rev }
+{
+    match rev {
+        None => Question::Sentence { number },
+        Some(rev) => Question::Revision { number, rev },
+    }
+}
+
+impl<'a> DeskCall<'a> {
+    /// The call that a line makes, with this body for a correction, if it makes one.
+    pub fn of_line(line: &'a Line, body: &'a [u8]) -> Option<DeskCall<'a>>
+        ensures { option_map call_by result ≡ call_in (said_by line.now) body.now }
+    {
+        let command = match line {
+            Line::Event {
+                db: _,
+                user,
+                name,
+                event,
+            } => DeskCommand::Event {
+                name: name.as_str(),
+                event: *event,
+                user: user.as_str(),
+            },
+            Line::Correct {
+                db: _,
+                user,
+                no,
+                base,
+            } => DeskCommand::Correct {
+                number: *no,
+                base: *base,
+                user: user.as_str(),
+                body,
+            },
+            Line::Pull { db: _, user, no } => DeskCommand::Pull {
+                number: *no,
+                user: user.as_str(),
+            },
+            Line::Restore { db: _, user, no } => DeskCommand::Restore {
+                number: *no,
+                user: user.as_str(),
+            },
+            Line::Show { db: _, no, rev } => return Some(DeskCall::Question(shown(*no, *rev))),
+            Line::Totals { db: _ } => return Some(DeskCall::Question(Question::Totals)),
+            Line::Moves { db: _ } => return Some(DeskCall::Question(Question::Moves)),
+            _ => return None,
+        };
+        Some(DeskCall::Command(command))
+    }
+}

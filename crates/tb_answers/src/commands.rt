@@ -1,0 +1,80 @@
+//! The commands of users, each answered by one line.
+
+ghost use Rattle.std.specs.Prelude.{◌≡◌};
+ghost use Rattle.sqlite.specs.State.{HasCleanDisk, Survives};
+ghost use Rattle.sqlite.specs.Held.{state};
+ghost use Rattle.tb_core.specs.Machine.{Machine};
+ghost use Rattle.tb_core.specs.Commands.{event_on, correct as correct_it, pull as pull_it, restore as restore_it};
+ghost use Rattle.tb_store.specs.Standing.{StandsFor};
+ghost use Rattle.tb_answers.specs.Commanded.{reply_for_fault, IsAnswered, HoldsAnEnd};
+
+use sqlite::Alter;
+use tb_core::{Event, Fault};
+use tb_http::Reply;
+use tb_store::Desk;
+
+/// The line of a fault. A desk writes no output of its own.
+pub(crate) fn reply_for_fault(fault: Fault) -> Reply
+    ensures { result ≡ reply_for_fault fault }
+{
+    match fault {
+        Fault::Refused(refusal) => Reply::Refused(refusal),
+        Fault::Memory => Reply::Memory,
+        Fault::Device | Fault::Output => Reply::Device,
+        Fault::NotADesk => Reply::Desk,
+    }
+}
+
+/// The answer of an event on the batch with this name.
+pub fn event<S: Alter>(desk: &mut Desk<S>, name: &str, event: Event, user: &str) -> Reply
+    ensures answered { HasCleanDisk (state S.Store desk.new.conn) → (s : Machine) → StandsFor S.Store desk.old s → IsAnswered S.Store desk.old.limits s (event_on name.now event user.now) desk.new result }
+    ensures crash { Survives (state S.Store desk.old.conn) (state S.Store desk.new.conn) (HoldsAnEnd S.Store desk.old (event_on name.now event user.now)) }
+    ensures limits { desk.new.limits ≡ desk.old.limits }
+{
+    match desk.event(name, event, user) {
+        Ok(reply) => Reply::Moved(reply),
+        Err(fault) => reply_for_fault(fault),
+    }
+}
+
+/// The answer of a correction: the body as the revision of this sentence after `base`.
+pub fn correct<S: Alter>(
+    desk: &mut Desk<S>,
+    number: u64,
+    base: u64,
+    user: &str,
+    body: &[u8],
+) -> Reply
+    ensures answered { HasCleanDisk (state S.Store desk.new.conn) → (s : Machine) → StandsFor S.Store desk.old s → IsAnswered S.Store desk.old.limits s (correct_it number base user.now body.now) desk.new result }
+    ensures crash { Survives (state S.Store desk.old.conn) (state S.Store desk.new.conn) (HoldsAnEnd S.Store desk.old (correct_it number base user.now body.now)) }
+    ensures limits { desk.new.limits ≡ desk.old.limits }
+{
+    match desk.correct(number, base, user, body) {
+        Ok(reply) => Reply::Corrected(reply),
+        Err(fault) => reply_for_fault(fault),
+    }
+}
+
+/// The answer of a pull of the sentence with this number.
+pub fn pull<S: Alter>(desk: &mut Desk<S>, number: u64, user: &str) -> Reply
+    ensures answered { HasCleanDisk (state S.Store desk.new.conn) → (s : Machine) → StandsFor S.Store desk.old s → IsAnswered S.Store desk.old.limits s (pull_it number user.now) desk.new result }
+    ensures crash { Survives (state S.Store desk.old.conn) (state S.Store desk.new.conn) (HoldsAnEnd S.Store desk.old (pull_it number user.now)) }
+    ensures limits { desk.new.limits ≡ desk.old.limits }
+{
+    match desk.pull(number, user) {
+        Ok(reply) => Reply::Pulled(reply),
+        Err(fault) => reply_for_fault(fault),
+    }
+}
+
+/// The answer of a restore of the sentence with this number.
+pub fn restore<S: Alter>(desk: &mut Desk<S>, number: u64, user: &str) -> Reply
+    ensures answered { HasCleanDisk (state S.Store desk.new.conn) → (s : Machine) → StandsFor S.Store desk.old s → IsAnswered S.Store desk.old.limits s (restore_it number user.now) desk.new result }
+    ensures crash { Survives (state S.Store desk.old.conn) (state S.Store desk.new.conn) (HoldsAnEnd S.Store desk.old (restore_it number user.now)) }
+    ensures limits { desk.new.limits ≡ desk.old.limits }
+{
+    match desk.restore(number, user) {
+        Ok(reply) => Reply::Restored(reply),
+        Err(fault) => reply_for_fault(fault),
+    }
+}

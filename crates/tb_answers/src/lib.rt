@@ -1,0 +1,16 @@
+//! What is asked of a desk, answered as texts: the same over HTTP and on the command line.
+#![tactic(auto)]
+
+mod bodies;
+mod calls;
+mod commands;
+mod output;
+mod questions;
+mod running;
+
+pub use bodies::{ask, moves, revision, sentence, totals};
+pub use calls::{DeskCall, DeskCommand};
+pub use commands::{correct, event, pull, restore};
+pub use output::{put_body, put_reply};
+pub use questions::{Body, Question};
+pub use running::{obey, run_call};
