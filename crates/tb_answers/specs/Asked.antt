@@ -36,6 +36,13 @@ Refuses s (question.Revision n k) r = ((r ≡ NoSuchSentence) × HasNoSentence s
 Refuses s question.Totals r = ⊥
 Refuses s question.Moves r = ⊥
 
+-- the question is of a sentence that does not stand
+abbrev pub AsksForNone : Machine → Question → Type 0
+AsksForNone s (question.Sentence n) = HasNoSentence s n
+AsksForNone s (question.Revision n k) = HasNoSentence s n
+AsksForNone s question.Totals = ⊥
+AsksForNone s question.Moves = ⊥
+
 -- What is told in place of a text: the refusal, or a failure of the call.
 abbrev pub IsToldOf : Machine → Question → Reply → Type 0
 IsToldOf s q told = ((r : Refusal) × (told ≡ reply.Refused r) × Refuses s q r) ⊎ IsFailure told

@@ -6,6 +6,8 @@ use Rattle.sqlite.specs.Held.{state}
 use Rattle.tb_core.specs.declared.limits.Limits.{Limits}
 use Rattle.tb_core.specs.Machine.{Machine}
 use Rattle.tb_core.specs.Commands.{Command, event_on, correct, pull, restore}
+use Rattle.tb_http.specs.Actions.{Act}
+use Rattle.tb_http.specs.Actions as act
 use Rattle.tb_http.specs.declared.replies.Reply.{Reply}
 use Rattle.tb_http.specs.Replies.{reply_text, exit_of}
 use Rattle.tb_line.specs.Lines.{Said, step_batch, show, totals, moves}
@@ -52,6 +54,18 @@ call_in (show db n rev) body = Some (asks (question_of n rev))
 call_in (totals db) body = Some (asks question.Totals)
 call_in (moves db) body = Some (asks question.Moves)
 call_in _ body = None
+
+-- the call that an action of a request asks for; import, export, released text, search and count are none of these
+abbrev pub call_asked : Act → (user body : List ℕ) → Option CallText
+call_asked (act.step_batch name event) user body = Some (commands (event_on name event user))
+call_asked (act.correct n base) user body = Some (commands (correct n base user body))
+call_asked (act.pull n) user body = Some (commands (pull n user))
+call_asked (act.restore n) user body = Some (commands (restore n user))
+call_asked (act.sentence n) user body = Some (asks (question.Sentence n))
+call_asked (act.revision n rev) user body = Some (asks (question.Revision n rev))
+call_asked act.totals user body = Some (asks question.Totals)
+call_asked act.moves user body = Some (asks question.Moves)
+call_asked _ user body = None
 
 -- The text of a call in a state, and its own exit status: a reply with its status, or the body of a question with 0.
 abbrev pub IsOutput : {S : Type 0} → Ghosts S → Limits → Machine → CallText → (new : Kept S) → (text : List ℕ) → (own : ℕ) → Type 0

@@ -8,7 +8,7 @@ ghost use Rattle.tb_report.specs.Csv.{totals_csv, moves_csv};
 ghost use Rattle.tb_store.specs.Standing.{StandsFor};
 ghost use Rattle.tb_store.specs.Answers.{IsCurrent, IsTextOf, HasNoSentence};
 ghost use Rattle.tb_answers.specs.Commanded.{IsFailure};
-ghost use Rattle.tb_answers.specs.Asked.{totals_text, IsBody, IsToldOf};
+ghost use Rattle.tb_answers.specs.Asked.{totals_text, AsksForNone, IsBody, IsToldOf};
 
 use crate::commands::reply_for_fault;
 use crate::questions::{Body, Question};
@@ -132,6 +132,7 @@ fn body_of_current(current: Current) -> Body
 /// The refusals of the question, or a failure.
 pub fn ask<S: Alter>(alloc: Global, desk: &mut Desk<S>, question: Question) -> Result<Body, Reply>
     ensures answered { HasCleanDisk (state S.Store desk.new.conn) → IfOk result (λ b. (s : Machine) → StandsFor S.Store desk.old s → IsBody s question b.rev b.text.items) }
+    ensures missing { (s : Machine) → StandsFor S.Store desk.old s → AsksForNone s question → result ≡ Err (Reply.Refused Refusal.NoSuchSentence) }
     ensures told { HasCleanDisk (state S.Store desk.new.conn) → IfErr result (λ r. (s : Machine) → StandsFor S.Store desk.old s → IsToldOf s question r) }
     ensures kept { HasCleanDisk (state S.Store desk.new.conn) → IsTrue (state S.Store desk.new.conn).is_open → (s : Machine) → StandsFor S.Store desk.old s → StandsFor S.Store desk.new s }
     ensures crash { (s : Machine) → StandsFor S.Store desk.old s → Survives (state S.Store desk.old.conn) (state S.Store desk.new.conn) (λ _. ⊥) }

@@ -1,11 +1,13 @@
 //! The calls of a desk, as a line of words makes them.
 
 ghost use Rattle.std.specs.Prelude.{◌≡◌, option_map};
+ghost use Rattle.tb_http.specs.Actions.{act_by};
 ghost use Rattle.tb_line.specs.Lines.{said_by};
-ghost use Rattle.tb_answers.specs.Calls.{call_by, call_in, question_of};
+ghost use Rattle.tb_answers.specs.Calls.{call_by, call_in, call_asked, question_of};
 
 use crate::questions::Question;
 use tb_core::Event;
+use tb_http::Action;
 use tb_line::Line;
 
 /// A command of a user.
@@ -87,6 +89,34 @@ impl<'a> DeskCall<'a> {
             Line::Show { db: _, no, rev } => return Some(DeskCall::Question(shown(*no, *rev))),
             Line::Totals { db: _ } => return Some(DeskCall::Question(Question::Totals)),
             Line::Moves { db: _ } => return Some(DeskCall::Question(Question::Moves)),
+            _ => return None,
+        };
+        Some(DeskCall::Command(command))
+    }
+
+    /// The call that an action of a request asks for, by this user and with this body, if it asks for one.
+    pub fn of_action(action: Action<'a>, user: &'a str, body: &'a [u8]) -> Option<DeskCall<'a>>
+        ensures { option_map call_by result ≡ call_asked (act_by action.entry) user.now body.now }
+    {
+        let command = match action {
+            Action::Step { name, event } => DeskCommand::Event { name, event, user },
+            Action::Correct { no, base } => DeskCommand::Correct {
+                number: no,
+                base,
+                user,
+                body,
+            },
+            Action::Pull { no } => DeskCommand::Pull { number: no, user },
+            Action::Restore { no } => DeskCommand::Restore { number: no, user },
+            Action::Sentence { no } => return Some(DeskCall::Question(Question::Sentence {
+                number: no,
+            })),
+            Action::Revision { no, rev } => return Some(DeskCall::Question(Question::Revision {
+                number: no,
+                rev,
+            })),
+            Action::Totals => return Some(DeskCall::Question(Question::Totals)),
+            Action::Moves => return Some(DeskCall::Question(Question::Moves)),
             _ => return None,
         };
         Some(DeskCall::Command(command))
