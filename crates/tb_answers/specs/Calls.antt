@@ -5,12 +5,12 @@ use Rattle.sqlite.specs.State.{Survives}
 use Rattle.sqlite.specs.Held.{state}
 use Rattle.tb_core.specs.declared.limits.Limits.{Limits}
 use Rattle.tb_core.specs.Machine.{Machine}
-use Rattle.tb_core.specs.Commands.{Command, event_on, correct, pull, restore}
+use Rattle.tb_core.specs.Commands.{Command, import_file, event_on, correct, pull, restore}
 use Rattle.tb_http.specs.Actions.{Act}
 use Rattle.tb_http.specs.Actions as act
 use Rattle.tb_http.specs.declared.replies.Reply.{Reply}
 use Rattle.tb_http.specs.Replies.{reply_text, exit_of}
-use Rattle.tb_line.specs.Lines.{Said, step_batch, show, totals, moves}
+use Rattle.tb_line.specs.Lines.{Said, import_batch, step_batch, show, totals, moves}
 use Rattle.tb_line.specs.Lines.{correct as correct_said, pull as pull_said, restore as restore_said}
 use Rattle.tb_store.specs.Kept.{Kept}
 use Rattle.tb_store.specs.Standing.{StandsFor}
@@ -30,6 +30,7 @@ pub data CallText : Type 0 where
 
 -- the plain data of the code's command and of its call
 abbrev pub command_by : DeskCommand → Command
+command_by (command.Import name user body) = import_file name.now user.now body.now
 command_by (command.Event name event user) = event_on name.now event user.now
 command_by (command.Correct n base user body) = correct n base user.now body.now
 command_by (command.Pull n user) = pull n user.now
@@ -44,8 +45,9 @@ abbrev pub question_of : ℕ → Option ℕ → Question
 question_of n None = question.Sentence n
 question_of n (Some rev) = question.Revision n rev
 
--- the call that a line makes, with this body for a correction; check, new, migrate, import, export, search, count and serve make none
+-- the call that a line makes, with this body for an import or a correction; check, new, migrate, export, search, count and serve make none
 abbrev pub call_in : Said → (body : List ℕ) → Option CallText
+call_in (import_batch db user name) body = Some (commands (import_file name user body))
 call_in (step_batch db user name event) body = Some (commands (event_on name event user))
 call_in (correct_said db user n base) body = Some (commands (correct n base user body))
 call_in (pull_said db user n) body = Some (commands (pull n user))
@@ -55,8 +57,9 @@ call_in (totals db) body = Some (asks question.Totals)
 call_in (moves db) body = Some (asks question.Moves)
 call_in _ body = None
 
--- the call that an action of a request asks for; import, export, released text, search and count are none of these
+-- the call that an action of a request asks for; export, released text, search and count are none of these
 abbrev pub call_asked : Act → (user body : List ℕ) → Option CallText
+call_asked (act.import_batch name) user body = Some (commands (import_file name user body))
 call_asked (act.step_batch name event) user body = Some (commands (event_on name event user))
 call_asked (act.correct n base) user body = Some (commands (correct n base user body))
 call_asked (act.pull n) user body = Some (commands (pull n user))

@@ -13,6 +13,11 @@ use tb_line::Line;
 /// A command of a user.
 #[derive(Clone, Copy, Debug)]
 pub enum DeskCommand<'a> {
+    Import {
+        name: &'a str,
+        user: &'a str,
+        body: &'a [u8],
+    },
     Event {
         name: &'a str,
         event: Event,
@@ -52,11 +57,16 @@ fn shown(number: u64, rev: Option<u64>) -> Question
 }
 
 impl<'a> DeskCall<'a> {
-    /// The call that a line makes, with this body for a correction, if it makes one.
+    /// The call that a line makes, with this body for an import or a correction, if it makes one.
     pub fn of_line(line: &'a Line, body: &'a [u8]) -> Option<DeskCall<'a>>
         ensures { option_map call_by result ≡ call_in (said_by line.now) body.now }
     {
         let command = match line {
+            Line::Import { db: _, user, name } => DeskCommand::Import {
+                name: name.as_str(),
+                user: user.as_str(),
+                body,
+            },
             Line::Event {
                 db: _,
                 user,
@@ -99,6 +109,7 @@ impl<'a> DeskCall<'a> {
         ensures { option_map call_by result ≡ call_asked (act_by action.entry) user.now body.now }
     {
         let command = match action {
+            Action::Import { name } => DeskCommand::Import { name, user, body },
             Action::Step { name, event } => DeskCommand::Event { name, event, user },
             Action::Correct { no, base } => DeskCommand::Correct {
                 number: no,

@@ -4,7 +4,7 @@ ghost use Rattle.std.specs.Prelude.{◌≡◌};
 ghost use Rattle.sqlite.specs.State.{HasCleanDisk, Survives};
 ghost use Rattle.sqlite.specs.Held.{state};
 ghost use Rattle.tb_core.specs.Machine.{Machine};
-ghost use Rattle.tb_core.specs.Commands.{event_on, correct as correct_it, pull as pull_it, restore as restore_it};
+ghost use Rattle.tb_core.specs.Commands.{import_file, event_on, correct as correct_it, pull as pull_it, restore as restore_it};
 ghost use Rattle.tb_store.specs.Standing.{StandsFor};
 ghost use Rattle.tb_answers.specs.Commanded.{reply_for_fault, IsAnswered, HoldsAnEnd};
 
@@ -22,6 +22,18 @@ pub(crate) fn reply_for_fault(fault: Fault) -> Reply
         Fault::Memory => Reply::Memory,
         Fault::Device | Fault::Output => Reply::Device,
         Fault::NotADesk => Reply::Desk,
+    }
+}
+
+/// The answer of an import: the sentences of the body as a batch of this name.
+pub fn import<S: Alter>(desk: &mut Desk<S>, name: &str, user: &str, body: &[u8]) -> Reply
+    ensures answered { HasCleanDisk (state S.Store desk.new.conn) → (s : Machine) → StandsFor S.Store desk.old s → IsAnswered S.Store desk.old.limits s (import_file name.now user.now body.now) desk.new result }
+    ensures crash { Survives (state S.Store desk.old.conn) (state S.Store desk.new.conn) (HoldsAnEnd S.Store desk.old (import_file name.now user.now body.now)) }
+    ensures limits { desk.new.limits ≡ desk.old.limits }
+{
+    match desk.import(name, user, body) {
+        Ok(reply) => Reply::Imported(reply),
+        Err(fault) => reply_for_fault(fault),
     }
 }
 

@@ -10,7 +10,7 @@ mod running;
 
 pub use bodies::{ask, moves, revision, sentence, totals};
 pub use calls::{DeskCall, DeskCommand};
-pub use commands::{correct, event, pull, restore};
+pub use commands::{correct, event, import, pull, restore};
 pub use output::{put_body, put_reply};
 pub use questions::{Body, Question};
 pub use running::{obey, run_call};

@@ -25,6 +25,7 @@ pub fn obey<S: Alter>(desk: &mut Desk<S>, command: DeskCommand<'_>) -> Reply
     ensures limits { desk.new.limits ≡ desk.old.limits }
 {
     match command {
+        DeskCommand::Import { name, user, body } => commands::import(desk, name, user, body),
         DeskCommand::Event { name, event, user } => commands::event(desk, name, event, user),
         DeskCommand::Correct {
             number,

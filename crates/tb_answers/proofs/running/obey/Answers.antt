@@ -23,3 +23,8 @@ pub returns-in-Restore-clause-answered : goal.returns-in-Restore-clause-answered
 returns-in-Restore-clause-answered g c clean s stands =
     subst (λ (asked : DeskCommand). IsAnswered g.S.Store c.args.desk.now.limits s (command_by asked) c.restore.new.desk c.restore.result) (sym c.in-Restore.is)
     (c.restore.ensures.answered clean s stands)
+
+pub returns-in-Import-clause-answered : goal.returns-in-Import-clause-answered
+returns-in-Import-clause-answered g c clean s stands =
+    subst (λ (asked : DeskCommand). IsAnswered g.S.Store c.args.desk.now.limits s (command_by asked) c.import.new.desk c.import.result) (sym c.in-Import.is)
+    (c.import.ensures.answered clean s stands)
