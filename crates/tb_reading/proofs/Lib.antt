@@ -9,3 +9,4 @@ pub mod Sifted
 pub mod Staying
 pub mod Streaming
 pub mod Lent
+pub mod Failing

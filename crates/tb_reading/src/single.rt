@@ -1,6 +1,6 @@
 //! Single records, by their number or their name.
 
-ghost use Rattle.std.specs.Prelude.{ℕ, ◌≡◌, ◌≢◌, ◌<◌, ◌^◌, ◌-◌, ◌↔◌, map, length, false, IsTrue, List, [], ◌∷◌, Contains, All, Err, Option, None, option_map, slice_get, IfOk, IfSome, OnOk, IsPermutation, filter};
+ghost use Rattle.std.specs.Prelude.{ℕ, ◌≡◌, ◌≢◌, ◌<◌, ◌^◌, ◌-◌, ◌↔◌, map, length, false, IsTrue, List, [], ◌∷◌, Contains, All, Err, Option, None, option_map, slice_get, IfOk, IfSome, OnOk, IsPermutation, filter, IfErr};
 ghost use Rattle.std.specs.Option.{option_to_list};
 ghost use Rattle.sqlite.specs.Order.{column};
 ghost use Rattle.sqlite.specs.State.{HasCleanDisk, IsUnchanged, Survives};
@@ -11,6 +11,7 @@ ghost use Rattle.tb_tables.specs.Records.{Tables, Batch, Sentence, Revision, Sho
 ghost use Rattle.tb_tables.specs.Values.{batch_of, sentence_of, revision_of};
 ghost use Rattle.tb_reading.specs.Readable.{IsBatch, IsSentence, IsRevision};
 ghost use Rattle.tb_reading.specs.Found.{IsNumberOf, IsRevisionAt, HasUnreadable, has_number, has_name, has_pair, key_alone};
+ghost use Rattle.tb_reading.specs.Failing.{IsStoreFault, IsReadFault};
 
 use crate::error::ReadError;
 use crate::records::{batch_in, number_in, revision_in, sentence_in};
@@ -20,6 +21,7 @@ use tb_tables::{BatchRow, RevisionRow, SentenceRow};
 fn first_batch(rows: &[Row], number: u64) -> Result<Option<BatchRow>, ReadError>
     ensures ok { IfOk result (λ found. (x : Option Batch) → rows.now ≡ map (batch_shown number) (option_to_list x) → option_map batch_of found ≡ x) }
     ensures form { result ≡ Err ReadError.Form → (x : Option Batch) → IfSome x IsBatch → rows.now ≢ map (batch_shown number) (option_to_list x) }
+    ensures fails { IfErr result IsReadFault }
 {
     match rows.first() {
         Some(row) => Ok(Some(batch_in(row, number)?)),
@@ -30,6 +32,7 @@ fn first_batch(rows: &[Row], number: u64) -> Result<Option<BatchRow>, ReadError>
 fn batch_rows<S: Alter>(conn: &mut Connection<S>, number: u32) -> Result<Vec<Row>, Error>
     requires row { 0 < number }
     ensures found { HasCleanDisk (state S.Store conn.new) → IfOk result (λ rows. (state S.Store conn.old).now.schema ≡ desk_schema → (xs : List Batch) → Shows batch_view (numbered batch_shown 1 xs) ((state S.Store conn.old).now.trees 1) → rows.items ≡ map (batch_shown number) (option_to_list (slice_get xs (number - 1)))) }
+    ensures fails { HasCleanDisk (state S.Store conn.new) → (state S.Store conn.old).step_limit ≡ None → (state S.Store conn.old).now.schema ≡ desk_schema → IfErr result IsStoreFault }
     ensures same { HasCleanDisk (state S.Store conn.new) → OnOk result ((state S.Store conn.old).now.schema ≡ desk_schema → IsUnchanged (state S.Store conn.old) (state S.Store conn.new)) }
     ensures mode { conn.old.in_transaction ≡ false → conn.new.in_transaction ≡ false }
     ensures kept { HasCleanDisk (state S.Store conn.new) → IsTrue (state S.Store conn.new).is_open → (d : Tables) → Holds S.Store conn.old d → Holds S.Store conn.new d }
@@ -47,6 +50,7 @@ pub fn batch<S: Alter>(conn: &mut Connection<S>, number: u32) -> Result<Option<B
     requires row { 0 < number }
     ensures ok { HasCleanDisk (state S.Store conn.new) → IfOk result (λ found. (state S.Store conn.old).now.schema ≡ desk_schema → (xs : List Batch) → Shows batch_view (numbered batch_shown 1 xs) ((state S.Store conn.old).now.trees 1) → option_map batch_of found ≡ slice_get xs (number - 1)) }
     ensures form { HasCleanDisk (state S.Store conn.new) → result ≡ Err ReadError.Form → (state S.Store conn.old).now.schema ≡ desk_schema → (xs : List Batch) → All IsBatch xs → ¬ Shows batch_view (numbered batch_shown 1 xs) ((state S.Store conn.old).now.trees 1) }
+    ensures fails { HasCleanDisk (state S.Store conn.new) → (state S.Store conn.old).step_limit ≡ None → (state S.Store conn.old).now.schema ≡ desk_schema → IfErr result IsReadFault }
     ensures same { HasCleanDisk (state S.Store conn.new) → OnOk result ((state S.Store conn.old).now.schema ≡ desk_schema → IsUnchanged (state S.Store conn.old) (state S.Store conn.new)) }
     ensures mode { conn.old.in_transaction ≡ false → conn.new.in_transaction ≡ false }
     ensures kept { HasCleanDisk (state S.Store conn.new) → IsTrue (state S.Store conn.new).is_open → (d : Tables) → Holds S.Store conn.old d → Holds S.Store conn.new d }
@@ -60,6 +64,7 @@ pub fn batch<S: Alter>(conn: &mut Connection<S>, number: u32) -> Result<Option<B
 fn first_sentence(rows: &[Row], number: u64) -> Result<Option<SentenceRow>, ReadError>
     ensures ok { IfOk result (λ found. (x : Option Sentence) → rows.now ≡ map (sentence_shown number) (option_to_list x) → option_map sentence_of found ≡ x) }
     ensures form { result ≡ Err ReadError.Form → (x : Option Sentence) → IfSome x IsSentence → rows.now ≢ map (sentence_shown number) (option_to_list x) }
+    ensures fails { IfErr result IsReadFault }
 {
     match rows.first() {
         Some(row) => Ok(Some(sentence_in(row, number)?)),
@@ -70,6 +75,7 @@ fn first_sentence(rows: &[Row], number: u64) -> Result<Option<SentenceRow>, Read
 fn sentence_rows<S: Alter>(conn: &mut Connection<S>, number: u32) -> Result<Vec<Row>, Error>
     requires row { 0 < number }
     ensures found { HasCleanDisk (state S.Store conn.new) → IfOk result (λ rows. (state S.Store conn.old).now.schema ≡ desk_schema → (xs : List Sentence) → Shows sentence_view (numbered sentence_shown 1 xs) ((state S.Store conn.old).now.trees 3) → rows.items ≡ map (sentence_shown number) (option_to_list (slice_get xs (number - 1)))) }
+    ensures fails { HasCleanDisk (state S.Store conn.new) → (state S.Store conn.old).step_limit ≡ None → (state S.Store conn.old).now.schema ≡ desk_schema → IfErr result IsStoreFault }
     ensures same { HasCleanDisk (state S.Store conn.new) → OnOk result ((state S.Store conn.old).now.schema ≡ desk_schema → IsUnchanged (state S.Store conn.old) (state S.Store conn.new)) }
     ensures mode { conn.old.in_transaction ≡ false → conn.new.in_transaction ≡ false }
     ensures kept { HasCleanDisk (state S.Store conn.new) → IsTrue (state S.Store conn.new).is_open → (d : Tables) → Holds S.Store conn.old d → Holds S.Store conn.new d }
@@ -90,6 +96,7 @@ pub fn sentence<S: Alter>(
     requires row { 0 < number }
     ensures ok { HasCleanDisk (state S.Store conn.new) → IfOk result (λ found. (state S.Store conn.old).now.schema ≡ desk_schema → (xs : List Sentence) → Shows sentence_view (numbered sentence_shown 1 xs) ((state S.Store conn.old).now.trees 3) → option_map sentence_of found ≡ slice_get xs (number - 1)) }
     ensures form { HasCleanDisk (state S.Store conn.new) → result ≡ Err ReadError.Form → (state S.Store conn.old).now.schema ≡ desk_schema → (xs : List Sentence) → All IsSentence xs → ¬ Shows sentence_view (numbered sentence_shown 1 xs) ((state S.Store conn.old).now.trees 3) }
+    ensures fails { HasCleanDisk (state S.Store conn.new) → (state S.Store conn.old).step_limit ≡ None → (state S.Store conn.old).now.schema ≡ desk_schema → IfErr result IsReadFault }
     ensures same { HasCleanDisk (state S.Store conn.new) → OnOk result ((state S.Store conn.old).now.schema ≡ desk_schema → IsUnchanged (state S.Store conn.old) (state S.Store conn.new)) }
     ensures mode { conn.old.in_transaction ≡ false → conn.new.in_transaction ≡ false }
     ensures kept { HasCleanDisk (state S.Store conn.new) → IsTrue (state S.Store conn.new).is_open → (d : Tables) → Holds S.Store conn.old d → Holds S.Store conn.new d }
@@ -102,6 +109,7 @@ pub fn sentence<S: Alter>(
 
 fn named_batch_rows<S: Alter>(conn: &mut Connection<S>, name: &str) -> Result<Vec<Row>, Error>
     ensures found { HasCleanDisk (state S.Store conn.new) → IfOk result (λ rows. (state S.Store conn.old).now.schema ≡ desk_schema → (xs : List Batch) → Shows batch_view (numbered batch_shown 1 xs) ((state S.Store conn.old).now.trees 1) → IsPermutation (map key_alone (filter (has_name name.now) (numbered batch_shown 1 xs))) rows.items) }
+    ensures fails { HasCleanDisk (state S.Store conn.new) → (state S.Store conn.old).step_limit ≡ None → (state S.Store conn.old).now.schema ≡ desk_schema → IfErr result IsStoreFault }
     ensures same { HasCleanDisk (state S.Store conn.new) → OnOk result ((state S.Store conn.old).now.schema ≡ desk_schema → IsUnchanged (state S.Store conn.old) (state S.Store conn.new)) }
     ensures mode { conn.old.in_transaction ≡ false → conn.new.in_transaction ≡ false }
     ensures kept { HasCleanDisk (state S.Store conn.new) → IsTrue (state S.Store conn.new).is_open → (d : Tables) → Holds S.Store conn.old d → Holds S.Store conn.new d }
@@ -115,6 +123,7 @@ fn named_batch_rows<S: Alter>(conn: &mut Connection<S>, name: &str) -> Result<Ve
 pub fn batch_named<S: Alter>(conn: &mut Connection<S>, name: &str) -> Result<Option<u32>, ReadError>
     ensures ok { HasCleanDisk (state S.Store conn.new) → IfOk result (λ found. (state S.Store conn.old).now.schema ≡ desk_schema → (xs : List Batch) → Shows batch_view (numbered batch_shown 1 xs) ((state S.Store conn.old).now.trees 1) → IsNumberOf (λ x. x.name) name.now xs found) }
     ensures form { HasCleanDisk (state S.Store conn.new) → result ≡ Err ReadError.Form → (state S.Store conn.old).now.schema ≡ desk_schema → (xs : List Batch) → length xs < 2 ^ 32 → ¬ Shows batch_view (numbered batch_shown 1 xs) ((state S.Store conn.old).now.trees 1) }
+    ensures fails { HasCleanDisk (state S.Store conn.new) → (state S.Store conn.old).step_limit ≡ None → (state S.Store conn.old).now.schema ≡ desk_schema → IfErr result IsReadFault }
     ensures same { HasCleanDisk (state S.Store conn.new) → OnOk result ((state S.Store conn.old).now.schema ≡ desk_schema → IsUnchanged (state S.Store conn.old) (state S.Store conn.new)) }
     ensures mode { conn.old.in_transaction ≡ false → conn.new.in_transaction ≡ false }
     ensures kept { HasCleanDisk (state S.Store conn.new) → IsTrue (state S.Store conn.new).is_open → (d : Tables) → Holds S.Store conn.old d → Holds S.Store conn.new d }
@@ -127,6 +136,7 @@ pub fn batch_named<S: Alter>(conn: &mut Connection<S>, name: &str) -> Result<Opt
 
 fn named_sentence_rows<S: Alter>(conn: &mut Connection<S>, sent_id: &str) -> Result<Vec<Row>, Error>
     ensures found { HasCleanDisk (state S.Store conn.new) → IfOk result (λ rows. (state S.Store conn.old).now.schema ≡ desk_schema → (xs : List Sentence) → Shows sentence_view (numbered sentence_shown 1 xs) ((state S.Store conn.old).now.trees 3) → IsPermutation (map key_alone (filter (has_name sent_id.now) (numbered sentence_shown 1 xs))) rows.items) }
+    ensures fails { HasCleanDisk (state S.Store conn.new) → (state S.Store conn.old).step_limit ≡ None → (state S.Store conn.old).now.schema ≡ desk_schema → IfErr result IsStoreFault }
     ensures same { HasCleanDisk (state S.Store conn.new) → OnOk result ((state S.Store conn.old).now.schema ≡ desk_schema → IsUnchanged (state S.Store conn.old) (state S.Store conn.new)) }
     ensures mode { conn.old.in_transaction ≡ false → conn.new.in_transaction ≡ false }
     ensures kept { HasCleanDisk (state S.Store conn.new) → IsTrue (state S.Store conn.new).is_open → (d : Tables) → Holds S.Store conn.old d → Holds S.Store conn.new d }
@@ -146,6 +156,7 @@ pub fn sentence_named<S: Alter>(
 ) -> Result<Option<u32>, ReadError>
     ensures ok { HasCleanDisk (state S.Store conn.new) → IfOk result (λ found. (state S.Store conn.old).now.schema ≡ desk_schema → (xs : List Sentence) → Shows sentence_view (numbered sentence_shown 1 xs) ((state S.Store conn.old).now.trees 3) → IsNumberOf (λ x. x.sent_id) sent_id.now xs found) }
     ensures form { HasCleanDisk (state S.Store conn.new) → result ≡ Err ReadError.Form → (state S.Store conn.old).now.schema ≡ desk_schema → (xs : List Sentence) → length xs < 2 ^ 32 → ¬ Shows sentence_view (numbered sentence_shown 1 xs) ((state S.Store conn.old).now.trees 3) }
+    ensures fails { HasCleanDisk (state S.Store conn.new) → (state S.Store conn.old).step_limit ≡ None → (state S.Store conn.old).now.schema ≡ desk_schema → IfErr result IsReadFault }
     ensures same { HasCleanDisk (state S.Store conn.new) → OnOk result ((state S.Store conn.old).now.schema ≡ desk_schema → IsUnchanged (state S.Store conn.old) (state S.Store conn.new)) }
     ensures mode { conn.old.in_transaction ≡ false → conn.new.in_transaction ≡ false }
     ensures kept { HasCleanDisk (state S.Store conn.new) → IsTrue (state S.Store conn.new).is_open → (d : Tables) → Holds S.Store conn.old d → Holds S.Store conn.new d }
@@ -159,6 +170,7 @@ pub fn sentence_named<S: Alter>(
 fn first_number(rows: &[Row]) -> Result<Option<u32>, ReadError>
     ensures first { IfOk result (λ found. (found ≡ None → rows.now ≡ []) × IfSome found (λ n. Contains rows.now (number_shown n))) }
     ensures form { result ≡ Err ReadError.Form → HasUnreadable (λ n. n < 2 ^ 32) number_shown rows.now }
+    ensures fails { IfErr result IsReadFault }
 {
     match rows.first() {
         Some(row) => Ok(Some(number_in(row)?)),
@@ -168,6 +180,7 @@ fn first_number(rows: &[Row]) -> Result<Option<u32>, ReadError>
 
 fn revision_rows<S: Alter>(conn: &mut Connection<S>, sent: u32, rev: u32) -> Result<Vec<Row>, Error>
     ensures found { HasCleanDisk (state S.Store conn.new) → IfOk result (λ rows. (state S.Store conn.old).now.schema ≡ desk_schema → (xs : List Revision) → Shows revision_view (map revision_shown xs) ((state S.Store conn.old).now.trees 5) → IsPermutation (filter (has_pair sent rev) (map revision_shown xs)) rows.items) }
+    ensures fails { HasCleanDisk (state S.Store conn.new) → (state S.Store conn.old).step_limit ≡ None → (state S.Store conn.old).now.schema ≡ desk_schema → IfErr result IsStoreFault }
     ensures same { HasCleanDisk (state S.Store conn.new) → OnOk result ((state S.Store conn.old).now.schema ≡ desk_schema → IsUnchanged (state S.Store conn.old) (state S.Store conn.new)) }
     ensures mode { conn.old.in_transaction ≡ false → conn.new.in_transaction ≡ false }
     ensures kept { HasCleanDisk (state S.Store conn.new) → IsTrue (state S.Store conn.new).is_open → (d : Tables) → Holds S.Store conn.old d → Holds S.Store conn.new d }
@@ -183,6 +196,7 @@ fn revision_rows<S: Alter>(conn: &mut Connection<S>, sent: u32, rev: u32) -> Res
 fn first_revision(rows: &[Row]) -> Result<Option<RevisionRow>, ReadError>
     ensures first { IfOk result (λ found. (option_map revision_of found ≡ None → rows.now ≡ []) × IfSome (option_map revision_of found) (λ r. Contains rows.now (revision_shown r))) }
     ensures form { result ≡ Err ReadError.Form → HasUnreadable IsRevision revision_shown rows.now }
+    ensures fails { IfErr result IsReadFault }
 {
     match rows.first() {
         Some(row) => Ok(Some(revision_in(row)?)),
@@ -198,6 +212,7 @@ pub fn revision<S: Alter>(
 ) -> Result<Option<RevisionRow>, ReadError>
     ensures ok { HasCleanDisk (state S.Store conn.new) → IfOk result (λ found. (state S.Store conn.old).now.schema ≡ desk_schema → (xs : List Revision) → Shows revision_view (map revision_shown xs) ((state S.Store conn.old).now.trees 5) → IsRevisionAt sent rev xs (option_map revision_of found)) }
     ensures form { HasCleanDisk (state S.Store conn.new) → result ≡ Err ReadError.Form → (state S.Store conn.old).now.schema ≡ desk_schema → (xs : List Revision) → All IsRevision xs → ¬ Shows revision_view (map revision_shown xs) ((state S.Store conn.old).now.trees 5) }
+    ensures fails { HasCleanDisk (state S.Store conn.new) → (state S.Store conn.old).step_limit ≡ None → (state S.Store conn.old).now.schema ≡ desk_schema → IfErr result IsReadFault }
     ensures same { HasCleanDisk (state S.Store conn.new) → OnOk result ((state S.Store conn.old).now.schema ≡ desk_schema → IsUnchanged (state S.Store conn.old) (state S.Store conn.new)) }
     ensures mode { conn.old.in_transaction ≡ false → conn.new.in_transaction ≡ false }
     ensures kept { HasCleanDisk (state S.Store conn.new) → IsTrue (state S.Store conn.new).is_open → (d : Tables) → Holds S.Store conn.old d → Holds S.Store conn.new d }
@@ -210,6 +225,7 @@ pub fn revision<S: Alter>(
 
 fn pulled_rows<S: Alter>(conn: &mut Connection<S>, sent: u32) -> Result<Vec<Row>, Error>
     ensures found { HasCleanDisk (state S.Store conn.new) → IfOk result (λ rows. (state S.Store conn.old).now.schema ≡ desk_schema → (xs : List ℕ) → Shows number_view (map number_shown xs) ((state S.Store conn.old).now.trees 9) → IsPermutation (filter (has_number sent) (map number_shown xs)) rows.items) }
+    ensures fails { HasCleanDisk (state S.Store conn.new) → (state S.Store conn.old).step_limit ≡ None → (state S.Store conn.old).now.schema ≡ desk_schema → IfErr result IsStoreFault }
     ensures same { HasCleanDisk (state S.Store conn.new) → OnOk result ((state S.Store conn.old).now.schema ≡ desk_schema → IsUnchanged (state S.Store conn.old) (state S.Store conn.new)) }
     ensures mode { conn.old.in_transaction ≡ false → conn.new.in_transaction ≡ false }
     ensures kept { HasCleanDisk (state S.Store conn.new) → IsTrue (state S.Store conn.new).is_open → (d : Tables) → Holds S.Store conn.old d → Holds S.Store conn.new d }
@@ -223,6 +239,7 @@ fn pulled_rows<S: Alter>(conn: &mut Connection<S>, sent: u32) -> Result<Vec<Row>
 pub fn is_pulled<S: Alter>(conn: &mut Connection<S>, sent: u32) -> Result<bool, ReadError>
     ensures ok { HasCleanDisk (state S.Store conn.new) → IfOk result (λ found. (state S.Store conn.old).now.schema ≡ desk_schema → (xs : List ℕ) → Shows number_view (map number_shown xs) ((state S.Store conn.old).now.trees 9) → (IsTrue found ↔ Contains xs sent)) }
     ensures form { ¬ (result ≡ Err ReadError.Form) }
+    ensures fails { HasCleanDisk (state S.Store conn.new) → (state S.Store conn.old).step_limit ≡ None → (state S.Store conn.old).now.schema ≡ desk_schema → IfErr result IsReadFault }
     ensures same { HasCleanDisk (state S.Store conn.new) → OnOk result ((state S.Store conn.old).now.schema ≡ desk_schema → IsUnchanged (state S.Store conn.old) (state S.Store conn.new)) }
     ensures mode { conn.old.in_transaction ≡ false → conn.new.in_transaction ≡ false }
     ensures kept { HasCleanDisk (state S.Store conn.new) → IsTrue (state S.Store conn.new).is_open → (d : Tables) → Holds S.Store conn.old d → Holds S.Store conn.new d }

@@ -12,6 +12,7 @@ use Rattle.tb_reading.proofs.Queries.{select_revision, select_revision_is, selec
 use Rattle.tb_reading.proofs.Picked.{picked, found_numbered}
 use Rattle.tb_reading.proofs.Staying.{either_way, shown_stays, failed_stays, lasts}
 use Rattle.tb_reading.proofs.Shown.{if_ok, when_ok, shown_same, commits_nothing, shown_at}
+use Rattle.tb_reading.proofs.Failing.{if_err, revision_fails}
 use Rattle.tb_reading.proofs.single.revision_rows.Goals as goal
 
 pub returns-clause-same : goal.returns-clause-same
@@ -42,3 +43,7 @@ returns-clause-kept g c clean opened d holds =
 
 pub returns-clause-lasts : goal.returns-clause-lasts
 returns-clause-lasts g c = lasts select_revision _ (state g.S.Store c.args.conn.now) (state g.S.Store c.query_all.new.self) select_revision_is.1 c.query_all.ensures.survives
+
+pub returns-clause-fails : goal.returns-clause-fails
+returns-clause-fails g c clean unlimited has =
+    if_err c.query_all.result (c.query_all.ensures.err clean) (λ e failed. revision_fails c.args.sent c.args.rev (state g.S.Store c.args.conn.now) (state g.S.Store c.query_all.new.self) _ e failed (search rules) has unlimited)

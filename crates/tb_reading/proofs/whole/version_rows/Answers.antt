@@ -1,4 +1,4 @@
-use Rattle.std.proofs.Common.{refl, [], ◌∷◌}
+use Rattle.std.proofs.Common.{rules, refl, [], ◌∷◌}
 use Rattle.sqlite.specs.declared.types.Value.TheVariants.{Null}
 use Rattle.sqlite.specs.Order.{column}
 use Rattle.sqlite.specs.Held.{state}
@@ -11,6 +11,7 @@ use Rattle.tb_reading.proofs.Queries.{select_versions, select_versions_is, selec
 use Rattle.tb_reading.proofs.Ordered.{all_shown, by_order, keyed, first, IsFirst, first_in_order, rises, placed, numbers_rise, numbers_placed, keyed_twice, pair, IsPair, pair_in_order, revisions_rise, revisions_placed}
 use Rattle.tb_reading.proofs.Staying.{either_way, shown_stays, failed_stays, lasts}
 use Rattle.tb_reading.proofs.Shown.{if_ok, when_ok, shown_same, commits_nothing}
+use Rattle.tb_reading.proofs.Failing.{if_err, versions_fails}
 use Rattle.tb_reading.proofs.whole.version_rows.Goals as goal
 
 pub returns-clause-same : goal.returns-clause-same
@@ -43,3 +44,7 @@ returns-clause-kept g c clean opened d holds =
 
 pub returns-clause-lasts : goal.returns-clause-lasts
 returns-clause-lasts g c = lasts select_versions _ (state g.S.Store c.args.conn.now) (state g.S.Store c.query_all.new.self) select_versions_is.1 c.query_all.ensures.survives
+
+pub returns-clause-fails : goal.returns-clause-fails
+returns-clause-fails g c clean unlimited has =
+    if_err c.query_all.result (c.query_all.ensures.err clean) (λ e failed. versions_fails (state g.S.Store c.args.conn.now) (state g.S.Store c.query_all.new.self) _ e failed (search rules) has unlimited)
