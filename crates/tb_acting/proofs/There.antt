@@ -3,7 +3,7 @@ use Rattle.std.proofs.Common.{◌≡◌, ℕ, zero, suc, ◌-◌, ◌<◌, ◌�
 use Rattle.tb_core.specs.Machine.{Machine, Sentence}
 use Rattle.tb_core.specs.Commands.{HasSentence}
 
-element : {X : Type 0} (xs : List X) (i : ℕ) → i < length xs → (x : X) × (slice_get xs i ≡ Some x)
+pub element : {X : Type 0} (xs : List X) (i : ℕ) → i < length xs → (x : X) × (slice_get xs i ≡ Some x)
 element [] i low = absurd (omega (arith, low))
 element (x ∷ xs) zero low = (x, refl)
 element (x ∷ xs) (suc i) low = element xs i (omega (arith, low))

@@ -3,3 +3,4 @@ pub mod Alike
 pub mod SixTotals
 pub mod Standings
 pub mod Adopted
+pub mod Faultless

@@ -1,6 +1,6 @@
 //! Reads of a desk's tables, told as facts of the state for which they stand. Whatever a read answers, they stand for it still.
 
-ghost use Rattle.std.specs.Prelude.{◌≡◌, ◌≢◌, ℕ, ◌-◌, ◌<◌, map, false, [], ◌∷◌, Some, Err, slice_get, string_bytes, IsTrue, IfOk, OnOk};
+ghost use Rattle.std.specs.Prelude.{◌≡◌, ◌≢◌, ℕ, ◌-◌, ◌<◌, map, false, [], ◌∷◌, Some, Err, slice_get, string_bytes, IsTrue, IfOk, OnOk, None, length};
 ghost use Rattle.sqlite.specs.State.{HasCleanDisk, IsUnchanged, Survives};
 ghost use Rattle.sqlite.specs.Held.{state};
 ghost use Rattle.tb_conllu.specs.Text.{text_of};
@@ -18,11 +18,13 @@ use sqlite::{Alter, Connection};
 use std::alloc::Global;
 use tb_acting::{faults, read_moves};
 use tb_core::{Fault, Move, Refusal, Totals};
+use tb_standing::desk_rows_are_readable;
 use tb_tables::TotalRow;
 
 /// The totals of six rows.
 fn six_totals(rows: &[TotalRow]) -> Result<Totals, Fault>
     ensures rows { IfOk result (λ t. (t.sentences ≡ map (λ r. r.sentences) rows.now) × (t.words ≡ map (λ r. r.words) rows.now)) }
+    ensures six { result ≡ Err Fault.NotADesk → length rows.now ≢ 6 }
     ensures refused { (r : AnyRefusal) → result ≢ Err (Fault.Refused r) }
 {
     match rows {
@@ -52,11 +54,13 @@ fn six_totals(rows: &[TotalRow]) -> Result<Totals, Fault>
 pub(crate) fn totals<S: Alter>(alloc: Global, conn: &mut Connection<S>) -> Result<Totals, Fault>
     ensures answered { HasCleanDisk (state S.Store conn.new) → IfOk result (λ t. (s : Machine) → IsDesk S.Store conn.old s → StandFor t s) }
     ensures refused { (r : AnyRefusal) → result ≢ Err (Fault.Refused r) }
+    ensures fails { HasCleanDisk (state S.Store conn.new) → (state S.Store conn.old).step_limit ≡ None → (s : Machine) → IsDesk S.Store conn.old s → result ≢ Err Fault.NotADesk }
     ensures same { HasCleanDisk (state S.Store conn.new) → OnOk result ((state S.Store conn.old).now.schema ≡ desk_schema → IsUnchanged (state S.Store conn.old) (state S.Store conn.new)) }
     ensures mode { conn.old.in_transaction ≡ false → conn.new.in_transaction ≡ false }
     ensures kept { HasCleanDisk (state S.Store conn.new) → IsTrue (state S.Store conn.new).is_open → (d : Tables) → Holds S.Store conn.old d → Holds S.Store conn.new d }
     ensures lasts { Survives (state S.Store conn.old) (state S.Store conn.new) (λ _. (state S.Store conn.old).now.schema ≢ desk_schema) }
 {
+    desk_rows_are_readable();
     match tb_reading::totals(alloc, conn) {
         Ok(rows) => six_totals(rows.as_slice()),
         Err(error) => Err(faults::of_read(error)),
@@ -68,11 +72,13 @@ pub(crate) fn current<S: Alter>(conn: &mut Connection<S>, number: u32) -> Result
     requires { 0 < number }
     ensures answered { HasCleanDisk (state S.Store conn.new) → IfOk result (λ n. (s : Machine) → IsDesk S.Store conn.old s → (x : Sentence) → slice_get s.sentences (number - 1) ≡ Some x → n ≡ rev_of x) }
     ensures refused { (r : AnyRefusal) → result ≢ Err (Fault.Refused r) }
+    ensures fails { HasCleanDisk (state S.Store conn.new) → (state S.Store conn.old).step_limit ≡ None → (s : Machine) → IsDesk S.Store conn.old s → (x : Sentence) → slice_get s.sentences (number - 1) ≡ Some x → result ≢ Err Fault.NotADesk }
     ensures same { HasCleanDisk (state S.Store conn.new) → OnOk result ((state S.Store conn.old).now.schema ≡ desk_schema → IsUnchanged (state S.Store conn.old) (state S.Store conn.new)) }
     ensures mode { conn.old.in_transaction ≡ false → conn.new.in_transaction ≡ false }
     ensures kept { HasCleanDisk (state S.Store conn.new) → IsTrue (state S.Store conn.new).is_open → (d : Tables) → Holds S.Store conn.old d → Holds S.Store conn.new d }
     ensures lasts { Survives (state S.Store conn.old) (state S.Store conn.new) (λ _. (state S.Store conn.old).now.schema ≢ desk_schema) }
 {
+    desk_rows_are_readable();
     match tb_reading::sentence(conn, number) {
         Ok(Some(row)) => Ok(row.rev),
         Ok(None) => Err(Fault::NotADesk),
@@ -89,11 +95,13 @@ pub(crate) fn text<S: Alter>(
     requires { 0 < number }
     ensures answered { HasCleanDisk (state S.Store conn.new) → IfOk result (λ t. (s : Machine) → IsDesk S.Store conn.old s → (x : Sentence) → slice_get s.sentences (number - 1) ≡ Some x → (q : Revision) × HasRevision x rev q × (string_bytes t ≡ text_of (q.body ∷ []))) }
     ensures refused { (r : AnyRefusal) → result ≢ Err (Fault.Refused r) }
+    ensures fails { HasCleanDisk (state S.Store conn.new) → (state S.Store conn.old).step_limit ≡ None → (s : Machine) → IsDesk S.Store conn.old s → (x : Sentence) → slice_get s.sentences (number - 1) ≡ Some x → (q : Revision) → HasRevision x rev q → result ≢ Err Fault.NotADesk }
     ensures same { HasCleanDisk (state S.Store conn.new) → OnOk result ((state S.Store conn.old).now.schema ≡ desk_schema → IsUnchanged (state S.Store conn.old) (state S.Store conn.new)) }
     ensures mode { conn.old.in_transaction ≡ false → conn.new.in_transaction ≡ false }
     ensures kept { HasCleanDisk (state S.Store conn.new) → IsTrue (state S.Store conn.new).is_open → (d : Tables) → Holds S.Store conn.old d → Holds S.Store conn.new d }
     ensures lasts { Survives (state S.Store conn.old) (state S.Store conn.new) (λ _. (state S.Store conn.old).now.schema ≢ desk_schema) }
 {
+    desk_rows_are_readable();
     match tb_reading::revision(conn, number, rev) {
         Ok(Some(row)) => Ok(row.body),
         Ok(None) => Err(Fault::NotADesk),
@@ -106,6 +114,7 @@ pub(crate) fn sentence<S: Alter>(conn: &mut Connection<S>, number: u32) -> Resul
     requires { 0 < number }
     ensures answered { HasCleanDisk (state S.Store conn.new) → IfOk result (λ c. (s : Machine) → IsDesk S.Store conn.old s → (x : Sentence) → slice_get s.sentences (number - 1) ≡ Some x → (c.rev ≡ rev_of x) × (string_bytes c.body ≡ text_of (x.current.body ∷ []))) }
     ensures refused { (r : AnyRefusal) → result ≢ Err (Fault.Refused r) }
+    ensures fails { HasCleanDisk (state S.Store conn.new) → (state S.Store conn.old).step_limit ≡ None → (s : Machine) → IsDesk S.Store conn.old s → (x : Sentence) → slice_get s.sentences (number - 1) ≡ Some x → result ≢ Err Fault.NotADesk }
     ensures same { HasCleanDisk (state S.Store conn.new) → OnOk result ((state S.Store conn.old).now.schema ≡ desk_schema → IsUnchanged (state S.Store conn.old) (state S.Store conn.new)) }
     ensures mode { conn.old.in_transaction ≡ false → conn.new.in_transaction ≡ false }
     ensures kept { HasCleanDisk (state S.Store conn.new) → IsTrue (state S.Store conn.new).is_open → (d : Tables) → Holds S.Store conn.old d → Holds S.Store conn.new d }
@@ -132,6 +141,7 @@ pub(crate) fn revision<S: Alter>(
     requires { 0 < number }
     ensures answered { HasCleanDisk (state S.Store conn.new) → IfOk result (λ t. (s : Machine) → IsDesk S.Store conn.old s → (x : Sentence) → slice_get s.sentences (number - 1) ≡ Some x → (q : Revision) × HasRevision x rev q × (string_bytes t ≡ text_of (q.body ∷ []))) }
     ensures refused { HasCleanDisk (state S.Store conn.new) → (r : AnyRefusal) → result ≡ Err (Fault.Refused r) → (r ≡ Refusal.NoSuchRevision) × ((s : Machine) → IsDesk S.Store conn.old s → (x : Sentence) → slice_get s.sentences (number - 1) ≡ Some x → (q : Revision) → HasRevision x rev q → ⊥) }
+    ensures fails { HasCleanDisk (state S.Store conn.new) → (state S.Store conn.old).step_limit ≡ None → (s : Machine) → IsDesk S.Store conn.old s → (x : Sentence) → slice_get s.sentences (number - 1) ≡ Some x → result ≢ Err Fault.NotADesk }
     ensures same { HasCleanDisk (state S.Store conn.new) → OnOk result ((state S.Store conn.old).now.schema ≡ desk_schema → IsUnchanged (state S.Store conn.old) (state S.Store conn.new)) }
     ensures mode { conn.old.in_transaction ≡ false → conn.new.in_transaction ≡ false }
     ensures kept { HasCleanDisk (state S.Store conn.new) → IsTrue (state S.Store conn.new).is_open → (d : Tables) → Holds S.Store conn.old d → Holds S.Store conn.new d }

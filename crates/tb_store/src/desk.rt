@@ -202,6 +202,7 @@ impl<S: Alter> Desk<S> {
     pub fn totals(&mut self) -> Result<Totals, Fault>
         ensures answered { HasCleanDisk (state S.Store self.new.conn) → IfOk result (λ t. (s : Machine) → StandsFor S.Store self.old s → StandFor t s) }
         ensures refused { (r : AnyRefusal) → result ≢ Err (Fault.Refused r) }
+        ensures fails { HasCleanDisk (state S.Store self.new.conn) → (state S.Store self.old.conn).step_limit ≡ None → (s : Machine) → StandsFor S.Store self.old s → result ≢ Err Fault.NotADesk }
         ensures kept { HasCleanDisk (state S.Store self.new.conn) → IsTrue (state S.Store self.new.conn).is_open → (s : Machine) → StandsFor S.Store self.old s → StandsFor S.Store self.new s }
         ensures crash { (s : Machine) → StandsFor S.Store self.old s → Survives (state S.Store self.old.conn) (state S.Store self.new.conn) (λ _. ⊥) }
     {
@@ -227,6 +228,7 @@ impl<S: Alter> Desk<S> {
         ensures answered { HasCleanDisk (state S.Store self.new.conn) → IfOk result (λ c. (s : Machine) → StandsFor S.Store self.old s → IsCurrent s number c.rev (string_bytes c.body)) }
         ensures refused { (s : Machine) → StandsFor S.Store self.old s → (result ≡ Err (Fault.Refused Refusal.NoSuchSentence)) ↔ HasNoSentence s number }
         ensures alone { (r : AnyRefusal) → result ≡ Err (Fault.Refused r) → r ≡ Refusal.NoSuchSentence }
+        ensures fails { HasCleanDisk (state S.Store self.new.conn) → (state S.Store self.old.conn).step_limit ≡ None → (s : Machine) → StandsFor S.Store self.old s → result ≢ Err Fault.NotADesk }
         ensures kept { HasCleanDisk (state S.Store self.new.conn) → IsTrue (state S.Store self.new.conn).is_open → (s : Machine) → StandsFor S.Store self.old s → StandsFor S.Store self.new s }
         ensures crash { (s : Machine) → StandsFor S.Store self.old s → Survives (state S.Store self.old.conn) (state S.Store self.new.conn) (λ _. ⊥) }
     {
@@ -245,6 +247,7 @@ impl<S: Alter> Desk<S> {
         ensures answered { HasCleanDisk (state S.Store self.new.conn) → IfOk result (λ t. (s : Machine) → StandsFor S.Store self.old s → IsTextOf s number rev (string_bytes t)) }
         ensures no_sentence { (s : Machine) → StandsFor S.Store self.old s → HasNoSentence s number → result ≡ Err (Fault.Refused Refusal.NoSuchSentence) }
         ensures refused { HasCleanDisk (state S.Store self.new.conn) → IfErr result (λ e. (s : Machine) → StandsFor S.Store self.old s → RefusesRevision s number rev e) }
+        ensures fails { HasCleanDisk (state S.Store self.new.conn) → (state S.Store self.old.conn).step_limit ≡ None → (s : Machine) → StandsFor S.Store self.old s → result ≢ Err Fault.NotADesk }
         ensures kept { HasCleanDisk (state S.Store self.new.conn) → IsTrue (state S.Store self.new.conn).is_open → (s : Machine) → StandsFor S.Store self.old s → StandsFor S.Store self.new s }
         ensures crash { (s : Machine) → StandsFor S.Store self.old s → Survives (state S.Store self.old.conn) (state S.Store self.new.conn) (λ _. ⊥) }
     {

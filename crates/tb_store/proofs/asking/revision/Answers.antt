@@ -1,6 +1,11 @@
-use Rattle.std.proofs.Common.{arith}
+use Rattle.std.proofs.Common.{◌≡◌, ◌<◌, ◌≤◌, Err, ◌∙◌, arith, rules}
+use Rattle.std.proofs.lemmas.Result.{err_from_is_err_and}
+use Rattle.sqlite.specs.Held.{state}
+use Rattle.sqlite.specs.State.{HasCleanDisk}
+use Rattle.tb_core.specs.declared.refusals.Fault.TheVariants.{NotADesk}
 use Rattle.tb_reading.proofs.Shown.{if_ok}
 use Rattle.tb_acting.proofs.Unchanged.{desk_same, lasts_then}
+use Rattle.tb_store.proofs.Faultless.{has_each}
 use Rattle.tb_store.proofs.asking.revision.Goals as goal
 
 pub returns-clause-answered : goal.returns-clause-answered
@@ -10,3 +15,19 @@ returns-clause-answered g c clean = if_ok c.text.result (c.text.ensures.answered
 
 pub returns-clause-lasts : goal.returns-clause-lasts
 returns-clause-lasts g c = lasts_then g.S.Store c.args.conn.now c.current.new.conn c.text.new.conn c.in_ok-last.ensures.same c.current.ensures.lasts c.text.ensures.lasts
+
+pub returns-in_err-last-clause-fails : goal.returns-in_err-last-clause-fails
+returns-in_err-last-clause-fails g c clean unlimited s desk x there bad =
+    let told = err_from_is_err_and c.from_residual.result c.from_residual.ensures.1 in
+    let failed : c.current.result ≡ Err NotADesk = let was = c.in_err-last.was in let one = told.1 in let two = told.2 in cc in
+    c.current.ensures.fails clean unlimited s desk x there failed
+
+pub returns-clause-fails : goal.returns-clause-fails
+returns-clause-fails g c clean unlimited s desk x there bad =
+    let mid : HasCleanDisk (state g.S.Store c.current.new.conn) = omega (arith, clean, c.text.ensures.lasts.clean) in
+    let last_is = c.in_ok-last.ensures.answered mid s desk x there in
+    let still = desk_same g.S.Store c.args.conn.now c.current.new.conn s desk (c.in_ok-last.ensures.same mid desk.holds.schema) in
+    let above : 0 < c.args.rev = search rules in
+    let within : c.args.rev ≤ c.in_ok-last.last = search rules in
+    let each = has_each x c.args.rev c.in_ok-last.last above within last_is in
+    c.text.ensures.fails clean (c.current.ensures.lasts.limit ∙ unlimited) s still x there each.0 each.1 bad

@@ -1,10 +1,13 @@
-use Rattle.std.proofs.Common.{◌≡◌, [], ◌∷◌, ap, ◌∙◌, arith, rules}
+use Rattle.std.proofs.Common.{◌≡◌, Err, [], ◌∷◌, ap, ◌∙◌, arith, rules}
+use Rattle.std.proofs.lemmas.Result.{err_from_is_err_and}
 use Rattle.sqlite.specs.Held.{state}
 use Rattle.sqlite.specs.State.{HasCleanDisk}
 use Rattle.tb_conllu.specs.Text.{text_of}
+use Rattle.tb_core.specs.declared.refusals.Fault.TheVariants.{NotADesk}
 use Rattle.tb_core.specs.Machine.{Revision}
 use Rattle.tb_acting.proofs.Telling.{current_is}
 use Rattle.tb_acting.proofs.Unchanged.{desk_same, lasts_then}
+use Rattle.tb_store.proofs.Faultless.{has_current}
 use Rattle.tb_store.proofs.asking.sentence.Goals as goal
 
 pub returns-clause-answered : goal.returns-clause-answered
@@ -22,3 +25,18 @@ returns-in_err-body-clause-lasts g c = lasts_then g.S.Store c.args.conn.now c.cu
 
 pub returns-clause-lasts : goal.returns-clause-lasts
 returns-clause-lasts g c = lasts_then g.S.Store c.args.conn.now c.current.new.conn c.text.new.conn c.in_ok-rev.ensures.same c.current.ensures.lasts c.text.ensures.lasts
+
+pub returns-in_err-rev-clause-fails : goal.returns-in_err-rev-clause-fails
+returns-in_err-rev-clause-fails g c clean unlimited s desk x there bad =
+    let told = err_from_is_err_and c.from_residual.result c.from_residual.ensures.1 in
+    let failed : c.current.result ≡ Err NotADesk = let was = c.in_err-rev.was in let one = told.1 in let two = told.2 in cc in
+    c.current.ensures.fails clean unlimited s desk x there failed
+
+pub returns-in_err-body-clause-fails : goal.returns-in_err-body-clause-fails
+returns-in_err-body-clause-fails g c clean unlimited s desk x there bad =
+    let told = err_from_is_err_and c.from_residual-in_err-body.result c.from_residual-in_err-body.ensures.1 in
+    let failed : c.text.result ≡ Err NotADesk = let was = c.in_err-body.was in let one = told.1 in let two = told.2 in cc in
+    let mid : HasCleanDisk (state g.S.Store c.current.new.conn) = omega (arith, clean, c.text.ensures.lasts.clean) in
+    let rev_is = c.in_ok-rev.ensures.answered mid s desk x there in
+    let still = desk_same g.S.Store c.args.conn.now c.current.new.conn s desk (c.in_ok-rev.ensures.same mid desk.holds.schema) in
+    c.text.ensures.fails clean (c.current.ensures.lasts.limit ∙ unlimited) s still x there x.current (has_current x c.in_ok-rev.rev rev_is) failed

@@ -1,6 +1,11 @@
+use Rattle.std.proofs.Common.{◌≡◌, Err, sym, ap, ◌∙◌}
+use Rattle.tb_core.specs.declared.refusals.Fault.TheVariants.{NotADesk}
 use Rattle.tb_tables.specs.Values.{revision_of}
+use Rattle.tb_reading.specs.Readable.{IsRevision}
 use Rattle.tb_standing.specs.Standing.{tables_of}
+use Rattle.tb_standing.specs.Fitting.{IsReadableRevision}
 use Rattle.tb_acting.proofs.Telling.{text_told}
+use Rattle.tb_store.proofs.Faultless.{read_told, fit, revision_found}
 use Rattle.tb_store.proofs.asking.text.Goals as goal
 
 pub returns-in-Ok-Some-clause-answered : goal.returns-in-Ok-Some-clause-answered
@@ -8,3 +13,15 @@ returns-in-Ok-Some-clause-answered g c clean s desk x there =
     let read = rw c.in-Ok-Some.field-0-is at c.in-Ok-Some.ensures.ok in
     let found = read clean desk.holds.schema (tables_of s).revisions desk.holds.stands.revisions in
     text_told s x c.args.number c.args.rev (revision_of c.in-Ok-Some.row) c.requires there found
+
+pub returns-in-Ok-None-clause-fails : goal.returns-in-Ok-None-clause-fails
+returns-in-Ok-None-clause-fails g c clean unlimited s desk x there q has bad =
+    let read = rw c.in-Ok-None.field-0-is at c.in-Ok-None.ensures.ok in
+    revision_found s c.args.number c.args.rev x q c.requires there has (read clean desk.holds.schema (tables_of s).revisions desk.holds.stands.revisions)
+
+pub returns-in-Err-clause-fails : goal.returns-in-Err-clause-fails
+returns-in-Err-clause-fails g c clean unlimited s desk x there q has bad =
+    let told : c.of_read.result ≡ NotADesk = cc in
+    let readable = c.desk_rows_are_readable.ensures s desk.reachable in
+    let fits = fit IsReadableRevision IsRevision (λ r h. record { sent_fits = h.sent_fits; rev_fits = h.rev_fits; who_fits = h.who_fits; body_fits = h.body_fits }) (tables_of s).revisions readable.revisions in
+    read_told c.in-Err.error (c.in-Err.ensures.fails clean unlimited desk.holds.schema) (λ unfit. c.in-Err.ensures.form clean (ap Err unfit) desk.holds.schema (tables_of s).revisions fits desk.holds.stands.revisions) (sym c.of_read.ensures.value ∙ told)

@@ -1,5 +1,7 @@
-use Rattle.std.proofs.Common.{◌∙◌, sym, ap, subst, arith, Err}
+use Rattle.std.proofs.Common.{◌∙◌, sym, ap, subst, arith, Err, ◌≡◌, None}
 use Rattle.tb_reading.proofs.Shown.{if_ok}
+use Rattle.sqlite.specs.Held.{state}
+use Rattle.tb_store.specs.Kept.{Kept}
 use Rattle.tb_store.specs.Standing.{StandsFor}
 use Rattle.tb_acting.proofs.Unchanged.{desk_kept}
 use Rattle.tb_acting.proofs.There.{sentence_there}
@@ -34,3 +36,11 @@ returns-clause-refused g c clean = err_is c.revision.result (λ e is s stands.
     refuses_revision s c.args.number c.args.rev e (λ r same.
     let told = c.revision.ensures.refused clean r (is ∙ ap Err same) in
     (told.0, (_, it.0, it.2, told.1 s here.desk it.0 it.1))))
+
+pub returns-clause-fails : goal.returns-clause-fails
+returns-clause-fails g c clean unlimited s stands bad =
+    let here = subst (λ k. StandsFor g.S.Store k s) (sym c.self.view_is) stands in
+    let limit = subst (λ (k : Kept _). (state g.S.Store k.conn).step_limit ≡ None) (sym c.self.view_is) unlimited in
+    let fits = c.in-Some.ensures.stands in
+    let it = sentence_there s c.args.number c.in-Some.number fits.0 fits.1 (omega (arith, fits.2, stands.sentences, here.sentences)) in
+    c.revision.ensures.fails clean limit s here.desk it.0 it.1 bad

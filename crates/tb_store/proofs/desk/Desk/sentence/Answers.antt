@@ -1,5 +1,7 @@
-use Rattle.std.proofs.Common.{sym, subst, arith}
+use Rattle.std.proofs.Common.{sym, subst, arith, ◌≡◌, None}
 use Rattle.tb_reading.proofs.Shown.{if_ok}
+use Rattle.sqlite.specs.Held.{state}
+use Rattle.tb_store.specs.Kept.{Kept}
 use Rattle.tb_store.specs.Standing.{StandsFor}
 use Rattle.tb_acting.proofs.Unchanged.{desk_kept}
 use Rattle.tb_acting.proofs.There.{sentence_there}
@@ -25,3 +27,11 @@ returns-clause-refused g c s stands =
     let fits = c.in-Some.ensures.stands in
     let it = sentence_there s c.args.number c.in-Some.number fits.0 fits.1 (omega (arith, fits.2, stands.sentences, here.sentences)) in
     ((λ e place x has. c.sentence.ensures.refused _ e), (λ lacks. absurd (lacks _ it.0 it.2)))
+
+pub returns-clause-fails : goal.returns-clause-fails
+returns-clause-fails g c clean unlimited s stands bad =
+    let here = subst (λ k. StandsFor g.S.Store k s) (sym c.self.view_is) stands in
+    let limit = subst (λ (k : Kept _). (state g.S.Store k.conn).step_limit ≡ None) (sym c.self.view_is) unlimited in
+    let fits = c.in-Some.ensures.stands in
+    let it = sentence_there s c.args.number c.in-Some.number fits.0 fits.1 (omega (arith, fits.2, stands.sentences, here.sentences)) in
+    c.sentence.ensures.fails clean limit s here.desk it.0 it.1 bad
