@@ -1,5 +1,5 @@
 -- Rows of moves as moves, and that the moves of a reached state are numbered.
-use Rattle.std.proofs.Common.{◌≡◌, ℕ, suc, ◌+◌, ◌<◌, List, [], ◌∷◌, ◌++◌, map, length, take, get_or, refl, sym, ap, ap₂, ◌∙◌, arith}
+use Rattle.std.proofs.Common.{◌≡◌, ℕ, zero, suc, ◌+◌, ◌<◌, List, [], ◌∷◌, ◌++◌, map, length, take, get_or, refl, sym, ap, ap₂, ◌∙◌, arith}
 use Rattle.std.proofs.Math.Seq.{take-suc}
 use Rattle.std.proofs.lemmas.List.{map-append}
 use Rattle.tb_core.specs.Moves.{MoveText}
@@ -54,3 +54,14 @@ record_more rows found k r m low at so is =
 
 pub number_more : (found : List MoveText) (k : ℕ) (m : MoveText) → length found ≡ k → AreNumbered 1 found → m.no ≡ k + 1 → AreNumbered 1 (found ++ m ∷ [])
 number_more found k m len h is = numbered_more 1 found m h (omega (arith, is, len))
+
+-- a row among those of moves is that of a move
+pub row_known : (rows : List MoveRow) (ms : List MoveText) (k : ℕ) (r : MoveRow) → k < length rows → get_or rows k r ≡ r → map move_of rows ≡ map move_record ms → (m : MoveText) × (move_of r ≡ move_record m)
+row_known [] ms k r low at e = absurd (omega (arith, low))
+row_known (x ∷ xs) [] k r low at e = absurd cc
+row_known (x ∷ xs) (m ∷ ms) zero r low at e =
+    let head : move_of x ≡ move_record m = cc in
+    (m, ap move_of (sym at) ∙ head)
+row_known (x ∷ xs) (m ∷ ms) (suc k) r low at e =
+    let tail : map move_of xs ≡ map move_record ms = cc in
+    row_known xs ms k r (omega (arith, low)) at tail

@@ -213,6 +213,7 @@ impl<S: Alter> Desk<S> {
     pub fn moves(&mut self) -> Result<Vec<Move>, Fault>
         ensures answered { HasCleanDisk (state S.Store self.new.conn) → IfOk result (λ v. (s : Machine) → StandsFor S.Store self.old s → v.items ≡ s.moves) }
         ensures refused { (r : AnyRefusal) → result ≢ Err (Fault.Refused r) }
+        ensures fails { HasCleanDisk (state S.Store self.new.conn) → (state S.Store self.old.conn).step_limit ≡ None → (s : Machine) → StandsFor S.Store self.old s → result ≢ Err Fault.NotADesk }
         ensures kept { HasCleanDisk (state S.Store self.new.conn) → IsTrue (state S.Store self.new.conn).is_open → (s : Machine) → StandsFor S.Store self.old s → StandsFor S.Store self.new s }
         ensures crash { (s : Machine) → StandsFor S.Store self.old s → Survives (state S.Store self.old.conn) (state S.Store self.new.conn) (λ _. ⊥) }
     {

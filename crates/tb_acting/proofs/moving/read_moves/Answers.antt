@@ -1,8 +1,10 @@
-use Rattle.std.proofs.Common.{◌≡◌, ◌+◌, [], ◌∷◌, length, length-append, map, take, arith, rules, subst, sym, ap, ◌∙◌}
+use Rattle.std.proofs.Common.{◌≡◌, Err, ◌+◌, [], ◌∷◌, length, length-append, map, take, arith, rules, subst, sym, ap, ◌∙◌}
+use Rattle.std.proofs.lemmas.Result.{err_from_is_err_and}
+use Rattle.tb_core.specs.declared.refusals.Fault.TheVariants.{NotADesk}
 use Rattle.tb_tables.specs.Values.{move_of}
 use Rattle.tb_standing.specs.Standing.{move_record}
 use Rattle.tb_acting.specs.Numbered.{AreNumbered}
-use Rattle.tb_acting.proofs.Numbering.{record_more, number_more}
+use Rattle.tb_acting.proofs.Numbering.{record_more, number_more, row_known}
 use Rattle.tb_acting.proofs.moving.read_moves.Goals as goal
 
 pub loop-row-preserved : goal.loop-row-preserved
@@ -17,3 +19,10 @@ loop-row-preserved c =
       subst (λ vs. map move_record vs ≡ map move_of (take (c.loop-row.row-index + 1) c.args.rows.now)) (sym items) records,
       subst (AreNumbered 1) (sym items) numbers,
     )
+
+pub returns-in_err-read_move-clause-known : goal.returns-in_err-read_move-clause-known
+returns-in_err-read_move-clause-known c bad ms same =
+    let told = err_from_is_err_and c.from_residual.result c.from_residual.ensures.1 in
+    let failed : c.read_move.result ≡ Err NotADesk = let was = c.in_err-read_move.was in let one = told.1 in let two = told.2 in cc in
+    let it = row_known c.args.rows.now ms c.loop-row.row-index c.row-item.result (omega (arith, c.loop-row-test.true)) (search rules) same in
+    c.read_move.ensures.known failed it.0 it.1

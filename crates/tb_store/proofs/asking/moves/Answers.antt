@@ -1,10 +1,14 @@
-use Rattle.std.proofs.Common.{◌≡◌, map, refl, ap, ◌∙◌, rules}
+use Rattle.std.proofs.Common.{◌≡◌, Err, map, refl, sym, ap, ◌∙◌, rules}
 use Rattle.sqlite.specs.Held.{state}
 use Rattle.tb_tables.specs.Records.{move_shown, move_view}
 use Rattle.tb_tables.specs.Values.{move_of}
+use Rattle.tb_core.specs.declared.refusals.Fault.TheVariants.{NotADesk}
+use Rattle.tb_reading.specs.Readable.{IsMove}
 use Rattle.tb_standing.specs.Standing.{tables_of}
+use Rattle.tb_standing.specs.Fitting.{IsReadableMove}
 use Rattle.tb_search.proofs.OneList.{one_list}
 use Rattle.tb_store.proofs.Alike.{same_move}
+use Rattle.tb_store.proofs.Faultless.{read_told, fit}
 use Rattle.tb_acting.proofs.Numbering.{moves_are_numbered, same_moves}
 use Rattle.tb_acting.proofs.There.{both_ok}
 use Rattle.tb_store.proofs.asking.moves.Goals as goal
@@ -15,3 +19,27 @@ returns-in-Ok-clause-answered g c clean = both_ok c.read_moves.result c.read_mov
     let same : c.as_slice.result.now ≡ rows = search rules in
     let is = one_list move_shown (λ _ _. refl) same_move move_view (tables_of s).moves (map move_of rows) ((state g.S.Store c.args.conn.now).now.trees 7) desk.holds.stands.moves (c.in-Ok.ensures.ok clean desk.holds.schema) in
     same_moves 1 v.items s.moves numbers (moves_are_numbered s desk.reachable.reached) (records ∙ ap (map move_of) same ∙ is))
+
+pub returns-in-Ok-clause-fails : goal.returns-in-Ok-clause-fails
+returns-in-Ok-clause-fails g c clean unlimited s desk bad =
+    let rows = c.in-Ok.rows.items in
+    let same : c.as_slice.result.now ≡ rows = search rules in
+    let is = one_list move_shown (λ _ _. refl) same_move move_view (tables_of s).moves (map move_of rows) ((state g.S.Store c.args.conn.now).now.trees 7) desk.holds.stands.moves (c.in-Ok.ensures.ok clean desk.holds.schema) in
+    c.read_moves.ensures.known bad s.moves (ap (map move_of) same ∙ is)
+
+pub returns-in-Err-clause-fails : goal.returns-in-Err-clause-fails
+returns-in-Err-clause-fails g c clean unlimited s desk bad =
+    let told : c.of_read.result ≡ NotADesk = cc in
+    let readable = c.desk_rows_are_readable.ensures s desk.reachable in
+    let fits = fit IsReadableMove IsMove (λ x h. record {
+      kind_fits = h.kind_fits;
+      batch_fits = h.batch_fits;
+      sent_fits = h.sent_fits;
+      from_fits = h.from_fits;
+      to_fits = h.to_fits;
+      sentences_fits = h.sentences_fits;
+      words_out_fits = h.words_out_fits;
+      words_in_fits = h.words_in_fits;
+      who_fits = h.who_fits;
+    }) (tables_of s).moves readable.moves in
+    read_told c.in-Err.error (c.in-Err.ensures.fails clean unlimited desk.holds.schema) (λ unfit. c.in-Err.ensures.form clean (ap Err unfit) desk.holds.schema (tables_of s).moves fits desk.holds.stands.moves) (sym c.of_read.ensures.value ∙ told)
