@@ -4,7 +4,7 @@ use Rattle.std.specs.List.{AllByRecursion}
 use Rattle.std.specs.Prelude.{sum_by}
 use Rattle.tb_conllu.specs.Text.{BlockText, text_of}
 use Rattle.tb_conllu.specs.Words.{words_of}
-use Rattle.tb_conllu.specs.Shape.{AllShaped}
+use Rattle.tb_conllu.specs.Shape.{IsShaped}
 use Rattle.tb_conllu.specs.Told.{IsFile}
 use Rattle.tb_core.specs.declared.replies.Imported.{Imported}
 use Rattle.tb_core.specs.Machine.{Machine, Sentence, Revision, IsLawful, revisions, weigh, rev, words}
@@ -18,16 +18,21 @@ use Rattle.tb_standing.specs.Standing.{sentence_record}
 use Rattle.tb_standing.specs.Found.{IsRevisionOf}
 use Rattle.tb_reading.specs.declared.work.Work.{Work}
 use Rattle.tb_reading.specs.Found.{work_of}
-use Rattle.tb_importing.specs.Firsts.{IsFirst, AreFirsts}
+use Rattle.tb_importing.specs.Firsts.{IsFirst, IsWorkOf, AreFirsts}
+use Rattle.tb_core.proofs.Weights.{all_there}
 use Rattle.tb_importing.proofs.Ordered.{StartsAt, rises, starts, counted}
 use Rattle.tb_importing.proofs.Counting.{first_words_are}
 
 -- ---- the first revisions are those of the sentences
 
-there : (s : Machine) (start k : ℕ) (x : Sentence) → start ≡ k + 1 → slice_get s.sentences (k + 0) ≡ Some x → IsFirst s start (first_body x)
+there : (s : Machine) (start k : ℕ) (x : Sentence) → start ≡ k + 1 → slice_get s.sentences (k + 0) ≡ Some x → IsWorkOf s (record { number = start; rev = rev x; words = words x }) (first_body x)
 there s start k x is at =
     let place : k + 0 ≡ start - 1 = omega (arith, is) in
-    record { counted = omega (arith, is); sentence = x; there = subst (λ i. slice_get s.sentences i ≡ Some x) place at; body = refl }
+    record {
+      first = record { counted = omega (arith, is); sentence = x; there = subst (λ i. slice_get s.sentences i ≡ Some x) place at; body = refl };
+      rev = refl;
+      words = refl;
+    }
 
 stand_from : (s : Machine) (n start k : ℕ) (xs : List Sentence) → start ≡ k + 1 → ((i : ℕ) → slice_get s.sentences (k + i) ≡ slice_get xs i) → AreFirsts s (work_of n start (map sentence_record xs)) (first_bodies n xs)
 stand_from s n start k [] is at = tt
@@ -53,26 +58,41 @@ first_lawful : (before : List Revision) (c : Revision) → AllByRecursion IsLawf
 first_lawful [] c h = h.0
 first_lawful (r ∷ rs) c h = h.0
 
-shaped : (n : ℕ) (xs : List Sentence) → AllByRecursion IsFine xs → AllShaped (first_bodies n xs)
-shaped n [] h = tt
-shaped n (x ∷ xs) h = by_batch (nat_eq x.batch n) (first_lawful x.before x.current h.0.lawful) (shaped n xs h.1)
-  where
-    by_batch : (t : Bool) → IsLawful (first_body x) → AllShaped (first_bodies n xs) → AllShaped (cond t (first_body x ∷ []) [] ++ first_bodies n xs)
-    by_batch true here rest = (here.shaped, rest)
-    by_batch false here rest = rest
+first_shaped : (s : Machine) (number : ℕ) (b : BlockText) → AllByRecursion IsFine s.sentences → IsFirst s number b → IsShaped b
+first_shaped s number b fine first =
+    let here = all_there IsFine s.sentences (number - 1) first.sentence first.there fine in
+    subst IsShaped (sym first.body) (first_lawful first.sentence.before first.sentence.current here.lawful).shaped
+
+-- ---- their words
+
+first_current : (before : List Revision) (c : Revision) → length before + 1 ≡ 1 → first_in before c ≡ c.body
+first_current [] c one = refl
+first_current (r ∷ rs) c one = absurd (omega (arith, one))
+
+-- a sentence of one revision has those of its current one
+pub same_words : (s : Machine) (w : Work) (b : BlockText) → IsWorkOf s w b → w.rev ≡ 1 → w.words ≡ words_of b
+same_words s w b h one =
+    let x = h.first.sentence in
+    h.words ∙ ap words_of (sym (h.first.body ∙ first_current x.before x.current (sym h.rev ∙ one)))
+
+-- any other has those of its first one, which is read
+pub read_words : ((f : List ℕ) (bs cs : List BlockText) → IsFile f bs → IsFile f cs → bs ≡ cs) → ((s : Machine) → Reached s → IsWell s) → (s : Machine) (number n : ℕ) (b : BlockText) (text : List ℕ) (bs : List BlockText) → Reached s → IsFirst s number b
+    → text ≡ text_of (b ∷ []) → IsBody text bs → n ≡ sum_by words_of bs → n ≡ words_of b
+read_words one_text well s number n b text bs reached first is body summed =
+    let file : IsFile text (b ∷ []) = record { shaped = (first_shaped s number b (well s reached).fine first, tt); text = is } in
+    let same : bs ≡ b ∷ [] = one_text text bs (b ∷ []) body.file file in
+    let alone : 0 + words_of b ≡ words_of b = omega arith in
+    summed ∙ ap (sum_by words_of) same ∙ alone
 
 -- ---- the reply
 
 abbrev replied_with : ℕ → ℕ → ℕ → ℕ → Imported
 replied_with n first sentences words = record { batch = n; first = first; sentences = sentences; words = words }
 
-pub reply_is : ((f : List ℕ) (bs cs : List BlockText) → IsFile f bs → IsFile f cs → bs ≡ cs) → ((s : Machine) → Reached s → IsWell s) → (s : Machine) (n count w : ℕ) (text : List ℕ) (bs : List BlockText) (work : List Work) (item : Work) → Reached s
-    → text ≡ text_of (first_bodies n s.sentences) → IsBody text bs → w ≡ sum_by words_of bs → work ≡ work_of n 1 (map sentence_record s.sentences) → slice_get work 0 ≡ Some item → count ≡ length work
-    → imported (replied_with n item.number count w) ≡ import_reply s n
-reply_is one_text well s n count w text bs work item reached is body summed read start many =
-    let file : IsFile text (first_bodies n s.sentences) = record { shaped = shaped n s.sentences (well s reached).fine; text = is } in
-    let same : bs ≡ first_bodies n s.sentences = one_text text bs (first_bodies n s.sentences) body.file file in
-    let all_words : w ≡ weigh (first_words n) s.sentences = summed ∙ ap (sum_by words_of) same ∙ first_words_are n s.sentences in
+pub reply_is : ((s : Machine) → Reached s → IsWell s) → (s : Machine) (n count w : ℕ) (work : List Work) (item : Work) → Reached s
+    → w ≡ sum_by words_of (first_bodies n s.sentences) → work ≡ work_of n 1 (map sentence_record s.sentences) → slice_get work 0 ≡ Some item → count ≡ length work → imported (replied_with n item.number count w) ≡ import_reply s n
+reply_is well s n count w work item reached summed read start many =
+    let all_words : w ≡ weigh (first_words n) s.sentences = summed ∙ first_words_are n s.sentences in
     let all : count ≡ weigh (of_batch n) s.sentences = many ∙ ap length read ∙ counted n 1 s.sentences in
     let at : item.number ≡ weigh (before_batch n) s.sentences + 1 = one_start work start (subst (StartsAt (1 + weigh (before_batch n) s.sentences)) (sym read) (starts n 1 0 s.sentences (rises well s reached))) in
     ap (λ k. imported (replied_with n k count w)) at ∙ ap (λ k. imported (replied_with n (weigh (before_batch n) s.sentences + 1) k w)) all ∙ ap (λ k. imported (replied_with n (weigh (before_batch n) s.sentences + 1) (weigh (of_batch n) s.sentences) k)) all_words

@@ -2,11 +2,14 @@
 use Rattle.std.proofs.Common.{◌≡◌, ◌≢◌, ℕ, zero, suc, ◌+◌, ◌<◌, ◌≤◌, ◌==◌, Bool, false, List, [], ◌∷◌, ◌++◌, length, get_or, take, drop, refl, sym, ap, subst, ◌∙◌, arith, append_assoc, append-nil}
 use Rattle.std.proofs.lemmas.Bool.Decides.{nat_tests}
 use Rattle.std.proofs.lemmas.List.{append_cancel_left, take_all}
+use Rattle.std.specs.Prelude.{sum_by}
+use Rattle.std.proofs.lemmas.List.Sums.{sum_by-append}
 use Rattle.tb_conllu.specs.Text.{BlockText, text_of}
+use Rattle.tb_conllu.specs.Words.{words_of}
 use Rattle.tb_conllu.proofs.Faults.{text_of-append}
 use Rattle.tb_core.specs.Machine.{Machine}
 use Rattle.tb_reading.specs.declared.work.Work.{Work}
-use Rattle.tb_importing.specs.Firsts.{IsFirst, AreFirsts, Tells}
+use Rattle.tb_importing.specs.Firsts.{IsWorkOf, AreFirsts, Tells}
 
 abbrev pub no_work : Work
 no_work = record { number = 0; rev = 0; words = 0 }
@@ -14,23 +17,36 @@ no_work = record { number = 0; rev = 0; words = 0 }
 -- one of them, with what comes before and after it
 pub record IsNext (s : Machine) (ws : List Work) (bs : List BlockText) (i : ℕ) : Type 0 where
   pub body : BlockText
-  pub first : IsFirst s (get_or ws i no_work).number body
+  pub work : IsWorkOf s (get_or ws i no_work) body
   pub taken : take (suc i) bs ≡ take i bs ++ body ∷ []
   pub whole : bs ≡ take i bs ++ body ∷ drop (suc i) bs
 
 pub next_of : (s : Machine) (ws : List Work) (bs : List BlockText) (i : ℕ) → i < length ws → AreFirsts s ws bs → IsNext s ws bs i
 next_of s [] bs i low h = absurd (omega (arith, low))
 next_of s (w ∷ ws) [] i low h = absurd h
-next_of s (w ∷ ws) (b ∷ bs) zero low h = record { body = b; first = h.0; taken = refl; whole = refl }
+next_of s (w ∷ ws) (b ∷ bs) zero low h = record { body = b; work = h.0; taken = refl; whole = refl }
 next_of s (w ∷ ws) (b ∷ bs) (suc i) low h =
     let later = next_of s ws bs i (omega (arith, low)) h.1 in
-    record { body = later.body; first = later.first; taken = ap (λ l. b ∷ l) later.taken; whole = ap (λ l. b ∷ l) later.whole }
+    record { body = later.body; work = later.work; taken = ap (λ l. b ∷ l) later.taken; whole = ap (λ l. b ∷ l) later.whole }
 
 as_many : (s : Machine) (ws : List Work) (bs : List BlockText) → AreFirsts s ws bs → length bs ≡ length ws
 as_many s [] [] h = refl
 as_many s [] (b ∷ bs) h = absurd h
 as_many s (w ∷ ws) [] h = absurd h
 as_many s (w ∷ ws) (b ∷ bs) h = let rest = as_many s ws bs h.1 in omega (arith, rest)
+
+-- ---- their words
+
+pub more_words : (s : Machine) (ws : List Work) (bs : List BlockText) (i : ℕ) (n : IsNext s ws bs i) (old new w : ℕ) → new ≡ old + w → w ≡ words_of n.body → old ≡ sum_by words_of (take i bs) → new ≡ sum_by words_of (take (i + 1) bs)
+more_words s ws bs i n old new w step counted before =
+    let next : suc i ≡ i + 1 = omega arith in
+    let alone : sum_by words_of (take i bs) + words_of n.body ≡ sum_by words_of (take i bs) + (0 + words_of n.body) = omega arith in
+    step ∙ ap (λ k. old + k) counted ∙ ap (λ k. k + words_of n.body) before ∙ alone ∙ sym (sum_by-append words_of (take i bs) (n.body ∷ [])) ∙ ap (sum_by words_of) (sym n.taken) ∙ ap (λ k. sum_by words_of (take k bs)) next
+
+pub all_words : (s : Machine) (ws : List Work) (bs : List BlockText) (i total : ℕ) → AreFirsts s ws bs → length ws ≤ i → total ≡ sum_by words_of (take i bs) → total ≡ sum_by words_of bs
+all_words s ws bs i total h past before = before ∙ ap (sum_by words_of) (take_all i bs (let many = as_many s ws bs h in omega (arith, many, past)))
+
+-- ---- their text
 
 module _ (s : Machine) (ws : List Work) (bs : List BlockText) (text : List ℕ) (h : AreFirsts s ws bs) where
   -- so many of them are the front of the text, and this comes after them

@@ -49,6 +49,10 @@ pub stays_if : {T E : Type 0} {X Y : Type 0} (r : Result T E) → (X → Y) → 
 stays_if (Ok x) f h = f h
 stays_if (Err e) f h = tt
 
+pub on_ok : {T E : Type 0} {X : Type 0} (r : Result T E) → X → OnOk r X
+on_ok (Ok x) h = h
+on_ok (Err e) h = tt
+
 pub kept_if : {T E : Type 0} {X Y : Type 0} (r : Result T E) → (X → Y) → OnErr r X → OnErr r Y
 kept_if (Ok x) f h = tt
 kept_if (Err e) f h = f h

@@ -2,6 +2,8 @@
 use Rattle.std.specs.Prelude.{◌≡◌, ◌≢◌, ℕ, ◌-◌, ◌<◌, List, [], ◌∷◌, Some, slice_get, Bool, MatchBool}
 use Rattle.tb_conllu.specs.Text.{BlockText, text_of}
 use Rattle.tb_core.specs.Machine.{Machine, Sentence}
+use Rattle.tb_core.specs.Machine.{rev as rev_of}
+use Rattle.tb_core.specs.Machine.{words as words_now}
 use Rattle.tb_core.specs.Tests.{first_body}
 use Rattle.tb_reading.specs.declared.work.Work.{Work}
 
@@ -12,12 +14,18 @@ pub record IsFirst (s : Machine) (number : ℕ) (b : BlockText) : Type 0 where
   pub there : slice_get s.sentences (number - 1) ≡ Some sentence
   pub body : b ≡ first_body sentence
 
+-- and what is read of it, as it is now, is this
+pub record IsWorkOf (s : Machine) (w : Work) (b : BlockText) : Type 0 where
+  pub first : IsFirst s w.number b
+  pub rev : w.rev ≡ rev_of first.sentence
+  pub words : w.words ≡ words_now first.sentence
+
 -- those of these sentences, in order
 abbrev pub AreFirsts : Machine → List Work → List BlockText → Type 0
 AreFirsts s [] [] = Unit {0}
 AreFirsts s [] (b ∷ bs) = ⊥
 AreFirsts s (w ∷ ws) [] = ⊥
-AreFirsts s (w ∷ ws) (b ∷ bs) = IsFirst s w.number b × AreFirsts s ws bs
+AreFirsts s (w ∷ ws) (b ∷ bs) = IsWorkOf s w b × AreFirsts s ws bs
 
 -- whether it is the text of these sentences
 abbrev pub Tells : Bool → List ℕ → List BlockText → Type 0

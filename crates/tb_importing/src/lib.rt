@@ -1,6 +1,7 @@
 //! An import over one SQLite connection: what its name and its sentences are to a desk, and what it writes.
 #![tactic(auto)]
 
+mod again;
 mod firsts;
 mod importing;
 mod known;

@@ -1,9 +1,9 @@
 //! What the name of an import is to the batches that stand.
 
-ghost use Rattle.std.specs.Prelude.{◌≡◌, ◌≢◌, ◌+◌, ℕ, List, map, Err, IfOk, OnOk};
+ghost use Rattle.std.specs.Prelude.{◌≡◌, ◌≢◌, ◌+◌, ℕ, List, map, sum_by, Err, IfOk, OnOk};
 ghost use Rattle.sqlite.specs.State.{HasCleanDisk};
 ghost use Rattle.sqlite.specs.Held.{state};
-ghost use Rattle.tb_conllu.specs.Text.{text_of};
+ghost use Rattle.tb_conllu.specs.Words.{words_of};
 ghost use Rattle.tb_core.specs.declared.refusals.Refusal.{Refusal as AnyRefusal};
 ghost use Rattle.tb_core.specs.Machine.{Machine, Batch};
 ghost use Rattle.tb_core.specs.Reaching.{Reached};
@@ -14,12 +14,11 @@ ghost use Rattle.tb_reading.specs.Found.{work_of};
 ghost use Rattle.tb_judge.specs.Found.{FindsName};
 ghost use Rattle.tb_importing.specs.Leaving.{IsLeft, Stays};
 
+use crate::again::words_again;
 use crate::firsts::are_firsts;
-use crate::words::words_of_text;
 use sqlite::{Alter, Connection};
 use std::alloc::Global;
 use tb_acting::{batch_number, faults};
-use tb_conllu::one_list_has_a_text;
 use tb_core::{Fault, Imported, reached_states_are_well};
 use tb_judge::NameFound;
 use tb_reading::Work;
@@ -41,25 +40,39 @@ fn read_work<S: Alter>(
     }
 }
 
-/// The reply to the import that made the batch with this number. These are its sentences, and this is the text of their first
-/// revisions.
-fn reply_again(alloc: Global, number: u32, work: &[Work], text: &[u8]) -> Result<Imported, Fault>
-    ensures answered { IfOk result (λ r. (s : Machine) → Reached s → work.now ≡ work_of number 1 (map sentence_record s.sentences) → text.now ≡ text_of (first_bodies number s.sentences) → imported r ≡ import_reply s number) }
+/// The reply to the import that made the batch with this number. These are its sentences, and so many words their first
+/// revisions have.
+fn reply_again(number: u32, work: &[Work], words: u64) -> Result<Imported, Fault>
+    ensures answered { IfOk result (λ r. (s : Machine) → Reached s → work.now ≡ work_of number 1 (map sentence_record s.sentences) → words ≡ sum_by words_of (first_bodies number s.sentences) → imported r ≡ import_reply s number) }
     ensures refused { (r : AnyRefusal) → result ≢ Err (Fault.Refused r) }
 {
-    // The laws by which the text is that of one list of sentences, and these are valid and stand in order.
-    one_list_has_a_text();
+    // The law by which sentences stand in the order of their batches.
     reached_states_are_well();
     let Some(first) = work.first() else {
         return Err(Fault::NotADesk);
     };
-    let words = words_of_text(alloc, text)?;
     Ok(Imported {
         batch: u64::from(number),
         first: u64::from(first.number),
         sentences: work.len() as u64,
         words,
     })
+}
+
+/// The same, where the words are still to be counted.
+fn repeat<S: Alter>(
+    alloc: Global,
+    conn: &mut Connection<S>,
+    number: u32,
+    work: &[Work],
+) -> Result<Imported, Fault>
+    ensures answered { HasCleanDisk (state S.Store conn.new) → IfOk result (λ r. (s : Machine) → IsDesk S.Store conn.old s → work.now ≡ work_of number 1 (map sentence_record s.sentences) → imported r ≡ import_reply s number) }
+    ensures refused { (r : AnyRefusal) → result ≢ Err (Fault.Refused r) }
+    ensures stays { OnOk result (Stays S.Store conn.old conn.new) }
+    ensures left { IsLeft S.Store conn.old conn.new }
+{
+    let words = words_again(alloc, conn, work)?;
+    reply_again(number, work, words)
 }
 
 /// What a body is to the batch with this number, which has the name of its import.
@@ -78,7 +91,7 @@ fn compare<S: Alter>(
     if !are_firsts(conn, work.as_slice(), body)? {
         return Ok(NameFound::Taken);
     }
-    let reply = reply_again(alloc, number, work.as_slice(), body)?;
+    let reply = repeat(alloc, conn, number, work.as_slice())?;
     Ok(NameFound::Same(reply))
 }
 

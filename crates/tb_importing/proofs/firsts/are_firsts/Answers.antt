@@ -13,7 +13,7 @@ returns-in_default-clause-answered g c clean s bs desk firsts =
     let mid : HasCleanDisk (state g.S.Store c.loop-one.conn) = omega (arith, clean, c.after_first.ensures.left.lasts.clean) in
     let here = desk_stays g.S.Store c.args.conn.now c.loop-one.conn inv.1 mid s desk in
     let next = next_of s c.args.work.now bs i low firsts in
-    let told = rw c.in_default.is at (c.in_ok-more.ensures.answered clean s next.body here next.first) in
+    let told = rw c.in_default.is at (c.in_ok-more.ensures.answered clean s next.body here next.work.first) in
     other_text s c.args.work.now bs c.args.text.now firsts i c.loop-one.rest.now next (inv.2 mid s bs firsts desk) told
 
 pub loop-one-preserved : goal.loop-one-preserved
@@ -28,7 +28,7 @@ loop-one-preserved g c =
           let mid : HasCleanDisk (state g.S.Store c.loop-one.conn) = omega (arith, clean, read.lasts.clean) in
           let here = desk_stays g.S.Store c.args.conn.now c.loop-one.conn inv.1 mid s desk in
           let next = next_of s c.args.work.now bs i low firsts in
-          let told = rw c.in-Some.is at (c.in_ok-more.ensures.answered clean s next.body here next.first) in
+          let told = rw c.in-Some.is at (c.in_ok-more.ensures.answered clean s next.body here next.work.first) in
           one_more s c.args.work.now bs c.args.text.now firsts i c.loop-one.rest.now c.in-Some.more.now next (inv.2 mid s bs firsts desk) told,
     )
 

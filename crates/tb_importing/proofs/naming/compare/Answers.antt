@@ -8,7 +8,7 @@ use Rattle.tb_standing.specs.Standing.{sentence_record}
 use Rattle.tb_reading.specs.declared.work.Work.{Work}
 use Rattle.tb_reading.specs.Found.{work_of}
 use Rattle.tb_importing.specs.Firsts.{AreFirsts}
-use Rattle.tb_importing.proofs.Left.{left_then, desk_stays}
+use Rattle.tb_importing.proofs.Left.{left_then, stays_then, desk_stays}
 use Rattle.tb_importing.proofs.Firstly.{firsts_stand}
 use Rattle.tb_importing.proofs.naming.compare.Goals as goal
 
@@ -16,7 +16,21 @@ pub returns-in_err-are_firsts-clause-left : goal.returns-in_err-are_firsts-claus
 returns-in_err-are_firsts-clause-left g c = left_then g.S.Store c.args.conn.now c.read_work.new.conn c.are_firsts.new.conn c.read_work.ensures.left c.in_ok-work.ensures.stays c.are_firsts.ensures.left
 
 pub returns-in_err-reply-clause-left : goal.returns-in_err-reply-clause-left
-returns-in_err-reply-clause-left g c = left_then g.S.Store c.args.conn.now c.read_work.new.conn c.are_firsts.new.conn c.read_work.ensures.left c.in_ok-work.ensures.stays c.are_firsts.ensures.left
+returns-in_err-reply-clause-left g c =
+    let first = left_then g.S.Store c.args.conn.now c.read_work.new.conn c.are_firsts.new.conn c.read_work.ensures.left c.in_ok-work.ensures.stays c.are_firsts.ensures.left in
+    let stays = stays_then g.S.Store c.args.conn.now c.read_work.new.conn c.are_firsts.new.conn c.in_ok-work.ensures.stays c.are_firsts.ensures.left c.in_ok-are_firsts.ensures.stays in
+    left_then g.S.Store c.args.conn.now c.are_firsts.new.conn c.repeat.new.conn first stays c.repeat.ensures.left
+
+pub returns-clause-left : goal.returns-clause-left
+returns-clause-left g c =
+    let first = left_then g.S.Store c.args.conn.now c.read_work.new.conn c.are_firsts.new.conn c.read_work.ensures.left c.in_ok-work.ensures.stays c.are_firsts.ensures.left in
+    let stays = stays_then g.S.Store c.args.conn.now c.read_work.new.conn c.are_firsts.new.conn c.in_ok-work.ensures.stays c.are_firsts.ensures.left c.in_ok-are_firsts.ensures.stays in
+    left_then g.S.Store c.args.conn.now c.are_firsts.new.conn c.repeat.new.conn first stays c.repeat.ensures.left
+
+pub returns-clause-stays : goal.returns-clause-stays
+returns-clause-stays g c =
+    let stays = stays_then g.S.Store c.args.conn.now c.read_work.new.conn c.are_firsts.new.conn c.in_ok-work.ensures.stays c.are_firsts.ensures.left c.in_ok-are_firsts.ensures.stays in
+    stays_then g.S.Store c.args.conn.now c.are_firsts.new.conn c.repeat.new.conn stays c.repeat.ensures.left c.in_ok-reply.ensures.stays
 
 pub returns-then-not-branch-clause-answered : goal.returns-then-not-branch-clause-answered
 returns-then-not-branch-clause-answered g c clean s name place b desk has at =
@@ -29,11 +43,13 @@ returns-then-not-branch-clause-answered g c clean s name place b desk has at =
 
 pub returns-clause-answered : goal.returns-clause-answered
 returns-clause-answered g c clean s name place b desk has at =
-    let mid : HasCleanDisk (state g.S.Store c.read_work.new.conn) = omega (arith, clean, c.are_firsts.ensures.left.lasts.clean) in
+    let late : HasCleanDisk (state g.S.Store c.are_firsts.new.conn) = omega (arith, clean, c.repeat.ensures.left.lasts.clean) in
+    let mid : HasCleanDisk (state g.S.Store c.read_work.new.conn) = omega (arith, late, c.are_firsts.ensures.left.lasts.clean) in
     let here = desk_stays g.S.Store c.args.conn.now c.read_work.new.conn c.in_ok-work.ensures.stays mid s desk in
+    let still = desk_stays g.S.Store c.read_work.new.conn c.are_firsts.new.conn c.in_ok-are_firsts.ensures.stays late s here in
     let read = c.in_ok-work.ensures.answered mid s desk in
     let work : c.as_slice.result.now ≡ work_of c.args.number 1 (map sentence_record s.sentences) = c.as_slice.ensures.value ∙ read in
     let firsts = subst (λ (l : List Work). AreFirsts s l (first_bodies c.args.number s.sentences)) (sym work) (firsts_stand s c.args.number) in
-    let same = rw c.if-not-branch.false at (c.in_ok-are_firsts.ensures.answered clean s (first_bodies c.args.number s.sentences) here firsts) in
-    let reply = c.in_ok-reply.ensures.answered s desk.reachable.reached (c.as_slice-2.ensures.value ∙ read) same in
+    let same = rw c.if-not-branch.false at (c.in_ok-are_firsts.ensures.answered late s (first_bodies c.args.number s.sentences) here firsts) in
+    let reply = c.in_ok-reply.ensures.answered clean s still (c.as_slice-2.ensures.value ∙ read) in
     (place, b, has, subst (λ n. c.args.body.now ≡ text_of (first_bodies n s.sentences)) at same, subst (λ n. imported c.in_ok-reply.reply ≡ import_reply s n) at reply)

@@ -1,0 +1,5 @@
+use Rattle.tb_reading.proofs.Shown.{if_ok}
+use Rattle.tb_importing.proofs.again.first_words.Goals as goal
+
+pub returns-clause-answered : goal.returns-clause-answered
+returns-clause-answered g c clean = if_ok c.read_words.result (c.read_words.ensures.answered clean) (λ n told s b desk work. told s b desk work.first)

@@ -1,0 +1,28 @@
+use Rattle.std.proofs.Common.{◌∙◌}
+use Rattle.tb_tables.specs.Values.{revision_of}
+use Rattle.tb_reading.proofs.Shown.{if_ok}
+use Rattle.tb_standing.specs.Standing.{tables_of}
+use Rattle.tb_importing.proofs.Left.{left_from, stays_from, on_ok}
+use Rattle.tb_importing.proofs.Firstly.{first_told, read_words}
+use Rattle.tb_importing.proofs.again.read_words.Goals as goal
+
+pub returns-in-Ok-Some-clause-left : goal.returns-in-Ok-Some-clause-left
+returns-in-Ok-Some-clause-left g c = left_from g.S.Store c.args.conn.now c.revision.new.conn c.revision.ensures.mode c.revision.ensures.kept c.revision.ensures.lasts
+
+pub returns-in-Ok-Some-clause-stays : goal.returns-in-Ok-Some-clause-stays
+returns-in-Ok-Some-clause-stays g c = on_ok c.words_of_text.result (stays_from g.S.Store c.args.conn.now c.revision.new.conn c.in-Ok-Some.ensures.same)
+
+pub returns-in-Ok-None-clause-left : goal.returns-in-Ok-None-clause-left
+returns-in-Ok-None-clause-left g c = left_from g.S.Store c.args.conn.now c.revision.new.conn c.revision.ensures.mode c.revision.ensures.kept c.revision.ensures.lasts
+
+pub returns-in-Err-clause-left : goal.returns-in-Err-clause-left
+returns-in-Err-clause-left g c = left_from g.S.Store c.args.conn.now c.revision.new.conn c.revision.ensures.mode c.revision.ensures.kept c.revision.ensures.lasts
+
+pub returns-in-Ok-Some-clause-answered : goal.returns-in-Ok-Some-clause-answered
+returns-in-Ok-Some-clause-answered g c clean = if_ok c.words_of_text.result c.words_of_text.ensures.value (λ n value s b desk first.
+    let read = rw c.in-Ok-Some.field-0-is at c.in-Ok-Some.ensures.ok in
+    let found = read clean desk.holds.schema (tables_of s).revisions desk.holds.stands.revisions in
+    let row = revision_of c.in-Ok-Some.row in
+    let of = (c.records_tell_what_stands.ensures.revisions s row).0 found.0 in
+    let text = c.as_bytes.ensures.value ∙ first_told s c.args.number b row first of found.1 found.2 in
+    read_words c.one_list_has_a_text.ensures c.reached_states_are_well.ensures s c.args.number n b c.as_bytes.result.now value.0 desk.reachable.reached first text value.1 value.2)
