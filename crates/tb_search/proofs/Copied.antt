@@ -10,7 +10,8 @@ use Rattle.tb_core.specs.Machine.{Sentence}
 use Rattle.tb_search.specs.declared.stopped.Stopped.{Stopped}
 use Rattle.tb_search.specs.declared.stopped.Stopped.TheVariants.{Output, Read}
 use Rattle.tb_search.specs.Released.{current_text, IsCutShort}
-use Rattle.tb_search.specs.Visited.{Taking, Stopping, AllTaken, Halted, texts}
+use Rattle.tb_search.specs.Visited.{Taking, Stopping, AllTaken, Halted, IsFault, texts}
+use Rattle.tb_search.proofs.Walking.{of_sink, same_fault}
 use Rattle.tb_search.proofs.Asked.{text}
 
 -- a part of what comes after
@@ -47,10 +48,10 @@ module _ {V W : Type 0} (held : W → Option (List ℕ)) where
       subst (Appends (held o) (held q)) (sym (first_text x xs)) (Appends-trans (held o) (held p) (held q) (text x) (current_text xs) first (all_copied xs u p w q more))
 
   pub cut_short : (xs : List Sentence) (v : V) (o : W) (e : Stopped) (q : W) → Halted copies breaks v o (texts xs) e q → IsCutShort e (held o) (held q) xs
-  cut_short [] v o Output q same = no_part (held o) (held q) [] (ap held same)
-  cut_short [] v o (Read error) q same = (0, subst (λ (p : W). Appends (held o) (held p) []) (sym same) (Appends-nil (held o)))
-  cut_short (x ∷ xs) v o Output q (inl same) = no_part (held o) (held q) (current_text (x ∷ xs)) (ap held same)
-  cut_short (x ∷ xs) v o (Read error) q (inl same) = (0, subst (λ (p : W). Appends (held o) (held p) []) (sym same) (Appends-nil (held o)))
+  cut_short [] v o Output q (fault, same) = no_part (held o) (held q) [] (ap held same)
+  cut_short [] v o (Read error) q (fault, same) = (0, subst (λ (p : W). Appends (held o) (held p) []) (sym same) (Appends-nil (held o)))
+  cut_short (x ∷ xs) v o Output q (inl (fault, same)) = no_part (held o) (held q) (current_text (x ∷ xs)) (ap held same)
+  cut_short (x ∷ xs) v o (Read error) q (inl (fault, same)) = (0, subst (λ (p : W). Appends (held o) (held p) []) (sym same) (Appends-nil (held o)))
   cut_short (x ∷ xs) v o Output q (inr (inl (is, part))) = subst (AppendsPart (held o) (held q)) (sym (first_text x xs)) (part_first (held o) (held q) (text x) (current_text xs) part)
   cut_short (x ∷ xs) v o (Read error) q (inr (inl (is, part))) = absurd cc
   cut_short (x ∷ xs) v o Output q (inr (inr (u, p, first, more))) =
@@ -58,3 +59,9 @@ module _ {V W : Type 0} (held : W → Option (List ℕ)) where
   cut_short (x ∷ xs) v o (Read error) q (inr (inr (u, p, first, more))) =
       let later = cut_short xs u p (Read error) q more in
       (suc later.0, subst (Appends (held o) (held q)) (sym (first_text x (take later.0 xs))) (Appends-trans (held o) (held p) (held q) (text x) (current_text (take later.0 xs)) first later.1))
+
+  pub copied_fault : (xs : List Sentence) (v : V) (o : W) (e : Stopped) (q : W) → Halted copies breaks v o (texts xs) e q → IsFault e
+  copied_fault [] v o e q (fault, same) = fault
+  copied_fault (x ∷ xs) v o e q (inl (fault, same)) = fault
+  copied_fault (x ∷ xs) v o e q (inr (inl (is, part))) = same_fault e Output (sym is) of_sink
+  copied_fault (x ∷ xs) v o e q (inr (inr (u, p, first, more))) = copied_fault xs u p e q more

@@ -1,5 +1,5 @@
 -- What is found in sentences, one after the other.
-use Rattle.std.proofs.Common.{◌≡◌, ◌<◌, ◌≤◌, ◌+◌, ℕ, List, [], ◌∷◌, ◌++◌, map, filter, take, drop, get_or, length, Bool, true, false, cond, Option, All, refl, sym, ap, ap₂, subst, ◌∙◌, append-nil, append_assoc}
+use Rattle.std.proofs.Common.{◌≡◌, ◌<◌, ◌≤◌, ◌+◌, ℕ, List, [], ◌∷◌, ◌++◌, map, filter, take, drop, Some, None, get_or, length, Bool, true, false, cond, Option, All, refl, sym, ap, ap₂, subst, ◌∙◌, append-nil, append_assoc}
 use Rattle.std.specs.List.{AllByRecursion, Contains}
 use Rattle.std.specs.Io.KnownBytes.{Appends}
 use Rattle.std.proofs.KnownBytes.{Appends-nil, Appends-trans}
@@ -7,9 +7,10 @@ use Rattle.std.proofs.lemmas.List.{map-append, length-map, take_more, drop_more,
 use Rattle.std.proofs.lemmas.List.Elements.{All-weaker, All-contains_itself}
 use Rattle.std.proofs.lemmas.List.Concat.{flat_map-append}
 use Rattle.tb_conllu.specs.Text.{BlockText, text_of}
-use Rattle.tb_conllu.specs.Told.{IsFile}
 use Rattle.tb_conllu.specs.Words.{words_of}
 use Rattle.tb_conllu.specs.Sunk.{AppendsPart}
+use Rattle.tb_rules.specs.Comments.{only, sent_ids}
+use Rattle.tb_rules.specs.Rules.{KeepsRules}
 use Rattle.tb_match.specs.declared.strategy.Strategy.{Strategy}
 use Rattle.tb_match.specs.declared.strategy.Strategy.TheVariants.{Shortest, Longest, Every}
 use Rattle.tb_match.specs.Hits.{IsHit}
@@ -21,7 +22,7 @@ use Rattle.tb_core.specs.Machine.{Sentence, Revision, bodies_of}
 use Rattle.tb_search.specs.declared.stopped.Stopped.{Stopped}
 use Rattle.tb_search.specs.declared.stopped.Stopped.TheVariants.{Output, Read}
 use Rattle.tb_search.specs.Visited.{Taking, AllTaken, texts}
-use Rattle.tb_search.specs.Searched.{Occurrence, occurrences, AreFound, AreCut, IsBrokenOff, Meets, keys, lines, total_line}
+use Rattle.tb_search.specs.Searched.{Occurrence, occurrences, AreFound, AreCut, IsBrokenOff, IsTextOf, Meets, keys, lines, total_line}
 use Rattle.tb_search.proofs.Copied.{part_first, part_later, no_part}
 
 -- ---- one list of hits
@@ -59,10 +60,27 @@ one_more_key column b hits i d ks low =
 pub as_many : (b : BlockText) (hits : List (ℕ × ℕ)) → length (occurrences b hits) ≡ length hits
 as_many b hits = length-map hits (λ (h : ℕ × ℕ). (b, h))
 
+-- ---- what the rules say of it
+
+pub few_words : (b : BlockText) → KeepsRules b → words_of b ≤ 1000
+few_words b rules = rules.0.0.0.0.0.0.0.0.1.few
+
+pub has_name : (b block : BlockText) → block ≡ b → KeepsRules b → only (sent_ids block) ≡ None → ⊥
+has_name b block same rules none =
+    let id = rules.0.0.0.0.0.0.0.0.0.0 in
+    let one : only (sent_ids block) ≡ Some id.name = ap (λ (x : BlockText). only (sent_ids x)) same ∙ ap only id.one in
+    let both : None ≡ Some id.name = sym none ∙ one in
+    absurd cc
+
+pub cut_met : (s : Strategy) (q : Asked) (text : List ℕ) (e : Stopped) (o a : Option (List ℕ)) (n : ℕ) (block : BlockText) (hits listed : List (ℕ × ℕ)) → listed ≡ hits → AreHitsIn s q block hits
+    → AreCut e o a n (occurrences block listed) → ((b : BlockText) → IsTextOf b text → block ≡ b) → Meets s q text (λ found. AreCut e o a n found)
+cut_met s q text e o a n block hits listed same are cut is b told =
+    (hits, subst (λ (x : BlockText). AreHitsIn s q x hits) (is b told) are, subst (λ l. AreCut e o a n l) (ap (occurrences block) same ∙ ap (λ (x : BlockText). occurrences x hits) (is b told)) cut)
+
 -- ---- sentences that read back
 
 abbrev pub ReadsBack : Sentence → Type 0
-ReadsBack x = IsFile (text_of (x.current.body ∷ [])) (x.current.body ∷ [])
+ReadsBack x = IsTextOf x.current.body (text_of (x.current.body ∷ []))
 
 last_has : (P : BlockText → Type 0) (before : List Revision) (r : Revision) → AllByRecursion P (map (λ (q : Revision). q.body) (before ++ r ∷ [])) → P r.body
 last_has P [] r h = h.0

@@ -7,10 +7,11 @@ use Rattle.tb_conllu.specs.Text.{text_of}
 use Rattle.tb_core.specs.Machine as machine
 use Rattle.tb_core.specs.Machine.{Sentence, revisions}
 use Rattle.tb_core.specs.Rows.{RevisionRow, revision_rows, revisions_from, pulled_from}
-use Rattle.tb_tables.specs.Records.{Revision}
+use Rattle.tb_tables.specs.Records as records
+use Rattle.tb_tables.specs.Records.{Revision, Batch}
 use Rattle.tb_standing.specs.Standing.{revision_record}
-use Rattle.tb_standing.specs.Fitting.{IsReadableRevision}
-use Rattle.tb_reading.specs.Readable.{IsRevision, ComesBefore}
+use Rattle.tb_standing.specs.Fitting.{IsReadableBatch, IsReadableSentence, IsReadableRevision}
+use Rattle.tb_reading.specs.Readable.{IsBatch, IsSentence, IsRevision, ComesBefore}
 
 abbrev IsPast : ℕ → List RevisionRow → Type 0
 IsPast n rows = AllByRecursion (λ (r : Revision). n < r.sent) (map revision_record rows)
@@ -46,6 +47,20 @@ read_all (r ∷ rs) h = (record { sent_fits = h.0.sent_fits; rev_fits = h.0.rev_
 
 pub revisions_fit : (rs : List Revision) → All IsReadableRevision rs → All IsRevision rs
 revisions_fit rs h = All-from_recursion IsRevision rs (read_all rs (recursion_from_All IsReadableRevision rs h))
+
+batches_read : (bs : List Batch) → AllByRecursion IsReadableBatch bs → AllByRecursion IsBatch bs
+batches_read [] h = tt
+batches_read (b ∷ bs) h = (record { name_fits = h.0.name_fits; state_fits = h.0.state_fits; worker_fits = h.0.worker_fits }, batches_read bs h.1)
+
+pub batches_fit : (bs : List Batch) → All IsReadableBatch bs → All IsBatch bs
+batches_fit bs h = All-from_recursion IsBatch bs (batches_read bs (recursion_from_All IsReadableBatch bs h))
+
+sentences_read : (xs : List records.Sentence) → AllByRecursion IsReadableSentence xs → AllByRecursion IsSentence xs
+sentences_read [] h = tt
+sentences_read (x ∷ xs) h = (record { sent_id_fits = h.0.sent_id_fits; batch_fits = h.0.batch_fits; rev_fits = h.0.rev_fits; words_fits = h.0.words_fits }, sentences_read xs h.1)
+
+pub sentences_fit : (xs : List records.Sentence) → All IsReadableSentence xs → All IsSentence xs
+sentences_fit xs h = All-from_recursion IsSentence xs (sentences_read xs (recursion_from_All IsReadableSentence xs h))
 
 pulled_past : (m n : ℕ) (xs : List Sentence) → m < n → AllByRecursion (λ k. m < k) (pulled_from n xs)
 pulled_past m n [] low = tt

@@ -20,17 +20,24 @@ use Rattle.tb_search.specs.declared.numbering.Numbering.{Numbering}
 use Rattle.tb_search.specs.declared.keying.Keying.{Keying}
 use Rattle.tb_search.specs.declared.listing.Listing.{Listing}
 use Rattle.tb_search.specs.Released.{is_released, released}
-use Rattle.tb_search.specs.Visited.{Taking, Stopping, AllTaken, Halted, texts}
-use Rattle.tb_search.specs.Searched.{Occurrence, occurrences, AreFound, AreCut, IsBrokenOff, Meets, keys, lines, total_line}
+use Rattle.tb_search.specs.Visited.{Taking, Stopping, AllTaken, Halted, IsFault, texts}
+use Rattle.tb_search.specs.Searched.{Occurrence, occurrences, AreFound, AreCut, IsBrokenOff, IsTextOf, Meets, keys, lines, total_line}
 use Rattle.tb_search.proofs.Copied.{part_later}
 use Rattle.tb_search.proofs.Found.{ReadsBack, all_read, bodies, all_found, same_hits, lines_more, no_lines, cut_first, cut_later}
 
 pub reads : (s : Machine) → AllByRecursion (λ (x : Sentence). AllByRecursion (λ (b : BlockText). IsValid (b ∷ []) × IsFile (text_of (b ∷ [])) (b ∷ []) × ((bs : List BlockText) → IsFile (text_of (b ∷ [])) bs → bs ≡ b ∷ [])) (bodies_of x)) s.sentences
     → AllByRecursion ReadsBack (released s)
-reads s h = all_read _ (λ b. IsFile (text_of (b ∷ [])) (b ∷ [])) (λ b it. it.1) (is_released s.batches) s.sentences h
+reads s h = all_read _ (λ b. IsTextOf b (text_of (b ∷ []))) (λ b it. (it.1, it.0.rules.0)) (is_released s.batches) s.sentences h
 
 pub asked_so : (s t : Strategy) (q r : Asked) (bs : List BlockText) (found : List Occurrence) → s ≡ t → q ≡ r → AreFound s q bs found → AreFound t r bs found
 asked_so s t q r bs found same also h = subst (λ x. AreFound x r bs found) same (subst (λ y. AreFound s y bs found) also h)
+
+pub sought_fault : {V O : Type 0} (takes : Taking V O) (stops : Stopping V O) → ((v : V) (o : O) (t : List ℕ) (e : Stopped) (q : O) → stops v o t e q → (b : BlockText) → IsTextOf b t → IsFault e)
+    → (xs : List Sentence) → AllByRecursion ReadsBack xs → (v : V) (o : O) (e : Stopped) (q : O) → Halted takes stops v o (texts xs) e q → IsFault e
+sought_fault takes stops f [] read v o e q (fault, same) = fault
+sought_fault takes stops f (x ∷ xs) read v o e q (inl (fault, same)) = fault
+sought_fault takes stops f (x ∷ xs) read v o e q (inr (inl stopped)) = f v o (text_of (x.current.body ∷ [])) e q stopped x.current.body read.0
+sought_fault takes stops f (x ∷ xs) read v o e q (inr (inr (u, p, took, more))) = sought_fault takes stops f xs read.1 u p e q more
 
 count_more : (o p q : ℕ) (xs ys : List Occurrence) → p ≡ o + length xs → q ≡ p + length ys → q ≡ o + length (xs ++ ys)
 count_more o p q xs ys first then_ = let both : length (xs ++ ys) ≡ length xs + length ys = length-append xs ys in omega (arith, first, then_, both)
@@ -81,7 +88,7 @@ module _ {W : Type 0} (held : W → Option (List ℕ)) where
   lists v o t w q = Meets v.seeker.strategy v.seeker.searcher t (λ found. puts v o found w q)
 
   abbrev pub breaks_off : Stopping Listing W
-  breaks_off v o t e q = (q ≡ o) ⊎ Meets v.seeker.strategy v.seeker.searcher t (λ found. AreCut e (held o) (held q) v.context found)
+  breaks_off v o t e q = ((b : BlockText) → IsTextOf b t → IsFault e) × ((q ≡ o) ⊎ Meets v.seeker.strategy v.seeker.searcher t (λ found. AreCut e (held o) (held q) v.context found))
 
   pub lines_found : (xs : List Sentence) → AllByRecursion ReadsBack xs → (v : Listing) (o : W) (w : Listing) (q : W) → AllTaken lists v o (texts xs) w q
       → (found : List Occurrence) × AreFound v.seeker.strategy v.seeker.searcher (bodies xs) found × puts v o found w q
@@ -98,10 +105,10 @@ module _ {W : Type 0} (held : W → Option (List ℕ)) where
 
   pub lines_cut : (xs : List Sentence) → AllByRecursion ReadsBack xs → (v : Listing) (o : W) (e : Stopped) (q : W) → Halted lists breaks_off v o (texts xs) e q
       → (found : List Occurrence) → AreFound v.seeker.strategy v.seeker.searcher (bodies xs) found → AreCut e (held o) (held q) v.context found
-  lines_cut [] read v o e q same found are = no_lines e (held o) (held q) v.context found (ap held same)
-  lines_cut (x ∷ xs) read v o e q (inl same) found are = no_lines e (held o) (held q) v.context found (ap held same)
-  lines_cut (x ∷ xs) read v o e q (inr (inl (inl same))) found are = no_lines e (held o) (held q) v.context found (ap held same)
-  lines_cut (x ∷ xs) read v o e q (inr (inl (inr met))) found (hits, rest, are, more, is) =
+  lines_cut [] read v o e q (fault, same) found are = no_lines e (held o) (held q) v.context found (ap held same)
+  lines_cut (x ∷ xs) read v o e q (inl (fault, same)) found are = no_lines e (held o) (held q) v.context found (ap held same)
+  lines_cut (x ∷ xs) read v o e q (inr (inl (fault, inl same))) found are = no_lines e (held o) (held q) v.context found (ap held same)
+  lines_cut (x ∷ xs) read v o e q (inr (inl (fault, inr met))) found (hits, rest, are, more, is) =
       let b = x.current.body in
       let here = met b read.0 in
       let same = same_hits v.seeker.strategy v.seeker.searcher b here.0 hits here.1 are in

@@ -26,6 +26,10 @@ pub if_put : {X Y : Type 0} (r : Result Unit Stopped) → (X → Y) → OnOk r X
 if_put (Ok t) f h = f h
 if_put (Err e) f h = tt
 
+pub if_err : {T : Type 0} {P Q : Stopped → Type 0} (r : Result T Stopped) → ((e : Stopped) → P e → Q e) → IfErr r P → IfErr r Q
+if_err (Ok t) f h = tt
+if_err (Err e) f h = f e h
+
 pub if_cut : {P Q : Stopped → Type 0} (r : Result Unit Stopped) → ((e : Stopped) → P e → Q e) → IfErr r P → IfErr r Q
 if_cut (Ok t) f h = tt
 if_cut (Err e) f h = f e h

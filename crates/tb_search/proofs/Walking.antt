@@ -8,9 +8,13 @@ use Rattle.tb_tables.specs.Records.{Revision}
 use Rattle.tb_reading.specs.declared.cursor.Body.{Body}
 use Rattle.tb_reading.specs.Streams.{AreToCome, GoesOn}
 use Rattle.tb_search.specs.declared.picks.Pick.{Pick}
+use Rattle.sqlite.specs.declared.error.Error.{Error}
+use Rattle.tb_reading.specs.declared.error.ReadError.TheVariants.{Store, Form}
+use Rattle.tb_reading.specs.declared.error.ReadError.{ReadError}
 use Rattle.tb_search.specs.declared.stopped.Stopped.{Stopped}
+use Rattle.tb_search.specs.declared.stopped.Stopped.TheVariants.{Output, Read}
 use Rattle.tb_search.specs.Picked.{asks, picked, bodies}
-use Rattle.tb_search.specs.Visited.{Taking, Stopping, AllTaken, Halted}
+use Rattle.tb_search.specs.Visited.{Taking, Stopping, AllTaken, Halted, IsFault}
 
 -- the revisions whose bodies were visited, and those that are to come
 pub record IsWalked {S V O : Type 0} (g : Ghosts S) (takes : Taking V O) (h : Held S) (picks : List Pick) (next : ℕ) (v : V) (o : O) (w : V) (q : O) (xs : List Revision) : Type 0 where
@@ -32,9 +36,9 @@ module _ {V O : Type 0} (takes : Taking V O) (stops : Stopping V O) where
   taken_more [] v o u p t w q (same, filled) took = (w, q, subst (λ x. takes x o t w q) same (subst (λ y. takes u y t w q) filled took), (refl, refl))
   taken_more (s ∷ ts) v o u p t w q (x, y, first, more) took = (x, y, first, taken_more ts x y u p t w q more took)
 
-  pub halts_here : (ts : List (List ℕ)) (v : V) (o : O) (e : Stopped) → Halted takes stops v o ts e o
-  halts_here [] v o e = refl
-  halts_here (t ∷ ts) v o e = inl refl
+  pub halts_here : (ts : List (List ℕ)) (v : V) (o : O) (e : Stopped) → IsFault e → Halted takes stops v o ts e o
+  halts_here [] v o e fault = (fault, refl)
+  halts_here (t ∷ ts) v o e fault = inl (fault, refl)
 
   halts_at : (ts : List (List ℕ)) (v : V) (o : O) (u : V) (p : O) (rest : List (List ℕ)) (e : Stopped) (q : O) → AllTaken takes v o ts u p → Halted takes stops u p rest e q → Halted takes stops v o (ts ++ rest) e q
   halts_at [] v o u p rest e q (same, filled) h = subst (λ x. Halted takes stops x o rest e q) same (subst (λ y. Halted takes stops u y rest e q) filled h)
@@ -52,10 +56,10 @@ module _ {V O : Type 0} (takes : Taking V O) (stops : Stopping V O) where
         let whole : picked picks xs ≡ it.done = it.split ∙ ap (λ l. it.done ++ picked (drop next picks) l) none ∙ ap (λ l. it.done ++ l) (none_come (drop next picks)) ∙ append-nil it.done in
         subst (λ l. AllTaken takes v o (bodies l) w q) (sym whole) it.taken
 
-    pub some_taken : (next : ℕ) (e : Stopped) → IsWalked g takes h picks next v o w q xs → Halted takes stops v o (bodies (picked picks xs)) e q
-    some_taken next e it =
+    pub some_taken : (next : ℕ) (e : Stopped) → IsFault e → IsWalked g takes h picks next v o w q xs → Halted takes stops v o (bodies (picked picks xs)) e q
+    some_taken next e fault it =
         let rest = picked (drop next picks) it.left in
-        subst (λ l. Halted takes stops v o l e q) (sym (ap bodies it.split ∙ bodies_more it.done rest)) (halts_at (bodies it.done) v o w q (bodies rest) e q it.taken (halts_here (bodies rest) w q e))
+        subst (λ l. Halted takes stops v o l e q) (sym (ap bodies it.split ∙ bodies_more it.done rest)) (halts_at (bodies it.done) v o w q (bodies rest) e q it.taken (halts_here (bodies rest) w q e fault))
 
     module _ (new : Held S) (next : ℕ) (p : Pick) (body : Body) (it : IsWalked g takes h picks next v o w q xs) (here : drop next picks ≡ p ∷ drop (next + 1) picks) (gone : GoesOn g new (Some body) it.left) where
       abbrev first : Revision
@@ -97,3 +101,16 @@ walk_starts g takes h picks v o xs coming = record { done = []; left = xs; split
 
 pub err_is : {T : Type 0} (Q : Stopped → Type 0) (r : Result T Stopped) (e x : Stopped) → r ≡ Err x → x ≡ e → Q e → IfErr r Q
 err_is {T} Q r e x is same q = subst (λ y. IfErr y Q) (sym is) (subst Q (sym same) q)
+
+-- what a store tells is a fault
+pub of_store : (x : Error) → IsFault (Read (Store x))
+of_store x bad = absurd cc
+
+pub of_sink : IsFault Output
+of_sink bad = absurd cc
+
+pub same_fault : (e x : Stopped) → x ≡ e → IsFault x → IsFault e
+same_fault e x same fault bad = fault (same ∙ bad)
+
+pub not_form : (y : ReadError) → (y ≡ Form → ⊥) → IsFault (Read y)
+not_form y f bad = f (let same : y ≡ Form = cc in same)

@@ -7,6 +7,7 @@ use Rattle.std.specs.Io.KnownBytes.{Appends}
 use Rattle.tb_conllu.specs.Text.{BlockText}
 use Rattle.tb_conllu.specs.Told.{IsFile}
 use Rattle.tb_conllu.specs.Sunk.{AppendsPart}
+use Rattle.tb_rules.specs.Rules.{KeepsRules}
 use Rattle.tb_match.specs.declared.strategy.Strategy.{Strategy}
 use Rattle.tb_syntax.specs.declared.lexeme.Attr.{Attr}
 use Rattle.tb_query.specs.Search.{Asked, AreHitsIn}
@@ -59,6 +60,10 @@ abbrev pub IsBrokenOff : Stopped → Option (List ℕ) → Option (List ℕ) →
 IsBrokenOff Output old new n found = AppendsPart old new (answer n found)
 IsBrokenOff _ old new n found = (first : List Occurrence) × (rest : List Occurrence) × (found ≡ first ++ rest) × Appends old new (lines n first)
 
--- Where this is the text of one sentence alone, its hits are found, and this holds of them.
+-- the text of one sentence alone, which keeps the rules of a sentence
+abbrev pub IsTextOf : BlockText → List ℕ → Type 0
+IsTextOf b text = IsFile text (b ∷ []) × KeepsRules b
+
+-- Where this is the text of a sentence, its hits are found, and this holds of them.
 abbrev pub Meets : Strategy → Asked → List ℕ → (List Occurrence → Type 0) → Type 0
-Meets s q text P = (b : BlockText) → IsFile text (b ∷ []) → (hits : List (ℕ × ℕ)) × AreHitsIn s q b hits × P (occurrences b hits)
+Meets s q text P = (b : BlockText) → IsTextOf b text → (hits : List (ℕ × ℕ)) × AreHitsIn s q b hits × P (occurrences b hits)

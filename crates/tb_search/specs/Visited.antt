@@ -1,12 +1,18 @@
 -- Texts that are visited one after the other.
-use Rattle.std.specs.Prelude.{◌≡◌, ℕ, List, [], ◌∷◌, ◌⊎◌, map}
+use Rattle.std.specs.Prelude.{◌≡◌, ◌≢◌, ℕ, List, [], ◌∷◌, ◌⊎◌, map}
 use Rattle.tb_conllu.specs.Text.{text_of}
 use Rattle.tb_core.specs.Machine.{Sentence}
+use Rattle.tb_reading.specs.declared.error.ReadError.TheVariants.{Form}
 use Rattle.tb_search.specs.declared.stopped.Stopped.{Stopped}
+use Rattle.tb_search.specs.declared.stopped.Stopped.TheVariants.{Read}
 
 -- the texts of the current revisions of sentences
 abbrev pub texts : List Sentence → List (List ℕ)
 texts xs = map (λ (x : Sentence). text_of (x.current.body ∷ [])) xs
+
+-- the fault of a store, of memory or of a sink: not that rows or texts are of no desk
+abbrev pub IsFault : Stopped → Type 0
+IsFault e = e ≢ Read Form
 
 -- what a text makes of a visitor and of what it fills
 abbrev pub Taking : Type 0 → Type 0 → Type 1
@@ -23,5 +29,5 @@ AllTaken {V} {O} takes v o (t ∷ ts) w q = (u : V) × (p : O) × takes v o t u 
 
 -- the walk ended before the first of them, at it, or after it; or after the last
 abbrev pub Halted : {V O : Type 0} → Taking V O → Stopping V O → V → O → List (List ℕ) → Stopped → O → Type 0
-Halted takes stops v o [] e q = q ≡ o
-Halted {V} {O} takes stops v o (t ∷ ts) e q = (q ≡ o) ⊎ stops v o t e q ⊎ ((u : V) × (p : O) × takes v o t u p × Halted takes stops u p ts e q)
+Halted takes stops v o [] e q = IsFault e × (q ≡ o)
+Halted {V} {O} takes stops v o (t ∷ ts) e q = (IsFault e × (q ≡ o)) ⊎ stops v o t e q ⊎ ((u : V) × (p : O) × takes v o t u p × Halted takes stops u p ts e q)

@@ -1,10 +1,10 @@
 //! Keys of hits that are counted.
 
-ghost use Rattle.std.specs.Prelude.{◌≡◌, ◌<◌, ◌≤◌, ◌++◌, ◌∷◌, [], ℕ, All, List, OnOk, map};
+ghost use Rattle.std.specs.Prelude.{◌≡◌, ◌<◌, ◌≤◌, ◌++◌, ◌∷◌, [], ℕ, All, List, IfErr, OnOk, map};
 ghost use Rattle.tb_conllu.specs.Words.{words_of};
 ghost use Rattle.tb_report.specs.Keywords.{key_of};
 ghost use Rattle.tb_report.specs.Tables.{IsTableOf};
-ghost use Rattle.tb_query.specs.Search.{Asked, AreHitsIn};
+ghost use Rattle.tb_search.specs.Visited.{IsFault};
 
 use crate::seeker::{Seeker, sentence_in};
 use crate::stopped::Stopped;
@@ -26,7 +26,8 @@ fn count_hit(
 ) -> Result<(), Stopped>
     requires first { hit.0 < hit.1 }
     requires last { hit.1 ≤ words_of block.now }
-    ensures { OnOk result ((keys : List (List ℕ)) → IsTableOf keys table.old → IsTableOf (keys ++ key_of column block.now hit ∷ []) table.new) }
+    ensures counted { OnOk result ((keys : List (List ℕ)) → IsTableOf keys table.old → IsTableOf (keys ++ key_of column block.now hit ∷ []) table.new) }
+    ensures fault { IfErr result IsFault }
 {
     if table.total() == u64::MAX {
         return Err(Stopped::Read(ReadError::Store(Error::SqliteFailure(ErrorCode::TooBig))));
@@ -45,7 +46,8 @@ fn count_hits(
     table: &mut Freq,
 ) -> Result<(), Stopped>
     requires { All (λ h. (h.0 < h.1) × (h.1 ≤ words_of block.now)) hits.now }
-    ensures { OnOk result ((keys : List (List ℕ)) → IsTableOf keys table.old → IsTableOf (keys ++ map (key_of column block.now) hits.now) table.new) }
+    ensures counted { OnOk result ((keys : List (List ℕ)) → IsTableOf keys table.old → IsTableOf (keys ++ map (key_of column block.now) hits.now) table.new) }
+    ensures fault { IfErr result IsFault }
 {
     for hit in hits {
         count_hit(alloc, block, *hit, column, table)?;
@@ -63,11 +65,13 @@ pub(crate) struct Keying<'q> {
 impl<'q> Visitor<Freq> for Keying<'q> {
     ghost use Rattle.std.specs.Prelude.{◌≡◌, ◌++◌, ℕ, List};
     ghost use Rattle.tb_report.specs.Tables.{IsTableOf};
-    ghost use Rattle.tb_search.specs.Searched.{Meets, keys as keys_of};
+    ghost use Rattle.tb_conllu.specs.Text.{BlockText};
+    ghost use Rattle.tb_search.specs.Visited.{IsFault};
+    ghost use Rattle.tb_search.specs.Searched.{IsTextOf, Meets, keys as keys_of};
 
     ghost Takes = { λ v o body w p. Meets v.seeker.strategy v.seeker.searcher body (λ found. (w ≡ v) × ((keys : List (List ℕ)) → IsTableOf keys o → IsTableOf (keys ++ keys_of v.column found) p)) };
 
-    ghost Stops = { λ _ _ _ _ _. Unit {0} };
+    ghost Stops = { λ _ _ body e _. (b : BlockText) → IsTextOf b body → IsFault e };
 
     fn visit(&mut self, body: &[u8], filled: &mut Freq) -> Result<(), Stopped> {
         let alloc = self.seeker.alloc;

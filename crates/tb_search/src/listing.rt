@@ -6,6 +6,7 @@ ghost use Rattle.tb_conllu.specs.Words.{words_of};
 ghost use Rattle.tb_conllu.specs.Sunk.{AppendsPart};
 ghost use Rattle.tb_core.specs.Machine.{sent_id_of};
 ghost use Rattle.tb_report.specs.Keywords.{keyword_line};
+ghost use Rattle.tb_search.specs.Visited.{IsFault};
 ghost use Rattle.tb_search.specs.Searched.{AreCut, lines, occurrences, total_line};
 
 use crate::seeker::{Seeker, raised, sentence_in};
@@ -49,9 +50,9 @@ fn put_piece<W: Sink>(bytes: &[u8], out: &mut W) -> Result<(), Stopped>
     }
 }
 
-/// Puts the line of one hit, in one piece: it is made in memory first.
+/// Puts the line of one hit, in one piece: it is made in memory first, in place of the line before.
 fn put_hit<W: Sink>(
-    alloc: Global,
+    line: &mut Line,
     name: &str,
     block: &BlockRef<'_>,
     hit: (u32, u32),
@@ -63,11 +64,10 @@ fn put_hit<W: Sink>(
     requires last { hit.1 ≤ words_of block.now }
     ensures put { OnOk result (Appends (W.held out.old) (W.held out.new) (keyword_line block.now hit context)) }
     ensures cut { IfErr result (λ e. AreCut e (W.held out.old) (W.held out.new) context (occurrences block.now (hit ∷ []))) }
+    ensures fault { IfErr result IsFault }
 {
-    let mut line = Line {
-        bytes: Vec::new(alloc),
-    };
-    kwic_named(name, block, hit, context, &mut line)?;
+    line.bytes.clear();
+    kwic_named(name, block, hit, context, line)?;
     put_piece(line.bytes.as_slice(), out)
 }
 
@@ -84,9 +84,13 @@ fn put_hits<W: Sink>(
     requires lie { All (λ h. (h.0 < h.1) × (h.1 ≤ words_of block.now)) hits.now }
     ensures put { OnOk result (Appends (W.held out.old) (W.held out.new) (lines context (occurrences block.now hits.now))) }
     ensures cut { IfErr result (λ e. AreCut e (W.held out.old) (W.held out.new) context (occurrences block.now hits.now)) }
+    ensures fault { IfErr result IsFault }
 {
+    let mut line = Line {
+        bytes: Vec::new(alloc),
+    };
     for hit in hits {
-        put_hit(alloc, name, block, *hit, context, out)?;
+        put_hit(&mut line, name, block, *hit, context, out)?;
     }
     Ok(())
 }
@@ -102,11 +106,13 @@ pub(crate) struct Listing<'q> {
 impl<'q, W: Sink> Visitor<W> for Listing<'q> {
     ghost use Rattle.std.specs.Prelude.{◌≡◌, ◌⊎◌, ◌+◌, length};
     ghost use Rattle.std.specs.Io.KnownBytes.{Appends};
-    ghost use Rattle.tb_search.specs.Searched.{AreCut, Meets, lines};
+    ghost use Rattle.tb_conllu.specs.Text.{BlockText};
+    ghost use Rattle.tb_search.specs.Visited.{IsFault};
+    ghost use Rattle.tb_search.specs.Searched.{AreCut, IsTextOf, Meets, lines};
 
     ghost Takes = { λ v o body w p. Meets v.seeker.strategy v.seeker.searcher body (λ found. (w.seeker ≡ v.seeker) × (w.context ≡ v.context) × (w.found ≡ v.found + length found) × Appends (W.held o) (W.held p) (lines v.context found)) };
 
-    ghost Stops = { λ v o body e p. (p ≡ o) ⊎ Meets v.seeker.strategy v.seeker.searcher body (λ found. AreCut e (W.held o) (W.held p) v.context found) };
+    ghost Stops = { λ v o body e p. ((b : BlockText) → IsTextOf b body → IsFault e) × ((p ≡ o) ⊎ Meets v.seeker.strategy v.seeker.searcher body (λ found. AreCut e (W.held o) (W.held p) v.context found)) };
 
     fn visit(&mut self, body: &[u8], filled: &mut W) -> Result<(), Stopped> {
         let alloc = self.seeker.alloc;

@@ -14,16 +14,19 @@ pub(crate) struct Numbering<'q> {
 
 impl<'q> Visitor<u64> for Numbering<'q> {
     ghost use Rattle.std.specs.Prelude.{◌≡◌, ◌+◌, length};
-    ghost use Rattle.tb_search.specs.Searched.{Meets};
+    ghost use Rattle.tb_conllu.specs.Text.{BlockText};
+    ghost use Rattle.tb_search.specs.Visited.{IsFault};
+    ghost use Rattle.tb_search.specs.Searched.{IsTextOf, Meets};
 
     ghost Takes = { λ v o body w p. Meets v.seeker.strategy v.seeker.searcher body (λ found. (w ≡ v) × (p ≡ o + length found)) };
 
-    ghost Stops = { λ _ _ _ _ _. Unit {0} };
+    ghost Stops = { λ _ _ body e _. (b : BlockText) → IsTextOf b body → IsFault e };
 
     fn visit(&mut self, body: &[u8], filled: &mut u64) -> Result<(), Stopped> {
         let block = sentence_in(self.seeker.alloc, body)?;
         let hits = self.seeker.hits(&block)?;
-        *filled = raised(*filled, hits.len())?;
+        let total = raised(*filled, hits.len())?;
+        *filled = total;
         Ok(())
     }
 }

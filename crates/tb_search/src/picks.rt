@@ -1,6 +1,6 @@
 //! Which revisions a walk asks for.
 
-ghost use Rattle.std.specs.Prelude.{◌≡◌, ◌≢◌, Err, ◌+◌, ◌<◌, ◌^◌, ◌++◌, ◌∷◌, [], cond, drop, length, map, List, IsTrue, IfOk};
+ghost use Rattle.std.specs.Prelude.{◌≡◌, ◌≢◌, Err, ◌+◌, ◌<◌, ◌^◌, ◌++◌, ◌∷◌, [], cond, drop, length, map, List, IsTrue, IfOk, IfErr};
 ghost use Rattle.tb_core.specs.declared.kinds.State.{State as AnyState};
 ghost use Rattle.tb_core.specs.Events.{is_state};
 ghost use Rattle.tb_core.specs.Machine.{Batch, Sentence, batch_with};
@@ -9,6 +9,7 @@ ghost use Rattle.tb_tables.specs.Values.{batch_of};
 ghost use Rattle.tb_standing.specs.Standing.{batch_record, sentence_record};
 ghost use Rattle.tb_reading.specs.Streams.{head_of};
 ghost use Rattle.tb_search.specs.Released.{is_released as is_in_release};
+ghost use Rattle.tb_search.specs.Visited.{IsFault};
 ghost use Rattle.tb_search.specs.Picked.{picks_from, begins, pick_of};
 
 use crate::stopped::Stopped;
@@ -66,6 +67,7 @@ fn stepped(at: usize, is_taken: bool) -> usize
 fn push_where(found: &mut Vec<Pick>, wanted: bool, pick: Pick) -> Result<(), Stopped>
     ensures more { IfOk result (λ _. found.new.items ≡ found.old.items ++ cond wanted (pick ∷ []) []) }
     ensures refused { result ≢ Err Stopped.Output }
+    ensures fault { IfErr result IsFault }
 {
     if wanted {
         found.push(pick)?;
@@ -83,6 +85,7 @@ pub(crate) fn released_of(
     requires { length heads.now < 2 ^ 32 }
     ensures picked { IfOk result (λ v. (bs : List Batch) (xs : List Sentence) → map batch_of batches.now ≡ map batch_record bs → pulled.now ≡ pulled_from 1 xs → heads.now ≡ map head_of (map sentence_record xs) → v.items ≡ picks_from (is_in_release bs) 1 xs) }
     ensures refused { result ≢ Err Stopped.Output }
+    ensures fault { IfErr result IsFault }
 {
     let mut found = Vec::new(alloc);
     let mut number = 0;
@@ -108,6 +111,7 @@ pub(crate) fn released_of(
 pub(crate) fn picks_of(alloc: Global, work: &[Work]) -> Result<Vec<Pick>, Stopped>
     ensures picked { IfOk result (λ v. v.items ≡ map pick_of work.now) }
     ensures refused { result ≢ Err Stopped.Output }
+    ensures fault { IfErr result IsFault }
 {
     let mut found = Vec::new(alloc);
     for one in work {

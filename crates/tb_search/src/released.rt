@@ -11,7 +11,7 @@ ghost use Rattle.tb_standing.specs.Standing.{IsDesk, sentence_record};
 ghost use Rattle.tb_reading.specs.Streams.{head_of};
 ghost use Rattle.tb_search.specs.Released.{released, is_released as is_in_release};
 ghost use Rattle.tb_search.specs.Picked.{picks_from};
-ghost use Rattle.tb_search.specs.Visited.{AllTaken, Halted, texts};
+ghost use Rattle.tb_search.specs.Visited.{AllTaken, Halted, IsFault, texts};
 
 use crate::picks::{Pick, released_of};
 use crate::stopped::Stopped;
@@ -31,11 +31,13 @@ fn released_among<S: Alter>(
     requires { length heads.now < 2 ^ 32 }
     ensures picked { HasCleanDisk (state S.Store conn.new) → IfOk result (λ v. (s : Machine) → IsDesk S.Store conn.old s → heads.now ≡ map head_of (map sentence_record s.sentences) → v.items ≡ picks_from (is_in_release s.batches) 1 s.sentences) }
     ensures refused { result ≢ Err Stopped.Output }
+    ensures fault { HasCleanDisk (state S.Store conn.new) → IfErr result (λ e. (s : Machine) → IsDesk S.Store conn.old s → IsFault e) }
     ensures same { HasCleanDisk (state S.Store conn.new) → OnOk result ((state S.Store conn.old).now.schema ≡ desk_schema → IsUnchanged (state S.Store conn.old) (state S.Store conn.new)) }
     ensures mode { conn.old.in_transaction ≡ false → conn.new.in_transaction ≡ false }
     ensures kept { HasCleanDisk (state S.Store conn.new) → IsTrue (state S.Store conn.new).is_open → (d : Tables) → Holds S.Store conn.old d → Holds S.Store conn.new d }
     ensures lasts { Survives (state S.Store conn.old) (state S.Store conn.new) (λ _. (state S.Store conn.old).now.schema ≢ desk_schema) }
 {
+    desk_rows_are_readable();
     let batches = tb_reading::batches(alloc, conn)?;
     let pulled = tb_reading::pulled(alloc, conn)?;
     released_of(alloc, batches.as_slice(), pulled.as_slice(), heads)
@@ -45,11 +47,13 @@ fn released_among<S: Alter>(
 fn released_picks<S: Alter>(alloc: Global, conn: &mut Connection<S>) -> Result<Vec<Pick>, Stopped>
     ensures picked { HasCleanDisk (state S.Store conn.new) → IfOk result (λ v. (s : Machine) → IsDesk S.Store conn.old s → v.items ≡ picks_from (is_in_release s.batches) 1 s.sentences) }
     ensures refused { result ≢ Err Stopped.Output }
+    ensures fault { HasCleanDisk (state S.Store conn.new) → IfErr result (λ e. (s : Machine) → IsDesk S.Store conn.old s → IsFault e) }
     ensures same { HasCleanDisk (state S.Store conn.new) → OnOk result ((state S.Store conn.old).now.schema ≡ desk_schema → IsUnchanged (state S.Store conn.old) (state S.Store conn.new)) }
     ensures mode { conn.old.in_transaction ≡ false → conn.new.in_transaction ≡ false }
     ensures kept { HasCleanDisk (state S.Store conn.new) → IsTrue (state S.Store conn.new).is_open → (d : Tables) → Holds S.Store conn.old d → Holds S.Store conn.new d }
     ensures survives { (state S.Store conn.old).now.schema ≡ desk_schema → Survives (state S.Store conn.old) (state S.Store conn.new) (λ _. ⊥) }
 {
+    desk_rows_are_readable();
     let heads = tb_reading::heads(alloc, conn)?;
     if heads.len() > u32::MAX as usize {
         return Err(Stopped::Read(ReadError::Form));

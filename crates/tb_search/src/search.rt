@@ -13,6 +13,7 @@ ghost use Rattle.tb_tables.specs.Changes.{Holds};
 ghost use Rattle.tb_core.specs.Machine.{Machine};
 ghost use Rattle.tb_standing.specs.Standing.{IsDesk};
 ghost use Rattle.tb_report.specs.Tables.{IsTableOf};
+ghost use Rattle.tb_search.specs.Visited.{IsFault};
 ghost use Rattle.tb_search.specs.Searched.{AreFound, IsBrokenOff, Occurrence, answer, keys, searched};
 
 use crate::keying::Keying;
@@ -42,6 +43,7 @@ pub fn number_released<S: Alter>(
     strategy: Strategy,
 ) -> Result<u64, Stopped>
     ensures answered { HasCleanDisk (state S.Store conn.new) → IfOk result (λ n. (s : Machine) → IsDesk S.Store conn.old s → (found : List Occurrence) × AreFound strategy query.now (searched s) found × (n ≡ length found)) }
+    ensures fault { HasCleanDisk (state S.Store conn.new) → IfErr result (λ e. (s : Machine) → IsDesk S.Store conn.old s → IsFault e) }
     ensures mode { conn.old.in_transaction ≡ false → conn.new.in_transaction ≡ false }
     ensures kept { HasCleanDisk (state S.Store conn.new) → IsTrue (state S.Store conn.new).is_open → (d : Tables) → Holds S.Store conn.old d → Holds S.Store conn.new d }
     ensures survives { (state S.Store conn.old).now.schema ≡ desk_schema → Survives (state S.Store conn.old) (state S.Store conn.new) (λ _. ⊥) }
@@ -68,6 +70,7 @@ pub fn count_released<S: Alter>(
     column: Attr,
 ) -> Result<Freq, Stopped>
     ensures answered { HasCleanDisk (state S.Store conn.new) → IfOk result (λ table. (s : Machine) → IsDesk S.Store conn.old s → (found : List Occurrence) × AreFound strategy query.now (searched s) found × IsTableOf (keys column found) table) }
+    ensures fault { HasCleanDisk (state S.Store conn.new) → IfErr result (λ e. (s : Machine) → IsDesk S.Store conn.old s → IsFault e) }
     ensures mode { conn.old.in_transaction ≡ false → conn.new.in_transaction ≡ false }
     ensures kept { HasCleanDisk (state S.Store conn.new) → IsTrue (state S.Store conn.new).is_open → (d : Tables) → Holds S.Store conn.old d → Holds S.Store conn.new d }
     ensures survives { (state S.Store conn.old).now.schema ≡ desk_schema → Survives (state S.Store conn.old) (state S.Store conn.new) (λ _. ⊥) }
@@ -98,6 +101,7 @@ pub fn search_released<S: Alter, W: Sink>(
     out: &mut W,
 ) -> Result<u64, Stopped>
     ensures answered { HasCleanDisk (state S.Store conn.new) → IfOk result (λ n. (s : Machine) → IsDesk S.Store conn.old s → (found : List Occurrence) × AreFound strategy query.now (searched s) found × (n ≡ length found) × Appends (W.held out.old) (W.held out.new) (answer context found)) }
+    ensures fault { HasCleanDisk (state S.Store conn.new) → IfErr result (λ e. (s : Machine) → IsDesk S.Store conn.old s → IsFault e) }
     ensures broken { HasCleanDisk (state S.Store conn.new) → IfErr result (λ e. (s : Machine) → IsDesk S.Store conn.old s → (found : List Occurrence) → AreFound strategy query.now (searched s) found → IsBrokenOff e (W.held out.old) (W.held out.new) context found) }
     ensures mode { conn.old.in_transaction ≡ false → conn.new.in_transaction ≡ false }
     ensures kept { HasCleanDisk (state S.Store conn.new) → IsTrue (state S.Store conn.new).is_open → (d : Tables) → Holds S.Store conn.old d → Holds S.Store conn.new d }

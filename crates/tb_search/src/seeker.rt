@@ -1,10 +1,11 @@
 //! Sentences, read back from their texts, and what is found in them.
 
-ghost use Rattle.std.specs.Prelude.{◌≡◌, ◌<◌, ◌≤◌, ◌+◌, All, IfOk, MatchOption, length, [], ◌∷◌};
+ghost use Rattle.std.specs.Prelude.{◌≡◌, ◌<◌, ◌≤◌, ◌+◌, All, IfErr, IfOk, MatchOption, length, [], ◌∷◌};
 ghost use Rattle.tb_conllu.specs.Text.{BlockText};
 ghost use Rattle.tb_conllu.specs.Told.{IsFile};
 ghost use Rattle.tb_conllu.specs.Words.{words_of};
 ghost use Rattle.tb_query.specs.Search.{AreHitsIn};
+ghost use Rattle.tb_search.specs.Visited.{IsFault};
 
 use crate::stopped::Stopped;
 use sqlite::{Error, ErrorCode};
@@ -29,7 +30,8 @@ fn only_of<'a>(mut blocks: Vec<BlockRef<'a>>) -> Option<BlockRef<'a>>
 
 /// The sentence of which this is the text. It borrows from the text.
 pub(crate) fn sentence_in<'a>(alloc: Global, body: &'a [u8]) -> Result<BlockRef<'a>, Stopped>
-    ensures { IfOk result (λ b. (x : BlockText) → IsFile body.now (x ∷ []) → b ≡ x) }
+    ensures read { IfOk result (λ b. (x : BlockText) → IsFile body.now (x ∷ []) → b ≡ x) }
+    ensures fault { IfErr result (λ e. (x : BlockText) → IsFile body.now (x ∷ []) → IsFault e) }
 {
     let blocks = read_ref(alloc, body)?;
     let Some(block) = only_of(blocks) else {
@@ -40,7 +42,8 @@ pub(crate) fn sentence_in<'a>(alloc: Global, body: &'a [u8]) -> Result<BlockRef<
 
 /// A count and some more.
 pub(crate) fn raised(count: u64, more: usize) -> Result<u64, Stopped>
-    ensures { IfOk result (λ n. n ≡ count + more) }
+    ensures sum { IfOk result (λ n. n ≡ count + more) }
+    ensures fault { IfErr result IsFault }
 {
     match count.checked_add(more as u64) {
         Some(sum) => Ok(sum),
@@ -63,7 +66,8 @@ impl<'q> Seeker<'q> {
         query: &'q Query,
         strategy: Strategy,
     ) -> Result<Seeker<'q>, Stopped>
-        ensures { IfOk result (λ s. (s.searcher ≡ query.now) × (s.strategy ≡ strategy)) }
+        ensures asked { IfOk result (λ s. (s.searcher ≡ query.now) × (s.strategy ≡ strategy)) }
+        ensures fault { IfErr result IsFault }
     {
         let searcher = query.searcher(alloc)?;
         Ok(Seeker {
@@ -77,6 +81,7 @@ impl<'q> Seeker<'q> {
     pub(crate) fn hits(&mut self, block: &BlockRef<'_>) -> Result<Vec<(u32, u32)>, Stopped>
         ensures hits { IfOk result (λ v. AreHitsIn self.old.strategy self.old.searcher block.now v.items) }
         ensures lie { IfOk result (λ v. All (λ h. (h.0 < h.1) × (h.1 ≤ words_of block.now)) v.items) }
+        ensures fault { IfErr result (λ e. words_of block.now ≤ 1000 → IsFault e) }
         ensures same { self.new ≡ self.old }
     {
         if words(block) > 1000 {

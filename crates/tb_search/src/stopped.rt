@@ -43,13 +43,14 @@ impl From<AllocError> for Stopped {
 }
 
 impl From<ReadFault> for Stopped {
-    ghost use Rattle.std.specs.Prelude.{◌≡◌, ◌⊎◌};
+    ghost use Rattle.std.specs.Prelude.{◌≡◌};
+    ghost use Rattle.tb_conllu.specs.declared.fault.ReadFault.TheVariants.{Memory};
     ghost use Rattle.sqlite.specs.declared.error.Error.TheVariants.{SqliteFailure};
     ghost use Rattle.sqlite.specs.declared.error.ErrorCode.TheVariants.{OutOfMemory};
-    ghost use Rattle.tb_reading.specs.declared.error.ReadError.TheVariants.{Store, Form};
+    ghost use Rattle.tb_reading.specs.declared.error.ReadError.TheVariants.{Store};
     ghost use Rattle.tb_search.specs.declared.stopped.Stopped.TheVariants.{Read};
 
-    ghost from_gives = { λ _ e. (e ≡ Read (Store (SqliteFailure OutOfMemory))) ⊎ (e ≡ Read Form) };
+    ghost from_gives = { λ x e. x ≡ Memory → e ≡ Read (Store (SqliteFailure OutOfMemory)) };
 
     fn from(fault: ReadFault) -> Stopped {
         match fault {

@@ -1,5 +1,5 @@
 use Rattle.tb_search.specs.Released.{released}
-use Rattle.tb_search.proofs.Copied.{all_copied, cut_short}
+use Rattle.tb_search.proofs.Copied.{all_copied, cut_short, copied_fault}
 use Rattle.tb_search.proofs.Visiting.{if_put, if_cut}
 use Rattle.tb_search.proofs.export.export_released.Goals as goal
 
@@ -8,3 +8,6 @@ returns-clause-put g c clean = if_put c.visit_released.result (λ told s desk. a
 
 pub returns-clause-part : goal.returns-clause-part
 returns-clause-part g c clean = if_cut c.visit_released.result (λ e told s desk. cut_short g.W.Sink.held (released s) _ c.args.out.now e c.visit_released.new.filled (told s desk)) (c.visit_released.ensures.halted clean)
+
+pub returns-clause-fault : goal.returns-clause-fault
+returns-clause-fault g c clean = if_cut c.visit_released.result (λ e told s desk. copied_fault g.W.Sink.held (released s) _ c.args.out.now e c.visit_released.new.filled (told s desk)) (c.visit_released.ensures.halted clean)

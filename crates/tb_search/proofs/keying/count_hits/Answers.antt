@@ -11,10 +11,10 @@ loop-hit-preserved c ks are =
     let i = c.loop-hit.hit-index in
     let low : i < length hits = omega (arith, c.loop-hit-test.true) in
     subst (λ (l : List (List ℕ)). IsTableOf l c.count_hit.new.table) (one_more_key c.args.column c.args.block.now hits i (0, 0) ks low)
-    (c.in_ok-count_hit.ensures (ks ++ map (key_of c.args.column c.args.block.now) (take i hits)) (c.loop-hit.invariant ks are))
+    (c.in_ok-count_hit.ensures.counted (ks ++ map (key_of c.args.column c.args.block.now) (take i hits)) (c.loop-hit.invariant ks are))
 
-pub returns : goal.returns
-returns c ks are =
+pub returns-clause-counted : goal.returns-clause-counted
+returns-clause-counted c ks are =
     let hits = c.args.hits.now in
     let i = c.loop-hit.hit-index in
     let end : i ≡ length hits = omega (arith, c.loop-hit-test.false, c.loop-hit.auto.hit-index-end) in

@@ -1,4 +1,5 @@
-use Rattle.std.proofs.Common.{◌≡◌, map, refl, ap, ◌∙◌, rules, arith}
+use Rattle.std.proofs.Common.{Err, ◌≡◌, map, refl, ap, ◌∙◌, rules, arith}
+use Rattle.std.proofs.lemmas.Result.{err_from_is_err_and}
 use Rattle.sqlite.specs.Held.{state}
 use Rattle.sqlite.specs.State.{HasCleanDisk}
 use Rattle.tb_core.specs.Rows.{pulled_from}
@@ -7,8 +8,9 @@ use Rattle.tb_tables.specs.Values.{batch_of}
 use Rattle.tb_standing.specs.Standing.{batch_record}
 use Rattle.tb_reading.proofs.Shown.{if_ok}
 use Rattle.tb_search.proofs.OneList.{one_list, same_batch}
-use Rattle.tb_search.proofs.Rises.{pulled_rise}
-use Rattle.tb_search.proofs.Visiting.{desk_same, lasts_then}
+use Rattle.tb_search.proofs.Rises.{pulled_rise, batches_fit}
+use Rattle.tb_search.proofs.Walking.{err_is, not_form}
+use Rattle.tb_search.proofs.Visiting.{desk_same, lasts_then, if_err}
 use Rattle.tb_search.proofs.released.released_among.Goals as goal
 
 pub returns-in_err-pulled-clause-lasts : goal.returns-in_err-pulled-clause-lasts
@@ -27,3 +29,22 @@ returns-clause-picked g c clean = if_ok c.released_of.result c.released_of.ensur
 
 pub returns-clause-lasts : goal.returns-clause-lasts
 returns-clause-lasts g c = lasts_then g.S.Store c.args.conn.now c.batches.new.conn c.pulled.new.conn c.in_ok-batches.ensures.same c.batches.ensures.lasts c.pulled.ensures.lasts
+
+pub returns-in_err-batches-clause-fault : goal.returns-in_err-batches-clause-fault
+returns-in_err-batches-clause-fault g c clean =
+    let told = err_from_is_err_and c.from_residual.result c.from_residual.ensures.1 in
+    err_is _ _ _ told.0 told.1 told.2 (λ s desk.
+    let readable = c.desk_rows_are_readable.ensures s desk.reachable in
+    not_form _ (λ same. c.in_err-batches.ensures.form clean (ap Err same) desk.holds.schema (map batch_record s.batches) (batches_fit (map batch_record s.batches) readable.batches) desk.holds.stands.batches))
+
+pub returns-in_err-pulled-clause-fault : goal.returns-in_err-pulled-clause-fault
+returns-in_err-pulled-clause-fault g c clean =
+    let told = err_from_is_err_and c.from_residual-in_err-pulled.result c.from_residual-in_err-pulled.ensures.1 in
+    err_is _ _ _ told.0 told.1 told.2 (λ s desk.
+    let mid : HasCleanDisk (state g.S.Store c.batches.new.conn) = omega (arith, clean, c.pulled.ensures.lasts.clean) in
+    let still = desk_same g.S.Store c.args.conn.now c.batches.new.conn s desk (c.in_ok-batches.ensures.same mid desk.holds.schema) in
+    let readable = c.desk_rows_are_readable.ensures s desk.reachable in
+    not_form _ (λ same. c.in_err-pulled.ensures.form clean (ap Err same) still.holds.schema (pulled_from 1 s.sentences) readable.pulled (pulled_rise 1 s.sentences) still.holds.stands.pulled))
+
+pub returns-clause-fault : goal.returns-clause-fault
+returns-clause-fault g c clean = if_err c.released_of.result (λ e fault s desk. fault) c.released_of.ensures.fault

@@ -25,4 +25,4 @@ returns-clause-halted g c clean = if_cut c.visit_picked.result (λ e told s desk
 pub returns-in_err-picks-clause-halted : goal.returns-in_err-picks-clause-halted
 returns-in_err-picks-clause-halted g c clean =
     let told = err_from_is_err_and c.from_residual.result c.from_residual.ensures.1 in
-    err_is _ _ _ told.0 told.1 told.2 (λ s desk. halts_here g.V.Visitor.Takes g.V.Visitor.Stops (texts (released s)) c.args.visitor.now c.args.filled.now _)
+    err_is _ _ _ told.0 told.1 told.2 (λ s desk. halts_here g.V.Visitor.Takes g.V.Visitor.Stops (texts (released s)) c.args.visitor.now c.args.filled.now _ (c.in_err-picks.ensures.fault clean s desk))

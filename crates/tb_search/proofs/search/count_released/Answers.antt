@@ -1,14 +1,30 @@
 use Rattle.std.proofs.Common.{[], subst, sym}
 use Rattle.tb_report.specs.Tables.{IsTableOf}
+use Rattle.std.proofs.lemmas.Result.{err_from_is_err_and}
+use Rattle.tb_conllu.specs.Text.{BlockText}
 use Rattle.tb_search.specs.Released.{released}
-use Rattle.tb_search.specs.Searched.{searched}
-use Rattle.tb_search.proofs.Seeking.{reads, asked_so, table_found, no_keys}
+use Rattle.tb_search.specs.Searched.{searched, IsTextOf, Meets}
+use Rattle.tb_search.specs.Visited.{IsFault}
+use Rattle.tb_search.proofs.Walking.{err_is}
+use Rattle.tb_search.proofs.Seeking.{reads, asked_so, table_found, no_keys, tells, sought_fault}
 use Rattle.tb_search.proofs.search.count_released.Goals as goal
 
 pub returns-clause-answered : goal.returns-clause-answered
 returns-clause-answered g c clean s desk =
     let seeker = c.in_ok-seeker.seeker in
-    let asked = c.in_ok-seeker.ensures in
+    let asked = c.in_ok-seeker.ensures.asked in
     let read = reads s (c.revisions_read_back.ensures s desk.reachable.reached) in
     let all = table_found (released s) read (record { seeker = seeker; column = c.args.column }) c.new-table.result c.visit_released.new.visitor c.visit_released.new.filled (c.in_ok-visit_released.ensures.taken clean s desk) in
     (all.0, asked_so _ _ _ _ (searched s) all.0 asked.1 asked.0 all.1, all.2.1 [] (subst (λ t. IsTableOf [] t) (sym c.new-table.ensures) no_keys))
+
+pub returns-in_err-seeker-clause-fault : goal.returns-in_err-seeker-clause-fault
+returns-in_err-seeker-clause-fault g c clean =
+    let told = err_from_is_err_and c.from_residual.result c.from_residual.ensures.1 in
+    err_is _ _ _ told.0 told.1 told.2 (λ s desk. c.in_err-seeker.ensures.fault)
+
+pub returns-in_err-visit_released-clause-fault : goal.returns-in_err-visit_released-clause-fault
+returns-in_err-visit_released-clause-fault g c clean =
+    let told = err_from_is_err_and c.from_residual-in_err-visit_released.result c.from_residual-in_err-visit_released.ensures.1 in
+    err_is _ _ _ told.0 told.1 told.2 (λ s desk.
+    let read = reads s (c.revisions_read_back.ensures s desk.reachable.reached) in
+    sought_fault (λ v o t w q. Meets v.seeker.strategy v.seeker.searcher t (λ found. tells v o found w q)) (λ v o t e q. (b : BlockText) → IsTextOf b t → IsFault e) (λ v o t e q stopped. stopped) (released s) read (record { seeker = c.in_ok-seeker.seeker; column = c.args.column }) c.new-table.result _ c.visit_released.new.filled (c.in_err-visit_released.ensures.halted clean s desk))

@@ -1,4 +1,4 @@
-use Rattle.std.proofs.Common.{◌≢◌, ◌<◌, get_or, length, refl, ◌∙◌, rules, arith}
+use Rattle.std.proofs.Common.{ap, Err, ◌≢◌, ◌<◌, get_or, length, refl, ◌∙◌, rules, arith}
 use Rattle.std.proofs.lemmas.List.{drop_more}
 use Rattle.std.proofs.lemmas.Result.{err_from_is_err_and}
 use Rattle.sqlite.specs.State.{HasCleanDisk}
@@ -7,7 +7,7 @@ use Rattle.sqlite.proofs.StateLemmas.{survives_then, survives_weaker}
 use Rattle.sqlite.proofs.Callers.{unchanged_then}
 use Rattle.tb_tables.specs.Layout.{desk_schema}
 use Rattle.tb_search.specs.Picked.{picked, bodies}
-use Rattle.tb_search.proofs.Walking.{walk_starts, halts_here, none_left, some_taken, one_more, one_stopped, err_is}
+use Rattle.tb_search.proofs.Walking.{walk_starts, halts_here, none_left, some_taken, one_more, one_stopped, err_is, of_store, not_form}
 use Rattle.tb_search.proofs.walk.visit_picked.Goals as goal
 
 -- ---- one turn
@@ -44,7 +44,7 @@ rows-preserved g c =
 pub returns-in_err-rows-clause-halted : goal.returns-in_err-rows-clause-halted
 returns-in_err-rows-clause-halted g c clean =
     let told = err_from_is_err_and c.from_residual.result c.from_residual.ensures.1 in
-    err_is _ _ _ told.0 told.1 told.2 (λ has xs each rises shows. halts_here g.V.Visitor.Takes g.V.Visitor.Stops (bodies (picked c.args.picks.now xs)) c.args.visitor.now c.args.filled.now _)
+    err_is _ _ _ told.0 told.1 told.2 (λ has xs each rises shows. halts_here g.V.Visitor.Takes g.V.Visitor.Stops (bodies (picked c.args.picks.now xs)) c.args.visitor.now c.args.filled.now _ (of_store _))
 
 pub returns-then-next-picks-clause-lasts : goal.returns-then-next-picks-clause-lasts
 returns-then-next-picks-clause-lasts g c =
@@ -93,7 +93,9 @@ returns-in_err-body-clause-halted g c clean =
     let late : HasCleanDisk (state g.S.Store c.next_body.follows.lender-at-none.conn.now) = search rules in
     let told = err_from_is_err_and c.from_residual-in_err-body.result c.from_residual-in_err-body.ensures.1 in
     err_is _ _ _ told.0 told.1 told.2 (λ has xs each rises shows.
-    some_taken g.V.Visitor.Takes g.V.Visitor.Stops g.S.Store c.rows.rows.conn.now c.args.picks.now c.args.visitor.now c.args.filled.now c.rows.visitor c.rows.filled xs c.rows.next _ (c.rows.invariant.4 (omega (arith, moved.survives.clean)) has xs each rises shows))
+    let it = c.rows.invariant.4 (omega (arith, moved.survives.clean)) has xs each rises shows in
+    let form = rw c.in_err-body.was at (moved.form late) in
+    some_taken g.V.Visitor.Takes g.V.Visitor.Stops g.S.Store c.rows.rows.conn.now c.args.picks.now c.args.visitor.now c.args.filled.now c.rows.visitor c.rows.filled xs c.rows.next _ (not_form _ (λ same. form (ap Err same) it.left it.coming)) it)
 
 pub returns-in_err-next-clause-halted : goal.returns-in_err-next-clause-halted
 returns-in_err-next-clause-halted g c clean =
@@ -112,4 +114,4 @@ returns-in_err-next-clause-halted g c clean =
 pub returns-clause-halted : goal.returns-clause-halted
 returns-clause-halted g c clean has xs each rises shows =
     let late : HasCleanDisk (state g.S.Store c.rows.rows.conn.now) = search rules in
-    some_taken g.V.Visitor.Takes g.V.Visitor.Stops g.S.Store c.rows.rows.conn.now c.args.picks.now c.args.visitor.now c.args.filled.now c.rows.visitor c.rows.filled xs c.rows.next _ (c.rows.invariant.4 late has xs each rises shows)
+    some_taken g.V.Visitor.Takes g.V.Visitor.Stops g.S.Store c.rows.rows.conn.now c.args.picks.now c.args.visitor.now c.args.filled.now c.rows.visitor c.rows.filled xs c.rows.next _ (of_store _) (c.rows.invariant.4 late has xs each rises shows)

@@ -1,0 +1,21 @@
+use Rattle.std.proofs.Common.{Err, map, ap, arith}
+use Rattle.std.proofs.lemmas.Result.{err_from_is_err_and}
+use Rattle.sqlite.specs.Held.{state}
+use Rattle.sqlite.specs.State.{HasCleanDisk}
+use Rattle.tb_standing.specs.Standing.{sentence_record}
+use Rattle.tb_search.proofs.Rises.{sentences_fit}
+use Rattle.tb_search.proofs.Visiting.{desk_same, if_err}
+use Rattle.tb_search.proofs.Walking.{err_is, not_form}
+use Rattle.tb_search.proofs.released.released_picks.Goals as goal
+
+pub returns-in_err-heads-clause-fault : goal.returns-in_err-heads-clause-fault
+returns-in_err-heads-clause-fault g c clean =
+    let told = err_from_is_err_and c.from_residual.result c.from_residual.ensures.1 in
+    err_is _ _ _ told.0 told.1 told.2 (λ s desk.
+    let readable = c.desk_rows_are_readable.ensures s desk.reachable in
+    not_form _ (λ same. c.in_err-heads.ensures.form clean (ap Err same) desk.holds.schema (map sentence_record s.sentences) (sentences_fit (map sentence_record s.sentences) readable.sentences) desk.holds.stands.sentences))
+
+pub returns-clause-fault : goal.returns-clause-fault
+returns-clause-fault g c clean = if_err c.released_among.result (λ e told s desk.
+    let mid : HasCleanDisk (state g.S.Store c.heads.new.conn) = omega (arith, clean, c.released_among.ensures.lasts.clean) in
+    told s (desk_same g.S.Store c.args.conn.now c.heads.new.conn s desk (c.in_ok-heads.ensures.same mid desk.holds.schema))) (c.released_among.ensures.fault clean)
