@@ -2,3 +2,4 @@ pub mod Commanded
 pub mod Asked
 pub mod Output
 pub mod Calls
+pub mod Responses

@@ -6,6 +6,8 @@ mod calls;
 mod commands;
 mod output;
 mod questions;
+mod responding;
+mod responses;
 mod running;
 
 pub use bodies::{ask, moves, revision, sentence, totals};
@@ -13,4 +15,6 @@ pub use calls::{DeskCall, DeskCommand};
 pub use commands::{correct, event, import, pull, restore};
 pub use output::{put_body, put_reply};
 pub use questions::{Body, Question};
+pub use responding::respond_call;
+pub use responses::{respond_body, respond_reply};
 pub use running::{obey, run_call};
