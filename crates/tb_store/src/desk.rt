@@ -65,15 +65,19 @@ pub struct Unmade<S: Alter> {
     pub conn: Connection<S>,
 }
 
+/// The connection, whose statements may take any number of steps.
+fn without_limit<S: Alter>(mut conn: Connection<S>) -> Connection<S>
+    ensures { result ≡ unlimited conn }
+{
+    conn.set_step_limit(None);
+    conn
+}
+
 impl<S: Alter> Desk<S> {
     /// The desk of a blank database, in which it makes the tables of a desk without a batch, and whose step limit it takes off.
     /// A database that is not blank is `NotADesk`, and is not touched. A fault gives the connection back, over a database that
     /// is as blank as before where the store is still open; a crash on the way leaves it blank, or the whole tables.
-    pub fn make(
-        alloc: Global,
-        mut conn: Connection<S>,
-        limits: Limits,
-    ) -> Result<Desk<S>, Unmade<S>>
+    pub fn make(alloc: Global, conn: Connection<S>, limits: Limits) -> Result<Desk<S>, Unmade<S>>
         requires autocommit { conn.in_transaction ≡ false }
         requires within { IsWithin limits }
         ensures made { IfOk result (λ d. HasCleanDisk (state S.Store d.conn) → IsBlank S.Store conn → StandsFor S.Store d empty_machine) }
@@ -91,7 +95,7 @@ impl<S: Alter> Desk<S> {
                 conn,
             });
         }
-        conn.set_step_limit(None);
+        let mut conn = without_limit(conn);
         match tb_tables::create(&mut conn) {
             Ok(()) => Ok(Desk::empty(alloc, conn, limits)),
             Err(error) => Err(Unmade {
@@ -146,11 +150,7 @@ impl<S: Alter> Desk<S> {
     /// # Errors
     ///
     /// `NotADesk`, where the store is the desk of no state, or the connection is in a transaction.
-    pub fn adopt(
-        alloc: Global,
-        mut conn: Connection<S>,
-        limits: Limits,
-    ) -> Result<Desk<S>, Unmade<S>>
+    pub fn adopt(alloc: Global, conn: Connection<S>, limits: Limits) -> Result<Desk<S>, Unmade<S>>
         requires within { IsWithin limits }
         ensures adopted { IfOk result (λ d. HasCleanDisk (state S.Store d.conn) → (s : Machine) × IsDesk S.Store conn s × StandsFor S.Store d s) }
         ensures limits { IfOk result (λ d. d.limits ≡ limits) }
@@ -160,7 +160,7 @@ impl<S: Alter> Desk<S> {
         ensures crash { IfOk result (λ d. Survives (state S.Store (unlimited conn)) (state S.Store d.conn) (λ _. ⊥)) }
         ensures crash_on_the_way { IfErr result (λ u. Survives (state S.Store (unlimited conn)) (state S.Store u.conn) (λ _. ⊥)) }
     {
-        conn.set_step_limit(None);
+        let mut conn = without_limit(conn);
         match read_desk(alloc, &mut conn) {
             Ok(standing) => Ok(Desk::over(alloc, conn, limits, standing)),
             Err(fault) => Err(Unmade { fault, conn }),

@@ -13,22 +13,22 @@ returns-in-Ok-clause-adopted g c clean =
     let late = subst (λ h. HasCleanDisk (state g.S.Store h)) same clean in
     let told = c.in-Ok.ensures.answered late in (
       told.0,
-      desk_before g.S.Store c.args.conn c.set_step_limit.new.self c.set_step_limit.ensures told.0 told.1,
+      desk_before g.S.Store c.args.conn c.without_limit-conn.result c.without_limit-conn.ensures told.0 told.1,
       stands_over g.S.Store c.over.result c.read_desk.new.conn c.args.limits c.in-Ok.standing c.over.ensures told.0 told.2 told.3,
     )
 
 pub returns-in-Ok-clause-crash : goal.returns-in-Ok-clause-crash
 returns-in-Ok-clause-crash g c =
     let same = ap (λ (k : Kept g.row.S.Denot). k.conn) c.over.ensures in
-    let begun = subst (λ h. Survives (state g.S.Store h) (state g.S.Store c.read_desk.new.conn) (λ _. ⊥)) c.set_step_limit.ensures c.read_desk.ensures.survives in
+    let begun = subst (λ h. Survives (state g.S.Store h) (state g.S.Store c.read_desk.new.conn) (λ _. ⊥)) c.without_limit-conn.ensures c.read_desk.ensures.survives in
     subst (λ h. Survives (state g.S.Store (unlimited c.args.conn)) (state g.S.Store h) (λ _. ⊥)) (sym same) begun
 
 pub returns-in-Err-clause-unfit : goal.returns-in-Err-clause-unfit
-returns-in-Err-clause-unfit g c clean is s desk = c.in-Err.ensures.unfit clean (ap (λ f. Err f) is) s (desk_unlimited g.S.Store c.args.conn c.set_step_limit.new.self c.set_step_limit.ensures s desk)
+returns-in-Err-clause-unfit g c clean is s desk = c.in-Err.ensures.unfit clean (ap (λ f. Err f) is) s (desk_unlimited g.S.Store c.args.conn c.without_limit-conn.result c.without_limit-conn.ensures s desk)
 
 pub returns-in-Err-clause-again : goal.returns-in-Err-clause-again
 returns-in-Err-clause-again g c clean opened s desk =
-    desk_kept g.S.Store c.set_step_limit.new.self c.read_desk.new.conn (c.read_desk.ensures.kept clean opened) s (desk_unlimited g.S.Store c.args.conn c.set_step_limit.new.self c.set_step_limit.ensures s desk)
+    desk_kept g.S.Store c.without_limit-conn.result c.read_desk.new.conn (c.read_desk.ensures.kept clean opened) s (desk_unlimited g.S.Store c.args.conn c.without_limit-conn.result c.without_limit-conn.ensures s desk)
 
 pub returns-in-Err-clause-crash_on_the_way : goal.returns-in-Err-clause-crash_on_the_way
-returns-in-Err-clause-crash_on_the_way g c = subst (λ h. Survives (state g.S.Store h) (state g.S.Store c.read_desk.new.conn) (λ _. ⊥)) c.set_step_limit.ensures c.read_desk.ensures.survives
+returns-in-Err-clause-crash_on_the_way g c = subst (λ h. Survives (state g.S.Store h) (state g.S.Store c.read_desk.new.conn) (λ _. ⊥)) c.without_limit-conn.ensures c.read_desk.ensures.survives

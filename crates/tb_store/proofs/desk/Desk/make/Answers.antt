@@ -13,19 +13,19 @@ pub returns-in-Ok-clause-made : goal.returns-in-Ok-clause-made
 returns-in-Ok-clause-made g c clean blank =
     let same = ap (λ (k : Kept g.row.S.Denot). k.conn) c.empty.ensures in
     let late = subst (λ h. HasCleanDisk (state g.S.Store h)) same clean in
-    let holds = c.in-Ok.ensures.ok late (still_blank g.S.Store c.args.conn c.set_step_limit.new.self c.set_step_limit.ensures blank) in
+    let holds = c.in-Ok.ensures.ok late (still_blank g.S.Store c.args.conn c.without_limit-conn.result c.without_limit-conn.ensures blank) in
     stands_empty g.S.Store c.empty.result c.create.new.conn c.args.limits c.empty.ensures holds
 
 pub returns-in-Ok-clause-crash : goal.returns-in-Ok-clause-crash
 returns-in-Ok-clause-crash g c =
     let same = ap (λ (k : Kept g.row.S.Denot). k.conn) c.empty.ensures in
-    let there = survives_weaker (state g.S.Store c.set_step_limit.new.self) (state g.S.Store c.create.new.conn) _ (λ db. IsBlank g.S.Store c.args.conn → Stands empty_tables db)
-    (λ _ db whole blank. whole (still_blank g.S.Store c.args.conn c.set_step_limit.new.self c.set_step_limit.ensures blank)) c.create.ensures.crash in
-    let begun = subst (λ h. Survives (state g.S.Store h) (state g.S.Store c.create.new.conn) (λ db. IsBlank g.S.Store c.args.conn → Stands empty_tables db)) c.set_step_limit.ensures there in
+    let there = survives_weaker (state g.S.Store c.without_limit-conn.result) (state g.S.Store c.create.new.conn) _ (λ db. IsBlank g.S.Store c.args.conn → Stands empty_tables db)
+    (λ _ db whole blank. whole (still_blank g.S.Store c.args.conn c.without_limit-conn.result c.without_limit-conn.ensures blank)) c.create.ensures.crash in
+    let begun = subst (λ h. Survives (state g.S.Store h) (state g.S.Store c.create.new.conn) (λ db. IsBlank g.S.Store c.args.conn → Stands empty_tables db)) c.without_limit-conn.ensures there in
     subst (λ h. Survives (state g.S.Store (unlimited c.args.conn)) (state g.S.Store h) (λ db. IsBlank g.S.Store c.args.conn → Stands empty_tables db)) (sym same) begun
 
 pub returns-in-Err-clause-crash_on_the_way : goal.returns-in-Err-clause-crash_on_the_way
 returns-in-Err-clause-crash_on_the_way g c other =
-    let there = survives_weaker (state g.S.Store c.set_step_limit.new.self) (state g.S.Store c.create.new.conn) _ (λ db. IsBlank g.S.Store c.args.conn → Stands empty_tables db)
-    (λ _ db whole blank. whole (still_blank g.S.Store c.args.conn c.set_step_limit.new.self c.set_step_limit.ensures blank)) c.create.ensures.crash in
-    subst (λ h. Survives (state g.S.Store h) (state g.S.Store c.create.new.conn) (λ db. IsBlank g.S.Store c.args.conn → Stands empty_tables db)) c.set_step_limit.ensures there
+    let there = survives_weaker (state g.S.Store c.without_limit-conn.result) (state g.S.Store c.create.new.conn) _ (λ db. IsBlank g.S.Store c.args.conn → Stands empty_tables db)
+    (λ _ db whole blank. whole (still_blank g.S.Store c.args.conn c.without_limit-conn.result c.without_limit-conn.ensures blank)) c.create.ensures.crash in
+    subst (λ h. Survives (state g.S.Store h) (state g.S.Store c.create.new.conn) (λ db. IsBlank g.S.Store c.args.conn → Stands empty_tables db)) c.without_limit-conn.ensures there
