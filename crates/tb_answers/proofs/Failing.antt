@@ -1,5 +1,5 @@
 -- What the fault of a desk is told as.
-use Rattle.std.proofs.Common.{◌≡◌, ℕ, refl, ap, inl, inr, Some, Result, Ok, Err, IfOk, IfErr, IsTrue}
+use Rattle.std.proofs.Common.{◌≡◌, ℕ, refl, ap, inl, inr, Result, Ok, Err, IfOk, IsTrue}
 use Rattle.std.specs.Result.{result_err}
 use Rattle.std.proofs.lemmas.Option.{same_Some}
 use Rattle.sqlite.specs.Store.{Ghosts}

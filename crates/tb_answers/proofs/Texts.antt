@@ -3,7 +3,7 @@ use Rattle.std.proofs.Common.{◌≡◌, ◌∙◌, ℕ, List, [], ◌∷◌, ma
 use Rattle.std.specs.Prelude.{decimal}
 use Rattle.tb_core.specs.declared.kinds.State.{State}
 use Rattle.tb_core.specs.declared.sums.Totals.{Totals}
-use Rattle.tb_core.specs.Machine.{Machine, one, words}
+use Rattle.tb_core.specs.Machine.{Machine, one}
 use Rattle.tb_core.specs.Totals.{StandFor, at_state, total}
 use Rattle.tb_core.specs.Words.{state_word}
 use Rattle.tb_report.specs.Csv.{csv_of, totals_head, all_states, totals_fields, totals_csv}
