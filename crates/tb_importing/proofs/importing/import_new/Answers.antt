@@ -1,4 +1,4 @@
-use Rattle.std.proofs.Common.{◌≡◌, ◌+◌, [], ◌∷◌, length, length-append, map, ap, sym, subst, ◌∙◌, arith, Err}
+use Rattle.std.proofs.Common.{List, ℕ, ◌≡◌, ◌+◌, [], ◌∷◌, length, length-append, map, ap, sym, subst, ◌∙◌, arith, Err}
 use Rattle.std.proofs.lemmas.Result.{err_from_is_err_and}
 use Rattle.std.proofs.lemmas.List.{length-map}
 use Rattle.sqlite.specs.Held.{state}
@@ -6,8 +6,12 @@ use Rattle.sqlite.specs.State.{HasCleanDisk}
 use Rattle.sqlite.proofs.StateLemmas.{survives_then, survives_weaker}
 use Rattle.tb_core.specs.declared.refusals.Fault.TheVariants.{Refused}
 use Rattle.tb_core.specs.Acts.{importing, after, new_batch, new_sentence, move_of}
-use Rattle.tb_core.specs.Commands.{Reply, import_file, replied, reply_to}
+use Rattle.tb_core.specs.declared.limits.Limits.{Limits}
+use Rattle.tb_core.specs.Machine.{Machine}
+use Rattle.tb_core.specs.Commands.{Reply, import_file, replied, refused, reply_to}
 use Rattle.tb_core.specs.Steps.{Steps}
+use Rattle.tb_judge.specs.Found.{FindsName}
+use Rattle.tb_judge.specs.Parts.{IsNamedImport}
 use Rattle.tb_reading.proofs.Shown.{if_ok}
 use Rattle.tb_standing.specs.Standing.{tables_of}
 use Rattle.tb_importing.proofs.Left.{desk_stays, kept_if}
@@ -22,7 +26,8 @@ returns-in_err-taken-clause-refused g c clean r is s desk known named found =
     let one = told.1 in
     let two = told.2 in
     let same : c.in_err-taken.field-0.0 ≡ Refused r = cc in
-    let refusal = taking_refused _ c.in_err-taken.field-0.0 r same c.in_err-taken.ensures.refused in
+    let refusal = taking_refused (λ q. (l : Limits) (t : Machine) (name by : List ℕ) → IsNamedImport t name by c.args.body.now → FindsName t name c.args.body.now c.args.found → Steps l t (import_file name by c.args.body.now) (refused q) t)
+    c.in_err-taken.field-0.0 r same c.in_err-taken.ensures.refused in
     (refusal c.args.known.now.counts.limits s c.args.name.now c.args.user.now named found, desk)
 
 pub returns-in_err-admit-clause-refused : goal.returns-in_err-admit-clause-refused
