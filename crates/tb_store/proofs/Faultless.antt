@@ -12,7 +12,7 @@ use Rattle.tb_core.specs.Machine as machine
 use Rattle.tb_core.specs.Machine.{Machine, revisions, rev}
 use Rattle.tb_core.specs.Rows.{revision_rows, revisions_from}
 use Rattle.tb_core.proofs.Weights.{all_mapped}
-use Rattle.tb_tables.specs.Records.{Sentence, Revision}
+use Rattle.tb_tables.specs.Records.{Revision}
 use Rattle.tb_standing.specs.Standing.{sentence_record, revision_record}
 use Rattle.tb_reading.specs.declared.error.ReadError.{ReadError}
 use Rattle.tb_reading.specs.declared.error.ReadError.TheVariants.{Store, Form}

@@ -82,6 +82,7 @@ impl<S: Alter> Desk<S> {
         requires within { IsWithin limits }
         ensures made { IfOk result (λ d. HasCleanDisk (state S.Store d.conn) → IsBlank S.Store conn → StandsFor S.Store d empty_machine) }
         ensures limits { IfOk result (λ d. d.limits ≡ limits) }
+        ensures no_step_limit { IfOk result (λ d. (state S.Store d.conn).step_limit ≡ None) }
         ensures blank { IfOk result (λ _. (state S.Store conn).now.schema ≡ no_schema) }
         ensures used { IfErr result (λ u. (u.fault ≡ Fault.NotADesk) ↔ ((state S.Store conn).now.schema ≢ no_schema)) }
         ensures untouched { IfErr result (λ u. u.fault ≡ Fault.NotADesk → u.conn ≡ conn) }
@@ -343,6 +344,7 @@ impl Desk<MemStore> {
     pub fn in_memory(alloc: Global, limits: Limits) -> Result<Desk<MemStore>, Fault>
         requires { IsWithin limits }
         ensures stands { IfOk result (λ d. StandsFor over_memory d empty_machine) }
+        ensures no_step_limit { IfOk result (λ d. (state over_memory d.conn).step_limit ≡ None) }
         ensures limits { IfOk result (λ d. d.limits ≡ limits) }
     {
         let conn = Connection::open_in_memory(alloc)?;

@@ -1,4 +1,4 @@
-use Rattle.std.proofs.Common.{sym, ap, subst}
+use Rattle.std.proofs.Common.{◌≡◌, None, sym, ap, subst, ◌∙◌}
 use Rattle.sqlite.specs.State.{HasCleanDisk, Survives}
 use Rattle.sqlite.specs.Held.{state}
 use Rattle.sqlite.proofs.StateLemmas.{survives_weaker}
@@ -29,3 +29,9 @@ returns-in-Err-clause-crash_on_the_way g c other =
     let there = survives_weaker (state g.S.Store c.without_limit-conn.result) (state g.S.Store c.create.new.conn) _ (λ db. IsBlank g.S.Store c.args.conn → Stands empty_tables db)
     (λ _ db whole blank. whole (still_blank g.S.Store c.args.conn c.without_limit-conn.result c.without_limit-conn.ensures blank)) c.create.ensures.crash in
     subst (λ h. Survives (state g.S.Store h) (state g.S.Store c.create.new.conn) (λ db. IsBlank g.S.Store c.args.conn → Stands empty_tables db)) c.without_limit-conn.ensures there
+
+pub returns-in-Ok-clause-no_step_limit : goal.returns-in-Ok-clause-no_step_limit
+returns-in-Ok-clause-no_step_limit g c =
+    let same = ap (λ (k : Kept g.row.S.Denot). k.conn) c.empty.ensures in
+    let made : (state g.S.Store c.create.new.conn).step_limit ≡ None = c.create.ensures.crash.limit ∙ ap (λ h. (state g.S.Store h).step_limit) c.without_limit-conn.ensures in
+    subst (λ h. (state g.S.Store h).step_limit ≡ None) (sym same) made
