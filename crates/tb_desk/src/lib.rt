@@ -1,4 +1,4 @@
-//! The desk's program: its commands over any reader and writer.
+//! The check of a file, over any reader and writer.
 #![tactic(auto)]
 
 mod check;
@@ -13,4 +13,4 @@ pub use input::{Input, read_all};
 pub use laws::one_reply_is_true;
 pub use output::put_reply;
 pub use reply::CheckReply;
-pub use words::run_words;
+pub use words::is_check;

@@ -5,7 +5,7 @@ use crate::files::{DOGS_BARK, file_of};
 use std::alloc::Global;
 use std::io::{self, ErrorKind, Read, Write};
 use std::test::Fail;
-use tb_desk::{check_within, run_check, run_words};
+use tb_desk::{check_within, run_check};
 
 /// The status, and the line that was printed.
 fn told(alloc: Global, status: u8, out: &[u8]) -> Result<String, Fail> {
@@ -205,29 +205,4 @@ fn answers_where_a_read_or_a_write_fails(rt: HostRuntime) -> Result<(), Fail> {
         assert_eq!(rt; run_check(alloc, &mut reader, &mut out), 3);
     }
     Ok(())
-}
-
-/// What is told of the file D where these are the words of the command line.
-struct Words;
-
-impl Question for Words {
-    fn answer(&self, alloc: Global, asked: &str) -> Result<String, Fail> {
-        let mut words = Vec::new(alloc);
-        for word in asked.split(' ') {
-            words.push(String::from_str(alloc, word)?)?;
-        }
-        let mut reader = DOGS_BARK.as_bytes();
-        let mut out = Vec::new(alloc);
-        let status = run_words(alloc, &words, &mut reader, &mut out);
-        told(alloc, status, &out)
-    }
-}
-
-const COMMAND_LINES: &str = "\
-    treedesk => 2 refused usage\n\
-    treedesk check => 0 sentences 1 words 3\n";
-
-#[test]
-fn takes_the_one_word(rt: HostRuntime) -> Result<(), Fail> {
-    assert_answers(&rt, rt.alloc(), &Words, COMMAND_LINES, 2)
 }

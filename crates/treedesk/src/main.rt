@@ -4,7 +4,8 @@
 use std::env;
 use std::io::{self, ErrorKind};
 use std::process::ExitCode;
-use tb_desk::{put_reply, run_words};
+use tb_desk::put_reply;
+use tb_program::run_words;
 
 /// The words of the command line, the program's name first.
 fn words(rt: &HostRuntime) -> io::Result<Vec<String>> {
@@ -13,7 +14,7 @@ fn words(rt: &HostRuntime) -> io::Result<Vec<String>> {
 
 fn main(rt: HostRuntime) -> ExitCode {
     let status = match words(&rt) {
-        Ok(words) => run_words(rt.alloc(), &words, &mut rt.stdin(), &mut rt.stdout()),
+        Ok(words) => run_words(&rt, &words, &mut rt.stdin(), &mut rt.stdout()),
         Err(error) if error.kind() == ErrorKind::OutOfMemory => put_reply(
             &mut rt.stdout(),
             "refused memory\n",

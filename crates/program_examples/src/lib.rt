@@ -1,0 +1,7 @@
+//! Tests of the program: words of its command line, over desks in files and in memory.
+#![tactic(auto)]
+
+#[cfg(test)]
+mod running;
+#[cfg(test)]
+mod word_tests;

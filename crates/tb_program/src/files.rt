@@ -1,0 +1,96 @@
+//! Desks in files. What stands here is tested, not proved: no contract ties a file to its path.
+
+ghost use Rattle.std.specs.Prelude.{◌≡◌, false, IfOk};
+
+use sqlite::{Connection, Error, ErrorCode, File, FileStore};
+use std::fs;
+use std::io::ErrorKind;
+use tb_core::{Fault, Limits};
+use tb_http::Reply;
+use tb_store::{Desk, Unmade};
+
+/// A desk in a file.
+pub(crate) type FileDesk = Desk<FileStore<File>>;
+
+/// The limits of every desk of the program.
+pub(crate) const LIMITS: Limits = Limits {
+    sentences: 1_000_000,
+    moves: 1_000_000_000,
+    hits: 1_000_000,
+};
+
+/// What is told of a file that the database does not open.
+fn reply_of_error(error: Error) -> Reply {
+    match error {
+        Error::SqliteFailure(ErrorCode::OutOfMemory) => Reply::Memory,
+        Error::SqliteFailure(
+            ErrorCode::SystemIoFailure | ErrorCode::DiskFull | ErrorCode::DatabaseBusy,
+        ) => Reply::Device,
+        _ => Reply::Desk,
+    }
+}
+
+fn reply_of_fault(fault: Fault) -> Reply {
+    match fault {
+        Fault::Refused(refusal) => Reply::Refused(refusal),
+        Fault::Memory => Reply::Memory,
+        Fault::Device | Fault::Output => Reply::Device,
+        Fault::NotADesk => Reply::Desk,
+    }
+}
+
+/// Whether a plain file is there. Opening a database makes a file that is missing, and only `new` may.
+fn is_file(rt: &HostRuntime, path: &str) -> Result<bool, Reply> {
+    match fs::metadata(rt, path) {
+        Ok(metadata) => Ok(metadata.is_file()),
+        Err(error) if error.kind() == ErrorKind::OutOfMemory => Err(Reply::Memory),
+        Err(_) => Ok(false),
+    }
+}
+
+/// A connection to the file at this path, in no transaction.
+fn connect(rt: &HostRuntime, path: &str) -> Result<Connection<FileStore<File>>, Reply>
+    ensures { IfOk result (λ c. c.in_transaction ≡ false) }
+{
+    match Connection::open(rt, path) {
+        Ok(conn) => Ok(conn),
+        Err(error) => Err(reply_of_error(error)),
+    }
+}
+
+/// Closes the file, so that it holds all by itself. What fails there loses nothing: the log beside the file keeps what was
+/// done, and the next command finds it.
+pub(crate) fn close(desk: FileDesk) {
+    let _ = desk.into_connection().close();
+}
+
+fn adopted(rt: &HostRuntime, conn: Connection<FileStore<File>>) -> Result<FileDesk, Reply> {
+    match Desk::adopt(rt.alloc(), conn, LIMITS) {
+        Ok(desk) => Ok(desk),
+        Err(Unmade { fault, conn }) => {
+            let _ = conn.close();
+            Err(reply_of_fault(fault))
+        }
+    }
+}
+
+/// The desk of the file at this path.
+pub(crate) fn open(rt: &HostRuntime, path: &str) -> Result<FileDesk, Reply> {
+    if !is_file(rt, path)? {
+        return Err(Reply::Desk);
+    }
+    let conn = connect(rt, path)?;
+    adopted(rt, conn)
+}
+
+/// Makes a desk in the file at this path, which is missing, empty or a blank database.
+pub(crate) fn make(rt: &HostRuntime, path: &str) -> Result<FileDesk, Reply> {
+    let conn = connect(rt, path)?;
+    match Desk::make(rt.alloc(), conn, LIMITS) {
+        Ok(desk) => Ok(desk),
+        Err(Unmade { fault, conn }) => {
+            let _ = conn.close();
+            Err(reply_of_fault(fault))
+        }
+    }
+}
