@@ -4,7 +4,7 @@ ghost use Rattle.std.specs.Prelude.{◌≡◌, false, IfOk};
 
 use sqlite::{Connection, Error, ErrorCode, File, FileStore};
 use std::fs;
-use std::io::ErrorKind;
+use std::io::{ErrorKind, Read};
 use tb_core::{Fault, Limits};
 use tb_http::Reply;
 use tb_store::{Desk, Unmade};
@@ -39,10 +39,32 @@ fn reply_of_fault(fault: Fault) -> Reply {
     }
 }
 
-/// Whether a plain file is there. Opening a database makes a file that is missing, and only `new` may.
-fn is_file(rt: &HostRuntime, path: &str) -> Result<bool, Reply> {
+/// What a database file begins with (the file format of SQLite, section 1.3).
+const HEADER: [u8; 16] = *b"SQLite format 3\0";
+
+/// Whether a log lies beside the file: a database that a crash left may have all that it holds there.
+fn has_log(rt: &HostRuntime, path: &str) -> Result<bool, Reply> {
+    let Ok(log) = format!(in rt.alloc(); "{path}-wal") else {
+        return Err(Reply::Memory);
+    };
+    Ok(fs::exists(rt, log.as_str()).unwrap_or(false))
+}
+
+fn begins_as_database(rt: &HostRuntime, path: &str) -> bool {
+    let Ok(mut file) = fs::File::open(rt, path) else {
+        return false;
+    };
+    let mut head = [0; 16];
+    file.read_exact(&mut head).is_ok() && head == HEADER
+}
+
+/// Whether a plain file is there that may be a database. To open one makes it where it is missing or empty, and leaves a log
+/// beside it where it is foreign; so such files are told apart before.
+fn may_be_database(rt: &HostRuntime, path: &str) -> Result<bool, Reply> {
     match fs::metadata(rt, path) {
-        Ok(metadata) => Ok(metadata.is_file()),
+        Ok(metadata) if !metadata.is_file() => Ok(false),
+        Ok(metadata) if metadata.len() == 0 => has_log(rt, path),
+        Ok(_) => Ok(begins_as_database(rt, path)),
         Err(error) if error.kind() == ErrorKind::OutOfMemory => Err(Reply::Memory),
         Err(_) => Ok(false),
     }
@@ -76,7 +98,7 @@ fn adopted(rt: &HostRuntime, conn: Connection<FileStore<File>>) -> Result<FileDe
 
 /// The desk of the file at this path.
 pub(crate) fn open(rt: &HostRuntime, path: &str) -> Result<FileDesk, Reply> {
-    if !is_file(rt, path)? {
+    if !may_be_database(rt, path)? {
         return Err(Reply::Desk);
     }
     let conn = connect(rt, path)?;
