@@ -3,4 +3,4 @@ mod Numbering
 mod Six
 mod Joined
 mod Read
-mod Rises
+pub mod Rises

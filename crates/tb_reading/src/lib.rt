@@ -12,6 +12,7 @@ mod work;
 
 pub use cursor::{Body, bodies, next_body};
 pub use error::ReadError;
+pub use records::{batches_in, moves_in, revisions_in, sentences_in, totals_in};
 pub use single::{batch, batch_named, is_pulled, revision, sentence, sentence_named};
 pub use stream::{Head, heads};
 pub use whole::{batches, moves, pulled, revisions, sentences, totals, versions};

@@ -81,8 +81,9 @@ pub(crate) fn batch_in(row: &Row, number: u64) -> Result<BatchRow, ReadError>
     })
 }
 
-/// The batches of rows that are numbered from 1.
-pub(crate) fn batches_in(alloc: Global, rows: &[Row]) -> Result<Vec<BatchRow>, ReadError>
+/// The batches of rows of four columns, as `batches` asks for them, that are numbered from 1. `Form` is answered exactly where
+/// the rows are those of no such list.
+pub fn batches_in(alloc: Global, rows: &[Row]) -> Result<Vec<BatchRow>, ReadError>
     ensures ok { IfOk result (λ v. rows.now ≡ numbered batch_shown 1 (map batch_of v.items)) }
     ensures form { result ≡ Err ReadError.Form → (xs : List Batch) → All IsBatch xs → rows.now ≢ numbered batch_shown 1 xs }
     ensures fails { IfErr result IsReadFault }
@@ -120,8 +121,8 @@ pub(crate) fn sentence_in(row: &Row, number: u64) -> Result<SentenceRow, ReadErr
     })
 }
 
-/// The sentences of rows that are numbered from 1.
-pub(crate) fn sentences_in(alloc: Global, rows: &[Row]) -> Result<Vec<SentenceRow>, ReadError>
+/// The sentences of such rows of five columns. `Form` is answered exactly where they are those of no list of sentences.
+pub fn sentences_in(alloc: Global, rows: &[Row]) -> Result<Vec<SentenceRow>, ReadError>
     ensures ok { IfOk result (λ v. rows.now ≡ numbered sentence_shown 1 (map sentence_of v.items)) }
     ensures form { result ≡ Err ReadError.Form → (xs : List Sentence) → All IsSentence xs → rows.now ≢ numbered sentence_shown 1 xs }
     ensures fails { IfErr result IsReadFault }
@@ -169,8 +170,8 @@ pub(crate) fn move_in(row: &Row, number: u64) -> Result<MoveRow, ReadError>
     })
 }
 
-/// The moves of rows that are numbered from 1.
-pub(crate) fn moves_in(alloc: Global, rows: &[Row]) -> Result<Vec<MoveRow>, ReadError>
+/// The moves of such rows of ten columns. `Form` is answered exactly where they are those of no list of moves.
+pub fn moves_in(alloc: Global, rows: &[Row]) -> Result<Vec<MoveRow>, ReadError>
     ensures ok { IfOk result (λ v. rows.now ≡ numbered move_shown 1 (map move_of v.items)) }
     ensures form { result ≡ Err ReadError.Form → (xs : List Move) → All IsMove xs → rows.now ≢ numbered move_shown 1 xs }
     ensures fails { IfErr result IsReadFault }
@@ -201,8 +202,8 @@ pub(crate) fn total_in(row: &Row, number: u64) -> Result<TotalRow, ReadError>
     Ok(TotalRow { sentences, words })
 }
 
-/// The totals of rows that are numbered from 1.
-pub(crate) fn totals_in(alloc: Global, rows: &[Row]) -> Result<Vec<TotalRow>, ReadError>
+/// The totals of such rows of three columns. `Form` is answered exactly where they are those of no list of totals.
+pub fn totals_in(alloc: Global, rows: &[Row]) -> Result<Vec<TotalRow>, ReadError>
     ensures ok { IfOk result (λ v. rows.now ≡ numbered total_shown 1 (map total_of v.items)) }
     ensures form { result ≡ Err ReadError.Form → (xs : List Total) → All IsTotal xs → rows.now ≢ numbered total_shown 1 xs }
     ensures fails { IfErr result IsReadFault }
@@ -237,8 +238,8 @@ pub(crate) fn revision_in(row: &Row) -> Result<RevisionRow, ReadError>
     })
 }
 
-/// The revisions of rows.
-pub(crate) fn revisions_in(alloc: Global, rows: &[Row]) -> Result<Vec<RevisionRow>, ReadError>
+/// The revisions of rows of four columns. `Form` is answered exactly where they are those of no list of revisions.
+pub fn revisions_in(alloc: Global, rows: &[Row]) -> Result<Vec<RevisionRow>, ReadError>
     ensures ok { IfOk result (λ v. rows.now ≡ map revision_shown (map revision_of v.items)) }
     ensures form { result ≡ Err ReadError.Form → (xs : List Revision) → All IsRevision xs → rows.now ≢ map revision_shown xs }
     ensures fails { IfErr result IsReadFault }

@@ -5,6 +5,7 @@ use Rattle.sqlite.specs.Effect.{Database}
 use Rattle.sqlite.specs.Held.{Held, state}
 use Rattle.sqlite.specs.State.{HasCleanDisk, IsUnchanged, Survives}
 use Rattle.sqlite.proofs.StateLemmas.{survives_then}
+use Rattle.sqlite.proofs.Callers.{unchanged_then}
 use Rattle.sqlite_trees.specs.Tree.{IsAscending}
 use Rattle.std.specs.List.{All}
 use Rattle.tb_core.specs.Machine.{Machine, Sentence}
@@ -45,6 +46,12 @@ module _ {S : Type 0} (g : Ghosts S) where
       → Survives (state g a) (state g b) (λ _. (state g a).now.schema ≢ desk_schema) → Survives (state g b) (state g c) (λ _. (state g b).now.schema ≢ desk_schema)
       → Survives (state g a) (state g c) (λ _. (state g a).now.schema ≢ desk_schema)
   lasts_then a b c same one two = survives_then (state g a) (state g b) (state g c) _ _ _ (λ _ _ other. other) (λ clean _ other has. other (ap (λ (d : Database). d.schema) (same (omega (arith, clean, two.clean)) has).0.now_is ∙ has)) one two
+
+  pub same_then : (a b c : Held S) → ((state g a).now.schema ≡ desk_schema → IsUnchanged (state g a) (state g b)) → ((state g b).now.schema ≡ desk_schema → IsUnchanged (state g b) (state g c))
+      → (state g a).now.schema ≡ desk_schema → IsUnchanged (state g a) (state g c)
+  same_then a b c one two has =
+      let first = one has in
+      unchanged_then (state g a) (state g b) (state g c) first (two (ap (λ (d : Database). d.schema) first.0.now_is ∙ has))
 
   module _ {V O : Type 0} (takes : Taking V O) (stops : Stopping V O) (c : Held S) (s : Machine) (wanted : Sentence → Bool) (picks : List Pick) (is : picks ≡ picks_from wanted 1 s.sentences) (desk : IsDesk g c s) (readable : IsReadable (tables_of s)) (v : V) (o : O) where
     asked_are : bodies (picked picks (rows_of s)) ≡ texts (filter wanted s.sentences)

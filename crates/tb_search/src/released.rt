@@ -51,7 +51,7 @@ fn released_picks<S: Alter>(alloc: Global, conn: &mut Connection<S>) -> Result<V
     ensures same { HasCleanDisk (state S.Store conn.new) → OnOk result ((state S.Store conn.old).now.schema ≡ desk_schema → IsUnchanged (state S.Store conn.old) (state S.Store conn.new)) }
     ensures mode { conn.old.in_transaction ≡ false → conn.new.in_transaction ≡ false }
     ensures kept { HasCleanDisk (state S.Store conn.new) → IsTrue (state S.Store conn.new).is_open → (d : Tables) → Holds S.Store conn.old d → Holds S.Store conn.new d }
-    ensures survives { (state S.Store conn.old).now.schema ≡ desk_schema → Survives (state S.Store conn.old) (state S.Store conn.new) (λ _. ⊥) }
+    ensures lasts { Survives (state S.Store conn.old) (state S.Store conn.new) (λ _. (state S.Store conn.old).now.schema ≢ desk_schema) }
 {
     desk_rows_are_readable();
     let heads = tb_reading::heads(alloc, conn)?;
@@ -71,9 +71,10 @@ pub(crate) fn visit_released<S: Alter, O, V: Visitor<O>>(
 ) -> Result<(), Stopped>
     ensures taken { HasCleanDisk (state S.Store conn.new) → OnOk result ((s : Machine) → IsDesk S.Store conn.old s → AllTaken V.Takes visitor.old filled.old (texts (released s)) visitor.new filled.new) }
     ensures halted { HasCleanDisk (state S.Store conn.new) → IfErr result (λ e. (s : Machine) → IsDesk S.Store conn.old s → Halted V.Takes V.Stops visitor.old filled.old (texts (released s)) e filled.new) }
+    ensures same { HasCleanDisk (state S.Store conn.new) → OnOk result ((state S.Store conn.old).now.schema ≡ desk_schema → IsUnchanged (state S.Store conn.old) (state S.Store conn.new)) }
     ensures mode { conn.old.in_transaction ≡ false → conn.new.in_transaction ≡ false }
     ensures kept { HasCleanDisk (state S.Store conn.new) → IsTrue (state S.Store conn.new).is_open → (d : Tables) → Holds S.Store conn.old d → Holds S.Store conn.new d }
-    ensures survives { (state S.Store conn.old).now.schema ≡ desk_schema → Survives (state S.Store conn.old) (state S.Store conn.new) (λ _. ⊥) }
+    ensures lasts { Survives (state S.Store conn.old) (state S.Store conn.new) (λ _. (state S.Store conn.old).now.schema ≢ desk_schema) }
 {
     desk_rows_are_readable();
     let picks = released_picks(alloc, conn)?;

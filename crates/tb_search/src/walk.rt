@@ -1,7 +1,7 @@
 //! The walk over the bodies of all revisions, which visits those that are asked for.
 
 ghost use Rattle.std.specs.Prelude.{◌≡◌, ◌≢◌, ◌≤◌, false, List, map, All, IsTrue, IfOk, IfErr, OnOk, MatchBool, true};
-ghost use Rattle.sqlite.specs.State.{HasCleanDisk, Survives};
+ghost use Rattle.sqlite.specs.State.{HasCleanDisk, IsUnchanged, Survives};
 ghost use Rattle.sqlite.specs.Held.{state};
 ghost use Rattle.sqlite_trees.specs.Tree.{IsAscending};
 ghost use Rattle.tb_tables.specs.Layout.{desk_schema};
@@ -52,6 +52,7 @@ pub(crate) fn visit_picked<S: Alter, O, V: Visitor<O>>(
 ) -> Result<(), Stopped>
     ensures taken { HasCleanDisk (state S.Store conn.new) → OnOk result ((state S.Store conn.old).now.schema ≡ desk_schema → (xs : List Revision) → All IsRevision xs → IsAscending ComesBefore xs → Shows revision_view (map revision_shown xs) ((state S.Store conn.old).now.trees 5) → AllTaken V.Takes visitor.old filled.old (bodies_of (picked picks.now xs)) visitor.new filled.new) }
     ensures halted { HasCleanDisk (state S.Store conn.new) → IfErr result (λ e. (state S.Store conn.old).now.schema ≡ desk_schema → (xs : List Revision) → All IsRevision xs → IsAscending ComesBefore xs → Shows revision_view (map revision_shown xs) ((state S.Store conn.old).now.trees 5) → Halted V.Takes V.Stops visitor.old filled.old (bodies_of (picked picks.now xs)) e filled.new) }
+    ensures same { HasCleanDisk (state S.Store conn.new) → OnOk result ((state S.Store conn.old).now.schema ≡ desk_schema → IsUnchanged (state S.Store conn.old) (state S.Store conn.new)) }
     ensures mode { conn.old.in_transaction ≡ false → conn.new.in_transaction ≡ false }
     ensures kept { HasCleanDisk (state S.Store conn.new) → IsTrue (state S.Store conn.new).is_open → (d : Tables) → Holds S.Store conn.old d → Holds S.Store conn.new d }
     ensures lasts { Survives (state S.Store conn.old) (state S.Store conn.new) (λ _. (state S.Store conn.old).now.schema ≢ desk_schema) }

@@ -31,7 +31,7 @@ same_statement : (sql : List ℕ) (r : _) → statement_in sql r ≡ statement_o
 same_statement sql (Ok c) = refl
 same_statement sql (Err e) = refl
 
-creates : (old new : State) (schema : Schema) (text : List ℕ) (table : Table) (count : ℕ) → old.now.schema ≡ schema → Makes schema text table → Executes text [] old new (Ok count)
+pub creates : (old new : State) (schema : Schema) (text : List ℕ) (table : Table) (count : ℕ) → old.now.schema ≡ schema → Makes schema text table → Executes text [] old new (Ok count)
     → (new.now.schema ≡ created schema table) × (new.now.trees (next_tree schema) ≡ []) × KeepsRows schema.tables old.now.trees new.now.trees
 creates old new schema text table count has makes h =
     let is = same_command (understood schema text) ∙ makes.command in

@@ -1,4 +1,4 @@
--- The seven tables of a desk, as SQLite sees them once they are made in this order.
+-- The seven tables of a desk, as SQLite sees them once they are made in this order; and the first six, which version 1 had.
 use Rattle.sqlite.specs.Collation.TheVariants.{Binary}
 use Rattle.std.specs.Prelude.{true, false, [], ◌∷◌, Some, None, codes, List, ℕ}
 use Rattle.sqlite.specs.declared.types.Value.TheVariants.{Null}
@@ -65,3 +65,7 @@ desk_schema = record {
   indexes = unique_index (codes "sqlite_autoindex_batches_1") 2 1 (2 ∷ []) ∷ unique_index (codes "sqlite_autoindex_sentences_1") 4 3 (2 ∷ []) ∷ unique_index (codes "sqlite_autoindex_revisions_1") 6 5 (1 ∷ 2 ∷ []) ∷ [];
   views = [];
 }
+
+-- that of version 1, in which no sentence could be pulled
+abbrev pub version_one_schema : Schema
+version_one_schema = record desk_schema { tables = meta ∷ batches ∷ sentences ∷ revisions ∷ moves ∷ totals ∷ [] }

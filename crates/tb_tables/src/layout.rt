@@ -6,7 +6,7 @@ ghost use Rattle.sqlite.specs.Collation.TheVariants.{Binary};
 ghost use Rattle.sqlite.specs.declared.types.Value.TheVariants.{Null};
 ghost use Rattle.sqlite_value.specs.Keys.{plain};
 ghost use Rattle.sqlite_schema.specs.declared.schema.Column.{Column as AnyColumn};
-ghost use Rattle.tb_tables.specs.Layout.{key_column, column, unique_index, meta, batches, sentences, revisions, moves, totals, pulled, desk_schema};
+ghost use Rattle.tb_tables.specs.Layout.{key_column, column, unique_index, meta, batches, sentences, revisions, moves, totals, pulled, desk_schema, version_one_schema};
 
 use sqlite::{Alter, Connection};
 use sqlite_items::Items;
@@ -353,6 +353,33 @@ pub fn has_desk_schema<S: Alter>(conn: &Connection<S>) -> bool
 {
     let schema = conn.schema();
     are_tables(schema.tables.as_slice())
+        && are_indexes(schema.indexes.as_slice())
+        && schema.views.is_empty()
+}
+
+fn are_version_one_tables(tables: &[Table]) -> bool
+    ensures { IsTrue result ↔ tables.now ≡ version_one_schema.tables }
+{
+    match tables {
+        [a, b, c, d, e, f] => {
+            is_meta(a)
+                && is_batches(b)
+                && is_sentences(c)
+                && is_revisions(d)
+                && is_moves(e)
+                && is_totals(f)
+        }
+        _ => false,
+    }
+}
+
+/// Whether a database has exactly the six tables of a desk of version 1: those of a desk but that of the pulled sentences,
+/// and no other table, index or view.
+pub fn has_version_one_schema<S: Alter>(conn: &Connection<S>) -> bool
+    ensures { IsTrue result ↔ (state S.Store conn.now).now.schema ≡ version_one_schema }
+{
+    let schema = conn.schema();
+    are_version_one_tables(schema.tables.as_slice())
         && are_indexes(schema.indexes.as_slice())
         && schema.views.is_empty()
 }

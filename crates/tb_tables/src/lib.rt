@@ -10,6 +10,6 @@ mod update;
 
 pub use creation::{create, is_blank, left_by_a_crash};
 pub use insert::{insert_batch, insert_move, insert_pulled, insert_revision, insert_sentence};
-pub use layout::has_desk_schema;
+pub use layout::{has_desk_schema, has_version_one_schema};
 pub use rows::{BatchRow, MoveRow, RevisionRow, SentenceRow, TotalRow};
 pub use update::{delete_pulled, update_batch, update_sentence, update_total};

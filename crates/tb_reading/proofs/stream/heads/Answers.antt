@@ -1,11 +1,11 @@
-use Rattle.std.proofs.Common.{◌≡◌, [], ◌∷◌, ◌++◌, map, IsTrue, Err, refl, sym, subst, ap, ◌∙◌, rules, arith}
+use Rattle.std.proofs.Common.{◌≡◌, ◌≢◌, [], ◌∷◌, ◌++◌, map, IsTrue, Err, refl, sym, subst, ap, ◌∙◌, rules, arith}
 use Rattle.sqlite.specs.declared.types.Value.TheVariants.{Null}
 use Rattle.sqlite.specs.Effect.{Database}
 use Rattle.sqlite.specs.Listing.{understood}
 use Rattle.sqlite.specs.Given.{HasGiven}
 use Rattle.sqlite.specs.State.{HasCleanDisk, Survives, CommitsShowing}
 use Rattle.sqlite.specs.Held.{state}
-use Rattle.sqlite.proofs.StateLemmas.{survives_then}
+use Rattle.sqlite.proofs.StateLemmas.{survives_then, survives_weaker}
 use Rattle.sqlite.proofs.Callers.{IsPlain, begun_plain, unchanged_then, reads_as}
 use Rattle.tb_tables.specs.Changes.{Holds}
 use Rattle.tb_tables.specs.Layout.{desk_schema}
@@ -16,24 +16,23 @@ use Rattle.tb_reading.specs.declared.error.ReadError.TheVariants.{Form}
 use Rattle.tb_reading.specs.Readable.{IsHead}
 use Rattle.tb_reading.specs.Streams.{head_of, head_shown}
 use Rattle.tb_reading.proofs.Queries.{select_heads, select_heads_is, select_heads_terms, rising}
-use Rattle.tb_reading.proofs.Shown.{commits_nothing}
 use Rattle.tb_reading.proofs.Streaming.{heads_all, same_heads, shown_push, begun_answer, not_among, heads_readable}
-use Rattle.tb_reading.proofs.Staying.{unchanged_holds, stopped_stays, refused_stays, then_holds}
+use Rattle.tb_reading.proofs.Staying.{lasts, unchanged_holds, stopped_stays, refused_stays, then_holds}
 use Rattle.tb_reading.proofs.stream.heads.Goals as goal
 
-pub returns-in_err-rows-clause-survives : goal.returns-in_err-rows-clause-survives
-returns-in_err-rows-clause-survives g c has =
+pub returns-in_err-rows-clause-lasts : goal.returns-in_err-rows-clause-lasts
+returns-in_err-rows-clause-lasts g c =
     let old = state g.S.Store c.args.conn.now in
     let new = state g.S.Store c.query.follows.lender-at-none in
     let held = c.query.follows.holds-at-none in
     let kept : Survives old new (CommitsShowing select_heads [] old) = search rules in
-    commits_nothing select_heads [] old new desk_schema select_heads_is.1 has kept
+    lasts select_heads [] old new select_heads_is.1 kept
 
 pub rows-init : goal.rows-init
 rows-init g c =
     let made = c.in_ok-rows.ensures in (
       refl,
-      (λ has. commits_nothing select_heads [] _ _ desk_schema select_heads_is.1 has made.survives),
+      lasts select_heads [] _ _ select_heads_is.1 made.survives,
       made.mode,
       λ clean has.
           let plain = subst (λ s. IsPlain (understood s select_heads)) (sym has) select_heads_is.1 in
@@ -63,7 +62,7 @@ rows-preserved g c =
     let now = state g.S.Store c.next.follows.lender-at-none.conn.now in
     let inv = c.rows.invariant in (
       moved.same_reference ∙ inv.0,
-      (λ has. survives_then old mid now _ _ (λ _. ⊥) (λ _ db none. none) (λ _ db none. none) (inv.1 has) moved.survives),
+      survives_then old mid now _ _ (λ _. old.now.schema ≢ desk_schema) (λ _ db other. other) (λ _ db none. absurd none) inv.1 moved.survives,
       (λ outside. moved.mode (inv.2 outside)),
       λ clean has.
           let was = inv.3 (omega (arith, moved.survives.clean)) has in
@@ -145,3 +144,37 @@ returns-clause-kept g c clean opened d holds =
     let late : HasCleanDisk (state g.S.Store mid) = search rules in
     let here : Holds g.S.Store mid d = unchanged_holds g.S.Store c.args.conn.now mid d holds (c.rows.invariant.3 late holds.schema).1 in
     search rules
+
+pub returns-in_err-row-clause-lasts : goal.returns-in_err-row-clause-lasts
+returns-in_err-row-clause-lasts g c =
+    let old = state g.S.Store c.args.conn.now in
+    let mid = state g.S.Store c.rows.rows.conn.now in
+    let moved = c.next.follows.holds-at-none.survives in
+    survives_then old mid _ (λ _. old.now.schema ≢ desk_schema) (λ _. ⊥) (λ _. old.now.schema ≢ desk_schema) (λ _ db other. other) (λ _ db none. absurd none) c.rows.invariant.1 (search rules)
+
+pub returns-in_default-clause-lasts : goal.returns-in_default-clause-lasts
+returns-in_default-clause-lasts g c =
+    let old = state g.S.Store c.args.conn.now in
+    let mid = state g.S.Store c.rows.rows.conn.now in
+    let moved = c.next.follows.holds-at-none.survives in
+    survives_then old mid _ (λ _. old.now.schema ≢ desk_schema) (λ _. ⊥) (λ _. old.now.schema ≢ desk_schema) (λ _ db other. other) (λ _ db none. absurd none) c.rows.invariant.1 (search rules)
+
+pub returns-in_err-head_in-clause-lasts : goal.returns-in_err-head_in-clause-lasts
+returns-in_err-head_in-clause-lasts g c =
+    let old = state g.S.Store c.args.conn.now in
+    let mid = state g.S.Store c.rows.rows.conn.now in
+    let moved = c.next.follows.holds-at-none.survives in
+    survives_then old mid _ (λ _. old.now.schema ≢ desk_schema) (λ _. ⊥) (λ _. old.now.schema ≢ desk_schema) (λ _ db other. other) (λ _ db none. absurd none) c.rows.invariant.1 (search rules)
+
+pub returns-in_err-push-clause-lasts : goal.returns-in_err-push-clause-lasts
+returns-in_err-push-clause-lasts g c =
+    let old = state g.S.Store c.args.conn.now in
+    let mid = state g.S.Store c.rows.rows.conn.now in
+    let moved = c.next.follows.holds-at-none.survives in
+    survives_then old mid _ (λ _. old.now.schema ≢ desk_schema) (λ _. ⊥) (λ _. old.now.schema ≢ desk_schema) (λ _ db other. other) (λ _ db none. absurd none) c.rows.invariant.1 (search rules)
+
+pub returns-clause-lasts : goal.returns-clause-lasts
+returns-clause-lasts g c =
+    let old = state g.S.Store c.args.conn.now in
+    let here = c.rows.invariant.1 in
+    survives_weaker old _ (λ _. old.now.schema ≢ desk_schema) (λ _. old.now.schema ≢ desk_schema) (λ _ db other. other) (search rules)

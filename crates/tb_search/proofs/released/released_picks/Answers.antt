@@ -4,7 +4,7 @@ use Rattle.sqlite.specs.Held.{state}
 use Rattle.sqlite.specs.State.{HasCleanDisk}
 use Rattle.tb_standing.specs.Standing.{sentence_record}
 use Rattle.tb_search.proofs.Rises.{sentences_fit}
-use Rattle.tb_search.proofs.Visiting.{desk_same, if_err}
+use Rattle.tb_search.proofs.Visiting.{desk_same, lasts_then, if_err}
 use Rattle.tb_search.proofs.Walking.{err_is, not_form}
 use Rattle.tb_search.proofs.released.released_picks.Goals as goal
 
@@ -19,3 +19,6 @@ pub returns-clause-fault : goal.returns-clause-fault
 returns-clause-fault g c clean = if_err c.released_among.result (λ e told s desk.
     let mid : HasCleanDisk (state g.S.Store c.heads.new.conn) = omega (arith, clean, c.released_among.ensures.lasts.clean) in
     told s (desk_same g.S.Store c.args.conn.now c.heads.new.conn s desk (c.in_ok-heads.ensures.same mid desk.holds.schema))) (c.released_among.ensures.fault clean)
+
+pub returns-clause-lasts : goal.returns-clause-lasts
+returns-clause-lasts g c = lasts_then g.S.Store c.args.conn.now c.heads.new.conn c.released_among.new.conn c.in_ok-heads.ensures.same c.heads.ensures.lasts c.released_among.ensures.lasts

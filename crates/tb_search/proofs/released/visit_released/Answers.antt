@@ -4,7 +4,7 @@ use Rattle.sqlite.specs.Held.{state}
 use Rattle.sqlite.specs.State.{HasCleanDisk}
 use Rattle.tb_search.specs.Released.{is_released, released}
 use Rattle.tb_search.specs.Visited.{texts}
-use Rattle.tb_search.proofs.Visiting.{if_put, if_cut, desk_same, all_visited, some_visited}
+use Rattle.tb_search.proofs.Visiting.{if_put, if_cut, desk_same, lasts_then, same_then, all_visited, some_visited}
 use Rattle.tb_search.proofs.Walking.{halts_here, err_is}
 use Rattle.tb_search.proofs.released.visit_released.Goals as goal
 
@@ -26,3 +26,11 @@ pub returns-in_err-picks-clause-halted : goal.returns-in_err-picks-clause-halted
 returns-in_err-picks-clause-halted g c clean =
     let told = err_from_is_err_and c.from_residual.result c.from_residual.ensures.1 in
     err_is _ _ _ told.0 told.1 told.2 (λ s desk. halts_here g.V.Visitor.Takes g.V.Visitor.Stops (texts (released s)) c.args.visitor.now c.args.filled.now _ (c.in_err-picks.ensures.fault clean s desk))
+
+pub returns-clause-same : goal.returns-clause-same
+returns-clause-same g c clean = if_put c.visit_picked.result (λ told has.
+    let mid : HasCleanDisk (state g.S.Store c.released_picks.new.conn) = omega (arith, clean, c.visit_picked.ensures.lasts.clean) in
+    same_then g.S.Store c.args.conn.now c.released_picks.new.conn c.visit_picked.new.conn (c.in_ok-picks.ensures.same mid) told has) (c.visit_picked.ensures.same clean)
+
+pub returns-clause-lasts : goal.returns-clause-lasts
+returns-clause-lasts g c = lasts_then g.S.Store c.args.conn.now c.released_picks.new.conn c.visit_picked.new.conn c.in_ok-picks.ensures.same c.released_picks.ensures.lasts c.visit_picked.ensures.lasts

@@ -115,3 +115,18 @@ pub returns-clause-halted : goal.returns-clause-halted
 returns-clause-halted g c clean has xs each rises shows =
     let late : HasCleanDisk (state g.S.Store c.rows.rows.conn.now) = search rules in
     some_taken g.V.Visitor.Takes g.V.Visitor.Stops g.S.Store c.rows.rows.conn.now c.args.picks.now c.args.visitor.now c.args.filled.now c.rows.visitor c.rows.filled xs c.rows.next _ (of_store _) (c.rows.invariant.4 late has xs each rises shows)
+
+pub returns-in_default-clause-same : goal.returns-in_default-clause-same
+returns-in_default-clause-same g c clean has =
+    let moved = c.next_body.follows.holds-at-none in
+    let old = state g.S.Store c.args.conn.now in
+    let mid = state g.S.Store c.rows.rows.conn.now in
+    let late : HasCleanDisk (state g.S.Store c.next_body.follows.lender-at-none.conn.now) = search rules in
+    let here = unchanged_then old mid (state g.S.Store c.next_body.follows.lender-at-none.conn.now) (c.rows.invariant.3 (omega (arith, moved.survives.clean)) has) (rw c.in_ok-body.was at (moved.same late)) in
+    search rules
+
+pub returns-then-next-picks-clause-same : goal.returns-then-next-picks-clause-same
+returns-then-next-picks-clause-same g c clean has =
+    let late : HasCleanDisk (state g.S.Store c.rows.rows.conn.now) = search rules in
+    let here = c.rows.invariant.3 late has in
+    search rules

@@ -1,0 +1,8 @@
+mod Upgraded
+mod Begun
+mod Texts
+mod Answered
+mod Read
+mod NoPulls
+mod Told
+mod Whole

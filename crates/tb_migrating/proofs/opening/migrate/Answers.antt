@@ -1,0 +1,35 @@
+use Rattle.std.proofs.Common.{arith}
+use Rattle.sqlite.specs.State.{HasCleanDisk}
+use Rattle.sqlite.specs.Held.{state}
+use Rattle.sqlite.proofs.StateLemmas.{survives_weaker}
+use Rattle.tb_tables.proofs.Commands.{on_err}
+use Rattle.tb_migrating.proofs.Begun.{first_unchanged}
+use Rattle.tb_migrating.proofs.Whole.{becomes_desk, first_stays, migration_survives}
+use Rattle.tb_migrating.proofs.opening.migrate.Goals as goal
+
+pub returns-in-Ok-clause-migrated : goal.returns-in-Ok-clause-migrated
+returns-in-Ok-clause-migrated g c clean =
+    let late = c.upgrade.ensures.crash.clean in
+    let was : HasCleanDisk (state g.S.Store c.read_first_desk.new.conn) = omega (arith, clean, late) in
+    let told = c.in_ok-standing.ensures.answered was in
+    (told.0, told.1, becomes_desk g.S.Store c.args.conn.now c.read_first_desk.new.conn c.upgrade.new.conn told.0 (c.in_ok-standing.ensures.same was) (c.in-Ok.ensures.ok clean) told.1, told.2)
+
+pub returns-in-Ok-clause-crash : goal.returns-in-Ok-clause-crash
+returns-in-Ok-clause-crash g c = migration_survives g.S.Store c.args.conn.now c.read_first_desk.new.conn c.upgrade.new.conn c.in_ok-standing.ensures.same c.read_first_desk.ensures.survives c.upgrade.ensures.crash
+
+pub returns-in-Err-clause-crash : goal.returns-in-Err-clause-crash
+returns-in-Err-clause-crash g c = migration_survives g.S.Store c.args.conn.now c.read_first_desk.new.conn c.upgrade.new.conn c.in_ok-standing.ensures.same c.read_first_desk.ensures.survives c.upgrade.ensures.crash
+
+pub returns-in-Err-clause-again : goal.returns-in-Err-clause-again
+returns-in-Err-clause-again g c clean opened s desk =
+    let late = c.upgrade.ensures.crash.clean in
+    let was : HasCleanDisk (state g.S.Store c.read_first_desk.new.conn) = omega (arith, clean, late) in
+    first_stays g.S.Store c.read_first_desk.new.conn c.upgrade.new.conn s (c.in-Err.ensures.err clean opened)
+    (first_stays g.S.Store c.args.conn.now c.read_first_desk.new.conn s (λ d h. first_unchanged g.S.Store c.args.conn.now c.read_first_desk.new.conn d h (c.in_ok-standing.ensures.same was)) desk)
+
+pub returns-in_err-standing-clause-again : goal.returns-in_err-standing-clause-again
+returns-in_err-standing-clause-again g c clean opened =
+    on_err c.from_residual.result (λ s desk. first_stays g.S.Store c.args.conn.now c.read_first_desk.new.conn s (c.read_first_desk.ensures.kept clean opened) desk)
+
+pub returns-in_err-standing-clause-crash : goal.returns-in_err-standing-clause-crash
+returns-in_err-standing-clause-crash g c = survives_weaker (state g.S.Store c.args.conn.now) (state g.S.Store c.read_first_desk.new.conn) _ _ (λ _ db none. absurd none) c.read_first_desk.ensures.survives

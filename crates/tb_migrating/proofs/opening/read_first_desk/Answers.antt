@@ -1,0 +1,17 @@
+use Rattle.tb_tables.proofs.Commands.{if_ok}
+use Rattle.tb_migrating.proofs.Whole.{first_desk, rows_of_desk}
+use Rattle.tb_migrating.proofs.opening.read_first_desk.Goals as goal
+
+pub returns-clause-answered : goal.returns-clause-answered
+returns-clause-answered g c clean =
+    let looks = c.may_be_first_desk.ensures.looks c.if-not-may_be_first_desk.false in
+    let rows = c.in_ok-rows.ensures.are clean looks.schema in
+    let same = c.in_ok-rows.ensures.same clean looks.schema in
+    if_ok c.standing_without_pulls.result c.standing_without_pulls.ensures.standing
+    (λ x told. (told.0, first_desk g.S.Store c.args.conn.now c.read_rows.new.conn c.in_ok-rows.rows told.0 looks same rows told.1 told.2 told.3, told.4))
+
+pub returns-clause-unfit : goal.returns-clause-unfit
+returns-clause-unfit g c clean q s desk =
+    let looks = c.may_be_first_desk.ensures.looks c.if-not-may_be_first_desk.false in
+    let rows = c.in_ok-rows.ensures.are clean looks.schema in
+    c.standing_without_pulls.ensures.unfit q s desk.reachable desk.unpulled (rows_of_desk g.S.Store c.args.conn.now c.in_ok-rows.rows s rows desk)

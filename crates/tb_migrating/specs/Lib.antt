@@ -1,0 +1,4 @@
+pub mod First
+pub mod Desk
+pub mod Selected
+pub mod Reads
