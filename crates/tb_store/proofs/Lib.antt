@@ -3,4 +3,5 @@ pub mod Alike
 pub mod SixTotals
 pub mod Standings
 pub mod Adopted
+pub mod Migrated
 pub mod Faultless

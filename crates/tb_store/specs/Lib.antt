@@ -2,3 +2,4 @@ pub mod Kept
 pub mod Standing
 pub mod Answers
 pub mod Exports
+pub mod Found

@@ -1,8 +1,9 @@
-ghost use Rattle.std.specs.Prelude.{◌≡◌, ◌≢◌, ◌↔◌, ◌<◌, ◌≤◌, ℕ, false, None, Some, Err, string_bytes, IsTrue, IfOk, IfErr, IfSome, OnOk};
+ghost use Rattle.std.specs.Prelude.{◌≡◌, ◌≢◌, ◌↔◌, ◌<◌, ◌≤◌, ℕ, List, length, false, None, Some, Err, string_bytes, IsTrue, IfOk, IfErr, IfSome, OnOk};
 ghost use Rattle.std.specs.Io.KnownBytes.{Appends};
 ghost use Rattle.sqlite.specs.State.{HasCleanDisk, Survives};
 ghost use Rattle.sqlite.specs.Held.{state};
 ghost use Rattle.sqlite.specs.Steps.{over_memory};
+ghost use Rattle.tb_tables.specs.Layout.{desk_schema};
 ghost use Rattle.tb_tables.specs.Records.{Stands};
 ghost use Rattle.tb_tables.specs.Making.{no_schema, IsBlank};
 ghost use Rattle.tb_core.specs.declared.refusals.Refusal.{Refusal as AnyRefusal};
@@ -11,7 +12,9 @@ ghost use Rattle.tb_core.specs.Machine.{Machine, empty_machine};
 ghost use Rattle.tb_core.specs.Totals.{StandFor};
 ghost use Rattle.tb_core.specs.Commands.{Answer, correct as correct_it, event_on, import_file, imported, pull as pull_it, restore as restore_it, replied, refused as refused_by, moved_on, corrected_to, pulled_out, restored_to};
 ghost use Rattle.tb_core.specs.Steps.{Steps};
+ghost use Rattle.tb_report.specs.Tables.{IsTableOf};
 ghost use Rattle.tb_search.specs.Released.{released, in_batch, current_text};
+ghost use Rattle.tb_search.specs.Searched.{Occurrence, answer, keys};
 ghost use Rattle.tb_acting.specs.Finding.{HasNumber};
 ghost use Rattle.tb_acting.specs.Working.{IsWithin};
 ghost use Rattle.tb_standing.specs.Standing.{tables_of, IsDesk};
@@ -19,9 +22,10 @@ ghost use Rattle.tb_store.specs.Kept.{Kept, counts_of, known_of};
 ghost use Rattle.tb_store.specs.Standing.{StandsFor, unlimited, no_totals};
 ghost use Rattle.tb_store.specs.Answers.{IsCurrent, IsTextOf, HasNoSentence, RefusesRevision};
 ghost use Rattle.tb_store.specs.Exports.{IsBrokenOff, IsPartOfBatch, RefusesBatch};
+ghost use Rattle.tb_store.specs.Found.{AreReleasedHits, HasTooMany, IsNumber, IsPartFound};
 
 use crate::answers::Current;
-use crate::{asking, exporting};
+use crate::{asking, exporting, finding};
 use sqlite::{Alter, Connection, MemStore};
 use std::alloc::Global;
 use std::marker::Model;
@@ -32,6 +36,9 @@ use tb_core::{
     Corrected, Event, Fault, Imported, Limits, Move, Moved, Pulled, Refusal, Restored, Totals,
 };
 use tb_importing::Known;
+use tb_match::Strategy;
+use tb_query::{Attr, Query};
+use tb_report::Freq;
 
 /// A desk: the connection that holds its tables, its limits, and the counts and totals that it read or wrote last, so that the
 /// next numbers are known without asking the database. It may be let go at any time: what it answered to have done stands.
@@ -66,7 +73,7 @@ pub struct Unmade<S: Alter> {
 }
 
 /// The connection, whose statements may take any number of steps.
-fn without_limit<S: Alter>(mut conn: Connection<S>) -> Connection<S>
+pub(crate) fn without_limit<S: Alter>(mut conn: Connection<S>) -> Connection<S>
     ensures { result ≡ unlimited conn }
 {
     conn.set_step_limit(None);
@@ -169,7 +176,12 @@ impl<S: Alter> Desk<S> {
     }
 
     /// The desk over this connection, with these counts and totals.
-    fn over(alloc: Global, conn: Connection<S>, limits: Limits, standing: Standing) -> Desk<S>
+    pub(crate) fn over(
+        alloc: Global,
+        conn: Connection<S>,
+        limits: Limits,
+        standing: Standing,
+    ) -> Desk<S>
         requires autocommit { conn.in_transaction ≡ false }
         requires within { IsWithin limits }
         requires counts { (standing.batches ≤ standing.moves) × (standing.sentences ≤ 1000000) × (standing.moves ≤ 1000000000) }
@@ -206,6 +218,7 @@ impl<S: Alter> Desk<S> {
         ensures fails { HasCleanDisk (state S.Store self.new.conn) → (state S.Store self.old.conn).step_limit ≡ None → (s : Machine) → StandsFor S.Store self.old s → result ≢ Err Fault.NotADesk }
         ensures kept { HasCleanDisk (state S.Store self.new.conn) → IsTrue (state S.Store self.new.conn).is_open → (s : Machine) → StandsFor S.Store self.old s → StandsFor S.Store self.new s }
         ensures crash { (s : Machine) → StandsFor S.Store self.old s → Survives (state S.Store self.old.conn) (state S.Store self.new.conn) (λ _. ⊥) }
+        ensures limits { self.new.limits ≡ self.old.limits }
     {
         asking::totals(self.alloc, &mut self.conn)
     }
@@ -217,6 +230,7 @@ impl<S: Alter> Desk<S> {
         ensures fails { HasCleanDisk (state S.Store self.new.conn) → (state S.Store self.old.conn).step_limit ≡ None → (s : Machine) → StandsFor S.Store self.old s → result ≢ Err Fault.NotADesk }
         ensures kept { HasCleanDisk (state S.Store self.new.conn) → IsTrue (state S.Store self.new.conn).is_open → (s : Machine) → StandsFor S.Store self.old s → StandsFor S.Store self.new s }
         ensures crash { (s : Machine) → StandsFor S.Store self.old s → Survives (state S.Store self.old.conn) (state S.Store self.new.conn) (λ _. ⊥) }
+        ensures limits { self.new.limits ≡ self.old.limits }
     {
         asking::moves(self.alloc, &mut self.conn)
     }
@@ -233,6 +247,7 @@ impl<S: Alter> Desk<S> {
         ensures fails { HasCleanDisk (state S.Store self.new.conn) → (state S.Store self.old.conn).step_limit ≡ None → (s : Machine) → StandsFor S.Store self.old s → result ≢ Err Fault.NotADesk }
         ensures kept { HasCleanDisk (state S.Store self.new.conn) → IsTrue (state S.Store self.new.conn).is_open → (s : Machine) → StandsFor S.Store self.old s → StandsFor S.Store self.new s }
         ensures crash { (s : Machine) → StandsFor S.Store self.old s → Survives (state S.Store self.old.conn) (state S.Store self.new.conn) (λ _. ⊥) }
+        ensures limits { self.new.limits ≡ self.old.limits }
     {
         let Some(number) = self.standing(number) else {
             return Err(Fault::Refused(Refusal::NoSuchSentence));
@@ -252,6 +267,7 @@ impl<S: Alter> Desk<S> {
         ensures fails { HasCleanDisk (state S.Store self.new.conn) → (state S.Store self.old.conn).step_limit ≡ None → (s : Machine) → StandsFor S.Store self.old s → result ≢ Err Fault.NotADesk }
         ensures kept { HasCleanDisk (state S.Store self.new.conn) → IsTrue (state S.Store self.new.conn).is_open → (s : Machine) → StandsFor S.Store self.old s → StandsFor S.Store self.new s }
         ensures crash { (s : Machine) → StandsFor S.Store self.old s → Survives (state S.Store self.old.conn) (state S.Store self.new.conn) (λ _. ⊥) }
+        ensures limits { self.new.limits ≡ self.old.limits }
     {
         let Some(number) = self.standing(number) else {
             return Err(Fault::Refused(Refusal::NoSuchSentence));
@@ -274,6 +290,7 @@ impl<S: Alter> Desk<S> {
         ensures refused { (r : AnyRefusal) → result ≢ Err (Fault.Refused r) }
         ensures kept { HasCleanDisk (state S.Store self.new.conn) → IsTrue (state S.Store self.new.conn).is_open → (s : Machine) → StandsFor S.Store self.old s → StandsFor S.Store self.new s }
         ensures crash { (s : Machine) → StandsFor S.Store self.old s → Survives (state S.Store self.old.conn) (state S.Store self.new.conn) (λ _. ⊥) }
+        ensures limits { self.new.limits ≡ self.old.limits }
     {
         exporting::released(self.alloc, &mut self.conn, out)
     }
@@ -291,8 +308,75 @@ impl<S: Alter> Desk<S> {
         ensures none { (r : AnyRefusal) → result ≡ Err (Fault.Refused r) → W.held out.new ≡ W.held out.old }
         ensures kept { HasCleanDisk (state S.Store self.new.conn) → IsTrue (state S.Store self.new.conn).is_open → (s : Machine) → StandsFor S.Store self.old s → StandsFor S.Store self.new s }
         ensures crash { (s : Machine) → StandsFor S.Store self.old s → Survives (state S.Store self.old.conn) (state S.Store self.new.conn) (λ _. ⊥) }
+        ensures limits { self.new.limits ≡ self.old.limits }
     {
         exporting::batch(self.alloc, &mut self.conn, name, out)
+    }
+}
+
+impl<S: Alter> Desk<S> {
+    /// How many hits the query has in released text: in the current revisions of the sentences that are released. One sentence
+    /// is in memory at a time.
+    ///
+    /// # Errors
+    ///
+    /// `TooManyHits`, where the strategy is `Every` and there are more than `limits.hits`.
+    pub fn number(&mut self, query: &Query, strategy: Strategy) -> Result<u64, Fault>
+        ensures answered { HasCleanDisk (state S.Store self.new.conn) → IfOk result (λ n. (s : Machine) → StandsFor S.Store self.old s → IsNumber s query.now strategy self.old.limits.hits n) }
+        ensures refused { HasCleanDisk (state S.Store self.new.conn) → (r : AnyRefusal) → result ≡ Err (Fault.Refused r) → (r ≡ Refusal.TooManyHits) × ((s : Machine) → StandsFor S.Store self.old s → HasTooMany s query.now strategy self.old.limits.hits) }
+        ensures stays { HasCleanDisk (state S.Store self.new.conn) → OnOk result ((s : Machine) → StandsFor S.Store self.old s → StandsFor S.Store self.new s) }
+        ensures kept { HasCleanDisk (state S.Store self.new.conn) → IsTrue (state S.Store self.new.conn).is_open → (s : Machine) → StandsFor S.Store self.old s → StandsFor S.Store self.new s }
+        ensures crash { (s : Machine) → StandsFor S.Store self.old s → Survives (state S.Store self.old.conn) (state S.Store self.new.conn) (λ _. ⊥) }
+        ensures lasts { Survives (state S.Store self.old.conn) (state S.Store self.new.conn) (λ _. (state S.Store self.old.conn).now.schema ≢ desk_schema) }
+        ensures limits { self.new.limits ≡ self.old.limits }
+    {
+        finding::number(
+            self.alloc,
+            &mut self.conn,
+            query,
+            strategy,
+            self.limits.hits,
+        )
+    }
+
+    /// Puts a keyword line for each hit of the query in released text, with `context` words on each side: by the number of the
+    /// sentence, and in a sentence as the strategy lists them; then the line `hits N`, which no keyword line is. Answers how
+    /// many hits there are. One sentence is in memory at a time. Nothing is refused: whether the hits are within the limit,
+    /// `number` tells.
+    ///
+    /// # Errors
+    ///
+    /// `Output`, where the sink refuses a piece: it may then hold a first part of the answer. After any other fault it holds
+    /// whole keyword lines, those of the first hits.
+    pub fn search<W: Sink>(
+        &mut self,
+        query: &Query,
+        strategy: Strategy,
+        context: u8,
+        out: &mut W,
+    ) -> Result<u64, Fault>
+        ensures answered { HasCleanDisk (state S.Store self.new.conn) → IfOk result (λ n. (s : Machine) → StandsFor S.Store self.old s → (found : List Occurrence) × AreReleasedHits s query.now strategy found × (n ≡ length found) × Appends (W.held out.old) (W.held out.new) (answer context found)) }
+        ensures broken { HasCleanDisk (state S.Store self.new.conn) → IfErr result (λ e. (s : Machine) → StandsFor S.Store self.old s → (found : List Occurrence) → AreReleasedHits s query.now strategy found → IsPartFound e (W.held out.old) (W.held out.new) context found) }
+        ensures refused { (r : AnyRefusal) → result ≢ Err (Fault.Refused r) }
+        ensures kept { HasCleanDisk (state S.Store self.new.conn) → IsTrue (state S.Store self.new.conn).is_open → (s : Machine) → StandsFor S.Store self.old s → StandsFor S.Store self.new s }
+        ensures crash { (s : Machine) → StandsFor S.Store self.old s → Survives (state S.Store self.old.conn) (state S.Store self.new.conn) (λ _. ⊥) }
+        ensures lasts { Survives (state S.Store self.old.conn) (state S.Store self.new.conn) (λ _. (state S.Store self.old.conn).now.schema ≢ desk_schema) }
+        ensures limits { self.new.limits ≡ self.old.limits }
+    {
+        finding::search(self.alloc, &mut self.conn, query, strategy, context, out)
+    }
+
+    /// The frequency table of the hits of the query in released text: of each hit its values in one column. One sentence is in
+    /// memory at a time, beside the table. Nothing is refused: whether the hits are within the limit, `number` tells.
+    pub fn count(&mut self, query: &Query, strategy: Strategy, column: Attr) -> Result<Freq, Fault>
+        ensures answered { HasCleanDisk (state S.Store self.new.conn) → IfOk result (λ table. (s : Machine) → StandsFor S.Store self.old s → (found : List Occurrence) × AreReleasedHits s query.now strategy found × IsTableOf (keys column found) table) }
+        ensures refused { (r : AnyRefusal) → result ≢ Err (Fault.Refused r) }
+        ensures kept { HasCleanDisk (state S.Store self.new.conn) → IsTrue (state S.Store self.new.conn).is_open → (s : Machine) → StandsFor S.Store self.old s → StandsFor S.Store self.new s }
+        ensures crash { (s : Machine) → StandsFor S.Store self.old s → Survives (state S.Store self.old.conn) (state S.Store self.new.conn) (λ _. ⊥) }
+        ensures lasts { Survives (state S.Store self.old.conn) (state S.Store self.new.conn) (λ _. (state S.Store self.old.conn).now.schema ≢ desk_schema) }
+        ensures limits { self.new.limits ≡ self.old.limits }
+    {
+        finding::count(self.alloc, &mut self.conn, query, strategy, column)
     }
 }
 

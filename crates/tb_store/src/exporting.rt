@@ -1,6 +1,6 @@
 //! The texts of many sentences, put to a sink one sentence at a time.
 
-ghost use Rattle.std.specs.Prelude.{◌≡◌, ◌≢◌, ℕ, List, Option, Some, Err, false, IsTrue, IfErr, OnOk};
+ghost use Rattle.std.specs.Prelude.{◌≡◌, ◌≢◌, ℕ, Some, Err, false, IsTrue, IfErr, OnOk};
 ghost use Rattle.std.specs.Io.KnownBytes.{Appends};
 ghost use Rattle.sqlite.specs.State.{HasCleanDisk, Survives};
 ghost use Rattle.sqlite.specs.Held.{state};
@@ -9,29 +9,19 @@ ghost use Rattle.tb_tables.specs.Records.{Tables};
 ghost use Rattle.tb_tables.specs.Changes.{Holds};
 ghost use Rattle.tb_core.specs.declared.refusals.Refusal.{Refusal as AnyRefusal};
 ghost use Rattle.tb_core.specs.Names.{is_name};
-ghost use Rattle.tb_core.specs.Machine.{Machine, Sentence};
+ghost use Rattle.tb_core.specs.Machine.{Machine};
 ghost use Rattle.tb_standing.specs.Standing.{IsDesk};
-ghost use Rattle.tb_search.specs.Released.{released as released_in, in_batch, current_text, IsCutShort};
+ghost use Rattle.tb_search.specs.Released.{released as released_in, in_batch, current_text};
 ghost use Rattle.tb_acting.specs.Finding.{HasNumber};
 ghost use Rattle.tb_store.specs.Exports.{IsBrokenOff, IsPartOfBatch, RefusesBatch};
 
+use crate::stopping::fault_of;
 use sqlite::{Alter, Connection};
 use std::alloc::Global;
-use tb_acting::{batch_number, faults};
+use tb_acting::batch_number;
 use tb_conllu::Sink;
 use tb_core::{Fault, Refusal, good_name};
-use tb_search::{Stopped, export_numbered, export_released};
-
-/// Why a walk ended early, as a fault.
-fn fault_of(stopped: Stopped) -> Fault
-    ensures left { (old new : Option (List ℕ)) (xs : List Sentence) → IsCutShort stopped old new xs → IsBrokenOff result old new xs }
-    ensures refused { (r : AnyRefusal) → result ≢ Fault.Refused r }
-{
-    match stopped {
-        Stopped::Read(error) => faults::of_read(error),
-        Stopped::Output => Fault::Output,
-    }
-}
+use tb_search::{export_numbered, export_released};
 
 /// Puts the text of all released sentences, by number.
 pub(crate) fn released<S: Alter, W: Sink>(

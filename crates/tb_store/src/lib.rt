@@ -5,6 +5,9 @@ mod answers;
 mod asking;
 mod desk;
 mod exporting;
+mod finding;
+mod migrating;
+mod stopping;
 
 pub use answers::Current;
 pub use desk::{Desk, Unmade};

@@ -1,0 +1,47 @@
+//! A desk of version 1 that is taken into use.
+
+ghost use Rattle.std.specs.Prelude.{◌≡◌, ◌≢◌, IsTrue, IfOk, IfErr};
+ghost use Rattle.sqlite.specs.State.{HasCleanDisk, Survives};
+ghost use Rattle.sqlite.specs.Held.{state};
+ghost use Rattle.tb_tables.specs.Records.{Stands};
+ghost use Rattle.tb_core.specs.declared.refusals.Refusal.{Refusal as AnyRefusal};
+ghost use Rattle.tb_core.specs.Machine.{Machine};
+ghost use Rattle.tb_acting.specs.Working.{IsWithin};
+ghost use Rattle.tb_standing.specs.Standing.{tables_of};
+ghost use Rattle.tb_migrating.specs.Desk.{IsFirstDesk};
+ghost use Rattle.tb_store.specs.Standing.{StandsFor, unlimited};
+
+use crate::desk::{Desk, Unmade, without_limit};
+use sqlite::{Alter, Connection};
+use std::alloc::Global;
+use tb_core::{Fault, Limits};
+
+impl<S: Alter> Desk<S> {
+    /// The desk of a store that is one of version 1 without pulls, whose step limit it takes off: all its tables are read and
+    /// tested, and then they are made those of a desk in one transaction. The rows of all tables are in memory at a time, with
+    /// the texts of all revisions. A fault gives the connection back, over a desk of version 1 that is as it was; a crash on
+    /// the way leaves its tables, or the whole tables of the desk.
+    ///
+    /// # Errors
+    ///
+    /// `NotADesk`, where the store is the desk of version 1 of no state without pulls, or the connection is in a transaction:
+    /// then it is as it was, whatever it is.
+    pub fn migrate(alloc: Global, conn: Connection<S>, limits: Limits) -> Result<Desk<S>, Unmade<S>>
+        requires within { IsWithin limits }
+        ensures migrated { IfOk result (λ d. HasCleanDisk (state S.Store d.conn) → (s : Machine) × IsFirstDesk S.Store conn s × StandsFor S.Store d s) }
+        ensures limits { IfOk result (λ d. d.limits ≡ limits) }
+        ensures unfit { IfErr result (λ u. HasCleanDisk (state S.Store u.conn) → u.fault ≡ Fault.NotADesk → (s : Machine) → IsFirstDesk S.Store conn s → ⊥) }
+        ensures untouched { IfErr result (λ u. HasCleanDisk (state S.Store u.conn) → u.fault ≡ Fault.NotADesk → (state S.Store u.conn).now ≡ (state S.Store conn).now) }
+        ensures unwritten { IfErr result (λ u. u.fault ≡ Fault.NotADesk → Survives (state S.Store (unlimited conn)) (state S.Store u.conn) (λ _. ⊥)) }
+        ensures refused { IfErr result (λ u. (r : AnyRefusal) → u.fault ≢ Fault.Refused r) }
+        ensures again { IfErr result (λ u. HasCleanDisk (state S.Store u.conn) → IsTrue (state S.Store u.conn).is_open → (s : Machine) → IsFirstDesk S.Store conn s → IsFirstDesk S.Store u.conn s) }
+        ensures crash { IfOk result (λ d. Survives (state S.Store (unlimited conn)) (state S.Store d.conn) (λ db. (s : Machine) → IsFirstDesk S.Store conn s → Stands (tables_of s) db)) }
+        ensures crash_on_the_way { IfErr result (λ u. Survives (state S.Store (unlimited conn)) (state S.Store u.conn) (λ db. (s : Machine) → IsFirstDesk S.Store conn s → Stands (tables_of s) db)) }
+    {
+        let mut conn = without_limit(conn);
+        match tb_migrating::migrate(alloc, &mut conn) {
+            Ok(standing) => Ok(Desk::over(alloc, conn, limits, standing)),
+            Err(fault) => Err(Unmade { fault, conn }),
+        }
+    }
+}
