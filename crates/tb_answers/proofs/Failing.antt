@@ -1,5 +1,5 @@
 -- What the fault of a desk is told as.
-use Rattle.std.proofs.Common.{◌≡◌, ℕ, refl, ap, inl, inr, Result, Ok, Err, IfOk, IsTrue}
+use Rattle.std.proofs.Common.{◌≡◌, ℕ, refl, ap, inl, inr, Result, Ok, Err, IfOk, IfErr, IsTrue}
 use Rattle.std.specs.Result.{result_err}
 use Rattle.std.proofs.lemmas.Option.{same_Some}
 use Rattle.sqlite.specs.Store.{Ghosts}
@@ -57,3 +57,7 @@ refusal_told {T} e r same = ap reply_for_fault (same_Some e (Refused r) (ap (λ 
 pub if_ok : {T E : Type 0} {P Q : T → Type 0} (r : Result T E) → IfOk r P → ((x : T) → P x → Q x) → IfOk r Q
 if_ok (Ok x) h f = f x h
 if_ok (Err e) h f = tt
+
+pub if_err : {T E : Type 0} {P Q : E → Type 0} (r : Result T E) → IfErr r P → ((e : E) → P e → Q e) → IfErr r Q
+if_err (Ok x) h f = tt
+if_err (Err e) h f = f e h

@@ -3,3 +3,5 @@ pub mod Asked
 pub mod Output
 pub mod Calls
 pub mod Responses
+pub mod Exported
+pub mod Found

@@ -49,6 +49,7 @@ pub fn totals<S: Alter>(alloc: Global, desk: &mut Desk<S>) -> Result<Vec<u8>, Re
     ensures failed { IfErr result IsFailure }
     ensures kept { HasCleanDisk (state S.Store desk.new.conn) → IsTrue (state S.Store desk.new.conn).is_open → (s : Machine) → StandsFor S.Store desk.old s → StandsFor S.Store desk.new s }
     ensures crash { (s : Machine) → StandsFor S.Store desk.old s → Survives (state S.Store desk.old.conn) (state S.Store desk.new.conn) (λ _. ⊥) }
+    ensures limits { desk.new.limits ≡ desk.old.limits }
 {
     match desk.totals() {
         Ok(totals) => totals_text(alloc, &totals),
@@ -62,6 +63,7 @@ pub fn moves<S: Alter>(alloc: Global, desk: &mut Desk<S>) -> Result<Vec<u8>, Rep
     ensures failed { IfErr result IsFailure }
     ensures kept { HasCleanDisk (state S.Store desk.new.conn) → IsTrue (state S.Store desk.new.conn).is_open → (s : Machine) → StandsFor S.Store desk.old s → StandsFor S.Store desk.new s }
     ensures crash { (s : Machine) → StandsFor S.Store desk.old s → Survives (state S.Store desk.old.conn) (state S.Store desk.new.conn) (λ _. ⊥) }
+    ensures limits { desk.new.limits ≡ desk.old.limits }
 {
     match desk.moves() {
         Ok(moves) => moves_text(alloc, moves.as_slice()),
@@ -80,6 +82,7 @@ pub fn sentence<S: Alter>(desk: &mut Desk<S>, number: u64) -> Result<Current, Re
     ensures told { IfErr result (λ r. (s : Machine) → StandsFor S.Store desk.old s → IsToldOf s (Question.Sentence number) r) }
     ensures kept { HasCleanDisk (state S.Store desk.new.conn) → IsTrue (state S.Store desk.new.conn).is_open → (s : Machine) → StandsFor S.Store desk.old s → StandsFor S.Store desk.new s }
     ensures crash { (s : Machine) → StandsFor S.Store desk.old s → Survives (state S.Store desk.old.conn) (state S.Store desk.new.conn) (λ _. ⊥) }
+    ensures limits { desk.new.limits ≡ desk.old.limits }
 {
     match desk.sentence(number) {
         Ok(current) => Ok(current),
@@ -98,6 +101,7 @@ pub fn revision<S: Alter>(desk: &mut Desk<S>, number: u64, rev: u64) -> Result<S
     ensures told { HasCleanDisk (state S.Store desk.new.conn) → IfErr result (λ r. (s : Machine) → StandsFor S.Store desk.old s → IsToldOf s (Question.Revision number rev) r) }
     ensures kept { HasCleanDisk (state S.Store desk.new.conn) → IsTrue (state S.Store desk.new.conn).is_open → (s : Machine) → StandsFor S.Store desk.old s → StandsFor S.Store desk.new s }
     ensures crash { (s : Machine) → StandsFor S.Store desk.old s → Survives (state S.Store desk.old.conn) (state S.Store desk.new.conn) (λ _. ⊥) }
+    ensures limits { desk.new.limits ≡ desk.old.limits }
 {
     match desk.revision(number, rev) {
         Ok(text) => Ok(text),
@@ -106,7 +110,7 @@ pub fn revision<S: Alter>(desk: &mut Desk<S>, number: u64, rev: u64) -> Result<S
 }
 
 /// A text alone.
-fn body_of(text: Vec<u8>) -> Body
+pub(crate) fn body_of(text: Vec<u8>) -> Body
     ensures text { result.text.items ≡ text.items }
     ensures rev { result.rev ≡ None }
 {
@@ -136,6 +140,7 @@ pub fn ask<S: Alter>(alloc: Global, desk: &mut Desk<S>, question: Question) -> R
     ensures told { HasCleanDisk (state S.Store desk.new.conn) → IfErr result (λ r. (s : Machine) → StandsFor S.Store desk.old s → IsToldOf s question r) }
     ensures kept { HasCleanDisk (state S.Store desk.new.conn) → IsTrue (state S.Store desk.new.conn).is_open → (s : Machine) → StandsFor S.Store desk.old s → StandsFor S.Store desk.new s }
     ensures crash { (s : Machine) → StandsFor S.Store desk.old s → Survives (state S.Store desk.old.conn) (state S.Store desk.new.conn) (λ _. ⊥) }
+    ensures limits { desk.new.limits ≡ desk.old.limits }
 {
     match question {
         Question::Sentence { number } => match sentence(desk, number) {

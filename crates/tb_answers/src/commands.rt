@@ -14,7 +14,7 @@ use tb_http::Reply;
 use tb_store::Desk;
 
 /// The line of a fault. A desk writes no output of its own.
-pub(crate) fn reply_for_fault(fault: Fault) -> Reply
+pub fn reply_for_fault(fault: Fault) -> Reply
     ensures { result ≡ reply_for_fault fault }
 {
     match fault {

@@ -4,17 +4,26 @@
 mod bodies;
 mod calls;
 mod commands;
+mod counts;
+mod ending;
+mod exports;
+mod finding;
 mod output;
 mod questions;
 mod responding;
 mod responses;
 mod running;
+mod searches;
 
 pub use bodies::{ask, moves, revision, sentence, totals};
 pub use calls::{DeskCall, DeskCommand};
-pub use commands::{correct, event, import, pull, restore};
+pub use commands::{correct, event, import, pull, reply_for_fault, restore};
+pub use counts::{respond_count, run_count};
+pub use exports::{respond_export, run_export};
+pub use finding::{Count, Search};
 pub use output::{put_body, put_reply};
 pub use questions::{Body, Question};
 pub use responding::respond_call;
 pub use responses::{respond_body, respond_reply};
 pub use running::{obey, run_call};
+pub use searches::{respond_search, run_search};

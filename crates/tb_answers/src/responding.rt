@@ -1,6 +1,6 @@
 //! Calls of a desk, done and answered over HTTP.
 
-ghost use Rattle.std.specs.Prelude.{ℕ, List};
+ghost use Rattle.std.specs.Prelude.{◌≡◌, ℕ, List};
 ghost use Rattle.sqlite.specs.State.{HasCleanDisk};
 ghost use Rattle.sqlite.specs.Held.{state};
 ghost use Rattle.tb_core.specs.Machine.{Machine};
@@ -28,6 +28,7 @@ pub fn respond_call<S: Alter, W: Sink>(
 ) -> Option<Status>
     ensures written { HasCleanDisk (state S.Store desk.new.conn) → (s : Machine) → StandsFor S.Store desk.old s → (text : List ℕ) × (status : AnyStatus) × IsResponse S.Store desk.old.limits s (call_by call.entry) desk.new text status × IsSent (W.held out.old) (W.held out.new) text status (W.IsRefusal out.new) result }
     ensures crash { IsSafe S.Store (call_by call.entry) desk.old desk.new }
+    ensures limits { desk.new.limits ≡ desk.old.limits }
 {
     match call {
         DeskCall::Command(command) => respond_reply(out, obey(desk, command)),

@@ -13,7 +13,7 @@ use tb_conllu::Sink;
 use tb_http::{Extra, Reply, Status, head_of_reply, response_head};
 
 /// Puts one piece, and tells whether the sink took it.
-fn put_piece<W: Sink>(out: &mut W, bytes: &[u8]) -> bool
+pub(crate) fn put_piece<W: Sink>(out: &mut W, bytes: &[u8]) -> bool
     ensures taken { result ≡ true → Appends (W.held out.old) (W.held out.new) bytes.now }
     ensures refused { result ≡ false → AppendsPart (W.held out.old) (W.held out.new) bytes.now × HasReason (W.IsRefusal out.new) }
 {

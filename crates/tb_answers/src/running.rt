@@ -47,6 +47,7 @@ pub fn run_call<S: Alter, W: Sink>(
 ) -> u8
     ensures written { HasCleanDisk (state S.Store desk.new.conn) → (s : Machine) → StandsFor S.Store desk.old s → (text : List ℕ) × (own : ℕ) × IsOutput S.Store desk.old.limits s (call_by call.entry) desk.new text own × IsWritten (W.held out.old) (W.held out.new) text own (W.IsRefusal out.new) result }
     ensures crash { IsSafe S.Store (call_by call.entry) desk.old desk.new }
+    ensures limits { desk.new.limits ≡ desk.old.limits }
 {
     match call {
         DeskCall::Command(command) => put_reply(out, obey(desk, command)),

@@ -1,0 +1,110 @@
+//! Exports: streamed to a sink with an exit status, or as responses over HTTP.
+
+ghost use Rattle.std.specs.Prelude.{◌≡◌, ℕ, List, None, Ok as OkOf, Err as ErrOf, IsTrue, IfOk, IfErr, OnOk, option_map};
+ghost use Rattle.std.specs.Io.KnownBytes.{Appends};
+ghost use Rattle.sqlite.specs.State.{HasCleanDisk, Survives};
+ghost use Rattle.sqlite.specs.Held.{state};
+ghost use Rattle.tb_core.specs.declared.refusals.Refusal.{Refusal as AnyRefusal};
+ghost use Rattle.tb_core.specs.Machine.{Machine};
+ghost use Rattle.tb_http.specs.declared.status.Status.{Status as AnyStatus};
+ghost use Rattle.tb_store.specs.Standing.{StandsFor};
+ghost use Rattle.tb_answers.specs.Commanded.{IsFailure};
+ghost use Rattle.tb_answers.specs.Responses.{IsSent};
+ghost use Rattle.tb_answers.specs.Exported.{HasExport, RefusesExport, IsCutOff, IsExportWritten, IsToldOfExport, IsExportResponse};
+
+use crate::bodies::body_of;
+use crate::commands::reply_for_fault;
+use crate::output::put_reply;
+use crate::questions::Body;
+use crate::responses::{respond_body, respond_reply};
+use sqlite::Alter;
+use std::alloc::Global;
+use tb_conllu::Sink;
+use tb_core::Fault;
+use tb_http::{Reply, Status};
+use tb_store::Desk;
+
+/// Puts the text of an export as it is read: of the batch with this name, or of all released sentences.
+fn export<S: Alter, W: Sink>(
+    desk: &mut Desk<S>,
+    name: Option<&str>,
+    out: &mut W,
+) -> Result<(), Fault>
+    ensures put { HasCleanDisk (state S.Store desk.new.conn) → OnOk result ((s : Machine) → StandsFor S.Store desk.old s → (text : List ℕ) × HasExport s (option_map (λ n. n.now) name.entry) (OkOf text) × Appends (W.held out.old) (W.held out.new) text) }
+    ensures part { HasCleanDisk (state S.Store desk.new.conn) → IfErr result (λ e. (s : Machine) → StandsFor S.Store desk.old s → IsCutOff s (option_map (λ n. n.now) name.entry) e (W.held out.old) (W.held out.new)) }
+    ensures refused { HasCleanDisk (state S.Store desk.new.conn) → (r : AnyRefusal) → result ≡ ErrOf (Fault.Refused r) → (s : Machine) → StandsFor S.Store desk.old s → RefusesExport s (option_map (λ n. n.now) name.entry) r }
+    ensures none { (r : AnyRefusal) → result ≡ ErrOf (Fault.Refused r) → W.held out.new ≡ W.held out.old }
+    ensures kept { HasCleanDisk (state S.Store desk.new.conn) → IsTrue (state S.Store desk.new.conn).is_open → (s : Machine) → StandsFor S.Store desk.old s → StandsFor S.Store desk.new s }
+    ensures crash { (s : Machine) → StandsFor S.Store desk.old s → Survives (state S.Store desk.old.conn) (state S.Store desk.new.conn) (λ _. ⊥) }
+    ensures limits { desk.new.limits ≡ desk.old.limits }
+{
+    match name {
+        Some(name) => desk.export_batch(name, out),
+        None => desk.export_released(out),
+    }
+}
+
+/// Puts an export as it is read, and gives the exit status. A refusal is its line, before which nothing is put; where the
+/// export breaks off nothing more is put, and the status is 3.
+pub fn run_export<S: Alter, W: Sink>(desk: &mut Desk<S>, name: Option<&str>, out: &mut W) -> u8
+    ensures written { HasCleanDisk (state S.Store desk.new.conn) → (s : Machine) → StandsFor S.Store desk.old s → IsExportWritten s (option_map (λ n. n.now) name.entry) (W.held out.old) (W.held out.new) (W.IsRefusal out.new) result }
+    ensures kept { HasCleanDisk (state S.Store desk.new.conn) → IsTrue (state S.Store desk.new.conn).is_open → (s : Machine) → StandsFor S.Store desk.old s → StandsFor S.Store desk.new s }
+    ensures crash { (s : Machine) → StandsFor S.Store desk.old s → Survives (state S.Store desk.old.conn) (state S.Store desk.new.conn) (λ _. ⊥) }
+    ensures limits { desk.new.limits ≡ desk.old.limits }
+{
+    match export(desk, name, out) {
+        Ok(()) => 0,
+        Err(Fault::Refused(refusal)) => put_reply(out, Reply::Refused(refusal)),
+        Err(_) => 3,
+    }
+}
+
+/// The reply for a fault of an export into memory, whose sink lacks nothing but memory.
+fn reply_for_export(fault: Fault) -> Reply
+    ensures refused { (r : AnyRefusal) → fault ≡ Fault.Refused r → result ≡ Reply.Refused r }
+    ensures failed { ((r : AnyRefusal) → fault ≡ Fault.Refused r → ⊥) → IsFailure result }
+{
+    match fault {
+        Fault::Output => Reply::Memory,
+        fault => reply_for_fault(fault),
+    }
+}
+
+/// The text of an export, whole in memory.
+fn export_body<S: Alter>(
+    alloc: Global,
+    desk: &mut Desk<S>,
+    name: Option<&str>,
+) -> Result<Body, Reply>
+    ensures answered { HasCleanDisk (state S.Store desk.new.conn) → IfOk result (λ b. (s : Machine) → StandsFor S.Store desk.old s → HasExport s (option_map (λ n. n.now) name.entry) (OkOf b.text.items)) }
+    ensures plain { IfOk result (λ b. b.rev ≡ None) }
+    ensures told { HasCleanDisk (state S.Store desk.new.conn) → IfErr result (λ r. (s : Machine) → StandsFor S.Store desk.old s → IsToldOfExport s (option_map (λ n. n.now) name.entry) r) }
+    ensures kept { HasCleanDisk (state S.Store desk.new.conn) → IsTrue (state S.Store desk.new.conn).is_open → (s : Machine) → StandsFor S.Store desk.old s → StandsFor S.Store desk.new s }
+    ensures crash { (s : Machine) → StandsFor S.Store desk.old s → Survives (state S.Store desk.old.conn) (state S.Store desk.new.conn) (λ _. ⊥) }
+    ensures limits { desk.new.limits ≡ desk.old.limits }
+{
+    let mut text = Vec::new(alloc);
+    match export(desk, name, &mut text) {
+        Ok(()) => Ok(body_of(text)),
+        Err(fault) => Err(reply_for_export(fault)),
+    }
+}
+
+/// Puts the response of an export to the sink, and gives the status of a response that was written whole. The text is made
+/// whole in memory before, so that its head tells its length.
+pub fn respond_export<S: Alter, W: Sink>(
+    alloc: Global,
+    desk: &mut Desk<S>,
+    name: Option<&str>,
+    out: &mut W,
+) -> Option<Status>
+    ensures written { HasCleanDisk (state S.Store desk.new.conn) → (s : Machine) → StandsFor S.Store desk.old s → (text : List ℕ) × (status : AnyStatus) × IsExportResponse s (option_map (λ n. n.now) name.entry) text status × IsSent (W.held out.old) (W.held out.new) text status (W.IsRefusal out.new) result }
+    ensures kept { HasCleanDisk (state S.Store desk.new.conn) → IsTrue (state S.Store desk.new.conn).is_open → (s : Machine) → StandsFor S.Store desk.old s → StandsFor S.Store desk.new s }
+    ensures crash { (s : Machine) → StandsFor S.Store desk.old s → Survives (state S.Store desk.old.conn) (state S.Store desk.new.conn) (λ _. ⊥) }
+    ensures limits { desk.new.limits ≡ desk.old.limits }
+{
+    match export_body(alloc, desk, name) {
+        Ok(body) => respond_body(out, &body),
+        Err(reply) => respond_reply(out, reply),
+    }
+}

@@ -1,0 +1,128 @@
+//! What is asked of released text: searches and counts, and whether their queries are accepted.
+
+ghost use Rattle.std.specs.Prelude.{◌≡◌, ◌≢◌, IsTrue, IfOk, IfErr, OnOk};
+ghost use Rattle.sqlite.specs.State.{HasCleanDisk, Survives};
+ghost use Rattle.sqlite.specs.Held.{state};
+ghost use Rattle.tb_tables.specs.Layout.{desk_schema};
+ghost use Rattle.tb_core.specs.Machine.{Machine};
+ghost use Rattle.tb_query.specs.Reading.{IsQuery};
+ghost use Rattle.tb_store.specs.Standing.{StandsFor};
+ghost use Rattle.tb_answers.specs.Found.{query_reply, Asks, IsAllowed, IsLimitReply, IsQueryReply, IsToldOfQuery};
+
+use crate::commands::reply_for_fault;
+use sqlite::Alter;
+use std::alloc::Global;
+use tb_core::Refusal;
+use tb_http::Reply;
+use tb_match::Strategy;
+use tb_query::{Attr, Query, QueryFault, parse};
+use tb_search::one_list_is_found;
+use tb_store::Desk;
+
+/// A search of released text.
+#[derive(Clone, Copy, Debug)]
+pub struct Search<'a> {
+    /// The text of the query.
+    pub query: &'a str,
+    pub strategy: Strategy,
+    /// How many words of context are told on each side of a hit.
+    pub context: u8,
+}
+
+/// A count of what is found in released text, by the values of a column.
+#[derive(Clone, Copy, Debug)]
+pub struct Count<'a> {
+    /// The text of the query.
+    pub query: &'a str,
+    pub strategy: Strategy,
+    pub column: Attr,
+}
+
+/// The line of a fault of a query.
+fn reply_for_query(fault: QueryFault) -> Reply
+    ensures { result ≡ query_reply fault }
+{
+    match fault {
+        QueryFault::TooLong => Reply::Refused(Refusal::Query(1, 0)),
+        QueryFault::Syntax(byte) => Reply::Refused(Refusal::Query(2, byte)),
+        QueryFault::TooMany => Reply::Refused(Refusal::Query(3, 0)),
+        QueryFault::TooDeep => Reply::Refused(Refusal::Query(4, 0)),
+        QueryFault::Repeat => Reply::Refused(Refusal::Query(5, 0)),
+        QueryFault::Pattern(literal) => Reply::Refused(Refusal::Query(6, literal)),
+        QueryFault::Memory => Reply::Memory,
+    }
+}
+
+/// The query that a text asks.
+fn read_query(alloc: Global, text: &str) -> Result<Query, Reply>
+    ensures query { IfOk result (λ q. IsQuery text.now q) }
+    ensures told { IfErr result (λ r. IsQueryReply text.now r) }
+{
+    match parse(alloc, text) {
+        Ok(query) => Ok(query),
+        Err(fault) => Err(reply_for_query(fault)),
+    }
+}
+
+/// Hands a query on whose hits are counted, and within the limit of the desk.
+fn counted_within<S: Alter>(
+    desk: &mut Desk<S>,
+    query: Query,
+    strategy: Strategy,
+) -> Result<Query, Reply>
+    ensures allowed { HasCleanDisk (state S.Store desk.new.conn) → IfOk result (λ q. (q ≡ query) × ((s : Machine) → StandsFor S.Store desk.old s → IsAllowed desk.old.limits s query strategy)) }
+    ensures told { HasCleanDisk (state S.Store desk.new.conn) → IfErr result (λ r. (s : Machine) → StandsFor S.Store desk.old s → IsLimitReply desk.old.limits s query strategy r) }
+    ensures stays { HasCleanDisk (state S.Store desk.new.conn) → OnOk result ((s : Machine) → StandsFor S.Store desk.old s → StandsFor S.Store desk.new s) }
+    ensures kept { HasCleanDisk (state S.Store desk.new.conn) → IsTrue (state S.Store desk.new.conn).is_open → (s : Machine) → StandsFor S.Store desk.old s → StandsFor S.Store desk.new s }
+    ensures lasts { Survives (state S.Store desk.old.conn) (state S.Store desk.new.conn) (λ _. (state S.Store desk.old.conn).now.schema ≢ desk_schema) }
+    ensures limits { desk.new.limits ≡ desk.old.limits }
+{
+    one_list_is_found();
+    match desk.number(&query, strategy) {
+        Ok(_) => Ok(query),
+        Err(fault) => Err(reply_for_fault(fault)),
+    }
+}
+
+/// Hands a query on whose hits are within the limit of the desk. Only where all matches are hits does it count them.
+fn within_limit<S: Alter>(
+    desk: &mut Desk<S>,
+    query: Query,
+    strategy: Strategy,
+) -> Result<Query, Reply>
+    ensures allowed { HasCleanDisk (state S.Store desk.new.conn) → IfOk result (λ q. (q ≡ query) × ((s : Machine) → StandsFor S.Store desk.old s → IsAllowed desk.old.limits s query strategy)) }
+    ensures told { HasCleanDisk (state S.Store desk.new.conn) → IfErr result (λ r. (s : Machine) → StandsFor S.Store desk.old s → IsLimitReply desk.old.limits s query strategy r) }
+    ensures stays { HasCleanDisk (state S.Store desk.new.conn) → OnOk result ((s : Machine) → StandsFor S.Store desk.old s → StandsFor S.Store desk.new s) }
+    ensures kept { HasCleanDisk (state S.Store desk.new.conn) → IsTrue (state S.Store desk.new.conn).is_open → (s : Machine) → StandsFor S.Store desk.old s → StandsFor S.Store desk.new s }
+    ensures lasts { Survives (state S.Store desk.old.conn) (state S.Store desk.new.conn) (λ _. (state S.Store desk.old.conn).now.schema ≢ desk_schema) }
+    ensures limits { desk.new.limits ≡ desk.old.limits }
+{
+    match strategy {
+        Strategy::Every => counted_within(desk, query, strategy),
+        Strategy::Shortest | Strategy::Longest => Ok(query),
+    }
+}
+
+/// The query that a text asks, whose hits are within the limit of the desk.
+///
+/// # Errors
+///
+/// `Query`, where the text is none; `TooManyHits`; or a failure. The first that holds.
+pub(crate) fn accepted<S: Alter>(
+    alloc: Global,
+    desk: &mut Desk<S>,
+    text: &str,
+    strategy: Strategy,
+) -> Result<Query, Reply>
+    ensures accepted { HasCleanDisk (state S.Store desk.new.conn) → IfOk result (λ q. (s : Machine) → StandsFor S.Store desk.old s → Asks desk.old.limits s text.now strategy q) }
+    ensures told { HasCleanDisk (state S.Store desk.new.conn) → IfErr result (λ r. (s : Machine) → StandsFor S.Store desk.old s → IsToldOfQuery desk.old.limits s text.now strategy r) }
+    ensures stays { HasCleanDisk (state S.Store desk.new.conn) → OnOk result ((s : Machine) → StandsFor S.Store desk.old s → StandsFor S.Store desk.new s) }
+    ensures kept { HasCleanDisk (state S.Store desk.new.conn) → IsTrue (state S.Store desk.new.conn).is_open → (s : Machine) → StandsFor S.Store desk.old s → StandsFor S.Store desk.new s }
+    ensures lasts { Survives (state S.Store desk.old.conn) (state S.Store desk.new.conn) (λ _. (state S.Store desk.old.conn).now.schema ≢ desk_schema) }
+    ensures limits { desk.new.limits ≡ desk.old.limits }
+{
+    match read_query(alloc, text) {
+        Ok(query) => within_limit(desk, query, strategy),
+        Err(reply) => Err(reply),
+    }
+}
