@@ -1,0 +1,62 @@
+//! One request, read, done and answered.
+
+ghost use Rattle.std.specs.Prelude.{◌≡◌, ◌≢◌, Err as ErrOf};
+ghost use Rattle.sqlite.specs.State.{HasCleanDisk};
+ghost use Rattle.sqlite.specs.Held.{state};
+ghost use Rattle.tb_core.specs.Machine.{Machine};
+ghost use Rattle.tb_store.specs.Standing.{StandsFor};
+ghost use Rattle.tb_serving.specs.Served.{IsServed, IsSafeOf, outcome};
+
+use crate::asked::respond_ask;
+use sqlite::Alter;
+use std::alloc::Global;
+use std::io::Read;
+use tb_answers::respond_reply;
+use tb_conllu::Sink;
+use tb_http::{AskFault, HEAD_BYTES, Reply, Routes, Status, read_ask};
+use tb_store::Desk;
+
+/// Why a request has no whole response.
+#[derive(Clone, Copy, Debug, PartialEq, Eq)]
+pub enum Broken {
+    /// The reader failed. Nothing was done, and nothing was written.
+    Read,
+    /// The sink refused a part of the response. What the request asked is done.
+    Write,
+}
+
+/// What is told of a response that was sent.
+fn outcome(sent: Option<Status>) -> Result<Status, Broken>
+    ensures { result ≡ outcome sent }
+{
+    match sent {
+        Some(status) => Ok(status),
+        None => Err(Broken::Write),
+    }
+}
+
+/// Reads one request, does what it asks, and answers it. Gives the status of a response that was written whole.
+///
+/// # Errors
+///
+/// `Read`, where the reader failed: the desk and the sink are as before. `Write`, where the sink refused a part of the
+/// response: it holds a part from the front, and a command that was accepted stays accepted.
+pub fn answer<S: Alter, R: Read, W: Sink>(
+    alloc: Global,
+    routes: &Routes,
+    desk: &mut Desk<S>,
+    reader: &mut R,
+    out: &mut W,
+) -> Result<Status, Broken>
+    ensures answered { result ≢ ErrOf Broken.Read → HasCleanDisk (state S.Store desk.new.conn) → (s : Machine) → StandsFor S.Store desk.old s → IsServed S.Store desk.old.limits s (R.remaining reader.old) desk.old desk.new (W.held out.old) (W.held out.new) (W.IsRefusal out.new) result }
+    ensures broken { result ≡ ErrOf Broken.Read → (desk.new ≡ desk.old) × (W.held out.new ≡ W.held out.old) }
+    ensures crash { IsSafeOf S.Store (R.remaining reader.old) desk.old desk.new }
+    ensures limits { desk.new.limits ≡ desk.old.limits }
+{
+    let mut buf = [0; HEAD_BYTES];
+    match read_ask(alloc, routes, reader, &mut buf) {
+        Ok(ask) => outcome(respond_ask(alloc, desk, ask, out)),
+        Err(AskFault::Memory) => outcome(respond_reply(out, Reply::Memory)),
+        Err(AskFault::Broken) => Err(Broken::Read),
+    }
+}
