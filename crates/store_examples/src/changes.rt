@@ -129,6 +129,17 @@ pub(crate) fn pull(alloc: Global, conn: &mut Connection<MemStore>) -> Result<(),
     Ok(())
 }
 
+/// All of these, one after the other.
+pub(crate) fn all_but_restore(alloc: Global, conn: &mut Connection<MemStore>) -> Result<(), Fail>
+    requires { conn.old.in_transaction ≡ false }
+    ensures { conn.new.in_transaction ≡ false }
+{
+    import(alloc, conn)?;
+    assign(alloc, conn)?;
+    correct(alloc, conn)?;
+    pull(alloc, conn)
+}
+
 /// Ann brings sentence 1 back.
 pub(crate) fn restore(alloc: Global, conn: &mut Connection<MemStore>) -> Result<(), Fail>
     requires { conn.old.in_transaction ≡ false }

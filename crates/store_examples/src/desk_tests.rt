@@ -1,68 +1,35 @@
 //! Calls on a desk without a batch.
 
-use sqlite::MemStore;
-use std::alloc::Global;
+use crate::asking::{LIMITS, obeyed, standing};
+use crate::telling::{assert_told, told};
 use std::test::Fail;
-use tb_core::{Event, Fault, Limits};
 use tb_store::Desk;
 
-const LIMITS: Limits = Limits {
-    sentences: 1,
-    moves: 2,
-    hits: 1,
-};
+/// What is refused there, a command on each line.
+const REFUSED: &str = "\
+    assign b9 ann => refused 2 NoSuchBatch\n\
+    assign b/9 ann => refused 1 BadName\n\
+    pull 1 ann => refused 3 NoSuchSentence\n\
+    restore 1 ann => refused 3 NoSuchSentence\n\
+    correct 1 1 ann go => refused 3 NoSuchSentence\n";
 
-/// A desk in memory.
-fn desk(alloc: Global) -> Result<Desk<MemStore>, Fail> {
-    Ok(Desk::in_memory(alloc, LIMITS)?)
-}
-
-fn told<T: Drop>(alloc: Global, answer: Result<T, Fault>) -> Result<String, Fail> {
-    match answer {
-        Ok(_) => Ok(String::from_str(alloc, "done")?),
-        Err(fault) => Ok(fault.to_string(alloc)?),
+#[test]
+fn a_new_desk_is_empty(rt: HostRuntime) -> Result<(), Fail> {
+    let alloc = rt.alloc();
+    let mut desk = Desk::in_memory(alloc, LIMITS)?;
+    for case in REFUSED.lines() {
+        let (command, wanted) = case.split_once(" => ").ok_or("a case")?;
+        let answer = obeyed(alloc, &mut desk, command)?;
+        assert_told(&rt, answer.as_str(), wanted, command);
     }
-}
-
-#[test]
-fn a_new_desk_has_no_moves(rt: HostRuntime) -> Result<(), Fail> {
-    let mut desk = desk(rt.alloc())?;
-    let totals = desk.totals()?;
-    assert!(rt; totals.sentences == [0; 6] && totals.words == [0; 6]);
-    assert!(rt; desk.moves()?.is_empty());
-    Ok(())
-}
-
-#[test]
-fn what_does_not_stand_is_refused(rt: HostRuntime) -> Result<(), Fail> {
-    let alloc = rt.alloc();
-    let mut desk = desk(alloc)?;
-    assert_eq!(rt;
-        told(alloc, desk.sentence(1))?.as_str(),
-        "refused 3 NoSuchSentence"
+    let answer = told(alloc, desk.revision(1, 1))?;
+    assert_told(
+        &rt,
+        answer.as_str(),
+        "refused 3 NoSuchSentence",
+        "revision 1",
     );
-    assert_eq!(rt;
-        told(alloc, desk.revision(1, 1))?.as_str(),
-        "refused 3 NoSuchSentence"
-    );
-    Ok(())
-}
-
-#[test]
-fn commands_on_nothing_are_refused(rt: HostRuntime) -> Result<(), Fail> {
-    let alloc = rt.alloc();
-    let mut desk = desk(alloc)?;
-    assert_eq!(rt;
-        told(alloc, desk.event("b9", Event::Assign, "ann"))?.as_str(),
-        "refused 2 NoSuchBatch"
-    );
-    assert_eq!(rt;
-        told(alloc, desk.event("b 9", Event::Assign, "ann"))?.as_str(),
-        "refused 1 BadName"
-    );
-    assert_eq!(rt;
-        told(alloc, desk.pull(1, "ann"))?.as_str(),
-        "refused 3 NoSuchSentence"
-    );
+    let state = standing(alloc, &mut desk)?;
+    assert_told(&rt, state.as_str(), "desk", "a new desk");
     Ok(())
 }

@@ -1,7 +1,8 @@
-//! Rows as text.
+//! What is asserted, as text.
 
 use std::alloc::Global;
-use std::fmt::Debug;
+use std::fmt::{Debug, Display};
+use std::process::Abort;
 use std::test::Fail;
 
 /// A line for each.
@@ -12,4 +13,23 @@ pub(crate) fn lines_of<T: Debug>(alloc: Global, rows: &[T]) -> Result<String, Fa
         text.push_str(line.as_str())?;
     }
     Ok(text)
+}
+
+/// The value, or the error as it is told.
+pub(crate) fn told<T: Debug + Drop, E: Display + Drop>(
+    alloc: Global,
+    answer: Result<T, E>,
+) -> Result<String, Fail> {
+    match answer {
+        Ok(value) => Ok(format!(in alloc; "{value:?}")?),
+        Err(error) => Ok(format!(in alloc; "{error}")?),
+    }
+}
+
+/// Asserts that this was told of a question.
+pub(crate) fn assert_told(rt: &impl Abort, told: &str, wanted: &str, of: &str) {
+    assert!(rt;
+        *told == *wanted,
+        "{told} where {wanted} was wanted, of {of}"
+    );
 }

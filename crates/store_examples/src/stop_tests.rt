@@ -1,0 +1,237 @@
+//! Each command on disks that stop at each of their calls in turn: what is found afterwards is the state of before or that of
+//! after, and the command can be sent again.
+
+use crate::asking::{LIMITS, obeyed, standing};
+use crate::disks::{Stop, closed, fused, left, no_files, opened};
+use crate::telling::assert_told;
+use sqlite::{Alter, Connection, FileStore, Files};
+use sqlite_disk::Memory;
+use std::alloc::Global;
+use std::process::Abort;
+use std::test::Fail;
+use tb_store::{Desk, Unmade};
+
+/// A line for each: what was done before, the command, its reply, the state before it and after it, and the reply where it
+/// was done already.
+const CASES: &str = "\
+    nothing\n\
+    make\n\
+    made\n\
+    blank\n\
+    desk\n\
+    refused desk\n\
+    \n\
+    make\n\
+    import b1 ann dogs\n\
+    Imported { batch: 1, first: 1, sentences: 1, words: 3 }\n\
+    desk\n\
+    desk open,1,3 1,import,1,0,none,open,1,0,3,ann\n\
+    Imported { batch: 1, first: 1, sentences: 1, words: 3 }\n\
+    \n\
+    make; import b1 ann dogs\n\
+    assign b1 ann\n\
+    Moved { batch: 1, state: Assigned, sentences: 1, words: 3 }\n\
+    desk open,1,3 1,import,1,0,none,open,1,0,3,ann\n\
+    desk assigned,1,3 1,import,1,0,none,open,1,0,3,ann 2,assign,1,0,open,assigned,1,3,3,ann\n\
+    refused 4 WrongState assigned\n\
+    \n\
+    make; import b4 ann cannot; assign b4 ann\n\
+    correct 1 1 ann can_not\n\
+    Corrected { sentence: 1, rev: 2, words: 4 }\n\
+    desk assigned,1,3 1,import,1,0,none,open,1,0,3,ann 2,assign,1,0,open,assigned,1,3,3,ann\n\
+    desk assigned,1,4 1,import,1,0,none,open,1,0,3,ann 2,assign,1,0,open,assigned,1,3,3,ann 3,correct,1,1,assigned,assigned,1,3,4,ann\n\
+    Corrected { sentence: 1, rev: 2, words: 4 }\n\
+    \n\
+    make; import b1 ann dogs_go\n\
+    pull 2 dan\n\
+    Pulled { sentence: 2, words: 1 }\n\
+    desk open,2,4 1,import,1,0,none,open,2,0,4,ann\n\
+    desk open,1,3 withdrawn,1,1 1,import,1,0,none,open,2,0,4,ann 2,pull,1,2,open,withdrawn,1,1,1,dan\n\
+    refused 20 Pulled\n\
+    \n\
+    make; import b1 ann dogs_go; pull 2 dan; assign b1 ann\n\
+    restore 2 dan\n\
+    Restored { sentence: 2, state: Assigned, words: 1 }\n\
+    desk assigned,1,3 withdrawn,1,1 1,import,1,0,none,open,2,0,4,ann 2,pull,1,2,open,withdrawn,1,1,1,dan 3,assign,1,0,open,assigned,1,3,3,ann\n\
+    desk assigned,2,4 1,import,1,0,none,open,2,0,4,ann 2,pull,1,2,open,withdrawn,1,1,1,dan 3,assign,1,0,open,assigned,1,3,3,ann 4,restore,1,2,withdrawn,assigned,1,1,1,dan\n\
+    refused 21 NotPulled\n";
+
+#[derive(Drop)]
+struct Case<'a> {
+    before: &'a str,
+    command: &'a str,
+    reply: &'a str,
+    old: &'a str,
+    new: &'a str,
+    again: &'a str,
+}
+
+fn line_at(text: &str, place: usize) -> &str {
+    text.lines().nth(place).unwrap_or("")
+}
+
+fn case_of(text: &str) -> Case<'_> {
+    Case {
+        before: line_at(text, 0),
+        command: line_at(text, 1),
+        reply: line_at(text, 2),
+        old: line_at(text, 3),
+        new: line_at(text, 4),
+        again: line_at(text, 5),
+    }
+}
+
+/// Makes a desk. What is answered, and the connection again.
+fn made<S: Alter + Drop>(
+    alloc: Global,
+    conn: Connection<S>,
+) -> Result<(String, Connection<S>), Fail> {
+    if !conn.is_autocommit() {
+        return Err("within a transaction")?;
+    }
+    match Desk::make(alloc, conn, LIMITS) {
+        Ok(desk) => Ok((String::from_str(alloc, "made")?, desk.into_connection())),
+        Err(Unmade { fault, conn }) => Ok((fault.to_string(alloc)?, conn)),
+    }
+}
+
+/// Sends a command to the desk that stands there, which is adopted first.
+fn sent<S: Alter + Drop>(
+    alloc: Global,
+    conn: Connection<S>,
+    command: &str,
+) -> Result<(String, Connection<S>), Fail> {
+    if *command == *"make" {
+        return made(alloc, conn);
+    }
+    match Desk::adopt(alloc, conn, LIMITS) {
+        Ok(mut desk) => {
+            let answer = obeyed(alloc, &mut desk, command)?;
+            Ok((answer, desk.into_connection()))
+        }
+        Err(Unmade { fault, conn }) => Ok((fault.to_string(alloc)?, conn)),
+    }
+}
+
+/// What stands there: nothing, or the state of a desk.
+fn found<S: Alter + Drop>(
+    alloc: Global,
+    conn: Connection<S>,
+) -> Result<(String, Connection<S>), Fail> {
+    if tb_tables::is_blank(&conn) {
+        return Ok((String::from_str(alloc, "blank")?, conn));
+    }
+    match Desk::adopt(alloc, conn, LIMITS) {
+        Ok(mut desk) => {
+            let state = standing(alloc, &mut desk)?;
+            Ok((state, desk.into_connection()))
+        }
+        Err(Unmade { fault, conn }) => Ok((fault.to_string(alloc)?, conn)),
+    }
+}
+
+/// A connection to files whose disks do not stop.
+fn whole(alloc: Global, files: Files<Memory>) -> Result<Connection<FileStore<Memory>>, Fail> {
+    match opened(alloc, files) {
+        Ok(conn) => Ok(conn),
+        Err(_files) => Err("not opened")?,
+    }
+}
+
+/// The files after these commands.
+fn prepared(alloc: Global, commands: &str) -> Result<Files<Memory>, Fail> {
+    let mut files = no_files(alloc);
+    for command in commands.split("; ") {
+        if *command != *"nothing" {
+            let (_answer, conn) = sent(alloc, whole(alloc, files)?, command)?;
+            files = closed(conn).0;
+        }
+    }
+    Ok(files)
+}
+
+/// What was answered before the stop, whether there was none, and the files that it left.
+fn stopped(
+    alloc: Global,
+    files: &Files<Memory>,
+    stop: &Stop,
+    command: &str,
+) -> Result<(String, bool, Files<Memory>), Fail> {
+    match opened(alloc, fused(alloc, files, stop)?) {
+        Ok(conn) => {
+            let (answer, conn) = sent(alloc, conn, command)?;
+            let (files, is_closed) = closed(conn);
+            Ok((answer, is_closed, left(alloc, files, stop)?))
+        }
+        Err(files) => Ok((
+            String::from_str(alloc, "refused device")?,
+            false,
+            left(alloc, files, stop)?,
+        )),
+    }
+}
+
+/// Asserts what is found after one stop, and that the command can then be sent again. Whether nothing stopped.
+fn assert_stop(
+    rt: &impl Abort,
+    alloc: Global,
+    files: &Files<Memory>,
+    stop: &Stop,
+    case: &Case<'_>,
+) -> Result<bool, Fail> {
+    let (answer, is_closed, files) = stopped(alloc, files, stop, case.command)?;
+    let is_answered = *answer.as_str() == *case.reply;
+    if !is_answered {
+        assert_told(rt, answer.as_str(), "refused device", case.command);
+    }
+    let (state, conn) = found(alloc, whole(alloc, files)?)?;
+    let is_new = *state.as_str() == *case.new;
+    if !is_new {
+        assert_told(rt, state.as_str(), case.old, case.command);
+        assert!(rt; !is_answered);
+    }
+    let (answer, conn) = sent(alloc, conn, case.command)?;
+    let wanted = if is_new { case.again } else { case.reply };
+    assert_told(rt, answer.as_str(), wanted, case.command);
+    let (state, _conn) = found(alloc, conn)?;
+    assert_told(rt, state.as_str(), case.new, case.command);
+    Ok(is_answered && is_closed)
+}
+
+/// Asserts it of stops at each call of one file, until nothing stops. How many stops there were.
+fn assert_stops(
+    rt: &impl Abort,
+    alloc: Global,
+    is_log: bool,
+    is_of_machine: bool,
+    case: &Case<'_>,
+) -> Result<u64, Fail> {
+    let files = prepared(alloc, case.before)?;
+    for calls in 0..10_000u64 {
+        let stop = Stop {
+            log: if is_log { calls } else { u64::MAX },
+            db: if is_log { u64::MAX } else { calls },
+            is_of_machine,
+        };
+        if assert_stop(rt, alloc, &files, &stop, case)? {
+            return Ok(calls);
+        }
+    }
+    Err("no run ended")?
+}
+
+#[test]
+fn commands_survive_stops(rt: HostRuntime) -> Result<(), Fail> {
+    let alloc = rt.alloc();
+    assert_eq!(rt; CASES.split("\n\n").count(), 6);
+    for text in CASES.split("\n\n") {
+        let case = case_of(text);
+        for is_log in [true, false] {
+            for is_of_machine in [true, false] {
+                let stops = assert_stops(&rt, alloc, is_log, is_of_machine, &case)?;
+                assert!(rt; stops > 3, "{text}");
+            }
+        }
+    }
+    Ok(())
+}
