@@ -4,4 +4,6 @@
 #[cfg(test)]
 mod running;
 #[cfg(test)]
+mod search_tests;
+#[cfg(test)]
 mod word_tests;

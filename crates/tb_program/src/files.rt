@@ -3,9 +3,11 @@
 ghost use Rattle.std.specs.Prelude.{◌≡◌, false, IfOk};
 
 use sqlite::{Connection, Error, ErrorCode, File, FileStore};
-use std::fs;
 use std::io::{ErrorKind, Read};
-use tb_core::{Fault, Limits};
+use std::time::Duration;
+use std::{fs, thread};
+use tb_answers::reply_for_fault;
+use tb_core::Limits;
 use tb_http::Reply;
 use tb_store::{Desk, Unmade};
 
@@ -27,15 +29,6 @@ fn reply_of_error(error: Error) -> Reply {
             ErrorCode::SystemIoFailure | ErrorCode::DiskFull | ErrorCode::DatabaseBusy,
         ) => Reply::Device,
         _ => Reply::Desk,
-    }
-}
-
-fn reply_of_fault(fault: Fault) -> Reply {
-    match fault {
-        Fault::Refused(refusal) => Reply::Refused(refusal),
-        Fault::Memory => Reply::Memory,
-        Fault::Device | Fault::Output => Reply::Device,
-        Fault::NotADesk => Reply::Desk,
     }
 }
 
@@ -70,14 +63,26 @@ fn may_be_database(rt: &HostRuntime, path: &str) -> Result<bool, Reply> {
     }
 }
 
+/// How often a file is asked for that another command has, and after how many milliseconds: for two seconds.
+const ATTEMPTS: u32 = 100;
+
+const PAUSE: u64 = 20;
+
 /// A connection to the file at this path, in no transaction.
 fn connect(rt: &HostRuntime, path: &str) -> Result<Connection<FileStore<File>>, Reply>
     ensures { IfOk result (λ c. c.in_transaction ≡ false) }
 {
-    match Connection::open(rt, path) {
-        Ok(conn) => Ok(conn),
-        Err(error) => Err(reply_of_error(error)),
+    for _ in 0..ATTEMPTS {
+        match Connection::open(rt, path) {
+            Ok(conn) => return Ok(conn),
+            Err(Error::SqliteFailure(ErrorCode::DatabaseBusy)) => thread::sleep(
+                rt,
+                Duration::from_millis(PAUSE),
+            ),
+            Err(error) => return Err(reply_of_error(error)),
+        }
     }
+    Err(Reply::Device)
 }
 
 /// Closes the file, so that it holds all by itself. What fails there loses nothing: the log beside the file keeps what was
@@ -86,33 +91,42 @@ pub(crate) fn close(desk: FileDesk) {
     let _ = desk.into_connection().close();
 }
 
-fn adopted(rt: &HostRuntime, conn: Connection<FileStore<File>>) -> Result<FileDesk, Reply> {
-    match Desk::adopt(rt.alloc(), conn, LIMITS) {
+/// The desk that was made of a connection, or why there is none; the file is closed then.
+fn made(made: Result<FileDesk, Unmade<FileStore<File>>>) -> Result<FileDesk, Reply> {
+    match made {
         Ok(desk) => Ok(desk),
         Err(Unmade { fault, conn }) => {
             let _ = conn.close();
-            Err(reply_of_fault(fault))
+            Err(reply_for_fault(fault))
         }
+    }
+}
+
+/// Tells a file that is no desk for what it begins with, and leaves it alone.
+pub(crate) fn look(rt: &HostRuntime, path: &str) -> Result<(), Reply> {
+    if may_be_database(rt, path)? {
+        Ok(())
+    } else {
+        Err(Reply::Desk)
     }
 }
 
 /// The desk of the file at this path.
 pub(crate) fn open(rt: &HostRuntime, path: &str) -> Result<FileDesk, Reply> {
-    if !may_be_database(rt, path)? {
-        return Err(Reply::Desk);
-    }
+    look(rt, path)?;
     let conn = connect(rt, path)?;
-    adopted(rt, conn)
+    made(Desk::adopt(rt.alloc(), conn, LIMITS))
+}
+
+/// Brings the desk of version 1 in the file at this path to version 2.
+pub(crate) fn migrate(rt: &HostRuntime, path: &str) -> Result<FileDesk, Reply> {
+    look(rt, path)?;
+    let conn = connect(rt, path)?;
+    made(Desk::migrate(rt.alloc(), conn, LIMITS))
 }
 
 /// Makes a desk in the file at this path, which is missing, empty or a blank database.
 pub(crate) fn make(rt: &HostRuntime, path: &str) -> Result<FileDesk, Reply> {
     let conn = connect(rt, path)?;
-    match Desk::make(rt.alloc(), conn, LIMITS) {
-        Ok(desk) => Ok(desk),
-        Err(Unmade { fault, conn }) => {
-            let _ = conn.close();
-            Err(reply_of_fault(fault))
-        }
-    }
+    made(Desk::make(rt.alloc(), conn, LIMITS))
 }

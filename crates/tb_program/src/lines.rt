@@ -1,23 +1,37 @@
 //! A line of words, done on a desk.
 
+ghost use Rattle.std.specs.Prelude.{◌≡◌, IfSome, IsTrue, MatchResult, Ok as Taken, Err as Untaken, option_map, string_bytes};
+ghost use Rattle.sqlite.specs.State.{HasCleanDisk};
+ghost use Rattle.sqlite.specs.Held.{state};
+ghost use Rattle.tb_core.specs.Machine.{Machine};
+ghost use Rattle.tb_line.specs.Lines.{said_by};
+ghost use Rattle.tb_store.specs.Standing.{StandsFor};
+ghost use Rattle.tb_program.specs.Bodies.{IsTaken, has_body};
+ghost use Rattle.tb_answers.specs.Calls.{call_by, call_in};
+ghost use Rattle.tb_program.specs.Ran.{reading_by, reading_in, IsRead, IsCalled, IsDone, IsRan, WritesNothing, IsCallSafe, IsDoneSafe, IsLineSafe};
+
 use sqlite::Alter;
 use std::alloc::Global;
 use std::io::Read;
-use tb_answers::{DeskCall, put_reply, run_call};
+use tb_answers::{Count, DeskCall, Search, put_reply, run_call, run_count, run_export, run_search};
 use tb_conllu::Sink;
-use tb_core::Fault;
 use tb_desk::{FILE_LIMIT, Input, read_all};
 use tb_http::{Reply, RequestFault};
 use tb_line::Line;
 use tb_store::Desk;
 
-/// Whether a line has a body on standard input.
-fn has_body(line: &Line) -> bool {
+/// Whether a line has a body on its input.
+fn has_body(line: &Line) -> bool
+    ensures { result ≡ has_body (said_by line.now) }
+{
     matches!(line, Line::Import { .. } | Line::Correct { .. })
 }
 
-/// The body of a line, nothing where it has none.
-fn body_of<R: Read>(alloc: Global, line: &Line, reader: &mut R) -> Result<Vec<u8>, Reply> {
+/// The body of a line: all that the reader gives, up to 4,194,304 bytes, where the line is an import or a correction, and
+/// nothing for other lines, of which the reader is left alone. In its place comes the reply that tells why it did not come.
+pub fn read_body<R: Read>(alloc: Global, line: &Line, reader: &mut R) -> Result<Vec<u8>, Reply>
+    ensures { IfSome (R.remaining reader.old) (λ input. MatchResult result (λ v. IsTaken FILE_LIMIT (said_by line.now) input (Taken v.items)) (λ r. IsTaken FILE_LIMIT (said_by line.now) input (Untaken r))) }
+{
     if !has_body(line) {
         return Ok(Vec::new(alloc));
     }
@@ -29,40 +43,121 @@ fn body_of<R: Read>(alloc: Global, line: &Line, reader: &mut R) -> Result<Vec<u8
     }
 }
 
-/// The exit status of an export, whose text went to the sink as it was read. Where it broke off nothing more is put.
-fn export_status<W: Sink>(out: &mut W, ended: Result<(), Fault>) -> u8 {
-    match ended {
-        Ok(()) => 0,
-        Err(Fault::Refused(refusal)) => put_reply(out, Reply::Refused(refusal)),
-        Err(_) => 3,
+/// What a line asks to be read off a desk.
+#[derive(Clone, Copy, Debug)]
+enum Reading<'a> {
+    /// A batch, or all released text.
+    Export(Option<&'a str>),
+    Search(Search<'a>),
+    Count(Count<'a>),
+}
+
+/// The name that is given, if one is.
+fn given(name: &Option<String>) -> Option<&str>
+    ensures { option_map (λ n. n.now) result ≡ option_map string_bytes name.now }
+{
+    match name {
+        Some(name) => Some(name.as_str()),
+        None => None,
     }
 }
 
-fn export<S: Alter, W: Sink>(desk: &mut Desk<S>, name: Option<&str>, out: &mut W) -> u8 {
-    let ended = match name {
-        Some(name) => desk.export_batch(name, out),
-        None => desk.export_released(out),
-    };
-    export_status(out, ended)
+/// The reading that a line asks for, if it asks for one.
+fn reading_of(line: &Line) -> Option<Reading<'_>>
+    ensures { option_map reading_by result ≡ reading_in (said_by line.now) }
+{
+    match line {
+        Line::Export { db: _, name } => Some(Reading::Export(given(name))),
+        Line::Search {
+            db: _,
+            strategy,
+            context,
+            query,
+        } => Some(Reading::Search(Search {
+            query: query.as_str(),
+            strategy: *strategy,
+            context: *context,
+        })),
+        Line::Count {
+            db: _,
+            strategy,
+            attribute,
+            query,
+        } => Some(Reading::Count(Count {
+            query: query.as_str(),
+            strategy: *strategy,
+            column: *attribute,
+        })),
+        _ => None,
+    }
 }
 
-/// Does a line on a desk, puts its answer, and gives the exit status.
-pub(crate) fn run_line<S: Alter, R: Read, W: Sink>(
+/// Puts what is read off a desk, and gives the exit status.
+fn run_reading<S: Alter, W: Sink>(
     alloc: Global,
-    line: &Line,
+    reading: Reading<'_>,
     desk: &mut Desk<S>,
-    reader: &mut R,
     out: &mut W,
-) -> u8 {
-    if let Line::Export { db: _, name } = line {
-        return export(desk, name.as_ref().map(|name| name.as_str()), out);
+) -> u8
+    ensures read { HasCleanDisk (state S.Store desk.new.conn) → (s : Machine) → StandsFor S.Store desk.old s → IsRead desk.old.limits s (reading_by reading.entry) (W.held out.old) (W.held out.new) (W.IsRefusal out.new) result }
+    ensures kept { HasCleanDisk (state S.Store desk.new.conn) → IsTrue (state S.Store desk.new.conn).is_open → (s : Machine) → StandsFor S.Store desk.old s → StandsFor S.Store desk.new s }
+    ensures crash { WritesNothing S.Store desk.old desk.new }
+{
+    match reading {
+        Reading::Export(name) => run_export(desk, name, out),
+        Reading::Search(search) => run_search(alloc, desk, search, out),
+        Reading::Count(count) => run_count(alloc, desk, count, out),
     }
-    let body = match body_of(alloc, line, reader) {
-        Ok(body) => body,
-        Err(reply) => return put_reply(out, reply),
-    };
-    match DeskCall::of_line(line, body.as_slice()) {
+}
+
+/// Makes the call of a line, if it makes one, and gives the exit status.
+fn run_called<S: Alter, W: Sink>(
+    alloc: Global,
+    call: Option<DeskCall<'_>>,
+    desk: &mut Desk<S>,
+    out: &mut W,
+) -> u8
+    ensures called { HasCleanDisk (state S.Store desk.new.conn) → (s : Machine) → StandsFor S.Store desk.old s → IsCalled S.Store desk.old.limits s (option_map call_by call.entry) desk.new (W.held out.old) (W.held out.new) (W.IsRefusal out.new) result }
+    ensures crash { IsCallSafe S.Store (option_map call_by call.entry) desk.old desk.new }
+{
+    match call {
         Some(call) => run_call(alloc, call, desk, out),
         None => tb_desk::put_reply(out, "refused usage\n", 2),
+    }
+}
+
+/// Does a line with its body on a desk, puts its answer, and gives the exit status.
+fn do_line<S: Alter, W: Sink>(
+    alloc: Global,
+    line: &Line,
+    body: &[u8],
+    desk: &mut Desk<S>,
+    out: &mut W,
+) -> u8
+    ensures done { HasCleanDisk (state S.Store desk.new.conn) → (s : Machine) → StandsFor S.Store desk.old s → IsDone S.Store desk.old.limits s (reading_in (said_by line.now)) (call_in (said_by line.now) body.now) desk.new (W.held out.old) (W.held out.new) (W.IsRefusal out.new) result }
+    ensures crash { IsDoneSafe S.Store (reading_in (said_by line.now)) (call_in (said_by line.now) body.now) desk.old desk.new }
+{
+    match reading_of(line) {
+        Some(reading) => run_reading(alloc, reading, desk, out),
+        None => run_called(alloc, DeskCall::of_line(line, body), desk, out),
+    }
+}
+
+/// Does a line on a desk where its body came, else tells why it did not. Puts the answer, and gives the exit status: 0 done,
+/// 1 refused, 2 where the line is one that is not for a desk (`check`, `new`, `migrate`, `serve`), 3 where memory, the device
+/// or the sink failed.
+pub fn run_line<S: Alter, W: Sink>(
+    alloc: Global,
+    line: &Line,
+    body: Result<Vec<u8>, Reply>,
+    desk: &mut Desk<S>,
+    out: &mut W,
+) -> u8
+    ensures ran { HasCleanDisk (state S.Store desk.new.conn) → (s : Machine) → StandsFor S.Store desk.old s → MatchResult body (λ v. IsRan S.Store desk.old.limits s (said_by line.now) (Taken v.items) desk.new (W.held out.old) (W.held out.new) (W.IsRefusal out.new) result) (λ r. IsRan S.Store desk.old.limits s (said_by line.now) (Untaken r) desk.new (W.held out.old) (W.held out.new) (W.IsRefusal out.new) result) }
+    ensures crash { MatchResult body (λ v. IsLineSafe S.Store (said_by line.now) (Taken v.items) desk.old desk.new) (λ r. IsLineSafe S.Store (said_by line.now) (Untaken r) desk.old desk.new) }
+{
+    match body {
+        Ok(body) => do_line(alloc, line, body.as_slice(), desk, out),
+        Err(reply) => put_reply(out, reply),
     }
 }

@@ -3,11 +3,14 @@
 ghost use Rattle.std.specs.Prelude.{◌≡◌, map, string_bytes, true};
 ghost use Rattle.tb_desk.specs.Check.{Answers, IsReplyToRead};
 ghost use Rattle.tb_desk.specs.Words.{asks_check};
+ghost use Rattle.tb_conllu.specs.declared.fault.WriteFault.{WriteFault};
 
-use crate::files;
-use crate::lines::run_line;
+use crate::files::{self, FileDesk};
+use crate::lines::{read_body, run_line};
+use crate::serving::serve;
+use sqlite::Alter;
 use std::alloc::Global;
-use std::io::Read;
+use std::io::{Read, Write};
 use tb_answers::put_reply;
 use tb_conllu::Sink;
 use tb_desk::{FILE_LIMIT, is_check, run_check};
@@ -38,33 +41,61 @@ fn file_of(line: &Line) -> Option<&str> {
         | Line::Show { db, .. }
         | Line::Export { db, .. }
         | Line::Totals { db }
-        | Line::Moves { db } => db,
-        _ => return None,
+        | Line::Moves { db }
+        | Line::Search { db, .. }
+        | Line::Count { db, .. }
+        | Line::Serve { db, .. } => db,
+        Line::Check | Line::New { .. } | Line::Migrate { .. } => return None,
     };
     db.as_ref().map(|path| path.as_str())
 }
 
-/// Makes a desk in a file.
-fn run_new<W: Sink>(rt: &HostRuntime, path: &str, out: &mut W) -> u8 {
-    match files::make(rt, path) {
+/// Puts a line where a desk was brought into a file, and closes it.
+fn put_opened<W: Sink>(opened: Result<FileDesk, Reply>, line: &str, out: &mut W) -> u8 {
+    match opened {
         Ok(desk) => {
             files::close(desk);
-            tb_desk::put_reply(out, "made\n", 0)
+            tb_desk::put_reply(out, line, 0)
         }
         Err(reply) => put_reply(out, reply),
     }
 }
 
-fn run_on_file<R: Read, W: Sink>(
+/// Does a line on a desk, with its body.
+fn run_on_desk<S: Alter, W: Write>(
+    rt: &HostRuntime,
+    line: &Line,
+    body: Result<Vec<u8>, Reply>,
+    desk: &mut Desk<S>,
+    out: &mut W,
+) -> u8 {
+    if let Line::Serve {
+        db: _,
+        port,
+        requests,
+    } = line
+    {
+        return serve(rt, desk, *port, *requests, out);
+    }
+    run_line(rt.alloc(), line, body, desk, out)
+}
+
+/// The body is read before the file is opened, and so before others are kept from it: in `show | correct` on one file each
+/// command then has its turn. A fault of the file is told before one of the body all the same.
+fn run_on_file<R: Read, W: Write>(
     rt: &HostRuntime,
     path: &str,
     line: &Line,
     reader: &mut R,
     out: &mut W,
 ) -> u8 {
+    if let Err(reply) = files::look(rt, path) {
+        return put_reply(out, reply);
+    }
+    let body = read_body(rt.alloc(), line, reader);
     match files::open(rt, path) {
         Ok(mut desk) => {
-            let status = run_line(rt.alloc(), line, &mut desk, reader, out);
+            let status = run_on_desk(rt, line, body, &mut desk, out);
             files::close(desk);
             status
         }
@@ -73,32 +104,41 @@ fn run_on_file<R: Read, W: Sink>(
 }
 
 /// Without a file the desk is in memory, for this run.
-fn run_in_memory<R: Read, W: Sink>(alloc: Global, line: &Line, reader: &mut R, out: &mut W) -> u8 {
-    match Desk::in_memory(alloc, files::LIMITS) {
-        Ok(mut desk) => run_line(alloc, line, &mut desk, reader, out),
+fn run_in_memory<R: Read, W: Write>(
+    rt: &HostRuntime,
+    line: &Line,
+    reader: &mut R,
+    out: &mut W,
+) -> u8 {
+    match Desk::in_memory(rt.alloc(), files::LIMITS) {
+        Ok(mut desk) => {
+            let body = read_body(rt.alloc(), line, reader);
+            run_on_desk(rt, line, body, &mut desk, out)
+        }
         Err(_) => put_reply(out, Reply::Memory),
     }
 }
 
-fn run<R: Read, W: Sink>(rt: &HostRuntime, line: &Line, reader: &mut R, out: &mut W) -> u8 {
-    if let Line::New { db } = line {
-        return run_new(rt, db.as_str(), out);
-    }
-    match file_of(line) {
-        Some(path) => run_on_file(rt, path, line, reader, out),
-        None => run_in_memory(rt.alloc(), line, reader, out),
+fn run<R: Read, W: Write>(rt: &HostRuntime, line: &Line, reader: &mut R, out: &mut W) -> u8 {
+    match line {
+        Line::New { db } => put_opened(files::make(rt, db.as_str()), "made\n", out),
+        Line::Migrate { db } => put_opened(files::migrate(rt, db.as_str()), "migrated\n", out),
+        _ => match file_of(line) {
+            Some(path) => run_on_file(rt, path, line, reader, out),
+            None => run_in_memory(rt, line, reader, out),
+        },
     }
 }
 
 /// Does what the words ask, the program's name first, and gives the exit status: `check` checks what the reader gives, and
 /// other commands work on a desk in a file, or in memory for this run.
-pub fn run_words<R: Read, W: Sink>(
+pub fn run_words<R: Read, W: Write>(
     rt: &HostRuntime,
     words: &[String],
     reader: &mut R,
     out: &mut W,
 ) -> u8
-    ensures check { asks_check (map string_bytes words.now) ≡ true → Answers (IsReplyToRead FILE_LIMIT (R.remaining reader.old)) (W.held out.old) (W.held out.new) (W.IsRefusal out.new) result }
+    ensures check { asks_check (map string_bytes words.now) ≡ true → Answers (IsReplyToRead FILE_LIMIT (R.remaining reader.old)) (W.contents out.old) (W.contents out.new) (λ (_ : WriteFault). Unit {0}) result }
 {
     let alloc = rt.alloc();
     if is_check(words) {

@@ -2,19 +2,42 @@
 #![tactic(auto)]
 
 use std::env;
-use std::io::{self, ErrorKind};
+use std::fs::File;
+use std::io::{self, BufWriter, ErrorKind, Write};
 use std::process::ExitCode;
 use tb_desk::put_reply;
 use tb_program::run_words;
+
+/// How much of an answer waits to be written at once.
+const BUFFER: usize = 65_536;
 
 /// The words of the command line, the program's name first.
 fn words(rt: &HostRuntime) -> io::Result<Vec<String>> {
     Ok(env::args(rt)?.collect(rt.alloc())?)
 }
 
+/// Takes the numbers of standard streams that are closed: else the file of a desk would get one, and what is printed would land
+/// in it. Such an input is empty then, and such an output takes nothing.
+fn hold_streams(rt: &HostRuntime) -> [io::Result<File>; 3] {
+    [
+        File::open(rt, "/dev/null"),
+        File::open(rt, "/dev/null"),
+        File::open(rt, "/dev/null"),
+    ]
+}
+
+/// Does what the words ask on standard input and output, and gives the exit status.
+fn run(rt: &HostRuntime) -> io::Result<u8> {
+    let words = words(rt)?;
+    let mut out = BufWriter::with_capacity(rt.alloc(), BUFFER, rt.stdout())?;
+    let status = run_words(rt, &words, &mut rt.stdin(), &mut out);
+    Ok(if out.flush().is_ok() { status } else { 3 })
+}
+
 fn main(rt: HostRuntime) -> ExitCode {
-    let status = match words(&rt) {
-        Ok(words) => run_words(&rt, &words, &mut rt.stdin(), &mut rt.stdout()),
+    let _held = hold_streams(&rt);
+    let status = match run(&rt) {
+        Ok(status) => status,
         Err(error) if error.kind() == ErrorKind::OutOfMemory => put_reply(
             &mut rt.stdout(),
             "refused memory\n",

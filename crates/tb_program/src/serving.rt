@@ -1,0 +1,111 @@
+//! The desk over HTTP on loopback: one connection after another, and on each one request.
+
+use sqlite::Alter;
+use std::alloc::Global;
+use std::io::{self, BufWriter, Read, Write};
+use std::net::{Ipv4Addr, Shutdown, TcpListener, TcpStream};
+use std::time::Duration;
+use tb_answers::put_reply;
+use tb_http::{BODY_BYTES, Reply, Routes, Status};
+use tb_serving::answer;
+use tb_store::Desk;
+
+/// How many seconds one read or write of a connection may take, so that a silent client does not keep others from the desk.
+const PATIENCE: u64 = 10;
+
+/// How many seconds a client that is refused may take to see it.
+const FAREWELL: u64 = 1;
+
+const BUFFER: usize = 65_536;
+
+/// Takes what a client still sends that was refused before its request was read whole: were the connection closed at once,
+/// what is on its way would have the system take the answer back.
+fn part(stream: &TcpStream) -> io::Result<()> {
+    stream.shutdown(Shutdown::Write)?;
+    stream.set_read_timeout(Some(Duration::from_secs(FAREWELL)))?;
+    let mut rest = [0; 4096];
+    let mut reader = stream.take(BODY_BYTES as u64 * 2);
+    for _ in 0..u64::MAX {
+        if reader.read(&mut rest)? == 0 {
+            return Ok(());
+        }
+    }
+    Ok(())
+}
+
+/// Reads one request of a connection and answers it. A connection that breaks has been served.
+fn serve_one<S: Alter>(
+    alloc: Global,
+    routes: &Routes,
+    desk: &mut Desk<S>,
+    stream: &TcpStream,
+) -> io::Result<()> {
+    let patience = Duration::from_secs(PATIENCE);
+    stream.set_read_timeout(Some(patience))?;
+    stream.set_write_timeout(Some(patience))?;
+    let mut out = BufWriter::with_capacity(alloc, BUFFER, stream)?;
+    let mut reader = stream;
+    let answered = answer(alloc, routes, desk, &mut reader, &mut out);
+    out.flush()?;
+    match answered {
+        Ok(Status::Ok) | Err(_) => Ok(()),
+        Ok(_) => part(stream),
+    }
+}
+
+/// Prints the port at once, for whoever waits to connect to it.
+fn announce<W: Write>(alloc: Global, port: u16, out: &mut W) -> Result<(), Reply> {
+    let Ok(line) = format!(in alloc; "listening {port}\n") else {
+        return Err(Reply::Memory);
+    };
+    match out.write_all(line.as_bytes()).and_then(|()| out.flush()) {
+        Ok(()) => Ok(()),
+        Err(_) => Err(Reply::Device),
+    }
+}
+
+fn listen(rt: &HostRuntime, port: u16) -> Result<TcpListener, Reply> {
+    match TcpListener::bind(rt, (Ipv4Addr::LOCALHOST, port)) {
+        Ok(listener) => Ok(listener),
+        Err(_) => Err(Reply::Device),
+    }
+}
+
+fn serve_all<S: Alter, W: Write>(
+    rt: &HostRuntime,
+    desk: &mut Desk<S>,
+    port: u16,
+    requests: u64,
+    out: &mut W,
+) -> Result<(), Reply> {
+    let Ok(routes) = Routes::new(rt.alloc()) else {
+        return Err(Reply::Memory);
+    };
+    let listener = listen(rt, port)?;
+    let Ok(address) = listener.local_addr() else {
+        return Err(Reply::Device);
+    };
+    announce(rt.alloc(), address.port(), out)?;
+    for _ in 0..requests {
+        let Ok((stream, _)) = listener.accept() else {
+            return Err(Reply::Device);
+        };
+        let _ = serve_one(rt.alloc(), &routes, desk, &stream);
+    }
+    Ok(())
+}
+
+/// Serves so many connections on this port of loopback, or on one that the system chooses where it is 0, and gives the exit
+/// status.
+pub(crate) fn serve<S: Alter, W: Write>(
+    rt: &HostRuntime,
+    desk: &mut Desk<S>,
+    port: u16,
+    requests: u64,
+    out: &mut W,
+) -> u8 {
+    match serve_all(rt, desk, port, requests, out) {
+        Ok(()) => 0,
+        Err(reply) => put_reply(out, reply),
+    }
+}
