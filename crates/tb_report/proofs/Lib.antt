@@ -6,3 +6,4 @@ pub mod OneRanking
 pub mod WordLists
 pub mod HitTexts
 pub mod CsvRows
+pub mod Parts

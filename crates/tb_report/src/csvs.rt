@@ -1,8 +1,9 @@
 //! Frequency tables, totals and moves as CSV.
 
-ghost use Rattle.std.specs.Prelude.{◌≡◌, [], ◌∷◌, IfOk, List, OnOk, Some, map};
+ghost use Rattle.std.specs.Prelude.{◌≡◌, [], ◌∷◌, IfErr, IfOk, List, OnErr, OnOk, Some, map};
 ghost use Rattle.std.specs.Io.KnownBytes.{Appends, Keeps};
 ghost use Rattle.csv.specs.Writing.{text_written};
+ghost use Rattle.tb_conllu.specs.Sunk.{AppendsPart};
 ghost use Rattle.tb_core.specs.Events.{state_place};
 ghost use Rattle.tb_core.specs.Words.{kind_word, state_word};
 ghost use Rattle.tb_report.specs.Csv.{IsBetweenRows, PutsRows, freq_csv, freq_fields, from_word, move_fields, moves_csv, moves_head, totals_csv, totals_fields};
@@ -230,6 +231,18 @@ fn moves_text(alloc: Global, moves: &[Move]) -> Result<Vec<u8>, ReportFault>
     finish(rows)
 }
 
+/// Appends a text that was made.
+fn put_text<W: Write>(text: &[u8], out: &mut W) -> Result<(), ReportFault>
+    ensures written { OnOk result (Appends (W.contents out.old) (W.contents out.new) text.now) }
+    ensures part { OnErr result (AppendsPart (W.contents out.old) (W.contents out.new) text.now) }
+    ensures fault { IfErr result (λ e. e ≡ ReportFault.Write) }
+{
+    match out.put(text) {
+        Ok(()) => Ok(()),
+        Err(_) => Err(ReportFault::Write),
+    }
+}
+
 /// Appends a frequency table: the head line `key,count` and a line for each key, the greatest count first, keys of one
 /// count by their bytes. Each line ends with LF, and a field is quoted only where it must be.
 ///
@@ -237,10 +250,14 @@ fn moves_text(alloc: Global, moves: &[Move]) -> Result<Vec<u8>, ReportFault>
 ///
 /// No memory is left, and nothing was written; or the writer failed.
 pub fn csv_freq<W: Write>(freq: &Freq, out: &mut W) -> Result<(), ReportFault>
-    ensures { OnOk result ((rows : List Row) × IsRankingOf freq.now rows × Appends (W.contents out.old) (W.contents out.new) (freq_csv rows)) }
+    ensures written { OnOk result ((rows : List Row) × IsRankingOf freq.now rows × Appends (W.contents out.old) (W.contents out.new) (freq_csv rows)) }
+    ensures memory { IfErr result (λ e. e ≡ ReportFault.Memory → out.new ≡ out.old) }
+    ensures part { OnErr result ((rows : List Row) → IsRankingOf freq.now rows → AppendsPart (W.contents out.old) (W.contents out.new) (freq_csv rows)) }
 {
-    let text = freq_text(freq)?;
-    Ok(out.put(&text)?)
+    let Ok(text) = freq_text(freq) else {
+        return Err(ReportFault::Memory);
+    };
+    put_text(&text, out)
 }
 
 /// Appends totals: the head line `state,sentences,words` and a line for each of the six states.
@@ -249,10 +266,14 @@ pub fn csv_freq<W: Write>(freq: &Freq, out: &mut W) -> Result<(), ReportFault>
 ///
 /// No memory is left, and nothing was written; or the writer failed.
 pub fn csv_totals<W: Write>(alloc: Global, totals: &Totals, out: &mut W) -> Result<(), ReportFault>
-    ensures { OnOk result (Appends (W.contents out.old) (W.contents out.new) (totals_csv totals.now)) }
+    ensures written { OnOk result (Appends (W.contents out.old) (W.contents out.new) (totals_csv totals.now)) }
+    ensures memory { IfErr result (λ e. e ≡ ReportFault.Memory → out.new ≡ out.old) }
+    ensures part { OnErr result (AppendsPart (W.contents out.old) (W.contents out.new) (totals_csv totals.now)) }
 {
-    let text = totals_text(alloc, totals)?;
-    Ok(out.put(&text)?)
+    let Ok(text) = totals_text(alloc, totals) else {
+        return Err(ReportFault::Memory);
+    };
+    put_text(&text, out)
 }
 
 /// Appends moves: the head line `no,kind,batch,sentence,from,to,sentences,words_out,words_in,who` and a line for each.
@@ -262,8 +283,12 @@ pub fn csv_totals<W: Write>(alloc: Global, totals: &Totals, out: &mut W) -> Resu
 ///
 /// No memory is left, and nothing was written; or the writer failed.
 pub fn csv_moves<W: Write>(alloc: Global, moves: &[Move], out: &mut W) -> Result<(), ReportFault>
-    ensures { OnOk result (Appends (W.contents out.old) (W.contents out.new) (moves_csv moves.now)) }
+    ensures written { OnOk result (Appends (W.contents out.old) (W.contents out.new) (moves_csv moves.now)) }
+    ensures memory { IfErr result (λ e. e ≡ ReportFault.Memory → out.new ≡ out.old) }
+    ensures part { OnErr result (AppendsPart (W.contents out.old) (W.contents out.new) (moves_csv moves.now)) }
 {
-    let text = moves_text(alloc, moves)?;
-    Ok(out.put(&text)?)
+    let Ok(text) = moves_text(alloc, moves) else {
+        return Err(ReportFault::Memory);
+    };
+    put_text(&text, out)
 }

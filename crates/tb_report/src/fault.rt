@@ -1,6 +1,7 @@
 //! What keeps a table from being written.
 
 ghost use Rattle.std.specs.Prelude.{◌≡◌};
+ghost use Rattle.tb_report.specs.declared.fault.ReportFault.TheVariants.{Memory, Write};
 
 use std::alloc::AllocError;
 use tb_conllu::WriteFault;
@@ -15,12 +16,16 @@ pub enum ReportFault {
 }
 
 impl From<AllocError> for ReportFault {
+    ghost from_gives = { λ _ e. e ≡ Memory };
+
     fn from(_error: AllocError) -> ReportFault {
         ReportFault::Memory
     }
 }
 
 impl From<WriteFault> for ReportFault {
+    ghost from_gives = { λ _ e. e ≡ Write };
+
     fn from(_fault: WriteFault) -> ReportFault {
         ReportFault::Write
     }
