@@ -14,11 +14,12 @@ use Rattle.tb_rules.specs.File.{IsValid, IsFaultAt, IsFileFault, HasTaken}
 use Rattle.tb_rules.specs.declared.filefault.FileFault.{FileFault}
 use Rattle.tb_rules.specs.declared.filefault.FileFault.TheVariants as rules
 use Rattle.tb_core.specs.Tests.{IsUnread, IsBroken, IsEmpty}
-use Rattle.tb_core.specs.Taking.{IsBody, IsBodyRefused, unread, broken, empty, IsCorrectionRefused, as_body, not_one, IsTakingFault, fault_of_reading, fault_of_rules, TakenText, taken_of}
+use Rattle.tb_core.specs.Taking.{IsBody, IsBodyRefused, unread, broken, empty, IsCorrection, IsUnfit, other_name, other_text, nothing_new, IsCorrectionRefused, as_body, not_one, unfit, IsTakingFault, fault_of_reading, fault_of_rules, TakenText, taken_of}
 use Rattle.tb_core.specs.declared.refusals.Refusal.{Refusal}
 use Rattle.tb_core.specs.declared.refusals.Refusal.TheVariants.{NotOne}
 use Rattle.tb_core.specs.declared.refusals.Fault.{Fault}
 use Rattle.tb_core.specs.declared.refusals.Fault.TheVariants.{Refused, Memory, Device, NotADesk, Output}
+use Rattle.tb_core.proofs.Lists.{head_is}
 
 -- what the crates below promise
 pub record Reading : Type 0 where
@@ -128,3 +129,30 @@ one_is law body bs xs old new b good same begun next few =
     let whole : text_of bs ≡ text_of (b ∷ []) ++ new.rest = sym good.file.text ∙ sym (ap (λ (l : Left). l.rest) begun) ∙ next.text in
     let found = law (b ∷ []) bs new.rest (next.shaped, tt) good.file.shaped whole in
     subst (IsBody body) (all_of_it b bs found.0 found.1 (omega (arith, n, few))) good
+
+-- ---- the body of a correction is answered one way
+
+sentence_is : Laws → (body : List ℕ) (b c : BlockText) → IsBody body (b ∷ []) → IsBody body (c ∷ []) → b ≡ c
+sentence_is laws body b c one other = head_is b c [] [] (laws.one_list body (b ∷ []) (c ∷ []) one.file other.file)
+
+no_fault_of_it : (body : List ℕ) (current b : BlockText) (r : Refusal) → IsCorrection body current b → IsUnfit b current r → ⊥
+no_fault_of_it body current b _ good (other_name differs) = differs good.named
+no_fault_of_it body current b _ good (other_text named differs) = differs good.spelled
+no_fault_of_it body current b _ good (nothing_new same) = good.new same
+
+correction_not_refused : Laws → (body : List ℕ) (current b : BlockText) (r : Refusal) → IsCorrection body current b → IsCorrectionRefused body current r → ⊥
+correction_not_refused laws body current b r good (as_body refused) = not_refused laws body (b ∷ []) r good.taken refused
+correction_not_refused laws body current b r good (not_one bs taken (first, second, more, file, is)) =
+    omega (arith, ap length (laws.one_list body (first ∷ second ∷ more) (b ∷ []) file good.taken.file))
+correction_not_refused laws body current b r good (unfit c taken fault) =
+    no_fault_of_it body current b r good (subst (λ x. IsUnfit x current r) (sentence_is laws body c b taken good.taken) fault)
+
+-- where a body is a correction, no other sentence is taken, and it is not refused
+pub only_this : {X : Type 0} → Laws → (block : X → BlockText) (body : List ℕ) (current : BlockText) (r : Result X Fault) → IfOk r (λ v. IsCorrection body current (block v))
+    → IfErr r (IsTakingFault (IsCorrectionRefused body current)) → (b : BlockText) → IsCorrection body current b → MatchResult r (λ v. block v ≡ b) (λ e. e ≡ Memory)
+only_this laws block body current (Ok v) good refused b h = sentence_is laws body (block v) b good.taken h.taken
+only_this laws block body current (Err (Refused r)) taken refused b h = absurd (correction_not_refused laws body current b r h refused)
+only_this laws block body current (Err Memory) taken refused b h = refl
+only_this laws block body current (Err Device) taken refused b h = absurd refused
+only_this laws block body current (Err NotADesk) taken refused b h = absurd refused
+only_this laws block body current (Err Output) taken refused b h = absurd refused

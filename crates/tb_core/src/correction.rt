@@ -12,9 +12,9 @@ use crate::taking::take_file_ref;
 use std::alloc::Global;
 use tb_conllu::{
     Block, BlockOf, Passage, Sentences, Text, a_file_begins_one_way, a_file_is_read_in_order,
-    one_list_has_a_text, own_block,
+    one_list_has_a_text, own_block, told_bytes_are_no_file,
 };
-use tb_rules::{sent_id, text};
+use tb_rules::{faulty_sentences_are_not_valid, sent_id, text};
 
 /// The name of the sentence, empty where it has none.
 fn name_of<T: Text>(block: &BlockOf<T>) -> &str
@@ -81,6 +81,21 @@ fn only_sentence<'a>(alloc: Global, body: &'a [u8]) -> Result<Passage<'a>, Fault
     }
 }
 
+/// The one sentence of a body that corrects the current one, as `take_one_ref` gives it.
+fn fitting_sentence<'a, T: Text>(
+    alloc: Global,
+    body: &'a [u8],
+    current: &BlockOf<T>,
+) -> Result<Passage<'a>, Fault>
+    ensures taken { IfOk result (λ p. IsCorrection body.now current.now p.block) }
+    ensures text { IfOk result (λ p. p.text.now ≡ body.now) }
+    ensures refused { IfErr result (IsTakingFault (IsCorrectionRefused body.now current.now)) }
+{
+    let passage = only_sentence(alloc, body)?;
+    fits(&passage.block, current)?;
+    Ok(passage)
+}
+
 /// The one sentence of a body that corrects the current one: it has its name and its text, and differs. It borrows from
 /// the body, which is its text.
 ///
@@ -96,10 +111,13 @@ pub fn take_one_ref<'a, T: Text>(
     ensures taken { IfOk result (λ p. IsCorrection body.now current.now p.block) }
     ensures text { IfOk result (λ p. p.text.now ≡ body.now) }
     ensures refused { IfErr result (IsTakingFault (IsCorrectionRefused body.now current.now)) }
+    ensures only { (b : BlockText) → IsCorrection body.now current.now b → MatchResult result (λ p. p.block ≡ b) (λ e. e ≡ Memory) }
 {
-    let passage = only_sentence(alloc, body)?;
-    fits(&passage.block, current)?;
-    Ok(passage)
+    // The laws by which a body is answered one way.
+    one_list_has_a_text();
+    told_bytes_are_no_file();
+    faulty_sentences_are_not_valid();
+    fitting_sentence(alloc, body, current)
 }
 
 /// The one sentence of a body that corrects the current one, which holds its texts; or the refusal, as `take_one_ref`
@@ -111,6 +129,7 @@ pub fn take_one_ref<'a, T: Text>(
 pub fn take_one<T: Text>(alloc: Global, body: &[u8], current: &BlockOf<T>) -> Result<Block, Fault>
     ensures taken { IfOk result (IsCorrection body.now current.now) }
     ensures refused { IfErr result (IsTakingFault (IsCorrectionRefused body.now current.now)) }
+    ensures only { (b : BlockText) → IsCorrection body.now current.now b → MatchResult result (λ v. v ≡ b) (λ e. e ≡ Memory) }
 {
     let passage = take_one_ref(alloc, body, current)?;
     Ok(own_block(alloc, &passage.block)?)
