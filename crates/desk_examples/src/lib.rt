@@ -1,12 +1,14 @@
-//! Tests of the desk machine: decisions, bodies, the texts of refusals and faults, and totals.
+//! Tests of the desk machine: decisions, bodies, the order of tests, the texts of refusals and faults, and totals.
 #![tactic(auto)]
 
-#[cfg(test)]
-mod body_tests;
 #[cfg(test)]
 mod cases;
 #[cfg(test)]
 mod decision_tests;
+#[cfg(test)]
+mod faulty;
+#[cfg(test)]
+mod order_tests;
 #[cfg(test)]
 mod reading;
 #[cfg(test)]
