@@ -24,7 +24,8 @@ fn told_revisions<'a>(
     requires { length blocks.now ≡ length rows.now }
     ensures { IfOk result (λ v. v.items ≡ rows_told (map revision_of rows.now) blocks.now) }
 {
-    let mut revisions: Vec<Revision<'a>> = Vec::new(alloc);
+    // Most sentences have one revision, and a list that grows by itself would begin with room for more.
+    let mut revisions: Vec<Revision<'a>> = Vec::with_capacity(alloc, rows.len())?;
     for i in 0..rows.len() {
         revisions.push(Revision {
             who: rows[i].who.as_str(),
