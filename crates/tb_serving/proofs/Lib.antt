@@ -1,0 +1,4 @@
+mod Chained
+mod Surviving
+mod Rounds
+mod InMemory

@@ -1,11 +1,12 @@
 //! One request, read, done and answered.
 
-ghost use Rattle.std.specs.Prelude.{◌≡◌, ◌≢◌, Err as ErrOf};
+ghost use Rattle.std.specs.Prelude.{◌≡◌, ◌≢◌, Err as ErrOf, map, vec_items};
 ghost use Rattle.sqlite.specs.State.{HasCleanDisk};
 ghost use Rattle.sqlite.specs.Held.{state};
 ghost use Rattle.tb_core.specs.Machine.{Machine};
 ghost use Rattle.tb_store.specs.Standing.{StandsFor};
 ghost use Rattle.tb_serving.specs.Served.{IsServed, IsSafeOf, outcome};
+ghost use Rattle.tb_serving.specs.Turns.{AreServed};
 
 use crate::asked::respond_ask;
 use sqlite::Alter;
@@ -59,4 +60,27 @@ pub fn answer<S: Alter, R: Read, W: Sink>(
         Err(AskFault::Memory) => outcome(respond_reply(out, Reply::Memory)),
         Err(AskFault::Broken) => Err(Broken::Read),
     }
+}
+
+/// Answers a list of requests in turn, each from its own bytes and on the desk that the one before left, and stops at the first
+/// that has no whole response.
+///
+/// # Errors
+///
+/// `Write`, where the sink refused a part of a response: it holds the responses before and a part of this one from the front. A
+/// command that was accepted stays accepted. `Read` is that of `answer`, which a request in memory gives no cause for.
+pub fn answer_all<S: Alter, W: Sink>(
+    alloc: Global,
+    routes: &Routes,
+    desk: &mut Desk<S>,
+    requests: &[Vec<u8>],
+    out: &mut W,
+) -> Result<(), Broken>
+    ensures answered { AreServed W.held W.IsRefusal S.Store (map vec_items requests.now) desk.old desk.new out.old out.new result }
+    ensures limits { desk.new.limits ≡ desk.old.limits }
+{
+    for request in requests {
+        answer(alloc, routes, desk, &mut request.as_slice(), out)?;
+    }
+    Ok(())
 }
