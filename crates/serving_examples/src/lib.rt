@@ -2,4 +2,8 @@
 #![tactic(auto)]
 
 #[cfg(test)]
+mod list_tests;
+#[cfg(test)]
 mod request_tests;
+#[cfg(test)]
+mod signs;

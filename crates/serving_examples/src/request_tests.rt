@@ -1,5 +1,6 @@
 //! Requests one after the other on one desk in memory, and their responses.
 
+use crate::signs::plain;
 use std::alloc::Global;
 use std::test::Fail;
 use tb_core::Limits;
@@ -13,8 +14,7 @@ const LIMITS: Limits = Limits {
     hits: 2,
 };
 
-/// Requests, in which `¶` stands for CR LF, `␊` for LF, `␉` for a tab and `…` for a file of one sentence, 150 bytes. After ` => `
-/// stand the status that is told, the one that is sent, and the body.
+/// Requests, written with signs. After ` => ` stand the status that is told, the one that is sent, and the body.
 const CASES: &str = "\
     POST /batches/b1 HTTP/1.1¶Desk-User: ann¶Content-Length: 150¶¶… => Ok(Ok) 200 OK imported batch=1 first=1 sentences=1 words=3␊\n\
     POST /batches/b1 HTTP/1.1¶Desk-User: bea¶Content-Length: 150¶¶… => Ok(Ok) 200 OK imported batch=1 first=1 sentences=1 words=3␊\n\
@@ -26,18 +26,6 @@ const CASES: &str = "\
     GET /released HTTP/1.1¶¶ => Ok(Ok) 200 OK \n\
     POST /batches/b1 HTTP/1.1¶Content-Length: 150¶¶one => Ok(BadRequest) 400 Bad Request refused body␊\n\
     GET /total HTTP/1.1¶¶ => Ok(NotFound) 404 Not Found refused path␊";
-
-const SENTENCE: &str = "\
-    # sent_id = s1␊# text = Dogs bark.␊1␉Dogs␉dog␉NOUN␉_␉Number=Plur␉2␉nsubj␉_␉_␊\
-    2␉bark␉bark␉VERB␉_␉_␉0␉root␉_␉SpaceAfter=No␊3␉.␉.␉PUNCT␉_␉_␉2␉punct␉_␉_␊␊";
-
-/// The text with what its signs stand for.
-fn plain(alloc: Global, text: &str) -> Result<String, Fail> {
-    let whole = text.replace(alloc, "…", SENTENCE)?;
-    let ended = whole.replace(alloc, "¶", "\r\n")?;
-    let lined = ended.replace(alloc, "␊", "\n")?;
-    Ok(lined.replace(alloc, "␉", "\t")?)
-}
 
 /// The status that a response sends, and its body.
 fn shown(alloc: Global, response: &[u8]) -> Result<String, Fail> {
