@@ -1,11 +1,14 @@
-//! Commands of a desk, and what stands after them, each as a line of text.
+//! Commands of a desk and questions to it, and what stands after them, each as a line of text.
 
+use crate::files::body_of;
 use crate::telling::told;
 use sqlite::Alter;
 use std::alloc::Global;
 use std::test::Fail;
-use tb_core::{Event, Limits};
-use tb_report::{csv_moves, csv_totals};
+use tb_core::{Event, Limits, Move, Totals};
+use tb_match::Strategy;
+use tb_query::{Attr, Query, parse};
+use tb_report::{csv_freq, csv_moves, csv_totals};
 use tb_store::Desk;
 
 pub(crate) const LIMITS: Limits = Limits {
@@ -14,66 +17,8 @@ pub(crate) const LIMITS: Limits = Limits {
     hits: 1000,
 };
 
-const DOGS: &str = "\
-# sent_id = s1
-# text = Dogs bark.
-1\tDogs\tdog\tNOUN\t_\tNumber=Plur\t2\tnsubj\t_\t_
-2\tbark\tbark\tVERB\t_\t_\t0\troot\t_\tSpaceAfter=No
-3\t.\t.\tPUNCT\t_\t_\t2\tpunct\t_\t_
-
-";
-
-const GO: &str = "\
-# sent_id = s7
-# text = Go
-1\tGo\tgo\tVERB\t_\t_\t0\troot\t_\t_
-
-";
-
-const DOGS_GO: &str = "\
-# sent_id = s1
-# text = Dogs bark.
-1\tDogs\tdog\tNOUN\t_\tNumber=Plur\t2\tnsubj\t_\t_
-2\tbark\tbark\tVERB\t_\t_\t0\troot\t_\tSpaceAfter=No
-3\t.\t.\tPUNCT\t_\t_\t2\tpunct\t_\t_
-
-# sent_id = s7
-# text = Go
-1\tGo\tgo\tVERB\t_\t_\t0\troot\t_\t_
-
-";
-
-const CANNOT: &str = "\
-# sent_id = s4
-# text = I cannot.
-1\tI\tI\tPRON\t_\t_\t2\tnsubj\t_\t_
-2\tcannot\tcan\tAUX\t_\t_\t0\troot\t_\tSpaceAfter=No
-3\t.\t.\tPUNCT\t_\t_\t2\tpunct\t_\t_
-
-";
-
-/// The same sentence, its second word taken apart.
-const CAN_NOT: &str = "\
-# sent_id = s4
-# text = I cannot.
-1\tI\tI\tPRON\t_\t_\t2\tnsubj\t_\t_
-2-3\tcannot\t_\t_\t_\t_\t_\t_\t_\tSpaceAfter=No
-2\tcan\tcan\tAUX\t_\t_\t0\troot\t_\t_
-3\tnot\tnot\tPART\t_\t_\t2\tadvmod\t_\t_
-4\t.\t.\tPUNCT\t_\t_\t2\tpunct\t_\t_
-
-";
-
-fn file_named(name: &str) -> &'static str {
-    match name {
-        "dogs" => DOGS,
-        "go" => GO,
-        "dogs_go" => DOGS_GO,
-        "cannot" => CANNOT,
-        "can_not" => CAN_NOT,
-        _ => "",
-    }
-}
+const NOUN_PHRASES: &str =
+    "[upos=\"DET\"]? [upos=\"ADJ\"]* [upos=\"NOUN\"] ([upos=\"ADP\"] [upos=\"DET\"]? [upos=\"ADJ\"]* [upos=\"NOUN\"])* within s;";
 
 pub(crate) fn event_named(word: &str) -> Result<Event, Fail> {
     match word {
@@ -89,26 +34,60 @@ pub(crate) fn event_named(word: &str) -> Result<Event, Fail> {
     }
 }
 
+fn strategy_named(word: &str) -> Result<Strategy, Fail> {
+    match word {
+        "shortest" => Ok(Strategy::Shortest),
+        "longest" => Ok(Strategy::Longest),
+        "every" => Ok(Strategy::Every),
+        _ => Err("a strategy")?,
+    }
+}
+
+fn column_named(word: &str) -> Result<Attr, Fail> {
+    match word {
+        "lemma" => Ok(Attr::Lemma),
+        "upos" => Ok(Attr::Upos),
+        _ => Err("a column")?,
+    }
+}
+
 /// The word at a place, from 0; empty past the end.
 fn word_at(line: &str, place: usize) -> &str {
     line.split(' ').nth(place).unwrap_or("")
 }
 
-fn number_at(line: &str, place: usize) -> Result<u64, Fail> {
+pub(crate) fn number_at(line: &str, place: usize) -> Result<u64, Fail> {
     Ok(word_at(line, place).parse::<u64>().ok().ok_or("a number")?)
+}
+
+/// The query that follows three words; `phrases` stands for that of noun phrases.
+fn query_of(alloc: Global, line: &str) -> Result<Query, Fail> {
+    let text = line.splitn(4, ' ').nth(3).ok_or("a query")?;
+    let text = if *text == *"phrases" {
+        NOUN_PHRASES
+    } else {
+        text
+    };
+    Ok(parse(alloc, text)?)
 }
 
 /// `import NAME USER FILE`.
 fn imported<S: Alter>(alloc: Global, desk: &mut Desk<S>, line: &str) -> Result<String, Fail> {
-    let body = file_named(word_at(line, 3)).as_bytes();
-    told(alloc, desk.import(word_at(line, 1), word_at(line, 2), body))
+    let body = body_of(alloc, word_at(line, 3))?;
+    told(
+        alloc,
+        desk.import(word_at(line, 1), word_at(line, 2), body.as_bytes()),
+    )
 }
 
 /// `correct NUMBER BASE USER FILE`.
 fn corrected<S: Alter>(alloc: Global, desk: &mut Desk<S>, line: &str) -> Result<String, Fail> {
     let (number, base) = (number_at(line, 1)?, number_at(line, 2)?);
-    let body = file_named(word_at(line, 4)).as_bytes();
-    told(alloc, desk.correct(number, base, word_at(line, 3), body))
+    let body = body_of(alloc, word_at(line, 4))?;
+    told(
+        alloc,
+        desk.correct(number, base, word_at(line, 3), body.as_bytes()),
+    )
 }
 
 /// `pull NUMBER USER`.
@@ -127,7 +106,64 @@ fn moved<S: Alter>(alloc: Global, desk: &mut Desk<S>, line: &str) -> Result<Stri
     told(alloc, desk.event(word_at(line, 1), event, word_at(line, 2)))
 }
 
-/// The answer to a command.
+/// `revision NUMBER REV`.
+fn revised<S: Alter>(alloc: Global, desk: &mut Desk<S>, line: &str) -> Result<String, Fail> {
+    told(
+        alloc,
+        desk.revision(number_at(line, 1)?, number_at(line, 2)?),
+    )
+}
+
+/// An answer and the text that came with it, on one line: `/` stands for a tab, and `;` for the end of a line.
+fn shown(alloc: Global, answer: String, out: &[u8]) -> Result<String, Fail> {
+    let text = str::from_utf8(out)?.replace(alloc, "\t", "/")?;
+    let mut line = answer;
+    line.push_str(" ")?;
+    line.push_str(text.replace(alloc, "\n", ";")?.as_str())?;
+    Ok(line)
+}
+
+/// `search STRATEGY CONTEXT QUERY`.
+fn searched<S: Alter>(alloc: Global, desk: &mut Desk<S>, line: &str) -> Result<String, Fail> {
+    let query = query_of(alloc, line)?;
+    let strategy = strategy_named(word_at(line, 1))?;
+    let context = number_at(line, 2)?.min(20) as u8;
+    let mut out: Vec<u8> = Vec::new(alloc);
+    let answer = told(alloc, desk.search(&query, strategy, context, &mut out))?;
+    shown(alloc, answer, out.as_slice())
+}
+
+/// `cut STRATEGY BYTES QUERY`: a search with two words of context, whose output has room for so many bytes.
+fn cut<S: Alter>(alloc: Global, desk: &mut Desk<S>, line: &str) -> Result<String, Fail> {
+    let query = query_of(alloc, line)?;
+    let strategy = strategy_named(word_at(line, 1))?;
+    let mut room = vec![in alloc; 0u8; number_at(line, 2)?.min(1000) as usize]?;
+    let mut out: &mut [u8] = &mut room;
+    let answer = told(alloc, desk.search(&query, strategy, 2, &mut out))?;
+    shown(alloc, answer, room.as_slice())
+}
+
+/// `count STRATEGY COLUMN QUERY`.
+fn counted<S: Alter>(alloc: Global, desk: &mut Desk<S>, line: &str) -> Result<String, Fail> {
+    let query = query_of(alloc, line)?;
+    let strategy = strategy_named(word_at(line, 1))?;
+    let table = desk.count(&query, strategy, column_named(word_at(line, 2))?)?;
+    let mut out: Vec<u8> = Vec::new(alloc);
+    csv_freq(&table, &mut out)?;
+    let total = format!(in alloc; "{}", table.total())?;
+    shown(alloc, total, out.as_slice())
+}
+
+/// `number STRATEGY of QUERY`.
+fn numbered<S: Alter>(alloc: Global, desk: &mut Desk<S>, line: &str) -> Result<String, Fail> {
+    let query = query_of(alloc, line)?;
+    told(
+        alloc,
+        desk.number(&query, strategy_named(word_at(line, 1))?),
+    )
+}
+
+/// The answer to a command or a question.
 pub(crate) fn obeyed<S: Alter>(
     alloc: Global,
     desk: &mut Desk<S>,
@@ -138,6 +174,12 @@ pub(crate) fn obeyed<S: Alter>(
         "correct" => corrected(alloc, desk, line),
         "pull" => pulled(alloc, desk, line),
         "restore" => restored(alloc, desk, line),
+        "revision" => revised(alloc, desk, line),
+        "search" => searched(alloc, desk, line),
+        "cut" => cut(alloc, desk, line),
+        "count" => counted(alloc, desk, line),
+        "number" => numbered(alloc, desk, line),
+        "standing" => standing(alloc, desk),
         _ => moved(alloc, desk, line),
     }
 }
@@ -153,14 +195,32 @@ fn push_lines(text: &mut String, table: &[u8], but: &str) -> Result<(), Fail> {
     Ok(())
 }
 
-/// The totals that are not nothing, and the moves.
+/// The totals that are not nothing, and the moves, each after a space.
+fn push_standing(
+    alloc: Global,
+    text: &mut String,
+    totals: &Totals,
+    moves: &[Move],
+) -> Result<(), Fail> {
+    let mut table: Vec<u8> = Vec::new(alloc);
+    csv_totals(alloc, totals, &mut table)?;
+    push_lines(text, table.as_slice(), ",0,0")?;
+    let mut table: Vec<u8> = Vec::new(alloc);
+    csv_moves(alloc, moves, &mut table)?;
+    push_lines(text, table.as_slice(), "\n")
+}
+
+/// The totals that are not nothing, and the moves; or why they are not told.
 pub(crate) fn standing<S: Alter>(alloc: Global, desk: &mut Desk<S>) -> Result<String, Fail> {
+    let totals = match desk.totals() {
+        Ok(totals) => totals,
+        Err(fault) => return Ok(fault.to_string(alloc)?),
+    };
+    let moves = match desk.moves() {
+        Ok(moves) => moves,
+        Err(fault) => return Ok(fault.to_string(alloc)?),
+    };
     let mut text = String::from_str(alloc, "desk")?;
-    let mut totals: Vec<u8> = Vec::new(alloc);
-    csv_totals(alloc, &desk.totals()?, &mut totals)?;
-    push_lines(&mut text, totals.as_slice(), ",0,0")?;
-    let mut moves: Vec<u8> = Vec::new(alloc);
-    csv_moves(alloc, &desk.moves()?, &mut moves)?;
-    push_lines(&mut text, moves.as_slice(), "\n")?;
+    push_standing(alloc, &mut text, &totals, &moves)?;
     Ok(text)
 }

@@ -1,5 +1,6 @@
-//! The two files of a database on disks in memory that stop after so many calls.
+//! The two files of a database on disks in memory, some of which stop after so many calls, or fail once.
 
+use crate::glitch::Glitch;
 use sqlite::{Connection, FileStore, Files, Options};
 use sqlite_disk::{Crash, Disk, Fuse, Memory};
 use std::alloc::Global;
@@ -26,6 +27,19 @@ fn copy_of(alloc: Global, disk: &Memory) -> Result<Memory, Fail> {
     copy.write_at(0, disk.bytes())?;
     copy.sync()?;
     Ok(copy)
+}
+
+/// Copies of both files.
+pub(crate) fn copied(alloc: Global, files: &Files<Memory>) -> Result<Files<Memory>, Fail> {
+    Ok(Files {
+        log: copy_of(alloc, &files.log)?,
+        db: copy_of(alloc, &files.db)?,
+    })
+}
+
+/// Whether the databases are the same, byte for byte.
+pub(crate) fn are_same(one: &Files<Memory>, other: &Files<Memory>) -> bool {
+    one.db.bytes() == other.db.bytes()
 }
 
 /// Copies of the files that stop.
@@ -62,6 +76,30 @@ pub(crate) fn left(
     })
 }
 
+/// Copies of the files, each of which fails once, after so many calls.
+pub(crate) fn failing(
+    alloc: Global,
+    files: &Files<Memory>,
+    stop: &Stop,
+) -> Result<Files<Glitch<Memory>>, Fail> {
+    Ok(Files {
+        log: Glitch::new(copy_of(alloc, &files.log)?, stop.log),
+        db: Glitch::new(copy_of(alloc, &files.db)?, stop.db),
+    })
+}
+
+/// What is in the files of failing disks, on disks that do not fail, and whether one has failed.
+pub(crate) fn kept(
+    alloc: Global,
+    files: &Files<Glitch<Memory>>,
+) -> Result<(Files<Memory>, bool), Fail> {
+    let whole = Files {
+        log: copy_of(alloc, files.log.inner())?,
+        db: copy_of(alloc, files.db.inner())?,
+    };
+    Ok((whole, files.log.has_failed() || files.db.has_failed()))
+}
+
 /// A connection to the files, or they again.
 pub(crate) fn opened<D: Disk + Drop>(
     alloc: Global,
@@ -81,5 +119,16 @@ pub(crate) fn closed<D: Disk + Drop>(conn: Connection<FileStore<D>>) -> (Files<D
     match conn.close_files() {
         Ok(files) => (files, true),
         Err((_error, store)) => (store.close(), false),
+    }
+}
+
+/// A connection to files whose disks do not stop.
+pub(crate) fn whole(
+    alloc: Global,
+    files: Files<Memory>,
+) -> Result<Connection<FileStore<Memory>>, Fail> {
+    match opened(alloc, files) {
+        Ok(conn) => Ok(conn),
+        Err(_files) => Err("not opened")?,
     }
 }

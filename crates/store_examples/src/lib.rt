@@ -9,17 +9,25 @@ mod asking;
 #[cfg(test)]
 mod changes;
 #[cfg(test)]
-mod desk_tests;
-#[cfg(test)]
 mod disks;
+#[cfg(test)]
+mod files;
+#[cfg(test)]
+mod first;
+#[cfg(test)]
+mod glitch;
+#[cfg(test)]
+mod migrating_tests;
 #[cfg(test)]
 mod model;
 #[cfg(test)]
-mod released;
-#[cfg(test)]
 mod rows;
 #[cfg(test)]
-mod search_tests;
+mod script_tests;
+#[cfg(test)]
+mod scripts;
+#[cfg(test)]
+mod sending;
 #[cfg(test)]
 mod stop_tests;
 #[cfg(test)]

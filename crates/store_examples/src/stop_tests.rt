@@ -1,15 +1,14 @@
-//! Each command on disks that stop at each of their calls in turn: what is found afterwards is the state of before or that of
-//! after, and the command can be sent again.
+//! Each command on disks that stop at each of their calls in turn, or fail at it alone: what is found afterwards is the state of
+//! before or that of after, that of before wherever the same connection tells it, and the command can be sent again.
 
-use crate::asking::{LIMITS, obeyed, standing};
-use crate::disks::{Stop, closed, fused, left, no_files, opened};
+use crate::disks::{Stop, closed, failing, fused, kept, left, no_files, opened, whole};
+use crate::sending::{found, sent};
 use crate::telling::assert_told;
-use sqlite::{Alter, Connection, FileStore, Files};
+use sqlite::Files;
 use sqlite_disk::Memory;
 use std::alloc::Global;
 use std::process::Abort;
 use std::test::Fail;
-use tb_store::{Desk, Unmade};
 
 /// A line for each: what was done before, the command, its reply, the state before it and after it, and the reply where it
 /// was done already.
@@ -42,19 +41,29 @@ const CASES: &str = "\
     desk assigned,1,4 1,import,1,0,none,open,1,0,3,ann 2,assign,1,0,open,assigned,1,3,3,ann 3,correct,1,1,assigned,assigned,1,3,4,ann\n\
     Corrected { sentence: 1, rev: 2, words: 4 }\n\
     \n\
-    make; import b1 ann dogs_go\n\
+    make; import b1 ann dogs+go\n\
     pull 2 dan\n\
     Pulled { sentence: 2, words: 1 }\n\
     desk open,2,4 1,import,1,0,none,open,2,0,4,ann\n\
     desk open,1,3 withdrawn,1,1 1,import,1,0,none,open,2,0,4,ann 2,pull,1,2,open,withdrawn,1,1,1,dan\n\
     refused 20 Pulled\n\
     \n\
-    make; import b1 ann dogs_go; pull 2 dan; assign b1 ann\n\
+    make; import b1 ann dogs+go; pull 2 dan; assign b1 ann\n\
     restore 2 dan\n\
     Restored { sentence: 2, state: Assigned, words: 1 }\n\
     desk assigned,1,3 withdrawn,1,1 1,import,1,0,none,open,2,0,4,ann 2,pull,1,2,open,withdrawn,1,1,1,dan 3,assign,1,0,open,assigned,1,3,3,ann\n\
     desk assigned,2,4 1,import,1,0,none,open,2,0,4,ann 2,pull,1,2,open,withdrawn,1,1,1,dan 3,assign,1,0,open,assigned,1,3,3,ann 4,restore,1,2,withdrawn,assigned,1,1,1,dan\n\
-    refused 21 NotPulled\n";
+    refused 21 NotPulled\n\
+    \n\
+    version 1\n\
+    migrate\n\
+    migrated\n\
+    version 1\n\
+    desk assigned,1,4 released,1,3 1,import,1,0,none,open,1,0,3,ann 2,assign,1,0,open,assigned,1,3,3,ann \
+    3,submit,1,0,assigned,submitted,1,3,3,ann 4,adjudicate,1,0,submitted,adjudicated,1,3,3,ben \
+    5,release,1,0,adjudicated,released,1,3,3,cem 6,import,2,0,none,open,1,0,3,ann 7,assign,2,0,open,assigned,1,3,3,ann \
+    8,correct,2,2,assigned,assigned,1,3,4,ann\n\
+    refused desk\n";
 
 #[derive(Drop)]
 struct Case<'a> {
@@ -78,63 +87,6 @@ fn case_of(text: &str) -> Case<'_> {
         old: line_at(text, 3),
         new: line_at(text, 4),
         again: line_at(text, 5),
-    }
-}
-
-/// Makes a desk. What is answered, and the connection again.
-fn made<S: Alter + Drop>(
-    alloc: Global,
-    conn: Connection<S>,
-) -> Result<(String, Connection<S>), Fail> {
-    if !conn.is_autocommit() {
-        return Err("within a transaction")?;
-    }
-    match Desk::make(alloc, conn, LIMITS) {
-        Ok(desk) => Ok((String::from_str(alloc, "made")?, desk.into_connection())),
-        Err(Unmade { fault, conn }) => Ok((fault.to_string(alloc)?, conn)),
-    }
-}
-
-/// Sends a command to the desk that stands there, which is adopted first.
-fn sent<S: Alter + Drop>(
-    alloc: Global,
-    conn: Connection<S>,
-    command: &str,
-) -> Result<(String, Connection<S>), Fail> {
-    if *command == *"make" {
-        return made(alloc, conn);
-    }
-    match Desk::adopt(alloc, conn, LIMITS) {
-        Ok(mut desk) => {
-            let answer = obeyed(alloc, &mut desk, command)?;
-            Ok((answer, desk.into_connection()))
-        }
-        Err(Unmade { fault, conn }) => Ok((fault.to_string(alloc)?, conn)),
-    }
-}
-
-/// What stands there: nothing, or the state of a desk.
-fn found<S: Alter + Drop>(
-    alloc: Global,
-    conn: Connection<S>,
-) -> Result<(String, Connection<S>), Fail> {
-    if tb_tables::is_blank(&conn) {
-        return Ok((String::from_str(alloc, "blank")?, conn));
-    }
-    match Desk::adopt(alloc, conn, LIMITS) {
-        Ok(mut desk) => {
-            let state = standing(alloc, &mut desk)?;
-            Ok((state, desk.into_connection()))
-        }
-        Err(Unmade { fault, conn }) => Ok((fault.to_string(alloc)?, conn)),
-    }
-}
-
-/// A connection to files whose disks do not stop.
-fn whole(alloc: Global, files: Files<Memory>) -> Result<Connection<FileStore<Memory>>, Fail> {
-    match opened(alloc, files) {
-        Ok(conn) => Ok(conn),
-        Err(_files) => Err("not opened")?,
     }
 }
 
@@ -171,7 +123,7 @@ fn stopped(
     }
 }
 
-/// Asserts what is found after one stop, and that the command can then be sent again. Whether nothing stopped.
+/// Asserts what is found after one stop. Whether nothing stopped.
 fn assert_stop(
     rt: &impl Abort,
     alloc: Global,
@@ -184,6 +136,18 @@ fn assert_stop(
     if !is_answered {
         assert_told(rt, answer.as_str(), "refused device", case.command);
     }
+    assert_left(rt, alloc, files, is_answered, case)?;
+    Ok(is_answered && is_closed)
+}
+
+/// Asserts what is found in files in which a command was answered, or stopped before, and that it can then be sent again.
+fn assert_left(
+    rt: &impl Abort,
+    alloc: Global,
+    files: Files<Memory>,
+    is_answered: bool,
+    case: &Case<'_>,
+) -> Result<(), Fail> {
     let (state, conn) = found(alloc, whole(alloc, files)?)?;
     let is_new = *state.as_str() == *case.new;
     if !is_new {
@@ -195,7 +159,7 @@ fn assert_stop(
     assert_told(rt, answer.as_str(), wanted, case.command);
     let (state, _conn) = found(alloc, conn)?;
     assert_told(rt, state.as_str(), case.new, case.command);
-    Ok(is_answered && is_closed)
+    Ok(())
 }
 
 /// Asserts it of stops at each call of one file, until nothing stops. How many stops there were.
@@ -223,7 +187,7 @@ fn assert_stops(
 #[test]
 fn commands_survive_stops(rt: HostRuntime) -> Result<(), Fail> {
     let alloc = rt.alloc();
-    assert_eq!(rt; CASES.split("\n\n").count(), 6);
+    assert_eq!(rt; CASES.split("\n\n").count(), 7);
     for text in CASES.split("\n\n") {
         let case = case_of(text);
         for is_log in [true, false] {
@@ -231,6 +195,98 @@ fn commands_survive_stops(rt: HostRuntime) -> Result<(), Fail> {
                 let stops = assert_stops(&rt, alloc, is_log, is_of_machine, &case)?;
                 assert!(rt; stops > 3, "{text}");
             }
+        }
+    }
+    Ok(())
+}
+
+/// What was answered over disks that fail once, what the same connection finds then, the files, and whether a disk failed.
+#[derive(Drop)]
+struct Failure {
+    answer: String,
+    state: String,
+    files: Files<Memory>,
+    has_failed: bool,
+}
+
+/// Sends a command over such disks.
+fn failed(
+    alloc: Global,
+    files: &Files<Memory>,
+    stop: &Stop,
+    command: &str,
+) -> Result<Failure, Fail> {
+    let (answer, state, files) = match opened(alloc, failing(alloc, files, stop)?) {
+        Ok(conn) => {
+            let (answer, conn) = sent(alloc, conn, command)?;
+            let (state, conn) = found(alloc, conn)?;
+            (answer, state, closed(conn).0)
+        }
+        Err(files) => (
+            String::from_str(alloc, "refused device")?,
+            String::from_str(alloc, "refused device")?,
+            files,
+        ),
+    };
+    let (files, has_failed) = kept(alloc, &files)?;
+    Ok(Failure {
+        answer,
+        state,
+        files,
+        has_failed,
+    })
+}
+
+/// Asserts what is found after one failure. Whether there was one.
+fn assert_failure(
+    rt: &impl Abort,
+    alloc: Global,
+    files: &Files<Memory>,
+    stop: &Stop,
+    case: &Case<'_>,
+) -> Result<bool, Fail> {
+    let failure = failed(alloc, files, stop, case.command)?;
+    let is_answered = *failure.answer.as_str() == *case.reply;
+    if !is_answered {
+        assert_told(rt, failure.answer.as_str(), "refused device", case.command);
+    }
+    if *failure.state.as_str() != *"refused device" {
+        let wanted = if is_answered { case.new } else { case.old };
+        assert_told(rt, failure.state.as_str(), wanted, case.command);
+    }
+    assert_left(rt, alloc, failure.files, is_answered, case)?;
+    Ok(failure.has_failed)
+}
+
+/// Asserts it of failures at each call of one file. How many there were.
+fn assert_failures(
+    rt: &impl Abort,
+    alloc: Global,
+    is_log: bool,
+    case: &Case<'_>,
+) -> Result<u64, Fail> {
+    let files = prepared(alloc, case.before)?;
+    for calls in 0..10_000u64 {
+        let stop = Stop {
+            log: if is_log { calls } else { u64::MAX },
+            db: if is_log { u64::MAX } else { calls },
+            is_of_machine: false,
+        };
+        if !assert_failure(rt, alloc, &files, &stop, case)? {
+            return Ok(calls);
+        }
+    }
+    Err("no run ended")?
+}
+
+#[test]
+fn commands_survive_failures(rt: HostRuntime) -> Result<(), Fail> {
+    let alloc = rt.alloc();
+    for text in CASES.split("\n\n") {
+        let case = case_of(text);
+        for is_log in [true, false] {
+            let failures = assert_failures(&rt, alloc, is_log, &case)?;
+            assert!(rt; failures > 3, "{text}");
         }
     }
     Ok(())
