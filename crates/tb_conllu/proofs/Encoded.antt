@@ -26,7 +26,7 @@ lines_utf8 came [] clean = IsUtf8-nil
 lines_utf8 came (l ∷ ls) clean =
     IsUtf8-append (l ++ 10 ∷ []) (ended ls) (IsUtf8-append l (10 ∷ []) (line_utf8 came l clean.0) feed_utf8) (lines_utf8 (came_after came l) ls clean.1)
 
-sentence_utf8 : (b : BlockText) → IsShaped b → IsUtf8 (text_of (b ∷ []))
+pub sentence_utf8 : (b : BlockText) → IsShaped b → IsUtf8 (text_of (b ∷ []))
 sentence_utf8 b shaped = lines_utf8 false (lines_of (b ∷ [])) (lines_clean (b ∷ []) (shaped, tt))
 
 -- the bytes that are no longer left are the text of the sentence

@@ -10,6 +10,8 @@ pub mod Faults
 pub mod Appended
 pub mod Ends
 pub mod FirstMark
+pub mod MarkBits
+pub mod MarkedBytes
 pub mod IdTexts
 pub mod Splits
 pub mod RowCodes
@@ -23,3 +25,5 @@ pub mod Held
 pub mod Files
 pub mod Outputs
 pub mod Encoded
+pub mod Marked
+pub mod Recut

@@ -11,3 +11,4 @@ pub mod Tested
 pub mod Refusal
 pub mod Left
 pub mod Sunk
+pub mod Marks

@@ -5,13 +5,12 @@ ghost use Rattle.tb_conllu.specs.Begun.{IsSound, has_rows};
 ghost use Rattle.tb_conllu.specs.Lines.{is_comment, is_empty};
 ghost use Rattle.tb_conllu.specs.Refusal.{IsRefusal, begun, lines_begun};
 ghost use Rattle.tb_conllu.specs.Shape.{IsLineText};
-ghost use Rattle.tb_conllu.specs.declared.fault.ReadFault.TheVariants.{Memory};
 
 use crate::fault::ReadFault;
 use crate::rowline::row_of;
 use crate::rows::{BlockOf, BlockRef, RowOf};
 use crate::text::Text;
-use std::alloc::Global;
+use std::alloc::{AllocError, Global};
 
 /// A sentence with nothing in it.
 pub fn no_block<T: Text>(alloc: Global) -> BlockOf<T>
@@ -30,7 +29,8 @@ pub fn any_row<T: Text>(block: &BlockOf<T>) -> bool
     !block.rows.is_empty()
 }
 
-fn is_hashed(text: &str) -> bool
+/// Whether the text begins with a hash.
+pub fn is_hashed(text: &str) -> bool
     ensures { result ≡ is_comment text.now }
 {
     match text.as_bytes().first() {
@@ -39,17 +39,15 @@ fn is_hashed(text: &str) -> bool
     }
 }
 
-fn add_comment<T: Text>(block: &mut BlockOf<T>, text: T) -> Result<(), ReadFault>
+pub fn add_comment<T: Text>(block: &mut BlockOf<T>, text: T) -> Result<(), AllocError>
     ensures ok { OnOk result (block.new ≡ record { comments = block.old.comments ++ T.bytes text ∷ []; rows = block.old.rows }) }
-    ensures err { IfErr result (λ e. e ≡ Memory) }
 {
     block.comments.push(text)?;
     Ok(())
 }
 
-fn add_row<T: Text>(block: &mut BlockOf<T>, row: RowOf<T>) -> Result<(), ReadFault>
+pub fn add_row<T: Text>(block: &mut BlockOf<T>, row: RowOf<T>) -> Result<(), AllocError>
     ensures ok { OnOk result (block.new ≡ record { comments = block.old.comments; rows = block.old.rows ++ row ∷ [] }) }
-    ensures err { IfErr result (λ e. e ≡ Memory) }
 {
     block.rows.push(row)?;
     Ok(())
@@ -67,10 +65,14 @@ pub fn take_line<'a>(block: &mut BlockRef<'a>, text: &'a str, line: usize) -> Re
         if any_row(block) {
             return Err(ReadFault::At { line, code: 8 });
         }
-        return add_comment(block, text);
+        add_comment(block, text)?;
+        return Ok(());
     }
     match row_of(text) {
-        Ok(row) => add_row(block, row),
+        Ok(row) => {
+            add_row(block, row)?;
+            Ok(())
+        }
         Err(code) => Err(ReadFault::At { line, code }),
     }
 }

@@ -3,11 +3,13 @@
 #![tactic(auto)]
 
 mod counts;
+mod cutter;
 mod fault;
 mod fields;
 mod growing;
 mod id;
 mod ids;
+mod known;
 mod laws;
 mod linetext;
 mod numbers;
@@ -27,6 +29,7 @@ pub use counts::{is_word_row, words};
 pub use fault::{ReadFault, WriteFault};
 pub use id::LineId;
 pub use ids::{head_of, id_of};
+pub use known::known_block;
 pub use laws::{
     a_file_begins_one_way, a_file_is_read_in_order, fault_after_sentences, faulty_line_is_dead,
     one_fault_is_told, one_list_has_a_text, read_lines_are_alive, told_bytes_are_no_file,

@@ -1,8 +1,9 @@
 //! Sentences written as text.
 
-ghost use Rattle.std.specs.Prelude.{◌≡◌, [], ◌∷◌, ◌++◌, decimal, IfErr, IfOk, OnOk};
+ghost use Rattle.std.specs.Prelude.{◌≡◌, [], ◌∷◌, ◌++◌, decimal, IfErr, IfOk, OnErr, OnOk};
 ghost use Rattle.std.specs.Io.KnownBytes.{Appends};
 ghost use Rattle.std.specs.List.{flat_map};
+ghost use Rattle.tb_conllu.specs.Sunk.{AppendsPart};
 ghost use Rattle.tb_conllu.specs.Text.{head_text, id_text, row_line, text_of};
 
 use crate::fault::WriteFault;
@@ -18,9 +19,10 @@ use std::io::Write;
 ///
 /// # Errors
 ///
-/// The sink refused a piece.
+/// The sink refused a piece; it may then have taken some of the digits, from the front.
 pub fn put_number<S: Sink>(number: u32, out: &mut S) -> Result<(), S::Refusal>
     ensures put { OnOk result (Appends (S.held out.old) (S.held out.new) (decimal number)) }
+    ensures part { OnErr result (AppendsPart (S.held out.old) (S.held out.new) (decimal number)) }
     ensures refused { IfErr result (S.IsRefusal out.new) }
 {
     let mut digits = Buffer::new();

@@ -15,6 +15,8 @@ mod files;
 #[cfg(test)]
 mod format_tests;
 #[cfg(test)]
+mod known_tests;
+#[cfg(test)]
 mod passage_tests;
 #[cfg(test)]
 mod read_tests;

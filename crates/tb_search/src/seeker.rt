@@ -1,6 +1,6 @@
 //! Sentences, read back from their texts, and what is found in them.
 
-ghost use Rattle.std.specs.Prelude.{◌≡◌, ◌<◌, ◌≤◌, ◌+◌, All, IfErr, IfOk, MatchOption, length, [], ◌∷◌};
+ghost use Rattle.std.specs.Prelude.{◌≡◌, ◌<◌, ◌≤◌, ◌+◌, All, IfErr, IfOk, [], ◌∷◌};
 ghost use Rattle.tb_conllu.specs.Text.{BlockText};
 ghost use Rattle.tb_conllu.specs.Told.{IsFile};
 ghost use Rattle.tb_conllu.specs.Words.{words_of};
@@ -10,31 +10,17 @@ ghost use Rattle.tb_search.specs.Visited.{IsFault};
 use crate::stopped::Stopped;
 use sqlite::{Error, ErrorCode};
 use std::alloc::Global;
-use tb_conllu::{BlockRef, read_ref, words};
+use tb_conllu::{BlockRef, known_block, words};
 use tb_match::{Found, Strategy};
 use tb_query::{Query, Searcher};
 use tb_reading::ReadError;
 
-/// The sentence, where there is one alone.
-fn only_of<'a>(mut blocks: Vec<BlockRef<'a>>) -> Option<BlockRef<'a>>
-    ensures { MatchOption result (length blocks.entry.items ≡ 1 → ⊥) (λ b. blocks.entry.items ≡ b ∷ []) }
-{
-    let Some(last) = blocks.pop() else {
-        return None;
-    };
-    if !blocks.is_empty() {
-        return None;
-    }
-    Some(last)
-}
-
-/// The sentence of which this is the text. It borrows from the text.
+/// The sentence of which this is the text. It borrows from the text, which is cut and not tested again.
 pub(crate) fn sentence_in<'a>(alloc: Global, body: &'a [u8]) -> Result<BlockRef<'a>, Stopped>
     ensures read { IfOk result (λ b. (x : BlockText) → IsFile body.now (x ∷ []) → b ≡ x) }
     ensures fault { IfErr result (λ e. (x : BlockText) → IsFile body.now (x ∷ []) → IsFault e) }
 {
-    let blocks = read_ref(alloc, body)?;
-    let Some(block) = only_of(blocks) else {
+    let Some(block) = known_block(alloc, body)? else {
         return Err(Stopped::Read(ReadError::Form));
     };
     Ok(block)

@@ -2,7 +2,6 @@
 
 use sqlite::{Error, ErrorCode};
 use std::alloc::{AllocError, AllocFailed};
-use tb_conllu::ReadFault;
 use tb_reading::ReadError;
 
 /// Why a walk ends early.
@@ -39,26 +38,6 @@ impl From<AllocError> for Stopped {
 
     fn from(_: AllocError) -> Stopped {
         Stopped::Read(ReadError::Store(Error::SqliteFailure(ErrorCode::OutOfMemory)))
-    }
-}
-
-impl From<ReadFault> for Stopped {
-    ghost use Rattle.std.specs.Prelude.{◌≡◌};
-    ghost use Rattle.tb_conllu.specs.declared.fault.ReadFault.TheVariants.{Memory};
-    ghost use Rattle.sqlite.specs.declared.error.Error.TheVariants.{SqliteFailure};
-    ghost use Rattle.sqlite.specs.declared.error.ErrorCode.TheVariants.{OutOfMemory};
-    ghost use Rattle.tb_reading.specs.declared.error.ReadError.TheVariants.{Store};
-    ghost use Rattle.tb_search.specs.declared.stopped.Stopped.TheVariants.{Read};
-
-    ghost from_gives = { λ x e. x ≡ Memory → e ≡ Read (Store (SqliteFailure OutOfMemory)) };
-
-    fn from(fault: ReadFault) -> Stopped {
-        match fault {
-            ReadFault::Memory => {
-                Stopped::Read(ReadError::Store(Error::SqliteFailure(ErrorCode::OutOfMemory)))
-            }
-            ReadFault::At { .. } => Stopped::Read(ReadError::Form),
-        }
     }
 }
 
