@@ -27,8 +27,8 @@ impl Question for Desk {
 
 /// An import, an assignment, a correction, a pull and a submission, as they come; then the same with one word changed: the
 /// number of words of a revision, its user, a missing revision, the flag of the pulled sentence, the state and the worker
-/// of the batch, the worker's own adjudication, sentences that the import does not name; and a restore, to its batch and
-/// to another state.
+/// of the batch, the worker's own adjudication, sentences that the import does not name; a restore, to its batch and to
+/// another state; and a restore and a correction of a sentence that is not the first.
 const DESKS: &str = "\
     a submitted ann | 1 in bob:3 ann:4; 1 out bob:5 | import 1 0 none open 2 0 8 bob; assign 1 0 open assigned 2 8 8 ann; correct 1 1 assigned assigned 1 3 4 ann; pull 1 2 assigned withdrawn 1 5 5 cy; submit 1 0 assigned submitted 1 4 4 ann => true [0, 0, 1, 0, 0, 1] [0, 0, 4, 0, 0, 5]\n\
     a submitted ann | 1 in bob:3 ann:5; 1 out bob:5 | import 1 0 none open 2 0 8 bob; assign 1 0 open assigned 2 8 8 ann; correct 1 1 assigned assigned 1 3 4 ann; pull 1 2 assigned withdrawn 1 5 5 cy; submit 1 0 assigned submitted 1 4 4 ann => false [0, 0, 1, 0, 0, 1] [0, 0, 5, 0, 0, 5]\n\
@@ -44,11 +44,12 @@ const DESKS: &str = "\
     a open none; b open none | 1 in bob:3; 1 in cy:4 | import 1 0 none open 1 0 3 bob; import 2 0 none open 1 0 4 cy => false [2, 0, 0, 0, 0, 0] [7, 0, 0, 0, 0, 0]\n\
     a assigned ann | 1 in bob:3 | import 1 0 none open 1 0 3 bob; pull 1 1 open withdrawn 1 3 3 bob; assign 1 0 open assigned 0 0 0 ann; restore 1 1 withdrawn assigned 1 3 3 bob => true [0, 1, 0, 0, 0, 0] [0, 3, 0, 0, 0, 0]\n\
     a assigned ann | 1 in bob:3 | import 1 0 none open 1 0 3 bob; pull 1 1 open withdrawn 1 3 3 bob; assign 1 0 open assigned 0 0 0 ann; restore 1 1 withdrawn open 1 3 3 bob => false [0, 1, 0, 0, 0, 0] [0, 3, 0, 0, 0, 0]\n\
+    a assigned ann | 1 in bob:3; 1 in bob:5 ann:6 | import 1 0 none open 2 0 8 bob; assign 1 0 open assigned 2 8 8 ann; pull 1 2 assigned withdrawn 1 5 5 cy; restore 1 2 withdrawn assigned 1 5 5 bob; correct 1 2 assigned assigned 1 5 6 ann => true [0, 2, 0, 0, 0, 0] [0, 9, 0, 0, 0, 0]\n\
     a open none | 1 in bob:18446744073709551615; 1 in bob:1 | import 1 0 none open 2 0 18446744073709551615 bob => false no totals\n";
 
 #[test]
 fn desks_replay(rt: HostRuntime) -> Result<(), Fail> {
-    assert_answers(&rt, rt.alloc(), &Desk, DESKS, 15)
+    assert_answers(&rt, rt.alloc(), &Desk, DESKS, 16)
 }
 
 /// The laws run nothing; each is called once.
