@@ -1,5 +1,5 @@
 //! Sentences of texts that are known to be those of sentences, as the texts are that a desk keeps: they are cut, and
-//! nothing of them is tested again.
+//! nothing of them is tested again but that they are UTF-8.
 
 ghost use Rattle.std.specs.Prelude.{◌≡◌, ◌<◌, ℕ, List, [], ◌∷◌, ◌++◌, map, length, nat_le, true, false, Some, IfOk, IfSome, OnOk, MatchOption, MatchBool};
 ghost use Rattle.std.specs.List.{AllByRecursion};

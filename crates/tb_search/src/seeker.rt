@@ -15,7 +15,7 @@ use tb_match::{Found, Strategy};
 use tb_query::{Query, Searcher};
 use tb_reading::ReadError;
 
-/// The sentence of which this is the text. It borrows from the text, which is cut and not tested again.
+/// The sentence of which this is the text. It borrows from the text, which is cut, and tested for no more than UTF-8.
 pub(crate) fn sentence_in<'a>(alloc: Global, body: &'a [u8]) -> Result<BlockRef<'a>, Stopped>
     ensures read { IfOk result (λ b. (x : BlockText) → IsFile body.now (x ∷ []) → b ≡ x) }
     ensures fault { IfErr result (λ e. (x : BlockText) → IsFile body.now (x ∷ []) → IsFault e) }
