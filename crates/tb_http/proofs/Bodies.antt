@@ -1,17 +1,30 @@
 -- What holds while a body is read.
-use Rattle.std.proofs.Common.{◌≡◌, ◌≤◌, ◌+◌, ◌<◌, ℕ, List, ◌++◌, length, take, Option, Some, None, IfSome, refl, sym, ◌∙◌, ap, take_at, arith, rules}
+use Rattle.std.proofs.Common.{◌≡◌, ◌≤◌, ◌+◌, ◌<◌, ℕ, List, ◌++◌, length, take, Option, Some, None, IfSome, sym, ◌∙◌, ap, subst, append_assoc, length-append, take_at, arith, rules}
 use Rattle.std.proofs.lemmas.List.{places}
-use Rattle.std.specs.Io.KnownBytes.{Consumes, IsAtEnd, prepend_known}
-use Rattle.std.proofs.KnownBytes.{Consumes-trans, Consumes-whole}
+use Rattle.std.specs.Io.KnownBytes.{Consumes, Keeps, IsAtEnd, prepend_known}
+use Rattle.std.proofs.KnownBytes.{Consumes-kept, Consumes-trans, Consumes-whole}
+use Rattle.tb_http.specs.Faults.{TakenAfter}
 
 -- the body so far came from the start and then from the reader
 pub record IsTaking (old new : Option (List ℕ)) (start body : List ℕ) (n : ℕ) : Type 0 where
   pub within : length body ≤ n
   pub taken : Consumes (prepend_known start old) new body
+  pub came : (more : List ℕ) × (body ≡ start ++ more) × Consumes old new more
 
-pub taking_first : (old : Option (List ℕ)) (start : List ℕ) → Consumes (prepend_known start old) old start
-taking_first None start = tt
-taking_first (Some x) start = refl
+-- a read failed before the body was whole
+pub taking_broken : (old mid new : Option (List ℕ)) (start body : List ℕ) (n : ℕ) → IsTaking old mid start body n → Keeps mid new → length body < n
+    → TakenAfter start old new (λ came. length came < n)
+taking_broken old mid new start body n h kept short =
+    (h.came.0, Consumes-kept old mid new h.came.0 h.came.2 kept, subst (λ l. length l < n) h.came.1 short)
+
+-- what a read gave found no room
+pub taking_full : (old mid new : Option (List ℕ)) (start body part : List ℕ) (n : ℕ) → IsTaking old mid start body n
+    → length body + length part ≤ n → Consumes mid new part → 0 < length part
+    → TakenAfter start old new (λ came. (0 < length came) × (length came ≤ n))
+taking_full old mid new start body part n h few read some =
+    let all : body ++ part ≡ start ++ (h.came.0 ++ part) = ap (λ l. l ++ part) h.came.1 ∙ append_assoc start h.came.0 part in
+    let long = length-append body part in
+    (h.came.0 ++ part, Consumes-trans old mid new h.came.0 part h.came.2 read, subst (λ l. (0 < length l) × (length l ≤ n)) all (omega (arith, long, some), omega (arith, long, few)))
 
 under : (old : Option (List ℕ)) (start : List ℕ) (P : List ℕ → Type 0) → IfSome (prepend_known start old) P
     → IfSome old (λ rest. P (start ++ rest))
@@ -40,4 +53,9 @@ pub taking_more : (old mid new : Option (List ℕ)) (start body part : List ℕ)
 taking_more old mid new start body part n h few read = record {
   within = search (rules, places, few);
   taken = Consumes-trans _ mid new body part h.taken read;
+  came = (
+    h.came.0 ++ part,
+    ap (λ l. l ++ part) h.came.1 ∙ append_assoc start h.came.0 part,
+    Consumes-trans old mid new h.came.0 part h.came.2 read,
+  );
 }

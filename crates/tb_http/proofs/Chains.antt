@@ -17,6 +17,7 @@ use Rattle.tb_http.specs.declared.asks.RequestFault.TheVariants.{Head, Length, P
 use Rattle.tb_http.specs.Headers.{Header, user_of, body_length}
 use Rattle.tb_http.specs.Forms.{within}
 use Rattle.tb_http.specs.Stage.{stops, goes}
+use Rattle.tb_http.specs.Faults.{HasCall}
 use Rattle.tb_http.specs.Asks.{Told, refused, Front, headers_of, AsksBody, AsksLong, AsksMethod, AsksPath, AsksLength, Asks}
 use Rattle.tb_http.proofs.Staged.{not_none}
 
@@ -65,6 +66,13 @@ when_known (Some x) P Q f h = f x h
 pub no_head : (limit : ℕ) (bytes : List ℕ) → HasNoHead bytes → Asks limit bytes (refused Head)
 no_head limit bytes none = stops _ ((λ f p. none f.head f.rest p.begins), refl)
 
+-- what the number within the limit tells
+pub above : (limit n : ℕ) (r : Option ℕ) → within limit n ≡ r → r ≡ None → limit < n
+above limit n r e none = let w : within limit n ≡ None = e ∙ none in grind arith
+
+pub not_above : (limit n m : ℕ) (r : Option ℕ) → within limit n ≡ r → r ≡ Some m → (n ≡ m) × (n ≤ limit)
+not_above limit n m r e some = let w : within limit n ≡ Some m = e ∙ some in grind arith
+
 module _ (buf : List ℕ) (headers : List HeaderSpan) (spans : RequestSpans) (h : RequestHead) (s : IsSet buf headers spans h) (limit : ℕ) where
   pub stop_user : user_of (pairs buf headers spans) ≡ None → (later : List ℕ) → Asks limit (buf ++ later) (refused Head)
   stop_user twice later = stops _ (
@@ -111,12 +119,40 @@ module _ (buf : List ℕ) (headers : List HeaderSpan) (spans : RequestSpans) (h 
       → AsksLong limit (front h u rest) n (act_by action) t → AsksMethod limit (front h u rest) n place t
   goes_method u rest n place word found action w e some t x = goes t (act_by action) (ap (act_of place) (sym (w ∙ s.whole.method)) ∙ (sym e ∙ ap (option_map act_by) some)) x
 
--- what the number within the limit tells
-pub above : (limit n : ℕ) (r : Option ℕ) → within limit n ≡ r → r ≡ None → limit < n
-above limit n r e none = let w : within limit n ≡ None = e ∙ none in grind arith
+  told : (r : Option ℕ) (n : ℕ) → option_map (within limit) (body_length (pairs buf headers spans)) ≡ Some r → r ≡ Some n
+      → (body_length (headers_of h) ≡ Some n) × (n ≤ limit)
+  told r n e some = by_length (body_length (headers_of h)) refl (ap (λ l. option_map (within limit) (body_length l)) (sym s.whole.fields) ∙ e)
+    where
+      value : Option ℕ → Option (Option ℕ) → Option ℕ
+      value d None = d
+      value d (Some x) = x
 
-pub not_above : (limit n m : ℕ) (r : Option ℕ) → within limit n ≡ r → r ≡ Some m → (n ≡ m) × (n ≤ limit)
-not_above limit n m r e some = let w : within limit n ≡ Some m = e ∙ some in grind arith
+      by_length : (o : Option ℕ) → body_length (headers_of h) ≡ o → option_map (within limit) o ≡ Some r → (body_length (headers_of h) ≡ Some n) × (n ≤ limit)
+      by_length None k q = absurd (not_none {X = Option ℕ} None r refl q)
+      by_length (Some m) k q =
+          let found = not_above limit m n r (ap (value r) q) some in
+          (k ∙ ap Some found.0, omega (arith, found.0, found.1))
+
+  -- the tests that passed make a call
+  pub has_call : (u later : List ℕ) → user_of (pairs buf headers spans) ≡ Some u
+      → (r : Option ℕ) (n : ℕ) → option_map (within limit) (body_length (pairs buf headers spans)) ≡ Some r → r ≡ Some n
+      → (path : List ℕ) (found : Option Resource) (resource : Resource) → path ≡ span_bytes buf spans.path → option_map place_by found ≡ place_of path → found ≡ Some resource
+      → (method : List ℕ) (chosen : Option Action) (action : Action) → method ≡ span_bytes buf spans.method
+      → option_map act_by chosen ≡ act_of (place_by resource) method → chosen ≡ Some action
+      → HasCall limit (buf ++ later) (front h u (drop spans.len buf ++ later)) n
+  has_call u later named r n length_is some path found resource p place is_resource method chosen action m act is_action =
+      let length_told = told r n length_is some in
+      record {
+        begins = record { begins = begins buf later headers spans h s; named = ap user_of (sym s.whole.fields) ∙ named };
+        told = length_told.0;
+        path = (
+          place_by resource,
+          ap place_of (sym (p ∙ s.whole.path)) ∙ (sym place ∙ ap (option_map place_by) is_resource),
+          act_by action,
+          ap (act_of (place_by resource)) (sym (m ∙ s.whole.method)) ∙ (sym act ∙ ap (option_map act_by) is_action),
+        );
+        within = length_told.1;
+      }
 
 pub stop_long : (limit : ℕ) (f : Front) (n : ℕ) (act : Act) → limit < n → AsksLong limit f n act (refused Long)
 stop_long limit f n act h = stops _ (h, refl)
@@ -143,6 +179,12 @@ body_short came later k n e short = by_case (cases_lt (length came) n)
     by_case (inr long) =
         let same : length (take k came) ≡ n = length-take-le k came (omega (arith, e, long)) ∙ omega (arith, e, long) in
         absurd (omega (arith, same, length-append (take k came) later, short))
+
+-- a byte after the first of what came is one after all of it
+pub body_some : (came later : List ℕ) (k : ℕ) → 0 < length (take k came ++ later) → 0 < length (came ++ later)
+body_some came later k some =
+    let shorter : length (take k came) ≤ length came = grind (arith, common_steps) in
+    omega (arith, shorter, length-append (take k came) later, length-append came later, some)
 
 -- the slice from a place to the end
 pub rest_is : (buf : List ℕ) (n : ℕ) → take (length buf - n) (drop n buf) ≡ drop n buf

@@ -1,12 +1,13 @@
 -- What holds while a head is read.
-use Rattle.std.proofs.Common.{◌≡◌, ◌≤◌, ◌+◌, ◌-◌, ℕ, List, ◌++◌, length, take, drop, Option, Some, None, IfSome, sym, ◌∙◌, ap, ap₂, subst, arith, rules, le_refl, drop_at, length-take-le, take_all, take-append-drop}
+use Rattle.std.proofs.Common.{◌≡◌, ◌≤◌, ◌<◌, ◌+◌, ◌-◌, ℕ, List, [], ◌++◌, length, take, drop, Option, Some, None, IfSome, sym, ◌∙◌, ap, ap₂, subst, arith, rules, le_refl, drop_at, length-take-le, take_all, take-append-drop}
 use Rattle.std.proofs.lemmas.List.{places}
 use Rattle.std.proofs.lemmas.Slice.{take-put_mid_below}
-use Rattle.std.proofs.KnownBytes.{Consumes-trans}
+use Rattle.std.proofs.KnownBytes.{Consumes-kept, Consumes-trans}
 use borrow.Rule.Slice.PartMut.{put_mid, post_of}
 use lib.Seq.{take-add, take-append-le}
-use Rattle.std.specs.Io.KnownBytes.{Consumes}
-use Rattle.httparse.specs.Grammar.{HasNoRequest, print_request}
+use Rattle.std.specs.Io.KnownBytes.{Consumes, Keeps}
+use Rattle.httparse.specs.Grammar.{HasNoRequest, MayBecomeRequest, print_request}
+use Rattle.tb_http.specs.Faults.{AwaitsHead, TakenAfter}
 use Rattle.tb_http.specs.Head.{HasNoHead}
 
 -- so many bytes of the buffer came from the reader
@@ -36,6 +37,13 @@ reading_more old mid new buf part at n h fits long read =
       room = search (rules, places, h.room, long, within);
       taken = subst (Consumes old new) (sym joined) (Consumes-trans old mid new _ _ h.taken read);
     }
+
+-- a read failed before a head was whole
+pub reading_broken : (old mid new : Option (List ℕ)) (buf : List ℕ) (at : ℕ) → IsReading old mid buf at → Keeps mid new → at < 8192
+    → HasNoRequest (take at buf) → MayBecomeRequest (take at buf) → TakenAfter [] old new AwaitsHead
+reading_broken old mid new buf at h kept room none becoming =
+    let long : length (take at buf) ≡ at = length-take-le at buf (omega (arith, h.within, h.room)) in
+    (take at buf, Consumes-kept old mid new (take at buf) h.taken kept, record { none = none; becoming = becoming; room = omega (arith, long, room) })
 
 -- the bytes that came are as many as a head may have, and begin with none
 pub full : (old new : Option (List ℕ)) (bytes : List ℕ) → 8192 ≤ length bytes → HasNoRequest bytes

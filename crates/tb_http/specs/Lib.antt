@@ -1,5 +1,6 @@
 pub mod Actions
 pub mod Asks
+pub mod Faults
 pub mod Forms
 pub mod Head
 pub mod Headers

@@ -1,5 +1,5 @@
 -- The answers that are one line, over HTTP and on standard output: the line, the status over HTTP, and the exit status.
-use Rattle.std.specs.Prelude.{ℕ, List, ◌++◌, codes, decimal, length, Option, Some, None}
+use Rattle.std.specs.Prelude.{ℕ, List, ◌++◌, codes, decimal, Option, Some, None}
 use Rattle.tb_core.specs.declared.refusals.Refusal.{Refusal}
 use Rattle.tb_core.specs.declared.refusals.Refusal.TheVariants as refusal
 use Rattle.tb_core.specs.Refusals.{refusal_text}

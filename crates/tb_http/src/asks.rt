@@ -1,9 +1,10 @@
 //! What the bytes of a request ask, from any reader.
 
-ghost use Rattle.std.specs.Prelude.{◌≡◌, ◌≤◌, ◌++◌, length, option_map, IfOk, IfSome};
+ghost use Rattle.std.specs.Prelude.{◌≡◌, ◌≤◌, ◌++◌, [], length, option_map, IfOk, IfErr, IfSome};
 ghost use Rattle.httparse.specs.Spans.{IsRequestOf, IsRequestWithin};
 ghost use Rattle.tb_http.specs.Actions.{act_by};
 ghost use Rattle.tb_http.specs.Asks.{Asks, AsksOneThing, call_text, told_by};
+ghost use Rattle.tb_http.specs.Faults.{IsFaultOf, TakenAfter};
 
 use crate::actions::{Action, Allow, resource_of};
 use crate::head::{BodyFault, HEAD_BYTES, HEADERS, read_body, read_head};
@@ -86,7 +87,8 @@ fn ask_after<'b, R: Read>(
     requires few { length headers.now ≤ 32 }
     requires inside { IsRequestWithin buf.now headers.now spans }
     requires head { IsRequestOf buf.now headers.now spans }
-    ensures { IfOk result (λ ask. IfSome (R.remaining reader.old) (λ later. Asks limit (buf.now ++ later) (told_by ask))) }
+    ensures asks { IfOk result (λ ask. IfSome (R.remaining reader.old) (λ later. Asks limit (buf.now ++ later) (told_by ask))) }
+    ensures fault { IfErr result (λ e. TakenAfter buf.now (R.remaining reader.old) (R.remaining reader.new) (λ taken. IsFaultOf limit taken e)) }
 {
     let named = &headers[..spans.headers];
     let Ok(user) = user_of(buf, named) else {
@@ -130,7 +132,8 @@ fn ask_within<'b, R: Read>(
     requires small { limit ≤ 4194304 }
     requires room { length buf.old ≡ 8192 }
     requires headers { length headers.old ≡ 32 }
-    ensures { IfOk result (λ ask. IfSome (R.remaining reader.old) (λ bytes. Asks limit bytes (told_by ask))) }
+    ensures asks { IfOk result (λ ask. IfSome (R.remaining reader.old) (λ bytes. Asks limit bytes (told_by ask))) }
+    ensures fault { IfErr result (λ e. TakenAfter [] (R.remaining reader.old) (R.remaining reader.new) (λ taken. IsFaultOf limit taken e)) }
 {
     match read_head(reader, buf, headers) {
         Err(_) => Err(AskFault::Broken),
@@ -159,7 +162,8 @@ pub fn read_ask<'b, R: Read>(
     reader: &mut R,
     buf: &'b mut [u8; HEAD_BYTES],
 ) -> Result<Ask<'b>, AskFault>
-    ensures { IfOk result (λ ask. IfSome (R.remaining reader.old) (λ bytes. Asks BODY_BYTES bytes (told_by ask))) }
+    ensures asks { IfOk result (λ ask. IfSome (R.remaining reader.old) (λ bytes. Asks BODY_BYTES bytes (told_by ask))) }
+    ensures fault { IfErr result (λ e. TakenAfter [] (R.remaining reader.old) (R.remaining reader.new) (λ taken. IsFaultOf BODY_BYTES taken e)) }
 {
     let mut headers = [EMPTY_HEADER_SPAN; HEADERS];
     ask_within(alloc, routes, reader, buf, &mut headers, BODY_BYTES)

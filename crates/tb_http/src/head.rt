@@ -1,8 +1,9 @@
 //! The head of a request, and then its body, from any reader.
 
-ghost use Rattle.std.specs.Prelude.{◌≡◌, ◌≤◌, ◌<◌, ◌++◌, length, take, IfOk, IfSome, IfNone};
+ghost use Rattle.std.specs.Prelude.{◌≡◌, ◌≤◌, ◌<◌, ◌++◌, [], length, take, IfOk, IfErr, IfSome, IfNone};
 ghost use Rattle.std.specs.Io.KnownBytes.{Consumes};
 ghost use Rattle.httparse.specs.Spans.{IsRequestOf, IsRequestWithin};
+ghost use Rattle.tb_http.specs.Faults.{AwaitsHead, IsBodyFaultOf, TakenAfter};
 ghost use Rattle.tb_http.specs.Head.{HasNoHead};
 
 use httparse::Status;
@@ -41,6 +42,7 @@ pub fn read_head<R: Read>(
     ensures spans { IfOk result (λ r. IfSome r (λ h. IsRequestWithin (take h.filled buf.new) headers.new h.spans)) }
     ensures head { IfOk result (λ r. IfSome r (λ h. IsRequestOf (take h.filled buf.new) headers.new h.spans)) }
     ensures none { IfOk result (λ r. IfNone r (IfSome (R.remaining reader.old) HasNoHead)) }
+    ensures broken { IfErr result (λ _. TakenAfter [] (R.remaining reader.old) (R.remaining reader.new) AwaitsHead) }
 {
     let mut filled = 0;
     'reads: loop {
@@ -82,11 +84,12 @@ pub fn read_body<R: Read>(
         IfSome (R.remaining reader.old) (λ rest. body.items ≡ take n (start.now ++ rest)))) }
     ensures length { IfOk result (λ r. IfSome r (λ body. length body.items ≡ n)) }
     ensures short { IfOk result (λ r. IfNone r (IfSome (R.remaining reader.old) (λ rest. length (start.now ++ rest) < n))) }
+    ensures fault { IfErr result (λ e. TakenAfter start.now (R.remaining reader.old) (R.remaining reader.new) (λ came. IsBodyFaultOf n came e)) }
 {
-    let mut body = match Vec::from_slice(alloc, start) {
-        Ok(body) => body,
-        Err(_) => return Err(BodyFault::Memory),
-    };
+    let mut body = Vec::new(alloc);
+    if body.extend_from_slice(start).is_err() {
+        return Err(BodyFault::Memory);
+    }
     let mut chunk = [0u8; 4096];
     'reads: while body.len() < n {
         let room = (n - body.len()).min(4096);

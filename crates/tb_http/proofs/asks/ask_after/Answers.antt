@@ -1,22 +1,22 @@
-use Rattle.std.proofs.Common.{◌≡◌, ◌<◌, ◌++◌, ◌-◌, length, take, drop, IfSome, ◌∙◌, ap, subst, refl}
-use Rattle.tb_http.proofs.Chains.{set, front, always, when_known, stop_user, goes_user, stop_length, goes_length, stop_path, goes_path, stop_method, goes_method, stop_long, goes_long, above, not_above, body_same, body_short, rest_is, long_enough}
+use Rattle.std.proofs.Common.{◌≡◌, ◌<◌, ◌++◌, ◌-◌, length, take, drop, IfSome, ◌∙◌, ap, subst, refl, inr, arith}
+use Rattle.tb_http.proofs.Chains.{set, front, always, when_known, stop_user, goes_user, stop_length, goes_length, stop_path, goes_path, stop_method, goes_method, stop_long, goes_long, above, not_above, body_same, body_short, rest_is, long_enough, has_call, body_some}
 use Rattle.tb_http.specs.Stage.{stops, goes}
 use Rattle.tb_http.proofs.asks.ask_after.Goals as goal
 
-pub returns-in_default : goal.returns-in_default
-returns-in_default g c =
+pub returns-in_default-clause-asks : goal.returns-in_default-clause-asks
+returns-in_default-clause-asks g c =
     let s = set c.args.buf.now c.args.headers.now c.args.spans c.requires.room c.requires.few c.requires.inside c.requires.head in
     always _ _ (stop_user _ _ _ _ s c.args.limit c.in_default.ensures)
 
-pub returns-in_default-body_length : goal.returns-in_default-body_length
-returns-in_default-body_length g c =
+pub returns-in_default-body_length-clause-asks : goal.returns-in_default-body_length-clause-asks
+returns-in_default-body_length-clause-asks g c =
     let s = set c.args.buf.now c.args.headers.now c.args.spans c.requires.room c.requires.few c.requires.inside c.requires.head in
     let limit = c.args.limit in
     let u = c.in-Ok.user.now in
     always _ _ (λ later. goes_user _ _ _ _ s limit u c.in-Ok.ensures later _ (stop_length _ _ _ _ s limit u _ c.in_default-body_length.ensures))
 
-pub returns-in_default-resource_of : goal.returns-in_default-resource_of
-returns-in_default-resource_of g c =
+pub returns-in_default-resource_of-clause-asks : goal.returns-in_default-resource_of-clause-asks
+returns-in_default-resource_of-clause-asks g c =
     let s = set c.args.buf.now c.args.headers.now c.args.spans c.requires.room c.requires.few c.requires.inside c.requires.head in
     let limit = c.args.limit in
     let u = c.in-Ok.user.now in
@@ -24,8 +24,8 @@ returns-in_default-resource_of g c =
     (goes_length _ _ _ _ s limit u _ _ c.in-Ok-body_length.ensures _ (λ n w.
     stop_path _ _ _ _ s limit u _ n _ _ (c.in-Ok-from_utf8.ensures.cases.0 ∙ c.of.ensures) c.resource_of.ensures c.in_default-resource_of.is)))
 
-pub returns-in_default-action : goal.returns-in_default-action
-returns-in_default-action g c =
+pub returns-in_default-action-clause-asks : goal.returns-in_default-action-clause-asks
+returns-in_default-action-clause-asks g c =
     let s = set c.args.buf.now c.args.headers.now c.args.spans c.requires.room c.requires.few c.requires.inside c.requires.head in
     let limit = c.args.limit in
     let u = c.in-Ok.user.now in
@@ -34,8 +34,8 @@ returns-in_default-action g c =
     goes_path _ _ _ _ s limit u _ n _ _ _ (c.in-Ok-from_utf8.ensures.cases.0 ∙ c.of.ensures) c.resource_of.ensures c.in-Some.is _
     (stop_method _ _ _ _ s limit u _ n _ _ _ _ c.of-method.ensures c.action.ensures c.in_default-action.is c.allow.ensures))))
 
-pub returns-in_default-length : goal.returns-in_default-length
-returns-in_default-length g c =
+pub returns-in_default-length-clause-asks : goal.returns-in_default-length-clause-asks
+returns-in_default-length-clause-asks g c =
     let s = set c.args.buf.now c.args.headers.now c.args.spans c.requires.room c.requires.few c.requires.inside c.requires.head in
     let limit = c.args.limit in
     let u = c.in-Ok.user.now in
@@ -45,8 +45,8 @@ returns-in_default-length g c =
     (goes_method _ _ _ _ s limit u _ n _ _ _ _ c.of-method.ensures c.action.ensures c.in-Some-action.is _
     (stop_long limit (front c.requires.head.0 u (drop c.args.spans.len c.args.buf.now ++ later)) n _ (above limit n _ w c.in_default-length.is))))))
 
-pub returns-in-Ok-Some : goal.returns-in-Ok-Some
-returns-in-Ok-Some g c =
+pub returns-in-Ok-Some-clause-asks : goal.returns-in-Ok-Some-clause-asks
+returns-in-Ok-Some-clause-asks g c =
     let s = set c.args.buf.now c.args.headers.now c.args.spans c.requires.room c.requires.few c.requires.inside c.requires.head in
     let limit = c.args.limit in
     let u = c.in-Ok.user.now in
@@ -66,8 +66,8 @@ returns-in-Ok-Some g c =
     (goes_long limit (front c.requires.head.0 u (drop c.args.spans.len c.args.buf.now ++ later)) n m _ _ (not_above limit n m _ w c.in-Some-length.is)
     (goes _ body (long_enough m body (came ++ later) long all, all) c.make_call.ensures)))))) whole
 
-pub returns-in-Ok-None : goal.returns-in-Ok-None
-returns-in-Ok-None g c =
+pub returns-in-Ok-None-clause-asks : goal.returns-in-Ok-None-clause-asks
+returns-in-Ok-None-clause-asks g c =
     let s = set c.args.buf.now c.args.headers.now c.args.spans c.requires.room c.requires.few c.requires.inside c.requires.head in
     let limit = c.args.limit in
     let u = c.in-Ok.user.now in
@@ -84,3 +84,36 @@ returns-in-Ok-None g c =
     (goes_method _ _ _ _ s limit u _ n _ _ _ _ c.of-method.ensures c.action.ensures c.in-Some-action.is _
     (goes_long limit (front c.requires.head.0 u (drop c.args.spans.len c.args.buf.now ++ later)) n m _ _ (not_above limit n m _ w c.in-Some-length.is)
     (stops _ (all, refl))))))) short
+
+pub returns-in-Err-Read-clause-fault : goal.returns-in-Err-Read-clause-fault
+returns-in-Err-Read-clause-fault g c =
+    let s = set c.args.buf.now c.args.headers.now c.args.spans c.requires.room c.requires.few c.requires.inside c.requires.head in
+    let u = c.in-Ok.user.now in
+    let came = drop c.args.spans.len c.args.buf.now in
+    let n = c.in-Some-length.n in
+    let k = c.min.result in
+    let start = take (length c.args.buf.now - c.args.spans.len) came in
+    let fault = rw c.in-Err-Read.field-0-is at c.in-Err-Read.ensures.fault in
+    let more = fault.0 in
+    let short : length (came ++ more) < n = subst (λ l. length (l ++ more) < n) (rest_is c.args.buf.now c.args.spans.len) (body_short start more k n c.min.ensures fault.2) in
+    let call = has_call _ _ _ _ s c.args.limit u more c.in-Ok.ensures _ n c.in-Ok-body_length.ensures c.in-Some-length.is
+    _ _ c.in-Some.resource (c.in-Ok-from_utf8.ensures.cases.0 ∙ c.of.ensures) c.resource_of.ensures c.in-Some.is
+    _ _ c.in-Some-action.action c.of-method.ensures c.action.ensures c.in-Some-action.is in
+    (more, fault.1, inr (front c.requires.head.0 u (came ++ more), n, call, short))
+
+pub returns-in-Err-Memory-clause-fault : goal.returns-in-Err-Memory-clause-fault
+returns-in-Err-Memory-clause-fault g c =
+    let s = set c.args.buf.now c.args.headers.now c.args.spans c.requires.room c.requires.few c.requires.inside c.requires.head in
+    let u = c.in-Ok.user.now in
+    let came = drop c.args.spans.len c.args.buf.now in
+    let n = c.in-Some-length.n in
+    let k = c.min.result in
+    let start = take (length c.args.buf.now - c.args.spans.len) came in
+    let fault = rw c.in-Err-Memory.field-0-is at c.in-Err-Memory.ensures.fault in
+    let more = fault.0 in
+    let call = has_call _ _ _ _ s c.args.limit u more c.in-Ok.ensures _ n c.in-Ok-body_length.ensures c.in-Some-length.is
+    _ _ c.in-Some.resource (c.in-Ok-from_utf8.ensures.cases.0 ∙ c.of.ensures) c.resource_of.ensures c.in-Some.is
+    _ _ c.in-Some-action.action c.of-method.ensures c.action.ensures c.in-Some-action.is in
+    let some = body_some start more k fault.2.0 in
+    let all : 0 < length (came ++ more) = subst (λ l. 0 < length (l ++ more)) (rest_is c.args.buf.now c.args.spans.len) some in
+    (more, fault.1, (front c.requires.head.0 u (came ++ more), n, call, omega (arith, fault.2.0, fault.2.1), all))

@@ -1,0 +1,46 @@
+-- When it stays unknown what a request asks: only where a read was owed, or memory for the body.
+use Rattle.std.specs.Prelude.{◌≡◌, ◌<◌, ◌≤◌, ◌⊎◌, ℕ, List, ◌++◌, length, Option, Some}
+use Rattle.std.specs.Io.KnownBytes.{Consumes}
+use Rattle.httparse.specs.Grammar.{HasNoRequest, MayBecomeRequest}
+use Rattle.tb_http.specs.declared.asks.AskFault.{AskFault}
+use Rattle.tb_http.specs.declared.asks.AskFault.TheVariants as ask
+use Rattle.tb_http.specs.declared.head.BodyFault.{BodyFault}
+use Rattle.tb_http.specs.declared.head.BodyFault.TheVariants as body
+use Rattle.tb_http.specs.Actions.{Act, Place, place_of, act_of}
+use Rattle.tb_http.specs.Asks.{Front, IsFront, headers_of}
+use Rattle.tb_http.specs.Headers.{body_length}
+
+-- what was taken is no whole head yet, and may become one within the limit
+pub record AwaitsHead (taken : List ℕ) : Type 0 where
+  pub none : HasNoRequest taken
+  pub becoming : MayBecomeRequest taken
+  pub room : length taken < 8192
+
+-- the bytes begin with a head that passes each test and tells a body of n bytes
+pub record HasCall (limit : ℕ) (bytes : List ℕ) (front : Front) (n : ℕ) : Type 0 where
+  pub begins : IsFront bytes front
+  pub told : body_length (headers_of front.head) ≡ Some n
+  pub path : (place : Place) × (place_of front.head.target ≡ Some place) × (act : Act) × (act_of place front.head.method ≡ Some act)
+  pub within : n ≤ limit
+
+-- such a head was taken, and less of its body than it tells
+abbrev pub AwaitsBody : ℕ → List ℕ → Type 0
+AwaitsBody limit taken = (front : Front) × (n : ℕ) × HasCall limit taken front n × (length front.rest < n)
+
+-- such a head was taken, and the first byte of its body
+abbrev pub BeginsBody : ℕ → List ℕ → Type 0
+BeginsBody limit taken = (front : Front) × (n : ℕ) × HasCall limit taken front n × (0 < n) × (0 < length front.rest)
+
+-- where that fault may come, after these bytes were taken
+abbrev pub IsFaultOf : ℕ → List ℕ → AskFault → Type 0
+IsFaultOf limit taken ask.Broken = AwaitsHead taken ⊎ AwaitsBody limit taken
+IsFaultOf limit taken ask.Memory = BeginsBody limit taken
+
+-- where that fault may come, after these of the n bytes of a body came
+abbrev pub IsBodyFaultOf : ℕ → List ℕ → BodyFault → Type 0
+IsBodyFaultOf n came body.Read = length came < n
+IsBodyFaultOf n came body.Memory = (0 < length came) × (length came ≤ n)
+
+-- what was taken of a reader's bytes, after some others, has P
+abbrev pub TakenAfter : List ℕ → Option (List ℕ) → Option (List ℕ) → (List ℕ → Type 0) → Type 0
+TakenAfter before old new P = (taken : List ℕ) × Consumes old new taken × P (before ++ taken)
