@@ -35,34 +35,31 @@ pub enum Route {
     Count,
 }
 
-/// Takes one more route.
-fn add(router: &mut Router<Route>, route: &str, value: Route) -> Result<(), InsertError>
-    ensures { OnOk result (router.new ≡ with_text route.now value router.old) }
+/// The router with one more route.
+fn with(mut router: Router<Route>, route: &str, value: Route) -> Result<Router<Route>, InsertError>
+    ensures { IfOk result (λ r. r ≡ with_text route.now value router) }
 {
-    router.insert(route, value)
+    router.insert(route, value)?;
+    Ok(router)
 }
 
 /// The router of the desk's paths.
 fn router(alloc: Global) -> Result<Router<Route>, InsertError>
     ensures { IfOk result (λ r. r ≡ route_rows) }
 {
-    let mut router = Router::new(alloc);
-    add(&mut router, "/batches/{name}", Route::Batch)?;
-    add(&mut router, "/batches/{name}/{event}", Route::Step)?;
-    add(
-        &mut router,
-        "/sentences/{no}/after/{base}",
-        Route::Correction,
-    )?;
-    add(&mut router, "/sentences/{no}", Route::Sentence)?;
-    add(&mut router, "/sentences/{no}/{rev}", Route::Revision)?;
-    add(&mut router, "/pull/{no}", Route::Pull)?;
-    add(&mut router, "/restore/{no}", Route::Restore)?;
-    add(&mut router, "/released", Route::Released)?;
-    add(&mut router, "/totals", Route::Totals)?;
-    add(&mut router, "/moves", Route::Moves)?;
-    add(&mut router, "/search/{strategy}/{context}", Route::Search)?;
-    add(&mut router, "/count/{strategy}/{attribute}", Route::Count)?;
+    let router = Router::new(alloc);
+    let router = with(router, "/batches/{name}", Route::Batch)?;
+    let router = with(router, "/batches/{name}/{event}", Route::Step)?;
+    let router = with(router, "/sentences/{no}/after/{base}", Route::Correction)?;
+    let router = with(router, "/sentences/{no}", Route::Sentence)?;
+    let router = with(router, "/sentences/{no}/{rev}", Route::Revision)?;
+    let router = with(router, "/pull/{no}", Route::Pull)?;
+    let router = with(router, "/restore/{no}", Route::Restore)?;
+    let router = with(router, "/released", Route::Released)?;
+    let router = with(router, "/totals", Route::Totals)?;
+    let router = with(router, "/moves", Route::Moves)?;
+    let router = with(router, "/search/{strategy}/{context}", Route::Search)?;
+    let router = with(router, "/count/{strategy}/{attribute}", Route::Count)?;
     Ok(router)
 }
 
