@@ -2,8 +2,9 @@
 //! on standard input, which is read once before; `query_bench drawn` searches sentences of drawn tags, `query_bench
 //! repetitions` one of 1,000 words for repetitions within one another, both with tables made before, and `query_bench depth
 //! N` tries a pattern N levels deep. `query_bench lines < FILE` puts keyword lines of a file's words, `query_bench counts`
-//! counts drawn keys. Each line tells the least time of many rounds; without a word the program only says what it can do,
-//! since times are never the same twice.
+//! counts drawn keys. `query_bench requests` reads small requests and writes their replies, `query_bench words` reads command
+//! lines. Each line tells the least time of many rounds; without a word the program only says what it can do, since times are
+//! never the same twice.
 #![tactic(auto)]
 
 mod counted;
@@ -11,12 +12,14 @@ mod drawn;
 mod matching;
 mod queries;
 mod reports;
+mod requests;
 mod rounds;
 
 use drawn::{halves, many};
 use matching::{depth, matching};
 use queries::{NOUN_PHRASES, PATTERNS, REPETITIONS, SEARCHES};
 use reports::{counting, listing};
+use requests::{requests, words};
 use rounds::{parsing, searching};
 use std::alloc::{AllocError, Global};
 use std::env;
@@ -100,9 +103,9 @@ fn repetitions(rt: HostRuntime) -> io::Result<()> {
 }
 
 fn main(rt: HostRuntime) -> io::Result<()> {
-    let words: Vec<String> = env::args(&rt)?.collect(rt.alloc())?;
-    let levels = words.get(2).map_or("1000", |word| word.as_str());
-    match words.get(1) {
+    let args: Vec<String> = env::args(&rt)?.collect(rt.alloc())?;
+    let levels = args.get(2).map_or("1000", |word| word.as_str());
+    match args.get(1) {
         Some(word) if word.as_str() == "times" => times(rt),
         Some(word) if word.as_str() == "drawn" => {
             for count in [18, 20, 60, 64, 100] {
@@ -113,9 +116,11 @@ fn main(rt: HostRuntime) -> io::Result<()> {
         Some(word) if word.as_str() == "repetitions" => repetitions(rt),
         Some(word) if word.as_str() == "lines" => lines(rt),
         Some(word) if word.as_str() == "counts" => counting(rt),
+        Some(word) if word.as_str() == "requests" => requests(rt),
+        Some(word) if word.as_str() == "words" => words(rt),
         Some(word) if word.as_str() == "depth" => depth(rt, levels.parse().unwrap_or(1000)),
         _ => println!(rt;
-            "usage: query_bench times < FILE | drawn | repetitions | depth N | lines < FILE | counts"
+            "usage: query_bench times < FILE | drawn | repetitions | depth N | lines < FILE | counts | requests | words"
         ),
     }
 }
