@@ -1,7 +1,11 @@
 pub mod Rows
+pub mod Numbers
+pub mod Placed
+pub mod Shorts
 pub mod Counting
 pub mod Ranking
 pub mod OneTable
+pub mod Joined
 pub mod OneRanking
 pub mod WordLists
 pub mod HitTexts

@@ -49,7 +49,7 @@ below_first : (q : List ℕ) (e : Row) (t : List Row) → IsStrictlySortedBy (sl
 below_first q e t up less = sym (same_test q (e ∷ t)) ∙ lookup-none (is_at (slice_cmp nat_cmp q)) (e ∷ t) (none_below_head nat_list_cmp_total q e t up less)
 
 -- nor is the first key among the others
-past_first : (q : List ℕ) (e : Row) (t : List Row) → IsStrictlySortedBy (slice_cmp nat_cmp) (keys_of (e ∷ t)) → bytes_eq q e.0 ≡ true → lookup (bytes_eq q) t ≡ None
+pub past_first : (q : List ℕ) (e : Row) (t : List Row) → IsStrictlySortedBy (slice_cmp nat_cmp) (keys_of (e ∷ t)) → bytes_eq q e.0 ≡ true → lookup (bytes_eq q) t ≡ None
 past_first q e t up same =
     let none = none_past_head (eq_by_cmp_equiv nat_list_cmp_total) q e t (IsDistinct-from_sorted (slice_cmp nat_cmp) (keys_of (e ∷ t)) up) (is_eq-slice_cmp q e.0 ∙ same) in
     sym (same_test q t) ∙ lookup-none (is_at (slice_cmp nat_cmp q)) t none

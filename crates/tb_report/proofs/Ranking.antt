@@ -1,5 +1,5 @@
 -- The rows of a table, sorted, are its ranking.
-use Rattle.std.proofs.Common.{◌≡◌, ℕ, ◌+◌, ◌<◌, false, List, [], map, length, get_or, refl, sym, ap, ◌∙◌, subst, arith, true≢false}
+use Rattle.std.proofs.Common.{◌≡◌, ℕ, ◌+◌, ◌<◌, false, List, [], map, length, get_or, refl, sym, ap, ◌∙◌, arith, true≢false}
 use denote.Ref.{Bor}
 use Rattle.std.specs.declared.cmp.Reverse.{Reverse}
 use Rattle.std.specs.declared.cmp.Ordering.{Ordering}
@@ -12,7 +12,7 @@ use Rattle.std.specs.Map.{keys_of, values_of}
 use Rattle.std.specs.Ordering.{nat_cmp, is_lt, is_eq, eq_by_cmp, ordering_then, ordering_reverse}
 use Rattle.std.proofs.lemmas.Cmp.{eq_by_cmp_equiv}
 use Rattle.std.proofs.lemmas.List.{get_or-map, length-map}
-use Rattle.std.proofs.lemmas.List.Sorted.{IsPermutation-map, sum_by-IsPermutation}
+use Rattle.std.proofs.lemmas.List.Sorted.{IsPermutation-map, IsPermutation-sym, IsPermutation-trans, sum_by-IsPermutation}
 use Rattle.std.proofs.lemmas.Map.Keys.{IsDistinct-from_sorted, IsDistinct-IsPermutation, apart_from_distinct, sorted_from_all_adjacent}
 use Rattle.tb_report.specs.Tables.{Row, IsTable, IsRankingOf, rank, total_of}
 use Rattle.tb_report.specs.Kept.{ranked_row}
@@ -60,10 +60,11 @@ adjacent table ys t moved up d k inside =
     let q : Row = get_or rows (k + 1) (ranked_row d) in
     in_order_by p q (rank p q) refl (sym (λ i. eq_by_cmp (slice_cmp nat_cmp) (here i) (next i)) ∙ apart) ((λ i. is_lt (rank (b i) (a i))) ∙ sorted)
 
-pub ranking_from_sorted : (table : List Row) (xs ys : List (Reverse ℕ × Bor (List ℕ))) → IsTable table → map ranked_row xs ≡ table → IsPermutation xs ys
+pub ranking_from_sorted : (table : List Row) (xs ys : List (Reverse ℕ × Bor (List ℕ))) → IsTable table → IsPermutation (map ranked_row xs) table → IsPermutation xs ys
     → IsSorted (λ x y. rank (ranked_row x) (ranked_row y)) ys → IsRankingOf table (map ranked_row ys)
 ranking_from_sorted table xs ys t same moved up =
-    let all : IsPermutation table (map ranked_row ys) = subst (λ rows. IsPermutation rows (map ranked_row ys)) same (IsPermutation-map ranked_row xs ys moved) in
+    let all : IsPermutation table (map ranked_row ys) =
+    IsPermutation-trans table (map ranked_row xs) (map ranked_row ys) (IsPermutation-sym (map ranked_row xs) table same) (IsPermutation-map ranked_row xs ys moved) in
     record {
       same_rows = all;
       in_order = sorted_from_all_adjacent rank_total (map ranked_row ys) (ranked_row no_rank) (adjacent table ys t all up no_rank);

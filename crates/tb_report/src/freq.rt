@@ -1,9 +1,10 @@
 //! Frequency tables.
 
 ghost use Rattle.std.specs.Prelude.{◌≡◌, ℕ, ◌+◌, ◌-◌, ◌^◌, ◌<◌, List, [], ◌∷◌, ◌++◌, IfOk, IsOk, OnOk, OnErr, map};
-ghost use Rattle.tb_report.specs.Kept.{ranked_row, rows_of};
+ghost use Rattle.tb_report.specs.Kept.{AreLong, AreShort, ranked_row, rows_of, short_rows, table_of};
 ghost use Rattle.tb_report.specs.Tables.{CountsOneMore, IsRankingOf, IsTable, IsTableOf, count_in, total_of};
 
+use crate::counts::{LongCounts, ShortCounts, count_long, count_short, is_short};
 use std::alloc::{AllocError, Global};
 use std::cmp::Reverse;
 use std::collections::BTreeMap;
@@ -13,23 +14,24 @@ use std::marker::Model;
 #[derive(Drop)]
 pub struct Freq {
     alloc: Global,
-    counts: BTreeMap<String, u64>,
+    short: ShortCounts,
+    long: LongCounts,
     total: u64,
 }
 
 impl Model for Freq {
     ghost use Rattle.std.specs.Prelude.{◌≡◌, ℕ, List};
     ghost use Rattle.tb_report.specs.Tables.{Row, IsTable, total_of};
-    ghost use Rattle.tb_report.specs.Kept.{rows_of};
+    ghost use Rattle.tb_report.specs.Kept.{AreLong, AreShort, table_of};
     ghost use Rattle.std.specs.Coded.{coded_ℕ, coded_list, coded×};
 
     ghost Value = { List Row };
 
     ghost coded = { coded_list (coded× (coded_list coded_ℕ) coded_ℕ) };
 
-    ghost view = { λ f. rows_of f.counts.entries };
+    ghost view = { λ f. table_of f.short.entries f.long.entries };
 
-    ghost invariant = { λ f. (f.total ≡ total_of (rows_of f.counts.entries)) × IsTable (rows_of f.counts.entries) };
+    ghost invariant = { λ f. (f.total ≡ total_of (table_of f.short.entries f.long.entries)) × IsTable (table_of f.short.entries f.long.entries) × AreShort f.short.entries × AreLong f.long.entries };
 }
 
 impl Freq {
@@ -39,7 +41,8 @@ impl Freq {
     {
         Freq {
             alloc,
-            counts: BTreeMap::new(alloc),
+            short: BTreeMap::new(alloc),
+            long: BTreeMap::new(alloc),
             total: 0,
         }
     }
@@ -61,7 +64,7 @@ impl Freq {
     pub(crate) fn ranking(&self) -> Result<Vec<Rank<'_>>, AllocError>
         ensures { IfOk result (λ v. IsRankingOf self.now (map ranked_row v.items)) }
     {
-        let mut ranks = ranks_of(self.alloc, &self.counts)?;
+        let mut ranks = ranks_of(self.alloc, &self.short, &self.long)?;
         ranks.sort_unstable();
         Ok(ranks)
     }
@@ -91,7 +94,7 @@ impl Freq {
         ensures known { 0 < count_in self.old key.now → IsOk result }
         ensures same { OnErr result (self.new ≡ self.old) }
     {
-        count_once(self.alloc, &mut self.counts, key)?;
+        count_once(self.alloc, &mut self.short, &mut self.long, key)?;
         self.total += 1;
         Ok(())
     }
@@ -100,15 +103,36 @@ impl Freq {
 /// A row of a table, so that rows in ascending order have the greatest count first.
 pub(crate) type Rank<'a> = (Reverse<u64>, &'a str);
 
-/// The entries of the map as ranks.
-fn ranks_of(alloc: Global, counts: &BTreeMap<String, u64>) -> Result<Vec<Rank<'_>>, AllocError>
-    ensures { IfOk result (λ v. map ranked_row v.items ≡ rows_of counts.now.entries) }
+/// The entries of both maps as ranks.
+fn ranks_of<'a>(
+    alloc: Global,
+    short: &'a ShortCounts,
+    long: &'a LongCounts,
+) -> Result<Vec<Rank<'a>>, AllocError>
+    ensures { IfOk result (λ v. map ranked_row v.items ≡ short_rows short.now.entries ++ rows_of long.now.entries) }
 {
-    let mut ranks: Vec<Rank<'_>> = Vec::with_capacity(alloc, counts.len())?;
-    for (key, count) in counts {
+    let mut ranks: Vec<Rank<'a>> = Vec::with_capacity(alloc, short.len() + long.len())?;
+    push_short(&mut ranks, short)?;
+    push_long(&mut ranks, long)?;
+    Ok(ranks)
+}
+
+fn push_short<'a>(ranks: &mut Vec<Rank<'a>>, short: &'a ShortCounts) -> Result<(), AllocError>
+    ensures { OnOk result (map ranked_row ranks.new.items ≡ map ranked_row ranks.old.items ++ short_rows short.now.entries) }
+{
+    for (key, count) in short.values() {
         ranks.push((Reverse(*count), key.as_str()))?;
     }
-    Ok(ranks)
+    Ok(())
+}
+
+fn push_long<'a>(ranks: &mut Vec<Rank<'a>>, long: &'a LongCounts) -> Result<(), AllocError>
+    ensures { OnOk result (map ranked_row ranks.new.items ≡ map ranked_row ranks.old.items ++ rows_of long.now.entries) }
+{
+    for (key, count) in long {
+        ranks.push((Reverse(*count), key.as_str()))?;
+    }
+    Ok(())
 }
 
 /// The ranks with keys of their own.
@@ -123,23 +147,24 @@ fn owned_rows(alloc: Global, ranks: &[Rank<'_>]) -> Result<Vec<(String, u64)>, A
     Ok(rows)
 }
 
-/// Counts the key once more in the map.
+/// Counts the key once more in the map of its length.
 fn count_once(
     alloc: Global,
-    counts: &mut BTreeMap<String, u64>,
+    short: &mut ShortCounts,
+    long: &mut LongCounts,
     key: &str,
 ) -> Result<(), AllocError>
-    requires room { total_of (rows_of counts.old.entries) < 2 ^ 64 - 1 }
-    requires table { IsTable (rows_of counts.old.entries) }
-    ensures counted { OnOk result (CountsOneMore (rows_of counts.old.entries) (rows_of counts.new.entries) key.now) }
-    ensures known { 0 < count_in (rows_of counts.old.entries) key.now → IsOk result }
-    ensures same { OnErr result (counts.new.entries ≡ counts.old.entries) }
+    requires room { total_of (table_of short.old.entries long.old.entries) < 2 ^ 64 - 1 }
+    requires are_short { AreShort short.old.entries }
+    requires are_long { AreLong long.old.entries }
+    ensures counted { OnOk result (CountsOneMore (table_of short.old.entries long.old.entries) (table_of short.new.entries long.new.entries) key.now) }
+    ensures are_short { AreShort short.new.entries }
+    ensures are_long { AreLong long.new.entries }
+    ensures known { 0 < count_in (table_of short.old.entries long.old.entries) key.now → IsOk result }
+    ensures same { OnErr result (table_of short.new.entries long.new.entries ≡ table_of short.old.entries long.old.entries) }
 {
-    if let Some(count) = counts.get_mut(key) {
-        *count += 1;
-        return Ok(());
+    if is_short(key) {
+        return count_short(alloc, short, key);
     }
-    let key = String::from_str(alloc, key)?;
-    counts.insert(key, 1)?;
-    Ok(())
+    count_long(alloc, long, key)
 }

@@ -1,6 +1,7 @@
 //! Reports on what a search found: keyword lines, keys of hits, and frequency tables, and CSV.
 #![tactic(auto)]
 
+mod counts;
 mod csvs;
 mod fault;
 mod freq;

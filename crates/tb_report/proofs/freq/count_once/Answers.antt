@@ -1,40 +1,38 @@
-use Rattle.std.proofs.Common.{◌≡◌, ℕ, ◌+◌, None, refl, String, BTreeMap, Global, sym, subst, arith, string_bytes}
-use Rattle.std.proofs.lemmas.Result.{IfOk-at_ok}
-use Rattle.std.specs.BTreeMap.{get_by_text}
-use Rattle.tb_report.specs.Kept.{rows_of}
-use Rattle.tb_report.specs.Tables.{CountsOneMore, IsTable}
-use Rattle.tb_report.proofs.Counting.{counted_again, counted_first, below_total, not_counted}
+use Rattle.std.proofs.Common.{refl, arith}
+use Rattle.std.proofs.lemmas.Result.{on_ok_weaker}
+use Rattle.tb_report.proofs.Joined.{counted_long, counted_short, long_once_more, short_once_more, total_of_both}
 use Rattle.tb_report.proofs.freq.count_once.Goals as goal
 
-pub overflow_add-count : goal.overflow_add-count
-overflow_add-count c =
-    let below = below_total c.args.counts.now c.args.key.now c.in-Some.count.now c.in-Some.ensures.value in
+pub count_short-requires-clause-room : goal.count_short-requires-clause-room
+count_short-requires-clause-room c =
+    let both = total_of_both c.args.short.now.entries c.args.long.now.entries c.requires.are_short c.requires.are_long in
     let room = c.requires.room in
-    omega arith
+    omega (arith, both, room)
 
-pub returns-in-Some-clause-counted : goal.returns-in-Some-clause-counted
-returns-in-Some-clause-counted c =
-    counted_again c.args.counts.now (c.get_mut.follows.lender (c.in-Some.count.now + 1)) c.args.key.now c.in-Some.count.now c.requires.table c.in-Some.ensures.value (c.get_mut.follows.holds (c.in-Some.count.now + 1))
+pub returns-then-is_short-clause-counted : goal.returns-then-is_short-clause-counted
+returns-then-is_short-clause-counted c =
+    on_ok_weaker c.count_short.result
+    (short_once_more c.args.short.now.entries c.count_short.new.counts.entries c.args.long.now.entries c.args.key.now c.requires.are_short c.count_short.ensures.are_short c.requires.are_long)
+    c.count_short.ensures.counted
 
-pub returns-in_err-key-clause-known : goal.returns-in_err-key-clause-known
-returns-in_err-key-clause-known c = λ known.
-    let none = not_counted c.args.counts.now c.args.key.now (sym c.in_default.ensures.value) in
-    absurd (omega (arith, known, none))
+pub returns-then-is_short-clause-known : goal.returns-then-is_short-clause-known
+returns-then-is_short-clause-known c = λ known.
+    let same = counted_short c.args.short.now.entries c.args.long.now.entries c.requires.are_short c.requires.are_long c.args.key.now (c.if-is_short.ensures.yes refl) in
+    c.count_short.ensures.known (omega (arith, known, same))
 
-pub returns-in_err-insert-clause-known : goal.returns-in_err-insert-clause-known
-returns-in_err-insert-clause-known c = λ known.
-    let none = not_counted c.args.counts.now c.args.key.now (sym c.in_default.ensures.value) in
-    absurd (omega (arith, known, none))
+pub count_long-requires-clause-room : goal.count_long-requires-clause-room
+count_long-requires-clause-room c =
+    let both = total_of_both c.args.short.now.entries c.args.long.now.entries c.requires.are_short c.requires.are_long in
+    let room = c.requires.room in
+    omega (arith, both, room)
 
 pub returns-clause-counted : goal.returns-clause-counted
 returns-clause-counted c =
-    let text = IfOk-at_ok (λ s. string_bytes s ≡ c.args.key.now) c.in_ok-key.was c.from_str.ensures.ok in
-    let put = c.in_ok-insert.ensures in
-    let back = c.get_mut.follows.holds-at-none in
-    let m = c.get_mut.follows.lender-at-none in
-    let bytes = string_bytes c.in_ok-key.key in
-    let absent : get_by_text m bytes ≡ None = subst (λ bs. get_by_text m bs ≡ None) (sym text) (rw back (sym c.in_default.ensures.value)) in
-    let table : IsTable (rows_of m.entries) = rw back c.requires.table in
-    let counted = counted_first m c.insert.new.self bytes table c.in_ok-key.key refl absent put.entries put.updates put.was_ordered put.ordered in
-    subst (λ (n : BTreeMap (String Global) ℕ). CountsOneMore (rows_of n.entries) (rows_of c.insert.new.self.entries) c.args.key.now) back
-    (subst (CountsOneMore (rows_of m.entries) (rows_of c.insert.new.self.entries)) text counted)
+    on_ok_weaker c.count_long.result
+    (long_once_more c.args.short.now.entries c.args.long.now.entries c.count_long.new.counts.entries c.args.key.now c.requires.are_short c.requires.are_long c.count_long.ensures.are_long)
+    c.count_long.ensures.counted
+
+pub returns-clause-known : goal.returns-clause-known
+returns-clause-known c = λ known.
+    let same = counted_long c.args.short.now.entries c.args.long.now.entries c.requires.are_short c.requires.are_long c.args.key.now (c.if-is_short.ensures.no refl) in
+    c.count_long.ensures.known (omega (arith, known, same))
