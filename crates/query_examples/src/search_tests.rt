@@ -135,18 +135,24 @@ fn one_searcher_serves_many_sentences(rt: HostRuntime) -> Result<(), Fail> {
     Ok(())
 }
 
+/// An owned copy of the sentence has the hits and the truths of the worked example.
+fn assert_owned_alike(rt: &impl Abort, alloc: Global, boat: &BlockRef<'_>) -> Result<(), Fail> {
+    let query = query_of(alloc, ADJECTIVES_AND_NOUN)?;
+    let block = own_block(alloc, boat)?;
+    let found = searched(rt, alloc, &query, &block, Strategy::Shortest)?;
+    assert!(rt; found.hits.as_slice() == [(3, 4), (5, 6)].as_slice());
+    let held = truths(rt, alloc, &query, &block)?;
+    assert!(rt; held.as_str() == ".xx... ...x.x");
+    Ok(())
+}
+
 #[test]
 fn owned_sentences_are_searched_alike(rt: HostRuntime) -> Result<(), Fail> {
     let alloc = rt.alloc();
-    let query = query_of(alloc, ADJECTIVES_AND_NOUN)?;
     let boats = sentences_of(&rt, alloc, BOAT)?;
     assert!(rt; boats.len() == 1);
     for boat in &boats {
-        let block = own_block(alloc, boat)?;
-        let found = searched(&rt, alloc, &query, &block, Strategy::Shortest)?;
-        assert!(rt; found.hits.as_slice() == [(3, 4), (5, 6)].as_slice());
-        let held = truths(&rt, alloc, &query, &block)?;
-        assert!(rt; held.as_str() == ".xx... ...x.x");
+        assert_owned_alike(&rt, alloc, boat)?;
     }
     Ok(())
 }

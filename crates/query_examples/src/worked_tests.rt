@@ -94,7 +94,7 @@ fn alike(alloc: Global, count: u32) -> Result<BlockRef<'static>, AllocError> {
 }
 
 #[test]
-fn a_thousand_words(rt: HostRuntime) -> Result<(), Fail> {
+fn five_stars_over_a_thousand_words(rt: HostRuntime) -> Result<(), Fail> {
     let alloc = rt.alloc();
     let sentence = alike(alloc, 1000)?;
     let stars = query_of(alloc, "(((([]*)*)*)*)*")?;
@@ -103,6 +103,13 @@ fn a_thousand_words(rt: HostRuntime) -> Result<(), Fail> {
     let longest = searched(&rt, alloc, &stars, &sentence, Strategy::Longest)?;
     assert!(rt; longest.hits.as_slice() == [(0, 1000)].as_slice());
     assert!(rt; longest.steps <= 5_516_511);
+    Ok(())
+}
+
+#[test]
+fn all_matches_in_a_thousand_words(rt: HostRuntime) -> Result<(), Fail> {
+    let alloc = rt.alloc();
+    let sentence = alike(alloc, 1000)?;
     let star = query_of(alloc, "[]*")?;
     let every = searched(&rt, alloc, &star, &sentence, Strategy::Every)?;
     assert!(rt; every.hits.len() == 500_500);
