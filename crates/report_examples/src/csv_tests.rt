@@ -8,12 +8,12 @@ use tb_report::{Freq, csv_freq, csv_moves, csv_totals};
 
 /// Keys, with a bar between each two.
 const KEYS: &str =
-    "plain|two words|a,b|say \"x\"|line\nfeed|ж|книга|北京|שלום|_|=1+1|\ttab| lead||é|ü,ß|\"|two words|a,b|say \"x\"|ж|книга|北京|_|=1+1|\ttab||é|ü,ß|two words|a,b|ж|книга|_|=1+1||é|two words|ж|_|";
+    "plain|two words|a,b|say \"x\"|line\nfeed|ж|книга|北京|שלום|_|=1+1|\ttab| lead||é|ü,ß|\"|two words|a,b|say \"x\"|ж|книга|北京|_|=1+1|\ttab||é|ü,ß|two words|a,b|ж|книга|_|=1+1||é|two words|ж|_||fifteen letters|sixteen, letters|sixteen, letterz|достопримечательность|fifteen letters|sixteen, letters|достопримечательность|достопримечательность|достопримечательность|достопримечательность|fifteen letter";
 
 /// Their table, as Python's `csv` module wrote it: `csv.writer(file, lineterminator="\n")`, the rows sorted by
 /// `(-count, key.encode())`.
 const TABLE: &str =
-    "key,count\n,4\n_,4\ntwo words,4\nж,4\n=1+1,3\n\"a,b\",3\né,3\nкнига,3\n\ttab,2\n\"say \"\"x\"\"\",2\n\"ü,ß\",2\n北京,2\n lead,1\n\"\"\"\",1\n\"line\nfeed\",1\nplain,1\nשלום,1\n";
+    "key,count\nдостопримечательность,5\n,4\n_,4\ntwo words,4\nж,4\n=1+1,3\n\"a,b\",3\né,3\nкнига,3\n\ttab,2\nfifteen letters,2\n\"say \"\"x\"\"\",2\n\"sixteen, letters\",2\n\"ü,ß\",2\n北京,2\n lead,1\n\"\"\"\",1\nfifteen letter,1\n\"line\nfeed\",1\nplain,1\n\"sixteen, letterz\",1\nשלום,1\n";
 
 #[test]
 fn keys_of_many_scripts(rt: HostRuntime) -> Result<(), Fail> {
