@@ -90,14 +90,30 @@ fn repeated(
     once.repeat(alloc, times)
 }
 
+/// Times repetitions within one another over the sentences.
+fn repetition(
+    rt: HostRuntime,
+    (times, levels, inner, numbers): (usize, usize, &str, &str),
+    sentences: &[BlockRef<'_>],
+) -> io::Result<()> {
+    print!(rt; "{times} of {levels} levels of {inner}{numbers},")?;
+    let text = repeated(rt.alloc(), times, levels, inner, numbers)?;
+    matching(rt, text.as_str(), sentences, Strategy::Longest)
+}
+
 /// Times repetitions within one another over one sentence of 1,000 words.
 fn repetitions(rt: HostRuntime) -> io::Result<()> {
-    let alloc = rt.alloc();
-    let sentences = halves(alloc)?;
-    for (times, levels, inner, numbers) in REPETITIONS {
-        let text = repeated(alloc, times, levels, inner, numbers)?;
-        print!(rt; "{times} of {levels} levels of {inner}{numbers},")?;
-        matching(rt, text.as_str(), &sentences, Strategy::Longest)?;
+    let sentences = halves(rt.alloc())?;
+    for texts in REPETITIONS {
+        repetition(rt, texts, &sentences)?;
+    }
+    Ok(())
+}
+
+/// Times patterns over short and longer sentences.
+fn all_drawn(rt: HostRuntime) -> io::Result<()> {
+    for count in [18, 20, 60, 64, 100] {
+        drawn_sentences(rt, count)?;
     }
     Ok(())
 }
@@ -107,12 +123,7 @@ fn main(rt: HostRuntime) -> io::Result<()> {
     let levels = args.get(2).map_or("1000", |word| word.as_str());
     match args.get(1) {
         Some(word) if word.as_str() == "times" => times(rt),
-        Some(word) if word.as_str() == "drawn" => {
-            for count in [18, 20, 60, 64, 100] {
-                drawn_sentences(rt, count)?;
-            }
-            Ok(())
-        }
+        Some(word) if word.as_str() == "drawn" => all_drawn(rt),
         Some(word) if word.as_str() == "repetitions" => repetitions(rt),
         Some(word) if word.as_str() == "lines" => lines(rt),
         Some(word) if word.as_str() == "counts" => counting(rt),

@@ -6,7 +6,20 @@ use std::io;
 use std::time::Instant;
 use tb_conllu::BlockRef;
 use tb_match::{Pat, Strategy, Truth, find, fits, weight};
-use tb_query::{Query, QueryFault, parse};
+use tb_query::{Query, QueryFault, Searcher, parse};
+
+/// Puts a sentence's table to the others, where it has no more rows than a search takes.
+fn push_table(
+    alloc: Global,
+    searcher: &mut Searcher<'_>,
+    sentence: &BlockRef<'_>,
+    truths: &mut Vec<Truth>,
+) -> Result<(), AllocError> {
+    if sentence.rows.len() <= MOST_ROWS {
+        truths.push(searcher.truth(alloc, sentence)?)?;
+    }
+    Ok(())
+}
 
 /// The tables of the sentences.
 fn tables(
@@ -17,9 +30,7 @@ fn tables(
     let mut searcher = query.searcher(alloc)?;
     let mut truths = Vec::new(alloc);
     for sentence in sentences {
-        if sentence.rows.len() <= MOST_ROWS {
-            truths.push(searcher.truth(alloc, sentence)?)?;
-        }
+        push_table(alloc, &mut searcher, sentence, &mut truths)?;
     }
     Ok(truths)
 }

@@ -9,16 +9,21 @@ use tb_rules::{
     one_rule_is_told, one_sentence_is_told,
 };
 
+/// Puts a sentence of one word, with its name and text, to a file.
+fn push_sentence(file: &mut String, name: &str, text: &str) -> Result<(), AllocError> {
+    write!(
+        file,
+        "# sent_id = {name}\n# text = {text}\n1\tGo\tgo\tVERB\t_\t_\t0\troot\t_\t_\n\n"
+    )
+}
+
 /// A file of sentences `NAME: TEXT`, with strokes between them. Each is of one word, and keeps the rules of a sentence
 /// where the text is `Go`.
 fn file_of(alloc: Global, sentences: &str) -> Result<String, AllocError> {
     let mut file = String::new(alloc);
     for sentence in sentences.split('/') {
         if let Some((name, text)) = sentence.split_once(": ") {
-            write!(
-                file,
-                "# sent_id = {name}\n# text = {text}\n1\tGo\tgo\tVERB\t_\t_\t0\troot\t_\t_\n\n"
-            )?;
+            push_sentence(&mut file, name, text)?;
         }
     }
     Ok(file)

@@ -24,16 +24,11 @@ fn fields_of(alloc: Global, names: &str) -> Result<String, Fail> {
 
 /// A sentence of one row, of which the form has so many letters of two bytes, and the lemma so many of one.
 fn long_row(alloc: Global, form: usize, lemma: usize) -> Result<String, Fail> {
-    let mut text = String::from_str(alloc, "# a comment\twith a tab\n1\t")?;
-    for _ in 0..form {
-        text.push_str("é")?;
-    }
-    text.push_str("\t")?;
-    for _ in 0..lemma {
-        text.push_str("z")?;
-    }
-    text.push_str("\tX\t_\t_\t0\troot\t_\t_\n\n")?;
-    Ok(text)
+    let form = "é".repeat(alloc, form)?;
+    let lemma = "z".repeat(alloc, lemma)?;
+    Ok(format!(in alloc;
+        "# a comment\twith a tab\n1\t{form}\t{lemma}\tX\t_\t_\t0\troot\t_\t_\n\n"
+    )?)
 }
 
 #[test]

@@ -1,9 +1,9 @@
 -- The desk's command is one of which clap gives the matches.
-use Rattle.std.proofs.Common.{◌≡◌, true, false, refl}
+use Rattle.std.proofs.Common.{◌≡◌, true, refl}
 use Rattle.clap.specs.Words.{is_simple}
 use Rattle.clap.proofs.OnLiterals.{clap_on_literals}
-use Rattle.tb_line.specs.Tree.{desk_app}
+use Rattle.tb_line.specs.Tree.{desk_app, verbs}
 
 pub desk_is_simple : is_simple desk_app ≡ true
-unfolding desk_app clap_on_literals
+unfolding desk_app verbs clap_on_literals
 desk_is_simple = refl

@@ -1,6 +1,8 @@
 -- The commands, as clap is told of them.
-use Rattle.std.specs.Prelude.{true, [], ◌∷◌, codes, Some}
+use Rattle.std.specs.Prelude.{List, true, [], ◌∷◌, codes, Some, fold}
 use Rattle.clap.specs.Words.{App, Rule, Text, new_app, new_rule, with_rule, with_subcommand}
+use Rattle.tb_line.specs.declared.verbs.Verb.{Verb}
+use Rattle.tb_line.specs.declared.verbs.Verb.TheVariants as verb
 
 -- an option that takes a value
 abbrev pub option_rule : Text → Rule
@@ -81,30 +83,33 @@ serve_app = with_rule (with_rule (with_db (new_app (codes "serve"))) (needed_rul
 abbrev pub top_app : App
 top_app = record { top = record (new_app (codes "treedesk")).top { has_version = true }; subs = [] }
 
-abbrev pub with_files : App → App
-with_files a = with_subcommand (with_subcommand (with_subcommand a check_app.top) new_desk_app.top) migrate_app.top
+-- each command
+abbrev pub app_by : Verb → App
+app_by verb.Check = check_app
+app_by verb.New = new_desk_app
+app_by verb.Migrate = migrate_app
+app_by verb.Import = import_app
+app_by verb.Event = event_app
+app_by verb.Correct = correct_app
+app_by verb.Pull = pull_app
+app_by verb.Restore = restore_app
+app_by verb.Show = show_app
+app_by verb.Export = export_app
+app_by verb.Totals = totals_app
+app_by verb.Moves = moves_app
+app_by verb.Search = search_app
+app_by verb.Count = count_app
+app_by verb.Serve = serve_app
 
-abbrev pub with_work : App → App
-with_work a = with_subcommand (with_subcommand (with_subcommand a import_app.top) event_app.top) correct_app.top
+-- the commands in the order of help
+unfoldable pub verbs : List Verb
+verbs =
+    verb.Check ∷ verb.New ∷ verb.Migrate ∷ verb.Import ∷ verb.Event ∷ verb.Correct ∷ verb.Pull ∷ verb.Restore ∷ verb.Show ∷ verb.Export ∷ verb.Totals
+    ∷ verb.Moves ∷ verb.Search ∷ verb.Count ∷ verb.Serve ∷ []
 
-abbrev pub with_pulls : App → App
-with_pulls a = with_subcommand (with_subcommand a pull_app.top) restore_app.top
-
-abbrev pub with_steps : App → App
-with_steps a = with_pulls (with_work a)
-
-abbrev pub with_sentences : App → App
-with_sentences a = with_subcommand (with_subcommand a show_app.top) export_app.top
-
-abbrev pub with_tables : App → App
-with_tables a = with_subcommand (with_subcommand a totals_app.top) moves_app.top
-
-abbrev pub with_texts : App → App
-with_texts a = with_tables (with_sentences a)
-
-abbrev pub with_queries : App → App
-with_queries a = with_subcommand (with_subcommand (with_subcommand a search_app.top) count_app.top) serve_app.top
+abbrev pub with_verb : App → Verb → App
+with_verb a v = with_subcommand a (app_by v).top
 
 -- the whole command
 unfoldable pub desk_app : App
-desk_app = with_queries (with_texts (with_steps (with_files top_app)))
+desk_app = fold with_verb top_app verbs

@@ -3,8 +3,9 @@
 ghost use Rattle.std.specs.Prelude.{◌≡◌, IfOk, false, codes};
 ghost use Rattle.clap.specs.Words.{app_of, rule_of, new_app, with_rule, with_subcommand};
 ghost use Rattle.clap.specs.declared.Command.TheViews.{out-Command};
-ghost use Rattle.tb_line.specs.Tree.{option_rule, needed_rule, default_rule, word_rule, optional_rule, with_db, with_db_and_user, new_desk_app, migrate_app, import_app, event_app, correct_app, pull_app, restore_app, show_app, export_app, totals_app, moves_app, search_app, count_app, serve_app, top_app, with_files, with_work, with_pulls, with_steps, with_sentences, with_tables, with_texts, with_queries, desk_app};
+ghost use Rattle.tb_line.specs.Tree.{option_rule, needed_rule, default_rule, word_rule, optional_rule, with_db, with_db_and_user, new_desk_app, migrate_app, import_app, event_app, correct_app, pull_app, restore_app, show_app, export_app, totals_app, moves_app, search_app, count_app, serve_app, top_app, app_by, desk_app};
 
+use crate::verbs::{VERBS, Verb};
 use clap::{Arg, Command};
 use std::alloc::{AllocError, Global};
 
@@ -381,79 +382,28 @@ fn serve<'a>(alloc: Global) -> Result<Command<'a>, AllocError>
     )
 }
 
-fn and_files<'a>(alloc: Global, command: Command<'a>) -> Result<Command<'a>, AllocError>
-    requires whole { (out-Command command).has_globals ≡ false }
-    ensures app { IfOk result (λ r. app_of r ≡ with_files (app_of command.entry)) }
+/// A command, as clap is told of it.
+fn subcommand<'a>(alloc: Global, verb: Verb) -> Result<Command<'a>, AllocError>
+    ensures app { IfOk result (λ r. app_of r ≡ app_by verb) }
     ensures local { IfOk result (λ r. (out-Command r).has_globals ≡ false) }
 {
-    let command = with_sub(command, check(alloc))?;
-    let command = with_sub(command, new_desk(alloc)?)?;
-    with_sub(command, migrate(alloc)?)
-}
-
-fn and_work<'a>(alloc: Global, command: Command<'a>) -> Result<Command<'a>, AllocError>
-    requires whole { (out-Command command).has_globals ≡ false }
-    ensures app { IfOk result (λ r. app_of r ≡ with_work (app_of command.entry)) }
-    ensures local { IfOk result (λ r. (out-Command r).has_globals ≡ false) }
-{
-    let command = with_sub(command, import(alloc)?)?;
-    let command = with_sub(command, event(alloc)?)?;
-    with_sub(command, correct(alloc)?)
-}
-
-fn and_pulls<'a>(alloc: Global, command: Command<'a>) -> Result<Command<'a>, AllocError>
-    requires whole { (out-Command command).has_globals ≡ false }
-    ensures app { IfOk result (λ r. app_of r ≡ with_pulls (app_of command.entry)) }
-    ensures local { IfOk result (λ r. (out-Command r).has_globals ≡ false) }
-{
-    let command = with_sub(command, pull(alloc)?)?;
-    with_sub(command, restore(alloc)?)
-}
-
-fn and_steps<'a>(alloc: Global, command: Command<'a>) -> Result<Command<'a>, AllocError>
-    requires whole { (out-Command command).has_globals ≡ false }
-    ensures app { IfOk result (λ r. app_of r ≡ with_steps (app_of command.entry)) }
-    ensures local { IfOk result (λ r. (out-Command r).has_globals ≡ false) }
-{
-    let command = and_work(alloc, command)?;
-    and_pulls(alloc, command)
-}
-
-fn and_sentences<'a>(alloc: Global, command: Command<'a>) -> Result<Command<'a>, AllocError>
-    requires whole { (out-Command command).has_globals ≡ false }
-    ensures app { IfOk result (λ r. app_of r ≡ with_sentences (app_of command.entry)) }
-    ensures local { IfOk result (λ r. (out-Command r).has_globals ≡ false) }
-{
-    let command = with_sub(command, show(alloc)?)?;
-    with_sub(command, export(alloc)?)
-}
-
-fn and_tables<'a>(alloc: Global, command: Command<'a>) -> Result<Command<'a>, AllocError>
-    requires whole { (out-Command command).has_globals ≡ false }
-    ensures app { IfOk result (λ r. app_of r ≡ with_tables (app_of command.entry)) }
-    ensures local { IfOk result (λ r. (out-Command r).has_globals ≡ false) }
-{
-    let command = with_sub(command, totals(alloc)?)?;
-    with_sub(command, moves(alloc)?)
-}
-
-fn and_texts<'a>(alloc: Global, command: Command<'a>) -> Result<Command<'a>, AllocError>
-    requires whole { (out-Command command).has_globals ≡ false }
-    ensures app { IfOk result (λ r. app_of r ≡ with_texts (app_of command.entry)) }
-    ensures local { IfOk result (λ r. (out-Command r).has_globals ≡ false) }
-{
-    let command = and_sentences(alloc, command)?;
-    and_tables(alloc, command)
-}
-
-fn and_queries<'a>(alloc: Global, command: Command<'a>) -> Result<Command<'a>, AllocError>
-    requires whole { (out-Command command).has_globals ≡ false }
-    ensures app { IfOk result (λ r. app_of r ≡ with_queries (app_of command.entry)) }
-    ensures local { IfOk result (λ r. (out-Command r).has_globals ≡ false) }
-{
-    let command = with_sub(command, search(alloc)?)?;
-    let command = with_sub(command, count(alloc)?)?;
-    with_sub(command, serve(alloc)?)
+    match verb {
+        Verb::Check => Ok(check(alloc)),
+        Verb::New => new_desk(alloc),
+        Verb::Migrate => migrate(alloc),
+        Verb::Import => import(alloc),
+        Verb::Event => event(alloc),
+        Verb::Correct => correct(alloc),
+        Verb::Pull => pull(alloc),
+        Verb::Restore => restore(alloc),
+        Verb::Show => show(alloc),
+        Verb::Export => export(alloc),
+        Verb::Totals => totals(alloc),
+        Verb::Moves => moves(alloc),
+        Verb::Search => search(alloc),
+        Verb::Count => count(alloc),
+        Verb::Serve => serve(alloc),
+    }
 }
 
 /// The program's name, version and what help says of it.
@@ -469,13 +419,13 @@ fn top<'a>(alloc: Global) -> Command<'a>
         .after_help(EXIT)
 }
 
-/// The whole command.
-#[tactic(auto, unfolding(crate::specs::Tree::desk_app))]
+/// The whole command: its subcommands stand in the order of help.
 pub fn desk<'a>(alloc: Global) -> Result<Command<'a>, AllocError>
     ensures { IfOk result (λ r. app_of r ≡ desk_app) }
 {
-    let command = and_files(alloc, top(alloc))?;
-    let command = and_steps(alloc, command)?;
-    let command = and_texts(alloc, command)?;
-    and_queries(alloc, command)
+    let mut command = top(alloc);
+    for verb in &VERBS {
+        command = with_sub(command, subcommand(alloc, *verb)?)?;
+    }
+    Ok(command)
 }

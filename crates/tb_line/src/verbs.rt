@@ -23,6 +23,25 @@ pub enum Verb {
     Serve,
 }
 
+/// The commands in the order of help.
+pub const VERBS: [Verb; 15] = [
+    Verb::Check,
+    Verb::New,
+    Verb::Migrate,
+    Verb::Import,
+    Verb::Event,
+    Verb::Correct,
+    Verb::Pull,
+    Verb::Restore,
+    Verb::Show,
+    Verb::Export,
+    Verb::Totals,
+    Verb::Moves,
+    Verb::Search,
+    Verb::Count,
+    Verb::Serve,
+];
+
 fn is_word(text: &str, word: &str) -> bool
     ensures { result ≡ bytes_eq text.now word.now }
 {

@@ -2,9 +2,7 @@
 #![tactic(auto)]
 
 mod files;
-mod lines;
 mod serving;
 mod words;
 
-pub use lines::{read_body, run_line};
 pub use words::run_words;

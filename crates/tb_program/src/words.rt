@@ -6,7 +6,6 @@ ghost use Rattle.tb_desk.specs.Words.{asks_check};
 ghost use Rattle.tb_conllu.specs.declared.fault.WriteFault.{WriteFault};
 
 use crate::files::{self, FileDesk};
-use crate::lines::{read_body, run_line};
 use crate::serving::serve;
 use sqlite::Alter;
 use std::alloc::Global;
@@ -16,6 +15,7 @@ use tb_conllu::Sink;
 use tb_desk::{FILE_LIMIT, is_check, run_check};
 use tb_http::Reply;
 use tb_line::{Line, LineFault};
+use tb_serving::{read_body, run_line};
 use tb_store::Desk;
 
 /// Tells why words are no line: clap's text, which is help too, or the desk's own.

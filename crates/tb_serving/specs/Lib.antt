@@ -1,2 +1,4 @@
+pub mod Bodies
+pub mod Ran
 pub mod Served
 pub mod Turns

@@ -1,7 +1,6 @@
 use Rattle.std.proofs.Common.{◌∙◌, ap, map}
 use Rattle.std.specs.String.{string_bytes}
 use Rattle.clap.specs.Words.{App, is_simple, subcommand_of}
-use Rattle.tb_line.specs.Tree.{desk_app}
 use Rattle.tb_line.proofs.Computed.{desk_is_simple}
 use Rattle.tb_line.proofs.reading.parsed.Goals as goal
 

@@ -6,9 +6,9 @@ ghost use Rattle.sqlite.specs.Held.{state};
 ghost use Rattle.tb_core.specs.Machine.{Machine};
 ghost use Rattle.tb_line.specs.Lines.{said_by};
 ghost use Rattle.tb_store.specs.Standing.{StandsFor};
-ghost use Rattle.tb_program.specs.Bodies.{IsTaken, has_body};
+ghost use Rattle.tb_serving.specs.Bodies.{IsTaken, has_body};
 ghost use Rattle.tb_answers.specs.Calls.{call_by, call_in};
-ghost use Rattle.tb_program.specs.Ran.{reading_by, reading_in, IsRead, IsCalled, IsDone, IsRan, WritesNothing, IsCallSafe, IsDoneSafe, IsLineSafe};
+ghost use Rattle.tb_serving.specs.Ran.{reading_by, reading_in, IsRead, IsCalled, IsDone, IsRan, WritesNothing, IsCallSafe, IsDoneSafe, IsLineSafe};
 
 use sqlite::Alter;
 use std::alloc::Global;

@@ -14,8 +14,8 @@ use Rattle.tb_answers.specs.Calls.{CallText, call_in, IsOutput, IsSafe}
 use Rattle.tb_answers.specs.Exported.{IsExportWritten}
 use Rattle.tb_answers.specs.Found.{SearchText, CountText, search_by, count_by, IsSearchRun, IsCountOutput}
 use Rattle.tb_answers.specs.Output.{IsWritten}
-use Rattle.tb_program.specs.declared.lines.Reading.{Reading}
-use Rattle.tb_program.specs.declared.lines.Reading.TheVariants as reading
+use Rattle.tb_serving.specs.declared.lines.Reading.{Reading}
+use Rattle.tb_serving.specs.declared.lines.Reading.TheVariants as reading
 
 -- the desk stands for this state still, where its store is open
 abbrev pub Stays : {S : Type 0} → Ghosts S → Machine → (new : Kept S) → Type 0
