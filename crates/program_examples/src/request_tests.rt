@@ -1,7 +1,9 @@
 //! Requests one after the other on one desk in memory, and their responses.
 
 use crate::signs::plain;
+use sqlite::Alter;
 use std::alloc::Global;
+use std::process::Abort;
 use std::test::Fail;
 use tb_core::Limits;
 use tb_http::Routes;
@@ -36,18 +38,49 @@ fn shown(alloc: Global, response: &[u8]) -> Result<String, Fail> {
     Ok(format!(in alloc; "{status} {body}")?)
 }
 
+/// What is told of a request, and what is sent.
+fn answered<S: Alter>(
+    alloc: Global,
+    routes: &Routes,
+    desk: &mut Desk<S>,
+    asked: &str,
+) -> Result<String, Fail> {
+    let request = plain(alloc, asked)?;
+    let mut out: Vec<u8> = Vec::new(alloc);
+    let told = answer(alloc, routes, desk, &mut request.as_bytes(), &mut out);
+    let sent = shown(alloc, out.as_slice())?;
+    Ok(format!(in alloc; "{told:?} {sent}")?)
+}
+
+fn assert_answered<S: Alter>(
+    rt: &impl Abort,
+    alloc: Global,
+    routes: &Routes,
+    desk: &mut Desk<S>,
+    case: &str,
+) -> Result<(), Fail> {
+    let (asked, wanted) = case.split_once(" => ").ok_or("a case")?;
+    let got = answered(alloc, routes, desk, asked)?;
+    assert_eq!(rt; got.as_str(), plain(alloc, wanted)?.as_str());
+    Ok(())
+}
+
+fn assert_all_answered<S: Alter>(
+    rt: &impl Abort,
+    alloc: Global,
+    routes: &Routes,
+    desk: &mut Desk<S>,
+) -> Result<(), Fail> {
+    for case in CASES.lines() {
+        assert_answered(rt, alloc, routes, desk, case)?;
+    }
+    Ok(())
+}
+
 #[test]
 fn requests_in_turn(rt: HostRuntime) -> Result<(), Fail> {
     let alloc = rt.alloc();
     let routes = Routes::new(alloc).ok().ok_or("routes")?;
     let mut desk = Desk::in_memory(alloc, LIMITS).ok().ok_or("a desk")?;
-    for case in CASES.lines() {
-        let (asked, wanted) = case.split_once(" => ").ok_or("a case")?;
-        let request = plain(alloc, asked)?;
-        let mut out: Vec<u8> = Vec::new(alloc);
-        let told = answer(alloc, &routes, &mut desk, &mut request.as_bytes(), &mut out);
-        let got = format!(in alloc; "{told:?} {}", shown(alloc, out.as_slice())?)?;
-        assert_eq!(rt; got.as_str(), plain(alloc, wanted)?.as_str());
-    }
-    Ok(())
+    assert_all_answered(&rt, alloc, &routes, &mut desk)
 }
