@@ -27,3 +27,4 @@ pub mod Outputs
 pub mod Encoded
 pub mod Marked
 pub mod Recut
+pub mod PartedLines

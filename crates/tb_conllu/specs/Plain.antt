@@ -17,3 +17,7 @@ is_loose b = begins_white b && not (b == 9)
 -- a control character other than tab and line feed
 abbrev pub is_stray : ℕ → Bool
 is_stray b = nat_lt b 32 && not (b == 9) && not (b == 10)
+
+-- a byte that white space may begin with, tabs and line feeds aside
+abbrev pub is_wide : ℕ → Bool
+is_wide b = is_loose b && not (b == 10)

@@ -71,6 +71,7 @@ fn marks_at(bytes: &[u8], base: usize) -> u64
 
 /// The next 64 bytes that have a mark, after the 64 from `base` on: where they begin, and their marks, which are 0
 /// where the text ends before.
+#[inline(always)]
 fn next_marks(bytes: &[u8], base: usize) -> (usize, u64)
     requires { base ≤ length bytes.now }
     ensures known { AreMarks bytes.now (base + 64) result.0 result.1 }
@@ -136,8 +137,16 @@ impl<'a> Cutter<'a> {
         }
     }
 
+    /// All that is left.
+    #[inline(always)]
+    pub fn left(&self) -> &'a str
+        ensures { result.now ≡ self.now }
+    {
+        &self.text[self.start..]
+    }
+
     /// What stands before the next tab or line feed, which is passed by; `None` where no such is left.
-    #[inline]
+    #[inline(always)]
     pub fn cut(&mut self) -> Option<&'a str>
         ensures { MatchOption result ((list_any is_mark self.old ≡ false) × (self.new ≡ self.old)) (λ part. (list_any is_mark part.now ≡ false) × ((mark : ℕ) × (is_mark mark ≡ true) × (self.old ≡ part.now ++ mark ∷ self.new))) }
     {

@@ -1,6 +1,6 @@
 //! A sentence that grows line by line.
 
-ghost use Rattle.std.specs.Prelude.{◌≡◌, [], ◌∷◌, ◌++◌, OnOk, IfErr, false};
+ghost use Rattle.std.specs.Prelude.{◌≡◌, [], ◌∷◌, ◌++◌, OnOk, IfErr, length, false};
 ghost use Rattle.tb_conllu.specs.Begun.{IsSound, has_rows};
 ghost use Rattle.tb_conllu.specs.Lines.{is_comment, is_empty};
 ghost use Rattle.tb_conllu.specs.Refusal.{IsRefusal, begun, lines_begun};
@@ -29,6 +29,14 @@ pub fn any_row<T: Text>(block: &BlockOf<T>) -> bool
     !block.rows.is_empty()
 }
 
+/// How many rows the sentence has.
+#[inline(always)]
+pub fn count_rows<T: Text>(block: &BlockOf<T>) -> usize
+    ensures { result ≡ length block.now.rows }
+{
+    block.rows.len()
+}
+
 /// Whether the text begins with a hash.
 pub fn is_hashed(text: &str) -> bool
     ensures { result ≡ is_comment text.now }
@@ -46,6 +54,7 @@ pub fn add_comment<T: Text>(block: &mut BlockOf<T>, text: T) -> Result<(), Alloc
     Ok(())
 }
 
+#[inline(always)]
 pub fn add_row<T: Text>(block: &mut BlockOf<T>, row: RowOf<T>) -> Result<(), AllocError>
     ensures ok { OnOk result (block.new ≡ record { comments = block.old.comments; rows = block.old.rows ++ row ∷ [] }) }
 {

@@ -12,9 +12,10 @@ ghost use Rattle.tb_conllu.specs.Told.{IsFile, IsLine};
 
 use crate::cutter::Cutter;
 use crate::fields::{TenFields, is_empty_text};
-use crate::growing::{add_comment, add_row, is_hashed, no_block};
+use crate::growing::{add_comment, add_row, is_hashed};
 use crate::ids::{head_of, id_of};
-use crate::rows::{BlockRef, RowOf, RowRef};
+use crate::rowline::row_from;
+use crate::rows::{BlockOf, BlockRef, RowRef};
 use memchr::memchr;
 use simdutf8::basic::from_utf8;
 use std::alloc::{AllocError, Global};
@@ -44,6 +45,7 @@ fn take_comments<'a>(block: &mut BlockRef<'a>, text: &'a str) -> Result<&'a str,
 }
 
 /// What stands before the next tab or line feed, which is passed by; `None` where no such is left.
+#[inline(always)]
 fn next_part<'a>(cutter: &mut Cutter<'a>) -> Option<&'a str>
     ensures { MatchOption result (parts cutter.old ≡ cutter.old ∷ []) (λ part. parts cutter.old ≡ part.now ∷ parts cutter.new) }
 {
@@ -51,6 +53,7 @@ fn next_part<'a>(cutter: &mut Cutter<'a>) -> Option<&'a str>
 }
 
 /// The ten fields of a row of which the first is at hand; `None` where fewer are left.
+#[inline(always)]
 fn fields_after<'a>(id: &'a str, cutter: &mut Cutter<'a>) -> Option<TenFields<'a>>
     ensures { MatchOption result (nat_le (length (parts cutter.old)) 9 ≡ true) (λ p. id.now ∷ parts cutter.old ≡ list_of p ++ parts cutter.new) }
 {
@@ -78,6 +81,7 @@ fn fields_after<'a>(id: &'a str, cutter: &mut Cutter<'a>) -> Option<TenFields<'a
 }
 
 /// The row of which the first field is at hand.
+#[inline(always)]
 fn row_after<'a>(id: &'a str, cutter: &mut Cutter<'a>) -> Option<RowRef<'a>>
     ensures row { (r : RowText) (rest : List (List ℕ)) → IsRowShaped r → 0 < length rest → id.now ∷ parts cutter.old ≡ fields_of r ++ rest → MatchOption result ⊥ (λ x. x ≡ r) }
     ensures rest { (r : RowText) (rest : List (List ℕ)) → IsRowShaped r → 0 < length rest → id.now ∷ parts cutter.old ≡ fields_of r ++ rest → parts cutter.new ≡ rest }
@@ -92,17 +96,17 @@ fn row_after<'a>(id: &'a str, cutter: &mut Cutter<'a>) -> Option<RowRef<'a>>
     let Some(head) = head_of(fields.head) else {
         return None;
     };
-    Some(RowOf {
-        id,
-        form: fields.form,
-        lemma: fields.lemma,
-        upos: fields.upos,
-        xpos: fields.xpos,
-        feats: fields.feats,
-        head,
-        deprel: fields.deprel,
-        deps: fields.deps,
-        misc: fields.misc,
+    Some(row_from(fields, id, head))
+}
+
+/// A sentence with nothing in it, and room for as many rows as a text of so many bytes has where one takes 48 of them: most
+/// take more, and a list that grows copies what it has.
+fn roomy_block<'a>(alloc: Global, bytes: usize) -> Result<BlockRef<'a>, AllocError>
+    ensures { IfOk result (λ b. b ≡ record { comments = []; rows = [] }) }
+{
+    Ok(BlockOf {
+        comments: Vec::new(alloc),
+        rows: Vec::with_capacity(alloc, bytes / 48)?,
     })
 }
 
@@ -137,7 +141,7 @@ pub fn known_block(alloc: Global, bytes: &[u8]) -> Result<Option<BlockRef<'_>>, 
     let Ok(text) = from_utf8(bytes) else {
         return Ok(None);
     };
-    let mut block = no_block(alloc);
+    let mut block = roomy_block(alloc, bytes.len())?;
     let rows = take_comments(&mut block, text)?;
     if !take_rows(&mut block, rows)? {
         return Ok(None);

@@ -15,6 +15,7 @@ mod linetext;
 mod numbers;
 mod owned;
 mod pieces;
+mod quick;
 mod round;
 mod rowline;
 mod rows;

@@ -91,7 +91,8 @@ fn is_latin(bytes: &[u8], known: bool) -> bool
 }
 
 /// Whether the text is in normalization form C. `latin` says that no character is U+0300 or above.
-fn is_composed(alloc: Global, text: &str, latin: bool) -> Result<bool, AllocError>
+#[inline(always)]
+pub fn is_composed(alloc: Global, text: &str, latin: bool) -> Result<bool, AllocError>
     requires { IsTrue latin → list_any is_beyond_latin text.now ≡ false }
     ensures { IfOk result (λ b. b ≡ is_nfc_text text.now) }
 {

@@ -7,11 +7,12 @@ ghost use Rattle.tb_conllu.specs.TenFields.{list_of};
 ghost use Rattle.tb_conllu.specs.Text.{row_line};
 
 use crate::fields::{TenFields, ten_fields};
+use crate::id::LineId;
 use crate::ids::{head_of, id_of};
 use crate::rows::{RowOf, RowRef};
 use crate::spaces::{any_loose, spaced};
 
-fn any_field_spaced(p: TenFields<'_>) -> bool
+pub fn any_field_spaced(p: TenFields<'_>) -> bool
     ensures { result ≡ (has_space p.entry.upos.now || has_space p.entry.xpos.now || has_space p.entry.feats.now || has_space p.entry.head.now || has_space p.entry.deprel.now || has_space p.entry.deps.now) }
 {
     spaced(p.upos)
@@ -28,6 +29,25 @@ fn any_spaced(line: &str, p: TenFields<'_>) -> bool
     ensures { result ≡ (has_space p.entry.upos.now || has_space p.entry.xpos.now || has_space p.entry.feats.now || has_space p.entry.head.now || has_space p.entry.deprel.now || has_space p.entry.deps.now) }
 {
     any_loose(line.as_bytes()) && any_field_spaced(p)
+}
+
+/// The row of these fields, with its ID and its HEAD as they were read.
+#[inline(always)]
+pub fn row_from<'a>(p: TenFields<'a>, id: LineId, head: Option<u32>) -> RowRef<'a>
+    ensures { result ≡ record { id = id; form = p.entry.form.now; lemma = p.entry.lemma.now; upos = p.entry.upos.now; xpos = p.entry.xpos.now; feats = p.entry.feats.now; head = head; deprel = p.entry.deprel.now; deps = p.entry.deps.now; misc = p.entry.misc.now } }
+{
+    RowOf {
+        id,
+        form: p.form,
+        lemma: p.lemma,
+        upos: p.upos,
+        xpos: p.xpos,
+        feats: p.feats,
+        head,
+        deprel: p.deprel,
+        deps: p.deps,
+        misc: p.misc,
+    }
 }
 
 /// The row of a word line, which borrows its texts; or the least code of the line, which is 4, 5, 6 or 7.
@@ -48,16 +68,5 @@ pub fn row_of(line: &str) -> Result<RowRef<'_>, u8>
     let Some(head) = head_of(p.head) else {
         return Err(7);
     };
-    Ok(RowOf {
-        id,
-        form: p.form,
-        lemma: p.lemma,
-        upos: p.upos,
-        xpos: p.xpos,
-        feats: p.feats,
-        head,
-        deprel: p.deprel,
-        deps: p.deps,
-        misc: p.misc,
-    })
+    Ok(row_from(p, id, head))
 }

@@ -1,21 +1,23 @@
 //! Sentences read one after another.
 
-ghost use Rattle.std.specs.Prelude.{◌≡◌, ◌+◌, ◌<◌, ◌≤◌, ◌-◌, ◌^◌, List, [], ◌∷◌, ◌++◌, IfOk, IfErr, IfSome, OnOk, MatchOption, length, take};
+ghost use Rattle.std.specs.Prelude.{◌≡◌, ◌+◌, ◌<◌, ◌≤◌, ◌-◌, ◌^◌, List, [], ◌∷◌, ◌++◌, IfOk, IfErr, IfSome, OnOk, MatchOption, length, map, take};
+ghost use Rattle.std.specs.List.{AllByRecursion};
 ghost use Rattle.std.specs.Str.{IsUtf8};
 ghost use Rattle.tb_conllu.specs.Fault.{IsFaultAfter};
 ghost use Rattle.tb_conllu.specs.Left.{Left, IsNext};
-ghost use Rattle.tb_conllu.specs.Shape.{IsShaped};
+ghost use Rattle.tb_conllu.specs.Shape.{IsRowShaped, IsShaped};
 ghost use Rattle.tb_conllu.specs.Tested.{HoldsOf};
-ghost use Rattle.tb_conllu.specs.Text.{BlockText, block_lines, text_of};
+ghost use Rattle.tb_conllu.specs.Text.{BlockText, RowText, block_lines, ended, row_line, text_of};
 ghost use Rattle.tb_conllu.specs.Told.{IsFile};
 
 use crate::fault::ReadFault;
 use crate::fields::is_empty_text;
-use crate::growing::{any_row, no_block, take_line};
+use crate::growing::{any_row, count_rows, no_block, take_line};
 use crate::linetext::{Tested, line_text, test_all};
 use crate::pieces::cut_once;
+use crate::quick::{is_numbered, take_rows};
 use crate::rows::BlockRef;
-use std::alloc::Global;
+use std::alloc::{AllocError, Global};
 use std::marker::Model;
 
 /// A sentence, and where it ends.
@@ -26,6 +28,33 @@ struct Found<'a> {
     rest: &'a [u8],
     /// The number of its last line.
     line: usize,
+}
+
+/// The text of bytes that are known to be UTF-8.
+fn known_text(bytes: &[u8]) -> &str
+    requires { IsUtf8 bytes.now }
+    ensures { result.now ≡ bytes.now }
+{
+    // Their lines were tested, or all bytes at once.
+    unsafe { std::str::from_utf8_unchecked(bytes) }
+}
+
+/// Takes the rows with which bytes begin into the sentence, up to one that is at fault, where the look at all bytes lets it.
+/// Answers what follows them.
+#[inline(always)]
+fn quick_rows<'a>(
+    alloc: Global,
+    block: &mut BlockRef<'a>,
+    bytes: &'a [u8],
+    tested: Tested,
+) -> Result<&'a [u8], AllocError>
+    requires { HoldsOf tested bytes.now }
+    ensures { IfOk result (λ left. (rs : List RowText) × AllByRecursion IsRowShaped rs × (block.new ≡ record { comments = block.old.comments; rows = block.old.rows ++ rs }) × (bytes.now ≡ ended (map row_line rs) ++ left.now)) }
+{
+    if !(tested.utf8 && tested.quiet && is_numbered(bytes)) {
+        return Ok(bytes);
+    }
+    Ok(take_rows(alloc, block, known_text(bytes), tested)?.as_bytes())
 }
 
 /// The first sentence of bytes that come after so many lines.
@@ -63,6 +92,9 @@ fn read_block<'a>(
             return Err(ReadFault::At { line: at, code: 9 });
         }
         take_line(&mut block, text, at)?;
+        let before = count_rows(&block);
+        rest = quick_rows(alloc, &mut block, rest, tested)?;
+        at += count_rows(&block) - before;
     }
     Err(ReadFault::At {
         line: at + 1,
@@ -83,15 +115,6 @@ fn before_rest(bytes: &[u8], left: usize) -> &[u8]
     ensures { result.now ≡ take (length bytes.now - left) bytes.now }
 {
     &bytes[..bytes.len() - left]
-}
-
-/// The text of bytes that are known to be UTF-8.
-fn known_text(bytes: &[u8]) -> &str
-    requires { IsUtf8 bytes.now }
-    ensures { result.now ≡ bytes.now }
-{
-    // Their lines were tested, or all bytes at once.
-    unsafe { std::str::from_utf8_unchecked(bytes) }
 }
 
 /// What is left of a file, read one sentence after another: one sentence at a time is in memory.

@@ -28,4 +28,4 @@ returns c b file =
     let rows = c.in_ok-take_rows.ensures.taken b.rows shaped.rows left in
     let begin : BlockText → BlockText = λ x. record { comments = x.comments ++ b.comments; rows = x.rows } in
     let end : BlockText → BlockText = λ x. record { comments = x.comments; rows = x.rows ++ b.rows } in
-    ap Some (rows ∙ ap end (comments ∙ ap begin c.no_block-block.ensures))
+    ap Some (rows ∙ ap end (comments ∙ ap begin c.in_ok-block.ensures))

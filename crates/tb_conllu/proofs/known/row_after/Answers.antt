@@ -17,4 +17,4 @@ returns-clause-row c r rest shaped some same =
     let p = c.in-Some.fields in
     let id = c.in-Some-id_of.ensures in
     let head = c.in-Some-head_of.ensures in
-    row_known r p.id.now p.form.now p.lemma.now p.upos.now p.xpos.now p.feats.now p.head.now p.deprel.now p.deps.now p.misc.now _ rest c.in-Some-id_of.id c.in-Some-head_of.head shaped (sym c.in-Some.ensures ∙ same) id.2 id.1 head.2 head.1
+    c.row_from.ensures ∙ row_known r p.id.now p.form.now p.lemma.now p.upos.now p.xpos.now p.feats.now p.head.now p.deprel.now p.deps.now p.misc.now _ rest c.in-Some-id_of.id c.in-Some-head_of.head shaped (sym c.in-Some.ensures ∙ same) id.2 id.1 head.2 head.1

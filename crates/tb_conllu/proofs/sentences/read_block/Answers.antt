@@ -6,6 +6,7 @@ use Rattle.tb_conllu.specs.declared.fault.ReadFault.TheVariants.{At}
 use Rattle.tb_conllu.specs.Refusal.{lines_begun}
 use Rattle.tb_conllu.proofs.Reading.{line_read, line_told, blank_refused, end_told}
 use Rattle.tb_conllu.proofs.Held.{line_holds, after_holds}
+use Rattle.tb_conllu.proofs.PartedLines.{rows_read, rows_hold}
 use Rattle.tb_conllu.proofs.sentences.read_block.Goals as goal
 
 pub line_text-requires : goal.line_text-requires
@@ -34,10 +35,16 @@ returns-clause-fault c = end_told c.args.bytes.now c.args.line c.loop-raw.block 
 pub returns-then-any_row-clause-tested : goal.returns-then-any_row-clause-tested
 returns-then-any_row-clause-tested c = after_holds c.args.tested c.loop-raw.rest.now c.in-Some.raw.now c.in-Some.after.now c.loop-raw.invariant.tested c.in-Some.ensures.1
 
+pub quick_rows-requires : goal.quick_rows-requires
+quick_rows-requires c = after_holds c.args.tested c.loop-raw.rest.now c.in-Some.raw.now c.in-Some.after.now c.loop-raw.invariant.tested c.in-Some.ensures.1
+
 pub loop-raw-preserved : goal.loop-raw-preserved
 loop-raw-preserved c =
     let old : List (List ℕ) = lines_begun c.loop-raw.block in
+    let one = line_read c.args.bytes.now c.args.line c.loop-raw.block c.take_line.new.block c.loop-raw.rest.now c.in-Some.raw.now c.in-Some.after.now c.loop-raw.at c.loop-raw.invariant.read c.in-Some.ensures.1 (c.in_ok-take_line.ensures.lines ∙ ap (λ (x : List ℕ). old ++ x ∷ []) c.in_ok-text.ensures.ok.0) c.in_ok-take_line.ensures.sound in
+    let holds = after_holds c.args.tested c.loop-raw.rest.now c.in-Some.raw.now c.in-Some.after.now c.loop-raw.invariant.tested c.in-Some.ensures.1 in
+    let rows = c.in_ok-rest.ensures in
     record {
-      read = line_read c.args.bytes.now c.args.line c.loop-raw.block c.take_line.new.block c.loop-raw.rest.now c.in-Some.raw.now c.in-Some.after.now c.loop-raw.at c.loop-raw.invariant.read c.in-Some.ensures.1 (c.in_ok-take_line.ensures.lines ∙ ap (λ (x : List ℕ). old ++ x ∷ []) c.in_ok-text.ensures.ok.0) c.in_ok-take_line.ensures.sound;
-      tested = after_holds c.args.tested c.loop-raw.rest.now c.in-Some.raw.now c.in-Some.after.now c.loop-raw.invariant.tested c.in-Some.ensures.1;
+      read = rw (c.count_rows.ensures, c.count_rows-before.ensures) (rows_read c.args.bytes.now c.args.line c.take_line.new.block c.quick_rows.new.block c.in-Some.after.now c.in_ok-rest.rest.now (c.loop-raw.at + 1) rows.0 one rows.1 rows.2 rows.3);
+      tested = rows_hold c.args.tested rows.0 c.in-Some.after.now c.in_ok-rest.rest.now holds rows.3;
     }

@@ -1,0 +1,145 @@
+//! Rows read one after another of a text that was tested as a whole: its tabs and line feeds are found 64 bytes at a time, and
+//! a row that is not plainly one is left to those who tell what it is.
+
+ghost use Rattle.std.specs.Prelude.{◌≡◌, ℕ, List, [], ◌∷◌, ◌++◌, map, take, slice_index, IfOk, IfSome, IsTrue, ◌||◌};
+ghost use Rattle.std.specs.List.{AllByRecursion, join_with_byte, list_any};
+ghost use Rattle.tb_conllu.specs.Lines.{fields, is_digit};
+ghost use Rattle.tb_conllu.specs.Shape.{IsRowShaped, has_space};
+ghost use Rattle.tb_conllu.specs.TenFields.{IsParted, list_of};
+ghost use Rattle.tb_conllu.specs.Tested.{HoldsOf};
+ghost use Rattle.tb_conllu.specs.Text.{RowText, ended, row_line};
+ghost use Rattle.tb_conllu.specs.Told.{IsLine};
+
+use crate::cutter::Cutter;
+use crate::fields::TenFields;
+use crate::growing::add_row;
+use crate::ids::{head_of, id_of};
+use crate::linetext::{Tested, is_composed};
+use crate::rowline::{any_field_spaced, row_from};
+use crate::rows::{BlockRef, RowRef};
+use crate::spaces::any_wide_near;
+use std::alloc::{AllocError, Global};
+
+/// The field that this mark ends; `None` where it is empty, or not ended so.
+#[inline(always)]
+fn field_before<'a>(cutter: &mut Cutter<'a>, mark: u8) -> Option<&'a str>
+    ensures { IfSome result (λ field. IsParted field.now × (cutter.old ≡ field.now ++ mark ∷ cutter.new)) }
+{
+    let unread = cutter.left();
+    let field = cutter.cut()?;
+    if field.is_empty() || unread.as_bytes()[field.len()] != mark {
+        return None;
+    }
+    Some(field)
+}
+
+/// The fields of the line with which what is left begins, which is passed by; `None` where it has not ten, all of them filled.
+#[inline(always)]
+fn fields_next<'a>(cutter: &mut Cutter<'a>) -> Option<TenFields<'a>>
+    ensures { IfSome result (λ p. AllByRecursion IsParted (list_of p) × (cutter.old ≡ join_with_byte 9 (list_of p) ++ 10 ∷ cutter.new)) }
+{
+    let id = field_before(cutter, b'\t')?;
+    let form = field_before(cutter, b'\t')?;
+    let lemma = field_before(cutter, b'\t')?;
+    let upos = field_before(cutter, b'\t')?;
+    let xpos = field_before(cutter, b'\t')?;
+    let feats = field_before(cutter, b'\t')?;
+    let head = field_before(cutter, b'\t')?;
+    let deprel = field_before(cutter, b'\t')?;
+    let deps = field_before(cutter, b'\t')?;
+    let misc = field_before(cutter, b'\n')?;
+    Some(TenFields {
+        id,
+        form,
+        lemma,
+        upos,
+        xpos,
+        feats,
+        head,
+        deprel,
+        deps,
+        misc,
+    })
+}
+
+/// What stands before the line feed at `end`.
+#[inline(always)]
+fn before_feed(text: &str, end: usize) -> &str
+    requires { slice_index text.now end ≡ 10 }
+    ensures { result.now ≡ take end text.now }
+{
+    &text[..end]
+}
+
+/// Whether one of the fields that may hold no white space has some. The line stands first in what was left.
+#[inline(always)]
+fn any_spaced_next(unread: &str, line: &str, p: TenFields<'_>) -> bool
+    requires first { (rest : List ℕ) × (unread.now ≡ line.now ++ 10 ∷ rest) }
+    requires cut { IsLine line.now }
+    requires fields { fields line.now ≡ list_of p }
+    ensures { result ≡ (has_space p.entry.upos.now || has_space p.entry.xpos.now || has_space p.entry.feats.now || has_space p.entry.head.now || has_space p.entry.deprel.now || has_space p.entry.deps.now) }
+{
+    any_wide_near(unread.as_bytes(), line.len()) && any_field_spaced(p)
+}
+
+/// The row with which what is left begins, which is passed by; `None` where no row without a fault is there.
+#[inline(always)]
+fn row_next<'a>(
+    alloc: Global,
+    cutter: &mut Cutter<'a>,
+    tested: Tested,
+) -> Result<Option<RowRef<'a>>, AllocError>
+    requires tested { HoldsOf tested cutter.now }
+    requires quiet { IsTrue tested.quiet }
+    ensures { IfOk result (λ row. IfSome row (λ r. IsRowShaped r × (cutter.old ≡ row_line r ++ 10 ∷ cutter.new))) }
+{
+    let unread = cutter.left();
+    let Some(fields) = fields_next(cutter) else {
+        return Ok(None);
+    };
+    let line = before_feed(unread, unread.len() - cutter.left().len() - 1);
+    let Some(id) = id_of(fields.id) else {
+        return Ok(None);
+    };
+    let Some(head) = head_of(fields.head) else {
+        return Ok(None);
+    };
+    if any_spaced_next(unread, line, fields) || !is_composed(alloc, line, tested.latin)? {
+        return Ok(None);
+    }
+    Ok(Some(row_from(fields, id, head)))
+}
+
+/// Whether bytes begin with a digit, as each row does.
+#[inline(always)]
+pub fn is_numbered(bytes: &[u8]) -> bool
+    ensures { result ≡ list_any is_digit (take 1 bytes.now) }
+{
+    match bytes.first() {
+        Some(b) => 48 <= *b && *b <= 57,
+        None => false,
+    }
+}
+
+/// Takes the rows with which a text begins into the sentence, up to one that is at fault. Answers what follows them.
+pub fn take_rows<'a>(
+    alloc: Global,
+    block: &mut BlockRef<'a>,
+    text: &'a str,
+    tested: Tested,
+) -> Result<&'a str, AllocError>
+    requires tested { HoldsOf tested text.now }
+    requires quiet { IsTrue tested.quiet }
+    ensures { IfOk result (λ left. (rs : List RowText) × AllByRecursion IsRowShaped rs × (block.new ≡ record { comments = block.old.comments; rows = block.old.rows ++ rs }) × (text.now ≡ ended (map row_line rs) ++ left.now)) }
+{
+    let mut cutter = Cutter::new(text);
+    let mut left = text;
+    while is_numbered(left.as_bytes()) {
+        let Some(row) = row_next(alloc, &mut cutter, tested)? else {
+            return Ok(left);
+        };
+        add_row(block, row)?;
+        left = cutter.left();
+    }
+    Ok(left)
+}
