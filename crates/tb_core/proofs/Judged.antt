@@ -15,7 +15,9 @@ use Rattle.tb_rules.specs.Nodes.{node_test}
 use Rattle.tb_rules.specs.Spans.{span_test}
 use Rattle.tb_rules.specs.Words.{word_test}
 use Rattle.tb_rules.specs.Rows.{RowTest, FirstRowsPass, EachRowPasses, IsFirstFault}
-use Rattle.tb_rules.specs.Rules.{HasWords, HasSpans, HasNodes, HasFeatures, HasDependencies, KeepsTo3, KeepsTo4, KeepsTo5, KeepsTo6, KeepsTo7, KeepsTo8, KeepsTo9, KeepsTo10, KeepsRules, IsBroken, no_sent_id, no_text, no_ids, word_fault, span_fault, node_fault, feature_fault, dependency_fault, no_one_root, no_tree, not_restored}
+use Rattle.tb_rules.specs.Rules.{Rule, sent_id, text, ids, words, spans, nodes, features, dependencies, one_root, tree, restored, number, Keeps, KeepsTo, KeepsRules, IsFaultRow, IsBroken}
+use Rattle.tb_rules.proofs.Kept.{passes}
+use Rattle.tb_rules.proofs.ByNumber.{none_yet, one_kept, kept_2, kept_3, all_kept, broken_next}
 use Rattle.tb_rules.specs.File.{IsNamed, IsFree, HasNewName, IsValid, IsBrokenAfter, broken, name_twice, IsFaultAt}
 use Rattle.tb_core.proofs.Weights.{all_append}
 use Rattle.tb_core.proofs.Lists.{head_is, tail_is}
@@ -117,24 +119,33 @@ pass_to test rs none (suc n) l =
 rows_pass : (test : RowTest) (rs : List RowText) → ((row : ℕ) → IsFirstFault test rs row → ⊥) → EachRowPasses test rs
 rows_pass test rs none = pass_to test rs none (length rs) (omega arith)
 
+whole_some : (b : BlockText) → ((rule row : ℕ) → IsBroken b rule row → ⊥) → (KeepsRules b → ⊥) → KeepsTo 8 b → ⊥
+whole_some b none unless k8 =
+    none 9 0 (broken_next b one_root 8 0 refl k8 (λ h9.
+    let k9 : KeepsTo 9 b = one_kept b one_root 8 refl k8 h9 in
+    none 10 0 (broken_next b tree 9 0 refl k9 (λ h10.
+    let k10 : KeepsTo 10 b = one_kept b tree 9 refl k9 h10 in
+    none 11 0 (broken_next b restored 10 0 refl k10 (λ h11. unless (all_kept b (one_kept b restored 10 refl k10 h11))) refl)) refl)) refl)
+
+-- a rule that is asked of each row
+row_rule : (b : BlockText) (q : Rule) (test : RowTest) (n : ℕ) → ((rule row : ℕ) → IsBroken b rule row → ⊥) → number q ≡ n + 1 → KeepsTo n b
+    → (Keeps q b → EachRowPasses test b.rows) → ((row : ℕ) → IsFirstFault test b.rows row → IsFaultRow q b row) → EachRowPasses test b.rows
+row_rule b q test n none e k kept at = rows_pass test b.rows (λ row f. none (number q) row (broken_next b q n row e k (λ h. passes test b.rows row f (kept h)) (at row f)))
+
+rows_some : (b : BlockText) → ((rule row : ℕ) → IsBroken b rule row → ⊥) → (KeepsRules b → ⊥) → KeepsTo 3 b → ⊥
+rows_some b none unless k3 =
+    let k4 : KeepsTo 4 b = one_kept b words 3 refl k3 (row_rule b words (word_test (words_of b)) 3 none refl k3 (λ h. h) (λ row f. f)) in
+    let k5 : KeepsTo 5 b = one_kept b spans 4 refl k4 (row_rule b spans (span_test (words_of b)) 4 none refl k4 (λ h. h) (λ row f. f)) in
+    let k6 : KeepsTo 6 b = one_kept b nodes 5 refl k5 (row_rule b nodes node_test 5 none refl k5 (λ h. h) (λ row f. f)) in
+    let k7 : KeepsTo 7 b = one_kept b features 6 refl k6 (row_rule b features feature_test 6 none refl k6 (λ h. h) (λ row f. f)) in
+    let k8 : KeepsTo 8 b = one_kept b dependencies 7 refl k7 (row_rule b dependencies (dependency_test b.rows) 7 none refl k7 (λ h. h) (λ row f. f)) in
+    whole_some b none unless k8
+
 rules_some : (b : BlockText) → ((rule row : ℕ) → IsBroken b rule row → ⊥) → (KeepsRules b → ⊥) → ⊥
-rules_some b none unless = none 1 0 (no_sent_id (λ h1. none 2 0 (no_text h1 (λ h2. none 3 0 (no_ids (h1, h2) (λ h3.
-    let k3 : KeepsTo3 b = ((h1, h2), h3) in
-    let h4 : HasWords b = rows_pass (word_test (words_of b)) b.rows (λ row f. none 4 row (word_fault row k3 f)) in
-    let k4 : KeepsTo4 b = (k3, h4) in
-    let h5 : HasSpans b = rows_pass (span_test (words_of b)) b.rows (λ row f. none 5 row (span_fault row k4 f)) in
-    let k5 : KeepsTo5 b = (k4, h5) in
-    let h6 : HasNodes b = rows_pass node_test b.rows (λ row f. none 6 row (node_fault row k5 f)) in
-    let k6 : KeepsTo6 b = (k5, h6) in
-    let h7 : HasFeatures b = rows_pass feature_test b.rows (λ row f. none 7 row (feature_fault row k6 f)) in
-    let k7 : KeepsTo7 b = (k6, h7) in
-    let h8 : HasDependencies b = rows_pass (dependency_test b.rows) b.rows (λ row f. none 8 row (dependency_fault row k7 f)) in
-    let k8 : KeepsTo8 b = (k7, h8) in
-    none 9 0 (no_one_root k8 (λ h9.
-    let k9 : KeepsTo9 b = (k8, h9) in
-    none 10 0 (no_tree k9 (λ h10.
-    let k10 : KeepsTo10 b = (k9, h10) in
-    none 11 0 (not_restored k10 (λ h11. unless (k10, h11)))))))))))))
+rules_some b none unless =
+    none 1 0 (broken_next b sent_id 0 0 refl (none_yet b) (λ h1.
+    none 2 0 (broken_next b text 1 0 refl (one_kept b sent_id 0 refl (none_yet b) h1) (λ h2.
+    none 3 0 (broken_next b ids 2 0 refl (kept_2 b h1 h2) (λ h3. rows_some b none unless (kept_3 b h1 h2 h3)) refl)) refl)) refl)
 
 -- ---- files
 

@@ -5,20 +5,15 @@ use Rattle.std.specs.Prelude.{unwrap_or}
 use Rattle.tb_conllu.specs.Text.{BlockText}
 use Rattle.tb_conllu.specs.Shape.{AllShaped}
 use Rattle.tb_rules.specs.Comments.{HasSentId, HasText, sent_ids, texts, only}
-use Rattle.tb_rules.specs.Ids.{HasIds}
-use Rattle.tb_rules.specs.Rules.{KeepsRules, KeepsTo3, KeepsTo2}
+use Rattle.tb_rules.specs.Rules.{KeepsRules, sent_id}
 use Rattle.tb_rules.specs.File.{IsNamed, IsFree, HasNewName, IsValid}
 use Rattle.tb_core.specs.Names.{Lacks, AreApart}
 use Rattle.tb_core.specs.Machine.{sent_id_of, IsLawful}
 use Rattle.tb_core.specs.Acts.{ids_in}
 
-pub to_3 : (b : BlockText) → KeepsRules b → KeepsTo3 b
-to_3 b k = k.0.0.0.0.0.0.0.0
-
 pub named_self : (b : BlockText) → KeepsRules b → IsNamed b (sent_id_of b)
 named_self b k =
-    let two : KeepsTo2 b = (to_3 b k).0 in
-    let h : HasSentId b = two.0 in
+    let h : HasSentId b = k sent_id in
     subst (λ l. l ≡ unwrap_or (only l) [] ∷ []) (sym h.one) refl
 
 pub lawful_all : (bs : List BlockText) → AllShaped bs → AllByRecursion KeepsRules bs → AllByRecursion IsLawful bs

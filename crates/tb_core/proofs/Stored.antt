@@ -6,7 +6,7 @@ use Rattle.std.proofs.lemmas.Bool.Decides.{eqb_tells}
 use Rattle.tb_conllu.specs.Text.{BlockText}
 use Rattle.tb_conllu.specs.Words.{words_of}
 use Rattle.tb_rules.specs.Ids.{HasIds}
-use Rattle.tb_rules.specs.Rules.{KeepsTo3}
+use Rattle.tb_rules.specs.Rules.{ids}
 use Rattle.tb_core.specs.declared.kinds.State.{State}
 use Rattle.tb_core.specs.declared.kinds.State.TheVariants.{Withdrawn}
 use Rattle.tb_core.specs.declared.refusals.Refusal.TheVariants.{WrongState}
@@ -18,7 +18,6 @@ use Rattle.tb_core.specs.Reaching.{Reached, further, IsReachable}
 use Rattle.tb_core.specs.Totals.{in_state, total, is_from, at_state, Takes, IsApplied, StandFor}
 use Rattle.tb_core.specs.Keeping.{IsPlaced, IsFine, IsWell}
 use Rattle.tb_core.proofs.Weights.{when_zero, weigh-when, weight_there, all_mapped, got}
-use Rattle.tb_core.proofs.Named.{to_3}
 use Rattle.tb_core.proofs.Keeps.{well}
 use Rattle.tb_core.proofs.Balance.{balance, counted, unpulled, pull_was, restore_was}
 
@@ -98,9 +97,8 @@ last_of P (r ∷ rs) c h = last_of P rs c h.1
 
 pub few_in : (b : BlockText) → IsLawful b → words_of b ≤ 1000
 few_in b h =
-    let three : KeepsTo3 b = to_3 b h.rules in
-    let ids : HasIds b = three.1 in
-    ids.few
+    let right : HasIds b = h.rules ids in
+    right.few
 
 pub few_words : (x : Sentence) → IsFine x → words x ≤ 1000
 few_words x h = few_in x.current.body (last_of IsLawful x.before x.current h.lawful)

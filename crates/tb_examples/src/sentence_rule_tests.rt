@@ -230,11 +230,14 @@ const DEPS: &str = "\
     2:a|1:b => Err(At { rule: 8, row: 4 })\n\
     1: => Err(At { rule: 8, row: 4 })\n\
     1 => Err(At { rule: 8, row: 4 })\n\
-    1.1000000:dep => Err(At { rule: 8, row: 4 })\n";
+    1.1000000:dep => Err(At { rule: 8, row: 4 })\n\
+    2.0:dep => Err(At { rule: 8, row: 4 })\n\
+    02.1:dep => Err(At { rule: 8, row: 4 })\n\
+    1.10000000000000000001:dep => Err(At { rule: 8, row: 4 })\n";
 
 #[test]
 fn tells_heads_of_no_row(rt: HostRuntime) -> Result<(), Fail> {
-    assert_answers(&rt, rt.alloc(), &Filled(EMPTY_NODES), DEPS, 16)
+    assert_answers(&rt, rt.alloc(), &Filled(EMPTY_NODES), DEPS, 19)
 }
 
 /// A range, two words and an empty node, which keep the rules.

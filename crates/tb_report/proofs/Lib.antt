@@ -11,3 +11,4 @@ pub mod WordLists
 pub mod HitTexts
 pub mod CsvRows
 pub mod Parts
+pub mod Unwrapped

@@ -12,8 +12,9 @@ use borrow.Author.Tests.{ltb-true}
 use lib.Utf8.{encode, encodes}
 use Rattle.tb_conllu.specs.Shape.{has_space}
 use Rattle.tb_fields.specs.Spaces.{is_solid}
-use Rattle.tb_rules.specs.Restored.{folded_after}
-use Rattle.tb_rules.specs.Expected.{gap_text, IsRest, Refuses, Leaves}
+use Rattle.tb_rules.specs.Restored.{folded}
+use Rattle.tb_rules.specs.Expected.{folded_after, gap_text, IsRest, Refuses, Leaves}
+use Rattle.tb_rules.proofs.Pieces.{folds}
 
 neither : (a b : Bool) → (a || b) ≡ false → (a ≡ false) × (b ≡ false)
 neither true b h = absurd (true≢false h)
@@ -129,20 +130,20 @@ at_end now text begun gap cs h =
     )
 
 -- nothing is left, and all has come
-pub all_came : (first now text : List ℕ) (b g begun gap done : Bool) (cs : List ℕ) → first ≡ text → b ≡ false → g ≡ false → Leaves first b g cs now begun gap → done ≡ eqb (length now) 0 → IsTrue done ↔ (encodes (folded_after false false cs) ≡ text)
+pub all_came : (first now text : List ℕ) (b g begun gap done : Bool) (cs : List ℕ) → first ≡ text → b ≡ false → g ≡ false → Leaves first b g cs now begun gap → done ≡ eqb (length now) 0 → IsTrue done ↔ (encodes (folded cs) ≡ text)
 all_came first now text b g begun gap done cs e f k h d =
     let h' : Leaves text false false cs now begun gap = subst (λ (x : List ℕ). Leaves x false false cs now begun gap) e (subst (λ x. Leaves first x false cs now begun gap) f (subst (λ x. Leaves first b x cs now begun gap) k h)) in
     let ends = at_end now text begun gap cs h' in (
-      λ t. ends.0 (no_items now (eqb-true (length now) 0 (sym d ∙ t))),
-      λ t. d ∙ eq-eqb (length now) 0 (ap length (ends.1 t)),
+      λ t. ap encodes (sym (folds cs)) ∙ ends.0 (no_items now (eqb-true (length now) 0 (sym d ∙ t))),
+      λ t. d ∙ eq-eqb (length now) 0 (ap length (ends.1 (ap encodes (folds cs) ∙ t))),
     )
 
 -- what came was refused
-pub not_came : (first text : List ℕ) (b g : Bool) (cs : List ℕ) → first ≡ text → b ≡ false → g ≡ false → Refuses first b g cs → IsTrue false ↔ (encodes (folded_after false false cs) ≡ text)
+pub not_came : (first text : List ℕ) (b g : Bool) (cs : List ℕ) → first ≡ text → b ≡ false → g ≡ false → Refuses first b g cs → IsTrue false ↔ (encodes (folded cs) ≡ text)
 not_came first text b g cs e f k h =
     let h' : Refuses text false false cs = subst (λ (x : List ℕ). Refuses x false false cs) e (subst (λ x. Refuses first x false cs) f (subst (λ x. Refuses first b x cs) k h)) in (
       λ t. absurd (true≢false (sym t)),
-      λ t. absurd (h' [] (subst (IsRest text false false) (sym (append-nil cs)) (sym t))),
+      λ t. absurd (h' [] (subst (IsRest text false false) (sym (append-nil cs)) (sym (ap encodes (folds cs) ∙ t)))),
     )
 
 -- ---- a text and its first space

@@ -6,10 +6,12 @@ use Rattle.std.proofs.lemmas.List.Sums.{count_by_more_yes, count_by_more_no, fol
 use Rattle.tb_conllu.specs.declared.id.LineId.TheVariants.{Word, Span, Empty}
 use Rattle.tb_conllu.specs.Text.{RowText}
 use Rattle.tb_conllu.specs.Words.{is_word, is_word_id}
-use Rattle.tb_rules.specs.Rows.{FirstRowsPass}
+use Rattle.tb_rules.specs.Rows.{FirstRowsPass, IsFirstFault}
 use Rattle.tb_rules.specs.Ids.{is_node_after, is_node_id_after, is_next_id, is_in_place}
-use Rattle.tb_rules.specs.Spans.{greatest_end, end_of_id, is_fine_as_span, span_test}
-use Rattle.tb_rules.proofs.RowSteps.{one_more_passes}
+use Rattle.tb_rules.specs.Spans.{span_test}
+use Rattle.tb_rules.specs.Leading.{greatest_end, end_of_id, is_fine_past}
+use Rattle.tb_rules.proofs.RowSteps.{one_more_passes, first_fails}
+use Rattle.tb_rules.proofs.Ends.{fine_past}
 
 pub counted : {X : Type 0} (p : X → Bool) (xs : List X) (i : ℕ) (x : X) → i < length xs → x ≡ get_or xs i x → p x ≡ true → count_by p (take (i + 1) xs) ≡ count_by p (take i xs) + 1
 counted p xs i x l e passes = count_by_more_yes p xs i x l (ap p (sym e) ∙ passes)
@@ -67,9 +69,17 @@ pub record HasPassed (n : ℕ) (rs : List RowText) (i words end : ℕ) : Type 0 
   pub words_are : words ≡ count_by is_word (take i rs)
   pub end_is : end ≡ greatest_end (take i rs)
 
-pub row_passes : (n : ℕ) (rs : List RowText) (i words end words' end' : ℕ) (r : RowText) → i < length rs → r ≡ get_or rs i r → HasPassed n rs i words end → is_fine_as_span n words end r.id r ≡ true → words' ≡ count_by is_word (take (i + 1) rs) → end' ≡ max end (end_of_id r.id) → HasPassed n rs (i + 1) words' end'
+-- what the counts tell of a row
+row_is : (n : ℕ) (rs : List RowText) (i words end : ℕ) (r : RowText) (b : Bool) → HasPassed n rs i words end → is_fine_past n words end r.id r ≡ b → span_test n (take i rs) r ≡ b
+row_is n rs i words end r b h fine =
+    sym (fine_past n (take i rs) r.id r) ∙ (ap (λ w. is_fine_past n w (greatest_end (take i rs)) r.id r) (sym h.words_are) ∙ (ap (λ x. is_fine_past n words x r.id r) (sym h.end_is) ∙ fine))
+
+pub row_fails : (n : ℕ) (rs : List RowText) (i words end : ℕ) (r : RowText) → i < length rs → r ≡ get_or rs i r → HasPassed n rs i words end → is_fine_past n words end r.id r ≡ false → IsFirstFault (span_test n) rs (i + 1)
+row_fails n rs i words end r l e h fails = first_fails (span_test n) rs i r l e h.passed (row_is n rs i words end r false h fails)
+
+pub row_passes : (n : ℕ) (rs : List RowText) (i words end words' end' : ℕ) (r : RowText) → i < length rs → r ≡ get_or rs i r → HasPassed n rs i words end → is_fine_past n words end r.id r ≡ true → words' ≡ count_by is_word (take (i + 1) rs) → end' ≡ max end (end_of_id r.id) → HasPassed n rs (i + 1) words' end'
 row_passes n rs i words end words' end' r l e h fine count last = record {
-  passed = one_more_passes (span_test n) rs i r l e h.passed (ap (λ w. is_fine_as_span n w (greatest_end (take i rs)) r.id r) (sym h.words_are) ∙ (ap (λ x. is_fine_as_span n words x r.id r) (sym h.end_is) ∙ fine));
+  passed = one_more_passes (span_test n) rs i r l e h.passed (row_is n rs i words end r true h fine);
   words_are = count;
   end_is = last ∙ (ap (λ x. max x (end_of_id r.id)) h.end_is ∙ sym (greatest_end-more rs i r l e));
 }

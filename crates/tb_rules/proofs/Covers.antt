@@ -9,8 +9,7 @@ use Rattle.tb_conllu.specs.declared.id.LineId.{LineId}
 use Rattle.tb_conllu.specs.declared.id.LineId.TheVariants.{Word, Span, Empty}
 use Rattle.tb_conllu.specs.Text.{RowText}
 use Rattle.tb_rules.specs.Restored.{covers, is_covered, is_token_id}
-use Rattle.tb_rules.specs.Spans.{greatest_end, end_of_id}
-use Rattle.tb_rules.specs.Leading.{RangesLead, is_token_after, number_of_id, start_of_id, ascends}
+use Rattle.tb_rules.specs.Leading.{greatest_end, end_of_id, RangesLead, is_token_after, number_of_id, start_of_id, ascends}
 use Rattle.tb_rules.proofs.Counts.{greatest_end-more}
 
 or_false : (b : Bool) → (b || false) ≡ b

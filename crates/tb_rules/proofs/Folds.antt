@@ -7,7 +7,9 @@ use Rattle.std.proofs.Math.Seq.{drop-cons}
 use Rattle.std.proofs.lemmas.Bool.{ne_eqb}
 use Rattle.std.proofs.lemmas.List.{append-nil, length_push}
 use Rattle.std.proofs.lemmas.Str.{length-encode, len_utf8_bounds}
-use Rattle.tb_rules.specs.Restored.{folded_after, continued}
+use Rattle.tb_rules.specs.Restored.{folded}
+use Rattle.tb_rules.specs.Expected.{folded_after, continued}
+use Rattle.tb_rules.proofs.Pieces.{folds}
 
 -- a text that ends in a character isn't empty
 begun : (xs : List ℕ) (c : ℕ) → not (eqb (length (xs ++ encode c)) 0) ≡ true
@@ -36,9 +38,9 @@ drop-turn cs seen c (l, e) =
     drop-cons cs (length seen) c l ∙ (ap (λ x. x ∷ drop (suc (length seen)) cs) (sym e) ∙ ap (λ n. c ∷ drop n cs) (sym (length_push seen c ∙ add-one (length seen))))
 
 -- all of a text has come, and nothing stood before it
-pub folded_whole : (out start cs : List ℕ) (gap : Bool) → start ≡ [] → continued out gap [] ≡ continued start false (cs ++ []) → out ≡ encodes (folded_after false false cs)
+pub folded_whole : (out start cs : List ℕ) (gap : Bool) → start ≡ [] → continued out gap [] ≡ continued start false (cs ++ []) → out ≡ encodes (folded cs)
 folded_whole out start cs gap empty h =
-    sym (append-nil out) ∙ (h ∙ (ap (λ s. continued s false (cs ++ [])) empty ∙ ap (λ xs. encodes (folded_after false false xs)) (append-nil cs)))
+    sym (append-nil out) ∙ (h ∙ (ap (λ s. continued s false (cs ++ [])) empty ∙ (ap (λ xs. encodes (folded_after false false xs)) (append-nil cs) ∙ ap encodes (folds cs))))
 
 -- one row more
 pub text_turn : (f : RowText → List ℕ) (rs : List RowText) (i : ℕ) (r : RowText) → i < length rs → r ≡ get_or rs i r

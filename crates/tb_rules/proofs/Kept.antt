@@ -4,7 +4,7 @@ use Rattle.std.specs.Prelude.{IfErr, List, Result, Ok, Err, None}
 use Rattle.tb_conllu.specs.Text.{RowText, BlockText}
 use Rattle.tb_conllu.specs.declared.id.LineId.TheVariants.{Word}
 use Rattle.tb_rules.specs.Rows.{RowTest, EachRowPasses, IsFirstFault}
-use Rattle.tb_rules.specs.Rules.{KeepsRules, IsBroken, no_sent_id, no_text, no_ids, word_fault, span_fault, node_fault, feature_fault, dependency_fault, no_one_root, no_tree, not_restored, IsRuleFault}
+use Rattle.tb_rules.specs.Rules.{KeepsRules, IsBroken, IsRuleFault}
 use Rattle.tb_rules.specs.declared.fault.RuleFault.{RuleFault}
 use Rattle.tb_rules.specs.declared.fault.RuleFault.TheVariants.{At, Memory}
 
@@ -18,17 +18,7 @@ pub passes : (test : RowTest) (rs : List RowText) (row : ℕ) → IsFirstFault t
 passes test rs row f k = both _ (k f.place some_row f.within) (f.fails some_row)
 
 pub not_kept : (b : BlockText) (rule row : ℕ) → IsBroken b rule row → KeepsRules b → ⊥
-not_kept b _ _ (no_sent_id n) k = n k.0.0.0.0.0.0.0.0.0.0
-not_kept b _ _ (no_text h n) k = n k.0.0.0.0.0.0.0.0.0.1
-not_kept b _ _ (no_ids h n) k = n k.0.0.0.0.0.0.0.0.1
-not_kept b _ _ (word_fault row h f) k = passes _ _ row f k.0.0.0.0.0.0.0.1
-not_kept b _ _ (span_fault row h f) k = passes _ _ row f k.0.0.0.0.0.0.1
-not_kept b _ _ (node_fault row h f) k = passes _ _ row f k.0.0.0.0.0.1
-not_kept b _ _ (feature_fault row h f) k = passes _ _ row f k.0.0.0.0.1
-not_kept b _ _ (dependency_fault row h f) k = passes _ _ row f k.0.0.0.1
-not_kept b _ _ (no_one_root h n) k = n k.0.0.1
-not_kept b _ _ (no_tree h n) k = n k.0.1
-not_kept b _ _ (not_restored h n) k = n k.1
+not_kept b rule row f k = f.broken (k f.which)
 
 memory_alone : (b : BlockText) (e : RuleFault) → IsRuleFault b e → KeepsRules b → e ≡ Memory
 memory_alone b (At rule row) f k = absurd (not_kept b rule row f k)

@@ -13,9 +13,8 @@ use Rattle.tb_conllu.specs.Text.{RowText}
 use Rattle.tb_conllu.specs.Words.{is_word, is_word_id}
 use Rattle.tb_rules.specs.Rows.{EachRowPasses}
 use Rattle.tb_rules.specs.Ids.{is_node_after, is_node_id_after, is_next_id, is_in_place}
-use Rattle.tb_rules.specs.Deps.{is_word_numbered, is_node_numbered}
 use Rattle.tb_rules.proofs.Counts.{counted, not_counted}
-use Rattle.tb_rules.specs.Named.{is_node_id, AreNodeCounts, TellIds}
+use Rattle.tb_rules.specs.Named.{is_word_numbered, is_node_numbered, is_node_id, AreNodeCounts, TellIds}
 
 some_row : RowText
 some_row = record { id = Word 1; form = []; lemma = []; upos = []; xpos = []; feats = []; head = None; deprel = []; deps = []; misc = [] }

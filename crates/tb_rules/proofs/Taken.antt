@@ -1,5 +1,5 @@
 -- A sentence that comes after those that were taken: its name is new, or it is told.
-use Rattle.std.proofs.Common.{◌≡◌, ◌⊎◌, inl, inr, ℕ, ◌+◌, List, [], ◌∷◌, ◌++◌, length, map, Bool, true, false, cond, ◌||◌, not, Some, refl, sym, ◌∙◌, ap, subst, arith, append-nil, length-append}
+use Rattle.std.proofs.Common.{◌≡◌, ◌⊎◌, inl, inr, ℕ, ◌+◌, List, [], ◌∷◌, ◌++◌, length, map, Bool, true, false, cond, ◌||◌, not, Some, None, refl, sym, ◌∙◌, ap, subst, arith, append-nil, length-append}
 use Rattle.std.specs.Prelude.{bytes_eq, string_bytes}
 use Rattle.std.specs.List.{AllByRecursion, list_any}
 use Rattle.std.specs.String.{string_cmp}
@@ -16,7 +16,7 @@ use Rattle.std.proofs.lemmas.Slice.Eq.{bytes_eq-Decides}
 use Rattle.tb_conllu.specs.Text.{BlockText}
 use Rattle.tb_rules.specs.Comments.{sent_ids, only}
 use Rattle.tb_rules.specs.File.{IsNamed, IsFree, HasNewName, IsBrokenAfter, broken, name_twice, IsFaultAt, IsFileFault, IsSentenceFault, names_of, HasTaken}
-use Rattle.tb_rules.specs.Rules.{KeepsRules}
+use Rattle.tb_rules.specs.Rules.{KeepsRules, sent_id}
 use Rattle.tb_rules.specs.declared.filefault.FileFault.{FileFault}
 use Rattle.tb_rules.specs.declared.filefault.FileFault.TheVariants.{At, Memory}
 use Rattle.tb_rules.proofs.Valid.{valid_none, valid_next}
@@ -24,7 +24,10 @@ use Rattle.tb_rules.proofs.Valid.{valid_none, valid_next}
 -- ---- names
 
 one_name : (b : BlockText) → KeepsRules b → (name : List ℕ) × IsNamed b name
-one_name b k = let id = k.0.0.0.0.0.0.0.0.0.0 in (id.name, id.one)
+one_name b k = let id = k sent_id in (id.name, id.one)
+
+pub not_unnamed : (b : BlockText) → KeepsRules b → None ≡ only (sent_ids b) → ⊥
+not_unnamed b k e = let same : None ≡ Some (one_name b k).0 = e ∙ ap only (one_name b k).1 in cc
 
 pub named : (b : BlockText) (name : List ℕ) → KeepsRules b → Some name ≡ only (sent_ids b) → IsNamed b name
 named b name k e =

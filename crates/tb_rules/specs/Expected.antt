@@ -1,6 +1,19 @@
--- A text that is compared with characters as they come, whose white space is folded.
-use Rattle.std.specs.Prelude.{◌≡◌, ◌↔◌, ℕ, List, [], ◌∷◌, ◌++◌, Bool, ◌&&◌, if◌then◌else◌, encode_utf8_all}
-use Rattle.tb_rules.specs.Restored.{folded_after}
+-- White space that is folded as characters come, and a text that is compared with them.
+use Rattle.std.specs.Prelude.{◌≡◌, ◌↔◌, ℕ, List, [], ◌∷◌, ◌++◌, length, Bool, true, false, ◌&&◌, not, ◌==◌, if◌then◌else◌, encode_utf8_all}
+use Rattle.std.specs.Char.{is_whitespace}
+
+-- What is to come of a folded text. Begun says whether a character came out before these, gap whether white space
+-- came since.
+abbrev pub folded_after : Bool → Bool → List ℕ → List ℕ
+folded_after begun gap [] = []
+folded_after begun gap (c ∷ cs) =
+    if is_whitespace c then folded_after begun true cs else
+    if begun && gap then 32 ∷ c ∷ folded_after true false cs else
+    c ∷ folded_after true false cs
+
+-- a text that is being folded: what came out, whether white space came since, and the characters to come
+abbrev pub continued : List ℕ → Bool → List ℕ → List ℕ
+continued out gap cs = out ++ encode_utf8_all (folded_after (not (length out == 0)) gap cs)
 
 -- the space that stands for white space between two characters
 abbrev pub gap_text : Bool → Bool → List ℕ

@@ -1,10 +1,28 @@
--- Ranges that stand before their words, so that the ranges before a word tell whether it is in one.
-use Rattle.std.specs.Prelude.{◌≡◌, ℕ, ◌<◌, List, length, take, slice_index_or, Bool, true, false, ◌&&◌, not, nat_lt, nat_le}
+-- What the greatest end of the ranges before a row tells of it: where a range may begin, and, of ranges that stand
+-- before their words, whether a word is in one.
+use Rattle.std.specs.Prelude.{◌≡◌, ℕ, ◌+◌, ◌<◌, max, List, length, take, slice_index_or, Bool, true, false, ◌&&◌, not, nat_lt, nat_le, ◌==◌}
+use Rattle.std.specs.List.{fold}
 use Rattle.tb_conllu.specs.declared.id.LineId.{LineId}
 use Rattle.tb_conllu.specs.declared.id.LineId.TheVariants.{Word, Span, Empty}
 use Rattle.tb_conllu.specs.Text.{RowText}
 use Rattle.tb_rules.specs.Restored.{is_covered}
-use Rattle.tb_rules.specs.Spans.{greatest_end}
+use Rattle.tb_rules.specs.Spans.{is_bare}
+
+-- the last word of a range; other rows have none
+abbrev pub end_of_id : LineId → ℕ
+end_of_id (Word n) = 0
+end_of_id (Span a b) = b
+end_of_id (Empty i k) = 0
+
+-- the greatest last word of the ranges among the rows, 0 where there are none
+abbrev pub greatest_end : List RowText → ℕ
+greatest_end rs = fold (λ e r. max e (end_of_id r.id)) 0 rs
+
+-- A row of a sentence of n words, before which so many words stand, and ranges up to this end.
+abbrev pub is_fine_past : ℕ → ℕ → ℕ → LineId → RowText → Bool
+is_fine_past n words end (Word m) r = true
+is_fine_past n words end (Span a b) r = a == (words + 1) && nat_le a b && nat_le b n && nat_lt end a && is_bare r
+is_fine_past n words end (Empty i k) r = true
 
 -- a word is in a range where it is at most the greatest end of the ranges before it
 abbrev pub RangesLead : List RowText → Type 0

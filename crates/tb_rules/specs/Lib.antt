@@ -12,5 +12,6 @@ pub mod Expected
 pub mod Leading
 pub mod Deps
 pub mod Named
+pub mod Places
 pub mod Rules
 pub mod File

@@ -1,7 +1,7 @@
 -- Which IDs the rows of a sentence carry, by counts alone.
 -- CoNLL-U format page, "Words, Tokens and Empty Nodes": words are numbered from 1 on, and the empty nodes after word i
 -- are i.1, i.2, ...
-use Rattle.std.specs.Prelude.{◌≡◌, ℕ, ◌≤◌, List, Bool, true, false, ◌&&◌, nat_lt, nat_le, slice_index, count_by}
+use Rattle.std.specs.Prelude.{◌≡◌, ℕ, ◌≤◌, List, Bool, true, false, ◌&&◌, nat_lt, nat_le, ◌==◌, slice_index, count_by}
 use Rattle.std.specs.List.{list_any}
 use Rattle.tb_conllu.specs.declared.id.LineId.{LineId}
 use Rattle.tb_conllu.specs.declared.id.LineId.TheVariants.{Word, Span, Empty}
@@ -9,7 +9,16 @@ use Rattle.tb_conllu.specs.Text.{RowText}
 use Rattle.tb_conllu.specs.Words.{is_word}
 use Rattle.tb_rules.specs.Rows.{EachRowPasses}
 use Rattle.tb_rules.specs.Ids.{is_node_after, is_in_place}
-use Rattle.tb_rules.specs.Deps.{is_word_numbered, is_node_numbered}
+
+abbrev pub is_word_numbered : ℕ → LineId → Bool
+is_word_numbered n (Word m) = m == n
+is_word_numbered n (Span a b) = false
+is_word_numbered n (Empty i k) = false
+
+abbrev pub is_node_numbered : ℕ → ℕ → LineId → Bool
+is_node_numbered i k (Word m) = false
+is_node_numbered i k (Span a b) = false
+is_node_numbered i k (Empty j l) = j == i && l == k
 
 abbrev pub is_node_id : LineId → Bool
 is_node_id (Word n) = false

@@ -2,8 +2,8 @@
 -- CoNLL-U format page, "Words, Tokens and Empty Nodes" and "Miscellaneous" (SpaceAfter=No): the text is the forms of
 -- the tokens, a range in place of its words, each followed by a space but where SpaceAfter=No says otherwise.
 -- White space is Unicode's White_Space.
-use Rattle.std.specs.Prelude.{◌≡◌, ℕ, List, [], ◌∷◌, ◌++◌, length, Bool, true, false, ◌&&◌, not, nat_le, ◌==◌, bytes_eq, if◌then◌else◌, codes, chars, encode_utf8_all}
-use Rattle.std.specs.List.{flat_map, list_any, slice_split}
+use Rattle.std.specs.Prelude.{◌≡◌, ℕ, List, [], ◌∷◌, ◌++◌, length, filter, Bool, true, false, ◌&&◌, not, nat_lt, nat_le, bytes_eq, if◌then◌else◌, codes, chars, encode_utf8_all}
+use Rattle.std.specs.List.{flat_map, list_any, slice_split, join_with_byte}
 use Rattle.std.specs.Char.{is_whitespace}
 use Rattle.tb_conllu.specs.declared.id.LineId.{LineId}
 use Rattle.tb_conllu.specs.declared.id.LineId.TheVariants.{Word, Span, Empty}
@@ -13,17 +13,13 @@ use Rattle.tb_fields.specs.Feats.{is_bar}
 
 -- ---- white space
 
--- The characters with each run of white space as one space, and none at the ends. Begun says whether a character
--- came out before these, gap whether white space came since.
-abbrev pub folded_after : Bool → Bool → List ℕ → List ℕ
-folded_after begun gap [] = []
-folded_after begun gap (c ∷ cs) =
-    if is_whitespace c then folded_after begun true cs else
-    if begun && gap then 32 ∷ c ∷ folded_after true false cs else
-    c ∷ folded_after true false cs
+-- what stands between white space: the characters cut there, without the empty pieces
+abbrev pub pieces : List ℕ → List (List ℕ)
+pieces cs = filter (λ piece. nat_lt 0 (length piece)) (slice_split is_whitespace cs)
 
+-- The characters with each run of white space as one space, and none at the ends.
 abbrev pub folded : List ℕ → List ℕ
-folded cs = folded_after false false cs
+folded cs = join_with_byte 32 (pieces cs)
 
 -- ---- the text of rows, as characters
 
@@ -70,7 +66,3 @@ pub record IsRestored (b : BlockText) : Type 0 where
   pub value : List ℕ
   pub one : texts b ≡ value ∷ []
   pub same : restored_text b ≡ folded_text value
-
--- a text that is being folded: what came out, whether white space came since, and the characters to come
-abbrev pub continued : List ℕ → Bool → List ℕ → List ℕ
-continued out gap cs = out ++ encode_utf8_all (folded_after (not (length out == 0)) gap cs)

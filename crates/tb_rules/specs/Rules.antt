@@ -1,5 +1,6 @@
--- What a sentence keeps, rule by rule, and what a fault tells: the least broken rule and its first row.
-use Rattle.std.specs.Prelude.{ℕ}
+-- What a sentence keeps, rule by rule, and what a fault tells: the rule of the least number that is broken, and its
+-- first row.
+use Rattle.std.specs.Prelude.{◌≡◌, ◌<◌, ◌≤◌, ℕ}
 use Rattle.tb_conllu.specs.Text.{BlockText}
 use Rattle.tb_conllu.specs.Words.{words_of}
 use Rattle.tb_rules.specs.declared.fault.RuleFault.{RuleFault}
@@ -30,51 +31,70 @@ HasFeatures b = EachRowPasses feature_test b.rows
 abbrev pub HasDependencies : BlockText → Type 0
 HasDependencies b = EachRowPasses (dependency_test b.rows) b.rows
 
--- the rules up to this one
-abbrev pub KeepsTo2 : BlockText → Type 0
-KeepsTo2 b = HasSentId b × HasText b
+-- The rules of a sentence by itself.
+pub data Rule : Type 0 where
+  sent_id text ids words spans nodes features dependencies one_root tree restored : Rule
 
-abbrev pub KeepsTo3 : BlockText → Type 0
-KeepsTo3 b = KeepsTo2 b × HasIds b
+-- their numbers
+abbrev pub number : Rule → ℕ
+number sent_id = 1
+number text = 2
+number ids = 3
+number words = 4
+number spans = 5
+number nodes = 6
+number features = 7
+number dependencies = 8
+number one_root = 9
+number tree = 10
+number restored = 11
 
-abbrev pub KeepsTo4 : BlockText → Type 0
-KeepsTo4 b = KeepsTo3 b × HasWords b
+-- what each asks
+abbrev pub Keeps : Rule → BlockText → Type 0
+Keeps sent_id b = HasSentId b
+Keeps text b = HasText b
+Keeps ids b = HasIds b
+Keeps words b = HasWords b
+Keeps spans b = HasSpans b
+Keeps nodes b = HasNodes b
+Keeps features b = HasFeatures b
+Keeps dependencies b = HasDependencies b
+Keeps one_root b = HasOneRoot b
+Keeps tree b = HasTree b
+Keeps restored b = IsRestored b
 
-abbrev pub KeepsTo5 : BlockText → Type 0
-KeepsTo5 b = KeepsTo4 b × HasSpans b
+-- the row of a fault: the first that fails the test of a rule that is asked of each row, and 0 at the other rules
+abbrev pub IsFaultRow : Rule → BlockText → ℕ → Type 0
+IsFaultRow sent_id b row = row ≡ 0
+IsFaultRow text b row = row ≡ 0
+IsFaultRow ids b row = row ≡ 0
+IsFaultRow words b row = IsFirstFault (word_test (words_of b)) b.rows row
+IsFaultRow spans b row = IsFirstFault (span_test (words_of b)) b.rows row
+IsFaultRow nodes b row = IsFirstFault node_test b.rows row
+IsFaultRow features b row = IsFirstFault feature_test b.rows row
+IsFaultRow dependencies b row = IsFirstFault (dependency_test b.rows) b.rows row
+IsFaultRow one_root b row = row ≡ 0
+IsFaultRow tree b row = row ≡ 0
+IsFaultRow restored b row = row ≡ 0
+
+-- the rules of numbers up to n
+abbrev pub KeepsTo : ℕ → BlockText → Type 0
+KeepsTo n b = (r : Rule) → number r ≤ n → Keeps r b
 
 abbrev pub KeepsTo6 : BlockText → Type 0
-KeepsTo6 b = KeepsTo5 b × HasNodes b
-
-abbrev pub KeepsTo7 : BlockText → Type 0
-KeepsTo7 b = KeepsTo6 b × HasFeatures b
-
-abbrev pub KeepsTo8 : BlockText → Type 0
-KeepsTo8 b = KeepsTo7 b × HasDependencies b
-
-abbrev pub KeepsTo9 : BlockText → Type 0
-KeepsTo9 b = KeepsTo8 b × HasOneRoot b
-
-abbrev pub KeepsTo10 : BlockText → Type 0
-KeepsTo10 b = KeepsTo9 b × HasTree b
+KeepsTo6 b = KeepsTo 6 b
 
 -- all rules of a sentence by itself
 abbrev pub KeepsRules : BlockText → Type 0
-KeepsRules b = KeepsTo10 b × IsRestored b
+KeepsRules b = (r : Rule) → Keeps r b
 
--- The rule is broken, the rules before it hold, and the row is the first at fault (0 where the rule has none).
-pub data IsBroken (b : BlockText) : ℕ → ℕ → Type 0 where
-  no_sent_id : (HasSentId b → ⊥) → IsBroken b 1 0
-  no_text : HasSentId b → (HasText b → ⊥) → IsBroken b 2 0
-  no_ids : KeepsTo2 b → (HasIds b → ⊥) → IsBroken b 3 0
-  word_fault : (row : ℕ) → KeepsTo3 b → IsFirstFault (word_test (words_of b)) b.rows row → IsBroken b 4 row
-  span_fault : (row : ℕ) → KeepsTo4 b → IsFirstFault (span_test (words_of b)) b.rows row → IsBroken b 5 row
-  node_fault : (row : ℕ) → KeepsTo5 b → IsFirstFault node_test b.rows row → IsBroken b 6 row
-  feature_fault : (row : ℕ) → KeepsTo6 b → IsFirstFault feature_test b.rows row → IsBroken b 7 row
-  dependency_fault : (row : ℕ) → KeepsTo7 b → IsFirstFault (dependency_test b.rows) b.rows row → IsBroken b 8 row
-  no_one_root : KeepsTo8 b → (HasOneRoot b → ⊥) → IsBroken b 9 0
-  no_tree : KeepsTo9 b → (HasTree b → ⊥) → IsBroken b 10 0
-  not_restored : KeepsTo10 b → (IsRestored b → ⊥) → IsBroken b 11 0
+-- The rule of this number is broken, those of smaller numbers are kept, and the row is that of the fault.
+pub record IsBroken (b : BlockText) (rule row : ℕ) : Type 0 where
+  pub which : Rule
+  pub numbered : rule ≡ number which
+  pub before : (r : Rule) → number r < rule → Keeps r b
+  pub broken : Keeps which b → ⊥
+  pub at_row : IsFaultRow which b row
 
 -- want of memory says nothing of the sentence
 abbrev pub IsRuleFault : BlockText → RuleFault → Type 0

@@ -1,8 +1,8 @@
 -- Multiword tokens: rows `a-b` for words that are written as one.
 -- CoNLL-U format page, "Words, Tokens and Empty Nodes": the range stands before its first word, ranges do not
 -- overlap, and all fields but ID, FORM and MISC are empty. FEATS may hold features (page "Morphological Annotation").
-use Rattle.std.specs.Prelude.{ℕ, ◌+◌, max, List, Bool, true, ◌&&◌, nat_lt, nat_le, ◌==◌, is_none, count_by}
-use Rattle.std.specs.List.{fold}
+use Rattle.std.specs.Prelude.{ℕ, ◌+◌, List, Bool, true, ◌&&◌, nat_lt, nat_le, ◌==◌, is_none, count_by}
+use Rattle.std.specs.List.{list_all}
 use Rattle.tb_conllu.specs.declared.id.LineId.{LineId}
 use Rattle.tb_conllu.specs.declared.id.LineId.TheVariants.{Word, Span, Empty}
 use Rattle.tb_conllu.specs.Text.{RowText}
@@ -14,23 +14,23 @@ use Rattle.tb_rules.specs.Rows.{RowTest}
 abbrev pub is_bare : RowText → Bool
 is_bare r = is_blank r.lemma && is_blank r.upos && is_blank r.xpos && is_none r.head && is_blank r.deprel && is_blank r.deps
 
--- the last word of a range; other rows have none
-abbrev pub end_of_id : LineId → ℕ
-end_of_id (Word n) = 0
-end_of_id (Span a b) = b
-end_of_id (Empty i k) = 0
+-- a range that ends before word m; other rows are no ranges
+abbrev pub ends_before : ℕ → LineId → Bool
+ends_before m (Word n) = true
+ends_before m (Span a b) = nat_lt b m
+ends_before m (Empty i k) = true
 
--- the greatest last word of the ranges among the rows, 0 where there are none
-abbrev pub greatest_end : List RowText → ℕ
-greatest_end rs = fold (λ e r. max e (end_of_id r.id)) 0 rs
+-- the rows before a range from word a on: just the words before a, and ranges that all end before a
+abbrev pub lead_to : ℕ → List RowText → Bool
+lead_to a before = a == (count_by is_word before + 1) && list_all (λ r. ends_before a r.id) before
 
--- A row of a sentence of n words, before which so many words stand, and ranges up to this end.
-abbrev pub is_fine_as_span : ℕ → ℕ → ℕ → LineId → RowText → Bool
-is_fine_as_span n words end (Word m) r = true
-is_fine_as_span n words end (Span a b) r = a == (words + 1) && nat_le a b && nat_le b n && nat_lt end a && is_bare r
-is_fine_as_span n words end (Empty i k) r = true
+-- a row of a sentence of n words, behind these rows
+abbrev pub is_fine_as_span : ℕ → List RowText → LineId → RowText → Bool
+is_fine_as_span n before (Word m) r = true
+is_fine_as_span n before (Span a b) r = lead_to a before && nat_le a b && nat_le b n && is_bare r
+is_fine_as_span n before (Empty i k) r = true
 
 -- Each range of a sentence of n words; other rows pass. It stands before its first word, after each word before
--- that, and begins after the end of each range before it.
+-- that, and begins after the end of every range before it.
 abbrev pub span_test : ℕ → RowTest
-span_test n before r = is_fine_as_span n (count_by is_word before) (greatest_end before) r.id r
+span_test n before r = is_fine_as_span n before r.id r

@@ -2,8 +2,8 @@
 
 ghost use Rattle.std.specs.Prelude.{◌≡◌, ◌+◌, ◌<◌, ◌^◌, IfOk, slice_index, slice_set, vec_len};
 ghost use Rattle.std.specs.List.{list_any};
-ghost use Rattle.tb_rules.specs.Deps.{is_word_numbered, is_node_numbered, is_there, is_head_there};
-ghost use Rattle.tb_rules.specs.Named.{is_node_id, AreNumbered, AreNodeCounts, TellIds};
+ghost use Rattle.tb_rules.specs.Named.{is_word_numbered, is_node_numbered, is_node_id, AreNumbered, AreNodeCounts, TellIds};
+ghost use Rattle.tb_rules.specs.Places.{is_there, is_place_there};
 
 use std::alloc::{AllocError, Global};
 use tb_conllu::{LineId, RowOf, Text};
@@ -83,40 +83,40 @@ pub(crate) fn heads_in<T: Text>(
     Ok(Heads { rows, words, nodes })
 }
 
-fn has_word<T: Text>(heads: &Heads<'_, T>, number: u32) -> bool
+fn has_word<T: Text>(heads: &Heads<'_, T>, number: usize) -> bool
     ensures { result ≡ list_any (λ r. is_word_numbered number r.id) heads.now.rows.now }
 {
-    number > 0 && number as usize <= heads.words
+    number > 0 && number <= heads.words
 }
 
-fn nodes_after<T: Text>(heads: &Heads<'_, T>, word: u32) -> usize
+fn nodes_after<T: Text>(heads: &Heads<'_, T>, word: usize) -> usize
     ensures { result ≡ slice_index heads.now.nodes.items word }
 {
-    heads.nodes.get(word as usize).copied().unwrap_or(0)
+    heads.nodes.get(word).copied().unwrap_or(0)
 }
 
-fn has_node<T: Text>(heads: &Heads<'_, T>, word: u32, node: u32) -> bool
+fn has_node<T: Text>(heads: &Heads<'_, T>, word: usize, node: usize) -> bool
     ensures { result ≡ list_any (λ r. is_node_numbered word node r.id) heads.now.rows.now }
 {
-    node > 0 && node as usize <= nodes_after(heads, word)
+    node > 0 && node <= nodes_after(heads, word)
 }
 
-fn stands_in<T: Text>(heads: &Heads<'_, T>, id: LineId) -> bool
-    ensures { result ≡ is_there heads.now.rows.now id }
+fn stands_in<T: Text>(heads: &Heads<'_, T>, place: (usize, usize)) -> bool
+    ensures { result ≡ is_there heads.now.rows.now place }
 {
-    match id {
-        LineId::Word(n) => n == 0 || has_word(heads, n),
-        LineId::Span(..) => false,
-        LineId::Empty(i, k) => has_node(heads, i, k),
+    if place.1 == 0 {
+        place.0 == 0 || has_word(heads, place.0)
+    } else {
+        has_node(heads, place.0, place.1)
     }
 }
 
 /// Whether the head is the root, a word or an empty node of the sentence.
-pub(crate) fn head_stands_in<T: Text>(heads: &Heads<'_, T>, head: Option<LineId>) -> bool
-    ensures { result ≡ is_head_there heads.now.rows.now head }
+pub(crate) fn head_stands_in<T: Text>(heads: &Heads<'_, T>, head: Option<(usize, usize)>) -> bool
+    ensures { result ≡ is_place_there heads.now.rows.now head }
 {
     match head {
         None => false,
-        Some(id) => stands_in(heads, id),
+        Some(place) => stands_in(heads, place),
     }
 }

@@ -1,6 +1,7 @@
 ghost use Rattle.std.specs.Prelude.{◌≡◌, MatchOption, max};
 ghost use Rattle.tb_rules.specs.Rows.{EachRowPasses, IsFirstFault};
-ghost use Rattle.tb_rules.specs.Spans.{is_bare, end_of_id, is_fine_as_span, span_test};
+ghost use Rattle.tb_rules.specs.Spans.{is_bare, span_test};
+ghost use Rattle.tb_rules.specs.Leading.{end_of_id, is_fine_past};
 
 use tb_conllu::{LineId, RowOf, Text, is_word_row};
 use tb_fields::is_blank_field;
@@ -27,7 +28,7 @@ pub(crate) fn end_of(id: LineId) -> u32
 }
 
 fn is_fine<T: Text>(row: &RowOf<T>, words: usize, before: usize, end: u32) -> bool
-    ensures { result ≡ is_fine_as_span words before end row.now.id row.now }
+    ensures { result ≡ is_fine_past words before end row.now.id row.now }
 {
     match row.id {
         LineId::Span(first, last) => first > 0

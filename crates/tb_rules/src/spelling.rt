@@ -2,7 +2,8 @@ ghost use Rattle.std.specs.Prelude.{◌≡◌, ◌↔◌, IsTrue, ◌++◌, ◌�
 ghost use Rattle.std.specs.List.{list_any, slice_split};
 ghost use Rattle.tb_fields.specs.Feats.{is_bar};
 ghost use Rattle.tb_rules.specs.Leading.{RangesLead, is_token_after};
-ghost use Rattle.tb_rules.specs.Restored.{is_token_id, has_no_space_after, form_and_space, token_text, text_of_rows, restored_text, folded, folded_text, IsRestored, continued};
+ghost use Rattle.tb_rules.specs.Restored.{is_token_id, has_no_space_after, form_and_space, token_text, text_of_rows, restored_text, folded, folded_text, IsRestored};
+ghost use Rattle.tb_rules.specs.Expected.{continued};
 
 use crate::comments::text;
 use crate::covering::{comes_out, ranges_lead};

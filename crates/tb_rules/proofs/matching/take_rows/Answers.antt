@@ -1,7 +1,7 @@
 use Rattle.std.proofs.Common.{max, refl, sym, ap, ◌∙◌, ◌+◌, drop}
 use Rattle.std.specs.List.{flat_map}
 use Rattle.tb_conllu.specs.Text.{RowText}
-use Rattle.tb_rules.specs.Spans.{end_of_id}
+use Rattle.tb_rules.specs.Leading.{end_of_id}
 use Rattle.tb_rules.specs.Restored.{token_text, text_of_rows}
 use Rattle.tb_rules.proofs.Folds.{text_turn}
 use Rattle.tb_rules.proofs.Covers.{end_more}

@@ -1,7 +1,7 @@
 use Rattle.std.proofs.Common.{◌≡◌, drop, take}
 use Rattle.std.specs.List.{flat_map}
 use Rattle.tb_rules.specs.Restored.{token_text, text_of_rows}
-use Rattle.tb_rules.specs.Spans.{greatest_end}
+use Rattle.tb_rules.specs.Leading.{greatest_end}
 use Rattle.tb_rules.proofs.Compare.{Awaits}
 use Rattle.tb_rules.proofs.matching.take_rows.Given as goal
 

@@ -1,10 +1,14 @@
 use Rattle.std.proofs.Common.{◌+◌, max, sym, ap, ◌∙◌, arith}
 use Rattle.tb_conllu.specs.Text.{RowText}
 use Rattle.tb_conllu.specs.Words.{is_word}
-use Rattle.tb_rules.specs.Spans.{end_of_id}
-use Rattle.tb_rules.proofs.Counts.{row_passes, counted, not_counted}
+use Rattle.tb_rules.specs.Leading.{end_of_id}
+use Rattle.tb_rules.proofs.Counts.{row_passes, row_fails, counted, not_counted}
 use Rattle.tb_rules.proofs.spans.span_fault.Goals as goal
 use Rattle.tb_rules.proofs.spans.span_fault.Goals.{then-is_word_row, else-is_word_row}
+
+pub returns-then-not-is_fine : goal.returns-then-not-is_fine
+returns-then-not-is_fine g c =
+    row_fails c.args.words c.args.rows.now c.loop-i.i c.loop-i.before c.loop-i.end c.index-rows-i.result c.loop-i-test.true c.index-rows-i.is c.loop-i.invariant.passed (sym c.is_fine.ensures ∙ c.if-not-is_fine.true)
 
 pub loop-i-preserved : goal.loop-i-preserved
 loop-i-preserved g c =

@@ -1,6 +1,6 @@
 use Rattle.std.proofs.Common.{ℕ, List, sym, ap, ◌∙◌, false}
 use Rattle.std.specs.String.{string_bytes}
-use Rattle.tb_rules.specs.Restored.{continued}
+use Rattle.tb_rules.specs.Expected.{continued}
 use Rattle.tb_rules.proofs.Folds.{comes_after_gap, comes_at_once}
 use Rattle.tb_rules.proofs.spelling.put.Goals as goal
 

@@ -1,8 +1,9 @@
 use Rattle.std.proofs.Common.{◌≡◌, ◌++◌, ℕ, List, drop, take}
 use Rattle.std.specs.List.{flat_map}
 use Rattle.std.specs.String.{string_bytes}
-use Rattle.tb_rules.specs.Restored.{continued, token_text, text_of_rows}
-use Rattle.tb_rules.specs.Spans.{greatest_end}
+use Rattle.tb_rules.specs.Restored.{token_text, text_of_rows}
+use Rattle.tb_rules.specs.Expected.{continued}
+use Rattle.tb_rules.specs.Leading.{greatest_end}
 use Rattle.tb_rules.proofs.spelling.put_rows.Given as goal
 
 abbrev pub invariant-loop-row : goal.invariant-loop-row

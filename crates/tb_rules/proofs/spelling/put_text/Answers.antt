@@ -4,7 +4,7 @@ use Rattle.std.specs.Str.{chars}
 use Rattle.std.proofs.lemmas.Iterator.{YieldsList-from_chars}
 use Rattle.std.proofs.lemmas.Iterator.Consumers.{YieldsList-turn, YieldsList-end}
 use Rattle.std.proofs.lemmas.List.{drop_all}
-use Rattle.tb_rules.specs.Restored.{continued}
+use Rattle.tb_rules.specs.Expected.{continued}
 use Rattle.tb_rules.proofs.Folds.{drop-turn}
 use Rattle.tb_rules.proofs.spelling.put_text.Goals as goal
 

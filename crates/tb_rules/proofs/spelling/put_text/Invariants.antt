@@ -1,7 +1,7 @@
 use Rattle.std.proofs.Common.{◌≡◌, ◌++◌, ℕ, List, length, drop}
 use Rattle.std.specs.String.{string_bytes}
 use Rattle.std.specs.Str.{chars}
-use Rattle.tb_rules.specs.Restored.{continued}
+use Rattle.tb_rules.specs.Expected.{continued}
 use Rattle.tb_rules.proofs.spelling.put_text.Given as goal
 
 abbrev pub invariant-loop-c : goal.invariant-loop-c

@@ -3,7 +3,7 @@ use Rattle.std.specs.List.{list_any}
 use Rattle.std.specs.BTreeMap.{is_at}
 use Rattle.std.specs.String.{string_cmp}
 use Rattle.std.specs.Prelude.{string_bytes}
-use Rattle.tb_rules.proofs.Taken.{taken_alone, taken_twice, taken_next, named, key_count, key_is, key_added, not_false, not_true}
+use Rattle.tb_rules.proofs.Taken.{not_unnamed, taken_alone, taken_twice, taken_next, named, key_count, key_is, key_added, not_false, not_true}
 use Rattle.tb_rules.proofs.Valid.{only_memory}
 use Rattle.tb_rules.proofs.taking.Checker.take.Goals as goal
 use Rattle.tb_rules.proofs.taking.Checker.take.Goals.{in-Ok-true, in-Ok-false, in-Err}
@@ -17,6 +17,12 @@ returns-in_err-check_alone-clause-fault g c = λ before h.
 pub returns-in_err-check_alone-clause-only : goal.returns-in_err-check_alone-clause-only
 returns-in_err-check_alone-clause-only g c = λ before h v.
     only_memory (before ++ c.args.block.now ∷ []) c.from_residual.result (returns-in_err-check_alone-clause-fault g c before h) v
+
+pub returns-in_default-clause-fault : goal.returns-in_default-clause-fault
+returns-in_default-clause-fault g c = λ before h. absurd (not_unnamed c.args.block.now c.in_ok-check_alone.ensures.valid c.in_default.ensures)
+
+pub returns-in_default-clause-only : goal.returns-in_default-clause-only
+returns-in_default-clause-only g c = λ before h v. absurd (not_unnamed c.args.block.now c.in_ok-check_alone.ensures.valid c.in_default.ensures)
 
 pub returns-clause-valid : goal.returns-clause-valid
 returns-clause-valid g c = λ before h. elim c.match-insert.branch [
