@@ -2,3 +2,4 @@ pub mod PatternLemmas
 pub mod NeedleLemmas
 pub mod ItemLemmas
 pub mod PlainLemmas
+pub mod Deciding

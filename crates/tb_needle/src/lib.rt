@@ -5,8 +5,10 @@
 #![tactic(auto)]
 
 mod cutting;
+mod law;
 mod needle;
 mod pattern;
 
+pub use law::a_literal_is_accepted_or_refused;
 pub use needle::{Needle, Tester};
 pub use pattern::PatternFault;

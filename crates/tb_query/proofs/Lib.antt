@@ -5,6 +5,7 @@ pub mod Refusals
 pub mod Queries
 pub mod OneReading
 pub mod TextsInOrder
+pub mod AnyText
 mod AskerLemmas
 mod TableLemmas
 mod Alike

@@ -1,15 +1,10 @@
 -- A text says one thing at most, nothing is wrong with one that is a query, and one fault is told of one that is none.
 use Rattle.std.proofs.Common.{◌≡◌, ◌⊎◌, ℕ, suc, List, [], ◌∷◌, ◌++◌, length, map, refl, sym, ap, subst, ◌∙◌, inl, inr, ⊎_elim, arith}
-use Rattle.std.proofs.lemmas.Bool.{false≢true}
 use Rattle.tb_syntax.specs.declared.fault.Fault.{Fault}
 use Rattle.tb_syntax.specs.declared.fault.Fault.TheVariants as fault
-use Rattle.tb_syntax.specs.declared.lexeme.Lexeme.{Lexeme}
-use Rattle.tb_syntax.specs.declared.lexing.Span.{Span}
-use Rattle.tb_syntax.specs.Grammar.{Query, query_text}
-use Rattle.tb_syntax.specs.Lexing.{Lexes}
-use Rattle.tb_syntax.specs.Limits.{query_count, query_nests, query_repeats}
 use Rattle.tb_syntax.specs.Pattern.{Tree, Tester}
 use Rattle.tb_syntax.specs.Reading as told
+use Rattle.tb_syntax.specs.Saying.{Says}
 use Rattle.tb_needle.specs.Literals.{PlainLit, IsAccepted}
 use Rattle.tb_query.specs.declared.fault.QueryFault.{QueryFault}
 use Rattle.tb_query.specs.declared.fault.QueryFault.TheVariants.{TooLong, Syntax, TooMany, TooDeep, Repeat, Pattern, Memory}
@@ -54,26 +49,10 @@ OfLanguage text e = (f : Fault) × told.IsFault text f × (e ≡ query_fault f)
 abbrev OfLiteral : List ℕ → QueryFault → Type 0
 OfLiteral text e = (k : ℕ) × (t : Tree) × (ts : List Test) × Reads text t ts × IsFirstRefused (literals_of ts) k × (e ≡ Pattern k)
 
-module _ (one_lexemes : (text : List ℕ) (ls ms : List Lexeme) (ss ts : List Span) → Lexes 0 0 text ls ss → Lexes 0 0 text ms ts → ls ≡ ms)
-    (one_derivation : (p q : Query) → query_text p ≡ query_text q → p ≡ q)
+module _ (none_told : (text : List ℕ) (t : Tree) (es : List Tester) (said : List (List ℕ)) (e : Fault) → Says text t es said → told.IsFault text e → e ≡ fault.Memory)
     (one_list : (text : List ℕ) (t u : Tree) (ts us : List Test) → Reads text t ts → Reads text u us → ts ≡ us) where
-  -- the derivations of a text
-  same_query : (text : List ℕ) (ls ms : List Lexeme) (ss ts : List Span) (p q : Query) → Lexes 0 0 text ls ss → Lexes 0 0 text ms ts →
-      query_text p ≡ ls → query_text q ≡ ms → p ≡ q
-  same_query text ls ms ss ts p q h g e f = one_derivation p q (e ∙ one_lexemes text ls ms ss ts h g ∙ sym f)
-
   no_syntax_fault : (text : List ℕ) (t : Tree) (ts : List Test) (e : Fault) → Reads text t ts → told.IsFault text e → e ≡ fault.Memory
-  no_syntax_fault text t ts fault.TooLong (es, said, (ls, ss, (p, ((short, lexes), spells, few, deep, times), shape, testers), says), f) h = absurd (omega arith)
-  no_syntax_fault text t ts fault.Memory a h = refl
-  no_syntax_fault text t ts (fault.Syntax b) (es, said, (ls, ss, (p, ((short, lexes), spells, few, deep, times), shape, testers), says), f) (ms, rs, (n, lexes'), (i, (none, within, begins, wrong), at)) =
-      absurd (none (p, spells ∙ one_lexemes text ls ms ss rs lexes lexes'))
-  no_syntax_fault text t ts fault.TooMany (es, said, (ls, ss, (p, ((short, lexes), spells, few, deep, times), shape, testers), says), f) (ms, rs, (n, lexes'), (d, spells', many)) =
-      let same = ap query_count (same_query text ls ms ss rs p d lexes lexes' spells spells') in
-      absurd (omega arith)
-  no_syntax_fault text t ts fault.TooDeep (es, said, (ls, ss, (p, ((short, lexes), spells, few, deep, times), shape, testers), says), f) (ms, rs, (n, lexes'), (d, spells', few', deep')) =
-      absurd (false≢true (sym deep' ∙ ap (query_nests 16) (sym (same_query text ls ms ss rs p d lexes lexes' spells spells')) ∙ deep))
-  no_syntax_fault text t ts fault.Repeat (es, said, (ls, ss, (p, ((short, lexes), spells, few, deep, times), shape, testers), says), f) (ms, rs, (n, lexes'), (d, spells', few', deep', times')) =
-      absurd (false≢true (sym times' ∙ ap (query_repeats 32) (sym (same_query text ls ms ss rs p d lexes lexes' spells spells')) ∙ times))
+  no_syntax_fault text t ts e (es, said, says, tests) h = none_told text t es said e says h
 
   -- a fault is one of the language, or a literal is refused
   kind : (text : List ℕ) (e : QueryFault) → IsFault text e → OfLanguage text e ⊎ OfLiteral text e

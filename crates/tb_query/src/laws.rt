@@ -1,16 +1,19 @@
 //! Laws of what texts ask.
 
-ghost use Rattle.std.specs.Prelude.{◌≡◌, ℕ, List, map};
+ghost use Rattle.std.specs.Prelude.{◌≡◌, ◌⊎◌, ℕ, List, map};
 ghost use Rattle.tb_syntax.specs.Pattern.{Tree, Tester};
 ghost use Rattle.tb_syntax.specs.Saying.{Says};
 ghost use Rattle.tb_needle.specs.Literals.{PlainLit};
 ghost use Rattle.tb_query.specs.declared.fault.QueryFault.{QueryFault};
 ghost use Rattle.tb_query.specs.declared.fault.QueryFault.TheVariants.{Memory};
 ghost use Rattle.tb_query.specs.Reading.{IsFault, IsQuery, Reads, with_texts};
-ghost use Rattle.tb_query.specs.Search.{Asked};
+ghost use Rattle.tb_query.specs.Search.{Asked, IsSearchable};
 ghost use Rattle.tb_query.specs.Tests.{Test, literals_of};
 
-use tb_syntax::{one_fault, one_lexing, one_reading, one_saying};
+use tb_needle::a_literal_is_accepted_or_refused;
+use tb_syntax::{
+    one_fault, one_saying, what_is_said_can_be_searched, what_says_something_has_no_fault,
+};
 
 /// A text says one thing at most: one pattern, over one list of token expressions.
 pub fn a_text_has_one_reading()
@@ -25,8 +28,7 @@ pub fn a_query_has_no_fault()
     ensures { (text : List ℕ) (q : Asked) (e : QueryFault) → IsQuery text q → IsFault text e → e ≡ Memory }
 {
     a_text_has_one_reading();
-    one_lexing();
-    one_reading();
+    what_says_something_has_no_fault();
 }
 
 /// At most one fault is told of a text, want of memory aside.
@@ -34,8 +36,7 @@ pub fn a_text_has_one_fault()
     ensures { (text : List ℕ) (e f : QueryFault) → IsFault text e → IsFault text f → (e ≡ Memory → ⊥) → (f ≡ Memory → ⊥) → e ≡ f }
 {
     a_text_has_one_reading();
-    one_lexing();
-    one_reading();
+    what_says_something_has_no_fault();
     one_fault();
 }
 
@@ -45,3 +46,12 @@ pub fn literals_stand_in_order()
     ensures { (text : List ℕ) (t : Tree) (es : List Tester) (said : List (List ℕ)) → Says text t es said →
         map (λ (l : PlainLit). l.text) (literals_of (map (with_texts said) es)) ≡ said }
 {}
+
+/// A text is a query that can be searched for, or has a fault that is not want of memory.
+pub fn each_text_is_told()
+    ensures { (text : List ℕ) → ((q : Asked) × IsQuery text q × IsSearchable q) ⊎ ((e : QueryFault) × (e ≡ Memory → ⊥) × IsFault text e) }
+{
+    a_literal_is_accepted_or_refused();
+    what_is_said_can_be_searched();
+    tb_syntax::each_text_is_told();
+}

@@ -14,7 +14,7 @@ use Rattle.tb_syntax.specs.First.{found, said_of, after_literal, cut, first_or, 
 
 -- tests
 
-either : (b : Bool) → (b ≡ true) ⊎ (b ≡ false)
+pub either : (b : Bool) → (b ≡ true) ⊎ (b ≡ false)
 either true = inl refl
 either false = inr refl
 

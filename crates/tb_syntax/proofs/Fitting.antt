@@ -37,10 +37,10 @@ abbrev mutual
   IsProperForest n no_more = Unit {0}
   IsProperForest n (and_more t ts) = IsProperTree n t × IsProperForest n ts
 
-tree-Tok : (e : ℕ) → tree (Tok e) ≡ tok e
+pub tree-Tok : (e : ℕ) → tree (Tok e) ≡ tok e
 tree-Tok e = ap tree (sym (rolls-Tok e)) ∙ fold-roll-Pat Tree tree_step (Pat-F.Tok e)
 
-tree-Rep : (p : Box Pat Global) (a : ℕ) (b : Option ℕ) → tree (Rep p a b) ≡ rep (tree p.value) a b
+pub tree-Rep : (p : Box Pat Global) (a : ℕ) (b : Option ℕ) → tree (Rep p a b) ≡ rep (tree p.value) a b
 tree-Rep p a b = ap tree (sym (rolls-Rep p a b)) ∙ fold-roll-Pat Tree tree_step (Pat-F.Rep p a b)
 
 tree-Cat : (shape : _) (row : Row_of-Pat _) → tree (Cat' shape row) ≡ cat (forest (map tree (items-the_row-Pat _ row)))

@@ -11,7 +11,7 @@ use Rattle.tb_syntax.specs.Lexing.{is_white, begins_black, literals_after, Lexes
 use Rattle.tb_syntax.proofs.Firsts.{shorter, one_first}
 
 -- white space before
-white_before : (at k c : ℕ) (cs : List ℕ) (ls : List Lexeme) (ss : List Span) → is_white c ≡ true → Lexes (at + 1) k cs ls ss → Lexes at k (c ∷ cs) ls ss
+pub white_before : (at k c : ℕ) (cs : List ℕ) (ls : List Lexeme) (ss : List Span) → is_white c ≡ true → Lexes (at + 1) k cs ls ss → Lexes at k (c ∷ cs) ls ss
 white_before at k c cs [] [] w h = rw w h
 white_before at k c cs [] (s ∷ ss) w h = absurd h
 white_before at k c cs (l ∷ ls) [] w h = absurd h
@@ -25,7 +25,7 @@ lexeme_before at k n e text l ls ss black starts le end h =
     ([], text, refl, refl, black, omega arith, inl (drop n text, starts, omega (arith, length-drop n text), h))
 
 -- no lexeme there
-stray_here : (at k : ℕ) (text : List ℕ) → begins_black text ≡ true → IsStray k text → Lexes at k text (Stray ∷ []) (record { start = at; end = at } ∷ [])
+pub stray_here : (at k : ℕ) (text : List ℕ) → begins_black text ≡ true → IsStray k text → Lexes at k text (Stray ∷ []) (record { start = at; end = at } ∷ [])
 stray_here at k text black none = ([], text, refl, refl, black, omega arith, inr (none, refl, refl, refl, refl))
 
 -- the lexemes that have been read, whatever follows

@@ -19,3 +19,6 @@ pub mod Sayings
 pub mod Fitting
 pub mod Readings
 pub mod OneFault
+pub mod AnyText
+pub mod AnyLexemes
+pub mod PatternsMade

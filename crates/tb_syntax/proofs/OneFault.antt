@@ -1,4 +1,4 @@
--- One fault is told of a text, want of memory aside.
+-- One fault is told of a text, want of memory aside, and none of a text that says something.
 use Rattle.std.proofs.Common.{◌≡◌, ◌<◌, ◌≤◌, ◌+◌, ℕ, List, ◌++◌, length, take, drop, true, false, refl, sym, ap, subst, ◌∙◌, ◌⊎◌, inl, inr, ⊎_elim, append_assoc, arith}
 use Rattle.std.proofs.lemmas.Bool.{false≢true, cases_lt}
 use Rattle.std.proofs.lemmas.List.{length-take, take-append-drop, take-append-le}
@@ -8,7 +8,9 @@ use Rattle.tb_syntax.specs.declared.lexeme.Lexeme.{Lexeme}
 use Rattle.tb_syntax.specs.declared.lexing.Span.{Span}
 use Rattle.tb_syntax.specs.Grammar.{Query, query_text, IsBeginning}
 use Rattle.tb_syntax.specs.Limits.{query_count, query_nests, query_repeats}
+use Rattle.tb_syntax.specs.Pattern.{Tree, Tester}
 use Rattle.tb_syntax.specs.Reading.{IsText, IsWrongAt, IsFault, byte_of}
+use Rattle.tb_syntax.specs.Saying.{Says}
 use Rattle.tb_syntax.proofs.Lexings.{one_lexing}
 use Rattle.tb_syntax.proofs.Unique.{one_derivation}
 
@@ -102,3 +104,23 @@ met text e f (inr (inr x)) (inr (inr y)) = both_beyond text e f x y
 
 pub one_fault : (text : List ℕ) (e f : Fault) → IsFault text e → IsFault text f → (e ≡ Memory → ⊥) → (f ≡ Memory → ⊥) → e ≡ f
 one_fault text e f x y not nor = met text e f (kind text e x not) (kind text f y nor)
+
+-- of a text that says something no fault is told
+
+-- the derivation of a text that is within the limits, and another one
+same_derivation : (text : List ℕ) (ls ms : List Lexeme) (ss ts : List Span) (p q : Query) → IsText text ls ss → IsText text ms ts → query_text p ≡ ls → query_text q ≡ ms → q ≡ p
+same_derivation text ls ms ss ts p q there again spells spells' =
+    one_derivation q p (spells' ∙ sym (one_lexing text ls ms ss ts there.1 again.1).0 ∙ sym spells)
+
+pub no_fault : (text : List ℕ) (t : Tree) (es : List Tester) (said : List (List ℕ)) (e : Fault) → Says text t es said → IsFault text e → e ≡ Memory
+no_fault text t es said TooLong (ls, ss, (p, ((short, lexes), spells, few, flat, fits), pattern, tests), saying) long = absurd (omega arith)
+no_fault text t es said (Syntax b) (ls, ss, (p, (there, spells, few, flat, fits), pattern, tests), saying) (ms, ts, again, (i, wrong, at)) =
+    absurd (wrong.0 (p, spells ∙ (one_lexing text ls ms ss ts there.1 again.1).0))
+no_fault text t es said TooMany (ls, ss, (p, (there, spells, few, flat, fits), pattern, tests), saying) (ms, ts, again, (q, spells', many)) =
+    let same = ap query_count (same_derivation text ls ms ss ts p q there again spells spells') in
+    absurd (omega arith)
+no_fault text t es said TooDeep (ls, ss, (p, (there, spells, few, flat, fits), pattern, tests), saying) (ms, ts, again, (q, spells', less, deep)) =
+    absurd (false≢true (sym deep ∙ ap (query_nests 16) (same_derivation text ls ms ss ts p q there again spells spells') ∙ flat))
+no_fault text t es said Repeat (ls, ss, (p, (there, spells, few, flat, fits), pattern, tests), saying) (ms, ts, again, (q, spells', less, deep, times)) =
+    absurd (false≢true (sym times ∙ ap (query_repeats 32) (same_derivation text ls ms ss ts p q there again spells spells') ∙ fits))
+no_fault text t es said Memory says x = refl

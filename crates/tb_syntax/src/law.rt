@@ -1,17 +1,20 @@
 //! Laws of the language.
 
-ghost use Rattle.std.specs.Prelude.{◌≡◌, ℕ, List};
+ghost use Rattle.std.specs.Prelude.{◌≡◌, ◌≤◌, ◌⊎◌, ℕ, List, length};
 ghost use Rattle.std.specs.List.{slice_get};
+ghost use Rattle.tb_match.specs.declared.pattern.Pat.{Pat};
+ghost use Rattle.tb_match.specs.Weight.{Fits};
 ghost use Rattle.tb_syntax.specs.declared.fault.Fault.{Fault};
 ghost use Rattle.tb_syntax.specs.declared.fault.Fault.TheVariants.{Memory};
 ghost use Rattle.tb_syntax.specs.declared.lexeme.Lexeme.{Lexeme};
 ghost use Rattle.tb_syntax.specs.declared.lexing.Span.{Span};
-ghost use Rattle.tb_syntax.specs.Grammar.{Query, query_text};
+ghost use Rattle.tb_syntax.specs.Grammar.{IsQuery, Query, query_text};
 ghost use Rattle.tb_syntax.specs.Lexing.{Lexes, bytes_at};
-ghost use Rattle.tb_syntax.specs.Reading.{IsFault};
+ghost use Rattle.tb_syntax.specs.Reading.{IsFault, IsWrongAt};
 ghost use Rattle.tb_syntax.specs.Saying.{Says};
 ghost use Rattle.tb_syntax.specs.Spelling.{IsQuoted};
 ghost use Rattle.tb_syntax.specs.Pattern.{Tree, Tester, Reads};
+ghost use Rattle.tb_syntax.specs.Trees.{tree};
 
 /// Lexemes have one derivation at most, and so say one thing at most.
 pub fn one_reading()
@@ -47,4 +50,31 @@ pub fn one_saying()
 /// At most one fault is told of a text, want of memory aside.
 pub fn one_fault()
     ensures { (text : List ℕ) (e f : Fault) → IsFault text e → IsFault text f → (e ≡ Memory → ⊥) → (f ≡ Memory → ⊥) → e ≡ f }
+{}
+
+/// Of a text that says something no fault is told but want of memory.
+pub fn what_says_something_has_no_fault()
+    ensures { (text : List ℕ) (t : Tree) (es : List Tester) (said : List (List ℕ)) (e : Fault) → Says text t es said → IsFault text e → e ≡ Memory }
+{}
+
+/// A text has lexemes, whatever its bytes.
+pub fn each_text_has_lexemes()
+    ensures { (text : List ℕ) → (ls : List Lexeme) × (ss : List Span) × Lexes 0 0 text ls ss }
+{}
+
+/// Lexemes are a query, or are wrong at a place.
+pub fn lexemes_are_a_query_or_wrong()
+    ensures { (ls : List Lexeme) → IsQuery ls ⊎ ((i : ℕ) × IsWrongAt ls i) }
+{}
+
+/// A text says something, or has a fault that is not want of memory.
+pub fn each_text_is_told()
+    ensures { (text : List ℕ) → ((t : Tree) × (es : List Tester) × (said : List (List ℕ)) × Says text t es said) ⊎ ((e : Fault) × (e ≡ Memory → ⊥) × IsFault text e) }
+{}
+
+/// What a text says has a pattern of the matcher, which can be searched for over its token
+/// expressions.
+pub fn what_is_said_can_be_searched()
+    ensures { (text : List ℕ) (t : Tree) (es : List Tester) (said : List (List ℕ)) → Says text t es said →
+        (p : Pat) × (tree p ≡ t) × Fits (length es) p × (length es ≤ 32) }
 {}
