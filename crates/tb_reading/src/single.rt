@@ -11,7 +11,8 @@ ghost use Rattle.tb_tables.specs.Records.{Tables, Batch, Sentence, Revision, Sho
 ghost use Rattle.tb_tables.specs.Values.{batch_of, sentence_of, revision_of};
 ghost use Rattle.tb_reading.specs.Readable.{IsBatch, IsSentence, IsRevision};
 ghost use Rattle.tb_reading.specs.Found.{IsNumberOf, IsRevisionAt, HasUnreadable, has_number, has_name, has_pair, key_alone};
-ghost use Rattle.tb_reading.specs.Failing.{IsStoreFault, IsReadFault};
+ghost use Rattle.tb_tables.specs.Failing.{IsStoreFault};
+ghost use Rattle.tb_reading.specs.Failing.{IsReadFault};
 
 use crate::error::ReadError;
 use crate::records::{batch_in, number_in, revision_in, sentence_in};

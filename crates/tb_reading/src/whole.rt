@@ -9,7 +9,8 @@ ghost use Rattle.tb_tables.specs.Changes.{Holds};
 ghost use Rattle.tb_tables.specs.Records.{Tables, Batch, Sentence, Revision, Move, Total, Shows, numbered, batch_shown, sentence_shown, revision_shown, move_shown, total_shown, number_shown, meta_view, batch_view, sentence_view, revision_view, move_view, total_view, number_view};
 ghost use Rattle.tb_tables.specs.Values.{batch_of, sentence_of, revision_of, move_of, total_of};
 ghost use Rattle.tb_reading.specs.Readable.{IsBatch, IsSentence, IsRevision, IsMove, IsTotal, ComesBefore};
-ghost use Rattle.tb_reading.specs.Failing.{IsStoreFault, IsReadFault};
+ghost use Rattle.tb_tables.specs.Failing.{IsStoreFault};
+ghost use Rattle.tb_reading.specs.Failing.{IsReadFault};
 
 use crate::error::ReadError;
 use crate::records::{batches_in, moves_in, numbers_in, revisions_in, sentences_in, totals_in};

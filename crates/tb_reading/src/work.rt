@@ -8,7 +8,8 @@ ghost use Rattle.tb_tables.specs.Changes.{Holds};
 ghost use Rattle.tb_tables.specs.Records.{Tables, Sentence, Shows, numbered, sentence_shown, sentence_view};
 ghost use Rattle.tb_reading.specs.Readable.{IsSentence, IsWork};
 ghost use Rattle.tb_reading.specs.Found.{work_of, work_shown};
-ghost use Rattle.tb_reading.specs.Failing.{IsStoreFault, IsReadFault};
+ghost use Rattle.tb_tables.specs.Failing.{IsStoreFault};
+ghost use Rattle.tb_reading.specs.Failing.{IsReadFault};
 
 use crate::error::ReadError;
 use crate::records::number_at;

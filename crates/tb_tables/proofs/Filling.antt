@@ -43,14 +43,14 @@ versioned old new count bare h begun =
       );
     }
 
-abbrev zeros : ℕ → Row
+abbrev pub zeros : ℕ → Row
 zeros n = Int (pos n) ∷ Null ∷ Int (pos 0) ∷ Int (pos 0) ∷ []
 
-abbrev six : List Row
+abbrev pub six : List Row
 six = zeros 1 ∷ zeros 2 ∷ zeros 3 ∷ zeros 4 ∷ zeros 5 ∷ zeros 6 ∷ []
 
 -- a table without rows shows no records
-none_shown : (view : Row → Row) (rows : List Row) → rows ≡ [] → Shows view [] rows
+pub none_shown : (view : Row → Row) (rows : List Row) → rows ≡ [] → Shows view [] rows
 none_shown view rows none = subst (Shows view []) (sym none) (IsPermutation-refl [])
 
 pub filled : (old new : State) (count : ℕ) → IsVersioned old → Executes insert_totals [] old new (Ok count) → IsTrue new.in_transaction → IsInside new × Stands empty_tables new.now.trees

@@ -32,12 +32,11 @@ numbered_more row k (y ∷ ys) x =
     ap (λ rs. row k y ∷ rs) (numbered_more row (suc k) ys x ∙ ap (λ m. numbered row (suc k) ys ++ row m x ∷ []) same)
 
 module _ (view : Row → Row) where
+  pub one_more_shows : (shown : List Row) (new : Row) (rows : List Row) → Shows view shown rows → Shows view (shown ++ view new ∷ []) (new ∷ rows)
+  one_more_shows shown new rows same = IsPermutation-trans _ _ _ (IsPermutation-append_comm shown (view new ∷ [])) (IsPermutation-cons (view new) shown (map view rows) same)
+
   pub put_shows : (shown : List Row) (new : Row) (rows : List Row) → is_taken rows new ≡ false → Shows view shown rows → Shows view (shown ++ view new ∷ []) (put_row new rows)
-  put_shows shown new rows free same =
-      let a = IsPermutation-append_comm shown (view new ∷ []) in
-      let b = IsPermutation-cons (view new) shown (map view rows) same in
-      let c = IsPermutation-map view (new ∷ rows) (put_row new rows) (put_moves new rows free) in
-      IsPermutation-trans _ _ _ a (IsPermutation-trans _ _ _ b c)
+  put_shows shown new rows free same = IsPermutation-trans _ _ _ (one_more_shows shown new rows same) (IsPermutation-map view (new ∷ rows) (put_row new rows) (put_moves new rows free))
 
   pub put_numbered : {X : Type 0} (row : ℕ → X → Row) (n : ℕ) (xs : List X) (x : X) (new : Row) (rows : List Row) → n ≡ 1 + length xs → view new ≡ row n x → is_taken rows new ≡ false
       → Shows view (numbered row 1 xs) rows → Shows view (numbered row 1 (xs ++ x ∷ [])) (put_row new rows)
@@ -45,7 +44,7 @@ module _ (view : Row → Row) where
       let last : row (1 + length xs) x ∷ [] ≡ view new ∷ [] = ap (λ r. r ∷ []) (ap (λ m. row m x) (sym at) ∙ sym is) in
       subst (λ l. Shows view l (put_row new rows)) (sym (numbered_more row 1 xs x ∙ ap (λ l. numbered row 1 xs ++ l) last)) (put_shows (numbered row 1 xs) new rows free same)
 
-free_without : (id : ℕ) (new : Row) (at : rowid new ≡ Int (pos id)) (rows : List Row) → is_taken (without_rowid (pos id) rows) new ≡ false
+pub free_without : (id : ℕ) (new : Row) (at : rowid new ≡ Int (pos id)) (rows : List Row) → is_taken (without_rowid (pos id) rows) new ≡ false
 free_without id new at [] = refl
 free_without id new at (r ∷ rs) = elim (cases_Bool (is_eq (value_cmp (rowid r) (Int (pos id))))) [
   | inl met ↦ rw met (free_without id new at rs)
@@ -117,7 +116,7 @@ matched_all make n rows = found_map make n rows
 
 -- ---- rows that are a number alone
 
-equals_test : (m n : ℕ) → equals (Int (pos m)) (Int (pos n)) ≡ (m == n)
+pub equals_test : (m n : ℕ) → equals (Int (pos m)) (Int (pos n)) ≡ (m == n)
 equals_test m n = elim (cases_lt m n) [
   | inl less ↦ differs_below m n less ∙ grind (arith, nat_tests)
   | inr ge ↦ elim (cases_lt n m) [
@@ -126,7 +125,7 @@ equals_test m n = elim (cases_lt m n) [
   ]
 ]
 
-rowid_test : (m n : ℕ) → has_rowid (pos n) (number_shown m) ≡ (m == n)
+pub rowid_test : (m n : ℕ) → has_rowid (pos n) (number_shown m) ≡ (m == n)
 rowid_test m n = ap is_eq (value_cmp-Int (pos m) (pos n)) ∙ grind (arith, ints, nat_tests)
 
 without_numbers : (n : ℕ) (ns : List ℕ) → without_rowid (pos n) (map number_shown ns) ≡ map number_shown (filter (λ m. not (m == n)) ns)

@@ -7,3 +7,8 @@ pub mod Inside
 pub mod Making
 pub mod Filling
 pub mod Commands
+pub mod Unique
+pub mod Refusing
+pub mod Failing
+pub mod Changing
+pub mod Creating

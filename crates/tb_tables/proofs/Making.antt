@@ -20,14 +20,14 @@ went : {B E R : Type 0} {b : B} {Stops : E → Type 0} → ((stop : E) × Stops 
 went (inl stopped) = absurd (let e = stopped.2 in cc)
 went (inr on) = on
 
-same_value : {B E : Type 0} {a b : B} → ◌≡◌ {A = Result B E} (Ok a) (Ok b) → a ≡ b
+pub same_value : {B E : Type 0} {a b : B} → ◌≡◌ {A = Result B E} (Ok a) (Ok b) → a ≡ b
 same_value e = cc
 
-same_command : (r : _) → command_in r ≡ command_of r
+pub same_command : (r : _) → command_in r ≡ command_of r
 same_command (Ok c) = refl
 same_command (Err e) = refl
 
-same_statement : (sql : List ℕ) (r : _) → statement_in sql r ≡ statement_of sql r
+pub same_statement : (sql : List ℕ) (r : _) → statement_in sql r ≡ statement_of sql r
 same_statement sql (Ok c) = refl
 same_statement sql (Err e) = refl
 

@@ -5,3 +5,4 @@ pub mod Changes
 pub mod Making
 pub mod Values
 pub mod Commands
+pub mod Failing

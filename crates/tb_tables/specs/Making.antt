@@ -1,5 +1,5 @@
 -- The tables while they are made, and a desk's first records.
-use Rattle.std.specs.Prelude.{◌≡◌, ℕ, List, [], ◌∷◌, Result, Ok, Err, false, IsTrue}
+use Rattle.std.specs.Prelude.{◌≡◌, ℕ, List, [], ◌∷◌, Result, Ok, Err, false, IsTrue, IsUtf8, length}
 use Rattle.std.specs.List.{AllByRecursion}
 use Rattle.sqlite.specs.Store.{Ghosts}
 use Rattle.sqlite.specs.Held.{Held, state}
@@ -17,7 +17,10 @@ use Rattle.sqlite_resolve.specs.declared.compiled.Compiled.{Compiled}
 use Rattle.sqlite_resolve.specs.declared.error.CompileError.{CompileError}
 use Rattle.tb_tables.specs.Layout.{meta, batches, sentences, revisions}
 use Rattle.tb_tables.specs.Records.{Tables, Total, Shows, meta_view, number_shown}
+use Rattle.sqlite_catalog.specs.declared.error.Refusal.{Refusal}
+use Rattle.sqlite_catalog.specs.Calls.{RefusesTable}
 use Rattle.tb_tables.specs.Changes.{IsInside}
+use Rattle.tb_tables.specs.Failing.{IsWhole}
 
 abbrev pub no_schema : Schema
 no_schema = record { tables = []; indexes = []; views = [] }
@@ -76,3 +79,9 @@ pub record Makes (schema : Schema) (text : List ℕ) (table : Table) : Type 0 wh
   pub plain : IsPlain (understood schema text)
   pub defined : table_defined_by text ≡ Ok table
   pub uncounted : lacks_sequence (created schema table) ≡ false
+
+-- CREATE TABLE takes the text under the schema: it is one statement without parameters, and refused for no reason
+pub record Takes (schema : Schema) (text : List ℕ) : Type 0 where
+  pub utf8 : IsUtf8 text
+  pub whole : IsWhole (length text) 0 (understood schema text)
+  pub never : (why : Refusal) → RefusesTable schema text why → ⊥

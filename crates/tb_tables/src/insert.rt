@@ -1,14 +1,15 @@
 //! New rows. Each takes the number that follows the rows that are there.
 
-ghost use Rattle.std.specs.Prelude.{◌≡◌, ◌+◌, length, OnOk, string_bytes};
+ghost use Rattle.std.specs.Prelude.{◌≡◌, ◌≢◌, ◌⊎◌, ◌+◌, ◌<◌, ◌^◌, length, None, IfErr, OnOk, string_bytes};
 ghost use Rattle.sqlite.specs.State.{HasCleanDisk, KeepsCommit, Survives};
 ghost use Rattle.sqlite.specs.Held.{state};
-ghost use Rattle.tb_tables.specs.Records.{Tables};
+ghost use Rattle.tb_tables.specs.Records.{Tables, Stands};
 ghost use Rattle.tb_tables.specs.Changes.{IsInside, Changes, with_batch, with_sentence, with_revision, with_move, with_pulled};
+ghost use Rattle.tb_tables.specs.Failing.{IsStoreFault, IsRoomFault, Lacks, AreUnique};
 ghost use Rattle.tb_tables.specs.Values.{move_of};
 
 use crate::rows::MoveRow;
-use sqlite::{Alter, Error, Transaction, params};
+use sqlite::{Alter, Constraint, Error, ErrorCode, Transaction, params};
 
 /// Adds a batch under the next number.
 pub fn insert_batch<S: Alter>(
@@ -20,6 +21,7 @@ pub fn insert_batch<S: Alter>(
 ) -> Result<(), Error>
     ensures same_reference { tx.new.conn.ghost_name ≡ tx.old.conn.ghost_name }
     ensures ok { HasCleanDisk (state S.Store tx.new.conn.now) → OnOk result (IsInside (state S.Store tx.old.conn.now) → (d : Tables) → no ≡ 1 + length d.batches → Changes (state S.Store tx.old.conn.now) (state S.Store tx.new.conn.now) d (with_batch d (record { name = name.now; state = in_state; worker = worker.now }))) }
+    ensures fails { HasCleanDisk (state S.Store tx.new.conn.now) → (state S.Store tx.old.conn.now).step_limit ≡ None → IsInside (state S.Store tx.old.conn.now) → (d : Tables) → Stands d (state S.Store tx.old.conn.now).now.trees → no ≡ 1 + length d.batches → AreUnique (with_batch d (record { name = name.now; state = in_state; worker = worker.now })) → IfErr result IsStoreFault }
     ensures inside { HasCleanDisk (state S.Store tx.new.conn.now) → OnOk result (IsInside (state S.Store tx.old.conn.now) → IsInside (state S.Store tx.new.conn.now)) }
     ensures kept { HasCleanDisk (state S.Store tx.new.conn.now) → KeepsCommit (state S.Store tx.old.conn.now) (state S.Store tx.new.conn.now) }
     ensures survives { Survives (state S.Store tx.old.conn.now) (state S.Store tx.new.conn.now) (λ _. ⊥) }
@@ -42,6 +44,7 @@ pub fn insert_sentence<S: Alter>(
 ) -> Result<(), Error>
     ensures same_reference { tx.new.conn.ghost_name ≡ tx.old.conn.ghost_name }
     ensures ok { HasCleanDisk (state S.Store tx.new.conn.now) → OnOk result (IsInside (state S.Store tx.old.conn.now) → (d : Tables) → no ≡ 1 + length d.sentences → Changes (state S.Store tx.old.conn.now) (state S.Store tx.new.conn.now) d (with_sentence d (record { sent_id = sent_id.now; batch = batch; rev = rev; words = words }))) }
+    ensures fails { HasCleanDisk (state S.Store tx.new.conn.now) → (state S.Store tx.old.conn.now).step_limit ≡ None → IsInside (state S.Store tx.old.conn.now) → (d : Tables) → Stands d (state S.Store tx.old.conn.now).now.trees → no ≡ 1 + length d.sentences → AreUnique (with_sentence d (record { sent_id = sent_id.now; batch = batch; rev = rev; words = words })) → IfErr result IsStoreFault }
     ensures inside { HasCleanDisk (state S.Store tx.new.conn.now) → OnOk result (IsInside (state S.Store tx.old.conn.now) → IsInside (state S.Store tx.new.conn.now)) }
     ensures kept { HasCleanDisk (state S.Store tx.new.conn.now) → KeepsCommit (state S.Store tx.old.conn.now) (state S.Store tx.new.conn.now) }
     ensures survives { Survives (state S.Store tx.old.conn.now) (state S.Store tx.new.conn.now) (λ _. ⊥) }
@@ -51,6 +54,18 @@ pub fn insert_sentence<S: Alter>(
         params![no, sent_id, batch, rev, words],
     )?;
     Ok(())
+}
+
+/// The error of a row whose rowid SQLite chose, one above the last row's: that one is taken only where the rows do not
+/// ascend, so the file is corrupt.
+fn of_chosen_rowid(error: Error) -> Error
+    ensures { ((error ≡ Error.SqliteFailure (ErrorCode.ConstraintViolation Constraint.PrimaryKey)) × (result ≡ Error.SqliteFailure ErrorCode.DatabaseCorrupt)) ⊎ ((result ≡ error) × (error ≢ Error.SqliteFailure (ErrorCode.ConstraintViolation Constraint.PrimaryKey))) }
+{
+    match error {
+        Error::SqliteFailure(ErrorCode::ConstraintViolation(Constraint::PrimaryKey)) =>
+            Error::SqliteFailure(ErrorCode::DatabaseCorrupt),
+        error => error,
+    }
 }
 
 /// Adds a revision.
@@ -63,21 +78,25 @@ pub fn insert_revision<S: Alter>(
 ) -> Result<(), Error>
     ensures same_reference { tx.new.conn.ghost_name ≡ tx.old.conn.ghost_name }
     ensures ok { HasCleanDisk (state S.Store tx.new.conn.now) → OnOk result (IsInside (state S.Store tx.old.conn.now) → (d : Tables) → Changes (state S.Store tx.old.conn.now) (state S.Store tx.new.conn.now) d (with_revision d (record { sent = sent; rev = rev; who = who.now; body = body.now }))) }
+    ensures fails { HasCleanDisk (state S.Store tx.new.conn.now) → (state S.Store tx.old.conn.now).step_limit ≡ None → IsInside (state S.Store tx.old.conn.now) → (d : Tables) → Stands d (state S.Store tx.old.conn.now).now.trees → AreUnique (with_revision d (record { sent = sent; rev = rev; who = who.now; body = body.now })) → IfErr result IsRoomFault }
     ensures inside { HasCleanDisk (state S.Store tx.new.conn.now) → OnOk result (IsInside (state S.Store tx.old.conn.now) → IsInside (state S.Store tx.new.conn.now)) }
     ensures kept { HasCleanDisk (state S.Store tx.new.conn.now) → KeepsCommit (state S.Store tx.old.conn.now) (state S.Store tx.new.conn.now) }
     ensures survives { Survives (state S.Store tx.old.conn.now) (state S.Store tx.new.conn.now) (λ _. ⊥) }
 {
-    tx.execute(
+    match tx.execute(
         "INSERT INTO revisions(sent, rev, who, body) VALUES (?1, ?2, ?3, ?4)",
         params![sent, rev, who, body],
-    )?;
-    Ok(())
+    ) {
+        Ok(_) => Ok(()),
+        Err(error) => Err(of_chosen_rowid(error)),
+    }
 }
 
 /// Adds a move under the next number.
 pub fn insert_move<S: Alter>(tx: &mut Transaction<'_, S>, no: u32, m: &MoveRow) -> Result<(), Error>
     ensures same_reference { tx.new.conn.ghost_name ≡ tx.old.conn.ghost_name }
     ensures ok { HasCleanDisk (state S.Store tx.new.conn.now) → OnOk result (IsInside (state S.Store tx.old.conn.now) → (d : Tables) → no ≡ 1 + length d.moves → Changes (state S.Store tx.old.conn.now) (state S.Store tx.new.conn.now) d (with_move d (move_of m.now))) }
+    ensures fails { HasCleanDisk (state S.Store tx.new.conn.now) → (state S.Store tx.old.conn.now).step_limit ≡ None → IsInside (state S.Store tx.old.conn.now) → (d : Tables) → Stands d (state S.Store tx.old.conn.now).now.trees → no ≡ 1 + length d.moves → AreUnique d → IfErr result IsStoreFault }
     ensures inside { HasCleanDisk (state S.Store tx.new.conn.now) → OnOk result (IsInside (state S.Store tx.old.conn.now) → IsInside (state S.Store tx.new.conn.now)) }
     ensures kept { HasCleanDisk (state S.Store tx.new.conn.now) → KeepsCommit (state S.Store tx.old.conn.now) (state S.Store tx.new.conn.now) }
     ensures survives { Survives (state S.Store tx.old.conn.now) (state S.Store tx.new.conn.now) (λ _. ⊥) }
@@ -104,6 +123,7 @@ pub fn insert_move<S: Alter>(tx: &mut Transaction<'_, S>, no: u32, m: &MoveRow) 
 pub fn insert_pulled<S: Alter>(tx: &mut Transaction<'_, S>, sent: u32) -> Result<(), Error>
     ensures same_reference { tx.new.conn.ghost_name ≡ tx.old.conn.ghost_name }
     ensures ok { HasCleanDisk (state S.Store tx.new.conn.now) → OnOk result (IsInside (state S.Store tx.old.conn.now) → (d : Tables) → Changes (state S.Store tx.old.conn.now) (state S.Store tx.new.conn.now) d (with_pulled d sent)) }
+    ensures fails { HasCleanDisk (state S.Store tx.new.conn.now) → (state S.Store tx.old.conn.now).step_limit ≡ None → IsInside (state S.Store tx.old.conn.now) → (d : Tables) → Stands d (state S.Store tx.old.conn.now).now.trees → Lacks d.pulled sent → AreUnique d → IfErr result IsStoreFault }
     ensures inside { HasCleanDisk (state S.Store tx.new.conn.now) → OnOk result (IsInside (state S.Store tx.old.conn.now) → IsInside (state S.Store tx.new.conn.now)) }
     ensures kept { HasCleanDisk (state S.Store tx.new.conn.now) → KeepsCommit (state S.Store tx.old.conn.now) (state S.Store tx.new.conn.now) }
     ensures survives { Survives (state S.Store tx.old.conn.now) (state S.Store tx.new.conn.now) (λ _. ⊥) }

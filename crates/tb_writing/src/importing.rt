@@ -1,12 +1,13 @@
 //! The import of a file.
 
-ghost use Rattle.std.specs.Prelude.{◌≡◌, ◌+◌, ◌<◌, ◌^◌, length, false, [], IsTrue, OnOk, OnErr};
+ghost use Rattle.std.specs.Prelude.{◌≡◌, ◌+◌, ◌<◌, ◌^◌, length, None, false, [], IsTrue, IfErr, OnOk, OnErr};
 ghost use Rattle.sqlite.specs.State.{HasCleanDisk, KeepsCommit, Survives};
 ghost use Rattle.sqlite.specs.Held.{state};
 ghost use Rattle.tb_tables.specs.Records.{Tables, Stands};
 ghost use Rattle.tb_tables.specs.Changes.{IsInside, Changes, Holds, with_batch};
 ghost use Rattle.tb_tables.specs.Values.{move_of, total_of};
 ghost use Rattle.tb_tables.specs.Commands.{Item as ItemRecord, with_item, with_items, after_import};
+ghost use Rattle.tb_tables.specs.Failing.{IsRoomFault, AreUnique};
 ghost use Rattle.tb_writing.specs.Premises.{Follows};
 
 use crate::recording::{Change, record};
@@ -40,6 +41,7 @@ fn insert_item<S: Alter>(
 ) -> Result<(), Error>
     ensures same_reference { tx.new.conn.ghost_name ≡ tx.old.conn.ghost_name }
     ensures ok { HasCleanDisk (state S.Store tx.new.conn.now) → OnOk result (IsInside (state S.Store tx.old.conn.now) → (d : Tables) → number ≡ 1 + length d.sentences → Changes (state S.Store tx.old.conn.now) (state S.Store tx.new.conn.now) d (with_item batch who.now d item.now)) }
+    ensures fails { HasCleanDisk (state S.Store tx.new.conn.now) → (state S.Store tx.old.conn.now).step_limit ≡ None → IsInside (state S.Store tx.old.conn.now) → (d : Tables) → Stands d (state S.Store tx.old.conn.now).now.trees → number ≡ 1 + length d.sentences → AreUnique (with_item batch who.now d item.now) → IfErr result IsRoomFault }
     ensures inside { HasCleanDisk (state S.Store tx.new.conn.now) → OnOk result (IsInside (state S.Store tx.old.conn.now) → IsInside (state S.Store tx.new.conn.now)) }
     ensures kept { HasCleanDisk (state S.Store tx.new.conn.now) → KeepsCommit (state S.Store tx.old.conn.now) (state S.Store tx.new.conn.now) }
     ensures survives { Survives (state S.Store tx.old.conn.now) (state S.Store tx.new.conn.now) (λ _. ⊥) }
@@ -60,6 +62,7 @@ fn insert_items<S: Alter>(
     requires fits { first + length items.now < 2 ^ 32 }
     ensures same_reference { tx.new.conn.ghost_name ≡ tx.old.conn.ghost_name }
     ensures ok { HasCleanDisk (state S.Store tx.new.conn.now) → OnOk result (IsInside (state S.Store tx.old.conn.now) → (d : Tables) → first ≡ 1 + length d.sentences → Changes (state S.Store tx.old.conn.now) (state S.Store tx.new.conn.now) d (with_items batch who.now d items.now)) }
+    ensures fails { HasCleanDisk (state S.Store tx.new.conn.now) → (state S.Store tx.old.conn.now).step_limit ≡ None → IsInside (state S.Store tx.old.conn.now) → (d : Tables) → Stands d (state S.Store tx.old.conn.now).now.trees → first ≡ 1 + length d.sentences → AreUnique (with_items batch who.now d items.now) → IfErr result IsRoomFault }
     ensures inside { HasCleanDisk (state S.Store tx.new.conn.now) → OnOk result (IsInside (state S.Store tx.old.conn.now) → IsInside (state S.Store tx.new.conn.now)) }
     ensures kept { HasCleanDisk (state S.Store tx.new.conn.now) → KeepsCommit (state S.Store tx.old.conn.now) (state S.Store tx.new.conn.now) }
     ensures survives { Survives (state S.Store tx.old.conn.now) (state S.Store tx.new.conn.now) (λ _. ⊥) }
@@ -84,6 +87,7 @@ fn insert_file<S: Alter>(
     requires fits { first + length items.now < 2 ^ 32 }
     ensures same_reference { tx.new.conn.ghost_name ≡ tx.old.conn.ghost_name }
     ensures ok { HasCleanDisk (state S.Store tx.new.conn.now) → OnOk result (IsInside (state S.Store tx.old.conn.now) → (d : Tables) → number ≡ 1 + length d.batches → first ≡ 1 + length d.sentences → Changes (state S.Store tx.old.conn.now) (state S.Store tx.new.conn.now) d (with_items number who.now (with_batch d (record { name = name.now; state = 1; worker = [] })) items.now)) }
+    ensures fails { HasCleanDisk (state S.Store tx.new.conn.now) → (state S.Store tx.old.conn.now).step_limit ≡ None → IsInside (state S.Store tx.old.conn.now) → (d : Tables) → Stands d (state S.Store tx.old.conn.now).now.trees → number ≡ 1 + length d.batches → first ≡ 1 + length d.sentences → AreUnique (with_items number who.now (with_batch d (record { name = name.now; state = 1; worker = [] })) items.now) → IfErr result IsRoomFault }
     ensures inside { HasCleanDisk (state S.Store tx.new.conn.now) → OnOk result (IsInside (state S.Store tx.old.conn.now) → IsInside (state S.Store tx.new.conn.now)) }
     ensures kept { HasCleanDisk (state S.Store tx.new.conn.now) → KeepsCommit (state S.Store tx.old.conn.now) (state S.Store tx.new.conn.now) }
     ensures survives { Survives (state S.Store tx.old.conn.now) (state S.Store tx.new.conn.now) (λ _. ⊥) }
@@ -106,6 +110,7 @@ fn import<S: Alter>(
     requires fits { first + length items.now < 2 ^ 32 }
     ensures same_reference { tx.new.conn.ghost_name ≡ tx.old.conn.ghost_name }
     ensures ok { HasCleanDisk (state S.Store tx.new.conn.now) → OnOk result (IsInside (state S.Store tx.old.conn.now) → (d : Tables) → number ≡ 1 + length d.batches → first ≡ 1 + length d.sentences → Follows d change.now → Stands d (state S.Store tx.old.conn.now).now.trees → Changes (state S.Store tx.old.conn.now) (state S.Store tx.new.conn.now) d (after_import d name.now who.now items.now (move_of change.now.row) (total_of change.now.left) (total_of change.now.reached))) }
+    ensures fails { HasCleanDisk (state S.Store tx.new.conn.now) → (state S.Store tx.old.conn.now).step_limit ≡ None → IsInside (state S.Store tx.old.conn.now) → (d : Tables) → Stands d (state S.Store tx.old.conn.now).now.trees → number ≡ 1 + length d.batches → first ≡ 1 + length d.sentences → Follows d change.now → AreUnique (after_import d name.now who.now items.now (move_of change.now.row) (total_of change.now.left) (total_of change.now.reached)) → IfErr result IsRoomFault }
     ensures inside { HasCleanDisk (state S.Store tx.new.conn.now) → OnOk result (IsInside (state S.Store tx.old.conn.now) → IsInside (state S.Store tx.new.conn.now)) }
     ensures kept { HasCleanDisk (state S.Store tx.new.conn.now) → KeepsCommit (state S.Store tx.old.conn.now) (state S.Store tx.new.conn.now) }
     ensures survives { Survives (state S.Store tx.old.conn.now) (state S.Store tx.new.conn.now) (λ _. ⊥) }
@@ -133,6 +138,7 @@ pub fn write_import<S: Alter>(
     requires autocommit { conn.old.in_transaction ≡ false }
     requires fits { first + length items.now < 2 ^ 32 }
     ensures ok { HasCleanDisk (state S.Store conn.new) → OnOk result ((d : Tables) → Holds S.Store conn.old d → number ≡ 1 + length d.batches → first ≡ 1 + length d.sentences → Follows d change.now → Holds S.Store conn.new (after_import d name.now who.now items.now (move_of change.now.row) (total_of change.now.left) (total_of change.now.reached))) }
+    ensures fails { HasCleanDisk (state S.Store conn.new) → (state S.Store conn.old).step_limit ≡ None → (d : Tables) → Holds S.Store conn.old d → number ≡ 1 + length d.batches → first ≡ 1 + length d.sentences → Follows d change.now → AreUnique (after_import d name.now who.now items.now (move_of change.now.row) (total_of change.now.left) (total_of change.now.reached)) → IfErr result IsRoomFault }
     ensures err { HasCleanDisk (state S.Store conn.new) → IsTrue (state S.Store conn.new).is_open → OnErr result ((d : Tables) → Holds S.Store conn.old d → Holds S.Store conn.new d) }
     ensures crash { Survives (state S.Store conn.old) (state S.Store conn.new) (λ db. (d : Tables) → Holds S.Store conn.old d → number ≡ 1 + length d.batches → first ≡ 1 + length d.sentences → Follows d change.now → Stands (after_import d name.now who.now items.now (move_of change.now.row) (total_of change.now.left) (total_of change.now.reached)) db) }
     ensures mode { conn.new.in_transaction ≡ false }

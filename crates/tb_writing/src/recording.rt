@@ -1,12 +1,13 @@
 //! A change of the totals with its move: what every command writes last.
 
-ghost use Rattle.std.specs.Prelude.{◌≡◌, ◌≤◌, length, OnOk};
+ghost use Rattle.std.specs.Prelude.{◌≡◌, ◌≤◌, length, IfErr, None, OnOk};
 ghost use Rattle.sqlite.specs.State.{HasCleanDisk, KeepsCommit, Survives};
 ghost use Rattle.sqlite.specs.Held.{state};
 ghost use Rattle.tb_tables.specs.Records.{Tables, Stands};
 ghost use Rattle.tb_tables.specs.Changes.{IsInside, Changes};
 ghost use Rattle.tb_tables.specs.Values.{move_of, total_of};
 ghost use Rattle.tb_tables.specs.Commands.{with_total, recorded};
+ghost use Rattle.tb_tables.specs.Failing.{IsStoreFault, AreUnique};
 ghost use Rattle.tb_writing.specs.Premises.{Follows};
 
 use sqlite::{Alter, Error, Transaction};
@@ -32,6 +33,7 @@ fn write_total<S: Alter>(
 ) -> Result<(), Error>
     ensures same_reference { tx.new.conn.ghost_name ≡ tx.old.conn.ghost_name }
     ensures ok { HasCleanDisk (state S.Store tx.new.conn.now) → OnOk result (IsInside (state S.Store tx.old.conn.now) → (d : Tables) → in_state ≤ length d.totals → Stands d (state S.Store tx.old.conn.now).now.trees → Changes (state S.Store tx.old.conn.now) (state S.Store tx.new.conn.now) d (with_total d in_state (total_of total.now))) }
+    ensures fails { HasCleanDisk (state S.Store tx.new.conn.now) → (state S.Store tx.old.conn.now).step_limit ≡ None → IsInside (state S.Store tx.old.conn.now) → (d : Tables) → Stands d (state S.Store tx.old.conn.now).now.trees → AreUnique d → IfErr result IsStoreFault }
     ensures inside { HasCleanDisk (state S.Store tx.new.conn.now) → OnOk result (IsInside (state S.Store tx.old.conn.now) → IsInside (state S.Store tx.new.conn.now)) }
     ensures kept { HasCleanDisk (state S.Store tx.new.conn.now) → KeepsCommit (state S.Store tx.old.conn.now) (state S.Store tx.new.conn.now) }
     ensures survives { Survives (state S.Store tx.old.conn.now) (state S.Store tx.new.conn.now) (λ _. ⊥) }
@@ -47,6 +49,7 @@ fn write_total<S: Alter>(
 pub(crate) fn record<S: Alter>(tx: &mut Transaction<'_, S>, change: &Change) -> Result<(), Error>
     ensures same_reference { tx.new.conn.ghost_name ≡ tx.old.conn.ghost_name }
     ensures ok { HasCleanDisk (state S.Store tx.new.conn.now) → OnOk result (IsInside (state S.Store tx.old.conn.now) → (d : Tables) → Follows d change.now → Stands d (state S.Store tx.old.conn.now).now.trees → Changes (state S.Store tx.old.conn.now) (state S.Store tx.new.conn.now) d (recorded d (move_of change.now.row) (total_of change.now.left) (total_of change.now.reached))) }
+    ensures fails { HasCleanDisk (state S.Store tx.new.conn.now) → (state S.Store tx.old.conn.now).step_limit ≡ None → IsInside (state S.Store tx.old.conn.now) → (d : Tables) → Follows d change.now → Stands d (state S.Store tx.old.conn.now).now.trees → AreUnique d → IfErr result IsStoreFault }
     ensures inside { HasCleanDisk (state S.Store tx.new.conn.now) → OnOk result (IsInside (state S.Store tx.old.conn.now) → IsInside (state S.Store tx.new.conn.now)) }
     ensures kept { HasCleanDisk (state S.Store tx.new.conn.now) → KeepsCommit (state S.Store tx.old.conn.now) (state S.Store tx.new.conn.now) }
     ensures survives { Survives (state S.Store tx.old.conn.now) (state S.Store tx.new.conn.now) (λ _. ⊥) }

@@ -1,3 +1,7 @@
+use Rattle.std.proofs.Common.{sym, subst}
+use Rattle.std.proofs.lemmas.Result.{err_from_is_err_and}
+use Rattle.tb_tables.specs.Failing.{IsStoreFault}
+use Rattle.tb_tables.proofs.Creating.{make_fails}
 use Rattle.sqlite.specs.Held.{state}
 use Rattle.tb_tables.proofs.Making.{makes_bare}
 use Rattle.tb_tables.proofs.creation.make.Goals as goal
@@ -6,3 +10,11 @@ pub returns-clause-ok : goal.returns-clause-ok
 returns-clause-ok g c clean schema table bare makes =
     let ran = c.in_ok-execute.ensures.runs clean bare.begun in
     makes_bare (state g.S.Store c.args.tx.now.conn.now) (state g.S.Store c.execute.new.self.conn.now) schema c.args.text.now table c.in_ok-execute.field-0 bare makes ran.0 ran.1.mode
+
+pub returns-in_err-execute-clause-fails : goal.returns-in_err-execute-clause-fails
+returns-in_err-execute-clause-fails g c clean schema table bare makes takes =
+    let old = state g.S.Store c.args.tx.now.conn.now in
+    let new = state g.S.Store c.execute.new.self.conn.now in
+    let told = err_from_is_err_and c.from_residual.result c.from_residual.ensures.1 in
+    let ran = c.in_err-execute.ensures.runs clean bare.begun in
+    rw told.1 (subst IsStoreFault (sym told.2) (make_fails old new schema c.args.text.now table bare.is makes takes c.in_err-execute.field-0.0 ran))

@@ -1,3 +1,7 @@
+use Rattle.std.proofs.Common.{arith, subst, sym}
+use Rattle.std.proofs.lemmas.Result.{err_from_is_err_and}
+use Rattle.tb_tables.specs.Failing.{IsStoreFault}
+use Rattle.tb_tables.proofs.Failing.{pulled_fails}
 use Rattle.sqlite.specs.Held.{state}
 use Rattle.tb_tables.proofs.Inside.{kept_by}
 use Rattle.tb_tables.proofs.Meaning.{puts_pulled, stands_pulled}
@@ -24,3 +28,12 @@ returns-clause-kept g c clean = kept_by g.S.Store _ _ c.args.tx.now.conn.now c.e
 
 pub returns-in_err-execute-clause-kept : goal.returns-in_err-execute-clause-kept
 returns-in_err-execute-clause-kept g c clean = kept_by g.S.Store _ _ c.args.tx.now.conn.now c.execute.new.self.conn.now c.execute.ensures.ended (c.execute.ensures.runs clean)
+
+pub returns-in_err-execute-clause-fails : goal.returns-in_err-execute-clause-fails
+returns-in_err-execute-clause-fails g c clean unlimited inside d stands lacks unique =
+    let old = state g.S.Store c.args.tx.now.conn.now in
+    let new = state g.S.Store c.execute.new.self.conn.now in
+    let told = err_from_is_err_and c.from_residual.result c.from_residual.ensures.1 in
+    let ran = c.in_err-execute.ensures.runs clean inside.begun in
+    let small = c.ranges.sent.fits in
+    rw told.1 (subst IsStoreFault (sym told.2) (pulled_fails old new d c.args.sent c.in_err-execute.field-0.0 inside.schema unlimited stands (omega (arith, small)) lacks unique (rw c.params-to_sql.ensures at ran)))

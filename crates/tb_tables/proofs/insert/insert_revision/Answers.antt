@@ -1,29 +1,38 @@
+use Rattle.tb_tables.proofs.Failing.{revision_fails, chosen_fails}
 use Rattle.sqlite.specs.Held.{state}
 use Rattle.tb_tables.specs.Records.{Revision}
 use Rattle.tb_tables.proofs.Inside.{kept_by}
 use Rattle.tb_tables.proofs.Meaning.{puts_revision, stands_revision}
 use Rattle.tb_tables.proofs.insert.insert_revision.Goals as goal
 
-pub returns-clause-ok : goal.returns-clause-ok
-returns-clause-ok g c clean inside d =
+pub returns-in-Ok-clause-ok : goal.returns-in-Ok-clause-ok
+returns-in-Ok-clause-ok g c clean inside d =
     let old = state g.S.Store c.args.tx.now.conn.now in
     let new = state g.S.Store c.execute.new.self.conn.now in
-    let ran = c.in_ok-execute.ensures.runs clean inside.begun in
+    let ran = c.in-Ok.ensures.runs clean inside.begun in
     let x : Revision = record { sent = c.args.sent; rev = c.args.rev; who = c.args.who.now; body = c.args.body.now } in
-    let puts = puts_revision old new x c.in_ok-execute.field-0 inside.schema (rw (c.params-to_sql.ensures, c.params-to_sql-2.ensures, c.params-to_sql-3.ensures, c.params-to_sql-4.ensures) at ran.0) in
+    let puts = puts_revision old new x c.in-Ok.field-0 inside.schema (rw (c.params-to_sql.ensures, c.params-to_sql-2.ensures, c.params-to_sql-3.ensures, c.params-to_sql-4.ensures) at ran.0) in
     record { inside = record { begun = ran.1.mode; schema = puts.sets.schema }; committed = ran.1.committed_is; stands = stands_revision old new d x puts }
 
-pub returns-clause-inside : goal.returns-clause-inside
-returns-clause-inside g c clean inside =
+pub returns-in-Ok-clause-inside : goal.returns-in-Ok-clause-inside
+returns-in-Ok-clause-inside g c clean inside =
     let old = state g.S.Store c.args.tx.now.conn.now in
     let new = state g.S.Store c.execute.new.self.conn.now in
-    let ran = c.in_ok-execute.ensures.runs clean inside.begun in
+    let ran = c.in-Ok.ensures.runs clean inside.begun in
     let x : Revision = record { sent = c.args.sent; rev = c.args.rev; who = c.args.who.now; body = c.args.body.now } in
-    let puts = puts_revision old new x c.in_ok-execute.field-0 inside.schema (rw (c.params-to_sql.ensures, c.params-to_sql-2.ensures, c.params-to_sql-3.ensures, c.params-to_sql-4.ensures) at ran.0) in
+    let puts = puts_revision old new x c.in-Ok.field-0 inside.schema (rw (c.params-to_sql.ensures, c.params-to_sql-2.ensures, c.params-to_sql-3.ensures, c.params-to_sql-4.ensures) at ran.0) in
     record { begun = ran.1.mode; schema = puts.sets.schema }
 
-pub returns-clause-kept : goal.returns-clause-kept
-returns-clause-kept g c clean = kept_by g.S.Store _ _ c.args.tx.now.conn.now c.execute.new.self.conn.now c.execute.ensures.ended (c.execute.ensures.runs clean)
+pub returns-in-Ok-clause-kept : goal.returns-in-Ok-clause-kept
+returns-in-Ok-clause-kept g c clean = kept_by g.S.Store _ _ c.args.tx.now.conn.now c.execute.new.self.conn.now c.execute.ensures.ended (c.execute.ensures.runs clean)
 
-pub returns-in_err-execute-clause-kept : goal.returns-in_err-execute-clause-kept
-returns-in_err-execute-clause-kept g c clean = kept_by g.S.Store _ _ c.args.tx.now.conn.now c.execute.new.self.conn.now c.execute.ensures.ended (c.execute.ensures.runs clean)
+pub returns-in-Err-clause-kept : goal.returns-in-Err-clause-kept
+returns-in-Err-clause-kept g c clean = kept_by g.S.Store _ _ c.args.tx.now.conn.now c.execute.new.self.conn.now c.execute.ensures.ended (c.execute.ensures.runs clean)
+
+pub returns-in-Err-clause-fails : goal.returns-in-Err-clause-fails
+returns-in-Err-clause-fails g c clean unlimited inside d stands unique =
+    let old = state g.S.Store c.args.tx.now.conn.now in
+    let new = state g.S.Store c.execute.new.self.conn.now in
+    let ran = c.in-Err.ensures.runs clean inside.begun in
+    let x : Revision = record { sent = c.args.sent; rev = c.args.rev; who = c.args.who.now; body = c.args.body.now } in
+    chosen_fails c.in-Err.error c.of_chosen_rowid.result (revision_fails old new d x c.in-Err.error inside.schema unlimited stands unique (rw (c.params-to_sql.ensures, c.params-to_sql-2.ensures, c.params-to_sql-3.ensures, c.params-to_sql-4.ensures) at ran)) c.of_chosen_rowid.ensures

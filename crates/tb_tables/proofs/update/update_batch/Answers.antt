@@ -1,4 +1,7 @@
-use Rattle.std.proofs.Common.{◌-◌, arith, slice_set}
+use Rattle.std.proofs.Common.{◌-◌, arith, slice_set, subst, sym}
+use Rattle.std.proofs.lemmas.Result.{err_from_is_err_and}
+use Rattle.tb_tables.specs.Failing.{IsStoreFault}
+use Rattle.tb_tables.proofs.Changing.{batch_fails}
 use Rattle.sqlite.specs.Held.{state}
 use Rattle.tb_tables.specs.Records.{Batch}
 use Rattle.tb_tables.proofs.Inside.{kept_by}
@@ -29,3 +32,12 @@ returns-clause-kept g c clean = kept_by g.S.Store _ _ c.args.tx.now.conn.now c.e
 
 pub returns-in_err-execute-clause-kept : goal.returns-in_err-execute-clause-kept
 returns-in_err-execute-clause-kept g c clean = kept_by g.S.Store _ _ c.args.tx.now.conn.now c.execute.new.self.conn.now c.execute.ensures.ended (c.execute.ensures.runs clean)
+
+pub returns-in_err-execute-clause-fails : goal.returns-in_err-execute-clause-fails
+returns-in_err-execute-clause-fails g c clean unlimited inside d stands unique =
+    let old = state g.S.Store c.args.tx.now.conn.now in
+    let new = state g.S.Store c.execute.new.self.conn.now in
+    let told = err_from_is_err_and c.from_residual.result c.from_residual.ensures.1 in
+    let ran = c.in_err-execute.ensures.runs clean inside.begun in
+    let small = c.ranges.no.fits in
+    rw told.1 (subst IsStoreFault (sym told.2) (batch_fails old new d c.args.no c.args.in_state c.args.worker.now c.in_err-execute.field-0.0 inside.schema unlimited stands c.requires.row (omega (arith, small)) unique (rw (c.params-to_sql.ensures, c.params-to_sql-2.ensures, c.params-to_sql-3.ensures) at ran)))

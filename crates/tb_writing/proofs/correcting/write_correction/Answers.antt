@@ -8,6 +8,8 @@ use Rattle.tb_tables.specs.Commands.{after_correction}
 use Rattle.tb_tables.specs.Values.{move_of, total_of}
 use Rattle.tb_writing.specs.Premises.{Follows}
 use Rattle.tb_writing.proofs.Commands.{on_err, begins_inside, committed_holds, failed_holds, command_survives}
+use Rattle.tb_tables.specs.Failing.{IsRoomFault}
+use Rattle.tb_writing.proofs.Failing.{handed_on, begins_unlimited}
 use Rattle.tb_writing.proofs.correcting.write_correction.Goals as goal
 
 pub returns-clause-ok : goal.returns-clause-ok
@@ -69,3 +71,15 @@ returns-in_err-commit-clause-crash g c =
     (c.in_ok-correct.ensures.ok was start.0 d s is follows start.1).stands start.1 in
     subst (λ h. Survives (state g.S.Store old) (state g.S.Store h) P) same
     (command_survives g.S.Store old begun last end c.transaction-tx.ensures.begun P c.correct.ensures.survives c.commit.ensures.survives written)
+
+pub returns-in_err-correct-clause-fails : goal.returns-in_err-correct-clause-fails
+returns-in_err-correct-clause-fails g c clean unlimited d holds s is follows unique =
+    let old = c.args.conn.now in
+    let begun = c.transaction-tx.result.conn.now in
+    let last = c.correct.new.tx.conn.now in
+    let late : HasCleanDisk (state g.S.Store c.drop-tx.new.self.0) = search rules in
+    let was : HasCleanDisk (state g.S.Store last) = omega (arith, c.drop-tx.ensures.survives.clean) in
+    let start = begins_inside g.S.Store old begun last last c.transaction-tx.ensures.begun d holds in
+    let free = begins_unlimited g.S.Store old begun c.transaction-tx.ensures.begun unlimited in
+    let fault = c.in_err-correct.ensures.fails was free start.0 d s is follows start.1 unique in
+    handed_on IsRoomFault c.from_residual.result c.in_err-correct.field-0.0 c.from_residual.ensures.1 fault

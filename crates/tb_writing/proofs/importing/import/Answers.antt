@@ -1,4 +1,4 @@
-use Rattle.std.proofs.Common.{ℕ, [], arith, subst}
+use Rattle.std.proofs.Common.{ℕ, [], arith, subst, sym, inl, ◌∙◌}
 use Rattle.sqlite.specs.State.{HasCleanDisk}
 use Rattle.sqlite.specs.Held.{state}
 use Rattle.tb_tables.specs.Records.{Tables}
@@ -8,6 +8,9 @@ use Rattle.tb_tables.specs.Values.{move_of, total_of}
 use Rattle.tb_writing.proofs.Commands.{changes_then}
 use Rattle.tb_writing.proofs.Numbers.{items_keep, follows_too}
 use Rattle.tb_writing.proofs.importing.import.Goals as goal
+use Rattle.tb_tables.specs.Failing.{IsRoomFault, AreUnique}
+use Rattle.tb_writing.proofs.Apart.{unique_unrecorded}
+use Rattle.tb_writing.proofs.Failing.{handed_on}
 
 pub returns-clause-ok : goal.returns-clause-ok
 returns-clause-ok g c clean inside d number first follows stands =
@@ -24,3 +27,29 @@ returns-clause-ok g c clean inside d number first follows stands =
     let one = c.in_ok-insert_file.ensures.ok was inside d number first in
     let two = c.in_ok-record.ensures.ok clean one.inside between (follows_too d between change kept.0 kept.1 follows) (one.stands stands) in
     subst (λ n. Changes old new d (finished n)) number (changes_then old mid new d between (finished c.args.number) one two)
+
+pub returns-in_err-insert_file-clause-fails : goal.returns-in_err-insert_file-clause-fails
+returns-in_err-insert_file-clause-fails g c clean unlimited inside d stands number first follows unique =
+    let change = c.args.change.now in
+    let opened = with_batch d (record { name = c.args.name.now; state = 1; worker = [] }) in
+    let filled : ℕ → Tables = λ n. with_items n c.args.who.now opened c.args.items.now in
+    let all = unique_unrecorded _ (move_of change.row) (total_of change.left) (total_of change.reached) unique in
+    let apart = subst (λ n. AreUnique (filled n)) (sym number) all in
+    let fault = c.in_err-insert_file.ensures.fails clean unlimited inside d stands number first apart in
+    handed_on IsRoomFault c.from_residual.result c.in_err-insert_file.field-0.0 c.from_residual.ensures.1 fault
+
+pub returns-in_err-record-clause-fails : goal.returns-in_err-record-clause-fails
+returns-in_err-record-clause-fails g c clean unlimited inside d stands number first follows unique =
+    let mid = state g.S.Store c.insert_file.new.tx.conn.now in
+    let change = c.args.change.now in
+    let was : HasCleanDisk mid = omega (arith, c.record.ensures.survives.clean) in
+    let opened = with_batch d (record { name = c.args.name.now; state = 1; worker = [] }) in
+    let filled : ℕ → Tables = λ n. with_items n c.args.who.now opened c.args.items.now in
+    let between = filled c.args.number in
+    let kept = items_keep c.args.number c.args.who.now opened c.args.items.now in
+    let all = unique_unrecorded _ (move_of change.row) (total_of change.left) (total_of change.reached) unique in
+    let apart = subst (λ n. AreUnique (filled n)) (sym number) all in
+    let one = c.in_ok-insert_file.ensures.ok was inside d number first in
+    let free = c.insert_file.ensures.survives.limit ∙ unlimited in
+    let fault = c.in_err-record.ensures.fails clean free one.inside between (follows_too d between change kept.0 kept.1 follows) (one.stands stands) apart in
+    handed_on IsRoomFault c.from_residual-in_err-record.result c.in_err-record.field-0.0 c.from_residual-in_err-record.ensures.1 (inl fault)

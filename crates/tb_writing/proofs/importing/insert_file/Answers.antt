@@ -1,10 +1,13 @@
-use Rattle.std.proofs.Common.{[], arith}
+use Rattle.std.proofs.Common.{[], arith, inl}
 use Rattle.sqlite.specs.State.{HasCleanDisk}
 use Rattle.sqlite.specs.Held.{state}
 use Rattle.tb_tables.specs.Changes.{with_batch}
 use Rattle.tb_tables.specs.Commands.{with_items}
 use Rattle.tb_writing.proofs.Commands.{changes_then}
 use Rattle.tb_writing.proofs.importing.insert_file.Goals as goal
+use Rattle.tb_tables.specs.Failing.{IsRoomFault}
+use Rattle.tb_writing.proofs.Apart.{unique_before}
+use Rattle.tb_writing.proofs.Failing.{handed_on}
 
 pub returns-clause-ok : goal.returns-clause-ok
 returns-clause-ok g c clean inside d number first =
@@ -16,3 +19,10 @@ returns-clause-ok g c clean inside d number first =
     let one = c.in_ok-insert_batch.ensures.ok was inside d number in
     let two = c.in_ok-insert_items.ensures.ok clean one.inside opened first in
     changes_then old mid new d opened (with_items c.args.number c.args.who.now opened c.args.items.now) one two
+
+pub returns-in_err-insert_batch-clause-fails : goal.returns-in_err-insert_batch-clause-fails
+returns-in_err-insert_batch-clause-fails g c clean unlimited inside d stands number first unique =
+    let opened = with_batch d (record { name = c.args.name.now; state = 1; worker = [] }) in
+    let apart = unique_before c.args.number c.args.who.now opened c.args.items.now unique in
+    let fault = c.in_err-insert_batch.ensures.fails clean unlimited inside d stands number apart in
+    handed_on IsRoomFault c.from_residual.result c.in_err-insert_batch.field-0.0 c.from_residual.ensures.1 (inl fault)

@@ -8,6 +8,9 @@ use Rattle.tb_tables.specs.Commands.{with_item, with_items}
 use Rattle.tb_writing.proofs.Commands.{kept_then, changes_then}
 use Rattle.tb_writing.proofs.Numbers.{one_longer, one_more}
 use Rattle.tb_writing.proofs.importing.insert_items.Goals as goal
+use Rattle.tb_tables.specs.Failing.{IsRoomFault}
+use Rattle.tb_writing.proofs.Apart.{unique_so_far}
+use Rattle.tb_writing.proofs.Failing.{handed_on}
 
 pub loop-item-preserved : goal.loop-item-preserved
 loop-item-preserved g c =
@@ -43,3 +46,16 @@ loop-item-preserved g c =
                 ),
           ),
     )
+
+pub returns-in_err-insert_item-clause-fails : goal.returns-in_err-insert_item-clause-fails
+returns-in_err-insert_item-clause-fails g c clean unlimited inside d stands first unique =
+    let now = state g.S.Store c.loop-item.tx.conn.now in
+    let inv = c.loop-item.invariant in
+    let was : HasCleanDisk now = omega (arith, c.insert_item.ensures.survives.clean) in
+    let far = (inv.3 was).1 inside in
+    let went = far.1 d first in
+    let done = with_items c.args.batch c.args.who.now d (take c.loop-item.item-index c.args.items.now) in
+    let apart = unique_so_far c.args.batch c.args.who.now d c.args.items.now c.loop-item.item-index c.item-item.result (omega (arith, c.loop-item-test.true)) (search rules) unique in
+    let free = inv.1.limit ∙ unlimited in
+    let fault = c.in_err-insert_item.ensures.fails clean free far.0 done (went.0.stands stands) went.1 apart in
+    handed_on IsRoomFault c.from_residual.result c.in_err-insert_item.field-0.0 c.from_residual.ensures.1 fault

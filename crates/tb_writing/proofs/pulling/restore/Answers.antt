@@ -1,4 +1,4 @@
-use Rattle.std.proofs.Common.{refl, arith}
+use Rattle.std.proofs.Common.{refl, arith, ◌∙◌}
 use Rattle.sqlite.specs.State.{HasCleanDisk}
 use Rattle.sqlite.specs.Held.{state}
 use Rattle.tb_tables.specs.Changes.{without_pulled}
@@ -6,6 +6,9 @@ use Rattle.tb_tables.specs.Commands.{after_restore}
 use Rattle.tb_tables.specs.Values.{move_of, total_of}
 use Rattle.tb_writing.proofs.Commands.{changes_then}
 use Rattle.tb_writing.proofs.Numbers.{follows_too}
+use Rattle.tb_tables.specs.Failing.{IsStoreFault}
+use Rattle.tb_writing.proofs.Apart.{unique_restored}
+use Rattle.tb_writing.proofs.Failing.{handed_on}
 use Rattle.tb_writing.proofs.pulling.restore.Goals as goal
 
 pub returns-clause-ok : goal.returns-clause-ok
@@ -19,3 +22,13 @@ returns-clause-ok g c clean inside d follows stands =
     let one = c.in_ok-delete_pulled.ensures.ok was inside d stands in
     let two = c.in_ok-record.ensures.ok clean one.inside between (follows_too d between change refl refl follows) (one.stands stands) in
     changes_then old mid new d between (after_restore d c.args.number (move_of change.row) (total_of change.left) (total_of change.reached)) one two
+
+pub returns-in_err-record-clause-fails : goal.returns-in_err-record-clause-fails
+returns-in_err-record-clause-fails g c clean unlimited inside d follows stands unique =
+    let mid = state g.S.Store c.delete_pulled.new.tx.conn.now in
+    let was : HasCleanDisk mid = omega (arith, c.record.ensures.survives.clean) in
+    let between = without_pulled d c.args.number in
+    let one = c.in_ok-delete_pulled.ensures.ok was inside d stands in
+    let free = c.delete_pulled.ensures.survives.limit ∙ unlimited in
+    let fault = c.in_err-record.ensures.fails clean free one.inside between (follows_too d between c.args.change.now refl refl follows) (one.stands stands) (unique_restored d c.args.number unique) in
+    handed_on IsStoreFault c.from_residual-in_err-record.result c.in_err-record.field-0.0 c.from_residual-in_err-record.ensures.1 fault

@@ -1,0 +1,39 @@
+-- How a statement on the tables of a desk fails, and which records SQLite takes.
+use Rattle.std.specs.Prelude.{◌≡◌, ◌≢◌, ◌⊎◌, ℕ, List, [], ◌∷◌, ◌≤◌, map, length, Result, Ok, Err}
+use Rattle.std.specs.List.{AllByRecursion}
+use Rattle.sqlite.specs.declared.error.Error.{Error}
+use Rattle.sqlite.specs.declared.error.Error.TheVariants.{SqliteFailure}
+use Rattle.sqlite.specs.declared.error.ErrorCode.TheVariants.{NoRowid}
+use Rattle.sqlite.specs.State.{store_error}
+use Rattle.sqlite_resolve.specs.declared.compiled.Compiled.{Compiled}
+use Rattle.sqlite_resolve.specs.declared.error.CompileError.{CompileError}
+use Rattle.sqlite_trees.specs.declared.error.StoreError.{StoreError}
+use Rattle.tb_tables.specs.Records.{Tables, Batch, Sentence, Revision}
+
+-- a fault of the store, of its size, or want of memory: the database refused nothing
+abbrev pub IsStoreFault : Error → Type 0
+IsStoreFault e = (cause : StoreError) × (e ≡ store_error cause)
+
+-- a fault of the store, or no rowid is left for a further row
+abbrev pub IsRoomFault : Error → Type 0
+IsRoomFault e = IsStoreFault e ⊎ (e ≡ SqliteFailure NoRowid)
+
+-- a text of this length is one statement, with so many parameters
+abbrev pub IsWhole : ℕ → ℕ → Result Compiled CompileError → Type 0
+IsWhole n k (Ok c) = (n ≤ c.tail) × (k ≡ length c.names)
+IsWhole n k (Err e) = ⊥
+
+-- none of these is that one
+abbrev pub Lacks : {X : Type 0} → List X → X → Type 0
+Lacks xs x = AllByRecursion (λ y. x ≢ y) xs
+
+-- no two are the same
+abbrev pub AreApart : {X : Type 0} → List X → Type 0
+AreApart [] = Unit {0}
+AreApart (x ∷ xs) = Lacks xs x × AreApart xs
+
+-- what UNIQUE and the primary key of the revisions ask of the records
+pub record AreUnique (d : Tables) : Type 0 where
+  pub batches : AreApart (map (λ (b : Batch). b.name) d.batches)
+  pub sentences : AreApart (map (λ (s : Sentence). s.sent_id) d.sentences)
+  pub revisions : AreApart {X = ℕ × ℕ} (map (λ (r : Revision). (r.sent, r.rev)) d.revisions)
