@@ -1,5 +1,5 @@
 -- What a correction reads, plans and writes.
-use Rattle.std.proofs.Common.{◌≡◌, ℕ, ◌+◌, ◌-◌, ◌<◌, List, [], ◌∷◌, ◌++◌, length, map, get_or, Some, slice_get, sym, ap, subst, ◌∙◌, arith}
+use Rattle.std.proofs.Common.{◌≡◌, ℕ, ◌+◌, ◌-◌, ◌<◌, List, [], ◌∷◌, ◌++◌, length, map, get_or, None, Some, slice_get, sym, ap, subst, ◌∙◌, arith}
 use Rattle.std.specs.List.{AllByRecursion}
 use Rattle.tb_conllu.specs.Text.{BlockText, text_of}
 use Rattle.tb_conllu.specs.Words.{words_of}
@@ -36,6 +36,17 @@ pub stored_alone : (s : Machine) (place : ℕ) (x : machine.Sentence) (text : Li
 stored_alone s place x text bs all there is file =
     let back = last_body ReadsBack x.before x.current (all_there (λ (y : machine.Sentence). AllByRecursion ReadsBack (bodies_of y)) s.sentences place x there all) in
     back.2 bs (subst (λ t. IsFile t bs) is file)
+
+pub stored_file : (s : Machine) (place : ℕ) (x : machine.Sentence) (text : List ℕ) → AllByRecursion (λ (y : machine.Sentence). AllByRecursion ReadsBack (bodies_of y)) s.sentences
+    → slice_get s.sentences place ≡ Some x → text ≡ text_of (x.current.body ∷ []) → IsFile text (x.current.body ∷ [])
+stored_file s place x text all there is =
+    let back = last_body ReadsBack x.before x.current (all_there (λ (y : machine.Sentence). AllByRecursion ReadsBack (bodies_of y)) s.sentences place x there all) in
+    subst (λ t. IsFile t (x.current.body ∷ [])) (sym is) back.1
+
+pub none_first : {X : Type 0} (x : X) (xs : List X) → None ≡ slice_get xs 0 → xs ≡ x ∷ [] → ⊥
+none_first x xs none is =
+    let gone : None ≡ Some x = none ∙ ap (λ l. slice_get l 0) is in
+    absurd cc
 
 -- ---- the body of an accepted correction is the text of its sentence
 

@@ -1,7 +1,7 @@
 -- What is found by a name or a number.
-use Rattle.std.proofs.Common.{◌≡◌, ◌≢◌, ℕ, zero, suc, ◌+◌, ◌-◌, ◌<◌, List, [], ◌∷◌, map, length, Bool, true, false, cond, Option, Some, None, slice_get, IsTrue, ◌↔◌, refl, sym, ap, subst, ◌∙◌, arith, inl, inr, Contains, slice_index_or}
+use Rattle.std.proofs.Common.{◌≡◌, ◌≢◌, ℕ, zero, suc, ◌+◌, ◌-◌, ◌<◌, List, [], ◌∷◌, map, length, Bool, true, false, cond, Option, Some, None, slice_get, option_map, IsTrue, ◌↔◌, refl, sym, ap, subst, ◌∙◌, arith, inl, inr, Contains, slice_index_or}
 use Rattle.std.specs.List.{AllByRecursion}
-use Rattle.std.proofs.lemmas.Option.{slice_get-map}
+use Rattle.std.proofs.lemmas.Option.{slice_get-map, same_Some}
 use Rattle.tb_core.specs.Names.{Lacks}
 use Rattle.tb_core.specs.Machine as machine
 use Rattle.tb_core.specs.Machine.{Machine, batch_with, no_batch}
@@ -47,6 +47,16 @@ id_taken s id n h lacks =
     some_id None = None
     some_id (Some x) = Some x.sent_id
 
+-- ---- what stands is found
+
+pub none_lacks : {X Y : Type 0} (f : X → Y) (xs : List X) (i : ℕ) (x : X) → slice_get xs i ≡ Some x → None ≡ slice_get (map f xs) i → ⊥
+none_lacks f xs i x there lacks =
+    let both : None ≡ Some (f x) = lacks ∙ slice_get-map f xs i ∙ ap (option_map f) there in
+    absurd cc
+
+pub row_told : {X Y : Type 0} (f : X → Y) (xs : List X) (i : ℕ) (x : X) (row : Y) → Some row ≡ slice_get (map f xs) i → slice_get xs i ≡ Some x → row ≡ f x
+row_told f xs i x row read there = same_Some row (f x) (read ∙ slice_get-map f xs i ∙ ap (option_map f) there)
+
 -- ---- the batch of a sentence
 
 placed : (n : ℕ) (xs : List machine.Sentence) (i : ℕ) (x : machine.Sentence) → AllByRecursion (IsPlaced n) xs → slice_get xs i ≡ Some x → IsPlaced n x
@@ -58,6 +68,9 @@ got_batch : (bs : List machine.Batch) (i : ℕ) → i < length bs → slice_get 
 got_batch [] i low = absurd (omega (arith, low))
 got_batch (b ∷ bs) zero low = refl
 got_batch (b ∷ bs) (suc i) low = got_batch bs i (omega (arith, low))
+
+pub placed_above : (s : Machine) (i : ℕ) (x : machine.Sentence) → AllByRecursion (IsPlaced (length s.batches)) s.sentences → slice_get s.sentences i ≡ Some x → 0 < x.batch
+placed_above s i x all there = let at = placed (length s.batches) s.sentences i x all there in omega (arith, at.0)
 
 pub own_batch : (s : Machine) (i : ℕ) (x : machine.Sentence) → AllByRecursion (IsPlaced (length s.batches)) s.sentences → slice_get s.sentences i ≡ Some x → slice_get s.batches (x.batch - 1) ≡ Some (batch_with s.batches x.batch)
 own_batch s i x all there =

@@ -8,3 +8,8 @@ pub mod Summing
 pub mod Stepped
 pub mod Corrected
 pub mod Pulled
+pub mod Faultless
+pub mod Unique
+pub mod Bounded
+pub mod Revised
+pub mod Replied

@@ -15,7 +15,7 @@ use Rattle.tb_core.specs.declared.limits.Limits.{Limits}
 use Rattle.tb_core.specs.Commands.{event_on, replied, moved_on, reply_to}
 use Rattle.tb_core.specs.Steps.{Steps}
 use Rattle.tb_judge.specs.Found.{FindsBatch}
-use Rattle.tb_core.specs.Reaching.{Reached}
+use Rattle.tb_core.specs.Reaching.{Reached, IsReachable}
 use Rattle.tb_tables.specs.Records.{Batch, Stands}
 use Rattle.tb_tables.specs.Values.{move_of, total_of}
 use Rattle.tb_tables.specs.Commands.{after_event}
@@ -94,6 +94,21 @@ planned_event l s k name event user found makes sums p reached counted (place, b
     let a : Act = stepping (found.number - 1) event user in
     let planned = plans (found.number - 1) b reached judged.0 counted there next st who makes_is (sums_are.0 ∙ ap (λ m. weigh (at_work m one) s.sentences) next) (sums_are.1 ∙ ap (λ m. weigh (at_work m words) s.sentences) next) in
     (found.number - 1, planned, judged.0, subst (λ r. Steps l s (event_on name event user) (replied r) (after s a)) (sym planned.reply) judged.1)
+
+abbrev Faultless : Machine → Counts → Event → List ℕ → BatchRead → Sums → Type 0
+Faultless s k event user found sums =
+    (place : ℕ) → (b : machine.Batch) → IsReachable s → IsAllowed s (stepping place event user) → IsReachable (after s (stepping place event user)) → IsCounted k s → slice_get s.batches place ≡ Some b → found.number ≡ place + 1 → found.state ≡ b.state
+    → sums.sentences ≡ weigh (at_work (place + 1) one) s.sentences → sums.words ≡ weigh (at_work (place + 1) words) s.sentences → ⊥
+
+-- what was read and judged can be planned
+pub event_fits : (s : Machine) (k : Counts) (name : List ℕ) (event : Event) (user : List ℕ) (found : BatchRead) (sums : Sums) → IsReachable s → IsCounted k s → FindsBatch s name (Some (seen_of found))
+    → (sums.sentences ≡ weigh (at_work found.number one) s.sentences) × (sums.words ≡ weigh (at_work found.number words) s.sentences) → IsAllowed s (stepping (found.number - 1) event user) → IsReachable (after s (stepping (found.number - 1) event user))
+    → Faultless s k event user found sums → ⊥
+event_fits s k name event user found sums reachable counted (place, b, has, n, st, who) sums_are allowed next none =
+    let at : place ≡ found.number - 1 = omega (arith, n) in
+    let above : found.number ≡ found.number - 1 + 1 = omega (arith, n) in
+    let there : slice_get s.batches (found.number - 1) ≡ Some b = ap (slice_get s.batches) (sym at) ∙ has.there in
+    none (found.number - 1) b reachable allowed next counted there above st (sums_are.0 ∙ ap (λ m. weigh (at_work m one) s.sentences) above) (sums_are.1 ∙ ap (λ m. weigh (at_work m words) s.sentences) above)
 
 pub changed_length : {X : Type 0} (f : X → X) (xs : List X) (i : ℕ) → length (change_at f xs i) ≡ length xs
 changed_length f [] i = refl

@@ -1,18 +1,21 @@
 -- The sentences of a batch that are not pulled, counted from the rows.
-use Rattle.std.proofs.Common.{◌≡◌, ◌≢◌, ℕ, zero, suc, ◌+◌, ◌<◌, ◌≤◌, List, [], ◌∷◌, map, length, get_or, take, Bool, true, false, cond, ◌||◌, nat_eq, Some, None, slice_get, refl, sym, ap, ap₂, subst, ◌∙◌, arith, Result, Ok, Err}
+use Rattle.std.proofs.Common.{◌≡◌, ◌≢◌, ℕ, zero, suc, ◌+◌, ◌<◌, ◌≤◌, ◌^◌, List, [], ◌∷◌, map, length, get_or, take, Bool, true, false, cond, ◌||◌, nat_eq, Some, None, slice_get, refl, sym, ap, ap₂, subst, ◌∙◌, arith, Result, Ok, Err}
 use Rattle.std.specs.Prelude.{sum_by, MatchResult, is_ok}
 use Rattle.std.specs.List.{AllByRecursion}
 use Rattle.std.proofs.lemmas.Bool.Decides.{nat_tests}
 use Rattle.std.proofs.lemmas.Option.{same_Some}
 use Rattle.std.proofs.Math.Seq.{take-suc}
-use Rattle.std.proofs.lemmas.List.Sums.{sum_by-cons, sum_by-append}
+use Rattle.std.proofs.lemmas.List.Sums.{sum_by-cons, sum_by-append, sum_by-take-drop}
 use Rattle.std.proofs.lemmas.List.Elements.{All-from_recursion}
 use Rattle.sqlite_trees.specs.Tree.{IsAscending}
 use Rattle.tb_core.specs.Machine.{Sentence, weigh, when, at_work, one, rev, words}
 use Rattle.tb_core.specs.Rows.{pulled_from}
+use Rattle.tb_core.specs.Machine.{Machine}
+use Rattle.tb_core.specs.Keeping.{IsWell}
 use Rattle.tb_reading.specs.declared.work.Work.{Work}
 use Rattle.tb_reading.specs.Found.{work_of}
 use Rattle.tb_standing.specs.Standing.{sentence_record}
+use Rattle.tb_standing.proofs.Lasting.{weigh_words}
 use Rattle.tb_acting.specs.Working.{is_listed, unless_pulled, each_one, its_words}
 
 -- ---- numbers that ascend
@@ -120,6 +123,21 @@ sum_more f xs i d old new low step before =
     let alone : sum_by f (take i xs) + f (get_or xs i d) ≡ sum_by f (take i xs) + (0 + f (get_or xs i d)) = omega arith in
     step ∙ ap (λ n. n + f (get_or xs i d)) before ∙ alone ∙ sym (sum_by-append f (take i xs) (get_or xs i d ∷ [])) ∙ ap (sum_by f) (sym (take-suc xs i d low)) ∙ ap (λ k. sum_by f (take k xs)) next
 
+sum_within : {X : Type 0} (f : X → ℕ) (xs : List X) (i : ℕ) (d : X) → i < length xs → sum_by f (take i xs) + f (get_or xs i d) ≤ sum_by f xs
+sum_within f xs i d low =
+    let next = sum_more f xs i d (sum_by f (take i xs)) (sum_by f (take i xs) + f (get_or xs i d)) low refl refl in
+    let parts = sum_by-take-drop f xs (i + 1) in
+    omega (arith, next, parts)
+
+-- one more turn, of what is no more than the sum
+pub sum_bound : {X : Type 0} (f : X → ℕ) (xs : List X) (i : ℕ) (d : X) (old new : ℕ) → i < length xs → new ≤ old + f (get_or xs i d) → old ≤ sum_by f (take i xs) → new ≤ sum_by f (take (i + 1) xs)
+sum_bound f xs i d old new low step before =
+    let next = sum_more f xs i d (sum_by f (take i xs)) (sum_by f (take i xs) + f (get_or xs i d)) low refl refl in
+    omega (arith, step, before, next)
+
+pub sum_fits : {X : Type 0} (f : X → ℕ) (xs : List X) (i : ℕ) (d : X) (old n : ℕ) → i < length xs → old ≤ sum_by f (take i xs) → sum_by f xs < n → old + f (get_or xs i d) < n
+sum_fits f xs i d old n low before all = let within = sum_within f xs i d low in omega (arith, before, all, within)
+
 pub sums_stand : (xs : List Sentence) (batch : ℕ) (work : List Work) (pulled : List ℕ) (n w : ℕ) → work ≡ work_of batch 1 (map sentence_record xs) → pulled ≡ pulled_from 1 xs
     → (IsAscending (λ a b. a < b) pulled → (n ≡ sum_by (unless_pulled pulled each_one) work) × (w ≡ sum_by (unless_pulled pulled its_words) work)) → (n ≡ weigh (at_work batch one) xs) × (w ≡ weigh (at_work batch words) xs)
 sums_stand xs batch work pulled n w work_is pulled_is told =
@@ -129,3 +147,35 @@ sums_stand xs batch work pulled n w work_is pulled_is told =
       sums.0 ∙ ap (sum_by (unless_pulled pulled each_one)) work_is ∙ work_sums each_one one (λ _ _. refl) batch pulled 1 xs flags,
       sums.1 ∙ ap (sum_by (unless_pulled pulled its_words)) work_is ∙ work_sums its_words words (λ _ _. refl) batch pulled 1 xs flags,
     )
+
+-- ---- the sums of a batch fit 32 bits
+
+work_few : (batch n : ℕ) (xs : List Sentence) → length (work_of batch n (map sentence_record xs)) ≤ length xs
+work_few batch n [] = omega arith
+work_few batch n (x ∷ xs) = by (nat_eq x.batch batch) (work_few batch (suc n) xs)
+  where
+    by : (t : Bool) → length (work_of batch (suc n) (map sentence_record xs)) ≤ length xs
+        → length (cond t (record { number = n; rev = rev x; words = words x } ∷ work_of batch (suc n) (map sentence_record xs)) (work_of batch (suc n) (map sentence_record xs))) ≤ suc (length xs)
+    by true h = omega (arith, h)
+    by false h = omega (arith, h)
+
+work_light : (batch n : ℕ) (xs : List Sentence) → sum_by its_words (work_of batch n (map sentence_record xs)) ≤ weigh words xs
+work_light batch n [] = omega arith
+work_light batch n (x ∷ xs) = by (nat_eq x.batch batch) (work_light batch (suc n) xs)
+  where
+    by : (t : Bool) → sum_by its_words (work_of batch (suc n) (map sentence_record xs)) ≤ weigh words xs
+        → sum_by its_words (cond t (record { number = n; rev = rev x; words = words x } ∷ work_of batch (suc n) (map sentence_record xs)) (work_of batch (suc n) (map sentence_record xs))) ≤ words x + weigh words xs
+    by true h =
+        let item : Work = record { number = n; rev = rev x; words = words x } in
+        let parts : sum_by its_words (item ∷ work_of batch (suc n) (map sentence_record xs)) ≡ words x + sum_by its_words (work_of batch (suc n) (map sentence_record xs)) = sum_by-cons its_words item (work_of batch (suc n) (map sentence_record xs)) in
+        omega (arith, h, parts)
+    by false h = omega (arith, h)
+
+pub work_fits : (s : Machine) (batch : ℕ) (work : List Work) → IsWell s → length s.sentences ≤ 1000000 → work ≡ work_of batch 1 (map sentence_record s.sentences) → (length work < 2 ^ 32) × (sum_by its_words work < 2 ^ 32)
+work_fits s batch work well few is =
+    let counted = work_few batch 1 s.sentences in
+    let light = work_light batch 1 s.sentences in
+    let all = weigh_words s.sentences well.fine in
+    let size = ap length is in
+    let sum = ap (sum_by its_words) is in
+    (omega (arith, few, counted, size), omega (arith, few, light, all, sum))

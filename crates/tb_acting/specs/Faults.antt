@@ -2,18 +2,19 @@
 use Rattle.sqlite.specs.declared.error.Error.{Error}
 use Rattle.sqlite.specs.declared.error.Error.TheVariants.{SqliteFailure}
 use Rattle.sqlite.specs.declared.error.ErrorCode.{ErrorCode}
-use Rattle.sqlite.specs.declared.error.ErrorCode.TheVariants.{OutOfMemory, SystemIoFailure, DatabaseCorrupt, DiskFull, Closed, TooBig}
+use Rattle.sqlite.specs.declared.error.ErrorCode.TheVariants.{OutOfMemory, SystemIoFailure, DatabaseCorrupt, DiskFull, NoRowid, Closed, TooBig}
 use Rattle.tb_reading.specs.declared.error.ReadError.{ReadError}
 use Rattle.tb_reading.specs.declared.error.ReadError.TheVariants.{Store, Form}
 use Rattle.tb_core.specs.declared.refusals.Fault.{Fault}
 use Rattle.tb_core.specs.declared.refusals.Fault.TheVariants.{Memory, Device, NotADesk}
 
--- a fault of the store or of its size is the device's
+-- a fault of the store, of its size or of its room is the device's
 abbrev pub fault_of_code : ErrorCode → Fault
 fault_of_code OutOfMemory = Memory
 fault_of_code SystemIoFailure = Device
 fault_of_code DatabaseCorrupt = Device
 fault_of_code DiskFull = Device
+fault_of_code NoRowid = Device
 fault_of_code Closed = Device
 fault_of_code TooBig = Device
 fault_of_code _ = NotADesk

@@ -1,5 +1,5 @@
 -- What a move changes in the tables.
-use Rattle.std.specs.Prelude.{◌≡◌, ◌+◌, ◌-◌, ℕ, List, [], ◌∷◌, Some, slice_get, length, map}
+use Rattle.std.specs.Prelude.{◌≡◌, ◌+◌, ◌-◌, ◌^◌, ◌<◌, ℕ, List, [], ◌∷◌, Some, slice_get, length, map}
 use Rattle.tb_core.specs.declared.kinds.State.{State}
 use Rattle.tb_core.specs.declared.sums.Totals.{Totals}
 use Rattle.tb_core.specs.Moves.{MoveText}
@@ -21,6 +21,19 @@ use Rattle.tb_writing.specs.declared.recording.Change.{Change}
 pub record IsTotalOf (t : Totals) (st : State) (row : TotalRow) : Type 0 where
   pub sentences : row.sentences ≡ at_state t.sentences st
   pub words : row.words ≡ at_state t.words st
+
+-- no total needs more than 32 bits
+abbrev pub AreNarrow : Totals → Type 0
+AreNarrow t = (st : State) → (at_state t.sentences st < 2 ^ 32) × (at_state t.words st < 2 ^ 32)
+
+-- nor does a number of the move
+pub record IsNarrowMove (m : MoveText) : Type 0 where
+  pub no : m.no < 2 ^ 32
+  pub batch : m.batch < 2 ^ 32
+  pub sent : m.sent < 2 ^ 32
+  pub sentences : m.sentences < 2 ^ 32
+  pub words_out : m.words_out < 2 ^ 32
+  pub words_in : m.words_in < 2 ^ 32
 
 -- the move with its number, and the totals of the states that it leaves and reaches
 pub record IsChangeOf (t : Totals) (m : MoveText) (c : Change) : Type 0 where

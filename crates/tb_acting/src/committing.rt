@@ -1,6 +1,6 @@
 //! The writes of accepted acts: each is one transaction, after which the tables stand for the state that the act leads to.
 
-ghost use Rattle.std.specs.Prelude.{◌≡◌, ◌≢◌, ◌+◌, ◌-◌, ◌^◌, ◌<◌, ℕ, List, length, Err, false, IsTrue, OnOk, OnErr};
+ghost use Rattle.std.specs.Prelude.{◌≡◌, ◌≢◌, ◌+◌, ◌-◌, ◌^◌, ◌<◌, ℕ, List, length, Err, None, false, IsTrue, OnOk, OnErr};
 ghost use Rattle.sqlite.specs.State.{HasCleanDisk, Survives};
 ghost use Rattle.sqlite.specs.Held.{state};
 ghost use Rattle.tb_tables.specs.Records.{Tables, Stands};
@@ -37,10 +37,12 @@ pub fn commit_import<S: Alter>(
     requires fits { first + length items.now < 2 ^ 32 }
     ensures made { HasCleanDisk (state S.Store conn.new) → OnOk result ((s : Machine) (bodies : List BlockText) → IsDesk S.Store conn.old s → IsMadeBatch s number first bodies items.now → IsAllowed s (importing name.now who.now bodies) → IsReachable (after s (importing name.now who.now bodies)) → IsWritten s (importing name.now who.now bodies) change.now → IsDesk S.Store conn.new (after s (importing name.now who.now bodies))) }
     ensures refused { (r : AnyRefusal) → result ≢ Err (Fault.Refused r) }
+    ensures fails { HasCleanDisk (state S.Store conn.new) → (state S.Store conn.old).step_limit ≡ None → (s : Machine) (bodies : List BlockText) → IsDesk S.Store conn.old s → IsMadeBatch s number first bodies items.now → IsAllowed s (importing name.now who.now bodies) → IsReachable (after s (importing name.now who.now bodies)) → IsWritten s (importing name.now who.now bodies) change.now → result ≢ Err Fault.NotADesk }
     ensures kept { HasCleanDisk (state S.Store conn.new) → IsTrue (state S.Store conn.new).is_open → OnErr result ((d : Tables) → Holds S.Store conn.old d → Holds S.Store conn.new d) }
     ensures crash { Survives (state S.Store conn.old) (state S.Store conn.new) (λ db. (s : Machine) (bodies : List BlockText) → IsDesk S.Store conn.old s → IsMadeBatch s number first bodies items.now → IsAllowed s (importing name.now who.now bodies) → IsWritten s (importing name.now who.now bodies) change.now → Stands (tables_of (after s (importing name.now who.now bodies))) db) }
     ensures mode { conn.new.in_transaction ≡ false }
 {
+    reached_states_are_well();
     match write_import(conn, number, first, name, who, items, change) {
         Ok(()) => Ok(()),
         Err(error) => Err(faults::of_error(error)),
@@ -61,6 +63,7 @@ pub(crate) fn correct<S: Alter>(
     requires row { 0 < number }
     ensures made { HasCleanDisk (state S.Store conn.new) → OnOk result ((s : Machine) (body : BlockText) (x : Sentence) → IsDesk S.Store conn.old s → IsMadeRevision s number body x rev words text.now → IsAllowed s (correcting (number - 1) who.now body) → IsReachable (after s (correcting (number - 1) who.now body)) → IsWritten s (correcting (number - 1) who.now body) change.now → IsDesk S.Store conn.new (after s (correcting (number - 1) who.now body))) }
     ensures refused { (r : AnyRefusal) → result ≢ Err (Fault.Refused r) }
+    ensures fails { HasCleanDisk (state S.Store conn.new) → (state S.Store conn.old).step_limit ≡ None → (s : Machine) (body : BlockText) (x : Sentence) → IsDesk S.Store conn.old s → IsMadeRevision s number body x rev words text.now → IsAllowed s (correcting (number - 1) who.now body) → IsWritten s (correcting (number - 1) who.now body) change.now → result ≢ Err Fault.NotADesk }
     ensures kept { HasCleanDisk (state S.Store conn.new) → IsTrue (state S.Store conn.new).is_open → OnErr result ((d : Tables) → Holds S.Store conn.old d → Holds S.Store conn.new d) }
     ensures crash { Survives (state S.Store conn.old) (state S.Store conn.new) (λ db. (s : Machine) (body : BlockText) (x : Sentence) → IsDesk S.Store conn.old s → IsMadeRevision s number body x rev words text.now → IsAllowed s (correcting (number - 1) who.now body) → IsWritten s (correcting (number - 1) who.now body) change.now → Stands (tables_of (after s (correcting (number - 1) who.now body))) db) }
     ensures mode { conn.new.in_transaction ≡ false }
@@ -82,6 +85,7 @@ pub(crate) fn pull<S: Alter>(
     requires row { 0 < number }
     ensures made { HasCleanDisk (state S.Store conn.new) → OnOk result ((s : Machine) (user : List ℕ) → IsDesk S.Store conn.old s → IsAllowed s (pulling (number - 1) user) → IsReachable (after s (pulling (number - 1) user)) → IsWritten s (pulling (number - 1) user) change.now → IsDesk S.Store conn.new (after s (pulling (number - 1) user))) }
     ensures refused { (r : AnyRefusal) → result ≢ Err (Fault.Refused r) }
+    ensures fails { HasCleanDisk (state S.Store conn.new) → (state S.Store conn.old).step_limit ≡ None → (s : Machine) (user : List ℕ) → IsDesk S.Store conn.old s → IsAllowed s (pulling (number - 1) user) → IsWritten s (pulling (number - 1) user) change.now → result ≢ Err Fault.NotADesk }
     ensures kept { HasCleanDisk (state S.Store conn.new) → IsTrue (state S.Store conn.new).is_open → OnErr result ((d : Tables) → Holds S.Store conn.old d → Holds S.Store conn.new d) }
     ensures crash { Survives (state S.Store conn.old) (state S.Store conn.new) (λ db. (s : Machine) (user : List ℕ) → IsDesk S.Store conn.old s → IsAllowed s (pulling (number - 1) user) → IsWritten s (pulling (number - 1) user) change.now → Stands (tables_of (after s (pulling (number - 1) user))) db) }
     ensures mode { conn.new.in_transaction ≡ false }
@@ -103,6 +107,7 @@ pub(crate) fn restore<S: Alter>(
     requires row { 0 < number }
     ensures made { HasCleanDisk (state S.Store conn.new) → OnOk result ((s : Machine) (user : List ℕ) → IsDesk S.Store conn.old s → IsAllowed s (restoring (number - 1) user) → IsReachable (after s (restoring (number - 1) user)) → IsWritten s (restoring (number - 1) user) change.now → IsDesk S.Store conn.new (after s (restoring (number - 1) user))) }
     ensures refused { (r : AnyRefusal) → result ≢ Err (Fault.Refused r) }
+    ensures fails { HasCleanDisk (state S.Store conn.new) → (state S.Store conn.old).step_limit ≡ None → (s : Machine) (user : List ℕ) → IsDesk S.Store conn.old s → IsAllowed s (restoring (number - 1) user) → IsWritten s (restoring (number - 1) user) change.now → result ≢ Err Fault.NotADesk }
     ensures kept { HasCleanDisk (state S.Store conn.new) → IsTrue (state S.Store conn.new).is_open → OnErr result ((d : Tables) → Holds S.Store conn.old d → Holds S.Store conn.new d) }
     ensures crash { Survives (state S.Store conn.old) (state S.Store conn.new) (λ db. (s : Machine) (user : List ℕ) → IsDesk S.Store conn.old s → IsAllowed s (restoring (number - 1) user) → IsWritten s (restoring (number - 1) user) change.now → Stands (tables_of (after s (restoring (number - 1) user))) db) }
     ensures mode { conn.new.in_transaction ≡ false }

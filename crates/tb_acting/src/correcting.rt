@@ -1,6 +1,6 @@
 //! A correction of a sentence.
 
-ghost use Rattle.std.specs.Prelude.{◌≡◌, ◌≢◌, ℕ, ◌+◌, ◌-◌, ◌<◌, ◌≤◌, List, [], ◌∷◌, length, Some, Err, slice_get, string_bytes, false, IsTrue, IfOk, IfSome, OnOk, OnErr};
+ghost use Rattle.std.specs.Prelude.{◌≡◌, ◌≢◌, ℕ, ◌+◌, ◌-◌, ◌^◌, ◌<◌, ◌≤◌, List, [], ◌∷◌, length, None, Some, Err, slice_get, string_bytes, false, IsTrue, IfOk, IfSome, OnOk, OnErr};
 ghost use Rattle.sqlite.specs.State.{HasCleanDisk, IsUnchanged, Survives};
 ghost use Rattle.sqlite.specs.Held.{state};
 ghost use Rattle.tb_conllu.specs.Text.{BlockText, text_of};
@@ -12,7 +12,7 @@ ghost use Rattle.tb_core.specs.declared.limits.Limits.{Limits as AnyLimits};
 ghost use Rattle.tb_core.specs.declared.refusals.Refusal.{Refusal as AnyRefusal};
 ghost use Rattle.tb_core.specs.Machine.{Machine, Sentence, rev as rev_of};
 ghost use Rattle.tb_core.specs.Acts.{correcting, IsAllowed, after};
-ghost use Rattle.tb_core.specs.Reaching.{Reached};
+ghost use Rattle.tb_core.specs.Reaching.{Reached, IsReachable};
 ghost use Rattle.tb_core.specs.Commands.{Answer, correct as correct_it, replied, refused as refused_by, corrected_to, reply_to};
 ghost use Rattle.tb_core.specs.Steps.{Steps};
 ghost use Rattle.tb_standing.specs.Standing.{tables_of, IsDesk};
@@ -34,6 +34,7 @@ use tb_core::{
     Corrected, Fault, Kind, Move, Totals, commands_stay_within_limits, revisions_read_back,
 };
 use tb_judge::{CurrentFound, Judged, judge_correction_before, judge_correction_body};
+use tb_standing::desk_rows_are_readable;
 use tb_tables::RevisionRow;
 use tb_writing::Change;
 
@@ -81,11 +82,13 @@ fn current_row<S: Alter>(
     ensures answered { HasCleanDisk (state S.Store conn.new) → IfOk result (λ f. (s : Machine) → IsDesk S.Store conn.old s → (x : Sentence) → slice_get s.sentences (number - 1) ≡ Some x → rev ≡ rev_of x
         → (string_bytes f.who ≡ x.current.who) × (string_bytes f.body ≡ text_of (x.current.body ∷ []))) }
     ensures refused { (r : AnyRefusal) → result ≢ Err (Fault.Refused r) }
+    ensures fails { HasCleanDisk (state S.Store conn.new) → (state S.Store conn.old).step_limit ≡ None → (s : Machine) → IsDesk S.Store conn.old s → (x : Sentence) → slice_get s.sentences (number - 1) ≡ Some x → rev ≡ rev_of x → result ≢ Err Fault.NotADesk }
     ensures same { HasCleanDisk (state S.Store conn.new) → OnOk result ((state S.Store conn.old).now.schema ≡ desk_schema → IsUnchanged (state S.Store conn.old) (state S.Store conn.new)) }
     ensures mode { conn.old.in_transaction ≡ false → conn.new.in_transaction ≡ false }
     ensures kept { HasCleanDisk (state S.Store conn.new) → IsTrue (state S.Store conn.new).is_open → (d : Tables) → Holds S.Store conn.old d → Holds S.Store conn.new d }
     ensures lasts { Survives (state S.Store conn.old) (state S.Store conn.new) (λ _. (state S.Store conn.old).now.schema ≢ desk_schema) }
 {
+    desk_rows_are_readable();
     match tb_reading::revision(conn, number, rev) {
         Ok(Some(row)) => Ok(row),
         Ok(None) => Err(Fault::NotADesk),
@@ -98,6 +101,7 @@ fn find_current<S: Alter>(conn: &mut Connection<S>, number: u32) -> Result<Curre
     requires { 0 < number }
     ensures answered { HasCleanDisk (state S.Store conn.new) → IfOk result (λ f. (s : Machine) → IsDesk S.Store conn.old s → (x : Sentence) → slice_get s.sentences (number - 1) ≡ Some x → IsCurrentRead s x f) }
     ensures refused { (r : AnyRefusal) → result ≢ Err (Fault.Refused r) }
+    ensures fails { HasCleanDisk (state S.Store conn.new) → (state S.Store conn.old).step_limit ≡ None → (s : Machine) → IsDesk S.Store conn.old s → (x : Sentence) → slice_get s.sentences (number - 1) ≡ Some x → result ≢ Err Fault.NotADesk }
     ensures same { HasCleanDisk (state S.Store conn.new) → OnOk result ((state S.Store conn.old).now.schema ≡ desk_schema → IsUnchanged (state S.Store conn.old) (state S.Store conn.new)) }
     ensures mode { conn.old.in_transaction ≡ false → conn.new.in_transaction ≡ false }
     ensures kept { HasCleanDisk (state S.Store conn.new) → IsTrue (state S.Store conn.new).is_open → (d : Tables) → Holds S.Store conn.old d → Holds S.Store conn.new d }
@@ -130,6 +134,7 @@ fn found_of(read: &CurrentRead) -> CurrentFound<'_>
 /// A stored text that cannot be read is not a desk's.
 fn fault_of_text(fault: ReadFault) -> Fault
     ensures refused { (r : AnyRefusal) → result ≢ Fault.Refused r }
+    ensures fails { fault ≡ ReadFault.Memory → result ≢ Fault.NotADesk }
 {
     match fault {
         ReadFault::Memory => Fault::Memory,
@@ -150,6 +155,8 @@ fn take<'a>(
         → text.now ≡ text_of (x.current.body ∷ []) → counts.now.moves ≡ length s.moves
         → let act = correcting place user p.block in
         IsAllowed s act × Steps counts.now.limits s (correct_it n base user body.now) (replied (reply_to s act)) (after s act) × (p.text.now ≡ text_of (p.block ∷ []))) }
+    ensures fails { (s : Machine) (n base : ℕ) (user : List ℕ) (place : ℕ) (x : Sentence) → Reached s → IsNamedCorrection s n base user body.now place x
+        → text.now ≡ text_of (x.current.body ∷ []) → result ≢ Err Fault.NotADesk }
 {
     revisions_read_back();
     let blocks = match read_ref(alloc, text.as_bytes()) {
@@ -172,6 +179,7 @@ fn take<'a>(
 fn next_revision(rev: u32) -> Result<u32, Fault>
     ensures next { IfOk result (λ n. n ≡ rev + 1) }
     ensures refused { (r : AnyRefusal) → result ≢ Err (Fault.Refused r) }
+    ensures fails { rev + 1 < 2 ^ 32 → result ≢ Err Fault.NotADesk }
 {
     match rev.checked_add(1) {
         Some(next) => Ok(next),
@@ -212,6 +220,8 @@ fn plan<'a>(
         → IsPlannedCorrection s number user.now passage.now.block p) }
     ensures room { IfOk result (λ _. counts.now.moves + 1 ≤ 1000000000) }
     ensures refused { (r : AnyRefusal) → result ≢ Err (Fault.Refused r) }
+    ensures fails { (s : Machine) (x : Sentence) → IsReachable s → IsAllowed s (correcting (number - 1) user.now passage.now.block) → IsReachable (after s (correcting (number - 1) user.now passage.now.block)) → IsCounted counts.now s
+        → slice_get s.sentences (number - 1) ≡ Some x → IsCurrentRead s x read.now → result ≢ Err Fault.NotADesk }
 {
     let rev = next_revision(read.sentence.rev)?;
     let new_words = narrow(words(&passage.block) as u64)?;
@@ -252,8 +262,10 @@ fn plan_body<'a>(
         → Decides counts.now.limits s number base user.now body.now r.0 (Some r.1)) }
     ensures refused { (r : AnyRefusal) → result ≡ Err (Fault.Refused r) → (s : Machine) (base : ℕ) (x : Sentence) → Reached s → IsCounted counts.now s → IsCurrentRead s x read.now → IsNamedCorrection s number base user.now body.now (number - 1) x
         → Steps counts.now.limits s (correct_it number base user.now body.now) (refused_by r) s }
+    ensures fails { IsWithin counts.now.limits → (s : Machine) (base : ℕ) (x : Sentence) → IsReachable s → IsCounted counts.now s → IsCurrentRead s x read.now → IsNamedCorrection s number base user.now body.now (number - 1) x → result ≢ Err Fault.NotADesk }
     ensures room { IfOk result (λ _. counts.now.moves + 1 ≤ 1000000000) }
 {
+    commands_stay_within_limits();
     let passage = take(alloc, counts, read.body.as_str(), body)?;
     let plan = plan(alloc, counts, number, user, read, &passage)?;
     Ok((reply_of(number, &plan), plan))
@@ -274,6 +286,7 @@ fn decide<'a>(
         → Decides counts.now.limits s number base user.now body.now r.0 r.1) }
     ensures refused { (r : AnyRefusal) → result ≡ Err (Fault.Refused r) → (s : Machine) (x : Sentence) → Reached s → IsCounted counts.now s → slice_get s.sentences (number - 1) ≡ Some x → IsCurrentRead s x read.now
         → Steps counts.now.limits s (correct_it number base user.now body.now) (refused_by r) s }
+    ensures fails { IsWithin counts.now.limits → (s : Machine) (x : Sentence) → IsReachable s → IsCounted counts.now s → slice_get s.sentences (number - 1) ≡ Some x → IsCurrentRead s x read.now → result ≢ Err Fault.NotADesk }
     ensures room { IfOk result (λ r. IfSome r.1 (λ _. counts.now.moves + 1 ≤ 1000000000)) }
 {
     let found = found_of(read);
@@ -301,6 +314,7 @@ fn planned<'a, S: Alter>(
         → Decides counts.now.limits s number base user.now body.now r.0 r.1) }
     ensures refused { HasCleanDisk (state S.Store conn.new) → (r : AnyRefusal) → result ≡ Err (Fault.Refused r) → (s : Machine) → IsDesk S.Store conn.old s → IsCounted counts.now s → number ≤ length s.sentences
         → Steps counts.now.limits s (correct_it number base user.now body.now) (refused_by r) s × IsDesk S.Store conn.new s }
+    ensures fails { HasCleanDisk (state S.Store conn.new) → (state S.Store conn.old).step_limit ≡ None → IsWithin counts.now.limits → (s : Machine) → IsDesk S.Store conn.old s → IsCounted counts.now s → number ≤ length s.sentences → result ≢ Err Fault.NotADesk }
     ensures room { IfOk result (λ r. IfSome r.1 (λ _. counts.now.moves + 1 ≤ 1000000000)) }
     ensures same { HasCleanDisk (state S.Store conn.new) → OnOk result ((state S.Store conn.old).now.schema ≡ desk_schema → IsUnchanged (state S.Store conn.old) (state S.Store conn.new)) }
     ensures mode { conn.old.in_transaction ≡ false → conn.new.in_transaction ≡ false }
@@ -334,6 +348,7 @@ pub fn correct<S: Alter>(
         → Corrects S.Store counts.now.limits s number base user.now body.now conn.new r.0 r.1) }
     ensures refused { HasCleanDisk (state S.Store conn.new) → (r : AnyRefusal) → result ≡ Err (Fault.Refused r) → (s : Machine) → IsDesk S.Store conn.old s → IsCounted counts.now s → number ≤ length s.sentences
         → Steps counts.now.limits s (correct_it number base user.now body.now) (refused_by r) s × IsDesk S.Store conn.new s }
+    ensures fails { HasCleanDisk (state S.Store conn.new) → (state S.Store conn.old).step_limit ≡ None → (s : Machine) → IsDesk S.Store conn.old s → IsCounted counts.now s → number ≤ length s.sentences → result ≢ Err Fault.NotADesk }
     ensures room { IfOk result (λ r. IfSome r.1 (λ _. counts.now.moves + 1 ≤ 1000000000)) }
     ensures kept { HasCleanDisk (state S.Store conn.new) → IsTrue (state S.Store conn.new).is_open → OnErr result ((d : Tables) → Holds S.Store conn.old d → Holds S.Store conn.new d) }
     ensures crash { Survives (state S.Store conn.old) (state S.Store conn.new) (λ db. (s : Machine) → IsDesk S.Store conn.old s → IsCounted counts.now s → number ≤ length s.sentences
@@ -360,6 +375,7 @@ pub fn correct<S: Alter>(
 /// The refusal of a correction of a sentence that does not stand.
 pub fn no_correction(number: u64, base: u64, user: &str, body: &[u8]) -> Fault
     ensures refused { (r : AnyRefusal) → result ≡ Fault.Refused r → (l : AnyLimits) (s : Machine) → LacksSentence s number → Steps l s (correct_it number base user.now body.now) (refused_by r) s }
+    ensures fails { result ≢ Fault.NotADesk }
 {
     match judge_correction_before(number, base, user, body, None) {
         Err(refusal) => Fault::from(refusal),

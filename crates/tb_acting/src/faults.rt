@@ -18,6 +18,8 @@ fn of_code(code: ErrorCode) -> Fault
         ErrorCode::SystemIoFailure => Fault::Device,
         ErrorCode::DatabaseCorrupt => Fault::Device,
         ErrorCode::DiskFull => Fault::Device,
+        // a store that has no number left for a row is full
+        ErrorCode::NoRowid => Fault::Device,
         ErrorCode::Closed => Fault::Device,
         ErrorCode::TooBig => Fault::Device,
         _ => Fault::NotADesk,

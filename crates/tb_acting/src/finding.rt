@@ -1,6 +1,6 @@
 //! What a command reads of a desk before it is judged.
 
-ghost use Rattle.std.specs.Prelude.{◌≡◌, ◌≢◌, ◌-◌, ◌<◌, Some, Err, slice_get, option_map, string_bytes, IsTrue, IfOk, OnOk, MatchBool, false};
+ghost use Rattle.std.specs.Prelude.{◌≡◌, ◌≢◌, ◌-◌, ◌<◌, Some, None, Err, slice_get, option_map, string_bytes, IsTrue, IfOk, OnOk, MatchBool, false};
 ghost use Rattle.sqlite.specs.State.{HasCleanDisk, IsUnchanged, Survives};
 ghost use Rattle.sqlite.specs.Held.{state};
 ghost use Rattle.tb_tables.specs.Layout.{desk_schema};
@@ -21,7 +21,7 @@ ghost use Rattle.tb_acting.specs.ReadOf.{IsRead};
 use crate::faults;
 use sqlite::{Alter, Connection};
 use tb_core::{Fault, State, reached_states_are_well};
-use tb_standing::state_numbered;
+use tb_standing::{desk_rows_are_readable, desk_rows_fit, state_numbered};
 use tb_tables::{BatchRow, SentenceRow};
 
 /// A batch, as it was read.
@@ -38,11 +38,13 @@ pub struct BatchRead {
 pub fn batch_number<S: Alter>(conn: &mut Connection<S>, name: &str) -> Result<Option<u32>, Fault>
     ensures answered { HasCleanDisk (state S.Store conn.new) → IfOk result (λ found. (s : Machine) → IsDesk S.Store conn.old s → HasNumber s name.now found) }
     ensures refused { (r : AnyRefusal) → result ≢ Err (Fault.Refused r) }
+    ensures fails { HasCleanDisk (state S.Store conn.new) → (state S.Store conn.old).step_limit ≡ None → (s : Machine) → IsDesk S.Store conn.old s → result ≢ Err Fault.NotADesk }
     ensures same { HasCleanDisk (state S.Store conn.new) → OnOk result ((state S.Store conn.old).now.schema ≡ desk_schema → IsUnchanged (state S.Store conn.old) (state S.Store conn.new)) }
     ensures mode { conn.old.in_transaction ≡ false → conn.new.in_transaction ≡ false }
     ensures kept { HasCleanDisk (state S.Store conn.new) → IsTrue (state S.Store conn.new).is_open → (d : Tables) → Holds S.Store conn.old d → Holds S.Store conn.new d }
     ensures lasts { Survives (state S.Store conn.old) (state S.Store conn.new) (λ _. (state S.Store conn.old).now.schema ≢ desk_schema) }
 {
+    desk_rows_fit();
     match tb_reading::batch_named(conn, name) {
         Ok(found) => Ok(found),
         Err(error) => Err(faults::of_read(error)),
@@ -53,6 +55,7 @@ pub fn batch_number<S: Alter>(conn: &mut Connection<S>, name: &str) -> Result<Op
 fn read_batch(row: BatchRow, number: u32) -> Result<BatchRead, Fault>
     ensures batch { IfOk result (λ f. (st : AnyState) → row.state ≡ state_number st → (f.number ≡ number) × (f.state ≡ st) × (f.worker ≡ row.worker)) }
     ensures refused { (r : AnyRefusal) → result ≢ Err (Fault.Refused r) }
+    ensures fails { (st : AnyState) → row.state ≡ state_number st → result ≢ Err Fault.NotADesk }
 {
     let Some(state) = state_numbered(row.state) else {
         return Err(Fault::NotADesk);
@@ -68,11 +71,13 @@ fn read_batch(row: BatchRow, number: u32) -> Result<BatchRead, Fault>
 fn batch<S: Alter>(conn: &mut Connection<S>, number: u32) -> Result<BatchRead, Fault>
     ensures answered { HasCleanDisk (state S.Store conn.new) → IfOk result (λ f. (s : Machine) → IsDesk S.Store conn.old s → (b : Batch) → slice_get s.batches (number - 1) ≡ Some b → (f.number ≡ number) × (f.state ≡ b.state) × (string_bytes f.worker ≡ b.worker)) }
     ensures refused { (r : AnyRefusal) → result ≢ Err (Fault.Refused r) }
+    ensures fails { HasCleanDisk (state S.Store conn.new) → (state S.Store conn.old).step_limit ≡ None → (s : Machine) → IsDesk S.Store conn.old s → 0 < number → (b : Batch) → slice_get s.batches (number - 1) ≡ Some b → result ≢ Err Fault.NotADesk }
     ensures same { HasCleanDisk (state S.Store conn.new) → OnOk result ((state S.Store conn.old).now.schema ≡ desk_schema → IsUnchanged (state S.Store conn.old) (state S.Store conn.new)) }
     ensures mode { conn.old.in_transaction ≡ false → conn.new.in_transaction ≡ false }
     ensures kept { HasCleanDisk (state S.Store conn.new) → IsTrue (state S.Store conn.new).is_open → (d : Tables) → Holds S.Store conn.old d → Holds S.Store conn.new d }
     ensures lasts { Survives (state S.Store conn.old) (state S.Store conn.new) (λ _. (state S.Store conn.old).now.schema ≢ desk_schema) }
 {
+    desk_rows_are_readable();
     if number == 0 {
         return Err(Fault::NotADesk);
     }
@@ -90,6 +95,7 @@ pub fn find_batch<S: Alter>(
 ) -> Result<Option<BatchRead>, Fault>
     ensures answered { HasCleanDisk (state S.Store conn.new) → IfOk result (λ found. (s : Machine) → IsDesk S.Store conn.old s → FindsBatch s name.now (option_map (λ f. record { number = f.number; state = f.state; worker = string_bytes f.worker }) found)) }
     ensures refused { (r : AnyRefusal) → result ≢ Err (Fault.Refused r) }
+    ensures fails { HasCleanDisk (state S.Store conn.new) → (state S.Store conn.old).step_limit ≡ None → (s : Machine) → IsDesk S.Store conn.old s → result ≢ Err Fault.NotADesk }
     ensures same { HasCleanDisk (state S.Store conn.new) → OnOk result ((state S.Store conn.old).now.schema ≡ desk_schema → IsUnchanged (state S.Store conn.old) (state S.Store conn.new)) }
     ensures mode { conn.old.in_transaction ≡ false → conn.new.in_transaction ≡ false }
     ensures kept { HasCleanDisk (state S.Store conn.new) → IsTrue (state S.Store conn.new).is_open → (d : Tables) → Holds S.Store conn.old d → Holds S.Store conn.new d }
@@ -122,11 +128,13 @@ fn sentence_row<S: Alter>(conn: &mut Connection<S>, number: u32) -> Result<Sente
     requires { 0 < number }
     ensures answered { HasCleanDisk (state S.Store conn.new) → IfOk result (λ f. (s : Machine) → IsDesk S.Store conn.old s → (x : Sentence) → slice_get s.sentences (number - 1) ≡ Some x → sentence_of f ≡ sentence_record x) }
     ensures refused { (r : AnyRefusal) → result ≢ Err (Fault.Refused r) }
+    ensures fails { HasCleanDisk (state S.Store conn.new) → (state S.Store conn.old).step_limit ≡ None → (s : Machine) → IsDesk S.Store conn.old s → (x : Sentence) → slice_get s.sentences (number - 1) ≡ Some x → result ≢ Err Fault.NotADesk }
     ensures same { HasCleanDisk (state S.Store conn.new) → OnOk result ((state S.Store conn.old).now.schema ≡ desk_schema → IsUnchanged (state S.Store conn.old) (state S.Store conn.new)) }
     ensures mode { conn.old.in_transaction ≡ false → conn.new.in_transaction ≡ false }
     ensures kept { HasCleanDisk (state S.Store conn.new) → IsTrue (state S.Store conn.new).is_open → (d : Tables) → Holds S.Store conn.old d → Holds S.Store conn.new d }
     ensures lasts { Survives (state S.Store conn.old) (state S.Store conn.new) (λ _. (state S.Store conn.old).now.schema ≢ desk_schema) }
 {
+    desk_rows_are_readable();
     match tb_reading::sentence(conn, number) {
         Ok(Some(row)) => Ok(row),
         Ok(None) => Err(Fault::NotADesk),
@@ -139,6 +147,7 @@ fn is_pulled<S: Alter>(conn: &mut Connection<S>, number: u32) -> Result<bool, Fa
     requires { 0 < number }
     ensures answered { HasCleanDisk (state S.Store conn.new) → IfOk result (λ pulled. (s : Machine) → IsDesk S.Store conn.old s → (x : Sentence) → slice_get s.sentences (number - 1) ≡ Some x → pulled ≡ x.pulled) }
     ensures refused { (r : AnyRefusal) → result ≢ Err (Fault.Refused r) }
+    ensures fails { HasCleanDisk (state S.Store conn.new) → (state S.Store conn.old).step_limit ≡ None → (s : Machine) → IsDesk S.Store conn.old s → result ≢ Err Fault.NotADesk }
     ensures same { HasCleanDisk (state S.Store conn.new) → OnOk result ((state S.Store conn.old).now.schema ≡ desk_schema → IsUnchanged (state S.Store conn.old) (state S.Store conn.new)) }
     ensures mode { conn.old.in_transaction ≡ false → conn.new.in_transaction ≡ false }
     ensures kept { HasCleanDisk (state S.Store conn.new) → IsTrue (state S.Store conn.new).is_open → (d : Tables) → Holds S.Store conn.old d → Holds S.Store conn.new d }
@@ -155,6 +164,7 @@ pub fn find_sentence<S: Alter>(conn: &mut Connection<S>, number: u32) -> Result<
     requires { 0 < number }
     ensures answered { HasCleanDisk (state S.Store conn.new) → IfOk result (λ f. (s : Machine) → IsDesk S.Store conn.old s → (x : Sentence) → slice_get s.sentences (number - 1) ≡ Some x → IsRead s x f) }
     ensures refused { (r : AnyRefusal) → result ≢ Err (Fault.Refused r) }
+    ensures fails { HasCleanDisk (state S.Store conn.new) → (state S.Store conn.old).step_limit ≡ None → (s : Machine) → IsDesk S.Store conn.old s → (x : Sentence) → slice_get s.sentences (number - 1) ≡ Some x → result ≢ Err Fault.NotADesk }
     ensures same { HasCleanDisk (state S.Store conn.new) → OnOk result ((state S.Store conn.old).now.schema ≡ desk_schema → IsUnchanged (state S.Store conn.old) (state S.Store conn.new)) }
     ensures mode { conn.old.in_transaction ≡ false → conn.new.in_transaction ≡ false }
     ensures kept { HasCleanDisk (state S.Store conn.new) → IsTrue (state S.Store conn.new).is_open → (d : Tables) → Holds S.Store conn.old d → Holds S.Store conn.new d }
@@ -178,11 +188,13 @@ pub fn find_sentence<S: Alter>(conn: &mut Connection<S>, number: u32) -> Result<
 pub fn is_taken<S: Alter>(conn: &mut Connection<S>, sent_id: &str) -> Result<bool, Fault>
     ensures answered { HasCleanDisk (state S.Store conn.new) → IfOk result (λ taken. (s : Machine) → IsDesk S.Store conn.old s → MatchBool taken (Lacks (ids_of s.sentences) sent_id.now → ⊥) (Lacks (ids_of s.sentences) sent_id.now)) }
     ensures refused { (r : AnyRefusal) → result ≢ Err (Fault.Refused r) }
+    ensures fails { HasCleanDisk (state S.Store conn.new) → (state S.Store conn.old).step_limit ≡ None → (s : Machine) → IsDesk S.Store conn.old s → result ≢ Err Fault.NotADesk }
     ensures same { HasCleanDisk (state S.Store conn.new) → OnOk result ((state S.Store conn.old).now.schema ≡ desk_schema → IsUnchanged (state S.Store conn.old) (state S.Store conn.new)) }
     ensures mode { conn.old.in_transaction ≡ false → conn.new.in_transaction ≡ false }
     ensures kept { HasCleanDisk (state S.Store conn.new) → IsTrue (state S.Store conn.new).is_open → (d : Tables) → Holds S.Store conn.old d → Holds S.Store conn.new d }
     ensures lasts { Survives (state S.Store conn.old) (state S.Store conn.new) (λ _. (state S.Store conn.old).now.schema ≢ desk_schema) }
 {
+    desk_rows_fit();
     match tb_reading::sentence_named(conn, sent_id) {
         Ok(Some(_)) => Ok(true),
         Ok(None) => Ok(false),

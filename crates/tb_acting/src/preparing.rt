@@ -3,14 +3,15 @@
 ghost use Rattle.std.specs.Prelude.{◌≡◌, ◌≢◌, Err, IfOk};
 ghost use Rattle.tb_core.specs.declared.refusals.Refusal.{Refusal as AnyRefusal};
 ghost use Rattle.tb_core.specs.Machine.{Machine};
-ghost use Rattle.tb_core.specs.Acts.{Act, IsAllowed};
+ghost use Rattle.tb_core.specs.Acts.{Act, IsAllowed, after};
 ghost use Rattle.tb_core.specs.Acts.{move_of as move_made};
-ghost use Rattle.tb_core.specs.Reaching.{Reached};
+ghost use Rattle.tb_core.specs.Reaching.{Reached, IsReachable};
 ghost use Rattle.tb_acting.specs.Working.{IsCounted, IsPrepared};
 
 use crate::counted::Counts;
 use crate::recording::record;
-use tb_core::{Fault, Move, Totals, stored_totals_stand};
+use tb_core::{Fault, Move, Totals, stored_totals_stand, stored_totals_take_moves};
+use tb_standing::desk_rows_are_readable;
 use tb_writing::Change;
 
 /// The rows that are written with a command, and the totals after it.
@@ -28,8 +29,11 @@ pub struct Prepared {
 pub fn prepare(counts: &Counts, step: Move) -> Result<Prepared, Fault>
     ensures prepared { IfOk result (λ p. (s : Machine) (a : Act) → Reached s → IsAllowed s a → IsCounted counts.now s → step ≡ move_made s a → IsPrepared s a p) }
     ensures refused { (r : AnyRefusal) → result ≢ Err (Fault.Refused r) }
+    ensures fails { (s : Machine) (a : Act) → IsReachable s → IsAllowed s a → IsReachable (after s a) → IsCounted counts.now s → step ≡ move_made s a → result ≢ Err Fault.NotADesk }
 {
+    stored_totals_take_moves();
     stored_totals_stand();
+    desk_rows_are_readable();
     let mut totals = counts.totals;
     let change = record(&mut totals, step)?;
     Ok(Prepared { change, totals })

@@ -1,6 +1,6 @@
 //! A pull of a sentence, and its way back.
 
-ghost use Rattle.std.specs.Prelude.{◌≡◌, ◌≢◌, ◌+◌, ◌-◌, ◌<◌, ◌≤◌, length, Some, Err, slice_get, string_bytes, false, IsTrue, IfOk, OnOk, OnErr};
+ghost use Rattle.std.specs.Prelude.{◌≡◌, ◌≢◌, ◌+◌, ◌-◌, ◌<◌, ◌≤◌, length, Some, None, Err, slice_get, string_bytes, false, IsTrue, IfOk, OnOk, OnErr};
 ghost use Rattle.sqlite.specs.State.{HasCleanDisk, IsUnchanged, Survives};
 ghost use Rattle.sqlite.specs.Held.{state};
 ghost use Rattle.tb_tables.specs.Layout.{desk_schema};
@@ -8,8 +8,8 @@ ghost use Rattle.tb_tables.specs.Records.{Tables, Stands};
 ghost use Rattle.tb_tables.specs.Changes.{Holds};
 ghost use Rattle.tb_core.specs.declared.refusals.Refusal.{Refusal as AnyRefusal};
 ghost use Rattle.tb_core.specs.Machine.{Machine, Sentence};
-ghost use Rattle.tb_core.specs.Acts.{pulling, restoring, IsAllowed};
-ghost use Rattle.tb_core.specs.Reaching.{Reached};
+ghost use Rattle.tb_core.specs.Acts.{pulling, restoring, IsAllowed, after};
+ghost use Rattle.tb_core.specs.Reaching.{Reached, IsReachable};
 ghost use Rattle.tb_core.specs.Commands.{Answer, pull as pull_it, restore as restore_it, pulled_out, restored_to, refused as refused_by, reply_to};
 ghost use Rattle.tb_core.specs.Steps.{Steps};
 ghost use Rattle.tb_standing.specs.Standing.{tables_of, IsDesk};
@@ -58,6 +58,8 @@ fn plan_pull(
         → IsPrepared s (pulling (number - 1) user.now) r.1 × (pulled_out r.0 ≡ reply_to s (pulling (number - 1) user.now))) }
     ensures room { IfOk result (λ _. counts.now.moves + 1 ≤ 1000000000) }
     ensures refused { (r : AnyRefusal) → result ≢ Err (Fault.Refused r) }
+    ensures fails { (s : Machine) (x : Sentence) → IsReachable s → IsAllowed s (pulling (number - 1) user.now) → IsReachable (after s (pulling (number - 1) user.now)) → IsCounted counts.now s → slice_get s.sentences (number - 1) ≡ Some x → IsRead s x read.now
+        → result ≢ Err Fault.NotADesk }
 {
     let no = next_move(counts)?;
     let who = String::from_str(alloc, user)?;
@@ -84,8 +86,11 @@ fn decide_pull(
         → IsJudged counts.now.limits s (pull_it number user.now) (pulling (number - 1) user.now) (pulled_out r.0) r.1) }
     ensures refused { (r : AnyRefusal) → result ≡ Err (Fault.Refused r) → (s : Machine) (x : Sentence) → Reached s → IsCounted counts.now s → slice_get s.sentences (number - 1) ≡ Some x → IsRead s x read.now
         → Steps counts.now.limits s (pull_it number user.now) (refused_by r) s }
+    ensures fails { (s : Machine) (x : Sentence) → IsReachable s → IsCounted counts.now s → IsWithin counts.now.limits → slice_get s.sentences (number - 1) ≡ Some x → IsRead s x read.now
+        → result ≢ Err Fault.NotADesk }
     ensures room { IfOk result (λ _. counts.now.moves + 1 ≤ 1000000000) }
 {
+    commands_stay_within_limits();
     let found = SentenceFound {
         state: read.state,
         pulled: read.pulled,
@@ -115,6 +120,7 @@ fn pull_planned<S: Alter>(
         → IsJudged counts.now.limits s (pull_it number user.now) (pulling (number - 1) user.now) (pulled_out r.0) r.1) }
     ensures refused { HasCleanDisk (state S.Store conn.new) → (r : AnyRefusal) → result ≡ Err (Fault.Refused r) → (s : Machine) → IsDesk S.Store conn.old s → IsCounted counts.now s → number ≤ length s.sentences
         → Steps counts.now.limits s (pull_it number user.now) (refused_by r) s × IsDesk S.Store conn.new s }
+    ensures fails { HasCleanDisk (state S.Store conn.new) → (state S.Store conn.old).step_limit ≡ None → (s : Machine) → IsDesk S.Store conn.old s → IsCounted counts.now s → IsWithin counts.now.limits → number ≤ length s.sentences → result ≢ Err Fault.NotADesk }
     ensures room { IfOk result (λ _. counts.now.moves + 1 ≤ 1000000000) }
     ensures same { HasCleanDisk (state S.Store conn.new) → OnOk result ((state S.Store conn.old).now.schema ≡ desk_schema → IsUnchanged (state S.Store conn.old) (state S.Store conn.new)) }
     ensures mode { conn.old.in_transaction ≡ false → conn.new.in_transaction ≡ false }
@@ -144,6 +150,7 @@ pub fn pull<S: Alter>(
         → IsDone S.Store counts.now.limits s (pull_it number user.now) (pulled_out r.0) conn.new r.1) }
     ensures refused { HasCleanDisk (state S.Store conn.new) → (r : AnyRefusal) → result ≡ Err (Fault.Refused r) → (s : Machine) → IsDesk S.Store conn.old s → IsCounted counts.now s → number ≤ length s.sentences
         → Steps counts.now.limits s (pull_it number user.now) (refused_by r) s × IsDesk S.Store conn.new s }
+    ensures fails { HasCleanDisk (state S.Store conn.new) → (state S.Store conn.old).step_limit ≡ None → (s : Machine) → IsDesk S.Store conn.old s → IsCounted counts.now s → number ≤ length s.sentences → result ≢ Err Fault.NotADesk }
     ensures room { IfOk result (λ _. counts.now.moves + 1 ≤ 1000000000) }
     ensures kept { HasCleanDisk (state S.Store conn.new) → IsTrue (state S.Store conn.new).is_open → OnErr result ((d : Tables) → Holds S.Store conn.old d → Holds S.Store conn.new d) }
     ensures crash { Survives (state S.Store conn.old) (state S.Store conn.new) (λ db. (s : Machine) → IsDesk S.Store conn.old s → IsCounted counts.now s → number ≤ length s.sentences
@@ -159,6 +166,7 @@ pub fn pull<S: Alter>(
 /// The refusal of a pull of a sentence that does not stand.
 pub fn no_pull(counts: &Counts, number: u64, user: &str) -> Fault
     ensures refused { (r : AnyRefusal) → result ≡ Fault.Refused r → (s : Machine) → LacksSentence s number → counts.now.moves ≡ length s.moves → Steps counts.now.limits s (pull_it number user.now) (refused_by r) s }
+    ensures fails { (s : Machine) → LacksSentence s number → counts.now.moves ≡ length s.moves → result ≢ Fault.NotADesk }
 {
     match judge_pull(&counts.limits, number, user, None, u64::from(counts.moves)) {
         Err(refusal) => Fault::Refused(refusal),
@@ -197,6 +205,8 @@ fn plan_restore(
         → IsPrepared s (restoring (number - 1) user.now) r.1 × (restored_to r.0 ≡ reply_to s (restoring (number - 1) user.now))) }
     ensures room { IfOk result (λ _. counts.now.moves + 1 ≤ 1000000000) }
     ensures refused { (r : AnyRefusal) → result ≢ Err (Fault.Refused r) }
+    ensures fails { (s : Machine) (x : Sentence) → IsReachable s → IsAllowed s (restoring (number - 1) user.now) → IsReachable (after s (restoring (number - 1) user.now)) → IsCounted counts.now s → slice_get s.sentences (number - 1) ≡ Some x → IsRead s x read.now
+        → result ≢ Err Fault.NotADesk }
 {
     let no = next_move(counts)?;
     let who = String::from_str(alloc, user)?;
@@ -224,8 +234,11 @@ fn decide_restore(
         → IsJudged counts.now.limits s (restore_it number user.now) (restoring (number - 1) user.now) (restored_to r.0) r.1) }
     ensures refused { (r : AnyRefusal) → result ≡ Err (Fault.Refused r) → (s : Machine) (x : Sentence) → Reached s → IsCounted counts.now s → slice_get s.sentences (number - 1) ≡ Some x → IsRead s x read.now
         → Steps counts.now.limits s (restore_it number user.now) (refused_by r) s }
+    ensures fails { (s : Machine) (x : Sentence) → IsReachable s → IsCounted counts.now s → IsWithin counts.now.limits → slice_get s.sentences (number - 1) ≡ Some x → IsRead s x read.now
+        → result ≢ Err Fault.NotADesk }
     ensures room { IfOk result (λ _. counts.now.moves + 1 ≤ 1000000000) }
 {
+    commands_stay_within_limits();
     let found = SentenceFound {
         state: read.state,
         pulled: read.pulled,
@@ -255,6 +268,7 @@ fn restore_planned<S: Alter>(
         → IsJudged counts.now.limits s (restore_it number user.now) (restoring (number - 1) user.now) (restored_to r.0) r.1) }
     ensures refused { HasCleanDisk (state S.Store conn.new) → (r : AnyRefusal) → result ≡ Err (Fault.Refused r) → (s : Machine) → IsDesk S.Store conn.old s → IsCounted counts.now s → number ≤ length s.sentences
         → Steps counts.now.limits s (restore_it number user.now) (refused_by r) s × IsDesk S.Store conn.new s }
+    ensures fails { HasCleanDisk (state S.Store conn.new) → (state S.Store conn.old).step_limit ≡ None → (s : Machine) → IsDesk S.Store conn.old s → IsCounted counts.now s → IsWithin counts.now.limits → number ≤ length s.sentences → result ≢ Err Fault.NotADesk }
     ensures room { IfOk result (λ _. counts.now.moves + 1 ≤ 1000000000) }
     ensures same { HasCleanDisk (state S.Store conn.new) → OnOk result ((state S.Store conn.old).now.schema ≡ desk_schema → IsUnchanged (state S.Store conn.old) (state S.Store conn.new)) }
     ensures mode { conn.old.in_transaction ≡ false → conn.new.in_transaction ≡ false }
@@ -284,6 +298,7 @@ pub fn restore<S: Alter>(
         → IsDone S.Store counts.now.limits s (restore_it number user.now) (restored_to r.0) conn.new r.1) }
     ensures refused { HasCleanDisk (state S.Store conn.new) → (r : AnyRefusal) → result ≡ Err (Fault.Refused r) → (s : Machine) → IsDesk S.Store conn.old s → IsCounted counts.now s → number ≤ length s.sentences
         → Steps counts.now.limits s (restore_it number user.now) (refused_by r) s × IsDesk S.Store conn.new s }
+    ensures fails { HasCleanDisk (state S.Store conn.new) → (state S.Store conn.old).step_limit ≡ None → (s : Machine) → IsDesk S.Store conn.old s → IsCounted counts.now s → number ≤ length s.sentences → result ≢ Err Fault.NotADesk }
     ensures room { IfOk result (λ _. counts.now.moves + 1 ≤ 1000000000) }
     ensures kept { HasCleanDisk (state S.Store conn.new) → IsTrue (state S.Store conn.new).is_open → OnErr result ((d : Tables) → Holds S.Store conn.old d → Holds S.Store conn.new d) }
     ensures crash { Survives (state S.Store conn.old) (state S.Store conn.new) (λ db. (s : Machine) → IsDesk S.Store conn.old s → IsCounted counts.now s → number ≤ length s.sentences
@@ -299,6 +314,7 @@ pub fn restore<S: Alter>(
 /// The refusal of a restore of a sentence that does not stand.
 pub fn no_restore(counts: &Counts, number: u64, user: &str) -> Fault
     ensures refused { (r : AnyRefusal) → result ≡ Fault.Refused r → (s : Machine) → LacksSentence s number → counts.now.moves ≡ length s.moves → Steps counts.now.limits s (restore_it number user.now) (refused_by r) s }
+    ensures fails { (s : Machine) → LacksSentence s number → counts.now.moves ≡ length s.moves → result ≢ Fault.NotADesk }
 {
     match judge_restore(&counts.limits, number, user, None, u64::from(counts.moves)) {
         Err(refusal) => Fault::Refused(refusal),

@@ -1,6 +1,6 @@
 //! An event on a batch.
 
-ghost use Rattle.std.specs.Prelude.{ℕ, ◌≡◌, ◌≢◌, ◌+◌, ◌-◌, ◌≤◌, length, Some, Err, slice_get, option_map, string_bytes, IsTrue, IfOk, IfErr, OnOk, OnErr, false, List};
+ghost use Rattle.std.specs.Prelude.{ℕ, ◌≡◌, ◌≢◌, ◌+◌, ◌-◌, ◌≤◌, length, Some, None, Err, slice_get, option_map, string_bytes, IsTrue, IfOk, IfErr, OnOk, OnErr, false, List};
 ghost use Rattle.sqlite.specs.State.{HasCleanDisk, IsUnchanged, Survives};
 ghost use Rattle.sqlite.specs.Held.{state};
 ghost use Rattle.tb_tables.specs.Layout.{desk_schema};
@@ -11,7 +11,7 @@ ghost use Rattle.tb_core.specs.declared.kinds.Event.{Event as AnyEvent};
 ghost use Rattle.tb_core.specs.Events.{makes_worker};
 ghost use Rattle.tb_core.specs.Machine.{Machine, Batch, weigh, at_work, one, words};
 ghost use Rattle.tb_core.specs.Acts.{stepping, with_worker, IsAllowed, after};
-ghost use Rattle.tb_core.specs.Reaching.{Reached};
+ghost use Rattle.tb_core.specs.Reaching.{Reached, IsReachable};
 ghost use Rattle.tb_core.specs.Commands.{Answer, event_on, replied, refused as refused_by, moved_on, reply_to};
 ghost use Rattle.tb_core.specs.Steps.{Steps};
 ghost use Rattle.tb_standing.specs.Standing.{tables_of, IsDesk};
@@ -28,6 +28,7 @@ use sqlite::{Alter, Connection};
 use std::alloc::Global;
 use tb_core::{
     Event, Fault, Kind, Move, Moved, Refusal, Totals, Worker, commands_stay_within_limits,
+    reached_states_are_well,
 };
 use tb_judge::{BatchFound, judge_event};
 use tb_standing::{events_stand, number_of_state};
@@ -88,6 +89,7 @@ fn judge(
 ) -> Result<(BatchRead, Worker), Fault>
     ensures found { IfOk result (λ r. (found ≡ Some r.0) × (r.1 ≡ makes_worker event)) }
     ensures refused { (r : AnyRefusal) → result ≡ Err (Fault.Refused r) → (s : Machine) → Reached s → FindsBatch s name.now (option_map seen_of found) → counts.now.moves ≡ length s.moves → Steps counts.now.limits s (event_on name.now event user.now) (refused_by r) s }
+    ensures fails { (s : Machine) → Reached s → FindsBatch s name.now (option_map seen_of found) → counts.now.moves ≡ length s.moves → result ≢ Err Fault.NotADesk }
     ensures accepted { IfOk result (λ r. (s : Machine) → Reached s → FindsBatch s name.now (option_map seen_of found) → counts.now.moves ≡ length s.moves
         → let act = stepping (r.0.number - 1) event user.now in
         IsAllowed s act × Steps counts.now.limits s (event_on name.now event user.now) (replied (reply_to s act)) (after s act)) }
@@ -113,6 +115,7 @@ fn judge(
 fn worker_after(alloc: Global, makes: Worker, user: &str, worker: String) -> Result<String, Fault>
     ensures value { IfOk result (λ name. string_bytes name ≡ with_worker makes user.now (string_bytes worker)) }
     ensures refused { (r : AnyRefusal) → result ≢ Err (Fault.Refused r) }
+    ensures fails { result ≢ Err Fault.NotADesk }
 {
     match makes {
         Worker::Keep => Ok(worker),
@@ -132,6 +135,7 @@ fn event_step(
 ) -> Result<Move, Fault>
     ensures step { IfOk result (λ m. m ≡ event_move number event found.now sums user.now) }
     ensures refused { (r : AnyRefusal) → result ≢ Err (Fault.Refused r) }
+    ensures fails { result ≢ Err Fault.NotADesk }
 {
     Ok(Move {
         no: u64::from(number),
@@ -163,6 +167,10 @@ fn plan(
         → IsPlanned s place event user.now p) }
     ensures room { IfOk result (λ _. counts.now.moves + 1 ≤ 1000000000) }
     ensures refused { (r : AnyRefusal) → result ≢ Err (Fault.Refused r) }
+    ensures fails { (s : Machine) → (place : ℕ) → (b : Batch) → IsReachable s → IsAllowed s (stepping place event user.now) → IsReachable (after s (stepping place event user.now)) → IsCounted counts.now s
+        → slice_get s.batches place ≡ Some b → found.number ≡ place + 1 → found.state ≡ b.state
+        → sums.sentences ≡ weigh (at_work (place + 1) one) s.sentences → sums.words ≡ weigh (at_work (place + 1) words) s.sentences
+        → result ≢ Err Fault.NotADesk }
 {
     let step = event_step(alloc, next_move(counts)?, event, &found, sums, user)?;
     let prepared = prepare(counts, step)?;
@@ -195,12 +203,14 @@ fn planned<S: Alter>(
         × Steps counts.now.limits s (event_on name.now event user.now) (replied (moved_on p.reply)) (after s (stepping place event user.now))) }
     ensures refused { HasCleanDisk (state S.Store conn.new) → (r : AnyRefusal) → result ≡ Err (Fault.Refused r) → (s : Machine) → IsDesk S.Store conn.old s → IsCounted counts.now s
         → Steps counts.now.limits s (event_on name.now event user.now) (refused_by r) s × IsDesk S.Store conn.new s }
+    ensures fails { HasCleanDisk (state S.Store conn.new) → (state S.Store conn.old).step_limit ≡ None → (s : Machine) → IsDesk S.Store conn.old s → IsCounted counts.now s → IsWithin counts.now.limits → result ≢ Err Fault.NotADesk }
     ensures room { IfOk result (λ _. counts.now.moves + 1 ≤ 1000000000) }
     ensures same { HasCleanDisk (state S.Store conn.new) → OnOk result ((state S.Store conn.old).now.schema ≡ desk_schema → IsUnchanged (state S.Store conn.old) (state S.Store conn.new)) }
     ensures mode { conn.old.in_transaction ≡ false → conn.new.in_transaction ≡ false }
     ensures kept { HasCleanDisk (state S.Store conn.new) → IsTrue (state S.Store conn.new).is_open → (d : Tables) → Holds S.Store conn.old d → Holds S.Store conn.new d }
     ensures lasts { Survives (state S.Store conn.old) (state S.Store conn.new) (λ _. (state S.Store conn.old).now.schema ≢ desk_schema) }
 {
+    commands_stay_within_limits();
     let found = find_batch(conn, name)?;
     let (batch, makes) = judge(counts, name, event, user, found)?;
     let sums = find_work(alloc, conn, batch.number)?;
@@ -213,11 +223,13 @@ fn write<S: Alter>(conn: &mut Connection<S>, plan: &EventPlan) -> Result<(), Fau
     ensures done { HasCleanDisk (state S.Store conn.new) → OnOk result ((s : Machine) → IsDesk S.Store conn.old s → (place : ℕ) (event : AnyEvent) (user : List ℕ) → IsPlanned s place event user plan.now → IsAllowed s (stepping place event user)
         → Holds S.Store conn.new (tables_of (after s (stepping place event user)))) }
     ensures refused { (r : AnyRefusal) → result ≢ Err (Fault.Refused r) }
+    ensures fails { HasCleanDisk (state S.Store conn.new) → (state S.Store conn.old).step_limit ≡ None → (s : Machine) → IsDesk S.Store conn.old s → (place : ℕ) (event : AnyEvent) (user : List ℕ) → IsPlanned s place event user plan.now → IsAllowed s (stepping place event user) → result ≢ Err Fault.NotADesk }
     ensures kept { HasCleanDisk (state S.Store conn.new) → IsTrue (state S.Store conn.new).is_open → OnErr result ((d : Tables) → Holds S.Store conn.old d → Holds S.Store conn.new d) }
     ensures crash { Survives (state S.Store conn.old) (state S.Store conn.new) (λ db. (s : Machine) → IsDesk S.Store conn.old s → (place : ℕ) (event : AnyEvent) (user : List ℕ) → IsPlanned s place event user plan.now → IsAllowed s (stepping place event user)
         → Stands (tables_of (after s (stepping place event user))) db) }
     ensures mode { conn.new.in_transaction ≡ false }
 {
+    reached_states_are_well();
     events_stand();
     if plan.number == 0 {
         return Err(Fault::NotADesk);
@@ -252,6 +264,7 @@ pub fn event<S: Alter>(
     ensures answered { HasCleanDisk (state S.Store conn.new) → IfOk result (λ r. (s : Machine) → IsDesk S.Store conn.old s → IsCounted counts.now s → IsDone S.Store counts.now.limits s (event_on name.now event user.now) (moved_on r.0) conn.new r.1) }
     ensures refused { HasCleanDisk (state S.Store conn.new) → (r : AnyRefusal) → result ≡ Err (Fault.Refused r) → (s : Machine) → IsDesk S.Store conn.old s → IsCounted counts.now s
         → Steps counts.now.limits s (event_on name.now event user.now) (refused_by r) s × IsDesk S.Store conn.new s }
+    ensures fails { HasCleanDisk (state S.Store conn.new) → (state S.Store conn.old).step_limit ≡ None → (s : Machine) → IsDesk S.Store conn.old s → IsCounted counts.now s → result ≢ Err Fault.NotADesk }
     ensures room { IfOk result (λ _. counts.now.moves + 1 ≤ 1000000000) }
     ensures kept { HasCleanDisk (state S.Store conn.new) → IsTrue (state S.Store conn.new).is_open → OnErr result ((d : Tables) → Holds S.Store conn.old d → Holds S.Store conn.new d) }
     ensures crash { Survives (state S.Store conn.old) (state S.Store conn.new) (λ db. (s : Machine) → IsDesk S.Store conn.old s → IsCounted counts.now s → (a : Answer) × (t : Machine) × Steps counts.now.limits s (event_on name.now event user.now) a t × Stands (tables_of t) db) }

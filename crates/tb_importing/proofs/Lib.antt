@@ -5,3 +5,5 @@ pub mod Ordered
 pub mod Counting
 pub mod Firstly
 pub mod Meaning
+pub mod Bounds
+pub mod Filled

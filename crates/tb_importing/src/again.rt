@@ -1,6 +1,6 @@
 //! How many words the first revisions of sentences have.
 
-ghost use Rattle.std.specs.Prelude.{◌≡◌, ◌≢◌, List, sum_by, Err, IfOk, OnOk};
+ghost use Rattle.std.specs.Prelude.{◌≡◌, ◌≢◌, ◌<◌, ◌^◌, List, sum_by, None, Err, IfOk, OnOk};
 ghost use Rattle.sqlite.specs.State.{HasCleanDisk};
 ghost use Rattle.sqlite.specs.Held.{state};
 ghost use Rattle.tb_conllu.specs.Text.{BlockText};
@@ -16,18 +16,21 @@ use sqlite::{Alter, Connection};
 use std::alloc::Global;
 use tb_acting::faults;
 use tb_conllu::one_list_has_a_text;
-use tb_core::{Fault, reached_states_are_well};
+use tb_core::{Fault, reached_states_are_well, revisions_read_back};
 use tb_reading::Work;
-use tb_standing::records_tell_what_stands;
+use tb_standing::{desk_rows_are_readable, records_tell_what_stands};
 
 /// The words of the first revision of the sentence with this number, which stands: its text is read.
 fn read_words<S: Alter>(alloc: Global, conn: &mut Connection<S>, number: u32) -> Result<u64, Fault>
     ensures answered { HasCleanDisk (state S.Store conn.new) → IfOk result (λ n. (s : Machine) (b : BlockText) → IsDesk S.Store conn.old s → IsFirst s number b → n ≡ words_of b) }
     ensures refused { (r : AnyRefusal) → result ≢ Err (Fault.Refused r) }
+    ensures fails { HasCleanDisk (state S.Store conn.new) → (state S.Store conn.old).step_limit ≡ None → (s : Machine) (b : BlockText) → IsDesk S.Store conn.old s → IsFirst s number b → result ≢ Err Fault.NotADesk }
     ensures stays { OnOk result (Stays S.Store conn.old conn.new) }
     ensures left { IsLeft S.Store conn.old conn.new }
 {
     records_tell_what_stands();
+    desk_rows_are_readable();
+    revisions_read_back();
     one_list_has_a_text();
     reached_states_are_well();
     match tb_reading::revision(conn, number, 1) {
@@ -41,6 +44,7 @@ fn read_words<S: Alter>(alloc: Global, conn: &mut Connection<S>, number: u32) ->
 fn first_words<S: Alter>(alloc: Global, conn: &mut Connection<S>, one: &Work) -> Result<u64, Fault>
     ensures answered { HasCleanDisk (state S.Store conn.new) → IfOk result (λ n. (s : Machine) (b : BlockText) → IsDesk S.Store conn.old s → IsWorkOf s one.now b → n ≡ words_of b) }
     ensures refused { (r : AnyRefusal) → result ≢ Err (Fault.Refused r) }
+    ensures fails { HasCleanDisk (state S.Store conn.new) → (state S.Store conn.old).step_limit ≡ None → (s : Machine) (b : BlockText) → IsDesk S.Store conn.old s → IsWorkOf s one.now b → result ≢ Err Fault.NotADesk }
     ensures stays { OnOk result (Stays S.Store conn.old conn.new) }
     ensures left { IsLeft S.Store conn.old conn.new }
 {
@@ -58,6 +62,7 @@ pub(crate) fn words_again<S: Alter>(
 ) -> Result<u64, Fault>
     ensures answered { HasCleanDisk (state S.Store conn.new) → IfOk result (λ n. (s : Machine) (bs : List BlockText) → IsDesk S.Store conn.old s → AreFirsts s work.now bs → n ≡ sum_by words_of bs) }
     ensures refused { (r : AnyRefusal) → result ≢ Err (Fault.Refused r) }
+    ensures fails { HasCleanDisk (state S.Store conn.new) → (state S.Store conn.old).step_limit ≡ None → (s : Machine) (bs : List BlockText) → IsDesk S.Store conn.old s → AreFirsts s work.now bs → sum_by words_of bs < 2 ^ 64 → result ≢ Err Fault.NotADesk }
     ensures stays { OnOk result (Stays S.Store conn.old conn.new) }
     ensures left { IsLeft S.Store conn.old conn.new }
 {

@@ -1,6 +1,6 @@
 //! Whether a text is that of the first revisions of sentences that stand.
 
-ghost use Rattle.std.specs.Prelude.{◌≡◌, ◌≢◌, ◌++◌, ◌∷◌, [], ℕ, List, Err, IfOk, OnOk, MatchOption};
+ghost use Rattle.std.specs.Prelude.{◌≡◌, ◌≢◌, ◌++◌, ◌∷◌, [], ℕ, List, None, Err, IfOk, OnOk, MatchOption};
 ghost use Rattle.sqlite.specs.State.{HasCleanDisk};
 ghost use Rattle.sqlite.specs.Held.{state};
 ghost use Rattle.tb_conllu.specs.Text.{BlockText, text_of};
@@ -14,7 +14,7 @@ use sqlite::{Alter, Connection};
 use tb_acting::faults;
 use tb_core::Fault;
 use tb_reading::Work;
-use tb_standing::records_tell_what_stands;
+use tb_standing::{desk_rows_are_readable, records_tell_what_stands};
 
 /// What of a text follows that of the first revision of the sentence with this number, which stands; nothing where the text
 /// does not begin with it.
@@ -26,10 +26,12 @@ fn after_first<'a, S: Alter>(
     ensures answered { HasCleanDisk (state S.Store conn.new) → IfOk result (λ found. (s : Machine) (b : BlockText) → IsDesk S.Store conn.old s → IsFirst s number b
         → MatchOption found ((more : List ℕ) → text.now ≢ text_of (b ∷ []) ++ more) (λ more. text.now ≡ text_of (b ∷ []) ++ more.now)) }
     ensures refused { (r : AnyRefusal) → result ≢ Err (Fault.Refused r) }
+    ensures fails { HasCleanDisk (state S.Store conn.new) → (state S.Store conn.old).step_limit ≡ None → (s : Machine) (b : BlockText) → IsDesk S.Store conn.old s → IsFirst s number b → result ≢ Err Fault.NotADesk }
     ensures stays { OnOk result (Stays S.Store conn.old conn.new) }
     ensures left { IsLeft S.Store conn.old conn.new }
 {
     records_tell_what_stands();
+    desk_rows_are_readable();
     match tb_reading::revision(conn, number, 1) {
         Ok(Some(row)) => Ok(text.strip_prefix(row.body.as_bytes())),
         Ok(None) => Err(Fault::NotADesk),
@@ -46,6 +48,7 @@ pub(crate) fn are_firsts<S: Alter>(
 ) -> Result<bool, Fault>
     ensures answered { HasCleanDisk (state S.Store conn.new) → IfOk result (λ same. (s : Machine) (bs : List BlockText) → IsDesk S.Store conn.old s → AreFirsts s work.now bs → Tells same text.now bs) }
     ensures refused { (r : AnyRefusal) → result ≢ Err (Fault.Refused r) }
+    ensures fails { HasCleanDisk (state S.Store conn.new) → (state S.Store conn.old).step_limit ≡ None → (s : Machine) (bs : List BlockText) → IsDesk S.Store conn.old s → AreFirsts s work.now bs → result ≢ Err Fault.NotADesk }
     ensures stays { OnOk result (Stays S.Store conn.old conn.new) }
     ensures left { IsLeft S.Store conn.old conn.new }
 {

@@ -1,6 +1,6 @@
 //! An import, from its name to its commit.
 
-ghost use Rattle.std.specs.Prelude.{◌≡◌, ◌≢◌, ◌+◌, ◌≤◌, ℕ, List, map, Err, false, IsTrue, IfOk, IfSome, OnOk, OnErr};
+ghost use Rattle.std.specs.Prelude.{◌≡◌, ◌≢◌, ◌+◌, ◌≤◌, ℕ, List, map, None, Err, false, IsTrue, IfOk, IfSome, OnOk, OnErr};
 ghost use Rattle.sqlite.specs.State.{HasCleanDisk, Survives};
 ghost use Rattle.sqlite.specs.Held.{state};
 ghost use Rattle.tb_conllu.specs.Text.{BlockText};
@@ -39,6 +39,7 @@ fn admit<S: Alter>(
 ) -> Result<(), Fault>
     ensures refused { HasCleanDisk (state S.Store conn.new) → (r : AnyRefusal) → result ≡ Err (Fault.Refused r) → (s : Machine) (name user body : List ℕ) (bs : List BlockText) → IsDesk S.Store conn.old s → IsKnown known.now s
         → IsTakenImport s name user body bs → taken.now ≡ map taken_of bs → Steps known.now.counts.limits s (import_file name user body) (refused_by r) s × IsDesk S.Store conn.new s }
+    ensures fails { HasCleanDisk (state S.Store conn.new) → (state S.Store conn.old).step_limit ≡ None → (s : Machine) → IsDesk S.Store conn.old s → result ≢ Err Fault.NotADesk }
     ensures accepted { HasCleanDisk (state S.Store conn.new) → OnOk result ((s : Machine) (name user body : List ℕ) (bs : List BlockText) → IsDesk S.Store conn.old s → IsKnown known.now s
         → IsTakenImport s name user body bs → taken.now ≡ map taken_of bs
         → let act = importing name user bs in
@@ -71,6 +72,8 @@ fn write<S: Alter>(
         → let act = importing name.now user.now bs in
         IsAllowed s act → IsReachable (after s act) → IsDesk S.Store conn.new (after s act) × StandFor r.1 (after s act) × (imported r.0 ≡ reply_to s act)) }
     ensures refused { (r : AnyRefusal) → result ≢ Err (Fault.Refused r) }
+    ensures fails { HasCleanDisk (state S.Store conn.new) → (state S.Store conn.old).step_limit ≡ None → (s : Machine) (bs : List BlockText) → IsDesk S.Store conn.old s → IsKnown known.now s → taken.now ≡ map taken_of bs
+        → IsAllowed s (importing name.now user.now bs) → IsReachable (after s (importing name.now user.now bs)) → result ≢ Err Fault.NotADesk }
     ensures room { IfOk result (λ r. (known.now.counts.moves + 1 ≤ 1000000000) × (known.now.sentences + r.0.sentences ≤ 1000000)) }
     ensures kept { HasCleanDisk (state S.Store conn.new) → IsTrue (state S.Store conn.new).is_open → OnErr result ((d : Tables) → Holds S.Store conn.old d → Holds S.Store conn.new d) }
     ensures crash { Survives (state S.Store conn.old) (state S.Store conn.new) (λ db. (s : Machine) (bs : List BlockText) → IsDesk S.Store conn.old s → IsKnown known.now s → taken.now ≡ map taken_of bs
@@ -107,6 +110,7 @@ fn import_new<S: Alter>(
         → HasImported S.Store known.now.counts.limits s name.now user.now body.now conn.new r.0 r.1) }
     ensures refused { HasCleanDisk (state S.Store conn.new) → (r : AnyRefusal) → result ≡ Err (Fault.Refused r) → (s : Machine) → IsDesk S.Store conn.old s → IsKnown known.now s → IsNamedImport s name.now user.now body.now → FindsName s name.now body.now found
         → Steps known.now.counts.limits s (import_file name.now user.now body.now) (refused_by r) s × IsDesk S.Store conn.new s }
+    ensures fails { HasCleanDisk (state S.Store conn.new) → (state S.Store conn.old).step_limit ≡ None → (s : Machine) → IsDesk S.Store conn.old s → IsKnown known.now s → IsNamedImport s name.now user.now body.now → FindsName s name.now body.now found → result ≢ Err Fault.NotADesk }
     ensures room { IfOk result (λ r. (known.now.counts.moves + 1 ≤ 1000000000) × (known.now.sentences + r.0.sentences ≤ 1000000)) }
     ensures kept { HasCleanDisk (state S.Store conn.new) → IsTrue (state S.Store conn.new).is_open → OnErr result ((d : Tables) → Holds S.Store conn.old d → Holds S.Store conn.new d) }
     ensures crash { Survives (state S.Store conn.old) (state S.Store conn.new) (λ db. (s : Machine) → IsDesk S.Store conn.old s → IsKnown known.now s → IsNamedImport s name.now user.now body.now → FindsName s name.now body.now found
@@ -141,6 +145,7 @@ pub fn import<S: Alter>(
     ensures answered { HasCleanDisk (state S.Store conn.new) → IfOk result (λ r. (s : Machine) → IsDesk S.Store conn.old s → IsKnown known.now s → Imports S.Store known.now.counts.limits s name.now user.now body.now conn.new r.0 r.1) }
     ensures refused { HasCleanDisk (state S.Store conn.new) → (r : AnyRefusal) → result ≡ Err (Fault.Refused r) → (s : Machine) → IsDesk S.Store conn.old s → IsKnown known.now s
         → Steps known.now.counts.limits s (import_file name.now user.now body.now) (refused_by r) s × IsDesk S.Store conn.new s }
+    ensures fails { HasCleanDisk (state S.Store conn.new) → (state S.Store conn.old).step_limit ≡ None → (s : Machine) → IsDesk S.Store conn.old s → IsKnown known.now s → result ≢ Err Fault.NotADesk }
     ensures room { IfOk result (λ r. IfSome r.1 (λ _. (known.now.counts.moves + 1 ≤ 1000000000) × (known.now.sentences + r.0.sentences ≤ 1000000))) }
     ensures kept { HasCleanDisk (state S.Store conn.new) → IsTrue (state S.Store conn.new).is_open → OnErr result ((d : Tables) → Holds S.Store conn.old d → Holds S.Store conn.new d) }
     ensures crash { Survives (state S.Store conn.old) (state S.Store conn.new) (λ db. (s : Machine) → IsDesk S.Store conn.old s → IsKnown known.now s

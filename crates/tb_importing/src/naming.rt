@@ -1,6 +1,6 @@
 //! What the name of an import is to the batches that stand.
 
-ghost use Rattle.std.specs.Prelude.{◌≡◌, ◌≢◌, ◌+◌, ℕ, List, map, sum_by, Err, IfOk, OnOk};
+ghost use Rattle.std.specs.Prelude.{◌≡◌, ◌≢◌, ◌<◌, ◌≤◌, ◌+◌, ℕ, List, map, length, sum_by, None, Err, IfOk, OnOk};
 ghost use Rattle.sqlite.specs.State.{HasCleanDisk};
 ghost use Rattle.sqlite.specs.Held.{state};
 ghost use Rattle.tb_conllu.specs.Words.{words_of};
@@ -22,6 +22,7 @@ use tb_acting::{batch_number, faults};
 use tb_core::{Fault, Imported, reached_states_are_well};
 use tb_judge::NameFound;
 use tb_reading::Work;
+use tb_standing::desk_rows_are_readable;
 
 /// The sentences of the batch with this number, pulled ones too.
 fn read_work<S: Alter>(
@@ -31,9 +32,11 @@ fn read_work<S: Alter>(
 ) -> Result<Vec<Work>, Fault>
     ensures answered { HasCleanDisk (state S.Store conn.new) → IfOk result (λ v. (s : Machine) → IsDesk S.Store conn.old s → v.items ≡ work_of number 1 (map sentence_record s.sentences)) }
     ensures refused { (r : AnyRefusal) → result ≢ Err (Fault.Refused r) }
+    ensures fails { HasCleanDisk (state S.Store conn.new) → (state S.Store conn.old).step_limit ≡ None → (s : Machine) → IsDesk S.Store conn.old s → result ≢ Err Fault.NotADesk }
     ensures stays { OnOk result (Stays S.Store conn.old conn.new) }
     ensures left { IsLeft S.Store conn.old conn.new }
 {
+    desk_rows_are_readable();
     match tb_reading::sentences_of(alloc, conn, number) {
         Ok(work) => Ok(work),
         Err(error) => Err(faults::of_read(error)),
@@ -45,6 +48,7 @@ fn read_work<S: Alter>(
 fn reply_again(number: u32, work: &[Work], words: u64) -> Result<Imported, Fault>
     ensures answered { IfOk result (λ r. (s : Machine) → Reached s → work.now ≡ work_of number 1 (map sentence_record s.sentences) → words ≡ sum_by words_of (first_bodies number s.sentences) → imported r ≡ import_reply s number) }
     ensures refused { (r : AnyRefusal) → result ≢ Err (Fault.Refused r) }
+    ensures fails { (s : Machine) → Reached s → 0 < number → number ≤ length s.batches → work.now ≡ work_of number 1 (map sentence_record s.sentences) → result ≢ Err Fault.NotADesk }
 {
     // The law by which sentences stand in the order of their batches.
     reached_states_are_well();
@@ -68,6 +72,7 @@ fn repeat<S: Alter>(
 ) -> Result<Imported, Fault>
     ensures answered { HasCleanDisk (state S.Store conn.new) → IfOk result (λ r. (s : Machine) → IsDesk S.Store conn.old s → work.now ≡ work_of number 1 (map sentence_record s.sentences) → imported r ≡ import_reply s number) }
     ensures refused { (r : AnyRefusal) → result ≢ Err (Fault.Refused r) }
+    ensures fails { HasCleanDisk (state S.Store conn.new) → (state S.Store conn.old).step_limit ≡ None → (s : Machine) → IsDesk S.Store conn.old s → 0 < number → number ≤ length s.batches → work.now ≡ work_of number 1 (map sentence_record s.sentences) → result ≢ Err Fault.NotADesk }
     ensures stays { OnOk result (Stays S.Store conn.old conn.new) }
     ensures left { IsLeft S.Store conn.old conn.new }
 {
@@ -84,6 +89,7 @@ fn compare<S: Alter>(
 ) -> Result<NameFound, Fault>
     ensures answered { HasCleanDisk (state S.Store conn.new) → IfOk result (λ found. (s : Machine) (name : List ℕ) (place : ℕ) (b : Batch) → IsDesk S.Store conn.old s → HasBatch s name place b → number ≡ place + 1 → FindsName s name body.now found) }
     ensures refused { (r : AnyRefusal) → result ≢ Err (Fault.Refused r) }
+    ensures fails { HasCleanDisk (state S.Store conn.new) → (state S.Store conn.old).step_limit ≡ None → (s : Machine) (name : List ℕ) (place : ℕ) (b : Batch) → IsDesk S.Store conn.old s → HasBatch s name place b → number ≡ place + 1 → result ≢ Err Fault.NotADesk }
     ensures stays { OnOk result (Stays S.Store conn.old conn.new) }
     ensures left { IsLeft S.Store conn.old conn.new }
 {
@@ -104,6 +110,7 @@ pub(crate) fn find_name<S: Alter>(
 ) -> Result<NameFound, Fault>
     ensures answered { HasCleanDisk (state S.Store conn.new) → IfOk result (λ found. (s : Machine) → IsDesk S.Store conn.old s → FindsName s name.now body.now found) }
     ensures refused { (r : AnyRefusal) → result ≢ Err (Fault.Refused r) }
+    ensures fails { HasCleanDisk (state S.Store conn.new) → (state S.Store conn.old).step_limit ≡ None → (s : Machine) → IsDesk S.Store conn.old s → result ≢ Err Fault.NotADesk }
     ensures stays { OnOk result (Stays S.Store conn.old conn.new) }
     ensures left { IsLeft S.Store conn.old conn.new }
 {

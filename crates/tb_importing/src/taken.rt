@@ -1,6 +1,6 @@
 //! Which sentence of a file has a `sent_id` that stands.
 
-ghost use Rattle.std.specs.Prelude.{◌≡◌, ◌≢◌, List, map, Err, IfOk, OnOk};
+ghost use Rattle.std.specs.Prelude.{◌≡◌, ◌≢◌, List, map, None, Err, IfOk, OnOk};
 ghost use Rattle.sqlite.specs.State.{HasCleanDisk};
 ghost use Rattle.sqlite.specs.Held.{state};
 ghost use Rattle.tb_conllu.specs.Text.{BlockText};
@@ -22,6 +22,7 @@ pub(crate) fn first_taken<S: Alter>(
 ) -> Result<Option<u64>, Fault>
     ensures answered { HasCleanDisk (state S.Store conn.new) → IfOk result (λ found. (s : Machine) (bs : List BlockText) → IsDesk S.Store conn.old s → taken.now ≡ map taken_of bs → FindsId s bs found) }
     ensures refused { (r : AnyRefusal) → result ≢ Err (Fault.Refused r) }
+    ensures fails { HasCleanDisk (state S.Store conn.new) → (state S.Store conn.old).step_limit ≡ None → (s : Machine) → IsDesk S.Store conn.old s → result ≢ Err Fault.NotADesk }
     ensures stays { OnOk result (Stays S.Store conn.old conn.new) }
     ensures left { IsLeft S.Store conn.old conn.new }
 {

@@ -1,6 +1,6 @@
 //! A correction, in two parts: what stands of the sentence, and the body.
 
-ghost use Rattle.std.specs.Prelude.{◌≡◌, ◌↔◌, ◌+◌, ◌≤◌, ℕ, List, IsTrue, cond, length, option_map, IfOk, IfErr};
+ghost use Rattle.std.specs.Prelude.{◌≡◌, ◌≢◌, ◌↔◌, ◌+◌, ◌≤◌, ℕ, List, IsTrue, cond, length, None, option_map, IfOk, IfErr};
 ghost use Rattle.tb_core.specs.declared.kinds.State.TheVariants.{Withdrawn};
 ghost use Rattle.tb_core.specs.declared.limits.Limits.{Limits};
 ghost use Rattle.tb_core.specs.Machine.{Sentence, Machine};
@@ -102,6 +102,7 @@ pub fn judge_correction_before(
         → Steps l s (correct number base user.now body.now) (replied (corrected_to reply)) s)) }
     ensures goes { IfOk result (IfGoes ((s : Machine) (place : ℕ) (x : Sentence) → FindsCurrent s number (option_map (λ f. f.now) found.entry) → HasSentence s number place x
         → IsNamedCorrection s number base user.now body.now place x)) }
+    ensures stands { IfOk result (λ _. found.entry ≢ None) }
 {
     if !good_name(user) {
         return Err(Refusal::BadName);

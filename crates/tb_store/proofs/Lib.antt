@@ -4,4 +4,3 @@ pub mod SixTotals
 pub mod Standings
 pub mod Adopted
 pub mod Migrated
-pub mod Faultless

@@ -398,6 +398,7 @@ impl<S: Alter> Desk<S> {
     ) -> Result<Corrected, Fault>
         ensures answered { HasCleanDisk (state S.Store self.new.conn) → IfOk result (λ reply. (s : Machine) → StandsFor S.Store self.old s → (t : Machine) × Steps self.old.limits s (correct_it number base user.now body.now) (replied (corrected_to reply)) t × StandsFor S.Store self.new t) }
         ensures refused { HasCleanDisk (state S.Store self.new.conn) → IfErr result (λ e. (r : AnyRefusal) → e ≡ Fault.Refused r → (s : Machine) → StandsFor S.Store self.old s → Steps self.old.limits s (correct_it number base user.now body.now) (refused_by r) s × StandsFor S.Store self.new s) }
+        ensures fails { HasCleanDisk (state S.Store self.new.conn) → (state S.Store self.old.conn).step_limit ≡ None → (s : Machine) → StandsFor S.Store self.old s → result ≢ Err Fault.NotADesk }
         ensures kept { HasCleanDisk (state S.Store self.new.conn) → IsTrue (state S.Store self.new.conn).is_open → IfErr result (λ _. (s : Machine) → StandsFor S.Store self.old s → StandsFor S.Store self.new s) }
         ensures crash { Survives (state S.Store self.old.conn) (state S.Store self.new.conn) (λ db. (s : Machine) → StandsFor S.Store self.old s → (a : Answer) × (t : Machine) × Steps self.old.limits s (correct_it number base user.now body.now) a t × Stands (tables_of t) db) }
         ensures limits { self.new.limits ≡ self.old.limits }
@@ -459,6 +460,7 @@ impl<S: Alter> Desk<S> {
     pub fn event(&mut self, name: &str, event: Event, user: &str) -> Result<Moved, Fault>
         ensures answered { HasCleanDisk (state S.Store self.new.conn) → IfOk result (λ m. (s : Machine) → StandsFor S.Store self.old s → (t : Machine) × Steps self.old.limits s (event_on name.now event user.now) (replied (moved_on m)) t × StandsFor S.Store self.new t) }
         ensures refused { HasCleanDisk (state S.Store self.new.conn) → IfErr result (λ e. (r : AnyRefusal) → e ≡ Fault.Refused r → (s : Machine) → StandsFor S.Store self.old s → Steps self.old.limits s (event_on name.now event user.now) (refused_by r) s × StandsFor S.Store self.new s) }
+        ensures fails { HasCleanDisk (state S.Store self.new.conn) → (state S.Store self.old.conn).step_limit ≡ None → (s : Machine) → StandsFor S.Store self.old s → result ≢ Err Fault.NotADesk }
         ensures kept { HasCleanDisk (state S.Store self.new.conn) → IsTrue (state S.Store self.new.conn).is_open → IfErr result (λ _. (s : Machine) → StandsFor S.Store self.old s → StandsFor S.Store self.new s) }
         ensures crash { Survives (state S.Store self.old.conn) (state S.Store self.new.conn) (λ db. (s : Machine) → StandsFor S.Store self.old s → (a : Answer) × (t : Machine) × Steps self.old.limits s (event_on name.now event user.now) a t × Stands (tables_of t) db) }
         ensures limits { self.new.limits ≡ self.old.limits }
@@ -485,6 +487,7 @@ impl<S: Alter> Desk<S> {
     pub fn pull(&mut self, number: u64, user: &str) -> Result<Pulled, Fault>
         ensures answered { HasCleanDisk (state S.Store self.new.conn) → IfOk result (λ reply. (s : Machine) → StandsFor S.Store self.old s → (t : Machine) × Steps self.old.limits s (pull_it number user.now) (replied (pulled_out reply)) t × StandsFor S.Store self.new t) }
         ensures refused { HasCleanDisk (state S.Store self.new.conn) → IfErr result (λ e. (r : AnyRefusal) → e ≡ Fault.Refused r → (s : Machine) → StandsFor S.Store self.old s → Steps self.old.limits s (pull_it number user.now) (refused_by r) s × StandsFor S.Store self.new s) }
+        ensures fails { HasCleanDisk (state S.Store self.new.conn) → (state S.Store self.old.conn).step_limit ≡ None → (s : Machine) → StandsFor S.Store self.old s → result ≢ Err Fault.NotADesk }
         ensures kept { HasCleanDisk (state S.Store self.new.conn) → IsTrue (state S.Store self.new.conn).is_open → IfErr result (λ _. (s : Machine) → StandsFor S.Store self.old s → StandsFor S.Store self.new s) }
         ensures crash { Survives (state S.Store self.old.conn) (state S.Store self.new.conn) (λ db. (s : Machine) → StandsFor S.Store self.old s → (a : Answer) × (t : Machine) × Steps self.old.limits s (pull_it number user.now) a t × Stands (tables_of t) db) }
         ensures limits { self.new.limits ≡ self.old.limits }
@@ -507,6 +510,7 @@ impl<S: Alter> Desk<S> {
     pub fn restore(&mut self, number: u64, user: &str) -> Result<Restored, Fault>
         ensures answered { HasCleanDisk (state S.Store self.new.conn) → IfOk result (λ reply. (s : Machine) → StandsFor S.Store self.old s → (t : Machine) × Steps self.old.limits s (restore_it number user.now) (replied (restored_to reply)) t × StandsFor S.Store self.new t) }
         ensures refused { HasCleanDisk (state S.Store self.new.conn) → IfErr result (λ e. (r : AnyRefusal) → e ≡ Fault.Refused r → (s : Machine) → StandsFor S.Store self.old s → Steps self.old.limits s (restore_it number user.now) (refused_by r) s × StandsFor S.Store self.new s) }
+        ensures fails { HasCleanDisk (state S.Store self.new.conn) → (state S.Store self.old.conn).step_limit ≡ None → (s : Machine) → StandsFor S.Store self.old s → result ≢ Err Fault.NotADesk }
         ensures kept { HasCleanDisk (state S.Store self.new.conn) → IsTrue (state S.Store self.new.conn).is_open → IfErr result (λ _. (s : Machine) → StandsFor S.Store self.old s → StandsFor S.Store self.new s) }
         ensures crash { Survives (state S.Store self.old.conn) (state S.Store self.new.conn) (λ db. (s : Machine) → StandsFor S.Store self.old s → (a : Answer) × (t : Machine) × Steps self.old.limits s (restore_it number user.now) a t × Stands (tables_of t) db) }
         ensures limits { self.new.limits ≡ self.old.limits }
@@ -544,6 +548,7 @@ impl<S: Alter> Desk<S> {
     pub fn import(&mut self, name: &str, user: &str, body: &[u8]) -> Result<Imported, Fault>
         ensures answered { HasCleanDisk (state S.Store self.new.conn) → IfOk result (λ reply. (s : Machine) → StandsFor S.Store self.old s → (t : Machine) × Steps self.old.limits s (import_file name.now user.now body.now) (replied (imported reply)) t × StandsFor S.Store self.new t) }
         ensures refused { HasCleanDisk (state S.Store self.new.conn) → IfErr result (λ e. (r : AnyRefusal) → e ≡ Fault.Refused r → (s : Machine) → StandsFor S.Store self.old s → Steps self.old.limits s (import_file name.now user.now body.now) (refused_by r) s × StandsFor S.Store self.new s) }
+        ensures fails { HasCleanDisk (state S.Store self.new.conn) → (state S.Store self.old.conn).step_limit ≡ None → (s : Machine) → StandsFor S.Store self.old s → result ≢ Err Fault.NotADesk }
         ensures kept { HasCleanDisk (state S.Store self.new.conn) → IsTrue (state S.Store self.new.conn).is_open → IfErr result (λ _. (s : Machine) → StandsFor S.Store self.old s → StandsFor S.Store self.new s) }
         ensures crash { Survives (state S.Store self.old.conn) (state S.Store self.new.conn) (λ db. (s : Machine) → StandsFor S.Store self.old s → (a : Answer) × (t : Machine) × Steps self.old.limits s (import_file name.now user.now body.now) a t × Stands (tables_of t) db) }
         ensures limits { self.new.limits ≡ self.old.limits }

@@ -1,7 +1,11 @@
-use Rattle.std.proofs.Common.{subst}
+use Rattle.tb_acting.proofs.Unique.{unique_tables}
+use Rattle.tb_acting.proofs.Faultless.{room_told}
+use Rattle.tb_tables.specs.Failing.{AreUnique}
+use Rattle.tb_core.specs.declared.refusals.Fault.TheVariants.{NotADesk}
+use Rattle.std.proofs.Common.{subst, ◌≡◌, sym, ◌∙◌}
 use Rattle.sqlite.specs.Held.{state}
 use Rattle.sqlite.proofs.StateLemmas.{survives_weaker}
-use Rattle.tb_core.specs.Acts.{importing}
+use Rattle.tb_core.specs.Acts.{importing, after}
 use Rattle.tb_tables.specs.Records.{Tables, Stands}
 use Rattle.tb_tables.specs.Changes.{Holds}
 use Rattle.tb_standing.specs.Standing.{tables_of}
@@ -27,3 +31,13 @@ returns-in-Err-clause-crash g c = survives_weaker (state g.S.Store c.args.conn.n
     let next = next_batch s c.args.number c.args.first bodies c.args.items.now is in
     let same = import_stands s c.args.name.now c.args.who.now bodies c.args.number c.args.first c.args.items.now c.args.change.now desk.reachable.reached is allowed written in
     subst (λ (d : Tables). Stands d db) same (whole (tables_of s) desk.holds next.0 next.1 (follows s (importing c.args.name.now c.args.who.now bodies) c.args.change.now written))) c.write_import.ensures.crash
+
+pub returns-in-Err-clause-fails : goal.returns-in-Err-clause-fails
+returns-in-Err-clause-fails g c clean unlimited s bodies desk is allowed reachable written bad =
+    let told : c.of_error.result ≡ NotADesk = cc in
+    let act = importing c.args.name.now c.args.who.now bodies in
+    let next = next_batch s c.args.number c.args.first bodies c.args.items.now is in
+    let same = import_stands s c.args.name.now c.args.who.now bodies c.args.number c.args.first c.args.items.now c.args.change.now desk.reachable.reached is allowed written in
+    let apart = subst AreUnique (sym same) (unique_tables (after s act) (c.reached_states_are_well.ensures (after s act) reachable.reached)) in
+    let fault = c.in-Err.ensures.fails clean unlimited (tables_of s) desk.holds next.0 next.1 (follows s act c.args.change.now written) apart in
+    room_told c.in-Err.error fault (sym c.of_error.ensures.value ∙ told)

@@ -1,4 +1,9 @@
-use Rattle.std.proofs.Common.{◌-◌, ◌∙◌, ap, option_map}
+use Rattle.tb_acting.proofs.Revised.{unique_revised}
+use Rattle.tb_acting.proofs.Unique.{unique_tables}
+use Rattle.tb_acting.proofs.Faultless.{room_told}
+use Rattle.tb_tables.specs.Records.{Revision}
+use Rattle.tb_core.specs.declared.refusals.Fault.TheVariants.{NotADesk}
+use Rattle.std.proofs.Common.{◌-◌, ◌∙◌, ap, option_map, ◌≡◌, refl, sym}
 use Rattle.std.proofs.lemmas.Option.{slice_get-map}
 use Rattle.sqlite.specs.Held.{state}
 use Rattle.sqlite.proofs.StateLemmas.{survives_weaker}
@@ -33,3 +38,13 @@ returns-in-Err-clause-crash g c = survives_weaker (state g.S.Store c.args.conn.n
     let well = c.reached_states_are_well.ensures s desk.reachable.reached in
     correction_stands s c.args.number c.args.who.now body x c.args.rev c.args.words c.args.text.now c.args.change.now c.requires.row desk.reachable.reached well is allowed written db
     (whole (tables_of s) desk.holds (sentence_record x) (slice_get-map sentence_record s.sentences (c.args.number - 1) ∙ ap (option_map sentence_record) is.there) (follows s (correcting (c.args.number - 1) c.args.who.now body) c.args.change.now written))) c.write_correction.ensures.crash
+
+pub returns-in-Err-clause-fails : goal.returns-in-Err-clause-fails
+returns-in-Err-clause-fails g c clean unlimited s body x desk is allowed written bad =
+    let told : c.of_error.result ≡ NotADesk = cc in
+    let well = c.reached_states_are_well.ensures s desk.reachable.reached in
+    let row = slice_get-map sentence_record s.sentences (c.args.number - 1) ∙ ap (option_map sentence_record) is.there in
+    let next : Revision = record { sent = c.args.number; rev = c.args.rev; who = c.args.who.now; body = c.args.text.now } in
+    let apart = unique_revised s c.args.number x next (unique_tables s well) c.requires.row is.there refl is.next in
+    let fault = c.in-Err.ensures.fails clean unlimited (tables_of s) desk.holds (sentence_record x) row (follows s (correcting (c.args.number - 1) c.args.who.now body) c.args.change.now written) apart in
+    room_told c.in-Err.error fault (sym c.of_error.ensures.value ∙ told)

@@ -1,4 +1,7 @@
-use Rattle.std.proofs.Common.{◌-◌}
+use Rattle.tb_acting.proofs.Unique.{unique_tables}
+use Rattle.tb_acting.proofs.Faultless.{error_told}
+use Rattle.tb_core.specs.declared.refusals.Fault.TheVariants.{NotADesk}
+use Rattle.std.proofs.Common.{◌-◌, ◌≡◌, sym, ◌∙◌}
 use Rattle.sqlite.specs.Held.{state}
 use Rattle.sqlite.proofs.StateLemmas.{survives_weaker}
 use Rattle.tb_standing.specs.Standing.{tables_of}
@@ -30,3 +33,10 @@ pub returns-in-Err-clause-crash : goal.returns-in-Err-clause-crash
 returns-in-Err-clause-crash g c = survives_weaker (state g.S.Store c.args.conn.now) (state g.S.Store c.write_restore.new.conn) _ _ (λ _ db whole s user desk allowed written.
     let well = c.reached_states_are_well.ensures s desk.reachable.reached in
     restore_stands s c.args.number user c.args.change.now c.requires.row desk.reachable.reached well allowed written db (whole (tables_of s) desk.holds (follows s (restoring (c.args.number - 1) user) c.args.change.now written))) c.write_restore.ensures.crash
+
+pub returns-in-Err-clause-fails : goal.returns-in-Err-clause-fails
+returns-in-Err-clause-fails g c clean unlimited s user desk allowed written bad =
+    let told : c.of_error.result ≡ NotADesk = cc in
+    let well = c.reached_states_are_well.ensures s desk.reachable.reached in
+    let fault = c.in-Err.ensures.fails clean unlimited (tables_of s) desk.holds (follows s (restoring (c.args.number - 1) user) c.args.change.now written) (unique_tables s well) in
+    error_told c.in-Err.error fault (sym c.of_error.ensures.value ∙ told)

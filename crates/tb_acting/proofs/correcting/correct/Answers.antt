@@ -1,9 +1,9 @@
-use Rattle.std.proofs.Common.{◌≡◌, ◌-◌, refl, sym, subst, arith, Err, length-append, [], ◌∷◌}
+use Rattle.std.proofs.Common.{◌≡◌, ◌-◌, refl, sym, subst, arith, Err, length-append, [], ◌∷◌, ◌∙◌}
 use Rattle.std.proofs.lemmas.Result.{err_from_is_err_and}
 use Rattle.sqlite.specs.Held.{state}
 use Rattle.sqlite.specs.State.{HasCleanDisk}
 use Rattle.sqlite.proofs.StateLemmas.{survives_then, survives_weaker}
-use Rattle.tb_core.specs.declared.refusals.Fault.TheVariants.{Refused}
+use Rattle.tb_core.specs.declared.refusals.Fault.TheVariants.{Refused, NotADesk}
 use Rattle.tb_core.specs.Acts.{correcting, corrected, after, move_of}
 use Rattle.tb_core.specs.Commands.{correct, replied, corrected_to}
 use Rattle.tb_core.proofs.Weights.{length-changed}
@@ -68,3 +68,20 @@ returns-clause-answered g c clean s desk counted within =
       sentences = length-changed (corrected c.args.user.now plan.0) s.sentences (c.args.number - 1);
       moves = length-append s.moves (move_of s a ∷ []);
     }
+
+pub returns-in_err-reply-clause-fails : goal.returns-in_err-reply-clause-fails
+returns-in_err-reply-clause-fails g c clean unlimited s desk counted within bad =
+    let told = err_from_is_err_and c.from_residual.result c.from_residual.ensures.1 in
+    let failed : c.planned.result ≡ Err NotADesk = let was = c.in_err-reply.was in let one = told.1 in let two = told.2 in cc in
+    c.planned.ensures.fails clean unlimited c.requires.within s desk counted within failed
+
+pub returns-in_err-correct-clause-fails : goal.returns-in_err-correct-clause-fails
+returns-in_err-correct-clause-fails g c clean unlimited s desk counted within bad =
+    let told = err_from_is_err_and c.from_residual-in_err-correct.result c.from_residual-in_err-correct.ensures.1 in
+    let failed : c.correct.result ≡ Err NotADesk = let was = c.in_err-correct.was in let one = told.1 in let two = told.2 in cc in
+    let mid : HasCleanDisk (state g.S.Store c.planned.new.conn) = omega (arith, clean, c.correct.ensures.crash.clean) in
+    let first = desk_same g.S.Store c.args.conn.now c.planned.new.conn s desk (c.in_ok-reply.ensures.same mid desk.holds.schema) in
+    let answered = rw c.in-Some.is at c.in_ok-reply.ensures.answered in
+    let plan = answered mid s desk counted within in
+    let held = subst (λ (p : PlanText). IsPlannedCorrection s c.args.number c.args.user.now plan.0 p) (sym c.plan.view_is) plan.1 in
+    c.correct.ensures.fails clean (c.planned.ensures.lasts.limit ∙ unlimited) s plan.0 held.sentence first held.made plan.2 held.change failed

@@ -1,7 +1,7 @@
 use Rattle.std.proofs.Common.{◌≡◌, ◌-◌, Some, subst, sym, Err}
 use Rattle.std.proofs.lemmas.Result.{err_from_is_err_and}
 use Rattle.tb_core.specs.declared.refusals.Refusal.{Refusal}
-use Rattle.tb_core.specs.declared.refusals.Fault.TheVariants.{Refused}
+use Rattle.tb_core.specs.declared.refusals.Fault.TheVariants.{Refused, NotADesk}
 use Rattle.tb_core.specs.Commands.{correct, refused}
 use Rattle.tb_core.specs.Steps.{Steps}
 use Rattle.tb_judge.specs.Found.{CurrentSeen, FindsCurrent}
@@ -37,3 +37,18 @@ returns-in_ok-reply-in-Goes-clause-answered c s x reached counted there read =
     let found = subst (λ (f : CurrentSeen). FindsCurrent s c.args.number (Some f)) (sym c.found_of-found.ensures) (current_found s c.args.number x c.args.read.now c.requires there read) in
     let goes = rw (c.from.ensures, c.in-Goes.is) at c.in_ok-reply.ensures.goes in
     c.in_ok-reply-in-Goes.ensures.answered s c.args.base x reached counted read (goes s (c.args.number - 1) x found (numbered s c.args.number x c.requires there))
+
+pub returns-in_err-reply-clause-fails : goal.returns-in_err-reply-clause-fails
+returns-in_err-reply-clause-fails c within s x reachable counted there read bad =
+    let told = err_from_is_err_and c.from_residual.result c.from_residual.ensures.1 in
+    let one = told.1 in
+    let two = told.2 in
+    absurd cc
+
+pub returns-in_err-reply-in-Goes-clause-fails : goal.returns-in_err-reply-in-Goes-clause-fails
+returns-in_err-reply-in-Goes-clause-fails c within s x reachable counted there read bad =
+    let told = err_from_is_err_and c.from_residual-in_err-reply-in-Goes.result c.from_residual-in_err-reply-in-Goes.ensures.1 in
+    let failed : c.plan_body.result ≡ Err NotADesk = let was = c.in_err-reply-in-Goes.was in let one = told.1 in let two = told.2 in cc in
+    let found = subst (λ (f : CurrentSeen). FindsCurrent s c.args.number (Some f)) (sym c.found_of-found.ensures) (current_found s c.args.number x c.args.read.now c.requires there read) in
+    let goes = rw (c.from.ensures, c.in-Goes.is) at c.in_ok-reply.ensures.goes in
+    c.plan_body.ensures.fails within s c.args.base x reachable counted read (goes s (c.args.number - 1) x found (numbered s c.args.number x c.requires there)) failed

@@ -1,4 +1,6 @@
-use Rattle.std.proofs.Common.{arith}
+use Rattle.tb_core.specs.declared.refusals.Fault.TheVariants.{NotADesk}
+use Rattle.std.proofs.lemmas.Result.{err_from_is_err_and}
+use Rattle.std.proofs.Common.{arith, ◌≡◌, Err, ◌∙◌}
 use Rattle.sqlite.specs.Held.{state}
 use Rattle.sqlite.specs.State.{HasCleanDisk}
 use Rattle.tb_acting.proofs.Unchanged.{desk_same, lasts_then}
@@ -17,3 +19,18 @@ returns-clause-answered g c clean s desk x there =
     let still = desk_same g.S.Store c.args.conn.now c.find_sentence.new.conn s desk (c.in_ok-sentence.ensures.same mid desk.holds.schema) in
     let row = c.in_ok-row.ensures.answered clean s still x there first.rev in
     record { sentence = first; who = row.0; body = row.1 }
+
+pub returns-in_err-sentence-clause-fails : goal.returns-in_err-sentence-clause-fails
+returns-in_err-sentence-clause-fails g c clean unlimited s desk x there bad =
+    let told = err_from_is_err_and c.from_residual.result c.from_residual.ensures.1 in
+    let failed : c.find_sentence.result ≡ Err NotADesk = let was = c.in_err-sentence.was in let one = told.1 in let two = told.2 in cc in
+    c.find_sentence.ensures.fails clean unlimited s desk x there failed
+
+pub returns-in_err-row-clause-fails : goal.returns-in_err-row-clause-fails
+returns-in_err-row-clause-fails g c clean unlimited s desk x there bad =
+    let told = err_from_is_err_and c.from_residual-in_err-row.result c.from_residual-in_err-row.ensures.1 in
+    let failed : c.current_row.result ≡ Err NotADesk = let was = c.in_err-row.was in let one = told.1 in let two = told.2 in cc in
+    let mid : HasCleanDisk (state g.S.Store c.find_sentence.new.conn) = omega (arith, clean, c.current_row.ensures.lasts.clean) in
+    let first = c.in_ok-sentence.ensures.answered mid s desk x there in
+    let still = desk_same g.S.Store c.args.conn.now c.find_sentence.new.conn s desk (c.in_ok-sentence.ensures.same mid desk.holds.schema) in
+    c.current_row.ensures.fails clean (c.find_sentence.ensures.lasts.limit ∙ unlimited) s still x there first.rev failed

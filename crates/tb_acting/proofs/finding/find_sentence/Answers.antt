@@ -1,10 +1,12 @@
-use Rattle.std.proofs.Common.{◌≡◌, ◌-◌, ap, arith, sym, subst, slice_get, Some}
+use Rattle.std.proofs.Common.{◌≡◌, ◌-◌, ap, arith, sym, subst, slice_get, Some, Err, ◌∙◌}
+use Rattle.std.proofs.lemmas.Result.{err_from_is_err_and}
 use Rattle.sqlite.specs.Held.{state}
 use Rattle.sqlite.specs.State.{HasCleanDisk}
+use Rattle.tb_core.specs.declared.refusals.Fault.TheVariants.{NotADesk}
 use Rattle.tb_core.specs.Machine.{batch_with}
 use Rattle.tb_tables.specs.Records.{Sentence}
 use Rattle.tb_acting.proofs.Unchanged.{desk_same, lasts_then, same_two}
-use Rattle.tb_acting.proofs.Finds.{own_batch}
+use Rattle.tb_acting.proofs.Finds.{own_batch, placed_above}
 use Rattle.tb_acting.proofs.finding.find_sentence.Goals as goal
 
 pub returns-in_err-of-clause-lasts : goal.returns-in_err-of-clause-lasts
@@ -39,3 +41,33 @@ returns-clause-answered g c clean s desk x there =
       rev = ap (λ (r : Sentence). r.rev) row;
       words = ap (λ (r : Sentence). r.words) row;
     }
+
+pub returns-in_err-row-clause-fails : goal.returns-in_err-row-clause-fails
+returns-in_err-row-clause-fails g c clean unlimited s desk x there bad =
+    let told = err_from_is_err_and c.from_residual.result c.from_residual.ensures.1 in
+    let failed : c.sentence_row.result ≡ Err NotADesk = let was = c.in_err-row.was in let one = told.1 in let two = told.2 in cc in
+    c.sentence_row.ensures.fails clean unlimited s desk x there failed
+
+pub returns-in_err-of-clause-fails : goal.returns-in_err-of-clause-fails
+returns-in_err-of-clause-fails g c clean unlimited s desk x there bad =
+    let told = err_from_is_err_and c.from_residual-in_err-of.result c.from_residual-in_err-of.ensures.1 in
+    let failed : c.batch.result ≡ Err NotADesk = let was = c.in_err-of.was in let one = told.1 in let two = told.2 in cc in
+    let mid : HasCleanDisk (state g.S.Store c.sentence_row.new.conn) = omega (arith, clean, c.batch.ensures.lasts.clean) in
+    let row = c.in_ok-row.ensures.answered mid s desk x there in
+    let first = desk_same g.S.Store c.args.conn.now c.sentence_row.new.conn s desk (c.in_ok-row.ensures.same mid desk.holds.schema) in
+    let well = c.reached_states_are_well.ensures s desk.reachable.reached in
+    let own = own_batch s (c.args.number - 1) x well.placed there in
+    let numbered : c.in_ok-row.row.batch ≡ x.batch = ap (λ (r : Sentence). r.batch) row in
+    let above = placed_above s (c.args.number - 1) x well.placed there in
+    c.batch.ensures.fails clean (c.sentence_row.ensures.lasts.limit ∙ unlimited) s first (omega (arith, above, numbered)) (batch_with s.batches x.batch)
+    (subst (λ n. slice_get s.batches (n - 1) ≡ Some (batch_with s.batches x.batch)) (sym numbered) own) failed
+
+pub returns-in_err-pulled-clause-fails : goal.returns-in_err-pulled-clause-fails
+returns-in_err-pulled-clause-fails g c clean unlimited s desk x there bad =
+    let told = err_from_is_err_and c.from_residual-in_err-pulled.result c.from_residual-in_err-pulled.ensures.1 in
+    let failed : c.is_pulled.result ≡ Err NotADesk = let was = c.in_err-pulled.was in let one = told.1 in let two = told.2 in cc in
+    let late : HasCleanDisk (state g.S.Store c.batch.new.conn) = omega (arith, clean, c.is_pulled.ensures.lasts.clean) in
+    let mid : HasCleanDisk (state g.S.Store c.sentence_row.new.conn) = omega (arith, late, c.batch.ensures.lasts.clean) in
+    let first = desk_same g.S.Store c.args.conn.now c.sentence_row.new.conn s desk (c.in_ok-row.ensures.same mid desk.holds.schema) in
+    let second = desk_same g.S.Store c.sentence_row.new.conn c.batch.new.conn s first (c.in_ok-of.ensures.same late first.holds.schema) in
+    c.is_pulled.ensures.fails clean (c.batch.ensures.lasts.limit ∙ c.sentence_row.ensures.lasts.limit ∙ unlimited) s second failed

@@ -1,4 +1,7 @@
+use Rattle.std.proofs.Common.{◌≡◌, ◌<◌, ◌^◌, Err, length, sym, ap, ◌∙◌, arith}
+use Rattle.tb_core.specs.declared.refusals.Fault.TheVariants.{NotADesk}
 use Rattle.tb_standing.specs.Standing.{tables_of}
+use Rattle.tb_acting.proofs.Faultless.{read_told}
 use Rattle.tb_acting.proofs.Finds.{id_free, id_taken}
 use Rattle.tb_acting.proofs.finding.is_taken.Goals as goal
 
@@ -11,3 +14,10 @@ pub returns-in-Ok-None-clause-answered : goal.returns-in-Ok-None-clause-answered
 returns-in-Ok-None-clause-answered g c clean s desk =
     let read = rw c.in-Ok-None.field-0-is at c.in-Ok-None.ensures.ok in
     id_free s c.args.sent_id.now (read clean desk.holds.schema (tables_of s).sentences desk.holds.stands.sentences)
+
+pub returns-in-Err-clause-fails : goal.returns-in-Err-clause-fails
+returns-in-Err-clause-fails g c clean unlimited s desk bad =
+    let told : c.of_read.result ≡ NotADesk = cc in
+    let fitting = c.desk_rows_fit.ensures s desk.reachable in
+    let few : length (tables_of s).sentences < 2 ^ 32 = let low = fitting.sentences_few in omega (arith, low) in
+    read_told c.in-Err.error (c.in-Err.ensures.fails clean unlimited desk.holds.schema) (λ unfit. c.in-Err.ensures.form clean (ap Err unfit) desk.holds.schema (tables_of s).sentences few desk.holds.stands.sentences) (sym c.of_read.ensures.value ∙ told)

@@ -1,7 +1,7 @@
 use Rattle.std.proofs.Common.{◌≡◌, ◌∙◌, ◌-◌, subst, sym}
 use Rattle.tb_core.specs.declared.refusals.Refusal.{Refusal}
 use Rattle.tb_core.specs.Acts.{pulling, after}
-use Rattle.tb_core.specs.Commands.{Reply, pull, replied, refused}
+use Rattle.tb_core.specs.Commands.{Reply, reply_to, pull, replied, refused}
 use Rattle.tb_core.specs.Steps.{Steps}
 use Rattle.tb_reading.proofs.Shown.{if_ok}
 use Rattle.tb_acting.proofs.Pulled.{sentence_found}
@@ -28,3 +28,14 @@ returns-in-Ok-clause-answered c = if_ok c.plan_pull.result c.plan_pull.ensures.p
       allowed = got.0;
       steps = subst (λ (q : Reply). Steps c.args.counts.now.limits s (pull n user) (replied q) (after s act)) (sym plan.1) got.1;
     })
+
+pub returns-in-Ok-clause-fails : goal.returns-in-Ok-clause-fails
+returns-in-Ok-clause-fails c s x reachable counted within there read bad =
+    let n = c.args.number in
+    let user = c.args.user.now in
+    let limits = c.args.counts.now.limits in
+    let act = pulling (n - 1) user in
+    let accepts = rw c.from.ensures at c.in-Ok.ensures.accepted in
+    let got = accepts s (sentence_found s n x c.args.read.now c.requires there read) (c.from-2.ensures ∙ counted.moves) in
+    let next = c.commands_stay_within_limits.ensures limits s (after s act) (pull n user) (replied (reply_to s act)) within.sentences within.moves reachable got.1 in
+    c.plan_pull.ensures.fails s x reachable got.0 next counted there read bad

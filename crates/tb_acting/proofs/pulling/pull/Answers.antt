@@ -1,9 +1,9 @@
-use Rattle.std.proofs.Common.{◌≡◌, ◌-◌, refl, arith, Err, length-append, [], ◌∷◌, true}
+use Rattle.std.proofs.Common.{◌≡◌, ◌-◌, refl, arith, Err, ◌∙◌, length-append, [], ◌∷◌, true}
 use Rattle.std.proofs.lemmas.Result.{err_from_is_err_and}
 use Rattle.sqlite.specs.Held.{state}
 use Rattle.sqlite.specs.State.{HasCleanDisk}
 use Rattle.sqlite.proofs.StateLemmas.{survives_then, survives_weaker}
-use Rattle.tb_core.specs.declared.refusals.Fault.TheVariants.{Refused}
+use Rattle.tb_core.specs.declared.refusals.Fault.TheVariants.{Refused, NotADesk}
 use Rattle.tb_core.specs.Acts.{pulling, flagged, after, move_of}
 use Rattle.tb_core.specs.Commands.{pull, replied, pulled_out}
 use Rattle.tb_core.proofs.Weights.{length-changed}
@@ -61,3 +61,19 @@ returns-clause-answered g c clean s desk counted within =
       sentences = length-changed (flagged true) s.sentences (c.args.number - 1);
       moves = length-append s.moves (move_of s a ∷ []);
     }
+
+pub returns-in_err-reply-clause-fails : goal.returns-in_err-reply-clause-fails
+returns-in_err-reply-clause-fails g c clean unlimited s desk counted within bad =
+    let told = err_from_is_err_and c.from_residual.result c.from_residual.ensures.1 in
+    let failed : c.pull_planned.result ≡ Err NotADesk = let was = c.in_err-reply.was in let one = told.1 in let two = told.2 in cc in
+    c.pull_planned.ensures.fails clean unlimited s desk counted c.requires.within within failed
+
+pub returns-in_err-pull-clause-fails : goal.returns-in_err-pull-clause-fails
+returns-in_err-pull-clause-fails g c clean unlimited s desk counted within bad =
+    let told = err_from_is_err_and c.from_residual-in_err-pull.result c.from_residual-in_err-pull.ensures.1 in
+    let failed : c.pull.result ≡ Err NotADesk = let was = c.in_err-pull.was in let one = told.1 in let two = told.2 in cc in
+    let mid : HasCleanDisk (state g.S.Store c.pull_planned.new.conn) = omega (arith, clean, c.pull.ensures.crash.clean) in
+    let first = desk_same g.S.Store c.args.conn.now c.pull_planned.new.conn s desk (c.in_ok-reply.ensures.same mid desk.holds.schema) in
+    let plan = c.in_ok-reply.ensures.answered mid s desk counted within in
+    let a = pulling (c.args.number - 1) c.args.user.now in
+    c.pull.ensures.fails clean (c.pull_planned.ensures.lasts.limit ∙ unlimited) s c.args.user.now first plan.allowed (judged_written _ s _ a _ c.in_ok-reply.prepared plan) failed

@@ -1,9 +1,9 @@
-use Rattle.std.proofs.Common.{◌≡◌, refl, arith, Err}
+use Rattle.std.proofs.Common.{◌≡◌, refl, arith, Err, ◌∙◌}
 use Rattle.std.proofs.lemmas.Result.{err_from_is_err_and}
 use Rattle.sqlite.specs.Held.{state}
 use Rattle.sqlite.specs.State.{HasCleanDisk}
 use Rattle.sqlite.proofs.StateLemmas.{survives_then, survives_weaker}
-use Rattle.tb_core.specs.declared.refusals.Fault.TheVariants.{Refused}
+use Rattle.tb_core.specs.declared.refusals.Fault.TheVariants.{Refused, NotADesk}
 use Rattle.tb_core.specs.Acts.{stepping, after, moved, move_of}
 use Rattle.tb_core.specs.Commands.{event_on, replied, moved_on}
 use Rattle.tb_tables.proofs.Commands.{same_holds}
@@ -60,3 +60,18 @@ returns-clause-answered g c clean s desk counted =
       sentences = refl;
       moves = one_longer s.moves (move_of s a);
     }
+
+pub returns-in_err-plan-clause-fails : goal.returns-in_err-plan-clause-fails
+returns-in_err-plan-clause-fails g c clean unlimited s desk counted bad =
+    let told = err_from_is_err_and c.from_residual.result c.from_residual.ensures.1 in
+    let failed : c.planned.result ≡ Err NotADesk = let was = c.in_err-plan.was in let one = told.1 in let two = told.2 in cc in
+    c.planned.ensures.fails clean unlimited s desk counted c.requires.within failed
+
+pub returns-in_err-write-clause-fails : goal.returns-in_err-write-clause-fails
+returns-in_err-write-clause-fails g c clean unlimited s desk counted bad =
+    let told = err_from_is_err_and c.from_residual-in_err-write.result c.from_residual-in_err-write.ensures.1 in
+    let failed : c.write.result ≡ Err NotADesk = let was = c.in_err-write.was in let one = told.1 in let two = told.2 in cc in
+    let mid : HasCleanDisk (state g.S.Store c.planned.new.conn) = omega (arith, clean, c.write.ensures.crash.clean) in
+    let first = desk_same g.S.Store c.args.conn.now c.planned.new.conn s desk (c.in_ok-plan.ensures.same mid desk.holds.schema) in
+    let plan = c.in_ok-plan.ensures.answered mid s desk counted in
+    c.write.ensures.fails clean (c.planned.ensures.lasts.limit ∙ unlimited) s first plan.0 c.args.event c.args.user.now plan.1 plan.2 failed

@@ -1,14 +1,16 @@
-use Rattle.std.proofs.Common.{◌≡◌, Option, option_map, subst, arith, Err}
+use Rattle.std.proofs.Common.{◌≡◌, Option, option_map, subst, arith, Err, ◌-◌, ◌∙◌}
 use Rattle.std.proofs.lemmas.Result.{err_from_is_err_and}
 use Rattle.sqlite.specs.Held.{state}
 use Rattle.sqlite.specs.State.{HasCleanDisk}
-use Rattle.tb_core.specs.declared.refusals.Fault.TheVariants.{Refused}
+use Rattle.tb_core.specs.declared.refusals.Fault.TheVariants.{Refused, NotADesk}
+use Rattle.tb_core.specs.Acts.{stepping, after}
+use Rattle.tb_core.specs.Commands.{event_on, replied, reply_to}
 use Rattle.tb_judge.specs.Found.{FindsBatch}
 use Rattle.tb_reading.proofs.Shown.{if_ok}
 use Rattle.tb_acting.specs.declared.finding.BatchRead.{BatchRead}
 use Rattle.tb_acting.specs.Stepping.{seen_of}
 use Rattle.tb_acting.proofs.Unchanged.{desk_same, lasts_then}
-use Rattle.tb_acting.proofs.Stepped.{planned_event}
+use Rattle.tb_acting.proofs.Stepped.{planned_event, event_fits}
 use Rattle.tb_acting.proofs.stepping.planned.Goals as goal
 
 pub returns-in_err-batch-clause-refused : goal.returns-in_err-batch-clause-refused
@@ -34,3 +36,38 @@ returns-clause-answered g c clean = if_ok c.plan.result c.plan.ensures.planned (
 
 pub returns-clause-lasts : goal.returns-clause-lasts
 returns-clause-lasts g c = lasts_then g.S.Store c.args.conn.now c.find_batch.new.conn c.find_work.new.conn c.in_ok-found.ensures.same c.find_batch.ensures.lasts c.find_work.ensures.lasts
+
+pub returns-in_err-found-clause-fails : goal.returns-in_err-found-clause-fails
+returns-in_err-found-clause-fails g c clean unlimited s desk counted within bad =
+    let told = err_from_is_err_and c.from_residual.result c.from_residual.ensures.1 in
+    let failed : c.find_batch.result ≡ Err NotADesk = let was = c.in_err-found.was in let one = told.1 in let two = told.2 in cc in
+    c.find_batch.ensures.fails clean unlimited s desk failed
+
+pub returns-in_err-batch-clause-fails : goal.returns-in_err-batch-clause-fails
+returns-in_err-batch-clause-fails g c clean unlimited s desk counted within bad =
+    let told = err_from_is_err_and c.from_residual-in_err-batch.result c.from_residual-in_err-batch.ensures.1 in
+    let failed : c.judge.result ≡ Err NotADesk = let was = c.in_err-batch.was in let one = told.1 in let two = told.2 in cc in
+    c.judge.ensures.fails s desk.reachable.reached (c.in_ok-found.ensures.answered clean s desk) counted.moves failed
+
+pub returns-in_err-sums-clause-fails : goal.returns-in_err-sums-clause-fails
+returns-in_err-sums-clause-fails g c clean unlimited s desk counted within bad =
+    let told = err_from_is_err_and c.from_residual-in_err-sums.result c.from_residual-in_err-sums.ensures.1 in
+    let failed : c.find_work.result ≡ Err NotADesk = let was = c.in_err-sums.was in let one = told.1 in let two = told.2 in cc in
+    let mid : HasCleanDisk (state g.S.Store c.find_batch.new.conn) = omega (arith, clean, c.find_work.ensures.lasts.clean) in
+    let first = desk_same g.S.Store c.args.conn.now c.find_batch.new.conn s desk (c.in_ok-found.ensures.same mid desk.holds.schema) in
+    c.find_work.ensures.fails clean (c.find_batch.ensures.lasts.limit ∙ unlimited) s first failed
+
+pub returns-clause-fails : goal.returns-clause-fails
+returns-clause-fails g c clean unlimited s desk counted within bad =
+    let event = c.args.event in
+    let user = c.args.user.now in
+    let limits = c.args.counts.now.limits in
+    let mid : HasCleanDisk (state g.S.Store c.find_batch.new.conn) = omega (arith, clean, c.find_work.ensures.lasts.clean) in
+    let found = c.in_ok-found.ensures.answered mid s desk in
+    let first = desk_same g.S.Store c.args.conn.now c.find_batch.new.conn s desk (c.in_ok-found.ensures.same mid desk.holds.schema) in
+    let here = subst (λ (o : Option BatchRead). FindsBatch s c.args.name.now (option_map seen_of o)) c.in_ok-batch.ensures.found.0 found in
+    let judged = c.in_ok-batch.ensures.accepted s desk.reachable.reached found counted.moves in
+    let act = stepping (c.in_ok-batch.batch.number - 1) event user in
+    let next = c.commands_stay_within_limits.ensures limits s (after s act) (event_on c.args.name.now event user) (replied (reply_to s act)) within.sentences within.moves desk.reachable judged.1 in
+    event_fits s c.args.counts.now c.args.name.now event user c.in_ok-batch.batch c.in_ok-sums.sums desk.reachable counted here (c.in_ok-sums.ensures.answered clean s first) judged.0 next
+    (λ place b reachable allowed further known there at st n w. c.plan.ensures.fails s place b reachable allowed further known there at st n w bad)

@@ -1,9 +1,12 @@
-use Rattle.std.proofs.Common.{◌≡◌, string_bytes, rules}
+use Rattle.std.proofs.Common.{◌≡◌, string_bytes, sym, ◌∙◌, rules}
 use Rattle.sqlite.specs.Held.{state}
 use Rattle.sqlite.proofs.StateLemmas.{survives_weaker}
+use Rattle.tb_core.specs.declared.refusals.Fault.TheVariants.{NotADesk}
 use Rattle.tb_core.specs.Acts.{stepping}
 use Rattle.tb_standing.specs.Standing.{tables_of, batch_record}
 use Rattle.tb_acting.proofs.Committed.{follows}
+use Rattle.tb_acting.proofs.Faultless.{error_told}
+use Rattle.tb_acting.proofs.Unique.{unique_tables}
 use Rattle.tb_acting.proofs.Stepped.{event_stands, row_there, prepared_written}
 use Rattle.tb_acting.proofs.stepping.write.Goals as goal
 
@@ -31,3 +34,11 @@ returns-in-Err-clause-crash g c = survives_weaker (state g.S.Store c.args.conn.n
     let who : c.as_str.result.now ≡ string_bytes c.args.plan.now.worker = search rules in
     event_stands c.events_stand.ensures s place event user c.args.plan.now plan c.as_str.result.now who desk.reachable.reached allowed db
     (whole (tables_of s) desk.holds (batch_record plan.batch) (row_there s place event user c.args.plan.now plan) (follows s (stepping place event user) c.args.plan.now.prepared.change (prepared_written s place event user c.args.plan.now plan)))) c.write_event.ensures.crash
+
+pub returns-in-Err-clause-fails : goal.returns-in-Err-clause-fails
+returns-in-Err-clause-fails g c clean unlimited s desk place event user plan allowed bad =
+    let told : c.of_error.result ≡ NotADesk = cc in
+    let well = c.reached_states_are_well.ensures s desk.reachable.reached in
+    let fault = c.in-Err.ensures.fails clean unlimited (tables_of s) desk.holds (batch_record plan.batch) (row_there s place event user c.args.plan.now plan)
+    (follows s (stepping place event user) c.args.plan.now.prepared.change (prepared_written s place event user c.args.plan.now plan)) (unique_tables s well) in
+    error_told c.in-Err.error fault (sym c.of_error.ensures.value ∙ told)

@@ -1,4 +1,10 @@
-use Rattle.std.proofs.Common.{◌∙◌}
+use Rattle.tb_importing.proofs.Bounds.{first_stands, one_body, one_small}
+use Rattle.tb_acting.proofs.Revised.{revision_found}
+use Rattle.tb_acting.proofs.Faultless.{read_told, fit}
+use Rattle.tb_standing.specs.Fitting.{IsReadableRevision}
+use Rattle.tb_reading.specs.Readable.{IsRevision}
+use Rattle.tb_core.specs.declared.refusals.Fault.TheVariants.{NotADesk}
+use Rattle.std.proofs.Common.{◌∙◌, ◌≡◌, Err, ap, sym, ◌∷◌, []}
 use Rattle.tb_tables.specs.Values.{revision_of}
 use Rattle.tb_reading.proofs.Shown.{if_ok}
 use Rattle.tb_standing.specs.Standing.{tables_of}
@@ -26,3 +32,26 @@ returns-in-Ok-Some-clause-answered g c clean = if_ok c.words_of_text.result c.wo
     let of = (c.records_tell_what_stands.ensures.revisions s row).0 found.0 in
     let text = c.as_bytes.ensures.value ∙ first_told s c.args.number b row first of found.1 found.2 in
     read_words c.one_list_has_a_text.ensures c.reached_states_are_well.ensures s c.args.number n b c.as_bytes.result.now value.0 desk.reachable.reached first text value.1 value.2)
+
+pub returns-in-Ok-None-clause-fails : goal.returns-in-Ok-None-clause-fails
+returns-in-Ok-None-clause-fails g c clean unlimited s b desk first bad =
+    let read = rw c.in-Ok-None.field-0-is at c.in-Ok-None.ensures.ok in
+    let has = first_stands s c.args.number b first in
+    revision_found s c.args.number 1 first.sentence has.0 first.counted first.there has.1 (read clean desk.holds.schema (tables_of s).revisions desk.holds.stands.revisions)
+
+pub returns-in-Err-clause-fails : goal.returns-in-Err-clause-fails
+returns-in-Err-clause-fails g c clean unlimited s b desk first bad =
+    let told : c.of_read.result ≡ NotADesk = cc in
+    let readable = c.desk_rows_are_readable.ensures s desk.reachable in
+    let fits = fit IsReadableRevision IsRevision (λ r h. record { sent_fits = h.sent_fits; rev_fits = h.rev_fits; who_fits = h.who_fits; body_fits = h.body_fits }) (tables_of s).revisions readable.revisions in
+    read_told c.in-Err.error (c.in-Err.ensures.fails clean unlimited desk.holds.schema) (λ unfit. c.in-Err.ensures.form clean (ap Err unfit) desk.holds.schema (tables_of s).revisions fits desk.holds.stands.revisions) (sym c.of_read.ensures.value ∙ told)
+
+pub returns-in-Ok-Some-clause-fails : goal.returns-in-Ok-Some-clause-fails
+returns-in-Ok-Some-clause-fails g c clean unlimited s b desk first bad =
+    let read = rw c.in-Ok-Some.field-0-is at c.in-Ok-Some.ensures.ok in
+    let found = read clean desk.holds.schema (tables_of s).revisions desk.holds.stands.revisions in
+    let row = revision_of c.in-Ok-Some.row in
+    let of = (c.records_tell_what_stands.ensures.revisions s row).0 found.0 in
+    let text = c.as_bytes.ensures.value ∙ first_told s c.args.number b row first of found.1 found.2 in
+    let body = one_body s c.args.number b first c.as_bytes.result.now (c.revisions_read_back.ensures s desk.reachable.reached) text in
+    c.words_of_text.ensures.fails (b ∷ []) body (one_small s c.args.number b first desk.reachable) bad

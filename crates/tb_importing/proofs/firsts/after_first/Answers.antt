@@ -1,4 +1,10 @@
-use Rattle.std.proofs.Common.{◌≡◌, ◌≢◌, ◌++◌, List, ℕ, subst, ◌∙◌}
+use Rattle.tb_importing.proofs.Bounds.{first_stands}
+use Rattle.tb_acting.proofs.Revised.{revision_found}
+use Rattle.tb_acting.proofs.Faultless.{read_told, fit}
+use Rattle.tb_standing.specs.Fitting.{IsReadableRevision}
+use Rattle.tb_reading.specs.Readable.{IsRevision}
+use Rattle.tb_core.specs.declared.refusals.Fault.TheVariants.{NotADesk}
+use Rattle.std.proofs.Common.{◌≡◌, ◌≢◌, ◌++◌, List, ℕ, subst, ◌∙◌, Err, ap, sym}
 use Rattle.std.specs.Prelude.{MatchOption}
 use Rattle.std.proofs.lemmas.Bool.Decides.{Decides-eqb}
 use Rattle.std.proofs.lemmas.Slice.Eq.{strip_prefix_is}
@@ -26,3 +32,16 @@ returns-in-Ok-Some-clause-answered g c clean s b desk first =
     let body = c.as_bytes.ensures.value ∙ first_told s c.args.number b row first of found.1 found.2 in
     subst (λ p. MatchOption c.strip_prefix.result ((more : List ℕ) → c.args.text.now ≢ p ++ more) (λ more. c.args.text.now ≡ p ++ more.now)) body
     (strip_prefix_is Decides-eqb c.args.text.now c.as_bytes.result.now c.strip_prefix.result c.strip_prefix.ensures.cases)
+
+pub returns-in-Ok-None-clause-fails : goal.returns-in-Ok-None-clause-fails
+returns-in-Ok-None-clause-fails g c clean unlimited s b desk first bad =
+    let read = rw c.in-Ok-None.field-0-is at c.in-Ok-None.ensures.ok in
+    let has = first_stands s c.args.number b first in
+    revision_found s c.args.number 1 first.sentence has.0 first.counted first.there has.1 (read clean desk.holds.schema (tables_of s).revisions desk.holds.stands.revisions)
+
+pub returns-in-Err-clause-fails : goal.returns-in-Err-clause-fails
+returns-in-Err-clause-fails g c clean unlimited s b desk first bad =
+    let told : c.of_read.result ≡ NotADesk = cc in
+    let readable = c.desk_rows_are_readable.ensures s desk.reachable in
+    let fits = fit IsReadableRevision IsRevision (λ r h. record { sent_fits = h.sent_fits; rev_fits = h.rev_fits; who_fits = h.who_fits; body_fits = h.body_fits }) (tables_of s).revisions readable.revisions in
+    read_told c.in-Err.error (c.in-Err.ensures.fails clean unlimited desk.holds.schema) (λ unfit. c.in-Err.ensures.form clean (ap Err unfit) desk.holds.schema (tables_of s).revisions fits desk.holds.stands.revisions) (sym c.of_read.ensures.value ∙ told)

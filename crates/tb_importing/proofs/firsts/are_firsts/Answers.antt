@@ -1,4 +1,6 @@
-use Rattle.std.proofs.Common.{◌<◌, ◌≤◌, length, arith}
+use Rattle.tb_core.specs.declared.refusals.Fault.TheVariants.{NotADesk}
+use Rattle.std.proofs.lemmas.Result.{err_from_is_err_and}
+use Rattle.std.proofs.Common.{◌<◌, ◌≤◌, length, arith, ◌≡◌, Err, ◌∙◌}
 use Rattle.sqlite.specs.Held.{state}
 use Rattle.sqlite.specs.State.{HasCleanDisk}
 use Rattle.tb_importing.proofs.Left.{left_then, stays_then, desk_stays}
@@ -36,3 +38,15 @@ pub returns-clause-answered : goal.returns-clause-answered
 returns-clause-answered g c clean s bs desk firsts =
     let past : length c.args.work.now ≤ c.loop-one.one-index = omega (arith, c.loop-one-test.false) in
     ended s c.args.work.now bs c.args.text.now firsts c.loop-one.one-index c.loop-one.rest.now c.is_empty.result past (c.loop-one.invariant.2 clean s bs firsts desk) c.is_empty.ensures
+
+pub returns-in_err-more-clause-fails : goal.returns-in_err-more-clause-fails
+returns-in_err-more-clause-fails g c clean unlimited s bs desk firsts bad =
+    let told = err_from_is_err_and c.from_residual.result c.from_residual.ensures.1 in
+    let failed : c.after_first.result ≡ Err NotADesk = let was = c.in_err-more.was in let one = told.1 in let two = told.2 in cc in
+    let inv = c.loop-one.invariant in
+    let i = c.loop-one.one-index in
+    let low : i < length c.args.work.now = omega (arith, c.loop-one-test.true) in
+    let mid : HasCleanDisk (state g.S.Store c.loop-one.conn) = omega (arith, clean, c.after_first.ensures.left.lasts.clean) in
+    let here = desk_stays g.S.Store c.args.conn.now c.loop-one.conn inv.1 mid s desk in
+    let next = next_of s c.args.work.now bs i low firsts in
+    c.after_first.ensures.fails clean (inv.0.lasts.limit ∙ unlimited) s next.body here next.work.first failed

@@ -1,4 +1,5 @@
-use Rattle.std.proofs.Common.{◌≡◌, length, ap, subst, ◌∙◌}
+use Rattle.tb_core.specs.declared.refusals.Fault.TheVariants.{NotADesk}
+use Rattle.std.proofs.Common.{◌≡◌, length, ap, subst, ◌∙◌, Err}
 use Rattle.std.proofs.lemmas.Result.{err_from_is_err_and}
 use Rattle.std.proofs.lemmas.List.{length-map}
 use Rattle.tb_core.specs.declared.refusals.Refusal.{Refusal}
@@ -24,3 +25,16 @@ returns-clause-accepted g c clean s name user body bs desk known taken is_taken 
     let found = c.in_ok-standing.ensures.answered clean s bs desk is_taken in
     let many = ap length is_taken ∙ length-map bs taken_of in
     c.in_ok-judge_import_after.ensures.accepted s name user body bs taken found many (c.from.ensures ∙ known.sentences) (c.from-2.ensures ∙ known.counted.moves)
+
+pub returns-in_err-standing-clause-fails : goal.returns-in_err-standing-clause-fails
+returns-in_err-standing-clause-fails g c clean unlimited s desk bad =
+    let told = err_from_is_err_and c.from_residual.result c.from_residual.ensures.1 in
+    let failed : c.first_taken.result ≡ Err NotADesk = let was = c.in_err-standing.was in let one = told.1 in let two = told.2 in cc in
+    c.first_taken.ensures.fails clean unlimited s desk failed
+
+pub returns-in_err-judge_import_after-clause-fails : goal.returns-in_err-judge_import_after-clause-fails
+returns-in_err-judge_import_after-clause-fails g c clean unlimited s desk bad =
+    let told = err_from_is_err_and c.from_residual-in_err-judge_import_after.result c.from_residual-in_err-judge_import_after.ensures.1 in
+    let one = told.1 in
+    let two = told.2 in
+    absurd cc

@@ -1,10 +1,10 @@
-use Rattle.std.proofs.Common.{◌≡◌, subst, arith, Err}
+use Rattle.std.proofs.Common.{◌≡◌, subst, arith, Err, ◌∙◌}
 use Rattle.std.proofs.lemmas.Result.{err_from_is_err_and}
 use Rattle.sqlite.specs.Held.{state}
 use Rattle.sqlite.specs.State.{HasCleanDisk}
 use Rattle.sqlite.proofs.StateLemmas.{survives_then, survives_weaker}
 use Rattle.tb_core.specs.declared.refusals.Refusal.{Refusal}
-use Rattle.tb_core.specs.declared.refusals.Fault.TheVariants.{Refused}
+use Rattle.tb_core.specs.declared.refusals.Fault.TheVariants.{Refused, NotADesk}
 use Rattle.tb_core.specs.Commands.{import_file, refused}
 use Rattle.tb_core.specs.Steps.{Steps}
 use Rattle.tb_standing.specs.Standing.{tables_of}
@@ -78,3 +78,28 @@ returns-in_ok-reply-in-Goes-clause-answered g c clean s desk known =
     let found = c.in_ok-found.ensures.answered mid s desk in
     let goes = rw c.in-Goes.is at c.in_ok-reply.ensures.goes in
     c.in_ok-reply-in-Goes.ensures.answered clean s here known (goes s c.args.body.now desk.reachable.reached found) found
+
+-- ---- it is a desk
+
+pub returns-in_err-found-clause-fails : goal.returns-in_err-found-clause-fails
+returns-in_err-found-clause-fails g c clean unlimited s desk known bad =
+    let told = err_from_is_err_and c.from_residual.result c.from_residual.ensures.1 in
+    let failed : c.find_name.result ≡ Err NotADesk = let was = c.in_err-found.was in let one = told.1 in let two = told.2 in cc in
+    c.find_name.ensures.fails clean unlimited s desk failed
+
+pub returns-in_err-reply-clause-fails : goal.returns-in_err-reply-clause-fails
+returns-in_err-reply-clause-fails g c clean unlimited s desk known bad =
+    let told = err_from_is_err_and c.from_residual-in_err-reply.result c.from_residual-in_err-reply.ensures.1 in
+    let one = told.1 in
+    let two = told.2 in
+    absurd cc
+
+pub returns-in_err-reply-in-Goes-clause-fails : goal.returns-in_err-reply-in-Goes-clause-fails
+returns-in_err-reply-in-Goes-clause-fails g c clean unlimited s desk known bad =
+    let told = err_from_is_err_and c.from_residual-in_err-reply-in-Goes.result c.from_residual-in_err-reply-in-Goes.ensures.1 in
+    let failed : c.import_new.result ≡ Err NotADesk = let was = c.in_err-reply-in-Goes.was in let one = told.1 in let two = told.2 in cc in
+    let mid : HasCleanDisk (state g.S.Store c.find_name.new.conn) = omega (arith, clean, c.import_new.ensures.crash.clean) in
+    let here = desk_stays g.S.Store c.args.conn.now c.find_name.new.conn c.in_ok-found.ensures.stays mid s desk in
+    let found = c.in_ok-found.ensures.answered mid s desk in
+    let goes = rw c.in-Goes.is at c.in_ok-reply.ensures.goes in
+    c.import_new.ensures.fails clean (c.find_name.ensures.left.lasts.limit ∙ unlimited) s here known (goes s c.args.body.now desk.reachable.reached found) found failed

@@ -4,7 +4,7 @@ use Rattle.std.proofs.lemmas.List.{length-map}
 use Rattle.sqlite.specs.Held.{state}
 use Rattle.sqlite.specs.State.{HasCleanDisk}
 use Rattle.sqlite.proofs.StateLemmas.{survives_then, survives_weaker}
-use Rattle.tb_core.specs.declared.refusals.Fault.TheVariants.{Refused}
+use Rattle.tb_core.specs.declared.refusals.Fault.TheVariants.{Refused, NotADesk}
 use Rattle.tb_core.specs.Acts.{importing, after, new_batch, new_sentence, move_of}
 use Rattle.tb_core.specs.declared.limits.Limits.{Limits}
 use Rattle.tb_core.specs.Machine.{Machine}
@@ -82,3 +82,34 @@ returns-clause-answered g c clean = if_ok c.write.result (c.write.ensures.answer
       sentences = length-append s.sentences (map (new_sentence (length s.batches + 1) user) bs) ∙ ap (λ n. length s.sentences + n) (length-map bs (new_sentence (length s.batches + 1) user) ∙ sym (ap told_sentences done.2));
       moves = length-append s.moves (move_of s a ∷ []);
     })
+
+-- ---- it is a desk
+
+pub returns-in_err-taken-clause-fails : goal.returns-in_err-taken-clause-fails
+returns-in_err-taken-clause-fails g c clean unlimited s desk known named found bad =
+    let told = err_from_is_err_and c.from_residual.result c.from_residual.ensures.1 in
+    let one = told.1 in
+    let two = told.2 in
+    let same : c.in_err-taken.field-0.0 ≡ NotADesk = cc in
+    rw same at c.in_err-taken.ensures.refused
+
+pub returns-in_err-admit-clause-fails : goal.returns-in_err-admit-clause-fails
+returns-in_err-admit-clause-fails g c clean unlimited s desk known named found bad =
+    let told = err_from_is_err_and c.from_residual-in_err-admit.result c.from_residual-in_err-admit.ensures.1 in
+    let failed : c.admit.result ≡ Err NotADesk = let was = c.in_err-admit.was in let one = told.1 in let two = told.2 in cc in
+    c.admit.ensures.fails clean unlimited s desk failed
+
+pub returns-clause-fails : goal.returns-clause-fails
+returns-clause-fails g c clean unlimited s desk known named found bad =
+    let mid : HasCleanDisk (state g.S.Store c.admit.new.conn) = omega (arith, clean, c.write.ensures.crash.clean) in
+    let here = desk_stays g.S.Store c.args.conn.now c.admit.new.conn c.in_ok-admit.ensures.stays mid s desk in
+    let taken = c.in_ok-taken.ensures.taken in
+    let bs = taken.0 in
+    let name = c.args.name.now in
+    let user = c.args.user.now in
+    let goes = c.in_ok-taken.ensures.goes s name user bs named found taken.1 in
+    let allowed = c.in_ok-admit.ensures.accepted mid s name user c.args.body.now bs desk known goes (c.as_slice.ensures.value ∙ taken.2) in
+    let a = importing name user bs in
+    let limits = c.requires.within in
+    let reachable = c.commands_stay_within_limits.ensures c.args.known.now.counts.limits s (after s a) (import_file name user c.args.body.now) (replied (reply_to s a)) limits.sentences limits.moves desk.reachable allowed.1 in
+    c.write.ensures.fails clean (c.admit.ensures.left.lasts.limit ∙ unlimited) s bs here known (c.as_slice-2.ensures.value ∙ taken.2) allowed.0 reachable bad

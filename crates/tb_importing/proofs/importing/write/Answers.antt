@@ -1,4 +1,9 @@
-use Rattle.std.proofs.Common.{◌≡◌, map, ◌∙◌}
+use Rattle.tb_importing.proofs.Bounds.{taken_narrow}
+use Rattle.tb_core.specs.Taking.{TakenText}
+use Rattle.std.specs.List.{AllByRecursion}
+use Rattle.tb_core.specs.declared.refusals.Fault.TheVariants.{NotADesk}
+use Rattle.std.proofs.lemmas.Result.{err_from_is_err_and}
+use Rattle.std.proofs.Common.{◌≡◌, map, ◌∙◌, Err, ◌<◌, ◌^◌, sym, subst}
 use Rattle.sqlite.specs.Held.{state}
 use Rattle.sqlite.proofs.StateLemmas.{survives_weaker}
 use Rattle.tb_standing.specs.Written.{item_of}
@@ -25,3 +30,23 @@ returns-clause-answered g c clean s bs desk known is allowed reachable =
       planned.prepared.stand,
       planned.reply,
     )
+
+pub returns-in_err-items-clause-fails : goal.returns-in_err-items-clause-fails
+returns-in_err-items-clause-fails g c clean unlimited s bs desk known is allowed next bad =
+    let told = err_from_is_err_and c.from_residual.result c.from_residual.ensures.1 in
+    let failed : c.items_of.result ≡ Err NotADesk = let was = c.in_err-items.was in let one = told.1 in let two = told.2 in cc in
+    c.items_of.ensures.fails (subst (AllByRecursion (λ (t : TakenText). t.words < 2 ^ 32)) (sym is) (taken_narrow s c.args.name.now c.args.user.now bs next)) failed
+
+pub returns-in_err-plan-clause-fails : goal.returns-in_err-plan-clause-fails
+returns-in_err-plan-clause-fails g c clean unlimited s bs desk known is allowed next bad =
+    let told = err_from_is_err_and c.from_residual-in_err-plan.result c.from_residual-in_err-plan.ensures.1 in
+    let failed : c.plan.result ≡ Err NotADesk = let was = c.in_err-plan.was in let one = told.1 in let two = told.2 in cc in
+    c.plan.ensures.fails s c.args.name.now bs desk.reachable allowed next known is failed
+
+pub returns-in_err-commit_import-clause-fails : goal.returns-in_err-commit_import-clause-fails
+returns-in_err-commit_import-clause-fails g c clean unlimited s bs desk known is allowed next bad =
+    let told = err_from_is_err_and c.from_residual-in_err-commit_import.result c.from_residual-in_err-commit_import.ensures.1 in
+    let failed : c.commit_import.result ≡ Err NotADesk = let was = c.in_err-commit_import.was in let one = told.1 in let two = told.2 in cc in
+    let planned = c.in_ok-plan.ensures.planned s c.args.name.now bs desk.reachable.reached allowed known is in
+    let items : c.as_slice.result.now ≡ map item_of bs = c.as_slice.ensures.value ∙ c.in_ok-items.ensures.told ∙ items_are bs c.args.taken.now is in
+    c.commit_import.ensures.fails clean unlimited s bs desk (record { next = planned.number; first_next = planned.first; told = items }) allowed next (record { totals = c.in_ok-plan.plan.prepared.totals; stand = planned.prepared.stand; change = planned.prepared.change }) failed

@@ -1,4 +1,7 @@
-use Rattle.std.proofs.Common.{◌≡◌, ◌≢◌, List, map, subst, sym, ◌∙◌, arith}
+use Rattle.tb_core.proofs.Lists.{get_within}
+use Rattle.tb_core.specs.declared.refusals.Fault.TheVariants.{NotADesk}
+use Rattle.std.proofs.lemmas.Result.{err_from_is_err_and}
+use Rattle.std.proofs.Common.{◌≡◌, ◌≢◌, List, map, subst, sym, ◌∙◌, arith, Err}
 use Rattle.sqlite.specs.Held.{state}
 use Rattle.sqlite.specs.State.{HasCleanDisk}
 use Rattle.tb_conllu.specs.Text.{text_of}
@@ -53,3 +56,32 @@ returns-clause-answered g c clean s name place b desk has at =
     let same = rw c.if-not-branch.false at (c.in_ok-are_firsts.ensures.answered late s (first_bodies c.args.number s.sentences) here firsts) in
     let reply = c.in_ok-reply.ensures.answered clean s still (c.as_slice-2.ensures.value ∙ read) in
     (place, b, has, subst (λ n. c.args.body.now ≡ text_of (first_bodies n s.sentences)) at same, subst (λ n. imported c.in_ok-reply.reply ≡ import_reply s n) at reply)
+
+pub returns-in_err-work-clause-fails : goal.returns-in_err-work-clause-fails
+returns-in_err-work-clause-fails g c clean unlimited s name place b desk has at bad =
+    let told = err_from_is_err_and c.from_residual.result c.from_residual.ensures.1 in
+    let failed : c.read_work.result ≡ Err NotADesk = let was = c.in_err-work.was in let one = told.1 in let two = told.2 in cc in
+    c.read_work.ensures.fails clean unlimited s desk failed
+
+pub returns-in_err-are_firsts-clause-fails : goal.returns-in_err-are_firsts-clause-fails
+returns-in_err-are_firsts-clause-fails g c clean unlimited s name place b desk has at bad =
+    let told = err_from_is_err_and c.from_residual-in_err-are_firsts.result c.from_residual-in_err-are_firsts.ensures.1 in
+    let failed : c.are_firsts.result ≡ Err NotADesk = let was = c.in_err-are_firsts.was in let one = told.1 in let two = told.2 in cc in
+    let mid : HasCleanDisk (state g.S.Store c.read_work.new.conn) = omega (arith, clean, c.are_firsts.ensures.left.lasts.clean) in
+    let here = desk_stays g.S.Store c.args.conn.now c.read_work.new.conn c.in_ok-work.ensures.stays mid s desk in
+    let work : c.as_slice.result.now ≡ work_of c.args.number 1 (map sentence_record s.sentences) = c.as_slice.ensures.value ∙ c.in_ok-work.ensures.answered mid s desk in
+    let firsts = subst (λ (l : List Work). AreFirsts s l (first_bodies c.args.number s.sentences)) (sym work) (firsts_stand s c.args.number) in
+    c.are_firsts.ensures.fails clean (c.read_work.ensures.left.lasts.limit ∙ unlimited) s (first_bodies c.args.number s.sentences) here firsts failed
+
+pub returns-in_err-reply-clause-fails : goal.returns-in_err-reply-clause-fails
+returns-in_err-reply-clause-fails g c clean unlimited s name place b desk has at bad =
+    let told = err_from_is_err_and c.from_residual-in_err-reply.result c.from_residual-in_err-reply.ensures.1 in
+    let failed : c.repeat.result ≡ Err NotADesk = let was = c.in_err-reply.was in let one = told.1 in let two = told.2 in cc in
+    let late : HasCleanDisk (state g.S.Store c.are_firsts.new.conn) = omega (arith, clean, c.repeat.ensures.left.lasts.clean) in
+    let mid : HasCleanDisk (state g.S.Store c.read_work.new.conn) = omega (arith, late, c.are_firsts.ensures.left.lasts.clean) in
+    let here = desk_stays g.S.Store c.args.conn.now c.read_work.new.conn c.in_ok-work.ensures.stays mid s desk in
+    let still = desk_stays g.S.Store c.read_work.new.conn c.are_firsts.new.conn c.in_ok-are_firsts.ensures.stays late s here in
+    let read = c.in_ok-work.ensures.answered mid s desk in
+    let free = c.are_firsts.ensures.left.lasts.limit ∙ c.read_work.ensures.left.lasts.limit ∙ unlimited in
+    let low = get_within s.batches place b has.there in
+    c.repeat.ensures.fails clean free s still (omega (arith, at)) (omega (arith, at, low)) (c.as_slice-2.ensures.value ∙ read) failed

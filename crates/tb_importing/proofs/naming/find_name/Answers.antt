@@ -1,4 +1,6 @@
-use Rattle.std.proofs.Common.{◌≡◌, ◌+◌, ◌-◌, arith}
+use Rattle.tb_core.specs.declared.refusals.Fault.TheVariants.{NotADesk}
+use Rattle.std.proofs.lemmas.Result.{err_from_is_err_and}
+use Rattle.std.proofs.Common.{◌≡◌, ◌+◌, ◌-◌, arith, Err, ◌∙◌}
 use Rattle.sqlite.specs.Held.{state}
 use Rattle.sqlite.specs.State.{HasCleanDisk}
 use Rattle.tb_reading.proofs.Shown.{if_ok}
@@ -27,3 +29,18 @@ returns-clause-answered g c clean = if_ok c.compare.result (c.compare.ensures.an
     let number = rw c.in-Some.is at (c.in_ok-number.ensures.answered mid s desk) in
     let at : c.in-Some.number ≡ (c.in-Some.number - 1) + 1 = (let above = number.1 in omega (arith, above)) in
     told s c.args.name.now (c.in-Some.number - 1) number.0 here (record { there = number.2; named = number.3 }) at)
+
+pub returns-in_err-number-clause-fails : goal.returns-in_err-number-clause-fails
+returns-in_err-number-clause-fails g c clean unlimited s desk bad =
+    let told = err_from_is_err_and c.from_residual.result c.from_residual.ensures.1 in
+    let failed : c.batch_number.result ≡ Err NotADesk = let was = c.in_err-number.was in let one = told.1 in let two = told.2 in cc in
+    c.batch_number.ensures.fails clean unlimited s desk failed
+
+pub returns-clause-fails : goal.returns-clause-fails
+returns-clause-fails g c clean unlimited s desk bad =
+    let mid : HasCleanDisk (state g.S.Store c.batch_number.new.conn) = omega (arith, clean, c.compare.ensures.left.lasts.clean) in
+    let stays = stays_from g.S.Store c.args.conn.now c.batch_number.new.conn c.in_ok-number.ensures.same in
+    let here = desk_stays g.S.Store c.args.conn.now c.batch_number.new.conn stays mid s desk in
+    let number = rw c.in-Some.is at (c.in_ok-number.ensures.answered mid s desk) in
+    let at : c.in-Some.number ≡ (c.in-Some.number - 1) + 1 = (let above = number.1 in omega (arith, above)) in
+    c.compare.ensures.fails clean (c.batch_number.ensures.lasts.limit ∙ unlimited) s c.args.name.now (c.in-Some.number - 1) number.0 here (record { there = number.2; named = number.3 }) at bad

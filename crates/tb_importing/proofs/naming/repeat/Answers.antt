@@ -1,4 +1,7 @@
-use Rattle.std.proofs.Common.{List, subst, sym}
+use Rattle.tb_importing.proofs.Bounds.{firsts_small}
+use Rattle.tb_core.specs.declared.refusals.Fault.TheVariants.{NotADesk}
+use Rattle.std.proofs.lemmas.Result.{err_from_is_err_and}
+use Rattle.std.proofs.Common.{List, subst, sym, ◌≡◌, Err}
 use Rattle.tb_core.specs.Tests.{first_bodies}
 use Rattle.tb_reading.specs.declared.work.Work.{Work}
 use Rattle.tb_reading.proofs.Shown.{if_ok}
@@ -11,3 +14,14 @@ returns-clause-answered g c clean = if_ok c.reply_again.result c.reply_again.ens
     let bs = first_bodies c.args.number s.sentences in
     let firsts = subst (λ (l : List Work). AreFirsts s l bs) (sym read) (firsts_stand s c.args.number) in
     told s desk.reachable.reached read (c.in_ok-words.ensures.answered clean s bs desk firsts))
+
+pub returns-in_err-words-clause-fails : goal.returns-in_err-words-clause-fails
+returns-in_err-words-clause-fails g c clean unlimited s desk above within read bad =
+    let told = err_from_is_err_and c.from_residual.result c.from_residual.ensures.1 in
+    let failed : c.words_again.result ≡ Err NotADesk = let was = c.in_err-words.was in let one = told.1 in let two = told.2 in cc in
+    let bs = first_bodies c.args.number s.sentences in
+    let firsts = subst (λ (l : List Work). AreFirsts s l bs) (sym read) (firsts_stand s c.args.number) in
+    c.words_again.ensures.fails clean unlimited s bs desk firsts (firsts_small s c.args.number desk.reachable) failed
+
+pub returns-clause-fails : goal.returns-clause-fails
+returns-clause-fails g c clean unlimited s desk above within read bad = c.reply_again.ensures.fails s desk.reachable.reached above within read bad

@@ -1,4 +1,6 @@
-use Rattle.std.proofs.Common.{◌≡◌, ◌+◌, ◌<◌, ◌≤◌, length, ap, subst, arith, ℕ, List}
+use Rattle.tb_core.specs.declared.refusals.Fault.TheVariants.{NotADesk}
+use Rattle.std.proofs.lemmas.Result.{err_from_is_err_and}
+use Rattle.std.proofs.Common.{◌≡◌, ◌+◌, ◌<◌, ◌≤◌, length, ap, subst, arith, ℕ, List, Err, ◌∙◌}
 use Rattle.sqlite.specs.Held.{state}
 use Rattle.sqlite.specs.State.{HasCleanDisk}
 use Rattle.tb_core.specs.Names.{Lacks}
@@ -55,3 +57,12 @@ pub returns-clause-answered : goal.returns-clause-answered
 returns-clause-answered g c clean s bs desk is =
     let past : length c.args.taken.now ≤ c.loop-one.one-index = omega (arith, c.loop-one-test.false) in
     all_free (ids_of s.sentences) bs c.args.taken.now c.loop-one.one-index past is (c.loop-one.invariant.3 clean s desk)
+
+pub returns-in_err-is_taken-clause-fails : goal.returns-in_err-is_taken-clause-fails
+returns-in_err-is_taken-clause-fails g c clean unlimited s desk bad =
+    let told = err_from_is_err_and c.from_residual.result c.from_residual.ensures.1 in
+    let failed : c.is_taken.result ≡ Err NotADesk = let was = c.in_err-is_taken.was in let one = told.1 in let two = told.2 in cc in
+    let inv = c.loop-one.invariant in
+    let mid : HasCleanDisk (state g.S.Store c.loop-one.conn) = omega (arith, clean, c.is_taken.ensures.lasts.clean) in
+    let here = desk_stays g.S.Store c.args.conn.now c.loop-one.conn inv.2 mid s desk in
+    c.is_taken.ensures.fails clean (inv.1.lasts.limit ∙ unlimited) s here failed

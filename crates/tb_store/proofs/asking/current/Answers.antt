@@ -1,15 +1,16 @@
 use Rattle.std.proofs.Common.{◌≡◌, ◌-◌, Err, sym, ap, ◌∙◌}
 use Rattle.tb_core.specs.declared.refusals.Fault.TheVariants.{NotADesk}
 use Rattle.tb_reading.specs.Readable.{IsSentence}
-use Rattle.tb_standing.specs.Standing.{tables_of}
+use Rattle.tb_standing.specs.Standing.{tables_of, sentence_record}
 use Rattle.tb_standing.specs.Fitting.{IsReadableSentence}
-use Rattle.tb_store.proofs.Faultless.{read_told, fit, not_lacking}
+use Rattle.tb_acting.proofs.Faultless.{read_told, fit}
+use Rattle.tb_acting.proofs.Finds.{none_lacks}
 use Rattle.tb_store.proofs.asking.current.Goals as goal
 
 pub returns-in-Ok-None-clause-fails : goal.returns-in-Ok-None-clause-fails
 returns-in-Ok-None-clause-fails g c clean unlimited s desk x there bad =
     let read = rw c.in-Ok-None.field-0-is at c.in-Ok-None.ensures.ok in
-    not_lacking s (c.args.number - 1) x there (read clean desk.holds.schema (tables_of s).sentences desk.holds.stands.sentences)
+    none_lacks sentence_record s.sentences (c.args.number - 1) x there (read clean desk.holds.schema (tables_of s).sentences desk.holds.stands.sentences)
 
 pub returns-in-Err-clause-fails : goal.returns-in-Err-clause-fails
 returns-in-Err-clause-fails g c clean unlimited s desk x there bad =

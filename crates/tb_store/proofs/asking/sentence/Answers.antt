@@ -7,7 +7,7 @@ use Rattle.tb_core.specs.declared.refusals.Fault.TheVariants.{NotADesk}
 use Rattle.tb_core.specs.Machine.{Revision}
 use Rattle.tb_acting.proofs.Telling.{current_is}
 use Rattle.tb_acting.proofs.Unchanged.{desk_same, lasts_then}
-use Rattle.tb_store.proofs.Faultless.{has_current}
+use Rattle.tb_acting.proofs.Revised.{has_current}
 use Rattle.tb_store.proofs.asking.sentence.Goals as goal
 
 pub returns-clause-answered : goal.returns-clause-answered

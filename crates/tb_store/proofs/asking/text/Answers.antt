@@ -5,7 +5,8 @@ use Rattle.tb_reading.specs.Readable.{IsRevision}
 use Rattle.tb_standing.specs.Standing.{tables_of}
 use Rattle.tb_standing.specs.Fitting.{IsReadableRevision}
 use Rattle.tb_acting.proofs.Telling.{text_told}
-use Rattle.tb_store.proofs.Faultless.{read_told, fit, revision_found}
+use Rattle.tb_acting.proofs.Faultless.{read_told, fit}
+use Rattle.tb_acting.proofs.Revised.{revision_found}
 use Rattle.tb_store.proofs.asking.text.Goals as goal
 
 pub returns-in-Ok-Some-clause-answered : goal.returns-in-Ok-Some-clause-answered

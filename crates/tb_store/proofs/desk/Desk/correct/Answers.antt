@@ -1,8 +1,8 @@
-use Rattle.std.proofs.Common.{◌≡◌, ◌∙◌, refl, sym, ap, subst, arith, Err}
+use Rattle.std.proofs.Common.{None, ◌≡◌, ◌∙◌, refl, sym, ap, subst, arith, Err}
 use Rattle.std.proofs.lemmas.Result.{err_from_is_err_and}
 use Rattle.sqlite.specs.Held.{state}
 use Rattle.sqlite.proofs.StateLemmas.{survives_weaker}
-use Rattle.tb_core.specs.declared.refusals.Fault.TheVariants.{Refused}
+use Rattle.tb_core.specs.declared.refusals.Fault.TheVariants.{Refused, NotADesk}
 use Rattle.tb_core.specs.Commands.{replied, refused, correct, corrected_to}
 use Rattle.tb_acting.specs.declared.counted.Counts.{Counts}
 use Rattle.tb_store.specs.Kept.{Kept}
@@ -66,3 +66,18 @@ returns-in-Some-totals-clause-crash g c =
     let limits = ap (λ (k : Counts). k.limits) c.counts-counts.ensures in
     let left = whole s here.desk counted (omega (arith, fits.2, stands.sentences, here.sentences)) in
     (left.0, left.1, same_numbered (λ n. correct n c.args.base c.args.user.now c.args.body.now) _ _ s _ _ left.0 left.1 limits fits.0 left.2, left.3)) c.correct.ensures.crash)
+
+pub returns-in_default-clause-fails : goal.returns-in_default-clause-fails
+returns-in_default-clause-fails g c clean unlimited s stands bad =
+    let told : c.no_correction.result ≡ NotADesk = cc in
+    c.no_correction.ensures.fails told
+
+pub returns-in_err-reply-clause-fails : goal.returns-in_err-reply-clause-fails
+returns-in_err-reply-clause-fails g c clean unlimited s stands bad =
+    let here = subst (λ k. StandsFor g.S.Store k s) (sym c.self.view_is) stands in
+    let limit = subst (λ (k : Kept _). (state g.S.Store k.conn).step_limit ≡ None) (sym c.self.view_is) unlimited in
+    let told = err_from_is_err_and c.from_residual.result c.from_residual.ensures.1 in
+    let failed : c.correct.result ≡ Err NotADesk = let was = c.in_err-reply.was in let one = told.1 in let two = told.2 in cc in
+    let fits = c.in-Some.ensures.stands in
+    let counted : IsCounted c.counts-counts.result s = subst (λ (k : Counts). IsCounted k s) (sym c.counts-counts.ensures) (record { moves = stands.moves; totals = stands.totals }) in
+    c.correct.ensures.fails clean limit s here.desk counted (omega (arith, fits.2, stands.sentences, here.sentences)) failed

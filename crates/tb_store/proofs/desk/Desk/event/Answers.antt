@@ -1,9 +1,9 @@
-use Rattle.std.proofs.Common.{◌≡◌, ◌+◌, sym, ap, subst, ◌∙◌, Err, rules}
+use Rattle.std.proofs.Common.{◌≡◌, ◌+◌, sym, ap, subst, ◌∙◌, Err, None, rules}
 use Rattle.std.proofs.lemmas.Result.{err_from_is_err_and}
 use Rattle.sqlite.specs.Held.{Held, state}
 use Rattle.sqlite.specs.State.{Survives}
 use Rattle.sqlite.proofs.StateLemmas.{survives_weaker}
-use Rattle.tb_core.specs.declared.refusals.Fault.TheVariants.{Refused}
+use Rattle.tb_core.specs.declared.refusals.Fault.TheVariants.{Refused, NotADesk}
 use Rattle.tb_core.specs.Machine.{Machine}
 use Rattle.tb_core.specs.Commands.{Answer, event_on, replied, refused, moved_on}
 use Rattle.tb_core.specs.Steps.{Steps}
@@ -62,3 +62,13 @@ returns-clause-crash g c =
     let counted = subst (λ (k : Counts). IsCounted k s) (sym counts_is) (record { moves = stands.moves; totals = stands.totals }) in
     let found = whole s here.desk counted in
     (found.0, found.1, subst (λ (k : Counts). Steps k.limits s (event_on c.args.name.now c.args.event c.args.user.now) found.0 found.1) counts_is found.2, found.3)) c.event.ensures.crash)
+
+pub returns-in_err-reply-clause-fails : goal.returns-in_err-reply-clause-fails
+returns-in_err-reply-clause-fails g c clean unlimited s stands bad =
+    let told = err_from_is_err_and c.from_residual.result c.from_residual.ensures.1 in
+    let failed : c.event.result ≡ Err NotADesk = let was = c.in_err-reply.was in let one = told.1 in let two = told.2 in cc in
+    let here = subst (λ k. StandsFor g.S.Store k s) (sym c.self.view_is) stands in
+    let limit = subst (λ (k : Kept _). (state g.S.Store k.conn).step_limit ≡ None) (sym c.self.view_is) unlimited in
+    let counts_is : c.counts-counts.result ≡ counts_of c.args.self.now = search rules in
+    let counted = subst (λ (k : Counts). IsCounted k s) (sym counts_is) (record { moves = stands.moves; totals = stands.totals }) in
+    c.event.ensures.fails clean limit s here.desk counted failed

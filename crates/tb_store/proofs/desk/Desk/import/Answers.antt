@@ -1,8 +1,8 @@
-use Rattle.std.proofs.Common.{◌≡◌, sym, ap, subst, Err, rules, arith}
+use Rattle.std.proofs.Common.{None, ◌≡◌, sym, ap, subst, Err, rules, arith}
 use Rattle.std.proofs.lemmas.Result.{err_from_is_err_and}
 use Rattle.sqlite.specs.Held.{state}
 use Rattle.sqlite.proofs.StateLemmas.{survives_weaker}
-use Rattle.tb_core.specs.declared.refusals.Fault.TheVariants.{Refused}
+use Rattle.tb_core.specs.declared.refusals.Fault.TheVariants.{Refused, NotADesk}
 use Rattle.tb_core.specs.Commands.{import_file, replied, refused, imported}
 use Rattle.tb_core.specs.Steps.{Steps}
 use Rattle.tb_importing.specs.declared.known.Known.{Known}
@@ -57,3 +57,13 @@ returns-in-Some-clause-crash g c =
     let known = is_known g.S.Store c.args.self.now c.known-known.result s known_is stands in
     let left = whole s here.desk known in
     (left.0, left.1, subst (λ (k : Known). Steps k.counts.limits s (import_file c.args.name.now c.args.user.now c.args.body.now) left.0 left.1) known_is left.2, left.3)) c.import.ensures.crash)
+
+pub returns-in_err-reply-clause-fails : goal.returns-in_err-reply-clause-fails
+returns-in_err-reply-clause-fails g c clean unlimited s stands bad =
+    let told = err_from_is_err_and c.from_residual.result c.from_residual.ensures.1 in
+    let here = subst (λ k. StandsFor g.S.Store k s) (sym c.self.view_is) stands in
+    let limit = subst (λ (k : Kept _). (state g.S.Store k.conn).step_limit ≡ None) (sym c.self.view_is) unlimited in
+    let known_is : c.known-known.result ≡ known_of c.args.self.now = search rules in
+    let known = is_known g.S.Store c.args.self.now c.known-known.result s known_is stands in
+    let failed : c.import.result ≡ Err NotADesk = let was = c.in_err-reply.was in let one = told.1 in let two = told.2 in cc in
+    c.import.ensures.fails clean limit s here.desk known failed
