@@ -5,10 +5,10 @@ use sqlite::Alter;
 use std::alloc::Global;
 use std::process::Abort;
 use std::test::Fail;
+use tb_answers::{Broken, answer_all};
 use tb_conllu::Sink;
 use tb_core::Limits;
 use tb_http::Routes;
-use tb_serving::{Broken, answer_all};
 use tb_store::Desk;
 
 const LIMITS: Limits = Limits {

@@ -5,9 +5,9 @@ use sqlite::Alter;
 use std::alloc::Global;
 use std::process::Abort;
 use std::test::Fail;
+use tb_answers::answer;
 use tb_core::Limits;
 use tb_http::Routes;
-use tb_serving::answer;
 use tb_store::Desk;
 
 const LIMITS: Limits = Limits {

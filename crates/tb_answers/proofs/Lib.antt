@@ -3,3 +3,8 @@ pub mod Texts
 pub mod Parts
 pub mod Exporting
 pub mod SearchTexts
+mod Chained
+mod Surviving
+mod Rounds
+mod InMemory
+mod Joined

@@ -5,3 +5,7 @@ pub mod Calls
 pub mod Responses
 pub mod Exported
 pub mod Found
+pub mod Taken
+pub mod Ran
+pub mod Served
+pub mod Turns

@@ -1,6 +1,9 @@
-//! What is asked of a desk, answered as texts: the same over HTTP and on the command line.
+//! What is asked of a desk, done and answered: a call as a text, the same over HTTP and on the command line; one request of HTTP
+//! over any reader and any sink, a list of them in turn, and a line of words with its body.
 #![tactic(auto)]
 
+mod answering;
+mod asks;
 mod bodies;
 mod calls;
 mod commands;
@@ -8,6 +11,8 @@ mod counts;
 mod ending;
 mod exports;
 mod finding;
+mod laws;
+mod lines;
 mod output;
 mod questions;
 mod responding;
@@ -15,12 +20,15 @@ mod responses;
 mod running;
 mod searches;
 
+pub use answering::{Broken, answer, answer_all};
 pub use bodies::{ask, moves, revision, sentence, totals};
 pub use calls::{DeskCall, DeskCommand};
 pub use commands::{correct, event, import, pull, reply_for_fault, restore};
 pub use counts::{respond_count, run_count};
 pub use exports::{respond_export, run_export};
 pub use finding::{Count, Search};
+pub use laws::requests_in_memory_lead_on;
+pub use lines::{read_body, run_line, run_line_from};
 pub use output::{put_body, put_reply};
 pub use questions::{Body, Question};
 pub use responding::respond_call;

@@ -5,9 +5,8 @@ use std::alloc::Global;
 use std::io::{self, BufWriter, Read, Write};
 use std::net::{Ipv4Addr, Shutdown, TcpListener, TcpStream};
 use std::time::Duration;
-use tb_answers::put_reply;
+use tb_answers::{answer, put_reply};
 use tb_http::{BODY_BYTES, Reply, Routes, Status};
-use tb_serving::answer;
 use tb_store::Desk;
 
 /// How many seconds one read or write of a connection may take, so that a silent client does not keep others from the desk.

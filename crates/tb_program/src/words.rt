@@ -7,15 +7,13 @@ ghost use Rattle.tb_conllu.specs.declared.fault.WriteFault.{WriteFault};
 
 use crate::files::{self, FileDesk};
 use crate::serving::serve;
-use sqlite::Alter;
 use std::alloc::Global;
 use std::io::{Read, Write};
-use tb_answers::put_reply;
+use tb_answers::{put_reply, read_body, run_line, run_line_from};
 use tb_conllu::Sink;
 use tb_desk::{FILE_LIMIT, is_check, run_check};
 use tb_http::Reply;
 use tb_line::{Line, LineFault};
-use tb_serving::{read_body, run_line};
 use tb_store::Desk;
 
 /// Tells why words are no line: clap's text, which is help too, or the desk's own.
@@ -61,23 +59,22 @@ fn put_opened<W: Sink>(opened: Result<FileDesk, Reply>, line: &str, out: &mut W)
     }
 }
 
-/// Does a line on a desk, with its body.
-fn run_on_desk<S: Alter, W: Write>(
+/// Does a line on the desk of a file, with its body.
+fn run_on_desk<W: Write>(
     rt: &HostRuntime,
     line: &Line,
     body: Result<Vec<u8>, Reply>,
-    desk: &mut Desk<S>,
+    desk: &mut FileDesk,
     out: &mut W,
 ) -> u8 {
-    if let Line::Serve {
-        db: _,
-        port,
-        requests,
-    } = line
-    {
-        return serve(rt, desk, *port, *requests, out);
+    match line {
+        Line::Serve {
+            db: _,
+            port,
+            requests,
+        } => serve(rt, desk, *port, *requests, out),
+        _ => run_line(rt.alloc(), line, body, desk, out),
     }
-    run_line(rt.alloc(), line, body, desk, out)
 }
 
 /// The body is read before the file is opened, and so before others are kept from it: in `show | correct` on one file each
@@ -111,10 +108,14 @@ fn run_in_memory<R: Read, W: Write>(
     out: &mut W,
 ) -> u8 {
     match Desk::in_memory(rt.alloc(), files::LIMITS) {
-        Ok(mut desk) => {
-            let body = read_body(rt.alloc(), line, reader);
-            run_on_desk(rt, line, body, &mut desk, out)
-        }
+        Ok(mut desk) => match line {
+            Line::Serve {
+                db: _,
+                port,
+                requests,
+            } => serve(rt, &mut desk, *port, *requests, out),
+            _ => run_line_from(rt.alloc(), line, reader, &mut desk, out),
+        },
         Err(_) => put_reply(out, Reply::Memory),
     }
 }

@@ -10,7 +10,7 @@ use Rattle.tb_conllu.specs.Text.{BlockText, text_of}
 use Rattle.tb_conllu.specs.Words.{words_of}
 use Rattle.tb_conllu.specs.Sunk.{AppendsPart}
 use Rattle.tb_rules.specs.Comments.{only, sent_ids}
-use Rattle.tb_rules.specs.Rules.{KeepsRules}
+use Rattle.tb_rules.specs.Rules.{KeepsRules, ids, sent_id}
 use Rattle.tb_match.specs.declared.strategy.Strategy.{Strategy}
 use Rattle.tb_match.specs.declared.strategy.Strategy.TheVariants.{Shortest, Longest, Every}
 use Rattle.tb_match.specs.Hits.{IsHit}
@@ -63,11 +63,11 @@ as_many b hits = length-map hits (λ (h : ℕ × ℕ). (b, h))
 -- ---- what the rules say of it
 
 pub few_words : (b : BlockText) → KeepsRules b → words_of b ≤ 1000
-few_words b rules = rules.0.0.0.0.0.0.0.0.1.few
+few_words b rules = (rules ids).few
 
 pub has_name : (b block : BlockText) → block ≡ b → KeepsRules b → only (sent_ids block) ≡ None → ⊥
 has_name b block same rules none =
-    let id = rules.0.0.0.0.0.0.0.0.0.0 in
+    let id = rules sent_id in
     let one : only (sent_ids block) ≡ Some id.name = ap (λ (x : BlockText). only (sent_ids x)) same ∙ ap only id.one in
     let both : None ≡ Some id.name = sym none ∙ one in
     absurd cc

@@ -1,0 +1,134 @@
+-- Requests answered one after the other on one desk, each from its own bytes.
+use Rattle.std.specs.Prelude.{◌≡◌, ◌≢◌, ◌⊎◌, ℕ, List, [], ◌∷◌, Option, Some, None, Result, Ok, Err, IsTrue, ⊤}
+use Rattle.std.specs.List.{AllByRecursion}
+use Rattle.sqlite.specs.Store.{Ghosts}
+use Rattle.sqlite.specs.State.{HasCleanDisk, Survives}
+use Rattle.sqlite.specs.Tree.{Trees}
+use Rattle.sqlite.specs.Held.{state}
+use Rattle.tb_tables.specs.Records.{Stands}
+use Rattle.tb_core.specs.declared.limits.Limits.{Limits}
+use Rattle.tb_core.specs.Machine.{Machine}
+use Rattle.tb_core.specs.Commands.{Command, Answer}
+use Rattle.tb_core.specs.Steps.{Steps}
+use Rattle.tb_http.specs.declared.replies.Reply.{Reply}
+use Rattle.tb_http.specs.declared.replies.Reply.TheVariants.{Faulty, Memory}
+use Rattle.tb_http.specs.declared.status.Status.{Status}
+use Rattle.tb_http.specs.declared.status.Status.TheVariants as status
+use Rattle.tb_http.specs.Actions.{Act}
+use Rattle.tb_http.specs.Asks.{Told, refused, called, Asks}
+use Rattle.tb_http.specs.Replies.{status_of}
+use Rattle.tb_standing.specs.Standing.{tables_of}
+use Rattle.tb_store.specs.Kept.{Kept}
+use Rattle.tb_store.specs.Standing.{StandsFor}
+use Rattle.tb_answers.specs.Asked.{IsBody, IsToldOf}
+use Rattle.tb_answers.specs.Calls.{CallText, commands, asks, call_asked}
+use Rattle.tb_answers.specs.Commanded.{reply_for, IsFailure}
+use Rattle.tb_answers.specs.Responses.{reply_response, body_response}
+use Rattle.tb_answers.specs.declared.answering.Broken.{Broken}
+use Rattle.tb_answers.specs.declared.answering.Broken.TheVariants.{Read}
+use Rattle.tb_answers.specs.Served.{body_limit, IsSentAs, IsReplySent, IsTextSent, IsSafeOf, IsServed, outcome}
+
+-- ---- one request, in terms of states alone
+
+module _ (l : Limits) (s t : Machine) where
+  -- a command made in s ends so, and t is the state after it; or it failed, and t is s
+  abbrev pub EndsWith : Command → Reply → Type 0
+  EndsWith c r = ((a : Answer) × Steps l s c a t × (r ≡ reply_for a)) ⊎ (IsFailure r × (t ≡ s))
+
+  -- the response of a call made in s, and its status; t is the state after it
+  abbrev pub IsResponseTo : CallText → (text : List ℕ) → Status → Type 0
+  IsResponseTo (commands c) text code = (r : Reply) × EndsWith c r × (text ≡ reply_response r) × (code ≡ status_of r)
+  IsResponseTo (asks q) text code =
+      (t ≡ s)
+      × (((rev : Option ℕ) × (body : List ℕ) × IsBody s q rev body × (text ≡ body_response rev body) × (code ≡ status.Ok))
+      ⊎ ((r : Reply) × IsToldOf s q r × (text ≡ reply_response r) × (code ≡ status_of r)))
+
+  module _ {Reason : Type 0} (before after : Option (List ℕ)) (is_refusal : Reason → Type 0) (sent : Option Status) where
+    -- a sink has the response of a command or a question; else of an export, a search or a count
+    abbrev pub HasResponse : Option CallText → Act → (body : List ℕ) → Type 0
+    HasResponse (Some call) act body = IsSentAs before after is_refusal sent (IsResponseTo call)
+    HasResponse None act body = (t ≡ s) × IsTextSent before after is_refusal sent l s act body
+
+    -- that of what a request tells
+    abbrev pub HasAnswer : Told → Type 0
+    HasAnswer (refused why) = (t ≡ s) × IsReplySent before after is_refusal sent (Faulty why)
+    HasAnswer (called c) = HasResponse (call_asked c.act c.user c.body) c.act c.body
+
+  -- The bytes of a request lead from s to t: what they ask was done and responded to, or memory was told to be wanting, before
+  -- anything was done.
+  abbrev pub LeadsBy : {Reason : Type 0} → (bytes : List ℕ) → (before after : Option (List ℕ)) → (Reason → Type 0) → Result Status Broken → Type 0
+  LeadsBy bytes before after is_refusal result =
+      (sent : Option Status)
+      × (((told : Told) × Asks body_limit bytes told × HasAnswer before after is_refusal sent told) ⊎ ((t ≡ s) × IsReplySent before after is_refusal sent Memory))
+      × (result ≡ outcome sent)
+
+-- ---- what a crash leaves
+
+-- the command that is asked, if one is
+abbrev pub command_in : Option CallText → Option Command
+command_in (Some (commands c)) = Some c
+command_in _ = None
+
+abbrev pub command_of : Told → Option Command
+command_of (refused why) = None
+command_of (called c) = command_in (call_asked c.act c.user c.body)
+
+-- the bytes ask a command, and t is a state in which it ends from s
+abbrev pub Ends : Limits → (s t : Machine) → (bytes : List ℕ) → Type 0
+Ends l s t bytes = (told : Told) × Asks body_limit bytes told × (c : Command) × (command_of told ≡ Some c) × (a : Answer) × Steps l s c a t
+
+-- The tables of a state that some of the requests, from the first on, lead to: each to a state in which its command ends, or
+-- to the same one.
+abbrev pub HoldsAnEndOf : Limits → List (List ℕ) → Machine → Trees → Type 0
+HoldsAnEndOf l [] s db = ⊥
+HoldsAnEndOf l (b ∷ bs) s db = (t : Machine) × ((t ≡ s) ⊎ Ends l s t b) × (Stands (tables_of t) db ⊎ HoldsAnEndOf l bs t db)
+
+-- it holds of each of them but the last
+abbrev pub AllButLast : {X : Type 0} → (X → Type 0) → List X → Type 0
+AllButLast P [] = ⊤
+AllButLast P (x ∷ xs) = (xs ≢ [] → P x) × AllButLast P xs
+
+-- ---- requests in turn, over sinks of one kind
+
+-- the disk has returned what was written, and the store is open
+abbrev pub IsSound : {S : Type 0} → Ghosts S → Kept S → Type 0
+IsSound g d = HasCleanDisk (state g d.conn) × IsTrue (state g d.conn).is_open
+
+module _ {W Reason : Type 0} (held : W → Option (List ℕ)) (is_refusal : W → Reason → Type 0) where
+  -- a request that has no whole response: its reader failed, and all is as before; or the sink refused a part of the response
+  abbrev pub BreaksOff : Limits → (s t : Machine) → (bytes : List ℕ) → (before after : W) → Broken → Type 0
+  BreaksOff l s t bytes u v why =
+      ((why ≡ Read) × (t ≡ s) × (held v ≡ held u)) ⊎ LeadsBy l s t bytes (held u) (held v) (is_refusal v) (Err why)
+
+  -- Requests lead from s to t: each is responded to in the state that the one before left, and the sink has the responses in
+  -- order; or one has no whole response, and it is the last that leads anywhere.
+  abbrev pub Lead : Limits → List (List ℕ) → (s t : Machine) → (before after : W) → Result (Unit {0}) Broken → Type 0
+  Lead l [] s t u v result = (t ≡ s) × (v ≡ u) × (result ≡ Ok tt)
+  Lead l (b ∷ bs) s t u v result =
+      ((mid : Machine) × (w : W) × (code : Status) × LeadsBy l s mid b (held u) (held w) (is_refusal w) (Ok code) × Lead l bs mid t w v result)
+      ⊎ ((why : Broken) × BreaksOff l s t b u v why × (result ≡ Err why))
+
+  module _ {S : Type 0} (g : Ghosts S) where
+    -- one request answered on a desk: all that is said of it, whatever the disk did
+    pub record IsAnswered (bytes : List ℕ) (old new : Kept S) (before after : W) (told : Result Status Broken) : Type 0 where
+      pub answered : told ≢ Err Read → HasCleanDisk (state g new.conn) → (s : Machine) → StandsFor g old s → IsServed g old.limits s (Some bytes) old new (held before) (held after) (is_refusal after) told
+      pub broken : told ≡ Err Read → (new ≡ old) × (held after ≡ held before)
+      pub crash : IsSafeOf g (Some bytes) old new
+      pub limits : new.limits ≡ old.limits
+
+    -- Requests answered in turn, each on the desk and into the sink that the one before left, up to the first that has no whole
+    -- response. `desks` are the desk after each of them.
+    abbrev pub AreAnswered : List (List ℕ) → (old new : Kept S) → (before after : W) → (desks : List (Kept S)) → Result (Unit {0}) Broken → Type 0
+    AreAnswered [] d e u v desks result = (e ≡ d) × (v ≡ u) × (desks ≡ []) × (result ≡ Ok tt)
+    AreAnswered (b ∷ bs) d e u v desks result =
+        ((m : Kept S) × (w : W) × (later : List (Kept S)) × (code : Status) × IsAnswered b d m u w (Ok code) × (desks ≡ m ∷ later) × AreAnswered bs m e w v later result)
+        ⊎ ((why : Broken) × IsAnswered b d e u v (Err why) × (desks ≡ e ∷ []) × (result ≡ Err why))
+
+    -- The requests are answered in turn; where the desk stood for a state and was sound after each of them, they lead to a state
+    -- for which it stands; and where it was sound after each but the last, a crash leaves the tables that it left before, or those
+    -- of a state that some of the requests lead to.
+    abbrev pub AreServed : List (List ℕ) → (old new : Kept S) → (before after : W) → Result (Unit {0}) Broken → Type 0
+    AreServed bs d e u v result =
+        (desks : List (Kept S)) × AreAnswered bs d e u v desks result
+        × (AllByRecursion (IsSound g) desks → (s : Machine) → StandsFor g d s → (t : Machine) × StandsFor g e t × Lead d.limits bs s t u v result)
+        × (AllButLast (IsSound g) desks → (s : Machine) → StandsFor g d s → Survives (state g d.conn) (state g e.conn) (HoldsAnEndOf d.limits bs s))

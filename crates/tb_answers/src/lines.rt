@@ -1,0 +1,185 @@
+//! A line of words, done on a desk.
+
+ghost use Rattle.std.specs.Prelude.{◌≡◌, IfSome, IsTrue, MatchResult, Ok as Taken, Err as Untaken, option_map, string_bytes};
+ghost use Rattle.sqlite.specs.State.{HasCleanDisk};
+ghost use Rattle.sqlite.specs.Held.{state};
+ghost use Rattle.tb_core.specs.Machine.{Machine};
+ghost use Rattle.tb_line.specs.Lines.{said_by};
+ghost use Rattle.tb_store.specs.Standing.{StandsFor};
+ghost use Rattle.tb_answers.specs.Taken.{IsTaken, has_body};
+ghost use Rattle.tb_answers.specs.Calls.{call_by, call_in};
+ghost use Rattle.tb_answers.specs.Ran.{reading_by, reading_in, IsRead, IsCalled, IsDone, IsRan, WritesNothing, IsCallSafe, IsDoneSafe, IsLineSafe, IsRunFrom, IsRunSafe};
+
+use crate::calls::DeskCall;
+use crate::counts::run_count;
+use crate::exports::run_export;
+use crate::finding::{Count, Search};
+use crate::output::put_reply;
+use crate::running::run_call;
+use crate::searches::run_search;
+use sqlite::Alter;
+use std::alloc::Global;
+use std::io::Read;
+use tb_conllu::Sink;
+use tb_desk::{FILE_LIMIT, Input, read_all};
+use tb_http::{Reply, RequestFault};
+use tb_line::Line;
+use tb_store::Desk;
+
+/// Whether a line has a body on its input.
+fn has_body(line: &Line) -> bool
+    ensures { result ≡ has_body (said_by line.now) }
+{
+    matches!(line, Line::Import { .. } | Line::Correct { .. })
+}
+
+/// The body of a line: all that the reader gives, up to 4,194,304 bytes, where the line is an import or a correction, and
+/// nothing for other lines, of which the reader is left alone. In its place comes the reply that tells why it did not come.
+pub fn read_body<R: Read>(alloc: Global, line: &Line, reader: &mut R) -> Result<Vec<u8>, Reply>
+    ensures { IfSome (R.remaining reader.old) (λ input. MatchResult result (λ v. IsTaken FILE_LIMIT (said_by line.now) input (Taken v.items)) (λ r. IsTaken FILE_LIMIT (said_by line.now) input (Untaken r))) }
+{
+    if !has_body(line) {
+        return Ok(Vec::new(alloc));
+    }
+    match read_all(alloc, reader, FILE_LIMIT) {
+        Input::Whole(body) => Ok(body),
+        Input::TooLong => Err(Reply::Faulty(RequestFault::Long)),
+        Input::Memory => Err(Reply::Memory),
+        Input::Broken => Err(Reply::Device),
+    }
+}
+
+/// What a line asks to be read off a desk.
+#[derive(Clone, Copy, Debug)]
+enum Reading<'a> {
+    /// A batch, or all released text.
+    Export(Option<&'a str>),
+    Search(Search<'a>),
+    Count(Count<'a>),
+}
+
+/// The name that is given, if one is.
+fn given(name: &Option<String>) -> Option<&str>
+    ensures { option_map (λ n. n.now) result ≡ option_map string_bytes name.now }
+{
+    match name {
+        Some(name) => Some(name.as_str()),
+        None => None,
+    }
+}
+
+/// The reading that a line asks for, if it asks for one.
+fn reading_of(line: &Line) -> Option<Reading<'_>>
+    ensures { option_map reading_by result ≡ reading_in (said_by line.now) }
+{
+    match line {
+        Line::Export { db: _, name } => Some(Reading::Export(given(name))),
+        Line::Search {
+            db: _,
+            strategy,
+            context,
+            query,
+        } => Some(Reading::Search(Search {
+            query: query.as_str(),
+            strategy: *strategy,
+            context: *context,
+        })),
+        Line::Count {
+            db: _,
+            strategy,
+            attribute,
+            query,
+        } => Some(Reading::Count(Count {
+            query: query.as_str(),
+            strategy: *strategy,
+            column: *attribute,
+        })),
+        _ => None,
+    }
+}
+
+/// Puts what is read off a desk, and gives the exit status.
+fn run_reading<S: Alter, W: Sink>(
+    alloc: Global,
+    reading: Reading<'_>,
+    desk: &mut Desk<S>,
+    out: &mut W,
+) -> u8
+    ensures read { HasCleanDisk (state S.Store desk.new.conn) → (s : Machine) → StandsFor S.Store desk.old s → IsRead desk.old.limits s (reading_by reading.entry) (W.held out.old) (W.held out.new) (W.IsRefusal out.new) result }
+    ensures kept { HasCleanDisk (state S.Store desk.new.conn) → IsTrue (state S.Store desk.new.conn).is_open → (s : Machine) → StandsFor S.Store desk.old s → StandsFor S.Store desk.new s }
+    ensures crash { WritesNothing S.Store desk.old desk.new }
+{
+    match reading {
+        Reading::Export(name) => run_export(desk, name, out),
+        Reading::Search(search) => run_search(alloc, desk, search, out),
+        Reading::Count(count) => run_count(alloc, desk, count, out),
+    }
+}
+
+/// Makes the call of a line, if it makes one, and gives the exit status.
+fn run_called<S: Alter, W: Sink>(
+    alloc: Global,
+    call: Option<DeskCall<'_>>,
+    desk: &mut Desk<S>,
+    out: &mut W,
+) -> u8
+    ensures called { HasCleanDisk (state S.Store desk.new.conn) → (s : Machine) → StandsFor S.Store desk.old s → IsCalled S.Store desk.old.limits s (option_map call_by call.entry) desk.new (W.held out.old) (W.held out.new) (W.IsRefusal out.new) result }
+    ensures crash { IsCallSafe S.Store (option_map call_by call.entry) desk.old desk.new }
+{
+    match call {
+        Some(call) => run_call(alloc, call, desk, out),
+        None => tb_desk::put_reply(out, "refused usage\n", 2),
+    }
+}
+
+/// Does a line with its body on a desk, puts its answer, and gives the exit status.
+fn do_line<S: Alter, W: Sink>(
+    alloc: Global,
+    line: &Line,
+    body: &[u8],
+    desk: &mut Desk<S>,
+    out: &mut W,
+) -> u8
+    ensures done { HasCleanDisk (state S.Store desk.new.conn) → (s : Machine) → StandsFor S.Store desk.old s → IsDone S.Store desk.old.limits s (reading_in (said_by line.now)) (call_in (said_by line.now) body.now) desk.new (W.held out.old) (W.held out.new) (W.IsRefusal out.new) result }
+    ensures crash { IsDoneSafe S.Store (reading_in (said_by line.now)) (call_in (said_by line.now) body.now) desk.old desk.new }
+{
+    match reading_of(line) {
+        Some(reading) => run_reading(alloc, reading, desk, out),
+        None => run_called(alloc, DeskCall::of_line(line, body), desk, out),
+    }
+}
+
+/// Does a line on a desk where its body came, else tells why it did not. Puts the answer, and gives the exit status: 0 done,
+/// 1 refused, 2 where the line is one that is not for a desk (`check`, `new`, `migrate`, `serve`), 3 where memory, the device
+/// or the sink failed.
+pub fn run_line<S: Alter, W: Sink>(
+    alloc: Global,
+    line: &Line,
+    body: Result<Vec<u8>, Reply>,
+    desk: &mut Desk<S>,
+    out: &mut W,
+) -> u8
+    ensures ran { HasCleanDisk (state S.Store desk.new.conn) → (s : Machine) → StandsFor S.Store desk.old s → MatchResult body (λ v. IsRan S.Store desk.old.limits s (said_by line.now) (Taken v.items) desk.new (W.held out.old) (W.held out.new) (W.IsRefusal out.new) result) (λ r. IsRan S.Store desk.old.limits s (said_by line.now) (Untaken r) desk.new (W.held out.old) (W.held out.new) (W.IsRefusal out.new) result) }
+    ensures crash { MatchResult body (λ v. IsLineSafe S.Store (said_by line.now) (Taken v.items) desk.old desk.new) (λ r. IsLineSafe S.Store (said_by line.now) (Untaken r) desk.old desk.new) }
+{
+    match body {
+        Ok(body) => do_line(alloc, line, body.as_slice(), desk, out),
+        Err(reply) => put_reply(out, reply),
+    }
+}
+
+/// Takes the body of a line from a reader, and does the line with it on a desk: [`read_body`], and then [`run_line`]. Gives the
+/// exit status.
+pub fn run_line_from<S: Alter, R: Read, W: Sink>(
+    alloc: Global,
+    line: &Line,
+    reader: &mut R,
+    desk: &mut Desk<S>,
+    out: &mut W,
+) -> u8
+    ensures ran { HasCleanDisk (state S.Store desk.new.conn) → (s : Machine) → StandsFor S.Store desk.old s → IfSome (R.remaining reader.old) (λ input. IsRunFrom S.Store desk.old.limits s FILE_LIMIT (said_by line.now) input desk.new (W.held out.old) (W.held out.new) (W.IsRefusal out.new) result) }
+    ensures crash { IfSome (R.remaining reader.old) (λ input. IsRunSafe S.Store FILE_LIMIT (said_by line.now) input desk.old desk.new) }
+{
+    let body = read_body(alloc, line, reader);
+    run_line(alloc, line, body, desk, out)
+}

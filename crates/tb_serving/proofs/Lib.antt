@@ -1,4 +1,0 @@
-mod Chained
-mod Surviving
-mod Rounds
-mod InMemory

@@ -1,4 +1,0 @@
-pub mod Bodies
-pub mod Ran
-pub mod Served
-pub mod Turns
