@@ -3,7 +3,7 @@
 
 use std::env;
 use std::fs::File;
-use std::io::{self, BufWriter, ErrorKind, IsTerminal, Write};
+use std::io::{self, BufWriter, ErrorKind, IsTerminal, Read, Write};
 use std::process::ExitCode;
 use tb_desk::put_reply;
 use tb_program::run_words;
@@ -26,27 +26,32 @@ fn hold_streams(rt: &HostRuntime) -> [io::Result<File>; 3] {
     ]
 }
 
-/// Whether the words ask for a command that reads standard input, and not for its help.
-fn asks_for_input(words: &[String]) -> bool {
-    let reads = |word: &str| word == "check" || word == "import" || word == "correct";
-    let helps = |word: &str| word == "--help" || word == "-h";
-    words.get(1).is_some_and(|word| reads(word.as_str()))
-        && !words.iter().any(|word| helps(word.as_str()))
+/// Standard input. Whoever types it is told that it is being read, at the first read; where that cannot be told, nothing is lost.
+#[derive(Drop)]
+struct Typed<'a> {
+    rt: &'a HostRuntime,
+    was_read: bool,
 }
 
-/// Tells whoever types the input that it is being read. Where that cannot be told, nothing is lost.
-fn tell_that_it_reads(rt: &HostRuntime, words: &[String]) {
-    if asks_for_input(words) && rt.stdin().is_terminal() {
-        let _told = eprintln!(rt; "treedesk: reads standard input; Ctrl-D ends it");
+impl Read for Typed<'_> {
+    fn read(&mut self, buf: &mut [u8]) -> io::Result<usize> {
+        if !self.was_read && self.rt.stdin().is_terminal() {
+            let _told = eprintln!(self.rt; "treedesk: reads standard input; Ctrl-D ends it");
+        }
+        self.was_read = true;
+        self.rt.stdin().read(buf)
     }
 }
 
 /// Does what the words ask on standard input and output, and gives the exit status.
 fn run(rt: &HostRuntime) -> io::Result<u8> {
     let words = words(rt)?;
-    tell_that_it_reads(rt, words.as_slice());
     let mut out = BufWriter::with_capacity(rt.alloc(), BUFFER, rt.stdout())?;
-    let status = run_words(rt, &words, &mut rt.stdin(), &mut out);
+    let mut input = Typed {
+        rt,
+        was_read: false,
+    };
+    let status = run_words(rt, &words, &mut input, &mut out);
     Ok(if out.flush().is_ok() { status } else { 3 })
 }
 
