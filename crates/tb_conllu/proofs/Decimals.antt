@@ -11,8 +11,9 @@ use Rattle.std.proofs.lemmas.Fmt.{decimal_is_IsNumeral, length-decimal-le, first
 use Rattle.std.proofs.lemmas.Str.Parse.{IsNumeralModel}
 use Rattle.std.proofs.lemmas.Int.Digits.{digits_value-lt, digits_value_more}
 use Rattle.std.proofs.Math.Nat.{pow-le-pow_right}
+use Rattle.tb_chars.specs.Digits.{is_digit}
 use Rattle.tb_conllu.specs.Shape.{IsShort}
-use Rattle.tb_conllu.specs.Lines.{is_number, is_positive, is_digit, is_empty, is_comment}
+use Rattle.tb_conllu.specs.Lines.{is_number, is_positive, is_empty, is_comment}
 
 digit_is : (c : ℕ) → digit_value c < 10 → is_digit c ≡ true
 digit_is c h = grind (arith, nat_tests)

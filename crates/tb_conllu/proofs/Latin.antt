@@ -15,7 +15,7 @@ use Rattle.unicode_normalization.proofs.OrderLemmas.{is_ordered-nil, is_ordered-
 use Rattle.unicode_normalization.proofs.TableFacts.{is_yes}
 use Rattle.tb_conllu.specs.Plain.{is_beyond_latin}
 use Rattle.tb_conllu.specs.Lines.{is_nfc_text}
-use Rattle.tb_conllu.proofs.FirstBytes.{one, two, three, four, first_fails}
+use Rattle.tb_chars.proofs.FirstBytes.{one, two, three, four, first_fails}
 use lib.Utf8.{encode, encodes}
 
 low : (b : ℕ) → is_beyond_latin b ≡ false → b < 204

@@ -15,8 +15,6 @@ pub mod MarkedBytes
 pub mod IdTexts
 pub mod Splits
 pub mod RowCodes
-pub mod FirstBytes
-pub mod Whites
 pub mod TextCodes
 pub mod Latin
 pub mod Steps

@@ -3,9 +3,10 @@ use Rattle.std.proofs.Common.{◌≡◌, ℕ, ◌<◌, List, [], ◌∷◌, leng
 use Rattle.std.specs.Prelude.{slice_index_or, IfSome}
 use Rattle.std.specs.List.{list_any, AllByRecursion, join_with_byte}
 use Rattle.std.proofs.lemmas.Bool.{or_parts, cond-true, cond-false}
+use Rattle.tb_chars.specs.Spaces.{has_space}
 use Rattle.tb_conllu.specs.declared.id.LineId.{LineId}
 use Rattle.tb_conllu.specs.Text.{RowText, fields_of, id_text, head_text}
-use Rattle.tb_conllu.specs.Shape.{IsLineText, IsFieldText, IsTightText, IsRowShaped, IsIdShaped, IsShort, has_space}
+use Rattle.tb_conllu.specs.Shape.{IsLineText, IsFieldText, IsTightText, IsRowShaped, IsIdShaped, IsShort}
 use Rattle.tb_conllu.specs.Lines.{fields, field, is_id, is_head, is_empty, has_ten_fields, has_spaced_field, word_code}
 use Rattle.tb_conllu.proofs.Parts.{HasNoTab, fields_lack, fields_text, join_split}
 

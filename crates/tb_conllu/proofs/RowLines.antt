@@ -12,11 +12,13 @@ use Rattle.std.proofs.lemmas.Str.Ascii.{IsAscii-nil, IsAscii-cons, All-from_asci
 use Rattle.std.proofs.lemmas.List.Folds.{list_all-append}
 use Rattle.unicode_normalization.specs.Forms.{IsInForm, Nfc}
 use Rattle.unicode_normalization.proofs.FormsLemmas.{normalize-ascii, is_in_form_from}
+use Rattle.tb_chars.specs.Spaces.{has_space}
+use Rattle.tb_chars.specs.Digits.{is_digit}
 use Rattle.tb_conllu.specs.declared.id.LineId.{LineId}
 use Rattle.tb_conllu.specs.declared.id.LineId.TheVariants.{Word, Span, Empty}
 use Rattle.tb_conllu.specs.Text.{RowText, row_line, fields_of, id_text, head_text}
-use Rattle.tb_conllu.specs.Shape.{IsRowShaped, IsLineText, IsFieldText, IsTightText, IsIdShaped, IsCommentText, IsShort, is_control, is_tab, has_space}
-use Rattle.tb_conllu.specs.Lines.{line_code, word_code, came_after, is_nfc_text, is_number, is_positive, are_two, is_id, is_head, is_digit, is_empty, is_comment, fields, field, has_ten_fields, has_spaced_field}
+use Rattle.tb_conllu.specs.Shape.{IsRowShaped, IsLineText, IsFieldText, IsTightText, IsIdShaped, IsCommentText, IsShort, is_control, is_tab}
+use Rattle.tb_conllu.specs.Lines.{line_code, word_code, came_after, is_nfc_text, is_number, is_positive, are_two, is_id, is_head, is_empty, is_comment, fields, field, has_ten_fields, has_spaced_field}
 use Rattle.tb_conllu.specs.Told.{IsLine}
 use Rattle.tb_conllu.proofs.Cuts.{Lacks}
 use Rattle.tb_conllu.proofs.Parts.{HasNoTab, split_at, split_last, split_join, line_from_parts}

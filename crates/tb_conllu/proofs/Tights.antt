@@ -3,11 +3,12 @@ use Rattle.std.proofs.Common.{◌≡◌, ℕ, List, [], ◌∷◌, Bool, true, f
 use Rattle.std.specs.List.{list_any, AllByRecursion, onto_first}
 use Rattle.std.specs.Str.{IsUtf8}
 use Rattle.std.proofs.lemmas.Bool.{or_parts, or_from, cond-true, cond-false, cases_Bool}
+use Rattle.tb_chars.specs.Spaces.{begins_white, has_space}
 use Rattle.tb_conllu.specs.Lines.{fields}
-use Rattle.tb_conllu.specs.Plain.{begins_white, is_loose}
-use Rattle.tb_conllu.specs.Shape.{is_tab, has_space}
+use Rattle.tb_conllu.specs.Plain.{is_loose}
+use Rattle.tb_conllu.specs.Shape.{is_tab}
 use Rattle.tb_conllu.proofs.Parts.{fields_utf8}
-use Rattle.tb_conllu.proofs.Whites.{spaceless}
+use Rattle.tb_chars.proofs.Whites.{spaceless}
 
 abbrev IsPlain : List ℕ → Type 0
 IsPlain f = list_any begins_white f ≡ false

@@ -5,7 +5,9 @@ use Rattle.std.specs.Prelude.{ℕ, List, [], ◌∷◌, length, take, Bool, true
 use Rattle.std.specs.List.{list_any, list_all, slice_split}
 use Rattle.std.specs.Str.{is_utf8}
 use Rattle.unicode_normalization.specs.Forms.{nfc}
-use Rattle.tb_conllu.specs.Shape.{is_control, is_tab, has_space}
+use Rattle.tb_chars.specs.Spaces.{has_space}
+use Rattle.tb_chars.specs.Digits.{is_digit}
+use Rattle.tb_conllu.specs.Shape.{is_control, is_tab}
 
 abbrev pub is_nfc_text : List ℕ → Bool
 is_nfc_text bs = bytes_eq (nfc (chars bs)) (chars bs)
@@ -27,9 +29,6 @@ field k line = slice_index_or (fields line) k []
 
 abbrev pub has_ten_fields : List ℕ → Bool
 has_ten_fields line = length (fields line) == 10 && not (list_any is_empty (fields line))
-
-abbrev pub is_digit : ℕ → Bool
-is_digit b = nat_le 48 b && nat_le b 57
 
 -- `0`, or one to six digits of which the first isn't `0`
 abbrev pub is_number : List ℕ → Bool

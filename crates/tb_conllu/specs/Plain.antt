@@ -1,16 +1,12 @@
 -- Bytes that need a second look.
 use Rattle.std.specs.Prelude.{ℕ, Bool, ◌||◌, ◌&&◌, not, nat_le, nat_lt, ◌==◌}
-
--- a byte that white space may begin with: a space or a control character, the first byte of U+0080 to U+00BF, or one
--- of U+1000 to U+3FFF
-abbrev pub begins_white : ℕ → Bool
-begins_white b = nat_le b 32 || b == 194 || (nat_le 225 b && nat_le b 227)
+use Rattle.tb_chars.specs.Spaces.{begins_white}
 
 -- the first byte of a character from U+0300 on; those below are starters that NFC leaves as they are
 abbrev pub is_beyond_latin : ℕ → Bool
 is_beyond_latin b = nat_le 204 b
 
--- the same, tabs aside
+-- a byte that white space may begin with, tabs aside
 abbrev pub is_loose : ℕ → Bool
 is_loose b = begins_white b && not (b == 9)
 

@@ -4,7 +4,7 @@
 use Rattle.std.specs.Prelude.{◌≡◌, ℕ, ◌<◌, ◌≤◌, List, [], ◌∷◌, length, take, IfSome, Bool, false, ◌&&◌, not, nat_lt, ◌==◌, chars}
 use Rattle.std.specs.List.{AllByRecursion, list_any}
 use Rattle.std.specs.Str.{IsUtf8}
-use Rattle.std.specs.Char.{is_whitespace}
+use Rattle.tb_chars.specs.Spaces.{has_space}
 use Rattle.unicode_normalization.specs.Forms.{IsInForm, Nfc}
 use Rattle.tb_conllu.specs.declared.id.LineId.{LineId}
 use Rattle.tb_conllu.specs.declared.id.LineId.TheVariants.{Word, Span, Empty}
@@ -16,10 +16,6 @@ is_control b = nat_lt b 32 && not (b == 9)
 
 abbrev pub is_tab : ℕ → Bool
 is_tab b = b == 9
-
--- some character of the text is white space
-abbrev pub has_space : List ℕ → Bool
-has_space bs = list_any is_whitespace (chars bs)
 
 -- a text that may stand in a line
 pub record IsLineText (bs : List ℕ) : Type 0 where

@@ -1,21 +1,16 @@
 //! Numbers of one to six digits, without leading zeros.
 
 ghost use Rattle.std.specs.Prelude.{◌≡◌, ◌<◌, ◌≤◌, ℕ, MatchOption, false, true};
-ghost use Rattle.std.specs.List.{list_all};
 ghost use Rattle.std.specs.Fmt.{decimal};
-ghost use Rattle.tb_conllu.specs.Lines.{is_number, is_positive, is_digit};
+ghost use Rattle.tb_conllu.specs.Lines.{is_number, is_positive};
 ghost use Rattle.tb_conllu.specs.Shape.{IsShort};
 
-fn all_digits(text: &[u8]) -> bool
-    ensures { result ≡ list_all is_digit text.now }
-{
-    text.iter().all(|b| 48 <= *b && *b <= 57)
-}
+use tb_chars::are_digits;
 
 fn test_number(text: &[u8]) -> bool
     ensures { result ≡ is_number text.now }
 {
-    if text.is_empty() || text.len() > 6 || !all_digits(text) {
+    if text.is_empty() || text.len() > 6 || !are_digits(text) {
         return false;
     }
     text[0] != 48 || text.len() == 1

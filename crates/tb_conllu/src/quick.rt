@@ -3,8 +3,10 @@
 
 ghost use Rattle.std.specs.Prelude.{◌≡◌, ℕ, List, [], ◌∷◌, ◌++◌, map, take, slice_index, IfOk, IfSome, IsTrue, ◌||◌};
 ghost use Rattle.std.specs.List.{AllByRecursion, join_with_byte, list_any};
-ghost use Rattle.tb_conllu.specs.Lines.{fields, is_digit};
-ghost use Rattle.tb_conllu.specs.Shape.{IsRowShaped, has_space};
+ghost use Rattle.tb_chars.specs.Digits.{is_digit};
+ghost use Rattle.tb_chars.specs.Spaces.{has_space};
+ghost use Rattle.tb_conllu.specs.Lines.{fields};
+ghost use Rattle.tb_conllu.specs.Shape.{IsRowShaped};
 ghost use Rattle.tb_conllu.specs.TenFields.{IsParted, list_of};
 ghost use Rattle.tb_conllu.specs.Tested.{HoldsOf};
 ghost use Rattle.tb_conllu.specs.Text.{RowText, ended, row_line};
@@ -19,6 +21,7 @@ use crate::rowline::{any_field_spaced, row_from};
 use crate::rows::{BlockRef, RowRef};
 use crate::spaces::any_wide_near;
 use std::alloc::{AllocError, Global};
+use tb_chars::is_digit_byte;
 
 /// The field that this mark ends; `None` where it is empty, or not ended so.
 #[inline(always)]
@@ -116,7 +119,7 @@ pub fn is_numbered(bytes: &[u8]) -> bool
     ensures { result ≡ list_any is_digit (take 1 bytes.now) }
 {
     match bytes.first() {
-        Some(b) => 48 <= *b && *b <= 57,
+        Some(b) => is_digit_byte(*b),
         None => false,
     }
 }

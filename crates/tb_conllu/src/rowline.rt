@@ -1,8 +1,9 @@
 //! The row of a word line.
 
 ghost use Rattle.std.specs.Prelude.{◌≡◌, ◌<◌, IfOk, IfErr, ◌||◌};
+ghost use Rattle.tb_chars.specs.Spaces.{has_space};
 ghost use Rattle.tb_conllu.specs.Lines.{fields, word_code};
-ghost use Rattle.tb_conllu.specs.Shape.{has_space, IsLineText, IsRowShaped};
+ghost use Rattle.tb_conllu.specs.Shape.{IsLineText, IsRowShaped};
 ghost use Rattle.tb_conllu.specs.TenFields.{list_of};
 ghost use Rattle.tb_conllu.specs.Text.{row_line};
 
@@ -10,17 +11,18 @@ use crate::fields::{TenFields, ten_fields};
 use crate::id::LineId;
 use crate::ids::{head_of, id_of};
 use crate::rows::{RowOf, RowRef};
-use crate::spaces::{any_loose, spaced};
+use crate::spaces::any_loose;
+use tb_chars::has_white_space;
 
 pub fn any_field_spaced(p: TenFields<'_>) -> bool
     ensures { result ≡ (has_space p.entry.upos.now || has_space p.entry.xpos.now || has_space p.entry.feats.now || has_space p.entry.head.now || has_space p.entry.deprel.now || has_space p.entry.deps.now) }
 {
-    spaced(p.upos)
-        || spaced(p.xpos)
-        || spaced(p.feats)
-        || spaced(p.head)
-        || spaced(p.deprel)
-        || spaced(p.deps)
+    has_white_space(p.upos)
+        || has_white_space(p.xpos)
+        || has_white_space(p.feats)
+        || has_white_space(p.head)
+        || has_white_space(p.deprel)
+        || has_white_space(p.deps)
 }
 
 /// Whether one of the fields that may hold no white space has some.

@@ -3,10 +3,8 @@
 use crate::cases::{Question, assert_answers};
 use std::alloc::Global;
 use std::test::Fail;
-use tb_fields::{
-    has_white_space, is_blank_field, is_feature_list, is_relation_text, is_solid_text, is_tag,
-    relation_base,
-};
+use tb_chars::{has_white_space, is_solid_text};
+use tb_fields::{is_blank_field, is_feature_list, is_relation_text, is_tag, relation_base};
 
 /// What is asked of a field.
 enum FieldQuestion {

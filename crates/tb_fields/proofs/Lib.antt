@@ -3,4 +3,3 @@ pub mod Parts
 pub mod Relations
 pub mod Twice
 pub mod Ascents
-pub mod Whites

@@ -7,6 +7,7 @@
 use Rattle.std.specs.Prelude.{ℕ, List, [], ◌∷◌, length, map, Bool, true, false, ◌&&◌, ◌||◌, not, nat_lt, nat_le, ◌==◌, bytes_eq}
 use Rattle.std.specs.Char.{to_ascii_lowercase}
 use Rattle.std.specs.List.{list_any, list_all, before_first, after_first, slice_split}
+use Rattle.tb_chars.specs.Digits.{is_digit}
 use Rattle.tb_fields.specs.Blank.{is_blank}
 
 abbrev pub is_equals : ℕ → Bool
@@ -23,9 +24,6 @@ is_opening b = b == 91
 
 abbrev pub is_closing : ℕ → Bool
 is_closing b = b == 93
-
-abbrev pub is_digit : ℕ → Bool
-is_digit b = nat_le 48 b && nat_le b 57
 
 abbrev pub is_capital : ℕ → Bool
 is_capital b = nat_le 65 b && nat_le b 90

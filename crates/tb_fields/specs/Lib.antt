@@ -1,5 +1,4 @@
 pub mod Blank
-pub mod Spaces
 pub mod Tags
 pub mod Relations
 pub mod Feats

@@ -2,7 +2,7 @@
 -- UD v2 guidelines, "Universal Dependency Relations": a relation may have a subtype behind a colon.
 use Rattle.std.specs.Prelude.{ℕ, List, Bool, ◌&&◌, ◌||◌, not, ◌==◌, bytes_eq, codes}
 use Rattle.std.specs.List.{list_any, before_first, after_first}
-use Rattle.tb_fields.specs.Spaces.{is_solid}
+use Rattle.tb_chars.specs.Spaces.{is_solid}
 
 -- relations of a clause or a phrase to its head: acl to csubj
 abbrev pub is_relation_a_to_c : List ℕ → Bool

@@ -1,7 +1,7 @@
 ghost use Rattle.std.specs.Prelude.{◌≡◌};
 ghost use Rattle.tb_fields.specs.Relations.{is_relation_a_to_c, is_relation_d_to_m, is_relation_n_to_x, is_universal_relation, universal_part, is_relation};
 
-use crate::space::is_solid_text;
+use tb_chars::is_solid_text;
 
 fn is_a_to_c(text: &str) -> bool
     ensures { result ≡ is_relation_a_to_c text.now }

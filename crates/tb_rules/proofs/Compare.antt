@@ -10,8 +10,8 @@ use Rattle.std.proofs.lemmas.List.{append_cancel_left, append-nil}
 use Rattle.std.proofs.lemmas.Str.{encode_ascii, encodes-append, encodes-chars, chars-append, chars_past_char, IsUtf8-take, IsUtf8-drop, IsCharBoundary-before_ascii}
 use borrow.Author.Tests.{ltb-true}
 use lib.Utf8.{encode, encodes}
-use Rattle.tb_conllu.specs.Shape.{has_space}
-use Rattle.tb_fields.specs.Spaces.{is_solid}
+use Rattle.tb_chars.specs.Spaces.{has_space}
+use Rattle.tb_chars.specs.Spaces.{is_solid}
 use Rattle.tb_rules.specs.Restored.{folded}
 use Rattle.tb_rules.specs.Expected.{folded_after, gap_text, IsRest, Refuses, Leaves}
 use Rattle.tb_rules.proofs.Pieces.{folds}

@@ -13,9 +13,9 @@ use Rattle.std.proofs.lemmas.List.Folds.{list_all_at}
 use Rattle.std.proofs.lemmas.Int.Digits.{digits_value-lt, digits_value_more}
 use Rattle.std.proofs.Math.Nat.{pow-le-pow_right}
 use Rattle.tb_conllu.specs.Text.{RowText}
-use Rattle.tb_fields.specs.Feats.{is_digit}
+use Rattle.tb_chars.specs.Digits.{is_digit}
 use Rattle.tb_fields.specs.Relations.{is_colon}
-use Rattle.tb_fields.specs.Spaces.{is_solid}
+use Rattle.tb_chars.specs.Spaces.{is_solid}
 use Rattle.tb_fields.proofs.Places.{list_any-from_no_place, list_any-from_place}
 use Rattle.tb_fields.proofs.Parts.{and_true, two_tests}
 use Rattle.tb_rules.specs.Places.{value_of, number_of, is_dot, place_of, word_place, is_place_there, is_placed_pair, place_precedes, places_ascend, are_placed_pairs}

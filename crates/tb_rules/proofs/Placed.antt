@@ -11,7 +11,7 @@ use Rattle.tb_conllu.specs.Words.{is_word}
 use Rattle.tb_fields.specs.Blank.{is_blank}
 use Rattle.tb_fields.specs.Feats.{is_bar}
 use Rattle.tb_fields.specs.Relations.{is_colon}
-use Rattle.tb_fields.specs.Spaces.{is_solid}
+use Rattle.tb_chars.specs.Spaces.{is_solid}
 use Rattle.tb_rules.specs.Rows.{RowTest, EachRowPasses, IsFirstFault}
 use Rattle.tb_rules.specs.Ids.{is_node_after, is_next_id, is_in_place}
 use Rattle.tb_rules.specs.Named.{is_word_numbered, is_node_numbered}

@@ -13,7 +13,7 @@ use Rattle.std.proofs.lemmas.List.Sums.{position_or_len_is, split_at_first, pass
 use Rattle.std.proofs.lemmas.Slice.Eq.{bytes_eq-Decides}
 use Rattle.tb_conllu.specs.declared.id.LineId.{LineId}
 use Rattle.tb_conllu.specs.declared.id.LineId.TheVariants.{Word, Span, Empty}
-use Rattle.tb_fields.specs.Feats.{is_digit}
+use Rattle.tb_chars.specs.Digits.{is_digit}
 use Rattle.tb_rules.specs.Deps.{is_root_text, is_written}
 use Rattle.tb_rules.specs.Places.{number_of, is_dot, word_place, node_place, place_of}
 use Rattle.tb_rules.proofs.Numerals.{is_numeral, number_of-numeral, numeral-decimal, numeral_digits, decimal-numeral, digits_lack}

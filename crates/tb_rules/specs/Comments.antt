@@ -4,7 +4,7 @@
 -- the key ends at the first `=`.
 use Rattle.std.specs.Prelude.{◌≡◌, ℕ, ◌<◌, List, [], ◌∷◌, length, reverse, Option, Some, None, false, ◌&&◌, bytes_eq, ◌==◌, if◌then◌else◌}
 use Rattle.std.specs.List.{filter_map, list_any, before_first, after_first}
-use Rattle.tb_conllu.specs.Shape.{has_space}
+use Rattle.tb_chars.specs.Spaces.{has_space}
 use Rattle.tb_fields.specs.Feats.{is_equals}
 use Rattle.tb_conllu.specs.Text.{BlockText}
 

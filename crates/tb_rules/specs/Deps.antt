@@ -12,7 +12,7 @@ use Rattle.tb_fields.specs.Feats.{is_bar}
 use Rattle.tb_rules.specs.Rows.{RowTest}
 use Rattle.tb_fields.specs.Blank.{is_blank}
 use Rattle.tb_fields.specs.Relations.{is_colon}
-use Rattle.tb_fields.specs.Spaces.{is_solid}
+use Rattle.tb_chars.specs.Spaces.{is_solid}
 
 -- ---- heads
 

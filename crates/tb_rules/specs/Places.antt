@@ -6,9 +6,10 @@ use Rattle.tb_conllu.specs.declared.id.LineId.{LineId}
 use Rattle.tb_conllu.specs.declared.id.LineId.TheVariants.{Word, Span, Empty}
 use Rattle.tb_conllu.specs.Text.{RowText}
 use Rattle.tb_fields.specs.Blank.{is_blank}
-use Rattle.tb_fields.specs.Feats.{is_bar, is_digit}
+use Rattle.tb_chars.specs.Digits.{is_digit}
+use Rattle.tb_fields.specs.Feats.{is_bar}
 use Rattle.tb_fields.specs.Relations.{is_colon}
-use Rattle.tb_fields.specs.Spaces.{is_solid}
+use Rattle.tb_chars.specs.Spaces.{is_solid}
 use Rattle.tb_rules.specs.Rows.{RowTest}
 use Rattle.tb_rules.specs.Deps.{pair_head}
 use Rattle.tb_rules.specs.Named.{is_word_numbered, is_node_numbered}

@@ -2,8 +2,8 @@ ghost use Rattle.std.specs.Prelude.{◌≡◌, ◌↔◌, IsTrue, map, reverse};
 ghost use Rattle.std.specs.Option.{option_copied};
 ghost use Rattle.tb_rules.specs.Comments.{drop_spaces, trimmed, value_under, values_of, only, sent_ids, texts, HasSentId, HasText};
 
+use tb_chars::has_white_space;
 use tb_conllu::{BlockOf, BlockRef, Text};
-use tb_fields::has_white_space;
 
 const SENT_ID: &str = "sent_id";
 

@@ -1,22 +1,18 @@
 ghost use Rattle.std.specs.Prelude.{◌≡◌, ◌+◌, ◌<◌, ◌≤◌, ◌^◌, length, ◌&&◌, MatchOption, IfOk};
 ghost use Rattle.std.specs.List.{slice_split};
-ghost use Rattle.tb_fields.specs.Spaces.{is_solid};
+ghost use Rattle.tb_chars.specs.Spaces.{is_solid};
 ghost use Rattle.tb_rules.specs.Rows.{EachRowPasses, IsFirstFault};
-ghost use Rattle.tb_fields.specs.Feats.{is_bar, is_digit};
+ghost use Rattle.tb_chars.specs.Digits.{is_digit};
+ghost use Rattle.tb_fields.specs.Feats.{is_bar};
 ghost use Rattle.tb_rules.specs.Named.{AreNumbered};
 ghost use Rattle.tb_rules.specs.Deps.{pair_head, dependency_test};
 ghost use Rattle.tb_rules.specs.Places.{is_plain, value_of, number_of, place_of, word_place, node_place, is_place_there, is_up_to, are_places_in_order, is_placed_pair, place_precedes, are_placed_pairs, is_placed_text, is_placed_dependent, place_test};
 
 use crate::heads::{Heads, head_stands_in, heads_in};
 use std::alloc::{AllocError, Global};
+use tb_chars::{is_digit_byte, is_solid_text};
 use tb_conllu::{LineId, RowOf, Text};
-use tb_fields::{is_blank_field, is_solid_text};
-
-fn is_digit_byte(b: u8) -> bool
-    ensures { result ≡ is_digit b }
-{
-    matches!(b, b'0'..=b'9')
-}
+use tb_fields::is_blank_field;
 
 /// The value of at most 19 digits, which fits 64 bits.
 fn value(bytes: &[u8]) -> Option<usize>

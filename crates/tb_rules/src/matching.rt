@@ -1,7 +1,7 @@
 //! The text that rows spell, compared with a given one as it comes.
 
 ghost use Rattle.std.specs.Prelude.{◌≡◌, ◌≢◌, ◌↔◌, IsTrue, ◌++◌, ◌∷◌, [], ℕ, List, MatchOption, chars, encode_utf8, encode_utf8_all, true, false};
-ghost use Rattle.tb_fields.specs.Spaces.{is_solid};
+ghost use Rattle.tb_chars.specs.Spaces.{is_solid};
 ghost use Rattle.tb_rules.specs.Leading.{RangesLead, is_token_after};
 ghost use Rattle.tb_rules.specs.Expected.{gap_text, Refuses, Leaves};
 ghost use Rattle.tb_rules.specs.Restored.{is_token_id, form_and_space, token_text, text_of_rows, folded};
@@ -9,8 +9,8 @@ ghost use Rattle.tb_rules.specs.Restored.{is_token_id, form_and_space, token_tex
 use crate::covering::{comes_out, ranges_lead};
 use crate::spans::end_of;
 use crate::spelling::has_no_space;
+use tb_chars::is_solid_text;
 use tb_conllu::{RowOf, Text};
-use tb_fields::is_solid_text;
 
 /// What is left of a text whose white space is folded, whether a character of it came, and whether white space came
 /// since.

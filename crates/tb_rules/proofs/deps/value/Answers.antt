@@ -1,7 +1,7 @@
 use Rattle.std.proofs.Common.{ℕ, ◌+◌, ◌-◌, ◌*◌, get_or, sym, ap, refl, ◌∙◌, arith}
 use Rattle.std.proofs.lemmas.Bool.{and_from}
 use Rattle.std.proofs.lemmas.List.Folds.{list_all_more}
-use Rattle.tb_fields.specs.Feats.{is_digit}
+use Rattle.tb_chars.specs.Digits.{is_digit}
 use Rattle.tb_rules.proofs.Numerals.{value_of-no_digit, value_of-whole, value_room, value_step}
 use Rattle.tb_rules.proofs.deps.value.Goals as goal
 

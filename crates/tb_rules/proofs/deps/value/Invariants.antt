@@ -1,7 +1,7 @@
 use Rattle.std.proofs.Common.{◌≡◌, take, true}
 use Rattle.std.specs.List.{list_all}
 use Rattle.std.specs.Str.Parse.{digits_value}
-use Rattle.tb_fields.specs.Feats.{is_digit}
+use Rattle.tb_chars.specs.Digits.{is_digit}
 use Rattle.tb_rules.proofs.deps.value.Given as goal
 
 abbrev pub invariant-loop-b : goal.invariant-loop-b

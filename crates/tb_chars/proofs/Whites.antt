@@ -1,24 +1,15 @@
 -- A character of white space begins with one of a few bytes.
-use Rattle.std.proofs.Common.{◌≡◌, ℕ, ◌+◌, ◌<◌, ◌≤◌, ◌/◌, List, [], ◌∷◌, true, false, refl, sym, ◌∙◌, ap, arith, ◌⊎◌, inl, inr}
+use Rattle.std.proofs.Common.{◌≡◌, ℕ, ◌+◌, ◌<◌, ◌≤◌, ◌/◌, List, [], ◌∷◌, false, refl, sym, ◌∙◌, ap, arith, ◌⊎◌, inl, inr}
 use Rattle.std.specs.List.{list_any}
 use Rattle.std.specs.Str.{IsUtf8, chars}
 use Rattle.std.specs.Char.{is_whitespace}
-use Rattle.std.proofs.lemmas.Bool.{or_parts, or_from, cond-true, cond-false, cases_lt}
+use Rattle.std.proofs.lemmas.Bool.{or_parts, or_from, cases_lt}
 use Rattle.std.proofs.lemmas.Bool.Decides.{nat_tests}
 use Rattle.std.proofs.lemmas.List.Folds.{list_any-append}
 use Rattle.std.proofs.lemmas.Str.{encodes-chars}
-use Rattle.tb_fields.specs.Spaces.{begins_white, has_space}
-use lib.Utf8.{encode, encodes, next}
-use lib.Dec.{ltb}
-
-not_below : (c n : ℕ) → n ≤ c → ltb c n ≡ false
-not_below c n h = grind (arith, nat_tests)
-
-below : (c n : ℕ) → c < n → ltb c n ≡ true
-below c n h = grind (arith, nat_tests)
-
-first_byte : (b : ℕ) (bs : List ℕ) → list_any begins_white (b ∷ bs) ≡ false → begins_white b ≡ false
-first_byte b bs h = (or_parts (begins_white b) _ h).0
+use Rattle.tb_chars.specs.Spaces.{begins_white, has_space}
+use Rattle.tb_chars.proofs.FirstBytes.{one, two, three, four, first_fails}
+use lib.Utf8.{encode, encodes}
 
 of_one : (c : ℕ) → c < 128 → begins_white c ≡ false → is_whitespace c ≡ false
 of_one c l h = grind (arith, nat_tests)
@@ -27,7 +18,7 @@ not_194 : (q : ℕ) → begins_white (192 + q) ≡ false → (q < 2) ⊎ (3 ≤ 
 not_194 q h = elim (cases_lt q 2) [
   | inl low ↦ inl low
   | inr up ↦ elim (cases_lt q 3) [
-    | inl two ↦ absurd (grind (arith, nat_tests))
+    | inl equal ↦ absurd (grind (arith, nat_tests))
     | inr high ↦ inr high
   ]
 ]
@@ -56,26 +47,11 @@ of_four : (c : ℕ) → 65536 ≤ c → is_whitespace c ≡ false
 of_four c l = grind (arith, nat_tests)
 
 one_char : (c : ℕ) → list_any begins_white (encode c) ≡ false → is_whitespace c ≡ false
-unfolding encode
-one_char c h = elim (cases_lt c 128) [
-  | inl small ↦
-      let e = cond-true (ltb c 128) _ _ (below c 128 small) in
-      of_one c small (first_byte c [] (sym (ap (list_any begins_white) e) ∙ h))
-  | inr great ↦
-      let two = cond-false (ltb c 128) _ _ (not_below c 128 great) in
-      elim (cases_lt c 2048) [
-        | inl short ↦
-            let e = two ∙ cond-true (ltb c 2048) _ _ (below c 2048 short) in
-            of_two c (c / 64) refl great short (first_byte (192 + c / 64) (next c ∷ []) (sym (ap (list_any begins_white) e) ∙ h))
-        | inr long ↦
-            let three = two ∙ cond-false (ltb c 2048) _ _ (not_below c 2048 long) in
-            elim (cases_lt c 65536) [
-              | inl mid ↦
-                  let e = three ∙ cond-true (ltb c 65536) _ _ (below c 65536 mid) in
-                  of_three c (c / 4096) refl long mid (first_byte (224 + c / 4096) (next (c / 64) ∷ next c ∷ []) (sym (ap (list_any begins_white) e) ∙ h))
-              | inr far ↦ of_four c far
-            ]
-      ]
+one_char c h = elim (first_fails begins_white c h) [
+  | one small f ↦ of_one c small f
+  | two great short f ↦ of_two c (c / 64) refl great short f
+  | three long mid f ↦ of_three c (c / 4096) refl long mid f
+  | four far f ↦ of_four c far
 ]
 
 no_white : (cs : List ℕ) → list_any begins_white (encodes cs) ≡ false → list_any is_whitespace cs ≡ false

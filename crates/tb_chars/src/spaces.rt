@@ -1,22 +1,30 @@
+//! White space, which is Unicode's `White_Space`.
+
 ghost use Rattle.std.specs.Prelude.{◌≡◌};
 ghost use Rattle.std.specs.List.{list_any};
-ghost use Rattle.tb_fields.specs.Spaces.{has_space, begins_white, is_solid};
+ghost use Rattle.tb_chars.specs.Spaces.{begins_white, has_space, is_solid};
 
 /// Whether white space may begin with the byte.
-fn may_begin_white(b: u8) -> bool
+#[inline(always)]
+pub fn may_begin_white(b: u8) -> bool
     ensures { result ≡ begins_white b }
 {
     matches!(b, 0..=32 | 194 | 225..=227)
 }
 
-/// Whether some byte may begin white space. In most texts none does, so they need no second look.
+/// Whether some byte may begin white space. In most texts none does, so they need no second look. All bytes are looked at, since
+/// many at a time are faster than a stop at the first.
 fn any_white_start(bytes: &[u8]) -> bool
     ensures { result ≡ list_any begins_white bytes.now }
 {
-    bytes.iter().any(|b| may_begin_white(*b))
+    let mut white = false;
+    for b in bytes {
+        white |= may_begin_white(*b);
+    }
+    white
 }
 
-/// Whether some character of the text is white space (Unicode's `White_Space`).
+/// Whether some character of the text is white space.
 pub fn has_white_space(text: &str) -> bool
     ensures { result ≡ has_space text.now }
 {

@@ -1,0 +1,5 @@
+-- ASCII digits: the CoNLL-U format page writes IDs and heads by them, and features hold no others.
+use Rattle.std.specs.Prelude.{ℕ, Bool, ◌&&◌, nat_le}
+
+abbrev pub is_digit : ℕ → Bool
+is_digit b = nat_le 48 b && nat_le b 57
