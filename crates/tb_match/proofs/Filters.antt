@@ -5,7 +5,7 @@ use Rattle.std.specs.List.{AllPairs, Contains}
 use Rattle.tb_match.specs.declared.strategy.Strategy.{Strategy}
 use Rattle.tb_match.specs.declared.strategy.Strategy.TheVariants.{Shortest, Longest, Every}
 use Rattle.tb_match.specs.Hits.{ComesBefore, IsHit, IsFound, IsWord, AreHits}
-use Rattle.tb_match.specs.declared.pattern.Pat.{Tok}
+use Rattle.tb_match.specs.Trees.{tok}
 use Rattle.tb_match.specs.Facts.{Facts, Holds}
 use Rattle.tb_match.proofs.Ordered.{none_in_empty, push_ascending, cons_ascending, Contains-pushed, Contains-cons}
 
@@ -282,7 +282,7 @@ words_are_hits t e Shortest i j = (λ r. (r, λ k l x (a, b, other). other (omeg
 words_are_hits t e Longest i j = (λ r. (r, λ k l x (a, b, other). other (omega (arith, r.0, x.0), omega (arith, r.0, x.0))), λ h. h.0)
 words_are_hits t e Every i j = (λ r. r, λ h. h)
 
-pub words_are_found : (t : Facts) (e i j : ℕ) → IsWord t e i j ↔ IsFound t (Tok e) i j
+pub words_are_found : (t : Facts) (e i j : ℕ) → IsWord t e i j ↔ IsFound t (tok e) i j
 words_are_found t e i j = (λ r. (omega (arith, r.0), r.1.1, r), λ f. f.2)
 
 -- where a relation holds nowhere, there is no hit

@@ -2,14 +2,14 @@
 -- and Query Language Manual", on the matching strategy), as relations between all matches of a sentence.
 use Rattle.std.specs.Prelude.{◌≡◌, ℕ, ◌+◌, ◌<◌, ◌≤◌, ◌⊎◌, ◌↔◌, List}
 use Rattle.std.specs.List.{AllPairs, Contains}
-use Rattle.tb_match.specs.declared.pattern.Pat.{Pat}
 use Rattle.tb_match.specs.declared.strategy.Strategy.{Strategy}
 use Rattle.tb_match.specs.declared.strategy.Strategy.TheVariants.{Shortest, Longest, Every}
 use Rattle.tb_match.specs.Match.{Match}
 use Rattle.tb_match.specs.Facts.{Facts, Holds}
+use Rattle.tb_match.specs.Trees.{Tree}
 
 -- a match that has a word
-abbrev pub IsFound : Facts → Pat → ℕ → ℕ → Type 0
+abbrev pub IsFound : Facts → Tree → ℕ → ℕ → Type 0
 IsFound t p i j = (i < j) × (j ≤ t.words) × Match (Holds t) p i j
 
 -- the piece from i to j is one word, and the expression holds of it
@@ -38,5 +38,5 @@ AreHits s R hits = AllPairs ComesBefore hits × ((i j : ℕ) → Contains hits (
 -- the hits of a pattern in a sentence are one list
 abbrev pub HitsAreOneList : Type 0
 HitsAreOneList =
-    (s : Strategy) (t : Facts) (p : Pat) (xs ys : List (ℕ × ℕ)) →
+    (s : Strategy) (t : Facts) (p : Tree) (xs ys : List (ℕ × ℕ)) →
     AreHits s (IsFound t p) xs → AreHits s (IsFound t p) ys → xs ≡ ys

@@ -1,6 +1,6 @@
 pub mod Bits
 pub mod Hits
 pub mod Match
-pub mod Parts
+pub mod Trees
 pub mod Facts
 pub mod Weight

@@ -3,7 +3,7 @@
 -- of words), said as a relation. Place i stands after the first i words, and so the piece from i to j
 -- has the words i + 1 to j.
 use Rattle.std.specs.Prelude.{◌≡◌, ℕ, zero, suc, ◌+◌, ◌≤◌, ◌⊎◌, Option, Some, None}
-use Rattle.tb_match.specs.declared.pattern.Pat.{Pat, Tok, Cat', Alt', Rep', Row_of-Pat, end_of-Pat, more_of-Pat}
+use Rattle.tb_match.specs.Trees.{Tree, tok, cat, alt, rep, Forest, no_more, and_more}
 
 -- so many links of a relation, one after the other
 abbrev pub Chain : (ℕ → ℕ → Type 0) → ℕ → ℕ → ℕ → Type 0
@@ -18,18 +18,18 @@ IsAtMost k (Some b) = k ≤ b
 -- The first argument says which expression holds of which word.
 abbrev mutual
   -- the pattern matches from place i to place j
-  pub Match : (ℕ → ℕ → Type 0) → Pat → ℕ → ℕ → Type 0
-  Match H (Tok e) i j = (j ≡ i + 1) × H e j
-  Match H (Cat' shape parts) i j = MatchInTurn H parts i j
-  Match H (Alt' shape parts) i j = MatchOne H parts i j
-  Match H (Rep' ptr p a b) i j = (k : ℕ) × (a ≤ k) × IsAtMost k b × Chain (Match H p) k i j
+  pub Match : (ℕ → ℕ → Type 0) → Tree → ℕ → ℕ → Type 0
+  Match H (tok e) i j = (j ≡ i + 1) × H e j
+  Match H (cat parts) i j = EachInTurn H parts i j
+  Match H (alt parts) i j = AnyOf H parts i j
+  Match H (rep t a b) i j = (k : ℕ) × (a ≤ k) × IsAtMost k b × Chain (Match H t) k i j
 
   -- the parts match one after the other, each from where the one before it ended
-  pub MatchInTurn : (ℕ → ℕ → Type 0) → {m : _} → Row_of-Pat m → ℕ → ℕ → Type 0
-  MatchInTurn H end_of-Pat i j = i ≡ j
-  MatchInTurn H (more_of-Pat p rest) i j = (m : ℕ) × Match H p i m × MatchInTurn H rest m j
+  pub EachInTurn : (ℕ → ℕ → Type 0) → Forest → ℕ → ℕ → Type 0
+  EachInTurn H no_more i j = i ≡ j
+  EachInTurn H (and_more t rest) i j = (m : ℕ) × Match H t i m × EachInTurn H rest m j
 
   -- one of the parts matches
-  pub MatchOne : (ℕ → ℕ → Type 0) → {m : _} → Row_of-Pat m → ℕ → ℕ → Type 0
-  MatchOne H end_of-Pat i j = ⊥
-  MatchOne H (more_of-Pat p rest) i j = Match H p i j ⊎ MatchOne H rest i j
+  pub AnyOf : (ℕ → ℕ → Type 0) → Forest → ℕ → ℕ → Type 0
+  AnyOf H no_more i j = ⊥
+  AnyOf H (and_more t rest) i j = Match H t i j ⊎ AnyOf H rest i j

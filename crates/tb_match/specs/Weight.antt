@@ -1,6 +1,6 @@
 -- What a pattern weighs, and which patterns are within the limits.
 use Rattle.std.specs.Prelude.{ℕ, ◌+◌, ◌<◌, ◌≤◌, Option, Some, None}
-use Rattle.tb_match.specs.declared.pattern.Pat.{Pat, Tok, Cat', Alt', Rep', Row_of-Pat, end_of-Pat, more_of-Pat}
+use Rattle.tb_match.specs.Trees.{Tree, tok, cat, alt, rep, Forest, no_more, and_more}
 
 -- what a repetition adds to the weight of what it repeats
 abbrev pub turns : ℕ → Option ℕ → ℕ
@@ -8,16 +8,16 @@ turns a None = a + 2
 turns a (Some b) = b + 1
 
 abbrev mutual
-  pub weight_of : Pat → ℕ
-  weight_of (Tok e) = 1
-  weight_of (Cat' shape parts) = weight_of_row parts
-  weight_of (Alt' shape parts) = weight_of_row parts
-  weight_of (Rep' ptr p a b) = weight_of p + turns a b
+  pub weight_of : Tree → ℕ
+  weight_of (tok e) = 1
+  weight_of (cat parts) = weight_of_all parts
+  weight_of (alt parts) = weight_of_all parts
+  weight_of (rep t a b) = weight_of t + turns a b
 
   -- the weights of the parts, and one for each part
-  pub weight_of_row : {m : _} → Row_of-Pat m → ℕ
-  weight_of_row end_of-Pat = 0
-  weight_of_row (more_of-Pat p rest) = weight_of p + 1 + weight_of_row rest
+  pub weight_of_all : Forest → ℕ
+  weight_of_all no_more = 0
+  weight_of_all (and_more t rest) = weight_of t + 1 + weight_of_all rest
 
 -- the numbers of a repetition: both at most 32, and one that can be had
 abbrev pub IsBetween : ℕ → Option ℕ → Type 0
@@ -26,16 +26,16 @@ IsBetween a (Some b) = (a ≤ 32) × (a ≤ b) × (1 ≤ b) × (b ≤ 32)
 
 abbrev mutual
   -- each expression is one of the first `exprs`, and each repetition has numbers within the limits
-  pub IsProper : ℕ → Pat → Type 0
-  IsProper exprs (Tok e) = e < exprs
-  IsProper exprs (Cat' shape parts) = AreProper exprs parts
-  IsProper exprs (Alt' shape parts) = AreProper exprs parts
-  IsProper exprs (Rep' ptr p a b) = IsBetween a b × IsProper exprs p
+  pub IsProper : ℕ → Tree → Type 0
+  IsProper exprs (tok e) = e < exprs
+  IsProper exprs (cat parts) = AllProper exprs parts
+  IsProper exprs (alt parts) = AllProper exprs parts
+  IsProper exprs (rep t a b) = IsBetween a b × IsProper exprs t
 
-  pub AreProper : ℕ → {m : _} → Row_of-Pat m → Type 0
-  AreProper exprs end_of-Pat = Unit {0}
-  AreProper exprs (more_of-Pat p rest) = IsProper exprs p × AreProper exprs rest
+  pub AllProper : ℕ → Forest → Type 0
+  AllProper exprs no_more = Unit {0}
+  AllProper exprs (and_more t rest) = IsProper exprs t × AllProper exprs rest
 
 -- a pattern that a table of so many expressions can be searched for
-abbrev pub Fits : ℕ → Pat → Type 0
-Fits exprs p = IsProper exprs p × (weight_of p ≤ 1000000)
+abbrev pub Fits : ℕ → Tree → Type 0
+Fits exprs t = IsProper exprs t × (weight_of t ≤ 1000000)

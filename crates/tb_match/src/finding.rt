@@ -2,6 +2,7 @@
 
 ghost use Rattle.std.specs.Prelude.{◌+◌, ◌*◌, ◌/◌, ◌≤◌, IfOk};
 ghost use Rattle.tb_match.specs.Hits.{AreHits, HitsAreOneList, IsFound};
+ghost use Rattle.tb_match.specs.Trees.{tree};
 ghost use Rattle.tb_match.specs.Weight.{Fits, weight_of};
 
 use crate::hits::{hits_by, word_hits};
@@ -47,10 +48,10 @@ pub fn find(
     truth: &Truth,
     strategy: Strategy,
 ) -> Result<Found, AllocError>
-    requires { Fits truth.now.exprs pat.now }
-    ensures hits { IfOk result (λ f. AreHits strategy (IsFound truth.now pat.now) f.hits.items) }
+    requires { Fits truth.now.exprs (tree pat.now) }
+    ensures hits { IfOk result (λ f. AreHits strategy (IsFound truth.now (tree pat.now)) f.hits.items) }
     ensures steps { IfOk result (λ f.
-        f.steps ≤ weight_of pat.now * (truth.now.words + 1) * (truth.now.words + 2) / 2) }
+        f.steps ≤ weight_of (tree pat.now) * (truth.now.words + 1) * (truth.now.words + 2) / 2) }
 {
     if let Pat::Tok(expr) = pat {
         let words = word_hits(alloc, *expr, truth)?;

@@ -2,9 +2,9 @@
 
 ghost use Rattle.std.specs.Prelude.{◌≡◌, ℕ, false};
 ghost use Rattle.tb_match.specs.Facts.{Facts, Holds};
-ghost use Rattle.tb_match.specs.Match.{Match};
-ghost use Rattle.tb_match.specs.Parts.{EachInTurn, AnyOf, AllProper};
-ghost use Rattle.tb_match.specs.Weight.{IsProper};
+ghost use Rattle.tb_match.specs.Match.{AnyOf, EachInTurn, Match};
+ghost use Rattle.tb_match.specs.Trees.{tree, trees};
+ghost use Rattle.tb_match.specs.Weight.{AllProper, IsProper};
 
 use crate::pattern::Pat;
 use crate::truth::Truth;
@@ -12,8 +12,8 @@ use crate::truth::Truth;
 /// False only where one of the parts matches nowhere.
 #[cycle(can_match)]
 fn can_all_match(parts: &[Pat], truth: &Truth) -> bool
-    requires { AllProper truth.now.exprs parts.now }
-    ensures { result ≡ false → (i j : ℕ) → EachInTurn (Holds truth.now) parts.now i j → ⊥ }
+    requires { AllProper truth.now.exprs (trees parts.now) }
+    ensures { result ≡ false → (i j : ℕ) → EachInTurn (Holds truth.now) (trees parts.now) i j → ⊥ }
 {
     for part in parts {
         if !can_match(part, truth) {
@@ -26,8 +26,8 @@ fn can_all_match(parts: &[Pat], truth: &Truth) -> bool
 /// False only where each of the parts matches nowhere.
 #[cycle(can_match)]
 fn can_any_match(parts: &[Pat], truth: &Truth) -> bool
-    requires { AllProper truth.now.exprs parts.now }
-    ensures { result ≡ false → (i j : ℕ) → AnyOf (Holds truth.now) parts.now i j → ⊥ }
+    requires { AllProper truth.now.exprs (trees parts.now) }
+    ensures { result ≡ false → (i j : ℕ) → AnyOf (Holds truth.now) (trees parts.now) i j → ⊥ }
 {
     for part in parts {
         if can_match(part, truth) {
@@ -41,8 +41,8 @@ fn can_any_match(parts: &[Pat], truth: &Truth) -> bool
 /// word.
 #[cycle(can_match)]
 pub(crate) fn can_match(pat: &Pat, truth: &Truth) -> bool
-    requires { IsProper truth.now.exprs pat.now }
-    ensures { result ≡ false → (i j : ℕ) → Match (Holds truth.now) pat.now i j → ⊥ }
+    requires { IsProper truth.now.exprs (tree pat.now) }
+    ensures { result ≡ false → (i j : ℕ) → Match (Holds truth.now) (tree pat.now) i j → ⊥ }
 {
     match pat {
         Pat::Tok(expr) => truth.holds_somewhere(*expr),

@@ -2,9 +2,9 @@
 
 ghost use Rattle.std.specs.Prelude.{◌≡◌, ◌+◌, ◌-◌, ◌*◌, ◌/◌, ◌<◌, ◌≤◌, ◌^◌, ◌↔◌, ◌⊎◌, ℕ, IfOk, IsTrue, length, None};
 ghost use Rattle.tb_match.specs.Bits.{InTable, IsClosed, IsForward, HasLinksOf, Link, Repeated, Through, Within, triangle};
-ghost use Rattle.tb_match.specs.Match.{Chain, Match, IsAtMost};
-ghost use Rattle.tb_match.specs.Parts.{EachInTurn, AnyOf, AllProper, weight_of_all};
-ghost use Rattle.tb_match.specs.Weight.{IsBetween, weight_of, turns, IsProper};
+ghost use Rattle.tb_match.specs.Match.{AnyOf, Chain, EachInTurn, IsAtMost, Match};
+ghost use Rattle.tb_match.specs.Trees.{tree, trees};
+ghost use Rattle.tb_match.specs.Weight.{AllProper, IsBetween, IsProper, turns, weight_of, weight_of_all};
 ghost use Rattle.tb_match.specs.Facts.{Facts, Holds};
 
 use crate::bounded::{leave, limit};
@@ -263,17 +263,17 @@ fn sequence(
     width: usize,
     steps: &mut u64,
 ) -> Result<Vec<u64>, AllocError>
-    requires proper { AllProper truth.now.exprs parts.now }
+    requires proper { AllProper truth.now.exprs (trees parts.now) }
     requires wide { truth.now.words / 64 < width }
     requires narrow { width ≤ 16 }
     requires spare { length spare.old ≡ width }
     requires small { truth.now.words ≤ 1000 }
-    requires countable { steps.old + weight_of_all parts.now * triangle (truth.now.words + 1) < 2 ^ 64 }
+    requires countable { steps.old + weight_of_all (trees parts.now) * triangle (truth.now.words + 1) < 2 ^ 64 }
     ensures whole { IfOk result (λ v. length v.items ≡ (truth.now.words + 1) * width) }
     ensures rows { IfOk result (λ v. (i j : ℕ) → i ≤ truth.now.words → j ≤ truth.now.words →
-        (InTable v.items width i j ↔ EachInTurn (Holds truth.now) parts.now i j)) }
+        (InTable v.items width i j ↔ EachInTurn (Holds truth.now) (trees parts.now) i j)) }
     ensures more { steps.old ≤ steps.new }
-    ensures bound { steps.new ≤ steps.old + weight_of_all parts.now * triangle (truth.now.words + 1) }
+    ensures bound { steps.new ≤ steps.old + weight_of_all (trees parts.now) * triangle (truth.now.words + 1) }
 {
     let last = truth.words();
     let Some((first, rest)) = parts.split_first() else {
@@ -298,20 +298,20 @@ fn followed(
     width: usize,
     steps: &mut u64,
 ) -> Result<Vec<u64>, AllocError>
-    requires proper { IsProper truth.now.exprs part.now }
+    requires proper { IsProper truth.now.exprs (tree part.now) }
     requires wide { truth.now.words / 64 < width }
     requires narrow { width ≤ 16 }
     requires spare { length spare.old ≡ width }
     requires small { truth.now.words ≤ 1000 }
     requires table { length table.items ≡ (truth.now.words + 1) * width }
     requires forward { (i j : ℕ) → i ≤ truth.now.words → j ≤ truth.now.words → InTable table.items width i j → i ≤ j }
-    requires countable { steps.old + (weight_of part.now + 1) * triangle (truth.now.words + 1) < 2 ^ 64 }
+    requires countable { steps.old + (weight_of (tree part.now) + 1) * triangle (truth.now.words + 1) < 2 ^ 64 }
     ensures whole { IfOk result (λ v. length v.items ≡ (truth.now.words + 1) * width) }
     ensures rows { IfOk result (λ v. (i j : ℕ) → i ≤ truth.now.words → j ≤ truth.now.words →
         (InTable v.items width i j ↔
-        ((k : ℕ) × (k ≤ truth.now.words) × InTable table.items width i k × Match (Holds truth.now) part.now k j))) }
+        ((k : ℕ) × (k ≤ truth.now.words) × InTable table.items width i k × Match (Holds truth.now) (tree part.now) k j))) }
     ensures more { steps.old ≤ steps.new }
-    ensures bound { steps.new ≤ steps.old + (weight_of part.now + 1) * triangle (truth.now.words + 1) }
+    ensures bound { steps.new ≤ steps.old + (weight_of (tree part.now) + 1) * triangle (truth.now.words + 1) }
 {
     if let Some(expr) = token_of(part) {
         return step_over(alloc, table, expr, truth, width, false);
@@ -339,17 +339,17 @@ fn choice(
     width: usize,
     steps: &mut u64,
 ) -> Result<Vec<u64>, AllocError>
-    requires proper { AllProper truth.now.exprs parts.now }
+    requires proper { AllProper truth.now.exprs (trees parts.now) }
     requires wide { truth.now.words / 64 < width }
     requires narrow { width ≤ 16 }
     requires spare { length spare.old ≡ width }
     requires small { truth.now.words ≤ 1000 }
-    requires countable { steps.old + weight_of_all parts.now * triangle (truth.now.words + 1) < 2 ^ 64 }
+    requires countable { steps.old + weight_of_all (trees parts.now) * triangle (truth.now.words + 1) < 2 ^ 64 }
     ensures whole { IfOk result (λ v. length v.items ≡ (truth.now.words + 1) * width) }
     ensures rows { IfOk result (λ v. (i j : ℕ) → i ≤ truth.now.words → j ≤ truth.now.words →
-        (InTable v.items width i j ↔ AnyOf (Holds truth.now) parts.now i j)) }
+        (InTable v.items width i j ↔ AnyOf (Holds truth.now) (trees parts.now) i j)) }
     ensures more { steps.old ≤ steps.new }
-    ensures bound { steps.new ≤ steps.old + weight_of_all parts.now * triangle (truth.now.words + 1) }
+    ensures bound { steps.new ≤ steps.old + weight_of_all (trees parts.now) * triangle (truth.now.words + 1) }
 {
     let last = truth.words();
     let mut table = empty(alloc, width, last)?;
@@ -370,17 +370,17 @@ pub(crate) fn rows(
     width: usize,
     steps: &mut u64,
 ) -> Result<Vec<u64>, AllocError>
-    requires proper { IsProper truth.now.exprs pat.now }
+    requires proper { IsProper truth.now.exprs (tree pat.now) }
     requires wide { truth.now.words / 64 < width }
     requires narrow { width ≤ 16 }
     requires spare { length spare.old ≡ width }
     requires small { truth.now.words ≤ 1000 }
-    requires countable { steps.old + weight_of pat.now * triangle (truth.now.words + 1) < 2 ^ 64 }
+    requires countable { steps.old + weight_of (tree pat.now) * triangle (truth.now.words + 1) < 2 ^ 64 }
     ensures whole { IfOk result (λ v. length v.items ≡ (truth.now.words + 1) * width) }
     ensures rows { IfOk result (λ v. (i j : ℕ) → i ≤ truth.now.words → j ≤ truth.now.words →
-        (InTable v.items width i j ↔ Match (Holds truth.now) pat.now i j)) }
+        (InTable v.items width i j ↔ Match (Holds truth.now) (tree pat.now) i j)) }
     ensures more { steps.old ≤ steps.new }
-    ensures bound { steps.new ≤ steps.old + weight_of pat.now * triangle (truth.now.words + 1) }
+    ensures bound { steps.new ≤ steps.old + weight_of (tree pat.now) * triangle (truth.now.words + 1) }
 {
     if let Some(expr) = optional_token_of(pat) {
         return optional_token_rows(alloc, expr, truth, width);

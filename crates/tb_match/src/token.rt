@@ -6,6 +6,7 @@ ghost use Rattle.tb_match.specs.Bits.{InTable};
 ghost use Rattle.tb_match.specs.Facts.{Facts, Holds};
 ghost use Rattle.tb_match.specs.Hits.{IsWord};
 ghost use Rattle.tb_match.specs.Match.{Chain, Match};
+ghost use Rattle.tb_match.specs.Trees.{tree};
 ghost use Rattle.tb_match.specs.Weight.{IsProper};
 
 use crate::narrow::{ends_of, run_words, step_words};
@@ -17,8 +18,8 @@ use std::alloc::{AllocError, Global};
 
 /// The expression of a pattern that is one word.
 pub(crate) fn token_of(pat: &Pat) -> Option<u16>
-    ensures word { (e : ℕ) → result ≡ Some e → (t : Facts) (i j : ℕ) → (Match (Holds t) pat.now i j ↔ IsWord t e i j) }
-    ensures proper { (e n : ℕ) → result ≡ Some e → IsProper n pat.now → e < n }
+    ensures word { (e : ℕ) → result ≡ Some e → (t : Facts) (i j : ℕ) → (Match (Holds t) (tree pat.now) i j ↔ IsWord t e i j) }
+    ensures proper { (e n : ℕ) → result ≡ Some e → IsProper n (tree pat.now) → e < n }
 {
     match pat {
         Pat::Tok(expr) => Some(*expr),
@@ -46,8 +47,8 @@ fn is_starred(least: u8, most: Option<u8>) -> bool
 /// The expression of a pattern that is one word or nothing.
 pub(crate) fn optional_token_of(pat: &Pat) -> Option<u16>
     ensures word { (e : ℕ) → result ≡ Some e → (t : Facts) (i j : ℕ) →
-        (Match (Holds t) pat.now i j ↔ ((j ≡ i) ⊎ IsWord t e i j)) }
-    ensures proper { (e n : ℕ) → result ≡ Some e → IsProper n pat.now → e < n }
+        (Match (Holds t) (tree pat.now) i j ↔ ((j ≡ i) ⊎ IsWord t e i j)) }
+    ensures proper { (e n : ℕ) → result ≡ Some e → IsProper n (tree pat.now) → e < n }
 {
     match pat {
         Pat::Rep(inner, least, most) if is_optional(*least, *most) => token_of(inner),
@@ -58,8 +59,8 @@ pub(crate) fn optional_token_of(pat: &Pat) -> Option<u16>
 /// The expression of a pattern that is any number of words, one after the other.
 fn starred_token_of(pat: &Pat) -> Option<u16>
     ensures words { (e : ℕ) → result ≡ Some e → (t : Facts) (i j : ℕ) →
-        (Match (Holds t) pat.now i j ↔ ((k : ℕ) × Chain (IsWord t e) k i j)) }
-    ensures proper { (e n : ℕ) → result ≡ Some e → IsProper n pat.now → e < n }
+        (Match (Holds t) (tree pat.now) i j ↔ ((k : ℕ) × Chain (IsWord t e) k i j)) }
+    ensures proper { (e n : ℕ) → result ≡ Some e → IsProper n (tree pat.now) → e < n }
 {
     match pat {
         Pat::Rep(inner, least, most) if is_starred(*least, *most) => token_of(inner),
@@ -89,10 +90,10 @@ fn has_short_runs(expr: u16, truth: &Truth) -> bool
 /// The expression of a pattern that is any number of words, one after the other, where it holds of
 /// no more than a few in a row.
 pub(crate) fn short_run_of(pat: &Pat, truth: &Truth) -> Option<u16>
-    requires { IsProper truth.now.exprs pat.now }
+    requires { IsProper truth.now.exprs (tree pat.now) }
     ensures words { (e : ℕ) → result ≡ Some e → (t : Facts) (i j : ℕ) →
-        (Match (Holds t) pat.now i j ↔ ((k : ℕ) × Chain (IsWord t e) k i j)) }
-    ensures proper { (e n : ℕ) → result ≡ Some e → IsProper n pat.now → e < n }
+        (Match (Holds t) (tree pat.now) i j ↔ ((k : ℕ) × Chain (IsWord t e) k i j)) }
+    ensures proper { (e n : ℕ) → result ≡ Some e → IsProper n (tree pat.now) → e < n }
 {
     let Some(expr) = starred_token_of(pat) else {
         return None;

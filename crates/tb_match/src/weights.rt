@@ -1,8 +1,8 @@
 //! How heavy a pattern is, and whether it is within the limits.
 
 ghost use Rattle.std.specs.Prelude.{◌≡◌, ◌+◌, ◌<◌, ◌≤◌, ◌↔◌, IsTrue, SomeIff};
-ghost use Rattle.tb_match.specs.Parts.{AllProper, weight_of_all};
-ghost use Rattle.tb_match.specs.Weight.{Fits, IsBetween, IsProper, turns, weight_of};
+ghost use Rattle.tb_match.specs.Trees.{tree, trees};
+ghost use Rattle.tb_match.specs.Weight.{AllProper, Fits, IsBetween, IsProper, turns, weight_of, weight_of_all};
 
 use crate::pattern::Pat;
 
@@ -37,7 +37,7 @@ fn turns_of(least: u8, most: Option<u8>) -> u64
 /// The weights of the parts, and one for each.
 #[cycle(weight)]
 fn weight_of_parts(parts: &[Pat]) -> Option<u64>
-    ensures { SomeIff result (weight_of_all parts.now ≤ 1000000) (weight_of_all parts.now) }
+    ensures { SomeIff result (weight_of_all (trees parts.now) ≤ 1000000) (weight_of_all (trees parts.now)) }
 {
     let mut sum = 0;
     for part in parts {
@@ -56,7 +56,7 @@ fn weight_of_parts(parts: &[Pat]) -> Option<u64>
 /// hold some 43,000 levels.
 #[cycle(weight)]
 pub fn weight(pat: &Pat) -> Option<u64>
-    ensures { SomeIff result (weight_of pat.now ≤ 1000000) (weight_of pat.now) }
+    ensures { SomeIff result (weight_of (tree pat.now) ≤ 1000000) (weight_of (tree pat.now)) }
 {
     match pat {
         Pat::Tok(_) => Some(1),
@@ -79,7 +79,7 @@ fn is_between(least: u8, most: Option<u8>) -> bool
 /// Whether each of the parts is proper.
 #[cycle(is_proper)]
 fn are_proper(parts: &[Pat], exprs: u16) -> bool
-    ensures { IsTrue result ↔ AllProper exprs parts.now }
+    ensures { IsTrue result ↔ AllProper exprs (trees parts.now) }
 {
     for part in parts {
         if !is_proper(part, exprs) {
@@ -93,7 +93,7 @@ fn are_proper(parts: &[Pat], exprs: u16) -> bool
 /// numbers within the limits.
 #[cycle(is_proper)]
 fn is_proper(pat: &Pat, exprs: u16) -> bool
-    ensures { IsTrue result ↔ IsProper exprs pat.now }
+    ensures { IsTrue result ↔ IsProper exprs (tree pat.now) }
 {
     match pat {
         Pat::Tok(expr) => *expr < exprs,
@@ -110,7 +110,7 @@ fn is_proper(pat: &Pat, exprs: u16) -> bool
 /// It takes no memory, and one stack frame for each level of the pattern, of less than 50 bytes: 2 MiB
 /// hold some 43,000 levels.
 pub fn fits(pat: &Pat, exprs: u16) -> bool
-    ensures { IsTrue result ↔ Fits exprs pat.now }
+    ensures { IsTrue result ↔ Fits exprs (tree pat.now) }
 {
     is_proper(pat, exprs) && weight(pat).is_some()
 }

@@ -1,10 +1,10 @@
 -- What a pattern matches rests on which expressions hold of which words alone.
 use Rattle.std.proofs.Common.{◌≤◌, ℕ, zero, suc, List, inl, inr, sym, subst}
 use Rattle.tb_conllu.specs.Text.{BlockText}
-use Rattle.tb_match.specs.declared.pattern.Pat.{Pat, Tok, Cat', Alt', Rep', Row_of-Pat, end_of-Pat, more_of-Pat}
 use Rattle.tb_match.specs.Facts.{Facts, Holds}
 use Rattle.tb_match.specs.Hits.{AreHits, IsFound}
-use Rattle.tb_match.specs.Match.{Chain, Match, MatchInTurn, MatchOne}
+use Rattle.tb_match.specs.Match.{AnyOf, Chain, EachInTurn, Match}
+use Rattle.tb_match.specs.Trees.{Tree, tok, cat, alt, rep, Forest, no_more, and_more}
 use Rattle.tb_match.specs.declared.strategy.Strategy.{Strategy}
 use Rattle.tb_match.proofs.Filters.{AreHits-same}
 use Rattle.tb_query.specs.Meaning.{word_rows, HoldsOf}
@@ -16,21 +16,21 @@ chain_also R S also (suc k) i j (m, link, rest) = (m, also i m link, chain_also 
 
 module _ (H K : ℕ → ℕ → Type 0) (also : (e w : ℕ) → H e w → K e w) where
   mutual
-    pub match_also : (p : Pat) (i j : ℕ) → Match H p i j → Match K p i j
-    match_also (Tok e) i j (one, held) = (one, also e j held)
-    match_also (Cat' shape parts) i j m = in_turn_also _ parts i j m
-    match_also (Alt' shape parts) i j m = one_also _ parts i j m
-    match_also (Rep' ptr p a b) i j (k, least, most, chain) =
+    pub match_also : (p : Tree) (i j : ℕ) → Match H p i j → Match K p i j
+    match_also (tok e) i j (one, held) = (one, also e j held)
+    match_also (cat parts) i j m = in_turn_also parts i j m
+    match_also (alt parts) i j m = one_also parts i j m
+    match_also (rep p a b) i j (k, least, most, chain) =
         (k, least, most, chain_also (Match H p) (Match K p) (match_also p) k i j chain)
 
-    in_turn_also : (c : _) (row : Row_of-Pat c) (i j : ℕ) → MatchInTurn H row i j → MatchInTurn K row i j
-    in_turn_also c end_of-Pat i j e = e
-    in_turn_also c (more_of-Pat p rest) i j (m, first, others) = (m, match_also p i m first, in_turn_also _ rest m j others)
+    in_turn_also : (parts : Forest) (i j : ℕ) → EachInTurn H parts i j → EachInTurn K parts i j
+    in_turn_also no_more i j e = e
+    in_turn_also (and_more p rest) i j (m, first, others) = (m, match_also p i m first, in_turn_also rest m j others)
 
-    one_also : (c : _) (row : Row_of-Pat c) (i j : ℕ) → MatchOne H row i j → MatchOne K row i j
-    one_also c end_of-Pat i j m = m
-    one_also c (more_of-Pat p rest) i j (inl m) = inl (match_also p i j m)
-    one_also c (more_of-Pat p rest) i j (inr m) = inr (one_also _ rest i j m)
+    one_also : (parts : Forest) (i j : ℕ) → AnyOf H parts i j → AnyOf K parts i j
+    one_also no_more i j m = m
+    one_also (and_more p rest) i j (inl m) = inl (match_also p i j m)
+    one_also (and_more p rest) i j (inr m) = inr (one_also rest i j m)
 
 -- what is found by the table is found in the sentence
 pub found_there : (t : Facts) (q : Asked) (b : BlockText) → IsTruthOf q.tests b t → (s : Strategy) (hits : List (ℕ × ℕ)) →

@@ -1,15 +1,14 @@
 -- Any text is a query, or a fault is told of it.
 use Rattle.std.proofs.Common.{◌≡◌, ◌⊎◌, ℕ, ◌+◌, ◌≤◌, List, [], ◌∷◌, length, map, refl, sym, ap, subst, inl, inr, arith}
 use Rattle.std.proofs.lemmas.List.{length-map}
-use Rattle.tb_match.specs.declared.pattern.Pat.{Pat}
+use Rattle.tb_match.specs.Trees.{Tree}
 use Rattle.tb_match.specs.Weight.{Fits}
 use Rattle.tb_syntax.specs.declared.fault.Fault.{Fault}
 use Rattle.tb_syntax.specs.declared.fault.Fault.TheVariants as fault
 use Rattle.tb_syntax.specs.declared.lexeme.Flag.{Flag}
-use Rattle.tb_syntax.specs.Pattern.{Tree, Tester}
+use Rattle.tb_syntax.specs.Pattern.{Tester}
 use Rattle.tb_syntax.specs.Reading as syntax
 use Rattle.tb_syntax.specs.Saying.{Says}
-use Rattle.tb_syntax.specs.Trees.{tree}
 use Rattle.tb_needle.specs.Literals.{PlainLit, IsAccepted}
 use Rattle.tb_query.specs.declared.fault.QueryFault.{QueryFault}
 use Rattle.tb_query.specs.declared.fault.QueryFault.TheVariants.{TooLong, Syntax, TooMany, TooDeep, Repeat, Pattern, Memory}
@@ -50,19 +49,17 @@ module _ (decided : (flag : Flag) (text : List ℕ) → IsAccepted flag text ⊎
         ]
       ]
 
-  module _ (searchable : (text : List ℕ) (t : Tree) (es : List Tester) (said : List (List ℕ)) → Says text t es said →
-      (p : Pat) × (tree p ≡ t) × Fits (length es) p × (length es ≤ 32)) where
-    asked : (text : List ℕ) (p : Pat) (es : List Tester) (said : List (List ℕ)) → Says text (tree p) es said → Fits (length es) p → length es ≤ 32 →
-        AreAccepted (literals_of (map (with_texts said) es)) → Asks text
-    asked text p es said says fits few good =
+  module _ (searchable : (text : List ℕ) (t : Tree) (es : List Tester) (said : List (List ℕ)) → Says text t es said → Fits (length es) t × (length es ≤ 32)) where
+    asked : (text : List ℕ) (t : Tree) (es : List Tester) (said : List (List ℕ)) → Says text t es said → AreAccepted (literals_of (map (with_texts said) es)) → Asks text
+    asked text t es said says good =
         let size = length-map es (with_texts said) in
-        (record { pat = p; tests = map (with_texts said) es }, ((es, said, says, refl), good), (subst (λ n. Fits n p) (sym size) fits, omega arith))
+        let (fits, few) = searchable text t es said says in
+        (record { pat = t; tests = map (with_texts said) es }, ((es, said, says, refl), good), (subst (λ n. Fits n t) (sym size) fits, omega arith))
 
     of_saying : (text : List ℕ) (t : Tree) (es : List Tester) (said : List (List ℕ)) → Says text t es said → Asks text ⊎ HasFault text
     of_saying text t es said says =
-        let made = searchable text t es said says in
         elim (all_or_first (literals_of (map (with_texts said) es))) [
-          | inl good ↦ inl (asked text made.0 es said (subst (λ u. Says text u es said) (sym made.1) says) made.2 made.3 good)
+          | inl good ↦ inl (asked text t es said says good)
           | inr (k, first) ↦ inr (Pattern k, (λ same. cc (same)), (t, map (with_texts said) es, (es, said, says, refl), first))
         ]
 

@@ -1,8 +1,9 @@
 -- A text says one thing at most, nothing is wrong with one that is a query, and one fault is told of one that is none.
 use Rattle.std.proofs.Common.{◌≡◌, ◌⊎◌, ℕ, suc, List, [], ◌∷◌, ◌++◌, length, map, refl, sym, ap, subst, ◌∙◌, inl, inr, ⊎_elim, arith}
+use Rattle.tb_match.specs.Trees.{Tree}
 use Rattle.tb_syntax.specs.declared.fault.Fault.{Fault}
 use Rattle.tb_syntax.specs.declared.fault.Fault.TheVariants as fault
-use Rattle.tb_syntax.specs.Pattern.{Tree, Tester}
+use Rattle.tb_syntax.specs.Pattern.{Tester}
 use Rattle.tb_syntax.specs.Reading as told
 use Rattle.tb_syntax.specs.Saying.{Says}
 use Rattle.tb_needle.specs.Literals.{PlainLit, IsAccepted}

@@ -1,11 +1,10 @@
 -- What a text asks, and what is wrong with it, by what the language reads in it.
 use Rattle.std.proofs.Common.{◌≡◌, ℕ, List, map, string_bytes, String, Global, refl, sym, ap, subst, ◌∙◌}
-use Rattle.tb_match.specs.declared.pattern.Pat.{Pat}
+use Rattle.tb_match.specs.Trees.{Tree}
 use Rattle.tb_syntax.specs.declared.expr.Expr.{Expr}
 use Rattle.tb_syntax.specs.Exprs.{tester}
-use Rattle.tb_syntax.specs.Pattern.{Tree, Tester}
+use Rattle.tb_syntax.specs.Pattern.{Tester}
 use Rattle.tb_syntax.specs.Saying.{Says}
-use Rattle.tb_syntax.specs.Trees.{tree}
 use Rattle.tb_query.specs.declared.fault.QueryFault.{QueryFault}
 use Rattle.tb_query.specs.declared.fault.QueryFault.TheVariants.{TooLong, Syntax, TooMany, TooDeep, Repeat, Pattern, Memory}
 use Rattle.tb_query.specs.Labels.{labels_of, IsRefusalAmong}
@@ -21,16 +20,16 @@ says_same text t xs ys ss ts p q h =
     subst (λ (zs : List (String Global)). Says text t (map tester xs) (map string_bytes zs)) (sym q)
     (subst (λ (zs : List Expr). Says text t (map tester zs) (map string_bytes ts)) (sym p) h)
 
-asks : (text : List ℕ) (pat : Pat) (es : List Tester) (said : List (List ℕ)) (ts : List Test) → Says text (tree pat) es said → ts ≡ map (with_texts said) es →
+asks : (text : List ℕ) (pat : Tree) (es : List Tester) (said : List (List ℕ)) (ts : List Test) → Says text pat es said → ts ≡ map (with_texts said) es →
     AreAccepted (map (with_text said) (labels_of es)) → IsQuery text (record { pat = pat; tests = ts })
 asks text pat es said ts h e a =
     ((es, said, h, e), subst AreAccepted (sym (ap literals_of e ∙ texts_of_each said es)) a)
 
-pub is_query : (text : List ℕ) (pat : Pat) (xs ys : List Expr) (ss us : List (String Global)) (ts : List Test) (q : Asked) → xs ≡ ys → ss ≡ us →
-    Says text (tree pat) (map tester ys) (map string_bytes us) → ts ≡ map (with_texts (map string_bytes ss)) (map tester xs) →
+pub is_query : (text : List ℕ) (pat : Tree) (xs ys : List Expr) (ss us : List (String Global)) (ts : List Test) (q : Asked) → xs ≡ ys → ss ≡ us →
+    Says text pat (map tester ys) (map string_bytes us) → ts ≡ map (with_texts (map string_bytes ss)) (map tester xs) →
     AreAccepted (map (with_text (map string_bytes ss)) (labels_of (map tester xs))) → q ≡ record { pat = pat; tests = ts } → IsQuery text q
 is_query text pat xs ys ss us ts q p r h e a is =
-    subst (IsQuery text) (sym is) (asks text pat (map tester xs) (map string_bytes ss) ts (says_same text (tree pat) xs ys ss us p r h) e a)
+    subst (IsQuery text) (sym is) (asks text pat (map tester xs) (map string_bytes ss) ts (says_same text pat xs ys ss us p r h) e a)
 
 refuses : (text : List ℕ) (t : Tree) (es : List Tester) (said : List (List ℕ)) (e : QueryFault) → Says text t es said → IsRefusalAmong said (labels_of es) e → IsFault text e
 refuses text t es said (Pattern k) h r = (t, map (with_texts said) es, (es, said, h, refl), first_refused text t es said k h r)

@@ -1,8 +1,9 @@
 -- The first literal that is refused, by its place.
 use Rattle.std.proofs.Common.{◌≡◌, ℕ, ◌+◌, List, [], ◌∷◌, ◌++◌, length, map, refl, sym, ap, subst, ◌∙◌, arith}
 use Rattle.std.proofs.lemmas.List.{map-append, length-map}
+use Rattle.tb_match.specs.Trees.{Tree}
 use Rattle.tb_syntax.specs.declared.expr.Literal.{Literal}
-use Rattle.tb_syntax.specs.Pattern.{Tree, Tester, every, whole, feature, not, both, either, Testers, no_test, and_test}
+use Rattle.tb_syntax.specs.Pattern.{Tester, every, whole, feature, not, both, either, Testers, no_test, and_test}
 use Rattle.tb_syntax.specs.Saying.{Says}
 use Rattle.tb_query.specs.declared.fault.QueryFault.TheVariants.{Pattern}
 use Rattle.tb_query.specs.Labels.{labels, all_labels, labels_of, IsRefusalAmong}

@@ -2,11 +2,12 @@
 use Rattle.std.proofs.Common.{◌≡◌, ℕ, suc, ◌+◌, List, [], ◌∷◌, ◌++◌, length, map, Some, refl, sym, ap, ◌∙◌, append_assoc, length-append, arith}
 use Rattle.std.specs.List.{slice_get}
 use Rattle.std.specs.Option.{unwrap_or}
+use Rattle.tb_match.specs.Trees.{Tree}
 use Rattle.tb_syntax.specs.declared.expr.Literal.{Literal}
 use Rattle.tb_syntax.specs.declared.lexeme.Lexeme.{Lexeme}
 use Rattle.tb_syntax.specs.declared.lexeme.Lexeme.TheVariants.{Quote}
 use Rattle.tb_syntax.specs.declared.lexing.Span.{Span}
-use Rattle.tb_syntax.specs.Pattern.{Tree, Tester}
+use Rattle.tb_syntax.specs.Pattern.{Tester}
 use Rattle.tb_syntax.specs.Saying.{IsSaid, Says}
 use Rattle.tb_needle.specs.Literals.{PlainLit}
 use Rattle.tb_query.specs.Labels.{labels_of}

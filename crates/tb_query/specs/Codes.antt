@@ -3,29 +3,15 @@ use Rattle.std.specs.Prelude.{◌≡◌, ℕ, List, nat_eq, refl}
 use Rattle.std.proofs.Common.{sym, ap, subst, true≢false}
 use base.Stored.{Gv, gnil, gnum, gcons, num, Coded}
 use Rattle.std.specs.Coded.{code_by, coded×, coded_list, coded_ℕ}
-use Rattle.tb_match.specs.contracts.pattern.Pat as pattern
-use Rattle.tb_match.specs.declared.pattern.Pat.{Pat}
+use Rattle.tb_match.specs.Trees.{Tree}
 use Rattle.tb_syntax.specs.contracts.lexeme.Attr as attr
 use Rattle.tb_syntax.specs.contracts.lexeme.Flag as flag
 use Rattle.tb_syntax.specs.declared.lexeme.Flag.{Flag}
 use Rattle.tb_needle.specs.Literals.{PlainLit}
 use Rattle.tb_query.specs.Tests.{Test, any, column, item, denied, all_of, some_of, Tests, no_more, and_more}
+use Rattle.tb_query.specs.Halves.{first, second, IsPair}
 use Rattle.tb_query.specs.Search.{Asked}
-
-abbrev first : Gv → Gv
-first gnil = gnil
-first (gnum n) = gnil
-first (gcons a b) = a
-
-abbrev second : Gv → Gv
-second gnil = gnil
-second (gnum n) = gnil
-second (gcons a b) = b
-
-abbrev IsPair : Gv → Type 0
-IsPair gnil = ⊥
-IsPair (gnum n) = ⊥
-IsPair (gcons a b) = Unit {0}
+use Rattle.tb_query.specs.TreeCodes.{coded_tree}
 
 abbrev kind : Test → ℕ
 kind any = 0
@@ -75,4 +61,4 @@ coded_test = record { code = code_of; inj = code_of-inj }
 
 abbrev pub coded_asked : Coded Asked
 coded_asked =
-    code_by (Pat × List Test) (coded× pattern.the_row.coded (coded_list coded_test)) (λ q. (q.pat, q.tests)) (λ p. record { pat = p.0; tests = p.1 }) (λ _. refl)
+    code_by (Tree × List Test) (coded× coded_tree (coded_list coded_test)) (λ q. (q.pat, q.tests)) (λ p. record { pat = p.0; tests = p.1 }) (λ _. refl)

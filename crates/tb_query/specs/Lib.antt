@@ -1,5 +1,7 @@
 pub mod Tests
 pub mod Codes
+pub mod Halves
+pub mod TreeCodes
 pub mod Exprs
 pub mod Meaning
 pub mod Search

@@ -2,12 +2,12 @@
 use Rattle.std.specs.Prelude.{◌≡◌, ℕ, ◌+◌, List, [], ◌∷◌, ◌++◌, length, map}
 use Rattle.std.specs.List.{slice_get}
 use Rattle.std.specs.Option.{unwrap_or}
+use Rattle.tb_match.specs.Trees.{Tree}
 use Rattle.tb_syntax.specs.declared.expr.Literal.{Literal}
 use Rattle.tb_syntax.specs.declared.fault.Fault.TheVariants as told
-use Rattle.tb_syntax.specs.Pattern.{Tree, Tester, every, whole, feature, not, both, either, Testers, no_test, and_test}
+use Rattle.tb_syntax.specs.Pattern.{Tester, every, whole, feature, not, both, either, Testers, no_test, and_test}
 use Rattle.tb_syntax.specs.Reading as syntax
 use Rattle.tb_syntax.specs.Saying.{Says}
-use Rattle.tb_syntax.specs.Trees.{tree}
 use Rattle.tb_needle.specs.Literals.{PlainLit, IsAccepted}
 use Rattle.tb_query.specs.declared.fault.QueryFault.{QueryFault}
 use Rattle.tb_query.specs.declared.fault.QueryFault.TheVariants.{TooLong, Syntax, TooMany, TooDeep, Repeat, Pattern, Memory}
@@ -53,7 +53,7 @@ IsFirstRefused ls k =
 
 -- the text asks this
 abbrev pub IsQuery : List ℕ → Asked → Type 0
-IsQuery text q = Reads text (tree q.pat) q.tests × AreAccepted (literals_of q.tests)
+IsQuery text q = Reads text q.pat q.tests × AreAccepted (literals_of q.tests)
 
 -- What is wrong with a text. The first of these is told that holds.
 abbrev pub IsFault : List ℕ → QueryFault → Type 0

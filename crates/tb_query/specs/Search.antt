@@ -2,18 +2,18 @@
 use Rattle.std.specs.Prelude.{◌≡◌, ℕ, ◌<◌, ◌≤◌, ◌↔◌, List, length}
 use Rattle.tb_conllu.specs.Text.{BlockText}
 use Rattle.tb_conllu.specs.Words.{words_of}
-use Rattle.tb_match.specs.declared.pattern.Pat.{Pat}
 use Rattle.tb_match.specs.declared.strategy.Strategy.{Strategy}
 use Rattle.tb_match.specs.Facts.{Facts, Holds}
 use Rattle.tb_match.specs.Hits.{AreHits}
 use Rattle.tb_match.specs.Match.{Match}
+use Rattle.tb_match.specs.Trees.{Tree}
 use Rattle.tb_match.specs.Weight.{Fits}
 use Rattle.tb_query.specs.Tests.{Test}
 use Rattle.tb_query.specs.Meaning.{word_rows, HoldsOf}
 
 -- what is asked: a pattern over tests, which it names by their numbers
 pub record Asked : Type 0 where
-  pub pat : Pat
+  pub pat : Tree
   pub tests : List Test
 
 -- a query within the limits of a search

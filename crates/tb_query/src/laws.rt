@@ -1,7 +1,8 @@
 //! Laws of what texts ask.
 
 ghost use Rattle.std.specs.Prelude.{◌≡◌, ◌⊎◌, ℕ, List, map};
-ghost use Rattle.tb_syntax.specs.Pattern.{Tree, Tester};
+ghost use Rattle.tb_match.specs.Trees.{Tree};
+ghost use Rattle.tb_syntax.specs.Pattern.{Tester};
 ghost use Rattle.tb_syntax.specs.Saying.{Says};
 ghost use Rattle.tb_needle.specs.Literals.{PlainLit};
 ghost use Rattle.tb_query.specs.declared.fault.QueryFault.{QueryFault};
@@ -21,6 +22,14 @@ pub fn a_text_has_one_reading()
     ensures tests { (text : List ℕ) (t u : Tree) (ts us : List Test) → Reads text t ts → Reads text u us → ts ≡ us }
 {
     one_saying();
+}
+
+/// A text asks one thing at most: where two answers to a text are what it asks, they are the same
+/// pattern over the same tests.
+pub fn a_text_asks_one_thing()
+    ensures { (text : List ℕ) (q r : Asked) → IsQuery text q → IsQuery text r → q ≡ r }
+{
+    a_text_has_one_reading();
 }
 
 /// Of a text that is a query no fault is told but want of memory.

@@ -19,8 +19,8 @@ mod searcher;
 pub use expr::Expr;
 pub use fault::QueryFault;
 pub use laws::{
-    a_query_has_no_fault, a_text_has_one_fault, a_text_has_one_reading, each_text_is_told,
-    literals_stand_in_order,
+    a_query_has_no_fault, a_text_asks_one_thing, a_text_has_one_fault, a_text_has_one_reading,
+    each_text_is_told, literals_stand_in_order,
 };
 pub use query::Query;
 pub use reading::parse;

@@ -2,6 +2,7 @@
 
 ghost use Rattle.std.specs.Prelude.{◌≡◌, ◌+◌, ◌*◌, ◌/◌, ◌≤◌, IfOk, length, map};
 ghost use Rattle.tb_conllu.specs.Words.{words_of};
+ghost use Rattle.tb_match.specs.Trees.{tree};
 ghost use Rattle.tb_match.specs.Weight.{Fits, weight_of};
 ghost use Rattle.tb_query.specs.Exprs.{test};
 ghost use Rattle.tb_query.specs.Search.{Asked, IsSearchable, IsTruthOf, AreHitsIn};
@@ -22,6 +23,7 @@ pub struct Query {
 
 impl Model for Query {
     ghost use Rattle.std.specs.Prelude.{map};
+    ghost use Rattle.tb_match.specs.Trees.{tree};
     ghost use Rattle.tb_query.specs.Search.{Asked, IsSearchable};
 
     ghost Value = { Asked };
@@ -32,16 +34,16 @@ impl Model for Query {
 
     ghost use Rattle.tb_query.specs.Exprs.{test};
 
-    ghost view = { λ q. record { pat = q.pat; tests = map test q.exprs.items } };
+    ghost view = { λ q. record { pat = tree q.pat; tests = map test q.exprs.items } };
 
-    ghost invariant = { λ q. IsSearchable (record { pat = q.pat; tests = map test q.exprs.items }) };
+    ghost invariant = { λ q. IsSearchable (record { pat = tree q.pat; tests = map test q.exprs.items }) };
 }
 
 impl Query {
     /// A query of its parts.
     pub(crate) fn new(pat: Pat, exprs: Vec<Expr>) -> Query
-        requires { IsSearchable (record { pat = pat; tests = map test exprs.items }) }
-        ensures { result ≡ record { pat = pat; tests = map test exprs.items } }
+        requires { IsSearchable (record { pat = tree pat; tests = map test exprs.items }) }
+        ensures { result ≡ record { pat = tree pat; tests = map test exprs.items } }
     {
         Query { pat, exprs }
     }
@@ -49,8 +51,8 @@ impl Query {
     /// The pattern. Its expressions are numbers of [`Query::exprs`], counted from 0: it can be searched
     /// for in a table of so many.
     pub fn pat(&self) -> &Pat
-        ensures pat { result.now ≡ self.now.pat }
-        ensures fits { Fits (length self.now.tests) result.now }
+        ensures pat { tree result.now ≡ self.now.pat }
+        ensures fits { Fits (length self.now.tests) (tree result.now) }
     {
         &self.pat
     }

@@ -2,6 +2,7 @@
 
 ghost use Rattle.std.specs.Prelude.{◌≡◌, ◌+◌, ◌*◌, ◌/◌, ◌≤◌, IfOk, map};
 ghost use Rattle.tb_conllu.specs.Words.{words_of};
+ghost use Rattle.tb_match.specs.Trees.{tree};
 ghost use Rattle.tb_match.specs.Weight.{weight_of};
 ghost use Rattle.tb_query.specs.Exprs.{test};
 ghost use Rattle.tb_query.specs.Search.{Asked, IsSearchable, IsTruthOf, AreHitsIn};
@@ -24,6 +25,7 @@ pub struct Searcher<'q> {
 
 impl<'q> Model for Searcher<'q> {
     ghost use Rattle.std.specs.Prelude.{map};
+    ghost use Rattle.tb_match.specs.Trees.{tree};
     ghost use Rattle.tb_query.specs.Search.{Asked, IsSearchable};
 
     ghost Value = { Asked };
@@ -34,9 +36,9 @@ impl<'q> Model for Searcher<'q> {
 
     ghost use Rattle.tb_query.specs.Askers.{asked};
 
-    ghost view = { λ s. record { pat = s.pat.now; tests = map asked s.askers.items } };
+    ghost view = { λ s. record { pat = tree s.pat.now; tests = map asked s.askers.items } };
 
-    ghost invariant = { λ s. IsSearchable (record { pat = s.pat.now; tests = map asked s.askers.items }) };
+    ghost invariant = { λ s. IsSearchable (record { pat = tree s.pat.now; tests = map asked s.askers.items }) };
 }
 
 impl<'q> Searcher<'q> {
@@ -46,8 +48,8 @@ impl<'q> Searcher<'q> {
         pat: &'q Pat,
         exprs: &'q [Expr],
     ) -> Result<Searcher<'q>, AllocError>
-        requires { IsSearchable (record { pat = pat.now; tests = map test exprs.now }) }
-        ensures { IfOk result (λ s. s ≡ record { pat = pat.now; tests = map test exprs.now }) }
+        requires { IsSearchable (record { pat = tree pat.now; tests = map test exprs.now }) }
+        ensures { IfOk result (λ s. s ≡ record { pat = tree pat.now; tests = map test exprs.now }) }
     {
         let askers = askers_of(alloc, exprs)?;
         Ok(Searcher { pat, askers })

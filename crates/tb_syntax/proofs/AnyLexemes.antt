@@ -1,6 +1,7 @@
 -- Any lexemes are a query or are wrong at a place, any query is within the limits or beyond one, and so any text says something or has a fault.
 use Rattle.std.proofs.Common.{◌≡◌, ℕ, suc, ◌+◌, ◌<◌, List, [], ◌∷◌, length, take, Option, Some, None, option_and_then, refl, sym, ap, subst, ◌∙◌, ◌⊎◌, inl, inr, arith, add-one}
 use Rattle.std.proofs.lemmas.Bool.{cases_lt}
+use Rattle.tb_match.specs.Trees.{Tree}
 use Rattle.tb_syntax.specs.declared.fault.Fault.{Fault}
 use Rattle.tb_syntax.specs.declared.fault.Fault.TheVariants.{TooLong, Syntax, TooMany, TooDeep, Repeat, Memory}
 use Rattle.tb_syntax.specs.declared.lexeme.Lexeme.{Lexeme}
@@ -9,7 +10,7 @@ use Rattle.tb_syntax.specs.declared.scanning.Place.{Place}
 use Rattle.tb_syntax.specs.Grammar.{Query, query_text, IsQuery}
 use Rattle.tb_syntax.specs.Limits.{query_count, query_nests, query_repeats}
 use Rattle.tb_syntax.specs.Machine.{run, step, ends, start}
-use Rattle.tb_syntax.specs.Pattern.{Tree, Tester, query_tree, query_testers}
+use Rattle.tb_syntax.specs.Pattern.{Tester, query_tree, query_testers}
 use Rattle.tb_syntax.specs.Reading.{IsText, IsWithin, IsWrongAt, IsFault, byte_of}
 use Rattle.tb_syntax.specs.Saying.{Says}
 use Rattle.tb_syntax.proofs.Beginnings.{begins, begins_none}

@@ -21,4 +21,3 @@ pub mod Readings
 pub mod OneFault
 pub mod AnyText
 pub mod AnyLexemes
-pub mod PatternsMade

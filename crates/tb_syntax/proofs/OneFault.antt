@@ -2,13 +2,14 @@
 use Rattle.std.proofs.Common.{◌≡◌, ◌<◌, ◌≤◌, ◌+◌, ℕ, List, ◌++◌, length, take, drop, true, false, refl, sym, ap, subst, ◌∙◌, ◌⊎◌, inl, inr, ⊎_elim, append_assoc, arith}
 use Rattle.std.proofs.lemmas.Bool.{false≢true, cases_lt}
 use Rattle.std.proofs.lemmas.List.{length-take, take-append-drop, take-append-le}
+use Rattle.tb_match.specs.Trees.{Tree}
 use Rattle.tb_syntax.specs.declared.fault.Fault.{Fault}
 use Rattle.tb_syntax.specs.declared.fault.Fault.TheVariants.{TooLong, Syntax, TooMany, TooDeep, Repeat, Memory}
 use Rattle.tb_syntax.specs.declared.lexeme.Lexeme.{Lexeme}
 use Rattle.tb_syntax.specs.declared.lexing.Span.{Span}
 use Rattle.tb_syntax.specs.Grammar.{Query, query_text, IsBeginning}
 use Rattle.tb_syntax.specs.Limits.{query_count, query_nests, query_repeats}
-use Rattle.tb_syntax.specs.Pattern.{Tree, Tester}
+use Rattle.tb_syntax.specs.Pattern.{Tester}
 use Rattle.tb_syntax.specs.Reading.{IsText, IsWrongAt, IsFault, byte_of}
 use Rattle.tb_syntax.specs.Saying.{Says}
 use Rattle.tb_syntax.proofs.Lexings.{one_lexing}

@@ -3,6 +3,7 @@ use Rattle.std.proofs.Common.{◌≡◌, ℕ, ◌+◌, ◌≤◌, min, List, [],
 use Rattle.std.proofs.lemmas.Bool.{false≢true}
 use Rattle.std.proofs.lemmas.List.{map-append}
 use Rattle.tb_match.specs.declared.pattern.Pat.{Pat}
+use Rattle.tb_match.specs.Trees.{Tree, tok, rep, tree}
 use Rattle.tb_syntax.specs.declared.expr.Literal.{Literal}
 use Rattle.tb_syntax.specs.declared.lexeme.Attr.TheVariants.{Form}
 use Rattle.tb_syntax.specs.declared.lexeme.Lexeme.{Lexeme}
@@ -10,9 +11,8 @@ use Rattle.tb_syntax.specs.declared.lexeme.Lexeme.TheVariants.{LeftParen, RightP
 use Rattle.tb_syntax.specs.Follow.{begins_flag, begins_bar, begins_unit, begins_atom, begins_rep, EndsTest, EndsItem, EndsCat, EndsAlt}
 use Rattle.tb_syntax.specs.Grammar.{test_text, Repeat, quest, star, plus, exactly, at_least, between, rep_text, Alt, one_cat, or_alt, Cat, one_item, and_cat, Item, once, repeated, Atom, any, brackets, bare, parens, alt_text, cat_text, item_text, atom_text, Query, query, query_text, ending_text}
 use Rattle.tb_syntax.specs.Parsing.{head, tail, bounds, ReadsLiteral, ReadsTest, ReadsRepeat, ReadsExpr, ReadsAtom, ReadsItem, ReadsItems, ReadsCat, ReadsCats, ReadsAlt, ReadsQuery}
-use Rattle.tb_syntax.specs.Pattern.{Tester, every, whole, Tree, tok, rep, alt_of, repeated_tree, alt_count, cat_count, item_count, atom_count, alt_parts, cat_parts, item_tree, atom_tree, alt_testers, cat_testers, item_testers, atom_testers, query_tree, query_testers}
+use Rattle.tb_syntax.specs.Pattern.{Tester, every, whole, alt_of, repeated_tree, alt_count, cat_count, item_count, atom_count, alt_parts, cat_parts, item_tree, atom_tree, alt_testers, cat_testers, item_testers, atom_testers, query_tree, query_testers}
 use Rattle.tb_syntax.specs.Limits.{query_count}
-use Rattle.tb_syntax.specs.Trees.{tree}
 use Rattle.tb_syntax.proofs.Unique.{test_begins, rep_no_flag, before_cat, cat_begins, ends_item, ends_cat, ends_alt, cat_bar}
 
 -- token expressions

@@ -1,7 +1,7 @@
 -- A text and its lexemes: what is wrong with one that is no query, and what one says that is a query.
 use Rattle.std.proofs.Common.{◌≡◌, ℕ, ◌≤◌, List, length, map, sym, ap, subst, ◌∙◌, arith}
 use Rattle.std.proofs.lemmas.List.{length-map}
-use Rattle.tb_match.specs.declared.pattern.Pat.{Pat}
+use Rattle.tb_match.specs.Trees.{Tree}
 use Rattle.tb_match.specs.Weight.{Fits}
 use Rattle.tb_syntax.specs.declared.expr.Expr.{Expr}
 use Rattle.tb_syntax.specs.declared.lexeme.Lexeme.{Lexeme}
@@ -11,10 +11,9 @@ use Rattle.tb_syntax.specs.Lexing.{Lexes}
 use Rattle.tb_syntax.specs.Exprs.{tester}
 use Rattle.tb_syntax.specs.Limits.{query_count}
 use Rattle.tb_syntax.specs.Parsing.{ReadsQuery}
-use Rattle.tb_syntax.specs.Pattern.{Tree, Tester, query_tree, query_testers}
+use Rattle.tb_syntax.specs.Pattern.{Tester, query_tree, query_testers}
 use Rattle.tb_syntax.specs.Reading.{IsAccepted, IsWrongAt, IsFault, byte_of}
 use Rattle.tb_syntax.specs.Saying.{IsSaid, Says}
-use Rattle.tb_syntax.specs.Trees.{tree}
 use Rattle.tb_syntax.proofs.Fitting.{query_fits}
 use Rattle.tb_syntax.proofs.Lexings.{few}
 use Rattle.tb_syntax.proofs.PatternLemmas.{query_size}
@@ -56,9 +55,20 @@ few_tests text ls ms ss t xs h same reads =
     let limit = h.1.2 in
     omega arith
 
-pub fits : (text : List ℕ) (ls ms : List Lexeme) (ss : List Span) (p : Pat) (xs : List Expr) → IsAccepted text ls ss → ms ≡ ls → ReadsQuery ms (tree p) (map tester xs) →
-    Fits (length xs) p
-fits text ls ms ss p xs h same reads =
+pub fits : (text : List ℕ) (ls ms : List Lexeme) (ss : List Span) (t : Tree) (xs : List Expr) → IsAccepted text ls ss → ms ≡ ls → ReadsQuery ms t (map tester xs) →
+    Fits (length xs) t
+fits text ls ms ss t xs h same reads =
     let size = few text ls ss h.1.0.1 in
     let limit = h.1.0.0 in
-    query_fits h.0 (length xs) p h.1.4 (omega (arith, ap length h.1.1)) (counted text ls ms ss (tree p) xs h same reads) (read_off text ls ms ss (tree p) (map tester xs) h same reads).0
+    let tree = (read_off text ls ms ss t (map tester xs) h same reads).0 in
+    subst (λ n. Fits n t) (sym (counted text ls ms ss t xs h same reads))
+    (subst (Fits (query_count h.0)) (sym tree) (query_fits h.0 h.1.4 (omega (arith, ap length h.1.1))))
+
+-- the pattern that a text says can be searched for over as many token expressions
+pub searchable : (text : List ℕ) (t : Tree) (es : List Tester) (said : List (List ℕ)) → Says text t es said → Fits (length es) t × (length es ≤ 32)
+searchable text t es said (ls, ss, (q, ((short, lexes), spells, count, deep, times), pattern, tests), saying) =
+    let size = few text ls ss lexes in
+    let many : length es ≡ query_count q = sym (ap length tests) ∙ query_size q in (
+      subst (λ n. Fits n t) (sym many) (subst (Fits (query_count q)) pattern (query_fits q times (omega (arith, ap length spells)))),
+      omega arith,
+    )

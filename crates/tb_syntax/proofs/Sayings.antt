@@ -2,12 +2,13 @@
 use Rattle.std.proofs.Common.{◌≡◌, ℕ, suc, ◌+◌, ◌<◌, ◌≤◌, List, [], ◌∷◌, ◌++◌, length, drop, get_or, false, Some, refl, sym, ap, subst, ◌∙◌, append_assoc, append-nil, add-one, drop-cons, arith, inl, inr}
 use Rattle.std.proofs.lemmas.Option.{slice_get-get_or}
 use Rattle.std.proofs.lemmas.List.{drop_all}
+use Rattle.tb_match.specs.Trees.{Tree}
 use Rattle.tb_syntax.specs.declared.lexeme.Lexeme.{Lexeme}
 use Rattle.tb_syntax.specs.declared.lexeme.Lexeme.TheVariants.{Quote}
 use Rattle.tb_syntax.specs.declared.lexing.Span.{Span}
 use Rattle.tb_syntax.specs.First.{said_of}
 use Rattle.tb_syntax.specs.Lexing.{Lexes, literals_after, bytes_at}
-use Rattle.tb_syntax.specs.Pattern.{Tree, Tester, query_tree, query_testers}
+use Rattle.tb_syntax.specs.Pattern.{Tester, query_tree, query_testers}
 use Rattle.tb_syntax.specs.Saying.{IsSaid, Says}
 use Rattle.tb_syntax.specs.Spelling.{IsQuoted}
 use Rattle.tb_syntax.proofs.Firsts.{says_that}

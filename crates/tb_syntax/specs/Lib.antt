@@ -8,6 +8,5 @@ pub mod First
 pub mod Reading
 pub mod Saying
 pub mod Exprs
-pub mod Trees
 pub mod Follow
 pub mod Parsing

@@ -1,12 +1,13 @@
 -- What is read off lexemes that begin with a part of a query: what the part says, and what is left.
 use Rattle.std.specs.Prelude.{◌≡◌, ℕ, ◌+◌, ◌≤◌, List, [], ◌∷◌, ◌++◌, length, false, Option, Some, None}
+use Rattle.tb_match.specs.Trees.{Tree}
 use Rattle.tb_syntax.specs.declared.expr.Literal.{Literal}
 use Rattle.tb_syntax.specs.declared.lexeme.Flag.{Flag}
 use Rattle.tb_syntax.specs.declared.lexeme.Lexeme.{Lexeme}
 use Rattle.tb_syntax.specs.declared.lexeme.Lexeme.TheVariants.{LeftBrace, Quote, Stray}
 use Rattle.tb_syntax.specs.Follow.{begins_flag, begins_rep, EndsConj, EndsTest, EndsItem, EndsCat, EndsAlt}
 use Rattle.tb_syntax.specs.Grammar.{flag_text, Test, Conj, Unit', test_text, conj_text, unit_text, Repeat, quest, star, plus, exactly, at_least, between, rep_text, Alt, Cat, Item, Atom, parens, alt_text, cat_text, item_text, atom_text, Query, query_text}
-use Rattle.tb_syntax.specs.Pattern.{Tester, both_of, either_of, test_parts, conj_parts, unit_tester, Tree, cat_of, alt_of, alt_count, cat_count, item_count, atom_count, alt_parts, cat_parts, item_tree, atom_tree, alt_testers, cat_testers, item_testers, atom_testers, query_tree, query_testers}
+use Rattle.tb_syntax.specs.Pattern.{Tester, both_of, either_of, test_parts, conj_parts, unit_tester, cat_of, alt_of, alt_count, cat_count, item_count, atom_count, alt_parts, cat_parts, item_tree, atom_tree, alt_testers, cat_testers, item_testers, atom_testers, query_tree, query_testers}
 use Rattle.tb_syntax.specs.Limits.{query_count}
 
 -- the first lexeme, and what is left

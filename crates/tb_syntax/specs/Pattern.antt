@@ -1,5 +1,6 @@
 -- What a query says: its pattern over token expressions, and those expressions, each without where it lies in memory.
-use Rattle.std.specs.Prelude.{◌≡◌, ℕ, zero, suc, ◌+◌, List, [], ◌∷◌, ◌++◌, Option, None, Some}
+use Rattle.std.specs.Prelude.{◌≡◌, ℕ, zero, suc, ◌+◌, List, [], ◌∷◌, ◌++◌, None, Some}
+use Rattle.tb_match.specs.Trees.{Tree, tok, cat, alt, rep, forest}
 use Rattle.tb_syntax.specs.declared.lexeme.Attr.{Attr}
 use Rattle.tb_syntax.specs.declared.lexeme.Attr.TheVariants.{Form}
 use Rattle.tb_syntax.specs.declared.lexeme.Flag.{Flag}
@@ -59,22 +60,6 @@ abbrev mutual
 
 abbrev pub test_tester : Test → Tester
 test_tester t = either_of (test_parts t)
-
--- A pattern over token expressions, which stand by their numbers.
-mutual
-  pub data Tree : Type 0 where
-    tok : ℕ → Tree
-    cat : Forest → Tree
-    alt : Forest → Tree
-    rep : Tree → ℕ → Option ℕ → Tree
-
-  pub data Forest : Type 0 where
-    no_more : Forest
-    and_more : Tree → Forest → Forest
-
-abbrev pub forest : List Tree → Forest
-forest [] = no_more
-forest (t ∷ ts) = and_more t (forest ts)
 
 -- a sequence, an alternative of one is that one
 abbrev pub cat_of : List Tree → Tree

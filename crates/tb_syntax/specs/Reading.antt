@@ -2,6 +2,7 @@
 use Rattle.std.specs.Prelude.{◌≡◌, ℕ, ◌+◌, ◌<◌, ◌≤◌, List, length, take, true, false, option_map}
 use Rattle.std.specs.List.{slice_get}
 use Rattle.std.specs.Option.{unwrap_or}
+use Rattle.tb_match.specs.Trees.{Tree}
 use Rattle.tb_syntax.specs.declared.lexeme.Lexeme.{Lexeme}
 use Rattle.tb_syntax.specs.declared.lexing.Span.{Span}
 use Rattle.tb_syntax.specs.declared.fault.Fault.{Fault}
@@ -9,7 +10,7 @@ use Rattle.tb_syntax.specs.declared.fault.Fault.TheVariants.{TooLong, Syntax, To
 use Rattle.tb_syntax.specs.Grammar.{Query, query_text, IsQuery, IsBeginning}
 use Rattle.tb_syntax.specs.Lexing.{Lexes}
 use Rattle.tb_syntax.specs.Limits.{query_count, query_nests, query_repeats}
-use Rattle.tb_syntax.specs.Pattern.{Tree, Tester, query_tree, query_testers}
+use Rattle.tb_syntax.specs.Pattern.{Tester, query_tree, query_testers}
 
 -- the text is short enough, and has these lexemes at these places
 abbrev pub IsText : List ℕ → List Lexeme → List Span → Type 0

@@ -2,7 +2,7 @@
 
 ghost use Rattle.std.specs.Prelude.{◌≡◌, ◌≤◌, ◌⊎◌, ℕ, List, length};
 ghost use Rattle.std.specs.List.{slice_get};
-ghost use Rattle.tb_match.specs.declared.pattern.Pat.{Pat};
+ghost use Rattle.tb_match.specs.Trees.{Tree};
 ghost use Rattle.tb_match.specs.Weight.{Fits};
 ghost use Rattle.tb_syntax.specs.declared.fault.Fault.{Fault};
 ghost use Rattle.tb_syntax.specs.declared.fault.Fault.TheVariants.{Memory};
@@ -13,8 +13,7 @@ ghost use Rattle.tb_syntax.specs.Lexing.{Lexes, bytes_at};
 ghost use Rattle.tb_syntax.specs.Reading.{IsFault, IsWrongAt};
 ghost use Rattle.tb_syntax.specs.Saying.{Says};
 ghost use Rattle.tb_syntax.specs.Spelling.{IsQuoted};
-ghost use Rattle.tb_syntax.specs.Pattern.{Tree, Tester, Reads};
-ghost use Rattle.tb_syntax.specs.Trees.{tree};
+ghost use Rattle.tb_syntax.specs.Pattern.{Tester, Reads};
 
 /// Lexemes have one derivation at most, and so say one thing at most.
 pub fn one_reading()
@@ -72,9 +71,8 @@ pub fn each_text_is_told()
     ensures { (text : List ℕ) → ((t : Tree) × (es : List Tester) × (said : List (List ℕ)) × Says text t es said) ⊎ ((e : Fault) × (e ≡ Memory → ⊥) × IsFault text e) }
 {}
 
-/// What a text says has a pattern of the matcher, which can be searched for over its token
-/// expressions.
+/// The pattern that a text says can be searched for over its token expressions.
 pub fn what_is_said_can_be_searched()
     ensures { (text : List ℕ) (t : Tree) (es : List Tester) (said : List (List ℕ)) → Says text t es said →
-        (p : Pat) × (tree p ≡ t) × Fits (length es) p × (length es ≤ 32) }
+        Fits (length es) t × (length es ≤ 32) }
 {}

@@ -1,9 +1,9 @@
 //! Reading patterns.
 
 ghost use Rattle.std.specs.Prelude.{◌≡◌, ◌∷◌, ◌≤◌, ◌-◌, length, map, IfOk};
+ghost use Rattle.tb_match.specs.Trees.{tree};
 ghost use Rattle.tb_syntax.specs.Exprs.{tester};
 ghost use Rattle.tb_syntax.specs.Follow.{begins_atom};
-ghost use Rattle.tb_syntax.specs.Trees.{tree};
 ghost use Rattle.tb_syntax.specs.Parsing.{ReadsNumbers, ReadsRepeat, ReadsExpr, ReadsAtom, ReadsItem, ReadsItems, ReadsCat, ReadsCats, ReadsAlt, ReadsQuery};
 
 use crate::asking::test_at;

@@ -2,12 +2,12 @@
 
 ghost use Rattle.std.specs.Prelude.{length, map, IfOk, IfErr, ◌≡◌, ◌≤◌};
 ghost use Rattle.std.specs.String.{string_bytes};
+ghost use Rattle.tb_match.specs.Trees.{tree};
 ghost use Rattle.tb_match.specs.Weight.{Fits};
 ghost use Rattle.tb_syntax.specs.Reading.{IsAccepted, IsFault, byte_of};
 ghost use Rattle.tb_syntax.specs.Saying.{Says};
 ghost use Rattle.tb_syntax.specs.declared.fault.Fault.TheVariants.{Memory};
 ghost use Rattle.tb_syntax.specs.Exprs.{tester};
-ghost use Rattle.tb_syntax.specs.Trees.{tree};
 
 use crate::fault::Fault;
 use crate::lexing::{Lexed, Span, lex};
@@ -86,7 +86,7 @@ pub struct Query {
 /// only of texts within the limit of length.
 pub fn parse(alloc: Global, text: &str) -> Result<Query, Fault>
     ensures query { IfOk result (λ x. Says text.now (tree x.parsed.pat) (map tester x.parsed.exprs.items) (map string_bytes x.literals.items)) }
-    ensures fits { IfOk result (λ x. Fits (length x.parsed.exprs.items) x.parsed.pat) }
+    ensures fits { IfOk result (λ x. Fits (length x.parsed.exprs.items) (tree x.parsed.pat)) }
     ensures few { IfOk result (λ x. length x.parsed.exprs.items ≤ 32) }
     ensures fault { IfErr result (λ e. IsFault text.now e) }
     ensures memory { IfErr result (λ e. e ≡ Memory → length text.now ≤ 2000) }

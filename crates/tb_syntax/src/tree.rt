@@ -1,8 +1,8 @@
 //! Patterns over token expressions.
 
 ghost use Rattle.std.specs.Prelude.{◌≡◌, map, IfOk};
-ghost use Rattle.tb_syntax.specs.Trees.{tree};
-ghost use Rattle.tb_syntax.specs.Pattern.{tok, rep, cat_of, alt_of};
+ghost use Rattle.tb_match.specs.Trees.{tok, rep, tree};
+ghost use Rattle.tb_syntax.specs.Pattern.{cat_of, alt_of};
 
 use std::alloc::{AllocError, Global};
 use tb_match::Pat;

@@ -3,8 +3,10 @@ use Rattle.tb_match.specs.Bits.{Forward, InTable}
 use Rattle.tb_match.specs.Hits.{AreHits, IsFound, IsWord}
 use Rattle.tb_match.specs.Match.{Match}
 use Rattle.tb_match.specs.Facts.{Holds}
+use Rattle.tb_match.specs.Trees.{tree}
 use Rattle.tb_match.proofs.Filters.{AreHits-same, words_are_found}
 use Rattle.tb_match.proofs.Steps.{steps_limit, steps_countable}
+use Rattle.tb_match.proofs.Parts.{is_tok}
 use Rattle.tb_match.proofs.finding.find.Goals as goal
 
 pub rows-requires-clause-countable : goal.rows-requires-clause-countable
@@ -13,7 +15,7 @@ rows-requires-clause-countable c = steps_countable _ _ c.requires.1 (omega arith
 pub returns-clause-hits : goal.returns-clause-hits
 returns-clause-hits c =
     let truth = c.args.truth.now in
-    let pat = c.args.pat.now in
+    let pat = tree c.args.pat.now in
     let last = c.words-last.result in
     let w = last / 64 + 1 in
     let count : last ≡ truth.words = c.words-last.ensures.count in
@@ -33,5 +35,5 @@ pub returns-in-Tok-clause-hits : goal.returns-in-Tok-clause-hits
 returns-in-Tok-clause-hits c =
     let truth = c.args.truth.now in
     let hits = c.in_ok-words.words.items in
-    subst (λ p. AreHits c.args.strategy (IsFound truth p) hits) (sym c.in-Tok.is)
+    subst (λ p. AreHits c.args.strategy (IsFound truth p) hits) (sym (is_tok c.args.pat.now c.in-Tok.expr c.in-Tok.is))
     (AreHits-same c.args.strategy (IsWord truth c.in-Tok.expr) _ (words_are_found truth c.in-Tok.expr) hits (c.in_ok-words.ensures c.args.strategy))

@@ -1,15 +1,14 @@
-use Rattle.std.proofs.Common.{◌≡◌, ◌≤◌, ap, sym, ◌∙◌, subst, SomeIff}
-use Rattle.tb_match.specs.Parts.{weight_of_all}
+use Rattle.std.proofs.Common.{◌≤◌, sym, subst, SomeIff}
 use Rattle.tb_match.specs.Weight.{weight_of}
-use Rattle.tb_match.proofs.Parts.{weight_of-Cat, weight_of-Alt}
+use Rattle.tb_match.proofs.Parts.{is_cat, is_alt}
 use Rattle.tb_match.proofs.weights.+weight.Goals as goal
 
 pub weight-returns-in-Cat : goal.weight-returns-in-Cat
 weight-returns-in-Cat t c =
-    let e : weight_of c.args.pat.now ≡ weight_of_all c.deref.result.now = ap weight_of c.in-Cat.is ∙ weight_of-Cat c.in-Cat.parts ∙ ap weight_of_all (sym c.deref.ensures.value) in
-    subst (λ n. SomeIff c.weight_of_parts.result (n ≤ 1000000) n) (sym e) c.weight_of_parts.ensures
+    let shown = is_cat c.args.pat.now c.in-Cat.parts c.deref.result.now c.in-Cat.is c.deref.ensures.value in
+    subst (λ p. SomeIff c.weight_of_parts.result (weight_of p ≤ 1000000) (weight_of p)) (sym shown) c.weight_of_parts.ensures
 
 pub weight-returns-in-Alt : goal.weight-returns-in-Alt
 weight-returns-in-Alt t c =
-    let e : weight_of c.args.pat.now ≡ weight_of_all c.deref-in-Alt.result.now = ap weight_of c.in-Alt.is ∙ weight_of-Alt c.in-Alt.parts ∙ ap weight_of_all (sym c.deref-in-Alt.ensures.value) in
-    subst (λ n. SomeIff c.weight_of_parts-in-Alt.result (n ≤ 1000000) n) (sym e) c.weight_of_parts-in-Alt.ensures
+    let shown = is_alt c.args.pat.now c.in-Alt.parts c.deref-in-Alt.result.now c.in-Alt.is c.deref-in-Alt.ensures.value in
+    subst (λ p. SomeIff c.weight_of_parts-in-Alt.result (weight_of p ≤ 1000000) (weight_of p)) (sym shown) c.weight_of_parts-in-Alt.ensures

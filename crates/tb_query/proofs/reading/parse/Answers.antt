@@ -1,6 +1,6 @@
 use Rattle.std.proofs.Common.{map}
 use Rattle.std.proofs.lemmas.Result.{err_from_is_err_and}
-use Rattle.tb_syntax.specs.Trees.{tree}
+use Rattle.tb_match.specs.Trees.{tree}
 use Rattle.tb_query.specs.Exprs.{test}
 use Rattle.tb_query.proofs.Queries.{is_query, is_fault}
 use Rattle.tb_query.proofs.reading.parse.Goals as goal
@@ -15,6 +15,6 @@ returns-in_err-exprs-clause-fault c =
 
 pub returns-clause-query : goal.returns-clause-query
 returns-clause-query c =
-    is_query c.args.text.now c.in_ok-read.read.parsed.pat c.as_slice-2.result.now c.in_ok-read.read.parsed.exprs.items c.as_slice.result.now
+    is_query c.args.text.now (tree c.in_ok-read.read.parsed.pat) c.as_slice-2.result.now c.in_ok-read.read.parsed.exprs.items c.as_slice.result.now
     c.in_ok-read.read.literals.items (map test c.in_ok-exprs.exprs.items) c.new.result c.as_slice-2.ensures.value c.as_slice.ensures.value
     c.in_ok-read.ensures.query c.in_ok-exprs.ensures.values c.in_ok-exprs.ensures.accepted c.new.ensures

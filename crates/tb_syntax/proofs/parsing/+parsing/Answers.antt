@@ -1,9 +1,9 @@
 use Rattle.std.proofs.Common.{◌≡◌, List, map, length, min, sym, ◌∙◌, arith}
 use Rattle.std.proofs.lemmas.List.{length-map}
 use Rattle.std.specs.Borrow.{Bor}
+use Rattle.tb_match.specs.Trees.{tree}
 use Rattle.tb_syntax.specs.declared.lexeme.Lexeme.{Lexeme}
 use Rattle.tb_syntax.specs.Exprs.{tester}
-use Rattle.tb_syntax.specs.Trees.{tree}
 use Rattle.tb_syntax.specs.Parsing.{ReadsItems, ReadsCats}
 use Rattle.tb_syntax.proofs.TestLemmas as tests
 use Rattle.tb_syntax.proofs.TestLemmas.{if_ok}

@@ -8,7 +8,7 @@ returns-clause-query c =
 
 pub returns-clause-fits : goal.returns-clause-fits
 returns-clause-fits c =
-    fits c.args.text.now c.in_ok-lexed.lexed.lexemes.items c.as_slice.result.now c.in_ok-lexed.lexed.spans.items c.in_ok-parsed.parsed.pat c.in_ok-parsed.parsed.exprs.items
+    fits c.args.text.now c.in_ok-lexed.lexed.lexemes.items c.as_slice.result.now c.in_ok-lexed.lexed.spans.items _ c.in_ok-parsed.parsed.exprs.items
     c.in_ok-lexed.ensures.query c.as_slice.ensures.value c.in_ok-parsed.ensures
 
 pub returns-clause-few : goal.returns-clause-few

@@ -4,6 +4,7 @@ use Rattle.std.proofs.lemmas.List.Sums.{length-filter}
 use Rattle.tb_conllu.specs.Text.{BlockText, RowText}
 use Rattle.tb_conllu.specs.Words.{is_word}
 use Rattle.tb_match.specs.Facts.{Holds}
+use Rattle.tb_match.specs.Trees.{tree}
 use Rattle.tb_query.specs.Askers.{asked}
 use Rattle.tb_query.specs.Tests.{Test}
 use Rattle.tb_query.specs.Meaning.{word_rows, HoldsOf}
@@ -20,7 +21,7 @@ invariant_of-self g c =
     let askers = c.self.inside.askers in
     let long : length c.fill.new.askers ≡ askers.len = c.fill.auto.askers ∙ c.deref_mut.ensures.len in
     let tests = ap (map asked) (with_items_is askers c.fill.new.askers long) ∙ c.fill.ensures.same ∙ ap (map asked) c.deref_mut.ensures.value in
-    subst (λ (ts : List Test). IsSearchable (record { pat = c.self.inside.pat.now; tests = ts })) (sym tests) c.self.invariant
+    subst (λ (ts : List Test). IsSearchable (record { pat = tree c.self.inside.pat.now; tests = ts })) (sym tests) c.self.invariant
 
 pub returns-clause-truth : goal.returns-clause-truth
 returns-clause-truth g c =
