@@ -10,8 +10,7 @@ use Rattle.sqlite_sql.specs.declared.ops.CompareOp.TheVariants.{Eq}
 use Rattle.sqlite.specs.Collation.TheVariants.{Binary}
 use Rattle.sqlite.specs.Effect.{Database, RefusesQuery, RefusesToRead}
 use Rattle.sqlite.specs.Listing.{understood, reads_listing, IsSourceOf}
-use Rattle.sqlite.specs.State.{State, FailsToQuery, FailsToShow, IsNotRun, IsNoStatement}
-use Rattle.sqlite.specs.Clock.{timed}
+use Rattle.sqlite.specs.State.{State, FailsToQuery, IsNotRun, IsNoStatement}
 use Rattle.sqlite.proofs.Callers.{IsPlain, command_of}
 use Rattle.sqlite_resolve.specs.declared.compiled.Compiled.{Compiled}
 use Rattle.sqlite_resolve.specs.declared.error.CompileError.{CompileError}
@@ -21,11 +20,18 @@ use Rattle.sqlite_tied.specs.Compute.{everything}
 use Rattle.tb_tables.specs.Layout.{desk_schema}
 use Rattle.tb_tables.proofs.Texts.{simple, by_number}
 use Rattle.tb_tables.specs.Failing.{IsStoreFault}
+use Rattle.tb_reading.specs.declared.error.ReadError.{ReadError}
+use Rattle.tb_reading.specs.declared.error.ReadError.TheVariants.{Store}
+use Rattle.tb_reading.specs.Failing.{IsReadFault}
 use Rattle.tb_reading.proofs.Queries.{rising, select_batches, select_batches_terms, select_batches_is, select_sentences, select_sentences_terms, select_sentences_is, select_moves, select_moves_terms, select_moves_is, select_totals, select_totals_terms, select_totals_is, select_revisions, select_revisions_terms, select_revisions_is, select_pulled, select_pulled_terms, select_pulled_is, select_versions, select_versions_terms, select_versions_is, select_batch, select_batch_terms, select_batch_is, select_sentence, select_sentence_terms, select_sentence_is, select_named_batch, select_named_batch_terms, select_named_batch_is, select_named_sentence, select_named_sentence_terms, select_named_sentence_is, select_revision, select_revision_terms, select_revision_is, select_one_pulled, select_one_pulled_terms, select_one_pulled_is, select_work, select_work_terms, select_work_is, select_heads, select_heads_terms, select_heads_is, select_bodies, select_bodies_terms, select_bodies_is}
 
 pub if_err : {T E : Type 0} {P Q : E → Type 0} (r : Result T E) → IfErr r P → ((e : E) → P e → Q e) → IfErr r Q
 if_err (Ok x) h f = tt
 if_err (Err e) h f = f e h
+
+-- what is told of the error of the database holds of it as that of a read
+pub err_is : {T : Type 0} (r : Result T ReadError) (e : ReadError) (x : Error) → r ≡ Err e → e ≡ Store x → IsStoreFault x → IfErr r IsReadFault
+err_is r e x is from_it fault = subst (λ s. IfErr s IsReadFault) (sym is) (subst IsReadFault (sym from_it) fault)
 
 -- a text of this length is one statement, with so many parameters
 abbrev pub IsWhole : ℕ → ℕ → Result Compiled CompileError → Type 0

@@ -1,5 +1,5 @@
 -- Rows that are read one at a time.
-use Rattle.std.specs.Prelude.{◌≡◌, ◌≢◌, ℕ, pos, codes, List, [], ◌∷◌, ◌++◌, map, All, Option, Some, None, false, Result, Err, IfOk, OnOk, IsTrue}
+use Rattle.std.specs.Prelude.{◌≡◌, ◌≢◌, ℕ, pos, codes, List, [], ◌∷◌, ◌++◌, map, All, Option, Some, None, false, Result, Err, IfOk, IfErr, OnOk, IsTrue}
 use Rattle.std.specs.Borrow.{Fml, RattleType, MutBor}
 use Rattle.std.specs.Io.BufRead.{Rests}
 use mir.Syntax.{named}
@@ -11,15 +11,18 @@ use Rattle.sqlite.specs.Given.{HasGiven}
 use Rattle.sqlite.specs.State.{HasCleanDisk, IsUnchanged, Survives}
 use Rattle.sqlite.specs.declared.rows.stream.Rows.{Rows}
 use Rattle.sqlite.specs.contracts.rows.stream.Rows.{the_row}
+use Rattle.sqlite.specs.declared.error.Error.{Error}
 use Rattle.sqlite_trees.specs.Tree.{IsAscending}
 use Rattle.tb_tables.specs.Layout.{desk_schema}
 use Rattle.tb_tables.specs.Records.{Tables, Sentence, Revision, Shows, revision_shown, revision_view}
 use Rattle.tb_tables.specs.Changes.{Holds}
+use Rattle.tb_tables.specs.Failing.{IsStoreFault}
 use Rattle.tb_reading.specs.declared.stream.Head.{Head}
 use Rattle.tb_reading.specs.declared.cursor.Body.{Body}
 use Rattle.tb_reading.specs.declared.error.ReadError.{ReadError}
 use Rattle.tb_reading.specs.declared.error.ReadError.TheVariants.{Form}
 use Rattle.tb_reading.specs.Readable.{IsRevision, ComesBefore}
+use Rattle.tb_reading.specs.Failing.{IsReadFault}
 
 -- ---- the batch and the current revision of a sentence
 
@@ -74,8 +77,9 @@ abbrev pub StandsAt : {S : Type 0} (g : Ghosts S) (h : Held S) → Option Row �
 StandsAt g h None xs = xs ≡ []
 StandsAt g h (Some r) xs = (x : Revision) × (rest : List Revision) × (xs ≡ x ∷ rest) × (r ≡ body_shown x) × AreToCome g h rest
 
--- what the connection is left as where no rows are handed out
-pub record IsLeft {S : Type 0} (g : Ghosts S) (old new : Held S) : Type 0 where
+-- what the connection is left as where no rows are handed out, and why: on the tables of a desk for a fault of the store alone
+pub record IsLeft {S X : Type 0} (g : Ghosts S) (old : Held S) (result : Result X Error) (new : Held S) : Type 0 where
+  pub fails : HasCleanDisk (state g new) → (state g old).step_limit ≡ None → (state g old).now.schema ≡ desk_schema → IfErr result IsStoreFault
   pub mode : old.in_transaction ≡ false → new.in_transaction ≡ false
   pub kept : HasCleanDisk (state g new) → IsTrue (state g new).is_open → (d : Tables) → Holds g old d → Holds g new d
   pub lasts : Survives (state g old) (state g new) (λ _. (state g old).now.schema ≢ desk_schema)
@@ -86,6 +90,7 @@ pub record HasGone {S : Type 0} (g : Ghosts S) (old : Rows S g) (result : Result
   pub same_reference : new.conn.ghost_name ≡ old.conn.ghost_name
   pub ok : HasCleanDisk (state g new.conn.now) → IfOk result (λ found. (xs : List Revision) → AreToCome g old.conn.now xs → GoesOn g new.conn.now found xs)
   pub form : HasCleanDisk (state g new.conn.now) → result ≡ Err Form → (xs : List Revision) → ¬ AreToCome g old.conn.now xs
+  pub fails : HasCleanDisk (state g new.conn.now) → (state g old.conn.now).step_limit ≡ None → IfErr result (λ e. (xs : List Revision) → AreToCome g old.conn.now xs → IsReadFault e)
   pub same : HasCleanDisk (state g new.conn.now) → OnOk result (IsUnchanged (state g old.conn.now) (state g new.conn.now))
   pub mode : old.conn.now.in_transaction ≡ false → new.conn.now.in_transaction ≡ false
   pub kept : HasCleanDisk (state g new.conn.now) → IsTrue (state g new.conn.now).is_open → (d : Tables) → Holds g old.conn.now d → Holds g new.conn.now d

@@ -1,8 +1,11 @@
-use Rattle.std.proofs.Common.{refl}
+use Rattle.std.proofs.Common.{refl, sym, subst}
+use Rattle.std.proofs.lemmas.Result.{err_from_is_err_and}
 use Rattle.sqlite.specs.Given.{row_if}
-use Rattle.tb_reading.proofs.Lent.{stands_at, goes_on, always_readable}
+use Rattle.tb_reading.specs.Failing.{IsReadFault}
+use Rattle.tb_reading.proofs.Lent.{stands_at, goes_on, always_readable, advance_fails}
 use Rattle.tb_reading.proofs.Shown.{if_ok, on_ok}
-use Rattle.tb_reading.proofs.Staying.{unchanged_holds}
+use Rattle.tb_reading.proofs.Staying.{unchanged_holds, stopped_stays}
+use Rattle.tb_reading.proofs.Failing.{if_err}
 use Rattle.tb_reading.proofs.cursor.next_body.Goals as goal
 
 pub returns : goal.returns
@@ -21,11 +24,35 @@ returns g c =
           form = λ clean failed xs left.
               let none = c.body_at.ensures.form failed in
               always_readable g.S.Store old now.conn.now row xs left (stands_at g.S.Store old now.conn.now (moved.same clean) row xs left (moved.ok clean)) none.0 none.1;
+          fails = λ clean unlimited. if_err found c.body_at.ensures.fails (λ e fault xs left. fault);
           same = λ clean. on_ok found (moved.same clean);
           mode = moved.mode;
           kept = λ clean opened d holds. unchanged_holds g.S.Store old now.conn.now d holds (moved.same clean);
           survives = moved.survives;
         },
+      ),
+      record { ends = tt },
+    )
+
+pub returns-in_err-advance : goal.returns-in_err-advance
+returns-in_err-advance g c =
+    let old = c.args.rows.now.conn.now in
+    let new = c.advance.new.self.conn.now in
+    let told = err_from_is_err_and c.from_residual.result c.from_residual.ensures.1 in
+    let moved = c.in_err-advance.ensures in (
+      (
+        refl,
+        (λ _. tt),
+        rw told.1 (record {
+          same_reference = moved.same_reference;
+          ok = λ clean. tt;
+          form = λ clean failed xs left. let from_it = told.2 in absurd cc;
+          fails = λ clean unlimited xs left. subst IsReadFault (sym told.2) (advance_fails g.S.Store old new _ (moved.err clean) unlimited xs left);
+          same = λ clean. tt;
+          mode = moved.mode;
+          kept = λ clean opened d holds. stopped_stays g.S.Store old new d _ holds opened (moved.kept clean);
+          survives = moved.survives;
+        }),
       ),
       record { ends = tt },
     )

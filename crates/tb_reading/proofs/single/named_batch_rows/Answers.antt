@@ -7,7 +7,7 @@ use Rattle.tb_tables.specs.Layout.{desk_schema}
 use Rattle.tb_tables.specs.Records.{batch_view, batch_shown, numbered}
 use Rattle.tb_reading.specs.Found.{has_name, key_alone}
 use Rattle.tb_reading.proofs.Queries.{select_named_batch, select_named_batch_is, select_named_batch_terms}
-use Rattle.tb_reading.proofs.Picked.{picked, found_numbered}
+use Rattle.tb_reading.proofs.Picked.{picked}
 use Rattle.tb_reading.proofs.Staying.{either_way, shown_stays, failed_stays, lasts}
 use Rattle.tb_reading.proofs.Shown.{if_ok, when_ok, shown_same, commits_nothing, shown_at}
 use Rattle.tb_reading.proofs.Failing.{if_err, named_batch_fails}

@@ -9,7 +9,7 @@ use Rattle.tb_tables.specs.Layout.{desk_schema}
 use Rattle.tb_tables.specs.Records.{revision_view, revision_shown}
 use Rattle.tb_reading.specs.Found.{has_pair}
 use Rattle.tb_reading.proofs.Queries.{select_revision, select_revision_is, select_revision_terms}
-use Rattle.tb_reading.proofs.Picked.{picked, found_numbered}
+use Rattle.tb_reading.proofs.Picked.{picked}
 use Rattle.tb_reading.proofs.Staying.{either_way, shown_stays, failed_stays, lasts}
 use Rattle.tb_reading.proofs.Shown.{if_ok, when_ok, shown_same, commits_nothing, shown_at}
 use Rattle.tb_reading.proofs.Failing.{if_err, revision_fails}

@@ -17,6 +17,7 @@ use Rattle.tb_reading.specs.Readable.{IsHead}
 use Rattle.tb_reading.specs.Streams.{head_of, head_shown}
 use Rattle.tb_reading.proofs.Queries.{select_heads, select_heads_is, select_heads_terms, rising}
 use Rattle.tb_reading.proofs.Streaming.{heads_all, same_heads, shown_push, begun_answer, not_among, heads_readable}
+use Rattle.tb_reading.proofs.Failing.{err_is, heads_fails}
 use Rattle.tb_reading.proofs.Staying.{lasts, unchanged_holds, stopped_stays, refused_stays, then_holds}
 use Rattle.tb_reading.proofs.stream.heads.Goals as goal
 
@@ -178,3 +179,21 @@ returns-clause-lasts g c =
     let old = state g.S.Store c.args.conn.now in
     let here = c.rows.invariant.1 in
     survives_weaker old _ (λ _. old.now.schema ≢ desk_schema) (λ _. old.now.schema ≢ desk_schema) (λ _ db other. other) (search rules)
+
+pub returns-in_err-rows-clause-fails : goal.returns-in_err-rows-clause-fails
+returns-in_err-rows-clause-fails g c clean unlimited has =
+    let told = err_from_is_err_and c.from_residual.result c.from_residual.ensures.1 in
+    let refused = rw c.in_err-rows.was at c.query.follows.holds-at-none in
+    err_is _ told.0 _ told.1 told.2 (heads_fails (state g.S.Store c.args.conn.now) (state g.S.Store c.query.follows.lender-at-none) _ _ (refused.err clean) refl has unlimited)
+
+pub returns-in_err-row-clause-fails : goal.returns-in_err-row-clause-fails
+returns-in_err-row-clause-fails g c clean unlimited has =
+    let moved = c.next.follows.holds-at-none in
+    let mid = state g.S.Store c.rows.rows.conn.now in
+    let now = state g.S.Store c.next.follows.lender-at-none.conn.now in
+    let late : HasCleanDisk now = search rules in
+    let was = c.rows.invariant.3 (omega (arith, moved.survives.clean)) has in
+    let same : mid.now.schema ≡ desk_schema = ap (λ (d : Database). d.schema) was.1.0.now_is ∙ has in
+    let told = err_from_is_err_and c.from_residual-in_err-row.result c.from_residual-in_err-row.ensures.1 in
+    let failed = (rw c.in_err-row.was at (moved.err late)) select_heads [] (map head_shown c.rows.found.items) was.0 in
+    err_is _ told.0 _ told.1 told.2 (heads_fails mid now _ _ failed refl same (c.rows.invariant.1.limit ∙ unlimited))

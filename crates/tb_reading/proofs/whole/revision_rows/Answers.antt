@@ -9,7 +9,7 @@ use Rattle.tb_tables.specs.Records.{revision_view, revision_shown}
 use Rattle.std.proofs.Common.{map}
 use Rattle.std.proofs.lemmas.List.Elements.{recursion_from_All}
 use Rattle.tb_reading.proofs.Queries.{select_revisions, select_revisions_is, select_revisions_terms, rising}
-use Rattle.tb_reading.proofs.Ordered.{all_shown, by_order, keyed, first, IsFirst, first_in_order, rises, placed, numbers_rise, numbers_placed, keyed_twice, pair, IsPair, pair_in_order, revisions_rise, revisions_placed}
+use Rattle.tb_reading.proofs.Ordered.{all_shown, by_order, keyed_twice, pair, IsPair, pair_in_order, revisions_rise, revisions_placed}
 use Rattle.tb_reading.proofs.Staying.{either_way, shown_stays, failed_stays, lasts}
 use Rattle.tb_reading.proofs.Shown.{if_ok, when_ok, shown_same, commits_nothing}
 use Rattle.tb_reading.proofs.Failing.{if_err, revisions_fails}
