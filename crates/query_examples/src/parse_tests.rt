@@ -5,7 +5,8 @@ use crate::cases::assert_cases;
 use crate::questions::Question;
 use std::test::Fail;
 use tb_query::{
-    a_query_has_no_fault, a_text_has_one_fault, a_text_has_one_reading, literals_stand_in_order,
+    a_query_has_no_fault, a_text_asks_one_thing, a_text_has_one_fault, a_text_has_one_reading,
+    literals_stand_in_order,
 };
 
 /// Queries; the limits, reached and passed; texts outside the grammar; the first literal that is no pattern; the first
@@ -59,6 +60,7 @@ const QUERIES: &str = r#""a""b" => Tok(0) Form Plain <a"b>
 #[test]
 fn queries_are_parsed(rt: HostRuntime) -> Result<(), Fail> {
     a_text_has_one_reading();
+    a_text_asks_one_thing();
     a_text_has_one_fault();
     a_query_has_no_fault();
     literals_stand_in_order();
