@@ -53,6 +53,10 @@ module _ {S : Type 0} (g : Ghosts S) where
       let first = one has in
       unchanged_then (state g a) (state g b) (state g c) first (two (ap (λ (d : Database). d.schema) first.0.now_is ∙ has))
 
+  -- what holds of any revisions that the tables show holds of those of the desk
+  pub of_desk : {P : Type 0} (c : Held S) (s : Machine) → IsDesk g c s → IsReadable (tables_of s) → ((state g c).now.schema ≡ desk_schema → (xs : List Revision) → All IsRevision xs → IsAscending ComesBefore xs → Shows revision_view (map revision_shown xs) ((state g c).now.trees 5) → P) → P
+  of_desk c s desk readable told = told desk.holds.schema (rows_of s) (revisions_fit (rows_of s) readable.revisions) (revisions_rise 1 s.sentences) desk.holds.stands.revisions
+
   module _ {V O : Type 0} (takes : Taking V O) (stops : Stopping V O) (c : Held S) (s : Machine) (wanted : Sentence → Bool) (picks : List Pick) (is : picks ≡ picks_from wanted 1 s.sentences) (desk : IsDesk g c s) (readable : IsReadable (tables_of s)) (v : V) (o : O) where
     asked_are : bodies (picked picks (rows_of s)) ≡ texts (filter wanted s.sentences)
     asked_are = ap (λ ps. bodies (picked ps (rows_of s))) is ∙ currents wanted 1 s.sentences

@@ -1,10 +1,11 @@
 -- Texts that are visited one after the other.
-use Rattle.std.specs.Prelude.{◌≡◌, ◌≢◌, ℕ, List, [], ◌∷◌, ◌⊎◌, map}
+use Rattle.std.specs.Prelude.{◌≡◌, ◌≢◌, ℕ, List, [], ◌∷◌, ◌⊎◌, map, ⊤}
 use Rattle.tb_conllu.specs.Text.{text_of}
 use Rattle.tb_core.specs.Machine.{Sentence}
 use Rattle.tb_reading.specs.declared.error.ReadError.TheVariants.{Form}
+use Rattle.tb_reading.specs.Failing.{IsReadFault}
 use Rattle.tb_search.specs.declared.stopped.Stopped.{Stopped}
-use Rattle.tb_search.specs.declared.stopped.Stopped.TheVariants.{Read}
+use Rattle.tb_search.specs.declared.stopped.Stopped.TheVariants.{Read, Output}
 
 -- the texts of the current revisions of sentences
 abbrev pub texts : List Sentence → List (List ℕ)
@@ -13,6 +14,11 @@ texts xs = map (λ (x : Sentence). text_of (x.current.body ∷ [])) xs
 -- the fault of a store, of memory or of a sink: not that rows or texts are of no desk
 abbrev pub IsFault : Stopped → Type 0
 IsFault e = e ≢ Read Form
+
+-- where the database answered with an error, it is a fault of the store
+abbrev pub IsStopFault : Stopped → Type 0
+IsStopFault (Read e) = IsReadFault e
+IsStopFault Output = ⊤
 
 -- what a text makes of a visitor and of what it fills
 abbrev pub Taking : Type 0 → Type 0 → Type 1

@@ -1,6 +1,6 @@
 //! The text of released sentences, and that of a batch.
 
-ghost use Rattle.std.specs.Prelude.{◌≡◌, ◌≢◌, false, nat_eq, Err, IsTrue, IfOk, IfErr, OnOk};
+ghost use Rattle.std.specs.Prelude.{◌≡◌, ◌≢◌, false, nat_eq, Err, IsTrue, IfOk, IfErr, OnOk, None};
 ghost use Rattle.std.specs.Io.KnownBytes.{Appends};
 ghost use Rattle.sqlite.specs.State.{HasCleanDisk, IsUnchanged, Survives};
 ghost use Rattle.sqlite.specs.Held.{state};
@@ -10,7 +10,7 @@ ghost use Rattle.tb_tables.specs.Changes.{Holds};
 ghost use Rattle.tb_core.specs.Machine.{Machine};
 ghost use Rattle.tb_standing.specs.Standing.{IsDesk};
 ghost use Rattle.tb_search.specs.Released.{released, in_batch, current_text, IsCutShort};
-ghost use Rattle.tb_search.specs.Visited.{IsFault};
+ghost use Rattle.tb_search.specs.Visited.{IsFault, IsStopFault};
 ghost use Rattle.tb_search.specs.Picked.{picks_from};
 
 use crate::copying::Copying;
@@ -32,6 +32,7 @@ fn batch_picks<S: Alter>(
     ensures picked { HasCleanDisk (state S.Store conn.new) → IfOk result (λ v. (s : Machine) → IsDesk S.Store conn.old s → v.items ≡ picks_from (λ x. nat_eq x.batch batch) 1 s.sentences) }
     ensures refused { result ≢ Err Stopped.Output }
     ensures fault { HasCleanDisk (state S.Store conn.new) → IfErr result (λ e. (s : Machine) → IsDesk S.Store conn.old s → IsFault e) }
+    ensures fails { HasCleanDisk (state S.Store conn.new) → (state S.Store conn.old).step_limit ≡ None → IfErr result (λ e. (s : Machine) → IsDesk S.Store conn.old s → IsStopFault e) }
     ensures same { HasCleanDisk (state S.Store conn.new) → OnOk result ((state S.Store conn.old).now.schema ≡ desk_schema → IsUnchanged (state S.Store conn.old) (state S.Store conn.new)) }
     ensures mode { conn.old.in_transaction ≡ false → conn.new.in_transaction ≡ false }
     ensures kept { HasCleanDisk (state S.Store conn.new) → IsTrue (state S.Store conn.new).is_open → (d : Tables) → Holds S.Store conn.old d → Holds S.Store conn.new d }
@@ -56,6 +57,7 @@ pub fn export_released<S: Alter, W: Sink>(
     ensures put { HasCleanDisk (state S.Store conn.new) → OnOk result ((s : Machine) → IsDesk S.Store conn.old s → Appends (W.held out.old) (W.held out.new) (current_text (released s))) }
     ensures part { HasCleanDisk (state S.Store conn.new) → IfErr result (λ e. (s : Machine) → IsDesk S.Store conn.old s → IsCutShort e (W.held out.old) (W.held out.new) (released s)) }
     ensures fault { HasCleanDisk (state S.Store conn.new) → IfErr result (λ e. (s : Machine) → IsDesk S.Store conn.old s → IsFault e) }
+    ensures fails { HasCleanDisk (state S.Store conn.new) → (state S.Store conn.old).step_limit ≡ None → IfErr result (λ e. (s : Machine) → IsDesk S.Store conn.old s → IsStopFault e) }
     ensures mode { conn.old.in_transaction ≡ false → conn.new.in_transaction ≡ false }
     ensures kept { HasCleanDisk (state S.Store conn.new) → IsTrue (state S.Store conn.new).is_open → (d : Tables) → Holds S.Store conn.old d → Holds S.Store conn.new d }
     ensures survives { (state S.Store conn.old).now.schema ≡ desk_schema → Survives (state S.Store conn.old) (state S.Store conn.new) (λ _. ⊥) }
@@ -77,6 +79,7 @@ pub fn export_numbered<S: Alter, W: Sink>(
     ensures put { HasCleanDisk (state S.Store conn.new) → OnOk result ((s : Machine) → IsDesk S.Store conn.old s → Appends (W.held out.old) (W.held out.new) (current_text (in_batch s batch))) }
     ensures part { HasCleanDisk (state S.Store conn.new) → IfErr result (λ e. (s : Machine) → IsDesk S.Store conn.old s → IsCutShort e (W.held out.old) (W.held out.new) (in_batch s batch)) }
     ensures fault { HasCleanDisk (state S.Store conn.new) → IfErr result (λ e. (s : Machine) → IsDesk S.Store conn.old s → IsFault e) }
+    ensures fails { HasCleanDisk (state S.Store conn.new) → (state S.Store conn.old).step_limit ≡ None → IfErr result (λ e. (s : Machine) → IsDesk S.Store conn.old s → IsStopFault e) }
     ensures mode { conn.old.in_transaction ≡ false → conn.new.in_transaction ≡ false }
     ensures kept { HasCleanDisk (state S.Store conn.new) → IsTrue (state S.Store conn.new).is_open → (d : Tables) → Holds S.Store conn.old d → Holds S.Store conn.new d }
     ensures lasts { Survives (state S.Store conn.old) (state S.Store conn.new) (λ _. (state S.Store conn.old).now.schema ≢ desk_schema) }

@@ -4,7 +4,7 @@ ghost use Rattle.std.specs.Prelude.{◌≡◌, ◌<◌, ◌≤◌, ◌++◌, ◌
 ghost use Rattle.tb_conllu.specs.Words.{words_of};
 ghost use Rattle.tb_report.specs.Keywords.{key_of};
 ghost use Rattle.tb_report.specs.Tables.{IsTableOf};
-ghost use Rattle.tb_search.specs.Visited.{IsFault};
+ghost use Rattle.tb_search.specs.Visited.{IsFault, IsStopFault};
 
 use crate::seeker::{Seeker, sentence_in};
 use crate::stopped::Stopped;
@@ -28,6 +28,7 @@ fn count_hit(
     requires last { hit.1 ≤ words_of block.now }
     ensures counted { OnOk result ((keys : List (List ℕ)) → IsTableOf keys table.old → IsTableOf (keys ++ key_of column block.now hit ∷ []) table.new) }
     ensures fault { IfErr result IsFault }
+    ensures fails { IfErr result IsStopFault }
 {
     if table.total() == u64::MAX {
         return Err(Stopped::Read(ReadError::Store(Error::SqliteFailure(ErrorCode::TooBig))));
@@ -48,6 +49,7 @@ fn count_hits(
     requires { All (λ h. (h.0 < h.1) × (h.1 ≤ words_of block.now)) hits.now }
     ensures counted { OnOk result ((keys : List (List ℕ)) → IsTableOf keys table.old → IsTableOf (keys ++ map (key_of column block.now) hits.now) table.new) }
     ensures fault { IfErr result IsFault }
+    ensures fails { IfErr result IsStopFault }
 {
     for hit in hits {
         count_hit(alloc, block, *hit, column, table)?;

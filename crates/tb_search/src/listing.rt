@@ -6,7 +6,7 @@ ghost use Rattle.tb_conllu.specs.Words.{words_of};
 ghost use Rattle.tb_conllu.specs.Sunk.{AppendsPart};
 ghost use Rattle.tb_core.specs.Machine.{sent_id_of};
 ghost use Rattle.tb_report.specs.Keywords.{keyword_line};
-ghost use Rattle.tb_search.specs.Visited.{IsFault};
+ghost use Rattle.tb_search.specs.Visited.{IsFault, IsStopFault};
 ghost use Rattle.tb_search.specs.Searched.{AreCut, lines, occurrences, total_line};
 
 use crate::seeker::{Seeker, raised, sentence_in};
@@ -43,6 +43,7 @@ impl Sink for Line {
 fn put_piece<W: Sink>(bytes: &[u8], out: &mut W) -> Result<(), Stopped>
     ensures put { OnOk result (Appends (W.held out.old) (W.held out.new) bytes.now) }
     ensures part { IfErr result (λ e. (e ≡ Stopped.Output) × AppendsPart (W.held out.old) (W.held out.new) bytes.now) }
+    ensures fails { IfErr result IsStopFault }
 {
     match out.put(bytes) {
         Ok(()) => Ok(()),
@@ -65,6 +66,7 @@ fn put_hit<W: Sink>(
     ensures put { OnOk result (Appends (W.held out.old) (W.held out.new) (keyword_line block.now hit context)) }
     ensures cut { IfErr result (λ e. AreCut e (W.held out.old) (W.held out.new) context (occurrences block.now (hit ∷ []))) }
     ensures fault { IfErr result IsFault }
+    ensures fails { IfErr result IsStopFault }
 {
     line.bytes.clear();
     kwic_named(name, block, hit, context, line)?;
@@ -85,6 +87,7 @@ fn put_hits<W: Sink>(
     ensures put { OnOk result (Appends (W.held out.old) (W.held out.new) (lines context (occurrences block.now hits.now))) }
     ensures cut { IfErr result (λ e. AreCut e (W.held out.old) (W.held out.new) context (occurrences block.now hits.now)) }
     ensures fault { IfErr result IsFault }
+    ensures fails { IfErr result IsStopFault }
 {
     let mut line = Line {
         bytes: Vec::new(alloc),
@@ -132,6 +135,7 @@ impl<'q, W: Sink> Visitor<W> for Listing<'q> {
 pub(crate) fn put_total<W: Sink>(found: u64, out: &mut W) -> Result<(), Stopped>
     ensures put { OnOk result (Appends (W.held out.old) (W.held out.new) (total_line found)) }
     ensures part { IfErr result (λ e. (e ≡ Stopped.Output) × AppendsPart (W.held out.old) (W.held out.new) (total_line found)) }
+    ensures fails { IfErr result IsStopFault }
 {
     let mut digits = Buffer::new();
     put_piece(b"hits ".as_slice(), out)?;

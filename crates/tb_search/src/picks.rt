@@ -9,7 +9,7 @@ ghost use Rattle.tb_tables.specs.Values.{batch_of};
 ghost use Rattle.tb_standing.specs.Standing.{batch_record, sentence_record};
 ghost use Rattle.tb_reading.specs.Streams.{head_of};
 ghost use Rattle.tb_search.specs.Released.{is_released as is_in_release};
-ghost use Rattle.tb_search.specs.Visited.{IsFault};
+ghost use Rattle.tb_search.specs.Visited.{IsFault, IsStopFault};
 ghost use Rattle.tb_search.specs.Picked.{picks_from, begins, pick_of};
 
 use crate::stopped::Stopped;
@@ -68,6 +68,7 @@ fn push_where(found: &mut Vec<Pick>, wanted: bool, pick: Pick) -> Result<(), Sto
     ensures more { IfOk result (λ _. found.new.items ≡ found.old.items ++ cond wanted (pick ∷ []) []) }
     ensures refused { result ≢ Err Stopped.Output }
     ensures fault { IfErr result IsFault }
+    ensures fails { IfErr result IsStopFault }
 {
     if wanted {
         found.push(pick)?;
@@ -86,6 +87,7 @@ pub(crate) fn released_of(
     ensures picked { IfOk result (λ v. (bs : List Batch) (xs : List Sentence) → map batch_of batches.now ≡ map batch_record bs → pulled.now ≡ pulled_from 1 xs → heads.now ≡ map head_of (map sentence_record xs) → v.items ≡ picks_from (is_in_release bs) 1 xs) }
     ensures refused { result ≢ Err Stopped.Output }
     ensures fault { IfErr result IsFault }
+    ensures fails { IfErr result IsStopFault }
 {
     let mut found = Vec::new(alloc);
     let mut number = 0;
@@ -112,6 +114,7 @@ pub(crate) fn picks_of(alloc: Global, work: &[Work]) -> Result<Vec<Pick>, Stoppe
     ensures picked { IfOk result (λ v. v.items ≡ map pick_of work.now) }
     ensures refused { result ≢ Err Stopped.Output }
     ensures fault { IfErr result IsFault }
+    ensures fails { IfErr result IsStopFault }
 {
     let mut found = Vec::new(alloc);
     for one in work {

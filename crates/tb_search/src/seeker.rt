@@ -5,7 +5,7 @@ ghost use Rattle.tb_conllu.specs.Text.{BlockText};
 ghost use Rattle.tb_conllu.specs.Told.{IsFile};
 ghost use Rattle.tb_conllu.specs.Words.{words_of};
 ghost use Rattle.tb_query.specs.Search.{AreHitsIn};
-ghost use Rattle.tb_search.specs.Visited.{IsFault};
+ghost use Rattle.tb_search.specs.Visited.{IsFault, IsStopFault};
 
 use crate::stopped::Stopped;
 use sqlite::{Error, ErrorCode};
@@ -19,6 +19,7 @@ use tb_reading::ReadError;
 pub(crate) fn sentence_in<'a>(alloc: Global, body: &'a [u8]) -> Result<BlockRef<'a>, Stopped>
     ensures read { IfOk result (λ b. (x : BlockText) → IsFile body.now (x ∷ []) → b ≡ x) }
     ensures fault { IfErr result (λ e. (x : BlockText) → IsFile body.now (x ∷ []) → IsFault e) }
+    ensures fails { IfErr result IsStopFault }
 {
     let Some(block) = known_block(alloc, body)? else {
         return Err(Stopped::Read(ReadError::Form));
@@ -30,6 +31,7 @@ pub(crate) fn sentence_in<'a>(alloc: Global, body: &'a [u8]) -> Result<BlockRef<
 pub(crate) fn raised(count: u64, more: usize) -> Result<u64, Stopped>
     ensures sum { IfOk result (λ n. n ≡ count + more) }
     ensures fault { IfErr result IsFault }
+    ensures fails { IfErr result IsStopFault }
 {
     match count.checked_add(more as u64) {
         Some(sum) => Ok(sum),
@@ -54,6 +56,7 @@ impl<'q> Seeker<'q> {
     ) -> Result<Seeker<'q>, Stopped>
         ensures asked { IfOk result (λ s. (s.searcher ≡ query.now) × (s.strategy ≡ strategy)) }
         ensures fault { IfErr result IsFault }
+        ensures fails { IfErr result IsStopFault }
     {
         let searcher = query.searcher(alloc)?;
         Ok(Seeker {
@@ -68,6 +71,7 @@ impl<'q> Seeker<'q> {
         ensures hits { IfOk result (λ v. AreHitsIn self.old.strategy self.old.searcher block.now v.items) }
         ensures lie { IfOk result (λ v. All (λ h. (h.0 < h.1) × (h.1 ≤ words_of block.now)) v.items) }
         ensures fault { IfErr result (λ e. words_of block.now ≤ 1000 → IsFault e) }
+        ensures fails { IfErr result IsStopFault }
         ensures same { self.new ≡ self.old }
     {
         if words(block) > 1000 {

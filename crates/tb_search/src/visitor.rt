@@ -9,6 +9,7 @@ use crate::stopped::Stopped;
 pub(crate) trait Visitor<O> {
     ghost use Rattle.std.specs.Prelude.{ℕ, List};
     ghost use Rattle.tb_search.specs.declared.stopped.Stopped.{Stopped};
+    ghost use Rattle.tb_search.specs.Visited.{IsStopFault};
 
     // what a text makes of the visitor and of what is filled
     ghost Takes: { Self → O → List ℕ → Self → O → Type 0 };
@@ -19,5 +20,6 @@ pub(crate) trait Visitor<O> {
     /// Comes to a text.
     fn visit(&mut self, body: &[u8], filled: &mut O) -> Result<(), Stopped>
         ensures taken { OnOk result (Takes self.old filled.old body.now self.new filled.new) }
-        ensures stopped { IfErr result (λ e. Stops self.old filled.old body.now e filled.new) };
+        ensures stopped { IfErr result (λ e. Stops self.old filled.old body.now e filled.new) }
+        ensures fails { IfErr result IsStopFault };
 }

@@ -26,3 +26,11 @@ returns-in_err-work-clause-fault g c clean =
 
 pub returns-clause-fault : goal.returns-clause-fault
 returns-clause-fault g c clean = if_err c.picks_of.result (λ e fault s desk. fault) c.picks_of.ensures.fault
+
+pub returns-in_err-work-clause-fails : goal.returns-in_err-work-clause-fails
+returns-in_err-work-clause-fails g c clean unlimited =
+    let told = err_from_is_err_and c.from_residual.result c.from_residual.ensures.1 in
+    err_is _ _ _ told.0 told.1 told.2 (λ s desk. c.in_err-work.ensures.fails clean unlimited desk.holds.schema)
+
+pub returns-clause-fails : goal.returns-clause-fails
+returns-clause-fails g c clean unlimited = if_err c.picks_of.result (λ e fault s desk. fault) c.picks_of.ensures.fails

@@ -48,3 +48,19 @@ returns-in_err-pulled-clause-fault g c clean =
 
 pub returns-clause-fault : goal.returns-clause-fault
 returns-clause-fault g c clean = if_err c.released_of.result (λ e fault s desk. fault) c.released_of.ensures.fault
+
+pub returns-in_err-batches-clause-fails : goal.returns-in_err-batches-clause-fails
+returns-in_err-batches-clause-fails g c clean unlimited =
+    let told = err_from_is_err_and c.from_residual.result c.from_residual.ensures.1 in
+    err_is _ _ _ told.0 told.1 told.2 (λ s desk. c.in_err-batches.ensures.fails clean unlimited desk.holds.schema)
+
+pub returns-in_err-pulled-clause-fails : goal.returns-in_err-pulled-clause-fails
+returns-in_err-pulled-clause-fails g c clean unlimited =
+    let told = err_from_is_err_and c.from_residual-in_err-pulled.result c.from_residual-in_err-pulled.ensures.1 in
+    err_is _ _ _ told.0 told.1 told.2 (λ s desk.
+    let mid : HasCleanDisk (state g.S.Store c.batches.new.conn) = omega (arith, clean, c.pulled.ensures.lasts.clean) in
+    let still = desk_same g.S.Store c.args.conn.now c.batches.new.conn s desk (c.in_ok-batches.ensures.same mid desk.holds.schema) in
+    c.in_err-pulled.ensures.fails clean (c.batches.ensures.lasts.limit ∙ unlimited) still.holds.schema)
+
+pub returns-clause-fails : goal.returns-clause-fails
+returns-clause-fails g c clean unlimited = if_err c.released_of.result (λ e fault s desk. fault) c.released_of.ensures.fails

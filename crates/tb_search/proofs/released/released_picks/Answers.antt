@@ -1,4 +1,4 @@
-use Rattle.std.proofs.Common.{Err, map, ap, arith}
+use Rattle.std.proofs.Common.{Err, map, ap, ◌∙◌, arith}
 use Rattle.std.proofs.lemmas.Result.{err_from_is_err_and}
 use Rattle.sqlite.specs.Held.{state}
 use Rattle.sqlite.specs.State.{HasCleanDisk}
@@ -22,3 +22,13 @@ returns-clause-fault g c clean = if_err c.released_among.result (λ e told s des
 
 pub returns-clause-lasts : goal.returns-clause-lasts
 returns-clause-lasts g c = lasts_then g.S.Store c.args.conn.now c.heads.new.conn c.released_among.new.conn c.in_ok-heads.ensures.same c.heads.ensures.lasts c.released_among.ensures.lasts
+
+pub returns-in_err-heads-clause-fails : goal.returns-in_err-heads-clause-fails
+returns-in_err-heads-clause-fails g c clean unlimited =
+    let told = err_from_is_err_and c.from_residual.result c.from_residual.ensures.1 in
+    err_is _ _ _ told.0 told.1 told.2 (λ s desk. c.in_err-heads.ensures.fails clean unlimited desk.holds.schema)
+
+pub returns-clause-fails : goal.returns-clause-fails
+returns-clause-fails g c clean unlimited = if_err c.released_among.result (λ e told s desk.
+    let mid : HasCleanDisk (state g.S.Store c.heads.new.conn) = omega (arith, clean, c.released_among.ensures.lasts.clean) in
+    told s (desk_same g.S.Store c.args.conn.now c.heads.new.conn s desk (c.in_ok-heads.ensures.same mid desk.holds.schema))) (c.released_among.ensures.fails clean (c.heads.ensures.lasts.limit ∙ unlimited))

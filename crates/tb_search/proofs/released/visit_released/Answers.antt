@@ -4,7 +4,7 @@ use Rattle.sqlite.specs.Held.{state}
 use Rattle.sqlite.specs.State.{HasCleanDisk}
 use Rattle.tb_search.specs.Released.{is_released, released}
 use Rattle.tb_search.specs.Visited.{texts}
-use Rattle.tb_search.proofs.Visiting.{if_put, if_cut, desk_same, lasts_then, same_then, all_visited, some_visited}
+use Rattle.tb_search.proofs.Visiting.{if_put, if_cut, desk_same, lasts_then, same_then, of_desk, all_visited, some_visited}
 use Rattle.tb_search.proofs.Walking.{halts_here, err_is}
 use Rattle.tb_search.proofs.released.visit_released.Goals as goal
 
@@ -34,3 +34,14 @@ returns-clause-same g c clean = if_put c.visit_picked.result (λ told has.
 
 pub returns-clause-lasts : goal.returns-clause-lasts
 returns-clause-lasts g c = lasts_then g.S.Store c.args.conn.now c.released_picks.new.conn c.visit_picked.new.conn c.in_ok-picks.ensures.same c.released_picks.ensures.lasts c.visit_picked.ensures.lasts
+
+pub returns-in_err-picks-clause-fails : goal.returns-in_err-picks-clause-fails
+returns-in_err-picks-clause-fails g c clean unlimited =
+    let told = err_from_is_err_and c.from_residual.result c.from_residual.ensures.1 in
+    err_is _ _ _ told.0 told.1 told.2 (λ s desk. c.in_err-picks.ensures.fails clean unlimited s desk)
+
+pub returns-clause-fails : goal.returns-clause-fails
+returns-clause-fails g c clean unlimited = if_cut c.visit_picked.result (λ e told s desk.
+    let mid : HasCleanDisk (state g.S.Store c.released_picks.new.conn) = omega (arith, clean, c.visit_picked.ensures.lasts.clean) in
+    let still = desk_same g.S.Store c.args.conn.now c.released_picks.new.conn s desk (c.in_ok-picks.ensures.same mid desk.holds.schema) in
+    of_desk g.S.Store c.released_picks.new.conn s still (c.desk_rows_are_readable.ensures s desk.reachable) told) (c.visit_picked.ensures.fails clean (c.released_picks.ensures.lasts.limit ∙ unlimited))

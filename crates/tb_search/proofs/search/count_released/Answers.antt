@@ -28,3 +28,13 @@ returns-in_err-visit_released-clause-fault g c clean =
     err_is _ _ _ told.0 told.1 told.2 (λ s desk.
     let read = reads s (c.revisions_read_back.ensures s desk.reachable.reached) in
     sought_fault (λ v o t w q. Meets v.seeker.strategy v.seeker.searcher t (λ found. tells v o found w q)) (λ v o t e q. (b : BlockText) → IsTextOf b t → IsFault e) (λ v o t e q stopped. stopped) (released s) read (record { seeker = c.in_ok-seeker.seeker; column = c.args.column }) c.new-table.result _ c.visit_released.new.filled (c.in_err-visit_released.ensures.halted clean s desk))
+
+pub returns-in_err-seeker-clause-fails : goal.returns-in_err-seeker-clause-fails
+returns-in_err-seeker-clause-fails g c clean unlimited =
+    let told = err_from_is_err_and c.from_residual.result c.from_residual.ensures.1 in
+    err_is _ _ _ told.0 told.1 told.2 (λ s desk. c.in_err-seeker.ensures.fails)
+
+pub returns-in_err-visit_released-clause-fails : goal.returns-in_err-visit_released-clause-fails
+returns-in_err-visit_released-clause-fails g c clean unlimited =
+    let told = err_from_is_err_and c.from_residual-in_err-visit_released.result c.from_residual-in_err-visit_released.ensures.1 in
+    err_is _ _ _ told.0 told.1 told.2 (λ s desk. c.in_err-visit_released.ensures.fails clean unlimited s desk)

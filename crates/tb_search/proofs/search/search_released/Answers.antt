@@ -74,3 +74,18 @@ pub returns-in_err-put_total-clause-fault : goal.returns-in_err-put_total-clause
 returns-in_err-put_total-clause-fault g c clean =
     let told = err_from_is_err_and c.from_residual-in_err-put_total.result c.from_residual-in_err-put_total.ensures.1 in
     err_is _ _ _ told.0 told.1 told.2 (λ s desk. same_fault _ Output (sym c.in_err-put_total.ensures.part.0) of_sink)
+
+pub returns-in_err-seeker-clause-fails : goal.returns-in_err-seeker-clause-fails
+returns-in_err-seeker-clause-fails g c clean unlimited =
+    let told = err_from_is_err_and c.from_residual.result c.from_residual.ensures.1 in
+    err_is _ _ _ told.0 told.1 told.2 (λ s desk. c.in_err-seeker.ensures.fails)
+
+pub returns-in_err-visit_released-clause-fails : goal.returns-in_err-visit_released-clause-fails
+returns-in_err-visit_released-clause-fails g c clean unlimited =
+    let told = err_from_is_err_and c.from_residual-in_err-visit_released.result c.from_residual-in_err-visit_released.ensures.1 in
+    err_is _ _ _ told.0 told.1 told.2 (λ s desk. c.in_err-visit_released.ensures.fails clean unlimited s desk)
+
+pub returns-in_err-put_total-clause-fails : goal.returns-in_err-put_total-clause-fails
+returns-in_err-put_total-clause-fails g c clean unlimited =
+    let told = err_from_is_err_and c.from_residual-in_err-put_total.result c.from_residual-in_err-put_total.ensures.1 in
+    err_is _ _ _ told.0 told.1 told.2 (λ s desk. c.in_err-put_total.ensures.fails)

@@ -5,6 +5,7 @@ use Rattle.sqlite.specs.State.{HasCleanDisk}
 use Rattle.sqlite.specs.Held.{state}
 use Rattle.sqlite.proofs.StateLemmas.{survives_then, survives_weaker}
 use Rattle.sqlite.proofs.Callers.{unchanged_then}
+use Rattle.sqlite_trees.specs.declared.error.StoreError.TheVariants.{Unstorable}
 use Rattle.tb_tables.specs.Layout.{desk_schema}
 use Rattle.tb_search.specs.Picked.{picked, bodies}
 use Rattle.tb_search.proofs.Walking.{walk_starts, halts_here, none_left, some_taken, one_more, one_stopped, err_is, of_store, not_form}
@@ -130,3 +131,30 @@ returns-then-next-picks-clause-same g c clean has =
     let late : HasCleanDisk (state g.S.Store c.rows.rows.conn.now) = search rules in
     let here = c.rows.invariant.3 late has in
     search rules
+
+-- ---- an error is a fault of the store
+
+pub returns-in_err-rows-clause-fails : goal.returns-in_err-rows-clause-fails
+returns-in_err-rows-clause-fails g c clean unlimited =
+    let told = err_from_is_err_and c.from_residual.result c.from_residual.ensures.1 in
+    let left = rw c.in_err-rows.was at c.bodies.follows.holds-at-none in
+    err_is _ _ _ told.0 told.1 told.2 (λ has xs each rises shows. left.fails clean unlimited has)
+
+pub returns-in_err-body-clause-fails : goal.returns-in_err-body-clause-fails
+returns-in_err-body-clause-fails g c clean unlimited =
+    let moved = c.next_body.follows.holds-at-none in
+    let late : HasCleanDisk (state g.S.Store c.next_body.follows.lender-at-none.conn.now) = search rules in
+    let told = err_from_is_err_and c.from_residual-in_err-body.result c.from_residual-in_err-body.ensures.1 in
+    let fault = rw c.in_err-body.was at (moved.fails late (c.rows.invariant.2.limit ∙ unlimited)) in
+    err_is _ _ _ told.0 told.1 told.2 (λ has xs each rises shows.
+    let it = c.rows.invariant.4 (omega (arith, moved.survives.clean)) has xs each rises shows in
+    fault it.left it.coming)
+
+pub returns-in_err-next-clause-fails : goal.returns-in_err-next-clause-fails
+returns-in_err-next-clause-fails g c clean unlimited =
+    let told = err_from_is_err_and c.from_residual-in_err-next.result c.from_residual-in_err-next.ensures.1 in
+    let fault = rw c.in_err-next.was at c.visit_asked.ensures.fails in
+    err_is _ _ _ told.0 told.1 told.2 (λ has xs each rises shows. fault)
+
+pub returns-clause-fails : goal.returns-clause-fails
+returns-clause-fails g c clean unlimited has xs each rises shows = (Unstorable, refl)
