@@ -288,6 +288,7 @@ impl<S: Alter> Desk<S> {
         ensures put { HasCleanDisk (state S.Store self.new.conn) → OnOk result ((s : Machine) → StandsFor S.Store self.old s → Appends (W.held out.old) (W.held out.new) (current_text (released s))) }
         ensures part { HasCleanDisk (state S.Store self.new.conn) → IfErr result (λ e. (s : Machine) → StandsFor S.Store self.old s → IsBrokenOff e (W.held out.old) (W.held out.new) (released s)) }
         ensures refused { (r : AnyRefusal) → result ≢ Err (Fault.Refused r) }
+        ensures fails { HasCleanDisk (state S.Store self.new.conn) → (state S.Store self.old.conn).step_limit ≡ None → (s : Machine) → StandsFor S.Store self.old s → result ≢ Err Fault.NotADesk }
         ensures kept { HasCleanDisk (state S.Store self.new.conn) → IsTrue (state S.Store self.new.conn).is_open → (s : Machine) → StandsFor S.Store self.old s → StandsFor S.Store self.new s }
         ensures crash { (s : Machine) → StandsFor S.Store self.old s → Survives (state S.Store self.old.conn) (state S.Store self.new.conn) (λ _. ⊥) }
         ensures limits { self.new.limits ≡ self.old.limits }
@@ -305,6 +306,7 @@ impl<S: Alter> Desk<S> {
         ensures part { HasCleanDisk (state S.Store self.new.conn) → IfErr result (λ e. (s : Machine) → StandsFor S.Store self.old s → IsPartOfBatch s name.now e (W.held out.old) (W.held out.new)) }
         ensures bad_name { is_name name.now ≡ false → result ≡ Err (Fault.Refused Refusal.BadName) }
         ensures refused { HasCleanDisk (state S.Store self.new.conn) → IfErr result (λ e. (s : Machine) → StandsFor S.Store self.old s → RefusesBatch s name.now e) }
+        ensures fails { HasCleanDisk (state S.Store self.new.conn) → (state S.Store self.old.conn).step_limit ≡ None → (s : Machine) → StandsFor S.Store self.old s → result ≢ Err Fault.NotADesk }
         ensures none { (r : AnyRefusal) → result ≡ Err (Fault.Refused r) → W.held out.new ≡ W.held out.old }
         ensures kept { HasCleanDisk (state S.Store self.new.conn) → IsTrue (state S.Store self.new.conn).is_open → (s : Machine) → StandsFor S.Store self.old s → StandsFor S.Store self.new s }
         ensures crash { (s : Machine) → StandsFor S.Store self.old s → Survives (state S.Store self.old.conn) (state S.Store self.new.conn) (λ _. ⊥) }
@@ -324,6 +326,7 @@ impl<S: Alter> Desk<S> {
     pub fn number(&mut self, query: &Query, strategy: Strategy) -> Result<u64, Fault>
         ensures answered { HasCleanDisk (state S.Store self.new.conn) → IfOk result (λ n. (s : Machine) → StandsFor S.Store self.old s → IsNumber s query.now strategy self.old.limits.hits n) }
         ensures refused { HasCleanDisk (state S.Store self.new.conn) → (r : AnyRefusal) → result ≡ Err (Fault.Refused r) → (r ≡ Refusal.TooManyHits) × ((s : Machine) → StandsFor S.Store self.old s → HasTooMany s query.now strategy self.old.limits.hits) }
+        ensures fails { HasCleanDisk (state S.Store self.new.conn) → (state S.Store self.old.conn).step_limit ≡ None → (s : Machine) → StandsFor S.Store self.old s → result ≢ Err Fault.NotADesk }
         ensures stays { HasCleanDisk (state S.Store self.new.conn) → OnOk result ((s : Machine) → StandsFor S.Store self.old s → StandsFor S.Store self.new s) }
         ensures kept { HasCleanDisk (state S.Store self.new.conn) → IsTrue (state S.Store self.new.conn).is_open → (s : Machine) → StandsFor S.Store self.old s → StandsFor S.Store self.new s }
         ensures crash { (s : Machine) → StandsFor S.Store self.old s → Survives (state S.Store self.old.conn) (state S.Store self.new.conn) (λ _. ⊥) }
@@ -358,6 +361,7 @@ impl<S: Alter> Desk<S> {
         ensures answered { HasCleanDisk (state S.Store self.new.conn) → IfOk result (λ n. (s : Machine) → StandsFor S.Store self.old s → (found : List Occurrence) × AreReleasedHits s query.now strategy found × (n ≡ length found) × Appends (W.held out.old) (W.held out.new) (answer context found)) }
         ensures broken { HasCleanDisk (state S.Store self.new.conn) → IfErr result (λ e. (s : Machine) → StandsFor S.Store self.old s → (found : List Occurrence) → AreReleasedHits s query.now strategy found → IsPartFound e (W.held out.old) (W.held out.new) context found) }
         ensures refused { (r : AnyRefusal) → result ≢ Err (Fault.Refused r) }
+        ensures fails { HasCleanDisk (state S.Store self.new.conn) → (state S.Store self.old.conn).step_limit ≡ None → (s : Machine) → StandsFor S.Store self.old s → result ≢ Err Fault.NotADesk }
         ensures kept { HasCleanDisk (state S.Store self.new.conn) → IsTrue (state S.Store self.new.conn).is_open → (s : Machine) → StandsFor S.Store self.old s → StandsFor S.Store self.new s }
         ensures crash { (s : Machine) → StandsFor S.Store self.old s → Survives (state S.Store self.old.conn) (state S.Store self.new.conn) (λ _. ⊥) }
         ensures lasts { Survives (state S.Store self.old.conn) (state S.Store self.new.conn) (λ _. (state S.Store self.old.conn).now.schema ≢ desk_schema) }
@@ -371,6 +375,7 @@ impl<S: Alter> Desk<S> {
     pub fn count(&mut self, query: &Query, strategy: Strategy, column: Attr) -> Result<Freq, Fault>
         ensures answered { HasCleanDisk (state S.Store self.new.conn) → IfOk result (λ table. (s : Machine) → StandsFor S.Store self.old s → (found : List Occurrence) × AreReleasedHits s query.now strategy found × IsTableOf (keys column found) table) }
         ensures refused { (r : AnyRefusal) → result ≢ Err (Fault.Refused r) }
+        ensures fails { HasCleanDisk (state S.Store self.new.conn) → (state S.Store self.old.conn).step_limit ≡ None → (s : Machine) → StandsFor S.Store self.old s → result ≢ Err Fault.NotADesk }
         ensures kept { HasCleanDisk (state S.Store self.new.conn) → IsTrue (state S.Store self.new.conn).is_open → (s : Machine) → StandsFor S.Store self.old s → StandsFor S.Store self.new s }
         ensures crash { (s : Machine) → StandsFor S.Store self.old s → Survives (state S.Store self.old.conn) (state S.Store self.new.conn) (λ _. ⊥) }
         ensures lasts { Survives (state S.Store self.old.conn) (state S.Store self.new.conn) (λ _. (state S.Store self.old.conn).now.schema ≢ desk_schema) }

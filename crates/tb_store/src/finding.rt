@@ -1,6 +1,6 @@
 //! What queries find in released text.
 
-ghost use Rattle.std.specs.Prelude.{◌≡◌, ◌≢◌, ◌↔◌, ℕ, List, length, Err, false, IsTrue, IfOk, IfErr, OnOk};
+ghost use Rattle.std.specs.Prelude.{◌≡◌, ◌≢◌, ◌↔◌, ℕ, List, length, None, Err, false, IsTrue, IfOk, IfErr, OnOk};
 ghost use Rattle.std.specs.Io.KnownBytes.{Appends};
 ghost use Rattle.sqlite.specs.State.{HasCleanDisk, IsUnchanged, Survives};
 ghost use Rattle.sqlite.specs.Held.{state};
@@ -43,6 +43,7 @@ fn whole_number<S: Alter>(
 ) -> Result<u64, Fault>
     ensures answered { HasCleanDisk (state S.Store conn.new) → IfOk result (λ n. (s : Machine) → IsDesk S.Store conn.old s → (found : List Occurrence) × AreReleasedHits s query.now strategy found × (n ≡ length found)) }
     ensures refused { (r : AnyRefusal) → result ≢ Err (Fault.Refused r) }
+    ensures fails { HasCleanDisk (state S.Store conn.new) → (state S.Store conn.old).step_limit ≡ None → (s : Machine) → IsDesk S.Store conn.old s → result ≢ Err Fault.NotADesk }
     ensures same { HasCleanDisk (state S.Store conn.new) → OnOk result ((state S.Store conn.old).now.schema ≡ desk_schema → IsUnchanged (state S.Store conn.old) (state S.Store conn.new)) }
     ensures mode { conn.old.in_transaction ≡ false → conn.new.in_transaction ≡ false }
     ensures kept { HasCleanDisk (state S.Store conn.new) → IsTrue (state S.Store conn.new).is_open → (d : Tables) → Holds S.Store conn.old d → Holds S.Store conn.new d }
@@ -68,6 +69,7 @@ pub(crate) fn number<S: Alter>(
 ) -> Result<u64, Fault>
     ensures answered { HasCleanDisk (state S.Store conn.new) → IfOk result (λ n. (s : Machine) → IsDesk S.Store conn.old s → IsNumber s query.now strategy limit n) }
     ensures refused { HasCleanDisk (state S.Store conn.new) → (r : AnyRefusal) → result ≡ Err (Fault.Refused r) → (r ≡ Refusal.TooManyHits) × ((s : Machine) → IsDesk S.Store conn.old s → HasTooMany s query.now strategy limit) }
+    ensures fails { HasCleanDisk (state S.Store conn.new) → (state S.Store conn.old).step_limit ≡ None → (s : Machine) → IsDesk S.Store conn.old s → result ≢ Err Fault.NotADesk }
     ensures same { HasCleanDisk (state S.Store conn.new) → OnOk result ((state S.Store conn.old).now.schema ≡ desk_schema → IsUnchanged (state S.Store conn.old) (state S.Store conn.new)) }
     ensures mode { conn.old.in_transaction ≡ false → conn.new.in_transaction ≡ false }
     ensures kept { HasCleanDisk (state S.Store conn.new) → IsTrue (state S.Store conn.new).is_open → (d : Tables) → Holds S.Store conn.old d → Holds S.Store conn.new d }
@@ -92,6 +94,7 @@ pub(crate) fn search<S: Alter, W: Sink>(
     ensures answered { HasCleanDisk (state S.Store conn.new) → IfOk result (λ n. (s : Machine) → IsDesk S.Store conn.old s → (found : List Occurrence) × AreReleasedHits s query.now strategy found × (n ≡ length found) × Appends (W.held out.old) (W.held out.new) (answer context found)) }
     ensures broken { HasCleanDisk (state S.Store conn.new) → IfErr result (λ e. (s : Machine) → IsDesk S.Store conn.old s → (found : List Occurrence) → AreReleasedHits s query.now strategy found → IsPartFound e (W.held out.old) (W.held out.new) context found) }
     ensures refused { (r : AnyRefusal) → result ≢ Err (Fault.Refused r) }
+    ensures fails { HasCleanDisk (state S.Store conn.new) → (state S.Store conn.old).step_limit ≡ None → (s : Machine) → IsDesk S.Store conn.old s → result ≢ Err Fault.NotADesk }
     ensures mode { conn.old.in_transaction ≡ false → conn.new.in_transaction ≡ false }
     ensures kept { HasCleanDisk (state S.Store conn.new) → IsTrue (state S.Store conn.new).is_open → (d : Tables) → Holds S.Store conn.old d → Holds S.Store conn.new d }
     ensures lasts { Survives (state S.Store conn.old) (state S.Store conn.new) (λ _. (state S.Store conn.old).now.schema ≢ desk_schema) }
@@ -112,6 +115,7 @@ pub(crate) fn count<S: Alter>(
 ) -> Result<Freq, Fault>
     ensures answered { HasCleanDisk (state S.Store conn.new) → IfOk result (λ table. (s : Machine) → IsDesk S.Store conn.old s → (found : List Occurrence) × AreReleasedHits s query.now strategy found × IsTableOf (keys column found) table) }
     ensures refused { (r : AnyRefusal) → result ≢ Err (Fault.Refused r) }
+    ensures fails { HasCleanDisk (state S.Store conn.new) → (state S.Store conn.old).step_limit ≡ None → (s : Machine) → IsDesk S.Store conn.old s → result ≢ Err Fault.NotADesk }
     ensures mode { conn.old.in_transaction ≡ false → conn.new.in_transaction ≡ false }
     ensures kept { HasCleanDisk (state S.Store conn.new) → IsTrue (state S.Store conn.new).is_open → (d : Tables) → Holds S.Store conn.old d → Holds S.Store conn.new d }
     ensures lasts { Survives (state S.Store conn.old) (state S.Store conn.new) (λ _. (state S.Store conn.old).now.schema ≢ desk_schema) }

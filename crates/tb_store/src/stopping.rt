@@ -5,6 +5,7 @@ ghost use Rattle.tb_core.specs.declared.refusals.Refusal.{Refusal as AnyRefusal}
 ghost use Rattle.tb_core.specs.Machine.{Sentence};
 ghost use Rattle.tb_search.specs.Released.{IsCutShort};
 ghost use Rattle.tb_search.specs.Searched.{Occurrence, IsBrokenOff as IsSearchBrokenOff};
+ghost use Rattle.tb_search.specs.Visited.{IsFault, IsStopFault};
 ghost use Rattle.tb_store.specs.Exports.{IsBrokenOff};
 ghost use Rattle.tb_store.specs.Found.{IsPartFound};
 
@@ -12,11 +13,13 @@ use tb_acting::faults;
 use tb_core::Fault;
 use tb_search::Stopped;
 
-/// Why a walk ended early, as a fault.
+/// Why a walk ended early, as a fault. `NotADesk` is told only where rows or texts are of no desk, or the database answered with
+/// an error that is no fault of the store.
 pub(crate) fn fault_of(stopped: Stopped) -> Fault
     ensures left { (old new : Option (List ℕ)) (xs : List Sentence) → IsCutShort stopped old new xs → IsBrokenOff result old new xs }
     ensures found { (old new : Option (List ℕ)) (n : ℕ) (xs : List Occurrence) → IsSearchBrokenOff stopped old new n xs → IsPartFound result old new n xs }
     ensures refused { (r : AnyRefusal) → result ≢ Fault.Refused r }
+    ensures fails { IsFault stopped → IsStopFault stopped → result ≢ Fault.NotADesk }
 {
     match stopped {
         Stopped::Read(error) => faults::of_read(error),

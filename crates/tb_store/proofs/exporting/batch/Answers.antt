@@ -1,5 +1,22 @@
-use Rattle.tb_acting.proofs.Unchanged.{lasts_then}
+use Rattle.std.proofs.Common.{◌≡◌, Err, ◌∙◌, arith}
+use Rattle.std.proofs.lemmas.Result.{err_from_is_err_and}
+use Rattle.sqlite.specs.Held.{state}
+use Rattle.sqlite.specs.State.{HasCleanDisk}
+use Rattle.tb_core.specs.declared.refusals.Fault.TheVariants.{NotADesk}
+use Rattle.tb_acting.proofs.Unchanged.{desk_same, lasts_then}
 use Rattle.tb_store.proofs.exporting.batch.Goals as goal
 
 pub returns-clause-lasts : goal.returns-clause-lasts
 returns-clause-lasts g c = lasts_then g.S.Store c.args.conn.now c.batch_number.new.conn c.numbered.new.conn c.in_ok-number.ensures.same c.batch_number.ensures.lasts c.numbered.ensures.lasts
+
+pub returns-in_err-number-clause-fails : goal.returns-in_err-number-clause-fails
+returns-in_err-number-clause-fails g c clean unlimited s desk bad =
+    let told = err_from_is_err_and c.from_residual.result c.from_residual.ensures.1 in
+    let failed : c.batch_number.result ≡ Err NotADesk = let was = c.in_err-number.was in let one = told.1 in let two = told.2 in cc in
+    c.batch_number.ensures.fails clean unlimited s desk failed
+
+pub returns-clause-fails : goal.returns-clause-fails
+returns-clause-fails g c clean unlimited s desk bad =
+    let mid : HasCleanDisk (state g.S.Store c.batch_number.new.conn) = omega (arith, clean, c.numbered.ensures.lasts.clean) in
+    let still = desk_same g.S.Store c.args.conn.now c.batch_number.new.conn s desk (c.in_ok-number.ensures.same mid desk.holds.schema) in
+    c.numbered.ensures.fails clean (c.batch_number.ensures.lasts.limit ∙ unlimited) s still bad

@@ -1,5 +1,7 @@
-use Rattle.std.proofs.Common.{◌≡◌, refl, sym, subst, true≢false}
+use Rattle.std.proofs.Common.{◌≡◌, Err, refl, sym, subst, true≢false}
+use Rattle.std.proofs.lemmas.Result.{err_from_is_err_and}
 use Rattle.tb_core.specs.declared.refusals.Refusal.TheVariants.{TooManyHits}
+use Rattle.tb_core.specs.declared.refusals.Fault.TheVariants.{NotADesk}
 use Rattle.tb_store.specs.Found.{IsAbove}
 use Rattle.tb_store.proofs.finding.number.Goals as goal
 
@@ -16,3 +18,9 @@ pub returns-clause-answered : goal.returns-clause-answered
 returns-clause-answered g c clean s desk =
     let it = c.in_ok-number.ensures.answered clean s desk in
     (it.0, it.1, it.2, λ above. absurd (true≢false (sym (c.if-is_above.ensures.1 above))))
+
+pub returns-in_err-number-clause-fails : goal.returns-in_err-number-clause-fails
+returns-in_err-number-clause-fails g c clean unlimited s desk bad =
+    let told = err_from_is_err_and c.from_residual.result c.from_residual.ensures.1 in
+    let failed : c.whole_number.result ≡ Err NotADesk = let was = c.in_err-number.was in let one = told.1 in let two = told.2 in cc in
+    c.whole_number.ensures.fails clean unlimited s desk failed

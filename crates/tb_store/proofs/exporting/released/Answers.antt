@@ -1,0 +1,8 @@
+use Rattle.std.proofs.Common.{◌≡◌}
+use Rattle.tb_core.specs.declared.refusals.Fault.TheVariants.{NotADesk}
+use Rattle.tb_store.proofs.exporting.released.Goals as goal
+
+pub returns-in-Err-clause-fails : goal.returns-in-Err-clause-fails
+returns-in-Err-clause-fails g c clean unlimited s desk bad =
+    let told : c.fault_of.result ≡ NotADesk = cc in
+    c.fault_of.ensures.fails (c.in-Err.ensures.fault clean s desk) (c.in-Err.ensures.fails clean unlimited s desk) told
