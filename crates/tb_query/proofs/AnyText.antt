@@ -6,7 +6,8 @@ use Rattle.tb_match.specs.Weight.{Fits}
 use Rattle.tb_syntax.specs.declared.fault.Fault.{Fault}
 use Rattle.tb_syntax.specs.declared.fault.Fault.TheVariants as fault
 use Rattle.tb_syntax.specs.declared.lexeme.Flag.{Flag}
-use Rattle.tb_syntax.specs.Pattern.{Tester}
+use Rattle.tb_syntax.specs.declared.expr.Literal.{Literal}
+use Rattle.tb_syntax.specs.Tests.{Test, literals_of}
 use Rattle.tb_syntax.specs.Reading as syntax
 use Rattle.tb_syntax.specs.Saying.{Says}
 use Rattle.tb_needle.specs.Literals.{PlainLit, IsAccepted}
@@ -14,7 +15,6 @@ use Rattle.tb_query.specs.declared.fault.QueryFault.{QueryFault}
 use Rattle.tb_query.specs.declared.fault.QueryFault.TheVariants.{TooLong, Syntax, TooMany, TooDeep, Repeat, Pattern, Memory}
 use Rattle.tb_query.specs.Reading.{with_texts, AreAccepted, IsFirstRefused, IsQuery, IsFault}
 use Rattle.tb_query.specs.Search.{Asked, IsSearchable}
-use Rattle.tb_query.specs.Tests.{literals_of}
 
 -- the text is a query that can be searched for, or a fault is told of it that is not want of memory
 abbrev Asks : List ℕ → Type 0
@@ -49,14 +49,14 @@ module _ (decided : (flag : Flag) (text : List ℕ) → IsAccepted flag text ⊎
         ]
       ]
 
-  module _ (searchable : (text : List ℕ) (t : Tree) (es : List Tester) (said : List (List ℕ)) → Says text t es said → Fits (length es) t × (length es ≤ 32)) where
-    asked : (text : List ℕ) (t : Tree) (es : List Tester) (said : List (List ℕ)) → Says text t es said → AreAccepted (literals_of (map (with_texts said) es)) → Asks text
+  module _ (searchable : (text : List ℕ) (t : Tree) (es : List (Test Literal)) (said : List (List ℕ)) → Says text t es said → Fits (length es) t × (length es ≤ 32)) where
+    asked : (text : List ℕ) (t : Tree) (es : List (Test Literal)) (said : List (List ℕ)) → Says text t es said → AreAccepted (literals_of (map (with_texts said) es)) → Asks text
     asked text t es said says good =
         let size = length-map es (with_texts said) in
         let (fits, few) = searchable text t es said says in
         (record { pat = t; tests = map (with_texts said) es }, ((es, said, says, refl), good), (subst (λ n. Fits n t) (sym size) fits, omega arith))
 
-    of_saying : (text : List ℕ) (t : Tree) (es : List Tester) (said : List (List ℕ)) → Says text t es said → Asks text ⊎ HasFault text
+    of_saying : (text : List ℕ) (t : Tree) (es : List (Test Literal)) (said : List (List ℕ)) → Says text t es said → Asks text ⊎ HasFault text
     of_saying text t es said says =
         elim (all_or_first (literals_of (map (with_texts said) es))) [
           | inl good ↦ inl (asked text t es said says good)
@@ -64,7 +64,7 @@ module _ (decided : (flag : Flag) (text : List ℕ) → IsAccepted flag text ⊎
         ]
 
     pub told : (text : List ℕ) →
-        ((t : Tree) × (es : List Tester) × (said : List (List ℕ)) × Says text t es said) ⊎ ((e : Fault) × (e ≡ fault.Memory → ⊥) × syntax.IsFault text e) →
+        ((t : Tree) × (es : List (Test Literal)) × (said : List (List ℕ)) × Says text t es said) ⊎ ((e : Fault) × (e ≡ fault.Memory → ⊥) × syntax.IsFault text e) →
         Asks text ⊎ HasFault text
     told text (inl (t, es, said, says)) = of_saying text t es said says
     told text (inr (e, not, x)) = inr (of_language text e not x)

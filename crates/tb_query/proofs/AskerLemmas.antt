@@ -10,18 +10,19 @@ use Rattle.tb_query.specs.declared.asker.Asker.TheVariants.{Denied, Both, Either
 use Rattle.tb_query.specs.declared.asker.Asker.TheOpen.{Asker-F}
 use Rattle.tb_query.specs.declared.asker.Asker.TheFolds.{fold-roll-Asker}
 use Rattle.tb_query.specs.Askers.{asked, asked_step}
-use Rattle.tb_query.specs.Tests.{Test, tests, denied, denied_times, all_of, some_of}
+use Rattle.tb_needle.specs.Literals.{PlainLit}
+use Rattle.tb_syntax.specs.Tests.{Test, tests, negated, denied_times, both, either}
 use Rattle.tb_query.specs.Meaning.{is_odd, holds, all_hold, some_hold}
 
-all_at : (ts : List Test) (i : ℕ) (r : RowText) (d : Test) → i < length ts →
+all_at : (ts : List (Test PlainLit)) (i : ℕ) (r : RowText) (d : Test PlainLit) → i < length ts →
     all_hold (tests (drop i ts)) r ≡ (if holds (get_or ts i d) r then all_hold (tests (drop (i + 1) ts)) r else false)
 all_at ts i r d lt = rw (add-one, drop-cons ts i d lt) refl
 
-some_at : (ts : List Test) (i : ℕ) (r : RowText) (d : Test) → i < length ts →
+some_at : (ts : List (Test PlainLit)) (i : ℕ) (r : RowText) (d : Test PlainLit) → i < length ts →
     some_hold (tests (drop i ts)) r ≡ (if holds (get_or ts i d) r then true else some_hold (tests (drop (i + 1) ts)) r)
 some_at ts i r d lt = rw (add-one, drop-cons ts i d lt) refl
 
-module _ (xs : List Asker) (ts : List Test) (i : ℕ) (d : Asker) (same : map asked xs ≡ ts) where
+module _ (xs : List Asker) (ts : List (Test PlainLit)) (i : ℕ) (d : Asker) (same : map asked xs ≡ ts) where
   -- one part was asked, and is asked for what it was
   pub same_after : (y : Asker) → asked y ≡ asked (get_or xs i d) → map asked (set xs i y) ≡ ts
   same_after y e = map-set_same asked xs i y d e ∙ same
@@ -42,7 +43,7 @@ module _ (xs : List Asker) (ts : List Test) (i : ℕ) (d : Asker) (same : map as
       ∙ ap (λ c. if c then true else some_hold (tests (drop (i + 1) ts)) r) (ap (λ u. holds u r) test_at ∙ sym e)
 
 pub asked-Denied : (n : ℕ) (b : Box Asker Global) → asked (Denied n b) ≡ denied_times n (asked b.value)
-asked-Denied n b = ap asked (sym (rolls-Denied n b)) ∙ fold-roll-Asker Test asked_step (Asker-F.Denied n b)
+asked-Denied n b = ap asked (sym (rolls-Denied n b)) ∙ fold-roll-Asker (Test PlainLit) asked_step (Asker-F.Denied n b)
 
 -- denials, one after the other
 
@@ -50,9 +51,9 @@ abbrev turned : ℕ → Bool → Bool
 turned zero b = b
 turned (suc n) b = turned n (not b)
 
-denied_turned : (n : ℕ) (t : Test) (r : RowText) → holds (denied_times n t) r ≡ turned n (holds t r)
+denied_turned : (n : ℕ) (t : Test PlainLit) (r : RowText) → holds (denied_times n t) r ≡ turned n (holds t r)
 denied_turned zero t r = refl
-denied_turned (suc n) t r = denied_turned n (denied t) r
+denied_turned (suc n) t r = denied_turned n (negated t) r
 
 odd_next : (n : ℕ) → is_odd (suc n) ≡ not (is_odd n)
 odd_next n = grind (arith, nat_tests)
@@ -67,11 +68,11 @@ turned_is : (n : ℕ) (b : Bool) → turned n b ≡ (if is_odd n then not b else
 turned_is zero b = refl
 turned_is (suc n) b = turned_is n (not b) ∙ turn (is_odd n) b ∙ ap (λ o. if o then not b else b) (sym (odd_next n))
 
-pub denied_holds : (n : ℕ) (t : Test) (r : RowText) → holds (denied_times n t) r ≡ (if is_odd n then not (holds t r) else holds t r)
+pub denied_holds : (n : ℕ) (t : Test PlainLit) (r : RowText) → holds (denied_times n t) r ≡ (if is_odd n then not (holds t r) else holds t r)
 denied_holds n t r = denied_turned n t r ∙ turned_is n (holds t r)
 
-pub asked-Both : (v : Vec Asker Global) → asked (Both v) ≡ all_of (tests (map asked v.items))
-asked-Both v = ap asked (sym (rolls-Both v)) ∙ fold-roll-Asker Test asked_step (Asker-F.Both v)
+pub asked-Both : (v : Vec Asker Global) → asked (Both v) ≡ both (tests (map asked v.items))
+asked-Both v = ap asked (sym (rolls-Both v)) ∙ fold-roll-Asker (Test PlainLit) asked_step (Asker-F.Both v)
 
-pub asked-Either : (v : Vec Asker Global) → asked (Either v) ≡ some_of (tests (map asked v.items))
-asked-Either v = ap asked (sym (rolls-Either v)) ∙ fold-roll-Asker Test asked_step (Asker-F.Either v)
+pub asked-Either : (v : Vec Asker Global) → asked (Either v) ≡ either (tests (map asked v.items))
+asked-Either v = ap asked (sym (rolls-Either v)) ∙ fold-roll-Asker (Test PlainLit) asked_step (Asker-F.Either v)

@@ -2,13 +2,12 @@
 use Rattle.std.proofs.Common.{◌≡◌, ℕ, List, [], ◌∷◌, ◌++◌, map, refl, sym, ap, subst, ◌∙◌, append_assoc}
 use Rattle.std.proofs.lemmas.List.{map-append}
 use Rattle.tb_syntax.specs.declared.expr.Literal.{Literal}
-use Rattle.tb_syntax.specs.Pattern.{Tester, testers}
+use Rattle.tb_syntax.specs.Tests.{Test, tests, and_test, literals, all_literals, literals_of, with_each, all_with_each}
 use Rattle.tb_needle.specs.Literals.{PlainLit}
 use Rattle.tb_query.specs.declared.fault.QueryFault.{QueryFault}
 use Rattle.tb_query.specs.declared.fault.QueryFault.TheVariants.{TooLong, Syntax, TooMany, TooDeep, Repeat, Pattern, Memory}
-use Rattle.tb_query.specs.Labels.{labels, all_labels, labels_of, IsRefusalAmong}
-use Rattle.tb_query.specs.Reading.{with_text, with_texts, all_with_texts, AreAccepted}
-use Rattle.tb_query.specs.Tests.{tests, and_more}
+use Rattle.tb_query.specs.Refusing.{IsRefusalAmong}
+use Rattle.tb_query.specs.Reading.{with_text, AreAccepted}
 
 accepted_both : (xs ys : List PlainLit) → AreAccepted xs → AreAccepted ys → AreAccepted (xs ++ ys)
 accepted_both [] ys p q = q
@@ -43,10 +42,10 @@ refused_after said ls ms Repeat a h = absurd h
 
 -- the parts of a test
 
-pub parts_labels : (ts : List Tester) → all_labels (testers ts) ≡ labels_of ts
-parts_labels [] = refl
-parts_labels (t ∷ ts) = ap (λ x. labels t ++ x) (parts_labels ts)
+pub parts_literals : {L : Type 0} (ts : List (Test L)) → all_literals (tests ts) ≡ literals_of ts
+parts_literals [] = refl
+parts_literals (t ∷ ts) = ap (λ x. literals t ++ x) (parts_literals ts)
 
-pub parts_tests : (said : List (List ℕ)) (ts : List Tester) → all_with_texts said (testers ts) ≡ tests (map (with_texts said) ts)
-parts_tests said [] = refl
-parts_tests said (t ∷ ts) = ap (and_more (with_texts said t)) (parts_tests said ts)
+pub parts_with_each : {L M : Type 0} (f : L → M) (ts : List (Test L)) → all_with_each f (tests ts) ≡ tests (map (with_each f) ts)
+parts_with_each f [] = refl
+parts_with_each f (t ∷ ts) = ap (and_test (with_each f t)) (parts_with_each f ts)

@@ -10,12 +10,12 @@ use Rattle.tb_syntax.specs.declared.lexeme.Flag.TheVariants as flag
 use Rattle.tb_syntax.specs.declared.lexeme.Lexeme.{Lexeme}
 use Rattle.tb_syntax.specs.declared.lexeme.Lexeme.TheVariants.{LeftParen, RightParen, LeftBracket, RightBracket, LeftBrace, RightBrace, Comma, Quest, Star, Plus, Bar, And, Not, Equals, Differs, Semicolon, PercentC, PercentL, Name, Contains, Within, Sentence, Number, Quote}
 use Rattle.tb_syntax.specs.declared.lexing.Span.{Span}
-use Rattle.tb_syntax.specs.Grammar.{flag_text, same, other, Test, one_conj, or_test, Conj, one_unit, and_conj, Unit', denied, grouped, compares, contains, test_text, conj_text, unit_text, Repeat, quest, star, plus, exactly, at_least, between, rep_text, Alt, one_cat, or_alt, Cat, one_item, and_cat, Item, once, repeated, Atom, any, brackets, bare, parens, alt_text, cat_text, item_text, atom_text, Ending, nothing, stop, scope, scope_stop, ending_text, Query, query, query_text}
+use Rattle.tb_syntax.specs.Grammar.{flag_text, same, other, Test', one_conj, or_test, Conj, one_unit, and_conj, Unit', denied, grouped, compares, contains, test_text, conj_text, unit_text, Repeat, quest, star, plus, exactly, at_least, between, rep_text, Alt, one_cat, or_alt, Cat, one_item, and_cat, Item, once, repeated, Atom, any, brackets, bare, parens, alt_text, cat_text, item_text, atom_text, Ending, nothing, stop, scope, scope_stop, ending_text, Query, query, query_text}
 use Rattle.tb_syntax.specs.Lexing.{Lexes, literals_after}
-use Rattle.tb_syntax.specs.Pattern.{Tester, both_of, either_of, test_parts, conj_parts, unit_tester, alt_testers, cat_testers, item_testers, atom_testers, query_testers}
+use Rattle.tb_syntax.specs.Pattern.{both_of, either_of, test_parts, conj_parts, unit_test, alt_tests, cat_tests, item_tests, atom_tests, query_tests}
 use Rattle.tb_syntax.specs.Spelling.{column, word, number, decimal_from, double_mark, single_mark, Starts, of_letters, of_digits, of_two_marks, of_one_mark, of_quotes}
-use Rattle.tb_query.specs.Labels.{labels, labels_of}
-use Rattle.tb_query.proofs.Attachments.{parts_labels}
+use Rattle.tb_syntax.specs.Tests.{Test, literals, literals_of}
+use Rattle.tb_query.proofs.Attachments.{parts_literals}
 
 -- the numbers go up by one from this one on
 abbrev pub IsFrom : ℕ → List ℕ → Type 0
@@ -91,35 +91,35 @@ lexed_from at k text (l ∷ ls) (s ∷ ss) (gap, tail, p, white, black, start, i
 abbrev pub numbers : List Literal → List ℕ
 numbers ls = map (λ (l : Literal). l.number) ls
 
-abbrev pub numbers_of : List Tester → List ℕ
-numbers_of ts = numbers (labels_of ts)
+abbrev pub numbers_of : List (Test Literal) → List ℕ
+numbers_of ts = numbers (literals_of ts)
 
 quotes_append : (xs ys : List Lexeme) → quotes (xs ++ ys) ≡ quotes xs ++ quotes ys
 quotes_append [] ys = refl
 quotes_append (x ∷ xs) ys = ap (λ z. quote_of x ++ z) (quotes_append xs ys) ∙ sym (append_assoc (quote_of x) (quotes xs) (quotes ys))
 
-labels_append : (xs ys : List Tester) → labels_of (xs ++ ys) ≡ labels_of xs ++ labels_of ys
-labels_append [] ys = refl
-labels_append (x ∷ xs) ys = ap (λ z. labels x ++ z) (labels_append xs ys) ∙ sym (append_assoc (labels x) (labels_of xs) (labels_of ys))
+literals_append : (xs ys : List (Test Literal)) → literals_of (xs ++ ys) ≡ literals_of xs ++ literals_of ys
+literals_append [] ys = refl
+literals_append (x ∷ xs) ys = ap (λ z. literals x ++ z) (literals_append xs ys) ∙ sym (append_assoc (literals x) (literals_of xs) (literals_of ys))
 
-numbers_append : (xs ys : List Tester) → numbers_of (xs ++ ys) ≡ numbers_of xs ++ numbers_of ys
-numbers_append xs ys = ap numbers (labels_append xs ys) ∙ map-append (λ (l : Literal). l.number) (labels_of xs) (labels_of ys)
+numbers_append : (xs ys : List (Test Literal)) → numbers_of (xs ++ ys) ≡ numbers_of xs ++ numbers_of ys
+numbers_append xs ys = ap numbers (literals_append xs ys) ∙ map-append (λ (l : Literal). l.number) (literals_of xs) (literals_of ys)
 
-numbers_more : (x : Tester) (ys : List Tester) → numbers_of (x ∷ ys) ≡ numbers (labels x) ++ numbers_of ys
-numbers_more x ys = map-append (λ (l : Literal). l.number) (labels x) (labels_of ys)
+numbers_more : (x : Test Literal) (ys : List (Test Literal)) → numbers_of (x ∷ ys) ≡ numbers (literals x) ++ numbers_of ys
+numbers_more x ys = map-append (λ (l : Literal). l.number) (literals x) (literals_of ys)
 
-one_number : (x : Tester) → numbers_of (x ∷ []) ≡ numbers (labels x)
-one_number x = ap numbers (append-nil (labels x))
+one_number : (x : Test Literal) → numbers_of (x ∷ []) ≡ numbers (literals x)
+one_number x = ap numbers (append-nil (literals x))
 
-both_numbers : (ts : List Tester) → numbers (labels (both_of ts)) ≡ numbers_of ts
+both_numbers : (ts : List (Test Literal)) → numbers (literals (both_of ts)) ≡ numbers_of ts
 both_numbers [] = refl
 both_numbers (t ∷ []) = sym (one_number t)
-both_numbers (t ∷ u ∷ ts) = ap numbers (parts_labels (t ∷ u ∷ ts))
+both_numbers (t ∷ u ∷ ts) = ap numbers (parts_literals (t ∷ u ∷ ts))
 
-either_numbers : (ts : List Tester) → numbers (labels (either_of ts)) ≡ numbers_of ts
+either_numbers : (ts : List (Test Literal)) → numbers (literals (either_of ts)) ≡ numbers_of ts
 either_numbers [] = refl
 either_numbers (t ∷ []) = sym (one_number t)
-either_numbers (t ∷ u ∷ ts) = ap numbers (parts_labels (t ∷ u ∷ ts))
+either_numbers (t ∷ u ∷ ts) = ap numbers (parts_literals (t ∷ u ∷ ts))
 
 of_flag : (f : Flag) → quotes (flag_text f) ≡ []
 of_flag flag.Plain = refl
@@ -148,17 +148,17 @@ joined : (xs ys : List Lexeme) (ms ns : List ℕ) → quotes xs ≡ ms → quote
 joined xs ys ms ns p q = quotes_append xs ys ∙ ap (λ z. z ++ quotes ys) p ∙ ap (λ z. ms ++ z) q
 
 mutual
-  of_test : (t : Test) → quotes (test_text t) ≡ numbers_of (test_parts t)
+  of_test : (t : Test') → quotes (test_text t) ≡ numbers_of (test_parts t)
   of_test (one_conj c) = of_conj c ∙ sym (both_numbers (conj_parts c)) ∙ sym (one_number (both_of (conj_parts c)))
   of_test (or_test c t) =
       joined (conj_text c) (Bar ∷ test_text t) _ _ (of_conj c ∙ sym (both_numbers (conj_parts c))) (of_test t)
       ∙ sym (numbers_more (both_of (conj_parts c)) (test_parts t))
 
   of_conj : (c : Conj) → quotes (conj_text c) ≡ numbers_of (conj_parts c)
-  of_conj (one_unit u) = of_unit u ∙ sym (one_number (unit_tester u))
-  of_conj (and_conj u c) = joined (unit_text u) (And ∷ conj_text c) _ _ (of_unit u) (of_conj c) ∙ sym (numbers_more (unit_tester u) (conj_parts c))
+  of_conj (one_unit u) = of_unit u ∙ sym (one_number (unit_test u))
+  of_conj (and_conj u c) = joined (unit_text u) (And ∷ conj_text c) _ _ (of_unit u) (of_conj c) ∙ sym (numbers_more (unit_test u) (conj_parts c))
 
-  of_unit : (u : Unit') → quotes (unit_text u) ≡ numbers (labels (unit_tester u))
+  of_unit : (u : Unit') → quotes (unit_text u) ≡ numbers (literals (unit_test u))
   of_unit (denied u) = of_unit u
   of_unit (grouped t) = then_none (test_text t) (RightParen ∷ []) refl ∙ of_test t ∙ sym (either_numbers (test_parts t))
   of_unit (compares a same k f) = ap (λ z. k ∷ z) (of_flag f)
@@ -166,29 +166,29 @@ mutual
   of_unit (contains k f) = ap (λ z. k ∷ z) (of_flag f)
 
 mutual
-  of_alt : (a : Alt) → quotes (alt_text a) ≡ numbers_of (alt_testers a)
+  of_alt : (a : Alt) → quotes (alt_text a) ≡ numbers_of (alt_tests a)
   of_alt (one_cat c) = of_cat c
-  of_alt (or_alt c a) = joined (cat_text c) (Bar ∷ alt_text a) _ _ (of_cat c) (of_alt a) ∙ sym (numbers_append (cat_testers c) (alt_testers a))
+  of_alt (or_alt c a) = joined (cat_text c) (Bar ∷ alt_text a) _ _ (of_cat c) (of_alt a) ∙ sym (numbers_append (cat_tests c) (alt_tests a))
 
-  of_cat : (c : Cat) → quotes (cat_text c) ≡ numbers_of (cat_testers c)
+  of_cat : (c : Cat) → quotes (cat_text c) ≡ numbers_of (cat_tests c)
   of_cat (one_item i) = of_item i
-  of_cat (and_cat i c) = joined (item_text i) (cat_text c) _ _ (of_item i) (of_cat c) ∙ sym (numbers_append (item_testers i) (cat_testers c))
+  of_cat (and_cat i c) = joined (item_text i) (cat_text c) _ _ (of_item i) (of_cat c) ∙ sym (numbers_append (item_tests i) (cat_tests c))
 
-  of_item : (i : Item) → quotes (item_text i) ≡ numbers_of (item_testers i)
+  of_item : (i : Item) → quotes (item_text i) ≡ numbers_of (item_tests i)
   of_item (once a) = of_atom a
   of_item (repeated a r) = then_none (atom_text a) (rep_text r) (of_repeat r) ∙ of_atom a
 
-  of_atom : (a : Atom) → quotes (atom_text a) ≡ numbers_of (atom_testers a)
+  of_atom : (a : Atom) → quotes (atom_text a) ≡ numbers_of (atom_tests a)
   of_atom any = refl
   of_atom (brackets t) =
       then_none (test_text t) (RightBracket ∷ []) refl ∙ of_test t ∙ sym (either_numbers (test_parts t)) ∙ sym (one_number (either_of (test_parts t)))
   of_atom (bare k f) = ap (λ z. k ∷ z) (of_flag f)
   of_atom (parens a) = then_none (alt_text a) (RightParen ∷ []) refl ∙ of_alt a
 
-pub of_query : (q : Query) → quotes (query_text q) ≡ numbers_of (query_testers q)
+pub of_query : (q : Query) → quotes (query_text q) ≡ numbers_of (query_tests q)
 of_query (query a e) = then_none (alt_text a) (ending_text e) (of_ending e) ∙ of_alt a
 
-pub numbered : (text : List ℕ) (ls : List Lexeme) (ss : List Span) (q : Query) (es : List Tester) → Lexes 0 0 text ls ss → query_text q ≡ ls → query_testers q ≡ es →
-    IsFrom 0 (map (λ (l : Literal). l.number) (labels_of es))
+pub numbered : (text : List ℕ) (ls : List Lexeme) (ss : List Span) (q : Query) (es : List (Test Literal)) → Lexes 0 0 text ls ss → query_text q ≡ ls → query_tests q ≡ es →
+    IsFrom 0 (map (λ (l : Literal). l.number) (literals_of es))
 numbered text ls ss q es h p r =
     subst (IsFrom 0) (ap quotes (sym p) ∙ of_query q ∙ ap numbers_of r) (lexed_from 0 0 text ls ss h)

@@ -3,7 +3,8 @@ use Rattle.std.proofs.Common.{◌≡◌, ◌⊎◌, ℕ, suc, List, [], ◌∷�
 use Rattle.tb_match.specs.Trees.{Tree}
 use Rattle.tb_syntax.specs.declared.fault.Fault.{Fault}
 use Rattle.tb_syntax.specs.declared.fault.Fault.TheVariants as fault
-use Rattle.tb_syntax.specs.Pattern.{Tester}
+use Rattle.tb_syntax.specs.declared.expr.Literal.{Literal}
+use Rattle.tb_syntax.specs.Tests.{Test, literals_of}
 use Rattle.tb_syntax.specs.Reading as told
 use Rattle.tb_syntax.specs.Saying.{Says}
 use Rattle.tb_needle.specs.Literals.{PlainLit, IsAccepted}
@@ -11,11 +12,10 @@ use Rattle.tb_query.specs.declared.fault.QueryFault.{QueryFault}
 use Rattle.tb_query.specs.declared.fault.QueryFault.TheVariants.{TooLong, Syntax, TooMany, TooDeep, Repeat, Pattern, Memory}
 use Rattle.tb_query.specs.Reading.{with_texts, Reads, AreAccepted, IsFirstRefused, IsQuery, IsFault}
 use Rattle.tb_query.specs.Search.{Asked}
-use Rattle.tb_query.specs.Tests.{Test, literals_of}
 use Rattle.tb_query.specs.Told.{query_fault}
 
 -- the same pattern, tests and literals are the same tests
-pub same_tests : (es fs : List Tester) (said told : List (List ℕ)) (ts us : List Test) → ts ≡ map (with_texts said) es → us ≡ map (with_texts told) fs →
+pub same_tests : (es fs : List (Test Literal)) (said told : List (List ℕ)) (ts us : List (Test PlainLit)) → ts ≡ map (with_texts said) es → us ≡ map (with_texts told) fs →
     es ≡ fs → said ≡ told → ts ≡ us
 same_tests es fs said told ts us e f p q = e ∙ ap (map (with_texts said)) p ∙ ap (λ z. map (with_texts z) fs) q ∙ sym f
 
@@ -48,11 +48,11 @@ abbrev OfLanguage : List ℕ → QueryFault → Type 0
 OfLanguage text e = (f : Fault) × told.IsFault text f × (e ≡ query_fault f)
 
 abbrev OfLiteral : List ℕ → QueryFault → Type 0
-OfLiteral text e = (k : ℕ) × (t : Tree) × (ts : List Test) × Reads text t ts × IsFirstRefused (literals_of ts) k × (e ≡ Pattern k)
+OfLiteral text e = (k : ℕ) × (t : Tree) × (ts : List (Test PlainLit)) × Reads text t ts × IsFirstRefused (literals_of ts) k × (e ≡ Pattern k)
 
-module _ (none_told : (text : List ℕ) (t : Tree) (es : List Tester) (said : List (List ℕ)) (e : Fault) → Says text t es said → told.IsFault text e → e ≡ fault.Memory)
-    (one_list : (text : List ℕ) (t u : Tree) (ts us : List Test) → Reads text t ts → Reads text u us → ts ≡ us) where
-  no_syntax_fault : (text : List ℕ) (t : Tree) (ts : List Test) (e : Fault) → Reads text t ts → told.IsFault text e → e ≡ fault.Memory
+module _ (none_told : (text : List ℕ) (t : Tree) (es : List (Test Literal)) (said : List (List ℕ)) (e : Fault) → Says text t es said → told.IsFault text e → e ≡ fault.Memory)
+    (one_list : (text : List ℕ) (t u : Tree) (ts us : List (Test PlainLit)) → Reads text t ts → Reads text u us → ts ≡ us) where
+  no_syntax_fault : (text : List ℕ) (t : Tree) (ts : List (Test PlainLit)) (e : Fault) → Reads text t ts → told.IsFault text e → e ≡ fault.Memory
   no_syntax_fault text t ts e (es, said, says, tests) h = none_told text t es said e says h
 
   -- a fault is one of the language, or a literal is refused

@@ -2,36 +2,37 @@
 use Rattle.std.proofs.Common.{◌≡◌, ℕ, List, map, string_bytes, String, Global, refl, sym, ap, subst, ◌∙◌}
 use Rattle.tb_match.specs.Trees.{Tree}
 use Rattle.tb_syntax.specs.declared.expr.Expr.{Expr}
-use Rattle.tb_syntax.specs.Exprs.{tester}
-use Rattle.tb_syntax.specs.Pattern.{Tester}
+use Rattle.tb_syntax.specs.Exprs.{test}
+use Rattle.tb_syntax.specs.declared.expr.Literal.{Literal}
+use Rattle.tb_needle.specs.Literals.{PlainLit}
+use Rattle.tb_syntax.specs.Tests.{Test, literals_of}
 use Rattle.tb_syntax.specs.Saying.{Says}
 use Rattle.tb_query.specs.declared.fault.QueryFault.{QueryFault}
 use Rattle.tb_query.specs.declared.fault.QueryFault.TheVariants.{TooLong, Syntax, TooMany, TooDeep, Repeat, Pattern, Memory}
-use Rattle.tb_query.specs.Labels.{labels_of, IsRefusalAmong}
+use Rattle.tb_query.specs.Refusing.{IsRefusalAmong}
 use Rattle.tb_query.specs.Reading.{with_text, with_texts, AreAccepted, IsQuery, IsFault}
 use Rattle.tb_query.specs.Search.{Asked}
-use Rattle.tb_query.specs.Tests.{Test, literals_of}
 use Rattle.tb_query.proofs.Refusals.{texts_of_each, first_refused}
 
 -- what was read, and what the exprs were attached to, are the same lists
-says_same : (text : List ℕ) (t : Tree) (xs ys : List Expr) (ss ts : List (String Global)) → xs ≡ ys → ss ≡ ts →
-    Says text t (map tester ys) (map string_bytes ts) → Says text t (map tester xs) (map string_bytes ss)
+says_same : (text : List ℕ) (t : Tree) (xs ys : List (Expr Literal)) (ss ts : List (String Global)) → xs ≡ ys → ss ≡ ts →
+    Says text t (map test ys) (map string_bytes ts) → Says text t (map test xs) (map string_bytes ss)
 says_same text t xs ys ss ts p q h =
-    subst (λ (zs : List (String Global)). Says text t (map tester xs) (map string_bytes zs)) (sym q)
-    (subst (λ (zs : List Expr). Says text t (map tester zs) (map string_bytes ts)) (sym p) h)
+    subst (λ (zs : List (String Global)). Says text t (map test xs) (map string_bytes zs)) (sym q)
+    (subst (λ (zs : List (Expr Literal)). Says text t (map test zs) (map string_bytes ts)) (sym p) h)
 
-asks : (text : List ℕ) (pat : Tree) (es : List Tester) (said : List (List ℕ)) (ts : List Test) → Says text pat es said → ts ≡ map (with_texts said) es →
-    AreAccepted (map (with_text said) (labels_of es)) → IsQuery text (record { pat = pat; tests = ts })
+asks : (text : List ℕ) (pat : Tree) (es : List (Test Literal)) (said : List (List ℕ)) (ts : List (Test PlainLit)) → Says text pat es said → ts ≡ map (with_texts said) es →
+    AreAccepted (map (with_text said) (literals_of es)) → IsQuery text (record { pat = pat; tests = ts })
 asks text pat es said ts h e a =
     ((es, said, h, e), subst AreAccepted (sym (ap literals_of e ∙ texts_of_each said es)) a)
 
-pub is_query : (text : List ℕ) (pat : Tree) (xs ys : List Expr) (ss us : List (String Global)) (ts : List Test) (q : Asked) → xs ≡ ys → ss ≡ us →
-    Says text pat (map tester ys) (map string_bytes us) → ts ≡ map (with_texts (map string_bytes ss)) (map tester xs) →
-    AreAccepted (map (with_text (map string_bytes ss)) (labels_of (map tester xs))) → q ≡ record { pat = pat; tests = ts } → IsQuery text q
+pub is_query : (text : List ℕ) (pat : Tree) (xs ys : List (Expr Literal)) (ss us : List (String Global)) (ts : List (Test PlainLit)) (q : Asked) → xs ≡ ys → ss ≡ us →
+    Says text pat (map test ys) (map string_bytes us) → ts ≡ map (with_texts (map string_bytes ss)) (map test xs) →
+    AreAccepted (map (with_text (map string_bytes ss)) (literals_of (map test xs))) → q ≡ record { pat = pat; tests = ts } → IsQuery text q
 is_query text pat xs ys ss us ts q p r h e a is =
-    subst (IsQuery text) (sym is) (asks text pat (map tester xs) (map string_bytes ss) ts (says_same text pat xs ys ss us p r h) e a)
+    subst (IsQuery text) (sym is) (asks text pat (map test xs) (map string_bytes ss) ts (says_same text pat xs ys ss us p r h) e a)
 
-refuses : (text : List ℕ) (t : Tree) (es : List Tester) (said : List (List ℕ)) (e : QueryFault) → Says text t es said → IsRefusalAmong said (labels_of es) e → IsFault text e
+refuses : (text : List ℕ) (t : Tree) (es : List (Test Literal)) (said : List (List ℕ)) (e : QueryFault) → Says text t es said → IsRefusalAmong said (literals_of es) e → IsFault text e
 refuses text t es said (Pattern k) h r = (t, map (with_texts said) es, (es, said, h, refl), first_refused text t es said k h r)
 refuses text t es said Memory h r = tt
 refuses text t es said TooLong h r = absurd r
@@ -40,6 +41,6 @@ refuses text t es said TooMany h r = absurd r
 refuses text t es said TooDeep h r = absurd r
 refuses text t es said Repeat h r = absurd r
 
-pub is_fault : (text : List ℕ) (t : Tree) (xs ys : List Expr) (ss us : List (String Global)) (e : QueryFault) → xs ≡ ys → ss ≡ us →
-    Says text t (map tester ys) (map string_bytes us) → IsRefusalAmong (map string_bytes ss) (labels_of (map tester xs)) e → IsFault text e
-is_fault text t xs ys ss us e p r h f = refuses text t (map tester xs) (map string_bytes ss) e (says_same text t xs ys ss us p r h) f
+pub is_fault : (text : List ℕ) (t : Tree) (xs ys : List (Expr Literal)) (ss us : List (String Global)) (e : QueryFault) → xs ≡ ys → ss ≡ us →
+    Says text t (map test ys) (map string_bytes us) → IsRefusalAmong (map string_bytes ss) (literals_of (map test xs)) e → IsFault text e
+is_fault text t xs ys ss us e p r h f = refuses text t (map test xs) (map string_bytes ss) e (says_same text t xs ys ss us p r h) f

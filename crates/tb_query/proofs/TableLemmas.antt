@@ -10,7 +10,8 @@ use Rattle.tb_conllu.specs.Text.{RowText}
 use Rattle.tb_conllu.specs.Words.{is_word}
 use Rattle.tb_query.specs.declared.asker.Asker.{Asker}
 use Rattle.tb_query.specs.Askers.{asked}
-use Rattle.tb_query.specs.Tests.{Test}
+use Rattle.tb_needle.specs.Literals.{PlainLit}
+use Rattle.tb_syntax.specs.Tests.{Test}
 use Rattle.tb_query.specs.Meaning.{holds, HoldsAtWord, HoldsOf}
 
 module _ {A : Type 0} where
@@ -32,7 +33,7 @@ module _ {A : Type 0} where
   pushed_new (z ∷ xs) y = pushed_new xs y
 
 -- one more word
-pub word_pushed : (t : Test) (ws : List RowText) (r : RowText) (w : ℕ) →
+pub word_pushed : (t : Test PlainLit) (ws : List RowText) (r : RowText) (w : ℕ) →
     HoldsAtWord t (ws ++ r ∷ []) w ↔ (HoldsAtWord t ws w ⊎ ((w ≡ length ws + 1) × (holds t r ≡ true)))
 word_pushed t ws r w = (there, back)
   where
@@ -72,7 +73,7 @@ words_of_rows rows i =
     omega (arith, length-filter is_word (take i rows), count_by-le-length is_word (take i rows), length-take i rows)
 
 -- an expression is asked of one more word
-pub row_step : (u t : Test) (vs ws : List RowText) (r : RowText) (w word : ℕ) (E F O N : Type 0) → u ≡ t → vs ≡ ws ++ r ∷ [] → word ≡ length ws →
+pub row_step : (u t : Test PlainLit) (vs ws : List RowText) (r : RowText) (w word : ℕ) (E F O N : Type 0) → u ≡ t → vs ≡ ws ++ r ∷ [] → word ≡ length ws →
     (N ↔ (O ⊎ (E × (w ≡ word + 1) × (holds u r ≡ true)))) → (O ↔ (F ⊎ (E × HoldsAtWord t ws w))) → N ↔ (F ⊎ (E × HoldsAtWord t vs w))
 row_step u t vs ws r w word E F O N same longer count step before =
     subst (λ xs. N ↔ (F ⊎ (E × HoldsAtWord t xs w))) (sym longer) (there, back)
@@ -92,12 +93,12 @@ row_step u t vs ws r w word E F O N same longer count step before =
         step.1 (inr (e, new.0 ∙ ap (λ n. n + 1) (sym count), ap (λ v. holds v r) same ∙ new.1)))
         ((word_pushed t ws r w).0 h)
 
-pub test_there : (xs : List Asker) (ts : List Test) (i : ℕ) (d : Asker) → map asked xs ≡ ts → i < length xs → slice_get ts i ≡ Some (asked (get_or xs i d))
+pub test_there : (xs : List Asker) (ts : List (Test PlainLit)) (i : ℕ) (d : Asker) → map asked xs ≡ ts → i < length xs → slice_get ts i ≡ Some (asked (get_or xs i d))
 test_there xs ts i d same lt =
     ap (λ us. slice_get us i) (sym same) ∙ slice_get-map asked xs i ∙ ap (option_map asked) (slice_get-get_or xs i d lt)
 
 -- one more expression is asked of each word
-pub table_step : (ts : List Test) (ws : List RowText) (e w i : ℕ) (t : Test) (O N : Type 0) → slice_get ts i ≡ Some t →
+pub table_step : (ts : List (Test PlainLit)) (ws : List RowText) (e w i : ℕ) (t : Test PlainLit) (O N : Type 0) → slice_get ts i ≡ Some t →
     (N ↔ (O ⊎ ((e ≡ i) × HoldsAtWord t ws w))) → (O ↔ ((e < i) × HoldsOf ts ws e w)) → N ↔ ((e < i + 1) × HoldsOf ts ws e w)
 table_step ts ws e w i t O N there_is step before = (there, back)
   where

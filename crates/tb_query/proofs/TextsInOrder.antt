@@ -7,12 +7,10 @@ use Rattle.tb_syntax.specs.declared.expr.Literal.{Literal}
 use Rattle.tb_syntax.specs.declared.lexeme.Lexeme.{Lexeme}
 use Rattle.tb_syntax.specs.declared.lexeme.Lexeme.TheVariants.{Quote}
 use Rattle.tb_syntax.specs.declared.lexing.Span.{Span}
-use Rattle.tb_syntax.specs.Pattern.{Tester}
+use Rattle.tb_syntax.specs.Tests.{Test, literals_of}
 use Rattle.tb_syntax.specs.Saying.{IsSaid, Says}
 use Rattle.tb_needle.specs.Literals.{PlainLit}
-use Rattle.tb_query.specs.Labels.{labels_of}
 use Rattle.tb_query.specs.Reading.{text_of, with_text, with_texts}
-use Rattle.tb_query.specs.Tests.{literals_of}
 use Rattle.tb_query.proofs.Numbering.{IsFrom, quotes, numbers, numbers_of, of_query, lexed_from}
 use Rattle.tb_query.proofs.Refusals.{texts_of_each}
 
@@ -45,9 +43,9 @@ each_text : (said : List (List ℕ)) (ls : List Literal) → map (λ (l : PlainL
 each_text said [] = refl
 each_text said (l ∷ ls) = ap (λ z. text_of said l.number ∷ z) (each_text said ls)
 
-pub texts_in_order : (text : List ℕ) (t : Tree) (es : List Tester) (said : List (List ℕ)) → Says text t es said →
+pub texts_in_order : (text : List ℕ) (t : Tree) (es : List (Test Literal)) (said : List (List ℕ)) → Says text t es said →
     map (λ (l : PlainLit). l.text) (literals_of (map (with_texts said) es)) ≡ said
-texts_in_order text t es said (ls, ss, (q, ((short, lexes), spells, few, deep, times), pattern, testers), says) =
-    let same : quotes ls ≡ numbers_of es = ap quotes (sym spells) ∙ of_query q ∙ ap numbers_of testers in
-    ap (map (λ (l : PlainLit). l.text)) (texts_of_each said es) ∙ each_text said (labels_of es) ∙ ap (map (text_of said)) (sym same)
+texts_in_order text t es said (ls, ss, (q, ((short, lexes), spells, few, deep, times), pattern, tests), says) =
+    let same : quotes ls ≡ numbers_of es = ap quotes (sym spells) ∙ of_query q ∙ ap numbers_of tests in
+    ap (map (λ (l : PlainLit). l.text)) (texts_of_each said es) ∙ each_text said (literals_of es) ∙ ap (map (text_of said)) (sym same)
     ∙ in_turn [] said (quotes ls) 0 refl (lexed_from 0 0 text ls ss lexes) (as_many text ls ss said says)

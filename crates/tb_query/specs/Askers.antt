@@ -2,15 +2,16 @@
 use Rattle.tb_query.specs.declared.asker.Asker.{Asker}
 use Rattle.tb_query.specs.declared.asker.Asker.TheOpen.{Asker-F}
 use Rattle.tb_query.specs.declared.asker.Asker.TheFolds.{fold-Asker}
-use Rattle.tb_query.specs.Tests.{Test, any, column, item, denied_times, all_of, some_of, tests}
+use Rattle.tb_needle.specs.Literals.{PlainLit}
+use Rattle.tb_syntax.specs.Tests.{Test, every, whole, feature, denied_times, both, either, tests}
 
-abbrev pub asked_step : Asker-F Test → Test
-asked_step Asker-F.Any = any
-asked_step (Asker-F.Whole c) = column c.attr c.tester
-asked_step (Asker-F.Item l) = item l
+abbrev pub asked_step : Asker-F (Test PlainLit) → Test PlainLit
+asked_step Asker-F.Any = every
+asked_step (Asker-F.Whole c) = whole c.attr c.tester
+asked_step (Asker-F.Item l) = feature l
 asked_step (Asker-F.Denied n t) = denied_times n t.value
-asked_step (Asker-F.Both ts) = all_of (tests ts.items)
-asked_step (Asker-F.Either ts) = some_of (tests ts.items)
+asked_step (Asker-F.Both ts) = both (tests ts.items)
+asked_step (Asker-F.Either ts) = either (tests ts.items)
 
-abbrev pub asked : Asker → Test
-asked = fold-Asker Test asked_step
+abbrev pub asked : Asker → Test PlainLit
+asked = fold-Asker (Test PlainLit) asked_step

@@ -1,11 +1,9 @@
-pub mod Tests
 pub mod Codes
 pub mod Halves
 pub mod TreeCodes
-pub mod Exprs
 pub mod Meaning
 pub mod Search
 pub mod Askers
 pub mod Reading
-pub mod Labels
+pub mod Refusing
 pub mod Told

@@ -8,7 +8,8 @@ use Rattle.tb_syntax.specs.declared.lexeme.Attr.{Attr}
 use Rattle.tb_syntax.specs.declared.lexeme.Attr.TheVariants.{Form, Lemma, Upos, Xpos, Feats, Deprel}
 use Rattle.tb_needle.specs.Literals.{meets}
 use Rattle.tb_needle.specs.Items.{meets_item}
-use Rattle.tb_query.specs.Tests.{Test, any, column, item, denied, all_of, some_of, Tests, no_more, and_more}
+use Rattle.tb_needle.specs.Literals.{PlainLit}
+use Rattle.tb_syntax.specs.Tests.{Test, every, whole, feature, negated, both, either, Tests, no_test, and_test}
 
 abbrev pub is_odd : ℕ → Bool
 is_odd n = nat_eq (n % 2) 1
@@ -23,30 +24,30 @@ value_of Feats r = r.feats
 value_of Deprel r = r.deprel
 
 abbrev mutual
-  pub holds : Test → RowText → Bool
-  holds any r = true
-  holds (column a l) r = meets l (value_of a r)
-  holds (item l) r = meets_item l r.feats
-  holds (denied t) r = not (holds t r)
-  holds (all_of ts) r = all_hold ts r
-  holds (some_of ts) r = some_hold ts r
+  pub holds : Test PlainLit → RowText → Bool
+  holds every r = true
+  holds (whole a l) r = meets l (value_of a r)
+  holds (feature l) r = meets_item l r.feats
+  holds (negated t) r = not (holds t r)
+  holds (both ts) r = all_hold ts r
+  holds (either ts) r = some_hold ts r
 
-  pub all_hold : Tests → RowText → Bool
-  all_hold no_more r = true
-  all_hold (and_more t ts) r = if holds t r then all_hold ts r else false
+  pub all_hold : Tests PlainLit → RowText → Bool
+  all_hold no_test r = true
+  all_hold (and_test t ts) r = if holds t r then all_hold ts r else false
 
-  pub some_hold : Tests → RowText → Bool
-  some_hold no_more r = false
-  some_hold (and_more t ts) r = if holds t r then true else some_hold ts r
+  pub some_hold : Tests PlainLit → RowText → Bool
+  some_hold no_test r = false
+  some_hold (and_test t ts) r = if holds t r then true else some_hold ts r
 
 -- the words of a sentence in order: what is searched
 abbrev pub word_rows : BlockText → List RowText
 word_rows b = filter is_word b.rows
 
 -- the test holds of word w, counted from 1
-abbrev pub HoldsAtWord : Test → List RowText → ℕ → Type 0
+abbrev pub HoldsAtWord : Test PlainLit → List RowText → ℕ → Type 0
 HoldsAtWord t ws w = (r : RowText) × (1 ≤ w) × (slice_get ws (w - 1) ≡ Some r) × (holds t r ≡ true)
 
 -- test e, counted from 0, holds of word w, counted from 1
-abbrev pub HoldsOf : List Test → List RowText → ℕ → ℕ → Type 0
-HoldsOf ts ws e w = (t : Test) × (r : RowText) × (slice_get ts e ≡ Some t) × (1 ≤ w) × (slice_get ws (w - 1) ≡ Some r) × (holds t r ≡ true)
+abbrev pub HoldsOf : List (Test PlainLit) → List RowText → ℕ → ℕ → Type 0
+HoldsOf ts ws e w = (t : Test PlainLit) × (r : RowText) × (slice_get ts e ≡ Some t) × (1 ≤ w) × (slice_get ws (w - 1) ≡ Some r) × (holds t r ≡ true)

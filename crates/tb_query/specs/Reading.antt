@@ -5,13 +5,12 @@ use Rattle.std.specs.Option.{unwrap_or}
 use Rattle.tb_match.specs.Trees.{Tree}
 use Rattle.tb_syntax.specs.declared.expr.Literal.{Literal}
 use Rattle.tb_syntax.specs.declared.fault.Fault.TheVariants as told
-use Rattle.tb_syntax.specs.Pattern.{Tester, every, whole, feature, not, both, either, Testers, no_test, and_test}
+use Rattle.tb_syntax.specs.Tests.{Test, literals_of, with_each}
 use Rattle.tb_syntax.specs.Reading as syntax
 use Rattle.tb_syntax.specs.Saying.{Says}
 use Rattle.tb_needle.specs.Literals.{PlainLit, IsAccepted}
 use Rattle.tb_query.specs.declared.fault.QueryFault.{QueryFault}
 use Rattle.tb_query.specs.declared.fault.QueryFault.TheVariants.{TooLong, Syntax, TooMany, TooDeep, Repeat, Pattern, Memory}
-use Rattle.tb_query.specs.Tests.{Test, any, column, item, denied, all_of, some_of, Tests, no_more, and_more, literals_of}
 use Rattle.tb_query.specs.Search.{Asked}
 
 -- what literal k says, counted from 0
@@ -23,22 +22,12 @@ abbrev pub with_text : List (List ℕ) → Literal → PlainLit
 with_text said l = record { text = text_of said l.number; flag = l.flag }
 
 -- a token expression, with what its literals say in the place of their numbers
-abbrev mutual
-  pub with_texts : List (List ℕ) → Tester → Test
-  with_texts said every = any
-  with_texts said (whole a k f) = column a (with_text said (record { number = k; flag = f }))
-  with_texts said (feature k f) = item (with_text said (record { number = k; flag = f }))
-  with_texts said (not t) = denied (with_texts said t)
-  with_texts said (both ts) = all_of (all_with_texts said ts)
-  with_texts said (either ts) = some_of (all_with_texts said ts)
-
-  pub all_with_texts : List (List ℕ) → Testers → Tests
-  all_with_texts said no_test = no_more
-  all_with_texts said (and_test t ts) = and_more (with_texts said t) (all_with_texts said ts)
+abbrev pub with_texts : List (List ℕ) → Test Literal → Test PlainLit
+with_texts said = with_each (with_text said)
 
 -- the text is a query within the limits, whose pattern and token expressions are these
-abbrev pub Reads : List ℕ → Tree → List Test → Type 0
-Reads text t ts = (es : List Tester) × (said : List (List ℕ)) × Says text t es said × (ts ≡ map (with_texts said) es)
+abbrev pub Reads : List ℕ → Tree → List (Test PlainLit) → Type 0
+Reads text t ts = (es : List (Test Literal)) × (said : List (List ℕ)) × Says text t es said × (ts ≡ map (with_texts said) es)
 
 -- each literal is a pattern, but with %l any text is one
 abbrev pub AreAccepted : List PlainLit → Type 0
@@ -62,5 +51,5 @@ IsFault text (Syntax b) = syntax.IsFault text (told.Syntax b)
 IsFault text TooMany = syntax.IsFault text told.TooMany
 IsFault text TooDeep = syntax.IsFault text told.TooDeep
 IsFault text Repeat = syntax.IsFault text told.Repeat
-IsFault text (Pattern k) = (t : Tree) × (ts : List Test) × Reads text t ts × IsFirstRefused (literals_of ts) k
+IsFault text (Pattern k) = (t : Tree) × (ts : List (Test PlainLit)) × Reads text t ts × IsFirstRefused (literals_of ts) k
 IsFault text Memory = Unit {0}

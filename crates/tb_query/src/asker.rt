@@ -5,9 +5,9 @@ ghost use Rattle.std.specs.Global.{Global};
 ghost use Rattle.std.specs.declared.boxed.Box.{Box};
 ghost use Rattle.tb_query.specs.declared.asker.Asker.{Asker};
 ghost use Rattle.tb_query.specs.Askers.{asked};
-ghost use Rattle.tb_query.specs.Exprs.{test};
+ghost use Rattle.tb_syntax.specs.Exprs.{test};
 ghost use Rattle.tb_query.specs.Meaning.{value_of, is_odd, holds, all_hold, some_hold};
-ghost use Rattle.tb_query.specs.Tests.{tests};
+ghost use Rattle.tb_syntax.specs.Tests.{tests};
 
 use crate::expr::Expr;
 use std::alloc::{AllocError, Global};

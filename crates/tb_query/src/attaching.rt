@@ -2,17 +2,15 @@
 
 ghost use Rattle.std.specs.Prelude.{◌≡◌, ◌+◌, ◌∷◌, [], map, string_bytes, IfOk, IfErr};
 ghost use Rattle.tb_needle.specs.Literals.{IsAccepted};
-ghost use Rattle.tb_syntax.specs.Exprs.{tester};
-ghost use Rattle.tb_query.specs.Exprs.{test};
-ghost use Rattle.tb_query.specs.Labels.{labels, labels_of, IsRefusalAmong};
+ghost use Rattle.tb_syntax.specs.Exprs.{test};
+ghost use Rattle.tb_syntax.specs.Tests.{every, whole, feature, denied_times, both, either, tests, literals, literals_of};
+ghost use Rattle.tb_query.specs.Refusing.{IsRefusalAmong};
 ghost use Rattle.tb_query.specs.Reading.{text_of, with_text, with_texts, AreAccepted};
-ghost use Rattle.tb_query.specs.Tests.{any, column, item, denied_times, all_of, some_of, tests, literals, literals_of};
 
-use crate::expr::Expr;
 use crate::fault::QueryFault;
 use std::alloc::{AllocError, Global};
 use tb_needle::{Needle, PatternFault};
-use tb_syntax::{Attr, Expr as Numbered, Literal};
+use tb_syntax::{Attr, Expr, Literal};
 
 /// How many bytes the patterns of a query may take together, as they are built.
 const ALL_PATTERNS: usize = 16 << 20;
@@ -48,64 +46,64 @@ fn needle_of(alloc: Global, texts: &[String], literal: Literal) -> Result<Needle
 }
 
 /// Any word.
-fn any() -> Expr
-    ensures { test result ≡ any }
+fn any() -> Expr<Needle>
+    ensures { test result ≡ every }
 {
     Expr::Any
 }
 
 /// The whole value of a column.
-fn whole(attr: Attr, needle: Needle) -> Expr
-    ensures { test result ≡ column attr needle }
+fn whole(attr: Attr, needle: Needle) -> Expr<Needle>
+    ensures { test result ≡ whole attr needle }
 {
     Expr::Whole(attr, needle)
 }
 
 /// Some item of the features.
-fn item(needle: Needle) -> Expr
-    ensures { test result ≡ item needle }
+fn item(needle: Needle) -> Expr<Needle>
+    ensures { test result ≡ feature needle }
 {
     Expr::Item(needle)
 }
 
 /// The expression denied so many times.
-fn denied(alloc: Global, times: usize, expr: Expr) -> Result<Expr, AllocError>
+fn denied(alloc: Global, times: usize, expr: Expr<Needle>) -> Result<Expr<Needle>, AllocError>
     ensures { IfOk result (λ e. test e ≡ denied_times times (test expr)) }
 {
     Ok(Expr::Denied(times, Box::new(alloc, expr)?))
 }
 
 /// Each of the expressions.
-fn both(exprs: Vec<Expr>) -> Expr
-    ensures { test result ≡ all_of (tests (map test exprs.items)) }
+fn both(exprs: Vec<Expr<Needle>>) -> Expr<Needle>
+    ensures { test result ≡ both (tests (map test exprs.items)) }
 {
     Expr::Both(exprs)
 }
 
 /// Some of the expressions.
-fn either(exprs: Vec<Expr>) -> Expr
-    ensures { test result ≡ some_of (tests (map test exprs.items)) }
+fn either(exprs: Vec<Expr<Needle>>) -> Expr<Needle>
+    ensures { test result ≡ either (tests (map test exprs.items)) }
 {
     Expr::Either(exprs)
 }
 
 /// The expression with the needles of its literals.
 #[cycle(attaching)]
-fn attach(alloc: Global, texts: &[String], expr: &Numbered) -> Result<Expr, QueryFault>
-    ensures value { IfOk result (λ e. test e ≡ with_texts (map string_bytes texts.now) (tester expr.now)) }
-    ensures accepted { IfOk result (λ _. AreAccepted (map (with_text (map string_bytes texts.now)) (labels (tester expr.now)))) }
-    ensures refused { IfErr result (λ e. IsRefusalAmong (map string_bytes texts.now) (labels (tester expr.now)) e) }
+fn attach(alloc: Global, texts: &[String], expr: &Expr<Literal>) -> Result<Expr<Needle>, QueryFault>
+    ensures value { IfOk result (λ e. test e ≡ with_texts (map string_bytes texts.now) (test expr.now)) }
+    ensures accepted { IfOk result (λ _. AreAccepted (map (with_text (map string_bytes texts.now)) (literals (test expr.now)))) }
+    ensures refused { IfErr result (λ e. IsRefusalAmong (map string_bytes texts.now) (literals (test expr.now)) e) }
 {
     match expr {
-        Numbered::Any => Ok(any()),
-        Numbered::Whole(attr, literal) => Ok(whole(*attr, needle_of(alloc, texts, *literal)?)),
-        Numbered::Item(literal) => Ok(item(needle_of(alloc, texts, *literal)?)),
-        Numbered::Denied(times, inner) => {
+        Expr::Any => Ok(any()),
+        Expr::Whole(attr, literal) => Ok(whole(*attr, needle_of(alloc, texts, *literal)?)),
+        Expr::Item(literal) => Ok(item(needle_of(alloc, texts, *literal)?)),
+        Expr::Denied(times, inner) => {
             let attached = attach(alloc, texts, inner)?;
             Ok(denied(alloc, *times, attached)?)
         }
-        Numbered::Both(parts) => Ok(both(attach_all(alloc, texts, parts)?)),
-        Numbered::Either(parts) => Ok(either(attach_all(alloc, texts, parts)?)),
+        Expr::Both(parts) => Ok(both(attach_all(alloc, texts, parts)?)),
+        Expr::Either(parts) => Ok(either(attach_all(alloc, texts, parts)?)),
     }
 }
 
@@ -114,11 +112,11 @@ fn attach(alloc: Global, texts: &[String], expr: &Numbered) -> Result<Expr, Quer
 pub(crate) fn attach_all(
     alloc: Global,
     texts: &[String],
-    exprs: &[Numbered],
-) -> Result<Vec<Expr>, QueryFault>
-    ensures values { IfOk result (λ v. map test v.items ≡ map (with_texts (map string_bytes texts.now)) (map tester exprs.now)) }
-    ensures accepted { IfOk result (λ _. AreAccepted (map (with_text (map string_bytes texts.now)) (labels_of (map tester exprs.now)))) }
-    ensures refused { IfErr result (λ e. IsRefusalAmong (map string_bytes texts.now) (labels_of (map tester exprs.now)) e) }
+    exprs: &[Expr<Literal>],
+) -> Result<Vec<Expr<Needle>>, QueryFault>
+    ensures values { IfOk result (λ v. map test v.items ≡ map (with_texts (map string_bytes texts.now)) (map test exprs.now)) }
+    ensures accepted { IfOk result (λ _. AreAccepted (map (with_text (map string_bytes texts.now)) (literals_of (map test exprs.now)))) }
+    ensures refused { IfErr result (λ e. IsRefusalAmong (map string_bytes texts.now) (literals_of (map test exprs.now)) e) }
 {
     let mut attached = Vec::new(alloc);
     for expr in exprs {

@@ -2,14 +2,14 @@
 
 ghost use Rattle.std.specs.Prelude.{◌≡◌, ◌⊎◌, ℕ, List, map};
 ghost use Rattle.tb_match.specs.Trees.{Tree};
-ghost use Rattle.tb_syntax.specs.Pattern.{Tester};
+ghost use Rattle.tb_syntax.specs.declared.expr.Literal.{Literal};
 ghost use Rattle.tb_syntax.specs.Saying.{Says};
+ghost use Rattle.tb_syntax.specs.Tests.{Test, literals_of};
 ghost use Rattle.tb_needle.specs.Literals.{PlainLit};
 ghost use Rattle.tb_query.specs.declared.fault.QueryFault.{QueryFault};
 ghost use Rattle.tb_query.specs.declared.fault.QueryFault.TheVariants.{Memory};
 ghost use Rattle.tb_query.specs.Reading.{IsFault, IsQuery, Reads, with_texts};
 ghost use Rattle.tb_query.specs.Search.{Asked, IsSearchable};
-ghost use Rattle.tb_query.specs.Tests.{Test, literals_of};
 
 use tb_needle::a_literal_is_accepted_or_refused;
 use tb_syntax::{
@@ -18,8 +18,8 @@ use tb_syntax::{
 
 /// A text says one thing at most: one pattern, over one list of token expressions.
 pub fn a_text_has_one_reading()
-    ensures pattern { (text : List ℕ) (t u : Tree) (ts us : List Test) → Reads text t ts → Reads text u us → t ≡ u }
-    ensures tests { (text : List ℕ) (t u : Tree) (ts us : List Test) → Reads text t ts → Reads text u us → ts ≡ us }
+    ensures pattern { (text : List ℕ) (t u : Tree) (ts us : List (Test PlainLit)) → Reads text t ts → Reads text u us → t ≡ u }
+    ensures tests { (text : List ℕ) (t u : Tree) (ts us : List (Test PlainLit)) → Reads text t ts → Reads text u us → ts ≡ us }
 {
     one_saying();
 }
@@ -52,7 +52,7 @@ pub fn a_text_has_one_fault()
 /// The literals of the token expressions say, one after the other, what the literals of the text
 /// say.
 pub fn literals_stand_in_order()
-    ensures { (text : List ℕ) (t : Tree) (es : List Tester) (said : List (List ℕ)) → Says text t es said →
+    ensures { (text : List ℕ) (t : Tree) (es : List (Test Literal)) (said : List (List ℕ)) → Says text t es said →
         map (λ (l : PlainLit). l.text) (literals_of (map (with_texts said) es)) ≡ said }
 {}
 

@@ -4,7 +4,7 @@ ghost use Rattle.std.specs.Prelude.{◌≡◌, ◌+◌, ◌*◌, ◌/◌, ◌≤
 ghost use Rattle.tb_conllu.specs.Words.{words_of};
 ghost use Rattle.tb_match.specs.Trees.{tree};
 ghost use Rattle.tb_match.specs.Weight.{weight_of};
-ghost use Rattle.tb_query.specs.Exprs.{test};
+ghost use Rattle.tb_syntax.specs.Exprs.{test};
 ghost use Rattle.tb_query.specs.Search.{Asked, IsSearchable, IsTruthOf, AreHitsIn};
 
 use crate::asker::{Asker, askers_of};

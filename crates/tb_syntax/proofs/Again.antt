@@ -8,7 +8,7 @@ use Rattle.tb_syntax.specs.declared.lexeme.Lexeme.{Lexeme}
 use Rattle.tb_syntax.specs.declared.lexeme.Lexeme.TheVariants.{LeftParen, RightParen, LeftBracket, RightBracket, Bar, And, Not, Name, Contains, Quote}
 use Rattle.tb_syntax.specs.declared.scanning.Mode.{Mode}
 use Rattle.tb_syntax.specs.declared.scanning.Mode.TheVariants.{Wants, Quoted, Has, Repeated, Opened, Asks, Tested, Whole}
-use Rattle.tb_syntax.specs.Grammar.{flag_text, Sign, same, other, sign_lexeme, Test, one_conj, or_test, Conj, one_unit, and_conj, Unit', denied, grouped, compares, contains, test_text, conj_text, unit_text, Repeat, quest, star, plus, exactly, at_least, between, rep_text, Alt, one_cat, or_alt, Cat, one_item, and_cat, Item, once, repeated, Atom, any, brackets, bare, parens, alt_text, cat_text, item_text, atom_text, Ending, nothing, stop, scope, scope_stop, ending_text, Query, query, query_text}
+use Rattle.tb_syntax.specs.Grammar.{flag_text, Sign, same, other, sign_lexeme, Test', one_conj, or_test, Conj, one_unit, and_conj, Unit', denied, grouped, compares, contains, test_text, conj_text, unit_text, Repeat, quest, star, plus, exactly, at_least, between, rep_text, Alt, one_cat, or_alt, Cat, one_item, and_cat, Item, once, repeated, Atom, any, brackets, bare, parens, alt_text, cat_text, item_text, atom_text, Ending, nothing, stop, scope, scope_stop, ending_text, Query, query, query_text}
 use Rattle.tb_syntax.specs.Machine.{run, ends, accepts, place, inside, start}
 
 -- within the brackets
@@ -38,7 +38,7 @@ abbrev conj_mode : Conj → Mode
 conj_mode (one_unit u) = unit_mode u
 conj_mode (and_conj u c) = conj_mode c
 
-abbrev test_mode : Test → Mode
+abbrev test_mode : Test' → Mode
 test_mode (one_conj c) = conj_mode c
 test_mode (or_test c t) = test_mode t
 
@@ -57,7 +57,7 @@ conj_ends : (c : Conj) → Unit-ends (conj_mode c)
 conj_ends (one_unit u) = unit_ends u
 conj_ends (and_conj u c) = conj_ends c
 
-test_ends : (t : Test) → Unit-ends (test_mode t)
+test_ends : (t : Test') → Unit-ends (test_mode t)
 test_ends (one_conj c) = conj_ends c
 test_ends (or_test c t) = test_ends t
 
@@ -119,7 +119,7 @@ in_and n k rest Unit-ends.tested = refl
 in_and n k rest Unit-ends.whole = refl
 
 mutual
-  over_test : (t : Test) {m : Mode} → Units m → (n k : ℕ) (rest : List Lexeme) →
+  over_test : (t : Test') {m : Mode} → Units m → (n k : ℕ) (rest : List Lexeme) →
       run (inside m n k) (test_text t ++ rest) ≡ run (inside (test_mode t) n k) rest
   over_test (one_conj c) s n k rest = over_conj c s n k rest
   over_test (or_test c t) s n k rest =

@@ -2,6 +2,7 @@
 use Rattle.std.proofs.Common.{◌≡◌, ℕ, suc, ◌+◌, ◌<◌, List, [], ◌∷◌, length, take, Option, Some, None, option_and_then, refl, sym, ap, subst, ◌∙◌, ◌⊎◌, inl, inr, arith, add-one}
 use Rattle.std.proofs.lemmas.Bool.{cases_lt}
 use Rattle.tb_match.specs.Trees.{Tree}
+use Rattle.tb_syntax.specs.declared.expr.Literal.{Literal}
 use Rattle.tb_syntax.specs.declared.fault.Fault.{Fault}
 use Rattle.tb_syntax.specs.declared.fault.Fault.TheVariants.{TooLong, Syntax, TooMany, TooDeep, Repeat, Memory}
 use Rattle.tb_syntax.specs.declared.lexeme.Lexeme.{Lexeme}
@@ -10,7 +11,8 @@ use Rattle.tb_syntax.specs.declared.scanning.Place.{Place}
 use Rattle.tb_syntax.specs.Grammar.{Query, query_text, IsQuery}
 use Rattle.tb_syntax.specs.Limits.{query_count, query_nests, query_repeats}
 use Rattle.tb_syntax.specs.Machine.{run, step, ends, start}
-use Rattle.tb_syntax.specs.Pattern.{Tester, query_tree, query_testers}
+use Rattle.tb_syntax.specs.Pattern.{query_tree, query_tests}
+use Rattle.tb_syntax.specs.Tests.{Test}
 use Rattle.tb_syntax.specs.Reading.{IsText, IsWithin, IsWrongAt, IsFault, byte_of}
 use Rattle.tb_syntax.specs.Saying.{Says}
 use Rattle.tb_syntax.proofs.Beginnings.{begins, begins_none}
@@ -62,12 +64,12 @@ query_or_wrong ls =
 
 -- a text says something, or a fault is told of it
 abbrev IsTold : List ℕ → Type 0
-IsTold text = ((t : Tree) × (es : List Tester) × (said : List (List ℕ)) × Says text t es said) ⊎ ((e : Fault) × (e ≡ Memory → ⊥) × IsFault text e)
+IsTold text = ((t : Tree) × (es : List (Test Literal)) × (said : List (List ℕ)) × Says text t es said) ⊎ ((e : Fault) × (e ≡ Memory → ⊥) × IsFault text e)
 
 within : (text : List ℕ) (ls : List Lexeme) (ss : List Span) (q : Query) → IsWithin text ls ss q → IsTold text
 within text ls ss q h =
     let w = says_something text ls ss h.0.1 in
-    inl (query_tree q, query_testers q, w.0, (ls, ss, (q, h, refl, refl), w.1))
+    inl (query_tree q, query_tests q, w.0, (ls, ss, (q, h, refl, refl), w.1))
 
 -- a query is within the limits, or beyond the first of them
 limited : (text : List ℕ) (ls : List Lexeme) (ss : List Span) (q : Query) → IsText text ls ss → query_text q ≡ ls → IsTold text

@@ -5,7 +5,7 @@ use Rattle.tb_syntax.specs.declared.lexeme.Flag.{Flag}
 use Rattle.tb_syntax.specs.declared.lexeme.Flag.TheVariants as flag
 use Rattle.tb_syntax.specs.declared.lexeme.Lexeme.{Lexeme}
 use Rattle.tb_syntax.specs.declared.lexeme.Lexeme.TheVariants.{RightParen, RightBracket, Bar, And}
-use Rattle.tb_syntax.specs.Grammar.{flag_text, Sign, same, other, sign_lexeme, Test, one_conj, or_test, Conj, one_unit, and_conj, Unit', denied, grouped, compares, contains, test_text, conj_text, unit_text, Repeat, quest, star, plus, exactly, at_least, between, rep_text, Alt, one_cat, or_alt, Cat, one_item, and_cat, Item, once, repeated, Atom, any, brackets, bare, parens, alt_text, cat_text, item_text, atom_text, Ending, nothing, stop, scope, scope_stop, ending_text, Query, query, query_text}
+use Rattle.tb_syntax.specs.Grammar.{flag_text, Sign, same, other, sign_lexeme, Test', one_conj, or_test, Conj, one_unit, and_conj, Unit', denied, grouped, compares, contains, test_text, conj_text, unit_text, Repeat, quest, star, plus, exactly, at_least, between, rep_text, Alt, one_cat, or_alt, Cat, one_item, and_cat, Item, once, repeated, Atom, any, brackets, bare, parens, alt_text, cat_text, item_text, atom_text, Ending, nothing, stop, scope, scope_stop, ending_text, Query, query, query_text}
 use Rattle.tb_syntax.specs.Limits.{test_nests, conj_nests, unit_nests, alt_nests, cat_nests, item_nests, atom_nests, query_nests, room_after}
 
 abbrev pub walk : ℕ → List Lexeme → Option ℕ
@@ -64,7 +64,7 @@ over_close zero rest = let e : zero + 1 ≡ suc zero = omega arith in ap (λ n. 
 over_close (suc r) rest = let e : suc r + 1 ≡ suc (suc r) = omega arith in ap (λ n. walk n rest) e
 
 mutual
-  over_test : (t : Test) (r : ℕ) (rest : List Lexeme) → walk r (test_text t ++ rest) ≡ when (test_nests r t) (walk r rest)
+  over_test : (t : Test') (r : ℕ) (rest : List Lexeme) → walk r (test_text t ++ rest) ≡ when (test_nests r t) (walk r rest)
   over_test (one_conj c) r rest = over_conj c r rest
   over_test (or_test c t) r rest =
       rw append_assoc (over_conj c r (Bar ∷ (test_text t ++ rest))

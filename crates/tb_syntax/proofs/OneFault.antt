@@ -3,13 +3,14 @@ use Rattle.std.proofs.Common.{◌≡◌, ◌<◌, ◌≤◌, ◌+◌, ℕ, List,
 use Rattle.std.proofs.lemmas.Bool.{false≢true, cases_lt}
 use Rattle.std.proofs.lemmas.List.{length-take, take-append-drop, take-append-le}
 use Rattle.tb_match.specs.Trees.{Tree}
+use Rattle.tb_syntax.specs.declared.expr.Literal.{Literal}
 use Rattle.tb_syntax.specs.declared.fault.Fault.{Fault}
 use Rattle.tb_syntax.specs.declared.fault.Fault.TheVariants.{TooLong, Syntax, TooMany, TooDeep, Repeat, Memory}
 use Rattle.tb_syntax.specs.declared.lexeme.Lexeme.{Lexeme}
 use Rattle.tb_syntax.specs.declared.lexing.Span.{Span}
 use Rattle.tb_syntax.specs.Grammar.{Query, query_text, IsBeginning}
 use Rattle.tb_syntax.specs.Limits.{query_count, query_nests, query_repeats}
-use Rattle.tb_syntax.specs.Pattern.{Tester}
+use Rattle.tb_syntax.specs.Tests.{Test}
 use Rattle.tb_syntax.specs.Reading.{IsText, IsWrongAt, IsFault, byte_of}
 use Rattle.tb_syntax.specs.Saying.{Says}
 use Rattle.tb_syntax.proofs.Lexings.{one_lexing}
@@ -113,7 +114,7 @@ same_derivation : (text : List ℕ) (ls ms : List Lexeme) (ss ts : List Span) (p
 same_derivation text ls ms ss ts p q there again spells spells' =
     one_derivation q p (spells' ∙ sym (one_lexing text ls ms ss ts there.1 again.1).0 ∙ sym spells)
 
-pub no_fault : (text : List ℕ) (t : Tree) (es : List Tester) (said : List (List ℕ)) (e : Fault) → Says text t es said → IsFault text e → e ≡ Memory
+pub no_fault : (text : List ℕ) (t : Tree) (es : List (Test Literal)) (said : List (List ℕ)) (e : Fault) → Says text t es said → IsFault text e → e ≡ Memory
 no_fault text t es said TooLong (ls, ss, (p, ((short, lexes), spells, few, flat, fits), pattern, tests), saying) long = absurd (omega arith)
 no_fault text t es said (Syntax b) (ls, ss, (p, (there, spells, few, flat, fits), pattern, tests), saying) (ms, ts, again, (i, wrong, at)) =
     absurd (wrong.0 (p, spells ∙ (one_lexing text ls ms ss ts there.1 again.1).0))

@@ -5,7 +5,7 @@ use Rattle.tb_syntax.specs.declared.lexeme.Flag.{Flag}
 use Rattle.tb_syntax.specs.declared.lexeme.Flag.TheVariants as flag
 use Rattle.tb_syntax.specs.declared.lexeme.Lexeme.{Lexeme}
 use Rattle.tb_syntax.specs.declared.lexeme.Lexeme.TheVariants.{LeftParen, RightParen, Bar, And, Not, Equals, Differs, PercentC, PercentL, Name, Contains, Quote}
-use Rattle.tb_syntax.specs.Grammar.{flag_text, Sign, same, other, sign_lexeme, Test, one_conj, or_test, Conj, one_unit, and_conj, Unit', denied, grouped, compares, contains, test_text, conj_text, unit_text}
+use Rattle.tb_syntax.specs.Grammar.{flag_text, Sign, same, other, sign_lexeme, Test', one_conj, or_test, Conj, one_unit, and_conj, Unit', denied, grouped, compares, contains, test_text, conj_text, unit_text}
 
 -- may stand in a test
 abbrev pub in_test : Lexeme → Bool
@@ -36,7 +36,7 @@ skips_sign w s same rest = s Equals rest refl
 skips_sign w s other rest = s Differs rest refl
 
 mutual
-  pub skips_test : {X : Type 0} (w : List Lexeme → X) → Skips w → (t : Test) (rest : List Lexeme) → w (test_text t ++ rest) ≡ w rest
+  pub skips_test : {X : Type 0} (w : List Lexeme → X) → Skips w → (t : Test') (rest : List Lexeme) → w (test_text t ++ rest) ≡ w rest
   skips_test w s (one_conj c) rest = skips_conj w s c rest
   skips_test w s (or_test c t) rest =
       rw append_assoc (skips_conj w s c (Bar ∷ (test_text t ++ rest)) ∙ s Bar (test_text t ++ rest) refl ∙ skips_test w s t rest)

@@ -3,15 +3,17 @@ use Rattle.std.proofs.Common.{◌≡◌, ℕ, ◌≤◌, List, length, map, sym,
 use Rattle.std.proofs.lemmas.List.{length-map}
 use Rattle.tb_match.specs.Trees.{Tree}
 use Rattle.tb_match.specs.Weight.{Fits}
+use Rattle.tb_syntax.specs.declared.expr.Literal.{Literal}
 use Rattle.tb_syntax.specs.declared.expr.Expr.{Expr}
 use Rattle.tb_syntax.specs.declared.lexeme.Lexeme.{Lexeme}
 use Rattle.tb_syntax.specs.declared.lexing.Span.{Span}
 use Rattle.tb_syntax.specs.declared.fault.Fault.TheVariants.{Syntax}
 use Rattle.tb_syntax.specs.Lexing.{Lexes}
-use Rattle.tb_syntax.specs.Exprs.{tester}
+use Rattle.tb_syntax.specs.Exprs.{test}
 use Rattle.tb_syntax.specs.Limits.{query_count}
 use Rattle.tb_syntax.specs.Parsing.{ReadsQuery}
-use Rattle.tb_syntax.specs.Pattern.{Tester, query_tree, query_testers}
+use Rattle.tb_syntax.specs.Pattern.{query_tree, query_tests}
+use Rattle.tb_syntax.specs.Tests.{Test}
 use Rattle.tb_syntax.specs.Reading.{IsAccepted, IsWrongAt, IsFault, byte_of}
 use Rattle.tb_syntax.specs.Saying.{IsSaid, Says}
 use Rattle.tb_syntax.proofs.Fitting.{query_fits}
@@ -33,39 +35,39 @@ wrong text bytes ls ms ss ts i b same le h e f w at = (
 )
 
 -- what is read of the lexemes of a query within the limits
-read_off : (text : List ℕ) (ls ms : List Lexeme) (ss : List Span) (t : Tree) (es : List Tester) (h : IsAccepted text ls ss) → ms ≡ ls → ReadsQuery ms t es →
-    (t ≡ query_tree h.0) × (es ≡ query_testers h.0)
+read_off : (text : List ℕ) (ls ms : List Lexeme) (ss : List Span) (t : Tree) (es : List (Test Literal)) (h : IsAccepted text ls ss) → ms ≡ ls → ReadsQuery ms t es →
+    (t ≡ query_tree h.0) × (es ≡ query_tests h.0)
 read_off text ls ms ss t es (q, within) same reads = let count = within.2 in reads.at q (within.1 ∙ sym same) (omega arith)
 
-pub says : (text : List ℕ) (ls ms : List Lexeme) (ss : List Span) (t : Tree) (es : List Tester) (said : List (List ℕ)) → IsAccepted text ls ss → ms ≡ ls → ReadsQuery ms t es →
+pub says : (text : List ℕ) (ls ms : List Lexeme) (ss : List Span) (t : Tree) (es : List (Test Literal)) (said : List (List ℕ)) → IsAccepted text ls ss → ms ≡ ls → ReadsQuery ms t es →
     IsSaid text ls ss said → Says text t es said
 says text ls ms ss t es said h same reads literals =
     let r = read_off text ls ms ss t es h same reads in
     (ls, ss, (h.0, h.1, sym r.0, sym r.1), literals)
 
 -- a query within the limits has so many token expressions
-counted : (text : List ℕ) (ls ms : List Lexeme) (ss : List Span) (t : Tree) (xs : List Expr) (h : IsAccepted text ls ss) → ms ≡ ls → ReadsQuery ms t (map tester xs) →
+counted : (text : List ℕ) (ls ms : List Lexeme) (ss : List Span) (t : Tree) (xs : List (Expr Literal)) (h : IsAccepted text ls ss) → ms ≡ ls → ReadsQuery ms t (map test xs) →
     length xs ≡ query_count h.0
-counted text ls ms ss t xs h same reads = sym (length-map xs tester) ∙ ap length (read_off text ls ms ss t (map tester xs) h same reads).1 ∙ query_size h.0
+counted text ls ms ss t xs h same reads = sym (length-map xs test) ∙ ap length (read_off text ls ms ss t (map test xs) h same reads).1 ∙ query_size h.0
 
-pub few_tests : (text : List ℕ) (ls ms : List Lexeme) (ss : List Span) (t : Tree) (xs : List Expr) → IsAccepted text ls ss → ms ≡ ls → ReadsQuery ms t (map tester xs) →
+pub few_tests : (text : List ℕ) (ls ms : List Lexeme) (ss : List Span) (t : Tree) (xs : List (Expr Literal)) → IsAccepted text ls ss → ms ≡ ls → ReadsQuery ms t (map test xs) →
     length xs ≤ 32
 few_tests text ls ms ss t xs h same reads =
     let count = counted text ls ms ss t xs h same reads in
     let limit = h.1.2 in
     omega arith
 
-pub fits : (text : List ℕ) (ls ms : List Lexeme) (ss : List Span) (t : Tree) (xs : List Expr) → IsAccepted text ls ss → ms ≡ ls → ReadsQuery ms t (map tester xs) →
+pub fits : (text : List ℕ) (ls ms : List Lexeme) (ss : List Span) (t : Tree) (xs : List (Expr Literal)) → IsAccepted text ls ss → ms ≡ ls → ReadsQuery ms t (map test xs) →
     Fits (length xs) t
 fits text ls ms ss t xs h same reads =
     let size = few text ls ss h.1.0.1 in
     let limit = h.1.0.0 in
-    let tree = (read_off text ls ms ss t (map tester xs) h same reads).0 in
+    let tree = (read_off text ls ms ss t (map test xs) h same reads).0 in
     subst (λ n. Fits n t) (sym (counted text ls ms ss t xs h same reads))
     (subst (Fits (query_count h.0)) (sym tree) (query_fits h.0 h.1.4 (omega (arith, ap length h.1.1))))
 
 -- the pattern that a text says can be searched for over as many token expressions
-pub searchable : (text : List ℕ) (t : Tree) (es : List Tester) (said : List (List ℕ)) → Says text t es said → Fits (length es) t × (length es ≤ 32)
+pub searchable : (text : List ℕ) (t : Tree) (es : List (Test Literal)) (said : List (List ℕ)) → Says text t es said → Fits (length es) t × (length es ≤ 32)
 searchable text t es said (ls, ss, (q, ((short, lexes), spells, count, deep, times), pattern, tests), saying) =
     let size = few text ls ss lexes in
     let many : length es ≡ query_count q = sym (ap length tests) ∙ query_size q in (

@@ -3,12 +3,14 @@ use Rattle.std.proofs.Common.{◌≡◌, ℕ, suc, ◌+◌, ◌<◌, ◌≤◌, 
 use Rattle.std.proofs.lemmas.Option.{slice_get-get_or}
 use Rattle.std.proofs.lemmas.List.{drop_all}
 use Rattle.tb_match.specs.Trees.{Tree}
+use Rattle.tb_syntax.specs.declared.expr.Literal.{Literal}
 use Rattle.tb_syntax.specs.declared.lexeme.Lexeme.{Lexeme}
 use Rattle.tb_syntax.specs.declared.lexeme.Lexeme.TheVariants.{Quote}
 use Rattle.tb_syntax.specs.declared.lexing.Span.{Span}
 use Rattle.tb_syntax.specs.First.{said_of}
 use Rattle.tb_syntax.specs.Lexing.{Lexes, literals_after, bytes_at}
-use Rattle.tb_syntax.specs.Pattern.{Tester, query_tree, query_testers}
+use Rattle.tb_syntax.specs.Pattern.{query_tree, query_tests}
+use Rattle.tb_syntax.specs.Tests.{Test}
 use Rattle.tb_syntax.specs.Saying.{IsSaid, Says}
 use Rattle.tb_syntax.specs.Spelling.{IsQuoted}
 use Rattle.tb_syntax.proofs.Firsts.{says_that}
@@ -115,9 +117,9 @@ same_said text (Quote k ∷ ls) (s ∷ ss) (w ∷ said) (v ∷ told) x y =
 same_said text (l ∷ ls) [] said told x y = absurd x
 same_said text (l ∷ ls) (s ∷ ss) said told x y = same_said text ls ss said told x y
 
-pub one_saying : (text : List ℕ) (t u : Tree) (es fs : List Tester) (said told : List (List ℕ)) → Says text t es said → Says text u fs told → (t ≡ u) × (es ≡ fs) × (said ≡ told)
+pub one_saying : (text : List ℕ) (t u : Tree) (es fs : List (Test Literal)) (said told : List (List ℕ)) → Says text t es said → Says text u fs told → (t ≡ u) × (es ≡ fs) × (said ≡ told)
 one_saying text t u es fs said told (ls, ss, read, literals) (ms, ts, again, others) =
     let lexed = one_lexing text ls ms ss ts read.1.0.1 again.1.0.1 in
     let same = one_derivation read.0 again.0 (read.1.1 ∙ lexed.0 ∙ sym again.1.1) in
     let here = subst (λ x. IsSaid text ms x said) lexed.1 (subst (λ x. IsSaid text x ss said) lexed.0 literals) in
-    (sym read.2 ∙ ap query_tree same ∙ again.2, sym read.3 ∙ ap query_testers same ∙ again.3, same_said text ms ts said told here others)
+    (sym read.2 ∙ ap query_tree same ∙ again.2, sym read.3 ∙ ap query_tests same ∙ again.3, same_said text ms ts said told here others)

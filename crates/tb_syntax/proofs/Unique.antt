@@ -6,7 +6,7 @@ use Rattle.tb_syntax.specs.declared.lexeme.Flag.TheVariants as flag
 use Rattle.tb_syntax.specs.declared.lexeme.Lexeme.{Lexeme}
 use Rattle.tb_syntax.specs.declared.lexeme.Lexeme.TheVariants.{LeftParen, RightParen, LeftBracket, RightBracket, Bar, And, Quote}
 use Rattle.tb_syntax.specs.Follow.{begins_flag, begins_and, begins_bar, begins_unit, begins_atom, begins_rep, EndsConj, EndsTest, EndsItem, EndsCat, EndsAlt}
-use Rattle.tb_syntax.specs.Grammar.{flag_text, Sign, same, other, sign_lexeme, Test, one_conj, or_test, Conj, one_unit, and_conj, Unit', denied, grouped, compares, contains, test_text, conj_text, unit_text, Repeat, quest, star, plus, exactly, at_least, between, rep_text, Alt, one_cat, or_alt, Cat, one_item, and_cat, Item, once, repeated, Atom, any, brackets, bare, parens, alt_text, cat_text, item_text, atom_text, Ending, nothing, stop, scope, scope_stop, ending_text, Query, query, query_text}
+use Rattle.tb_syntax.specs.Grammar.{flag_text, Sign, same, other, sign_lexeme, Test', one_conj, or_test, Conj, one_unit, and_conj, Unit', denied, grouped, compares, contains, test_text, conj_text, unit_text, Repeat, quest, star, plus, exactly, at_least, between, rep_text, Alt, one_cat, or_alt, Cat, one_item, and_cat, Item, once, repeated, Atom, any, brackets, bare, parens, alt_text, cat_text, item_text, atom_text, Ending, nothing, stop, scope, scope_stop, ending_text, Query, query, query_text}
 
 clash : (f : List Lexeme → Bool) (x y : List Lexeme) → f x ≡ false → f y ≡ true → x ≡ y → ⊥
 clash f x y p q e = false≢true (sym p ∙ ap f e ∙ q)
@@ -55,12 +55,12 @@ pub conj_begins : (c : Conj) (x : List Lexeme) → begins_unit (conj_text c ++ x
 conj_begins (one_unit u) x = unit_begins u x
 conj_begins (and_conj u c) x = rw append_assoc (unit_begins u (And ∷ (conj_text c ++ x)))
 
-pub test_begins : (t : Test) (x : List Lexeme) → begins_unit (test_text t ++ x) ≡ true
+pub test_begins : (t : Test') (x : List Lexeme) → begins_unit (test_text t ++ x) ≡ true
 test_begins (one_conj c) x = conj_begins c x
 test_begins (or_test c t) x = rw append_assoc (conj_begins c (Bar ∷ (test_text t ++ x)))
 
 mutual
-  same_test : (a b : Test) (x y : List Lexeme) → EndsTest x → EndsTest y → test_text a ++ x ≡ test_text b ++ y → (a ≡ b) × (x ≡ y)
+  same_test : (a b : Test') (x y : List Lexeme) → EndsTest x → EndsTest y → test_text a ++ x ≡ test_text b ++ y → (a ≡ b) × (x ≡ y)
   same_test (one_conj c) (one_conj d) x y p q e = let u = same_conj c d x y (ends_conj p) (ends_conj q) e in (ap one_conj u.0, u.1)
   same_test (one_conj c) (or_test d b) x y p q e =
       let u = same_conj c d x (Bar ∷ (test_text b ++ y)) (ends_conj p) before_bar (e ∙ append_assoc (conj_text d) (Bar ∷ test_text b) y) in

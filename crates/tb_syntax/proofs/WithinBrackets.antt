@@ -8,29 +8,29 @@ use Rattle.tb_syntax.specs.declared.lexeme.Flag.TheVariants as flag
 use Rattle.tb_syntax.specs.declared.lexeme.Lexeme.{Lexeme}
 use Rattle.tb_syntax.specs.declared.lexeme.Lexeme.TheVariants.{LeftParen, RightParen, RightBracket, Bar, And, Not, Equals, Differs, PercentC, PercentL, Name, Contains, Quote}
 use Rattle.tb_syntax.specs.declared.scanning.Mode.TheVariants.{Has, Asks, Named, Featured, Signed, Tested, Whole}
-use Rattle.tb_syntax.specs.Grammar.{flag_text, Sign, same, other, sign_lexeme, Test, one_conj, or_test, one_unit, and_conj, Unit', denied, grouped, compares, contains, test_text, conj_text, unit_text}
+use Rattle.tb_syntax.specs.Grammar.{flag_text, Sign, same, other, sign_lexeme, Test', one_conj, or_test, one_unit, and_conj, Unit', denied, grouped, compares, contains, test_text, conj_text, unit_text}
 use Rattle.tb_syntax.specs.Machine.{accepts, place, inside}
 
 -- what may follow a unit within a test
 data More : Type 0 where
   no_more : More
-  conj : Test → More
-  disj : Test → More
+  conj : Test' → More
+  disj : Test' → More
 
 abbrev more_text : More → List Lexeme
 more_text no_more = []
 more_text (conj t) = And ∷ test_text t
 more_text (disj t) = Bar ∷ test_text t
 
-abbrev with_unit : Unit' → Test → Test
+abbrev with_unit : Unit' → Test' → Test'
 with_unit u (one_conj c) = one_conj (and_conj u c)
 with_unit u (or_test c t) = or_test (and_conj u c) t
 
-with_unit-text : (u : Unit') (t : Test) → test_text (with_unit u t) ≡ unit_text u ++ And ∷ test_text t
+with_unit-text : (u : Unit') (t : Test') → test_text (with_unit u t) ≡ unit_text u ++ And ∷ test_text t
 with_unit-text u (one_conj c) = refl
 with_unit-text u (or_test c t) = append_assoc (unit_text u) (And ∷ conj_text c) (Bar ∷ test_text t)
 
-abbrev attach : Unit' → More → Test
+abbrev attach : Unit' → More → Test'
 attach u no_more = one_conj (one_unit u)
 attach u (conj t) = with_unit u t
 attach u (disj t) = or_test (one_unit u) t
@@ -46,7 +46,7 @@ Shuts n zero tail = (rest : List Lexeme) × (tail ≡ RightBracket ∷ rest) × 
 Shuts n (suc k) tail = (rest : List Lexeme) × (tail ≡ RightParen ∷ rest) × (accepts (inside Whole n k) rest ≡ true)
 
 record TakesTest (n k : ℕ) (ls : List Lexeme) : Type 0 where
-  test : Test
+  test : Test'
   tail : List Lexeme
   text : ls ≡ test_text test ++ tail
   shuts : Shuts n k tail
@@ -65,7 +65,7 @@ record TakesUnit (n k : ℕ) (ls : List Lexeme) : Type 0 where
   goes : accepts (inside Whole n k) rest ≡ true
 
 pub record TakesBrackets (n : ℕ) (ls : List Lexeme) : Type 0 where
-  pub test : Test
+  pub test : Test'
   pub rest : List Lexeme
   pub text : ls ≡ test_text test ++ (RightBracket ∷ rest)
   pub goes : accepts (place Has n) rest ≡ true

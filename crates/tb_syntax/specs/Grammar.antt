@@ -25,9 +25,9 @@ sign_lexeme other = Differs
 
 mutual
   -- test = conj { "|" conj }
-  pub data Test : Type 0 where
-    one_conj : Conj → Test
-    or_test : Conj → Test → Test
+  pub data Test' : Type 0 where
+    one_conj : Conj → Test'
+    or_test : Conj → Test' → Test'
 
   -- conj = unit { "&" unit }
   pub data Conj : Type 0 where
@@ -37,12 +37,12 @@ mutual
   -- unit = "!" unit | "(" test ")" | attr sign literal flag | "feats" "contains" literal flag
   pub data Unit' : Type 0 where
     denied : Unit' → Unit'
-    grouped : Test → Unit'
+    grouped : Test' → Unit'
     compares : Attr → Sign → ℕ → Flag → Unit'
     contains : ℕ → Flag → Unit'
 
 abbrev mutual
-  pub test_text : Test → List Lexeme
+  pub test_text : Test' → List Lexeme
   test_text (one_conj c) = conj_text c
   test_text (or_test c t) = conj_text c ++ Bar ∷ test_text t
 
@@ -92,7 +92,7 @@ mutual
   -- atom = "[" "]" | "[" test "]" | literal flag | "(" alt ")"
   pub data Atom : Type 0 where
     any : Atom
-    brackets : Test → Atom
+    brackets : Test' → Atom
     bare : ℕ → Flag → Atom
     parens : Alt → Atom
 

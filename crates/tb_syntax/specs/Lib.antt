@@ -1,5 +1,6 @@
 pub mod Grammar
 pub mod Machine
+pub mod Tests
 pub mod Pattern
 pub mod Limits
 pub mod Spelling

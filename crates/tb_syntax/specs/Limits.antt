@@ -4,12 +4,12 @@ use Rattle.tb_syntax.specs.declared.lexeme.Lexeme.{Lexeme}
 use Rattle.tb_syntax.specs.declared.lexeme.Lexeme.TheVariants.{LeftParen, RightParen, LeftBracket, RightBracket, RightBrace, Comma, Number, Quote}
 use Rattle.tb_syntax.specs.declared.limits.Bounds.{Bounds}
 use Rattle.tb_syntax.specs.declared.limits.Bounds.TheVariants.{Apart, Least, Ranged}
-use Rattle.tb_syntax.specs.Grammar.{Test, one_conj, or_test, Conj, one_unit, and_conj, Unit', denied, grouped, compares, contains, Repeat, quest, star, plus, exactly, at_least, between, Alt, one_cat, or_alt, Cat, one_item, and_cat, Item, once, repeated, Atom, any, brackets, bare, parens, Query, query}
+use Rattle.tb_syntax.specs.Grammar.{Test', one_conj, or_test, Conj, one_unit, and_conj, Unit', denied, grouped, compares, contains, Repeat, quest, star, plus, exactly, at_least, between, Alt, one_cat, or_alt, Cat, one_item, and_cat, Item, once, repeated, Atom, any, brackets, bare, parens, Query, query}
 use Rattle.tb_syntax.specs.Pattern.{alt_count}
 
 -- at most so many round parentheses are open at one place
 abbrev mutual
-  pub test_nests : ℕ → Test → Bool
+  pub test_nests : ℕ → Test' → Bool
   test_nests r (one_conj c) = conj_nests r c
   test_nests r (or_test c t) = if conj_nests r c then test_nests r t else false
 

@@ -6,8 +6,9 @@ use Rattle.tb_syntax.specs.declared.lexeme.Flag.{Flag}
 use Rattle.tb_syntax.specs.declared.lexeme.Lexeme.{Lexeme}
 use Rattle.tb_syntax.specs.declared.lexeme.Lexeme.TheVariants.{LeftBrace, Quote, Stray}
 use Rattle.tb_syntax.specs.Follow.{begins_flag, begins_rep, EndsConj, EndsTest, EndsItem, EndsCat, EndsAlt}
-use Rattle.tb_syntax.specs.Grammar.{flag_text, Test, Conj, Unit', test_text, conj_text, unit_text, Repeat, quest, star, plus, exactly, at_least, between, rep_text, Alt, Cat, Item, Atom, parens, alt_text, cat_text, item_text, atom_text, Query, query_text}
-use Rattle.tb_syntax.specs.Pattern.{Tester, both_of, either_of, test_parts, conj_parts, unit_tester, cat_of, alt_of, alt_count, cat_count, item_count, atom_count, alt_parts, cat_parts, item_tree, atom_tree, alt_testers, cat_testers, item_testers, atom_testers, query_tree, query_testers}
+use Rattle.tb_syntax.specs.Grammar.{flag_text, Test', Conj, Unit', test_text, conj_text, unit_text, Repeat, quest, star, plus, exactly, at_least, between, rep_text, Alt, Cat, Item, Atom, parens, alt_text, cat_text, item_text, atom_text, Query, query_text}
+use Rattle.tb_syntax.specs.Pattern.{both_of, either_of, test_parts, conj_parts, unit_test, cat_of, alt_of, alt_count, cat_count, item_count, atom_count, alt_parts, cat_parts, item_tree, atom_tree, alt_tests, cat_tests, item_tests, atom_tests, query_tree, query_tests}
+use Rattle.tb_syntax.specs.Tests.{Test}
 use Rattle.tb_syntax.specs.Limits.{query_count}
 
 -- the first lexeme, and what is left
@@ -25,22 +26,22 @@ pub record ReadsFlag (ls : List Lexeme) (flag : Flag) (rest : List Lexeme) : Typ
 pub record ReadsLiteral (ls : List Lexeme) (literal : Literal) (rest : List Lexeme) : Type 0 where
   pub at : (k : ℕ) (f : Flag) (end : List Lexeme) → begins_flag end ≡ false → Quote k ∷ (flag_text f ++ end) ≡ ls → (literal.number ≡ k) × (literal.flag ≡ f) × (rest ≡ end)
 
-pub record ReadsUnit (ls : List Lexeme) (t : Tester) (rest : List Lexeme) : Type 0 where
-  pub at : (u : Unit') (end : List Lexeme) → begins_flag end ≡ false → unit_text u ++ end ≡ ls → (t ≡ unit_tester u) × (rest ≡ end)
+pub record ReadsUnit (ls : List Lexeme) (t : Test Literal) (rest : List Lexeme) : Type 0 where
+  pub at : (u : Unit') (end : List Lexeme) → begins_flag end ≡ false → unit_text u ++ end ≡ ls → (t ≡ unit_test u) × (rest ≡ end)
 
 -- the parts of a conjunction, after those that were read before
-pub record ReadsUnits (ls : List Lexeme) (old new : List Tester) (rest : List Lexeme) : Type 0 where
+pub record ReadsUnits (ls : List Lexeme) (old new : List (Test Literal)) (rest : List Lexeme) : Type 0 where
   pub at : (c : Conj) (end : List Lexeme) → EndsConj end → conj_text c ++ end ≡ ls → (new ≡ old ++ conj_parts c) × (rest ≡ end)
 
-pub record ReadsConj (ls : List Lexeme) (t : Tester) (rest : List Lexeme) : Type 0 where
+pub record ReadsConj (ls : List Lexeme) (t : Test Literal) (rest : List Lexeme) : Type 0 where
   pub at : (c : Conj) (end : List Lexeme) → EndsConj end → conj_text c ++ end ≡ ls → (t ≡ both_of (conj_parts c)) × (rest ≡ end)
 
 -- the parts of a disjunction, after those that were read before
-pub record ReadsConjs (ls : List Lexeme) (old new : List Tester) (rest : List Lexeme) : Type 0 where
-  pub at : (t : Test) (end : List Lexeme) → EndsTest end → test_text t ++ end ≡ ls → (new ≡ old ++ test_parts t) × (rest ≡ end)
+pub record ReadsConjs (ls : List Lexeme) (old new : List (Test Literal)) (rest : List Lexeme) : Type 0 where
+  pub at : (t : Test') (end : List Lexeme) → EndsTest end → test_text t ++ end ≡ ls → (new ≡ old ++ test_parts t) × (rest ≡ end)
 
-pub record ReadsTest (ls : List Lexeme) (t : Tester) (rest : List Lexeme) : Type 0 where
-  pub at : (u : Test) (end : List Lexeme) → EndsTest end → test_text u ++ end ≡ ls → (t ≡ either_of (test_parts u)) × (rest ≡ end)
+pub record ReadsTest (ls : List Lexeme) (t : Test Literal) (rest : List Lexeme) : Type 0 where
+  pub at : (u : Test') (end : List Lexeme) → EndsTest end → test_text u ++ end ≡ ls → (t ≡ either_of (test_parts u)) × (rest ≡ end)
 
 -- what a repetition says: how often at least, and how often at most
 abbrev pub bounds : Repeat → ℕ × Option ℕ
@@ -61,37 +62,37 @@ pub record ReadsRepeat (ls : List Lexeme) (found : Option (ℕ × Option ℕ)) (
   pub none : begins_rep ls ≡ false → (found ≡ None) × (rest ≡ ls)
 
 -- the one token expression of an atom that is no parenthesis
-pub record ReadsExpr (ls : List Lexeme) (t : Tester) (rest : List Lexeme) : Type 0 where
+pub record ReadsExpr (ls : List Lexeme) (t : Test Literal) (rest : List Lexeme) : Type 0 where
   pub at : (a : Atom) (end : List Lexeme) → begins_flag end ≡ false → atom_text a ++ end ≡ ls → ((b : Alt) → a ≡ parens b → ⊥) →
-      (atom_testers a ≡ t ∷ []) × (rest ≡ end)
+      (atom_tests a ≡ t ∷ []) × (rest ≡ end)
 
 -- In what follows `old` are the token expressions that were read before, and `new` those with what was read.
 -- Their numbers are 16 bits long.
-pub record ReadsAtom (ls : List Lexeme) (old new : List Tester) (t : Tree) (rest : List Lexeme) : Type 0 where
+pub record ReadsAtom (ls : List Lexeme) (old new : List (Test Literal)) (t : Tree) (rest : List Lexeme) : Type 0 where
   pub at : (a : Atom) (end : List Lexeme) → begins_flag end ≡ false → atom_text a ++ end ≡ ls → length old + atom_count a ≤ 65536 →
-      (t ≡ atom_tree (length old) a) × (new ≡ old ++ atom_testers a) × (rest ≡ end)
+      (t ≡ atom_tree (length old) a) × (new ≡ old ++ atom_tests a) × (rest ≡ end)
 
-pub record ReadsItem (ls : List Lexeme) (old new : List Tester) (t : Tree) (rest : List Lexeme) : Type 0 where
+pub record ReadsItem (ls : List Lexeme) (old new : List (Test Literal)) (t : Tree) (rest : List Lexeme) : Type 0 where
   pub at : (i : Item) (end : List Lexeme) → EndsItem end → item_text i ++ end ≡ ls → length old + item_count i ≤ 65536 →
-      (t ≡ item_tree (length old) i) × (new ≡ old ++ item_testers i) × (rest ≡ end)
+      (t ≡ item_tree (length old) i) × (new ≡ old ++ item_tests i) × (rest ≡ end)
 
 -- the parts of a sequence, after those that were read before
-pub record ReadsItems (ls : List Lexeme) (old new : List Tester) (before after : List Tree) (rest : List Lexeme) : Type 0 where
+pub record ReadsItems (ls : List Lexeme) (old new : List (Test Literal)) (before after : List Tree) (rest : List Lexeme) : Type 0 where
   pub at : (c : Cat) (end : List Lexeme) → EndsCat end → cat_text c ++ end ≡ ls → length old + cat_count c ≤ 65536 →
-      (after ≡ before ++ cat_parts (length old) c) × (new ≡ old ++ cat_testers c) × (rest ≡ end)
+      (after ≡ before ++ cat_parts (length old) c) × (new ≡ old ++ cat_tests c) × (rest ≡ end)
 
-pub record ReadsCat (ls : List Lexeme) (old new : List Tester) (t : Tree) (rest : List Lexeme) : Type 0 where
+pub record ReadsCat (ls : List Lexeme) (old new : List (Test Literal)) (t : Tree) (rest : List Lexeme) : Type 0 where
   pub at : (c : Cat) (end : List Lexeme) → EndsCat end → cat_text c ++ end ≡ ls → length old + cat_count c ≤ 65536 →
-      (t ≡ cat_of (cat_parts (length old) c)) × (new ≡ old ++ cat_testers c) × (rest ≡ end)
+      (t ≡ cat_of (cat_parts (length old) c)) × (new ≡ old ++ cat_tests c) × (rest ≡ end)
 
 -- the parts of a choice, after those that were read before
-pub record ReadsCats (ls : List Lexeme) (old new : List Tester) (before after : List Tree) (rest : List Lexeme) : Type 0 where
+pub record ReadsCats (ls : List Lexeme) (old new : List (Test Literal)) (before after : List Tree) (rest : List Lexeme) : Type 0 where
   pub at : (a : Alt) (end : List Lexeme) → EndsAlt end → alt_text a ++ end ≡ ls → length old + alt_count a ≤ 65536 →
-      (after ≡ before ++ alt_parts (length old) a) × (new ≡ old ++ alt_testers a) × (rest ≡ end)
+      (after ≡ before ++ alt_parts (length old) a) × (new ≡ old ++ alt_tests a) × (rest ≡ end)
 
-pub record ReadsAlt (ls : List Lexeme) (old new : List Tester) (t : Tree) (rest : List Lexeme) : Type 0 where
+pub record ReadsAlt (ls : List Lexeme) (old new : List (Test Literal)) (t : Tree) (rest : List Lexeme) : Type 0 where
   pub at : (a : Alt) (end : List Lexeme) → EndsAlt end → alt_text a ++ end ≡ ls → length old + alt_count a ≤ 65536 →
-      (t ≡ alt_of (alt_parts (length old) a)) × (new ≡ old ++ alt_testers a) × (rest ≡ end)
+      (t ≡ alt_of (alt_parts (length old) a)) × (new ≡ old ++ alt_tests a) × (rest ≡ end)
 
-pub record ReadsQuery (ls : List Lexeme) (t : Tree) (es : List Tester) : Type 0 where
-  pub at : (q : Query) → query_text q ≡ ls → query_count q ≤ 65536 → (t ≡ query_tree q) × (es ≡ query_testers q)
+pub record ReadsQuery (ls : List Lexeme) (t : Tree) (es : List (Test Literal)) : Type 0 where
+  pub at : (q : Query) → query_text q ≡ ls → query_count q ≤ 65536 → (t ≡ query_tree q) × (es ≡ query_tests q)

@@ -1,65 +1,44 @@
 -- What a query says: its pattern over token expressions, and those expressions, each without where it lies in memory.
-use Rattle.std.specs.Prelude.{◌≡◌, ℕ, zero, suc, ◌+◌, List, [], ◌∷◌, ◌++◌, None, Some}
+use Rattle.std.specs.Prelude.{◌≡◌, ℕ, ◌+◌, List, [], ◌∷◌, ◌++◌, None, Some}
 use Rattle.tb_match.specs.Trees.{Tree, tok, cat, alt, rep, forest}
-use Rattle.tb_syntax.specs.declared.lexeme.Attr.{Attr}
+use Rattle.tb_syntax.specs.declared.expr.Literal.{Literal}
 use Rattle.tb_syntax.specs.declared.lexeme.Attr.TheVariants.{Form}
 use Rattle.tb_syntax.specs.declared.lexeme.Flag.{Flag}
 use Rattle.tb_syntax.specs.declared.lexeme.Lexeme.{Lexeme}
-use Rattle.tb_syntax.specs.Grammar.{Sign, same, other, Test, one_conj, or_test, Conj, one_unit, and_conj, Unit', denied, grouped, compares, contains, Repeat, quest, star, plus, exactly, at_least, between, Alt, one_cat, or_alt, Cat, one_item, and_cat, Item, once, repeated, Atom, any, brackets, bare, parens, Query, query, query_text}
+use Rattle.tb_syntax.specs.Grammar.{Sign, same, other, Test', one_conj, or_test, Conj, one_unit, and_conj, Unit', denied, grouped, compares, contains, Repeat, quest, star, plus, exactly, at_least, between, Alt, one_cat, or_alt, Cat, one_item, and_cat, Item, once, repeated, Atom, any, brackets, bare, parens, Query, query, query_text}
+use Rattle.tb_syntax.specs.Tests.{Test, every, whole, feature, negated, both, either, tests}
 
--- A token expression. A literal stands by its number.
-mutual
-  pub data Tester : Type 0 where
-    every : Tester
-    whole : Attr → ℕ → Flag → Tester
-    feature : ℕ → Flag → Tester
-    not : Tester → Tester
-    both : Testers → Tester
-    either : Testers → Tester
-
-  pub data Testers : Type 0 where
-    no_test : Testers
-    and_test : Tester → Testers → Testers
-
-abbrev pub testers : List Tester → Testers
-testers [] = no_test
-testers (t ∷ ts) = and_test t (testers ts)
-
--- denied so many times
-abbrev pub denied_times : ℕ → Tester → Tester
-denied_times zero t = t
-denied_times (suc n) t = denied_times n (not t)
+-- a literal, by its number in the text and its flag
+abbrev pub literal_of : ℕ → Flag → Literal
+literal_of k f = record { number = k; flag = f }
 
 -- a conjunction, a disjunction of one is that one
-abbrev pub both_of : List Tester → Tester
+abbrev pub both_of : {L : Type 0} → List (Test L) → Test L
 both_of (t ∷ []) = t
-both_of ts = both (testers ts)
+both_of ts = both (tests ts)
 
-abbrev pub either_of : List Tester → Tester
+abbrev pub either_of : {L : Type 0} → List (Test L) → Test L
 either_of (t ∷ []) = t
-either_of ts = either (testers ts)
+either_of ts = either (tests ts)
 
-abbrev pub signed : Sign → Tester → Tester
+abbrev pub signed : Sign → Test Literal → Test Literal
 signed same t = t
-signed other t = not t
+signed other t = negated t
 
 abbrev mutual
-  pub test_parts : Test → List Tester
+  pub test_parts : Test' → List (Test Literal)
   test_parts (one_conj c) = both_of (conj_parts c) ∷ []
   test_parts (or_test c t) = both_of (conj_parts c) ∷ test_parts t
 
-  pub conj_parts : Conj → List Tester
-  conj_parts (one_unit u) = unit_tester u ∷ []
-  conj_parts (and_conj u c) = unit_tester u ∷ conj_parts c
+  pub conj_parts : Conj → List (Test Literal)
+  conj_parts (one_unit u) = unit_test u ∷ []
+  conj_parts (and_conj u c) = unit_test u ∷ conj_parts c
 
-  pub unit_tester : Unit' → Tester
-  unit_tester (denied u) = not (unit_tester u)
-  unit_tester (grouped t) = either_of (test_parts t)
-  unit_tester (compares a s k f) = signed s (whole a k f)
-  unit_tester (contains k f) = feature k f
-
-abbrev pub test_tester : Test → Tester
-test_tester t = either_of (test_parts t)
+  pub unit_test : Unit' → Test Literal
+  unit_test (denied u) = negated (unit_test u)
+  unit_test (grouped t) = either_of (test_parts t)
+  unit_test (compares a s k f) = signed s (whole a (literal_of k f))
+  unit_test (contains k f) = feature (literal_of k f)
 
 -- a sequence, an alternative of one is that one
 abbrev pub cat_of : List Tree → Tree
@@ -120,30 +99,30 @@ abbrev mutual
 
 -- the token expressions, as they stand in the text
 abbrev mutual
-  pub alt_testers : Alt → List Tester
-  alt_testers (one_cat c) = cat_testers c
-  alt_testers (or_alt c a) = cat_testers c ++ alt_testers a
+  pub alt_tests : Alt → List (Test Literal)
+  alt_tests (one_cat c) = cat_tests c
+  alt_tests (or_alt c a) = cat_tests c ++ alt_tests a
 
-  pub cat_testers : Cat → List Tester
-  cat_testers (one_item i) = item_testers i
-  cat_testers (and_cat i c) = item_testers i ++ cat_testers c
+  pub cat_tests : Cat → List (Test Literal)
+  cat_tests (one_item i) = item_tests i
+  cat_tests (and_cat i c) = item_tests i ++ cat_tests c
 
-  pub item_testers : Item → List Tester
-  item_testers (once a) = atom_testers a
-  item_testers (repeated a r) = atom_testers a
+  pub item_tests : Item → List (Test Literal)
+  item_tests (once a) = atom_tests a
+  item_tests (repeated a r) = atom_tests a
 
-  pub atom_testers : Atom → List Tester
-  atom_testers any = every ∷ []
-  atom_testers (brackets t) = test_tester t ∷ []
-  atom_testers (bare k f) = whole Form k f ∷ []
-  atom_testers (parens a) = alt_testers a
+  pub atom_tests : Atom → List (Test Literal)
+  atom_tests any = every ∷ []
+  atom_tests (brackets t) = either_of (test_parts t) ∷ []
+  atom_tests (bare k f) = whole Form (literal_of k f) ∷ []
+  atom_tests (parens a) = alt_tests a
 
 abbrev pub query_tree : Query → Tree
 query_tree (query a e) = alt_of (alt_parts 0 a)
 
-abbrev pub query_testers : Query → List Tester
-query_testers (query a e) = alt_testers a
+abbrev pub query_tests : Query → List (Test Literal)
+query_tests (query a e) = alt_tests a
 
 -- the lexemes read as this pattern over these token expressions
-abbrev pub Reads : List Lexeme → Tree → List Tester → Type 0
-Reads ls t es = (q : Query) × (query_text q ≡ ls) × (query_tree q ≡ t) × (query_testers q ≡ es)
+abbrev pub Reads : List Lexeme → Tree → List (Test Literal) → Type 0
+Reads ls t es = (q : Query) × (query_text q ≡ ls) × (query_tree q ≡ t) × (query_tests q ≡ es)

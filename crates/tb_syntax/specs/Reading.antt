@@ -3,6 +3,7 @@ use Rattle.std.specs.Prelude.{◌≡◌, ℕ, ◌+◌, ◌<◌, ◌≤◌, List,
 use Rattle.std.specs.List.{slice_get}
 use Rattle.std.specs.Option.{unwrap_or}
 use Rattle.tb_match.specs.Trees.{Tree}
+use Rattle.tb_syntax.specs.declared.expr.Literal.{Literal}
 use Rattle.tb_syntax.specs.declared.lexeme.Lexeme.{Lexeme}
 use Rattle.tb_syntax.specs.declared.lexing.Span.{Span}
 use Rattle.tb_syntax.specs.declared.fault.Fault.{Fault}
@@ -10,7 +11,8 @@ use Rattle.tb_syntax.specs.declared.fault.Fault.TheVariants.{TooLong, Syntax, To
 use Rattle.tb_syntax.specs.Grammar.{Query, query_text, IsQuery, IsBeginning}
 use Rattle.tb_syntax.specs.Lexing.{Lexes}
 use Rattle.tb_syntax.specs.Limits.{query_count, query_nests, query_repeats}
-use Rattle.tb_syntax.specs.Pattern.{Tester, query_tree, query_testers}
+use Rattle.tb_syntax.specs.Pattern.{query_tree, query_tests}
+use Rattle.tb_syntax.specs.Tests.{Test}
 
 -- the text is short enough, and has these lexemes at these places
 abbrev pub IsText : List ℕ → List Lexeme → List Span → Type 0
@@ -24,8 +26,8 @@ abbrev pub IsAccepted : List ℕ → List Lexeme → List Span → Type 0
 IsAccepted text ls ss = (q : Query) × IsWithin text ls ss q
 
 -- it is, and says this: its pattern, and its token expressions
-abbrev pub IsRead : List ℕ → List Lexeme → List Span → Tree → List Tester → Type 0
-IsRead text ls ss t es = (q : Query) × IsWithin text ls ss q × (query_tree q ≡ t) × (query_testers q ≡ es)
+abbrev pub IsRead : List ℕ → List Lexeme → List Span → Tree → List (Test Literal) → Type 0
+IsRead text ls ss t es = (q : Query) × IsWithin text ls ss q × (query_tree q ≡ t) × (query_tests q ≡ es)
 
 -- some query begins with the lexemes before this one, but none has this one after them, or none ends there
 abbrev pub IsWrongAt : List Lexeme → ℕ → Type 0

@@ -1,11 +1,12 @@
 -- What a text says in whole: its pattern, its token expressions, and what its literals say.
 use Rattle.std.specs.Prelude.{◌≡◌, ℕ, List, [], ◌∷◌}
 use Rattle.tb_match.specs.Trees.{Tree}
+use Rattle.tb_syntax.specs.declared.expr.Literal.{Literal}
 use Rattle.tb_syntax.specs.declared.lexeme.Lexeme.{Lexeme}
 use Rattle.tb_syntax.specs.declared.lexeme.Lexeme.TheVariants.{Quote}
 use Rattle.tb_syntax.specs.declared.lexing.Span.{Span}
 use Rattle.tb_syntax.specs.Lexing.{bytes_at}
-use Rattle.tb_syntax.specs.Pattern.{Tester}
+use Rattle.tb_syntax.specs.Tests.{Test}
 use Rattle.tb_syntax.specs.Reading.{IsRead}
 use Rattle.tb_syntax.specs.Spelling.{IsQuoted}
 
@@ -19,5 +20,5 @@ IsSaid text _ _ _ = ⊥
 
 -- The text is a query within the limits, and says this: its pattern over its token expressions, and what each of its literals says,
 -- which the token expressions know by their numbers.
-abbrev pub Says : List ℕ → Tree → List Tester → List (List ℕ) → Type 0
+abbrev pub Says : List ℕ → Tree → List (Test Literal) → List (List ℕ) → Type 0
 Says text t es said = (ls : List Lexeme) × (ss : List Span) × IsRead text ls ss t es × IsSaid text ls ss said

@@ -1,13 +1,14 @@
 //! Reading the tests between brackets.
 
 ghost use Rattle.std.specs.Prelude.{◌≡◌, ◌∷◌, ◌≤◌, ◌-◌, List, length, map, IfOk};
+ghost use Rattle.tb_syntax.specs.declared.expr.Literal.{Literal};
 ghost use Rattle.tb_syntax.specs.declared.lexeme.Lexeme.{Lexeme};
-ghost use Rattle.tb_syntax.specs.Exprs.{tester};
+ghost use Rattle.tb_syntax.specs.Exprs.{test};
 ghost use Rattle.tb_syntax.specs.Parsing.{head, ReadsUnit, ReadsUnits, ReadsConj, ReadsConjs, ReadsTest};
-ghost use Rattle.tb_syntax.specs.Pattern.{Tester, denied_times};
+ghost use Rattle.tb_syntax.specs.Tests.{Test, denied_times};
 
 use crate::cursor::{head, literal_at, tail};
-use crate::expr::{Expr, any, both_of, denied, either_of, item, whole};
+use crate::expr::{Expr, Literal, any, both_of, denied, either_of, item, whole};
 use crate::lexeme::{Attr, Lexeme};
 use std::alloc::{AllocError, Global};
 
@@ -16,8 +17,8 @@ fn comparison_at(
     alloc: Global,
     attr: Attr,
     lexemes: &[Lexeme],
-) -> Result<(Expr, &[Lexeme]), AllocError>
-    ensures exact { IfOk result (λ x. ReadsUnit (Lexeme.Name attr ∷ lexemes.now) (tester x.0) x.1.now) }
+) -> Result<(Expr<Literal>, &[Lexeme]), AllocError>
+    ensures exact { IfOk result (λ x. ReadsUnit (Lexeme.Name attr ∷ lexemes.now) (test x.0) x.1.now) }
     ensures shorter { IfOk result (λ x. length x.1.now ≤ length lexemes.now) }
 {
     let (literal, rest) = literal_at(tail(lexemes));
@@ -30,7 +31,7 @@ fn comparison_at(
 
 /// The number of `!` that stand there, and what is left after them.
 fn denials_at(lexemes: &[Lexeme]) -> (usize, &[Lexeme])
-    ensures exact { (t : Tester) (end : List Lexeme) → ReadsUnit result.1.now t end → ReadsUnit lexemes.now (denied_times result.0 t) end }
+    ensures exact { (t : Test Literal) (end : List Lexeme) → ReadsUnit result.1.now t end → ReadsUnit lexemes.now (denied_times result.0 t) end }
     ensures all { head result.1.now ≡ Lexeme.Not → ⊥ }
     ensures shorter { length result.1.now ≤ length lexemes.now }
 {
@@ -45,8 +46,11 @@ fn denials_at(lexemes: &[Lexeme]) -> (usize, &[Lexeme])
 
 /// The unit of a test, before which no `!` stands.
 #[cycle(asking)]
-fn plain_unit_at(alloc: Global, lexemes: &[Lexeme]) -> Result<(Expr, &[Lexeme]), AllocError>
-    ensures exact { (head lexemes.now ≡ Lexeme.Not → ⊥) → IfOk result (λ x. ReadsUnit lexemes.now (tester x.0) x.1.now) }
+fn plain_unit_at(
+    alloc: Global,
+    lexemes: &[Lexeme],
+) -> Result<(Expr<Literal>, &[Lexeme]), AllocError>
+    ensures exact { (head lexemes.now ≡ Lexeme.Not → ⊥) → IfOk result (λ x. ReadsUnit lexemes.now (test x.0) x.1.now) }
     ensures shorter { IfOk result (λ x. length x.1.now ≤ length lexemes.now - 1) }
 {
     let rest = tail(lexemes);
@@ -62,8 +66,8 @@ fn plain_unit_at(alloc: Global, lexemes: &[Lexeme]) -> Result<(Expr, &[Lexeme]),
 
 /// The unit of a test.
 #[cycle(asking)]
-fn unit_at(alloc: Global, lexemes: &[Lexeme]) -> Result<(Expr, &[Lexeme]), AllocError>
-    ensures exact { IfOk result (λ x. ReadsUnit lexemes.now (tester x.0) x.1.now) }
+fn unit_at(alloc: Global, lexemes: &[Lexeme]) -> Result<(Expr<Literal>, &[Lexeme]), AllocError>
+    ensures exact { IfOk result (λ x. ReadsUnit lexemes.now (test x.0) x.1.now) }
     ensures shorter { IfOk result (λ x. length x.1.now ≤ length lexemes.now - 1) }
 {
     let (times, denied_part) = denials_at(lexemes);
@@ -76,9 +80,9 @@ fn unit_at(alloc: Global, lexemes: &[Lexeme]) -> Result<(Expr, &[Lexeme]), Alloc
 fn units_at<'s>(
     alloc: Global,
     lexemes: &'s [Lexeme],
-    parts: &mut Vec<Expr>,
+    parts: &mut Vec<Expr<Literal>>,
 ) -> Result<&'s [Lexeme], AllocError>
-    ensures exact { IfOk result (λ rest. ReadsUnits lexemes.now (map tester parts.old.items) (map tester parts.new.items) rest.now) }
+    ensures exact { IfOk result (λ rest. ReadsUnits lexemes.now (map test parts.old.items) (map test parts.new.items) rest.now) }
     ensures shorter { IfOk result (λ rest. length rest.now ≤ length lexemes.now - 1) }
 {
     let (unit, rest) = unit_at(alloc, lexemes)?;
@@ -91,8 +95,8 @@ fn units_at<'s>(
 
 /// The conjunction.
 #[cycle(asking)]
-fn conj_at(alloc: Global, lexemes: &[Lexeme]) -> Result<(Expr, &[Lexeme]), AllocError>
-    ensures exact { IfOk result (λ x. ReadsConj lexemes.now (tester x.0) x.1.now) }
+fn conj_at(alloc: Global, lexemes: &[Lexeme]) -> Result<(Expr<Literal>, &[Lexeme]), AllocError>
+    ensures exact { IfOk result (λ x. ReadsConj lexemes.now (test x.0) x.1.now) }
     ensures shorter { IfOk result (λ x. length x.1.now ≤ length lexemes.now - 1) }
 {
     let mut parts = Vec::new(alloc);
@@ -105,9 +109,9 @@ fn conj_at(alloc: Global, lexemes: &[Lexeme]) -> Result<(Expr, &[Lexeme]), Alloc
 fn conjs_at<'s>(
     alloc: Global,
     lexemes: &'s [Lexeme],
-    parts: &mut Vec<Expr>,
+    parts: &mut Vec<Expr<Literal>>,
 ) -> Result<&'s [Lexeme], AllocError>
-    ensures exact { IfOk result (λ rest. ReadsConjs lexemes.now (map tester parts.old.items) (map tester parts.new.items) rest.now) }
+    ensures exact { IfOk result (λ rest. ReadsConjs lexemes.now (map test parts.old.items) (map test parts.new.items) rest.now) }
     ensures shorter { IfOk result (λ rest. length rest.now ≤ length lexemes.now - 1) }
 {
     let (conj, rest) = conj_at(alloc, lexemes)?;
@@ -120,8 +124,11 @@ fn conjs_at<'s>(
 
 /// The test.
 #[cycle(asking)]
-pub(crate) fn test_at(alloc: Global, lexemes: &[Lexeme]) -> Result<(Expr, &[Lexeme]), AllocError>
-    ensures exact { IfOk result (λ x. ReadsTest lexemes.now (tester x.0) x.1.now) }
+pub(crate) fn test_at(
+    alloc: Global,
+    lexemes: &[Lexeme],
+) -> Result<(Expr<Literal>, &[Lexeme]), AllocError>
+    ensures exact { IfOk result (λ x. ReadsTest lexemes.now (test x.0) x.1.now) }
     ensures shorter { IfOk result (λ x. length x.1.now ≤ length lexemes.now - 1) }
 {
     let mut parts = Vec::new(alloc);

@@ -4,6 +4,7 @@ ghost use Rattle.std.specs.Prelude.{◌≡◌, ◌≤◌, ◌⊎◌, ℕ, List, 
 ghost use Rattle.std.specs.List.{slice_get};
 ghost use Rattle.tb_match.specs.Trees.{Tree};
 ghost use Rattle.tb_match.specs.Weight.{Fits};
+ghost use Rattle.tb_syntax.specs.declared.expr.Literal.{Literal};
 ghost use Rattle.tb_syntax.specs.declared.fault.Fault.{Fault};
 ghost use Rattle.tb_syntax.specs.declared.fault.Fault.TheVariants.{Memory};
 ghost use Rattle.tb_syntax.specs.declared.lexeme.Lexeme.{Lexeme};
@@ -13,13 +14,14 @@ ghost use Rattle.tb_syntax.specs.Lexing.{Lexes, bytes_at};
 ghost use Rattle.tb_syntax.specs.Reading.{IsFault, IsWrongAt};
 ghost use Rattle.tb_syntax.specs.Saying.{Says};
 ghost use Rattle.tb_syntax.specs.Spelling.{IsQuoted};
-ghost use Rattle.tb_syntax.specs.Pattern.{Tester, Reads};
+ghost use Rattle.tb_syntax.specs.Pattern.{Reads};
+ghost use Rattle.tb_syntax.specs.Tests.{Test};
 
 /// Lexemes have one derivation at most, and so say one thing at most.
 pub fn one_reading()
     ensures derivation { (p q : Query) → query_text p ≡ query_text q → p ≡ q }
-    ensures pattern { (ls : List Lexeme) (s t : Tree) (es fs : List Tester) → Reads ls s es → Reads ls t fs → s ≡ t }
-    ensures tests { (ls : List Lexeme) (s t : Tree) (es fs : List Tester) → Reads ls s es → Reads ls t fs → es ≡ fs }
+    ensures pattern { (ls : List Lexeme) (s t : Tree) (es fs : List (Test Literal)) → Reads ls s es → Reads ls t fs → s ≡ t }
+    ensures tests { (ls : List Lexeme) (s t : Tree) (es fs : List (Test Literal)) → Reads ls s es → Reads ls t fs → es ≡ fs }
 {}
 
 /// A text has one list of lexemes, and each of them one place.
@@ -41,9 +43,9 @@ pub fn one_unquoting()
 
 /// A text says one thing at most.
 pub fn one_saying()
-    ensures pattern { (text : List ℕ) (t u : Tree) (es fs : List Tester) (said told : List (List ℕ)) → Says text t es said → Says text u fs told → t ≡ u }
-    ensures tests { (text : List ℕ) (t u : Tree) (es fs : List Tester) (said told : List (List ℕ)) → Says text t es said → Says text u fs told → es ≡ fs }
-    ensures literals { (text : List ℕ) (t u : Tree) (es fs : List Tester) (said told : List (List ℕ)) → Says text t es said → Says text u fs told → said ≡ told }
+    ensures pattern { (text : List ℕ) (t u : Tree) (es fs : List (Test Literal)) (said told : List (List ℕ)) → Says text t es said → Says text u fs told → t ≡ u }
+    ensures tests { (text : List ℕ) (t u : Tree) (es fs : List (Test Literal)) (said told : List (List ℕ)) → Says text t es said → Says text u fs told → es ≡ fs }
+    ensures literals { (text : List ℕ) (t u : Tree) (es fs : List (Test Literal)) (said told : List (List ℕ)) → Says text t es said → Says text u fs told → said ≡ told }
 {}
 
 /// At most one fault is told of a text, want of memory aside.
@@ -53,7 +55,7 @@ pub fn one_fault()
 
 /// Of a text that says something no fault is told but want of memory.
 pub fn what_says_something_has_no_fault()
-    ensures { (text : List ℕ) (t : Tree) (es : List Tester) (said : List (List ℕ)) (e : Fault) → Says text t es said → IsFault text e → e ≡ Memory }
+    ensures { (text : List ℕ) (t : Tree) (es : List (Test Literal)) (said : List (List ℕ)) (e : Fault) → Says text t es said → IsFault text e → e ≡ Memory }
 {}
 
 /// A text has lexemes, whatever its bytes.
@@ -68,11 +70,11 @@ pub fn lexemes_are_a_query_or_wrong()
 
 /// A text says something, or has a fault that is not want of memory.
 pub fn each_text_is_told()
-    ensures { (text : List ℕ) → ((t : Tree) × (es : List Tester) × (said : List (List ℕ)) × Says text t es said) ⊎ ((e : Fault) × (e ≡ Memory → ⊥) × IsFault text e) }
+    ensures { (text : List ℕ) → ((t : Tree) × (es : List (Test Literal)) × (said : List (List ℕ)) × Says text t es said) ⊎ ((e : Fault) × (e ≡ Memory → ⊥) × IsFault text e) }
 {}
 
 /// The pattern that a text says can be searched for over its token expressions.
 pub fn what_is_said_can_be_searched()
-    ensures { (text : List ℕ) (t : Tree) (es : List Tester) (said : List (List ℕ)) → Says text t es said →
+    ensures { (text : List ℕ) (t : Tree) (es : List (Test Literal)) (said : List (List ℕ)) → Says text t es said →
         Fits (length es) t × (length es ≤ 32) }
 {}

@@ -2,13 +2,13 @@
 
 ghost use Rattle.std.specs.Prelude.{◌≡◌, ◌∷◌, ◌≤◌, ◌-◌, length, map, IfOk};
 ghost use Rattle.tb_match.specs.Trees.{tree};
-ghost use Rattle.tb_syntax.specs.Exprs.{tester};
+ghost use Rattle.tb_syntax.specs.Exprs.{test};
 ghost use Rattle.tb_syntax.specs.Follow.{begins_atom};
 ghost use Rattle.tb_syntax.specs.Parsing.{ReadsNumbers, ReadsRepeat, ReadsExpr, ReadsAtom, ReadsItem, ReadsItems, ReadsCat, ReadsCats, ReadsAlt, ReadsQuery};
 
 use crate::asking::test_at;
 use crate::cursor::{head, literal_at, tail};
-use crate::expr::{Expr, any, whole};
+use crate::expr::{Expr, Literal, any, whole};
 use crate::lexeme::{Attr, Lexeme};
 use crate::tree::{alt_of, cat_of, repeated, tok};
 use std::alloc::{AllocError, Global};
@@ -51,8 +51,8 @@ fn repeat_at(lexemes: &[Lexeme]) -> (Option<(u8, Option<u8>)>, &[Lexeme])
 }
 
 /// The token expression that stands there.
-fn expr_at(alloc: Global, lexemes: &[Lexeme]) -> Result<(Expr, &[Lexeme]), AllocError>
-    ensures exact { IfOk result (λ x. ReadsExpr lexemes.now (tester x.0) x.1.now) }
+fn expr_at(alloc: Global, lexemes: &[Lexeme]) -> Result<(Expr<Literal>, &[Lexeme]), AllocError>
+    ensures exact { IfOk result (λ x. ReadsExpr lexemes.now (test x.0) x.1.now) }
     ensures shorter { IfOk result (λ x. length x.1.now ≤ length lexemes.now - 1) }
 {
     let rest = tail(lexemes);
@@ -76,9 +76,9 @@ fn expr_at(alloc: Global, lexemes: &[Lexeme]) -> Result<(Expr, &[Lexeme]), Alloc
 fn atom_at<'s>(
     alloc: Global,
     lexemes: &'s [Lexeme],
-    exprs: &mut Vec<Expr>,
+    exprs: &mut Vec<Expr<Literal>>,
 ) -> Result<(Pat, &'s [Lexeme]), AllocError>
-    ensures exact { IfOk result (λ x. ReadsAtom lexemes.now (map tester exprs.old.items) (map tester exprs.new.items) (tree x.0) x.1.now) }
+    ensures exact { IfOk result (λ x. ReadsAtom lexemes.now (map test exprs.old.items) (map test exprs.new.items) (tree x.0) x.1.now) }
     ensures shorter { IfOk result (λ x. length x.1.now ≤ length lexemes.now - 1) }
 {
     match head(lexemes) {
@@ -100,9 +100,9 @@ fn atom_at<'s>(
 fn item_at<'s>(
     alloc: Global,
     lexemes: &'s [Lexeme],
-    exprs: &mut Vec<Expr>,
+    exprs: &mut Vec<Expr<Literal>>,
 ) -> Result<(Pat, &'s [Lexeme]), AllocError>
-    ensures exact { IfOk result (λ x. ReadsItem lexemes.now (map tester exprs.old.items) (map tester exprs.new.items) (tree x.0) x.1.now) }
+    ensures exact { IfOk result (λ x. ReadsItem lexemes.now (map test exprs.old.items) (map test exprs.new.items) (tree x.0) x.1.now) }
     ensures shorter { IfOk result (λ x. length x.1.now ≤ length lexemes.now - 1) }
 {
     let (atom, rest) = atom_at(alloc, lexemes, exprs)?;
@@ -129,9 +129,9 @@ fn items_at<'s>(
     alloc: Global,
     lexemes: &'s [Lexeme],
     parts: &mut Vec<Pat>,
-    exprs: &mut Vec<Expr>,
+    exprs: &mut Vec<Expr<Literal>>,
 ) -> Result<&'s [Lexeme], AllocError>
-    ensures exact { IfOk result (λ rest. ReadsItems lexemes.now (map tester exprs.old.items) (map tester exprs.new.items) (map tree parts.old.items) (map tree parts.new.items) rest.now) }
+    ensures exact { IfOk result (λ rest. ReadsItems lexemes.now (map test exprs.old.items) (map test exprs.new.items) (map tree parts.old.items) (map tree parts.new.items) rest.now) }
     ensures shorter { IfOk result (λ rest. length rest.now ≤ length lexemes.now - 1) }
 {
     let (item, rest) = item_at(alloc, lexemes, exprs)?;
@@ -147,9 +147,9 @@ fn items_at<'s>(
 fn cat_at<'s>(
     alloc: Global,
     lexemes: &'s [Lexeme],
-    exprs: &mut Vec<Expr>,
+    exprs: &mut Vec<Expr<Literal>>,
 ) -> Result<(Pat, &'s [Lexeme]), AllocError>
-    ensures exact { IfOk result (λ x. ReadsCat lexemes.now (map tester exprs.old.items) (map tester exprs.new.items) (tree x.0) x.1.now) }
+    ensures exact { IfOk result (λ x. ReadsCat lexemes.now (map test exprs.old.items) (map test exprs.new.items) (tree x.0) x.1.now) }
     ensures shorter { IfOk result (λ x. length x.1.now ≤ length lexemes.now - 1) }
 {
     let mut parts = Vec::new(alloc);
@@ -163,9 +163,9 @@ fn cats_at<'s>(
     alloc: Global,
     lexemes: &'s [Lexeme],
     parts: &mut Vec<Pat>,
-    exprs: &mut Vec<Expr>,
+    exprs: &mut Vec<Expr<Literal>>,
 ) -> Result<&'s [Lexeme], AllocError>
-    ensures exact { IfOk result (λ rest. ReadsCats lexemes.now (map tester exprs.old.items) (map tester exprs.new.items) (map tree parts.old.items) (map tree parts.new.items) rest.now) }
+    ensures exact { IfOk result (λ rest. ReadsCats lexemes.now (map test exprs.old.items) (map test exprs.new.items) (map tree parts.old.items) (map tree parts.new.items) rest.now) }
     ensures shorter { IfOk result (λ rest. length rest.now ≤ length lexemes.now - 1) }
 {
     let (cat, rest) = cat_at(alloc, lexemes, exprs)?;
@@ -181,9 +181,9 @@ fn cats_at<'s>(
 fn alt_at<'s>(
     alloc: Global,
     lexemes: &'s [Lexeme],
-    exprs: &mut Vec<Expr>,
+    exprs: &mut Vec<Expr<Literal>>,
 ) -> Result<(Pat, &'s [Lexeme]), AllocError>
-    ensures exact { IfOk result (λ x. ReadsAlt lexemes.now (map tester exprs.old.items) (map tester exprs.new.items) (tree x.0) x.1.now) }
+    ensures exact { IfOk result (λ x. ReadsAlt lexemes.now (map test exprs.old.items) (map test exprs.new.items) (tree x.0) x.1.now) }
     ensures shorter { IfOk result (λ x. length x.1.now ≤ length lexemes.now - 1) }
 {
     let mut parts = Vec::new(alloc);
@@ -197,7 +197,7 @@ pub struct Parsed {
     /// Its pattern, over the numbers of its token expressions.
     pub pat: Pat,
     /// Its token expressions, as they stand in the text.
-    pub exprs: Vec<Expr>,
+    pub exprs: Vec<Expr<Literal>>,
 }
 
 /// What a query says, of its lexemes.
@@ -205,7 +205,7 @@ pub struct Parsed {
 /// Of lexemes that are no query the answer does not matter. The stack is as deep as parentheses are
 /// open, and a sequence, a choice or a test has parts: some 70 KiB for 2,000 bytes.
 pub(crate) fn parse_lexemes(alloc: Global, lexemes: &[Lexeme]) -> Result<Parsed, AllocError>
-    ensures { IfOk result (λ p. ReadsQuery lexemes.now (tree p.pat) (map tester p.exprs.items)) }
+    ensures { IfOk result (λ p. ReadsQuery lexemes.now (tree p.pat) (map test p.exprs.items)) }
 {
     let mut exprs = Vec::new(alloc);
     let (pat, _) = alt_at(alloc, lexemes, &mut exprs)?;

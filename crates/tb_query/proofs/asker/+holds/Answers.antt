@@ -2,7 +2,7 @@ use Rattle.std.proofs.Common.{◌≡◌, ◌<◌, ◌+◌, length, map, drop, sy
 use Rattle.std.specs.Vec.{with_items}
 use Rattle.std.proofs.lemmas.List.{with_items_is}
 use Rattle.tb_query.specs.Askers.{asked}
-use Rattle.tb_query.specs.Tests.{tests, denied_times, all_of, some_of}
+use Rattle.tb_syntax.specs.Tests.{tests, denied_times, both, either}
 use Rattle.tb_query.specs.Meaning.{holds, is_odd, all_hold, some_hold}
 use Rattle.tb_query.specs.declared.asker.Asker.TheVariants.{outs-Denied, outs-Both, outs-Either}
 use Rattle.tb_query.proofs.AskerLemmas.{asked-Denied, asked-Both, asked-Either, denied_holds, same_after, all_next, some_next}
@@ -31,14 +31,14 @@ holds-returns-in-Both-clause-same g t c =
     let parts = c.in-Both.parts in
     let long : length c.all_hold.new.askers ≡ parts.len = c.all_hold.auto.askers ∙ c.deref_mut-in-Both.ensures.len ∙ ap (λ v. v.len) c.in-Both.parts-is in
     let items = ap (map asked) (with_items_is parts c.all_hold.new.askers long) ∙ c.all_hold.ensures.same ∙ ap (map asked) (c.deref_mut-in-Both.ensures.value ∙ ap (λ v. v.items) c.in-Both.parts-is) in
-    rw (c.in-Both.is, outs-Both parts) (asked-Both (with_items parts c.all_hold.new.askers) ∙ ap (λ ts. all_of (tests ts)) items ∙ sym (asked-Both parts))
+    rw (c.in-Both.is, outs-Both parts) (asked-Both (with_items parts c.all_hold.new.askers) ∙ ap (λ ts. both (tests ts)) items ∙ sym (asked-Both parts))
 
 pub holds-returns-in-Either-clause-same : goal.holds-returns-in-Either-clause-same
 holds-returns-in-Either-clause-same g t c =
     let parts = c.in-Either.parts in
     let long : length c.some_hold.new.askers ≡ parts.len = c.some_hold.auto.askers ∙ c.deref_mut-in-Either.ensures.len ∙ ap (λ v. v.len) c.in-Either.parts-is in
     let items = ap (map asked) (with_items_is parts c.some_hold.new.askers long) ∙ c.some_hold.ensures.same ∙ ap (map asked) (c.deref_mut-in-Either.ensures.value ∙ ap (λ v. v.items) c.in-Either.parts-is) in
-    rw (c.in-Either.is, outs-Either parts) (asked-Either (with_items parts c.some_hold.new.askers) ∙ ap (λ ts. some_of (tests ts)) items ∙ sym (asked-Either parts))
+    rw (c.in-Either.is, outs-Either parts) (asked-Either (with_items parts c.some_hold.new.askers) ∙ ap (λ ts. either (tests ts)) items ∙ sym (asked-Either parts))
 
 pub all_hold-returns-then-not-holds-clause-answer :
     goal.all_hold-returns-then-not-holds-clause-answer

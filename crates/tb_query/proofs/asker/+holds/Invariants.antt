@@ -1,7 +1,7 @@
 use Rattle.std.proofs.Common.{◌≡◌, map, drop}
 use Rattle.tb_query.specs.Askers.{asked}
 use Rattle.tb_query.specs.Meaning.{all_hold, some_hold}
-use Rattle.tb_query.specs.Tests.{tests}
+use Rattle.tb_syntax.specs.Tests.{tests}
 use Rattle.tb_query.proofs.asker.+holds.Given as goal
 
 abbrev pub invariant-all_hold-loop-asker : goal.invariant-all_hold-loop-asker

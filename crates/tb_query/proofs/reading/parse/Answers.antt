@@ -1,7 +1,7 @@
 use Rattle.std.proofs.Common.{map}
 use Rattle.std.proofs.lemmas.Result.{err_from_is_err_and}
 use Rattle.tb_match.specs.Trees.{tree}
-use Rattle.tb_query.specs.Exprs.{test}
+use Rattle.tb_syntax.specs.Exprs.{test}
 use Rattle.tb_query.proofs.Queries.{is_query, is_fault}
 use Rattle.tb_query.proofs.reading.parse.Goals as goal
 

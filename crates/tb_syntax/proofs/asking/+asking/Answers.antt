@@ -1,7 +1,7 @@
 use Rattle.std.proofs.Common.{List, map, sym, ◌∙◌}
 use Rattle.std.specs.Borrow.{Bor}
 use Rattle.tb_syntax.specs.declared.lexeme.Lexeme.{Lexeme}
-use Rattle.tb_syntax.specs.Exprs.{tester}
+use Rattle.tb_syntax.specs.Exprs.{test}
 use Rattle.tb_syntax.specs.Parsing.{ReadsUnits, ReadsConjs}
 use Rattle.tb_syntax.proofs.TestLemmas.{grouped_read, no_unit, more_units, last_unit, more_conjs, last_conj, pushed, if_ok}
 use Rattle.tb_syntax.proofs.asking.+asking.Goals as goal
@@ -18,34 +18,34 @@ plain_unit_at-returns-in_default-clause-exact t c plain =
 
 pub units_at-returns-in-And-clause-exact : goal.units_at-returns-in-And-clause-exact
 units_at-returns-in-And-clause-exact t c =
-    let old = map tester c.args.parts.now.items in
-    let new = map tester c.units_at.new.parts.items in
-    if_ok c.units_at.result (λ (rest : Bor (List Lexeme)). ReadsUnits c.tail.result.now (map tester c.push.new.self.items) new rest.now)
+    let old = map test c.args.parts.now.items in
+    let new = map test c.units_at.new.parts.items in
+    if_ok c.units_at.result (λ (rest : Bor (List Lexeme)). ReadsUnits c.tail.result.now (map test c.push.new.self.items) new rest.now)
     (λ (rest : Bor (List Lexeme)). ReadsUnits c.args.lexemes.now old new rest.now)
-    (λ rest r. more_units c.args.lexemes.now c.in_ok-unit.rest.now c.tail.result.now rest.now (tester c.in_ok-unit.unit) old (map tester c.push.new.self.items) new
+    (λ rest r. more_units c.args.lexemes.now c.in_ok-unit.rest.now c.tail.result.now rest.now (test c.in_ok-unit.unit) old (map test c.push.new.self.items) new
     c.in_ok-unit.ensures.exact (sym c.head.ensures ∙ c.in-And.is) c.tail.ensures.rest
     (pushed c.args.parts.now.items c.push.new.self.items c.in_ok-unit.unit c.in_ok-push.ensures.items) r)
     c.units_at.ensures.exact
 
 pub units_at-returns-in_default-clause-exact : goal.units_at-returns-in_default-clause-exact
 units_at-returns-in_default-clause-exact t c =
-    last_unit c.args.lexemes.now c.in_ok-unit.rest.now (tester c.in_ok-unit.unit) (map tester c.args.parts.now.items) (map tester c.push.new.self.items)
+    last_unit c.args.lexemes.now c.in_ok-unit.rest.now (test c.in_ok-unit.unit) (map test c.args.parts.now.items) (map test c.push.new.self.items)
     c.in_ok-unit.ensures.exact (λ h. c.in_default.not-And (c.head.ensures ∙ h))
     (pushed c.args.parts.now.items c.push.new.self.items c.in_ok-unit.unit c.in_ok-push.ensures.items)
 
 pub conjs_at-returns-in-Bar-clause-exact : goal.conjs_at-returns-in-Bar-clause-exact
 conjs_at-returns-in-Bar-clause-exact t c =
-    let old = map tester c.args.parts.now.items in
-    let new = map tester c.conjs_at.new.parts.items in
-    if_ok c.conjs_at.result (λ (rest : Bor (List Lexeme)). ReadsConjs c.tail.result.now (map tester c.push.new.self.items) new rest.now)
+    let old = map test c.args.parts.now.items in
+    let new = map test c.conjs_at.new.parts.items in
+    if_ok c.conjs_at.result (λ (rest : Bor (List Lexeme)). ReadsConjs c.tail.result.now (map test c.push.new.self.items) new rest.now)
     (λ (rest : Bor (List Lexeme)). ReadsConjs c.args.lexemes.now old new rest.now)
-    (λ rest r. more_conjs c.args.lexemes.now c.in_ok-conj.rest.now c.tail.result.now rest.now (tester c.in_ok-conj.conj) old (map tester c.push.new.self.items) new
+    (λ rest r. more_conjs c.args.lexemes.now c.in_ok-conj.rest.now c.tail.result.now rest.now (test c.in_ok-conj.conj) old (map test c.push.new.self.items) new
     c.in_ok-conj.ensures.exact (sym c.head.ensures ∙ c.in-Bar.is) c.tail.ensures.rest
     (pushed c.args.parts.now.items c.push.new.self.items c.in_ok-conj.conj c.in_ok-push.ensures.items) r)
     c.conjs_at.ensures.exact
 
 pub conjs_at-returns-in_default-clause-exact : goal.conjs_at-returns-in_default-clause-exact
 conjs_at-returns-in_default-clause-exact t c =
-    last_conj c.args.lexemes.now c.in_ok-conj.rest.now (tester c.in_ok-conj.conj) (map tester c.args.parts.now.items) (map tester c.push.new.self.items)
+    last_conj c.args.lexemes.now c.in_ok-conj.rest.now (test c.in_ok-conj.conj) (map test c.args.parts.now.items) (map test c.push.new.self.items)
     c.in_ok-conj.ensures.exact (λ h. c.in_default.not-Bar (c.head.ensures ∙ h))
     (pushed c.args.parts.now.items c.push.new.self.items c.in_ok-conj.conj c.in_ok-push.ensures.items)

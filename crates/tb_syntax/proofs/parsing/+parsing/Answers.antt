@@ -3,7 +3,7 @@ use Rattle.std.proofs.lemmas.List.{length-map}
 use Rattle.std.specs.Borrow.{Bor}
 use Rattle.tb_match.specs.Trees.{tree}
 use Rattle.tb_syntax.specs.declared.lexeme.Lexeme.{Lexeme}
-use Rattle.tb_syntax.specs.Exprs.{tester}
+use Rattle.tb_syntax.specs.Exprs.{test}
 use Rattle.tb_syntax.specs.Parsing.{ReadsItems, ReadsCats}
 use Rattle.tb_syntax.proofs.TestLemmas as tests
 use Rattle.tb_syntax.proofs.TestLemmas.{if_ok}
@@ -18,8 +18,8 @@ atom_at-returns-in_ok-alt-in-LeftParen-clause-exact t c =
 pub atom_at-returns-in_ok-push-in_default-clause-exact : goal.atom_at-returns-in_ok-push-in_default-clause-exact
 atom_at-returns-in_ok-push-in_default-clause-exact t c =
     let old = c.args.exprs.now.items in
-    let size : c.min-number.result ≡ min (length (map tester old)) 65535 = omega (arith, length-map old tester) in
-    expr_read c.args.lexemes.now c.in_ok-expr-in_default.rest.now (map tester old) (map tester c.push.new.self.items) (tester c.in_ok-expr-in_default.expr) c.min-number.result _
+    let size : c.min-number.result ≡ min (length (map test old)) 65535 = omega (arith, length-map old test) in
+    expr_read c.args.lexemes.now c.in_ok-expr-in_default.rest.now (map test old) (map test c.push.new.self.items) (test c.in_ok-expr-in_default.expr) c.min-number.result _
     (λ h. c.in_default.not-LeftParen (c.head.ensures ∙ h)) c.in_ok-expr-in_default.ensures.exact size c.tok.ensures
     (tests.pushed old c.push.new.self.items c.in_ok-expr-in_default.expr c.in_ok-push-in_default.ensures.items)
 
@@ -35,9 +35,9 @@ item_at-returns-in-None-clause-exact t c =
 
 pub items_at-returns-then-begins_atom-clause-exact : goal.items_at-returns-then-begins_atom-clause-exact
 items_at-returns-then-begins_atom-clause-exact t c =
-    let old = map tester c.args.exprs.now.items in
-    let mid = map tester c.item_at.new.exprs.items in
-    let new = map tester c.items_at.new.exprs.items in
+    let old = map test c.args.exprs.now.items in
+    let mid = map test c.item_at.new.exprs.items in
+    let new = map test c.items_at.new.exprs.items in
     let before = map tree c.args.parts.now.items in
     let among = map tree c.push.new.self.items in
     let after = map tree c.items_at.new.parts.items in
@@ -56,9 +56,9 @@ items_at-returns-clause-exact t c =
 
 pub cats_at-returns-in-Bar-clause-exact : goal.cats_at-returns-in-Bar-clause-exact
 cats_at-returns-in-Bar-clause-exact t c =
-    let old = map tester c.args.exprs.now.items in
-    let mid = map tester c.cat_at.new.exprs.items in
-    let new = map tester c.cats_at.new.exprs.items in
+    let old = map test c.args.exprs.now.items in
+    let mid = map test c.cat_at.new.exprs.items in
+    let new = map test c.cats_at.new.exprs.items in
     let before = map tree c.args.parts.now.items in
     let among = map tree c.push.new.self.items in
     let after = map tree c.cats_at.new.parts.items in

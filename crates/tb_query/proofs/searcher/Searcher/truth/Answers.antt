@@ -6,7 +6,8 @@ use Rattle.tb_conllu.specs.Words.{is_word}
 use Rattle.tb_match.specs.Facts.{Holds}
 use Rattle.tb_match.specs.Trees.{tree}
 use Rattle.tb_query.specs.Askers.{asked}
-use Rattle.tb_query.specs.Tests.{Test}
+use Rattle.tb_needle.specs.Literals.{PlainLit}
+use Rattle.tb_syntax.specs.Tests.{Test}
 use Rattle.tb_query.specs.Meaning.{word_rows, HoldsOf}
 use Rattle.tb_query.specs.Search.{Asked, IsSearchable}
 use Rattle.tb_query.proofs.searcher.Searcher.truth.Goals as goal
@@ -21,7 +22,7 @@ invariant_of-self g c =
     let askers = c.self.inside.askers in
     let long : length c.fill.new.askers ≡ askers.len = c.fill.auto.askers ∙ c.deref_mut.ensures.len in
     let tests = ap (map asked) (with_items_is askers c.fill.new.askers long) ∙ c.fill.ensures.same ∙ ap (map asked) c.deref_mut.ensures.value in
-    subst (λ (ts : List Test). IsSearchable (record { pat = tree c.self.inside.pat.now; tests = ts })) (sym tests) c.self.invariant
+    subst (λ (ts : List (Test PlainLit)). IsSearchable (record { pat = tree c.self.inside.pat.now; tests = ts })) (sym tests) c.self.invariant
 
 pub returns-clause-truth : goal.returns-clause-truth
 returns-clause-truth g c =
@@ -34,6 +35,6 @@ returns-clause-truth g c =
     let count : askers.len ≡ length query.tests = askers.ok.0 ∙ sym (length-map askers.items asked) ∙ ap (λ (q : Asked). length q.tests) c.self.view_is in (
       c.fill.ensures.words ∙ c.in_ok-truth.ensures.words ∙ c.words.ensures,
       c.fill.ensures.exprs ∙ c.in_ok-truth.ensures.exprs ∙ c.len-exprs.ensures ∙ count,
-      λ e w. subst (λ (ts : List Test). Holds truth e w ↔ HoldsOf ts (word_rows block) e w) tests
+      λ e w. subst (λ (ts : List (Test PlainLit)). Holds truth e w ↔ HoldsOf ts (word_rows block) e w) tests
           (subst (λ (rs : List RowText). Holds truth e w ↔ HoldsOf (map asked c.deref_mut.result.now) (filter is_word rs) e w) rows (c.fill.ensures.held e w)),
     )
