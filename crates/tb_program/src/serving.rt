@@ -5,7 +5,7 @@ use std::alloc::Global;
 use std::io::{self, BufWriter, Read, Write};
 use std::net::{Ipv4Addr, Shutdown, TcpListener, TcpStream};
 use std::time::Duration;
-use tb_answers::{answer, put_reply};
+use tb_answers::{answer, put_reply, respond_reply};
 use tb_http::{BODY_BYTES, Reply, Routes, Status};
 use tb_store::Desk;
 
@@ -32,6 +32,13 @@ fn part(stream: &TcpStream) -> io::Result<()> {
     Ok(())
 }
 
+/// Tells a client that its request cannot be read for want of memory, which takes none.
+fn refuse(stream: &TcpStream) -> io::Result<()> {
+    let mut out = stream;
+    let _ = respond_reply(&mut out, Reply::Memory);
+    part(stream)
+}
+
 /// Reads one request of a connection and answers it. A connection that breaks has been served.
 fn serve_one<S: Alter>(
     alloc: Global,
@@ -42,7 +49,9 @@ fn serve_one<S: Alter>(
     let patience = Duration::from_secs(PATIENCE);
     stream.set_read_timeout(Some(patience))?;
     stream.set_write_timeout(Some(patience))?;
-    let mut out = BufWriter::with_capacity(alloc, BUFFER, stream)?;
+    let Ok(mut out) = BufWriter::with_capacity(alloc, BUFFER, stream) else {
+        return refuse(stream);
+    };
     let mut reader = stream;
     let answered = answer(alloc, routes, desk, &mut reader, &mut out);
     out.flush()?;
