@@ -1,5 +1,5 @@
 -- Places of bit rows, after a write and after a union.
-use Rattle.std.proofs.Common.{◌≡◌, ◌+◌, ◌-◌, ◌*◌, ◌/◌, ◌%◌, ◌^◌, ◌<◌, ◌≤◌, ◌≢◌, ◌↔◌, ◌⊎◌, ℕ, length, List, true, false, bit_or, get_or, take, drop, max, IsTrue, arith, ◌∙◌, sym, ap, subst, inl, inr, ⊎_elim, true≢false, refl, zero-add, set, w64, ◌++◌, replicate}
+use Rattle.std.proofs.Common.{◌≡◌, ◌+◌, ◌-◌, ◌*◌, ◌/◌, ◌%◌, ◌^◌, ◌<◌, ◌≤◌, ◌≢◌, ◌↔◌, ◌⊎◌, ℕ, length, List, bit_or, get_or, take, drop, max, arith, ◌∙◌, sym, ap, subst, inl, inr, ⊎_elim, refl, zero-add, set, w64, ◌++◌, replicate}
 use Rattle.std.specs.Int.{bit_at}
 use Rattle.std.specs.Simd.Lanes.{zip2}
 use Rattle.std.proofs.lemmas.Simd.{get_or-zip2}
@@ -187,13 +187,11 @@ InRow_zero n j h = ⊎_elim
     one_not_zero : ◌≡◌ {A = ℕ} 1 0 → ⊥
     one_not_zero e = omega arith
 
-pub begun_with : (fresh row : List ℕ) (n place j : ℕ) → fresh ≡ replicate n 0 → (InRow row 0 j ↔ (InRow fresh 0 j ⊎ (j ≡ place))) → InRow row 0 j ↔ (IsTrue true × (j ≡ place))
-begun_with fresh row n place j zeros made =
-    (λ h. ⊎_elim (λ p. absurd (InRow_zero n j (subst (λ xs. InRow xs 0 j) zeros p))) (λ e. (refl, e)) (made.0 h), λ p. made.1 (inr p.1))
+pub begun_with : (fresh row : List ℕ) (place j : ℕ) → (InRow fresh 0 j → ⊥) → (InRow row 0 j ↔ (InRow fresh 0 j ⊎ (j ≡ place))) → InRow row 0 j ↔ (j ≡ place)
+begun_with fresh row place j none made = (λ h. ⊎_elim (λ p. absurd (none p)) (λ e. e) (made.0 h), λ p. made.1 (inr p))
 
-pub begun_without : (row : List ℕ) (n place j : ℕ) → row ≡ replicate n 0 → InRow row 0 j ↔ (IsTrue false × (j ≡ place))
-begun_without row n place j zeros =
-    (λ h. absurd (InRow_zero n j (subst (λ xs. InRow xs 0 j) zeros h)), λ p. absurd (true≢false (sym p.0)))
+pub cleared : (row : List ℕ) (n j : ℕ) → row ≡ replicate n 0 → InRow row 0 j → ⊥
+cleared row n j zeros h = InRow_zero n j (subst (λ xs. InRow xs 0 j) zeros h)
 
 pub part_long : (T : List ℕ) (p w n : ℕ) → n ≡ w → p * w + w ≤ length T → length (take n (drop (p * w) T)) ≡ n
 part_long T p w n size room = simp (length-take, length-drop) (omega arith)

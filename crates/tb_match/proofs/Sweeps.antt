@@ -1,5 +1,5 @@
 -- One sweep over the rows of a table.
-use Rattle.std.proofs.Common.{◌≡◌, ◌+◌, ◌<◌, ◌≤◌, ◌≢◌, ◌↔◌, ◌⊎◌, ℕ, zero, suc, List, IsTrue, arith, sym, subst, inl, inr, ⊎_elim, refl, true, add-one, le_antisymm}
+use Rattle.std.proofs.Common.{◌≡◌, ◌+◌, ◌<◌, ◌≤◌, ◌≢◌, ◌↔◌, ◌⊎◌, ℕ, zero, suc, List, arith, sym, subst, inl, inr, ⊎_elim, refl, add-one, le_antisymm}
 use Rattle.std.proofs.lemmas.Bool.{cases_lt, cases_eq, cases_order}
 use Rattle.tb_match.specs.Bits.{InTable, Through, Link, IsClosed, IsForward, HasLinksOf, triangle}
 use Rattle.tb_match.specs.Match.{Chain}
@@ -43,11 +43,11 @@ all_closed L T w last before done empty first i k j from p q r here row = ⊎_el
 module _ (L T : List ℕ) (w last place j : ℕ) (inside : place ≤ last) (here : j ≤ last)
     (done : (m : ℕ) → place < m → m ≤ last → InTable T w m j ↔ Reaches L w last m j)
     (empty : InTable T w place j → ⊥) where
-  pub close_row : ((IsTrue true × (j ≡ place)) ⊎ Through L T w place (last + 1) j) ↔ Reaches L w last place j
+  pub close_row : ((j ≡ place) ⊎ Through L T w place (last + 1) j) ↔ Reaches L w last place j
   close_row = (there, back)
     where
-      there : ((IsTrue true × (j ≡ place)) ⊎ Through L T w place (last + 1) j) → Reaches L w last place j
-      there (inl (_, e)) = (0, sym e)
+      there : ((j ≡ place) ⊎ Through L T w place (last + 1) j) → Reaches L w last place j
+      there (inl e) = (0, sym e)
       there (inr (k, from, below, link, row)) =
           ⊎_elim
           (λ (lt : place < k). let r = (done k lt (omega arith)).0 row in (suc (r.0), (k, (from, omega arith, link), r.1)))
@@ -55,22 +55,22 @@ module _ (L T : List ℕ) (w last place j : ℕ) (inside : place ≤ last) (here
           (cases_lt place k)
 
       of_cut : (place ≡ j) ⊎ ((m : ℕ) × (place < m) × Link L w last place m × ((n : ℕ) × Chain (Link L w last) n m j)) →
-          (IsTrue true × (j ≡ place)) ⊎ Through L T w place (last + 1) j
-      of_cut (inl e) = inl (refl, sym e)
+          (j ≡ place) ⊎ Through L T w place (last + 1) j
+      of_cut (inl e) = inl (sym e)
       of_cut (inr (m, lt, (le, most, link), rest)) = inr (m, le, omega arith, link, (done m lt most).1 rest)
 
-      back : Reaches L w last place j → (IsTrue true × (j ≡ place)) ⊎ Through L T w place (last + 1) j
+      back : Reaches L w last place j → (j ≡ place) ⊎ Through L T w place (last + 1) j
       back (k, c) = of_cut (chain_cut (Link L w last) (λ a b r. r.0) k place j c)
 
-abbrev Row : List ℕ → List ℕ → List ℕ → ℕ → ℕ → ℕ → Type 0 → ℕ → Type 0
-Row L T T' w last place K j = InTable T' w place j ↔ ((K × (j ≡ place)) ⊎ Through L T w place (last + 1) j)
+abbrev Row : List ℕ → List ℕ → List ℕ → ℕ → ℕ → ℕ → ℕ → Type 0
+Row L T T' w last place j = InTable T' w place j ↔ ((j ≡ place) ⊎ Through L T w place (last + 1) j)
 
 -- a step of the backward sweep
 module _ (L T T' : List ℕ) (w last place before : ℕ) where
   pub closed : (i j : ℕ) → before ≡ place + 1 → place ≤ last →
       ((a b : ℕ) → before ≤ a → a ≤ last → b ≤ last → InTable T w a b ↔ Reaches L w last a b) →
       ((a b : ℕ) → a < before → b ≤ last → InTable T w a b → ⊥) →
-      ((b : ℕ) → b ≤ last → Row L T T' w last place (IsTrue true) b) →
+      ((b : ℕ) → b ≤ last → Row L T T' w last place b) →
       ((a b : ℕ) → a ≢ place → b ≤ last → InTable T' w a b ↔ InTable T w a b) →
       place ≤ i → i ≤ last → j ≤ last → InTable T' w i j ↔ Reaches L w last i j
   closed i j next inside done empty row others from most here = ⊎_elim this other (cases_eq i place)

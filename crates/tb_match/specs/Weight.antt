@@ -1,5 +1,6 @@
 -- What a pattern weighs, and which patterns are within the limits.
 use Rattle.std.specs.Prelude.{ℕ, ◌+◌, ◌<◌, ◌≤◌, Option, Some, None}
+use Rattle.std.specs.Coded.{le_prop}
 use Rattle.tb_match.specs.Trees.{Tree, tok, cat, alt, rep, Forest, no_more, and_more}
 
 -- what a repetition adds to the weight of what it repeats
@@ -23,6 +24,11 @@ abbrev mutual
 abbrev pub IsBetween : ℕ → Option ℕ → Type 0
 IsBetween a None = a ≤ 32
 IsBetween a (Some b) = (a ≤ 32) × (a ≤ b) × (1 ≤ b) × (b ≤ 32)
+
+-- has at most one proof, so that a value may keep it
+pub IsBetween-prop : (a : ℕ) (b : Option ℕ) → IsProp (IsBetween a b)
+IsBetween-prop a None p q = le_prop p q
+IsBetween-prop a (Some b) p q = λ i. (le_prop p.0 q.0 i, le_prop p.1 q.1 i, le_prop p.2 q.2 i, le_prop p.3 q.3 i)
 
 abbrev mutual
   -- each expression is one of the first `exprs`, and each repetition has numbers within the limits

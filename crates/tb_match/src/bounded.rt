@@ -5,12 +5,10 @@ ghost use Rattle.tb_match.specs.Bits.{InRow, InTable, IsForward, Link, Within, t
 ghost use Rattle.tb_match.specs.Match.{Chain};
 
 use crate::narrow::without_place;
-use crate::table::{begin, store};
+use crate::shape::{Shape, WIDEST};
+use crate::table::{begin, clear, store};
 use crate::uniting::unite;
 use crate::walk::{next_place, next_unknown};
-
-/// The machine words of a row of the longest sentence.
-const WIDEST: usize = 16;
 
 /// Unites into the row the links of each place of `before` that `done` has not.
 #[inline(always)]
@@ -19,31 +17,28 @@ fn follow(
     before: &[u64],
     done: &[u64],
     links: &[u64],
-    width: usize,
+    shape: Shape,
     first: usize,
-    last: usize,
     steps: &mut u64,
 )
-    requires wide { last / 64 < width }
-    requires row { length row.old ≡ width }
-    requires before { length before.now ≡ width }
-    requires done { length done.now ≡ width }
-    requires links { length links.now ≡ (last + 1) * width }
-    requires order { first ≤ last }
-    requires small { last ≤ 1000 }
-    requires countable { steps.old + (last + 1 - first) < 2 ^ 64 }
-    ensures only { (j : ℕ) → j ≤ last → InRow row.new 0 j →
-        (InRow row.old 0 j ⊎ ((k : ℕ) × (k ≤ last) × InRow before.now 0 k × InTable links.now width k j)) }
-    ensures kept { (j : ℕ) → j ≤ last → InRow row.old 0 j → InRow row.new 0 j }
-    ensures followed { (k j : ℕ) → first ≤ k → k ≤ last → j ≤ last → InRow before.now 0 k →
-        InTable links.now width k j → (InRow done.now 0 k ⊎ InRow row.new 0 j) }
+    requires row { length row.old ≡ shape.width }
+    requires before { length before.now ≡ shape.width }
+    requires done { length done.now ≡ shape.width }
+    requires links { length links.now ≡ (shape.last + 1) * shape.width }
+    requires order { first ≤ shape.last }
+    requires countable { steps.old + (shape.last + 1 - first) < 2 ^ 64 }
+    ensures only { (j : ℕ) → j ≤ shape.last → InRow row.new 0 j →
+        (InRow row.old 0 j ⊎ ((k : ℕ) × (k ≤ shape.last) × InRow before.now 0 k × InTable links.now shape.width k j)) }
+    ensures kept { (j : ℕ) → j ≤ shape.last → InRow row.old 0 j → InRow row.new 0 j }
+    ensures followed { (k j : ℕ) → first ≤ k → k ≤ shape.last → j ≤ shape.last → InRow before.now 0 k →
+        InTable links.now shape.width k j → (InRow done.now 0 k ⊎ InRow row.new 0 j) }
     ensures more { steps.old ≤ steps.new }
-    ensures bound { steps.new ≤ steps.old + (last + 1 - first) }
+    ensures bound { steps.new ≤ steps.old + (shape.last + 1 - first) }
 {
-    let mut place = next_unknown(before, 0, done, first, last);
-    while place <= last {
-        unite(row, &links[place * width..(place + 1) * width], steps);
-        place = next_unknown(before, 0, done, place + 1, last);
+    let mut place = next_unknown(before, 0, done, first, shape.last);
+    while place <= shape.last {
+        unite(row, &links[shape.row(place)], steps);
+        place = next_unknown(before, 0, done, place + 1, shape.last);
     }
 }
 
@@ -55,29 +50,26 @@ fn extend(
     before: &mut [u64],
     done: &mut [u64],
     links: &[u64],
-    width: usize,
+    shape: Shape,
     first: usize,
-    last: usize,
     steps: &mut u64,
 )
-    requires wide { last / 64 < width }
-    requires row { length row.old ≡ width }
-    requires before { length before.old ≡ width }
-    requires done { length done.old ≡ width }
-    requires links { length links.now ≡ (last + 1) * width }
-    requires order { first ≤ last }
-    requires small { last ≤ 1000 }
-    requires countable { steps.old + (last + 1 - first) < 2 ^ 64 }
-    requires from { (k : ℕ) → k ≤ last → InRow row.old 0 k → first ≤ k }
-    requires followed { (k j : ℕ) → k ≤ last → j ≤ last → InRow done.old 0 k → InTable links.now width k j → InRow row.old 0 j }
-    ensures extended { (j : ℕ) → j ≤ last → (InRow row.new 0 j ↔
-        (InRow row.old 0 j ⊎ ((k : ℕ) × (k ≤ last) × InRow row.old 0 k × InTable links.now width k j))) }
-    ensures followed { (k j : ℕ) → k ≤ last → j ≤ last → InRow done.new 0 k → InTable links.now width k j → InRow row.new 0 j }
+    requires row { length row.old ≡ shape.width }
+    requires before { length before.old ≡ shape.width }
+    requires done { length done.old ≡ shape.width }
+    requires links { length links.now ≡ (shape.last + 1) * shape.width }
+    requires order { first ≤ shape.last }
+    requires countable { steps.old + (shape.last + 1 - first) < 2 ^ 64 }
+    requires from { (k : ℕ) → k ≤ shape.last → InRow row.old 0 k → first ≤ k }
+    requires followed { (k j : ℕ) → k ≤ shape.last → j ≤ shape.last → InRow done.old 0 k → InTable links.now shape.width k j → InRow row.old 0 j }
+    ensures extended { (j : ℕ) → j ≤ shape.last → (InRow row.new 0 j ↔
+        (InRow row.old 0 j ⊎ ((k : ℕ) × (k ≤ shape.last) × InRow row.old 0 k × InTable links.now shape.width k j))) }
+    ensures followed { (k j : ℕ) → k ≤ shape.last → j ≤ shape.last → InRow done.new 0 k → InTable links.now shape.width k j → InRow row.new 0 j }
     ensures more { steps.old ≤ steps.new }
-    ensures bound { steps.new ≤ steps.old + (last + 1 - first) }
+    ensures bound { steps.new ≤ steps.old + (shape.last + 1 - first) }
 {
     before.copy_from_slice(row);
-    follow(row, before, done, links, width, first, last, steps);
+    follow(row, before, done, links, shape, first, steps);
     done.copy_from_slice(before);
 }
 
@@ -98,34 +90,31 @@ fn limit_row(
     before: &mut [u64],
     done: &mut [u64],
     links: &[u64],
-    width: usize,
+    shape: Shape,
     place: usize,
-    last: usize,
     times: usize,
     steps: &mut u64,
 ) -> bool
-    requires wide { last / 64 < width }
-    requires row { length row.old ≡ width }
-    requires before { length before.old ≡ width }
-    requires done { length done.old ≡ width }
-    requires links { length links.now ≡ (last + 1) * width }
-    requires order { place ≤ last }
-    requires small { last ≤ 1000 }
-    requires forward { IsForward links.now width last }
-    requires closed { (j : ℕ) → j ≤ last → (InRow closed.now 0 j ↔ ((k : ℕ) × Chain (Link links.now width last) k place j)) }
-    requires countable { steps.old + times * (last + 1 - place) < 2 ^ 64 }
-    ensures row { (j : ℕ) → j ≤ last → (InRow row.new 0 j ↔ Within links.now width last times place j) }
+    requires row { length row.old ≡ shape.width }
+    requires before { length before.old ≡ shape.width }
+    requires done { length done.old ≡ shape.width }
+    requires links { length links.now ≡ (shape.last + 1) * shape.width }
+    requires order { place ≤ shape.last }
+    requires forward { IsForward links.now shape.width shape.last }
+    requires closed { (j : ℕ) → j ≤ shape.last → (InRow closed.now 0 j ↔ ((k : ℕ) × Chain (Link links.now shape.width shape.last) k place j)) }
+    requires countable { steps.old + times * (shape.last + 1 - place) < 2 ^ 64 }
+    ensures row { (j : ℕ) → j ≤ shape.last → (InRow row.new 0 j ↔ Within links.now shape.width shape.last times place j) }
     ensures same { IsTrue result → row.new ≡ closed.now }
     ensures more { steps.old ≤ steps.new }
-    ensures bound { steps.new ≤ steps.old + times * (last + 1 - place) }
+    ensures bound { steps.new ≤ steps.old + times * (shape.last + 1 - place) }
 {
-    begin(row, place, true);
-    begin(done, place, false);
+    begin(row, place);
+    clear(done);
     for turn in 0..times {
         if is_same(row, closed) {
             return true;
         }
-        extend(row, before, done, links, width, place, last, steps);
+        extend(row, before, done, links, shape, place, steps);
     }
     is_same(row, closed)
 }
@@ -138,32 +127,29 @@ fn limit_place(
     before: &mut [u64],
     done: &mut [u64],
     links: &[u64],
-    width: usize,
+    shape: Shape,
     place: usize,
-    last: usize,
     times: usize,
     steps: &mut u64,
 ) -> bool
-    requires wide { last / 64 < width }
-    requires spare { length spare.old ≡ width }
-    requires before { length before.old ≡ width }
-    requires done { length done.old ≡ width }
-    requires links { length links.now ≡ (last + 1) * width }
-    requires table { length table.old ≡ (last + 1) * width }
-    requires order { place ≤ last }
-    requires small { last ≤ 1000 }
-    requires forward { IsForward links.now width last }
-    requires closed { (j : ℕ) → j ≤ last → (InTable table.old width place j ↔ ((k : ℕ) × Chain (Link links.now width last) k place j)) }
-    requires countable { steps.old + times * (last + 1 - place) < 2 ^ 64 }
-    ensures row { (j : ℕ) → j ≤ last → (InTable table.new width place j ↔ Within links.now width last times place j) }
-    ensures same { IsTrue result → (j : ℕ) → j ≤ last → (InTable table.new width place j ↔ InTable table.old width place j) }
-    ensures others { (i j : ℕ) → i ≢ place → j ≤ last → (InTable table.new width i j ↔ InTable table.old width i j) }
+    requires spare { length spare.old ≡ shape.width }
+    requires before { length before.old ≡ shape.width }
+    requires done { length done.old ≡ shape.width }
+    requires links { length links.now ≡ (shape.last + 1) * shape.width }
+    requires table { length table.old ≡ (shape.last + 1) * shape.width }
+    requires order { place ≤ shape.last }
+    requires forward { IsForward links.now shape.width shape.last }
+    requires closed { (j : ℕ) → j ≤ shape.last → (InTable table.old shape.width place j ↔ ((k : ℕ) × Chain (Link links.now shape.width shape.last) k place j)) }
+    requires countable { steps.old + times * (shape.last + 1 - place) < 2 ^ 64 }
+    ensures row { (j : ℕ) → j ≤ shape.last → (InTable table.new shape.width place j ↔ Within links.now shape.width shape.last times place j) }
+    ensures same { IsTrue result → (j : ℕ) → j ≤ shape.last → (InTable table.new shape.width place j ↔ InTable table.old shape.width place j) }
+    ensures others { (i j : ℕ) → i ≢ place → j ≤ shape.last → (InTable table.new shape.width i j ↔ InTable table.old shape.width i j) }
     ensures more { steps.old ≤ steps.new }
-    ensures bound { steps.new ≤ steps.old + times * (last + 1 - place) }
+    ensures bound { steps.new ≤ steps.old + times * (shape.last + 1 - place) }
 {
-    let closed = &table[place * width..(place + 1) * width];
+    let closed = &table[shape.row(place)];
     let same = limit_row(
-        spare, closed, before, done, links, width, place, last, times, steps,
+        spare, closed, before, done, links, shape, place, times, steps,
     );
     store(table, spare, place);
     same
@@ -177,30 +163,27 @@ fn limit_places(
     before: &mut [u64],
     done: &mut [u64],
     links: &[u64],
-    width: usize,
-    last: usize,
+    shape: Shape,
     times: usize,
     steps: &mut u64,
 ) -> bool
-    requires wide { last / 64 < width }
-    requires spare { length spare.old ≡ width }
-    requires before { length before.old ≡ width }
-    requires done { length done.old ≡ width }
-    requires links { length links.now ≡ (last + 1) * width }
-    requires table { length table.old ≡ (last + 1) * width }
-    requires small { last ≤ 1000 }
-    requires forward { IsForward links.now width last }
-    requires closed { (i j : ℕ) → i ≤ last → j ≤ last → (InTable table.old width i j ↔ ((k : ℕ) × Chain (Link links.now width last) k i j)) }
-    requires countable { steps.old + times * triangle (last + 1) < 2 ^ 64 }
-    ensures rows { (i j : ℕ) → i ≤ last → j ≤ last → (InTable table.new width i j ↔ Within links.now width last times i j) }
-    ensures same { IsTrue result → (i j : ℕ) → i ≤ last → j ≤ last → (InTable table.new width i j ↔ InTable table.old width i j) }
+    requires spare { length spare.old ≡ shape.width }
+    requires before { length before.old ≡ shape.width }
+    requires done { length done.old ≡ shape.width }
+    requires links { length links.now ≡ (shape.last + 1) * shape.width }
+    requires table { length table.old ≡ (shape.last + 1) * shape.width }
+    requires forward { IsForward links.now shape.width shape.last }
+    requires closed { (i j : ℕ) → i ≤ shape.last → j ≤ shape.last → (InTable table.old shape.width i j ↔ ((k : ℕ) × Chain (Link links.now shape.width shape.last) k i j)) }
+    requires countable { steps.old + times * triangle (shape.last + 1) < 2 ^ 64 }
+    ensures rows { (i j : ℕ) → i ≤ shape.last → j ≤ shape.last → (InTable table.new shape.width i j ↔ Within links.now shape.width shape.last times i j) }
+    ensures same { IsTrue result → (i j : ℕ) → i ≤ shape.last → j ≤ shape.last → (InTable table.new shape.width i j ↔ InTable table.old shape.width i j) }
     ensures more { steps.old ≤ steps.new }
-    ensures bound { steps.new ≤ steps.old + times * triangle (last + 1) }
+    ensures bound { steps.new ≤ steps.old + times * triangle (shape.last + 1) }
 {
     let mut same = true;
-    for place in 0..last + 1 {
+    for place in 0..shape.last + 1 {
         same &= limit_place(
-            table, spare, before, done, links, width, place, last, times, steps,
+            table, spare, before, done, links, shape, place, times, steps,
         );
     }
     same
@@ -212,35 +195,30 @@ pub(crate) fn limit(
     table: &mut [u64],
     spare: &mut [u64],
     links: &[u64],
-    width: usize,
-    last: usize,
+    shape: Shape,
     times: usize,
     steps: &mut u64,
 ) -> bool
-    requires wide { last / 64 < width }
-    requires narrow { width ≤ 16 }
-    requires spare { length spare.old ≡ width }
-    requires links { length links.now ≡ (last + 1) * width }
-    requires table { length table.old ≡ (last + 1) * width }
-    requires small { last ≤ 1000 }
-    requires forward { IsForward links.now width last }
-    requires closed { (i j : ℕ) → i ≤ last → j ≤ last → (InTable table.old width i j ↔ ((k : ℕ) × Chain (Link links.now width last) k i j)) }
-    requires countable { steps.old + times * triangle (last + 1) < 2 ^ 64 }
-    ensures rows { (i j : ℕ) → i ≤ last → j ≤ last → (InTable table.new width i j ↔ Within links.now width last times i j) }
-    ensures same { IsTrue result → (i j : ℕ) → i ≤ last → j ≤ last → (InTable table.new width i j ↔ InTable table.old width i j) }
+    requires spare { length spare.old ≡ shape.width }
+    requires links { length links.now ≡ (shape.last + 1) * shape.width }
+    requires table { length table.old ≡ (shape.last + 1) * shape.width }
+    requires forward { IsForward links.now shape.width shape.last }
+    requires closed { (i j : ℕ) → i ≤ shape.last → j ≤ shape.last → (InTable table.old shape.width i j ↔ ((k : ℕ) × Chain (Link links.now shape.width shape.last) k i j)) }
+    requires countable { steps.old + times * triangle (shape.last + 1) < 2 ^ 64 }
+    ensures rows { (i j : ℕ) → i ≤ shape.last → j ≤ shape.last → (InTable table.new shape.width i j ↔ Within links.now shape.width shape.last times i j) }
+    ensures same { IsTrue result → (i j : ℕ) → i ≤ shape.last → j ≤ shape.last → (InTable table.new shape.width i j ↔ InTable table.old shape.width i j) }
     ensures more { steps.old ≤ steps.new }
-    ensures bound { steps.new ≤ steps.old + times * triangle (last + 1) }
+    ensures bound { steps.new ≤ steps.old + times * triangle (shape.last + 1) }
 {
     let mut before = [0; WIDEST];
     let mut done = [0; WIDEST];
     limit_places(
         table,
         spare,
-        &mut before[..width],
-        &mut done[..width],
+        &mut before[..shape.width],
+        &mut done[..shape.width],
         links,
-        width,
-        last,
+        shape,
         times,
         steps,
     )
@@ -257,32 +235,28 @@ fn remove(row: &mut [u64], place: usize)
 
 /// Takes the place out of its own row of the table, where no link leads from it to itself.
 #[inline(always)]
-fn leave_place(table: &mut [u64], links: &[u64], width: usize, place: usize, last: usize)
-    requires wide { last / 64 < width }
-    requires links { length links.now ≡ (last + 1) * width }
-    requires table { length table.old ≡ (last + 1) * width }
-    requires order { place ≤ last }
-    requires small { last ≤ 1000 }
-    ensures row { (j : ℕ) → j ≤ last → (InTable table.new width place j ↔
-        (InTable table.old width place j × ((j ≢ place) ⊎ InTable links.now width place place))) }
-    ensures others { (i j : ℕ) → i ≢ place → j ≤ last → (InTable table.new width i j ↔ InTable table.old width i j) }
+fn leave_place(table: &mut [u64], links: &[u64], shape: Shape, place: usize)
+    requires links { length links.now ≡ (shape.last + 1) * shape.width }
+    requires table { length table.old ≡ (shape.last + 1) * shape.width }
+    requires order { place ≤ shape.last }
+    ensures row { (j : ℕ) → j ≤ shape.last → (InTable table.new shape.width place j ↔
+        (InTable table.old shape.width place j × ((j ≢ place) ⊎ InTable links.now shape.width place place))) }
+    ensures others { (i j : ℕ) → i ≢ place → j ≤ shape.last → (InTable table.new shape.width i j ↔ InTable table.old shape.width i j) }
 {
-    if next_place(links, place * width, place, place) > place {
-        remove(&mut table[place * width..(place + 1) * width], place);
+    if next_place(links, place * shape.width, place, place) > place {
+        remove(&mut table[shape.row(place)], place);
     }
 }
 
 /// Takes each place out of its own row, where no link leads from it to itself: what is left are the
 /// chains of at least one link.
-pub(crate) fn leave(table: &mut [u64], links: &[u64], width: usize, last: usize)
-    requires wide { last / 64 < width }
-    requires links { length links.now ≡ (last + 1) * width }
-    requires table { length table.old ≡ (last + 1) * width }
-    requires small { last ≤ 1000 }
-    ensures rows { (i j : ℕ) → i ≤ last → j ≤ last → (InTable table.new width i j ↔
-        (InTable table.old width i j × ((j ≢ i) ⊎ InTable links.now width i i))) }
+pub(crate) fn leave(table: &mut [u64], links: &[u64], shape: Shape)
+    requires links { length links.now ≡ (shape.last + 1) * shape.width }
+    requires table { length table.old ≡ (shape.last + 1) * shape.width }
+    ensures rows { (i j : ℕ) → i ≤ shape.last → j ≤ shape.last → (InTable table.new shape.width i j ↔
+        (InTable table.old shape.width i j × ((j ≢ i) ⊎ InTable links.now shape.width i i))) }
 {
-    for place in 0..last + 1 {
-        leave_place(table, links, width, place, last);
+    for place in 0..shape.last + 1 {
+        leave_place(table, links, shape, place);
     }
 }

@@ -1,81 +1,69 @@
 //! Links put before a table many times, as the least number of a repetition asks: turn by turn, or, where
 //! links are many, by links that lead two, four and more at once.
 
-ghost use Rattle.std.specs.Prelude.{◌≡◌, ◌+◌, ◌-◌, ◌*◌, ◌/◌, ◌<◌, ◌≤◌, ◌^◌, ◌↔◌, ◌≢◌, ℕ, IsTrue, length};
+ghost use Rattle.std.specs.Prelude.{◌≡◌, ◌+◌, ◌-◌, ◌*◌, ◌<◌, ◌≤◌, ◌^◌, ◌↔◌, ◌≢◌, ℕ, IsTrue, length};
 ghost use Rattle.tb_match.specs.Bits.{InTable, IsClosed, IsForward, HasLinksOf, Link, Repeated, Through, triangle};
 ghost use Rattle.tb_match.specs.Match.{Chain};
 
-use crate::table::{LAST_OF_WORD, begin, compose, gather_all, store};
+use crate::shape::Shape;
+use crate::table::{clear, compose, gather_all, store};
 
 /// Makes row `place` the places that two links lead to. Where the links are closed this costs less.
 #[inline(always)]
 fn square_row(
     links: &mut [u64],
     spare: &mut [u64],
-    width: usize,
+    shape: Shape,
     place: usize,
-    last: usize,
     closed: bool,
     steps: &mut u64,
 )
-    requires wide { last / 64 < width }
-    requires spare { length spare.old ≡ width }
-    requires links { length links.old ≡ (last + 1) * width }
-    requires order { place ≤ last }
-    requires small { last ≤ 1000 }
-    requires countable { steps.old + (last + 1 - place) < 2 ^ 64 }
-    requires closed { IsTrue closed → IsClosed links.old width place last }
-    ensures row { (j : ℕ) → j ≤ last →
-        (InTable links.new width place j ↔ Through links.old links.old width place (last + 1) j) }
-    ensures others { (i j : ℕ) → i ≢ place → j ≤ last →
-        (InTable links.new width i j ↔ InTable links.old width i j) }
+    requires spare { length spare.old ≡ shape.width }
+    requires links { length links.old ≡ (shape.last + 1) * shape.width }
+    requires order { place ≤ shape.last }
+    requires countable { steps.old + (shape.last + 1 - place) < 2 ^ 64 }
+    requires closed { IsTrue closed → IsClosed links.old shape.width place shape.last }
+    ensures row { (j : ℕ) → j ≤ shape.last →
+        (InTable links.new shape.width place j ↔ Through links.old links.old shape.width place (shape.last + 1) j) }
+    ensures others { (i j : ℕ) → i ≢ place → j ≤ shape.last →
+        (InTable links.new shape.width i j ↔ InTable links.old shape.width i j) }
     ensures more { steps.old ≤ steps.new }
-    ensures bound { steps.new ≤ steps.old + (last + 1 - place) }
+    ensures bound { steps.new ≤ steps.old + (shape.last + 1 - place) }
 {
-    if width == 1 {
+    if shape.width == 1 {
         let mut row = [0; 1];
-        begin(&mut row, place, false);
+        clear(&mut row);
         gather_all(
             &mut row,
-            1,
+            shape.of_one_word(),
             links,
             links,
             place,
-            last.min(LAST_OF_WORD),
             closed,
             steps,
         );
         store(links, &row, place);
     } else {
-        begin(spare, place, false);
-        gather_all(spare, width, links, links, place, last, closed, steps);
+        clear(spare);
+        gather_all(spare, shape, links, links, place, closed, steps);
         store(links, spare, place);
     }
 }
 
 /// Makes the links what two of them lead to. A row asks for those after it alone, which are the old ones.
-fn square(
-    links: &mut [u64],
-    spare: &mut [u64],
-    width: usize,
-    last: usize,
-    closed: bool,
-    steps: &mut u64,
-)
-    requires wide { last / 64 < width }
-    requires spare { length spare.old ≡ width }
-    requires links { length links.old ≡ (last + 1) * width }
-    requires small { last ≤ 1000 }
-    requires countable { steps.old + triangle (last + 1) < 2 ^ 64 }
-    requires onward { IsForward links.old width last }
-    requires closed { IsTrue closed → IsClosed links.old width 0 last }
-    ensures rows { (i j : ℕ) → i ≤ last → j ≤ last →
-        (InTable links.new width i j ↔ Through links.old links.old width i (last + 1) j) }
+fn square(links: &mut [u64], spare: &mut [u64], shape: Shape, closed: bool, steps: &mut u64)
+    requires spare { length spare.old ≡ shape.width }
+    requires links { length links.old ≡ (shape.last + 1) * shape.width }
+    requires countable { steps.old + triangle (shape.last + 1) < 2 ^ 64 }
+    requires onward { IsForward links.old shape.width shape.last }
+    requires closed { IsTrue closed → IsClosed links.old shape.width 0 shape.last }
+    ensures rows { (i j : ℕ) → i ≤ shape.last → j ≤ shape.last →
+        (InTable links.new shape.width i j ↔ Through links.old links.old shape.width i (shape.last + 1) j) }
     ensures more { steps.old ≤ steps.new }
-    ensures bound { steps.new ≤ steps.old + triangle (last + 1) }
+    ensures bound { steps.new ≤ steps.old + triangle (shape.last + 1) }
 {
-    for place in 0..last + 1 {
-        square_row(links, spare, width, place, last, closed, steps);
+    for place in 0..shape.last + 1 {
+        square_row(links, spare, shape, place, closed, steps);
     }
 }
 
@@ -85,41 +73,38 @@ fn take_turn(
     links: &mut [u64],
     table: &mut [u64],
     spare: &mut [u64],
-    width: usize,
-    last: usize,
+    shape: Shape,
     left: usize,
     double: bool,
     closed: bool,
     steps: &mut u64,
 ) -> usize
-    requires wide { last / 64 < width }
-    requires spare { length spare.old ≡ width }
-    requires links { length links.old ≡ (last + 1) * width }
-    requires table { length table.old ≡ (last + 1) * width }
-    requires small { last ≤ 1000 }
+    requires spare { length spare.old ≡ shape.width }
+    requires links { length links.old ≡ (shape.last + 1) * shape.width }
+    requires table { length table.old ≡ (shape.last + 1) * shape.width }
     requires some { 0 < left }
-    requires countable { steps.old + left * triangle (last + 1) < 2 ^ 64 }
-    requires onward { IsForward links.old width last }
-    requires chained { IsTrue double → IsTrue closed → IsClosed links.old width 0 last }
-    requires closed { IsTrue closed → IsClosed table.old width 0 last }
-    requires linked { IsTrue closed → HasLinksOf table.old links.old width last }
-    requires forward { IsTrue closed → IsForward table.old width last }
+    requires countable { steps.old + left * triangle (shape.last + 1) < 2 ^ 64 }
+    requires onward { IsForward links.old shape.width shape.last }
+    requires chained { IsTrue double → IsTrue closed → IsClosed links.old shape.width 0 shape.last }
+    requires closed { IsTrue closed → IsClosed table.old shape.width 0 shape.last }
+    requires linked { IsTrue closed → HasLinksOf table.old links.old shape.width shape.last }
+    requires forward { IsTrue closed → IsForward table.old shape.width shape.last }
     ensures fewer { result < left }
-    ensures rows { (i j : ℕ) → i ≤ last → j ≤ last →
-        (Repeated links.new table.new width last result i j ↔ Repeated links.old table.old width last left i j) }
-    ensures onward { IsForward links.new width last }
-    ensures chained { IsTrue double → IsTrue closed → IsClosed links.new width 0 last }
-    ensures closed { IsTrue closed → IsClosed table.new width 0 last }
-    ensures linked { IsTrue closed → HasLinksOf table.new links.new width last }
-    ensures forward { IsTrue closed → IsForward table.new width last }
+    ensures rows { (i j : ℕ) → i ≤ shape.last → j ≤ shape.last →
+        (Repeated links.new table.new shape.width shape.last result i j ↔ Repeated links.old table.old shape.width shape.last left i j) }
+    ensures onward { IsForward links.new shape.width shape.last }
+    ensures chained { IsTrue double → IsTrue closed → IsClosed links.new shape.width 0 shape.last }
+    ensures closed { IsTrue closed → IsClosed table.new shape.width 0 shape.last }
+    ensures linked { IsTrue closed → HasLinksOf table.new links.new shape.width shape.last }
+    ensures forward { IsTrue closed → IsForward table.new shape.width shape.last }
     ensures more { steps.old ≤ steps.new }
-    ensures bound { steps.new + result * triangle (last + 1) ≤ steps.old + left * triangle (last + 1) }
+    ensures bound { steps.new + result * triangle (shape.last + 1) ≤ steps.old + left * triangle (shape.last + 1) }
 {
     if double && left % 2 == 0 {
-        square(links, spare, width, last, closed, steps);
+        square(links, spare, shape, closed, steps);
         return left / 2;
     }
-    compose(links, table, spare, width, last, closed, steps);
+    compose(links, table, spare, shape, closed, steps);
     left - 1
 }
 
@@ -140,30 +125,22 @@ fn are_many(links: &[u64], last: usize) -> bool
 
 /// Says whether turns are to be taken two, four and more at once. If so, and the table is closed, the
 /// links become the table's own, which are chains of them: closed links cost less.
-fn prepare(
-    links: &mut [u64],
-    table: &[u64],
-    width: usize,
-    last: usize,
-    times: usize,
-    closed: bool,
-) -> bool
-    requires links { length links.old ≡ (last + 1) * width }
-    requires table { length table.now ≡ (last + 1) * width }
-    requires small { last ≤ 1000 }
-    requires onward { IsForward links.old width last }
-    requires closed { IsTrue closed → IsClosed table.now width 0 last }
-    requires linked { IsTrue closed → HasLinksOf table.now links.old width last }
-    requires forward { IsTrue closed → IsForward table.now width last }
-    requires chains { IsTrue closed → 1 < times → (i j : ℕ) → i ≤ last → j ≤ last →
-        (InTable table.now width i j ↔ ((k : ℕ) × (1 ≤ k) × Chain (Link links.old width last) k i j)) }
-    ensures rows { (n i j : ℕ) → i ≤ last → j ≤ last →
-        (Repeated links.new table.now width last n i j ↔ Repeated links.old table.now width last n i j) }
-    ensures onward { IsForward links.new width last }
-    ensures chained { IsTrue result → IsTrue closed → IsClosed links.new width 0 last }
-    ensures linked { IsTrue closed → HasLinksOf table.now links.new width last }
+fn prepare(links: &mut [u64], table: &[u64], shape: Shape, times: usize, closed: bool) -> bool
+    requires links { length links.old ≡ (shape.last + 1) * shape.width }
+    requires table { length table.now ≡ (shape.last + 1) * shape.width }
+    requires onward { IsForward links.old shape.width shape.last }
+    requires closed { IsTrue closed → IsClosed table.now shape.width 0 shape.last }
+    requires linked { IsTrue closed → HasLinksOf table.now links.old shape.width shape.last }
+    requires forward { IsTrue closed → IsForward table.now shape.width shape.last }
+    requires chains { IsTrue closed → 1 < times → (i j : ℕ) → i ≤ shape.last → j ≤ shape.last →
+        (InTable table.now shape.width i j ↔ ((k : ℕ) × (1 ≤ k) × Chain (Link links.old shape.width shape.last) k i j)) }
+    ensures rows { (n i j : ℕ) → i ≤ shape.last → j ≤ shape.last →
+        (Repeated links.new table.now shape.width shape.last n i j ↔ Repeated links.old table.now shape.width shape.last n i j) }
+    ensures onward { IsForward links.new shape.width shape.last }
+    ensures chained { IsTrue result → IsTrue closed → IsClosed links.new shape.width 0 shape.last }
+    ensures linked { IsTrue closed → HasLinksOf table.now links.new shape.width shape.last }
 {
-    if times < 2 || !are_many(links, last) {
+    if times < 2 || !are_many(links, shape.last) {
         return false;
     }
     if !closed {
@@ -179,34 +156,29 @@ pub(crate) fn repeat(
     links: &mut [u64],
     table: &mut [u64],
     spare: &mut [u64],
-    width: usize,
-    last: usize,
+    shape: Shape,
     times: usize,
     closed: bool,
     steps: &mut u64,
 )
-    requires wide { last / 64 < width }
-    requires spare { length spare.old ≡ width }
-    requires links { length links.old ≡ (last + 1) * width }
-    requires table { length table.old ≡ (last + 1) * width }
-    requires small { last ≤ 1000 }
-    requires countable { steps.old + times * triangle (last + 1) < 2 ^ 64 }
-    requires onward { IsForward links.old width last }
-    requires closed { IsTrue closed → IsClosed table.old width 0 last }
-    requires linked { IsTrue closed → HasLinksOf table.old links.old width last }
-    requires forward { IsTrue closed → IsForward table.old width last }
-    requires chains { IsTrue closed → 1 < times → (i j : ℕ) → i ≤ last → j ≤ last →
-        (InTable table.old width i j ↔ ((k : ℕ) × (1 ≤ k) × Chain (Link links.old width last) k i j)) }
-    ensures rows { (i j : ℕ) → i ≤ last → j ≤ last →
-        (InTable table.new width i j ↔ Repeated links.old table.old width last times i j) }
+    requires spare { length spare.old ≡ shape.width }
+    requires links { length links.old ≡ (shape.last + 1) * shape.width }
+    requires table { length table.old ≡ (shape.last + 1) * shape.width }
+    requires countable { steps.old + times * triangle (shape.last + 1) < 2 ^ 64 }
+    requires onward { IsForward links.old shape.width shape.last }
+    requires closed { IsTrue closed → IsClosed table.old shape.width 0 shape.last }
+    requires linked { IsTrue closed → HasLinksOf table.old links.old shape.width shape.last }
+    requires forward { IsTrue closed → IsForward table.old shape.width shape.last }
+    requires chains { IsTrue closed → 1 < times → (i j : ℕ) → i ≤ shape.last → j ≤ shape.last →
+        (InTable table.old shape.width i j ↔ ((k : ℕ) × (1 ≤ k) × Chain (Link links.old shape.width shape.last) k i j)) }
+    ensures rows { (i j : ℕ) → i ≤ shape.last → j ≤ shape.last →
+        (InTable table.new shape.width i j ↔ Repeated links.old table.old shape.width shape.last times i j) }
     ensures more { steps.old ≤ steps.new }
-    ensures bound { steps.new ≤ steps.old + times * triangle (last + 1) }
+    ensures bound { steps.new ≤ steps.old + times * triangle (shape.last + 1) }
 {
-    let double = prepare(links, table, width, last, times, closed);
+    let double = prepare(links, table, shape, times, closed);
     let mut left = times;
     while left > 0 {
-        left = take_turn(
-            links, table, spare, width, last, left, double, closed, steps,
-        );
+        left = take_turn(links, table, spare, shape, left, double, closed, steps);
     }
 }

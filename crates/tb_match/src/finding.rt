@@ -9,12 +9,10 @@ use crate::hits::{hits_by, word_hits};
 use crate::pattern::Pat;
 use crate::possible::can_match;
 use crate::relation::rows;
+use crate::shape::{Shape, WIDEST};
 use crate::strategy::Strategy;
 use crate::truth::Truth;
 use std::alloc::{AllocError, Global};
-
-/// The machine words of a row of the longest sentence.
-const WIDEST: usize = 16;
 
 /// What [`find`] found.
 #[derive(Debug, Drop)]
@@ -66,12 +64,12 @@ pub fn find(
             steps: 0,
         });
     }
-    let last = truth.words();
-    let width = last / 64 + 1;
+    let shape = Shape::of_words(truth.words());
     let mut spare = [0; WIDEST];
+    let spare = &mut spare[..shape.width];
     let mut steps = 0;
-    let table = rows(alloc, pat, truth, &mut spare[..width], width, &mut steps)?;
-    let hits = hits_by(alloc, strategy, &table, width, last)?;
+    let table = rows(alloc, pat, truth, spare, shape, &mut steps)?;
+    let hits = hits_by(alloc, strategy, &table, shape)?;
     Ok(Found { hits, steps })
 }
 

@@ -1,68 +1,57 @@
 //! The hits among the pairs of places of a table of bit rows.
 
-ghost use Rattle.std.specs.Prelude.{◌≡◌, ◌+◌, ◌*◌, ◌/◌, ◌<◌, ◌≤◌, ◌↔◌, ◌⊎◌, ℕ, IfOk, OnOk, length};
+ghost use Rattle.std.specs.Prelude.{◌≡◌, ◌+◌, ◌*◌, ◌<◌, ◌≤◌, ◌↔◌, ◌⊎◌, ℕ, IfOk, OnOk, length};
 ghost use Rattle.std.specs.List.{AllPairs, Contains};
 ghost use Rattle.tb_match.specs.Bits.{Forward};
-ghost use Rattle.tb_match.specs.Facts.{Facts};
 ghost use Rattle.tb_match.specs.Hits.{AreHits, ComesBefore, IsWord};
 ghost use Rattle.tb_match.specs.declared.strategy.Strategy.{Strategy};
 
+use crate::shape::Shape;
 use crate::strategy::Strategy;
 use crate::truth::Truth;
 use crate::walk::next_place;
 use std::alloc::{AllocError, Global};
 
 /// The least end of a pair from `place`, or one past the last place where there is no pair.
-fn least_end(table: &[u64], width: usize, place: usize, last: usize) -> usize
-    requires wide { last / 64 < width }
-    requires table { length table.now ≡ (last + 1) * width }
-    requires order { place ≤ last }
-    requires small { last ≤ 1000 }
-    ensures limit { result ≤ last + 1 }
-    ensures there { result ≤ last → Forward table.now width last place result }
-    ensures least { (j : ℕ) → Forward table.now width last place j → result ≤ j }
+fn least_end(table: &[u64], shape: Shape, place: usize) -> usize
+    requires table { length table.now ≡ (shape.last + 1) * shape.width }
+    requires order { place ≤ shape.last }
+    ensures limit { result ≤ shape.last + 1 }
+    ensures there { result ≤ shape.last → Forward table.now shape.width shape.last place result }
+    ensures least { (j : ℕ) → Forward table.now shape.width shape.last place j → result ≤ j }
 {
-    next_place(table, place * width, place + 1, last)
+    next_place(table, place * shape.width, place + 1, shape.last)
 }
 
 /// The greatest end of a pair from `place`, where it lies beyond `reached`, and else `reached`.
-fn furthest_end(table: &[u64], width: usize, place: usize, reached: usize, last: usize) -> usize
-    requires wide { last / 64 < width }
-    requires table { length table.now ≡ (last + 1) * width }
-    requires order { place ≤ last }
-    requires reached { reached ≤ last }
-    requires small { last ≤ 1000 }
-    ensures limit { result ≤ last }
-    ensures there { reached < result → Forward table.now width last place result }
-    ensures greatest { (j : ℕ) → Forward table.now width last place j → j ≤ result }
+fn furthest_end(table: &[u64], shape: Shape, place: usize, reached: usize) -> usize
+    requires table { length table.now ≡ (shape.last + 1) * shape.width }
+    requires order { place ≤ shape.last }
+    requires reached { reached ≤ shape.last }
+    ensures limit { result ≤ shape.last }
+    ensures there { reached < result → Forward table.now shape.width shape.last place result }
+    ensures greatest { (j : ℕ) → Forward table.now shape.width shape.last place j → j ≤ result }
 {
-    let row = place * width;
+    let row = place * shape.width;
     let mut furthest = reached;
-    let mut end = next_place(table, row, reached.max(place) + 1, last);
-    while end <= last {
+    let mut end = next_place(table, row, reached.max(place) + 1, shape.last);
+    while end <= shape.last {
         furthest = end;
-        end = next_place(table, row, end + 1, last);
+        end = next_place(table, row, end + 1, shape.last);
     }
     furthest
 }
 
 /// The pairs that strictly contain no other. From the last place back, only the least end of a
 /// place can be one, and it is where it lies before all those of later places.
-fn shortest(
-    alloc: Global,
-    table: &[u64],
-    width: usize,
-    last: usize,
-) -> Result<Vec<(u32, u32)>, AllocError>
-    requires wide { last / 64 < width }
-    requires table { length table.now ≡ (last + 1) * width }
-    requires small { last ≤ 1000 }
-    ensures { IfOk result (λ v. AreHits Strategy.Shortest (Forward table.now width last) v.items) }
+fn shortest(alloc: Global, table: &[u64], shape: Shape) -> Result<Vec<(u32, u32)>, AllocError>
+    requires table { length table.now ≡ (shape.last + 1) * shape.width }
+    ensures { IfOk result (λ v. AreHits Strategy.Shortest (Forward table.now shape.width shape.last) v.items) }
 {
     let mut hits = Vec::new(alloc);
-    let mut soonest = last + 1;
-    for place in (0..last + 1).rev() {
-        let end = least_end(table, width, place, last);
+    let mut soonest = shape.last + 1;
+    for place in (0..shape.last + 1).rev() {
+        let end = least_end(table, shape, place);
         if end < soonest {
             hits.push((place as u32, end as u32))?;
             soonest = end;
@@ -74,21 +63,14 @@ fn shortest(
 
 /// The pairs that no other strictly contains: the greatest end of a place, where it lies beyond
 /// all those of earlier places.
-fn longest(
-    alloc: Global,
-    table: &[u64],
-    width: usize,
-    last: usize,
-) -> Result<Vec<(u32, u32)>, AllocError>
-    requires wide { last / 64 < width }
-    requires table { length table.now ≡ (last + 1) * width }
-    requires small { last ≤ 1000 }
-    ensures { IfOk result (λ v. AreHits Strategy.Longest (Forward table.now width last) v.items) }
+fn longest(alloc: Global, table: &[u64], shape: Shape) -> Result<Vec<(u32, u32)>, AllocError>
+    requires table { length table.now ≡ (shape.last + 1) * shape.width }
+    ensures { IfOk result (λ v. AreHits Strategy.Longest (Forward table.now shape.width shape.last) v.items) }
 {
     let mut hits = Vec::new(alloc);
     let mut reached = 0;
-    for place in 0..last + 1 {
-        let end = furthest_end(table, width, place, reached, last);
+    for place in 0..shape.last + 1 {
+        let end = furthest_end(table, shape, place, reached);
         if reached < end {
             hits.push((place as u32, end as u32))?;
             reached = end;
@@ -101,45 +83,35 @@ fn longest(
 fn push_pairs(
     hits: &mut Vec<(u32, u32)>,
     table: &[u64],
-    width: usize,
+    shape: Shape,
     place: usize,
-    last: usize,
 ) -> Result<(), AllocError>
-    requires wide { last / 64 < width }
-    requires table { length table.now ≡ (last + 1) * width }
-    requires order { place ≤ last }
-    requires small { last ≤ 1000 }
+    requires table { length table.now ≡ (shape.last + 1) * shape.width }
+    requires order { place ≤ shape.last }
     requires ascending { AllPairs ComesBefore hits.old.items }
     requires earlier { (i j : ℕ) → Contains hits.old.items (i, j) → i < place }
     ensures ascending { OnOk result (AllPairs ComesBefore hits.new.items) }
     ensures pairs { OnOk result ((i j : ℕ) → (Contains hits.new.items (i, j)
-        ↔ (Contains hits.old.items (i, j) ⊎ ((i ≡ place) × Forward table.now width last place j)))) }
+        ↔ (Contains hits.old.items (i, j) ⊎ ((i ≡ place) × Forward table.now shape.width shape.last place j)))) }
 {
-    let row = place * width;
-    let mut end = next_place(table, row, place + 1, last);
-    while end <= last {
+    let row = place * shape.width;
+    let mut end = next_place(table, row, place + 1, shape.last);
+    while end <= shape.last {
         let pair = (place as u32, end as u32);
         hits.push(pair)?;
-        end = next_place(table, row, end + 1, last);
+        end = next_place(table, row, end + 1, shape.last);
     }
     Ok(())
 }
 
 /// All pairs.
-fn every(
-    alloc: Global,
-    table: &[u64],
-    width: usize,
-    last: usize,
-) -> Result<Vec<(u32, u32)>, AllocError>
-    requires wide { last / 64 < width }
-    requires table { length table.now ≡ (last + 1) * width }
-    requires small { last ≤ 1000 }
-    ensures { IfOk result (λ v. AreHits Strategy.Every (Forward table.now width last) v.items) }
+fn every(alloc: Global, table: &[u64], shape: Shape) -> Result<Vec<(u32, u32)>, AllocError>
+    requires table { length table.now ≡ (shape.last + 1) * shape.width }
+    ensures { IfOk result (λ v. AreHits Strategy.Every (Forward table.now shape.width shape.last) v.items) }
 {
     let mut hits = Vec::new(alloc);
-    for place in 0..last + 1 {
-        push_pairs(&mut hits, table, width, place, last)?;
+    for place in 0..shape.last + 1 {
+        push_pairs(&mut hits, table, shape, place)?;
     }
     Ok(hits)
 }
@@ -168,17 +140,14 @@ pub(crate) fn hits_by(
     alloc: Global,
     strategy: Strategy,
     table: &[u64],
-    width: usize,
-    last: usize,
+    shape: Shape,
 ) -> Result<Vec<(u32, u32)>, AllocError>
-    requires wide { last / 64 < width }
-    requires table { length table.now ≡ (last + 1) * width }
-    requires small { last ≤ 1000 }
-    ensures { IfOk result (λ v. AreHits strategy (Forward table.now width last) v.items) }
+    requires table { length table.now ≡ (shape.last + 1) * shape.width }
+    ensures { IfOk result (λ v. AreHits strategy (Forward table.now shape.width shape.last) v.items) }
 {
     match strategy {
-        Strategy::Shortest => shortest(alloc, table, width, last),
-        Strategy::Longest => longest(alloc, table, width, last),
-        Strategy::Every => every(alloc, table, width, last),
+        Strategy::Shortest => shortest(alloc, table, shape),
+        Strategy::Longest => longest(alloc, table, shape),
+        Strategy::Every => every(alloc, table, shape),
     }
 }

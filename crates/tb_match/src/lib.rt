@@ -2,6 +2,7 @@
 #![tactic(auto)]
 
 mod bounded;
+mod bounds;
 mod doubling;
 mod finding;
 mod hits;
@@ -9,6 +10,8 @@ mod narrow;
 mod pattern;
 mod possible;
 mod relation;
+mod shape;
+mod stay;
 mod strategy;
 mod table;
 mod token;

@@ -1,12 +1,14 @@
 //! Rows of one machine word, as sentences of fewer than 64 words have them: all places of a row
 //! step over a word at once, and links are chained in their own table.
 
-ghost use Rattle.std.specs.Prelude.{◌≡◌, ◌+◌, ◌-◌, ◌^◌, ◌<◌, ◌≤◌, ◌≢◌, ◌↔◌, ◌⊎◌, ℕ, IsTrue, length};
+ghost use Rattle.std.specs.Prelude.{◌≡◌, ◌+◌, ◌-◌, ◌^◌, ◌<◌, ◌≤◌, ◌≢◌, ◌↔◌, ◌⊎◌, ℕ, length};
 ghost use Rattle.std.specs.Int.{bit_at};
 ghost use Rattle.tb_match.specs.Bits.{InRow, InTable, Link, triangle};
 ghost use Rattle.tb_match.specs.Facts.{Holds};
 ghost use Rattle.tb_match.specs.Match.{Chain};
+ghost use Rattle.tb_match.specs.Stays.{MayStay};
 
+use crate::stay::Stay;
 use crate::truth::Truth;
 use crate::uniting::unite;
 use crate::walk::bits_from;
@@ -35,16 +37,19 @@ pub(crate) fn ends_of(expr: u16, truth: &Truth) -> u64
     ends
 }
 
-/// The places one word further on, where a word may end there; also the row's own where `keep`
-/// says so.
+/// The places one word further on, where a word may end there; also the row's own where a step
+/// may stay.
 #[inline(always)]
-fn step_word(row: u64, ends: u64, keep: bool) -> u64
-    ensures places { (j : ℕ) → j < 64 → ((bit_at result j ≡ 1) ↔ ((IsTrue keep × (bit_at row j ≡ 1)) ⊎
+fn step_word(row: u64, ends: u64, stay: Stay) -> u64
+    ensures places { (j : ℕ) → j < 64 → ((bit_at result j ≡ 1) ↔ ((MayStay stay × (bit_at row j ≡ 1)) ⊎
         ((k : ℕ) × (j ≡ k + 1) × (bit_at row k ≡ 1) × (bit_at ends j ≡ 1)))) }
-    ensures grows { IsTrue keep → row ≤ result }
+    ensures grows { MayStay stay → row ≤ result }
 {
     let next = row << 1 & ends;
-    if keep { row | next } else { next }
+    match stay {
+        Stay::Allowed => row | next,
+        Stay::Barred => next,
+    }
 }
 
 /// The places any number of words further on, where a word may end at each.
@@ -54,22 +59,22 @@ fn run_word(row: u64, ends: u64) -> u64
         ((n : ℕ) × Chain (λ a b. (b ≡ a + 1) × (bit_at ends b ≡ 1)) n k j))) }
 {
     let mut all = row;
-    let mut next = step_word(row, ends, true);
+    let mut next = step_word(row, ends, Stay::Allowed);
     while next != all {
         all = next;
-        next = step_word(all, ends, true);
+        next = step_word(all, ends, Stay::Allowed);
     }
     all
 }
 
-/// Makes each row its places one word further on; and its own too where `keep` says so.
-pub(crate) fn step_words(table: &mut [u64], ends: u64, keep: bool)
+/// Makes each row its places one word further on; and its own too where a step may stay.
+pub(crate) fn step_words(table: &mut [u64], ends: u64, stay: Stay)
     ensures rows { (i j : ℕ) → i < length table.old → j < 64 → (InTable table.new 1 i j ↔
-        ((IsTrue keep × InTable table.old 1 i j) ⊎
+        ((MayStay stay × InTable table.old 1 i j) ⊎
         ((k : ℕ) × (j ≡ k + 1) × InTable table.old 1 i k × (bit_at ends j ≡ 1)))) }
 {
     for row in 0..table.len() {
-        table[row] = step_word(table[row], ends, keep);
+        table[row] = step_word(table[row], ends, stay);
     }
 }
 

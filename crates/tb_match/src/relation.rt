@@ -1,16 +1,19 @@
 //! The relation of a pattern as a table of bit rows.
 
-ghost use Rattle.std.specs.Prelude.{◌≡◌, ◌+◌, ◌-◌, ◌*◌, ◌/◌, ◌<◌, ◌≤◌, ◌^◌, ◌↔◌, ◌⊎◌, ℕ, IfOk, IsTrue, length, None};
-ghost use Rattle.tb_match.specs.Bits.{InTable, IsClosed, IsForward, HasLinksOf, Link, Repeated, Through, Within, triangle};
+ghost use Rattle.std.specs.Prelude.{◌≡◌, ◌+◌, ◌-◌, ◌*◌, ◌<◌, ◌≤◌, ◌^◌, ◌↔◌, ◌⊎◌, ℕ, IfOk, IsTrue, length, None};
+ghost use Rattle.tb_match.specs.Bits.{InTable, IsForward, Link, triangle};
 ghost use Rattle.tb_match.specs.Match.{AnyOf, Chain, EachInTurn, IsAtMost, Match};
 ghost use Rattle.tb_match.specs.Trees.{tree, trees};
-ghost use Rattle.tb_match.specs.Weight.{AllProper, IsBetween, IsProper, turns, weight_of, weight_of_all};
-ghost use Rattle.tb_match.specs.Facts.{Facts, Holds};
+ghost use Rattle.tb_match.specs.Weight.{AllProper, IsProper, turns, weight_of, weight_of_all};
+ghost use Rattle.tb_match.specs.Facts.{Holds};
 
 use crate::bounded::{leave, limit};
+use crate::bounds::Bounds;
 use crate::doubling::repeat;
 use crate::narrow::chain_words;
 use crate::pattern::Pat;
+use crate::shape::Shape;
+use crate::stay::Stay;
 use crate::table::{close, compose, diagonal, empty, mark, merge};
 use crate::token::{
     optional_token_of, optional_token_rows, run_on, short_run_of, step_over, token_of,
@@ -24,39 +27,36 @@ fn marked_rows(
     alloc: Global,
     expr: u16,
     truth: &Truth,
-    width: usize,
+    shape: Shape,
 ) -> Result<Vec<u64>, AllocError>
     requires expr { expr < truth.now.exprs }
-    requires wide { truth.now.words / 64 < width }
-    requires narrow { width ≤ 16 }
-    ensures whole { IfOk result (λ v. length v.items ≡ (truth.now.words + 1) * width) }
+    requires words { shape.last ≡ truth.now.words }
+    ensures whole { IfOk result (λ v. length v.items ≡ (truth.now.words + 1) * shape.width) }
     ensures rows { IfOk result (λ v. (i j : ℕ) → i ≤ truth.now.words → j ≤ truth.now.words →
-        (InTable v.items width i j ↔ ((j ≡ i + 1) × Holds truth.now expr j))) }
+        (InTable v.items shape.width i j ↔ ((j ≡ i + 1) × Holds truth.now expr j))) }
 {
-    let last = truth.words();
-    let mut table = empty(alloc, width, last)?;
-    for place in 0..last {
+    let mut table = empty(alloc, shape)?;
+    for place in 0..shape.last {
         if truth.get(expr, place + 1) {
-            mark(&mut table, width, place, place + 1);
+            mark(&mut table, shape, place, place + 1);
         }
     }
     Ok(table)
 }
 
 /// The rows of one word of which the expression holds.
-fn token_rows(alloc: Global, expr: u16, truth: &Truth, width: usize) -> Result<Vec<u64>, AllocError>
+fn token_rows(alloc: Global, expr: u16, truth: &Truth, shape: Shape) -> Result<Vec<u64>, AllocError>
     requires expr { expr < truth.now.exprs }
-    requires wide { truth.now.words / 64 < width }
-    requires narrow { width ≤ 16 }
-    ensures whole { IfOk result (λ v. length v.items ≡ (truth.now.words + 1) * width) }
+    requires words { shape.last ≡ truth.now.words }
+    ensures whole { IfOk result (λ v. length v.items ≡ (truth.now.words + 1) * shape.width) }
     ensures rows { IfOk result (λ v. (i j : ℕ) → i ≤ truth.now.words → j ≤ truth.now.words →
-        (InTable v.items width i j ↔ ((j ≡ i + 1) × Holds truth.now expr j))) }
+        (InTable v.items shape.width i j ↔ ((j ≡ i + 1) × Holds truth.now expr j))) }
 {
-    if width == 1 {
-        let places = diagonal(alloc, width, truth.words())?;
-        return step_over(alloc, places, expr, truth, width, false);
+    if shape.width == 1 {
+        let places = diagonal(alloc, shape)?;
+        return step_over(alloc, places, expr, truth, shape, Stay::Barred);
     }
-    marked_rows(alloc, expr, truth, width)
+    marked_rows(alloc, expr, truth, shape)
 }
 
 /// The rows of chains of links, and whether no greatest number ends them sooner.
@@ -66,43 +66,37 @@ struct Chains {
     unlimited: bool,
 }
 
-/// The rows of chains of links that may follow so many of them as `least` says.
+/// The rows of chains of links that may follow the least number of them.
 fn further(
     alloc: Global,
     links: &[u64],
-    least: u8,
-    most: Option<u8>,
+    bounds: Bounds,
     spare: &mut [u64],
-    width: usize,
-    last: usize,
+    shape: Shape,
     steps: &mut u64,
 ) -> Result<Chains, AllocError>
-    requires order { IsBetween least most }
-    requires wide { last / 64 < width }
-    requires narrow { width ≤ 16 }
-    requires spare { length spare.old ≡ width }
-    requires links { length links.now ≡ (last + 1) * width }
-    requires forward { IsForward links.now width last }
-    requires small { last ≤ 1000 }
-    requires countable { steps.old + turns least most * triangle (last + 1) < 2 ^ 64 }
-    ensures whole { IfOk result (λ v. length v.rows.items ≡ (last + 1) * width) }
-    ensures rows { IfOk result (λ v. (i j : ℕ) → i ≤ last → j ≤ last →
-        (InTable v.rows.items width i j ↔ ((k : ℕ) × IsAtMost (least + k) most × Chain (Link links.now width last) k i j))) }
-    ensures unlimited { IfOk result (λ v. IsTrue v.unlimited → (i j : ℕ) → i ≤ last → j ≤ last →
-        (InTable v.rows.items width i j ↔ ((k : ℕ) × IsAtMost (least + k) None × Chain (Link links.now width last) k i j))) }
+    requires spare { length spare.old ≡ shape.width }
+    requires links { length links.now ≡ (shape.last + 1) * shape.width }
+    requires forward { IsForward links.now shape.width shape.last }
+    requires countable { steps.old + turns bounds.least bounds.most * triangle (shape.last + 1) < 2 ^ 64 }
+    ensures whole { IfOk result (λ v. length v.rows.items ≡ (shape.last + 1) * shape.width) }
+    ensures rows { IfOk result (λ v. (i j : ℕ) → i ≤ shape.last → j ≤ shape.last →
+        (InTable v.rows.items shape.width i j ↔ ((k : ℕ) × IsAtMost (bounds.least + k) bounds.most × Chain (Link links.now shape.width shape.last) k i j))) }
+    ensures unlimited { IfOk result (λ v. IsTrue v.unlimited → (i j : ℕ) → i ≤ shape.last → j ≤ shape.last →
+        (InTable v.rows.items shape.width i j ↔ ((k : ℕ) × IsAtMost (bounds.least + k) None × Chain (Link links.now shape.width shape.last) k i j))) }
     ensures more { steps.old ≤ steps.new }
-    ensures bound { steps.new + least * triangle (last + 1) ≤ steps.old + turns least most * triangle (last + 1) }
+    ensures bound { steps.new + bounds.least * triangle (shape.last + 1) ≤ steps.old + turns bounds.least bounds.most * triangle (shape.last + 1) }
 {
-    let mut rows = empty(alloc, width, last)?;
-    close(links, &mut rows, spare, width, last, steps);
-    let Some(most) = most else {
+    let mut rows = empty(alloc, shape)?;
+    close(links, &mut rows, spare, shape, steps);
+    let Some(most) = bounds.most else {
         return Ok(Chains {
             rows,
             unlimited: true,
         });
     };
-    let times = (most - least) as usize;
-    let unlimited = limit(&mut rows, spare, links, width, last, times, steps);
+    let times = (most - bounds.least) as usize;
+    let unlimited = limit(&mut rows, spare, links, shape, times, steps);
     Ok(Chains { rows, unlimited })
 }
 
@@ -110,86 +104,73 @@ fn further(
 fn begun(
     alloc: Global,
     links: &[u64],
-    least: u8,
-    most: Option<u8>,
+    bounds: Bounds,
     spare: &mut [u64],
-    width: usize,
-    last: usize,
+    shape: Shape,
     steps: &mut u64,
 ) -> Result<Chains, AllocError>
-    requires order { IsBetween least most }
-    requires wide { last / 64 < width }
-    requires narrow { width ≤ 16 }
-    requires spare { length spare.old ≡ width }
-    requires links { length links.now ≡ (last + 1) * width }
-    requires forward { IsForward links.now width last }
-    requires small { last ≤ 1000 }
-    requires countable { steps.old + turns least most * triangle (last + 1) < 2 ^ 64 }
-    ensures whole { IfOk result (λ v. length v.rows.items ≡ (last + 1) * width) }
-    ensures rows { IfOk result (λ v. (i j : ℕ) → i ≤ last → j ≤ last →
-        (InTable v.rows.items width i j ↔ ((k : ℕ) × (least ≤ least - 1 + k) × IsAtMost (least - 1 + k) most × Chain (Link links.now width last) k i j))) }
-    ensures unlimited { IfOk result (λ v. IsTrue v.unlimited → (i j : ℕ) → i ≤ last → j ≤ last →
-        (InTable v.rows.items width i j ↔ ((k : ℕ) × (least ≤ least - 1 + k) × IsAtMost (least - 1 + k) None × Chain (Link links.now width last) k i j))) }
+    requires spare { length spare.old ≡ shape.width }
+    requires links { length links.now ≡ (shape.last + 1) * shape.width }
+    requires forward { IsForward links.now shape.width shape.last }
+    requires countable { steps.old + turns bounds.least bounds.most * triangle (shape.last + 1) < 2 ^ 64 }
+    ensures whole { IfOk result (λ v. length v.rows.items ≡ (shape.last + 1) * shape.width) }
+    ensures rows { IfOk result (λ v. (i j : ℕ) → i ≤ shape.last → j ≤ shape.last →
+        (InTable v.rows.items shape.width i j ↔ ((k : ℕ) × (bounds.least ≤ bounds.least - 1 + k) × IsAtMost (bounds.least - 1 + k) bounds.most × Chain (Link links.now shape.width shape.last) k i j))) }
+    ensures unlimited { IfOk result (λ v. IsTrue v.unlimited → (i j : ℕ) → i ≤ shape.last → j ≤ shape.last →
+        (InTable v.rows.items shape.width i j ↔ ((k : ℕ) × (bounds.least ≤ bounds.least - 1 + k) × IsAtMost (bounds.least - 1 + k) None × Chain (Link links.now shape.width shape.last) k i j))) }
     ensures more { steps.old ≤ steps.new }
-    ensures bound { steps.new + (least - 1) * triangle (last + 1) ≤ steps.old + turns least most * triangle (last + 1) }
+    ensures bound { steps.new + (bounds.least - 1) * triangle (shape.last + 1) ≤ steps.old + turns bounds.least bounds.most * triangle (shape.last + 1) }
 {
-    if least == 0 {
-        return further(alloc, links, 0, most, spare, width, last, steps);
+    if bounds.least == 0 {
+        return further(alloc, links, bounds, spare, shape, steps);
     }
+    let fewer = Bounds {
+        least: bounds.least - 1,
+        most: bounds.most,
+    };
     let Chains {
         mut rows,
         unlimited,
-    } = further(alloc, links, least - 1, most, spare, width, last, steps)?;
-    leave(&mut rows, links, width, last);
+    } = further(alloc, links, fewer, spare, shape, steps)?;
+    leave(&mut rows, links, shape);
     Ok(Chains { rows, unlimited })
 }
 
-/// The rows of chains of links, in a table of their own: at least `least` of them, and at most
-/// `most` where it is given.
+/// The rows of chains of as many links as the bounds allow, in a table of their own.
 fn swept(
     alloc: Global,
     links: &mut [u64],
-    least: u8,
-    most: Option<u8>,
+    bounds: Bounds,
     spare: &mut [u64],
-    width: usize,
-    last: usize,
+    shape: Shape,
     steps: &mut u64,
 ) -> Result<Vec<u64>, AllocError>
-    requires order { IsBetween least most }
-    requires wide { last / 64 < width }
-    requires narrow { width ≤ 16 }
-    requires spare { length spare.old ≡ width }
-    requires links { length links.old ≡ (last + 1) * width }
-    requires forward { IsForward links.old width last }
-    requires small { last ≤ 1000 }
-    requires countable { steps.old + turns least most * triangle (last + 1) < 2 ^ 64 }
-    ensures whole { IfOk result (λ v. length v.items ≡ (last + 1) * width) }
-    ensures rows { IfOk result (λ v. (i j : ℕ) → i ≤ last → j ≤ last →
-        (InTable v.items width i j ↔ ((k : ℕ) × (least ≤ k) × IsAtMost k most × Chain (Link links.old width last) k i j))) }
+    requires spare { length spare.old ≡ shape.width }
+    requires links { length links.old ≡ (shape.last + 1) * shape.width }
+    requires forward { IsForward links.old shape.width shape.last }
+    requires countable { steps.old + turns bounds.least bounds.most * triangle (shape.last + 1) < 2 ^ 64 }
+    ensures whole { IfOk result (λ v. length v.items ≡ (shape.last + 1) * shape.width) }
+    ensures rows { IfOk result (λ v. (i j : ℕ) → i ≤ shape.last → j ≤ shape.last →
+        (InTable v.items shape.width i j ↔ ((k : ℕ) × (bounds.least ≤ k) × IsAtMost k bounds.most × Chain (Link links.old shape.width shape.last) k i j))) }
     ensures more { steps.old ≤ steps.new }
-    ensures bound { steps.new ≤ steps.old + turns least most * triangle (last + 1) }
+    ensures bound { steps.new ≤ steps.old + turns bounds.least bounds.most * triangle (shape.last + 1) }
 {
     let Chains {
         mut rows,
         unlimited,
-    } = begun(alloc, links, least, most, spare, width, last, steps)?;
-    let times = least.saturating_sub(1) as usize;
-    repeat(
-        links, &mut rows, spare, width, last, times, unlimited, steps,
-    );
+    } = begun(alloc, links, bounds, spare, shape, steps)?;
+    let times = bounds.least.saturating_sub(1) as usize;
+    repeat(links, &mut rows, spare, shape, times, unlimited, steps);
     Ok(rows)
 }
 
 /// Whether a link leads from each place to itself, as where the pattern matches no words.
-fn all_stay(links: &[u64], width: usize, last: usize) -> bool
-    requires wide { last / 64 < width }
-    requires links { length links.now ≡ (last + 1) * width }
-    requires small { last ≤ 1000 }
-    ensures { IsTrue result → (i : ℕ) → i ≤ last → InTable links.now width i i }
+fn all_stay(links: &[u64], shape: Shape) -> bool
+    requires links { length links.now ≡ (shape.last + 1) * shape.width }
+    ensures { IsTrue result → (i : ℕ) → i ≤ shape.last → InTable links.now shape.width i i }
 {
-    for place in 0..last + 1 {
-        if next_place(links, place * width, place, place) > place {
+    for place in 0..shape.last + 1 {
+        if next_place(links, place * shape.width, place, place) > place {
             return false;
         }
     }
@@ -198,14 +179,12 @@ fn all_stay(links: &[u64], width: usize, last: usize) -> bool
 
 /// The least number of links that has to be asked for. Where a link leads from each place to
 /// itself, a chain of fewer links is also one of more.
-fn least_needed(links: &[u64], least: u8, width: usize, last: usize) -> u8
-    requires wide { last / 64 < width }
-    requires links { length links.now ≡ (last + 1) * width }
-    requires small { last ≤ 1000 }
+fn least_needed(links: &[u64], least: u8, shape: Shape) -> u8
+    requires links { length links.now ≡ (shape.last + 1) * shape.width }
     ensures fewer { result ≤ least }
-    ensures same { (result ≡ least) ⊎ ((i : ℕ) → i ≤ last → InTable links.now width i i) }
+    ensures same { (result ≡ least) ⊎ ((i : ℕ) → i ≤ shape.last → InTable links.now shape.width i i) }
 {
-    if least > 1 && all_stay(links, width, last) {
+    if least > 1 && all_stay(links, shape) {
         0
     } else {
         least
@@ -214,43 +193,41 @@ fn least_needed(links: &[u64], least: u8, width: usize, last: usize) -> u8
 
 /// Whether the links are to be chained in their own table: where the numbers are those of `+` and
 /// a row is one machine word.
-fn is_chained_in_place(least: u8, most: Option<u8>, width: usize) -> bool
-    ensures { IsTrue result → (least ≡ 1) × (most ≡ None) × (width ≡ 1) }
+fn is_chained_in_place(bounds: Bounds, shape: Shape) -> bool
+    ensures { IsTrue result → (bounds.least ≡ 1) × (bounds.most ≡ None) × (shape.width ≡ 1) }
 {
-    least == 1 && most.is_none() && width == 1
+    bounds.least == 1 && bounds.most.is_none() && shape.width == 1
 }
 
-/// The rows of chains of links: at least `least` of them, and at most `most` where it is given.
+/// The rows of chains of as many links as the bounds allow.
 fn repetition(
     alloc: Global,
     mut links: Vec<u64>,
-    least: u8,
-    most: Option<u8>,
+    bounds: Bounds,
     spare: &mut [u64],
-    width: usize,
-    last: usize,
+    shape: Shape,
     steps: &mut u64,
 ) -> Result<Vec<u64>, AllocError>
-    requires order { IsBetween least most }
-    requires wide { last / 64 < width }
-    requires narrow { width ≤ 16 }
-    requires spare { length spare.old ≡ width }
-    requires links { length links.items ≡ (last + 1) * width }
-    requires forward { IsForward links.items width last }
-    requires small { last ≤ 1000 }
-    requires countable { steps.old + turns least most * triangle (last + 1) < 2 ^ 64 }
-    ensures whole { IfOk result (λ v. length v.items ≡ (last + 1) * width) }
-    ensures rows { IfOk result (λ v. (i j : ℕ) → i ≤ last → j ≤ last →
-        (InTable v.items width i j ↔ ((k : ℕ) × (least ≤ k) × IsAtMost k most × Chain (Link links.items width last) k i j))) }
+    requires spare { length spare.old ≡ shape.width }
+    requires links { length links.items ≡ (shape.last + 1) * shape.width }
+    requires forward { IsForward links.items shape.width shape.last }
+    requires countable { steps.old + turns bounds.least bounds.most * triangle (shape.last + 1) < 2 ^ 64 }
+    ensures whole { IfOk result (λ v. length v.items ≡ (shape.last + 1) * shape.width) }
+    ensures rows { IfOk result (λ v. (i j : ℕ) → i ≤ shape.last → j ≤ shape.last →
+        (InTable v.items shape.width i j ↔ ((k : ℕ) × (bounds.least ≤ k) × IsAtMost k bounds.most × Chain (Link links.items shape.width shape.last) k i j))) }
     ensures more { steps.old ≤ steps.new }
-    ensures bound { steps.new ≤ steps.old + turns least most * triangle (last + 1) }
+    ensures bound { steps.new ≤ steps.old + turns bounds.least bounds.most * triangle (shape.last + 1) }
 {
-    if is_chained_in_place(least, most, width) {
-        chain_words(&mut links, last, steps);
+    if is_chained_in_place(bounds, shape) {
+        chain_words(&mut links, shape.last, steps);
         return Ok(links);
     }
-    let needed = least_needed(&links, least, width, last);
-    swept(alloc, &mut links, needed, most, spare, width, last, steps)
+    let least = least_needed(&links, bounds.least, shape);
+    let needed = Bounds {
+        least,
+        most: bounds.most,
+    };
+    swept(alloc, &mut links, needed, spare, shape, steps)
 }
 
 /// The rows of the parts, one after the other.
@@ -260,28 +237,25 @@ fn sequence(
     parts: &[Pat],
     truth: &Truth,
     spare: &mut [u64],
-    width: usize,
+    shape: Shape,
     steps: &mut u64,
 ) -> Result<Vec<u64>, AllocError>
     requires proper { AllProper truth.now.exprs (trees parts.now) }
-    requires wide { truth.now.words / 64 < width }
-    requires narrow { width ≤ 16 }
-    requires spare { length spare.old ≡ width }
-    requires small { truth.now.words ≤ 1000 }
+    requires words { shape.last ≡ truth.now.words }
+    requires spare { length spare.old ≡ shape.width }
     requires countable { steps.old + weight_of_all (trees parts.now) * triangle (truth.now.words + 1) < 2 ^ 64 }
-    ensures whole { IfOk result (λ v. length v.items ≡ (truth.now.words + 1) * width) }
+    ensures whole { IfOk result (λ v. length v.items ≡ (truth.now.words + 1) * shape.width) }
     ensures rows { IfOk result (λ v. (i j : ℕ) → i ≤ truth.now.words → j ≤ truth.now.words →
-        (InTable v.items width i j ↔ EachInTurn (Holds truth.now) (trees parts.now) i j)) }
+        (InTable v.items shape.width i j ↔ EachInTurn (Holds truth.now) (trees parts.now) i j)) }
     ensures more { steps.old ≤ steps.new }
     ensures bound { steps.new ≤ steps.old + weight_of_all (trees parts.now) * triangle (truth.now.words + 1) }
 {
-    let last = truth.words();
     let Some((first, rest)) = parts.split_first() else {
-        return diagonal(alloc, width, last);
+        return diagonal(alloc, shape);
     };
-    let mut table = rows(alloc, first, truth, spare, width, steps)?;
+    let mut table = rows(alloc, first, truth, spare, shape, steps)?;
     for part in rest {
-        table = followed(alloc, table, part, truth, spare, width, steps)?;
+        table = followed(alloc, table, part, truth, spare, shape, steps)?;
     }
     Ok(table)
 }
@@ -295,37 +269,34 @@ fn followed(
     part: &Pat,
     truth: &Truth,
     spare: &mut [u64],
-    width: usize,
+    shape: Shape,
     steps: &mut u64,
 ) -> Result<Vec<u64>, AllocError>
     requires proper { IsProper truth.now.exprs (tree part.now) }
-    requires wide { truth.now.words / 64 < width }
-    requires narrow { width ≤ 16 }
-    requires spare { length spare.old ≡ width }
-    requires small { truth.now.words ≤ 1000 }
-    requires table { length table.items ≡ (truth.now.words + 1) * width }
-    requires forward { (i j : ℕ) → i ≤ truth.now.words → j ≤ truth.now.words → InTable table.items width i j → i ≤ j }
+    requires words { shape.last ≡ truth.now.words }
+    requires spare { length spare.old ≡ shape.width }
+    requires table { length table.items ≡ (truth.now.words + 1) * shape.width }
+    requires forward { (i j : ℕ) → i ≤ truth.now.words → j ≤ truth.now.words → InTable table.items shape.width i j → i ≤ j }
     requires countable { steps.old + (weight_of (tree part.now) + 1) * triangle (truth.now.words + 1) < 2 ^ 64 }
-    ensures whole { IfOk result (λ v. length v.items ≡ (truth.now.words + 1) * width) }
+    ensures whole { IfOk result (λ v. length v.items ≡ (truth.now.words + 1) * shape.width) }
     ensures rows { IfOk result (λ v. (i j : ℕ) → i ≤ truth.now.words → j ≤ truth.now.words →
-        (InTable v.items width i j ↔
-        ((k : ℕ) × (k ≤ truth.now.words) × InTable table.items width i k × Match (Holds truth.now) (tree part.now) k j))) }
+        (InTable v.items shape.width i j ↔
+        ((k : ℕ) × (k ≤ truth.now.words) × InTable table.items shape.width i k × Match (Holds truth.now) (tree part.now) k j))) }
     ensures more { steps.old ≤ steps.new }
     ensures bound { steps.new ≤ steps.old + (weight_of (tree part.now) + 1) * triangle (truth.now.words + 1) }
 {
     if let Some(expr) = token_of(part) {
-        return step_over(alloc, table, expr, truth, width, false);
+        return step_over(alloc, table, expr, truth, shape, Stay::Barred);
     }
     if let Some(expr) = optional_token_of(part) {
-        return step_over(alloc, table, expr, truth, width, true);
+        return step_over(alloc, table, expr, truth, shape, Stay::Allowed);
     }
     if let Some(expr) = short_run_of(part, truth) {
-        run_on(&mut table, expr, truth, width);
+        run_on(&mut table, expr, truth, shape);
         return Ok(table);
     }
-    let mut next = rows(alloc, part, truth, spare, width, steps)?;
-    let last = truth.words();
-    compose(&table, &mut next, spare, width, last, false, steps);
+    let mut next = rows(alloc, part, truth, spare, shape, steps)?;
+    compose(&table, &mut next, spare, shape, false, steps);
     Ok(next)
 }
 
@@ -336,26 +307,23 @@ fn choice(
     parts: &[Pat],
     truth: &Truth,
     spare: &mut [u64],
-    width: usize,
+    shape: Shape,
     steps: &mut u64,
 ) -> Result<Vec<u64>, AllocError>
     requires proper { AllProper truth.now.exprs (trees parts.now) }
-    requires wide { truth.now.words / 64 < width }
-    requires narrow { width ≤ 16 }
-    requires spare { length spare.old ≡ width }
-    requires small { truth.now.words ≤ 1000 }
+    requires words { shape.last ≡ truth.now.words }
+    requires spare { length spare.old ≡ shape.width }
     requires countable { steps.old + weight_of_all (trees parts.now) * triangle (truth.now.words + 1) < 2 ^ 64 }
-    ensures whole { IfOk result (λ v. length v.items ≡ (truth.now.words + 1) * width) }
+    ensures whole { IfOk result (λ v. length v.items ≡ (truth.now.words + 1) * shape.width) }
     ensures rows { IfOk result (λ v. (i j : ℕ) → i ≤ truth.now.words → j ≤ truth.now.words →
-        (InTable v.items width i j ↔ AnyOf (Holds truth.now) (trees parts.now) i j)) }
+        (InTable v.items shape.width i j ↔ AnyOf (Holds truth.now) (trees parts.now) i j)) }
     ensures more { steps.old ≤ steps.new }
     ensures bound { steps.new ≤ steps.old + weight_of_all (trees parts.now) * triangle (truth.now.words + 1) }
 {
-    let last = truth.words();
-    let mut table = empty(alloc, width, last)?;
+    let mut table = empty(alloc, shape)?;
     for part in parts {
-        let next = rows(alloc, part, truth, spare, width, steps)?;
-        merge(&mut table, &next, width, last, steps);
+        let next = rows(alloc, part, truth, spare, shape, steps)?;
+        merge(&mut table, &next, shape, steps);
     }
     Ok(table)
 }
@@ -367,40 +335,33 @@ pub(crate) fn rows(
     pat: &Pat,
     truth: &Truth,
     spare: &mut [u64],
-    width: usize,
+    shape: Shape,
     steps: &mut u64,
 ) -> Result<Vec<u64>, AllocError>
     requires proper { IsProper truth.now.exprs (tree pat.now) }
-    requires wide { truth.now.words / 64 < width }
-    requires narrow { width ≤ 16 }
-    requires spare { length spare.old ≡ width }
-    requires small { truth.now.words ≤ 1000 }
+    requires words { shape.last ≡ truth.now.words }
+    requires spare { length spare.old ≡ shape.width }
     requires countable { steps.old + weight_of (tree pat.now) * triangle (truth.now.words + 1) < 2 ^ 64 }
-    ensures whole { IfOk result (λ v. length v.items ≡ (truth.now.words + 1) * width) }
+    ensures whole { IfOk result (λ v. length v.items ≡ (truth.now.words + 1) * shape.width) }
     ensures rows { IfOk result (λ v. (i j : ℕ) → i ≤ truth.now.words → j ≤ truth.now.words →
-        (InTable v.items width i j ↔ Match (Holds truth.now) (tree pat.now) i j)) }
+        (InTable v.items shape.width i j ↔ Match (Holds truth.now) (tree pat.now) i j)) }
     ensures more { steps.old ≤ steps.new }
     ensures bound { steps.new ≤ steps.old + weight_of (tree pat.now) * triangle (truth.now.words + 1) }
 {
     if let Some(expr) = optional_token_of(pat) {
-        return optional_token_rows(alloc, expr, truth, width);
+        return optional_token_rows(alloc, expr, truth, shape);
     }
     match pat {
-        Pat::Tok(expr) => token_rows(alloc, *expr, truth, width),
-        Pat::Cat(parts) => sequence(alloc, parts, truth, spare, width, steps),
-        Pat::Alt(parts) => choice(alloc, parts, truth, spare, width, steps),
+        Pat::Tok(expr) => token_rows(alloc, *expr, truth, shape),
+        Pat::Cat(parts) => sequence(alloc, parts, truth, spare, shape, steps),
+        Pat::Alt(parts) => choice(alloc, parts, truth, spare, shape, steps),
         Pat::Rep(inner, least, most) => {
-            let links = rows(alloc, inner, truth, spare, width, steps)?;
-            repetition(
-                alloc,
-                links,
-                *least,
-                *most,
-                spare,
-                width,
-                truth.words(),
-                steps,
-            )
+            let links = rows(alloc, inner, truth, spare, shape, steps)?;
+            let bounds = Bounds {
+                least: *least,
+                most: *most,
+            };
+            repetition(alloc, links, bounds, spare, shape, steps)
         }
     }
 }

@@ -1,16 +1,19 @@
 //! Parts of a pattern that are one word, an optional word or a run of words: no table of their own
 //! is made for them, the places of a row step over the words.
 
-ghost use Rattle.std.specs.Prelude.{◌≡◌, ◌+◌, ◌*◌, ◌/◌, ◌<◌, ◌≤◌, ◌↔◌, ◌⊎◌, ◌≢◌, ℕ, IsTrue, IfOk, length, Some, None};
+ghost use Rattle.std.specs.Prelude.{◌≡◌, ◌+◌, ◌*◌, ◌<◌, ◌≤◌, ◌↔◌, ◌⊎◌, ◌≢◌, ℕ, IsTrue, IfOk, length, Some, None};
 ghost use Rattle.tb_match.specs.Bits.{InTable};
 ghost use Rattle.tb_match.specs.Facts.{Facts, Holds};
 ghost use Rattle.tb_match.specs.Hits.{IsWord};
 ghost use Rattle.tb_match.specs.Match.{Chain, Match};
+ghost use Rattle.tb_match.specs.Stays.{MayStay};
 ghost use Rattle.tb_match.specs.Trees.{tree};
 ghost use Rattle.tb_match.specs.Weight.{IsProper};
 
 use crate::narrow::{ends_of, run_words, step_words};
 use crate::pattern::Pat;
+use crate::shape::Shape;
+use crate::stay::Stay;
 use crate::table::{diagonal, empty, mark};
 use crate::truth::Truth;
 use crate::walk::next_place;
@@ -105,7 +108,7 @@ pub(crate) fn short_run_of(pat: &Pat, truth: &Truth) -> Option<u16>
     }
 }
 
-/// Puts into the row the place, where `keep` says so, and the next one, where the expression holds
+/// Puts into the row the place, where a step may stay, and the next one, where the expression holds
 /// of the word between them.
 #[inline(always)]
 fn mark_step(
@@ -114,22 +117,24 @@ fn mark_step(
     place: usize,
     expr: u16,
     truth: &Truth,
-    width: usize,
-    keep: bool,
+    shape: Shape,
+    stay: Stay,
 )
     requires expr { expr < truth.now.exprs }
-    requires wide { truth.now.words / 64 < width }
-    requires row { row * width + width ≤ length table.old }
+    requires words { shape.last ≡ truth.now.words }
+    requires table { length table.old ≡ (shape.last + 1) * shape.width }
+    requires row { row ≤ shape.last }
     requires place { place ≤ truth.now.words }
     ensures marked { (i j : ℕ) → j ≤ truth.now.words →
-        (InTable table.new width i j ↔ (InTable table.old width i j ⊎
-        ((i ≡ row) × ((IsTrue keep × (j ≡ place)) ⊎ IsWord truth.now expr place j)))) }
+        (InTable table.new shape.width i j ↔ (InTable table.old shape.width i j ⊎
+        ((i ≡ row) × ((MayStay stay × (j ≡ place)) ⊎ IsWord truth.now expr place j)))) }
 {
-    if keep {
-        mark(table, width, row, place);
+    match stay {
+        Stay::Allowed => mark(table, shape, row, place),
+        Stay::Barred => {}
     }
     if place < truth.words() && truth.get(expr, place + 1) {
-        mark(table, width, row, place + 1);
+        mark(table, shape, row, place + 1);
     }
 }
 
@@ -138,28 +143,26 @@ pub(crate) fn optional_token_rows(
     alloc: Global,
     expr: u16,
     truth: &Truth,
-    width: usize,
+    shape: Shape,
 ) -> Result<Vec<u64>, AllocError>
     requires expr { expr < truth.now.exprs }
-    requires wide { truth.now.words / 64 < width }
-    requires narrow { width ≤ 16 }
-    ensures whole { IfOk result (λ v. length v.items ≡ (truth.now.words + 1) * width) }
+    requires words { shape.last ≡ truth.now.words }
+    ensures whole { IfOk result (λ v. length v.items ≡ (truth.now.words + 1) * shape.width) }
     ensures rows { IfOk result (λ v. (i j : ℕ) → i ≤ truth.now.words → j ≤ truth.now.words →
-        (InTable v.items width i j ↔ ((j ≡ i) ⊎ IsWord truth.now expr i j))) }
+        (InTable v.items shape.width i j ↔ ((j ≡ i) ⊎ IsWord truth.now expr i j))) }
 {
-    let last = truth.words();
-    if width == 1 {
-        let places = diagonal(alloc, width, last)?;
-        return step_over(alloc, places, expr, truth, width, true);
+    if shape.width == 1 {
+        let places = diagonal(alloc, shape)?;
+        return step_over(alloc, places, expr, truth, shape, Stay::Allowed);
     }
-    let mut table = empty(alloc, width, last)?;
-    for place in 0..last + 1 {
-        mark_step(&mut table, place, place, expr, truth, width, true);
+    let mut table = empty(alloc, shape)?;
+    for place in 0..shape.last + 1 {
+        mark_step(&mut table, place, place, expr, truth, shape, Stay::Allowed);
     }
     Ok(table)
 }
 
-/// Puts into the row of `next` the places of the row of `table`, where `keep` says so, and those
+/// Puts into the row of `next` the places of the row of `table`, where a step may stay, and those
 /// one word further on.
 #[inline(always)]
 fn step_row(
@@ -168,132 +171,123 @@ fn step_row(
     row: usize,
     expr: u16,
     truth: &Truth,
-    width: usize,
-    last: usize,
-    keep: bool,
+    shape: Shape,
+    stay: Stay,
 )
     requires expr { expr < truth.now.exprs }
-    requires last { last ≡ truth.now.words }
-    requires small { last ≤ 1000 }
-    requires wide { truth.now.words / 64 < width }
-    requires table { length table.now ≡ (truth.now.words + 1) * width }
-    requires next { length next.old ≡ (truth.now.words + 1) * width }
+    requires words { shape.last ≡ truth.now.words }
+    requires table { length table.now ≡ (truth.now.words + 1) * shape.width }
+    requires next { length next.old ≡ (truth.now.words + 1) * shape.width }
     requires row { row ≤ truth.now.words }
     ensures stepped { (i j : ℕ) → j ≤ truth.now.words →
-        (InTable next.new width i j ↔ (InTable next.old width i j ⊎
-        ((i ≡ row) × ((k : ℕ) × (k < truth.now.words + 1) × InTable table.now width row k ×
-        ((IsTrue keep × (j ≡ k)) ⊎ IsWord truth.now expr k j))))) }
+        (InTable next.new shape.width i j ↔ (InTable next.old shape.width i j ⊎
+        ((i ≡ row) × ((k : ℕ) × (k < truth.now.words + 1) × InTable table.now shape.width row k ×
+        ((MayStay stay × (j ≡ k)) ⊎ IsWord truth.now expr k j))))) }
 {
-    let from = row * width;
-    let mut place = next_place(table, from, 0, last);
-    while place <= last {
-        mark_step(next, row, place, expr, truth, width, keep);
-        place = next_place(table, from, place + 1, last);
+    let from = row * shape.width;
+    let mut place = next_place(table, from, 0, shape.last);
+    while place <= shape.last {
+        mark_step(next, row, place, expr, truth, shape, stay);
+        place = next_place(table, from, place + 1, shape.last);
     }
 }
 
 /// The rows of the table followed by one word of which the expression holds, walked place by place;
-/// also those of the table itself where `keep` says so.
+/// also those of the table itself where a step may stay.
 fn walk_over(
     alloc: Global,
     table: &[u64],
     expr: u16,
     truth: &Truth,
-    width: usize,
-    keep: bool,
+    shape: Shape,
+    stay: Stay,
 ) -> Result<Vec<u64>, AllocError>
     requires expr { expr < truth.now.exprs }
-    requires wide { truth.now.words / 64 < width }
-    requires narrow { width ≤ 16 }
-    requires table { length table.now ≡ (truth.now.words + 1) * width }
-    ensures whole { IfOk result (λ v. length v.items ≡ (truth.now.words + 1) * width) }
+    requires words { shape.last ≡ truth.now.words }
+    requires table { length table.now ≡ (truth.now.words + 1) * shape.width }
+    ensures whole { IfOk result (λ v. length v.items ≡ (truth.now.words + 1) * shape.width) }
     ensures rows { IfOk result (λ v. (i j : ℕ) → i ≤ truth.now.words → j ≤ truth.now.words →
-        (InTable v.items width i j ↔ ((k : ℕ) × (k < truth.now.words + 1) × InTable table.now width i k ×
-        ((IsTrue keep × (j ≡ k)) ⊎ IsWord truth.now expr k j)))) }
+        (InTable v.items shape.width i j ↔ ((k : ℕ) × (k < truth.now.words + 1) × InTable table.now shape.width i k ×
+        ((MayStay stay × (j ≡ k)) ⊎ IsWord truth.now expr k j)))) }
 {
-    let last = truth.words();
-    let mut next = empty(alloc, width, last)?;
-    for row in 0..last + 1 {
-        step_row(table, &mut next, row, expr, truth, width, last, keep);
+    let mut next = empty(alloc, shape)?;
+    for row in 0..shape.last + 1 {
+        step_row(table, &mut next, row, expr, truth, shape, stay);
     }
     Ok(next)
 }
 
 /// The rows of the table followed by one word of which the expression holds; also those of the
-/// table itself where `keep` says so.
+/// table itself where a step may stay.
 pub(crate) fn step_over(
     alloc: Global,
     mut table: Vec<u64>,
     expr: u16,
     truth: &Truth,
-    width: usize,
-    keep: bool,
+    shape: Shape,
+    stay: Stay,
 ) -> Result<Vec<u64>, AllocError>
     requires expr { expr < truth.now.exprs }
-    requires wide { truth.now.words / 64 < width }
-    requires narrow { width ≤ 16 }
-    requires table { length table.items ≡ (truth.now.words + 1) * width }
-    ensures whole { IfOk result (λ v. length v.items ≡ (truth.now.words + 1) * width) }
+    requires words { shape.last ≡ truth.now.words }
+    requires table { length table.items ≡ (truth.now.words + 1) * shape.width }
+    ensures whole { IfOk result (λ v. length v.items ≡ (truth.now.words + 1) * shape.width) }
     ensures rows { IfOk result (λ v. (i j : ℕ) → i ≤ truth.now.words → j ≤ truth.now.words →
-        (InTable v.items width i j ↔ ((k : ℕ) × (k < truth.now.words + 1) × InTable table.items width i k ×
-        ((IsTrue keep × (j ≡ k)) ⊎ IsWord truth.now expr k j)))) }
+        (InTable v.items shape.width i j ↔ ((k : ℕ) × (k < truth.now.words + 1) × InTable table.items shape.width i k ×
+        ((MayStay stay × (j ≡ k)) ⊎ IsWord truth.now expr k j)))) }
 {
-    if width == 1 {
-        step_words(&mut table, ends_of(expr, truth), keep);
+    if shape.width == 1 {
+        step_words(&mut table, ends_of(expr, truth), stay);
         return Ok(table);
     }
-    walk_over(alloc, &table, expr, truth, width, keep)
+    walk_over(alloc, &table, expr, truth, shape, stay)
 }
 
 /// Puts into the row each place that a run of words of which the expression holds leads to. A place
 /// that is put is walked over in its turn.
 #[inline(always)]
-fn run_row(table: &mut [u64], row: usize, expr: u16, truth: &Truth, width: usize, last: usize)
+fn run_row(table: &mut [u64], row: usize, expr: u16, truth: &Truth, shape: Shape)
     requires expr { expr < truth.now.exprs }
-    requires last { last ≡ truth.now.words }
-    requires small { last ≤ 1000 }
-    requires wide { truth.now.words / 64 < width }
-    requires table { length table.old ≡ (truth.now.words + 1) * width }
+    requires words { shape.last ≡ truth.now.words }
+    requires table { length table.old ≡ (truth.now.words + 1) * shape.width }
     requires row { row ≤ truth.now.words }
-    ensures row { (j : ℕ) → j ≤ truth.now.words → (InTable table.new width row j ↔
-        ((k : ℕ) × (k ≤ truth.now.words) × InTable table.old width row k × ((n : ℕ) × Chain (IsWord truth.now expr) n k j))) }
-    ensures others { (i j : ℕ) → i ≢ row → j ≤ truth.now.words → (InTable table.new width i j ↔ InTable table.old width i j) }
+    ensures row { (j : ℕ) → j ≤ truth.now.words → (InTable table.new shape.width row j ↔
+        ((k : ℕ) × (k ≤ truth.now.words) × InTable table.old shape.width row k × ((n : ℕ) × Chain (IsWord truth.now expr) n k j))) }
+    ensures others { (i j : ℕ) → i ≢ row → j ≤ truth.now.words → (InTable table.new shape.width i j ↔ InTable table.old shape.width i j) }
 {
-    let from = row * width;
-    let mut place = next_place(table, from, 0, last);
-    while place <= last {
-        mark_step(table, row, place, expr, truth, width, false);
-        place = next_place(table, from, place + 1, last);
+    let from = row * shape.width;
+    let mut place = next_place(table, from, 0, shape.last);
+    while place <= shape.last {
+        mark_step(table, row, place, expr, truth, shape, Stay::Barred);
+        place = next_place(table, from, place + 1, shape.last);
     }
 }
 
 /// Makes the table's relation its own followed by any number of words of which the expression
 /// holds, walked place by place.
-fn walk_on(table: &mut [u64], expr: u16, truth: &Truth, width: usize)
+fn walk_on(table: &mut [u64], expr: u16, truth: &Truth, shape: Shape)
     requires expr { expr < truth.now.exprs }
-    requires wide { truth.now.words / 64 < width }
-    requires table { length table.old ≡ (truth.now.words + 1) * width }
-    ensures rows { (i j : ℕ) → i ≤ truth.now.words → j ≤ truth.now.words → (InTable table.new width i j ↔
-        ((k : ℕ) × (k ≤ truth.now.words) × InTable table.old width i k × ((n : ℕ) × Chain (IsWord truth.now expr) n k j))) }
+    requires words { shape.last ≡ truth.now.words }
+    requires table { length table.old ≡ (truth.now.words + 1) * shape.width }
+    ensures rows { (i j : ℕ) → i ≤ truth.now.words → j ≤ truth.now.words → (InTable table.new shape.width i j ↔
+        ((k : ℕ) × (k ≤ truth.now.words) × InTable table.old shape.width i k × ((n : ℕ) × Chain (IsWord truth.now expr) n k j))) }
 {
-    let last = truth.words();
-    for row in 0..last + 1 {
-        run_row(table, row, expr, truth, width, last);
+    for row in 0..shape.last + 1 {
+        run_row(table, row, expr, truth, shape);
     }
 }
 
 /// Makes the table's relation its own followed by any number of words of which the expression
 /// holds.
-pub(crate) fn run_on(table: &mut [u64], expr: u16, truth: &Truth, width: usize)
+pub(crate) fn run_on(table: &mut [u64], expr: u16, truth: &Truth, shape: Shape)
     requires expr { expr < truth.now.exprs }
-    requires wide { truth.now.words / 64 < width }
-    requires table { length table.old ≡ (truth.now.words + 1) * width }
-    ensures rows { (i j : ℕ) → i ≤ truth.now.words → j ≤ truth.now.words → (InTable table.new width i j ↔
-        ((k : ℕ) × (k ≤ truth.now.words) × InTable table.old width i k × ((n : ℕ) × Chain (IsWord truth.now expr) n k j))) }
+    requires words { shape.last ≡ truth.now.words }
+    requires table { length table.old ≡ (truth.now.words + 1) * shape.width }
+    ensures rows { (i j : ℕ) → i ≤ truth.now.words → j ≤ truth.now.words → (InTable table.new shape.width i j ↔
+        ((k : ℕ) × (k ≤ truth.now.words) × InTable table.old shape.width i k × ((n : ℕ) × Chain (IsWord truth.now expr) n k j))) }
 {
-    if width == 1 {
+    if shape.width == 1 {
         run_words(table, ends_of(expr, truth));
     } else {
-        walk_on(table, expr, truth, width);
+        walk_on(table, expr, truth, shape);
     }
 }

@@ -7,18 +7,18 @@ use Rattle.tb_match.proofs.bounded.follow.Goals as goal
 pub loop-place-preserved : goal.loop-place-preserved
 loop-place-preserved c =
     let L = c.args.links.now in
-    let w = c.args.width in
+    let w = c.args.shape.width in
     let place = c.loop-place.place in
     let row = c.loop-place.row in
     let row' = c.unite.new.to in
     let inv = c.loop-place.invariant in
     let after = c.next_unknown-place-in-loop-place.ensures in
-    let below : place < c.args.last + 1 = omega arith in
+    let below : place < c.args.shape.last + 1 = omega arith in
     let on = after.order (omega arith) in
     let limit = after.limit in
-    let united : (j : ℕ) → j ≤ c.args.last → InRow row' 0 j ↔ (InRow row 0 j ⊎ InTable L w place j) = λ j h.
-    united_row row row' L w place j _ inv.wide (row_size place w) (word_of j c.args.last w h c.requires.wide)
-    (omega (arith, row_room place c.args.last w below)) c.unite.ensures.words in
+    let united : (j : ℕ) → j ≤ c.args.shape.last → InRow row' 0 j ↔ (InRow row 0 j ⊎ InTable L w place j) = λ j h.
+    united_row row row' L w place j _ inv.wide (row_size place w) (word_of j c.args.shape.last w h c.args.shape.wide)
+    (omega (arith, row_room place c.args.shape.last w below)) (rw c.row.ensures.words at c.unite.ensures.words) in
     record {
       from = omega arith;
       upto = limit;

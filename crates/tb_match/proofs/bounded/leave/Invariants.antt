@@ -5,6 +5,6 @@ use Rattle.tb_match.proofs.bounded.leave.Given as goal
 abbrev pub invariant-loop-place : goal.invariant-loop-place
 invariant-loop-place l = record {
   whole : length l.table ≡ length l.initial.table;
-  rows : (i j : ℕ) → i < l.place → j ≤ l.last → (InTable l.table l.width i j ↔ (InTable l.initial.table l.width i j × ((j ≢ i) ⊎ InTable l.links l.width i i)));
-  rest : (i j : ℕ) → l.place ≤ i → j ≤ l.last → (InTable l.table l.width i j ↔ InTable l.initial.table l.width i j);
+  rows : (i j : ℕ) → i < l.place → j ≤ l.shape.last → (InTable l.table l.shape.width i j ↔ (InTable l.initial.table l.shape.width i j × ((j ≢ i) ⊎ InTable l.links l.shape.width i i)));
+  rest : (i j : ℕ) → l.place ≤ i → j ≤ l.shape.last → (InTable l.table l.shape.width i j ↔ InTable l.initial.table l.shape.width i j);
 }

@@ -7,7 +7,7 @@ use Rattle.tb_match.proofs.bounded.limit_places.Goals as goal
 pub limit_place-same-requires-clause-countable : goal.limit_place-same-requires-clause-countable
 limit_place-same-requires-clause-countable c =
     let place = c.loop-place.place in
-    let step = turns_step c.args.times (c.args.last + 1 - place) (c.args.last + 1 - (place + 1)) (omega arith) in
+    let step = turns_step c.args.times (c.args.shape.last + 1 - place) (c.args.shape.last + 1 - (place + 1)) (omega arith) in
     omega (arith, step)
 
 pub limit_place-same-requires-clause-closed : goal.limit_place-same-requires-clause-closed
@@ -20,9 +20,9 @@ pub loop-place-preserved : goal.loop-place-preserved
 loop-place-preserved c =
     let inv = c.loop-place.invariant in
     let place = c.loop-place.place in
-    let w = c.args.width in
+    let w = c.args.shape.width in
     let done = c.limit_place-same.ensures in
-    let step = turns_step c.args.times (c.args.last + 1 - place) (c.args.last + 1 - (place + 1)) (omega arith) in
+    let step = turns_step c.args.times (c.args.shape.last + 1 - place) (c.args.shape.last + 1 - (place + 1)) (omega arith) in
     record {
       spare = omega arith;
       before = omega arith;
@@ -35,7 +35,7 @@ loop-place-preserved c =
           (λ p. r.0 (o.0 p), λ p. o.1 (r.1 p)))
           (λ (ge : place ≤ i).
           let e : i ≡ place = omega arith in
-          subst (λ x. InTable c.limit_place-same.new.table w x j ↔ Within c.args.links.now w c.args.last c.args.times x j) (sym e) (done.row j h))
+          subst (λ x. InTable c.limit_place-same.new.table w x j ↔ Within c.args.links.now w c.args.shape.last c.args.times x j) (sym e) (done.row j h))
           (cases_lt i place);
       rest = λ i j from h.
           let o = done.others i j (λ e. omega arith) h in

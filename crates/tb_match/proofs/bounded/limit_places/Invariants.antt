@@ -4,13 +4,13 @@ use Rattle.tb_match.proofs.bounded.limit_places.Given as goal
 
 abbrev pub invariant-loop-place : goal.invariant-loop-place
 invariant-loop-place l = record {
-  spare : length l.spare ≡ l.width;
-  before : length l.before ≡ l.width;
-  done : length l.done ≡ l.width;
+  spare : length l.spare ≡ l.shape.width;
+  before : length l.before ≡ l.shape.width;
+  done : length l.done ≡ l.shape.width;
   whole : length l.table ≡ length l.initial.table;
-  rows : (i j : ℕ) → i < l.place → j ≤ l.last → (InTable l.table l.width i j ↔ Within l.links l.width l.last l.times i j);
-  rest : (i j : ℕ) → l.place ≤ i → j ≤ l.last → (InTable l.table l.width i j ↔ InTable l.initial.table l.width i j);
-  same : IsTrue l.same → (i j : ℕ) → i < l.place → j ≤ l.last → (InTable l.table l.width i j ↔ InTable l.initial.table l.width i j);
+  rows : (i j : ℕ) → i < l.place → j ≤ l.shape.last → (InTable l.table l.shape.width i j ↔ Within l.links l.shape.width l.shape.last l.times i j);
+  rest : (i j : ℕ) → l.place ≤ i → j ≤ l.shape.last → (InTable l.table l.shape.width i j ↔ InTable l.initial.table l.shape.width i j);
+  same : IsTrue l.same → (i j : ℕ) → i < l.place → j ≤ l.shape.last → (InTable l.table l.shape.width i j ↔ InTable l.initial.table l.shape.width i j);
   more : l.initial.steps ≤ l.steps;
-  bound : l.steps + l.times * triangle (l.last + 1 - l.place) ≤ l.initial.steps + l.times * triangle (l.last + 1);
+  bound : l.steps + l.times * triangle (l.shape.last + 1 - l.place) ≤ l.initial.steps + l.times * triangle (l.shape.last + 1);
 }

@@ -10,8 +10,8 @@ returns-then-left-eq0-clause-rows c = λ i j p q.
     let L = c.args.links.now in
     let L' = c.square.new.links in
     let T = c.args.table.now in
-    let w = c.args.width in
-    let last = c.args.last in
+    let w = c.args.shape.width in
+    let last = c.args.shape.last in
     let half = c.args.left / 2 in
     let e : c.args.left ≡ half + half = omega (arith, c.if-left-eq0.true, div-add-mod' c.args.left 2) in
     subst (λ n. Repeated L' T w last half i j ↔ Repeated L T w last n i j) (sym e)
@@ -19,15 +19,15 @@ returns-then-left-eq0-clause-rows c = λ i j p q.
 
 pub returns-then-left-eq0-clause-linked : goal.returns-then-left-eq0-clause-linked
 returns-then-left-eq0-clause-linked c = λ is.
-    linked_doubled c.args.links.now c.square.new.links c.args.width c.args.last c.requires.onward c.square.ensures.rows c.args.table.now (c.requires.linked is)
+    linked_doubled c.args.links.now c.square.new.links c.args.shape.width c.args.shape.last c.requires.onward c.square.ensures.rows c.args.table.now (c.requires.linked is)
 
 pub returns-then-left-eq0-clause-onward : goal.returns-then-left-eq0-clause-onward
 returns-then-left-eq0-clause-onward c =
-    onward_doubled c.args.links.now c.square.new.links c.args.width c.args.last c.requires.onward c.square.ensures.rows
+    onward_doubled c.args.links.now c.square.new.links c.args.shape.width c.args.shape.last c.requires.onward c.square.ensures.rows
 
 pub returns-then-left-eq0-clause-chained : goal.returns-then-left-eq0-clause-chained
 returns-then-left-eq0-clause-chained c = λ two is.
-    closed_doubled c.args.links.now c.square.new.links c.args.width c.args.last (c.requires.chained two is) c.square.ensures.rows
+    closed_doubled c.args.links.now c.square.new.links c.args.shape.width c.args.shape.last (c.requires.chained two is) c.square.ensures.rows
 
 pub returns-then-left-eq0-clause-bound : goal.returns-then-left-eq0-clause-bound
 returns-then-left-eq0-clause-bound c =
@@ -39,20 +39,20 @@ returns-clause-rows c = λ i j p q.
     let L = c.args.links.now in
     let T = c.args.table.now in
     let T' = c.compose.new.table in
-    let w = c.args.width in
-    let last = c.args.last in
+    let w = c.args.shape.width in
+    let last = c.args.shape.last in
     let e : suc (c.args.left - 1) ≡ c.args.left = omega arith in
     subst (λ n. Repeated L T' w last (c.args.left - 1) i j ↔ Repeated L T w last n i j) e
     (turn_taken L T T' w last c.compose.ensures.rows (c.args.left - 1) i j p q)
 
 pub returns-clause-closed : goal.returns-clause-closed
 returns-clause-closed c = λ is.
-    closed_before c.args.links.now c.args.table.now c.compose.new.table c.args.width c.args.last (c.requires.linked is) c.compose.ensures.rows (c.requires.closed is)
+    closed_before c.args.links.now c.args.table.now c.compose.new.table c.args.shape.width c.args.shape.last (c.requires.linked is) c.compose.ensures.rows (c.requires.closed is)
 
 pub returns-clause-linked : goal.returns-clause-linked
 returns-clause-linked c = λ is.
-    linked_before c.args.links.now c.args.table.now c.compose.new.table c.args.width c.args.last (c.requires.linked is) c.compose.ensures.rows
+    linked_before c.args.links.now c.args.table.now c.compose.new.table c.args.shape.width c.args.shape.last (c.requires.linked is) c.compose.ensures.rows
 
 pub returns-clause-forward : goal.returns-clause-forward
 returns-clause-forward c = λ is.
-    forward_before c.args.links.now c.args.table.now c.compose.new.table c.args.width c.args.last (c.requires.linked is) c.compose.ensures.rows (c.requires.forward is)
+    forward_before c.args.links.now c.args.table.now c.compose.new.table c.args.shape.width c.args.shape.last (c.requires.linked is) c.compose.ensures.rows (c.requires.forward is)

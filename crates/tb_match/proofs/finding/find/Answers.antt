@@ -1,4 +1,4 @@
-use Rattle.std.proofs.Common.{◌≡◌, ◌+◌, ◌/◌, ◌≤◌, ◌↔◌, ℕ, arith, sym, subst}
+use Rattle.std.proofs.Common.{◌≡◌, ◌≤◌, ◌↔◌, ℕ, arith, sym, subst}
 use Rattle.tb_match.specs.Bits.{Forward, InTable}
 use Rattle.tb_match.specs.Hits.{AreHits, IsFound, IsWord}
 use Rattle.tb_match.specs.Match.{Match}
@@ -16,9 +16,9 @@ pub returns-clause-hits : goal.returns-clause-hits
 returns-clause-hits c =
     let truth = c.args.truth.now in
     let pat = tree c.args.pat.now in
-    let last = c.words-last.result in
-    let w = last / 64 + 1 in
-    let count : last ≡ truth.words = c.words-last.ensures.count in
+    let last = c.of_words-shape.result.last in
+    let w = c.of_words-shape.result.width in
+    let count : last ≡ truth.words = omega (arith, c.of_words-shape.ensures, c.words.ensures.count) in
     let rows : (i j : ℕ) → i ≤ truth.words → j ≤ truth.words → InTable c.deref.result.now w i j ↔ Match (Holds truth) pat i j =
     λ i j p q. subst (λ xs. InTable xs w i j ↔ Match (Holds truth) pat i j) (sym c.deref.ensures.value) (c.in_ok-table.ensures.rows i j p q) in
     AreHits-same c.args.strategy (Forward c.deref.result.now w last) (IsFound truth pat)

@@ -8,7 +8,7 @@ push_pairs-requires-clause-earlier c = λ i j h. ((c.loop-place.invariant.pairs 
 
 pub loop-place-preserved : goal.loop-place-preserved
 loop-place-preserved c =
-    let R = Forward c.args.table.now c.args.width c.args.last in
+    let R = Forward c.args.table.now c.args.shape.width c.args.shape.last in
     record {
       ascending = c.in_ok-push_pairs.ensures.ascending;
       pairs = every_more R c.loop-place.place c.loop-place.hits.items c.push_pairs.new.hits.items c.loop-place.invariant.pairs c.in_ok-push_pairs.ensures.pairs;
@@ -20,6 +20,6 @@ returns c =
       inv.ascending,
       λ i j. (
         λ h. ((inv.pairs i j).0 h).1,
-        λ r. let a : i < j = r.0 in let b : j ≤ c.args.last = r.1 in (inv.pairs i j).1 (omega arith, r),
+        λ r. let a : i < j = r.0 in let b : j ≤ c.args.shape.last = r.1 in (inv.pairs i j).1 (omega arith, r),
       ),
     )

@@ -7,5 +7,5 @@ use Rattle.tb_match.proofs.hits.every.Given as goal
 abbrev pub invariant-loop-place : goal.invariant-loop-place
 invariant-loop-place l = record {
   ascending : AllPairs ComesBefore l.hits.items;
-  pairs : (i j : ℕ) → (Contains l.hits.items (i, j) ↔ ((i < l.place) × Forward l.table l.width l.last i j));
+  pairs : (i j : ℕ) → (Contains l.hits.items (i, j) ↔ ((i < l.place) × Forward l.table l.shape.width l.shape.last i j));
 }

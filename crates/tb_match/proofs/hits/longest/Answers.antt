@@ -9,13 +9,13 @@ use Rattle.tb_match.proofs.hits.longest.Goals.{then-reached-end+in_ok-push, else
 
 pub loop-place-preserved : goal.loop-place-preserved
 loop-place-preserved c =
-    let R = Forward c.args.table.now c.args.width c.args.last in
+    let R = Forward c.args.table.now c.args.shape.width c.args.shape.last in
     let place = c.loop-place.place in
     let end = c.furthest_end-end.result in
     let reached = c.loop-place.reached in
     let xs = c.loop-place.hits.items in
     let inv = c.loop-place.invariant in
-    let forward : (i j : ℕ) → Forward c.args.table.now c.args.width c.args.last i j → i < j = λ i j r. r.0 in
+    let forward : (i j : ℕ) → Forward c.args.table.now c.args.shape.width c.args.shape.last i j → i < j = λ i j r. r.0 in
     let far = c.furthest_end-end.ensures.greatest in
     elim c.if-reached-end.branch [
       | then-reached-end+in_ok-push w ↦
@@ -47,6 +47,6 @@ returns c =
       inv.ascending,
       λ i j. (
         λ h. ((inv.hits i j).0 h).1,
-        λ hit. let a : i < j = hit.0.0 in let b : j ≤ c.args.last = hit.0.1 in (inv.hits i j).1 (omega arith, hit),
+        λ hit. let a : i < j = hit.0.0 in let b : j ≤ c.args.shape.last = hit.0.1 in (inv.hits i j).1 (omega arith, hit),
       ),
     )

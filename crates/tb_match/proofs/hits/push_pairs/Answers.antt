@@ -7,7 +7,7 @@ use Rattle.tb_match.proofs.hits.push_pairs.Goals as goal
 
 pub loop-end-preserved : goal.loop-end-preserved
 loop-end-preserved c =
-    let R = Forward c.args.table.now c.args.width c.args.last in
+    let R = Forward c.args.table.now c.args.shape.width c.args.shape.last in
     let place = c.args.place in
     let end = c.loop-end.end in
     let old = c.args.hits.now.items in
@@ -15,7 +15,7 @@ loop-end-preserved c =
     let inv = c.loop-end.invariant in
     let after = c.next_place-end-in-loop-end.ensures in
     let next = c.next_place-end-in-loop-end.result in
-    let inside : end ≤ c.args.last = c.loop-end-test.true in
+    let inside : end ≤ c.args.shape.last = c.loop-end-test.true in
     let there : R place end = inv.next inside in
     let on = after.order (omega arith) in
     let made : c.push.new.self.items ≡ xs ++ (place, end) ∷ [] = c.in_ok-push.ensures.items in
@@ -33,5 +33,5 @@ returns-clause-pairs c = λ i j.
     let inv = c.loop-end.invariant in
     let over = c.loop-end-test.false in (
       λ h. ⊎_elim (λ o. inl o) (λ (e, lt, r). inr (e, r)) ((inv.pairs i j).0 h),
-      λ h. (inv.pairs i j).1 (⊎_elim (λ o. inl o) (λ (e, r). let le : j ≤ c.args.last = r.1 in inr (e, omega arith, r)) h),
+      λ h. (inv.pairs i j).1 (⊎_elim (λ o. inl o) (λ (e, r). let le : j ≤ c.args.shape.last = r.1 in inr (e, omega arith, r)) h),
     )

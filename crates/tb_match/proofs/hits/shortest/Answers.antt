@@ -9,16 +9,16 @@ use Rattle.tb_match.proofs.hits.shortest.Goals as goal
 
 pub loop-place-preserved-then-end-soonest : goal.loop-place-preserved-then-end-soonest
 loop-place-preserved-then-end-soonest c =
-    let R = Forward c.args.table.now c.args.width c.args.last in
-    let last = c.args.last in
+    let R = Forward c.args.table.now c.args.shape.width c.args.shape.last in
+    let last = c.args.shape.last in
     let place = c.loop-place.place - 1 in
     let end = c.least_end-end.result in
     let soonest = c.loop-place.soonest in
     let xs = reverse c.loop-place.hits.items in
     let inv = c.loop-place.invariant in
-    let inside : (i j : ℕ) → Forward c.args.table.now c.args.width c.args.last i j → j ≤ c.args.last = λ i j r. r.1 in
-    let ends : (k j : ℕ) → place < k → Forward c.args.table.now c.args.width c.args.last k j → soonest ≤ j = λ k j lt r. inv.ends k j (omega arith) r in
-    let from : (last < soonest) ⊎ ((k : ℕ) × (place < k) × Forward c.args.table.now c.args.width c.args.last k soonest) =
+    let inside : (i j : ℕ) → Forward c.args.table.now c.args.shape.width c.args.shape.last i j → j ≤ c.args.shape.last = λ i j r. r.1 in
+    let ends : (k j : ℕ) → place < k → Forward c.args.table.now c.args.shape.width c.args.shape.last k j → soonest ≤ j = λ k j lt r. inv.ends k j (omega arith) r in
+    let from : (last < soonest) ⊎ ((k : ℕ) × (place < k) × Forward c.args.table.now c.args.shape.width c.args.shape.last k soonest) =
     ⊎_elim (λ e. inl e) (λ (k, le, r). inr (k, omega arith, r)) inv.from in
     let hits : (i j : ℕ) → Contains xs (i, j) ↔ ((place < i) × IsHit Shortest R i j) =
     λ i j. (λ h. let r = (inv.hits i j).0 h in let le : c.loop-place.place ≤ i = r.0 in (omega arith, r.1), λ (lt, hit). (inv.hits i j).1 (omega arith, hit)) in
@@ -37,16 +37,16 @@ loop-place-preserved-then-end-soonest c =
 
 pub loop-place-preserved : goal.loop-place-preserved
 loop-place-preserved c =
-    let R = Forward c.args.table.now c.args.width c.args.last in
-    let last = c.args.last in
+    let R = Forward c.args.table.now c.args.shape.width c.args.shape.last in
+    let last = c.args.shape.last in
     let place = c.loop-place.place - 1 in
     let end = c.least_end-end.result in
     let soonest = c.loop-place.soonest in
     let xs = reverse c.loop-place.hits.items in
     let inv = c.loop-place.invariant in
-    let inside : (i j : ℕ) → Forward c.args.table.now c.args.width c.args.last i j → j ≤ c.args.last = λ i j r. r.1 in
-    let ends : (k j : ℕ) → place < k → Forward c.args.table.now c.args.width c.args.last k j → soonest ≤ j = λ k j lt r. inv.ends k j (omega arith) r in
-    let from : (last < soonest) ⊎ ((k : ℕ) × (place < k) × Forward c.args.table.now c.args.width c.args.last k soonest) =
+    let inside : (i j : ℕ) → Forward c.args.table.now c.args.shape.width c.args.shape.last i j → j ≤ c.args.shape.last = λ i j r. r.1 in
+    let ends : (k j : ℕ) → place < k → Forward c.args.table.now c.args.shape.width c.args.shape.last k j → soonest ≤ j = λ k j lt r. inv.ends k j (omega arith) r in
+    let from : (last < soonest) ⊎ ((k : ℕ) × (place < k) × Forward c.args.table.now c.args.shape.width c.args.shape.last k soonest) =
     ⊎_elim (λ e. inl e) (λ (k, le, r). inr (k, omega arith, r)) inv.from in
     let hits : (i j : ℕ) → Contains xs (i, j) ↔ ((place < i) × IsHit Shortest R i j) =
     λ i j. (λ h. let r = (inv.hits i j).0 h in let le : c.loop-place.place ≤ i = r.0 in (omega arith, r.1), λ (lt, hit). (inv.hits i j).1 (omega arith, hit)) in
@@ -66,6 +66,6 @@ returns c =
     let inv = c.loop-place.invariant in
     let turned : c.reverse.new.self.items ≡ reverse c.loop-place.hits.items = c.reverse.ensures.items in (
       subst (AllPairs ComesBefore) (sym turned) inv.ascending,
-      λ i j. subst (λ ys. Contains ys (i, j) ↔ IsHit Shortest (Forward c.args.table.now c.args.width c.args.last) i j) (sym turned)
+      λ i j. subst (λ ys. Contains ys (i, j) ↔ IsHit Shortest (Forward c.args.table.now c.args.shape.width c.args.shape.last) i j) (sym turned)
           (λ h. ((inv.hits i j).0 h).1, λ hit. (inv.hits i j).1 (omega arith, hit)),
     )

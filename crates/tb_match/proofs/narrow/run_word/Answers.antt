@@ -1,4 +1,4 @@
-use Rattle.std.proofs.Common.{◌≡◌, arith, ⊎_elim, inl, inr, refl, subst}
+use Rattle.std.proofs.Common.{◌≡◌, arith, ⊎_elim, inl, inr, subst}
 use Rattle.std.specs.Int.{bit_at}
 use Rattle.tb_match.proofs.Masks.{reach_more, reach_all, row_place}
 use Rattle.tb_match.proofs.narrow.run_word.Goals as goal
@@ -14,9 +14,9 @@ loop-next-preserved c =
       sound = λ j h p. reach_more row c.loop-next.all ends j inv.sound h ((inv.longer j h).0 p);
       longer = λ j h. (
         λ p. ⊎_elim (λ a. inl a.1) (λ b. inr b) ((after.places j h).0 p),
-        λ p. (after.places j h).1 (⊎_elim (λ a. inl (refl, a)) (λ b. inr b) p),
+        λ p. (after.places j h).1 (⊎_elim (λ a. inl (tt, a)) (λ b. inr b) p),
       );
-      grown = after.grows refl;
+      grown = after.grows tt;
     }
 
 pub returns : goal.returns

@@ -16,7 +16,7 @@ pub rows-returns-in-Cat-clause-rows : goal.rows-returns-in-Cat-clause-rows
 rows-returns-in-Cat-clause-rows t c =
     let shown = is_cat c.args.pat.now c.in-Cat.parts c.deref.result.now c.in-Cat.is c.deref.ensures.value in
     IfOk-weaker c.sequence.result _ _ (λ v h i j p q.
-    subst (λ x. InTable v.items c.args.width i j ↔ Match (Holds c.args.truth.now) x i j) (sym shown) (h i j p q))
+    subst (λ x. InTable v.items c.args.shape.width i j ↔ Match (Holds c.args.truth.now) x i j) (sym shown) (h i j p q))
     c.sequence.ensures.rows
 
 pub rows-returns-in-Cat-clause-bound : goal.rows-returns-in-Cat-clause-bound
@@ -34,16 +34,10 @@ rows-sequence-requires t c =
       (
         proper,
         (
-          c.requires.wide,
+          c.requires.words,
           (
-            c.requires.narrow,
-            (
-              c.requires.spare,
-              (
-                c.requires.small,
-                subst (λ n. c.args.steps.now + n * triangle (c.args.truth.now.words + 1) < 2 ^ 64) e c.requires.countable,
-              ),
-            ),
+            c.requires.spare,
+            subst (λ n. c.args.steps.now + n * triangle (c.args.truth.now.words + 1) < 2 ^ 64) e c.requires.countable,
           ),
         ),
       ),
@@ -59,16 +53,10 @@ rows-choice-requires t c =
       (
         proper,
         (
-          c.requires.wide,
+          c.requires.words,
           (
-            c.requires.narrow,
-            (
-              c.requires.spare,
-              (
-                c.requires.small,
-                subst (λ n. c.args.steps.now + n * triangle (c.args.truth.now.words + 1) < 2 ^ 64) e c.requires.countable,
-              ),
-            ),
+            c.requires.spare,
+            subst (λ n. c.args.steps.now + n * triangle (c.args.truth.now.words + 1) < 2 ^ 64) e c.requires.countable,
           ),
         ),
       ),
@@ -85,16 +73,10 @@ rows-rows-requires t c =
       (
         proper,
         (
-          c.requires.wide,
+          c.requires.words,
           (
-            c.requires.narrow,
-            (
-              c.requires.spare,
-              (
-                c.requires.small,
-                room_within (2 ^ 64) c.args.steps.now _ _ (triangle (c.args.truth.now.words + 1)) (weight_of (tree c.args.pat.now)) e c.requires.countable,
-              ),
-            ),
+            c.requires.spare,
+            room_within (2 ^ 64) c.args.steps.now _ _ (triangle (c.args.truth.now.words + 1)) (weight_of (tree c.args.pat.now)) e c.requires.countable,
           ),
         ),
       ),
@@ -105,8 +87,8 @@ choice-rows-requires t c =
     let ps = c.args.parts.now in
     let k = c.loop-part.part-index in
     let x = c.part-item.result in
-    let T = triangle (c.words-last.result + 1) in
-    let count : c.words-last.result ≡ c.args.truth.now.words = c.words-last.ensures.count in
+    let T = triangle (c.args.shape.last + 1) in
+    let count : c.args.shape.last ≡ c.args.truth.now.words = c.requires.words in
     let d : trees (drop k ps) ≡ and_more (tree x) (trees (drop (k + 1) ps)) = next_part ps k x c.loop-part-test.true c.part-item.is (λ qs. qs) in
     let e : weight_of_all (trees (drop k ps)) ≡ weight_of (tree x) + 1 + weight_of_all (trees (drop (k + 1) ps)) = ap weight_of_all d in
     let ahead = weight_ahead ps k in
@@ -118,16 +100,10 @@ choice-rows-requires t c =
       (
         (subst (AllProper c.args.truth.now.exprs) d c.loop-part.invariant.proper).0,
         (
-          c.requires.wide,
+          c.requires.words,
           (
-            c.requires.narrow,
-            (
-              c.loop-part.invariant.wide,
-              (
-                c.requires.small,
-                subst (λ n. c.loop-part.steps + weight_of (tree c.part-item.result) * triangle (n + 1) < 2 ^ 64) count enough,
-              ),
-            ),
+            c.loop-part.invariant.wide,
+            subst (λ n. c.loop-part.steps + weight_of (tree c.part-item.result) * triangle (n + 1) < 2 ^ 64) count enough,
           ),
         ),
       ),
@@ -137,16 +113,16 @@ pub rows-repetition-requires-clause-countable : goal.rows-repetition-requires-cl
 rows-repetition-requires-clause-countable t c =
     let shown = is_rep c.args.pat.now c.in-Rep.inner c.deref-in-Rep.result.now c.in-Rep.least c.in-Rep.most c.in-Rep.is c.deref-in-Rep.ensures in
     let e : weight_of (tree c.args.pat.now) ≡ weight_of (tree c.deref-in-Rep.result.now) + turns c.in-Rep.least c.in-Rep.most = ap weight_of shown in
-    subst (λ n. c.rows.new.steps + turns c.in-Rep.least c.in-Rep.most * triangle (n + 1) < 2 ^ 64) (sym c.words.ensures.count)
+    subst (λ n. c.rows.new.steps + turns c.in-Rep.least c.in-Rep.most * triangle (n + 1) < 2 ^ 64) (sym c.requires.words)
     (room_after (2 ^ 64) c.args.steps.now c.rows.new.steps _ _ (triangle (c.args.truth.now.words + 1)) (weight_of (tree c.args.pat.now)) e c.rows.ensures.bound c.requires.countable)
 
 pub rows-repetition-requires-clause-forward : goal.rows-repetition-requires-clause-forward
 rows-repetition-requires-clause-forward t c =
-    let last = c.words.result in
+    let last = c.args.shape.last in
     let H = Holds c.args.truth.now in
-    let w = c.args.width in
+    let w = c.args.shape.width in
     let links = c.in_ok-links-in-Rep.links.items in
-    let count : last ≡ c.args.truth.now.words = c.words.ensures.count in
+    let count : last ≡ c.args.truth.now.words = c.requires.words in
     let inside : (e v : ℕ) → Holds c.args.truth.now e v → v ≤ last = λ e v h. (let le : v ≤ c.args.truth.now.words = h.1 in omega arith) in
     let rows : (i j : ℕ) → i ≤ last → j ≤ last → InTable links w i j ↔ Match H (tree c.deref-in-Rep.result.now) i j =
     λ i j p q. c.in_ok-links-in-Rep.ensures.rows i j (omega arith) (omega arith) in
@@ -156,7 +132,7 @@ pub rows-returns-in-Alt-clause-rows : goal.rows-returns-in-Alt-clause-rows
 rows-returns-in-Alt-clause-rows t c =
     let shown = is_alt c.args.pat.now c.in-Alt.parts c.deref-in-Alt.result.now c.in-Alt.is c.deref-in-Alt.ensures.value in
     IfOk-weaker c.choice.result _ _ (λ v h i j p q.
-    subst (λ x. InTable v.items c.args.width i j ↔ Match (Holds c.args.truth.now) x i j) (sym shown) (h i j p q))
+    subst (λ x. InTable v.items c.args.shape.width i j ↔ Match (Holds c.args.truth.now) x i j) (sym shown) (h i j p q))
     c.choice.ensures.rows
 
 pub rows-returns-in-Alt-clause-bound : goal.rows-returns-in-Alt-clause-bound
@@ -168,35 +144,35 @@ pub rows-returns-in_ok-links-in-Rep-clause-rows : goal.rows-returns-in_ok-links-
 rows-returns-in_ok-links-in-Rep-clause-rows t c =
     let shown = is_rep c.args.pat.now c.in-Rep.inner c.deref-in-Rep.result.now c.in-Rep.least c.in-Rep.most c.in-Rep.is c.deref-in-Rep.ensures in
     IfOk-weaker c.repetition.result _ _ (λ v h i j p q.
-    subst (λ x. InTable v.items c.args.width i j ↔ Match (Holds c.args.truth.now) x i j) (sym shown)
-    (repetition_rows c.args.truth.now c.words.result c.args.width c.words.ensures.count c.in_ok-links-in-Rep.links.items v.items (tree c.deref-in-Rep.result.now) c.in-Rep.least c.in-Rep.most c.in_ok-links-in-Rep.ensures.rows h i j p q))
+    subst (λ x. InTable v.items c.args.shape.width i j ↔ Match (Holds c.args.truth.now) x i j) (sym shown)
+    (repetition_rows c.args.truth.now c.args.shape.last c.args.shape.width c.requires.words c.in_ok-links-in-Rep.links.items v.items (tree c.deref-in-Rep.result.now) c.in-Rep.least c.in-Rep.most c.in_ok-links-in-Rep.ensures.rows h i j p q))
     c.repetition.ensures.rows
 
 pub choice-merge-requires-clause-countable : goal.choice-merge-requires-clause-countable
 choice-merge-requires-clause-countable t c =
     let ps = c.args.parts.now in
     let x = c.part-item.result in
-    let T = triangle (c.words-last.result + 1) in
+    let T = triangle (c.args.shape.last + 1) in
     let e : weight_of_all (trees (drop c.loop-part.part-index ps)) ≡ weight_of (tree x) + 1 + weight_of_all (trees (drop (c.loop-part.part-index + 1) ps)) =
     next_part ps c.loop-part.part-index x c.loop-part-test.true c.part-item.is weight_of_all in
     let step : c.rows.new.steps ≤ c.loop-part.steps + weight_of (tree x) * T =
-    subst (λ n. c.rows.new.steps ≤ c.loop-part.steps + weight_of (tree c.part-item.result) * triangle (n + 1)) (sym c.words-last.ensures.count) c.rows.ensures.bound in
+    subst (λ n. c.rows.new.steps ≤ c.loop-part.steps + weight_of (tree c.part-item.result) * triangle (n + 1)) (sym c.requires.words) c.rows.ensures.bound in
     let room : c.args.steps.now + weight_of_all (trees ps) * T < 2 ^ 64 =
-    subst (λ n. c.args.steps.now + weight_of_all (trees c.args.parts.now) * triangle (n + 1) < 2 ^ 64) (sym c.words-last.ensures.count) c.requires.countable in
-    room_after_part (2 ^ 64) c.args.steps.now c.loop-part.steps c.rows.new.steps (weight_of (tree x)) _ T (weight_of_all (trees ps)) _ (c.words-last.result + 1)
-    e c.loop-part.invariant.bound step (le_triangle (c.words-last.result + 1)) room
+    subst (λ n. c.args.steps.now + weight_of_all (trees c.args.parts.now) * triangle (n + 1) < 2 ^ 64) (sym c.requires.words) c.requires.countable in
+    room_after_part (2 ^ 64) c.args.steps.now c.loop-part.steps c.rows.new.steps (weight_of (tree x)) _ T (weight_of_all (trees ps)) _ (c.args.shape.last + 1)
+    e c.loop-part.invariant.bound step (le_triangle (c.args.shape.last + 1)) room
 
 pub choice-loop-part-preserved : goal.choice-loop-part-preserved
 choice-loop-part-preserved t c =
     let H = Holds c.args.truth.now in
-    let w = c.args.width in
-    let last = c.words-last.result in
+    let w = c.args.shape.width in
+    let last = c.args.shape.last in
     let T = triangle (last + 1) in
     let ps = c.args.parts.now in
     let k = c.loop-part.part-index in
     let x = c.part-item.result in
     let inv = c.loop-part.invariant in
-    let count : last ≡ c.args.truth.now.words = c.words-last.ensures.count in
+    let count : last ≡ c.args.truth.now.words = c.requires.words in
     let d : trees (drop k ps) ≡ and_more (tree x) (trees (drop (k + 1) ps)) = next_part ps k x c.loop-part-test.true c.part-item.is (λ qs. qs) in
     let same : length c.deref_mut.result.now ≡ length c.loop-part.table.items = ap length c.deref_mut.ensures.value in
     let back = lent c.loop-part.table.len c.merge.new.table c.loop-part.table.items (omega (arith, c.loop-part.table.ok.0)) in
@@ -223,13 +199,13 @@ choice-loop-part-preserved t c =
 pub sequence-loop-part-init : goal.sequence-loop-part-init
 sequence-loop-part-init t c =
     let H = Holds c.args.truth.now in
-    let w = c.args.width in
-    let last = c.words-last.result in
+    let w = c.args.shape.width in
+    let last = c.args.shape.last in
     let T = triangle (last + 1) in
     let ps = c.in-Some.rest.now in
     let x = c.in-Some.first.now in
     let table = c.in_ok-table.table.items in
-    let count : last ≡ c.args.truth.now.words = c.words-last.ensures.count in
+    let count : last ≡ c.args.truth.now.words = c.requires.words in
     let d : trees c.args.parts.now ≡ and_more (tree x) (trees ps) = ap trees c.in-Some.ensures.cases.0 in
     let inside : (e v : ℕ) → Holds c.args.truth.now e v → v ≤ last = λ e v h. (let le : v ≤ c.args.truth.now.words = h.1 in omega arith) in
     let rows : (i j : ℕ) → i ≤ last → j ≤ last → InTable table w i j ↔ Match H (tree x) i j = λ i j p q. c.in_ok-table.ensures.rows i j (omega arith) (omega arith) in
@@ -248,15 +224,15 @@ sequence-loop-part-init t c =
 pub sequence-loop-part-preserved : goal.sequence-loop-part-preserved
 sequence-loop-part-preserved t c =
     let H = Holds c.args.truth.now in
-    let w = c.args.width in
-    let last = c.words-last.result in
+    let w = c.args.shape.width in
+    let last = c.args.shape.last in
     let T = triangle (last + 1) in
     let ps = c.in-Some.rest.now in
     let all = c.args.parts.now in
     let k = c.loop-part.part-index in
     let x = c.part-item.result in
     let inv = c.loop-part.invariant in
-    let count : last ≡ c.args.truth.now.words = c.words-last.ensures.count in
+    let count : last ≡ c.args.truth.now.words = c.requires.words in
     let d : trees (drop k ps) ≡ and_more (tree x) (trees (drop (k + 1) ps)) = next_part ps k x c.loop-part-test.true c.part-item.is (λ qs. qs) in
     let inside : (e v : ℕ) → Holds c.args.truth.now e v → v ≤ last = λ e v h. (let le : v ≤ c.args.truth.now.words = h.1 in omega arith) in
     let before = c.loop-part.table.items in
@@ -264,13 +240,13 @@ sequence-loop-part-preserved t c =
     let step : c.followed.new.steps ≤ c.loop-part.steps + (weight_of (tree x) + 1) * T =
     subst (λ n. c.followed.new.steps ≤ c.loop-part.steps + (weight_of (tree c.part-item.result) + 1) * triangle (n + 1)) (sym count) c.followed.ensures.bound in
     let made : (i j : ℕ) → i ≤ last → j ≤ last → InTable after w i j ↔ ((m : ℕ) × (m ≤ last) × InTable before w i m × Match H (tree x) m j) =
-    λ i j p q. subst (λ n. InTable c.in_ok-table-2.table.items c.args.width i j ↔ ((m : ℕ) × (m ≤ n) × InTable c.loop-part.table.items c.args.width i m × Match (Holds c.args.truth.now) (tree c.part-item.result) m j)) (sym count)
+    λ i j p q. subst (λ n. InTable c.in_ok-table-2.table.items c.args.shape.width i j ↔ ((m : ℕ) × (m ≤ n) × InTable c.loop-part.table.items c.args.shape.width i m × Match (Holds c.args.truth.now) (tree c.part-item.result) m j)) (sym count)
     (c.in_ok-table-2.ensures.rows i j (omega arith) (omega arith)) in
     let so_far : (i j : ℕ) → i ≤ last → j ≤ last → ((m : ℕ) × (m ≤ last) × InTable before w i m × EachInTurn H (and_more (tree x) (trees (drop (k + 1) ps))) m j) ↔ EachInTurn H (trees all) i j =
     λ i j p q. subst (λ qs. ((m : ℕ) × (m ≤ last) × InTable before w i m × EachInTurn H qs m j) ↔ EachInTurn H (trees all) i j) d (inv.rows i j p q) in
     record {
       wide = omega arith;
-      whole = subst (λ n. length c.in_ok-table-2.table.items ≡ (n + 1) * c.args.width) (sym count) c.in_ok-table-2.ensures.whole;
+      whole = subst (λ n. length c.in_ok-table-2.table.items ≡ (n + 1) * c.args.shape.width) (sym count) c.in_ok-table-2.ensures.whole;
       proper = (subst (AllProper c.args.truth.now.exprs) d inv.proper).1;
       forward = sequence_forward last w before after H inside (tree x) (trees (drop (k + 1) ps)) (trees all) inv.forward made so_far;
       rows = sequence_more last w before after H inside (tree x) (trees (drop (k + 1) ps)) (trees all) inv.forward made so_far;
@@ -283,7 +259,7 @@ pub followed-returns-in-Some-optional_token_of-clause-rows : goal.followed-retur
 followed-returns-in-Some-optional_token_of-clause-rows t c =
     let facts = c.args.truth.now in
     let e = c.in-Some-optional_token_of.expr in
-    let w = c.args.width in
+    let w = c.args.shape.width in
     IfOk-weaker c.step_over-in-Some-optional_token_of.result _ _ (λ v h i j p q.
     let r = h i j p q in
     let m = stepped_match c.args.table.items w i facts.words facts e j (Match (Holds facts) (tree c.args.part.now))
@@ -299,7 +275,7 @@ pub followed-returns-in-Some-short_run_of-clause-rows : goal.followed-returns-in
 followed-returns-in-Some-short_run_of-clause-rows t c = λ i j p q.
     let facts = c.args.truth.now in
     let e = c.in-Some-short_run_of.expr in
-    let w = c.args.width in
+    let w = c.args.shape.width in
     let v : c.deref_mut.result.now ≡ c.args.table.items = c.deref_mut.ensures.value in
     let same : length c.deref_mut.result.now ≡ length c.args.table.items = ap length v in
     let back = lent c.args.table.len c.run_on.new.table c.args.table.items (omega (arith, c.args.table.ok.0)) in
@@ -317,7 +293,7 @@ rows-returns-in_ok-links-in-Rep-clause-bound t c =
     let shown = is_rep c.args.pat.now c.in-Rep.inner c.deref-in-Rep.result.now c.in-Rep.least c.in-Rep.most c.in-Rep.is c.deref-in-Rep.ensures in
     let e : weight_of (tree c.args.pat.now) ≡ weight_of (tree c.deref-in-Rep.result.now) + turns c.in-Rep.least c.in-Rep.most = ap weight_of shown in
     bound_of_both c.args.steps.now c.rows.new.steps c.repetition.new.steps _ _ (triangle (c.args.truth.now.words + 1)) (weight_of (tree c.args.pat.now)) e c.rows.ensures.bound
-    (subst (λ n. c.repetition.new.steps ≤ c.rows.new.steps + turns c.in-Rep.least c.in-Rep.most * triangle (n + 1)) c.words.ensures.count c.repetition.ensures.bound)
+    (subst (λ n. c.repetition.new.steps ≤ c.rows.new.steps + turns c.in-Rep.least c.in-Rep.most * triangle (n + 1)) c.requires.words c.repetition.ensures.bound)
 
 pub sequence-followed-requires : goal.sequence-followed-requires
 sequence-followed-requires t c =
@@ -325,9 +301,9 @@ sequence-followed-requires t c =
     let all = c.args.parts.now in
     let k = c.loop-part.part-index in
     let x = c.part-item.result in
-    let T = triangle (c.words-last.result + 1) in
+    let T = triangle (c.args.shape.last + 1) in
     let inv = c.loop-part.invariant in
-    let count : c.words-last.result ≡ c.args.truth.now.words = c.words-last.ensures.count in
+    let count : c.args.shape.last ≡ c.args.truth.now.words = c.requires.words in
     let d : trees (drop k ps) ≡ and_more (tree x) (trees (drop (k + 1) ps)) = next_part ps k x c.loop-part-test.true c.part-item.is (λ qs. qs) in
     let e : weight_of_all (trees (drop k ps)) ≡ weight_of (tree x) + 1 + weight_of_all (trees (drop (k + 1) ps)) = ap weight_of_all d in
     let first : weight_of_all (trees all) ≡ weight_of (tree c.in-Some.first.now) + 1 + weight_of_all (trees ps) = ap (λ qs. weight_of_all (trees qs)) c.in-Some.ensures.cases.0 in
@@ -340,20 +316,14 @@ sequence-followed-requires t c =
       (
         (subst (AllProper c.args.truth.now.exprs) d inv.proper).0,
         (
-          c.requires.wide,
+          c.requires.words,
           (
-            c.requires.narrow,
+            inv.wide,
             (
-              inv.wide,
+              subst (λ n. length c.loop-part.table.items ≡ (n + 1) * c.args.shape.width) count inv.whole,
               (
-                c.requires.small,
-                (
-                  subst (λ n. length c.loop-part.table.items ≡ (n + 1) * c.args.width) count inv.whole,
-                  (
-                    λ i j p q. inv.forward i j (omega arith) (omega arith),
-                    subst (λ n. c.loop-part.steps + (weight_of (tree c.part-item.result) + 1) * triangle (n + 1) < 2 ^ 64) count enough,
-                  ),
-                ),
+                λ i j p q. inv.forward i j (omega arith) (omega arith),
+                subst (λ n. c.loop-part.steps + (weight_of (tree c.part-item.result) + 1) * triangle (n + 1) < 2 ^ 64) count enough,
               ),
             ),
           ),

@@ -21,21 +21,21 @@ decreases-choice l = 3 * weight_of_all (trees l.parts.now)
 
 abbrev pub invariant-sequence-loop-part : goal.invariant-sequence-loop-part
 invariant-sequence-loop-part l = record {
-  wide : length l.spare ≡ l.width;
-  whole : length l.table.items ≡ (l.last + 1) * l.width;
+  wide : length l.spare ≡ l.shape.width;
+  whole : length l.table.items ≡ (l.shape.last + 1) * l.shape.width;
   proper : AllProper l.truth.exprs (trees (drop l.part-index l.rest));
-  forward : (i j : ℕ) → i ≤ l.last → j ≤ l.last → InTable l.table.items l.width i j → i ≤ j;
-  rows : (i j : ℕ) → i ≤ l.last → j ≤ l.last → (((m : ℕ) × (m ≤ l.last) × InTable l.table.items l.width i m × EachInTurn (Holds l.truth) (trees (drop l.part-index l.rest)) m j) ↔ EachInTurn (Holds l.truth) (trees l.parts) i j);
+  forward : (i j : ℕ) → i ≤ l.shape.last → j ≤ l.shape.last → InTable l.table.items l.shape.width i j → i ≤ j;
+  rows : (i j : ℕ) → i ≤ l.shape.last → j ≤ l.shape.last → (((m : ℕ) × (m ≤ l.shape.last) × InTable l.table.items l.shape.width i m × EachInTurn (Holds l.truth) (trees (drop l.part-index l.rest)) m j) ↔ EachInTurn (Holds l.truth) (trees l.parts) i j);
   more : l.fn.steps ≤ l.steps;
-  bound : l.steps + weight_of_all (trees (drop l.part-index l.rest)) * triangle (l.last + 1) ≤ l.fn.steps + weight_of_all (trees l.parts) * triangle (l.last + 1);
+  bound : l.steps + weight_of_all (trees (drop l.part-index l.rest)) * triangle (l.shape.last + 1) ≤ l.fn.steps + weight_of_all (trees l.parts) * triangle (l.shape.last + 1);
 }
 
 abbrev pub invariant-choice-loop-part : goal.invariant-choice-loop-part
 invariant-choice-loop-part l = record {
-  wide : length l.spare ≡ l.width;
-  whole : length l.table.items ≡ (l.last + 1) * l.width;
+  wide : length l.spare ≡ l.shape.width;
+  whole : length l.table.items ≡ (l.shape.last + 1) * l.shape.width;
   proper : AllProper l.truth.exprs (trees (drop l.part-index l.parts));
-  rows : (i j : ℕ) → i ≤ l.last → j ≤ l.last → ((InTable l.table.items l.width i j ⊎ AnyOf (Holds l.truth) (trees (drop l.part-index l.parts)) i j) ↔ AnyOf (Holds l.truth) (trees l.parts) i j);
+  rows : (i j : ℕ) → i ≤ l.shape.last → j ≤ l.shape.last → ((InTable l.table.items l.shape.width i j ⊎ AnyOf (Holds l.truth) (trees (drop l.part-index l.parts)) i j) ↔ AnyOf (Holds l.truth) (trees l.parts) i j);
   more : l.initial.steps ≤ l.steps;
-  bound : l.steps + weight_of_all (trees (drop l.part-index l.parts)) * triangle (l.last + 1) ≤ l.initial.steps + weight_of_all (trees l.parts) * triangle (l.last + 1);
+  bound : l.steps + weight_of_all (trees (drop l.part-index l.parts)) * triangle (l.shape.last + 1) ≤ l.initial.steps + weight_of_all (trees l.parts) * triangle (l.shape.last + 1);
 }

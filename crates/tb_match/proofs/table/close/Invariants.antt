@@ -5,11 +5,11 @@ use Rattle.tb_match.proofs.table.close.Given as goal
 
 abbrev pub invariant-loop-place : goal.invariant-loop-place
 invariant-loop-place l = record {
-  upto : l.place ≤ l.last + 1;
-  wide : length l.spare ≡ l.width;
+  upto : l.place ≤ l.shape.last + 1;
+  wide : length l.spare ≡ l.shape.width;
   whole : length l.table ≡ length l.initial.table;
-  done : (i j : ℕ) → l.place ≤ i → i ≤ l.last → j ≤ l.last → (InTable l.table l.width i j ↔ Reaches l.links l.width l.last i j);
-  empty : (i j : ℕ) → i < l.place → j ≤ l.last → InTable l.table l.width i j → ⊥;
+  done : (i j : ℕ) → l.place ≤ i → i ≤ l.shape.last → j ≤ l.shape.last → (InTable l.table l.shape.width i j ↔ Reaches l.links l.shape.width l.shape.last i j);
+  empty : (i j : ℕ) → i < l.place → j ≤ l.shape.last → InTable l.table l.shape.width i j → ⊥;
   more : l.initial.steps ≤ l.steps;
-  bound : l.steps ≤ l.initial.steps + triangle (l.last + 1 - l.place);
+  bound : l.steps ≤ l.initial.steps + triangle (l.shape.last + 1 - l.place);
 }

@@ -6,12 +6,12 @@ use Rattle.tb_match.proofs.table.compose.Goals as goal
 pub loop-place-preserved : goal.loop-place-preserved
 loop-place-preserved c =
     let inv = c.loop-place.invariant in
-    let step : triangle (c.args.last + 1 - c.loop-place.place) ≡ (c.args.last + 1 - c.loop-place.place) + triangle (c.args.last + 1 - (c.loop-place.place + 1)) = triangle_step _ _ (omega arith) in
+    let step : triangle (c.args.shape.last + 1 - c.loop-place.place) ≡ (c.args.shape.last + 1 - c.loop-place.place) + triangle (c.args.shape.last + 1 - (c.loop-place.place + 1)) = triangle_step _ _ (omega arith) in
     record {
       wide = omega arith;
       whole = omega arith;
       done = λ i j below here.
-          composed c.args.links.now c.args.table.now c.loop-place.table c.set_row.new.table c.args.width c.args.last c.loop-place.place i j
+          composed c.args.links.now c.args.table.now c.loop-place.table c.set_row.new.table c.args.shape.width c.args.shape.last c.loop-place.place i j
           inv.done inv.rest c.set_row.ensures.row c.set_row.ensures.others below here;
       rest = λ i j from here.
           let o = c.set_row.ensures.others i j (λ e. omega arith) here in

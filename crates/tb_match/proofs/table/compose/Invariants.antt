@@ -4,10 +4,10 @@ use Rattle.tb_match.proofs.table.compose.Given as goal
 
 abbrev pub invariant-loop-place : goal.invariant-loop-place
 invariant-loop-place l = record {
-  wide : length l.spare ≡ l.width;
+  wide : length l.spare ≡ l.shape.width;
   whole : length l.table ≡ length l.initial.table;
-  done : (i j : ℕ) → i < l.place → j ≤ l.last → (InTable l.table l.width i j ↔ Through l.links l.initial.table l.width i (l.last + 1) j);
-  rest : (i j : ℕ) → l.place ≤ i → j ≤ l.last → (InTable l.table l.width i j ↔ InTable l.initial.table l.width i j);
+  done : (i j : ℕ) → i < l.place → j ≤ l.shape.last → (InTable l.table l.shape.width i j ↔ Through l.links l.initial.table l.shape.width i (l.shape.last + 1) j);
+  rest : (i j : ℕ) → l.place ≤ i → j ≤ l.shape.last → (InTable l.table l.shape.width i j ↔ InTable l.initial.table l.shape.width i j);
   more : l.initial.steps ≤ l.steps;
-  bound : l.steps + triangle (l.last + 1 - l.place) ≤ l.initial.steps + triangle (l.last + 1);
+  bound : l.steps + triangle (l.shape.last + 1 - l.place) ≤ l.initial.steps + triangle (l.shape.last + 1);
 }

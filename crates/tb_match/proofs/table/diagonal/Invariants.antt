@@ -4,6 +4,6 @@ use Rattle.tb_match.proofs.table.diagonal.Given as goal
 
 abbrev pub invariant-loop-place : goal.invariant-loop-place
 invariant-loop-place l = record {
-  whole : length l.table.items ≡ (l.last + 1) * l.width;
-  rows : (i j : ℕ) → j ≤ l.last → (InTable l.table.items l.width i j ↔ ((i < l.place) × (i ≡ j)));
+  whole : length l.table.items ≡ (l.shape.last + 1) * l.shape.width;
+  rows : (i j : ℕ) → j ≤ l.shape.last → (InTable l.table.items l.shape.width i j ↔ ((i < l.place) × (i ≡ j)));
 }

@@ -7,20 +7,20 @@ pub loop-place-preserved : goal.loop-place-preserved
 loop-place-preserved c =
     let L = c.args.links.now in
     let T = c.args.table.now in
-    let w = c.args.width in
+    let w = c.args.shape.width in
     let place = c.loop-place.place in
     let spare = c.loop-place.spare in
     let spare' = c.unite.new.to in
     let inv = c.loop-place.invariant in
     let after = c.next_unknown-place-in-loop-place.ensures in
-    let below : place < c.args.last + 1 = omega arith in
-    let inside : place ≤ c.args.last = c.loop-place-test.true in
+    let below : place < c.args.shape.last + 1 = omega arith in
+    let inside : place ≤ c.args.shape.last = c.loop-place-test.true in
     let on = after.order (omega arith) in
     let limit = after.limit in
-    let united : (j : ℕ) → j ≤ c.args.last → InRow spare' 0 j ↔ (InRow spare 0 j ⊎ InTable T w place j) = λ j h.
-    united_row spare spare' T w place j _ inv.wide (row_size place w) (word_of j c.args.last w h c.requires.wide)
-    (omega (arith, row_room place c.args.last w below)) c.unite.ensures.words in
-    let whole : HasRowsOf spare' T w c.args.last = λ k j p q here row.
+    let united : (j : ℕ) → j ≤ c.args.shape.last → InRow spare' 0 j ↔ (InRow spare 0 j ⊎ InTable T w place j) = λ j h.
+    united_row spare spare' T w place j _ inv.wide (row_size place w) (word_of j c.args.shape.last w h c.args.shape.wide)
+    (omega (arith, row_room place c.args.shape.last w below)) (rw c.row.ensures.words at c.unite.ensures.words) in
+    let whole : HasRowsOf spare' T w c.args.shape.last = λ k j p q here row.
     ⊎_elim
     (λ old. (united j q).1 (inl (inv.whole k j p q old row)))
     (λ fresh. (united j q).1 (inr (c.requires.closed place k j inv.from inside p q fresh row)))
