@@ -48,6 +48,14 @@ fn file_of(line: &Line) -> Option<&str> {
     db.as_ref().map(|path| path.as_str())
 }
 
+/// How many pages more than the file has a line on it is to keep in memory.
+fn room_of(line: &Line) -> u64 {
+    match line {
+        Line::Import { .. } | Line::Correct { .. } | Line::Serve { .. } => files::ROOM_TO_GROW,
+        _ => files::ROOM,
+    }
+}
+
 /// Puts a line where a desk was brought into a file, and closes it.
 fn put_opened<W: Sink>(opened: Result<FileDesk, Reply>, line: &str, out: &mut W) -> u8 {
     match opened {
@@ -90,7 +98,7 @@ fn run_on_file<R: Read, W: Write>(
         return put_reply(out, reply);
     }
     let body = read_body(rt.alloc(), line, reader);
-    match files::open(rt, path) {
+    match files::open(rt, path, room_of(line)) {
         Ok(mut desk) => {
             let status = run_on_desk(rt, line, body, &mut desk, out);
             files::close(desk);
