@@ -4,6 +4,7 @@ pub mod Closures
 pub mod Doubles
 pub mod Filters
 pub mod Limits
+pub mod Made
 pub mod Masks
 pub mod Ordered
 pub mod Parts

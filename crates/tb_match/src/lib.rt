@@ -25,4 +25,4 @@ pub use pattern::Pat;
 pub use strategy::Strategy;
 pub use truth::Truth;
 pub use uniting::unite;
-pub use weights::{fits, weight};
+pub use weights::{fits, weight, what_fits_is_a_pattern};

@@ -1,7 +1,8 @@
 //! How heavy a pattern is, and whether it is within the limits.
 
-ghost use Rattle.std.specs.Prelude.{◌≡◌, ◌+◌, ◌<◌, ◌≤◌, ◌↔◌, IsTrue, SomeIff};
-ghost use Rattle.tb_match.specs.Trees.{tree, trees};
+ghost use Rattle.std.specs.Prelude.{◌≡◌, ◌+◌, ◌<◌, ◌≤◌, ◌↔◌, ℕ, IsTrue, SomeIff};
+ghost use Rattle.tb_match.specs.declared.pattern.Pat.{Pat};
+ghost use Rattle.tb_match.specs.Trees.{Tree, tree, trees};
 ghost use Rattle.tb_match.specs.Weight.{AllProper, Fits, IsBetween, IsProper, turns, weight_of, weight_of_all};
 
 use crate::pattern::Pat;
@@ -114,3 +115,9 @@ pub fn fits(pat: &Pat, exprs: u16) -> bool
 {
     is_proper(pat, exprs) && weight(pat).is_some()
 }
+
+/// Each tree that fits is that of a pattern: what is said of the trees that fit is said of patterns that
+/// a program can have, whose expressions have numbers of 16 bits.
+pub fn what_fits_is_a_pattern()
+    ensures { (exprs : ℕ) (t : Tree) → exprs ≤ 65536 → Fits exprs t → (p : Pat) × (tree p ≡ t) }
+{}

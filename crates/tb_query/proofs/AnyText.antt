@@ -1,7 +1,8 @@
 -- Any text is a query, or a fault is told of it.
 use Rattle.std.proofs.Common.{◌≡◌, ◌⊎◌, ℕ, ◌+◌, ◌≤◌, List, [], ◌∷◌, length, map, refl, sym, ap, subst, inl, inr, arith}
 use Rattle.std.proofs.lemmas.List.{length-map}
-use Rattle.tb_match.specs.Trees.{Tree}
+use Rattle.tb_match.specs.declared.pattern.Pat.{Pat}
+use Rattle.tb_match.specs.Trees.{Tree, tree}
 use Rattle.tb_match.specs.Weight.{Fits}
 use Rattle.tb_syntax.specs.declared.fault.Fault.{Fault}
 use Rattle.tb_syntax.specs.declared.fault.Fault.TheVariants as fault
@@ -16,9 +17,9 @@ use Rattle.tb_query.specs.declared.fault.QueryFault.TheVariants.{TooLong, Syntax
 use Rattle.tb_query.specs.Reading.{with_texts, AreAccepted, IsFirstRefused, IsQuery, IsFault}
 use Rattle.tb_query.specs.Search.{Asked, IsSearchable}
 
--- the text is a query that can be searched for, or a fault is told of it that is not want of memory
+-- the text is a query that can be searched for, with a pattern of the matcher's, or a fault is told of it that is not want of memory
 abbrev Asks : List ℕ → Type 0
-Asks text = (q : Asked) × IsQuery text q × IsSearchable q
+Asks text = (q : Asked) × (p : Pat) × (tree p ≡ q.pat) × IsQuery text q × IsSearchable q
 
 abbrev HasFault : List ℕ → Type 0
 HasFault text = (e : QueryFault) × (e ≡ Memory → ⊥) × IsFault text e
@@ -49,12 +50,15 @@ module _ (decided : (flag : Flag) (text : List ℕ) → IsAccepted flag text ⊎
         ]
       ]
 
-  module _ (searchable : (text : List ℕ) (t : Tree) (es : List (Test Literal)) (said : List (List ℕ)) → Says text t es said → Fits (length es) t × (length es ≤ 32)) where
+  module _
+      (searchable : (text : List ℕ) (t : Tree) (es : List (Test Literal)) (said : List (List ℕ)) → Says text t es said → Fits (length es) t × (length es ≤ 32))
+      (made : (exprs : ℕ) (t : Tree) → exprs ≤ 65536 → Fits exprs t → (p : Pat) × (tree p ≡ t)) where
     asked : (text : List ℕ) (t : Tree) (es : List (Test Literal)) (said : List (List ℕ)) → Says text t es said → AreAccepted (literals_of (map (with_texts said) es)) → Asks text
     asked text t es said says good =
         let size = length-map es (with_texts said) in
         let (fits, few) = searchable text t es said says in
-        (record { pat = t; tests = map (with_texts said) es }, ((es, said, says, refl), good), (subst (λ n. Fits n t) (sym size) fits, omega arith))
+        let (p, same) = made (length es) t (omega arith) fits in
+        (record { pat = t; tests = map (with_texts said) es }, p, same, ((es, said, says, refl), good), (subst (λ n. Fits n t) (sym size) fits, omega arith))
 
     of_saying : (text : List ℕ) (t : Tree) (es : List (Test Literal)) (said : List (List ℕ)) → Says text t es said → Asks text ⊎ HasFault text
     of_saying text t es said says =

@@ -1,7 +1,8 @@
 //! Laws of what texts ask.
 
 ghost use Rattle.std.specs.Prelude.{◌≡◌, ◌⊎◌, ℕ, List, map};
-ghost use Rattle.tb_match.specs.Trees.{Tree};
+ghost use Rattle.tb_match.specs.declared.pattern.Pat.{Pat};
+ghost use Rattle.tb_match.specs.Trees.{Tree, tree};
 ghost use Rattle.tb_syntax.specs.declared.expr.Literal.{Literal};
 ghost use Rattle.tb_syntax.specs.Saying.{Says};
 ghost use Rattle.tb_syntax.specs.Tests.{Test, literals_of};
@@ -11,6 +12,7 @@ ghost use Rattle.tb_query.specs.declared.fault.QueryFault.TheVariants.{Memory};
 ghost use Rattle.tb_query.specs.Reading.{IsFault, IsQuery, Reads, with_texts};
 ghost use Rattle.tb_query.specs.Search.{Asked, IsSearchable};
 
+use tb_match::what_fits_is_a_pattern;
 use tb_needle::a_literal_is_accepted_or_refused;
 use tb_syntax::{
     one_fault, one_saying, what_is_said_can_be_searched, what_says_something_has_no_fault,
@@ -56,11 +58,13 @@ pub fn literals_stand_in_order()
         map (λ (l : PlainLit). l.text) (literals_of (map (with_texts said) es)) ≡ said }
 {}
 
-/// A text is a query that can be searched for, or has a fault that is not want of memory.
+/// A text is a query that can be searched for, with a pattern of the matcher's, or has a fault that is not
+/// want of memory.
 pub fn each_text_is_told()
-    ensures { (text : List ℕ) → ((q : Asked) × IsQuery text q × IsSearchable q) ⊎ ((e : QueryFault) × (e ≡ Memory → ⊥) × IsFault text e) }
+    ensures { (text : List ℕ) → ((q : Asked) × (p : Pat) × (tree p ≡ q.pat) × IsQuery text q × IsSearchable q) ⊎ ((e : QueryFault) × (e ≡ Memory → ⊥) × IsFault text e) }
 {
     a_literal_is_accepted_or_refused();
     what_is_said_can_be_searched();
+    what_fits_is_a_pattern();
     tb_syntax::each_text_is_told();
 }
