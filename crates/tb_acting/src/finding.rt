@@ -38,6 +38,7 @@ pub struct BatchRead {
 pub fn batch_number<S: Alter>(conn: &mut Connection<S>, name: &str) -> Result<Option<u32>, Fault>
     ensures answered { HasCleanDisk (state S.Store conn.new) → IfOk result (λ found. (s : Machine) → IsDesk S.Store conn.old s → HasNumber s name.now found) }
     ensures refused { (r : AnyRefusal) → result ≢ Err (Fault.Refused r) }
+    ensures output { result ≢ Err Fault.Output }
     ensures fails { HasCleanDisk (state S.Store conn.new) → (state S.Store conn.old).step_limit ≡ None → (s : Machine) → IsDesk S.Store conn.old s → result ≢ Err Fault.NotADesk }
     ensures same { HasCleanDisk (state S.Store conn.new) → OnOk result ((state S.Store conn.old).now.schema ≡ desk_schema → IsUnchanged (state S.Store conn.old) (state S.Store conn.new)) }
     ensures mode { conn.old.in_transaction ≡ false → conn.new.in_transaction ≡ false }

@@ -20,6 +20,10 @@ abbrev pub IsStopFault : Stopped → Type 0
 IsStopFault (Read e) = IsReadFault e
 IsStopFault Output = ⊤
 
+-- a sink refused a piece, for a reason of which this is known
+abbrev pub HasReason : {Reason : Type 0} → (Reason → Type 0) → Type 0
+HasReason {Reason} is_refusal = (reason : Reason) × is_refusal reason
+
 -- what a text makes of a visitor and of what it fills
 abbrev pub Taking : Type 0 → Type 0 → Type 1
 Taking V O = V → O → List ℕ → V → O → Type 0

@@ -17,10 +17,13 @@ impl<W: Sink> Visitor<W> for Copying {
     ghost use Rattle.std.specs.Io.KnownBytes.{Appends};
     ghost use Rattle.tb_conllu.specs.Sunk.{AppendsPart};
     ghost use Rattle.tb_search.specs.declared.stopped.Stopped.TheVariants.{Output};
+    ghost use Rattle.tb_search.specs.Visited.{HasReason};
 
     ghost Takes = { λ _ o body _ p. Appends (W.held o) (W.held p) body };
 
     ghost Stops = { λ _ o body e p. (e ≡ Output) × AppendsPart (W.held o) (W.held p) body };
+
+    ghost Refused = { λ p. HasReason (W.IsRefusal p) };
 
     fn visit(&mut self, body: &[u8], filled: &mut W) -> Result<(), Stopped> {
         match filled.put(body) {

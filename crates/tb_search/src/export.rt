@@ -10,7 +10,7 @@ ghost use Rattle.tb_tables.specs.Changes.{Holds};
 ghost use Rattle.tb_core.specs.Machine.{Machine};
 ghost use Rattle.tb_standing.specs.Standing.{IsDesk};
 ghost use Rattle.tb_search.specs.Released.{released, in_batch, current_text, IsCutShort};
-ghost use Rattle.tb_search.specs.Visited.{IsFault, IsStopFault};
+ghost use Rattle.tb_search.specs.Visited.{HasReason, IsFault, IsStopFault};
 ghost use Rattle.tb_search.specs.Picked.{picks_from};
 
 use crate::copying::Copying;
@@ -56,6 +56,7 @@ pub fn export_released<S: Alter, W: Sink>(
 ) -> Result<(), Stopped>
     ensures put { HasCleanDisk (state S.Store conn.new) → OnOk result ((s : Machine) → IsDesk S.Store conn.old s → Appends (W.held out.old) (W.held out.new) (current_text (released s))) }
     ensures part { HasCleanDisk (state S.Store conn.new) → IfErr result (λ e. (s : Machine) → IsDesk S.Store conn.old s → IsCutShort e (W.held out.old) (W.held out.new) (released s)) }
+    ensures refused { result ≡ Err Stopped.Output → HasReason (W.IsRefusal out.new) }
     ensures fault { HasCleanDisk (state S.Store conn.new) → IfErr result (λ e. (s : Machine) → IsDesk S.Store conn.old s → IsFault e) }
     ensures fails { HasCleanDisk (state S.Store conn.new) → (state S.Store conn.old).step_limit ≡ None → IfErr result (λ e. (s : Machine) → IsDesk S.Store conn.old s → IsStopFault e) }
     ensures mode { conn.old.in_transaction ≡ false → conn.new.in_transaction ≡ false }
@@ -78,6 +79,7 @@ pub fn export_numbered<S: Alter, W: Sink>(
 ) -> Result<(), Stopped>
     ensures put { HasCleanDisk (state S.Store conn.new) → OnOk result ((s : Machine) → IsDesk S.Store conn.old s → Appends (W.held out.old) (W.held out.new) (current_text (in_batch s batch))) }
     ensures part { HasCleanDisk (state S.Store conn.new) → IfErr result (λ e. (s : Machine) → IsDesk S.Store conn.old s → IsCutShort e (W.held out.old) (W.held out.new) (in_batch s batch)) }
+    ensures refused { result ≡ Err Stopped.Output → HasReason (W.IsRefusal out.new) }
     ensures fault { HasCleanDisk (state S.Store conn.new) → IfErr result (λ e. (s : Machine) → IsDesk S.Store conn.old s → IsFault e) }
     ensures fails { HasCleanDisk (state S.Store conn.new) → (state S.Store conn.old).step_limit ≡ None → IfErr result (λ e. (s : Machine) → IsDesk S.Store conn.old s → IsStopFault e) }
     ensures mode { conn.old.in_transaction ≡ false → conn.new.in_transaction ≡ false }

@@ -1,6 +1,6 @@
 //! Keys of hits that are counted.
 
-ghost use Rattle.std.specs.Prelude.{◌≡◌, ◌<◌, ◌≤◌, ◌++◌, ◌∷◌, [], ℕ, All, List, IfErr, OnOk, map};
+ghost use Rattle.std.specs.Prelude.{◌≡◌, ◌≢◌, ◌<◌, ◌≤◌, ◌++◌, ◌∷◌, [], ℕ, All, List, Err, IfErr, OnOk, map};
 ghost use Rattle.tb_conllu.specs.Words.{words_of};
 ghost use Rattle.tb_report.specs.Keywords.{key_of};
 ghost use Rattle.tb_report.specs.Tables.{IsTableOf};
@@ -27,6 +27,7 @@ fn count_hit(
     requires first { hit.0 < hit.1 }
     requires last { hit.1 ≤ words_of block.now }
     ensures counted { OnOk result ((keys : List (List ℕ)) → IsTableOf keys table.old → IsTableOf (keys ++ key_of column block.now hit ∷ []) table.new) }
+    ensures refused { result ≢ Err Stopped.Output }
     ensures fault { IfErr result IsFault }
     ensures fails { IfErr result IsStopFault }
 {
@@ -48,6 +49,7 @@ fn count_hits(
 ) -> Result<(), Stopped>
     requires { All (λ h. (h.0 < h.1) × (h.1 ≤ words_of block.now)) hits.now }
     ensures counted { OnOk result ((keys : List (List ℕ)) → IsTableOf keys table.old → IsTableOf (keys ++ map (key_of column block.now) hits.now) table.new) }
+    ensures refused { result ≢ Err Stopped.Output }
     ensures fault { IfErr result IsFault }
     ensures fails { IfErr result IsStopFault }
 {
@@ -74,6 +76,8 @@ impl<'q> Visitor<Freq> for Keying<'q> {
     ghost Takes = { λ v o body w p. Meets v.seeker.strategy v.seeker.searcher body (λ found. (w ≡ v) × ((keys : List (List ℕ)) → IsTableOf keys o → IsTableOf (keys ++ keys_of v.column found) p)) };
 
     ghost Stops = { λ _ _ body e _. (b : BlockText) → IsTextOf b body → IsFault e };
+
+    ghost Refused = { λ _. ⊥ };
 
     fn visit(&mut self, body: &[u8], filled: &mut Freq) -> Result<(), Stopped> {
         let alloc = self.seeker.alloc;

@@ -1,12 +1,12 @@
 //! Keyword lines of hits.
 
-ghost use Rattle.std.specs.Prelude.{◌≡◌, ◌<◌, ◌≤◌, ◌∷◌, [], All, IfErr, OnOk};
+ghost use Rattle.std.specs.Prelude.{◌≡◌, ◌<◌, ◌≤◌, ◌∷◌, [], All, Err, IfErr, OnOk};
 ghost use Rattle.std.specs.Io.KnownBytes.{Appends};
 ghost use Rattle.tb_conllu.specs.Words.{words_of};
 ghost use Rattle.tb_conllu.specs.Sunk.{AppendsPart};
 ghost use Rattle.tb_core.specs.Machine.{sent_id_of};
 ghost use Rattle.tb_report.specs.Keywords.{keyword_line};
-ghost use Rattle.tb_search.specs.Visited.{IsFault, IsStopFault};
+ghost use Rattle.tb_search.specs.Visited.{HasReason, IsFault, IsStopFault};
 ghost use Rattle.tb_search.specs.Searched.{AreCut, lines, occurrences, total_line};
 
 use crate::seeker::{Seeker, raised, sentence_in};
@@ -43,6 +43,7 @@ impl Sink for Line {
 fn put_piece<W: Sink>(bytes: &[u8], out: &mut W) -> Result<(), Stopped>
     ensures put { OnOk result (Appends (W.held out.old) (W.held out.new) bytes.now) }
     ensures part { IfErr result (λ e. (e ≡ Stopped.Output) × AppendsPart (W.held out.old) (W.held out.new) bytes.now) }
+    ensures refused { result ≡ Err Stopped.Output → HasReason (W.IsRefusal out.new) }
     ensures fails { IfErr result IsStopFault }
 {
     match out.put(bytes) {
@@ -65,6 +66,7 @@ fn put_hit<W: Sink>(
     requires last { hit.1 ≤ words_of block.now }
     ensures put { OnOk result (Appends (W.held out.old) (W.held out.new) (keyword_line block.now hit context)) }
     ensures cut { IfErr result (λ e. AreCut e (W.held out.old) (W.held out.new) context (occurrences block.now (hit ∷ []))) }
+    ensures refused { result ≡ Err Stopped.Output → HasReason (W.IsRefusal out.new) }
     ensures fault { IfErr result IsFault }
     ensures fails { IfErr result IsStopFault }
 {
@@ -86,6 +88,7 @@ fn put_hits<W: Sink>(
     requires lie { All (λ h. (h.0 < h.1) × (h.1 ≤ words_of block.now)) hits.now }
     ensures put { OnOk result (Appends (W.held out.old) (W.held out.new) (lines context (occurrences block.now hits.now))) }
     ensures cut { IfErr result (λ e. AreCut e (W.held out.old) (W.held out.new) context (occurrences block.now hits.now)) }
+    ensures refused { result ≡ Err Stopped.Output → HasReason (W.IsRefusal out.new) }
     ensures fault { IfErr result IsFault }
     ensures fails { IfErr result IsStopFault }
 {
@@ -110,12 +113,14 @@ impl<'q, W: Sink> Visitor<W> for Listing<'q> {
     ghost use Rattle.std.specs.Prelude.{◌≡◌, ◌⊎◌, ◌+◌, length};
     ghost use Rattle.std.specs.Io.KnownBytes.{Appends};
     ghost use Rattle.tb_conllu.specs.Text.{BlockText};
-    ghost use Rattle.tb_search.specs.Visited.{IsFault};
+    ghost use Rattle.tb_search.specs.Visited.{HasReason, IsFault};
     ghost use Rattle.tb_search.specs.Searched.{AreCut, IsTextOf, Meets, lines};
 
     ghost Takes = { λ v o body w p. Meets v.seeker.strategy v.seeker.searcher body (λ found. (w.seeker ≡ v.seeker) × (w.context ≡ v.context) × (w.found ≡ v.found + length found) × Appends (W.held o) (W.held p) (lines v.context found)) };
 
     ghost Stops = { λ v o body e p. ((b : BlockText) → IsTextOf b body → IsFault e) × ((p ≡ o) ⊎ Meets v.seeker.strategy v.seeker.searcher body (λ found. AreCut e (W.held o) (W.held p) v.context found)) };
+
+    ghost Refused = { λ p. HasReason (W.IsRefusal p) };
 
     fn visit(&mut self, body: &[u8], filled: &mut W) -> Result<(), Stopped> {
         let alloc = self.seeker.alloc;
@@ -135,6 +140,7 @@ impl<'q, W: Sink> Visitor<W> for Listing<'q> {
 pub(crate) fn put_total<W: Sink>(found: u64, out: &mut W) -> Result<(), Stopped>
     ensures put { OnOk result (Appends (W.held out.old) (W.held out.new) (total_line found)) }
     ensures part { IfErr result (λ e. (e ≡ Stopped.Output) × AppendsPart (W.held out.old) (W.held out.new) (total_line found)) }
+    ensures refused { result ≡ Err Stopped.Output → HasReason (W.IsRefusal out.new) }
     ensures fails { IfErr result IsStopFault }
 {
     let mut digits = Buffer::new();

@@ -22,6 +22,8 @@ impl<'q> Visitor<u64> for Numbering<'q> {
 
     ghost Stops = { λ _ _ body e _. (b : BlockText) → IsTextOf b body → IsFault e };
 
+    ghost Refused = { λ _. ⊥ };
+
     fn visit(&mut self, body: &[u8], filled: &mut u64) -> Result<(), Stopped> {
         let block = sentence_in(self.seeker.alloc, body)?;
         let hits = self.seeker.hits(&block)?;

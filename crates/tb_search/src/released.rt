@@ -73,6 +73,7 @@ pub(crate) fn visit_released<S: Alter, O, V: Visitor<O>>(
 ) -> Result<(), Stopped>
     ensures taken { HasCleanDisk (state S.Store conn.new) → OnOk result ((s : Machine) → IsDesk S.Store conn.old s → AllTaken V.Takes visitor.old filled.old (texts (released s)) visitor.new filled.new) }
     ensures halted { HasCleanDisk (state S.Store conn.new) → IfErr result (λ e. (s : Machine) → IsDesk S.Store conn.old s → Halted V.Takes V.Stops visitor.old filled.old (texts (released s)) e filled.new) }
+    ensures refused { result ≡ Err Stopped.Output → V.Refused filled.new }
     ensures fails { HasCleanDisk (state S.Store conn.new) → (state S.Store conn.old).step_limit ≡ None → IfErr result (λ e. (s : Machine) → IsDesk S.Store conn.old s → IsStopFault e) }
     ensures same { HasCleanDisk (state S.Store conn.new) → OnOk result ((state S.Store conn.old).now.schema ≡ desk_schema → IsUnchanged (state S.Store conn.old) (state S.Store conn.new)) }
     ensures mode { conn.old.in_transaction ≡ false → conn.new.in_transaction ≡ false }

@@ -1,6 +1,6 @@
 //! What is found in released text: its keyword lines, the table of its keys, its number.
 
-ghost use Rattle.std.specs.Prelude.{◌≡◌, ◌≢◌, ℕ, List, length, false, IsTrue, IfOk, IfErr, OnOk, None};
+ghost use Rattle.std.specs.Prelude.{◌≡◌, ◌≢◌, ℕ, List, length, false, IsTrue, Err, IfOk, IfErr, OnOk, None};
 ghost use Rattle.std.specs.Io.KnownBytes.{Appends};
 ghost use Rattle.sqlite.specs.State.{HasCleanDisk, IsUnchanged, Survives};
 ghost use Rattle.sqlite.specs.Held.{state};
@@ -13,7 +13,7 @@ ghost use Rattle.tb_tables.specs.Changes.{Holds};
 ghost use Rattle.tb_core.specs.Machine.{Machine};
 ghost use Rattle.tb_standing.specs.Standing.{IsDesk};
 ghost use Rattle.tb_report.specs.Tables.{IsTableOf};
-ghost use Rattle.tb_search.specs.Visited.{IsFault, IsStopFault};
+ghost use Rattle.tb_search.specs.Visited.{HasReason, IsFault, IsStopFault};
 ghost use Rattle.tb_search.specs.Searched.{AreFound, IsBrokenOff, Occurrence, answer, keys, searched};
 
 use crate::keying::Keying;
@@ -43,6 +43,7 @@ pub fn number_released<S: Alter>(
     strategy: Strategy,
 ) -> Result<u64, Stopped>
     ensures answered { HasCleanDisk (state S.Store conn.new) → IfOk result (λ n. (s : Machine) → IsDesk S.Store conn.old s → (found : List Occurrence) × AreFound strategy query.now (searched s) found × (n ≡ length found)) }
+    ensures refused { result ≢ Err Stopped.Output }
     ensures fault { HasCleanDisk (state S.Store conn.new) → IfErr result (λ e. (s : Machine) → IsDesk S.Store conn.old s → IsFault e) }
     ensures fails { HasCleanDisk (state S.Store conn.new) → (state S.Store conn.old).step_limit ≡ None → IfErr result (λ e. (s : Machine) → IsDesk S.Store conn.old s → IsStopFault e) }
     ensures same { HasCleanDisk (state S.Store conn.new) → OnOk result ((state S.Store conn.old).now.schema ≡ desk_schema → IsUnchanged (state S.Store conn.old) (state S.Store conn.new)) }
@@ -72,6 +73,7 @@ pub fn count_released<S: Alter>(
     column: Attr,
 ) -> Result<Freq, Stopped>
     ensures answered { HasCleanDisk (state S.Store conn.new) → IfOk result (λ table. (s : Machine) → IsDesk S.Store conn.old s → (found : List Occurrence) × AreFound strategy query.now (searched s) found × IsTableOf (keys column found) table) }
+    ensures refused { result ≢ Err Stopped.Output }
     ensures fault { HasCleanDisk (state S.Store conn.new) → IfErr result (λ e. (s : Machine) → IsDesk S.Store conn.old s → IsFault e) }
     ensures fails { HasCleanDisk (state S.Store conn.new) → (state S.Store conn.old).step_limit ≡ None → IfErr result (λ e. (s : Machine) → IsDesk S.Store conn.old s → IsStopFault e) }
     ensures mode { conn.old.in_transaction ≡ false → conn.new.in_transaction ≡ false }
@@ -104,6 +106,7 @@ pub fn search_released<S: Alter, W: Sink>(
     out: &mut W,
 ) -> Result<u64, Stopped>
     ensures answered { HasCleanDisk (state S.Store conn.new) → IfOk result (λ n. (s : Machine) → IsDesk S.Store conn.old s → (found : List Occurrence) × AreFound strategy query.now (searched s) found × (n ≡ length found) × Appends (W.held out.old) (W.held out.new) (answer context found)) }
+    ensures refused { result ≡ Err Stopped.Output → HasReason (W.IsRefusal out.new) }
     ensures fault { HasCleanDisk (state S.Store conn.new) → IfErr result (λ e. (s : Machine) → IsDesk S.Store conn.old s → IsFault e) }
     ensures fails { HasCleanDisk (state S.Store conn.new) → (state S.Store conn.old).step_limit ≡ None → IfErr result (λ e. (s : Machine) → IsDesk S.Store conn.old s → IsStopFault e) }
     ensures broken { HasCleanDisk (state S.Store conn.new) → IfErr result (λ e. (s : Machine) → IsDesk S.Store conn.old s → (found : List Occurrence) → AreFound strategy query.now (searched s) found → IsBrokenOff e (W.held out.old) (W.held out.new) context found) }

@@ -1,6 +1,6 @@
 //! Sentences, read back from their texts, and what is found in them.
 
-ghost use Rattle.std.specs.Prelude.{◌≡◌, ◌<◌, ◌≤◌, ◌+◌, All, IfErr, IfOk, [], ◌∷◌};
+ghost use Rattle.std.specs.Prelude.{◌≡◌, ◌≢◌, ◌<◌, ◌≤◌, ◌+◌, All, Err, IfErr, IfOk, [], ◌∷◌};
 ghost use Rattle.tb_conllu.specs.Text.{BlockText};
 ghost use Rattle.tb_conllu.specs.Told.{IsFile};
 ghost use Rattle.tb_conllu.specs.Words.{words_of};
@@ -18,6 +18,7 @@ use tb_reading::ReadError;
 /// The sentence of which this is the text. It borrows from the text, which is cut, and tested for no more than UTF-8.
 pub(crate) fn sentence_in<'a>(alloc: Global, body: &'a [u8]) -> Result<BlockRef<'a>, Stopped>
     ensures read { IfOk result (λ b. (x : BlockText) → IsFile body.now (x ∷ []) → b ≡ x) }
+    ensures refused { result ≢ Err Stopped.Output }
     ensures fault { IfErr result (λ e. (x : BlockText) → IsFile body.now (x ∷ []) → IsFault e) }
     ensures fails { IfErr result IsStopFault }
 {
@@ -30,6 +31,7 @@ pub(crate) fn sentence_in<'a>(alloc: Global, body: &'a [u8]) -> Result<BlockRef<
 /// A count and some more.
 pub(crate) fn raised(count: u64, more: usize) -> Result<u64, Stopped>
     ensures sum { IfOk result (λ n. n ≡ count + more) }
+    ensures refused { result ≢ Err Stopped.Output }
     ensures fault { IfErr result IsFault }
     ensures fails { IfErr result IsStopFault }
 {
@@ -55,6 +57,7 @@ impl<'q> Seeker<'q> {
         strategy: Strategy,
     ) -> Result<Seeker<'q>, Stopped>
         ensures asked { IfOk result (λ s. (s.searcher ≡ query.now) × (s.strategy ≡ strategy)) }
+        ensures refused { result ≢ Err Stopped.Output }
         ensures fault { IfErr result IsFault }
         ensures fails { IfErr result IsStopFault }
     {
@@ -70,6 +73,7 @@ impl<'q> Seeker<'q> {
     pub(crate) fn hits(&mut self, block: &BlockRef<'_>) -> Result<Vec<(u32, u32)>, Stopped>
         ensures hits { IfOk result (λ v. AreHitsIn self.old.strategy self.old.searcher block.now v.items) }
         ensures lie { IfOk result (λ v. All (λ h. (h.0 < h.1) × (h.1 ≤ words_of block.now)) v.items) }
+        ensures refused { result ≢ Err Stopped.Output }
         ensures fault { IfErr result (λ e. words_of block.now ≤ 1000 → IsFault e) }
         ensures fails { IfErr result IsStopFault }
         ensures same { self.new ≡ self.old }

@@ -1,6 +1,6 @@
 //! What is done with the texts that a walk comes to.
 
-ghost use Rattle.std.specs.Prelude.{ℕ, List, IfErr, OnOk};
+ghost use Rattle.std.specs.Prelude.{◌≡◌, ℕ, List, Err, IfErr, OnOk};
 
 use crate::stopped::Stopped;
 
@@ -17,9 +17,13 @@ pub(crate) trait Visitor<O> {
     // what is left of what is filled where the walk stops at a text
     ghost Stops: { Self → O → List ℕ → Stopped → O → Type 0 };
 
+    // what is known of what is filled where it has refused a piece
+    ghost Refused: { O → Type 0 };
+
     /// Comes to a text.
     fn visit(&mut self, body: &[u8], filled: &mut O) -> Result<(), Stopped>
         ensures taken { OnOk result (Takes self.old filled.old body.now self.new filled.new) }
         ensures stopped { IfErr result (λ e. Stops self.old filled.old body.now e filled.new) }
+        ensures refused { result ≡ Err Stopped.Output → Refused filled.new }
         ensures fails { IfErr result IsStopFault };
 }

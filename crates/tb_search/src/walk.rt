@@ -1,6 +1,6 @@
 //! The walk over the bodies of all revisions, which visits those that are asked for.
 
-ghost use Rattle.std.specs.Prelude.{◌≡◌, ◌≢◌, ◌≤◌, false, List, map, All, IsTrue, IfOk, IfErr, OnOk, MatchBool, true, None};
+ghost use Rattle.std.specs.Prelude.{◌≡◌, ◌≢◌, ◌≤◌, false, List, map, All, IsTrue, IfOk, IfErr, OnOk, MatchBool, true, None, Err};
 ghost use Rattle.sqlite.specs.State.{HasCleanDisk, IsUnchanged, Survives};
 ghost use Rattle.sqlite.specs.Held.{state};
 ghost use Rattle.sqlite_trees.specs.Tree.{IsAscending};
@@ -35,6 +35,7 @@ fn visit_asked<O, V: Visitor<O>>(
     ensures taken { IfOk result (λ n. MatchBool (asks pick.now sent rev) ((n ≡ 1) × V.Takes visitor.old filled.old body.now visitor.new filled.new) ((n ≡ 0) × (visitor.new ≡ visitor.old) × (filled.new ≡ filled.old))) }
     ensures few { IfOk result (λ n. n ≤ 1) }
     ensures stopped { IfErr result (λ e. (asks pick.now sent rev ≡ true) × V.Stops visitor.old filled.old body.now e filled.new) }
+    ensures refused { result ≡ Err Stopped.Output → V.Refused filled.new }
     ensures fails { IfErr result IsStopFault }
 {
     if !is_asked(pick, sent, rev) {
@@ -53,6 +54,7 @@ pub(crate) fn visit_picked<S: Alter, O, V: Visitor<O>>(
 ) -> Result<(), Stopped>
     ensures taken { HasCleanDisk (state S.Store conn.new) → OnOk result ((state S.Store conn.old).now.schema ≡ desk_schema → (xs : List Revision) → All IsRevision xs → IsAscending ComesBefore xs → Shows revision_view (map revision_shown xs) ((state S.Store conn.old).now.trees 5) → AllTaken V.Takes visitor.old filled.old (bodies_of (picked picks.now xs)) visitor.new filled.new) }
     ensures halted { HasCleanDisk (state S.Store conn.new) → IfErr result (λ e. (state S.Store conn.old).now.schema ≡ desk_schema → (xs : List Revision) → All IsRevision xs → IsAscending ComesBefore xs → Shows revision_view (map revision_shown xs) ((state S.Store conn.old).now.trees 5) → Halted V.Takes V.Stops visitor.old filled.old (bodies_of (picked picks.now xs)) e filled.new) }
+    ensures refused { result ≡ Err Stopped.Output → V.Refused filled.new }
     ensures fails { HasCleanDisk (state S.Store conn.new) → (state S.Store conn.old).step_limit ≡ None → IfErr result (λ e. (state S.Store conn.old).now.schema ≡ desk_schema → (xs : List Revision) → All IsRevision xs → IsAscending ComesBefore xs → Shows revision_view (map revision_shown xs) ((state S.Store conn.old).now.trees 5) → IsStopFault e) }
     ensures same { HasCleanDisk (state S.Store conn.new) → OnOk result ((state S.Store conn.old).now.schema ≡ desk_schema → IsUnchanged (state S.Store conn.old) (state S.Store conn.new)) }
     ensures mode { conn.old.in_transaction ≡ false → conn.new.in_transaction ≡ false }
