@@ -15,6 +15,7 @@ ghost use Rattle.tb_core.specs.Steps.{Steps};
 ghost use Rattle.tb_report.specs.Tables.{IsTableOf};
 ghost use Rattle.tb_search.specs.Released.{released, in_batch, current_text};
 ghost use Rattle.tb_search.specs.Searched.{Occurrence, answer, keys};
+ghost use Rattle.tb_search.specs.Visited.{HasReason};
 ghost use Rattle.tb_acting.specs.Finding.{HasNumber};
 ghost use Rattle.tb_acting.specs.Working.{IsWithin};
 ghost use Rattle.tb_standing.specs.Standing.{tables_of, IsDesk};
@@ -162,6 +163,7 @@ impl<S: Alter> Desk<S> {
         requires within { IsWithin limits }
         ensures adopted { IfOk result (λ d. HasCleanDisk (state S.Store d.conn) → (s : Machine) × IsDesk S.Store conn s × StandsFor S.Store d s) }
         ensures limits { IfOk result (λ d. d.limits ≡ limits) }
+        ensures no_step_limit { IfOk result (λ d. (state S.Store d.conn).step_limit ≡ None) }
         ensures unfit { IfErr result (λ u. HasCleanDisk (state S.Store u.conn) → u.fault ≡ Fault.NotADesk → (s : Machine) → IsDesk S.Store conn s → ⊥) }
         ensures refused { IfErr result (λ u. (r : AnyRefusal) → u.fault ≢ Fault.Refused r) }
         ensures again { IfErr result (λ u. HasCleanDisk (state S.Store u.conn) → IsTrue (state S.Store u.conn).is_open → (s : Machine) → IsDesk S.Store conn s → IsDesk S.Store u.conn s) }
@@ -288,6 +290,7 @@ impl<S: Alter> Desk<S> {
         ensures put { HasCleanDisk (state S.Store self.new.conn) → OnOk result ((s : Machine) → StandsFor S.Store self.old s → Appends (W.held out.old) (W.held out.new) (current_text (released s))) }
         ensures part { HasCleanDisk (state S.Store self.new.conn) → IfErr result (λ e. (s : Machine) → StandsFor S.Store self.old s → IsBrokenOff e (W.held out.old) (W.held out.new) (released s)) }
         ensures refused { (r : AnyRefusal) → result ≢ Err (Fault.Refused r) }
+        ensures output { result ≡ Err Fault.Output → HasReason (W.IsRefusal out.new) }
         ensures fails { HasCleanDisk (state S.Store self.new.conn) → (state S.Store self.old.conn).step_limit ≡ None → (s : Machine) → StandsFor S.Store self.old s → result ≢ Err Fault.NotADesk }
         ensures kept { HasCleanDisk (state S.Store self.new.conn) → IsTrue (state S.Store self.new.conn).is_open → (s : Machine) → StandsFor S.Store self.old s → StandsFor S.Store self.new s }
         ensures crash { (s : Machine) → StandsFor S.Store self.old s → Survives (state S.Store self.old.conn) (state S.Store self.new.conn) (λ _. ⊥) }
@@ -306,6 +309,7 @@ impl<S: Alter> Desk<S> {
         ensures part { HasCleanDisk (state S.Store self.new.conn) → IfErr result (λ e. (s : Machine) → StandsFor S.Store self.old s → IsPartOfBatch s name.now e (W.held out.old) (W.held out.new)) }
         ensures bad_name { is_name name.now ≡ false → result ≡ Err (Fault.Refused Refusal.BadName) }
         ensures refused { HasCleanDisk (state S.Store self.new.conn) → IfErr result (λ e. (s : Machine) → StandsFor S.Store self.old s → RefusesBatch s name.now e) }
+        ensures output { result ≡ Err Fault.Output → HasReason (W.IsRefusal out.new) }
         ensures fails { HasCleanDisk (state S.Store self.new.conn) → (state S.Store self.old.conn).step_limit ≡ None → (s : Machine) → StandsFor S.Store self.old s → result ≢ Err Fault.NotADesk }
         ensures none { (r : AnyRefusal) → result ≡ Err (Fault.Refused r) → W.held out.new ≡ W.held out.old }
         ensures kept { HasCleanDisk (state S.Store self.new.conn) → IsTrue (state S.Store self.new.conn).is_open → (s : Machine) → StandsFor S.Store self.old s → StandsFor S.Store self.new s }
@@ -326,6 +330,7 @@ impl<S: Alter> Desk<S> {
     pub fn number(&mut self, query: &Query, strategy: Strategy) -> Result<u64, Fault>
         ensures answered { HasCleanDisk (state S.Store self.new.conn) → IfOk result (λ n. (s : Machine) → StandsFor S.Store self.old s → IsNumber s query.now strategy self.old.limits.hits n) }
         ensures refused { HasCleanDisk (state S.Store self.new.conn) → (r : AnyRefusal) → result ≡ Err (Fault.Refused r) → (r ≡ Refusal.TooManyHits) × ((s : Machine) → StandsFor S.Store self.old s → HasTooMany s query.now strategy self.old.limits.hits) }
+        ensures output { result ≢ Err Fault.Output }
         ensures fails { HasCleanDisk (state S.Store self.new.conn) → (state S.Store self.old.conn).step_limit ≡ None → (s : Machine) → StandsFor S.Store self.old s → result ≢ Err Fault.NotADesk }
         ensures stays { HasCleanDisk (state S.Store self.new.conn) → OnOk result ((s : Machine) → StandsFor S.Store self.old s → StandsFor S.Store self.new s) }
         ensures kept { HasCleanDisk (state S.Store self.new.conn) → IsTrue (state S.Store self.new.conn).is_open → (s : Machine) → StandsFor S.Store self.old s → StandsFor S.Store self.new s }
@@ -361,6 +366,7 @@ impl<S: Alter> Desk<S> {
         ensures answered { HasCleanDisk (state S.Store self.new.conn) → IfOk result (λ n. (s : Machine) → StandsFor S.Store self.old s → (found : List Occurrence) × AreReleasedHits s query.now strategy found × (n ≡ length found) × Appends (W.held out.old) (W.held out.new) (answer context found)) }
         ensures broken { HasCleanDisk (state S.Store self.new.conn) → IfErr result (λ e. (s : Machine) → StandsFor S.Store self.old s → (found : List Occurrence) → AreReleasedHits s query.now strategy found → IsPartFound e (W.held out.old) (W.held out.new) context found) }
         ensures refused { (r : AnyRefusal) → result ≢ Err (Fault.Refused r) }
+        ensures output { result ≡ Err Fault.Output → HasReason (W.IsRefusal out.new) }
         ensures fails { HasCleanDisk (state S.Store self.new.conn) → (state S.Store self.old.conn).step_limit ≡ None → (s : Machine) → StandsFor S.Store self.old s → result ≢ Err Fault.NotADesk }
         ensures kept { HasCleanDisk (state S.Store self.new.conn) → IsTrue (state S.Store self.new.conn).is_open → (s : Machine) → StandsFor S.Store self.old s → StandsFor S.Store self.new s }
         ensures crash { (s : Machine) → StandsFor S.Store self.old s → Survives (state S.Store self.old.conn) (state S.Store self.new.conn) (λ _. ⊥) }
@@ -375,6 +381,7 @@ impl<S: Alter> Desk<S> {
     pub fn count(&mut self, query: &Query, strategy: Strategy, column: Attr) -> Result<Freq, Fault>
         ensures answered { HasCleanDisk (state S.Store self.new.conn) → IfOk result (λ table. (s : Machine) → StandsFor S.Store self.old s → (found : List Occurrence) × AreReleasedHits s query.now strategy found × IsTableOf (keys column found) table) }
         ensures refused { (r : AnyRefusal) → result ≢ Err (Fault.Refused r) }
+        ensures output { result ≢ Err Fault.Output }
         ensures fails { HasCleanDisk (state S.Store self.new.conn) → (state S.Store self.old.conn).step_limit ≡ None → (s : Machine) → StandsFor S.Store self.old s → result ≢ Err Fault.NotADesk }
         ensures kept { HasCleanDisk (state S.Store self.new.conn) → IsTrue (state S.Store self.new.conn).is_open → (s : Machine) → StandsFor S.Store self.old s → StandsFor S.Store self.new s }
         ensures crash { (s : Machine) → StandsFor S.Store self.old s → Survives (state S.Store self.old.conn) (state S.Store self.new.conn) (λ _. ⊥) }

@@ -12,6 +12,7 @@ ghost use Rattle.tb_core.specs.Names.{is_name};
 ghost use Rattle.tb_core.specs.Machine.{Machine};
 ghost use Rattle.tb_standing.specs.Standing.{IsDesk};
 ghost use Rattle.tb_search.specs.Released.{released as released_in, in_batch, current_text};
+ghost use Rattle.tb_search.specs.Visited.{HasReason};
 ghost use Rattle.tb_acting.specs.Finding.{HasNumber};
 ghost use Rattle.tb_store.specs.Exports.{IsBrokenOff, IsPartOfBatch, RefusesBatch};
 
@@ -32,6 +33,7 @@ pub(crate) fn released<S: Alter, W: Sink>(
     ensures put { HasCleanDisk (state S.Store conn.new) → OnOk result ((s : Machine) → IsDesk S.Store conn.old s → Appends (W.held out.old) (W.held out.new) (current_text (released_in s))) }
     ensures part { HasCleanDisk (state S.Store conn.new) → IfErr result (λ e. (s : Machine) → IsDesk S.Store conn.old s → IsBrokenOff e (W.held out.old) (W.held out.new) (released_in s)) }
     ensures refused { (r : AnyRefusal) → result ≢ Err (Fault.Refused r) }
+    ensures output { result ≡ Err Fault.Output → HasReason (W.IsRefusal out.new) }
     ensures fails { HasCleanDisk (state S.Store conn.new) → (state S.Store conn.old).step_limit ≡ None → (s : Machine) → IsDesk S.Store conn.old s → result ≢ Err Fault.NotADesk }
     ensures mode { conn.old.in_transaction ≡ false → conn.new.in_transaction ≡ false }
     ensures kept { HasCleanDisk (state S.Store conn.new) → IsTrue (state S.Store conn.new).is_open → (d : Tables) → Holds S.Store conn.old d → Holds S.Store conn.new d }
@@ -53,6 +55,7 @@ fn numbered<S: Alter, W: Sink>(
     ensures put { HasCleanDisk (state S.Store conn.new) → OnOk result ((s : Machine) → IsDesk S.Store conn.old s → Appends (W.held out.old) (W.held out.new) (current_text (in_batch s number))) }
     ensures part { HasCleanDisk (state S.Store conn.new) → IfErr result (λ e. (s : Machine) → IsDesk S.Store conn.old s → IsBrokenOff e (W.held out.old) (W.held out.new) (in_batch s number)) }
     ensures refused { (r : AnyRefusal) → result ≢ Err (Fault.Refused r) }
+    ensures output { result ≡ Err Fault.Output → HasReason (W.IsRefusal out.new) }
     ensures fails { HasCleanDisk (state S.Store conn.new) → (state S.Store conn.old).step_limit ≡ None → (s : Machine) → IsDesk S.Store conn.old s → result ≢ Err Fault.NotADesk }
     ensures mode { conn.old.in_transaction ≡ false → conn.new.in_transaction ≡ false }
     ensures kept { HasCleanDisk (state S.Store conn.new) → IsTrue (state S.Store conn.new).is_open → (d : Tables) → Holds S.Store conn.old d → Holds S.Store conn.new d }
@@ -79,6 +82,7 @@ pub(crate) fn batch<S: Alter, W: Sink>(
     ensures part { HasCleanDisk (state S.Store conn.new) → IfErr result (λ e. (s : Machine) → IsDesk S.Store conn.old s → IsPartOfBatch s name.now e (W.held out.old) (W.held out.new)) }
     ensures bad_name { is_name name.now ≡ false → result ≡ Err (Fault.Refused Refusal.BadName) }
     ensures refused { HasCleanDisk (state S.Store conn.new) → IfErr result (λ e. (s : Machine) → IsDesk S.Store conn.old s → RefusesBatch s name.now e) }
+    ensures output { result ≡ Err Fault.Output → HasReason (W.IsRefusal out.new) }
     ensures fails { HasCleanDisk (state S.Store conn.new) → (state S.Store conn.old).step_limit ≡ None → (s : Machine) → IsDesk S.Store conn.old s → result ≢ Err Fault.NotADesk }
     ensures none { (r : AnyRefusal) → result ≡ Err (Fault.Refused r) → W.held out.new ≡ W.held out.old }
     ensures mode { conn.old.in_transaction ≡ false → conn.new.in_transaction ≡ false }

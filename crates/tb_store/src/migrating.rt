@@ -1,6 +1,6 @@
 //! A desk of version 1 that is taken into use.
 
-ghost use Rattle.std.specs.Prelude.{◌≡◌, ◌≢◌, IsTrue, IfOk, IfErr};
+ghost use Rattle.std.specs.Prelude.{◌≡◌, ◌≢◌, None, IsTrue, IfOk, IfErr};
 ghost use Rattle.sqlite.specs.State.{HasCleanDisk, Survives};
 ghost use Rattle.sqlite.specs.Held.{state};
 ghost use Rattle.tb_tables.specs.Records.{Stands};
@@ -30,6 +30,7 @@ impl<S: Alter> Desk<S> {
         requires within { IsWithin limits }
         ensures migrated { IfOk result (λ d. HasCleanDisk (state S.Store d.conn) → (s : Machine) × IsFirstDesk S.Store conn s × StandsFor S.Store d s) }
         ensures limits { IfOk result (λ d. d.limits ≡ limits) }
+        ensures no_step_limit { IfOk result (λ d. (state S.Store d.conn).step_limit ≡ None) }
         ensures unfit { IfErr result (λ u. HasCleanDisk (state S.Store u.conn) → u.fault ≡ Fault.NotADesk → (s : Machine) → IsFirstDesk S.Store conn s → ⊥) }
         ensures untouched { IfErr result (λ u. HasCleanDisk (state S.Store u.conn) → u.fault ≡ Fault.NotADesk → (state S.Store u.conn).now ≡ (state S.Store conn).now) }
         ensures unwritten { IfErr result (λ u. u.fault ≡ Fault.NotADesk → Survives (state S.Store (unlimited conn)) (state S.Store u.conn) (λ _. ⊥)) }

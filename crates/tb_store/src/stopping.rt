@@ -1,6 +1,6 @@
 //! Why a walk over the sentences of a desk ended early.
 
-ghost use Rattle.std.specs.Prelude.{◌≢◌, ℕ, List, Option};
+ghost use Rattle.std.specs.Prelude.{◌≡◌, ◌≢◌, ℕ, List, Option};
 ghost use Rattle.tb_core.specs.declared.refusals.Refusal.{Refusal as AnyRefusal};
 ghost use Rattle.tb_core.specs.Machine.{Sentence};
 ghost use Rattle.tb_search.specs.Released.{IsCutShort};
@@ -19,6 +19,7 @@ pub(crate) fn fault_of(stopped: Stopped) -> Fault
     ensures left { (old new : Option (List ℕ)) (xs : List Sentence) → IsCutShort stopped old new xs → IsBrokenOff result old new xs }
     ensures found { (old new : Option (List ℕ)) (n : ℕ) (xs : List Occurrence) → IsSearchBrokenOff stopped old new n xs → IsPartFound result old new n xs }
     ensures refused { (r : AnyRefusal) → result ≢ Fault.Refused r }
+    ensures output { result ≡ Fault.Output → stopped ≡ Stopped.Output }
     ensures fails { IsFault stopped → IsStopFault stopped → result ≢ Fault.NotADesk }
 {
     match stopped {

@@ -1,4 +1,4 @@
-use Rattle.std.proofs.Common.{Err, sym, ap, subst}
+use Rattle.std.proofs.Common.{◌≡◌, None, Err, sym, ap, subst, ◌∙◌}
 use Rattle.sqlite.specs.State.{HasCleanDisk, Survives}
 use Rattle.sqlite.specs.Held.{state}
 use Rattle.tb_acting.proofs.Unchanged.{desk_kept}
@@ -22,6 +22,12 @@ returns-in-Ok-clause-crash g c =
     let same = ap (λ (k : Kept g.row.S.Denot). k.conn) c.over.ensures in
     let begun = subst (λ h. Survives (state g.S.Store h) (state g.S.Store c.read_desk.new.conn) (λ _. ⊥)) c.without_limit-conn.ensures c.read_desk.ensures.survives in
     subst (λ h. Survives (state g.S.Store (unlimited c.args.conn)) (state g.S.Store h) (λ _. ⊥)) (sym same) begun
+
+pub returns-in-Ok-clause-no_step_limit : goal.returns-in-Ok-clause-no_step_limit
+returns-in-Ok-clause-no_step_limit g c =
+    let same = ap (λ (k : Kept g.row.S.Denot). k.conn) c.over.ensures in
+    let read : (state g.S.Store c.read_desk.new.conn).step_limit ≡ None = c.read_desk.ensures.survives.limit ∙ ap (λ h. (state g.S.Store h).step_limit) c.without_limit-conn.ensures in
+    subst (λ h. (state g.S.Store h).step_limit ≡ None) (sym same) read
 
 pub returns-in-Err-clause-unfit : goal.returns-in-Err-clause-unfit
 returns-in-Err-clause-unfit g c clean is s desk = c.in-Err.ensures.unfit clean (ap (λ f. Err f) is) s (desk_unlimited g.S.Store c.args.conn c.without_limit-conn.result c.without_limit-conn.ensures s desk)

@@ -1,4 +1,4 @@
-use Rattle.std.proofs.Common.{Err, sym, ap, subst, ◌∙◌}
+use Rattle.std.proofs.Common.{◌≡◌, None, Err, sym, ap, subst, ◌∙◌}
 use Rattle.sqlite.specs.State.{HasCleanDisk, Survives}
 use Rattle.sqlite.specs.Held.{state}
 use Rattle.tb_store.specs.Kept.{Kept}
@@ -23,6 +23,12 @@ returns-in-Ok-clause-crash g c =
     let there = survives_unlimited g.S.Store c.args.conn c.without_limit-conn.result c.migrate.new.conn c.without_limit-conn.ensures c.migrate.ensures.crash in
     let begun = subst (λ h. Survives (state g.S.Store h) (state g.S.Store c.migrate.new.conn) (LeavesDesk g.S.Store c.args.conn)) c.without_limit-conn.ensures there in
     subst (λ h. Survives (state g.S.Store (unlimited c.args.conn)) (state g.S.Store h) (LeavesDesk g.S.Store c.args.conn)) (sym same) begun
+
+pub returns-in-Ok-clause-no_step_limit : goal.returns-in-Ok-clause-no_step_limit
+returns-in-Ok-clause-no_step_limit g c =
+    let same = ap (λ (k : Kept g.row.S.Denot). k.conn) c.over.ensures in
+    let made : (state g.S.Store c.migrate.new.conn).step_limit ≡ None = c.migrate.ensures.crash.limit ∙ ap (λ h. (state g.S.Store h).step_limit) c.without_limit-conn.ensures in
+    subst (λ h. (state g.S.Store h).step_limit ≡ None) (sym same) made
 
 pub returns-in-Err-clause-unfit : goal.returns-in-Err-clause-unfit
 returns-in-Err-clause-unfit g c clean is s desk = c.in-Err.ensures.unfit clean (ap (λ f. Err f) is) s (first_unlimited g.S.Store c.args.conn c.without_limit-conn.result c.without_limit-conn.ensures s desk)
