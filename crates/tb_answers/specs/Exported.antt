@@ -3,9 +3,10 @@ use Rattle.std.specs.Prelude.{◌≡◌, ◌⊎◌, ℕ, List, Option, Some, Non
 use Rattle.std.specs.Io.KnownBytes.{Appends}
 use Rattle.tb_core.specs.declared.refusals.Refusal.{Refusal}
 use Rattle.tb_core.specs.declared.refusals.Fault.{Fault}
-use Rattle.tb_core.specs.declared.refusals.Fault.TheVariants.{Refused}
+use Rattle.tb_core.specs.declared.refusals.Fault.TheVariants.{Refused, Output}
 use Rattle.tb_core.specs.Machine.{Machine, Sentence}
 use Rattle.tb_search.specs.Released.{released, in_batch, current_text}
+use Rattle.tb_search.specs.Visited.{HasReason}
 use Rattle.tb_acting.specs.Finding.{HasNumber}
 use Rattle.tb_store.specs.Exports.{IsBrokenOff, IsPartOfBatch, RefusesBatch}
 use Rattle.tb_http.specs.declared.replies.Reply.{Reply}
@@ -38,12 +39,12 @@ IsCutOff s None e old new = IsBrokenOff e old new (released s)
 IsCutOff s (Some name) e old new = IsPartOfBatch s name e old new
 
 -- What a sink holds of an export, and the exit status: the text and 0; the line of the refusal and its status; or what was put
--- before it broke off, and 3.
+-- before it broke off, by the sink only where that refused a piece, and 3.
 abbrev pub IsExportWritten : {Reason : Type 0} → Machine → (name : Option (List ℕ)) → (old new : Option (List ℕ)) → (Reason → Type 0) → (status : ℕ) → Type 0
 IsExportWritten s name old new is_refusal status =
     ((text : List ℕ) × HasExport s name (Ok text) × Appends old new text × (status ≡ 0))
     ⊎ ((r : Refusal) × HasExport s name (Err r) × IsWritten old new (reply_text (reply.Refused r)) (exit_of (reply.Refused r)) is_refusal status)
-    ⊎ ((e : Fault) × ((r : Refusal) → e ≡ Refused r → ⊥) × IsCutOff s name e old new × (status ≡ 3))
+    ⊎ ((e : Fault) × ((r : Refusal) → e ≡ Refused r → ⊥) × IsCutOff s name e old new × (e ≡ Output → HasReason is_refusal) × (status ≡ 3))
 
 -- what is told in place of the text: the refusal, or a failure of the call
 abbrev pub IsToldOfExport : Machine → (name : Option (List ℕ)) → Reply → Type 0

@@ -21,6 +21,7 @@ use Rattle.tb_http.specs.declared.status.Status.TheVariants.{Ok}
 use Rattle.tb_http.specs.Heads.{head_text}
 use Rattle.tb_http.specs.Replies.{reply_text, status_of, exit_of}
 use Rattle.tb_search.specs.Searched.{Occurrence, answer, keys, lines}
+use Rattle.tb_search.specs.Visited.{HasReason}
 use Rattle.tb_store.specs.Found.{AreReleasedHits, HasTooMany, IsAbove}
 use Rattle.tb_answers.specs.declared.finding.Search.{Search}
 use Rattle.tb_answers.specs.declared.finding.Count.{Count}
@@ -91,9 +92,10 @@ IsStreamed s q strategy n head old new BrokenOff =
     (found : List Occurrence) → AreReleasedHits s q strategy found → (first : List Occurrence) × (rest : List Occurrence) × (found ≡ first ++ rest) × Appends old new (head ++ lines n first)
 IsStreamed s q strategy n head old new Refused = (found : List Occurrence) → AreReleasedHits s q strategy found → AppendsPart old new (head ++ answer n found)
 
--- the text asks a query, and what it finds was put after a head
-abbrev pub IsFound : Limits → Machine → SearchText → (head : List ℕ) → (old new : Option (List ℕ)) → Ending → Type 0
-IsFound l s x head old new e = (q : Asked) × Asks l s x.query x.strategy q × IsStreamed s q x.strategy x.context head old new e
+-- the text asks a query, and what it finds was put after a head, but for what the sink refused, for one of its reasons
+abbrev pub IsFound : {Reason : Type 0} → Limits → Machine → SearchText → (head : List ℕ) → (old new : Option (List ℕ)) → (Reason → Type 0) → Ending → Type 0
+IsFound l s x head old new is_refusal e =
+    (q : Asked) × Asks l s x.query x.strategy q × IsStreamed s q x.strategy x.context head old new e × (e ≡ Refused → HasReason is_refusal)
 
 abbrev pub exit_of_ending : Ending → ℕ
 exit_of_ending Whole = 0
@@ -109,7 +111,7 @@ told_of_ending Refused = None
 -- A search on the command line: what is found, and the status of its ending; or the line of a reply, and its own status.
 abbrev pub IsSearchRun : {Reason : Type 0} → Limits → Machine → SearchText → (old new : Option (List ℕ)) → (Reason → Type 0) → (status : ℕ) → Type 0
 IsSearchRun l s x old new is_refusal status =
-    ((e : Ending) × IsFound l s x [] old new e × (status ≡ exit_of_ending e))
+    ((e : Ending) × IsFound l s x [] old new is_refusal e × (status ≡ exit_of_ending e))
     ⊎ ((r : Reply) × IsToldOfQuery l s x.query x.strategy r × IsWritten old new (reply_text r) (exit_of r) is_refusal status)
 
 -- the head of a search over HTTP: no length is told, since none is known
@@ -119,7 +121,7 @@ search_head = head_text Ok None extra.Nothing
 -- A search over HTTP: what is found after its head; or the response of a reply.
 abbrev pub IsSearchResponse : {Reason : Type 0} → Limits → Machine → SearchText → (old new : Option (List ℕ)) → (Reason → Type 0) → (told : Option Status) → Type 0
 IsSearchResponse l s x old new is_refusal told =
-    ((e : Ending) × IsFound l s x search_head old new e × (told ≡ told_of_ending e))
+    ((e : Ending) × IsFound l s x search_head old new is_refusal e × (told ≡ told_of_ending e))
     ⊎ ((r : Reply) × IsToldOfQuery l s x.query x.strategy r × IsSent old new (reply_response r) (status_of r) is_refusal told)
 
 -- ---- a count, whose table is made whole

@@ -2,10 +2,7 @@
 use Rattle.std.specs.Prelude.{◌≡◌, ◌⊎◌, ℕ, List, Option}
 use Rattle.std.specs.Io.KnownBytes.{Appends}
 use Rattle.tb_conllu.specs.Sunk.{AppendsPart}
-
--- for one of its reasons
-abbrev pub HasReason : {Reason : Type 0} → (Reason → Type 0) → Type 0
-HasReason {Reason} is_refusal = (reason : Reason) × is_refusal reason
+use Rattle.tb_search.specs.Visited.{HasReason}
 
 -- The text was written whole and the status is its own; or the sink refused it, for one of its reasons, holds a part of it from
 -- the front, and the status is 3.

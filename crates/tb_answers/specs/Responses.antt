@@ -18,7 +18,7 @@ use Rattle.tb_store.specs.Standing.{StandsFor}
 use Rattle.tb_answers.specs.Commanded.{IsAnswered}
 use Rattle.tb_answers.specs.Asked.{IsBody, IsToldOf}
 use Rattle.tb_answers.specs.Calls.{CallText, commands, asks}
-use Rattle.tb_answers.specs.Output.{HasReason}
+use Rattle.tb_search.specs.Visited.{HasReason}
 
 -- the response whose body is a reply's line
 abbrev pub reply_response : Reply → List ℕ

@@ -24,7 +24,8 @@ pub(crate) enum Ending {
 
 /// How a search ends that has this fault.
 pub(crate) fn ending_of(fault: Fault) -> Ending
-    ensures { (s : Machine) (q : Asked) (strategy : AnyStrategy) (n : ℕ) (old new : Option (List ℕ)) → ((found : List Occurrence) → AreReleasedHits s q strategy found → IsPartFound fault old new n found) → IsStreamed s q strategy n [] old new result }
+    ensures streamed { (s : Machine) (q : Asked) (strategy : AnyStrategy) (n : ℕ) (old new : Option (List ℕ)) → ((found : List Occurrence) → AreReleasedHits s q strategy found → IsPartFound fault old new n found) → IsStreamed s q strategy n [] old new result }
+    ensures refused { result ≡ Ending.Refused → fault ≡ Fault.Output }
 {
     match fault {
         Fault::Output => Ending::Refused,

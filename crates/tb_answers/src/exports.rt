@@ -6,6 +6,7 @@ ghost use Rattle.sqlite.specs.State.{HasCleanDisk, Survives};
 ghost use Rattle.sqlite.specs.Held.{state};
 ghost use Rattle.tb_core.specs.declared.refusals.Refusal.{Refusal as AnyRefusal};
 ghost use Rattle.tb_core.specs.Machine.{Machine};
+ghost use Rattle.tb_search.specs.Visited.{HasReason};
 ghost use Rattle.tb_http.specs.declared.status.Status.{Status as AnyStatus};
 ghost use Rattle.tb_store.specs.Standing.{StandsFor};
 ghost use Rattle.tb_answers.specs.Commanded.{IsFailure};
@@ -33,6 +34,7 @@ fn export<S: Alter, W: Sink>(
     ensures put { HasCleanDisk (state S.Store desk.new.conn) → OnOk result ((s : Machine) → StandsFor S.Store desk.old s → (text : List ℕ) × HasExport s (option_map (λ n. n.now) name.entry) (OkOf text) × Appends (W.held out.old) (W.held out.new) text) }
     ensures part { HasCleanDisk (state S.Store desk.new.conn) → IfErr result (λ e. (s : Machine) → StandsFor S.Store desk.old s → IsCutOff s (option_map (λ n. n.now) name.entry) e (W.held out.old) (W.held out.new)) }
     ensures refused { HasCleanDisk (state S.Store desk.new.conn) → (r : AnyRefusal) → result ≡ ErrOf (Fault.Refused r) → (s : Machine) → StandsFor S.Store desk.old s → RefusesExport s (option_map (λ n. n.now) name.entry) r }
+    ensures output { result ≡ ErrOf Fault.Output → HasReason (W.IsRefusal out.new) }
     ensures none { (r : AnyRefusal) → result ≡ ErrOf (Fault.Refused r) → W.held out.new ≡ W.held out.old }
     ensures kept { HasCleanDisk (state S.Store desk.new.conn) → IsTrue (state S.Store desk.new.conn).is_open → (s : Machine) → StandsFor S.Store desk.old s → StandsFor S.Store desk.new s }
     ensures crash { (s : Machine) → StandsFor S.Store desk.old s → Survives (state S.Store desk.old.conn) (state S.Store desk.new.conn) (λ _. ⊥) }

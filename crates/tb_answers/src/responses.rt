@@ -4,7 +4,7 @@ ghost use Rattle.std.specs.Prelude.{◌≡◌, ◌++◌, true, false};
 ghost use Rattle.std.specs.Io.KnownBytes.{Appends};
 ghost use Rattle.tb_conllu.specs.Sunk.{AppendsPart};
 ghost use Rattle.tb_http.specs.Replies.{status_of};
-ghost use Rattle.tb_answers.specs.Output.{HasReason};
+ghost use Rattle.tb_search.specs.Visited.{HasReason};
 ghost use Rattle.tb_answers.specs.Responses.{reply_response, extra_of_revision, body_head, body_response, IsSent};
 
 use crate::questions::Body;

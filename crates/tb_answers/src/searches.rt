@@ -5,6 +5,7 @@ ghost use Rattle.sqlite.specs.State.{HasCleanDisk, Survives};
 ghost use Rattle.sqlite.specs.Held.{state};
 ghost use Rattle.tb_tables.specs.Layout.{desk_schema};
 ghost use Rattle.tb_core.specs.Machine.{Machine};
+ghost use Rattle.tb_search.specs.Visited.{HasReason};
 ghost use Rattle.tb_store.specs.Standing.{StandsFor};
 ghost use Rattle.tb_answers.specs.Found.{search_by, search_head, IsSearchResponse, IsSearchRun, IsStreamed};
 
@@ -28,6 +29,7 @@ fn put_found<S: Alter, W: Sink>(
     out: &mut W,
 ) -> Ending
     ensures put { HasCleanDisk (state S.Store desk.new.conn) → (s : Machine) → StandsFor S.Store desk.old s → IsStreamed s query.now search.entry.strategy search.entry.context [] (W.held out.old) (W.held out.new) result }
+    ensures reason { result ≡ Ending.Refused → HasReason (W.IsRefusal out.new) }
     ensures kept { HasCleanDisk (state S.Store desk.new.conn) → IsTrue (state S.Store desk.new.conn).is_open → (s : Machine) → StandsFor S.Store desk.old s → StandsFor S.Store desk.new s }
     ensures lasts { Survives (state S.Store desk.old.conn) (state S.Store desk.new.conn) (λ _. (state S.Store desk.old.conn).now.schema ≢ desk_schema) }
     ensures limits { desk.new.limits ≡ desk.old.limits }
@@ -72,6 +74,7 @@ fn send_found<S: Alter, W: Sink>(
     out: &mut W,
 ) -> Ending
     ensures put { HasCleanDisk (state S.Store desk.new.conn) → (s : Machine) → StandsFor S.Store desk.old s → IsStreamed s query.now search.entry.strategy search.entry.context search_head (W.held out.old) (W.held out.new) result }
+    ensures reason { result ≡ Ending.Refused → HasReason (W.IsRefusal out.new) }
     ensures kept { HasCleanDisk (state S.Store desk.new.conn) → IsTrue (state S.Store desk.new.conn).is_open → (s : Machine) → StandsFor S.Store desk.old s → StandsFor S.Store desk.new s }
     ensures lasts { Survives (state S.Store desk.old.conn) (state S.Store desk.new.conn) (λ _. (state S.Store desk.old.conn).now.schema ≢ desk_schema) }
     ensures limits { desk.new.limits ≡ desk.old.limits }

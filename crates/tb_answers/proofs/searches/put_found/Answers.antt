@@ -6,4 +6,4 @@ returns-in-Ok-clause-put g c clean s stands =
     (it.0, it.1, it.3)
 
 pub returns-in-Err-clause-put : goal.returns-in-Err-clause-put
-returns-in-Err-clause-put g c clean s stands = c.ending_of.ensures s c.args.query.now c.args.search.strategy c.args.search.context _ _ (c.in-Err.ensures.broken clean s stands)
+returns-in-Err-clause-put g c clean s stands = c.ending_of.ensures.streamed s c.args.query.now c.args.search.strategy c.args.search.context _ _ (c.in-Err.ensures.broken clean s stands)

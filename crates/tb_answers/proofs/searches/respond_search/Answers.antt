@@ -7,7 +7,7 @@ use Rattle.tb_answers.proofs.searches.respond_search.Goals as goal
 pub returns-in-Ok-clause-written : goal.returns-in-Ok-clause-written
 returns-in-Ok-clause-written g c clean s stands =
     let mid : HasCleanDisk (state g.S.Store c.accepted.new.desk.conn) = omega (arith, clean, c.send_found.ensures.lasts.clean) in
-    inl (c.send_found.result, (c.in-Ok.query, c.in-Ok.ensures.accepted mid s stands, c.send_found.ensures.put clean s (c.in-Ok.ensures.stays mid s stands)), c.told_of.ensures)
+    inl (c.send_found.result, (c.in-Ok.query, c.in-Ok.ensures.accepted mid s stands, c.send_found.ensures.put clean s (c.in-Ok.ensures.stays mid s stands), c.send_found.ensures.reason), c.told_of.ensures)
 
 pub returns-in-Ok-clause-kept : goal.returns-in-Ok-clause-kept
 returns-in-Ok-clause-kept g c clean opened s stands =
