@@ -1,4 +1,4 @@
-//! Tests of the desk machine: decisions, bodies, the order of tests, the texts of refusals and faults, and totals.
+//! Tests of the desk machine: decisions, bodies, the order of tests, the texts of refusals and faults, totals, and the replay.
 #![tactic(auto)]
 
 #[cfg(test)]
@@ -11,6 +11,10 @@ mod faulty;
 mod order_tests;
 #[cfg(test)]
 mod reading;
+#[cfg(test)]
+mod replay_tests;
+#[cfg(test)]
+mod rows;
 #[cfg(test)]
 mod text_tests;
 #[cfg(test)]

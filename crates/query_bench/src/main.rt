@@ -1,25 +1,18 @@
 //! Times queries: reading their texts, and searching sentences. `query_bench times < FILE` searches those of a CoNLL-U file
 //! on standard input, which is read once before; `query_bench drawn` searches sentences of drawn tags, `query_bench
 //! repetitions` one of 1,000 words for repetitions within one another, both with tables made before, and `query_bench depth
-//! N` tries a pattern N levels deep. `query_bench lines < FILE` puts keyword lines of a file's words, `query_bench counts`
-//! counts drawn keys. `query_bench requests` reads small requests and writes their replies, `query_bench words` reads command
-//! lines. Each line tells the least time of many rounds; without a word the program only says what it can do, since times are
-//! never the same twice.
+//! N` tries a pattern N levels deep. Each line tells the least time of many rounds; without a word the program only says what
+//! it can do, since times are never the same twice.
 #![tactic(auto)]
 
-mod counted;
 mod drawn;
 mod matching;
 mod queries;
-mod reports;
-mod requests;
 mod rounds;
 
 use drawn::{halves, many};
 use matching::{depth, matching};
 use queries::{NOUN_PHRASES, PATTERNS, REPETITIONS, SEARCHES};
-use reports::{counting, listing};
-use requests::{requests, words};
 use rounds::{parsing, searching};
 use std::alloc::{AllocError, Global};
 use std::env;
@@ -44,17 +37,6 @@ fn times(rt: HostRuntime) -> io::Result<()> {
     rt.stdin().read_to_end(&mut file)?;
     match read_ref(alloc, file.as_slice()) {
         Ok(sentences) => searches(rt, &sentences),
-        Err(fault) => println!(rt; "standard input is no CoNLL-U file: {fault:?}"),
-    }
-}
-
-/// Times keyword lines of every word of a file.
-fn lines(rt: HostRuntime) -> io::Result<()> {
-    let alloc = rt.alloc();
-    let mut file = Vec::new(alloc);
-    rt.stdin().read_to_end(&mut file)?;
-    match read_ref(alloc, file.as_slice()) {
-        Ok(sentences) => listing(rt, "[]", &sentences),
         Err(fault) => println!(rt; "standard input is no CoNLL-U file: {fault:?}"),
     }
 }
@@ -125,13 +107,7 @@ fn main(rt: HostRuntime) -> io::Result<()> {
         Some(word) if word.as_str() == "times" => times(rt),
         Some(word) if word.as_str() == "drawn" => all_drawn(rt),
         Some(word) if word.as_str() == "repetitions" => repetitions(rt),
-        Some(word) if word.as_str() == "lines" => lines(rt),
-        Some(word) if word.as_str() == "counts" => counting(rt),
-        Some(word) if word.as_str() == "requests" => requests(rt),
-        Some(word) if word.as_str() == "words" => words(rt),
         Some(word) if word.as_str() == "depth" => depth(rt, levels.parse().unwrap_or(1000)),
-        _ => println!(rt;
-            "usage: query_bench times < FILE | drawn | repetitions | depth N | lines < FILE | counts | requests | words"
-        ),
+        _ => println!(rt; "usage: query_bench times < FILE | drawn | repetitions | depth N"),
     }
 }

@@ -4,35 +4,15 @@
 //! `BATCH PLACE USER:WORDS USER:WORDS ..` with `in` or `out` for its place, a move
 //! `KIND BATCH SENTENCE FROM TO SENTENCES WORDS_OUT WORDS_IN USER`; `none` stands for no worker and no state.
 
+use crate::reading::{event_named, number, state_named, word_at};
 use std::alloc::Global;
 use std::test::Fail;
-use tb_core::{Event, Kind, Move, State};
+use tb_core::{Kind, Move, State};
 use tb_replay::{BatchRow, Entry, Revision};
-
-/// The word at a place, from 0; empty past the end.
-fn word_at(text: &str, place: usize) -> &str {
-    text.split(' ').nth(place).unwrap_or("")
-}
 
 /// The part at a place, from 0; empty past the end.
 pub(crate) fn part_at(text: &str, place: usize) -> &str {
     text.split(" | ").nth(place).unwrap_or("")
-}
-
-fn number(word: &str) -> Result<u64, Fail> {
-    Ok(word.parse::<u64>().ok().ok_or("a number")?)
-}
-
-fn state_named(word: &str) -> Result<State, Fail> {
-    match word {
-        "open" => Ok(State::Opened),
-        "assigned" => Ok(State::Assigned),
-        "submitted" => Ok(State::Submitted),
-        "adjudicated" => Ok(State::Adjudicated),
-        "released" => Ok(State::Released),
-        "withdrawn" => Ok(State::Withdrawn),
-        _ => Err("a state")?,
-    }
 }
 
 fn from_named(word: &str) -> Result<Option<State>, Fail> {
@@ -48,15 +28,7 @@ fn kind_named(word: &str) -> Result<Kind, Fail> {
         "correct" => Ok(Kind::Correct),
         "pull" => Ok(Kind::Pull),
         "restore" => Ok(Kind::Restore),
-        "assign" => Ok(Kind::Step(Event::Assign)),
-        "unassign" => Ok(Kind::Step(Event::Unassign)),
-        "submit" => Ok(Kind::Step(Event::Submit)),
-        "send-back" => Ok(Kind::Step(Event::SendBack)),
-        "adjudicate" => Ok(Kind::Step(Event::Adjudicate)),
-        "release" => Ok(Kind::Step(Event::Release)),
-        "withdraw" => Ok(Kind::Step(Event::Withdraw)),
-        "reopen" => Ok(Kind::Step(Event::Reopen)),
-        _ => Err("a kind")?,
+        other => Ok(Kind::Step(event_named(other)?)),
     }
 }
 

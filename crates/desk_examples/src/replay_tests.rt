@@ -1,7 +1,7 @@
 //! Whether desks replay, and what their totals are.
 
 use crate::cases::{Question, assert_answers};
-use crate::reading::{batches_told, entries_told, moves_told, part_at};
+use crate::rows::{batches_told, entries_told, moves_told, part_at};
 use std::alloc::Global;
 use std::test::Fail;
 use tb_replay::{reached_states_are_fine, replay_is_exact, replays, totals_of};
