@@ -19,8 +19,6 @@ mod glitch;
 #[cfg(test)]
 mod migrating_tests;
 #[cfg(test)]
-mod model;
-#[cfg(test)]
 mod rows;
 #[cfg(test)]
 mod script_tests;
@@ -36,5 +34,3 @@ mod tables;
 mod tables_tests;
 #[cfg(test)]
 mod telling;
-#[cfg(test)]
-mod walk_tests;

@@ -1,6 +1,6 @@
 //! What an error of the database, or of a read, is to a caller.
 
-ghost use Rattle.std.specs.Prelude.{◌≡◌, ◌≢◌};
+ghost use Rattle.std.specs.Prelude.{◌≡◌, ◌≢◌, ◌⊎◌};
 ghost use Rattle.tb_core.specs.declared.refusals.Refusal.{Refusal};
 ghost use Rattle.tb_acting.specs.Faults.{fault_of_code, fault_of_error, fault_of_read, fault_of_making};
 
@@ -54,8 +54,7 @@ pub fn of_read(error: ReadError) -> Fault
 /// The same while the tables are made: a blank database that refuses them is a store that fails.
 pub fn of_making(error: Error) -> Fault
     ensures value { result ≡ fault_of_making error }
-    ensures refused { (r : Refusal) → result ≢ Fault.Refused r }
-    ensures output { result ≢ Fault.Output }
+    ensures known { (result ≡ Fault.Memory) ⊎ (result ≡ Fault.Device) }
 {
     match error {
         Error::SqliteFailure(ErrorCode::OutOfMemory) => Fault::Memory,

@@ -1,4 +1,4 @@
-ghost use Rattle.std.specs.Prelude.{◌≡◌, ◌≢◌, ◌↔◌, ◌<◌, ◌≤◌, ℕ, List, length, false, None, Some, Err, string_bytes, IsTrue, IfOk, IfErr, IfSome, OnOk};
+ghost use Rattle.std.specs.Prelude.{◌≡◌, ◌≢◌, ◌↔◌, ◌⊎◌, ◌<◌, ◌≤◌, ℕ, List, length, false, None, Some, Err, string_bytes, IsTrue, IfOk, IfErr, IfSome, OnOk};
 ghost use Rattle.std.specs.Io.KnownBytes.{Appends};
 ghost use Rattle.sqlite.specs.State.{HasCleanDisk, Survives};
 ghost use Rattle.sqlite.specs.Held.{state};
@@ -93,6 +93,7 @@ impl<S: Alter> Desk<S> {
         ensures no_step_limit { IfOk result (λ d. (state S.Store d.conn).step_limit ≡ None) }
         ensures blank { IfOk result (λ _. (state S.Store conn).now.schema ≡ no_schema) }
         ensures used { IfErr result (λ u. (u.fault ≡ Fault.NotADesk) ↔ ((state S.Store conn).now.schema ≢ no_schema)) }
+        ensures known { IfErr result (λ u. (u.fault ≡ Fault.NotADesk) ⊎ ((u.fault ≡ Fault.Memory) ⊎ (u.fault ≡ Fault.Device))) }
         ensures untouched { IfErr result (λ u. u.fault ≡ Fault.NotADesk → u.conn ≡ conn) }
         ensures again { IfErr result (λ u. HasCleanDisk (state S.Store u.conn) → IsTrue (state S.Store u.conn).is_open → IsBlank S.Store conn → IsBlank S.Store u.conn) }
         ensures crash { IfOk result (λ d. Survives (state S.Store (unlimited conn)) (state S.Store d.conn) (λ db. IsBlank S.Store conn → Stands (tables_of empty_machine) db)) }
@@ -437,10 +438,11 @@ impl<S: Alter> Desk<S> {
 }
 
 impl Desk<MemStore> {
-    /// A desk in memory. The only fault is want of memory.
+    /// A desk in memory. It is refused for want of memory, or because the store fails, which a store in memory is not known to do.
     pub fn in_memory(alloc: Global, limits: Limits) -> Result<Desk<MemStore>, Fault>
         requires { IsWithin limits }
         ensures stands { IfOk result (λ d. StandsFor over_memory d empty_machine) }
+        ensures known { IfErr result (λ e. (e ≡ Fault.Memory) ⊎ (e ≡ Fault.Device)) }
         ensures no_step_limit { IfOk result (λ d. (state over_memory d.conn).step_limit ≡ None) }
         ensures limits { IfOk result (λ d. d.limits ≡ limits) }
     {
