@@ -1,6 +1,9 @@
 //! The program `treedesk`.
 #![tactic(auto)]
 
+mod hints;
+
+use hints::{Heard, explain};
 use std::env;
 use std::fs::File;
 use std::io::{self, BufWriter, ErrorKind, IsTerminal, Read, Write};
@@ -43,16 +46,23 @@ impl Read for Typed<'_> {
     }
 }
 
-/// Does what the words ask on standard input and output, and gives the exit status.
+/// Does what the words ask on standard input and output, and gives the exit status. Whoever sits at a terminal is told what a
+/// refusal means; where that cannot be told, nothing is lost.
 fn run(rt: &HostRuntime) -> io::Result<u8> {
     let words = words(rt)?;
-    let mut out = BufWriter::with_capacity(rt.alloc(), BUFFER, rt.stdout())?;
+    let mut out = Heard::new(BufWriter::with_capacity(rt.alloc(), BUFFER, rt.stdout())?);
     let mut input = Typed {
         rt,
         was_read: false,
     };
     let status = run_words(rt, &words, &mut input, &mut out);
-    Ok(if out.flush().is_ok() { status } else { 3 })
+    if out.flush().is_err() {
+        return Ok(3);
+    }
+    if status != 0 && rt.stderr().is_terminal() {
+        let _told = explain(rt, out.line());
+    }
+    Ok(status)
 }
 
 fn main(rt: HostRuntime) -> ExitCode {
