@@ -4,6 +4,7 @@
 
 use std::alloc::Global;
 use std::process::Abort;
+use std::str;
 use std::test::Fail;
 
 /// Something that is asked of the text of a case.
@@ -22,11 +23,19 @@ pub(crate) fn assert_answers<Q: Question>(
 ) -> Result<(), Fail> {
     assert_eq!(rt; cases.lines().count(), count);
     for case in cases.lines() {
-        let Some((asked, wanted)) = case.split_once("=> ") else {
+        let Some((asked, wanted)) = case.split_once(" => ") else {
             panic!(rt; "{case}");
         };
-        let answer = question.answer(alloc, asked.trim_end())?;
+        let answer = question.answer(alloc, asked)?;
         assert_eq!(rt; answer.as_str(), wanted, "of {asked}");
     }
     Ok(())
+}
+
+/// Asserts that the bytes are the text.
+pub(crate) fn assert_bytes(rt: &impl Abort, bytes: &[u8], text: &str) {
+    match str::from_utf8(bytes) {
+        Ok(told) => assert!(rt; *told == *text, "{told}"),
+        Err(_) => panic!(rt; "not UTF-8"),
+    }
 }

@@ -5,28 +5,12 @@ use crate::cases::{Question, assert_answers};
 use crate::reading::{event_named, number, state_named, word_at};
 use std::alloc::Global;
 use std::test::Fail;
-use tb_core::{
-    Event, Refusal, State, decide_correct, decide_event, decide_pull, decide_restore, good_name,
-};
+use tb_core::{Refusal, decide_correct, decide_event, decide_pull, decide_restore, good_name};
 
-/// What is asked of the words of a case.
-enum Decision {
-    /// An event in a state, by the worker and by another user.
-    Event,
-    /// A correction in a state: the worker, the user, the base and the current number.
-    Correct,
-    /// A pull and a restore of a sentence that is pulled or not.
-    Pull,
-    Name,
-}
-
-/// Where the event takes the batch, or why not.
-fn event_answer(alloc: Global, state: State, event: Event, user: &str) -> Result<String, Fail> {
-    match decide_event(state, "ann", event, user) {
-        Ok((to, worker)) => Ok(format!(in alloc; "{} {worker:?}", to.word())?),
-        Err(refusal) => Ok(refusal.to_string(alloc)?),
-    }
-}
+/// What is decided of the words of a case: an event in a state, by a user, where `ann` is the worker; a correction in a
+/// state, of the worker, by a user, on a base of a current number; a pull or a restore, in a state, of a sentence that is
+/// pulled or not; a name.
+struct Decision;
 
 fn done_or(alloc: Global, decision: Result<(), Refusal>) -> Result<String, Fail> {
     match decision {
@@ -35,178 +19,201 @@ fn done_or(alloc: Global, decision: Result<(), Refusal>) -> Result<String, Fail>
     }
 }
 
-fn restore_answer(alloc: Global, state: State, pulled: bool) -> Result<String, Fail> {
-    match decide_restore(state, pulled) {
-        Ok(to) => Ok(String::from_str(alloc, to.word())?),
-        Err(refusal) => Ok(refusal.to_string(alloc)?),
-    }
-}
-
-fn both(alloc: Global, first: &str, second: &str) -> Result<String, Fail> {
-    Ok(format!(in alloc; "{first}, {second}")?)
-}
-
 impl Question for Decision {
     fn answer(&self, alloc: Global, asked: &str) -> Result<String, Fail> {
-        match self {
-            Decision::Event => {
-                let state = state_named(word_at(asked, 0))?;
-                let event = event_named(word_at(asked, 1))?;
-                let own = event_answer(alloc, state, event, "ann")?;
-                let other = event_answer(alloc, state, event, "ben")?;
-                both(alloc, own.as_str(), other.as_str())
+        let (verb, rest) = asked.split_once(" ").ok_or("a decision")?;
+        if verb == "name" {
+            let word = if good_name(rest) { "yes" } else { "no" };
+            return Ok(String::from_str(alloc, word)?);
+        }
+        let state = state_named(word_at(rest, 0))?;
+        let second = word_at(rest, 1);
+        match verb {
+            "correct" => {
+                let base = number(word_at(rest, 3))?;
+                let current = number(word_at(rest, 4))?;
+                let user = word_at(rest, 2);
+                done_or(alloc, decide_correct(state, second, user, base, current))
             }
-            Decision::Correct => {
-                let state = state_named(word_at(asked, 0))?;
-                let base = number(word_at(asked, 3))?;
-                let current = number(word_at(asked, 4))?;
-                done_or(
-                    alloc,
-                    decide_correct(state, word_at(asked, 1), word_at(asked, 2), base, current),
-                )
-            }
-            Decision::Pull => {
-                let state = state_named(word_at(asked, 0))?;
-                let pulled = word_at(asked, 1) == "pulled";
-                let pull = done_or(alloc, decide_pull(state, pulled))?;
-                let restore = restore_answer(alloc, state, pulled)?;
-                both(alloc, pull.as_str(), restore.as_str())
-            }
-            Decision::Name => {
-                let word = if good_name(asked) { "yes" } else { "no" };
-                Ok(String::from_str(alloc, word)?)
-            }
+            "pull" => done_or(alloc, decide_pull(state, second == "pulled")),
+            "restore" => match decide_restore(state, second == "pulled") {
+                Ok(to) => Ok(String::from_str(alloc, to.word())?),
+                Err(refusal) => Ok(refusal.to_string(alloc)?),
+            },
+            event => match decide_event(state, "ann", event_named(event)?, second) {
+                Ok((to, worker)) => Ok(format!(in alloc; "{} {worker:?}", to.word())?),
+                Err(refusal) => Ok(refusal.to_string(alloc)?),
+            },
         }
     }
 }
 
-const EVENTS: &str = "\
-    open assign => assigned Caller, assigned Caller\n\
-    assigned assign => refused 4 WrongState assigned, refused 4 WrongState assigned\n\
-    submitted assign => refused 4 WrongState submitted, refused 4 WrongState submitted\n\
-    adjudicated assign => refused 4 WrongState adjudicated, refused 4 WrongState adjudicated\n\
-    released assign => refused 4 WrongState released, refused 4 WrongState released\n\
-    withdrawn assign => refused 4 WrongState withdrawn, refused 4 WrongState withdrawn\n\
-    open unassign => refused 4 WrongState open, refused 4 WrongState open\n\
-    assigned unassign => open Cleared, refused 5 NotYours\n\
-    submitted unassign => refused 4 WrongState submitted, refused 4 WrongState submitted\n\
-    adjudicated unassign => refused 4 WrongState adjudicated, refused 4 WrongState adjudicated\n\
-    released unassign => refused 4 WrongState released, refused 4 WrongState released\n\
-    withdrawn unassign => refused 4 WrongState withdrawn, refused 4 WrongState withdrawn\n\
-    open submit => refused 4 WrongState open, refused 4 WrongState open\n\
-    assigned submit => submitted Keep, refused 5 NotYours\n\
-    submitted submit => refused 4 WrongState submitted, refused 4 WrongState submitted\n\
-    adjudicated submit => refused 4 WrongState adjudicated, refused 4 WrongState adjudicated\n\
-    released submit => refused 4 WrongState released, refused 4 WrongState released\n\
-    withdrawn submit => refused 4 WrongState withdrawn, refused 4 WrongState withdrawn\n\
-    open send-back => refused 4 WrongState open, refused 4 WrongState open\n\
-    assigned send-back => refused 4 WrongState assigned, refused 4 WrongState assigned\n\
-    submitted send-back => refused 6 OwnWork, assigned Keep\n\
-    adjudicated send-back => refused 4 WrongState adjudicated, refused 4 WrongState adjudicated\n\
-    released send-back => refused 4 WrongState released, refused 4 WrongState released\n\
-    withdrawn send-back => refused 4 WrongState withdrawn, refused 4 WrongState withdrawn\n\
-    open adjudicate => refused 4 WrongState open, refused 4 WrongState open\n\
-    assigned adjudicate => refused 4 WrongState assigned, refused 4 WrongState assigned\n\
-    submitted adjudicate => refused 6 OwnWork, adjudicated Keep\n\
-    adjudicated adjudicate => refused 4 WrongState adjudicated, refused 4 WrongState adjudicated\n\
-    released adjudicate => refused 4 WrongState released, refused 4 WrongState released\n\
-    withdrawn adjudicate => refused 4 WrongState withdrawn, refused 4 WrongState withdrawn\n\
-    open release => refused 4 WrongState open, refused 4 WrongState open\n\
-    assigned release => refused 4 WrongState assigned, refused 4 WrongState assigned\n\
-    submitted release => refused 4 WrongState submitted, refused 4 WrongState submitted\n\
-    adjudicated release => released Keep, released Keep\n\
-    released release => refused 4 WrongState released, refused 4 WrongState released\n\
-    withdrawn release => refused 4 WrongState withdrawn, refused 4 WrongState withdrawn\n\
-    open withdraw => withdrawn Cleared, withdrawn Cleared\n\
-    assigned withdraw => withdrawn Cleared, withdrawn Cleared\n\
-    submitted withdraw => withdrawn Cleared, withdrawn Cleared\n\
-    adjudicated withdraw => withdrawn Cleared, withdrawn Cleared\n\
-    released withdraw => withdrawn Cleared, withdrawn Cleared\n\
-    withdrawn withdraw => refused 4 WrongState withdrawn, refused 4 WrongState withdrawn\n\
-    open reopen => refused 4 WrongState open, refused 4 WrongState open\n\
-    assigned reopen => refused 4 WrongState assigned, refused 4 WrongState assigned\n\
-    submitted reopen => refused 4 WrongState submitted, refused 4 WrongState submitted\n\
-    adjudicated reopen => refused 4 WrongState adjudicated, refused 4 WrongState adjudicated\n\
-    released reopen => refused 4 WrongState released, refused 4 WrongState released\n\
-    withdrawn reopen => open Cleared, open Cleared\n";
+/// Of corrections, the first refusal is told where several hold: the state before the user, the user before the base.
+const CASES: &str = "\
+    assign open ann => assigned Caller\n\
+    assign open ben => assigned Caller\n\
+    assign assigned ann => refused 4 WrongState assigned\n\
+    assign assigned ben => refused 4 WrongState assigned\n\
+    assign submitted ann => refused 4 WrongState submitted\n\
+    assign submitted ben => refused 4 WrongState submitted\n\
+    assign adjudicated ann => refused 4 WrongState adjudicated\n\
+    assign adjudicated ben => refused 4 WrongState adjudicated\n\
+    assign released ann => refused 4 WrongState released\n\
+    assign released ben => refused 4 WrongState released\n\
+    assign withdrawn ann => refused 4 WrongState withdrawn\n\
+    assign withdrawn ben => refused 4 WrongState withdrawn\n\
+    unassign open ann => refused 4 WrongState open\n\
+    unassign open ben => refused 4 WrongState open\n\
+    unassign assigned ann => open Cleared\n\
+    unassign assigned ben => refused 5 NotYours\n\
+    unassign submitted ann => refused 4 WrongState submitted\n\
+    unassign submitted ben => refused 4 WrongState submitted\n\
+    unassign adjudicated ann => refused 4 WrongState adjudicated\n\
+    unassign adjudicated ben => refused 4 WrongState adjudicated\n\
+    unassign released ann => refused 4 WrongState released\n\
+    unassign released ben => refused 4 WrongState released\n\
+    unassign withdrawn ann => refused 4 WrongState withdrawn\n\
+    unassign withdrawn ben => refused 4 WrongState withdrawn\n\
+    submit open ann => refused 4 WrongState open\n\
+    submit open ben => refused 4 WrongState open\n\
+    submit assigned ann => submitted Keep\n\
+    submit assigned ben => refused 5 NotYours\n\
+    submit submitted ann => refused 4 WrongState submitted\n\
+    submit submitted ben => refused 4 WrongState submitted\n\
+    submit adjudicated ann => refused 4 WrongState adjudicated\n\
+    submit adjudicated ben => refused 4 WrongState adjudicated\n\
+    submit released ann => refused 4 WrongState released\n\
+    submit released ben => refused 4 WrongState released\n\
+    submit withdrawn ann => refused 4 WrongState withdrawn\n\
+    submit withdrawn ben => refused 4 WrongState withdrawn\n\
+    send-back open ann => refused 4 WrongState open\n\
+    send-back open ben => refused 4 WrongState open\n\
+    send-back assigned ann => refused 4 WrongState assigned\n\
+    send-back assigned ben => refused 4 WrongState assigned\n\
+    send-back submitted ann => refused 6 OwnWork\n\
+    send-back submitted ben => assigned Keep\n\
+    send-back adjudicated ann => refused 4 WrongState adjudicated\n\
+    send-back adjudicated ben => refused 4 WrongState adjudicated\n\
+    send-back released ann => refused 4 WrongState released\n\
+    send-back released ben => refused 4 WrongState released\n\
+    send-back withdrawn ann => refused 4 WrongState withdrawn\n\
+    send-back withdrawn ben => refused 4 WrongState withdrawn\n\
+    adjudicate open ann => refused 4 WrongState open\n\
+    adjudicate open ben => refused 4 WrongState open\n\
+    adjudicate assigned ann => refused 4 WrongState assigned\n\
+    adjudicate assigned ben => refused 4 WrongState assigned\n\
+    adjudicate submitted ann => refused 6 OwnWork\n\
+    adjudicate submitted ben => adjudicated Keep\n\
+    adjudicate adjudicated ann => refused 4 WrongState adjudicated\n\
+    adjudicate adjudicated ben => refused 4 WrongState adjudicated\n\
+    adjudicate released ann => refused 4 WrongState released\n\
+    adjudicate released ben => refused 4 WrongState released\n\
+    adjudicate withdrawn ann => refused 4 WrongState withdrawn\n\
+    adjudicate withdrawn ben => refused 4 WrongState withdrawn\n\
+    release open ann => refused 4 WrongState open\n\
+    release open ben => refused 4 WrongState open\n\
+    release assigned ann => refused 4 WrongState assigned\n\
+    release assigned ben => refused 4 WrongState assigned\n\
+    release submitted ann => refused 4 WrongState submitted\n\
+    release submitted ben => refused 4 WrongState submitted\n\
+    release adjudicated ann => released Keep\n\
+    release adjudicated ben => released Keep\n\
+    release released ann => refused 4 WrongState released\n\
+    release released ben => refused 4 WrongState released\n\
+    release withdrawn ann => refused 4 WrongState withdrawn\n\
+    release withdrawn ben => refused 4 WrongState withdrawn\n\
+    withdraw open ann => withdrawn Cleared\n\
+    withdraw open ben => withdrawn Cleared\n\
+    withdraw assigned ann => withdrawn Cleared\n\
+    withdraw assigned ben => withdrawn Cleared\n\
+    withdraw submitted ann => withdrawn Cleared\n\
+    withdraw submitted ben => withdrawn Cleared\n\
+    withdraw adjudicated ann => withdrawn Cleared\n\
+    withdraw adjudicated ben => withdrawn Cleared\n\
+    withdraw released ann => withdrawn Cleared\n\
+    withdraw released ben => withdrawn Cleared\n\
+    withdraw withdrawn ann => refused 4 WrongState withdrawn\n\
+    withdraw withdrawn ben => refused 4 WrongState withdrawn\n\
+    reopen open ann => refused 4 WrongState open\n\
+    reopen open ben => refused 4 WrongState open\n\
+    reopen assigned ann => refused 4 WrongState assigned\n\
+    reopen assigned ben => refused 4 WrongState assigned\n\
+    reopen submitted ann => refused 4 WrongState submitted\n\
+    reopen submitted ben => refused 4 WrongState submitted\n\
+    reopen adjudicated ann => refused 4 WrongState adjudicated\n\
+    reopen adjudicated ben => refused 4 WrongState adjudicated\n\
+    reopen released ann => refused 4 WrongState released\n\
+    reopen released ben => refused 4 WrongState released\n\
+    reopen withdrawn ann => open Cleared\n\
+    reopen withdrawn ben => open Cleared\n\
+    correct open ann ann 1 2 => refused 4 WrongState open\n\
+    correct open ann ann 2 2 => refused 4 WrongState open\n\
+    correct open ann ben 1 2 => refused 4 WrongState open\n\
+    correct open ann ben 2 2 => refused 4 WrongState open\n\
+    correct assigned ann ann 1 2 => refused 7 Stale 2\n\
+    correct assigned ann ann 2 2 => done\n\
+    correct assigned ann ben 1 2 => refused 5 NotYours\n\
+    correct assigned ann ben 2 2 => refused 5 NotYours\n\
+    correct submitted ann ann 1 2 => refused 6 OwnWork\n\
+    correct submitted ann ann 2 2 => refused 6 OwnWork\n\
+    correct submitted ann ben 1 2 => refused 7 Stale 2\n\
+    correct submitted ann ben 2 2 => done\n\
+    correct adjudicated ann ann 1 2 => refused 4 WrongState adjudicated\n\
+    correct adjudicated ann ann 2 2 => refused 4 WrongState adjudicated\n\
+    correct adjudicated ann ben 1 2 => refused 4 WrongState adjudicated\n\
+    correct adjudicated ann ben 2 2 => refused 4 WrongState adjudicated\n\
+    correct released ann ann 1 2 => refused 4 WrongState released\n\
+    correct released ann ann 2 2 => refused 4 WrongState released\n\
+    correct released ann ben 1 2 => refused 4 WrongState released\n\
+    correct released ann ben 2 2 => refused 4 WrongState released\n\
+    correct withdrawn ann ann 1 2 => refused 4 WrongState withdrawn\n\
+    correct withdrawn ann ann 2 2 => refused 4 WrongState withdrawn\n\
+    correct withdrawn ann ben 1 2 => refused 4 WrongState withdrawn\n\
+    correct withdrawn ann ben 2 2 => refused 4 WrongState withdrawn\n\
+    correct assigned ann ann 1 1 => done\n\
+    correct assigned ann ann 3 2 => refused 7 Stale 2\n\
+    correct assigned ann ann 0 1 => refused 7 Stale 1\n\
+    pull open in => done\n\
+    restore open in => refused 21 NotPulled\n\
+    pull open pulled => refused 20 Pulled\n\
+    restore open pulled => open\n\
+    pull assigned in => done\n\
+    restore assigned in => refused 21 NotPulled\n\
+    pull assigned pulled => refused 20 Pulled\n\
+    restore assigned pulled => assigned\n\
+    pull submitted in => done\n\
+    restore submitted in => refused 21 NotPulled\n\
+    pull submitted pulled => refused 20 Pulled\n\
+    restore submitted pulled => submitted\n\
+    pull adjudicated in => done\n\
+    restore adjudicated in => refused 21 NotPulled\n\
+    pull adjudicated pulled => refused 20 Pulled\n\
+    restore adjudicated pulled => adjudicated\n\
+    pull released in => done\n\
+    restore released in => refused 21 NotPulled\n\
+    pull released pulled => refused 20 Pulled\n\
+    restore released pulled => released\n\
+    pull withdrawn in => refused 4 WrongState withdrawn\n\
+    restore withdrawn in => refused 4 WrongState withdrawn\n\
+    pull withdrawn pulled => refused 4 WrongState withdrawn\n\
+    restore withdrawn pulled => refused 4 WrongState withdrawn\n\
+    name a => yes\n\
+    name b1 => yes\n\
+    name A-Z_a.z09 => yes\n\
+    name . => yes\n\
+    name abcdefghijklmnopqrstuvwxyzABCDEF => yes\n\
+    name abcdefghijklmnopqrstuvwxyzABCDEFG => no\n\
+    name  => no\n\
+    name a b => no\n\
+    name a/b => no\n\
+    name a@b => no\n\
+    name a[b => no\n\
+    name a`b => no\n\
+    name a{b => no\n\
+    name a:b => no\n\
+    name é => no\n";
 
 #[test]
-fn events_are_decided_by_the_table(rt: HostRuntime) -> Result<(), Fail> {
-    assert_answers(&rt, rt.alloc(), &Decision::Event, EVENTS, 48)
-}
-
-/// The first refusal is told where several hold: the state before the user, the user before the base.
-const CORRECTIONS: &str = "\
-    open ann ann 1 2 => refused 4 WrongState open\n\
-    open ann ann 2 2 => refused 4 WrongState open\n\
-    open ann ben 1 2 => refused 4 WrongState open\n\
-    open ann ben 2 2 => refused 4 WrongState open\n\
-    assigned ann ann 1 2 => refused 7 Stale 2\n\
-    assigned ann ann 2 2 => done\n\
-    assigned ann ben 1 2 => refused 5 NotYours\n\
-    assigned ann ben 2 2 => refused 5 NotYours\n\
-    submitted ann ann 1 2 => refused 6 OwnWork\n\
-    submitted ann ann 2 2 => refused 6 OwnWork\n\
-    submitted ann ben 1 2 => refused 7 Stale 2\n\
-    submitted ann ben 2 2 => done\n\
-    adjudicated ann ann 1 2 => refused 4 WrongState adjudicated\n\
-    adjudicated ann ann 2 2 => refused 4 WrongState adjudicated\n\
-    adjudicated ann ben 1 2 => refused 4 WrongState adjudicated\n\
-    adjudicated ann ben 2 2 => refused 4 WrongState adjudicated\n\
-    released ann ann 1 2 => refused 4 WrongState released\n\
-    released ann ann 2 2 => refused 4 WrongState released\n\
-    released ann ben 1 2 => refused 4 WrongState released\n\
-    released ann ben 2 2 => refused 4 WrongState released\n\
-    withdrawn ann ann 1 2 => refused 4 WrongState withdrawn\n\
-    withdrawn ann ann 2 2 => refused 4 WrongState withdrawn\n\
-    withdrawn ann ben 1 2 => refused 4 WrongState withdrawn\n\
-    withdrawn ann ben 2 2 => refused 4 WrongState withdrawn\n\
-    assigned ann ann 1 1 => done\n\
-    assigned ann ann 3 2 => refused 7 Stale 2\n\
-    assigned ann ann 0 1 => refused 7 Stale 1\n";
-
-#[test]
-fn corrections_are_decided_in_order(rt: HostRuntime) -> Result<(), Fail> {
-    assert_answers(&rt, rt.alloc(), &Decision::Correct, CORRECTIONS, 27)
-}
-
-const PULLS: &str = "\
-    open in => done, refused 21 NotPulled\n\
-    open pulled => refused 20 Pulled, open\n\
-    assigned in => done, refused 21 NotPulled\n\
-    assigned pulled => refused 20 Pulled, assigned\n\
-    submitted in => done, refused 21 NotPulled\n\
-    submitted pulled => refused 20 Pulled, submitted\n\
-    adjudicated in => done, refused 21 NotPulled\n\
-    adjudicated pulled => refused 20 Pulled, adjudicated\n\
-    released in => done, refused 21 NotPulled\n\
-    released pulled => refused 20 Pulled, released\n\
-    withdrawn in => refused 4 WrongState withdrawn, refused 4 WrongState withdrawn\n\
-    withdrawn pulled => refused 4 WrongState withdrawn, refused 4 WrongState withdrawn\n";
-
-#[test]
-fn pulls_and_restores_are_decided(rt: HostRuntime) -> Result<(), Fail> {
-    assert_answers(&rt, rt.alloc(), &Decision::Pull, PULLS, 12)
-}
-
-const NAMES: &str = "\
-    a => yes\n\
-    b1 => yes\n\
-    A-Z_a.z09 => yes\n\
-    . => yes\n\
-    abcdefghijklmnopqrstuvwxyzABCDEF => yes\n\
-    abcdefghijklmnopqrstuvwxyzABCDEFG => no\n\
-    \x20=> no\n\
-    a b => no\n\
-    a/b => no\n\
-    a@b => no\n\
-    a[b => no\n\
-    a`b => no\n\
-    a{b => no\n\
-    a:b => no\n\
-    é => no\n";
-
-#[test]
-fn names_are_told(rt: HostRuntime) -> Result<(), Fail> {
-    assert_answers(&rt, rt.alloc(), &Decision::Name, NAMES, 15)
+fn decisions_are_those_of_the_table(rt: HostRuntime) -> Result<(), Fail> {
+    assert_answers(&rt, rt.alloc(), &Decision, CASES, 162)
 }

@@ -1,18 +1,33 @@
-//! Tests of the desk machine: decisions, bodies, the order of tests, the texts of refusals and faults, totals, and the replay.
+//! Tests of the desk machine (decisions, bodies, the order of tests, totals, the replay, the texts of refusals and faults), of its reports,
+//! and of what requests and command lines ask.
 #![tactic(auto)]
 
 #[cfg(test)]
 mod cases;
 #[cfg(test)]
+mod csv_tests;
+#[cfg(test)]
 mod decision_tests;
 #[cfg(test)]
 mod faulty;
 #[cfg(test)]
+mod hit_tests;
+#[cfg(test)]
+mod line_tests;
+#[cfg(test)]
 mod order_tests;
+#[cfg(test)]
+mod reader_tests;
 #[cfg(test)]
 mod reading;
 #[cfg(test)]
 mod replay_tests;
+#[cfg(test)]
+mod reply_tests;
+#[cfg(test)]
+mod request_tests;
+#[cfg(test)]
+mod requests;
 #[cfg(test)]
 mod rows;
 #[cfg(test)]

@@ -5,8 +5,10 @@ use crate::cases::assert_answers;
 use crate::faulty::Faulty;
 use std::test::Fail;
 
-/// An event that the worker alone asks for, and one that only others do. `worker` is the wrong one of the two.
-const EVENTS: &str = "\
+/// An event that the worker alone asks for, and one that only others do, of which `worker` is the wrong one; an import and a
+/// correction, in whose body a line that cannot be read stands behind the sentences, of which the first breaks the rule; a
+/// pull and a restore. A repeated correction is always stale and changes nothing, so these two come with it.
+const CASES: &str = "\
     submit => submitted\n\
     submit name => refused 1 BadName\n\
     submit user => refused 1 BadName\n\
@@ -46,15 +48,7 @@ const EVENTS: &str = "\
     adjudicate batch full => refused 2 NoSuchBatch\n\
     adjudicate state worker => refused 4 WrongState released\n\
     adjudicate state full => refused 4 WrongState released\n\
-    adjudicate worker full => refused 6 OwnWork\n";
-
-#[test]
-fn events_tell_the_first_fault(rt: HostRuntime) -> Result<(), Fail> {
-    assert_answers(&rt, rt.alloc(), &Faulty, EVENTS, 40)
-}
-
-/// A line that cannot be read stands behind the sentences; the rule is broken by the first of them.
-const IMPORTS: &str = "\
+    adjudicate worker full => refused 6 OwnWork\n\
     import => imported\n\
     import name => refused 1 BadName\n\
     import user => refused 1 BadName\n\
@@ -102,15 +96,7 @@ const IMPORTS: &str = "\
     import taken full => refused 15 NameTaken\n\
     import stands crowded => refused 16 SentIdTaken 1\n\
     import stands full => refused 16 SentIdTaken 1\n\
-    import crowded full => refused 17 Full\n";
-
-#[test]
-fn imports_tell_the_first_fault(rt: HostRuntime) -> Result<(), Fail> {
-    assert_answers(&rt, rt.alloc(), &Faulty, IMPORTS, 48)
-}
-
-/// A repeat is always stale and changes nothing, so these two come with it.
-const CORRECTIONS: &str = "\
+    import crowded full => refused 17 Full\n\
     correct => corrected\n\
     correct user => refused 1 BadName\n\
     correct sentence => refused 3 NoSuchSentence\n\
@@ -220,14 +206,7 @@ const CORRECTIONS: &str = "\
     correct id text => refused 12 SentIdChanged\n\
     correct id full => refused 12 SentIdChanged\n\
     correct text full => refused 13 TextChanged\n\
-    correct same full => refused 14 NothingChanged\n";
-
-#[test]
-fn corrections_tell_the_first_fault(rt: HostRuntime) -> Result<(), Fail> {
-    assert_answers(&rt, rt.alloc(), &Faulty, CORRECTIONS, 110)
-}
-
-const PULLS: &str = "\
+    correct same full => refused 14 NothingChanged\n\
     pull => pulled\n\
     pull user => refused 1 BadName\n\
     pull sentence => refused 3 NoSuchSentence\n\
@@ -258,6 +237,6 @@ const PULLS: &str = "\
     restore here full => refused 21 NotPulled\n";
 
 #[test]
-fn pulls_and_restores_tell_the_first_fault(rt: HostRuntime) -> Result<(), Fail> {
-    assert_answers(&rt, rt.alloc(), &Faulty, PULLS, 28)
+fn commands_tell_the_first_fault(rt: HostRuntime) -> Result<(), Fail> {
+    assert_answers(&rt, rt.alloc(), &Faulty, CASES, 226)
 }

@@ -1,28 +1,17 @@
 //! A desk in one line of text, read as rows.
 //!
-//! `BATCHES | SENTENCES | MOVES`, each list separated by `; `. A batch is `NAME STATE WORKER`, a sentence
+//! `BATCHES | SENTENCES | MOVES`, each list separated by `; `. A batch is `NAME STATE WORKER` or `NAME STATE`, a sentence
 //! `BATCH PLACE USER:WORDS USER:WORDS ..` with `in` or `out` for its place, a move
-//! `KIND BATCH SENTENCE FROM TO SENTENCES WORDS_OUT WORDS_IN USER`; `none` stands for no worker and no state.
+//! `KIND BATCH SENTENCE FROM TO SENTENCES WORDS_OUT WORDS_IN USER`; `none` stands for no state,
+//! and `␣` for a space in the name of a user.
 
 use crate::reading::{event_named, number, state_named, word_at};
 use std::alloc::Global;
 use std::test::Fail;
-use tb_core::{Kind, Move, State};
+use tb_core::{Kind, Move};
 use tb_replay::{BatchRow, Entry, Revision};
 
-/// The part at a place, from 0; empty past the end.
-pub(crate) fn part_at(text: &str, place: usize) -> &str {
-    text.split(" | ").nth(place).unwrap_or("")
-}
-
-fn from_named(word: &str) -> Result<Option<State>, Fail> {
-    match word {
-        "none" => Ok(None),
-        other => Ok(Some(state_named(other)?)),
-    }
-}
-
-fn kind_named(word: &str) -> Result<Kind, Fail> {
+pub(crate) fn kind_named(word: &str) -> Result<Kind, Fail> {
     match word {
         "import" => Ok(Kind::Import),
         "correct" => Ok(Kind::Correct),
@@ -32,20 +21,13 @@ fn kind_named(word: &str) -> Result<Kind, Fail> {
     }
 }
 
-fn worker_named(word: &str) -> &str {
-    match word {
-        "none" => "",
-        other => other,
-    }
-}
-
 pub(crate) fn batches_told<'a>(alloc: Global, text: &'a str) -> Result<Vec<BatchRow<'a>>, Fail> {
     let mut batches = Vec::new(alloc);
     for row in text.split("; ") {
         batches.push(BatchRow {
             name: word_at(row, 0),
             state: state_named(word_at(row, 1))?,
-            worker: worker_named(word_at(row, 2)),
+            worker: word_at(row, 2),
         })?;
     }
     Ok(batches)
@@ -77,18 +59,23 @@ pub(crate) fn entries_told<'a>(alloc: Global, text: &'a str) -> Result<Vec<Entry
     Ok(entries)
 }
 
-fn move_told(alloc: Global, no: u64, row: &str) -> Result<Move, Fail> {
+/// The move of this number that words tell.
+pub(crate) fn move_told(alloc: Global, no: u64, row: &str) -> Result<Move, Fail> {
+    let from = match word_at(row, 3) {
+        "none" => None,
+        word => Some(state_named(word)?),
+    };
     Ok(Move {
         no,
         kind: kind_named(word_at(row, 0))?,
         batch: number(word_at(row, 1))?,
         sent: number(word_at(row, 2))?,
-        from: from_named(word_at(row, 3))?,
+        from,
         to: state_named(word_at(row, 4))?,
         sentences: number(word_at(row, 5))?,
         words_out: number(word_at(row, 6))?,
         words_in: number(word_at(row, 7))?,
-        who: String::from_str(alloc, word_at(row, 8))?,
+        who: word_at(row, 8).replace(alloc, '␣', " ")?,
     })
 }
 

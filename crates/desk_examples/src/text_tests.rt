@@ -1,64 +1,30 @@
 //! The texts of refusals and faults, and the words for states, events and kinds, as they stand in replies and tables.
 
 use crate::cases::{Question, assert_answers};
-use crate::reading::{event_named, number_or_zero, state_named, word_at};
+use crate::reading::{refusal_named, word_at};
+use crate::rows::kind_named;
 use std::alloc::Global;
 use std::test::Fail;
-use tb_core::{Fault, Kind, Refusal};
+use tb_core::Fault;
 
-/// The refusal of a number, with what the words after it say.
-fn refusal_told(asked: &str) -> Result<Refusal, Fail> {
-    let first = number_or_zero(word_at(asked, 1));
-    let second = number_or_zero(word_at(asked, 2));
-    let third = number_or_zero(word_at(asked, 3));
-    let code = u8::try_from(second).unwrap_or(0);
-    let small = u8::try_from(first).unwrap_or(0);
-    match word_at(asked, 0) {
-        "1" => Ok(Refusal::BadName),
-        "2" => Ok(Refusal::NoSuchBatch),
-        "3" => Ok(Refusal::NoSuchSentence),
-        "4" => Ok(Refusal::WrongState(state_named(word_at(asked, 1))?)),
-        "5" => Ok(Refusal::NotYours),
-        "6" => Ok(Refusal::OwnWork),
-        "7" => Ok(Refusal::Stale(first)),
-        "8" => Ok(Refusal::Read(first, code)),
-        "9" => Ok(Refusal::Rule(first, code, third)),
-        "10" => Ok(Refusal::Empty),
-        "11" => Ok(Refusal::NotOne),
-        "12" => Ok(Refusal::SentIdChanged),
-        "13" => Ok(Refusal::TextChanged),
-        "14" => Ok(Refusal::NothingChanged),
-        "15" => Ok(Refusal::NameTaken),
-        "16" => Ok(Refusal::SentIdTaken(first)),
-        "17" => Ok(Refusal::Full),
-        "18" => Ok(Refusal::NoSuchRevision),
-        "19" => Ok(Refusal::Query(small, second)),
-        "20" => Ok(Refusal::Pulled),
-        "21" => Ok(Refusal::NotPulled),
-        "22" => Ok(Refusal::TooManyHits),
-        _ => Err("a refusal")?,
-    }
-}
-
-fn fault_told(asked: &str) -> Result<Fault, Fail> {
-    match word_at(asked, 0) {
-        "memory" => Ok(Fault::Memory),
-        "device" => Ok(Fault::Device),
-        "desk" => Ok(Fault::NotADesk),
-        "output" => Ok(Fault::Output),
-        _ => Ok(Fault::Refused(refusal_told(asked)?)),
-    }
-}
-
-/// The text of a fault, and the number of a refusal before it.
+/// The text of a fault, and the number of a refusal before it; the word of a kind.
 struct Texts;
 
 impl Question for Texts {
     fn answer(&self, alloc: Global, asked: &str) -> Result<String, Fail> {
-        let fault = fault_told(asked)?;
-        let number = match fault {
-            Fault::Refused(refusal) => refusal.number(),
-            _ => 0,
+        let (number, fault) = match word_at(asked, 0) {
+            "kind" => {
+                let kind = kind_named(word_at(asked, 1))?;
+                return Ok(String::from_str(alloc, kind.word())?);
+            }
+            "memory" => (0, Fault::Memory),
+            "device" => (0, Fault::Device),
+            "desk" => (0, Fault::NotADesk),
+            "output" => (0, Fault::Output),
+            _ => {
+                let refusal = refusal_named(asked)?;
+                (refusal.number(), Fault::Refused(refusal))
+            }
         };
         Ok(format!(in alloc; "{number}: {fault}")?)
     }
@@ -92,44 +58,21 @@ const TEXTS: &str = "\
     memory => 0: refused memory\n\
     device => 0: refused device\n\
     desk => 0: refused desk\n\
-    output => 0: the writer failed\n";
+    output => 0: the writer failed\n\
+    kind import => import\n\
+    kind assign => assign\n\
+    kind unassign => unassign\n\
+    kind submit => submit\n\
+    kind send-back => send-back\n\
+    kind adjudicate => adjudicate\n\
+    kind release => release\n\
+    kind withdraw => withdraw\n\
+    kind reopen => reopen\n\
+    kind correct => correct\n\
+    kind pull => pull\n\
+    kind restore => restore\n";
 
 #[test]
-fn refusals_have_their_texts(rt: HostRuntime) -> Result<(), Fail> {
-    assert_answers(&rt, rt.alloc(), &Texts, TEXTS, 28)
-}
-
-/// The word of a kind, which is told by its number in the tables.
-struct Words;
-
-impl Question for Words {
-    fn answer(&self, alloc: Global, asked: &str) -> Result<String, Fail> {
-        let kind = match asked {
-            "1" => Kind::Import,
-            "10" => Kind::Correct,
-            "11" => Kind::Pull,
-            "12" => Kind::Restore,
-            _ => Kind::Step(event_named(asked)?),
-        };
-        Ok(String::from_str(alloc, kind.word())?)
-    }
-}
-
-const WORDS: &str = "\
-    1 => import\n\
-    assign => assign\n\
-    unassign => unassign\n\
-    submit => submit\n\
-    send-back => send-back\n\
-    adjudicate => adjudicate\n\
-    release => release\n\
-    withdraw => withdraw\n\
-    reopen => reopen\n\
-    10 => correct\n\
-    11 => pull\n\
-    12 => restore\n";
-
-#[test]
-fn kinds_have_their_words(rt: HostRuntime) -> Result<(), Fail> {
-    assert_answers(&rt, rt.alloc(), &Words, WORDS, 12)
+fn refusals_faults_and_kinds_have_their_texts(rt: HostRuntime) -> Result<(), Fail> {
+    assert_answers(&rt, rt.alloc(), &Texts, TEXTS, 40)
 }

@@ -1,37 +1,18 @@
 //! Totals kept from move to move.
 
 use crate::cases::{Question, assert_answers};
-use crate::reading::{number, state_named, word_at};
+use crate::rows::move_told;
 use std::alloc::Global;
 use std::test::Fail;
 use tb_core::{
-    Kind, Move, State, Totals, commands_lead_on, commands_stay_within_limits, corrections_repeat,
+    State, Totals, commands_lead_on, commands_stay_within_limits, corrections_repeat,
     each_command_ends, each_command_ends_one_way, each_sentence_is_in_one_state, imports_repeat,
     later_states_extend, reached_states_are_well, revisions_read_back, rows_tell_the_state,
     stored_totals_stand, stored_totals_take_moves, totals_are_nets,
 };
+use tb_replay::{reached_states_are_fine, replay_is_exact};
 
-/// A move of the words `FROM TO SENTENCES WORDS_OUT WORDS_IN`.
-fn move_told(alloc: Global, asked: &str) -> Result<Move, Fail> {
-    let from = match word_at(asked, 0) {
-        "none" => None,
-        word => Some(state_named(word)?),
-    };
-    Ok(Move {
-        no: 1,
-        kind: Kind::Import,
-        batch: 1,
-        sent: 0,
-        from,
-        to: state_named(word_at(asked, 1))?,
-        sentences: number(word_at(asked, 2))?,
-        words_out: number(word_at(asked, 3))?,
-        words_in: number(word_at(asked, 4))?,
-        who: String::from_str(alloc, "ann")?,
-    })
-}
-
-/// The totals after moves that `; ` separates, beginning with none: `SENTENCES,WORDS` of each state; or that one is not
+/// The totals after moves that `; ` separates, beginning with none: sentences and words of each state; or that one is not
 /// taken.
 struct After;
 
@@ -42,7 +23,7 @@ impl Question for After {
             words: [0; 6],
         };
         for text in asked.split("; ") {
-            let change = move_told(alloc, text)?;
+            let change = move_told(alloc, 1, text)?;
             if !totals.takes(&change) {
                 return Ok(String::from_str(alloc, "not taken")?);
             }
@@ -55,18 +36,18 @@ impl Question for After {
 /// A file of three words through its states to release; a correction that adds a word; a pull and a restore; a withdrawal;
 /// then moves that a state does not have, or that pass 64 bits, also where they leave and come to the same state.
 const TOTALS: &str = "\
-    none open 1 0 3; open assigned 1 3 3; assigned submitted 1 3 3; submitted adjudicated 1 3 3; adjudicated released 1 3 3 => [0, 0, 0, 0, 1, 0] [0, 0, 0, 0, 3, 0]\n\
-    none open 1 0 3; open assigned 1 3 3; assigned assigned 1 3 4 => [0, 1, 0, 0, 0, 0] [0, 4, 0, 0, 0, 0]\n\
-    none open 2 0 4; open withdrawn 1 1 1; open assigned 1 3 3 => [0, 1, 0, 0, 0, 1] [0, 3, 0, 0, 0, 1]\n\
-    none open 2 0 4; open withdrawn 1 1 1; open assigned 1 3 3; withdrawn assigned 1 1 1 => [0, 2, 0, 0, 0, 0] [0, 4, 0, 0, 0, 0]\n\
-    none open 1 0 3; open withdrawn 1 3 3; withdrawn open 1 3 3 => [1, 0, 0, 0, 0, 0] [3, 0, 0, 0, 0, 0]\n\
-    none open 1 0 3; assigned submitted 1 3 3 => not taken\n\
-    none open 1 0 3; open assigned 2 3 3 => not taken\n\
-    none open 1 0 3; open assigned 1 4 4 => not taken\n\
-    none open 1 0 18446744073709551615; none open 1 0 1 => not taken\n\
-    none open 18446744073709551615 0 1; none open 1 0 1 => not taken\n\
-    none open 1 0 18446744073709551615; open open 1 5 6 => not taken\n\
-    none open 1 0 18446744073709551615; open open 1 5 5 => [1, 0, 0, 0, 0, 0] [18446744073709551615, 0, 0, 0, 0, 0]\n";
+    import 1 0 none open 1 0 3 ann; import 1 0 open assigned 1 3 3 ann; import 1 0 assigned submitted 1 3 3 ann; import 1 0 submitted adjudicated 1 3 3 ann; import 1 0 adjudicated released 1 3 3 ann => [0, 0, 0, 0, 1, 0] [0, 0, 0, 0, 3, 0]\n\
+    import 1 0 none open 1 0 3 ann; import 1 0 open assigned 1 3 3 ann; import 1 0 assigned assigned 1 3 4 ann => [0, 1, 0, 0, 0, 0] [0, 4, 0, 0, 0, 0]\n\
+    import 1 0 none open 2 0 4 ann; import 1 0 open withdrawn 1 1 1 ann; import 1 0 open assigned 1 3 3 ann => [0, 1, 0, 0, 0, 1] [0, 3, 0, 0, 0, 1]\n\
+    import 1 0 none open 2 0 4 ann; import 1 0 open withdrawn 1 1 1 ann; import 1 0 open assigned 1 3 3 ann; import 1 0 withdrawn assigned 1 1 1 ann => [0, 2, 0, 0, 0, 0] [0, 4, 0, 0, 0, 0]\n\
+    import 1 0 none open 1 0 3 ann; import 1 0 open withdrawn 1 3 3 ann; import 1 0 withdrawn open 1 3 3 ann => [1, 0, 0, 0, 0, 0] [3, 0, 0, 0, 0, 0]\n\
+    import 1 0 none open 1 0 3 ann; import 1 0 assigned submitted 1 3 3 ann => not taken\n\
+    import 1 0 none open 1 0 3 ann; import 1 0 open assigned 2 3 3 ann => not taken\n\
+    import 1 0 none open 1 0 3 ann; import 1 0 open assigned 1 4 4 ann => not taken\n\
+    import 1 0 none open 1 0 18446744073709551615 ann; import 1 0 none open 1 0 1 ann => not taken\n\
+    import 1 0 none open 18446744073709551615 0 1 ann; import 1 0 none open 1 0 1 ann => not taken\n\
+    import 1 0 none open 1 0 18446744073709551615 ann; import 1 0 open open 1 5 6 ann => not taken\n\
+    import 1 0 none open 1 0 18446744073709551615 ann; import 1 0 open open 1 5 5 ann => [1, 0, 0, 0, 0, 0] [18446744073709551615, 0, 0, 0, 0, 0]\n";
 
 #[test]
 fn totals_follow_moves(rt: HostRuntime) -> Result<(), Fail> {
@@ -90,6 +71,8 @@ fn laws_are_called(rt: HostRuntime) -> Result<(), Fail> {
     each_command_ends();
     stored_totals_take_moves();
     stored_totals_stand();
+    replay_is_exact();
+    reached_states_are_fine();
     assert!(rt; State::Opened != State::Withdrawn);
     Ok(())
 }

@@ -1,7 +1,6 @@
 //! What a literal fits, as text.
 
 use crate::cases::cut;
-use crate::writing::shown;
 use std::alloc::{AllocError, Global};
 use std::process::Abort;
 use std::test::Fail;
@@ -39,9 +38,4 @@ pub(crate) fn fit(
         "no"
     };
     Ok(String::from_str(alloc, told)?)
-}
-
-/// Why the literal is refused, if it is.
-pub(crate) fn refusal(alloc: Global, text: &str, flag: Flag) -> Result<String, Fail> {
-    Ok(shown(alloc, &needle(alloc, text, flag).err())?)
 }

@@ -63,18 +63,6 @@ a|b at a => no
  at  => yes
  at a => no";
 
-#[test]
-fn literals_fit_whole_values(rt: HostRuntime) -> Result<(), Fail> {
-    for (flag, cases) in [
-        (Flag::Plain, PLAIN),
-        (Flag::NoCase, NO_CASE),
-        (Flag::Literal, LITERAL),
-    ] {
-        assert_cases(&rt, rt.alloc(), Question::Value(flag), cases)?;
-    }
-    Ok(())
-}
-
 /// A comma parts the values of one item. An underscore stands for no item.
 const PLAIN_ITEMS: &str = "\
     Number=Plur at Case=Nom|Number=Plur => yes\n\
@@ -91,45 +79,12 @@ const PLAIN_ITEMS: &str = "\
     _ at _ => no\n\
     .* at _ => no\n";
 
+const NO_CASE_ITEMS: &str = "number=plur at Case=Nom|Number=Plur => yes";
+
 const LITERAL_ITEMS: &str = "\
     Number=Plur at Case=Nom|Number=Plur => yes\n\
     Case=Nom|Number=Plur at Case=Nom|Number=Plur => no\n\
     _ at _ => no\n";
-
-#[test]
-fn literals_fit_items(rt: HostRuntime) -> Result<(), Fail> {
-    for (flag, cases) in [
-        (Flag::Plain, PLAIN_ITEMS),
-        (Flag::NoCase, "number=plur at Case=Nom|Number=Plur => yes"),
-        (Flag::Literal, LITERAL_ITEMS),
-    ] {
-        assert_cases(&rt, rt.alloc(), Question::Item(flag), cases)?;
-    }
-    Ok(())
-}
-
-#[test]
-fn one_tester_serves_many_values(rt: HostRuntime) -> Result<(), Fail> {
-    let needle = needle(rt.alloc(), "a+", Flag::NoCase)?;
-    assert!(rt; needle.text() == "a+" && needle.flag() == Flag::NoCase);
-    let mut tester = needle.tester(rt.alloc())?;
-    for (value, by_items, want) in [
-        ("a", false, true),
-        ("b", false, false),
-        ("AA", false, true),
-        ("", false, false),
-        ("ab", false, false),
-        ("aAa", false, true),
-        ("_", false, false),
-        ("b|A|c", true, true),
-        ("b|ab|", true, false),
-        ("_", true, false),
-        ("a", false, true),
-    ] {
-        assert!(rt; fits(&mut tester, value, by_items) == want);
-    }
-    Ok(())
-}
 
 /// The second to fourth are no pattern alone, though they are one wrapped; the next two are none wrapped, though they
 /// are one alone, since a comment runs to the end of a line. Then nests: each pair of parentheses is a level, and what
@@ -167,13 +122,42 @@ a{2,1} => None
 a{4294967295} => None";
 
 #[test]
-fn texts_outside_the_grammar_are_refused(rt: HostRuntime) -> Result<(), Fail> {
-    for (flag, cases) in [
-        (Flag::Plain, REFUSED),
-        (Flag::NoCase, REFUSED),
-        (Flag::Literal, TAKEN),
+fn literals_fit_values(rt: HostRuntime) -> Result<(), Fail> {
+    for (question, cases) in [
+        (Question::Value(Flag::Plain), PLAIN),
+        (Question::Value(Flag::NoCase), NO_CASE),
+        (Question::Value(Flag::Literal), LITERAL),
+        (Question::Item(Flag::Plain), PLAIN_ITEMS),
+        (Question::Item(Flag::NoCase), NO_CASE_ITEMS),
+        (Question::Item(Flag::Literal), LITERAL_ITEMS),
+        (Question::Refusal(Flag::Plain), REFUSED),
+        (Question::Refusal(Flag::NoCase), REFUSED),
+        (Question::Refusal(Flag::Literal), TAKEN),
     ] {
-        assert_cases(&rt, rt.alloc(), Question::Refusal(flag), cases)?;
+        assert_cases(&rt, rt.alloc(), question, cases)?;
+    }
+    Ok(())
+}
+
+#[test]
+fn one_tester_serves_many_values(rt: HostRuntime) -> Result<(), Fail> {
+    let needle = needle(rt.alloc(), "a+", Flag::NoCase)?;
+    assert!(rt; needle.text() == "a+" && needle.flag() == Flag::NoCase);
+    let mut tester = needle.tester(rt.alloc())?;
+    for (value, by_items, want) in [
+        ("a", false, true),
+        ("b", false, false),
+        ("AA", false, true),
+        ("", false, false),
+        ("ab", false, false),
+        ("aAa", false, true),
+        ("_", false, false),
+        ("b|A|c", true, true),
+        ("b|ab|", true, false),
+        ("_", true, false),
+        ("a", false, true),
+    ] {
+        assert!(rt; fits(&mut tester, value, by_items) == want);
     }
     Ok(())
 }

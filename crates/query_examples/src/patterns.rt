@@ -6,7 +6,7 @@ use tb_match::{Pat, Truth};
 
 /// A part of a pattern's text, which stands after the patterns that it is made of.
 #[derive(Clone, Copy)]
-pub(crate) enum Node {
+enum Node {
     /// One word of which the expression with this number holds.
     Word(u16),
     /// The last so many patterns, one after the other.
@@ -31,7 +31,7 @@ fn made(alloc: Global, node: Node, mut parts: Vec<Pat>) -> Result<Option<Pat>, A
 }
 
 /// Puts a node in the place of the last patterns, which it is made of, and says whether there were enough.
-pub(crate) fn put(alloc: Global, pats: &mut Vec<Pat>, node: Node) -> Result<bool, AllocError> {
+fn put(alloc: Global, pats: &mut Vec<Pat>, node: Node) -> Result<bool, AllocError> {
     let count = match node {
         Node::Word(_) => 0,
         Node::Sequence(count) | Node::Choice(count) => count,
@@ -48,32 +48,36 @@ pub(crate) fn put(alloc: Global, pats: &mut Vec<Pat>, node: Node) -> Result<bool
     Ok(true)
 }
 
-/// The value of a decimal digit.
-fn digit(sign: u8) -> u8 {
-    sign & 15
-}
-
-/// The node that is written so: `*`, `+`, `?` and `{2,4}` repeat, `.3` is a sequence and `|3` a choice of three
+/// The node that is written so: `*`, `+`, `?`, `2-4` and `2-` repeat, `.3` is a sequence and `|3` a choice of three
 /// patterns, and a digit is a word.
-fn node_of(token: &[u8]) -> Node {
-    match token {
+fn node_of(token: &str) -> Node {
+    if let Some((least, most)) = token.split_once('-') {
+        return Node::Repeated(least.parse().unwrap_or(0), most.parse().ok());
+    }
+    match token.as_bytes() {
         [b'*'] => Node::Repeated(0, None),
         [b'+'] => Node::Repeated(1, None),
         [b'?'] => Node::Repeated(0, Some(1)),
-        [b'{', least, b',', most, b'}'] => Node::Repeated(digit(*least), Some(digit(*most))),
-        [b'.', count] => Node::Sequence(usize::from(digit(*count))),
-        [b'|', count] => Node::Choice(usize::from(digit(*count))),
-        [expr] => Node::Word(u16::from(digit(*expr))),
+        [b'.', count] => Node::Sequence(usize::from(*count & 15)),
+        [b'|', count] => Node::Choice(usize::from(*count & 15)),
+        [expr] => Node::Word(u16::from(*expr & 15)),
         _ => Node::Sequence(0),
     }
 }
 
-/// The pattern of a text, whose nodes stand after what they are made of: `0 1 * .2` for `[0] [1]*`.
+/// The pattern of a text, whose nodes stand after what they are made of: `0 1 * .2` for `[0] [1]*`, `0 5×*` for five
+/// stars.
 pub(crate) fn pattern(rt: &impl Abort, alloc: Global, text: &str) -> Result<Pat, AllocError> {
     let mut pats = Vec::new(alloc);
     for token in text.split(' ') {
-        let ready = put(alloc, &mut pats, node_of(token.as_bytes()))?;
-        assert!(rt; ready, "the parts of the node are there");
+        let (times, token) = match token.split_once('×') {
+            Some(parts) => parts,
+            None => ("1", token),
+        };
+        for _ in 0..times.parse::<u32>().unwrap_or(0) {
+            let ready = put(alloc, &mut pats, node_of(token))?;
+            assert!(rt; ready, "the parts of the node are there");
+        }
     }
     let only = pats.pop();
     assert!(rt; pats.is_empty(), "the text is one pattern");
@@ -108,7 +112,7 @@ fn holds(letter: char, word: usize, words: usize) -> bool {
 }
 
 /// Makes the expression hold of the word, where the table has both.
-pub(crate) fn mark(truth: &mut Truth, expr: u16, word: usize) {
+fn mark(truth: &mut Truth, expr: u16, word: usize) {
     if expr < truth.exprs() && 1 <= word && word <= truth.words() {
         truth.set(expr, word);
     }

@@ -1,15 +1,13 @@
 //! What is asked of the texts of cases.
 
-use crate::hit_lists::{hits_of, sample_hits};
-use crate::literals::{fit, refusal};
-use crate::queries::{held, literals, placed, query, repeats, scanned, tree};
-use crate::repetitions::known_hits;
+use crate::lexemes::lexemes;
+use crate::literals::{fit, needle};
+use crate::queries::{literals, placed, tree};
 use crate::writing::shown;
 use std::alloc::Global;
 use std::process::Abort;
 use std::test::Fail;
-use tb_match::Strategy;
-use tb_syntax::Flag;
+use tb_syntax::{Flag, repeats_within, scan};
 
 /// What is asked of the text of a case.
 #[derive(Clone, Copy)]
@@ -34,16 +32,6 @@ pub(crate) enum Question {
     Refusal(Flag),
     /// What is wrong with it as a query.
     QueryFault,
-    /// Its pattern, and its token expressions with their literals.
-    Query,
-    /// Of which words of a file its token expressions hold.
-    Held(&'static str),
-    /// What it finds in a file.
-    Hits(Strategy, &'static str),
-    /// What it finds in a sample, which stands before it with the strategy.
-    SampleHits,
-    /// What repetitions within one another find in 1,000 words, and whether by as many unions as they may take.
-    Repetition,
 }
 
 /// What the text is answered with.
@@ -54,20 +42,19 @@ pub(crate) fn answer(
     text: &str,
 ) -> Result<String, Fail> {
     match question {
-        Question::Scan => scanned(rt, alloc, text),
-        Question::Repeats => repeats(alloc, text),
+        Question::Scan => {
+            let list = lexemes(alloc, text)?;
+            assert!(rt; list.len() <= 2000, "few lexemes");
+            Ok(shown(alloc, &scan(&list).err())?)
+        }
+        Question::Repeats => Ok(shown(alloc, &repeats_within(&lexemes(alloc, text)?, 32))?),
         Question::Fault => Ok(shown(alloc, &tb_syntax::parse(alloc, text).err())?),
         Question::Places => placed(alloc, text),
         Question::Tree => tree(alloc, text),
         Question::Literals => literals(alloc, text),
         Question::Value(flag) => fit(rt, alloc, text, flag, false),
         Question::Item(flag) => fit(rt, alloc, text, flag, true),
-        Question::Refusal(flag) => refusal(alloc, text, flag),
+        Question::Refusal(flag) => Ok(shown(alloc, &needle(alloc, text, flag).err())?),
         Question::QueryFault => Ok(shown(alloc, &tb_query::parse(alloc, text).err())?),
-        Question::Query => query(alloc, text),
-        Question::Held(file) => held(rt, alloc, text, file),
-        Question::Hits(by, file) => hits_of(rt, alloc, text, by, file, ""),
-        Question::SampleHits => sample_hits(rt, alloc, text),
-        Question::Repetition => Ok(known_hits(rt, alloc, text)?),
     }
 }

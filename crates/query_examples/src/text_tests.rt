@@ -1,55 +1,59 @@
-//! Texts of queries. The expected answers were worked out by hand from the grammar.
+//! Queries as lists of lexemes and as texts. The expected answers were worked out by hand from the grammar, the limits and the
+//! documentation of Rust's regex crate. tools/queries asks the program for the faults of many texts more.
 
 use crate::cases::assert_cases;
+use crate::lexemes::lexemes;
 use crate::questions::Question;
 use std::test::Fail;
+use tb_query::{
+    a_query_has_no_fault, a_text_asks_one_thing, a_text_has_one_fault, a_text_has_one_reading,
+    literals_stand_in_order,
+};
+use tb_syntax::{
+    Flag, Lexeme, count_expressions, literals_are_quoted, nests_within, one_fault, one_lexing,
+    one_reading, one_saying, one_unquoting, scan,
+};
 
-/// Queries; texts with the byte of the first lexeme that stands wrong; many signs, which take no stack; each limit, and
-/// one above it.
-const FAULTS: &str = r#"[]* => None
-[upos="X"]* => None
-[word="go"%c & !feats contains "X"] => None
-"g."%l => None
-"a|ab" => None
-"a"{0,32} => None
-[]{2} | []* => None
-(((([]*)*)*)*)* => None
-[upos="DET"]? [upos="ADJ"]* [upos="NOUN"] ([upos="ADP"] [upos="DET"]? [upos="ADJ"]* [upos="NOUN"])* within s; => None
-'a'%c within s => None
- => Some(Syntax(0))
-   => Some(Syntax(2))
-[upos=] => Some(Syntax(6))
-[word=" => Some(Syntax(6))
-"a"{01} => Some(Syntax(4))
-"a"" => Some(Syntax(0))
-"a" 'b => Some(Syntax(4))
-foo => Some(Syntax(0))
-[words="a"] => Some(Syntax(1))
-"a" %d => Some(Syntax(4))
-"a" % c => Some(Syntax(4))
-[word! ="a"] => Some(Syntax(5))
-"a" |  => Some(Syntax(6))
-"a" "b") => Some(Syntax(7))
-"a"{1 => Some(Syntax(5))
-"a" within t => Some(Syntax(11))
-"a";; => Some(Syntax(4))
-é => Some(Syntax(0))
-[lemma contains "a"] => Some(Syntax(7))
-2000×( => Some(Syntax(2000))
+/// Nothing ends too early; a parenthesis may be opened, but not shut, at first; two queries of every production; then
+/// `[upos=]`, `"a"{x`, `[word contains "a"]`, `"a" "b")`, `"a" within s within` and `[(upos="a"]`, and parentheses that
+/// take no stack.
+const SCANS: &str = r#" => Some(0)
+( => Some(1)
+) => Some(0)
+[]*|("c"{1}"{1,}"l{1,2})+[]?WS; => None
+[!(w="c|m~")&fC"&f="l]; => None
+[u=] => Some(3)
+"{x => Some(2)
+[wC"] => Some(2)
+"") => Some(2)
+"WSW => Some(3)
+[(u="] => Some(5)
+2000×( => Some(2000)"#;
+
+/// `"a"{n}`, `"a"{n,}`, `"a"{n,m}`
+const REPEATS: &str = r#""{1} => true
+"{T} => true
+"{U} => false
+"{0} => false
+"{0,} => true
+"{T,} => true
+"{U,} => false
+"{0,T} => true
+"{T,T} => true
+"{3,2} => false
+"{0,0} => false
+"{0,U} => false"#;
+
+/// Each fault, whatever the literals say; many signs, which take no stack.
+const FAULTS: &str = r#"[word="go"%c & !feats contains "X"] => None
+"(" => None
 [ 1989×! word="a"] => None
-[] 1998×␣ => None
 [] 1999×␣ => Some(TooLong)
-32×[] => None
+2000×( => Some(Syntax(2000))
+"a" 'b => Some(Syntax(4))
 33×[] => Some(TooMany)
-16×( [] 16×) => None
 17×( [] 17×) => Some(TooDeep)
-"a"{32} => None
-"a"{33} => Some(Repeat)
-"a"{3,2} => Some(Repeat)
-"a"{0} => Some(Repeat)
-"a"{0,0} => Some(Repeat)
-"a"{33,} => Some(Repeat)
-"a"{99999999999999999999} => Some(Repeat)"#;
+"a"{3,2} => Some(Repeat)"#;
 
 /// A sequence binds before a choice; each repetition; each kind of test; each column.
 const TREES: &str =
@@ -89,17 +93,58 @@ const LITERALS: &str = r#""a""b" => <a"b>
 'd' [lemma="c"%c | feats contains 'b|''x'%l] ([] """a"""%l)* 'ß'%c => <d><c><b|'x><"a"><ß>
 []+ => "#;
 
+/// The same of a query, whose literals have to be patterns: the first that is none, and one that is too large, which is a
+/// want of memory.
+const QUERY_FAULTS: &str = r#"[word="go"%c & !feats contains "X"] => None
+"("%l => None
+[] 1999×␣ => Some(TooLong)
+[upos=] => Some(Syntax(6))
+33×[] => Some(TooMany)
+17×( [] 17×) => Some(TooDeep)
+"("{0} => Some(Repeat)
+"("%l "["%c => Some(Pattern(2))
+"(a{1000}){1000}" => Some(Memory)"#;
+
 #[test]
 fn texts_are_read(rt: HostRuntime) -> Result<(), Fail> {
     let alloc = rt.alloc();
     assert!(rt; tb_syntax::parse(alloc, "\t\"a\"\r\n+ ;").is_ok());
     for (question, cases) in [
+        (Question::Scan, SCANS),
+        (Question::Repeats, REPEATS),
         (Question::Fault, FAULTS),
         (Question::Tree, TREES),
         (Question::Places, PLACES),
         (Question::Literals, LITERALS),
+        (Question::QueryFault, QUERY_FAULTS),
     ] {
         assert_cases(&rt, alloc, question, cases)?;
     }
+    Ok(())
+}
+
+/// In `([(word="a")])` two parentheses are open round the test. In `[word="a"] "b" ([])` the literal of the test is no
+/// token expression.
+#[test]
+fn lexemes_are_counted(rt: HostRuntime) -> Result<(), Fail> {
+    one_reading();
+    one_lexing();
+    literals_are_quoted();
+    one_unquoting();
+    one_saying();
+    one_fault();
+    a_text_has_one_reading();
+    a_text_asks_one_thing();
+    a_text_has_one_fault();
+    a_query_has_no_fault();
+    literals_stand_in_order();
+    assert!(rt; Flag::Plain != Flag::Literal);
+    assert!(rt; scan(&[]) == Err(0));
+    let grouped = lexemes(rt.alloc(), r#"([(w=")])"#)?;
+    assert!(rt; grouped.len() == 9);
+    assert!(rt; nests_within(&grouped, 2) && !nests_within(&grouped, 1));
+    let three = lexemes(rt.alloc(), r#"[w="]"([])"#)?;
+    assert!(rt; three.len() == 10 && count_expressions(&three) == 3);
+    assert!(rt; count_expressions(&[Lexeme::LeftBracket, Lexeme::RightBracket]) == 1);
     Ok(())
 }

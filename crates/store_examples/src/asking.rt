@@ -5,9 +5,10 @@ use crate::telling::told;
 use sqlite::Alter;
 use std::alloc::Global;
 use std::test::Fail;
-use tb_core::{Event, Limits, Move, Totals};
-use tb_match::Strategy;
-use tb_query::{Attr, Query, parse};
+use tb_answers::{DeskCommand, obey};
+use tb_core::{Limits, Move, Totals};
+use tb_http::{attribute_of, event_of, strategy_of};
+use tb_query::{Query, parse};
 use tb_report::{csv_freq, csv_moves, csv_totals};
 use tb_store::Desk;
 
@@ -19,37 +20,6 @@ pub(crate) const LIMITS: Limits = Limits {
 
 const NOUN_PHRASES: &str =
     "[upos=\"DET\"]? [upos=\"ADJ\"]* [upos=\"NOUN\"] ([upos=\"ADP\"] [upos=\"DET\"]? [upos=\"ADJ\"]* [upos=\"NOUN\"])* within s;";
-
-pub(crate) fn event_named(word: &str) -> Result<Event, Fail> {
-    match word {
-        "assign" => Ok(Event::Assign),
-        "unassign" => Ok(Event::Unassign),
-        "submit" => Ok(Event::Submit),
-        "send-back" => Ok(Event::SendBack),
-        "adjudicate" => Ok(Event::Adjudicate),
-        "release" => Ok(Event::Release),
-        "withdraw" => Ok(Event::Withdraw),
-        "reopen" => Ok(Event::Reopen),
-        _ => Err("an event")?,
-    }
-}
-
-fn strategy_named(word: &str) -> Result<Strategy, Fail> {
-    match word {
-        "shortest" => Ok(Strategy::Shortest),
-        "longest" => Ok(Strategy::Longest),
-        "every" => Ok(Strategy::Every),
-        _ => Err("a strategy")?,
-    }
-}
-
-fn column_named(word: &str) -> Result<Attr, Fail> {
-    match word {
-        "lemma" => Ok(Attr::Lemma),
-        "upos" => Ok(Attr::Upos),
-        _ => Err("a column")?,
-    }
-}
 
 /// The word at a place, from 0; empty past the end.
 fn word_at(line: &str, place: usize) -> &str {
@@ -71,39 +41,49 @@ fn query_of(alloc: Global, line: &str) -> Result<Query, Fail> {
     Ok(parse(alloc, text)?)
 }
 
-/// `import NAME USER FILE`.
-fn imported<S: Alter>(alloc: Global, desk: &mut Desk<S>, line: &str) -> Result<String, Fail> {
-    let body = body_of(alloc, word_at(line, 3))?;
-    told(
-        alloc,
-        desk.import(word_at(line, 1), word_at(line, 2), body.as_bytes()),
-    )
+/// The command of a line, with the body of its file: `import NAME USER FILE`, `correct NUMBER BASE USER FILE`,
+/// `pull NUMBER USER`, `restore NUMBER USER` or `EVENT NAME USER`.
+fn command_of<'a>(line: &'a str, body: &'a [u8]) -> Result<DeskCommand<'a>, Fail> {
+    match word_at(line, 0) {
+        "import" => Ok(DeskCommand::Import {
+            name: word_at(line, 1),
+            user: word_at(line, 2),
+            body,
+        }),
+        "correct" => Ok(DeskCommand::Correct {
+            number: number_at(line, 1)?,
+            base: number_at(line, 2)?,
+            user: word_at(line, 3),
+            body,
+        }),
+        "pull" => Ok(DeskCommand::Pull {
+            number: number_at(line, 1)?,
+            user: word_at(line, 2),
+        }),
+        "restore" => Ok(DeskCommand::Restore {
+            number: number_at(line, 1)?,
+            user: word_at(line, 2),
+        }),
+        _ => Ok(DeskCommand::Event {
+            name: word_at(line, 1),
+            event: event_of(word_at(line, 0)).ok_or("an event")?,
+            user: word_at(line, 2),
+        }),
+    }
 }
 
-/// `correct NUMBER BASE USER FILE`.
-fn corrected<S: Alter>(alloc: Global, desk: &mut Desk<S>, line: &str) -> Result<String, Fail> {
-    let (number, base) = (number_at(line, 1)?, number_at(line, 2)?);
-    let body = body_of(alloc, word_at(line, 4))?;
-    told(
-        alloc,
-        desk.correct(number, base, word_at(line, 3), body.as_bytes()),
-    )
-}
-
-/// `pull NUMBER USER`.
-fn pulled<S: Alter>(alloc: Global, desk: &mut Desk<S>, line: &str) -> Result<String, Fail> {
-    told(alloc, desk.pull(number_at(line, 1)?, word_at(line, 2)))
-}
-
-/// `restore NUMBER USER`.
-fn restored<S: Alter>(alloc: Global, desk: &mut Desk<S>, line: &str) -> Result<String, Fail> {
-    told(alloc, desk.restore(number_at(line, 1)?, word_at(line, 2)))
-}
-
-/// `EVENT NAME USER`.
-fn moved<S: Alter>(alloc: Global, desk: &mut Desk<S>, line: &str) -> Result<String, Fail> {
-    let event = event_named(word_at(line, 0))?;
-    told(alloc, desk.event(word_at(line, 1), event, word_at(line, 2)))
+/// What a command is answered.
+fn commanded<S: Alter>(alloc: Global, desk: &mut Desk<S>, line: &str) -> Result<String, Fail> {
+    let place = if *word_at(line, 0) == *"correct" {
+        4
+    } else {
+        3
+    };
+    let body = body_of(alloc, word_at(line, place))?;
+    let command = command_of(line, body.as_bytes())?;
+    let answer = obey(desk, command).line();
+    let text = answer.as_str().strip_suffix('\n').ok_or("a line")?;
+    Ok(String::from_str(alloc, text)?)
 }
 
 /// `revision NUMBER REV`.
@@ -126,7 +106,7 @@ fn shown(alloc: Global, answer: String, out: &[u8]) -> Result<String, Fail> {
 /// `search STRATEGY CONTEXT QUERY`.
 fn searched<S: Alter>(alloc: Global, desk: &mut Desk<S>, line: &str) -> Result<String, Fail> {
     let query = query_of(alloc, line)?;
-    let strategy = strategy_named(word_at(line, 1))?;
+    let strategy = strategy_of(word_at(line, 1)).ok_or("a strategy")?;
     let context = number_at(line, 2)?.min(20) as u8;
     let mut out: Vec<u8> = Vec::new(alloc);
     let answer = told(alloc, desk.search(&query, strategy, context, &mut out))?;
@@ -136,7 +116,7 @@ fn searched<S: Alter>(alloc: Global, desk: &mut Desk<S>, line: &str) -> Result<S
 /// `cut STRATEGY BYTES QUERY`: a search with two words of context, whose output has room for so many bytes.
 fn cut<S: Alter>(alloc: Global, desk: &mut Desk<S>, line: &str) -> Result<String, Fail> {
     let query = query_of(alloc, line)?;
-    let strategy = strategy_named(word_at(line, 1))?;
+    let strategy = strategy_of(word_at(line, 1)).ok_or("a strategy")?;
     let mut room = vec![in alloc; 0u8; number_at(line, 2)?.min(1000) as usize]?;
     let mut out: &mut [u8] = &mut room;
     let answer = told(alloc, desk.search(&query, strategy, 2, &mut out))?;
@@ -146,8 +126,9 @@ fn cut<S: Alter>(alloc: Global, desk: &mut Desk<S>, line: &str) -> Result<String
 /// `count STRATEGY COLUMN QUERY`.
 fn counted<S: Alter>(alloc: Global, desk: &mut Desk<S>, line: &str) -> Result<String, Fail> {
     let query = query_of(alloc, line)?;
-    let strategy = strategy_named(word_at(line, 1))?;
-    let table = desk.count(&query, strategy, column_named(word_at(line, 2))?)?;
+    let strategy = strategy_of(word_at(line, 1)).ok_or("a strategy")?;
+    let column = attribute_of(word_at(line, 2)).ok_or("a column")?;
+    let table = desk.count(&query, strategy, column)?;
     let mut out: Vec<u8> = Vec::new(alloc);
     csv_freq(&table, &mut out)?;
     let total = format!(in alloc; "{}", table.total())?;
@@ -157,10 +138,8 @@ fn counted<S: Alter>(alloc: Global, desk: &mut Desk<S>, line: &str) -> Result<St
 /// `number STRATEGY of QUERY`.
 fn numbered<S: Alter>(alloc: Global, desk: &mut Desk<S>, line: &str) -> Result<String, Fail> {
     let query = query_of(alloc, line)?;
-    told(
-        alloc,
-        desk.number(&query, strategy_named(word_at(line, 1))?),
-    )
+    let strategy = strategy_of(word_at(line, 1)).ok_or("a strategy")?;
+    told(alloc, desk.number(&query, strategy))
 }
 
 /// The answer to a command or a question.
@@ -170,17 +149,13 @@ pub(crate) fn obeyed<S: Alter>(
     line: &str,
 ) -> Result<String, Fail> {
     match word_at(line, 0) {
-        "import" => imported(alloc, desk, line),
-        "correct" => corrected(alloc, desk, line),
-        "pull" => pulled(alloc, desk, line),
-        "restore" => restored(alloc, desk, line),
         "revision" => revised(alloc, desk, line),
         "search" => searched(alloc, desk, line),
         "cut" => cut(alloc, desk, line),
         "count" => counted(alloc, desk, line),
         "number" => numbered(alloc, desk, line),
         "standing" => standing(alloc, desk),
-        _ => moved(alloc, desk, line),
+        _ => commanded(alloc, desk, line),
     }
 }
 
@@ -211,7 +186,7 @@ fn push_standing(
 }
 
 /// The totals that are not nothing, and the moves; or why they are not told.
-pub(crate) fn standing<S: Alter>(alloc: Global, desk: &mut Desk<S>) -> Result<String, Fail> {
+fn standing<S: Alter>(alloc: Global, desk: &mut Desk<S>) -> Result<String, Fail> {
     let totals = match desk.totals() {
         Ok(totals) => totals,
         Err(fault) => return Ok(fault.to_string(alloc)?),

@@ -3,7 +3,7 @@
 use std::alloc::Global;
 use std::test::Fail;
 
-const DOGS: &str = "\
+pub(crate) const DOGS: &str = "\
 # sent_id = s1
 # text = Dogs bark.
 1\tDogs\tdog\tNOUN\t_\tNumber=Plur\t2\tnsubj\t_\t_

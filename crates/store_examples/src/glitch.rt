@@ -1,4 +1,4 @@
-//! A disk that fails once.
+//! A disk that fails, once or from then on.
 
 ghost use Rattle.std.specs.Prelude.{◌≡◌, ◌+◌, ◌&&◌, not, false};
 ghost use Rattle.sqlite_disk.specs.Disk.{CountsFault};
@@ -7,27 +7,37 @@ ghost use Rattle.sqlite_disk.specs.Refusal.{finds_no_room};
 use sqlite_disk::{Disk, Tally};
 use std::io;
 
-/// Fails at one call, after so many, which then does nothing. A sync that fails ends its use, as that of any file.
+/// Fails at one call, after so many, or at each from there on; a call that fails does nothing. A sync that fails ends its use, as
+/// that of any file.
 #[derive(Drop)]
 pub(crate) struct Glitch<D: Disk> {
     inner: D,
     calls_left: u64,
+    is_once: bool,
     failed: u64,
     sync_failed: bool,
 }
 
 impl<D: Disk> Glitch<D> {
-    pub(crate) fn new(inner: D, calls: u64) -> Glitch<D> {
+    pub(crate) fn new(inner: D, calls: u64, is_once: bool) -> Glitch<D> {
         Glitch {
             inner,
             calls_left: calls,
+            is_once,
             failed: 0,
             sync_failed: false,
         }
     }
 
-    pub(crate) fn inner(&self) -> &D {
-        &self.inner
+    pub(crate) fn into_inner(self) -> D {
+        let Glitch {
+            inner,
+            calls_left: _,
+            is_once: _,
+            failed: _,
+            sync_failed: _,
+        } = self;
+        inner
     }
 
     pub(crate) fn has_failed(&self) -> bool {
@@ -35,12 +45,14 @@ impl<D: Disk> Glitch<D> {
     }
 }
 
-fn spend(calls_left: &mut u64, failed: &mut u64) -> io::Result<()>
+fn spend(calls_left: &mut u64, failed: &mut u64, is_once: bool) -> io::Result<()>
     ensures faults { CountsFault result failed.old failed.new }
     ensures kind { finds_no_room result ≡ false }
 {
     if *calls_left == 0 {
-        *calls_left = u64::MAX;
+        if is_once {
+            *calls_left = u64::MAX;
+        }
         *failed = failed.saturating_add(1);
         return Err(io::Error::other("this call fails"));
     }
@@ -90,32 +102,32 @@ impl<D: Disk> Disk for Glitch<D> {
     }
 
     fn len(&mut self) -> io::Result<usize> {
-        spend(&mut self.calls_left, &mut self.failed)?;
+        spend(&mut self.calls_left, &mut self.failed, self.is_once)?;
         self.inner.len()
     }
 
     fn read_at(&mut self, at: usize, buf: &mut [u8]) -> io::Result<()> {
-        spend(&mut self.calls_left, &mut self.failed)?;
+        spend(&mut self.calls_left, &mut self.failed, self.is_once)?;
         self.inner.read_at(at, buf)
     }
 
     fn read_checked(&mut self, key: u64, want: u64, at: usize, buf: &mut [u8]) -> io::Result<()> {
-        spend(&mut self.calls_left, &mut self.failed)?;
+        spend(&mut self.calls_left, &mut self.failed, self.is_once)?;
         self.inner.read_checked(key, want, at, buf)
     }
 
     fn write_at(&mut self, at: usize, bytes: &[u8]) -> io::Result<()> {
-        spend(&mut self.calls_left, &mut self.failed)?;
+        spend(&mut self.calls_left, &mut self.failed, self.is_once)?;
         self.inner.write_at(at, bytes)
     }
 
     fn set_len(&mut self, len: usize) -> io::Result<()> {
-        spend(&mut self.calls_left, &mut self.failed)?;
+        spend(&mut self.calls_left, &mut self.failed, self.is_once)?;
         self.inner.set_len(len)
     }
 
     fn sync(&mut self) -> io::Result<()> {
-        if let Err(error) = spend(&mut self.calls_left, &mut self.failed) {
+        if let Err(error) = spend(&mut self.calls_left, &mut self.failed, self.is_once) {
             self.sync_failed = true;
             return Err(error);
         }

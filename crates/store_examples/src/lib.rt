@@ -1,13 +1,11 @@
-//! Tests of a desk's store: its tables, what each command writes, searches over its released text, stores that are taken for
-//! a desk, and disks that stop. All databases are in memory.
+//! Tests of a desk's store: how it answers commands and questions, searches over its released text, stores that are taken for
+//! a desk, disks that stop, and lists of requests. All databases are in memory.
 #![tactic(auto)]
 
 #[cfg(test)]
 mod adopting_tests;
 #[cfg(test)]
 mod asking;
-#[cfg(test)]
-mod changes;
 #[cfg(test)]
 mod disks;
 #[cfg(test)]
@@ -16,6 +14,8 @@ mod files;
 mod first;
 #[cfg(test)]
 mod glitch;
+#[cfg(test)]
+mod list_tests;
 #[cfg(test)]
 mod migrating_tests;
 #[cfg(test)]
@@ -28,9 +28,5 @@ mod scripts;
 mod sending;
 #[cfg(test)]
 mod stop_tests;
-#[cfg(test)]
-mod tables;
-#[cfg(test)]
-mod tables_tests;
 #[cfg(test)]
 mod telling;

@@ -1,29 +1,12 @@
 //! Stores of version 1, which become desks, and stores that are none, which stay what they are.
 
-use crate::disks::{are_same, closed, copied, no_files, whole};
+use crate::disks::{kept, whole};
 use crate::first::{MIGRATED, ROWS, STORES};
-use crate::rows;
-use crate::sending::{found, sent};
+use crate::sending::{found, sent, store};
 use crate::telling::assert_told;
-use sqlite::{Alter, Connection, FileStore, Files};
-use sqlite_disk::Memory;
+use sqlite::{Alter, Connection};
 use std::alloc::Global;
 use std::test::Fail;
-
-/// A store of these tables and rows, and these statements after them.
-fn store(alloc: Global, base: &str, change: &str) -> Result<Connection<FileStore<Memory>>, Fail> {
-    let mut conn = whole(alloc, no_files(alloc))?;
-    match base {
-        "first" => conn = sent(alloc, conn, "version 1")?.1,
-        "second" => {
-            conn = sent(alloc, conn, "make")?.1;
-            conn.execute_batch(rows::ROWS)?;
-        }
-        _ => {}
-    }
-    conn.execute_batch(change)?;
-    Ok(conn)
-}
 
 /// The rows of all tables but `meta`, a line for each.
 fn rows_of<S: Alter>(alloc: Global, conn: &mut Connection<S>) -> Result<String, Fail> {
@@ -34,16 +17,6 @@ fn rows_of<S: Alter>(alloc: Global, conn: &mut Connection<S>) -> Result<String, 
         text.push_str(shown.as_str())?;
     }
     Ok(text)
-}
-
-/// Sends a command to a desk in these files, and closes them.
-fn sent_to(
-    alloc: Global,
-    files: Files<Memory>,
-    command: &str,
-) -> Result<(String, Files<Memory>), Fail> {
-    let (answer, conn) = sent(alloc, whole(alloc, files)?, command)?;
-    Ok((answer, closed(conn).0))
 }
 
 #[test]
@@ -66,12 +39,7 @@ fn a_desk_of_version_1_is_migrated_once(rt: HostRuntime) -> Result<(), Fail> {
     let (state, conn) = found(alloc, conn)?;
     assert_told(&rt, state.as_str(), MIGRATED, "the desk");
     let (answer, _conn) = sent(alloc, conn, "pull 1 dan")?;
-    assert_told(
-        &rt,
-        answer.as_str(),
-        "Pulled { sentence: 1, words: 3 }",
-        "a pull",
-    );
+    assert_told(&rt, answer.as_str(), "pulled sentence=1 words=3", "a pull");
     Ok(())
 }
 
@@ -80,11 +48,11 @@ fn no_other_store_is_migrated_or_changed(rt: HostRuntime) -> Result<(), Fail> {
     let alloc = rt.alloc();
     for case in STORES.lines() {
         let (base, change) = case.split_once(": ").ok_or("a store")?;
-        let files = closed(store(alloc, base, change)?).0;
-        let before = copied(alloc, &files)?;
-        let (answer, files) = sent_to(alloc, files, "migrate")?;
+        let before = kept(alloc, store(alloc, base, change)?)?;
+        let (answer, conn) = sent(alloc, whole(alloc, &before)?, "migrate")?;
         assert_told(&rt, answer.as_str(), "refused desk", case);
-        assert!(rt; are_same(&before, &files), "{case}");
+        let after = kept(alloc, conn)?;
+        assert!(rt; before.db.bytes() == after.db.bytes(), "{case}");
     }
     Ok(())
 }

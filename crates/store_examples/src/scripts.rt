@@ -16,34 +16,34 @@ pub(crate) const WORK: &str = "\
     standing => desk\n\
     \n\
     1000 1000 1000\n\
-    import b1 ann dogs => Imported { batch: 1, first: 1, sentences: 1, words: 3 }\n\
-    import b1 ann dogs => Imported { batch: 1, first: 1, sentences: 1, words: 3 }\n\
+    import b1 ann dogs => imported batch=1 first=1 sentences=1 words=3\n\
+    import b1 ann dogs => imported batch=1 first=1 sentences=1 words=3\n\
     import b1 ann dogs:dog:cat => refused 15 NameTaken\n\
     import b2 ann dogs => refused 16 SentIdTaken 1\n\
     import b2 ann go+dogs => refused 16 SentIdTaken 2\n\
     submit b1 ann => refused 4 WrongState open\n\
-    assign b1 ann => Moved { batch: 1, state: Assigned, sentences: 1, words: 3 }\n\
+    assign b1 ann => moved batch=1 state=assigned sentences=1 words=3\n\
     submit b1 ben => refused 5 NotYours\n\
-    submit b1 ann => Moved { batch: 1, state: Submitted, sentences: 1, words: 3 }\n\
+    submit b1 ann => moved batch=1 state=submitted sentences=1 words=3\n\
     adjudicate b1 ann => refused 6 OwnWork\n\
-    adjudicate b1 ben => Moved { batch: 1, state: Adjudicated, sentences: 1, words: 3 }\n\
-    release b1 cem => Moved { batch: 1, state: Released, sentences: 1, words: 3 }\n\
+    adjudicate b1 ben => moved batch=1 state=adjudicated sentences=1 words=3\n\
+    release b1 cem => moved batch=1 state=released sentences=1 words=3\n\
     assign b9 ann => refused 2 NoSuchBatch\n\
-    withdraw b1 cem => Moved { batch: 1, state: Withdrawn, sentences: 1, words: 3 }\n\
+    withdraw b1 cem => moved batch=1 state=withdrawn sentences=1 words=3\n\
     search longest 5 [] => 0 hits 0;\n\
     withdraw b1 cem => refused 4 WrongState withdrawn\n\
-    reopen b1 ben => Moved { batch: 1, state: Opened, sentences: 1, words: 3 }\n\
+    reopen b1 ben => moved batch=1 state=open sentences=1 words=3\n\
     search longest 5 [] => 0 hits 0;\n\
-    assign b1 dan => Moved { batch: 1, state: Assigned, sentences: 1, words: 3 }\n\
+    assign b1 dan => moved batch=1 state=assigned sentences=1 words=3\n\
     standing => desk assigned,1,3 1,import,1,0,none,open,1,0,3,ann 2,assign,1,0,open,assigned,1,3,3,ann 3,submit,1,0,assigned,submitted,1,3,3,ann \
     4,adjudicate,1,0,submitted,adjudicated,1,3,3,ben 5,release,1,0,adjudicated,released,1,3,3,cem 6,withdraw,1,0,released,withdrawn,1,3,3,cem \
     7,reopen,1,0,withdrawn,open,1,3,3,ben 8,assign,1,0,open,assigned,1,3,3,dan\n\
     \n\
     1000 1000 1000\n\
-    import b4 ann cannot => Imported { batch: 1, first: 1, sentences: 1, words: 3 }\n\
-    assign b4 ann => Moved { batch: 1, state: Assigned, sentences: 1, words: 3 }\n\
-    correct 1 1 ann can_not => Corrected { sentence: 1, rev: 2, words: 4 }\n\
-    correct 1 1 ann can_not => Corrected { sentence: 1, rev: 2, words: 4 }\n\
+    import b4 ann cannot => imported batch=1 first=1 sentences=1 words=3\n\
+    assign b4 ann => moved batch=1 state=assigned sentences=1 words=3\n\
+    correct 1 1 ann can_not => corrected sentence=1 rev=2 words=4\n\
+    correct 1 1 ann can_not => corrected sentence=1 rev=2 words=4\n\
     correct 1 1 ann cannot => refused 7 Stale 2\n\
     correct 1 2 ann can_not => refused 14 NothingChanged\n\
     correct 1 1 ben can_not => refused 5 NotYours\n\
@@ -52,60 +52,60 @@ pub(crate) const WORK: &str = "\
     correct 1 2 ann can_not+dogs => refused 11 NotOne\n\
     revision 1 3 => refused 18 NoSuchRevision\n\
     revision 2 1 => refused 3 NoSuchSentence\n\
-    submit b4 ann => Moved { batch: 1, state: Submitted, sentences: 1, words: 4 }\n\
-    correct 1 1 ann can_not => Corrected { sentence: 1, rev: 2, words: 4 }\n\
-    import b4 ann cannot => Imported { batch: 1, first: 1, sentences: 1, words: 3 }\n\
+    submit b4 ann => moved batch=1 state=submitted sentences=1 words=4\n\
+    correct 1 1 ann can_not => corrected sentence=1 rev=2 words=4\n\
+    import b4 ann cannot => imported batch=1 first=1 sentences=1 words=3\n\
     standing => desk submitted,1,4 1,import,1,0,none,open,1,0,3,ann 2,assign,1,0,open,assigned,1,3,3,ann 3,correct,1,1,assigned,assigned,1,3,4,ann \
     4,submit,1,0,assigned,submitted,1,4,4,ann\n\
     \n\
     1000 1000 1000\n\
-    import b1 ann dogs+go => Imported { batch: 1, first: 1, sentences: 2, words: 4 }\n\
-    pull 2 dan => Pulled { sentence: 2, words: 1 }\n\
+    import b1 ann dogs+go => imported batch=1 first=1 sentences=2 words=4\n\
+    pull 2 dan => pulled sentence=2 words=1\n\
     pull 2 dan => refused 20 Pulled\n\
-    assign b1 ann => Moved { batch: 1, state: Assigned, sentences: 1, words: 3 }\n\
+    assign b1 ann => moved batch=1 state=assigned sentences=1 words=3\n\
     correct 2 1 ann go => refused 4 WrongState withdrawn\n\
-    restore 2 dan => Restored { sentence: 2, state: Assigned, words: 1 }\n\
+    restore 2 dan => restored sentence=2 state=assigned words=1\n\
     restore 2 dan => refused 21 NotPulled\n\
     pull 9 dan => refused 3 NoSuchSentence\n\
-    pull 2 dan => Pulled { sentence: 2, words: 1 }\n\
-    withdraw b1 cem => Moved { batch: 1, state: Withdrawn, sentences: 1, words: 3 }\n\
+    pull 2 dan => pulled sentence=2 words=1\n\
+    withdraw b1 cem => moved batch=1 state=withdrawn sentences=1 words=3\n\
     restore 2 dan => refused 4 WrongState withdrawn\n\
-    reopen b1 ben => Moved { batch: 1, state: Opened, sentences: 1, words: 3 }\n\
-    pull 1 dan => Pulled { sentence: 1, words: 3 }\n\
-    assign b1 ben => Moved { batch: 1, state: Assigned, sentences: 0, words: 0 }\n\
+    reopen b1 ben => moved batch=1 state=open sentences=1 words=3\n\
+    pull 1 dan => pulled sentence=1 words=3\n\
+    assign b1 ben => moved batch=1 state=assigned sentences=0 words=0\n\
     \n\
     1 2 1000\n\
-    import b1 ann dogs => Imported { batch: 1, first: 1, sentences: 1, words: 3 }\n\
+    import b1 ann dogs => imported batch=1 first=1 sentences=1 words=3\n\
     import b7 ann go => refused 17 Full\n\
-    assign b1 ann => Moved { batch: 1, state: Assigned, sentences: 1, words: 3 }\n\
+    assign b1 ann => moved batch=1 state=assigned sentences=1 words=3\n\
     submit b1 ann => refused 17 Full\n\
-    import b1 ann dogs => Imported { batch: 1, first: 1, sentences: 1, words: 3 }\n\
+    import b1 ann dogs => imported batch=1 first=1 sentences=1 words=3\n\
     \n\
     1000 1 1000\n\
-    import b1 ann dogs => Imported { batch: 1, first: 1, sentences: 1, words: 3 }\n\
+    import b1 ann dogs => imported batch=1 first=1 sentences=1 words=3\n\
     pull 1 ann => refused 17 Full\n\
     import b7 ann go => refused 17 Full\n\
     \n\
     1 1000 1000\n\
     import b1 ann dogs+go => refused 17 Full\n\
-    import b1 ann go => Imported { batch: 1, first: 1, sentences: 1, words: 1 }\n\
+    import b1 ann go => imported batch=1 first=1 sentences=1 words=1\n\
     import b2 ann dogs => refused 17 Full\n";
 
 /// What is found in released text, and in no other.
 pub(crate) const SEARCHES: &str = "\
     1000 1000 15\n\
-    import b6 ann book => Imported { batch: 1, first: 1, sentences: 1, words: 9 }\n\
-    import b7 ann go => Imported { batch: 2, first: 2, sentences: 1, words: 1 }\n\
+    import b6 ann book => imported batch=1 first=1 sentences=1 words=9\n\
+    import b7 ann go => imported batch=2 first=2 sentences=1 words=1\n\
     search longest 5 []* => 0 hits 0;\n\
-    assign b6 ann => Moved { batch: 1, state: Assigned, sentences: 1, words: 9 }\n\
+    assign b6 ann => moved batch=1 state=assigned sentences=1 words=9\n\
     search longest 5 []* => 0 hits 0;\n\
-    submit b6 ann => Moved { batch: 1, state: Submitted, sentences: 1, words: 9 }\n\
+    submit b6 ann => moved batch=1 state=submitted sentences=1 words=9\n\
     search longest 5 []* => 0 hits 0;\n\
     count longest upos []* => 0 key,count;\n\
     number longest of []* => 0\n\
-    adjudicate b6 ben => Moved { batch: 1, state: Adjudicated, sentences: 1, words: 9 }\n\
+    adjudicate b6 ben => moved batch=1 state=adjudicated sentences=1 words=9\n\
     search longest 5 []* => 0 hits 0;\n\
-    release b6 cem => Moved { batch: 1, state: Released, sentences: 1, words: 9 }\n\
+    release b6 cem => moved batch=1 state=released sentences=1 words=9\n\
     search shortest 2 phrases => 3 s6/3/3/the old/book/on the;s6/6/6/on the/table/in the;s6/9/9/in the/room/;hits 3;\n\
     search longest 2 phrases => 1 s6/1/9//the old book on the table in the room/;hits 1;\n\
     number every of phrases => 15\n\
@@ -116,83 +116,83 @@ pub(crate) const SEARCHES: &str = "\
     cut every 34 phrases => the writer failed s6/1/3//the old book/on the;s6/1/6\n\
     \n\
     1000 1000 14\n\
-    import b6 ann book => Imported { batch: 1, first: 1, sentences: 1, words: 9 }\n\
-    assign b6 ann => Moved { batch: 1, state: Assigned, sentences: 1, words: 9 }\n\
+    import b6 ann book => imported batch=1 first=1 sentences=1 words=9\n\
+    assign b6 ann => moved batch=1 state=assigned sentences=1 words=9\n\
     number every of phrases => 0\n\
-    submit b6 ann => Moved { batch: 1, state: Submitted, sentences: 1, words: 9 }\n\
-    adjudicate b6 ben => Moved { batch: 1, state: Adjudicated, sentences: 1, words: 9 }\n\
-    release b6 cem => Moved { batch: 1, state: Released, sentences: 1, words: 9 }\n\
+    submit b6 ann => moved batch=1 state=submitted sentences=1 words=9\n\
+    adjudicate b6 ben => moved batch=1 state=adjudicated sentences=1 words=9\n\
+    release b6 cem => moved batch=1 state=released sentences=1 words=9\n\
     number every of phrases => refused 22 TooManyHits\n\
     number shortest of phrases => 3\n\
     search shortest 0 phrases => 3 s6/3/3//book/;s6/6/6//table/;s6/9/9//room/;hits 3;\n\
     \n\
     1000 1000 1\n\
-    import b7 ann go => Imported { batch: 1, first: 1, sentences: 1, words: 1 }\n\
-    assign b7 ann => Moved { batch: 1, state: Assigned, sentences: 1, words: 1 }\n\
-    submit b7 ann => Moved { batch: 1, state: Submitted, sentences: 1, words: 1 }\n\
-    adjudicate b7 ben => Moved { batch: 1, state: Adjudicated, sentences: 1, words: 1 }\n\
-    release b7 cem => Moved { batch: 1, state: Released, sentences: 1, words: 1 }\n\
+    import b7 ann go => imported batch=1 first=1 sentences=1 words=1\n\
+    assign b7 ann => moved batch=1 state=assigned sentences=1 words=1\n\
+    submit b7 ann => moved batch=1 state=submitted sentences=1 words=1\n\
+    adjudicate b7 ben => moved batch=1 state=adjudicated sentences=1 words=1\n\
+    release b7 cem => moved batch=1 state=released sentences=1 words=1\n\
     search longest 0 []* => 1 s7/1/1//Go/;hits 1;\n\
     search longest 0 [upos=\"X\"]* => 0 hits 0;\n\
     search longest 0 [word=\"go\"%c & !feats contains \"X\"] => 1 s7/1/1//Go/;hits 1;\n\
     search longest 0 \"g.\"%l => 0 hits 0;\n\
     number every of []* => 1\n\
-    withdraw b7 cem => Moved { batch: 1, state: Withdrawn, sentences: 1, words: 1 }\n\
+    withdraw b7 cem => moved batch=1 state=withdrawn sentences=1 words=1\n\
     search longest 0 []* => 0 hits 0;\n\
     count longest upos []* => 0 key,count;\n\
     number every of []* => 0\n\
     \n\
     1000 1000 1000\n\
-    import b8 ann letters => Imported { batch: 1, first: 1, sentences: 1, words: 5 }\n\
-    assign b8 ann => Moved { batch: 1, state: Assigned, sentences: 1, words: 5 }\n\
-    submit b8 ann => Moved { batch: 1, state: Submitted, sentences: 1, words: 5 }\n\
-    adjudicate b8 ben => Moved { batch: 1, state: Adjudicated, sentences: 1, words: 5 }\n\
-    release b8 cem => Moved { batch: 1, state: Released, sentences: 1, words: 5 }\n\
+    import b8 ann letters => imported batch=1 first=1 sentences=1 words=5\n\
+    assign b8 ann => moved batch=1 state=assigned sentences=1 words=5\n\
+    submit b8 ann => moved batch=1 state=submitted sentences=1 words=5\n\
+    adjudicate b8 ben => moved batch=1 state=adjudicated sentences=1 words=5\n\
+    release b8 cem => moved batch=1 state=released sentences=1 words=5\n\
     count shortest lemma [] => 5 key,count;a,2;b,2;\"c,\"\"d\"\"\",1;\n\
     number shortest of [] => 5\n\
     \n\
     1000 1000 1000\n\
-    import b4 ann cannot => Imported { batch: 1, first: 1, sentences: 1, words: 3 }\n\
-    assign b4 ann => Moved { batch: 1, state: Assigned, sentences: 1, words: 3 }\n\
-    correct 1 1 ann can_not => Corrected { sentence: 1, rev: 2, words: 4 }\n\
-    submit b4 ann => Moved { batch: 1, state: Submitted, sentences: 1, words: 4 }\n\
-    adjudicate b4 ben => Moved { batch: 1, state: Adjudicated, sentences: 1, words: 4 }\n\
-    release b4 cem => Moved { batch: 1, state: Released, sentences: 1, words: 4 }\n\
+    import b4 ann cannot => imported batch=1 first=1 sentences=1 words=3\n\
+    assign b4 ann => moved batch=1 state=assigned sentences=1 words=3\n\
+    correct 1 1 ann can_not => corrected sentence=1 rev=2 words=4\n\
+    submit b4 ann => moved batch=1 state=submitted sentences=1 words=4\n\
+    adjudicate b4 ben => moved batch=1 state=adjudicated sentences=1 words=4\n\
+    release b4 cem => moved batch=1 state=released sentences=1 words=4\n\
     search longest 1 \"cannot|can|not\" => 2 s4/2/2/I/can/not;s4/3/3/can/not/.;hits 2;\n\
     count longest upos \"cannot|can|not\" => 2 key,count;AUX,1;PART,1;\n\
     number longest of \"cannot\" => 0\n\
     \n\
     1000 1000 1000\n\
-    import b1 ann dogs+go => Imported { batch: 1, first: 1, sentences: 2, words: 4 }\n\
-    assign b1 ann => Moved { batch: 1, state: Assigned, sentences: 2, words: 4 }\n\
-    submit b1 ann => Moved { batch: 1, state: Submitted, sentences: 2, words: 4 }\n\
-    adjudicate b1 ben => Moved { batch: 1, state: Adjudicated, sentences: 2, words: 4 }\n\
-    release b1 cem => Moved { batch: 1, state: Released, sentences: 2, words: 4 }\n\
+    import b1 ann dogs+go => imported batch=1 first=1 sentences=2 words=4\n\
+    assign b1 ann => moved batch=1 state=assigned sentences=2 words=4\n\
+    submit b1 ann => moved batch=1 state=submitted sentences=2 words=4\n\
+    adjudicate b1 ben => moved batch=1 state=adjudicated sentences=2 words=4\n\
+    release b1 cem => moved batch=1 state=released sentences=2 words=4\n\
     search longest 0 []* => 2 s1/1/3//Dogs bark ./;s7/1/1//Go/;hits 2;\n\
-    pull 1 dan => Pulled { sentence: 1, words: 3 }\n\
+    pull 1 dan => pulled sentence=1 words=3\n\
     search longest 0 []* => 1 s7/1/1//Go/;hits 1;\n\
     count longest upos []* => 1 key,count;VERB,1;\n\
     number longest of []* => 1\n\
-    restore 1 dan => Restored { sentence: 1, state: Released, words: 3 }\n\
+    restore 1 dan => restored sentence=1 state=released words=3\n\
     count longest upos []* => 2 key,count;NOUN VERB PUNCT,1;VERB,1;\n\
     number longest of []* => 2\n\
     \n\
     1000 1000 500500\n\
-    import b9 ann thousand => Imported { batch: 1, first: 1, sentences: 1, words: 1000 }\n\
-    assign b9 ann => Moved { batch: 1, state: Assigned, sentences: 1, words: 1000 }\n\
-    submit b9 ann => Moved { batch: 1, state: Submitted, sentences: 1, words: 1000 }\n\
-    adjudicate b9 ben => Moved { batch: 1, state: Adjudicated, sentences: 1, words: 1000 }\n\
-    release b9 cem => Moved { batch: 1, state: Released, sentences: 1, words: 1000 }\n\
+    import b9 ann thousand => imported batch=1 first=1 sentences=1 words=1000\n\
+    assign b9 ann => moved batch=1 state=assigned sentences=1 words=1000\n\
+    submit b9 ann => moved batch=1 state=submitted sentences=1 words=1000\n\
+    adjudicate b9 ben => moved batch=1 state=adjudicated sentences=1 words=1000\n\
+    release b9 cem => moved batch=1 state=released sentences=1 words=1000\n\
     number every of []* => 500500\n\
     number longest of []* => 1\n\
     cut every 15 []* => the writer failed s9/1/1//w/w w;s\n\
     \n\
     1000 1000 500499\n\
-    import b9 ann thousand => Imported { batch: 1, first: 1, sentences: 1, words: 1000 }\n\
-    assign b9 ann => Moved { batch: 1, state: Assigned, sentences: 1, words: 1000 }\n\
-    submit b9 ann => Moved { batch: 1, state: Submitted, sentences: 1, words: 1000 }\n\
-    adjudicate b9 ben => Moved { batch: 1, state: Adjudicated, sentences: 1, words: 1000 }\n\
-    release b9 cem => Moved { batch: 1, state: Released, sentences: 1, words: 1000 }\n\
+    import b9 ann thousand => imported batch=1 first=1 sentences=1 words=1000\n\
+    assign b9 ann => moved batch=1 state=assigned sentences=1 words=1000\n\
+    submit b9 ann => moved batch=1 state=submitted sentences=1 words=1000\n\
+    adjudicate b9 ben => moved batch=1 state=adjudicated sentences=1 words=1000\n\
+    release b9 cem => moved batch=1 state=released sentences=1 words=1000\n\
     number every of []* => refused 22 TooManyHits\n";
 
 /// What `BODY` stands for: bodies that a correction of `dogs` refuses, one for each reason, two for several reasons, and one that
@@ -203,11 +203,11 @@ pub(crate) const BODIES: &str = "\
 /// Commands that are refused for two reasons or more, on desks that have no room for another move.
 pub(crate) const REFUSALS: &str = "\
     1 1 1000\n\
-    import b1 ann dogs => Imported { batch: 1, first: 1, sentences: 1, words: 3 }\n\
+    import b1 ann dogs => imported batch=1 first=1 sentences=1 words=3\n\
     import b1 a/n BODY => refused 1 BadName\n\
     import b2 a/n BODY => refused 1 BadName\n\
     import b/1 ann BODY => refused 1 BadName\n\
-    import b1 ann dogs => Imported { batch: 1, first: 1, sentences: 1, words: 3 }\n\
+    import b1 ann dogs => imported batch=1 first=1 sentences=1 words=3\n\
     import b2 ann dogs:NOUN:NN+go:0:x => refused 8 Read 9 7\n\
     import b1 ann go:0:x => refused 8 Read 3 7\n\
     import b2 ann dogs+go:0:x => refused 8 Read 9 7\n\
@@ -238,8 +238,8 @@ pub(crate) const REFUSALS: &str = "\
     standing => desk open,1,3 1,import,1,0,none,open,1,0,3,ann\n\
     \n\
     1 2 1000\n\
-    import b1 ann dogs => Imported { batch: 1, first: 1, sentences: 1, words: 3 }\n\
-    assign b1 ann => Moved { batch: 1, state: Assigned, sentences: 1, words: 3 }\n\
+    import b1 ann dogs => imported batch=1 first=1 sentences=1 words=3\n\
+    assign b1 ann => moved batch=1 state=assigned sentences=1 words=3\n\
     submit b9 a/n => refused 1 BadName\n\
     submit b/9 ann => refused 1 BadName\n\
     reopen b1 a/n => refused 1 BadName\n\
@@ -274,9 +274,9 @@ pub(crate) const REFUSALS: &str = "\
     standing => desk assigned,1,3 1,import,1,0,none,open,1,0,3,ann 2,assign,1,0,open,assigned,1,3,3,ann\n\
     \n\
     1 3 1000\n\
-    import b1 ann dogs => Imported { batch: 1, first: 1, sentences: 1, words: 3 }\n\
-    assign b1 ann => Moved { batch: 1, state: Assigned, sentences: 1, words: 3 }\n\
-    submit b1 ann => Moved { batch: 1, state: Submitted, sentences: 1, words: 3 }\n\
+    import b1 ann dogs => imported batch=1 first=1 sentences=1 words=3\n\
+    assign b1 ann => moved batch=1 state=assigned sentences=1 words=3\n\
+    submit b1 ann => moved batch=1 state=submitted sentences=1 words=3\n\
     submit b1 ben => refused 4 WrongState submitted\n\
     send-back b1 ann => refused 6 OwnWork\n\
     adjudicate b1 ann => refused 6 OwnWork\n\
@@ -286,23 +286,23 @@ pub(crate) const REFUSALS: &str = "\
     correct 1 1 ben dogs:dog:cat => refused 17 Full\n\
     \n\
     1 4 1000\n\
-    import b4 ann cannot => Imported { batch: 1, first: 1, sentences: 1, words: 3 }\n\
-    assign b4 ann => Moved { batch: 1, state: Assigned, sentences: 1, words: 3 }\n\
-    correct 1 1 ann can_not => Corrected { sentence: 1, rev: 2, words: 4 }\n\
-    submit b4 ann => Moved { batch: 1, state: Submitted, sentences: 1, words: 4 }\n\
-    correct 1 1 ann can_not => Corrected { sentence: 1, rev: 2, words: 4 }\n\
+    import b4 ann cannot => imported batch=1 first=1 sentences=1 words=3\n\
+    assign b4 ann => moved batch=1 state=assigned sentences=1 words=3\n\
+    correct 1 1 ann can_not => corrected sentence=1 rev=2 words=4\n\
+    submit b4 ann => moved batch=1 state=submitted sentences=1 words=4\n\
+    correct 1 1 ann can_not => corrected sentence=1 rev=2 words=4\n\
     correct 1 1 a/n can_not => refused 1 BadName\n\
     correct 1 1 ben can_not => refused 7 Stale 2\n\
     correct 1 2 ann can_not => refused 6 OwnWork\n\
-    import b4 ben cannot => Imported { batch: 1, first: 1, sentences: 1, words: 3 }\n\
+    import b4 ben cannot => imported batch=1 first=1 sentences=1 words=3\n\
     import b4 ann can_not => refused 15 NameTaken\n\
     \n\
     1 4 1000\n\
-    import b4 ann cannot => Imported { batch: 1, first: 1, sentences: 1, words: 3 }\n\
-    assign b4 ann => Moved { batch: 1, state: Assigned, sentences: 1, words: 3 }\n\
-    correct 1 1 ann can_not => Corrected { sentence: 1, rev: 2, words: 4 }\n\
-    pull 1 dan => Pulled { sentence: 1, words: 4 }\n\
-    correct 1 1 ann can_not => Corrected { sentence: 1, rev: 2, words: 4 }\n\
+    import b4 ann cannot => imported batch=1 first=1 sentences=1 words=3\n\
+    assign b4 ann => moved batch=1 state=assigned sentences=1 words=3\n\
+    correct 1 1 ann can_not => corrected sentence=1 rev=2 words=4\n\
+    pull 1 dan => pulled sentence=1 words=4\n\
+    correct 1 1 ann can_not => corrected sentence=1 rev=2 words=4\n\
     correct 1 9 ben BODY => refused 4 WrongState withdrawn\n\
     pull 1 a/n => refused 1 BadName\n\
     pull 1 dan => refused 20 Pulled\n\
@@ -310,16 +310,16 @@ pub(crate) const REFUSALS: &str = "\
     restore 1 dan => refused 17 Full\n\
     \n\
     1 3 1000\n\
-    import b1 ann dogs => Imported { batch: 1, first: 1, sentences: 1, words: 3 }\n\
-    pull 1 dan => Pulled { sentence: 1, words: 3 }\n\
-    withdraw b1 cem => Moved { batch: 1, state: Withdrawn, sentences: 0, words: 0 }\n\
+    import b1 ann dogs => imported batch=1 first=1 sentences=1 words=3\n\
+    pull 1 dan => pulled sentence=1 words=3\n\
+    withdraw b1 cem => moved batch=1 state=withdrawn sentences=0 words=0\n\
     pull 1 a/n => refused 1 BadName\n\
     pull 1 dan => refused 4 WrongState withdrawn\n\
     restore 1 a/n => refused 1 BadName\n\
     restore 1 dan => refused 4 WrongState withdrawn\n\
     \n\
     2 2 1000\n\
-    import b1 ann dogs+go => Imported { batch: 1, first: 1, sentences: 2, words: 4 }\n\
-    withdraw b1 cem => Moved { batch: 1, state: Withdrawn, sentences: 2, words: 4 }\n\
+    import b1 ann dogs+go => imported batch=1 first=1 sentences=2 words=4\n\
+    withdraw b1 cem => moved batch=1 state=withdrawn sentences=2 words=4\n\
     pull 1 dan => refused 4 WrongState withdrawn\n\
     restore 1 dan => refused 4 WrongState withdrawn\n";

@@ -1,7 +1,9 @@
 //! Commands to the store of a connection, whatever stands there.
 
-use crate::asking::{LIMITS, obeyed, standing};
+use crate::asking::{LIMITS, obeyed};
+use crate::disks::{FileConnection, no_files, whole};
 use crate::first::FIRST;
+use crate::rows::ROWS;
 use sqlite::{Alter, Connection};
 use std::alloc::Global;
 use std::test::Fail;
@@ -82,11 +84,21 @@ pub(crate) fn found<S: Alter + Drop>(
     if tb_tables::has_version_one_schema(&conn) {
         return Ok((String::from_str(alloc, "version 1")?, conn));
     }
-    match Desk::adopt(alloc, conn, LIMITS) {
-        Ok(mut desk) => {
-            let state = standing(alloc, &mut desk)?;
-            Ok((state, desk.into_connection()))
+    obeyed_by(alloc, conn, "standing")
+}
+
+/// A store in new files: the tables and rows of version 1 for `first`, a desk and its rows for `second`, nothing for any other
+/// word; and these statements after them.
+pub(crate) fn store(alloc: Global, base: &str, change: &str) -> Result<FileConnection, Fail> {
+    let mut conn = whole(alloc, &no_files(alloc))?;
+    match base {
+        "first" => conn = sent(alloc, conn, "version 1")?.1,
+        "second" => {
+            conn = sent(alloc, conn, "make")?.1;
+            conn.execute_batch(ROWS)?;
         }
-        Err(Unmade { fault, conn }) => Ok((fault.to_string(alloc)?, conn)),
+        _ => {}
     }
+    conn.execute_batch(change)?;
+    Ok(conn)
 }

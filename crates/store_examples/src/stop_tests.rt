@@ -1,7 +1,7 @@
 //! Each command on disks that stop at each of their calls in turn, or fail at it alone: what is found afterwards is the state of
 //! before or that of after, that of before wherever the same connection tells it, and the command can be sent again.
 
-use crate::disks::{Stop, closed, failing, fused, kept, left, no_files, opened, whole};
+use crate::disks::{Stop, closed, kept, left, no_files, opened, whole};
 use crate::sending::{found, sent};
 use crate::telling::assert_told;
 use sqlite::Files;
@@ -22,35 +22,35 @@ const CASES: &str = "\
     \n\
     make\n\
     import b1 ann dogs\n\
-    Imported { batch: 1, first: 1, sentences: 1, words: 3 }\n\
+    imported batch=1 first=1 sentences=1 words=3\n\
     desk\n\
     desk open,1,3 1,import,1,0,none,open,1,0,3,ann\n\
-    Imported { batch: 1, first: 1, sentences: 1, words: 3 }\n\
+    imported batch=1 first=1 sentences=1 words=3\n\
     \n\
     make; import b1 ann dogs\n\
     assign b1 ann\n\
-    Moved { batch: 1, state: Assigned, sentences: 1, words: 3 }\n\
+    moved batch=1 state=assigned sentences=1 words=3\n\
     desk open,1,3 1,import,1,0,none,open,1,0,3,ann\n\
     desk assigned,1,3 1,import,1,0,none,open,1,0,3,ann 2,assign,1,0,open,assigned,1,3,3,ann\n\
     refused 4 WrongState assigned\n\
     \n\
     make; import b4 ann cannot; assign b4 ann\n\
     correct 1 1 ann can_not\n\
-    Corrected { sentence: 1, rev: 2, words: 4 }\n\
+    corrected sentence=1 rev=2 words=4\n\
     desk assigned,1,3 1,import,1,0,none,open,1,0,3,ann 2,assign,1,0,open,assigned,1,3,3,ann\n\
     desk assigned,1,4 1,import,1,0,none,open,1,0,3,ann 2,assign,1,0,open,assigned,1,3,3,ann 3,correct,1,1,assigned,assigned,1,3,4,ann\n\
-    Corrected { sentence: 1, rev: 2, words: 4 }\n\
+    corrected sentence=1 rev=2 words=4\n\
     \n\
     make; import b1 ann dogs+go\n\
     pull 2 dan\n\
-    Pulled { sentence: 2, words: 1 }\n\
+    pulled sentence=2 words=1\n\
     desk open,2,4 1,import,1,0,none,open,2,0,4,ann\n\
     desk open,1,3 withdrawn,1,1 1,import,1,0,none,open,2,0,4,ann 2,pull,1,2,open,withdrawn,1,1,1,dan\n\
     refused 20 Pulled\n\
     \n\
     make; import b1 ann dogs+go; pull 2 dan; assign b1 ann\n\
     restore 2 dan\n\
-    Restored { sentence: 2, state: Assigned, words: 1 }\n\
+    restored sentence=2 state=assigned words=1\n\
     desk assigned,1,3 withdrawn,1,1 1,import,1,0,none,open,2,0,4,ann 2,pull,1,2,open,withdrawn,1,1,1,dan 3,assign,1,0,open,assigned,1,3,3,ann\n\
     desk assigned,2,4 1,import,1,0,none,open,2,0,4,ann 2,pull,1,2,open,withdrawn,1,1,1,dan 3,assign,1,0,open,assigned,1,3,3,ann 4,restore,1,2,withdrawn,assigned,1,1,1,dan\n\
     refused 21 NotPulled\n\
@@ -95,35 +95,52 @@ fn prepared(alloc: Global, commands: &str) -> Result<Files<Memory>, Fail> {
     let mut files = no_files(alloc);
     for command in commands.split("; ") {
         if *command != *"nothing" {
-            let (_answer, conn) = sent(alloc, whole(alloc, files)?, command)?;
-            files = closed(conn).0;
+            let (_answer, conn) = sent(alloc, whole(alloc, &files)?, command)?;
+            files = kept(alloc, conn)?;
         }
     }
     Ok(files)
 }
 
-/// What was answered before the stop, whether there was none, and the files that it left.
+/// What was answered over disks that stop or fail once, what the same connection finds then, the files that are left, and whether
+/// a disk failed.
+#[derive(Drop)]
+struct Outcome {
+    answer: String,
+    state: String,
+    files: Files<Memory>,
+    has_failed: bool,
+}
+
+/// Sends a command over such disks.
 fn stopped(
     alloc: Global,
     files: &Files<Memory>,
     stop: &Stop,
     command: &str,
-) -> Result<(String, bool, Files<Memory>), Fail> {
-    match opened(alloc, fused(alloc, files, stop)?) {
+) -> Result<Outcome, Fail> {
+    let (answer, state, files) = match opened(alloc, files, stop)? {
         Ok(conn) => {
             let (answer, conn) = sent(alloc, conn, command)?;
-            let (files, is_closed) = closed(conn);
-            Ok((answer, is_closed, left(alloc, files, stop)?))
+            let (state, conn) = found(alloc, conn)?;
+            (answer, state, closed(conn))
         }
-        Err(files) => Ok((
+        Err(files) => (
             String::from_str(alloc, "refused device")?,
-            false,
-            left(alloc, files, stop)?,
-        )),
-    }
+            String::from_str(alloc, "refused device")?,
+            files,
+        ),
+    };
+    let (files, has_failed) = left(alloc, files, stop)?;
+    Ok(Outcome {
+        answer,
+        state,
+        files,
+        has_failed,
+    })
 }
 
-/// Asserts what is found after one stop. Whether nothing stopped.
+/// Asserts what is found after one stop. Whether there was one.
 fn assert_stop(
     rt: &impl Abort,
     alloc: Global,
@@ -131,20 +148,25 @@ fn assert_stop(
     stop: &Stop,
     case: &Case<'_>,
 ) -> Result<bool, Fail> {
-    let (answer, is_closed, files) = stopped(alloc, files, stop, case.command)?;
-    let is_answered = *answer.as_str() == *case.reply;
+    let outcome = stopped(alloc, files, stop, case.command)?;
+    let is_answered = *outcome.answer.as_str() == *case.reply;
     if !is_answered {
-        assert_told(rt, answer.as_str(), "refused device", case.command);
+        assert_told(rt, outcome.answer.as_str(), "refused device", case.command);
+        assert!(rt; outcome.has_failed);
     }
-    assert_left(rt, alloc, files, is_answered, case)?;
-    Ok(is_answered && is_closed)
+    if *outcome.state.as_str() != *"refused device" {
+        let wanted = if is_answered { case.new } else { case.old };
+        assert_told(rt, outcome.state.as_str(), wanted, case.command);
+    }
+    assert_left(rt, alloc, &outcome.files, is_answered, case)?;
+    Ok(outcome.has_failed)
 }
 
 /// Asserts what is found in files in which a command was answered, or stopped before, and that it can then be sent again.
 fn assert_left(
     rt: &impl Abort,
     alloc: Global,
-    files: Files<Memory>,
+    files: &Files<Memory>,
     is_answered: bool,
     case: &Case<'_>,
 ) -> Result<(), Fail> {
@@ -162,12 +184,12 @@ fn assert_left(
     Ok(())
 }
 
-/// Asserts it of stops at each call of one file, until nothing stops. How many stops there were.
+/// Asserts it of stops of one kind at each call of one file, until nothing stops. How many stops there were.
 fn assert_stops(
     rt: &impl Abort,
     alloc: Global,
     is_log: bool,
-    is_of_machine: bool,
+    kind: &Stop,
     case: &Case<'_>,
 ) -> Result<u64, Fail> {
     let files = prepared(alloc, case.before)?;
@@ -175,13 +197,35 @@ fn assert_stops(
         let stop = Stop {
             log: if is_log { calls } else { u64::MAX },
             db: if is_log { u64::MAX } else { calls },
-            is_of_machine,
+            is_once: kind.is_once,
+            is_of_machine: kind.is_of_machine,
         };
-        if assert_stop(rt, alloc, &files, &stop, case)? {
+        if !assert_stop(rt, alloc, &files, &stop, case)? {
             return Ok(calls);
         }
     }
     Err("no run ended")?
+}
+
+/// Asserts it of the program that stops, of the machine that does, and of a call that fails once.
+fn assert_survives(
+    rt: &impl Abort,
+    alloc: Global,
+    is_log: bool,
+    case: &Case<'_>,
+) -> Result<(), Fail> {
+    for (is_once, is_of_machine) in [(false, false), (false, true), (true, false)] {
+        let kind = Stop {
+            log: 0,
+            db: 0,
+            is_once,
+            is_of_machine,
+        };
+        let stops = assert_stops(rt, alloc, is_log, &kind, case)?;
+        let command = case.command;
+        assert!(rt; stops > 3, "{command}");
+    }
+    Ok(())
 }
 
 #[test]
@@ -191,102 +235,7 @@ fn commands_survive_stops(rt: HostRuntime) -> Result<(), Fail> {
     for text in CASES.split("\n\n") {
         let case = case_of(text);
         for is_log in [true, false] {
-            for is_of_machine in [true, false] {
-                let stops = assert_stops(&rt, alloc, is_log, is_of_machine, &case)?;
-                assert!(rt; stops > 3, "{text}");
-            }
-        }
-    }
-    Ok(())
-}
-
-/// What was answered over disks that fail once, what the same connection finds then, the files, and whether a disk failed.
-#[derive(Drop)]
-struct Failure {
-    answer: String,
-    state: String,
-    files: Files<Memory>,
-    has_failed: bool,
-}
-
-/// Sends a command over such disks.
-fn failed(
-    alloc: Global,
-    files: &Files<Memory>,
-    stop: &Stop,
-    command: &str,
-) -> Result<Failure, Fail> {
-    let (answer, state, files) = match opened(alloc, failing(alloc, files, stop)?) {
-        Ok(conn) => {
-            let (answer, conn) = sent(alloc, conn, command)?;
-            let (state, conn) = found(alloc, conn)?;
-            (answer, state, closed(conn).0)
-        }
-        Err(files) => (
-            String::from_str(alloc, "refused device")?,
-            String::from_str(alloc, "refused device")?,
-            files,
-        ),
-    };
-    let (files, has_failed) = kept(alloc, &files)?;
-    Ok(Failure {
-        answer,
-        state,
-        files,
-        has_failed,
-    })
-}
-
-/// Asserts what is found after one failure. Whether there was one.
-fn assert_failure(
-    rt: &impl Abort,
-    alloc: Global,
-    files: &Files<Memory>,
-    stop: &Stop,
-    case: &Case<'_>,
-) -> Result<bool, Fail> {
-    let failure = failed(alloc, files, stop, case.command)?;
-    let is_answered = *failure.answer.as_str() == *case.reply;
-    if !is_answered {
-        assert_told(rt, failure.answer.as_str(), "refused device", case.command);
-    }
-    if *failure.state.as_str() != *"refused device" {
-        let wanted = if is_answered { case.new } else { case.old };
-        assert_told(rt, failure.state.as_str(), wanted, case.command);
-    }
-    assert_left(rt, alloc, failure.files, is_answered, case)?;
-    Ok(failure.has_failed)
-}
-
-/// Asserts it of failures at each call of one file. How many there were.
-fn assert_failures(
-    rt: &impl Abort,
-    alloc: Global,
-    is_log: bool,
-    case: &Case<'_>,
-) -> Result<u64, Fail> {
-    let files = prepared(alloc, case.before)?;
-    for calls in 0..10_000u64 {
-        let stop = Stop {
-            log: if is_log { calls } else { u64::MAX },
-            db: if is_log { u64::MAX } else { calls },
-            is_of_machine: false,
-        };
-        if !assert_failure(rt, alloc, &files, &stop, case)? {
-            return Ok(calls);
-        }
-    }
-    Err("no run ended")?
-}
-
-#[test]
-fn commands_survive_failures(rt: HostRuntime) -> Result<(), Fail> {
-    let alloc = rt.alloc();
-    for text in CASES.split("\n\n") {
-        let case = case_of(text);
-        for is_log in [true, false] {
-            let failures = assert_failures(&rt, alloc, is_log, &case)?;
-            assert!(rt; failures > 3, "{text}");
+            assert_survives(&rt, alloc, is_log, &case)?;
         }
     }
     Ok(())

@@ -5,16 +5,6 @@ use std::fmt::{Debug, Display};
 use std::process::Abort;
 use std::test::Fail;
 
-/// A line for each.
-pub(crate) fn lines_of<T: Debug>(alloc: Global, rows: &[T]) -> Result<String, Fail> {
-    let mut text = String::new(alloc);
-    for row in rows {
-        let line = format!(in alloc; "{row:?}\n")?;
-        text.push_str(line.as_str())?;
-    }
-    Ok(text)
-}
-
 /// The value, or the error as it is told.
 pub(crate) fn told<T: Debug + Drop, E: Display + Drop>(
     alloc: Global,

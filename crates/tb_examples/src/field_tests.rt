@@ -7,6 +7,7 @@ use tb_chars::{has_white_space, is_solid_text};
 use tb_fields::{is_blank_field, is_feature_list, is_relation_text, is_tag, relation_base};
 
 /// What is asked of a field.
+#[derive(Drop)]
 enum FieldQuestion {
     Features,
     Tag,
@@ -55,21 +56,11 @@ const FEATURES: &str = "\
     Abbr=Yes|Animacy=Anim|Aspect=Perf|Case=Nom|Definite=Ind|Degree=Pos|Evident=Fh|Foreign=Yes|Gender=Masc|Mood=Ind|Number=Sing|NUMBER=Sing|Number=Plur => no\n\
     Abbr=Yes|Animacy=Anim|Aspect=Perf|Case=Nom|Definite=Ind|Degree=Pos|Evident=Fh|Foreign=Yes|Gender=Masc|Mood=Ind|NumType=Card|Number=Sing => no\n";
 
-#[test]
-fn reads_features(rt: HostRuntime) -> Result<(), Fail> {
-    assert_answers(&rt, rt.alloc(), &FieldQuestion::Features, FEATURES, 18)
-}
-
 /// Lists of forty values: all different, the first again at the end, and one in small letters at the end.
 const FORTY_VALUES: &str = "\
     A=A1,A2,A3,A4,A5,A6,A7,A8,A9,B1,B2,B3,B4,B5,B6,B7,B8,B9,C1,C2,C3,C4,C5,C6,C7,C8,C9,F1,F2,F3,F4,F5,F6,F7,F8,F9,E1,E2,E3,E4 => yes\n\
     A=A1,A2,A3,A4,A5,A6,A7,A8,A9,B1,B2,B3,B4,B5,B6,B7,B8,B9,C1,C2,C3,C4,C5,C6,C7,C8,C9,F1,F2,F3,F4,F5,F6,F7,F8,F9,E1,E2,E3,A1 => no\n\
     A=A1,A2,A3,A4,A5,A6,A7,A8,A9,B1,B2,B3,B4,B5,B6,B7,B8,B9,C1,C2,C3,C4,C5,C6,C7,C8,C9,F1,F2,F3,F4,F5,F6,F7,F8,F9,E1,E2,E3,e4 => no\n";
-
-#[test]
-fn tells_values_repeated_far_apart(rt: HostRuntime) -> Result<(), Fail> {
-    assert_answers(&rt, rt.alloc(), &FieldQuestion::Features, FORTY_VALUES, 3)
-}
 
 const TAGS: &str = "\
     ADJ => yes\n\
@@ -80,11 +71,6 @@ const TAGS: &str = "\
     noun => no\n\
     NN => no\n\
     ADJ  => no\n";
-
-#[test]
-fn knows_tags(rt: HostRuntime) -> Result<(), Fail> {
-    assert_answers(&rt, rt.alloc(), &FieldQuestion::Tag, TAGS, 8)
-}
 
 const RELATIONS: &str = "\
     nsubj => yes\n\
@@ -106,13 +92,6 @@ const RELATION_BASES: &str = "\
     nsubj:pass => nsubj\n\
     root => root\n";
 
-#[test]
-fn knows_relations(rt: HostRuntime) -> Result<(), Fail> {
-    let alloc = rt.alloc();
-    assert_answers(&rt, alloc, &FieldQuestion::Relation, RELATIONS, 14)?;
-    assert_answers(&rt, alloc, &FieldQuestion::RelationBase, RELATION_BASES, 2)
-}
-
 const BLANKS: &str = "\
     _ => yes\n\
     __ => no\n";
@@ -127,9 +106,19 @@ const SOLIDS: &str = "\
     a\u{3000} => no\n";
 
 #[test]
-fn finds_white_space(rt: HostRuntime) -> Result<(), Fail> {
+fn tells_what_a_field_may_hold(rt: HostRuntime) -> Result<(), Fail> {
     let alloc = rt.alloc();
-    assert_answers(&rt, alloc, &FieldQuestion::Blank, BLANKS, 2)?;
-    assert_answers(&rt, alloc, &FieldQuestion::WhiteSpace, WHITE_SPACES, 2)?;
-    assert_answers(&rt, alloc, &FieldQuestion::Solid, SOLIDS, 3)
+    for (question, cases, count) in [
+        (FieldQuestion::Features, FEATURES, 18),
+        (FieldQuestion::Features, FORTY_VALUES, 3),
+        (FieldQuestion::Tag, TAGS, 8),
+        (FieldQuestion::Relation, RELATIONS, 14),
+        (FieldQuestion::RelationBase, RELATION_BASES, 2),
+        (FieldQuestion::Blank, BLANKS, 2),
+        (FieldQuestion::WhiteSpace, WHITE_SPACES, 2),
+        (FieldQuestion::Solid, SOLIDS, 3),
+    ] {
+        assert_answers(&rt, alloc, &question, cases, count)?;
+    }
+    Ok(())
 }

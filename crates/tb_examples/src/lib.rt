@@ -1,7 +1,9 @@
-//! Tests that go through several crates, and the tests of the crates below: what is read and written, the rules, and what
-//! the desk answers.
+//! Tests of what is read, written and checked: each call of the libraries with ample memory, and readers and writers that fail. What the
+//! program prints of small files is asked by `tools/examples`.
 #![tactic(auto)]
 
+#[cfg(test)]
+mod broken;
 #[cfg(test)]
 mod cases;
 #[cfg(test)]
@@ -9,13 +11,9 @@ mod check_tests;
 #[cfg(test)]
 mod field_tests;
 #[cfg(test)]
-mod file_rule_tests;
-#[cfg(test)]
 mod files;
 #[cfg(test)]
-mod format_tests;
-#[cfg(test)]
-mod known_tests;
+mod law_tests;
 #[cfg(test)]
 mod passage_tests;
 #[cfg(test)]
@@ -24,7 +22,5 @@ mod read_tests;
 mod rule_tests;
 #[cfg(test)]
 mod samples;
-#[cfg(test)]
-mod sentence_rule_tests;
 #[cfg(test)]
 mod write_tests;

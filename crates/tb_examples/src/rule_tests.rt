@@ -1,75 +1,138 @@
-//! What `check` prints of files that can be read, by the rules of their sentences.
+//! The rules: the values of a sentence, one sentence after another, and faults in words. What is expected was worked out by
+//! hand from the rules.
 
-use crate::cases::{Question, assert_answers};
-use crate::check_tests::{File, told_of};
+use crate::cases::{Question, assert_answers, changed, unfolded};
+use crate::files::{VAMONOS, file_of};
 use std::alloc::Global;
 use std::test::Fail;
-use tb_desk::one_reply_is_true;
+use tb_conllu::{BlockRef, LineId, Sentences, read_ref};
+use tb_rules::{Checker, check, check_all, restored, sent_id, text};
 
-const SAMPLES: &str = "\
-    arabic => 0 sentences 2 words 8\n\
-    chinese => 0 sentences 2 words 12\n\
-    english => 0 sentences 2 words 13\n\
-    hindi => 0 sentences 2 words 12\n\
-    russian => 0 sentences 2 words 11\n";
-
-#[test]
-fn accepts_the_samples(rt: HostRuntime) -> Result<(), Fail> {
-    assert_answers(&rt, rt.alloc(), &File, SAMPLES, 5)
+/// The last sentence of a file.
+fn sentence_of(alloc: Global, file: &str) -> Result<BlockRef<'_>, Fail> {
+    let mut blocks = read_ref(alloc, file.as_bytes())?;
+    Ok(blocks.pop().ok_or("a sentence")?)
 }
 
-/// The last row as a root, beside the other, and in the place of the other.
-const ROOTS: &str = "\
-    D: 2\tpunct\t_\t_¶ -> 0\troot\t_\t_¶ => 1 refused 9 Rule 1 9 0\n\
-    D: 0\troot\t_\tSpaceAfter=No¶3\t.\t.\tPUNCT\t_\t_\t2\tpunct -> 1\tdep\t_\tSpaceAfter=No¶3\t.\t.\tPUNCT\t_\t_\t0\troot => 1 refused 9 Rule 1 10 0\n";
+/// Three words, the second with a space inside, the first without one after it.
+const THREE_WORDS: &str = "\
+    # sent_id = t\n\
+    1\t(\t_\tPUNCT\t_\t_\t2\tpunct\t_\tGloss=a|SpaceAfter=No\n\
+    2\thọc sinh\t_\tNOUN\t_\t_\t0\troot\t_\t_\n\
+    3\tở\t_\tVERB\t_\t_\t2\tdep\t_\t_\n\
+    \n";
 
-#[test]
-fn tells_a_cycle_and_two_roots(rt: HostRuntime) -> Result<(), Fail> {
-    assert_answers(&rt, rt.alloc(), &File, ROOTS, 2)
-}
+/// What rows `ID FORM` spell, the first of which gets the ID of word 0, that no line can have.
+struct Restored;
 
-const ROWS_AT_FAULT: &str = "\
-    D: NOUN -> NN => 1 refused 9 Rule 1 4 1\n\
-    D: Number=Plur -> Number=Plur|Case=Nom => 1 refused 9 Rule 1 7 1\n";
-
-#[test]
-fn tells_the_rule_of_a_row(rt: HostRuntime) -> Result<(), Fail> {
-    assert_answers(&rt, rt.alloc(), &File, ROWS_AT_FAULT, 2)
-}
-
-/// A name twice; and then what cannot be read, which is told before the name.
-const NAME_TWICE: &str = "\
-    D D => 1 refused 9 Rule 2 12 0\n\
-    D D line-feed => 1 refused 8 Read 13 9\n\
-    D D x => 1 refused 8 Read 13 10\n";
-
-#[test]
-fn tells_what_cannot_be_read_before_a_broken_rule(rt: HostRuntime) -> Result<(), Fail> {
-    one_reply_is_true();
-    assert_answers(&rt, rt.alloc(), &File, NAME_TWICE, 3)
-}
-
-/// What the check tells of a sentence of so many words `w`, the first of which is the root.
-struct LongSentence;
-
-impl Question for LongSentence {
+impl Question for Restored {
     fn answer(&self, alloc: Global, asked: &str) -> Result<String, Fail> {
-        let mut file = String::from_str(alloc, "# sent_id = s9\n# text =")?;
-        let mut rows = String::new(alloc);
-        for word in 2..=asked.parse::<u32>()? {
-            file.push_str(" w")?;
-            write!(rows, "{word}\tw\tw\tX\t_\t_\t1\tdep\t_\t_\n")?;
+        let mut file = String::new(alloc);
+        for row in asked.split(", ") {
+            let (id, form) = row.split_once(' ').ok_or("a row")?;
+            write!(file, "{id}\t{form}\t_\t_\t_\t_\t_\t_\t_\t_\n")?;
         }
-        write!(file, " w\n1\tw\tw\tX\t_\t_\t0\troot\t_\t_\n{rows}\n")?;
-        told_of(alloc, file.as_bytes())
+        file.push_str("\n")?;
+        let mut sentence = sentence_of(alloc, file.as_str())?;
+        let first = sentence.rows.get_mut(0).ok_or("a row")?;
+        first.id = LineId::Word(0);
+        Ok(restored(alloc, &sentence)?)
     }
 }
 
-const LENGTHS: &str = "\
-    1000 => 0 sentences 1 words 1000\n\
-    1001 => 1 refused 9 Rule 1 3 0\n";
+/// Ranges behind their words, inside one another, and of no words; word 0 is in no range here.
+const ROWS_IN_ANY_ORDER: &str = "\
+    9 z, 2 b, 1-3 c, 1 a => z c\n\
+    9 z, 2 b, 1-3 c, 1 a, 5-4 d, 4 e, 2-2 f => z c d e f\n";
+
+/// The name and the text of the sentence of a file, and the first rule that is broken.
+fn values_of(alloc: Global, file: &str) -> Result<String, Fail> {
+    let sentence = sentence_of(alloc, file)?;
+    let name = sent_id(&sentence);
+    let words = text(&sentence);
+    let told = check(alloc, &sentence);
+    Ok(format!(in alloc; "{name:?} {words:?} {told:?}")?)
+}
+
+/// The same of a sentence with these comments.
+struct Values;
+
+impl Question for Values {
+    fn answer(&self, alloc: Global, asked: &str) -> Result<String, Fail> {
+        let comments = unfolded(alloc, asked)?;
+        let file = format!(in alloc; "{comments}\n1\tGo\t_\tVERB\t_\t_\t0\troot\t_\t_\n\n")?;
+        values_of(alloc, file.as_str())
+    }
+}
+
+const COMMENTS: &str = "\
+    # newdoc¶# sent_ids = a => None None Err(At { rule: 1, row: 0 })\n\
+    # sent_id = a¶# text = Go => Some(\"a\") Some(\"Go\") Ok(())\n\
+    # sent_id = a¶#text=x = y  => Some(\"a\") Some(\"x = y\") Err(At { rule: 11, row: 0 })\n\
+    # sent_id = a¶# sent_id = a¶# text = x¶# text = => None None Err(At { rule: 1, row: 0 })\n";
 
 #[test]
-fn takes_a_thousand_words(rt: HostRuntime) -> Result<(), Fail> {
-    assert_answers(&rt, rt.alloc(), &LongSentence, LENGTHS, 2)
+fn gives_the_values_of_a_sentence(rt: HostRuntime) -> Result<(), Fail> {
+    let alloc = rt.alloc();
+    let sentence = sentence_of(alloc, VAMONOS)?;
+    assert_eq!(rt; restored(alloc, &sentence)?.as_str(), "vámonos al mar");
+    assert_eq!(rt; sent_id(&sentence), Some("s2"));
+    assert_eq!(rt; text(&sentence), Some("vámonos al mar"));
+    assert_eq!(rt; check(alloc, &sentence), Ok(()));
+    let spaced = sentence_of(alloc, THREE_WORDS)?;
+    assert_eq!(rt; restored(alloc, &spaced)?.as_str(), "(học sinh ở");
+    assert_answers(&rt, alloc, &Restored, ROWS_IN_ANY_ORDER, 2)?;
+    assert_answers(&rt, alloc, &Values, COMMENTS, 4)
+}
+
+/// What is told of each sentence of a file: one at fault is not taken, and the next is taken in its place.
+#[test]
+fn goes_on_after_a_fault(rt: HostRuntime) -> Result<(), Fail> {
+    let alloc = rt.alloc();
+    let file = file_of(alloc, "V D V D")?;
+    let file = changed(alloc, file.as_str(), "bark. -> barks.")?;
+    let mut checker = Checker::new(alloc);
+    let mut told = String::new(alloc);
+    for block in &read_ref(alloc, file.as_bytes())? {
+        write!(told, "/{:?}", checker.take(block))?;
+    }
+    let wanted =
+        "/Ok(())/Err(At { sentence: 2, rule: 11, row: 0 })/Err(At { sentence: 2, rule: 12, row: 0 })/Ok(())";
+    assert_eq!(rt; told.as_str(), wanted);
+    Ok(())
+}
+
+/// What is told in words of a file after a change, `NAMES: OLD -> NEW`: whether all that follows its first sentence is
+/// read, and then whether the rules are kept.
+struct Words;
+
+impl Question for Words {
+    fn answer(&self, alloc: Global, asked: &str) -> Result<String, Fail> {
+        let (names, change) = asked.split_once(": ").ok_or("a change")?;
+        let file = file_of(alloc, names)?;
+        let file = changed(alloc, file.as_str(), change)?;
+        let mut unread = Sentences::new(file.as_bytes());
+        drop(unread.read_next(alloc)?);
+        if let Err(fault) = unread.read_rest(alloc) {
+            return Ok(format!(in alloc; "{fault}")?);
+        }
+        match check_all(alloc, &read_ref(alloc, file.as_bytes())?) {
+            Ok(()) => Ok(String::from_str(alloc, "kept")?),
+            Err(fault) => Ok(format!(in alloc; "{fault}")?),
+        }
+    }
+}
+
+const WORDS: &str = "\
+    V: _ -> _ => kept\n\
+    V C D: _ -> _ => kept\n\
+    V line-feed: _ -> _ => line 11: it is blank, and no word line came before it (code 9)\n\
+    V D x: _ -> _ => line 17: the file ends without a blank line after its last sentence (code 10)\n\
+    V D: s1 -> s2 => sentence 2, rule 12: no sentence before it in the file has its sent_id\n\
+    V D: bark. -> bark => sentence 2, rule 11: the forms spell the text, but for white space\n\
+    V D: Number=Plur -> number=Plur => sentence 2, row 1, rule 7: FEATS is _ or Name=Value items, in order and without repetition\n";
+
+#[test]
+fn faults_are_told_in_words(rt: HostRuntime) -> Result<(), Fail> {
+    assert_answers(&rt, rt.alloc(), &Words, WORDS, 7)
 }

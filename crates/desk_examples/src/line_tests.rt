@@ -29,6 +29,7 @@ impl Question for Words {
     }
 }
 
+/// Each command; values of the wrong form; words that clap refuses; help and the version; no word at all.
 const LINES: &str = "\
     check => Check\n\
     new --db F => New { db: \"F\" }\n\
@@ -56,14 +57,7 @@ const LINES: &str = "\
     count lemma [] => Count { db: None, strategy: Longest, attribute: Lemma, query: \"[]\" }\n\
     count --strategy shortest word [] => Count { db: None, strategy: Shortest, attribute: Form, query: \"[]\" }\n\
     serve --port 0 => Serve { db: None, port: 0, requests: 1000000000 }\n\
-    serve --db F --port 65535 --requests 007 => Serve { db: Some(\"F\"), port: 65535, requests: 7 }\n";
-
-#[test]
-fn each_command(rt: HostRuntime) -> Result<(), Fail> {
-    assert_answers(&rt, rt.alloc(), &Words, LINES, 27)
-}
-
-const WRONG_VALUES: &str = "\
+    serve --db F --port 65535 --requests 007 => Serve { db: Some(\"F\"), port: 65535, requests: 7 }\n\
     event --user ann b1 opened => usage\n\
     event --user ann b1 Assign => usage\n\
     correct --user ann 0 1 => usage\n\
@@ -87,14 +81,7 @@ const WRONG_VALUES: &str = "\
     serve --port 08080 => usage\n\
     serve --port 80 --requests 12345678901 => usage\n\
     serve --port 80 --requests ∅ => usage\n\
-    serve --port 80 --requests +1 => usage\n";
-
-#[test]
-fn values_of_the_wrong_form(rt: HostRuntime) -> Result<(), Fail> {
-    assert_answers(&rt, rt.alloc(), &Words, WRONG_VALUES, 24)
-}
-
-const WRONG_WORDS: &str = "\
+    serve --port 80 --requests +1 => usage\n\
     bad => InvalidSubcommand 2\n\
     --bad => UnknownArgument 2\n\
     --db F totals => UnknownArgument 2\n\
@@ -133,29 +120,16 @@ const WRONG_WORDS: &str = "\
     count --context 5 lemma [] => UnknownArgument 2\n\
     serve => MissingRequiredArgument 2\n\
     serve --port 80 --port 81 => ArgumentConflict 2\n\
-    serve --port 80 90 => UnknownArgument 2\n";
-
-#[test]
-fn words_that_clap_refuses(rt: HostRuntime) -> Result<(), Fail> {
-    assert_answers(&rt, rt.alloc(), &Words, WRONG_WORDS, 39)
-}
-
-const HELP: &str = "\
+    serve --port 80 90 => UnknownArgument 2\n\
     --help => DisplayHelp 0\n\
     -h => DisplayHelp 0\n\
     help => DisplayHelp 0\n\
     help search => DisplayHelp 0\n\
     search --help => DisplayHelp 0\n\
-    --version => DisplayVersion 0\n";
+    --version => DisplayVersion 0\n\
+    \x20=> usage\n";
 
 #[test]
-fn help_and_the_version(rt: HostRuntime) -> Result<(), Fail> {
-    assert_answers(&rt, rt.alloc(), &Words, HELP, 6)
-}
-
-#[test]
-fn no_word_at_all(rt: HostRuntime) -> Result<(), Fail> {
-    let told = Words.answer(rt.alloc(), "")?;
-    assert_eq!(rt; told.as_str(), "usage");
-    Ok(())
+fn words_are_read(rt: HostRuntime) -> Result<(), Fail> {
+    assert_answers(&rt, rt.alloc(), &Words, LINES, 97)
 }

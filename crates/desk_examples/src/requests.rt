@@ -5,15 +5,6 @@ use std::io::Read;
 use std::test::Fail;
 use tb_http::{Ask, AskFault, HEAD_BYTES, Reply, RequestFault, Routes, read_ask};
 
-/// A file of one sentence with three words, 150 bytes.
-pub(crate) const DOGS_BARK: &str = "\
-    # sent_id = s1\n\
-    # text = Dogs bark.\n\
-    1\tDogs\tdog\tNOUN\t_\tNumber=Plur\t2\tnsubj\t_\t_\n\
-    2\tbark\tbark\tVERB\t_\t_\t0\troot\t_\tSpaceAfter=No\n\
-    3\t.\t.\tPUNCT\t_\t_\t2\tpunct\t_\t_\n\
-    \n";
-
 /// The bytes of a text in which `¶` stands for CR LF, `␊` for a lone LF, `␉` for a tab, `ÿ` for the byte 255, and `…` for
 /// 8,162 letters.
 pub(crate) fn bytes_of(alloc: Global, text: &str) -> Result<Vec<u8>, AllocError> {
