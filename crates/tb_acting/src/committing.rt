@@ -1,10 +1,9 @@
 //! The writes of accepted acts: each is one transaction, after which the tables stand for the state that the act leads to.
 
-ghost use Rattle.std.specs.Prelude.{◌≡◌, ◌≢◌, ◌+◌, ◌-◌, ◌^◌, ◌<◌, ℕ, List, length, Err, None, false, IsTrue, OnOk, OnErr};
+ghost use Rattle.std.specs.Prelude.{◌≡◌, ◌≢◌, ◌+◌, ◌-◌, ◌^◌, ◌<◌, ℕ, List, length, Err, None, false, OnOk};
 ghost use Rattle.sqlite.specs.State.{HasCleanDisk, Survives};
 ghost use Rattle.sqlite.specs.Held.{state};
-ghost use Rattle.tb_tables.specs.Records.{Tables, Stands};
-ghost use Rattle.tb_tables.specs.Changes.{Holds};
+ghost use Rattle.tb_tables.specs.Records.{Stands};
 ghost use Rattle.tb_core.specs.declared.refusals.Refusal.{Refusal as AnyRefusal};
 ghost use Rattle.tb_core.specs.Machine.{Machine, Sentence};
 ghost use Rattle.tb_conllu.specs.Text.{BlockText};
@@ -12,6 +11,7 @@ ghost use Rattle.tb_core.specs.Acts.{IsAllowed, importing, correcting, pulling, 
 ghost use Rattle.tb_core.specs.Reaching.{IsReachable};
 ghost use Rattle.tb_standing.specs.Standing.{tables_of, IsDesk};
 ghost use Rattle.tb_acting.specs.Recorded.{IsWritten, IsMadeRevision, IsMadeBatch};
+ghost use Rattle.tb_tables.specs.Leaving.{KeepsRecordsOnErr};
 
 use crate::faults;
 use sqlite::{Alter, Connection};
@@ -38,7 +38,7 @@ pub fn commit_import<S: Alter>(
     ensures made { HasCleanDisk (state S.Store conn.new) → OnOk result ((s : Machine) (bodies : List BlockText) → IsDesk S.Store conn.old s → IsMadeBatch s number first bodies items.now → IsAllowed s (importing name.now who.now bodies) → IsReachable (after s (importing name.now who.now bodies)) → IsWritten s (importing name.now who.now bodies) change.now → IsDesk S.Store conn.new (after s (importing name.now who.now bodies))) }
     ensures refused { (r : AnyRefusal) → result ≢ Err (Fault.Refused r) }
     ensures fails { HasCleanDisk (state S.Store conn.new) → (state S.Store conn.old).step_limit ≡ None → (s : Machine) (bodies : List BlockText) → IsDesk S.Store conn.old s → IsMadeBatch s number first bodies items.now → IsAllowed s (importing name.now who.now bodies) → IsReachable (after s (importing name.now who.now bodies)) → IsWritten s (importing name.now who.now bodies) change.now → result ≢ Err Fault.NotADesk }
-    ensures kept { HasCleanDisk (state S.Store conn.new) → IsTrue (state S.Store conn.new).is_open → OnErr result ((d : Tables) → Holds S.Store conn.old d → Holds S.Store conn.new d) }
+    ensures kept { KeepsRecordsOnErr S.Store conn.old conn.new result }
     ensures crash { Survives (state S.Store conn.old) (state S.Store conn.new) (λ db. (s : Machine) (bodies : List BlockText) → IsDesk S.Store conn.old s → IsMadeBatch s number first bodies items.now → IsAllowed s (importing name.now who.now bodies) → IsWritten s (importing name.now who.now bodies) change.now → Stands (tables_of (after s (importing name.now who.now bodies))) db) }
     ensures mode { conn.new.in_transaction ≡ false }
 {
@@ -64,7 +64,7 @@ pub(crate) fn correct<S: Alter>(
     ensures made { HasCleanDisk (state S.Store conn.new) → OnOk result ((s : Machine) (body : BlockText) (x : Sentence) → IsDesk S.Store conn.old s → IsMadeRevision s number body x rev words text.now → IsAllowed s (correcting (number - 1) who.now body) → IsReachable (after s (correcting (number - 1) who.now body)) → IsWritten s (correcting (number - 1) who.now body) change.now → IsDesk S.Store conn.new (after s (correcting (number - 1) who.now body))) }
     ensures refused { (r : AnyRefusal) → result ≢ Err (Fault.Refused r) }
     ensures fails { HasCleanDisk (state S.Store conn.new) → (state S.Store conn.old).step_limit ≡ None → (s : Machine) (body : BlockText) (x : Sentence) → IsDesk S.Store conn.old s → IsMadeRevision s number body x rev words text.now → IsAllowed s (correcting (number - 1) who.now body) → IsWritten s (correcting (number - 1) who.now body) change.now → result ≢ Err Fault.NotADesk }
-    ensures kept { HasCleanDisk (state S.Store conn.new) → IsTrue (state S.Store conn.new).is_open → OnErr result ((d : Tables) → Holds S.Store conn.old d → Holds S.Store conn.new d) }
+    ensures kept { KeepsRecordsOnErr S.Store conn.old conn.new result }
     ensures crash { Survives (state S.Store conn.old) (state S.Store conn.new) (λ db. (s : Machine) (body : BlockText) (x : Sentence) → IsDesk S.Store conn.old s → IsMadeRevision s number body x rev words text.now → IsAllowed s (correcting (number - 1) who.now body) → IsWritten s (correcting (number - 1) who.now body) change.now → Stands (tables_of (after s (correcting (number - 1) who.now body))) db) }
     ensures mode { conn.new.in_transaction ≡ false }
 {
@@ -86,7 +86,7 @@ pub(crate) fn pull<S: Alter>(
     ensures made { HasCleanDisk (state S.Store conn.new) → OnOk result ((s : Machine) (user : List ℕ) → IsDesk S.Store conn.old s → IsAllowed s (pulling (number - 1) user) → IsReachable (after s (pulling (number - 1) user)) → IsWritten s (pulling (number - 1) user) change.now → IsDesk S.Store conn.new (after s (pulling (number - 1) user))) }
     ensures refused { (r : AnyRefusal) → result ≢ Err (Fault.Refused r) }
     ensures fails { HasCleanDisk (state S.Store conn.new) → (state S.Store conn.old).step_limit ≡ None → (s : Machine) (user : List ℕ) → IsDesk S.Store conn.old s → IsAllowed s (pulling (number - 1) user) → IsWritten s (pulling (number - 1) user) change.now → result ≢ Err Fault.NotADesk }
-    ensures kept { HasCleanDisk (state S.Store conn.new) → IsTrue (state S.Store conn.new).is_open → OnErr result ((d : Tables) → Holds S.Store conn.old d → Holds S.Store conn.new d) }
+    ensures kept { KeepsRecordsOnErr S.Store conn.old conn.new result }
     ensures crash { Survives (state S.Store conn.old) (state S.Store conn.new) (λ db. (s : Machine) (user : List ℕ) → IsDesk S.Store conn.old s → IsAllowed s (pulling (number - 1) user) → IsWritten s (pulling (number - 1) user) change.now → Stands (tables_of (after s (pulling (number - 1) user))) db) }
     ensures mode { conn.new.in_transaction ≡ false }
 {
@@ -108,7 +108,7 @@ pub(crate) fn restore<S: Alter>(
     ensures made { HasCleanDisk (state S.Store conn.new) → OnOk result ((s : Machine) (user : List ℕ) → IsDesk S.Store conn.old s → IsAllowed s (restoring (number - 1) user) → IsReachable (after s (restoring (number - 1) user)) → IsWritten s (restoring (number - 1) user) change.now → IsDesk S.Store conn.new (after s (restoring (number - 1) user))) }
     ensures refused { (r : AnyRefusal) → result ≢ Err (Fault.Refused r) }
     ensures fails { HasCleanDisk (state S.Store conn.new) → (state S.Store conn.old).step_limit ≡ None → (s : Machine) (user : List ℕ) → IsDesk S.Store conn.old s → IsAllowed s (restoring (number - 1) user) → IsWritten s (restoring (number - 1) user) change.now → result ≢ Err Fault.NotADesk }
-    ensures kept { HasCleanDisk (state S.Store conn.new) → IsTrue (state S.Store conn.new).is_open → OnErr result ((d : Tables) → Holds S.Store conn.old d → Holds S.Store conn.new d) }
+    ensures kept { KeepsRecordsOnErr S.Store conn.old conn.new result }
     ensures crash { Survives (state S.Store conn.old) (state S.Store conn.new) (λ db. (s : Machine) (user : List ℕ) → IsDesk S.Store conn.old s → IsAllowed s (restoring (number - 1) user) → IsWritten s (restoring (number - 1) user) change.now → Stands (tables_of (after s (restoring (number - 1) user))) db) }
     ensures mode { conn.new.in_transaction ≡ false }
 {

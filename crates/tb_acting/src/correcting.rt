@@ -1,13 +1,11 @@
 //! A correction of a sentence.
 
-ghost use Rattle.std.specs.Prelude.{◌≡◌, ◌≢◌, ℕ, ◌+◌, ◌-◌, ◌^◌, ◌<◌, ◌≤◌, List, [], ◌∷◌, length, None, Some, Err, slice_get, string_bytes, false, IsTrue, IfOk, IfSome, OnOk, OnErr};
-ghost use Rattle.sqlite.specs.State.{HasCleanDisk, IsUnchanged, Survives};
+ghost use Rattle.std.specs.Prelude.{◌≡◌, ◌≢◌, ℕ, ◌+◌, ◌-◌, ◌^◌, ◌<◌, ◌≤◌, List, [], ◌∷◌, length, None, Some, Err, slice_get, string_bytes, false, IfOk, IfSome};
+ghost use Rattle.sqlite.specs.State.{HasCleanDisk};
 ghost use Rattle.sqlite.specs.Held.{state};
 ghost use Rattle.tb_conllu.specs.Text.{BlockText, text_of};
 ghost use Rattle.tb_conllu.specs.Words.{words_of};
-ghost use Rattle.tb_tables.specs.Layout.{desk_schema};
-ghost use Rattle.tb_tables.specs.Records.{Tables, Stands};
-ghost use Rattle.tb_tables.specs.Changes.{Holds};
+ghost use Rattle.tb_tables.specs.Records.{Stands};
 ghost use Rattle.tb_core.specs.declared.limits.Limits.{Limits as AnyLimits};
 ghost use Rattle.tb_core.specs.declared.refusals.Refusal.{Refusal as AnyRefusal};
 ghost use Rattle.tb_core.specs.Machine.{Machine, Sentence, rev as rev_of};
@@ -20,6 +18,8 @@ ghost use Rattle.tb_judge.specs.Found.{CurrentSeen, LacksSentence};
 ghost use Rattle.tb_judge.specs.Parts.{IsNamedCorrection};
 ghost use Rattle.tb_acting.specs.Working.{IsWithin, IsCounted};
 ghost use Rattle.tb_acting.specs.Correcting.{PlanText, IsCurrentRead, IsPlannedCorrection, Decides, Corrects, current_seen, correction_move};
+ghost use Rattle.tb_standing.specs.Telling.{CrashesTo, KnowsDeskWhere, RefusesAs, Tells};
+ghost use Rattle.tb_tables.specs.Leaving.{ChangesNothing, CommitsNothing, KeepsRecords, KeepsRecordsOnErr};
 
 use crate::counted::{Counts, next_move};
 use crate::finding::{SentenceRead, find_sentence};
@@ -79,14 +79,14 @@ fn current_row<S: Alter>(
     rev: u32,
 ) -> Result<RevisionRow, Fault>
     requires { 0 < number }
-    ensures answered { HasCleanDisk (state S.Store conn.new) → IfOk result (λ f. (s : Machine) → IsDesk S.Store conn.old s → (x : Sentence) → slice_get s.sentences (number - 1) ≡ Some x → rev ≡ rev_of x
+    ensures answered { Tells S.Store conn.old conn.new result (λ s f. (x : Sentence) → slice_get s.sentences (number - 1) ≡ Some x → rev ≡ rev_of x
         → (string_bytes f.who ≡ x.current.who) × (string_bytes f.body ≡ text_of (x.current.body ∷ []))) }
     ensures refused { (r : AnyRefusal) → result ≢ Err (Fault.Refused r) }
-    ensures fails { HasCleanDisk (state S.Store conn.new) → (state S.Store conn.old).step_limit ≡ None → (s : Machine) → IsDesk S.Store conn.old s → (x : Sentence) → slice_get s.sentences (number - 1) ≡ Some x → rev ≡ rev_of x → result ≢ Err Fault.NotADesk }
-    ensures same { HasCleanDisk (state S.Store conn.new) → OnOk result ((state S.Store conn.old).now.schema ≡ desk_schema → IsUnchanged (state S.Store conn.old) (state S.Store conn.new)) }
+    ensures fails { KnowsDeskWhere S.Store conn.old conn.new result (λ s so. (x : Sentence) → slice_get s.sentences (number - 1) ≡ Some x → rev ≡ rev_of x → so) }
+    ensures same { ChangesNothing S.Store conn.old conn.new result }
     ensures mode { conn.old.in_transaction ≡ false → conn.new.in_transaction ≡ false }
-    ensures kept { HasCleanDisk (state S.Store conn.new) → IsTrue (state S.Store conn.new).is_open → (d : Tables) → Holds S.Store conn.old d → Holds S.Store conn.new d }
-    ensures lasts { Survives (state S.Store conn.old) (state S.Store conn.new) (λ _. (state S.Store conn.old).now.schema ≢ desk_schema) }
+    ensures kept { KeepsRecords S.Store conn.old conn.new }
+    ensures lasts { CommitsNothing S.Store conn.old conn.new }
 {
     desk_rows_are_readable();
     match tb_reading::revision(conn, number, rev) {
@@ -99,13 +99,13 @@ fn current_row<S: Alter>(
 /// The sentence with this number, from 1, which stands, and its current revision.
 fn find_current<S: Alter>(conn: &mut Connection<S>, number: u32) -> Result<CurrentRead, Fault>
     requires { 0 < number }
-    ensures answered { HasCleanDisk (state S.Store conn.new) → IfOk result (λ f. (s : Machine) → IsDesk S.Store conn.old s → (x : Sentence) → slice_get s.sentences (number - 1) ≡ Some x → IsCurrentRead s x f) }
+    ensures answered { Tells S.Store conn.old conn.new result (λ s f. (x : Sentence) → slice_get s.sentences (number - 1) ≡ Some x → IsCurrentRead s x f) }
     ensures refused { (r : AnyRefusal) → result ≢ Err (Fault.Refused r) }
-    ensures fails { HasCleanDisk (state S.Store conn.new) → (state S.Store conn.old).step_limit ≡ None → (s : Machine) → IsDesk S.Store conn.old s → (x : Sentence) → slice_get s.sentences (number - 1) ≡ Some x → result ≢ Err Fault.NotADesk }
-    ensures same { HasCleanDisk (state S.Store conn.new) → OnOk result ((state S.Store conn.old).now.schema ≡ desk_schema → IsUnchanged (state S.Store conn.old) (state S.Store conn.new)) }
+    ensures fails { KnowsDeskWhere S.Store conn.old conn.new result (λ s so. (x : Sentence) → slice_get s.sentences (number - 1) ≡ Some x → so) }
+    ensures same { ChangesNothing S.Store conn.old conn.new result }
     ensures mode { conn.old.in_transaction ≡ false → conn.new.in_transaction ≡ false }
-    ensures kept { HasCleanDisk (state S.Store conn.new) → IsTrue (state S.Store conn.new).is_open → (d : Tables) → Holds S.Store conn.old d → Holds S.Store conn.new d }
-    ensures lasts { Survives (state S.Store conn.old) (state S.Store conn.new) (λ _. (state S.Store conn.old).now.schema ≢ desk_schema) }
+    ensures kept { KeepsRecords S.Store conn.old conn.new }
+    ensures lasts { CommitsNothing S.Store conn.old conn.new }
 {
     let sentence = find_sentence(conn, number)?;
     let row = current_row(conn, number, sentence.rev)?;
@@ -310,16 +310,16 @@ fn planned<'a, S: Alter>(
     body: &'a [u8],
 ) -> Result<(Corrected, Option<CorrectionPlan<'a>>), Fault>
     requires { 0 < number }
-    ensures answered { HasCleanDisk (state S.Store conn.new) → IfOk result (λ r. (s : Machine) → IsDesk S.Store conn.old s → IsCounted counts.now s → number ≤ length s.sentences
+    ensures answered { Tells S.Store conn.old conn.new result (λ s r. IsCounted counts.now s → number ≤ length s.sentences
         → Decides counts.now.limits s number base user.now body.now r.0 r.1) }
-    ensures refused { HasCleanDisk (state S.Store conn.new) → (r : AnyRefusal) → result ≡ Err (Fault.Refused r) → (s : Machine) → IsDesk S.Store conn.old s → IsCounted counts.now s → number ≤ length s.sentences
-        → Steps counts.now.limits s (correct_it number base user.now body.now) (refused_by r) s × IsDesk S.Store conn.new s }
+    ensures refused { RefusesAs S.Store conn.old conn.new result (λ s r. IsCounted counts.now s → number ≤ length s.sentences
+        → Steps counts.now.limits s (correct_it number base user.now body.now) (refused_by r) s × IsDesk S.Store conn.new s) }
     ensures fails { HasCleanDisk (state S.Store conn.new) → (state S.Store conn.old).step_limit ≡ None → IsWithin counts.now.limits → (s : Machine) → IsDesk S.Store conn.old s → IsCounted counts.now s → number ≤ length s.sentences → result ≢ Err Fault.NotADesk }
     ensures room { IfOk result (λ r. IfSome r.1 (λ _. counts.now.moves + 1 ≤ 1000000000)) }
-    ensures same { HasCleanDisk (state S.Store conn.new) → OnOk result ((state S.Store conn.old).now.schema ≡ desk_schema → IsUnchanged (state S.Store conn.old) (state S.Store conn.new)) }
+    ensures same { ChangesNothing S.Store conn.old conn.new result }
     ensures mode { conn.old.in_transaction ≡ false → conn.new.in_transaction ≡ false }
-    ensures kept { HasCleanDisk (state S.Store conn.new) → IsTrue (state S.Store conn.new).is_open → (d : Tables) → Holds S.Store conn.old d → Holds S.Store conn.new d }
-    ensures lasts { Survives (state S.Store conn.old) (state S.Store conn.new) (λ _. (state S.Store conn.old).now.schema ≢ desk_schema) }
+    ensures kept { KeepsRecords S.Store conn.old conn.new }
+    ensures lasts { CommitsNothing S.Store conn.old conn.new }
 {
     let read = find_current(conn, number)?;
     decide(alloc, counts, number, base, user, body, &read)
@@ -344,14 +344,14 @@ pub fn correct<S: Alter>(
     requires autocommit { conn.old.in_transaction ≡ false }
     requires row { 0 < number }
     requires within { IsWithin counts.now.limits }
-    ensures answered { HasCleanDisk (state S.Store conn.new) → IfOk result (λ r. (s : Machine) → IsDesk S.Store conn.old s → IsCounted counts.now s → number ≤ length s.sentences
+    ensures answered { Tells S.Store conn.old conn.new result (λ s r. IsCounted counts.now s → number ≤ length s.sentences
         → Corrects S.Store counts.now.limits s number base user.now body.now conn.new r.0 r.1) }
-    ensures refused { HasCleanDisk (state S.Store conn.new) → (r : AnyRefusal) → result ≡ Err (Fault.Refused r) → (s : Machine) → IsDesk S.Store conn.old s → IsCounted counts.now s → number ≤ length s.sentences
-        → Steps counts.now.limits s (correct_it number base user.now body.now) (refused_by r) s × IsDesk S.Store conn.new s }
-    ensures fails { HasCleanDisk (state S.Store conn.new) → (state S.Store conn.old).step_limit ≡ None → (s : Machine) → IsDesk S.Store conn.old s → IsCounted counts.now s → number ≤ length s.sentences → result ≢ Err Fault.NotADesk }
+    ensures refused { RefusesAs S.Store conn.old conn.new result (λ s r. IsCounted counts.now s → number ≤ length s.sentences
+        → Steps counts.now.limits s (correct_it number base user.now body.now) (refused_by r) s × IsDesk S.Store conn.new s) }
+    ensures fails { KnowsDeskWhere S.Store conn.old conn.new result (λ s so. IsCounted counts.now s → number ≤ length s.sentences → so) }
     ensures room { IfOk result (λ r. IfSome r.1 (λ _. counts.now.moves + 1 ≤ 1000000000)) }
-    ensures kept { HasCleanDisk (state S.Store conn.new) → IsTrue (state S.Store conn.new).is_open → OnErr result ((d : Tables) → Holds S.Store conn.old d → Holds S.Store conn.new d) }
-    ensures crash { Survives (state S.Store conn.old) (state S.Store conn.new) (λ db. (s : Machine) → IsDesk S.Store conn.old s → IsCounted counts.now s → number ≤ length s.sentences
+    ensures kept { KeepsRecordsOnErr S.Store conn.old conn.new result }
+    ensures crash { CrashesTo S.Store conn.old conn.new (λ s db. IsCounted counts.now s → number ≤ length s.sentences
         → (a : Answer) × (t : Machine) × Steps counts.now.limits s (correct_it number base user.now body.now) a t × Stands (tables_of t) db) }
     ensures mode { conn.new.in_transaction ≡ false }
 {

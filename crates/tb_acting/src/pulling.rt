@@ -1,11 +1,8 @@
 //! A pull of a sentence, and its way back.
 
-ghost use Rattle.std.specs.Prelude.{◌≡◌, ◌≢◌, ◌+◌, ◌-◌, ◌<◌, ◌≤◌, length, Some, None, Err, slice_get, string_bytes, false, IsTrue, IfOk, OnOk, OnErr};
-ghost use Rattle.sqlite.specs.State.{HasCleanDisk, IsUnchanged, Survives};
+ghost use Rattle.std.specs.Prelude.{◌≡◌, ◌≢◌, ◌+◌, ◌-◌, ◌<◌, ◌≤◌, length, Some, None, Err, slice_get, string_bytes, false, IfOk};
 ghost use Rattle.sqlite.specs.Held.{state};
-ghost use Rattle.tb_tables.specs.Layout.{desk_schema};
-ghost use Rattle.tb_tables.specs.Records.{Tables, Stands};
-ghost use Rattle.tb_tables.specs.Changes.{Holds};
+ghost use Rattle.tb_tables.specs.Records.{Stands};
 ghost use Rattle.tb_core.specs.declared.refusals.Refusal.{Refusal as AnyRefusal};
 ghost use Rattle.tb_core.specs.Machine.{Machine, Sentence};
 ghost use Rattle.tb_core.specs.Acts.{pulling, restoring, IsAllowed, after};
@@ -17,6 +14,8 @@ ghost use Rattle.tb_judge.specs.Found.{LacksSentence};
 ghost use Rattle.tb_acting.specs.ReadOf.{IsRead};
 ghost use Rattle.tb_acting.specs.Working.{IsWithin, IsCounted, IsPrepared, IsDone};
 ghost use Rattle.tb_acting.specs.Pulling.{pull_move, restore_move, IsJudged};
+ghost use Rattle.tb_tables.specs.Leaving.{ChangesNothing, CommitsNothing, KeepsRecords, KeepsRecordsOnErr};
+ghost use Rattle.tb_standing.specs.Telling.{CrashesTo, KnowsDeskWhere, RefusesAs, Tells};
 
 use crate::committing;
 use crate::counted::{Counts, next_move};
@@ -116,16 +115,17 @@ fn pull_planned<S: Alter>(
     user: &str,
 ) -> Result<(Pulled, Prepared), Fault>
     requires { 0 < number }
-    ensures answered { HasCleanDisk (state S.Store conn.new) → IfOk result (λ r. (s : Machine) → IsDesk S.Store conn.old s → IsCounted counts.now s → number ≤ length s.sentences
+    ensures answered { Tells S.Store conn.old conn.new result (λ s r. IsCounted counts.now s → number ≤ length s.sentences
         → IsJudged counts.now.limits s (pull_it number user.now) (pulling (number - 1) user.now) (pulled_out r.0) r.1) }
-    ensures refused { HasCleanDisk (state S.Store conn.new) → (r : AnyRefusal) → result ≡ Err (Fault.Refused r) → (s : Machine) → IsDesk S.Store conn.old s → IsCounted counts.now s → number ≤ length s.sentences
-        → Steps counts.now.limits s (pull_it number user.now) (refused_by r) s × IsDesk S.Store conn.new s }
-    ensures fails { HasCleanDisk (state S.Store conn.new) → (state S.Store conn.old).step_limit ≡ None → (s : Machine) → IsDesk S.Store conn.old s → IsCounted counts.now s → IsWithin counts.now.limits → number ≤ length s.sentences → result ≢ Err Fault.NotADesk }
+    ensures refused { RefusesAs S.Store conn.old conn.new result (λ s r. IsCounted counts.now s → number ≤ length s.sentences
+        → Steps counts.now.limits s (pull_it number user.now) (refused_by r) s × IsDesk S.Store conn.new s) }
+    ensures fails { KnowsDeskWhere S.Store conn.old conn.new result (λ s so. IsCounted counts.now s → IsWithin counts.now.limits
+        → number ≤ length s.sentences → so) }
     ensures room { IfOk result (λ _. counts.now.moves + 1 ≤ 1000000000) }
-    ensures same { HasCleanDisk (state S.Store conn.new) → OnOk result ((state S.Store conn.old).now.schema ≡ desk_schema → IsUnchanged (state S.Store conn.old) (state S.Store conn.new)) }
+    ensures same { ChangesNothing S.Store conn.old conn.new result }
     ensures mode { conn.old.in_transaction ≡ false → conn.new.in_transaction ≡ false }
-    ensures kept { HasCleanDisk (state S.Store conn.new) → IsTrue (state S.Store conn.new).is_open → (d : Tables) → Holds S.Store conn.old d → Holds S.Store conn.new d }
-    ensures lasts { Survives (state S.Store conn.old) (state S.Store conn.new) (λ _. (state S.Store conn.old).now.schema ≢ desk_schema) }
+    ensures kept { KeepsRecords S.Store conn.old conn.new }
+    ensures lasts { CommitsNothing S.Store conn.old conn.new }
 {
     let read = find_sentence(conn, number)?;
     decide_pull(alloc, counts, number, user, &read)
@@ -146,14 +146,14 @@ pub fn pull<S: Alter>(
     requires autocommit { conn.old.in_transaction ≡ false }
     requires row { 0 < number }
     requires within { IsWithin counts.now.limits }
-    ensures answered { HasCleanDisk (state S.Store conn.new) → IfOk result (λ r. (s : Machine) → IsDesk S.Store conn.old s → IsCounted counts.now s → number ≤ length s.sentences
+    ensures answered { Tells S.Store conn.old conn.new result (λ s r. IsCounted counts.now s → number ≤ length s.sentences
         → IsDone S.Store counts.now.limits s (pull_it number user.now) (pulled_out r.0) conn.new r.1) }
-    ensures refused { HasCleanDisk (state S.Store conn.new) → (r : AnyRefusal) → result ≡ Err (Fault.Refused r) → (s : Machine) → IsDesk S.Store conn.old s → IsCounted counts.now s → number ≤ length s.sentences
-        → Steps counts.now.limits s (pull_it number user.now) (refused_by r) s × IsDesk S.Store conn.new s }
-    ensures fails { HasCleanDisk (state S.Store conn.new) → (state S.Store conn.old).step_limit ≡ None → (s : Machine) → IsDesk S.Store conn.old s → IsCounted counts.now s → number ≤ length s.sentences → result ≢ Err Fault.NotADesk }
+    ensures refused { RefusesAs S.Store conn.old conn.new result (λ s r. IsCounted counts.now s → number ≤ length s.sentences
+        → Steps counts.now.limits s (pull_it number user.now) (refused_by r) s × IsDesk S.Store conn.new s) }
+    ensures fails { KnowsDeskWhere S.Store conn.old conn.new result (λ s so. IsCounted counts.now s → number ≤ length s.sentences → so) }
     ensures room { IfOk result (λ _. counts.now.moves + 1 ≤ 1000000000) }
-    ensures kept { HasCleanDisk (state S.Store conn.new) → IsTrue (state S.Store conn.new).is_open → OnErr result ((d : Tables) → Holds S.Store conn.old d → Holds S.Store conn.new d) }
-    ensures crash { Survives (state S.Store conn.old) (state S.Store conn.new) (λ db. (s : Machine) → IsDesk S.Store conn.old s → IsCounted counts.now s → number ≤ length s.sentences
+    ensures kept { KeepsRecordsOnErr S.Store conn.old conn.new result }
+    ensures crash { CrashesTo S.Store conn.old conn.new (λ s db. IsCounted counts.now s → number ≤ length s.sentences
         → (a : Answer) × (t : Machine) × Steps counts.now.limits s (pull_it number user.now) a t × Stands (tables_of t) db) }
     ensures mode { conn.new.in_transaction ≡ false }
 {
@@ -264,16 +264,17 @@ fn restore_planned<S: Alter>(
     user: &str,
 ) -> Result<(Restored, Prepared), Fault>
     requires { 0 < number }
-    ensures answered { HasCleanDisk (state S.Store conn.new) → IfOk result (λ r. (s : Machine) → IsDesk S.Store conn.old s → IsCounted counts.now s → number ≤ length s.sentences
+    ensures answered { Tells S.Store conn.old conn.new result (λ s r. IsCounted counts.now s → number ≤ length s.sentences
         → IsJudged counts.now.limits s (restore_it number user.now) (restoring (number - 1) user.now) (restored_to r.0) r.1) }
-    ensures refused { HasCleanDisk (state S.Store conn.new) → (r : AnyRefusal) → result ≡ Err (Fault.Refused r) → (s : Machine) → IsDesk S.Store conn.old s → IsCounted counts.now s → number ≤ length s.sentences
-        → Steps counts.now.limits s (restore_it number user.now) (refused_by r) s × IsDesk S.Store conn.new s }
-    ensures fails { HasCleanDisk (state S.Store conn.new) → (state S.Store conn.old).step_limit ≡ None → (s : Machine) → IsDesk S.Store conn.old s → IsCounted counts.now s → IsWithin counts.now.limits → number ≤ length s.sentences → result ≢ Err Fault.NotADesk }
+    ensures refused { RefusesAs S.Store conn.old conn.new result (λ s r. IsCounted counts.now s → number ≤ length s.sentences
+        → Steps counts.now.limits s (restore_it number user.now) (refused_by r) s × IsDesk S.Store conn.new s) }
+    ensures fails { KnowsDeskWhere S.Store conn.old conn.new result (λ s so. IsCounted counts.now s → IsWithin counts.now.limits
+        → number ≤ length s.sentences → so) }
     ensures room { IfOk result (λ _. counts.now.moves + 1 ≤ 1000000000) }
-    ensures same { HasCleanDisk (state S.Store conn.new) → OnOk result ((state S.Store conn.old).now.schema ≡ desk_schema → IsUnchanged (state S.Store conn.old) (state S.Store conn.new)) }
+    ensures same { ChangesNothing S.Store conn.old conn.new result }
     ensures mode { conn.old.in_transaction ≡ false → conn.new.in_transaction ≡ false }
-    ensures kept { HasCleanDisk (state S.Store conn.new) → IsTrue (state S.Store conn.new).is_open → (d : Tables) → Holds S.Store conn.old d → Holds S.Store conn.new d }
-    ensures lasts { Survives (state S.Store conn.old) (state S.Store conn.new) (λ _. (state S.Store conn.old).now.schema ≢ desk_schema) }
+    ensures kept { KeepsRecords S.Store conn.old conn.new }
+    ensures lasts { CommitsNothing S.Store conn.old conn.new }
 {
     let read = find_sentence(conn, number)?;
     decide_restore(alloc, counts, number, user, &read)
@@ -294,14 +295,14 @@ pub fn restore<S: Alter>(
     requires autocommit { conn.old.in_transaction ≡ false }
     requires row { 0 < number }
     requires within { IsWithin counts.now.limits }
-    ensures answered { HasCleanDisk (state S.Store conn.new) → IfOk result (λ r. (s : Machine) → IsDesk S.Store conn.old s → IsCounted counts.now s → number ≤ length s.sentences
+    ensures answered { Tells S.Store conn.old conn.new result (λ s r. IsCounted counts.now s → number ≤ length s.sentences
         → IsDone S.Store counts.now.limits s (restore_it number user.now) (restored_to r.0) conn.new r.1) }
-    ensures refused { HasCleanDisk (state S.Store conn.new) → (r : AnyRefusal) → result ≡ Err (Fault.Refused r) → (s : Machine) → IsDesk S.Store conn.old s → IsCounted counts.now s → number ≤ length s.sentences
-        → Steps counts.now.limits s (restore_it number user.now) (refused_by r) s × IsDesk S.Store conn.new s }
-    ensures fails { HasCleanDisk (state S.Store conn.new) → (state S.Store conn.old).step_limit ≡ None → (s : Machine) → IsDesk S.Store conn.old s → IsCounted counts.now s → number ≤ length s.sentences → result ≢ Err Fault.NotADesk }
+    ensures refused { RefusesAs S.Store conn.old conn.new result (λ s r. IsCounted counts.now s → number ≤ length s.sentences
+        → Steps counts.now.limits s (restore_it number user.now) (refused_by r) s × IsDesk S.Store conn.new s) }
+    ensures fails { KnowsDeskWhere S.Store conn.old conn.new result (λ s so. IsCounted counts.now s → number ≤ length s.sentences → so) }
     ensures room { IfOk result (λ _. counts.now.moves + 1 ≤ 1000000000) }
-    ensures kept { HasCleanDisk (state S.Store conn.new) → IsTrue (state S.Store conn.new).is_open → OnErr result ((d : Tables) → Holds S.Store conn.old d → Holds S.Store conn.new d) }
-    ensures crash { Survives (state S.Store conn.old) (state S.Store conn.new) (λ db. (s : Machine) → IsDesk S.Store conn.old s → IsCounted counts.now s → number ≤ length s.sentences
+    ensures kept { KeepsRecordsOnErr S.Store conn.old conn.new result }
+    ensures crash { CrashesTo S.Store conn.old conn.new (λ s db. IsCounted counts.now s → number ≤ length s.sentences
         → (a : Answer) × (t : Machine) × Steps counts.now.limits s (restore_it number user.now) a t × Stands (tables_of t) db) }
     ensures mode { conn.new.in_transaction ≡ false }
 {

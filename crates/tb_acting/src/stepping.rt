@@ -1,10 +1,8 @@
 //! An event on a batch.
 
-ghost use Rattle.std.specs.Prelude.{ℕ, ◌≡◌, ◌≢◌, ◌+◌, ◌-◌, ◌≤◌, length, Some, None, Err, slice_get, option_map, string_bytes, IsTrue, IfOk, IfErr, OnOk, OnErr, false, List};
-ghost use Rattle.sqlite.specs.State.{HasCleanDisk, IsUnchanged, Survives};
+ghost use Rattle.std.specs.Prelude.{ℕ, ◌≡◌, ◌≢◌, ◌+◌, ◌-◌, ◌≤◌, length, Some, None, Err, slice_get, option_map, string_bytes, IfOk, IfErr, OnOk, false, List};
 ghost use Rattle.sqlite.specs.Held.{state};
-ghost use Rattle.tb_tables.specs.Layout.{desk_schema};
-ghost use Rattle.tb_tables.specs.Records.{Tables, Stands};
+ghost use Rattle.tb_tables.specs.Records.{Stands};
 ghost use Rattle.tb_tables.specs.Changes.{Holds};
 ghost use Rattle.tb_core.specs.declared.refusals.Refusal.{Refusal as AnyRefusal};
 ghost use Rattle.tb_core.specs.declared.kinds.Event.{Event as AnyEvent};
@@ -18,6 +16,8 @@ ghost use Rattle.tb_standing.specs.Standing.{tables_of, IsDesk};
 ghost use Rattle.tb_judge.specs.Found.{FindsBatch};
 ghost use Rattle.tb_acting.specs.Working.{IsWithin, IsCounted, IsDone};
 ghost use Rattle.tb_acting.specs.Stepping.{seen_of, event_move, IsPlanned};
+ghost use Rattle.tb_standing.specs.Telling.{CrashesTo, KnowsDeskWhere, RefusesAs, Tells, TellsOnOk};
+ghost use Rattle.tb_tables.specs.Leaving.{ChangesNothing, CommitsNothing, KeepsRecords, KeepsRecordsOnErr};
 
 use crate::counted::{Counts, next_move};
 use crate::faults;
@@ -198,17 +198,16 @@ fn planned<S: Alter>(
     event: Event,
     user: &str,
 ) -> Result<EventPlan, Fault>
-    ensures answered { HasCleanDisk (state S.Store conn.new) → IfOk result (λ p. (s : Machine) → IsDesk S.Store conn.old s → IsCounted counts.now s
-        → (place : ℕ) × IsPlanned s place event user.now p × IsAllowed s (stepping place event user.now)
-        × Steps counts.now.limits s (event_on name.now event user.now) (replied (moved_on p.reply)) (after s (stepping place event user.now))) }
-    ensures refused { HasCleanDisk (state S.Store conn.new) → (r : AnyRefusal) → result ≡ Err (Fault.Refused r) → (s : Machine) → IsDesk S.Store conn.old s → IsCounted counts.now s
-        → Steps counts.now.limits s (event_on name.now event user.now) (refused_by r) s × IsDesk S.Store conn.new s }
-    ensures fails { HasCleanDisk (state S.Store conn.new) → (state S.Store conn.old).step_limit ≡ None → (s : Machine) → IsDesk S.Store conn.old s → IsCounted counts.now s → IsWithin counts.now.limits → result ≢ Err Fault.NotADesk }
+    ensures answered { Tells S.Store conn.old conn.new result (λ s p. IsCounted counts.now s
+        → (place : ℕ) × IsPlanned s place event user.now p × IsAllowed s (stepping place event user.now) × Steps counts.now.limits s (event_on name.now event user.now) (replied (moved_on p.reply)) (after s (stepping place event user.now))) }
+    ensures refused { RefusesAs S.Store conn.old conn.new result (λ s r. IsCounted counts.now s
+        → Steps counts.now.limits s (event_on name.now event user.now) (refused_by r) s × IsDesk S.Store conn.new s) }
+    ensures fails { KnowsDeskWhere S.Store conn.old conn.new result (λ s so. IsCounted counts.now s → IsWithin counts.now.limits → so) }
     ensures room { IfOk result (λ _. counts.now.moves + 1 ≤ 1000000000) }
-    ensures same { HasCleanDisk (state S.Store conn.new) → OnOk result ((state S.Store conn.old).now.schema ≡ desk_schema → IsUnchanged (state S.Store conn.old) (state S.Store conn.new)) }
+    ensures same { ChangesNothing S.Store conn.old conn.new result }
     ensures mode { conn.old.in_transaction ≡ false → conn.new.in_transaction ≡ false }
-    ensures kept { HasCleanDisk (state S.Store conn.new) → IsTrue (state S.Store conn.new).is_open → (d : Tables) → Holds S.Store conn.old d → Holds S.Store conn.new d }
-    ensures lasts { Survives (state S.Store conn.old) (state S.Store conn.new) (λ _. (state S.Store conn.old).now.schema ≢ desk_schema) }
+    ensures kept { KeepsRecords S.Store conn.old conn.new }
+    ensures lasts { CommitsNothing S.Store conn.old conn.new }
 {
     commands_stay_within_limits();
     let found = find_batch(conn, name)?;
@@ -220,12 +219,15 @@ fn planned<S: Alter>(
 /// Writes what was planned.
 fn write<S: Alter>(conn: &mut Connection<S>, plan: &EventPlan) -> Result<(), Fault>
     requires autocommit { conn.old.in_transaction ≡ false }
-    ensures done { HasCleanDisk (state S.Store conn.new) → OnOk result ((s : Machine) → IsDesk S.Store conn.old s → (place : ℕ) (event : AnyEvent) (user : List ℕ) → IsPlanned s place event user plan.now → IsAllowed s (stepping place event user)
+    ensures done { TellsOnOk S.Store conn.old conn.new result (λ s. (place : ℕ) (event : AnyEvent) (user : List ℕ)
+        → IsPlanned s place event user plan.now → IsAllowed s (stepping place event user)
         → Holds S.Store conn.new (tables_of (after s (stepping place event user)))) }
     ensures refused { (r : AnyRefusal) → result ≢ Err (Fault.Refused r) }
-    ensures fails { HasCleanDisk (state S.Store conn.new) → (state S.Store conn.old).step_limit ≡ None → (s : Machine) → IsDesk S.Store conn.old s → (place : ℕ) (event : AnyEvent) (user : List ℕ) → IsPlanned s place event user plan.now → IsAllowed s (stepping place event user) → result ≢ Err Fault.NotADesk }
-    ensures kept { HasCleanDisk (state S.Store conn.new) → IsTrue (state S.Store conn.new).is_open → OnErr result ((d : Tables) → Holds S.Store conn.old d → Holds S.Store conn.new d) }
-    ensures crash { Survives (state S.Store conn.old) (state S.Store conn.new) (λ db. (s : Machine) → IsDesk S.Store conn.old s → (place : ℕ) (event : AnyEvent) (user : List ℕ) → IsPlanned s place event user plan.now → IsAllowed s (stepping place event user)
+    ensures fails { KnowsDeskWhere S.Store conn.old conn.new result (λ s so. (place : ℕ) (event : AnyEvent) (user : List ℕ)
+        → IsPlanned s place event user plan.now → IsAllowed s (stepping place event user) → so) }
+    ensures kept { KeepsRecordsOnErr S.Store conn.old conn.new result }
+    ensures crash { CrashesTo S.Store conn.old conn.new (λ s db. (place : ℕ) (event : AnyEvent) (user : List ℕ)
+        → IsPlanned s place event user plan.now → IsAllowed s (stepping place event user)
         → Stands (tables_of (after s (stepping place event user))) db) }
     ensures mode { conn.new.in_transaction ≡ false }
 {
@@ -261,13 +263,14 @@ pub fn event<S: Alter>(
 ) -> Result<(Moved, Totals), Fault>
     requires autocommit { conn.old.in_transaction ≡ false }
     requires within { IsWithin counts.now.limits }
-    ensures answered { HasCleanDisk (state S.Store conn.new) → IfOk result (λ r. (s : Machine) → IsDesk S.Store conn.old s → IsCounted counts.now s → IsDone S.Store counts.now.limits s (event_on name.now event user.now) (moved_on r.0) conn.new r.1) }
-    ensures refused { HasCleanDisk (state S.Store conn.new) → (r : AnyRefusal) → result ≡ Err (Fault.Refused r) → (s : Machine) → IsDesk S.Store conn.old s → IsCounted counts.now s
-        → Steps counts.now.limits s (event_on name.now event user.now) (refused_by r) s × IsDesk S.Store conn.new s }
-    ensures fails { HasCleanDisk (state S.Store conn.new) → (state S.Store conn.old).step_limit ≡ None → (s : Machine) → IsDesk S.Store conn.old s → IsCounted counts.now s → result ≢ Err Fault.NotADesk }
+    ensures answered { Tells S.Store conn.old conn.new result (λ s r. IsCounted counts.now s → IsDone S.Store counts.now.limits s (event_on name.now event user.now) (moved_on r.0) conn.new r.1) }
+    ensures refused { RefusesAs S.Store conn.old conn.new result (λ s r. IsCounted counts.now s
+        → Steps counts.now.limits s (event_on name.now event user.now) (refused_by r) s × IsDesk S.Store conn.new s) }
+    ensures fails { KnowsDeskWhere S.Store conn.old conn.new result (λ s so. IsCounted counts.now s → so) }
     ensures room { IfOk result (λ _. counts.now.moves + 1 ≤ 1000000000) }
-    ensures kept { HasCleanDisk (state S.Store conn.new) → IsTrue (state S.Store conn.new).is_open → OnErr result ((d : Tables) → Holds S.Store conn.old d → Holds S.Store conn.new d) }
-    ensures crash { Survives (state S.Store conn.old) (state S.Store conn.new) (λ db. (s : Machine) → IsDesk S.Store conn.old s → IsCounted counts.now s → (a : Answer) × (t : Machine) × Steps counts.now.limits s (event_on name.now event user.now) a t × Stands (tables_of t) db) }
+    ensures kept { KeepsRecordsOnErr S.Store conn.old conn.new result }
+    ensures crash { CrashesTo S.Store conn.old conn.new (λ s db. IsCounted counts.now s
+        → (a : Answer) × (t : Machine) × Steps counts.now.limits s (event_on name.now event user.now) a t × Stands (tables_of t) db) }
     ensures mode { conn.new.in_transaction ≡ false }
 {
     commands_stay_within_limits();

@@ -1,18 +1,15 @@
 //! What of a batch its events move: its sentences that are not pulled.
 
-ghost use Rattle.std.specs.Prelude.{◌≡◌, ◌≢◌, ◌<◌, ◌≤◌, ◌+◌, ◌^◌, length, None, Err, sum_by, map, IsTrue, IfOk, OnOk, false};
-ghost use Rattle.sqlite.specs.State.{HasCleanDisk, IsUnchanged, Survives};
-ghost use Rattle.sqlite.specs.Held.{state};
+ghost use Rattle.std.specs.Prelude.{◌≡◌, ◌≢◌, ◌<◌, ◌≤◌, ◌+◌, ◌^◌, length, Err, sum_by, map, IfOk, false};
 ghost use Rattle.sqlite_trees.specs.Tree.{IsAscending};
-ghost use Rattle.tb_tables.specs.Layout.{desk_schema};
-ghost use Rattle.tb_tables.specs.Records.{Tables};
-ghost use Rattle.tb_tables.specs.Changes.{Holds};
 ghost use Rattle.tb_core.specs.declared.refusals.Refusal.{Refusal as AnyRefusal};
-ghost use Rattle.tb_core.specs.Machine.{Machine, weigh, at_work, one, words};
+ghost use Rattle.tb_core.specs.Machine.{weigh, at_work, one, words};
 ghost use Rattle.tb_core.specs.Rows.{pulled_from};
-ghost use Rattle.tb_standing.specs.Standing.{IsDesk, sentence_record};
+ghost use Rattle.tb_standing.specs.Standing.{sentence_record};
 ghost use Rattle.tb_reading.specs.Found.{work_of};
 ghost use Rattle.tb_acting.specs.Working.{is_listed, unless_pulled, each_one, its_words};
+ghost use Rattle.tb_standing.specs.Telling.{KnowsDesk, Tells};
+ghost use Rattle.tb_tables.specs.Leaving.{ChangesNothing, CommitsNothing, KeepsRecords};
 
 use crate::faults;
 use sqlite::{Alter, Connection};
@@ -85,13 +82,13 @@ fn read_work<S: Alter>(
     conn: &mut Connection<S>,
     number: u32,
 ) -> Result<Vec<Work>, Fault>
-    ensures answered { HasCleanDisk (state S.Store conn.new) → IfOk result (λ v. (s : Machine) → IsDesk S.Store conn.old s → v.items ≡ work_of number 1 (map sentence_record s.sentences)) }
+    ensures answered { Tells S.Store conn.old conn.new result (λ s v. v.items ≡ work_of number 1 (map sentence_record s.sentences)) }
     ensures refused { (r : AnyRefusal) → result ≢ Err (Fault.Refused r) }
-    ensures fails { HasCleanDisk (state S.Store conn.new) → (state S.Store conn.old).step_limit ≡ None → (s : Machine) → IsDesk S.Store conn.old s → result ≢ Err Fault.NotADesk }
-    ensures same { HasCleanDisk (state S.Store conn.new) → OnOk result ((state S.Store conn.old).now.schema ≡ desk_schema → IsUnchanged (state S.Store conn.old) (state S.Store conn.new)) }
+    ensures fails { KnowsDesk S.Store conn.old conn.new result }
+    ensures same { ChangesNothing S.Store conn.old conn.new result }
     ensures mode { conn.old.in_transaction ≡ false → conn.new.in_transaction ≡ false }
-    ensures kept { HasCleanDisk (state S.Store conn.new) → IsTrue (state S.Store conn.new).is_open → (d : Tables) → Holds S.Store conn.old d → Holds S.Store conn.new d }
-    ensures lasts { Survives (state S.Store conn.old) (state S.Store conn.new) (λ _. (state S.Store conn.old).now.schema ≢ desk_schema) }
+    ensures kept { KeepsRecords S.Store conn.old conn.new }
+    ensures lasts { CommitsNothing S.Store conn.old conn.new }
 {
     desk_rows_fit();
     desk_rows_are_readable();
@@ -103,13 +100,13 @@ fn read_work<S: Alter>(
 
 /// The numbers of all pulled sentences, ascending.
 fn read_pulled<S: Alter>(alloc: Global, conn: &mut Connection<S>) -> Result<Vec<u32>, Fault>
-    ensures answered { HasCleanDisk (state S.Store conn.new) → IfOk result (λ v. (s : Machine) → IsDesk S.Store conn.old s → v.items ≡ pulled_from 1 s.sentences) }
+    ensures answered { Tells S.Store conn.old conn.new result (λ s v. v.items ≡ pulled_from 1 s.sentences) }
     ensures refused { (r : AnyRefusal) → result ≢ Err (Fault.Refused r) }
-    ensures fails { HasCleanDisk (state S.Store conn.new) → (state S.Store conn.old).step_limit ≡ None → (s : Machine) → IsDesk S.Store conn.old s → result ≢ Err Fault.NotADesk }
-    ensures same { HasCleanDisk (state S.Store conn.new) → OnOk result ((state S.Store conn.old).now.schema ≡ desk_schema → IsUnchanged (state S.Store conn.old) (state S.Store conn.new)) }
+    ensures fails { KnowsDesk S.Store conn.old conn.new result }
+    ensures same { ChangesNothing S.Store conn.old conn.new result }
     ensures mode { conn.old.in_transaction ≡ false → conn.new.in_transaction ≡ false }
-    ensures kept { HasCleanDisk (state S.Store conn.new) → IsTrue (state S.Store conn.new).is_open → (d : Tables) → Holds S.Store conn.old d → Holds S.Store conn.new d }
-    ensures lasts { Survives (state S.Store conn.old) (state S.Store conn.new) (λ _. (state S.Store conn.old).now.schema ≢ desk_schema) }
+    ensures kept { KeepsRecords S.Store conn.old conn.new }
+    ensures lasts { CommitsNothing S.Store conn.old conn.new }
 {
     desk_rows_are_readable();
     match tb_reading::pulled(alloc, conn) {
@@ -124,13 +121,13 @@ pub(crate) fn find_work<S: Alter>(
     conn: &mut Connection<S>,
     number: u32,
 ) -> Result<Sums, Fault>
-    ensures answered { HasCleanDisk (state S.Store conn.new) → IfOk result (λ r. (s : Machine) → IsDesk S.Store conn.old s → (r.sentences ≡ weigh (at_work number one) s.sentences) × (r.words ≡ weigh (at_work number words) s.sentences)) }
+    ensures answered { Tells S.Store conn.old conn.new result (λ s r. (r.sentences ≡ weigh (at_work number one) s.sentences) × (r.words ≡ weigh (at_work number words) s.sentences)) }
     ensures refused { (r : AnyRefusal) → result ≢ Err (Fault.Refused r) }
-    ensures fails { HasCleanDisk (state S.Store conn.new) → (state S.Store conn.old).step_limit ≡ None → (s : Machine) → IsDesk S.Store conn.old s → result ≢ Err Fault.NotADesk }
-    ensures same { HasCleanDisk (state S.Store conn.new) → OnOk result ((state S.Store conn.old).now.schema ≡ desk_schema → IsUnchanged (state S.Store conn.old) (state S.Store conn.new)) }
+    ensures fails { KnowsDesk S.Store conn.old conn.new result }
+    ensures same { ChangesNothing S.Store conn.old conn.new result }
     ensures mode { conn.old.in_transaction ≡ false → conn.new.in_transaction ≡ false }
-    ensures kept { HasCleanDisk (state S.Store conn.new) → IsTrue (state S.Store conn.new).is_open → (d : Tables) → Holds S.Store conn.old d → Holds S.Store conn.new d }
-    ensures lasts { Survives (state S.Store conn.old) (state S.Store conn.new) (λ _. (state S.Store conn.old).now.schema ≢ desk_schema) }
+    ensures kept { KeepsRecords S.Store conn.old conn.new }
+    ensures lasts { CommitsNothing S.Store conn.old conn.new }
 {
     reached_states_are_well();
     let work = read_work(alloc, conn, number)?;

@@ -12,11 +12,10 @@ ghost use Rattle.sqlite.specs.State.{HasCleanDisk, IsUnchanged, Survives};
 ghost use Rattle.sqlite.specs.Held.{state};
 ghost use Rattle.tb_core.specs.declared.refusals.Refusal.{Refusal as AnyRefusal};
 ghost use Rattle.tb_core.specs.Machine.{Machine};
-ghost use Rattle.tb_tables.specs.Records.{Tables};
-ghost use Rattle.tb_tables.specs.Changes.{Holds};
 ghost use Rattle.tb_standing.specs.Standing.{IsDesk};
 ghost use Rattle.tb_adopting.specs.Told.{IsStanding};
 ghost use Rattle.tb_adopting.specs.Reads.{LooksLikeDesk};
+ghost use Rattle.tb_tables.specs.Leaving.{KeepsRecords};
 
 use crate::faults::of_unfit;
 use crate::reading::read_rows;
@@ -49,7 +48,7 @@ pub fn read_desk<S: Alter>(alloc: Global, conn: &mut Connection<S>) -> Result<St
     ensures refused { (r : AnyRefusal) → result ≢ Err (Fault.Refused r) }
     ensures same { HasCleanDisk (state S.Store conn.new) → OnOk result (IsUnchanged (state S.Store conn.old) (state S.Store conn.new)) }
     ensures mode { conn.old.in_transaction ≡ false → conn.new.in_transaction ≡ false }
-    ensures kept { HasCleanDisk (state S.Store conn.new) → IsTrue (state S.Store conn.new).is_open → (d : Tables) → Holds S.Store conn.old d → Holds S.Store conn.new d }
+    ensures kept { KeepsRecords S.Store conn.old conn.new }
     ensures survives { Survives (state S.Store conn.old) (state S.Store conn.new) (λ _. ⊥) }
 {
     if !may_be_desk(conn) {

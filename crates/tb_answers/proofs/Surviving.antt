@@ -17,7 +17,7 @@ use Rattle.tb_standing.specs.Standing.{tables_of}
 use Rattle.tb_store.specs.Kept.{Kept}
 use Rattle.tb_store.specs.Standing.{StandsFor}
 use Rattle.tb_answers.specs.Calls.{CallText, commands, asks, call_asked}
-use Rattle.tb_answers.specs.Commanded.{HoldsAnEnd}
+use Rattle.tb_store.specs.Calls.{HoldsAnEnd}
 use Rattle.tb_answers.specs.declared.answering.Broken.{Broken}
 use Rattle.tb_answers.specs.Served.{IsSafeCall, IsSafeOf, IsServed}
 use Rattle.tb_answers.specs.Turns.{HasResponse, LeadsBy, command_in, Ends, HoldsAnEndOf, AllButLast, IsSound, IsAnswered, AreAnswered, AreServed}

@@ -1,7 +1,6 @@
 -- The calls of a desk, as a line of words makes them, and what each writes and leaves.
 use Rattle.std.specs.Prelude.{◌≡◌, ◌⊎◌, ℕ, List, Option, Some, None, IsTrue}
 use Rattle.sqlite.specs.Store.{Ghosts}
-use Rattle.sqlite.specs.State.{Survives}
 use Rattle.sqlite.specs.Held.{state}
 use Rattle.tb_core.specs.declared.limits.Limits.{Limits}
 use Rattle.tb_core.specs.Machine.{Machine}
@@ -14,13 +13,14 @@ use Rattle.tb_line.specs.Lines.{Said, import_batch, step_batch, show, totals, mo
 use Rattle.tb_line.specs.Lines.{correct as correct_said, pull as pull_said, restore as restore_said}
 use Rattle.tb_store.specs.Kept.{Kept}
 use Rattle.tb_store.specs.Standing.{StandsFor}
+use Rattle.tb_store.specs.Calls.{CrashesWhole, WritesNothing}
 use Rattle.tb_answers.specs.declared.calls.DeskCommand.{DeskCommand}
 use Rattle.tb_answers.specs.declared.calls.DeskCommand.TheVariants as command
 use Rattle.tb_answers.specs.declared.calls.DeskCall.{DeskCall}
 use Rattle.tb_answers.specs.declared.calls.DeskCall.TheVariants as call
 use Rattle.tb_answers.specs.declared.questions.Question.{Question}
 use Rattle.tb_answers.specs.declared.questions.Question.TheVariants as question
-use Rattle.tb_answers.specs.Commanded.{IsAnswered, HoldsAnEnd}
+use Rattle.tb_answers.specs.Commanded.{IsAnswered}
 use Rattle.tb_answers.specs.Asked.{IsBody, IsToldOf}
 
 -- a call of a desk, as plain data
@@ -79,5 +79,5 @@ IsOutput g l s (asks q) new text own =
 
 -- A crash of a command leaves the tables of a state in which it ends; one of a question writes nothing.
 abbrev pub IsSafe : {S : Type 0} → Ghosts S → CallText → (old new : Kept S) → Type 0
-IsSafe g (commands c) old new = Survives (state g old.conn) (state g new.conn) (HoldsAnEnd g old c)
-IsSafe g (asks q) old new = (s : Machine) → StandsFor g old s → Survives (state g old.conn) (state g new.conn) (λ _. ⊥)
+IsSafe g (commands c) old new = CrashesWhole g old new c
+IsSafe g (asks q) old new = WritesNothing g old new

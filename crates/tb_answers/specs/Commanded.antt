@@ -2,8 +2,6 @@
 use Rattle.std.specs.Prelude.{◌≡◌, ◌⊎◌, IsTrue}
 use Rattle.sqlite.specs.Store.{Ghosts}
 use Rattle.sqlite.specs.Held.{state}
-use Rattle.sqlite.specs.Tree.{Trees}
-use Rattle.tb_tables.specs.Records.{Stands}
 use Rattle.tb_core.specs.declared.limits.Limits.{Limits}
 use Rattle.tb_core.specs.declared.refusals.Fault.{Fault}
 use Rattle.tb_core.specs.declared.refusals.Fault.TheVariants.{Refused, Memory, Device, NotADesk, Output}
@@ -12,7 +10,6 @@ use Rattle.tb_core.specs.Commands.{Command, Answer, replied, refused, imported, 
 use Rattle.tb_core.specs.Steps.{Steps}
 use Rattle.tb_http.specs.declared.replies.Reply.{Reply}
 use Rattle.tb_http.specs.declared.replies.Reply.TheVariants as reply
-use Rattle.tb_standing.specs.Standing.{tables_of}
 use Rattle.tb_store.specs.Kept.{Kept}
 use Rattle.tb_store.specs.Standing.{StandsFor}
 
@@ -43,7 +40,3 @@ abbrev pub IsAnswered : {S : Type 0} → Ghosts S → Limits → Machine → Com
 IsAnswered g l s c new r =
     ((a : Answer) × (t : Machine) × Steps l s c a t × StandsFor g new t × (r ≡ reply_for a))
     ⊎ (IsFailure r × (IsTrue (state g new.conn).is_open → StandsFor g new s))
-
--- the tables of a state in which the command ends
-abbrev pub HoldsAnEnd : {S : Type 0} → Ghosts S → (old : Kept S) → Command → Trees → Type 0
-HoldsAnEnd g old c db = (s : Machine) → StandsFor g old s → (a : Answer) × (t : Machine) × Steps old.limits s c a t × Stands (tables_of t) db

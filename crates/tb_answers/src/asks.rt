@@ -1,15 +1,12 @@
 //! What a request asks, done and answered.
 
-ghost use Rattle.std.specs.Prelude.{◌≡◌, IsTrue};
-ghost use Rattle.sqlite.specs.State.{HasCleanDisk, Survives};
-ghost use Rattle.sqlite.specs.Held.{state};
-ghost use Rattle.tb_core.specs.Machine.{Machine};
+ghost use Rattle.std.specs.Prelude.{◌≡◌};
 ghost use Rattle.tb_http.specs.Actions.{act_by};
 ghost use Rattle.tb_http.specs.Asks.{told_by};
-ghost use Rattle.tb_store.specs.Standing.{StandsFor};
 ghost use Rattle.tb_answers.specs.Calls.{call_asked};
 ghost use Rattle.tb_answers.specs.Found.{IsSearchResponse, IsCountResponse};
 ghost use Rattle.tb_answers.specs.Served.{AsksText, ForText, IsReplySent, IsSentAs, IsTextSent, IsCallSent, IsReplied, IsSafeCall, IsSafeFor};
+ghost use Rattle.tb_store.specs.Calls.{InState, StandsAsBefore, WritesNothing};
 
 use crate::calls::DeskCall;
 use crate::counts::respond_count;
@@ -43,9 +40,9 @@ fn respond_to_search<S: Alter, W: Sink>(
     body: &[u8],
     out: &mut W,
 ) -> Option<Status>
-    ensures written { HasCleanDisk (state S.Store desk.new.conn) → (s : Machine) → StandsFor S.Store desk.old s → ForText (W.held out.old) (W.held out.new) (W.IsRefusal out.new) result body.now (IsSearchResponse desk.old.limits s (record { query = body.now; strategy = strategy; context = context }) (W.held out.old) (W.held out.new) (W.IsRefusal out.new) result) }
-    ensures kept { HasCleanDisk (state S.Store desk.new.conn) → IsTrue (state S.Store desk.new.conn).is_open → (s : Machine) → StandsFor S.Store desk.old s → StandsFor S.Store desk.new s }
-    ensures crash { (s : Machine) → StandsFor S.Store desk.old s → Survives (state S.Store desk.old.conn) (state S.Store desk.new.conn) (λ _. ⊥) }
+    ensures written { InState S.Store desk.old desk.new (λ s. ForText (W.held out.old) (W.held out.new) (W.IsRefusal out.new) result body.now (IsSearchResponse desk.old.limits s (record { query = body.now; strategy = strategy; context = context }) (W.held out.old) (W.held out.new) (W.IsRefusal out.new) result)) }
+    ensures kept { StandsAsBefore S.Store desk.old desk.new }
+    ensures crash { WritesNothing S.Store desk.old desk.new }
     ensures limits { desk.new.limits ≡ desk.old.limits }
 {
     let Ok(query) = from_utf8(body) else {
@@ -68,9 +65,9 @@ fn respond_to_count<S: Alter, W: Sink>(
     body: &[u8],
     out: &mut W,
 ) -> Option<Status>
-    ensures written { HasCleanDisk (state S.Store desk.new.conn) → (s : Machine) → StandsFor S.Store desk.old s → ForText (W.held out.old) (W.held out.new) (W.IsRefusal out.new) result body.now (IsSentAs (W.held out.old) (W.held out.new) (W.IsRefusal out.new) result (IsCountResponse desk.old.limits s (record { query = body.now; strategy = strategy; column = column }))) }
-    ensures kept { HasCleanDisk (state S.Store desk.new.conn) → IsTrue (state S.Store desk.new.conn).is_open → (s : Machine) → StandsFor S.Store desk.old s → StandsFor S.Store desk.new s }
-    ensures crash { (s : Machine) → StandsFor S.Store desk.old s → Survives (state S.Store desk.old.conn) (state S.Store desk.new.conn) (λ _. ⊥) }
+    ensures written { InState S.Store desk.old desk.new (λ s. ForText (W.held out.old) (W.held out.new) (W.IsRefusal out.new) result body.now (IsSentAs (W.held out.old) (W.held out.new) (W.IsRefusal out.new) result (IsCountResponse desk.old.limits s (record { query = body.now; strategy = strategy; column = column })))) }
+    ensures kept { StandsAsBefore S.Store desk.old desk.new }
+    ensures crash { WritesNothing S.Store desk.old desk.new }
     ensures limits { desk.new.limits ≡ desk.old.limits }
 {
     let Ok(query) = from_utf8(body) else {
@@ -93,9 +90,9 @@ fn respond_text<S: Alter, W: Sink>(
     out: &mut W,
 ) -> Option<Status>
     requires { AsksText (act_by action) }
-    ensures written { HasCleanDisk (state S.Store desk.new.conn) → (s : Machine) → StandsFor S.Store desk.old s → IsTextSent (W.held out.old) (W.held out.new) (W.IsRefusal out.new) result desk.old.limits s (act_by action.entry) body.now }
-    ensures kept { HasCleanDisk (state S.Store desk.new.conn) → IsTrue (state S.Store desk.new.conn).is_open → (s : Machine) → StandsFor S.Store desk.old s → StandsFor S.Store desk.new s }
-    ensures crash { (s : Machine) → StandsFor S.Store desk.old s → Survives (state S.Store desk.old.conn) (state S.Store desk.new.conn) (λ _. ⊥) }
+    ensures written { InState S.Store desk.old desk.new (λ s. IsTextSent (W.held out.old) (W.held out.new) (W.IsRefusal out.new) result desk.old.limits s (act_by action.entry) body.now) }
+    ensures kept { StandsAsBefore S.Store desk.old desk.new }
+    ensures crash { WritesNothing S.Store desk.old desk.new }
     ensures limits { desk.new.limits ≡ desk.old.limits }
 {
     match action {
@@ -121,7 +118,7 @@ fn respond_asked<S: Alter, W: Sink>(
     body: &[u8],
     out: &mut W,
 ) -> Option<Status>
-    ensures written { HasCleanDisk (state S.Store desk.new.conn) → (s : Machine) → StandsFor S.Store desk.old s → IsCallSent (W.held out.old) (W.held out.new) (W.IsRefusal out.new) result S.Store desk.old.limits s (call_asked (act_by action.entry) user.now body.now) (act_by action.entry) body.now desk.new }
+    ensures written { InState S.Store desk.old desk.new (λ s. IsCallSent (W.held out.old) (W.held out.new) (W.IsRefusal out.new) result S.Store desk.old.limits s (call_asked (act_by action.entry) user.now body.now) (act_by action.entry) body.now desk.new) }
     ensures crash { IsSafeCall S.Store (call_asked (act_by action.entry) user.now body.now) desk.old desk.new }
     ensures limits { desk.new.limits ≡ desk.old.limits }
 {
@@ -138,7 +135,7 @@ pub(crate) fn respond_ask<S: Alter, W: Sink>(
     ask: Ask<'_>,
     out: &mut W,
 ) -> Option<Status>
-    ensures written { HasCleanDisk (state S.Store desk.new.conn) → (s : Machine) → StandsFor S.Store desk.old s → IsReplied (W.held out.old) (W.held out.new) (W.IsRefusal out.new) result S.Store desk.old.limits s (told_by ask.entry) desk.old desk.new }
+    ensures written { InState S.Store desk.old desk.new (λ s. IsReplied (W.held out.old) (W.held out.new) (W.IsRefusal out.new) result S.Store desk.old.limits s (told_by ask.entry) desk.old desk.new) }
     ensures crash { IsSafeFor S.Store (told_by ask.entry) desk.old desk.new }
     ensures limits { desk.new.limits ≡ desk.old.limits }
 {

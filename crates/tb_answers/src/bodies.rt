@@ -1,14 +1,13 @@
 //! What a desk is asked, answered by texts.
 
-ghost use Rattle.std.specs.Prelude.{◌≡◌, Some, None, Err, string_bytes, IsTrue, IfOk, IfErr};
-ghost use Rattle.sqlite.specs.State.{HasCleanDisk, Survives};
-ghost use Rattle.sqlite.specs.Held.{state};
+ghost use Rattle.std.specs.Prelude.{◌≡◌, Some, None, Err, string_bytes, IfOk, IfErr};
 ghost use Rattle.tb_core.specs.Machine.{Machine};
 ghost use Rattle.tb_report.specs.Csv.{totals_csv, moves_csv};
 ghost use Rattle.tb_store.specs.Standing.{StandsFor};
 ghost use Rattle.tb_store.specs.Answers.{IsCurrent, IsTextOf, HasNoSentence};
 ghost use Rattle.tb_answers.specs.Commanded.{IsFailure};
 ghost use Rattle.tb_answers.specs.Asked.{totals_text, AsksForNone, IsBody, IsToldOf};
+ghost use Rattle.tb_store.specs.Calls.{Gives, GivesOnErr, StandsAsBefore, WritesNothing};
 
 use crate::commands::reply_for_fault;
 use crate::questions::{Body, Question};
@@ -45,10 +44,10 @@ fn moves_text(alloc: Global, moves: &[Move]) -> Result<Vec<u8>, Reply>
 
 /// Sentences and words of the six states, as CSV. Nothing is refused.
 pub fn totals<S: Alter>(alloc: Global, desk: &mut Desk<S>) -> Result<Vec<u8>, Reply>
-    ensures answered { HasCleanDisk (state S.Store desk.new.conn) → IfOk result (λ v. (s : Machine) → StandsFor S.Store desk.old s → v.items ≡ totals_text s) }
+    ensures answered { Gives S.Store desk.old desk.new result (λ s v. v.items ≡ totals_text s) }
     ensures failed { IfErr result IsFailure }
-    ensures kept { HasCleanDisk (state S.Store desk.new.conn) → IsTrue (state S.Store desk.new.conn).is_open → (s : Machine) → StandsFor S.Store desk.old s → StandsFor S.Store desk.new s }
-    ensures crash { (s : Machine) → StandsFor S.Store desk.old s → Survives (state S.Store desk.old.conn) (state S.Store desk.new.conn) (λ _. ⊥) }
+    ensures kept { StandsAsBefore S.Store desk.old desk.new }
+    ensures crash { WritesNothing S.Store desk.old desk.new }
     ensures limits { desk.new.limits ≡ desk.old.limits }
 {
     match desk.totals() {
@@ -59,10 +58,10 @@ pub fn totals<S: Alter>(alloc: Global, desk: &mut Desk<S>) -> Result<Vec<u8>, Re
 
 /// All moves in their order, as CSV. Nothing is refused.
 pub fn moves<S: Alter>(alloc: Global, desk: &mut Desk<S>) -> Result<Vec<u8>, Reply>
-    ensures answered { HasCleanDisk (state S.Store desk.new.conn) → IfOk result (λ v. (s : Machine) → StandsFor S.Store desk.old s → v.items ≡ moves_csv s.moves) }
+    ensures answered { Gives S.Store desk.old desk.new result (λ s v. v.items ≡ moves_csv s.moves) }
     ensures failed { IfErr result IsFailure }
-    ensures kept { HasCleanDisk (state S.Store desk.new.conn) → IsTrue (state S.Store desk.new.conn).is_open → (s : Machine) → StandsFor S.Store desk.old s → StandsFor S.Store desk.new s }
-    ensures crash { (s : Machine) → StandsFor S.Store desk.old s → Survives (state S.Store desk.old.conn) (state S.Store desk.new.conn) (λ _. ⊥) }
+    ensures kept { StandsAsBefore S.Store desk.old desk.new }
+    ensures crash { WritesNothing S.Store desk.old desk.new }
     ensures limits { desk.new.limits ≡ desk.old.limits }
 {
     match desk.moves() {
@@ -77,11 +76,11 @@ pub fn moves<S: Alter>(alloc: Global, desk: &mut Desk<S>) -> Result<Vec<u8>, Rep
 ///
 /// `NoSuchSentence`, or a failure.
 pub fn sentence<S: Alter>(desk: &mut Desk<S>, number: u64) -> Result<Current, Reply>
-    ensures answered { HasCleanDisk (state S.Store desk.new.conn) → IfOk result (λ c. (s : Machine) → StandsFor S.Store desk.old s → IsCurrent s number c.rev (string_bytes c.body)) }
+    ensures answered { Gives S.Store desk.old desk.new result (λ s c. IsCurrent s number c.rev (string_bytes c.body)) }
     ensures missing { (s : Machine) → StandsFor S.Store desk.old s → HasNoSentence s number → result ≡ Err (Reply.Refused Refusal.NoSuchSentence) }
     ensures told { IfErr result (λ r. (s : Machine) → StandsFor S.Store desk.old s → IsToldOf s (Question.Sentence number) r) }
-    ensures kept { HasCleanDisk (state S.Store desk.new.conn) → IsTrue (state S.Store desk.new.conn).is_open → (s : Machine) → StandsFor S.Store desk.old s → StandsFor S.Store desk.new s }
-    ensures crash { (s : Machine) → StandsFor S.Store desk.old s → Survives (state S.Store desk.old.conn) (state S.Store desk.new.conn) (λ _. ⊥) }
+    ensures kept { StandsAsBefore S.Store desk.old desk.new }
+    ensures crash { WritesNothing S.Store desk.old desk.new }
     ensures limits { desk.new.limits ≡ desk.old.limits }
 {
     match desk.sentence(number) {
@@ -96,11 +95,11 @@ pub fn sentence<S: Alter>(desk: &mut Desk<S>, number: u64) -> Result<Current, Re
 ///
 /// `NoSuchSentence`, `NoSuchRevision`, the first that holds; or a failure.
 pub fn revision<S: Alter>(desk: &mut Desk<S>, number: u64, rev: u64) -> Result<String, Reply>
-    ensures answered { HasCleanDisk (state S.Store desk.new.conn) → IfOk result (λ t. (s : Machine) → StandsFor S.Store desk.old s → IsTextOf s number rev (string_bytes t)) }
+    ensures answered { Gives S.Store desk.old desk.new result (λ s t. IsTextOf s number rev (string_bytes t)) }
     ensures missing { (s : Machine) → StandsFor S.Store desk.old s → HasNoSentence s number → result ≡ Err (Reply.Refused Refusal.NoSuchSentence) }
-    ensures told { HasCleanDisk (state S.Store desk.new.conn) → IfErr result (λ r. (s : Machine) → StandsFor S.Store desk.old s → IsToldOf s (Question.Revision number rev) r) }
-    ensures kept { HasCleanDisk (state S.Store desk.new.conn) → IsTrue (state S.Store desk.new.conn).is_open → (s : Machine) → StandsFor S.Store desk.old s → StandsFor S.Store desk.new s }
-    ensures crash { (s : Machine) → StandsFor S.Store desk.old s → Survives (state S.Store desk.old.conn) (state S.Store desk.new.conn) (λ _. ⊥) }
+    ensures told { GivesOnErr S.Store desk.old desk.new result (λ s r. IsToldOf s (Question.Revision number rev) r) }
+    ensures kept { StandsAsBefore S.Store desk.old desk.new }
+    ensures crash { WritesNothing S.Store desk.old desk.new }
     ensures limits { desk.new.limits ≡ desk.old.limits }
 {
     match desk.revision(number, rev) {
@@ -135,11 +134,11 @@ fn body_of_current(current: Current) -> Body
 ///
 /// The refusals of the question, or a failure.
 pub fn ask<S: Alter>(alloc: Global, desk: &mut Desk<S>, question: Question) -> Result<Body, Reply>
-    ensures answered { HasCleanDisk (state S.Store desk.new.conn) → IfOk result (λ b. (s : Machine) → StandsFor S.Store desk.old s → IsBody s question b.rev b.text.items) }
+    ensures answered { Gives S.Store desk.old desk.new result (λ s b. IsBody s question b.rev b.text.items) }
     ensures missing { (s : Machine) → StandsFor S.Store desk.old s → AsksForNone s question → result ≡ Err (Reply.Refused Refusal.NoSuchSentence) }
-    ensures told { HasCleanDisk (state S.Store desk.new.conn) → IfErr result (λ r. (s : Machine) → StandsFor S.Store desk.old s → IsToldOf s question r) }
-    ensures kept { HasCleanDisk (state S.Store desk.new.conn) → IsTrue (state S.Store desk.new.conn).is_open → (s : Machine) → StandsFor S.Store desk.old s → StandsFor S.Store desk.new s }
-    ensures crash { (s : Machine) → StandsFor S.Store desk.old s → Survives (state S.Store desk.old.conn) (state S.Store desk.new.conn) (λ _. ⊥) }
+    ensures told { GivesOnErr S.Store desk.old desk.new result (λ s r. IsToldOf s question r) }
+    ensures kept { StandsAsBefore S.Store desk.old desk.new }
+    ensures crash { WritesNothing S.Store desk.old desk.new }
     ensures limits { desk.new.limits ≡ desk.old.limits }
 {
     match question {

@@ -1,12 +1,9 @@
 //! The commands of users, each answered by one line.
 
 ghost use Rattle.std.specs.Prelude.{◌≡◌};
-ghost use Rattle.sqlite.specs.State.{HasCleanDisk, Survives};
-ghost use Rattle.sqlite.specs.Held.{state};
-ghost use Rattle.tb_core.specs.Machine.{Machine};
 ghost use Rattle.tb_core.specs.Commands.{import_file, event_on, correct as correct_it, pull as pull_it, restore as restore_it};
-ghost use Rattle.tb_store.specs.Standing.{StandsFor};
-ghost use Rattle.tb_answers.specs.Commanded.{reply_for_fault, IsAnswered, HoldsAnEnd};
+ghost use Rattle.tb_answers.specs.Commanded.{reply_for_fault, IsAnswered};
+ghost use Rattle.tb_store.specs.Calls.{CrashesWhole, InState};
 
 use sqlite::Alter;
 use tb_core::{Event, Fault};
@@ -27,8 +24,8 @@ pub fn reply_for_fault(fault: Fault) -> Reply
 
 /// The answer of an import: the sentences of the body as a batch of this name.
 pub fn import<S: Alter>(desk: &mut Desk<S>, name: &str, user: &str, body: &[u8]) -> Reply
-    ensures answered { HasCleanDisk (state S.Store desk.new.conn) → (s : Machine) → StandsFor S.Store desk.old s → IsAnswered S.Store desk.old.limits s (import_file name.now user.now body.now) desk.new result }
-    ensures crash { Survives (state S.Store desk.old.conn) (state S.Store desk.new.conn) (HoldsAnEnd S.Store desk.old (import_file name.now user.now body.now)) }
+    ensures answered { InState S.Store desk.old desk.new (λ s. IsAnswered S.Store desk.old.limits s (import_file name.now user.now body.now) desk.new result) }
+    ensures crash { CrashesWhole S.Store desk.old desk.new (import_file name.now user.now body.now) }
     ensures limits { desk.new.limits ≡ desk.old.limits }
 {
     match desk.import(name, user, body) {
@@ -39,8 +36,8 @@ pub fn import<S: Alter>(desk: &mut Desk<S>, name: &str, user: &str, body: &[u8])
 
 /// The answer of an event on the batch with this name.
 pub fn event<S: Alter>(desk: &mut Desk<S>, name: &str, event: Event, user: &str) -> Reply
-    ensures answered { HasCleanDisk (state S.Store desk.new.conn) → (s : Machine) → StandsFor S.Store desk.old s → IsAnswered S.Store desk.old.limits s (event_on name.now event user.now) desk.new result }
-    ensures crash { Survives (state S.Store desk.old.conn) (state S.Store desk.new.conn) (HoldsAnEnd S.Store desk.old (event_on name.now event user.now)) }
+    ensures answered { InState S.Store desk.old desk.new (λ s. IsAnswered S.Store desk.old.limits s (event_on name.now event user.now) desk.new result) }
+    ensures crash { CrashesWhole S.Store desk.old desk.new (event_on name.now event user.now) }
     ensures limits { desk.new.limits ≡ desk.old.limits }
 {
     match desk.event(name, event, user) {
@@ -57,8 +54,8 @@ pub fn correct<S: Alter>(
     user: &str,
     body: &[u8],
 ) -> Reply
-    ensures answered { HasCleanDisk (state S.Store desk.new.conn) → (s : Machine) → StandsFor S.Store desk.old s → IsAnswered S.Store desk.old.limits s (correct_it number base user.now body.now) desk.new result }
-    ensures crash { Survives (state S.Store desk.old.conn) (state S.Store desk.new.conn) (HoldsAnEnd S.Store desk.old (correct_it number base user.now body.now)) }
+    ensures answered { InState S.Store desk.old desk.new (λ s. IsAnswered S.Store desk.old.limits s (correct_it number base user.now body.now) desk.new result) }
+    ensures crash { CrashesWhole S.Store desk.old desk.new (correct_it number base user.now body.now) }
     ensures limits { desk.new.limits ≡ desk.old.limits }
 {
     match desk.correct(number, base, user, body) {
@@ -69,8 +66,8 @@ pub fn correct<S: Alter>(
 
 /// The answer of a pull of the sentence with this number.
 pub fn pull<S: Alter>(desk: &mut Desk<S>, number: u64, user: &str) -> Reply
-    ensures answered { HasCleanDisk (state S.Store desk.new.conn) → (s : Machine) → StandsFor S.Store desk.old s → IsAnswered S.Store desk.old.limits s (pull_it number user.now) desk.new result }
-    ensures crash { Survives (state S.Store desk.old.conn) (state S.Store desk.new.conn) (HoldsAnEnd S.Store desk.old (pull_it number user.now)) }
+    ensures answered { InState S.Store desk.old desk.new (λ s. IsAnswered S.Store desk.old.limits s (pull_it number user.now) desk.new result) }
+    ensures crash { CrashesWhole S.Store desk.old desk.new (pull_it number user.now) }
     ensures limits { desk.new.limits ≡ desk.old.limits }
 {
     match desk.pull(number, user) {
@@ -81,8 +78,8 @@ pub fn pull<S: Alter>(desk: &mut Desk<S>, number: u64, user: &str) -> Reply
 
 /// The answer of a restore of the sentence with this number.
 pub fn restore<S: Alter>(desk: &mut Desk<S>, number: u64, user: &str) -> Reply
-    ensures answered { HasCleanDisk (state S.Store desk.new.conn) → (s : Machine) → StandsFor S.Store desk.old s → IsAnswered S.Store desk.old.limits s (restore_it number user.now) desk.new result }
-    ensures crash { Survives (state S.Store desk.old.conn) (state S.Store desk.new.conn) (HoldsAnEnd S.Store desk.old (restore_it number user.now)) }
+    ensures answered { InState S.Store desk.old desk.new (λ s. IsAnswered S.Store desk.old.limits s (restore_it number user.now) desk.new result) }
+    ensures crash { CrashesWhole S.Store desk.old desk.new (restore_it number user.now) }
     ensures limits { desk.new.limits ≡ desk.old.limits }
 {
     match desk.restore(number, user) {

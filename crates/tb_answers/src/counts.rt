@@ -1,20 +1,17 @@
 //! Counts of what is found in released text, as CSV.
 
-ghost use Rattle.std.specs.Prelude.{◌≡◌, ◌≢◌, ℕ, List, IsTrue, IfOk, IfErr};
-ghost use Rattle.sqlite.specs.State.{HasCleanDisk, Survives};
-ghost use Rattle.sqlite.specs.Held.{state};
-ghost use Rattle.tb_tables.specs.Layout.{desk_schema};
-ghost use Rattle.tb_core.specs.Machine.{Machine};
+ghost use Rattle.std.specs.Prelude.{◌≡◌, ℕ, List, IfOk, IfErr};
 ghost use Rattle.tb_report.specs.Csv.{freq_csv};
 ghost use Rattle.tb_report.specs.Tables.{Row, IsTableOf, IsRankingOf};
 ghost use Rattle.tb_search.specs.Searched.{Occurrence, keys};
 ghost use Rattle.tb_http.specs.declared.status.Status.{Status as AnyStatus};
-ghost use Rattle.tb_store.specs.Standing.{StandsFor};
 ghost use Rattle.tb_store.specs.Found.{AreReleasedHits};
 ghost use Rattle.tb_answers.specs.Commanded.{IsFailure};
 ghost use Rattle.tb_answers.specs.Output.{IsWritten};
 ghost use Rattle.tb_answers.specs.Responses.{IsSent};
 ghost use Rattle.tb_answers.specs.Found.{count_by, IsCounted, IsCountOutput, IsCountResponse, IsToldOfQuery};
+ghost use Rattle.tb_store.specs.Calls.{Gives, GivesOnErr, InState, StandsAsBefore, WritesNothing};
+ghost use Rattle.tb_tables.specs.Leaving.{CommitsNothing};
 
 use crate::commands::reply_for_fault;
 use crate::finding::{Count, accepted};
@@ -48,10 +45,10 @@ fn counted<S: Alter>(
     query: &Query,
     count: Count<'_>,
 ) -> Result<Vec<u8>, Reply>
-    ensures counted { HasCleanDisk (state S.Store desk.new.conn) → IfOk result (λ v. (s : Machine) → StandsFor S.Store desk.old s → (found : List Occurrence) × AreReleasedHits s query.now count.entry.strategy found × (table : List Row) × (rows : List Row) × IsTableOf (keys count.entry.column found) table × IsRankingOf table rows × (v.items ≡ freq_csv rows)) }
+    ensures counted { Gives S.Store desk.old desk.new result (λ s v. (found : List Occurrence) × AreReleasedHits s query.now count.entry.strategy found × (table : List Row) × (rows : List Row) × IsTableOf (keys count.entry.column found) table × IsRankingOf table rows × (v.items ≡ freq_csv rows)) }
     ensures failed { IfErr result IsFailure }
-    ensures kept { HasCleanDisk (state S.Store desk.new.conn) → IsTrue (state S.Store desk.new.conn).is_open → (s : Machine) → StandsFor S.Store desk.old s → StandsFor S.Store desk.new s }
-    ensures lasts { Survives (state S.Store desk.old.conn) (state S.Store desk.new.conn) (λ _. (state S.Store desk.old.conn).now.schema ≢ desk_schema) }
+    ensures kept { StandsAsBefore S.Store desk.old desk.new }
+    ensures lasts { CommitsNothing S.Store desk.old.conn desk.new.conn }
     ensures limits { desk.new.limits ≡ desk.old.limits }
 {
     match desk.count(query, count.strategy, count.column) {
@@ -70,10 +67,10 @@ fn count_text<S: Alter>(
     desk: &mut Desk<S>,
     count: Count<'_>,
 ) -> Result<Vec<u8>, Reply>
-    ensures counted { HasCleanDisk (state S.Store desk.new.conn) → IfOk result (λ v. (s : Machine) → StandsFor S.Store desk.old s → IsCounted desk.old.limits s (count_by count.entry) v.items) }
-    ensures told { HasCleanDisk (state S.Store desk.new.conn) → IfErr result (λ r. (s : Machine) → StandsFor S.Store desk.old s → IsToldOfQuery desk.old.limits s count.entry.query.now count.entry.strategy r) }
-    ensures kept { HasCleanDisk (state S.Store desk.new.conn) → IsTrue (state S.Store desk.new.conn).is_open → (s : Machine) → StandsFor S.Store desk.old s → StandsFor S.Store desk.new s }
-    ensures crash { (s : Machine) → StandsFor S.Store desk.old s → Survives (state S.Store desk.old.conn) (state S.Store desk.new.conn) (λ _. ⊥) }
+    ensures counted { Gives S.Store desk.old desk.new result (λ s v. IsCounted desk.old.limits s (count_by count.entry) v.items) }
+    ensures told { GivesOnErr S.Store desk.old desk.new result (λ s r. IsToldOfQuery desk.old.limits s count.entry.query.now count.entry.strategy r) }
+    ensures kept { StandsAsBefore S.Store desk.old desk.new }
+    ensures crash { WritesNothing S.Store desk.old desk.new }
     ensures limits { desk.new.limits ≡ desk.old.limits }
 {
     match accepted(alloc, desk, count.query, count.strategy) {
@@ -89,9 +86,9 @@ pub fn run_count<S: Alter, W: Sink>(
     count: Count<'_>,
     out: &mut W,
 ) -> u8
-    ensures written { HasCleanDisk (state S.Store desk.new.conn) → (s : Machine) → StandsFor S.Store desk.old s → (text : List ℕ) × (own : ℕ) × IsCountOutput desk.old.limits s (count_by count.entry) text own × IsWritten (W.held out.old) (W.held out.new) text own (W.IsRefusal out.new) result }
-    ensures kept { HasCleanDisk (state S.Store desk.new.conn) → IsTrue (state S.Store desk.new.conn).is_open → (s : Machine) → StandsFor S.Store desk.old s → StandsFor S.Store desk.new s }
-    ensures crash { (s : Machine) → StandsFor S.Store desk.old s → Survives (state S.Store desk.old.conn) (state S.Store desk.new.conn) (λ _. ⊥) }
+    ensures written { InState S.Store desk.old desk.new (λ s. (text : List ℕ) × (own : ℕ) × IsCountOutput desk.old.limits s (count_by count.entry) text own × IsWritten (W.held out.old) (W.held out.new) text own (W.IsRefusal out.new) result) }
+    ensures kept { StandsAsBefore S.Store desk.old desk.new }
+    ensures crash { WritesNothing S.Store desk.old desk.new }
     ensures limits { desk.new.limits ≡ desk.old.limits }
 {
     match count_text(alloc, desk, count) {
@@ -108,9 +105,9 @@ pub fn respond_count<S: Alter, W: Sink>(
     count: Count<'_>,
     out: &mut W,
 ) -> Option<Status>
-    ensures written { HasCleanDisk (state S.Store desk.new.conn) → (s : Machine) → StandsFor S.Store desk.old s → (text : List ℕ) × (status : AnyStatus) × IsCountResponse desk.old.limits s (count_by count.entry) text status × IsSent (W.held out.old) (W.held out.new) text status (W.IsRefusal out.new) result }
-    ensures kept { HasCleanDisk (state S.Store desk.new.conn) → IsTrue (state S.Store desk.new.conn).is_open → (s : Machine) → StandsFor S.Store desk.old s → StandsFor S.Store desk.new s }
-    ensures crash { (s : Machine) → StandsFor S.Store desk.old s → Survives (state S.Store desk.old.conn) (state S.Store desk.new.conn) (λ _. ⊥) }
+    ensures written { InState S.Store desk.old desk.new (λ s. (text : List ℕ) × (status : AnyStatus) × IsCountResponse desk.old.limits s (count_by count.entry) text status × IsSent (W.held out.old) (W.held out.new) text status (W.IsRefusal out.new) result) }
+    ensures kept { StandsAsBefore S.Store desk.old desk.new }
+    ensures crash { WritesNothing S.Store desk.old desk.new }
     ensures limits { desk.new.limits ≡ desk.old.limits }
 {
     match count_text(alloc, desk, count) {

@@ -1,8 +1,8 @@
 //! Exports: streamed to a sink with an exit status, or as responses over HTTP.
 
-ghost use Rattle.std.specs.Prelude.{◌≡◌, ℕ, List, None, Ok as OkOf, Err as ErrOf, IsTrue, IfOk, IfErr, OnOk, option_map};
+ghost use Rattle.std.specs.Prelude.{◌≡◌, ℕ, List, None, Ok as OkOf, Err as ErrOf, IfOk, option_map};
 ghost use Rattle.std.specs.Io.KnownBytes.{Appends};
-ghost use Rattle.sqlite.specs.State.{HasCleanDisk, Survives};
+ghost use Rattle.sqlite.specs.State.{HasCleanDisk};
 ghost use Rattle.sqlite.specs.Held.{state};
 ghost use Rattle.tb_core.specs.declared.refusals.Refusal.{Refusal as AnyRefusal};
 ghost use Rattle.tb_core.specs.Machine.{Machine};
@@ -12,6 +12,7 @@ ghost use Rattle.tb_store.specs.Standing.{StandsFor};
 ghost use Rattle.tb_answers.specs.Commanded.{IsFailure};
 ghost use Rattle.tb_answers.specs.Responses.{IsSent};
 ghost use Rattle.tb_answers.specs.Exported.{HasExport, RefusesExport, IsCutOff, IsExportWritten, IsToldOfExport, IsExportResponse};
+ghost use Rattle.tb_store.specs.Calls.{Does, Gives, GivesOnErr, InState, StandsAsBefore, WritesNothing};
 
 use crate::bodies::body_of;
 use crate::commands::reply_for_fault;
@@ -31,13 +32,13 @@ fn export<S: Alter, W: Sink>(
     name: Option<&str>,
     out: &mut W,
 ) -> Result<(), Fault>
-    ensures put { HasCleanDisk (state S.Store desk.new.conn) → OnOk result ((s : Machine) → StandsFor S.Store desk.old s → (text : List ℕ) × HasExport s (option_map (λ n. n.now) name.entry) (OkOf text) × Appends (W.held out.old) (W.held out.new) text) }
-    ensures part { HasCleanDisk (state S.Store desk.new.conn) → IfErr result (λ e. (s : Machine) → StandsFor S.Store desk.old s → IsCutOff s (option_map (λ n. n.now) name.entry) e (W.held out.old) (W.held out.new)) }
+    ensures put { Does S.Store desk.old desk.new result (λ s. (text : List ℕ) × HasExport s (option_map (λ n. n.now) name.entry) (OkOf text) × Appends (W.held out.old) (W.held out.new) text) }
+    ensures part { GivesOnErr S.Store desk.old desk.new result (λ s e. IsCutOff s (option_map (λ n. n.now) name.entry) e (W.held out.old) (W.held out.new)) }
     ensures refused { HasCleanDisk (state S.Store desk.new.conn) → (r : AnyRefusal) → result ≡ ErrOf (Fault.Refused r) → (s : Machine) → StandsFor S.Store desk.old s → RefusesExport s (option_map (λ n. n.now) name.entry) r }
     ensures output { result ≡ ErrOf Fault.Output → HasReason (W.IsRefusal out.new) }
     ensures none { (r : AnyRefusal) → result ≡ ErrOf (Fault.Refused r) → W.held out.new ≡ W.held out.old }
-    ensures kept { HasCleanDisk (state S.Store desk.new.conn) → IsTrue (state S.Store desk.new.conn).is_open → (s : Machine) → StandsFor S.Store desk.old s → StandsFor S.Store desk.new s }
-    ensures crash { (s : Machine) → StandsFor S.Store desk.old s → Survives (state S.Store desk.old.conn) (state S.Store desk.new.conn) (λ _. ⊥) }
+    ensures kept { StandsAsBefore S.Store desk.old desk.new }
+    ensures crash { WritesNothing S.Store desk.old desk.new }
     ensures limits { desk.new.limits ≡ desk.old.limits }
 {
     match name {
@@ -49,9 +50,9 @@ fn export<S: Alter, W: Sink>(
 /// Puts an export as it is read, and gives the exit status. A refusal is its line, before which nothing is put; where the
 /// export breaks off nothing more is put, and the status is 3.
 pub fn run_export<S: Alter, W: Sink>(desk: &mut Desk<S>, name: Option<&str>, out: &mut W) -> u8
-    ensures written { HasCleanDisk (state S.Store desk.new.conn) → (s : Machine) → StandsFor S.Store desk.old s → IsExportWritten s (option_map (λ n. n.now) name.entry) (W.held out.old) (W.held out.new) (W.IsRefusal out.new) result }
-    ensures kept { HasCleanDisk (state S.Store desk.new.conn) → IsTrue (state S.Store desk.new.conn).is_open → (s : Machine) → StandsFor S.Store desk.old s → StandsFor S.Store desk.new s }
-    ensures crash { (s : Machine) → StandsFor S.Store desk.old s → Survives (state S.Store desk.old.conn) (state S.Store desk.new.conn) (λ _. ⊥) }
+    ensures written { InState S.Store desk.old desk.new (λ s. IsExportWritten s (option_map (λ n. n.now) name.entry) (W.held out.old) (W.held out.new) (W.IsRefusal out.new) result) }
+    ensures kept { StandsAsBefore S.Store desk.old desk.new }
+    ensures crash { WritesNothing S.Store desk.old desk.new }
     ensures limits { desk.new.limits ≡ desk.old.limits }
 {
     match export(desk, name, out) {
@@ -78,11 +79,11 @@ fn export_body<S: Alter>(
     desk: &mut Desk<S>,
     name: Option<&str>,
 ) -> Result<Body, Reply>
-    ensures answered { HasCleanDisk (state S.Store desk.new.conn) → IfOk result (λ b. (s : Machine) → StandsFor S.Store desk.old s → HasExport s (option_map (λ n. n.now) name.entry) (OkOf b.text.items)) }
+    ensures answered { Gives S.Store desk.old desk.new result (λ s b. HasExport s (option_map (λ n. n.now) name.entry) (OkOf b.text.items)) }
     ensures plain { IfOk result (λ b. b.rev ≡ None) }
-    ensures told { HasCleanDisk (state S.Store desk.new.conn) → IfErr result (λ r. (s : Machine) → StandsFor S.Store desk.old s → IsToldOfExport s (option_map (λ n. n.now) name.entry) r) }
-    ensures kept { HasCleanDisk (state S.Store desk.new.conn) → IsTrue (state S.Store desk.new.conn).is_open → (s : Machine) → StandsFor S.Store desk.old s → StandsFor S.Store desk.new s }
-    ensures crash { (s : Machine) → StandsFor S.Store desk.old s → Survives (state S.Store desk.old.conn) (state S.Store desk.new.conn) (λ _. ⊥) }
+    ensures told { GivesOnErr S.Store desk.old desk.new result (λ s r. IsToldOfExport s (option_map (λ n. n.now) name.entry) r) }
+    ensures kept { StandsAsBefore S.Store desk.old desk.new }
+    ensures crash { WritesNothing S.Store desk.old desk.new }
     ensures limits { desk.new.limits ≡ desk.old.limits }
 {
     let mut text = Vec::new(alloc);
@@ -100,9 +101,9 @@ pub fn respond_export<S: Alter, W: Sink>(
     name: Option<&str>,
     out: &mut W,
 ) -> Option<Status>
-    ensures written { HasCleanDisk (state S.Store desk.new.conn) → (s : Machine) → StandsFor S.Store desk.old s → (text : List ℕ) × (status : AnyStatus) × IsExportResponse s (option_map (λ n. n.now) name.entry) text status × IsSent (W.held out.old) (W.held out.new) text status (W.IsRefusal out.new) result }
-    ensures kept { HasCleanDisk (state S.Store desk.new.conn) → IsTrue (state S.Store desk.new.conn).is_open → (s : Machine) → StandsFor S.Store desk.old s → StandsFor S.Store desk.new s }
-    ensures crash { (s : Machine) → StandsFor S.Store desk.old s → Survives (state S.Store desk.old.conn) (state S.Store desk.new.conn) (λ _. ⊥) }
+    ensures written { InState S.Store desk.old desk.new (λ s. (text : List ℕ) × (status : AnyStatus) × IsExportResponse s (option_map (λ n. n.now) name.entry) text status × IsSent (W.held out.old) (W.held out.new) text status (W.IsRefusal out.new) result) }
+    ensures kept { StandsAsBefore S.Store desk.old desk.new }
+    ensures crash { WritesNothing S.Store desk.old desk.new }
     ensures limits { desk.new.limits ≡ desk.old.limits }
 {
     match export_body(alloc, desk, name) {

@@ -1,13 +1,14 @@
 //! What is asked of released text: searches and counts, and whether their queries are accepted.
 
-ghost use Rattle.std.specs.Prelude.{◌≡◌, ◌≢◌, IsTrue, IfOk, IfErr, OnOk};
-ghost use Rattle.sqlite.specs.State.{HasCleanDisk, Survives};
+ghost use Rattle.std.specs.Prelude.{◌≡◌, IfOk, IfErr};
+ghost use Rattle.sqlite.specs.State.{HasCleanDisk};
 ghost use Rattle.sqlite.specs.Held.{state};
-ghost use Rattle.tb_tables.specs.Layout.{desk_schema};
 ghost use Rattle.tb_core.specs.Machine.{Machine};
 ghost use Rattle.tb_query.specs.Reading.{IsQuery};
 ghost use Rattle.tb_store.specs.Standing.{StandsFor};
 ghost use Rattle.tb_answers.specs.Found.{query_reply, Asks, IsAllowed, IsLimitReply, IsQueryReply, IsToldOfQuery};
+ghost use Rattle.tb_store.specs.Calls.{Does, Gives, GivesOnErr, StandsAsBefore};
+ghost use Rattle.tb_tables.specs.Leaving.{CommitsNothing};
 
 use crate::commands::reply_for_fault;
 use sqlite::Alter;
@@ -71,10 +72,10 @@ fn counted_within<S: Alter>(
     strategy: Strategy,
 ) -> Result<Query, Reply>
     ensures allowed { HasCleanDisk (state S.Store desk.new.conn) → IfOk result (λ q. (q ≡ query) × ((s : Machine) → StandsFor S.Store desk.old s → IsAllowed desk.old.limits s query strategy)) }
-    ensures told { HasCleanDisk (state S.Store desk.new.conn) → IfErr result (λ r. (s : Machine) → StandsFor S.Store desk.old s → IsLimitReply desk.old.limits s query strategy r) }
-    ensures stays { HasCleanDisk (state S.Store desk.new.conn) → OnOk result ((s : Machine) → StandsFor S.Store desk.old s → StandsFor S.Store desk.new s) }
-    ensures kept { HasCleanDisk (state S.Store desk.new.conn) → IsTrue (state S.Store desk.new.conn).is_open → (s : Machine) → StandsFor S.Store desk.old s → StandsFor S.Store desk.new s }
-    ensures lasts { Survives (state S.Store desk.old.conn) (state S.Store desk.new.conn) (λ _. (state S.Store desk.old.conn).now.schema ≢ desk_schema) }
+    ensures told { GivesOnErr S.Store desk.old desk.new result (λ s r. IsLimitReply desk.old.limits s query strategy r) }
+    ensures stays { Does S.Store desk.old desk.new result (λ s. StandsFor S.Store desk.new s) }
+    ensures kept { StandsAsBefore S.Store desk.old desk.new }
+    ensures lasts { CommitsNothing S.Store desk.old.conn desk.new.conn }
     ensures limits { desk.new.limits ≡ desk.old.limits }
 {
     one_list_is_found();
@@ -91,10 +92,10 @@ fn within_limit<S: Alter>(
     strategy: Strategy,
 ) -> Result<Query, Reply>
     ensures allowed { HasCleanDisk (state S.Store desk.new.conn) → IfOk result (λ q. (q ≡ query) × ((s : Machine) → StandsFor S.Store desk.old s → IsAllowed desk.old.limits s query strategy)) }
-    ensures told { HasCleanDisk (state S.Store desk.new.conn) → IfErr result (λ r. (s : Machine) → StandsFor S.Store desk.old s → IsLimitReply desk.old.limits s query strategy r) }
-    ensures stays { HasCleanDisk (state S.Store desk.new.conn) → OnOk result ((s : Machine) → StandsFor S.Store desk.old s → StandsFor S.Store desk.new s) }
-    ensures kept { HasCleanDisk (state S.Store desk.new.conn) → IsTrue (state S.Store desk.new.conn).is_open → (s : Machine) → StandsFor S.Store desk.old s → StandsFor S.Store desk.new s }
-    ensures lasts { Survives (state S.Store desk.old.conn) (state S.Store desk.new.conn) (λ _. (state S.Store desk.old.conn).now.schema ≢ desk_schema) }
+    ensures told { GivesOnErr S.Store desk.old desk.new result (λ s r. IsLimitReply desk.old.limits s query strategy r) }
+    ensures stays { Does S.Store desk.old desk.new result (λ s. StandsFor S.Store desk.new s) }
+    ensures kept { StandsAsBefore S.Store desk.old desk.new }
+    ensures lasts { CommitsNothing S.Store desk.old.conn desk.new.conn }
     ensures limits { desk.new.limits ≡ desk.old.limits }
 {
     match strategy {
@@ -114,11 +115,11 @@ pub(crate) fn accepted<S: Alter>(
     text: &str,
     strategy: Strategy,
 ) -> Result<Query, Reply>
-    ensures accepted { HasCleanDisk (state S.Store desk.new.conn) → IfOk result (λ q. (s : Machine) → StandsFor S.Store desk.old s → Asks desk.old.limits s text.now strategy q) }
-    ensures told { HasCleanDisk (state S.Store desk.new.conn) → IfErr result (λ r. (s : Machine) → StandsFor S.Store desk.old s → IsToldOfQuery desk.old.limits s text.now strategy r) }
-    ensures stays { HasCleanDisk (state S.Store desk.new.conn) → OnOk result ((s : Machine) → StandsFor S.Store desk.old s → StandsFor S.Store desk.new s) }
-    ensures kept { HasCleanDisk (state S.Store desk.new.conn) → IsTrue (state S.Store desk.new.conn).is_open → (s : Machine) → StandsFor S.Store desk.old s → StandsFor S.Store desk.new s }
-    ensures lasts { Survives (state S.Store desk.old.conn) (state S.Store desk.new.conn) (λ _. (state S.Store desk.old.conn).now.schema ≢ desk_schema) }
+    ensures accepted { Gives S.Store desk.old desk.new result (λ s q. Asks desk.old.limits s text.now strategy q) }
+    ensures told { GivesOnErr S.Store desk.old desk.new result (λ s r. IsToldOfQuery desk.old.limits s text.now strategy r) }
+    ensures stays { Does S.Store desk.old desk.new result (λ s. StandsFor S.Store desk.new s) }
+    ensures kept { StandsAsBefore S.Store desk.old desk.new }
+    ensures lasts { CommitsNothing S.Store desk.old.conn desk.new.conn }
     ensures limits { desk.new.limits ≡ desk.old.limits }
 {
     match read_query(alloc, text) {

@@ -1,14 +1,11 @@
 //! A line of words, done on a desk.
 
-ghost use Rattle.std.specs.Prelude.{◌≡◌, IfSome, IsTrue, MatchResult, Ok as Taken, Err as Untaken, option_map, string_bytes};
-ghost use Rattle.sqlite.specs.State.{HasCleanDisk};
-ghost use Rattle.sqlite.specs.Held.{state};
-ghost use Rattle.tb_core.specs.Machine.{Machine};
+ghost use Rattle.std.specs.Prelude.{◌≡◌, IfSome, MatchResult, Ok as Taken, Err as Untaken, option_map, string_bytes};
 ghost use Rattle.tb_line.specs.Lines.{said_by};
-ghost use Rattle.tb_store.specs.Standing.{StandsFor};
 ghost use Rattle.tb_answers.specs.Taken.{IsTaken, has_body};
 ghost use Rattle.tb_answers.specs.Calls.{call_by, call_in};
 ghost use Rattle.tb_answers.specs.Ran.{reading_by, reading_in, IsRead, IsCalled, IsDone, IsRan, WritesNothing, IsCallSafe, IsDoneSafe, IsLineSafe, IsRunFrom, IsRunSafe};
+ghost use Rattle.tb_store.specs.Calls.{InState, StandsAsBefore};
 
 use crate::calls::DeskCall;
 use crate::counts::run_count;
@@ -105,8 +102,8 @@ fn run_reading<S: Alter, W: Sink>(
     desk: &mut Desk<S>,
     out: &mut W,
 ) -> u8
-    ensures read { HasCleanDisk (state S.Store desk.new.conn) → (s : Machine) → StandsFor S.Store desk.old s → IsRead desk.old.limits s (reading_by reading.entry) (W.held out.old) (W.held out.new) (W.IsRefusal out.new) result }
-    ensures kept { HasCleanDisk (state S.Store desk.new.conn) → IsTrue (state S.Store desk.new.conn).is_open → (s : Machine) → StandsFor S.Store desk.old s → StandsFor S.Store desk.new s }
+    ensures read { InState S.Store desk.old desk.new (λ s. IsRead desk.old.limits s (reading_by reading.entry) (W.held out.old) (W.held out.new) (W.IsRefusal out.new) result) }
+    ensures kept { StandsAsBefore S.Store desk.old desk.new }
     ensures crash { WritesNothing S.Store desk.old desk.new }
 {
     match reading {
@@ -123,7 +120,7 @@ fn run_called<S: Alter, W: Sink>(
     desk: &mut Desk<S>,
     out: &mut W,
 ) -> u8
-    ensures called { HasCleanDisk (state S.Store desk.new.conn) → (s : Machine) → StandsFor S.Store desk.old s → IsCalled S.Store desk.old.limits s (option_map call_by call.entry) desk.new (W.held out.old) (W.held out.new) (W.IsRefusal out.new) result }
+    ensures called { InState S.Store desk.old desk.new (λ s. IsCalled S.Store desk.old.limits s (option_map call_by call.entry) desk.new (W.held out.old) (W.held out.new) (W.IsRefusal out.new) result) }
     ensures crash { IsCallSafe S.Store (option_map call_by call.entry) desk.old desk.new }
 {
     match call {
@@ -140,7 +137,7 @@ fn do_line<S: Alter, W: Sink>(
     desk: &mut Desk<S>,
     out: &mut W,
 ) -> u8
-    ensures done { HasCleanDisk (state S.Store desk.new.conn) → (s : Machine) → StandsFor S.Store desk.old s → IsDone S.Store desk.old.limits s (reading_in (said_by line.now)) (call_in (said_by line.now) body.now) desk.new (W.held out.old) (W.held out.new) (W.IsRefusal out.new) result }
+    ensures done { InState S.Store desk.old desk.new (λ s. IsDone S.Store desk.old.limits s (reading_in (said_by line.now)) (call_in (said_by line.now) body.now) desk.new (W.held out.old) (W.held out.new) (W.IsRefusal out.new) result) }
     ensures crash { IsDoneSafe S.Store (reading_in (said_by line.now)) (call_in (said_by line.now) body.now) desk.old desk.new }
 {
     match reading_of(line) {
@@ -159,7 +156,7 @@ pub fn run_line<S: Alter, W: Sink>(
     desk: &mut Desk<S>,
     out: &mut W,
 ) -> u8
-    ensures ran { HasCleanDisk (state S.Store desk.new.conn) → (s : Machine) → StandsFor S.Store desk.old s → MatchResult body (λ v. IsRan S.Store desk.old.limits s (said_by line.now) (Taken v.items) desk.new (W.held out.old) (W.held out.new) (W.IsRefusal out.new) result) (λ r. IsRan S.Store desk.old.limits s (said_by line.now) (Untaken r) desk.new (W.held out.old) (W.held out.new) (W.IsRefusal out.new) result) }
+    ensures ran { InState S.Store desk.old desk.new (λ s. MatchResult body (λ v. IsRan S.Store desk.old.limits s (said_by line.now) (Taken v.items) desk.new (W.held out.old) (W.held out.new) (W.IsRefusal out.new) result) (λ r. IsRan S.Store desk.old.limits s (said_by line.now) (Untaken r) desk.new (W.held out.old) (W.held out.new) (W.IsRefusal out.new) result)) }
     ensures crash { MatchResult body (λ v. IsLineSafe S.Store (said_by line.now) (Taken v.items) desk.old desk.new) (λ r. IsLineSafe S.Store (said_by line.now) (Untaken r) desk.old desk.new) }
 {
     match body {
@@ -177,7 +174,7 @@ pub fn run_line_from<S: Alter, R: Read, W: Sink>(
     desk: &mut Desk<S>,
     out: &mut W,
 ) -> u8
-    ensures ran { HasCleanDisk (state S.Store desk.new.conn) → (s : Machine) → StandsFor S.Store desk.old s → IfSome (R.remaining reader.old) (λ input. IsRunFrom S.Store desk.old.limits s FILE_LIMIT (said_by line.now) input desk.new (W.held out.old) (W.held out.new) (W.IsRefusal out.new) result) }
+    ensures ran { InState S.Store desk.old desk.new (λ s. IfSome (R.remaining reader.old) (λ input. IsRunFrom S.Store desk.old.limits s FILE_LIMIT (said_by line.now) input desk.new (W.held out.old) (W.held out.new) (W.IsRefusal out.new) result)) }
     ensures crash { IfSome (R.remaining reader.old) (λ input. IsRunSafe S.Store FILE_LIMIT (said_by line.now) input desk.old desk.new) }
 {
     let body = read_body(alloc, line, reader);

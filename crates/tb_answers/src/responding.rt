@@ -1,13 +1,10 @@
 //! Calls of a desk, done and answered over HTTP.
 
 ghost use Rattle.std.specs.Prelude.{◌≡◌, ℕ, List};
-ghost use Rattle.sqlite.specs.State.{HasCleanDisk};
-ghost use Rattle.sqlite.specs.Held.{state};
-ghost use Rattle.tb_core.specs.Machine.{Machine};
 ghost use Rattle.tb_http.specs.declared.status.Status.{Status as AnyStatus};
-ghost use Rattle.tb_store.specs.Standing.{StandsFor};
 ghost use Rattle.tb_answers.specs.Calls.{call_by, IsSafe};
 ghost use Rattle.tb_answers.specs.Responses.{IsResponse, IsSent};
+ghost use Rattle.tb_store.specs.Calls.{InState};
 
 use crate::bodies;
 use crate::calls::DeskCall;
@@ -26,7 +23,7 @@ pub fn respond_call<S: Alter, W: Sink>(
     desk: &mut Desk<S>,
     out: &mut W,
 ) -> Option<Status>
-    ensures written { HasCleanDisk (state S.Store desk.new.conn) → (s : Machine) → StandsFor S.Store desk.old s → (text : List ℕ) × (status : AnyStatus) × IsResponse S.Store desk.old.limits s (call_by call.entry) desk.new text status × IsSent (W.held out.old) (W.held out.new) text status (W.IsRefusal out.new) result }
+    ensures written { InState S.Store desk.old desk.new (λ s. (text : List ℕ) × (status : AnyStatus) × IsResponse S.Store desk.old.limits s (call_by call.entry) desk.new text status × IsSent (W.held out.old) (W.held out.new) text status (W.IsRefusal out.new) result) }
     ensures crash { IsSafe S.Store (call_by call.entry) desk.old desk.new }
     ensures limits { desk.new.limits ≡ desk.old.limits }
 {

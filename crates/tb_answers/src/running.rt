@@ -1,13 +1,10 @@
 //! Calls of a desk, done, answered and put to a sink.
 
 ghost use Rattle.std.specs.Prelude.{◌≡◌, ℕ, List};
-ghost use Rattle.sqlite.specs.State.{HasCleanDisk, Survives};
-ghost use Rattle.sqlite.specs.Held.{state};
-ghost use Rattle.tb_core.specs.Machine.{Machine};
-ghost use Rattle.tb_store.specs.Standing.{StandsFor};
-ghost use Rattle.tb_answers.specs.Commanded.{IsAnswered, HoldsAnEnd};
+ghost use Rattle.tb_answers.specs.Commanded.{IsAnswered};
 ghost use Rattle.tb_answers.specs.Output.{IsWritten};
 ghost use Rattle.tb_answers.specs.Calls.{command_by, call_by, IsOutput, IsSafe};
+ghost use Rattle.tb_store.specs.Calls.{CrashesWhole, InState};
 
 use crate::calls::{DeskCall, DeskCommand};
 use crate::output::{put_body, put_reply};
@@ -20,8 +17,8 @@ use tb_store::Desk;
 
 /// Does a command, and gives its reply.
 pub fn obey<S: Alter>(desk: &mut Desk<S>, command: DeskCommand<'_>) -> Reply
-    ensures answered { HasCleanDisk (state S.Store desk.new.conn) → (s : Machine) → StandsFor S.Store desk.old s → IsAnswered S.Store desk.old.limits s (command_by command.entry) desk.new result }
-    ensures crash { Survives (state S.Store desk.old.conn) (state S.Store desk.new.conn) (HoldsAnEnd S.Store desk.old (command_by command.entry)) }
+    ensures answered { InState S.Store desk.old desk.new (λ s. IsAnswered S.Store desk.old.limits s (command_by command.entry) desk.new result) }
+    ensures crash { CrashesWhole S.Store desk.old desk.new (command_by command.entry) }
     ensures limits { desk.new.limits ≡ desk.old.limits }
 {
     match command {
@@ -45,7 +42,7 @@ pub fn run_call<S: Alter, W: Sink>(
     desk: &mut Desk<S>,
     out: &mut W,
 ) -> u8
-    ensures written { HasCleanDisk (state S.Store desk.new.conn) → (s : Machine) → StandsFor S.Store desk.old s → (text : List ℕ) × (own : ℕ) × IsOutput S.Store desk.old.limits s (call_by call.entry) desk.new text own × IsWritten (W.held out.old) (W.held out.new) text own (W.IsRefusal out.new) result }
+    ensures written { InState S.Store desk.old desk.new (λ s. (text : List ℕ) × (own : ℕ) × IsOutput S.Store desk.old.limits s (call_by call.entry) desk.new text own × IsWritten (W.held out.old) (W.held out.new) text own (W.IsRefusal out.new) result) }
     ensures crash { IsSafe S.Store (call_by call.entry) desk.old desk.new }
     ensures limits { desk.new.limits ≡ desk.old.limits }
 {

@@ -1,13 +1,10 @@
 //! Searches of released text, whose keyword lines are put as they are found.
 
-ghost use Rattle.std.specs.Prelude.{◌≡◌, ◌≢◌, [], IsTrue};
-ghost use Rattle.sqlite.specs.State.{HasCleanDisk, Survives};
-ghost use Rattle.sqlite.specs.Held.{state};
-ghost use Rattle.tb_tables.specs.Layout.{desk_schema};
-ghost use Rattle.tb_core.specs.Machine.{Machine};
+ghost use Rattle.std.specs.Prelude.{◌≡◌, []};
 ghost use Rattle.tb_search.specs.Visited.{HasReason};
-ghost use Rattle.tb_store.specs.Standing.{StandsFor};
 ghost use Rattle.tb_answers.specs.Found.{search_by, search_head, IsSearchResponse, IsSearchRun, IsStreamed};
+ghost use Rattle.tb_store.specs.Calls.{InState, StandsAsBefore, WritesNothing};
+ghost use Rattle.tb_tables.specs.Leaving.{CommitsNothing};
 
 use crate::ending::{Ending, ending_of, exit_of, told_of};
 use crate::finding::{Search, accepted};
@@ -28,10 +25,10 @@ fn put_found<S: Alter, W: Sink>(
     search: Search<'_>,
     out: &mut W,
 ) -> Ending
-    ensures put { HasCleanDisk (state S.Store desk.new.conn) → (s : Machine) → StandsFor S.Store desk.old s → IsStreamed s query.now search.entry.strategy search.entry.context [] (W.held out.old) (W.held out.new) result }
+    ensures put { InState S.Store desk.old desk.new (λ s. IsStreamed s query.now search.entry.strategy search.entry.context [] (W.held out.old) (W.held out.new) result) }
     ensures reason { result ≡ Ending.Refused → HasReason (W.IsRefusal out.new) }
-    ensures kept { HasCleanDisk (state S.Store desk.new.conn) → IsTrue (state S.Store desk.new.conn).is_open → (s : Machine) → StandsFor S.Store desk.old s → StandsFor S.Store desk.new s }
-    ensures lasts { Survives (state S.Store desk.old.conn) (state S.Store desk.new.conn) (λ _. (state S.Store desk.old.conn).now.schema ≢ desk_schema) }
+    ensures kept { StandsAsBefore S.Store desk.old desk.new }
+    ensures lasts { CommitsNothing S.Store desk.old.conn desk.new.conn }
     ensures limits { desk.new.limits ≡ desk.old.limits }
 {
     match desk.search(query, search.strategy, search.context, out) {
@@ -48,9 +45,9 @@ pub fn run_search<S: Alter, W: Sink>(
     search: Search<'_>,
     out: &mut W,
 ) -> u8
-    ensures written { HasCleanDisk (state S.Store desk.new.conn) → (s : Machine) → StandsFor S.Store desk.old s → IsSearchRun desk.old.limits s (search_by search.entry) (W.held out.old) (W.held out.new) (W.IsRefusal out.new) result }
-    ensures kept { HasCleanDisk (state S.Store desk.new.conn) → IsTrue (state S.Store desk.new.conn).is_open → (s : Machine) → StandsFor S.Store desk.old s → StandsFor S.Store desk.new s }
-    ensures crash { (s : Machine) → StandsFor S.Store desk.old s → Survives (state S.Store desk.old.conn) (state S.Store desk.new.conn) (λ _. ⊥) }
+    ensures written { InState S.Store desk.old desk.new (λ s. IsSearchRun desk.old.limits s (search_by search.entry) (W.held out.old) (W.held out.new) (W.IsRefusal out.new) result) }
+    ensures kept { StandsAsBefore S.Store desk.old desk.new }
+    ensures crash { WritesNothing S.Store desk.old desk.new }
     ensures limits { desk.new.limits ≡ desk.old.limits }
 {
     match accepted(alloc, desk, search.query, search.strategy) {
@@ -73,10 +70,10 @@ fn send_found<S: Alter, W: Sink>(
     search: Search<'_>,
     out: &mut W,
 ) -> Ending
-    ensures put { HasCleanDisk (state S.Store desk.new.conn) → (s : Machine) → StandsFor S.Store desk.old s → IsStreamed s query.now search.entry.strategy search.entry.context search_head (W.held out.old) (W.held out.new) result }
+    ensures put { InState S.Store desk.old desk.new (λ s. IsStreamed s query.now search.entry.strategy search.entry.context search_head (W.held out.old) (W.held out.new) result) }
     ensures reason { result ≡ Ending.Refused → HasReason (W.IsRefusal out.new) }
-    ensures kept { HasCleanDisk (state S.Store desk.new.conn) → IsTrue (state S.Store desk.new.conn).is_open → (s : Machine) → StandsFor S.Store desk.old s → StandsFor S.Store desk.new s }
-    ensures lasts { Survives (state S.Store desk.old.conn) (state S.Store desk.new.conn) (λ _. (state S.Store desk.old.conn).now.schema ≢ desk_schema) }
+    ensures kept { StandsAsBefore S.Store desk.old desk.new }
+    ensures lasts { CommitsNothing S.Store desk.old.conn desk.new.conn }
     ensures limits { desk.new.limits ≡ desk.old.limits }
 {
     let head = search_head();
@@ -95,9 +92,9 @@ pub fn respond_search<S: Alter, W: Sink>(
     search: Search<'_>,
     out: &mut W,
 ) -> Option<Status>
-    ensures written { HasCleanDisk (state S.Store desk.new.conn) → (s : Machine) → StandsFor S.Store desk.old s → IsSearchResponse desk.old.limits s (search_by search.entry) (W.held out.old) (W.held out.new) (W.IsRefusal out.new) result }
-    ensures kept { HasCleanDisk (state S.Store desk.new.conn) → IsTrue (state S.Store desk.new.conn).is_open → (s : Machine) → StandsFor S.Store desk.old s → StandsFor S.Store desk.new s }
-    ensures crash { (s : Machine) → StandsFor S.Store desk.old s → Survives (state S.Store desk.old.conn) (state S.Store desk.new.conn) (λ _. ⊥) }
+    ensures written { InState S.Store desk.old desk.new (λ s. IsSearchResponse desk.old.limits s (search_by search.entry) (W.held out.old) (W.held out.new) (W.IsRefusal out.new) result) }
+    ensures kept { StandsAsBefore S.Store desk.old desk.new }
+    ensures crash { WritesNothing S.Store desk.old desk.new }
     ensures limits { desk.new.limits ≡ desk.old.limits }
 {
     match accepted(alloc, desk, search.query, search.strategy) {

@@ -1,11 +1,10 @@
 //! An import, from its name to its commit.
 
-ghost use Rattle.std.specs.Prelude.{◌≡◌, ◌≢◌, ◌+◌, ◌≤◌, ℕ, List, map, None, Err, false, IsTrue, IfOk, IfSome, OnOk, OnErr};
+ghost use Rattle.std.specs.Prelude.{◌≡◌, ◌≢◌, ◌+◌, ◌≤◌, ℕ, List, map, None, Err, false, IfOk, IfSome, OnOk};
 ghost use Rattle.sqlite.specs.State.{HasCleanDisk, Survives};
 ghost use Rattle.sqlite.specs.Held.{state};
 ghost use Rattle.tb_conllu.specs.Text.{BlockText};
-ghost use Rattle.tb_tables.specs.Records.{Tables, Stands};
-ghost use Rattle.tb_tables.specs.Changes.{Holds};
+ghost use Rattle.tb_tables.specs.Records.{Stands};
 ghost use Rattle.tb_core.specs.declared.refusals.Refusal.{Refusal as AnyRefusal};
 ghost use Rattle.tb_core.specs.Machine.{Machine};
 ghost use Rattle.tb_core.specs.Acts.{importing, IsAllowed, after};
@@ -20,6 +19,8 @@ ghost use Rattle.tb_judge.specs.Parts.{IsNamedImport, IsTakenImport};
 ghost use Rattle.tb_acting.specs.Working.{IsWithin};
 ghost use Rattle.tb_importing.specs.Leaving.{IsLeft, Stays};
 ghost use Rattle.tb_importing.specs.Planned.{IsKnown, HasImported, Imports};
+ghost use Rattle.tb_standing.specs.Telling.{CrashesTo, KnowsDesk, KnowsDeskWhere, RefusesAs, Tells};
+ghost use Rattle.tb_tables.specs.Leaving.{KeepsRecordsOnErr};
 
 use crate::known::Known;
 use crate::naming::find_name;
@@ -39,7 +40,7 @@ fn admit<S: Alter>(
 ) -> Result<(), Fault>
     ensures refused { HasCleanDisk (state S.Store conn.new) → (r : AnyRefusal) → result ≡ Err (Fault.Refused r) → (s : Machine) (name user body : List ℕ) (bs : List BlockText) → IsDesk S.Store conn.old s → IsKnown known.now s
         → IsTakenImport s name user body bs → taken.now ≡ map taken_of bs → Steps known.now.counts.limits s (import_file name user body) (refused_by r) s × IsDesk S.Store conn.new s }
-    ensures fails { HasCleanDisk (state S.Store conn.new) → (state S.Store conn.old).step_limit ≡ None → (s : Machine) → IsDesk S.Store conn.old s → result ≢ Err Fault.NotADesk }
+    ensures fails { KnowsDesk S.Store conn.old conn.new result }
     ensures accepted { HasCleanDisk (state S.Store conn.new) → OnOk result ((s : Machine) (name user body : List ℕ) (bs : List BlockText) → IsDesk S.Store conn.old s → IsKnown known.now s
         → IsTakenImport s name user body bs → taken.now ≡ map taken_of bs
         → let act = importing name user bs in
@@ -75,7 +76,7 @@ fn write<S: Alter>(
     ensures fails { HasCleanDisk (state S.Store conn.new) → (state S.Store conn.old).step_limit ≡ None → (s : Machine) (bs : List BlockText) → IsDesk S.Store conn.old s → IsKnown known.now s → taken.now ≡ map taken_of bs
         → IsAllowed s (importing name.now user.now bs) → IsReachable (after s (importing name.now user.now bs)) → result ≢ Err Fault.NotADesk }
     ensures room { IfOk result (λ r. (known.now.counts.moves + 1 ≤ 1000000000) × (known.now.sentences + r.0.sentences ≤ 1000000)) }
-    ensures kept { HasCleanDisk (state S.Store conn.new) → IsTrue (state S.Store conn.new).is_open → OnErr result ((d : Tables) → Holds S.Store conn.old d → Holds S.Store conn.new d) }
+    ensures kept { KeepsRecordsOnErr S.Store conn.old conn.new result }
     ensures crash { Survives (state S.Store conn.old) (state S.Store conn.new) (λ db. (s : Machine) (bs : List BlockText) → IsDesk S.Store conn.old s → IsKnown known.now s → taken.now ≡ map taken_of bs
         → IsAllowed s (importing name.now user.now bs) → Stands (tables_of (after s (importing name.now user.now bs))) db) }
     ensures mode { conn.new.in_transaction ≡ false }
@@ -106,14 +107,17 @@ fn import_new<S: Alter>(
 ) -> Result<(Imported, Totals), Fault>
     requires autocommit { conn.old.in_transaction ≡ false }
     requires within { IsWithin known.now.counts.limits }
-    ensures answered { HasCleanDisk (state S.Store conn.new) → IfOk result (λ r. (s : Machine) → IsDesk S.Store conn.old s → IsKnown known.now s → IsNamedImport s name.now user.now body.now → FindsName s name.now body.now found
-        → HasImported S.Store known.now.counts.limits s name.now user.now body.now conn.new r.0 r.1) }
-    ensures refused { HasCleanDisk (state S.Store conn.new) → (r : AnyRefusal) → result ≡ Err (Fault.Refused r) → (s : Machine) → IsDesk S.Store conn.old s → IsKnown known.now s → IsNamedImport s name.now user.now body.now → FindsName s name.now body.now found
-        → Steps known.now.counts.limits s (import_file name.now user.now body.now) (refused_by r) s × IsDesk S.Store conn.new s }
-    ensures fails { HasCleanDisk (state S.Store conn.new) → (state S.Store conn.old).step_limit ≡ None → (s : Machine) → IsDesk S.Store conn.old s → IsKnown known.now s → IsNamedImport s name.now user.now body.now → FindsName s name.now body.now found → result ≢ Err Fault.NotADesk }
+    ensures answered { Tells S.Store conn.old conn.new result (λ s r. IsKnown known.now s → IsNamedImport s name.now user.now body.now
+        → FindsName s name.now body.now found → HasImported S.Store known.now.counts.limits s name.now user.now body.now conn.new r.0 r.1) }
+    ensures refused { RefusesAs S.Store conn.old conn.new result (λ s r. IsKnown known.now s → IsNamedImport s name.now user.now body.now
+        → FindsName s name.now body.now found
+        → Steps known.now.counts.limits s (import_file name.now user.now body.now) (refused_by r) s × IsDesk S.Store conn.new s) }
+    ensures fails { KnowsDeskWhere S.Store conn.old conn.new result (λ s so. IsKnown known.now s → IsNamedImport s name.now user.now body.now
+        → FindsName s name.now body.now found → so) }
     ensures room { IfOk result (λ r. (known.now.counts.moves + 1 ≤ 1000000000) × (known.now.sentences + r.0.sentences ≤ 1000000)) }
-    ensures kept { HasCleanDisk (state S.Store conn.new) → IsTrue (state S.Store conn.new).is_open → OnErr result ((d : Tables) → Holds S.Store conn.old d → Holds S.Store conn.new d) }
-    ensures crash { Survives (state S.Store conn.old) (state S.Store conn.new) (λ db. (s : Machine) → IsDesk S.Store conn.old s → IsKnown known.now s → IsNamedImport s name.now user.now body.now → FindsName s name.now body.now found
+    ensures kept { KeepsRecordsOnErr S.Store conn.old conn.new result }
+    ensures crash { CrashesTo S.Store conn.old conn.new (λ s db. IsKnown known.now s → IsNamedImport s name.now user.now body.now
+        → FindsName s name.now body.now found
         → (a : Answer) × (t : Machine) × Steps known.now.counts.limits s (import_file name.now user.now body.now) a t × Stands (tables_of t) db) }
     ensures mode { conn.new.in_transaction ≡ false }
 {
@@ -142,13 +146,13 @@ pub fn import<S: Alter>(
 ) -> Result<(Imported, Option<Totals>), Fault>
     requires autocommit { conn.old.in_transaction ≡ false }
     requires within { IsWithin known.now.counts.limits }
-    ensures answered { HasCleanDisk (state S.Store conn.new) → IfOk result (λ r. (s : Machine) → IsDesk S.Store conn.old s → IsKnown known.now s → Imports S.Store known.now.counts.limits s name.now user.now body.now conn.new r.0 r.1) }
-    ensures refused { HasCleanDisk (state S.Store conn.new) → (r : AnyRefusal) → result ≡ Err (Fault.Refused r) → (s : Machine) → IsDesk S.Store conn.old s → IsKnown known.now s
-        → Steps known.now.counts.limits s (import_file name.now user.now body.now) (refused_by r) s × IsDesk S.Store conn.new s }
-    ensures fails { HasCleanDisk (state S.Store conn.new) → (state S.Store conn.old).step_limit ≡ None → (s : Machine) → IsDesk S.Store conn.old s → IsKnown known.now s → result ≢ Err Fault.NotADesk }
+    ensures answered { Tells S.Store conn.old conn.new result (λ s r. IsKnown known.now s → Imports S.Store known.now.counts.limits s name.now user.now body.now conn.new r.0 r.1) }
+    ensures refused { RefusesAs S.Store conn.old conn.new result (λ s r. IsKnown known.now s
+        → Steps known.now.counts.limits s (import_file name.now user.now body.now) (refused_by r) s × IsDesk S.Store conn.new s) }
+    ensures fails { KnowsDeskWhere S.Store conn.old conn.new result (λ s so. IsKnown known.now s → so) }
     ensures room { IfOk result (λ r. IfSome r.1 (λ _. (known.now.counts.moves + 1 ≤ 1000000000) × (known.now.sentences + r.0.sentences ≤ 1000000))) }
-    ensures kept { HasCleanDisk (state S.Store conn.new) → IsTrue (state S.Store conn.new).is_open → OnErr result ((d : Tables) → Holds S.Store conn.old d → Holds S.Store conn.new d) }
-    ensures crash { Survives (state S.Store conn.old) (state S.Store conn.new) (λ db. (s : Machine) → IsDesk S.Store conn.old s → IsKnown known.now s
+    ensures kept { KeepsRecordsOnErr S.Store conn.old conn.new result }
+    ensures crash { CrashesTo S.Store conn.old conn.new (λ s db. IsKnown known.now s
         → (a : Answer) × (t : Machine) × Steps known.now.counts.limits s (import_file name.now user.now body.now) a t × Stands (tables_of t) db) }
     ensures mode { conn.new.in_transaction ≡ false }
 {

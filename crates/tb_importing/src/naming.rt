@@ -13,6 +13,7 @@ ghost use Rattle.tb_standing.specs.Standing.{IsDesk, sentence_record};
 ghost use Rattle.tb_reading.specs.Found.{work_of};
 ghost use Rattle.tb_judge.specs.Found.{FindsName};
 ghost use Rattle.tb_importing.specs.Leaving.{IsLeft, Stays};
+ghost use Rattle.tb_standing.specs.Telling.{KnowsDesk, KnowsDeskWhere, Tells};
 
 use crate::again::words_again;
 use crate::firsts::are_firsts;
@@ -30,9 +31,9 @@ fn read_work<S: Alter>(
     conn: &mut Connection<S>,
     number: u32,
 ) -> Result<Vec<Work>, Fault>
-    ensures answered { HasCleanDisk (state S.Store conn.new) → IfOk result (λ v. (s : Machine) → IsDesk S.Store conn.old s → v.items ≡ work_of number 1 (map sentence_record s.sentences)) }
+    ensures answered { Tells S.Store conn.old conn.new result (λ s v. v.items ≡ work_of number 1 (map sentence_record s.sentences)) }
     ensures refused { (r : AnyRefusal) → result ≢ Err (Fault.Refused r) }
-    ensures fails { HasCleanDisk (state S.Store conn.new) → (state S.Store conn.old).step_limit ≡ None → (s : Machine) → IsDesk S.Store conn.old s → result ≢ Err Fault.NotADesk }
+    ensures fails { KnowsDesk S.Store conn.old conn.new result }
     ensures stays { OnOk result (Stays S.Store conn.old conn.new) }
     ensures left { IsLeft S.Store conn.old conn.new }
 {
@@ -70,9 +71,10 @@ fn repeat<S: Alter>(
     number: u32,
     work: &[Work],
 ) -> Result<Imported, Fault>
-    ensures answered { HasCleanDisk (state S.Store conn.new) → IfOk result (λ r. (s : Machine) → IsDesk S.Store conn.old s → work.now ≡ work_of number 1 (map sentence_record s.sentences) → imported r ≡ import_reply s number) }
+    ensures answered { Tells S.Store conn.old conn.new result (λ s r. work.now ≡ work_of number 1 (map sentence_record s.sentences) → imported r ≡ import_reply s number) }
     ensures refused { (r : AnyRefusal) → result ≢ Err (Fault.Refused r) }
-    ensures fails { HasCleanDisk (state S.Store conn.new) → (state S.Store conn.old).step_limit ≡ None → (s : Machine) → IsDesk S.Store conn.old s → 0 < number → number ≤ length s.batches → work.now ≡ work_of number 1 (map sentence_record s.sentences) → result ≢ Err Fault.NotADesk }
+    ensures fails { KnowsDeskWhere S.Store conn.old conn.new result (λ s so. 0 < number → number ≤ length s.batches
+        → work.now ≡ work_of number 1 (map sentence_record s.sentences) → so) }
     ensures stays { OnOk result (Stays S.Store conn.old conn.new) }
     ensures left { IsLeft S.Store conn.old conn.new }
 {
@@ -108,9 +110,9 @@ pub(crate) fn find_name<S: Alter>(
     name: &str,
     body: &[u8],
 ) -> Result<NameFound, Fault>
-    ensures answered { HasCleanDisk (state S.Store conn.new) → IfOk result (λ found. (s : Machine) → IsDesk S.Store conn.old s → FindsName s name.now body.now found) }
+    ensures answered { Tells S.Store conn.old conn.new result (λ s found. FindsName s name.now body.now found) }
     ensures refused { (r : AnyRefusal) → result ≢ Err (Fault.Refused r) }
-    ensures fails { HasCleanDisk (state S.Store conn.new) → (state S.Store conn.old).step_limit ≡ None → (s : Machine) → IsDesk S.Store conn.old s → result ≢ Err Fault.NotADesk }
+    ensures fails { KnowsDesk S.Store conn.old conn.new result }
     ensures stays { OnOk result (Stays S.Store conn.old conn.new) }
     ensures left { IsLeft S.Store conn.old conn.new }
 {

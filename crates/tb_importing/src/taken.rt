@@ -10,6 +10,7 @@ ghost use Rattle.tb_core.specs.Taking.{taken_of};
 ghost use Rattle.tb_standing.specs.Standing.{IsDesk};
 ghost use Rattle.tb_judge.specs.Found.{FindsId};
 ghost use Rattle.tb_importing.specs.Leaving.{IsLeft, Stays};
+ghost use Rattle.tb_standing.specs.Telling.{KnowsDesk};
 
 use sqlite::{Alter, Connection};
 use tb_acting::is_taken;
@@ -22,7 +23,7 @@ pub(crate) fn first_taken<S: Alter>(
 ) -> Result<Option<u64>, Fault>
     ensures answered { HasCleanDisk (state S.Store conn.new) → IfOk result (λ found. (s : Machine) (bs : List BlockText) → IsDesk S.Store conn.old s → taken.now ≡ map taken_of bs → FindsId s bs found) }
     ensures refused { (r : AnyRefusal) → result ≢ Err (Fault.Refused r) }
-    ensures fails { HasCleanDisk (state S.Store conn.new) → (state S.Store conn.old).step_limit ≡ None → (s : Machine) → IsDesk S.Store conn.old s → result ≢ Err Fault.NotADesk }
+    ensures fails { KnowsDesk S.Store conn.old conn.new result }
     ensures stays { OnOk result (Stays S.Store conn.old conn.new) }
     ensures left { IsLeft S.Store conn.old conn.new }
 {

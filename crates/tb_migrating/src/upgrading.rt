@@ -1,11 +1,12 @@
 //! The tables of version 1 become those of a desk.
 
 ghost use Rattle.std.specs.Prelude.{◌≡◌, [], false, IsTrue, OnOk, OnErr};
-ghost use Rattle.sqlite.specs.State.{HasCleanDisk, KeepsCommit, Survives};
+ghost use Rattle.sqlite.specs.State.{HasCleanDisk, Survives};
 ghost use Rattle.sqlite.specs.Held.{state};
 ghost use Rattle.tb_tables.specs.Records.{Tables, Stands};
 ghost use Rattle.tb_tables.specs.Changes.{IsInside, Holds};
 ghost use Rattle.tb_migrating.specs.First.{StandsFirst, IsInsideFirst, HoldsFirst};
+ghost use Rattle.tb_tables.specs.Leaving.{KeepsCommitted};
 
 use sqlite::{Alter, Connection, Error, Transaction};
 
@@ -13,7 +14,7 @@ use sqlite::{Alter, Connection, Error, Transaction};
 fn make_pulled<S: Alter>(tx: &mut Transaction<'_, S>) -> Result<(), Error>
     ensures same_reference { tx.new.conn.ghost_name ≡ tx.old.conn.ghost_name }
     ensures ok { HasCleanDisk (state S.Store tx.new.conn.now) → OnOk result (IsInsideFirst (state S.Store tx.old.conn.now) → IsInside (state S.Store tx.new.conn.now) × ((state S.Store tx.new.conn.now).now.trees 9 ≡ []) × ((d : Tables) → StandsFirst d (state S.Store tx.old.conn.now).now.trees → StandsFirst d (state S.Store tx.new.conn.now).now.trees)) }
-    ensures kept { HasCleanDisk (state S.Store tx.new.conn.now) → KeepsCommit (state S.Store tx.old.conn.now) (state S.Store tx.new.conn.now) }
+    ensures kept { KeepsCommitted S.Store tx.old.conn.now tx.new.conn.now }
     ensures survives { Survives (state S.Store tx.old.conn.now) (state S.Store tx.new.conn.now) (λ _. ⊥) }
 {
     tx.execute("CREATE TABLE pulled(sent INTEGER PRIMARY KEY) STRICT", &[])?;
@@ -24,7 +25,7 @@ fn make_pulled<S: Alter>(tx: &mut Transaction<'_, S>) -> Result<(), Error>
 fn update_version<S: Alter>(tx: &mut Transaction<'_, S>) -> Result<(), Error>
     ensures same_reference { tx.new.conn.ghost_name ≡ tx.old.conn.ghost_name }
     ensures ok { HasCleanDisk (state S.Store tx.new.conn.now) → OnOk result (IsInside (state S.Store tx.old.conn.now) → (state S.Store tx.old.conn.now).now.trees 9 ≡ [] → IsInside (state S.Store tx.new.conn.now) × ((d : Tables) → d.pulled ≡ [] → StandsFirst d (state S.Store tx.old.conn.now).now.trees → Stands d (state S.Store tx.new.conn.now).now.trees)) }
-    ensures kept { HasCleanDisk (state S.Store tx.new.conn.now) → KeepsCommit (state S.Store tx.old.conn.now) (state S.Store tx.new.conn.now) }
+    ensures kept { KeepsCommitted S.Store tx.old.conn.now tx.new.conn.now }
     ensures survives { Survives (state S.Store tx.old.conn.now) (state S.Store tx.new.conn.now) (λ _. ⊥) }
 {
     tx.execute("UPDATE meta SET version = 2", &[])?;
@@ -34,7 +35,7 @@ fn update_version<S: Alter>(tx: &mut Transaction<'_, S>) -> Result<(), Error>
 fn change_tables<S: Alter>(tx: &mut Transaction<'_, S>) -> Result<(), Error>
     ensures same_reference { tx.new.conn.ghost_name ≡ tx.old.conn.ghost_name }
     ensures ok { HasCleanDisk (state S.Store tx.new.conn.now) → OnOk result (IsInsideFirst (state S.Store tx.old.conn.now) → IsInside (state S.Store tx.new.conn.now) × ((d : Tables) → d.pulled ≡ [] → StandsFirst d (state S.Store tx.old.conn.now).now.trees → Stands d (state S.Store tx.new.conn.now).now.trees)) }
-    ensures kept { HasCleanDisk (state S.Store tx.new.conn.now) → KeepsCommit (state S.Store tx.old.conn.now) (state S.Store tx.new.conn.now) }
+    ensures kept { KeepsCommitted S.Store tx.old.conn.now tx.new.conn.now }
     ensures survives { Survives (state S.Store tx.old.conn.now) (state S.Store tx.new.conn.now) (λ _. ⊥) }
 {
     make_pulled(tx)?;

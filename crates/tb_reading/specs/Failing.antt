@@ -1,5 +1,10 @@
 -- How a read of the tables of a desk fails.
-use Rattle.std.specs.Prelude.{⊤}
+use Rattle.std.specs.Prelude.{◌≡◌, ⊤, Result, Err}
+use Rattle.sqlite.specs.Store.{Ghosts}
+use Rattle.sqlite.specs.Held.{Held, state}
+use Rattle.sqlite.specs.State.{HasCleanDisk}
+use Rattle.sqlite_trees.specs.Tree.{Trees}
+use Rattle.tb_tables.specs.Layout.{desk_schema}
 use Rattle.tb_tables.specs.Failing.{IsStoreFault}
 use Rattle.tb_reading.specs.declared.error.ReadError.{ReadError}
 use Rattle.tb_reading.specs.declared.error.ReadError.TheVariants.{Store, Form}
@@ -8,3 +13,7 @@ use Rattle.tb_reading.specs.declared.error.ReadError.TheVariants.{Store, Form}
 abbrev pub IsReadFault : ReadError → Type 0
 IsReadFault (Store e) = IsStoreFault e
 IsReadFault Form = ⊤
+
+-- `Form` is told of tables of a desk only where the trees show nothing that could be read (`IsNone`)
+abbrev pub HasNoForm : {S X : Type 0} → Ghosts S → Held S → Held S → Result X ReadError → (Trees → Type 0) → Type 0
+HasNoForm g old new result IsNone = HasCleanDisk (state g new) → result ≡ Err Form → (state g old).now.schema ≡ desk_schema → IsNone (state g old).now.trees

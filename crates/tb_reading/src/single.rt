@@ -1,18 +1,16 @@
 //! Single records, by their number or their name.
 
-ghost use Rattle.std.specs.Prelude.{ℕ, ◌≡◌, ◌≢◌, ◌<◌, ◌^◌, ◌-◌, ◌↔◌, map, length, false, IsTrue, List, [], ◌∷◌, Contains, All, Err, Option, None, option_map, slice_get, IfOk, IfSome, OnOk, IsPermutation, filter, IfErr};
+ghost use Rattle.std.specs.Prelude.{ℕ, ◌≡◌, ◌≢◌, ◌<◌, ◌^◌, ◌-◌, ◌↔◌, map, length, false, IsTrue, List, [], ◌∷◌, Contains, All, Err, Option, None, option_map, slice_get, IfOk, IfSome, IsPermutation, filter, IfErr};
 ghost use Rattle.std.specs.Option.{option_to_list};
 ghost use Rattle.sqlite.specs.Order.{column};
-ghost use Rattle.sqlite.specs.State.{HasCleanDisk, IsUnchanged, Survives};
 ghost use Rattle.sqlite.specs.Held.{state};
-ghost use Rattle.tb_tables.specs.Layout.{desk_schema};
-ghost use Rattle.tb_tables.specs.Changes.{Holds};
-ghost use Rattle.tb_tables.specs.Records.{Tables, Batch, Sentence, Revision, Shows, numbered, batch_shown, sentence_shown, revision_shown, number_shown, batch_view, sentence_view, revision_view, number_view};
+ghost use Rattle.tb_tables.specs.Records.{Batch, Sentence, Revision, Shows, numbered, batch_shown, sentence_shown, revision_shown, number_shown, batch_view, sentence_view, revision_view, number_view};
 ghost use Rattle.tb_tables.specs.Values.{batch_of, sentence_of, revision_of};
 ghost use Rattle.tb_reading.specs.Readable.{IsBatch, IsSentence, IsRevision};
 ghost use Rattle.tb_reading.specs.Found.{IsNumberOf, IsRevisionAt, HasUnreadable, has_number, has_name, has_pair, key_alone};
 ghost use Rattle.tb_tables.specs.Failing.{IsStoreFault};
-ghost use Rattle.tb_reading.specs.Failing.{IsReadFault};
+ghost use Rattle.tb_reading.specs.Failing.{HasNoForm, IsReadFault};
+ghost use Rattle.tb_tables.specs.Leaving.{ChangesNothing, CommitsNothing, CommitsNothingOnDesk, FailsOnlyAs, KeepsRecords, Reads};
 
 use crate::error::ReadError;
 use crate::records::{batch_in, number_in, revision_in, sentence_in};
@@ -32,13 +30,13 @@ fn first_batch(rows: &[Row], number: u64) -> Result<Option<BatchRow>, ReadError>
 
 fn batch_rows<S: Alter>(conn: &mut Connection<S>, number: u32) -> Result<Vec<Row>, Error>
     requires row { 0 < number }
-    ensures found { HasCleanDisk (state S.Store conn.new) → IfOk result (λ rows. (state S.Store conn.old).now.schema ≡ desk_schema → (xs : List Batch) → Shows batch_view (numbered batch_shown 1 xs) ((state S.Store conn.old).now.trees 1) → rows.items ≡ map (batch_shown number) (option_to_list (slice_get xs (number - 1)))) }
-    ensures fails { HasCleanDisk (state S.Store conn.new) → (state S.Store conn.old).step_limit ≡ None → (state S.Store conn.old).now.schema ≡ desk_schema → IfErr result IsStoreFault }
-    ensures same { HasCleanDisk (state S.Store conn.new) → OnOk result ((state S.Store conn.old).now.schema ≡ desk_schema → IsUnchanged (state S.Store conn.old) (state S.Store conn.new)) }
+    ensures found { Reads S.Store conn.old conn.new result (λ rows trees. (xs : List Batch) → Shows batch_view (numbered batch_shown 1 xs) (trees 1) → rows.items ≡ map (batch_shown number) (option_to_list (slice_get xs (number - 1)))) }
+    ensures fails { FailsOnlyAs IsStoreFault S.Store conn.old conn.new result }
+    ensures same { ChangesNothing S.Store conn.old conn.new result }
     ensures mode { conn.old.in_transaction ≡ false → conn.new.in_transaction ≡ false }
-    ensures kept { HasCleanDisk (state S.Store conn.new) → IsTrue (state S.Store conn.new).is_open → (d : Tables) → Holds S.Store conn.old d → Holds S.Store conn.new d }
-    ensures lasts { Survives (state S.Store conn.old) (state S.Store conn.new) (λ _. (state S.Store conn.old).now.schema ≢ desk_schema) }
-    ensures survives { (state S.Store conn.old).now.schema ≡ desk_schema → Survives (state S.Store conn.old) (state S.Store conn.new) (λ _. ⊥) }
+    ensures kept { KeepsRecords S.Store conn.old conn.new }
+    ensures lasts { CommitsNothing S.Store conn.old conn.new }
+    ensures survives { CommitsNothingOnDesk S.Store conn.old conn.new }
 {
     conn.query_all(
         "SELECT no, name, state, worker FROM batches WHERE no = ?1",
@@ -49,14 +47,14 @@ fn batch_rows<S: Alter>(conn: &mut Connection<S>, number: u32) -> Result<Vec<Row
 /// The batch that has this number, if there is one.
 pub fn batch<S: Alter>(conn: &mut Connection<S>, number: u32) -> Result<Option<BatchRow>, ReadError>
     requires row { 0 < number }
-    ensures ok { HasCleanDisk (state S.Store conn.new) → IfOk result (λ found. (state S.Store conn.old).now.schema ≡ desk_schema → (xs : List Batch) → Shows batch_view (numbered batch_shown 1 xs) ((state S.Store conn.old).now.trees 1) → option_map batch_of found ≡ slice_get xs (number - 1)) }
-    ensures form { HasCleanDisk (state S.Store conn.new) → result ≡ Err ReadError.Form → (state S.Store conn.old).now.schema ≡ desk_schema → (xs : List Batch) → All IsBatch xs → ¬ Shows batch_view (numbered batch_shown 1 xs) ((state S.Store conn.old).now.trees 1) }
-    ensures fails { HasCleanDisk (state S.Store conn.new) → (state S.Store conn.old).step_limit ≡ None → (state S.Store conn.old).now.schema ≡ desk_schema → IfErr result IsReadFault }
-    ensures same { HasCleanDisk (state S.Store conn.new) → OnOk result ((state S.Store conn.old).now.schema ≡ desk_schema → IsUnchanged (state S.Store conn.old) (state S.Store conn.new)) }
+    ensures ok { Reads S.Store conn.old conn.new result (λ found trees. (xs : List Batch) → Shows batch_view (numbered batch_shown 1 xs) (trees 1) → option_map batch_of found ≡ slice_get xs (number - 1)) }
+    ensures form { HasNoForm S.Store conn.old conn.new result (λ trees. (xs : List Batch) → All IsBatch xs → ¬ Shows batch_view (numbered batch_shown 1 xs) (trees 1)) }
+    ensures fails { FailsOnlyAs IsReadFault S.Store conn.old conn.new result }
+    ensures same { ChangesNothing S.Store conn.old conn.new result }
     ensures mode { conn.old.in_transaction ≡ false → conn.new.in_transaction ≡ false }
-    ensures kept { HasCleanDisk (state S.Store conn.new) → IsTrue (state S.Store conn.new).is_open → (d : Tables) → Holds S.Store conn.old d → Holds S.Store conn.new d }
-    ensures lasts { Survives (state S.Store conn.old) (state S.Store conn.new) (λ _. (state S.Store conn.old).now.schema ≢ desk_schema) }
-    ensures survives { (state S.Store conn.old).now.schema ≡ desk_schema → Survives (state S.Store conn.old) (state S.Store conn.new) (λ _. ⊥) }
+    ensures kept { KeepsRecords S.Store conn.old conn.new }
+    ensures lasts { CommitsNothing S.Store conn.old conn.new }
+    ensures survives { CommitsNothingOnDesk S.Store conn.old conn.new }
 {
     let rows = batch_rows(conn, number)?;
     first_batch(rows.as_slice(), u64::from(number))
@@ -75,13 +73,13 @@ fn first_sentence(rows: &[Row], number: u64) -> Result<Option<SentenceRow>, Read
 
 fn sentence_rows<S: Alter>(conn: &mut Connection<S>, number: u32) -> Result<Vec<Row>, Error>
     requires row { 0 < number }
-    ensures found { HasCleanDisk (state S.Store conn.new) → IfOk result (λ rows. (state S.Store conn.old).now.schema ≡ desk_schema → (xs : List Sentence) → Shows sentence_view (numbered sentence_shown 1 xs) ((state S.Store conn.old).now.trees 3) → rows.items ≡ map (sentence_shown number) (option_to_list (slice_get xs (number - 1)))) }
-    ensures fails { HasCleanDisk (state S.Store conn.new) → (state S.Store conn.old).step_limit ≡ None → (state S.Store conn.old).now.schema ≡ desk_schema → IfErr result IsStoreFault }
-    ensures same { HasCleanDisk (state S.Store conn.new) → OnOk result ((state S.Store conn.old).now.schema ≡ desk_schema → IsUnchanged (state S.Store conn.old) (state S.Store conn.new)) }
+    ensures found { Reads S.Store conn.old conn.new result (λ rows trees. (xs : List Sentence) → Shows sentence_view (numbered sentence_shown 1 xs) (trees 3) → rows.items ≡ map (sentence_shown number) (option_to_list (slice_get xs (number - 1)))) }
+    ensures fails { FailsOnlyAs IsStoreFault S.Store conn.old conn.new result }
+    ensures same { ChangesNothing S.Store conn.old conn.new result }
     ensures mode { conn.old.in_transaction ≡ false → conn.new.in_transaction ≡ false }
-    ensures kept { HasCleanDisk (state S.Store conn.new) → IsTrue (state S.Store conn.new).is_open → (d : Tables) → Holds S.Store conn.old d → Holds S.Store conn.new d }
-    ensures lasts { Survives (state S.Store conn.old) (state S.Store conn.new) (λ _. (state S.Store conn.old).now.schema ≢ desk_schema) }
-    ensures survives { (state S.Store conn.old).now.schema ≡ desk_schema → Survives (state S.Store conn.old) (state S.Store conn.new) (λ _. ⊥) }
+    ensures kept { KeepsRecords S.Store conn.old conn.new }
+    ensures lasts { CommitsNothing S.Store conn.old conn.new }
+    ensures survives { CommitsNothingOnDesk S.Store conn.old conn.new }
 {
     conn.query_all(
         "SELECT no, sent_id, batch, rev, words FROM sentences WHERE no = ?1",
@@ -95,54 +93,54 @@ pub fn sentence<S: Alter>(
     number: u32,
 ) -> Result<Option<SentenceRow>, ReadError>
     requires row { 0 < number }
-    ensures ok { HasCleanDisk (state S.Store conn.new) → IfOk result (λ found. (state S.Store conn.old).now.schema ≡ desk_schema → (xs : List Sentence) → Shows sentence_view (numbered sentence_shown 1 xs) ((state S.Store conn.old).now.trees 3) → option_map sentence_of found ≡ slice_get xs (number - 1)) }
-    ensures form { HasCleanDisk (state S.Store conn.new) → result ≡ Err ReadError.Form → (state S.Store conn.old).now.schema ≡ desk_schema → (xs : List Sentence) → All IsSentence xs → ¬ Shows sentence_view (numbered sentence_shown 1 xs) ((state S.Store conn.old).now.trees 3) }
-    ensures fails { HasCleanDisk (state S.Store conn.new) → (state S.Store conn.old).step_limit ≡ None → (state S.Store conn.old).now.schema ≡ desk_schema → IfErr result IsReadFault }
-    ensures same { HasCleanDisk (state S.Store conn.new) → OnOk result ((state S.Store conn.old).now.schema ≡ desk_schema → IsUnchanged (state S.Store conn.old) (state S.Store conn.new)) }
+    ensures ok { Reads S.Store conn.old conn.new result (λ found trees. (xs : List Sentence) → Shows sentence_view (numbered sentence_shown 1 xs) (trees 3) → option_map sentence_of found ≡ slice_get xs (number - 1)) }
+    ensures form { HasNoForm S.Store conn.old conn.new result (λ trees. (xs : List Sentence) → All IsSentence xs → ¬ Shows sentence_view (numbered sentence_shown 1 xs) (trees 3)) }
+    ensures fails { FailsOnlyAs IsReadFault S.Store conn.old conn.new result }
+    ensures same { ChangesNothing S.Store conn.old conn.new result }
     ensures mode { conn.old.in_transaction ≡ false → conn.new.in_transaction ≡ false }
-    ensures kept { HasCleanDisk (state S.Store conn.new) → IsTrue (state S.Store conn.new).is_open → (d : Tables) → Holds S.Store conn.old d → Holds S.Store conn.new d }
-    ensures lasts { Survives (state S.Store conn.old) (state S.Store conn.new) (λ _. (state S.Store conn.old).now.schema ≢ desk_schema) }
-    ensures survives { (state S.Store conn.old).now.schema ≡ desk_schema → Survives (state S.Store conn.old) (state S.Store conn.new) (λ _. ⊥) }
+    ensures kept { KeepsRecords S.Store conn.old conn.new }
+    ensures lasts { CommitsNothing S.Store conn.old conn.new }
+    ensures survives { CommitsNothingOnDesk S.Store conn.old conn.new }
 {
     let rows = sentence_rows(conn, number)?;
     first_sentence(rows.as_slice(), u64::from(number))
 }
 
 fn named_batch_rows<S: Alter>(conn: &mut Connection<S>, name: &str) -> Result<Vec<Row>, Error>
-    ensures found { HasCleanDisk (state S.Store conn.new) → IfOk result (λ rows. (state S.Store conn.old).now.schema ≡ desk_schema → (xs : List Batch) → Shows batch_view (numbered batch_shown 1 xs) ((state S.Store conn.old).now.trees 1) → IsPermutation (map key_alone (filter (has_name name.now) (numbered batch_shown 1 xs))) rows.items) }
-    ensures fails { HasCleanDisk (state S.Store conn.new) → (state S.Store conn.old).step_limit ≡ None → (state S.Store conn.old).now.schema ≡ desk_schema → IfErr result IsStoreFault }
-    ensures same { HasCleanDisk (state S.Store conn.new) → OnOk result ((state S.Store conn.old).now.schema ≡ desk_schema → IsUnchanged (state S.Store conn.old) (state S.Store conn.new)) }
+    ensures found { Reads S.Store conn.old conn.new result (λ rows trees. (xs : List Batch) → Shows batch_view (numbered batch_shown 1 xs) (trees 1) → IsPermutation (map key_alone (filter (has_name name.now) (numbered batch_shown 1 xs))) rows.items) }
+    ensures fails { FailsOnlyAs IsStoreFault S.Store conn.old conn.new result }
+    ensures same { ChangesNothing S.Store conn.old conn.new result }
     ensures mode { conn.old.in_transaction ≡ false → conn.new.in_transaction ≡ false }
-    ensures kept { HasCleanDisk (state S.Store conn.new) → IsTrue (state S.Store conn.new).is_open → (d : Tables) → Holds S.Store conn.old d → Holds S.Store conn.new d }
-    ensures lasts { Survives (state S.Store conn.old) (state S.Store conn.new) (λ _. (state S.Store conn.old).now.schema ≢ desk_schema) }
-    ensures survives { (state S.Store conn.old).now.schema ≡ desk_schema → Survives (state S.Store conn.old) (state S.Store conn.new) (λ _. ⊥) }
+    ensures kept { KeepsRecords S.Store conn.old conn.new }
+    ensures lasts { CommitsNothing S.Store conn.old conn.new }
+    ensures survives { CommitsNothingOnDesk S.Store conn.old conn.new }
 {
     conn.query_all("SELECT no FROM batches WHERE name = ?1", params![name])
 }
 
 /// The number of a batch of this name, if there is one.
 pub fn batch_named<S: Alter>(conn: &mut Connection<S>, name: &str) -> Result<Option<u32>, ReadError>
-    ensures ok { HasCleanDisk (state S.Store conn.new) → IfOk result (λ found. (state S.Store conn.old).now.schema ≡ desk_schema → (xs : List Batch) → Shows batch_view (numbered batch_shown 1 xs) ((state S.Store conn.old).now.trees 1) → IsNumberOf (λ x. x.name) name.now xs found) }
-    ensures form { HasCleanDisk (state S.Store conn.new) → result ≡ Err ReadError.Form → (state S.Store conn.old).now.schema ≡ desk_schema → (xs : List Batch) → length xs < 2 ^ 32 → ¬ Shows batch_view (numbered batch_shown 1 xs) ((state S.Store conn.old).now.trees 1) }
-    ensures fails { HasCleanDisk (state S.Store conn.new) → (state S.Store conn.old).step_limit ≡ None → (state S.Store conn.old).now.schema ≡ desk_schema → IfErr result IsReadFault }
-    ensures same { HasCleanDisk (state S.Store conn.new) → OnOk result ((state S.Store conn.old).now.schema ≡ desk_schema → IsUnchanged (state S.Store conn.old) (state S.Store conn.new)) }
+    ensures ok { Reads S.Store conn.old conn.new result (λ found trees. (xs : List Batch) → Shows batch_view (numbered batch_shown 1 xs) (trees 1) → IsNumberOf (λ x. x.name) name.now xs found) }
+    ensures form { HasNoForm S.Store conn.old conn.new result (λ trees. (xs : List Batch) → length xs < 2 ^ 32 → ¬ Shows batch_view (numbered batch_shown 1 xs) (trees 1)) }
+    ensures fails { FailsOnlyAs IsReadFault S.Store conn.old conn.new result }
+    ensures same { ChangesNothing S.Store conn.old conn.new result }
     ensures mode { conn.old.in_transaction ≡ false → conn.new.in_transaction ≡ false }
-    ensures kept { HasCleanDisk (state S.Store conn.new) → IsTrue (state S.Store conn.new).is_open → (d : Tables) → Holds S.Store conn.old d → Holds S.Store conn.new d }
-    ensures lasts { Survives (state S.Store conn.old) (state S.Store conn.new) (λ _. (state S.Store conn.old).now.schema ≢ desk_schema) }
-    ensures survives { (state S.Store conn.old).now.schema ≡ desk_schema → Survives (state S.Store conn.old) (state S.Store conn.new) (λ _. ⊥) }
+    ensures kept { KeepsRecords S.Store conn.old conn.new }
+    ensures lasts { CommitsNothing S.Store conn.old conn.new }
+    ensures survives { CommitsNothingOnDesk S.Store conn.old conn.new }
 {
     let rows = named_batch_rows(conn, name)?;
     first_number(rows.as_slice())
 }
 
 fn named_sentence_rows<S: Alter>(conn: &mut Connection<S>, sent_id: &str) -> Result<Vec<Row>, Error>
-    ensures found { HasCleanDisk (state S.Store conn.new) → IfOk result (λ rows. (state S.Store conn.old).now.schema ≡ desk_schema → (xs : List Sentence) → Shows sentence_view (numbered sentence_shown 1 xs) ((state S.Store conn.old).now.trees 3) → IsPermutation (map key_alone (filter (has_name sent_id.now) (numbered sentence_shown 1 xs))) rows.items) }
-    ensures fails { HasCleanDisk (state S.Store conn.new) → (state S.Store conn.old).step_limit ≡ None → (state S.Store conn.old).now.schema ≡ desk_schema → IfErr result IsStoreFault }
-    ensures same { HasCleanDisk (state S.Store conn.new) → OnOk result ((state S.Store conn.old).now.schema ≡ desk_schema → IsUnchanged (state S.Store conn.old) (state S.Store conn.new)) }
+    ensures found { Reads S.Store conn.old conn.new result (λ rows trees. (xs : List Sentence) → Shows sentence_view (numbered sentence_shown 1 xs) (trees 3) → IsPermutation (map key_alone (filter (has_name sent_id.now) (numbered sentence_shown 1 xs))) rows.items) }
+    ensures fails { FailsOnlyAs IsStoreFault S.Store conn.old conn.new result }
+    ensures same { ChangesNothing S.Store conn.old conn.new result }
     ensures mode { conn.old.in_transaction ≡ false → conn.new.in_transaction ≡ false }
-    ensures kept { HasCleanDisk (state S.Store conn.new) → IsTrue (state S.Store conn.new).is_open → (d : Tables) → Holds S.Store conn.old d → Holds S.Store conn.new d }
-    ensures lasts { Survives (state S.Store conn.old) (state S.Store conn.new) (λ _. (state S.Store conn.old).now.schema ≢ desk_schema) }
-    ensures survives { (state S.Store conn.old).now.schema ≡ desk_schema → Survives (state S.Store conn.old) (state S.Store conn.new) (λ _. ⊥) }
+    ensures kept { KeepsRecords S.Store conn.old conn.new }
+    ensures lasts { CommitsNothing S.Store conn.old conn.new }
+    ensures survives { CommitsNothingOnDesk S.Store conn.old conn.new }
 {
     conn.query_all(
         "SELECT no FROM sentences WHERE sent_id = ?1",
@@ -155,14 +153,14 @@ pub fn sentence_named<S: Alter>(
     conn: &mut Connection<S>,
     sent_id: &str,
 ) -> Result<Option<u32>, ReadError>
-    ensures ok { HasCleanDisk (state S.Store conn.new) → IfOk result (λ found. (state S.Store conn.old).now.schema ≡ desk_schema → (xs : List Sentence) → Shows sentence_view (numbered sentence_shown 1 xs) ((state S.Store conn.old).now.trees 3) → IsNumberOf (λ x. x.sent_id) sent_id.now xs found) }
-    ensures form { HasCleanDisk (state S.Store conn.new) → result ≡ Err ReadError.Form → (state S.Store conn.old).now.schema ≡ desk_schema → (xs : List Sentence) → length xs < 2 ^ 32 → ¬ Shows sentence_view (numbered sentence_shown 1 xs) ((state S.Store conn.old).now.trees 3) }
-    ensures fails { HasCleanDisk (state S.Store conn.new) → (state S.Store conn.old).step_limit ≡ None → (state S.Store conn.old).now.schema ≡ desk_schema → IfErr result IsReadFault }
-    ensures same { HasCleanDisk (state S.Store conn.new) → OnOk result ((state S.Store conn.old).now.schema ≡ desk_schema → IsUnchanged (state S.Store conn.old) (state S.Store conn.new)) }
+    ensures ok { Reads S.Store conn.old conn.new result (λ found trees. (xs : List Sentence) → Shows sentence_view (numbered sentence_shown 1 xs) (trees 3) → IsNumberOf (λ x. x.sent_id) sent_id.now xs found) }
+    ensures form { HasNoForm S.Store conn.old conn.new result (λ trees. (xs : List Sentence) → length xs < 2 ^ 32 → ¬ Shows sentence_view (numbered sentence_shown 1 xs) (trees 3)) }
+    ensures fails { FailsOnlyAs IsReadFault S.Store conn.old conn.new result }
+    ensures same { ChangesNothing S.Store conn.old conn.new result }
     ensures mode { conn.old.in_transaction ≡ false → conn.new.in_transaction ≡ false }
-    ensures kept { HasCleanDisk (state S.Store conn.new) → IsTrue (state S.Store conn.new).is_open → (d : Tables) → Holds S.Store conn.old d → Holds S.Store conn.new d }
-    ensures lasts { Survives (state S.Store conn.old) (state S.Store conn.new) (λ _. (state S.Store conn.old).now.schema ≢ desk_schema) }
-    ensures survives { (state S.Store conn.old).now.schema ≡ desk_schema → Survives (state S.Store conn.old) (state S.Store conn.new) (λ _. ⊥) }
+    ensures kept { KeepsRecords S.Store conn.old conn.new }
+    ensures lasts { CommitsNothing S.Store conn.old conn.new }
+    ensures survives { CommitsNothingOnDesk S.Store conn.old conn.new }
 {
     let rows = named_sentence_rows(conn, sent_id)?;
     first_number(rows.as_slice())
@@ -180,13 +178,13 @@ fn first_number(rows: &[Row]) -> Result<Option<u32>, ReadError>
 }
 
 fn revision_rows<S: Alter>(conn: &mut Connection<S>, sent: u32, rev: u32) -> Result<Vec<Row>, Error>
-    ensures found { HasCleanDisk (state S.Store conn.new) → IfOk result (λ rows. (state S.Store conn.old).now.schema ≡ desk_schema → (xs : List Revision) → Shows revision_view (map revision_shown xs) ((state S.Store conn.old).now.trees 5) → IsPermutation (filter (has_pair sent rev) (map revision_shown xs)) rows.items) }
-    ensures fails { HasCleanDisk (state S.Store conn.new) → (state S.Store conn.old).step_limit ≡ None → (state S.Store conn.old).now.schema ≡ desk_schema → IfErr result IsStoreFault }
-    ensures same { HasCleanDisk (state S.Store conn.new) → OnOk result ((state S.Store conn.old).now.schema ≡ desk_schema → IsUnchanged (state S.Store conn.old) (state S.Store conn.new)) }
+    ensures found { Reads S.Store conn.old conn.new result (λ rows trees. (xs : List Revision) → Shows revision_view (map revision_shown xs) (trees 5) → IsPermutation (filter (has_pair sent rev) (map revision_shown xs)) rows.items) }
+    ensures fails { FailsOnlyAs IsStoreFault S.Store conn.old conn.new result }
+    ensures same { ChangesNothing S.Store conn.old conn.new result }
     ensures mode { conn.old.in_transaction ≡ false → conn.new.in_transaction ≡ false }
-    ensures kept { HasCleanDisk (state S.Store conn.new) → IsTrue (state S.Store conn.new).is_open → (d : Tables) → Holds S.Store conn.old d → Holds S.Store conn.new d }
-    ensures lasts { Survives (state S.Store conn.old) (state S.Store conn.new) (λ _. (state S.Store conn.old).now.schema ≢ desk_schema) }
-    ensures survives { (state S.Store conn.old).now.schema ≡ desk_schema → Survives (state S.Store conn.old) (state S.Store conn.new) (λ _. ⊥) }
+    ensures kept { KeepsRecords S.Store conn.old conn.new }
+    ensures lasts { CommitsNothing S.Store conn.old conn.new }
+    ensures survives { CommitsNothingOnDesk S.Store conn.old conn.new }
 {
     conn.query_all(
         "SELECT sent, rev, who, body FROM revisions WHERE sent = ?1 AND rev = ?2",
@@ -211,41 +209,41 @@ pub fn revision<S: Alter>(
     sent: u32,
     rev: u32,
 ) -> Result<Option<RevisionRow>, ReadError>
-    ensures ok { HasCleanDisk (state S.Store conn.new) → IfOk result (λ found. (state S.Store conn.old).now.schema ≡ desk_schema → (xs : List Revision) → Shows revision_view (map revision_shown xs) ((state S.Store conn.old).now.trees 5) → IsRevisionAt sent rev xs (option_map revision_of found)) }
-    ensures form { HasCleanDisk (state S.Store conn.new) → result ≡ Err ReadError.Form → (state S.Store conn.old).now.schema ≡ desk_schema → (xs : List Revision) → All IsRevision xs → ¬ Shows revision_view (map revision_shown xs) ((state S.Store conn.old).now.trees 5) }
-    ensures fails { HasCleanDisk (state S.Store conn.new) → (state S.Store conn.old).step_limit ≡ None → (state S.Store conn.old).now.schema ≡ desk_schema → IfErr result IsReadFault }
-    ensures same { HasCleanDisk (state S.Store conn.new) → OnOk result ((state S.Store conn.old).now.schema ≡ desk_schema → IsUnchanged (state S.Store conn.old) (state S.Store conn.new)) }
+    ensures ok { Reads S.Store conn.old conn.new result (λ found trees. (xs : List Revision) → Shows revision_view (map revision_shown xs) (trees 5) → IsRevisionAt sent rev xs (option_map revision_of found)) }
+    ensures form { HasNoForm S.Store conn.old conn.new result (λ trees. (xs : List Revision) → All IsRevision xs → ¬ Shows revision_view (map revision_shown xs) (trees 5)) }
+    ensures fails { FailsOnlyAs IsReadFault S.Store conn.old conn.new result }
+    ensures same { ChangesNothing S.Store conn.old conn.new result }
     ensures mode { conn.old.in_transaction ≡ false → conn.new.in_transaction ≡ false }
-    ensures kept { HasCleanDisk (state S.Store conn.new) → IsTrue (state S.Store conn.new).is_open → (d : Tables) → Holds S.Store conn.old d → Holds S.Store conn.new d }
-    ensures lasts { Survives (state S.Store conn.old) (state S.Store conn.new) (λ _. (state S.Store conn.old).now.schema ≢ desk_schema) }
-    ensures survives { (state S.Store conn.old).now.schema ≡ desk_schema → Survives (state S.Store conn.old) (state S.Store conn.new) (λ _. ⊥) }
+    ensures kept { KeepsRecords S.Store conn.old conn.new }
+    ensures lasts { CommitsNothing S.Store conn.old conn.new }
+    ensures survives { CommitsNothingOnDesk S.Store conn.old conn.new }
 {
     let rows = revision_rows(conn, sent, rev)?;
     first_revision(rows.as_slice())
 }
 
 fn pulled_rows<S: Alter>(conn: &mut Connection<S>, sent: u32) -> Result<Vec<Row>, Error>
-    ensures found { HasCleanDisk (state S.Store conn.new) → IfOk result (λ rows. (state S.Store conn.old).now.schema ≡ desk_schema → (xs : List ℕ) → Shows number_view (map number_shown xs) ((state S.Store conn.old).now.trees 9) → IsPermutation (filter (has_number sent) (map number_shown xs)) rows.items) }
-    ensures fails { HasCleanDisk (state S.Store conn.new) → (state S.Store conn.old).step_limit ≡ None → (state S.Store conn.old).now.schema ≡ desk_schema → IfErr result IsStoreFault }
-    ensures same { HasCleanDisk (state S.Store conn.new) → OnOk result ((state S.Store conn.old).now.schema ≡ desk_schema → IsUnchanged (state S.Store conn.old) (state S.Store conn.new)) }
+    ensures found { Reads S.Store conn.old conn.new result (λ rows trees. (xs : List ℕ) → Shows number_view (map number_shown xs) (trees 9) → IsPermutation (filter (has_number sent) (map number_shown xs)) rows.items) }
+    ensures fails { FailsOnlyAs IsStoreFault S.Store conn.old conn.new result }
+    ensures same { ChangesNothing S.Store conn.old conn.new result }
     ensures mode { conn.old.in_transaction ≡ false → conn.new.in_transaction ≡ false }
-    ensures kept { HasCleanDisk (state S.Store conn.new) → IsTrue (state S.Store conn.new).is_open → (d : Tables) → Holds S.Store conn.old d → Holds S.Store conn.new d }
-    ensures lasts { Survives (state S.Store conn.old) (state S.Store conn.new) (λ _. (state S.Store conn.old).now.schema ≢ desk_schema) }
-    ensures survives { (state S.Store conn.old).now.schema ≡ desk_schema → Survives (state S.Store conn.old) (state S.Store conn.new) (λ _. ⊥) }
+    ensures kept { KeepsRecords S.Store conn.old conn.new }
+    ensures lasts { CommitsNothing S.Store conn.old conn.new }
+    ensures survives { CommitsNothingOnDesk S.Store conn.old conn.new }
 {
     conn.query_all("SELECT sent FROM pulled WHERE sent = ?1", params![sent])
 }
 
 /// Whether the sentence with this number is pulled. `Form` is never answered.
 pub fn is_pulled<S: Alter>(conn: &mut Connection<S>, sent: u32) -> Result<bool, ReadError>
-    ensures ok { HasCleanDisk (state S.Store conn.new) → IfOk result (λ found. (state S.Store conn.old).now.schema ≡ desk_schema → (xs : List ℕ) → Shows number_view (map number_shown xs) ((state S.Store conn.old).now.trees 9) → (IsTrue found ↔ Contains xs sent)) }
+    ensures ok { Reads S.Store conn.old conn.new result (λ found trees. (xs : List ℕ) → Shows number_view (map number_shown xs) (trees 9) → (IsTrue found ↔ Contains xs sent)) }
     ensures form { ¬ (result ≡ Err ReadError.Form) }
-    ensures fails { HasCleanDisk (state S.Store conn.new) → (state S.Store conn.old).step_limit ≡ None → (state S.Store conn.old).now.schema ≡ desk_schema → IfErr result IsReadFault }
-    ensures same { HasCleanDisk (state S.Store conn.new) → OnOk result ((state S.Store conn.old).now.schema ≡ desk_schema → IsUnchanged (state S.Store conn.old) (state S.Store conn.new)) }
+    ensures fails { FailsOnlyAs IsReadFault S.Store conn.old conn.new result }
+    ensures same { ChangesNothing S.Store conn.old conn.new result }
     ensures mode { conn.old.in_transaction ≡ false → conn.new.in_transaction ≡ false }
-    ensures kept { HasCleanDisk (state S.Store conn.new) → IsTrue (state S.Store conn.new).is_open → (d : Tables) → Holds S.Store conn.old d → Holds S.Store conn.new d }
-    ensures lasts { Survives (state S.Store conn.old) (state S.Store conn.new) (λ _. (state S.Store conn.old).now.schema ≢ desk_schema) }
-    ensures survives { (state S.Store conn.old).now.schema ≡ desk_schema → Survives (state S.Store conn.old) (state S.Store conn.new) (λ _. ⊥) }
+    ensures kept { KeepsRecords S.Store conn.old conn.new }
+    ensures lasts { CommitsNothing S.Store conn.old conn.new }
+    ensures survives { CommitsNothingOnDesk S.Store conn.old conn.new }
 {
     let rows = pulled_rows(conn, sent)?;
     Ok(!rows.is_empty())

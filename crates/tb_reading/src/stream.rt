@@ -1,14 +1,11 @@
 //! Rows one at a time, while the connection is lent: what a walk over the whole treebank reads.
 
-ghost use Rattle.std.specs.Prelude.{◌≡◌, ◌≢◌, map, false, List, All, Err, IfOk, IfErr, OnOk, IsTrue, None};
-ghost use Rattle.sqlite.specs.State.{HasCleanDisk, IsUnchanged, Survives};
-ghost use Rattle.sqlite.specs.Held.{state};
-ghost use Rattle.tb_tables.specs.Layout.{desk_schema};
-ghost use Rattle.tb_tables.specs.Records.{Tables, Sentence, Shows, numbered, sentence_shown, sentence_view};
-ghost use Rattle.tb_tables.specs.Changes.{Holds};
+ghost use Rattle.std.specs.Prelude.{◌≡◌, ◌≢◌, map, false, List, All, Err, IfOk, IfErr};
+ghost use Rattle.tb_tables.specs.Records.{Sentence, Shows, numbered, sentence_shown, sentence_view};
 ghost use Rattle.tb_reading.specs.Readable.{IsSentence, IsHead};
-ghost use Rattle.tb_reading.specs.Failing.{IsReadFault};
+ghost use Rattle.tb_reading.specs.Failing.{HasNoForm, IsReadFault};
 ghost use Rattle.tb_reading.specs.Streams.{head_of, head_shown};
+ghost use Rattle.tb_tables.specs.Leaving.{ChangesNothing, CommitsNothing, FailsOnlyAs, KeepsRecords, Reads};
 
 use crate::error::ReadError;
 use crate::records::number_at;
@@ -40,13 +37,13 @@ fn head_in(row: &Row) -> Result<Head, ReadError>
 /// Batch and current revision of each sentence, by number. One row is at hand at a time. `Form` is answered only where
 /// the rows are those of no such list.
 pub fn heads<S: Alter>(alloc: Global, conn: &mut Connection<S>) -> Result<Vec<Head>, ReadError>
-    ensures ok { HasCleanDisk (state S.Store conn.new) → IfOk result (λ v. (state S.Store conn.old).now.schema ≡ desk_schema → (xs : List Sentence) → Shows sentence_view (numbered sentence_shown 1 xs) ((state S.Store conn.old).now.trees 3) → v.items ≡ map head_of xs) }
-    ensures form { HasCleanDisk (state S.Store conn.new) → result ≡ Err ReadError.Form → (state S.Store conn.old).now.schema ≡ desk_schema → (xs : List Sentence) → All IsSentence xs → ¬ Shows sentence_view (numbered sentence_shown 1 xs) ((state S.Store conn.old).now.trees 3) }
-    ensures fails { HasCleanDisk (state S.Store conn.new) → (state S.Store conn.old).step_limit ≡ None → (state S.Store conn.old).now.schema ≡ desk_schema → IfErr result IsReadFault }
-    ensures same { HasCleanDisk (state S.Store conn.new) → OnOk result ((state S.Store conn.old).now.schema ≡ desk_schema → IsUnchanged (state S.Store conn.old) (state S.Store conn.new)) }
-    ensures kept { HasCleanDisk (state S.Store conn.new) → IsTrue (state S.Store conn.new).is_open → (d : Tables) → Holds S.Store conn.old d → Holds S.Store conn.new d }
+    ensures ok { Reads S.Store conn.old conn.new result (λ v trees. (xs : List Sentence) → Shows sentence_view (numbered sentence_shown 1 xs) (trees 3) → v.items ≡ map head_of xs) }
+    ensures form { HasNoForm S.Store conn.old conn.new result (λ trees. (xs : List Sentence) → All IsSentence xs → ¬ Shows sentence_view (numbered sentence_shown 1 xs) (trees 3)) }
+    ensures fails { FailsOnlyAs IsReadFault S.Store conn.old conn.new result }
+    ensures same { ChangesNothing S.Store conn.old conn.new result }
+    ensures kept { KeepsRecords S.Store conn.old conn.new }
     ensures mode { conn.old.in_transaction ≡ false → conn.new.in_transaction ≡ false }
-    ensures lasts { Survives (state S.Store conn.old) (state S.Store conn.new) (λ _. (state S.Store conn.old).now.schema ≢ desk_schema) }
+    ensures lasts { CommitsNothing S.Store conn.old conn.new }
 {
     let mut found = Vec::new(alloc);
     let mut rows = conn.query("SELECT batch, rev FROM sentences ORDER BY no", &[])?;

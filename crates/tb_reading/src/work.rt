@@ -1,15 +1,12 @@
 //! The sentences of a batch.
 
-ghost use Rattle.std.specs.Prelude.{ℕ, ◌≡◌, ◌≢◌, ◌<◌, ◌^◌, length, map, false, List, All, Err, IsTrue, IfOk, OnOk, IfErr, None};
-ghost use Rattle.sqlite.specs.State.{HasCleanDisk, IsUnchanged, Survives};
-ghost use Rattle.sqlite.specs.Held.{state};
-ghost use Rattle.tb_tables.specs.Layout.{desk_schema};
-ghost use Rattle.tb_tables.specs.Changes.{Holds};
-ghost use Rattle.tb_tables.specs.Records.{Tables, Sentence, Shows, numbered, sentence_shown, sentence_view};
+ghost use Rattle.std.specs.Prelude.{ℕ, ◌≡◌, ◌≢◌, ◌<◌, ◌^◌, length, map, false, List, All, Err, IfOk, IfErr};
+ghost use Rattle.tb_tables.specs.Records.{Sentence, Shows, numbered, sentence_shown, sentence_view};
 ghost use Rattle.tb_reading.specs.Readable.{IsSentence, IsWork};
 ghost use Rattle.tb_reading.specs.Found.{work_of, work_shown};
 ghost use Rattle.tb_tables.specs.Failing.{IsStoreFault};
-ghost use Rattle.tb_reading.specs.Failing.{IsReadFault};
+ghost use Rattle.tb_reading.specs.Failing.{HasNoForm, IsReadFault};
+ghost use Rattle.tb_tables.specs.Leaving.{ChangesNothing, CommitsNothing, CommitsNothingOnDesk, FailsOnlyAs, KeepsRecords, Reads};
 
 use crate::error::ReadError;
 use crate::records::number_at;
@@ -54,13 +51,13 @@ fn all_work_in(alloc: Global, rows: &[Row]) -> Result<Vec<Work>, ReadError>
 }
 
 fn work_rows<S: Alter>(conn: &mut Connection<S>, batch: u32) -> Result<Vec<Row>, Error>
-    ensures found { HasCleanDisk (state S.Store conn.new) → IfOk result (λ rows. (state S.Store conn.old).now.schema ≡ desk_schema → (xs : List Sentence) → Shows sentence_view (numbered sentence_shown 1 xs) ((state S.Store conn.old).now.trees 3) → rows.items ≡ map work_shown (work_of batch 1 xs)) }
-    ensures fails { HasCleanDisk (state S.Store conn.new) → (state S.Store conn.old).step_limit ≡ None → (state S.Store conn.old).now.schema ≡ desk_schema → IfErr result IsStoreFault }
-    ensures same { HasCleanDisk (state S.Store conn.new) → OnOk result ((state S.Store conn.old).now.schema ≡ desk_schema → IsUnchanged (state S.Store conn.old) (state S.Store conn.new)) }
+    ensures found { Reads S.Store conn.old conn.new result (λ rows trees. (xs : List Sentence) → Shows sentence_view (numbered sentence_shown 1 xs) (trees 3) → rows.items ≡ map work_shown (work_of batch 1 xs)) }
+    ensures fails { FailsOnlyAs IsStoreFault S.Store conn.old conn.new result }
+    ensures same { ChangesNothing S.Store conn.old conn.new result }
     ensures mode { conn.old.in_transaction ≡ false → conn.new.in_transaction ≡ false }
-    ensures kept { HasCleanDisk (state S.Store conn.new) → IsTrue (state S.Store conn.new).is_open → (d : Tables) → Holds S.Store conn.old d → Holds S.Store conn.new d }
-    ensures lasts { Survives (state S.Store conn.old) (state S.Store conn.new) (λ _. (state S.Store conn.old).now.schema ≢ desk_schema) }
-    ensures survives { (state S.Store conn.old).now.schema ≡ desk_schema → Survives (state S.Store conn.old) (state S.Store conn.new) (λ _. ⊥) }
+    ensures kept { KeepsRecords S.Store conn.old conn.new }
+    ensures lasts { CommitsNothing S.Store conn.old conn.new }
+    ensures survives { CommitsNothingOnDesk S.Store conn.old conn.new }
 {
     conn.query_all(
         "SELECT no, rev, words FROM sentences WHERE batch = ?1 ORDER BY no",
@@ -75,14 +72,14 @@ pub fn sentences_of<S: Alter>(
     conn: &mut Connection<S>,
     batch: u32,
 ) -> Result<Vec<Work>, ReadError>
-    ensures ok { HasCleanDisk (state S.Store conn.new) → IfOk result (λ v. (state S.Store conn.old).now.schema ≡ desk_schema → (xs : List Sentence) → Shows sentence_view (numbered sentence_shown 1 xs) ((state S.Store conn.old).now.trees 3) → v.items ≡ work_of batch 1 xs) }
-    ensures form { HasCleanDisk (state S.Store conn.new) → result ≡ Err ReadError.Form → (state S.Store conn.old).now.schema ≡ desk_schema → (xs : List Sentence) → All IsSentence xs → length xs < 2 ^ 32 → ¬ Shows sentence_view (numbered sentence_shown 1 xs) ((state S.Store conn.old).now.trees 3) }
-    ensures fails { HasCleanDisk (state S.Store conn.new) → (state S.Store conn.old).step_limit ≡ None → (state S.Store conn.old).now.schema ≡ desk_schema → IfErr result IsReadFault }
-    ensures same { HasCleanDisk (state S.Store conn.new) → OnOk result ((state S.Store conn.old).now.schema ≡ desk_schema → IsUnchanged (state S.Store conn.old) (state S.Store conn.new)) }
+    ensures ok { Reads S.Store conn.old conn.new result (λ v trees. (xs : List Sentence) → Shows sentence_view (numbered sentence_shown 1 xs) (trees 3) → v.items ≡ work_of batch 1 xs) }
+    ensures form { HasNoForm S.Store conn.old conn.new result (λ trees. (xs : List Sentence) → All IsSentence xs → length xs < 2 ^ 32 → ¬ Shows sentence_view (numbered sentence_shown 1 xs) (trees 3)) }
+    ensures fails { FailsOnlyAs IsReadFault S.Store conn.old conn.new result }
+    ensures same { ChangesNothing S.Store conn.old conn.new result }
     ensures mode { conn.old.in_transaction ≡ false → conn.new.in_transaction ≡ false }
-    ensures kept { HasCleanDisk (state S.Store conn.new) → IsTrue (state S.Store conn.new).is_open → (d : Tables) → Holds S.Store conn.old d → Holds S.Store conn.new d }
-    ensures lasts { Survives (state S.Store conn.old) (state S.Store conn.new) (λ _. (state S.Store conn.old).now.schema ≢ desk_schema) }
-    ensures survives { (state S.Store conn.old).now.schema ≡ desk_schema → Survives (state S.Store conn.old) (state S.Store conn.new) (λ _. ⊥) }
+    ensures kept { KeepsRecords S.Store conn.old conn.new }
+    ensures lasts { CommitsNothing S.Store conn.old conn.new }
+    ensures survives { CommitsNothingOnDesk S.Store conn.old conn.new }
 {
     let rows = work_rows(conn, batch)?;
     all_work_in(alloc, rows.as_slice())

@@ -2,3 +2,4 @@ pub mod Released
 pub mod Picked
 pub mod Visited
 pub mod Searched
+pub mod Ending

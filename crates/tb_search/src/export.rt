@@ -1,17 +1,13 @@
 //! The text of released sentences, and that of a batch.
 
-ghost use Rattle.std.specs.Prelude.{◌≡◌, ◌≢◌, false, nat_eq, Err, IsTrue, IfOk, IfErr, OnOk, None};
+ghost use Rattle.std.specs.Prelude.{◌≡◌, ◌≢◌, false, nat_eq, Err};
 ghost use Rattle.std.specs.Io.KnownBytes.{Appends};
-ghost use Rattle.sqlite.specs.State.{HasCleanDisk, IsUnchanged, Survives};
-ghost use Rattle.sqlite.specs.Held.{state};
-ghost use Rattle.tb_tables.specs.Layout.{desk_schema};
-ghost use Rattle.tb_tables.specs.Records.{Tables};
-ghost use Rattle.tb_tables.specs.Changes.{Holds};
-ghost use Rattle.tb_core.specs.Machine.{Machine};
-ghost use Rattle.tb_standing.specs.Standing.{IsDesk};
 ghost use Rattle.tb_search.specs.Released.{released, in_batch, current_text, IsCutShort};
-ghost use Rattle.tb_search.specs.Visited.{HasReason, IsFault, IsStopFault};
+ghost use Rattle.tb_search.specs.Visited.{HasReason};
 ghost use Rattle.tb_search.specs.Picked.{picks_from};
+ghost use Rattle.tb_search.specs.Ending.{StopsForFault, StopsForStore};
+ghost use Rattle.tb_standing.specs.Telling.{Tells, TellsOnErr, TellsOnOk};
+ghost use Rattle.tb_tables.specs.Leaving.{ChangesNothing, CommitsNothing, CommitsNothingOnDesk, KeepsRecords};
 
 use crate::copying::Copying;
 use crate::picks::{Pick, picks_of};
@@ -29,14 +25,14 @@ fn batch_picks<S: Alter>(
     conn: &mut Connection<S>,
     batch: u32,
 ) -> Result<Vec<Pick>, Stopped>
-    ensures picked { HasCleanDisk (state S.Store conn.new) → IfOk result (λ v. (s : Machine) → IsDesk S.Store conn.old s → v.items ≡ picks_from (λ x. nat_eq x.batch batch) 1 s.sentences) }
+    ensures picked { Tells S.Store conn.old conn.new result (λ s v. v.items ≡ picks_from (λ x. nat_eq x.batch batch) 1 s.sentences) }
     ensures refused { result ≢ Err Stopped.Output }
-    ensures fault { HasCleanDisk (state S.Store conn.new) → IfErr result (λ e. (s : Machine) → IsDesk S.Store conn.old s → IsFault e) }
-    ensures fails { HasCleanDisk (state S.Store conn.new) → (state S.Store conn.old).step_limit ≡ None → IfErr result (λ e. (s : Machine) → IsDesk S.Store conn.old s → IsStopFault e) }
-    ensures same { HasCleanDisk (state S.Store conn.new) → OnOk result ((state S.Store conn.old).now.schema ≡ desk_schema → IsUnchanged (state S.Store conn.old) (state S.Store conn.new)) }
+    ensures fault { StopsForFault S.Store conn.old conn.new result }
+    ensures fails { StopsForStore S.Store conn.old conn.new result }
+    ensures same { ChangesNothing S.Store conn.old conn.new result }
     ensures mode { conn.old.in_transaction ≡ false → conn.new.in_transaction ≡ false }
-    ensures kept { HasCleanDisk (state S.Store conn.new) → IsTrue (state S.Store conn.new).is_open → (d : Tables) → Holds S.Store conn.old d → Holds S.Store conn.new d }
-    ensures lasts { Survives (state S.Store conn.old) (state S.Store conn.new) (λ _. (state S.Store conn.old).now.schema ≢ desk_schema) }
+    ensures kept { KeepsRecords S.Store conn.old conn.new }
+    ensures lasts { CommitsNothing S.Store conn.old conn.new }
 {
     desk_rows_are_readable();
     let work = tb_reading::sentences_of(alloc, conn, batch)?;
@@ -54,14 +50,14 @@ pub fn export_released<S: Alter, W: Sink>(
     conn: &mut Connection<S>,
     out: &mut W,
 ) -> Result<(), Stopped>
-    ensures put { HasCleanDisk (state S.Store conn.new) → OnOk result ((s : Machine) → IsDesk S.Store conn.old s → Appends (W.held out.old) (W.held out.new) (current_text (released s))) }
-    ensures part { HasCleanDisk (state S.Store conn.new) → IfErr result (λ e. (s : Machine) → IsDesk S.Store conn.old s → IsCutShort e (W.held out.old) (W.held out.new) (released s)) }
+    ensures put { TellsOnOk S.Store conn.old conn.new result (λ s. Appends (W.held out.old) (W.held out.new) (current_text (released s))) }
+    ensures part { TellsOnErr S.Store conn.old conn.new result (λ s e. IsCutShort e (W.held out.old) (W.held out.new) (released s)) }
     ensures refused { result ≡ Err Stopped.Output → HasReason (W.IsRefusal out.new) }
-    ensures fault { HasCleanDisk (state S.Store conn.new) → IfErr result (λ e. (s : Machine) → IsDesk S.Store conn.old s → IsFault e) }
-    ensures fails { HasCleanDisk (state S.Store conn.new) → (state S.Store conn.old).step_limit ≡ None → IfErr result (λ e. (s : Machine) → IsDesk S.Store conn.old s → IsStopFault e) }
+    ensures fault { StopsForFault S.Store conn.old conn.new result }
+    ensures fails { StopsForStore S.Store conn.old conn.new result }
     ensures mode { conn.old.in_transaction ≡ false → conn.new.in_transaction ≡ false }
-    ensures kept { HasCleanDisk (state S.Store conn.new) → IsTrue (state S.Store conn.new).is_open → (d : Tables) → Holds S.Store conn.old d → Holds S.Store conn.new d }
-    ensures survives { (state S.Store conn.old).now.schema ≡ desk_schema → Survives (state S.Store conn.old) (state S.Store conn.new) (λ _. ⊥) }
+    ensures kept { KeepsRecords S.Store conn.old conn.new }
+    ensures survives { CommitsNothingOnDesk S.Store conn.old conn.new }
 {
     visit_released(alloc, conn, &mut Copying, out)
 }
@@ -77,14 +73,14 @@ pub fn export_numbered<S: Alter, W: Sink>(
     batch: u32,
     out: &mut W,
 ) -> Result<(), Stopped>
-    ensures put { HasCleanDisk (state S.Store conn.new) → OnOk result ((s : Machine) → IsDesk S.Store conn.old s → Appends (W.held out.old) (W.held out.new) (current_text (in_batch s batch))) }
-    ensures part { HasCleanDisk (state S.Store conn.new) → IfErr result (λ e. (s : Machine) → IsDesk S.Store conn.old s → IsCutShort e (W.held out.old) (W.held out.new) (in_batch s batch)) }
+    ensures put { TellsOnOk S.Store conn.old conn.new result (λ s. Appends (W.held out.old) (W.held out.new) (current_text (in_batch s batch))) }
+    ensures part { TellsOnErr S.Store conn.old conn.new result (λ s e. IsCutShort e (W.held out.old) (W.held out.new) (in_batch s batch)) }
     ensures refused { result ≡ Err Stopped.Output → HasReason (W.IsRefusal out.new) }
-    ensures fault { HasCleanDisk (state S.Store conn.new) → IfErr result (λ e. (s : Machine) → IsDesk S.Store conn.old s → IsFault e) }
-    ensures fails { HasCleanDisk (state S.Store conn.new) → (state S.Store conn.old).step_limit ≡ None → IfErr result (λ e. (s : Machine) → IsDesk S.Store conn.old s → IsStopFault e) }
+    ensures fault { StopsForFault S.Store conn.old conn.new result }
+    ensures fails { StopsForStore S.Store conn.old conn.new result }
     ensures mode { conn.old.in_transaction ≡ false → conn.new.in_transaction ≡ false }
-    ensures kept { HasCleanDisk (state S.Store conn.new) → IsTrue (state S.Store conn.new).is_open → (d : Tables) → Holds S.Store conn.old d → Holds S.Store conn.new d }
-    ensures lasts { Survives (state S.Store conn.old) (state S.Store conn.new) (λ _. (state S.Store conn.old).now.schema ≢ desk_schema) }
+    ensures kept { KeepsRecords S.Store conn.old conn.new }
+    ensures lasts { CommitsNothing S.Store conn.old conn.new }
 {
     desk_rows_are_readable();
     let picks = batch_picks(alloc, conn, batch)?;

@@ -1,17 +1,14 @@
 //! The walk over released text: the current revisions of the sentences that are released, by number.
 
-ghost use Rattle.std.specs.Prelude.{◌≡◌, ◌≢◌, ◌<◌, ◌^◌, length, false, map, Err, IsTrue, IfOk, IfErr, OnOk, None};
-ghost use Rattle.sqlite.specs.State.{HasCleanDisk, IsUnchanged, Survives};
-ghost use Rattle.sqlite.specs.Held.{state};
-ghost use Rattle.tb_tables.specs.Layout.{desk_schema};
-ghost use Rattle.tb_tables.specs.Records.{Tables};
-ghost use Rattle.tb_tables.specs.Changes.{Holds};
-ghost use Rattle.tb_core.specs.Machine.{Machine};
-ghost use Rattle.tb_standing.specs.Standing.{IsDesk, sentence_record};
+ghost use Rattle.std.specs.Prelude.{◌≡◌, ◌≢◌, ◌<◌, ◌^◌, length, false, map, Err};
+ghost use Rattle.tb_standing.specs.Standing.{sentence_record};
 ghost use Rattle.tb_reading.specs.Streams.{head_of};
 ghost use Rattle.tb_search.specs.Released.{released, is_released as is_in_release};
 ghost use Rattle.tb_search.specs.Picked.{picks_from};
-ghost use Rattle.tb_search.specs.Visited.{AllTaken, Halted, IsFault, IsStopFault, texts};
+ghost use Rattle.tb_search.specs.Visited.{AllTaken, Halted, texts};
+ghost use Rattle.tb_search.specs.Ending.{StopsForFault, StopsForStore};
+ghost use Rattle.tb_standing.specs.Telling.{Tells, TellsOnErr, TellsOnOk};
+ghost use Rattle.tb_tables.specs.Leaving.{ChangesNothing, CommitsNothing, KeepsRecords};
 
 use crate::picks::{Pick, released_of};
 use crate::stopped::Stopped;
@@ -29,14 +26,14 @@ fn released_among<S: Alter>(
     heads: &[Head],
 ) -> Result<Vec<Pick>, Stopped>
     requires { length heads.now < 2 ^ 32 }
-    ensures picked { HasCleanDisk (state S.Store conn.new) → IfOk result (λ v. (s : Machine) → IsDesk S.Store conn.old s → heads.now ≡ map head_of (map sentence_record s.sentences) → v.items ≡ picks_from (is_in_release s.batches) 1 s.sentences) }
+    ensures picked { Tells S.Store conn.old conn.new result (λ s v. heads.now ≡ map head_of (map sentence_record s.sentences) → v.items ≡ picks_from (is_in_release s.batches) 1 s.sentences) }
     ensures refused { result ≢ Err Stopped.Output }
-    ensures fault { HasCleanDisk (state S.Store conn.new) → IfErr result (λ e. (s : Machine) → IsDesk S.Store conn.old s → IsFault e) }
-    ensures fails { HasCleanDisk (state S.Store conn.new) → (state S.Store conn.old).step_limit ≡ None → IfErr result (λ e. (s : Machine) → IsDesk S.Store conn.old s → IsStopFault e) }
-    ensures same { HasCleanDisk (state S.Store conn.new) → OnOk result ((state S.Store conn.old).now.schema ≡ desk_schema → IsUnchanged (state S.Store conn.old) (state S.Store conn.new)) }
+    ensures fault { StopsForFault S.Store conn.old conn.new result }
+    ensures fails { StopsForStore S.Store conn.old conn.new result }
+    ensures same { ChangesNothing S.Store conn.old conn.new result }
     ensures mode { conn.old.in_transaction ≡ false → conn.new.in_transaction ≡ false }
-    ensures kept { HasCleanDisk (state S.Store conn.new) → IsTrue (state S.Store conn.new).is_open → (d : Tables) → Holds S.Store conn.old d → Holds S.Store conn.new d }
-    ensures lasts { Survives (state S.Store conn.old) (state S.Store conn.new) (λ _. (state S.Store conn.old).now.schema ≢ desk_schema) }
+    ensures kept { KeepsRecords S.Store conn.old conn.new }
+    ensures lasts { CommitsNothing S.Store conn.old conn.new }
 {
     desk_rows_are_readable();
     let batches = tb_reading::batches(alloc, conn)?;
@@ -46,14 +43,14 @@ fn released_among<S: Alter>(
 
 /// The current revisions of released sentences, by number.
 fn released_picks<S: Alter>(alloc: Global, conn: &mut Connection<S>) -> Result<Vec<Pick>, Stopped>
-    ensures picked { HasCleanDisk (state S.Store conn.new) → IfOk result (λ v. (s : Machine) → IsDesk S.Store conn.old s → v.items ≡ picks_from (is_in_release s.batches) 1 s.sentences) }
+    ensures picked { Tells S.Store conn.old conn.new result (λ s v. v.items ≡ picks_from (is_in_release s.batches) 1 s.sentences) }
     ensures refused { result ≢ Err Stopped.Output }
-    ensures fault { HasCleanDisk (state S.Store conn.new) → IfErr result (λ e. (s : Machine) → IsDesk S.Store conn.old s → IsFault e) }
-    ensures fails { HasCleanDisk (state S.Store conn.new) → (state S.Store conn.old).step_limit ≡ None → IfErr result (λ e. (s : Machine) → IsDesk S.Store conn.old s → IsStopFault e) }
-    ensures same { HasCleanDisk (state S.Store conn.new) → OnOk result ((state S.Store conn.old).now.schema ≡ desk_schema → IsUnchanged (state S.Store conn.old) (state S.Store conn.new)) }
+    ensures fault { StopsForFault S.Store conn.old conn.new result }
+    ensures fails { StopsForStore S.Store conn.old conn.new result }
+    ensures same { ChangesNothing S.Store conn.old conn.new result }
     ensures mode { conn.old.in_transaction ≡ false → conn.new.in_transaction ≡ false }
-    ensures kept { HasCleanDisk (state S.Store conn.new) → IsTrue (state S.Store conn.new).is_open → (d : Tables) → Holds S.Store conn.old d → Holds S.Store conn.new d }
-    ensures lasts { Survives (state S.Store conn.old) (state S.Store conn.new) (λ _. (state S.Store conn.old).now.schema ≢ desk_schema) }
+    ensures kept { KeepsRecords S.Store conn.old conn.new }
+    ensures lasts { CommitsNothing S.Store conn.old conn.new }
 {
     desk_rows_are_readable();
     let heads = tb_reading::heads(alloc, conn)?;
@@ -71,14 +68,14 @@ pub(crate) fn visit_released<S: Alter, O, V: Visitor<O>>(
     visitor: &mut V,
     filled: &mut O,
 ) -> Result<(), Stopped>
-    ensures taken { HasCleanDisk (state S.Store conn.new) → OnOk result ((s : Machine) → IsDesk S.Store conn.old s → AllTaken V.Takes visitor.old filled.old (texts (released s)) visitor.new filled.new) }
-    ensures halted { HasCleanDisk (state S.Store conn.new) → IfErr result (λ e. (s : Machine) → IsDesk S.Store conn.old s → Halted V.Takes V.Stops visitor.old filled.old (texts (released s)) e filled.new) }
+    ensures taken { TellsOnOk S.Store conn.old conn.new result (λ s. AllTaken V.Takes visitor.old filled.old (texts (released s)) visitor.new filled.new) }
+    ensures halted { TellsOnErr S.Store conn.old conn.new result (λ s e. Halted V.Takes V.Stops visitor.old filled.old (texts (released s)) e filled.new) }
     ensures refused { result ≡ Err Stopped.Output → V.Refused filled.new }
-    ensures fails { HasCleanDisk (state S.Store conn.new) → (state S.Store conn.old).step_limit ≡ None → IfErr result (λ e. (s : Machine) → IsDesk S.Store conn.old s → IsStopFault e) }
-    ensures same { HasCleanDisk (state S.Store conn.new) → OnOk result ((state S.Store conn.old).now.schema ≡ desk_schema → IsUnchanged (state S.Store conn.old) (state S.Store conn.new)) }
+    ensures fails { StopsForStore S.Store conn.old conn.new result }
+    ensures same { ChangesNothing S.Store conn.old conn.new result }
     ensures mode { conn.old.in_transaction ≡ false → conn.new.in_transaction ≡ false }
-    ensures kept { HasCleanDisk (state S.Store conn.new) → IsTrue (state S.Store conn.new).is_open → (d : Tables) → Holds S.Store conn.old d → Holds S.Store conn.new d }
-    ensures lasts { Survives (state S.Store conn.old) (state S.Store conn.new) (λ _. (state S.Store conn.old).now.schema ≢ desk_schema) }
+    ensures kept { KeepsRecords S.Store conn.old conn.new }
+    ensures lasts { CommitsNothing S.Store conn.old conn.new }
 {
     desk_rows_are_readable();
     let picks = released_picks(alloc, conn)?;

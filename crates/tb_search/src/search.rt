@@ -1,20 +1,16 @@
 //! What is found in released text: its keyword lines, the table of its keys, its number.
 
-ghost use Rattle.std.specs.Prelude.{◌≡◌, ◌≢◌, ℕ, List, length, false, IsTrue, Err, IfOk, IfErr, OnOk, None};
+ghost use Rattle.std.specs.Prelude.{◌≡◌, ◌≢◌, ℕ, List, length, false, Err};
 ghost use Rattle.std.specs.Io.KnownBytes.{Appends};
-ghost use Rattle.sqlite.specs.State.{HasCleanDisk, IsUnchanged, Survives};
-ghost use Rattle.sqlite.specs.Held.{state};
 ghost use Rattle.tb_conllu.specs.Text.{BlockText};
 ghost use Rattle.tb_match.specs.declared.strategy.Strategy.{Strategy as AnyStrategy};
 ghost use Rattle.tb_query.specs.Search.{Asked};
-ghost use Rattle.tb_tables.specs.Layout.{desk_schema};
-ghost use Rattle.tb_tables.specs.Records.{Tables};
-ghost use Rattle.tb_tables.specs.Changes.{Holds};
-ghost use Rattle.tb_core.specs.Machine.{Machine};
-ghost use Rattle.tb_standing.specs.Standing.{IsDesk};
 ghost use Rattle.tb_report.specs.Tables.{IsTableOf};
-ghost use Rattle.tb_search.specs.Visited.{HasReason, IsFault, IsStopFault};
+ghost use Rattle.tb_search.specs.Visited.{HasReason};
 ghost use Rattle.tb_search.specs.Searched.{AreFound, IsBrokenOff, Occurrence, answer, keys, searched};
+ghost use Rattle.tb_search.specs.Ending.{StopsForFault, StopsForStore};
+ghost use Rattle.tb_standing.specs.Telling.{Tells, TellsOnErr};
+ghost use Rattle.tb_tables.specs.Leaving.{ChangesNothing, CommitsNothing, KeepsRecords};
 
 use crate::keying::Keying;
 use crate::listing::{Listing, put_total};
@@ -42,14 +38,14 @@ pub fn number_released<S: Alter>(
     query: &Query,
     strategy: Strategy,
 ) -> Result<u64, Stopped>
-    ensures answered { HasCleanDisk (state S.Store conn.new) → IfOk result (λ n. (s : Machine) → IsDesk S.Store conn.old s → (found : List Occurrence) × AreFound strategy query.now (searched s) found × (n ≡ length found)) }
+    ensures answered { Tells S.Store conn.old conn.new result (λ s n. (found : List Occurrence) × AreFound strategy query.now (searched s) found × (n ≡ length found)) }
     ensures refused { result ≢ Err Stopped.Output }
-    ensures fault { HasCleanDisk (state S.Store conn.new) → IfErr result (λ e. (s : Machine) → IsDesk S.Store conn.old s → IsFault e) }
-    ensures fails { HasCleanDisk (state S.Store conn.new) → (state S.Store conn.old).step_limit ≡ None → IfErr result (λ e. (s : Machine) → IsDesk S.Store conn.old s → IsStopFault e) }
-    ensures same { HasCleanDisk (state S.Store conn.new) → OnOk result ((state S.Store conn.old).now.schema ≡ desk_schema → IsUnchanged (state S.Store conn.old) (state S.Store conn.new)) }
+    ensures fault { StopsForFault S.Store conn.old conn.new result }
+    ensures fails { StopsForStore S.Store conn.old conn.new result }
+    ensures same { ChangesNothing S.Store conn.old conn.new result }
     ensures mode { conn.old.in_transaction ≡ false → conn.new.in_transaction ≡ false }
-    ensures kept { HasCleanDisk (state S.Store conn.new) → IsTrue (state S.Store conn.new).is_open → (d : Tables) → Holds S.Store conn.old d → Holds S.Store conn.new d }
-    ensures lasts { Survives (state S.Store conn.old) (state S.Store conn.new) (λ _. (state S.Store conn.old).now.schema ≢ desk_schema) }
+    ensures kept { KeepsRecords S.Store conn.old conn.new }
+    ensures lasts { CommitsNothing S.Store conn.old conn.new }
 {
     revisions_read_back();
     let seeker = Seeker::new(alloc, query, strategy)?;
@@ -72,13 +68,13 @@ pub fn count_released<S: Alter>(
     strategy: Strategy,
     column: Attr,
 ) -> Result<Freq, Stopped>
-    ensures answered { HasCleanDisk (state S.Store conn.new) → IfOk result (λ table. (s : Machine) → IsDesk S.Store conn.old s → (found : List Occurrence) × AreFound strategy query.now (searched s) found × IsTableOf (keys column found) table) }
+    ensures answered { Tells S.Store conn.old conn.new result (λ s table. (found : List Occurrence) × AreFound strategy query.now (searched s) found × IsTableOf (keys column found) table) }
     ensures refused { result ≢ Err Stopped.Output }
-    ensures fault { HasCleanDisk (state S.Store conn.new) → IfErr result (λ e. (s : Machine) → IsDesk S.Store conn.old s → IsFault e) }
-    ensures fails { HasCleanDisk (state S.Store conn.new) → (state S.Store conn.old).step_limit ≡ None → IfErr result (λ e. (s : Machine) → IsDesk S.Store conn.old s → IsStopFault e) }
+    ensures fault { StopsForFault S.Store conn.old conn.new result }
+    ensures fails { StopsForStore S.Store conn.old conn.new result }
     ensures mode { conn.old.in_transaction ≡ false → conn.new.in_transaction ≡ false }
-    ensures kept { HasCleanDisk (state S.Store conn.new) → IsTrue (state S.Store conn.new).is_open → (d : Tables) → Holds S.Store conn.old d → Holds S.Store conn.new d }
-    ensures lasts { Survives (state S.Store conn.old) (state S.Store conn.new) (λ _. (state S.Store conn.old).now.schema ≢ desk_schema) }
+    ensures kept { KeepsRecords S.Store conn.old conn.new }
+    ensures lasts { CommitsNothing S.Store conn.old conn.new }
 {
     revisions_read_back();
     let seeker = Seeker::new(alloc, query, strategy)?;
@@ -105,14 +101,14 @@ pub fn search_released<S: Alter, W: Sink>(
     context: u8,
     out: &mut W,
 ) -> Result<u64, Stopped>
-    ensures answered { HasCleanDisk (state S.Store conn.new) → IfOk result (λ n. (s : Machine) → IsDesk S.Store conn.old s → (found : List Occurrence) × AreFound strategy query.now (searched s) found × (n ≡ length found) × Appends (W.held out.old) (W.held out.new) (answer context found)) }
+    ensures answered { Tells S.Store conn.old conn.new result (λ s n. (found : List Occurrence) × AreFound strategy query.now (searched s) found × (n ≡ length found) × Appends (W.held out.old) (W.held out.new) (answer context found)) }
     ensures refused { result ≡ Err Stopped.Output → HasReason (W.IsRefusal out.new) }
-    ensures fault { HasCleanDisk (state S.Store conn.new) → IfErr result (λ e. (s : Machine) → IsDesk S.Store conn.old s → IsFault e) }
-    ensures fails { HasCleanDisk (state S.Store conn.new) → (state S.Store conn.old).step_limit ≡ None → IfErr result (λ e. (s : Machine) → IsDesk S.Store conn.old s → IsStopFault e) }
-    ensures broken { HasCleanDisk (state S.Store conn.new) → IfErr result (λ e. (s : Machine) → IsDesk S.Store conn.old s → (found : List Occurrence) → AreFound strategy query.now (searched s) found → IsBrokenOff e (W.held out.old) (W.held out.new) context found) }
+    ensures fault { StopsForFault S.Store conn.old conn.new result }
+    ensures fails { StopsForStore S.Store conn.old conn.new result }
+    ensures broken { TellsOnErr S.Store conn.old conn.new result (λ s e. (found : List Occurrence) → AreFound strategy query.now (searched s) found → IsBrokenOff e (W.held out.old) (W.held out.new) context found) }
     ensures mode { conn.old.in_transaction ≡ false → conn.new.in_transaction ≡ false }
-    ensures kept { HasCleanDisk (state S.Store conn.new) → IsTrue (state S.Store conn.new).is_open → (d : Tables) → Holds S.Store conn.old d → Holds S.Store conn.new d }
-    ensures lasts { Survives (state S.Store conn.old) (state S.Store conn.new) (λ _. (state S.Store conn.old).now.schema ≢ desk_schema) }
+    ensures kept { KeepsRecords S.Store conn.old conn.new }
+    ensures lasts { CommitsNothing S.Store conn.old conn.new }
 {
     revisions_read_back();
     let seeker = Seeker::new(alloc, query, strategy)?;

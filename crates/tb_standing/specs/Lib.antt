@@ -3,3 +3,4 @@ pub mod Standing
 pub mod Written
 pub mod Fitting
 pub mod Found
+pub mod Telling

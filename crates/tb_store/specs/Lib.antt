@@ -3,3 +3,4 @@ pub mod Standing
 pub mod Answers
 pub mod Exports
 pub mod Found
+pub mod Calls

@@ -1,17 +1,15 @@
-ghost use Rattle.std.specs.Prelude.{◌≡◌, ◌≢◌, ◌↔◌, ◌⊎◌, ◌<◌, ◌≤◌, ℕ, List, length, false, None, Some, Err, string_bytes, IsTrue, IfOk, IfErr, IfSome, OnOk};
+ghost use Rattle.std.specs.Prelude.{◌≡◌, ◌≢◌, ◌↔◌, ◌⊎◌, ◌<◌, ◌≤◌, ℕ, List, length, false, None, Some, Err, string_bytes, IsTrue, IfOk, IfErr, IfSome};
 ghost use Rattle.std.specs.Io.KnownBytes.{Appends};
 ghost use Rattle.sqlite.specs.State.{HasCleanDisk, Survives};
 ghost use Rattle.sqlite.specs.Held.{state};
 ghost use Rattle.sqlite.specs.Steps.{over_memory};
-ghost use Rattle.tb_tables.specs.Layout.{desk_schema};
 ghost use Rattle.tb_tables.specs.Records.{Stands};
 ghost use Rattle.tb_tables.specs.Making.{no_schema, IsBlank};
 ghost use Rattle.tb_core.specs.declared.refusals.Refusal.{Refusal as AnyRefusal};
 ghost use Rattle.tb_core.specs.Names.{is_name};
 ghost use Rattle.tb_core.specs.Machine.{Machine, empty_machine};
 ghost use Rattle.tb_core.specs.Totals.{StandFor};
-ghost use Rattle.tb_core.specs.Commands.{Answer, correct as correct_it, event_on, import_file, imported, pull as pull_it, restore as restore_it, replied, refused as refused_by, moved_on, corrected_to, pulled_out, restored_to};
-ghost use Rattle.tb_core.specs.Steps.{Steps};
+ghost use Rattle.tb_core.specs.Commands.{correct as correct_it, event_on, import_file, imported, pull as pull_it, restore as restore_it, moved_on, corrected_to, pulled_out, restored_to};
 ghost use Rattle.tb_report.specs.Tables.{IsTableOf};
 ghost use Rattle.tb_search.specs.Released.{released, in_batch, current_text};
 ghost use Rattle.tb_search.specs.Searched.{Occurrence, answer, keys};
@@ -24,6 +22,8 @@ ghost use Rattle.tb_store.specs.Standing.{StandsFor, unlimited, no_totals};
 ghost use Rattle.tb_store.specs.Answers.{IsCurrent, IsTextOf, HasNoSentence, RefusesRevision};
 ghost use Rattle.tb_store.specs.Exports.{IsBrokenOff, IsPartOfBatch, RefusesBatch};
 ghost use Rattle.tb_store.specs.Found.{AreReleasedHits, HasTooMany, IsNumber, IsPartFound};
+ghost use Rattle.tb_store.specs.Calls.{CrashesWhole, Does, Gives, GivesOnErr, IsDoneAs, IsRefusedAs, KnowsItself, StandsAsBefore, StandsAsBeforeOnErr, WritesNothing};
+ghost use Rattle.tb_tables.specs.Leaving.{CommitsNothing};
 
 use crate::answers::Current;
 use crate::{asking, exporting, finding};
@@ -216,11 +216,11 @@ impl<S: Alter> Desk<S> {
 
     /// The totals of the six states. Nothing is refused.
     pub fn totals(&mut self) -> Result<Totals, Fault>
-        ensures answered { HasCleanDisk (state S.Store self.new.conn) → IfOk result (λ t. (s : Machine) → StandsFor S.Store self.old s → StandFor t s) }
+        ensures answered { Gives S.Store self.old self.new result (λ s t. StandFor t s) }
         ensures refused { (r : AnyRefusal) → result ≢ Err (Fault.Refused r) }
-        ensures fails { HasCleanDisk (state S.Store self.new.conn) → (state S.Store self.old.conn).step_limit ≡ None → (s : Machine) → StandsFor S.Store self.old s → result ≢ Err Fault.NotADesk }
-        ensures kept { HasCleanDisk (state S.Store self.new.conn) → IsTrue (state S.Store self.new.conn).is_open → (s : Machine) → StandsFor S.Store self.old s → StandsFor S.Store self.new s }
-        ensures crash { (s : Machine) → StandsFor S.Store self.old s → Survives (state S.Store self.old.conn) (state S.Store self.new.conn) (λ _. ⊥) }
+        ensures fails { KnowsItself S.Store self.old self.new result }
+        ensures kept { StandsAsBefore S.Store self.old self.new }
+        ensures crash { WritesNothing S.Store self.old self.new }
         ensures limits { self.new.limits ≡ self.old.limits }
     {
         asking::totals(self.alloc, &mut self.conn)
@@ -228,11 +228,11 @@ impl<S: Alter> Desk<S> {
 
     /// All moves, in their order. Nothing is refused.
     pub fn moves(&mut self) -> Result<Vec<Move>, Fault>
-        ensures answered { HasCleanDisk (state S.Store self.new.conn) → IfOk result (λ v. (s : Machine) → StandsFor S.Store self.old s → v.items ≡ s.moves) }
+        ensures answered { Gives S.Store self.old self.new result (λ s v. v.items ≡ s.moves) }
         ensures refused { (r : AnyRefusal) → result ≢ Err (Fault.Refused r) }
-        ensures fails { HasCleanDisk (state S.Store self.new.conn) → (state S.Store self.old.conn).step_limit ≡ None → (s : Machine) → StandsFor S.Store self.old s → result ≢ Err Fault.NotADesk }
-        ensures kept { HasCleanDisk (state S.Store self.new.conn) → IsTrue (state S.Store self.new.conn).is_open → (s : Machine) → StandsFor S.Store self.old s → StandsFor S.Store self.new s }
-        ensures crash { (s : Machine) → StandsFor S.Store self.old s → Survives (state S.Store self.old.conn) (state S.Store self.new.conn) (λ _. ⊥) }
+        ensures fails { KnowsItself S.Store self.old self.new result }
+        ensures kept { StandsAsBefore S.Store self.old self.new }
+        ensures crash { WritesNothing S.Store self.old self.new }
         ensures limits { self.new.limits ≡ self.old.limits }
     {
         asking::moves(self.alloc, &mut self.conn)
@@ -244,12 +244,12 @@ impl<S: Alter> Desk<S> {
     ///
     /// `NoSuchSentence`.
     pub fn sentence(&mut self, number: u64) -> Result<Current, Fault>
-        ensures answered { HasCleanDisk (state S.Store self.new.conn) → IfOk result (λ c. (s : Machine) → StandsFor S.Store self.old s → IsCurrent s number c.rev (string_bytes c.body)) }
+        ensures answered { Gives S.Store self.old self.new result (λ s c. IsCurrent s number c.rev (string_bytes c.body)) }
         ensures refused { (s : Machine) → StandsFor S.Store self.old s → (result ≡ Err (Fault.Refused Refusal.NoSuchSentence)) ↔ HasNoSentence s number }
         ensures alone { (r : AnyRefusal) → result ≡ Err (Fault.Refused r) → r ≡ Refusal.NoSuchSentence }
-        ensures fails { HasCleanDisk (state S.Store self.new.conn) → (state S.Store self.old.conn).step_limit ≡ None → (s : Machine) → StandsFor S.Store self.old s → result ≢ Err Fault.NotADesk }
-        ensures kept { HasCleanDisk (state S.Store self.new.conn) → IsTrue (state S.Store self.new.conn).is_open → (s : Machine) → StandsFor S.Store self.old s → StandsFor S.Store self.new s }
-        ensures crash { (s : Machine) → StandsFor S.Store self.old s → Survives (state S.Store self.old.conn) (state S.Store self.new.conn) (λ _. ⊥) }
+        ensures fails { KnowsItself S.Store self.old self.new result }
+        ensures kept { StandsAsBefore S.Store self.old self.new }
+        ensures crash { WritesNothing S.Store self.old self.new }
         ensures limits { self.new.limits ≡ self.old.limits }
     {
         let Some(number) = self.standing(number) else {
@@ -264,12 +264,12 @@ impl<S: Alter> Desk<S> {
     ///
     /// `NoSuchSentence`, `NoSuchRevision`; the first that holds.
     pub fn revision(&mut self, number: u64, rev: u64) -> Result<String, Fault>
-        ensures answered { HasCleanDisk (state S.Store self.new.conn) → IfOk result (λ t. (s : Machine) → StandsFor S.Store self.old s → IsTextOf s number rev (string_bytes t)) }
+        ensures answered { Gives S.Store self.old self.new result (λ s t. IsTextOf s number rev (string_bytes t)) }
         ensures no_sentence { (s : Machine) → StandsFor S.Store self.old s → HasNoSentence s number → result ≡ Err (Fault.Refused Refusal.NoSuchSentence) }
-        ensures refused { HasCleanDisk (state S.Store self.new.conn) → IfErr result (λ e. (s : Machine) → StandsFor S.Store self.old s → RefusesRevision s number rev e) }
-        ensures fails { HasCleanDisk (state S.Store self.new.conn) → (state S.Store self.old.conn).step_limit ≡ None → (s : Machine) → StandsFor S.Store self.old s → result ≢ Err Fault.NotADesk }
-        ensures kept { HasCleanDisk (state S.Store self.new.conn) → IsTrue (state S.Store self.new.conn).is_open → (s : Machine) → StandsFor S.Store self.old s → StandsFor S.Store self.new s }
-        ensures crash { (s : Machine) → StandsFor S.Store self.old s → Survives (state S.Store self.old.conn) (state S.Store self.new.conn) (λ _. ⊥) }
+        ensures refused { GivesOnErr S.Store self.old self.new result (λ s e. RefusesRevision s number rev e) }
+        ensures fails { KnowsItself S.Store self.old self.new result }
+        ensures kept { StandsAsBefore S.Store self.old self.new }
+        ensures crash { WritesNothing S.Store self.old self.new }
         ensures limits { self.new.limits ≡ self.old.limits }
     {
         let Some(number) = self.standing(number) else {
@@ -288,13 +288,13 @@ impl<S: Alter> Desk<S> {
     /// `Output`, where the sink refuses a piece: it may then hold a first part of the text. After any other fault it holds whole
     /// sentences.
     pub fn export_released<W: Sink>(&mut self, out: &mut W) -> Result<(), Fault>
-        ensures put { HasCleanDisk (state S.Store self.new.conn) → OnOk result ((s : Machine) → StandsFor S.Store self.old s → Appends (W.held out.old) (W.held out.new) (current_text (released s))) }
-        ensures part { HasCleanDisk (state S.Store self.new.conn) → IfErr result (λ e. (s : Machine) → StandsFor S.Store self.old s → IsBrokenOff e (W.held out.old) (W.held out.new) (released s)) }
+        ensures put { Does S.Store self.old self.new result (λ s. Appends (W.held out.old) (W.held out.new) (current_text (released s))) }
+        ensures part { GivesOnErr S.Store self.old self.new result (λ s e. IsBrokenOff e (W.held out.old) (W.held out.new) (released s)) }
         ensures refused { (r : AnyRefusal) → result ≢ Err (Fault.Refused r) }
         ensures output { result ≡ Err Fault.Output → HasReason (W.IsRefusal out.new) }
-        ensures fails { HasCleanDisk (state S.Store self.new.conn) → (state S.Store self.old.conn).step_limit ≡ None → (s : Machine) → StandsFor S.Store self.old s → result ≢ Err Fault.NotADesk }
-        ensures kept { HasCleanDisk (state S.Store self.new.conn) → IsTrue (state S.Store self.new.conn).is_open → (s : Machine) → StandsFor S.Store self.old s → StandsFor S.Store self.new s }
-        ensures crash { (s : Machine) → StandsFor S.Store self.old s → Survives (state S.Store self.old.conn) (state S.Store self.new.conn) (λ _. ⊥) }
+        ensures fails { KnowsItself S.Store self.old self.new result }
+        ensures kept { StandsAsBefore S.Store self.old self.new }
+        ensures crash { WritesNothing S.Store self.old self.new }
         ensures limits { self.new.limits ≡ self.old.limits }
     {
         exporting::released(self.alloc, &mut self.conn, out)
@@ -306,15 +306,15 @@ impl<S: Alter> Desk<S> {
     ///
     /// The first of `BadName`, `NoSuchBatch`; `Output`, as in `export_released`.
     pub fn export_batch<W: Sink>(&mut self, name: &str, out: &mut W) -> Result<(), Fault>
-        ensures put { HasCleanDisk (state S.Store self.new.conn) → OnOk result ((s : Machine) → StandsFor S.Store self.old s → (n : ℕ) × HasNumber s name.now (Some n) × Appends (W.held out.old) (W.held out.new) (current_text (in_batch s n))) }
-        ensures part { HasCleanDisk (state S.Store self.new.conn) → IfErr result (λ e. (s : Machine) → StandsFor S.Store self.old s → IsPartOfBatch s name.now e (W.held out.old) (W.held out.new)) }
+        ensures put { Does S.Store self.old self.new result (λ s. (n : ℕ) × HasNumber s name.now (Some n) × Appends (W.held out.old) (W.held out.new) (current_text (in_batch s n))) }
+        ensures part { GivesOnErr S.Store self.old self.new result (λ s e. IsPartOfBatch s name.now e (W.held out.old) (W.held out.new)) }
         ensures bad_name { is_name name.now ≡ false → result ≡ Err (Fault.Refused Refusal.BadName) }
-        ensures refused { HasCleanDisk (state S.Store self.new.conn) → IfErr result (λ e. (s : Machine) → StandsFor S.Store self.old s → RefusesBatch s name.now e) }
+        ensures refused { GivesOnErr S.Store self.old self.new result (λ s e. RefusesBatch s name.now e) }
         ensures output { result ≡ Err Fault.Output → HasReason (W.IsRefusal out.new) }
-        ensures fails { HasCleanDisk (state S.Store self.new.conn) → (state S.Store self.old.conn).step_limit ≡ None → (s : Machine) → StandsFor S.Store self.old s → result ≢ Err Fault.NotADesk }
+        ensures fails { KnowsItself S.Store self.old self.new result }
         ensures none { (r : AnyRefusal) → result ≡ Err (Fault.Refused r) → W.held out.new ≡ W.held out.old }
-        ensures kept { HasCleanDisk (state S.Store self.new.conn) → IsTrue (state S.Store self.new.conn).is_open → (s : Machine) → StandsFor S.Store self.old s → StandsFor S.Store self.new s }
-        ensures crash { (s : Machine) → StandsFor S.Store self.old s → Survives (state S.Store self.old.conn) (state S.Store self.new.conn) (λ _. ⊥) }
+        ensures kept { StandsAsBefore S.Store self.old self.new }
+        ensures crash { WritesNothing S.Store self.old self.new }
         ensures limits { self.new.limits ≡ self.old.limits }
     {
         exporting::batch(self.alloc, &mut self.conn, name, out)
@@ -329,14 +329,14 @@ impl<S: Alter> Desk<S> {
     ///
     /// `TooManyHits`, where the strategy is `Every` and there are more than `limits.hits`.
     pub fn number(&mut self, query: &Query, strategy: Strategy) -> Result<u64, Fault>
-        ensures answered { HasCleanDisk (state S.Store self.new.conn) → IfOk result (λ n. (s : Machine) → StandsFor S.Store self.old s → IsNumber s query.now strategy self.old.limits.hits n) }
+        ensures answered { Gives S.Store self.old self.new result (λ s n. IsNumber s query.now strategy self.old.limits.hits n) }
         ensures refused { HasCleanDisk (state S.Store self.new.conn) → (r : AnyRefusal) → result ≡ Err (Fault.Refused r) → (r ≡ Refusal.TooManyHits) × ((s : Machine) → StandsFor S.Store self.old s → HasTooMany s query.now strategy self.old.limits.hits) }
         ensures output { result ≢ Err Fault.Output }
-        ensures fails { HasCleanDisk (state S.Store self.new.conn) → (state S.Store self.old.conn).step_limit ≡ None → (s : Machine) → StandsFor S.Store self.old s → result ≢ Err Fault.NotADesk }
-        ensures stays { HasCleanDisk (state S.Store self.new.conn) → OnOk result ((s : Machine) → StandsFor S.Store self.old s → StandsFor S.Store self.new s) }
-        ensures kept { HasCleanDisk (state S.Store self.new.conn) → IsTrue (state S.Store self.new.conn).is_open → (s : Machine) → StandsFor S.Store self.old s → StandsFor S.Store self.new s }
-        ensures crash { (s : Machine) → StandsFor S.Store self.old s → Survives (state S.Store self.old.conn) (state S.Store self.new.conn) (λ _. ⊥) }
-        ensures lasts { Survives (state S.Store self.old.conn) (state S.Store self.new.conn) (λ _. (state S.Store self.old.conn).now.schema ≢ desk_schema) }
+        ensures fails { KnowsItself S.Store self.old self.new result }
+        ensures stays { Does S.Store self.old self.new result (λ s. StandsFor S.Store self.new s) }
+        ensures kept { StandsAsBefore S.Store self.old self.new }
+        ensures crash { WritesNothing S.Store self.old self.new }
+        ensures lasts { CommitsNothing S.Store self.old.conn self.new.conn }
         ensures limits { self.new.limits ≡ self.old.limits }
     {
         finding::number(
@@ -364,14 +364,14 @@ impl<S: Alter> Desk<S> {
         context: u8,
         out: &mut W,
     ) -> Result<u64, Fault>
-        ensures answered { HasCleanDisk (state S.Store self.new.conn) → IfOk result (λ n. (s : Machine) → StandsFor S.Store self.old s → (found : List Occurrence) × AreReleasedHits s query.now strategy found × (n ≡ length found) × Appends (W.held out.old) (W.held out.new) (answer context found)) }
-        ensures broken { HasCleanDisk (state S.Store self.new.conn) → IfErr result (λ e. (s : Machine) → StandsFor S.Store self.old s → (found : List Occurrence) → AreReleasedHits s query.now strategy found → IsPartFound e (W.held out.old) (W.held out.new) context found) }
+        ensures answered { Gives S.Store self.old self.new result (λ s n. (found : List Occurrence) × AreReleasedHits s query.now strategy found × (n ≡ length found) × Appends (W.held out.old) (W.held out.new) (answer context found)) }
+        ensures broken { GivesOnErr S.Store self.old self.new result (λ s e. (found : List Occurrence) → AreReleasedHits s query.now strategy found → IsPartFound e (W.held out.old) (W.held out.new) context found) }
         ensures refused { (r : AnyRefusal) → result ≢ Err (Fault.Refused r) }
         ensures output { result ≡ Err Fault.Output → HasReason (W.IsRefusal out.new) }
-        ensures fails { HasCleanDisk (state S.Store self.new.conn) → (state S.Store self.old.conn).step_limit ≡ None → (s : Machine) → StandsFor S.Store self.old s → result ≢ Err Fault.NotADesk }
-        ensures kept { HasCleanDisk (state S.Store self.new.conn) → IsTrue (state S.Store self.new.conn).is_open → (s : Machine) → StandsFor S.Store self.old s → StandsFor S.Store self.new s }
-        ensures crash { (s : Machine) → StandsFor S.Store self.old s → Survives (state S.Store self.old.conn) (state S.Store self.new.conn) (λ _. ⊥) }
-        ensures lasts { Survives (state S.Store self.old.conn) (state S.Store self.new.conn) (λ _. (state S.Store self.old.conn).now.schema ≢ desk_schema) }
+        ensures fails { KnowsItself S.Store self.old self.new result }
+        ensures kept { StandsAsBefore S.Store self.old self.new }
+        ensures crash { WritesNothing S.Store self.old self.new }
+        ensures lasts { CommitsNothing S.Store self.old.conn self.new.conn }
         ensures limits { self.new.limits ≡ self.old.limits }
     {
         finding::search(self.alloc, &mut self.conn, query, strategy, context, out)
@@ -380,13 +380,13 @@ impl<S: Alter> Desk<S> {
     /// The frequency table of the hits of the query in released text: of each hit its values in one column. One sentence is in
     /// memory at a time, beside the table. Nothing is refused: whether the hits are within the limit, `number` tells.
     pub fn count(&mut self, query: &Query, strategy: Strategy, column: Attr) -> Result<Freq, Fault>
-        ensures answered { HasCleanDisk (state S.Store self.new.conn) → IfOk result (λ table. (s : Machine) → StandsFor S.Store self.old s → (found : List Occurrence) × AreReleasedHits s query.now strategy found × IsTableOf (keys column found) table) }
+        ensures answered { Gives S.Store self.old self.new result (λ s table. (found : List Occurrence) × AreReleasedHits s query.now strategy found × IsTableOf (keys column found) table) }
         ensures refused { (r : AnyRefusal) → result ≢ Err (Fault.Refused r) }
         ensures output { result ≢ Err Fault.Output }
-        ensures fails { HasCleanDisk (state S.Store self.new.conn) → (state S.Store self.old.conn).step_limit ≡ None → (s : Machine) → StandsFor S.Store self.old s → result ≢ Err Fault.NotADesk }
-        ensures kept { HasCleanDisk (state S.Store self.new.conn) → IsTrue (state S.Store self.new.conn).is_open → (s : Machine) → StandsFor S.Store self.old s → StandsFor S.Store self.new s }
-        ensures crash { (s : Machine) → StandsFor S.Store self.old s → Survives (state S.Store self.old.conn) (state S.Store self.new.conn) (λ _. ⊥) }
-        ensures lasts { Survives (state S.Store self.old.conn) (state S.Store self.new.conn) (λ _. (state S.Store self.old.conn).now.schema ≢ desk_schema) }
+        ensures fails { KnowsItself S.Store self.old self.new result }
+        ensures kept { StandsAsBefore S.Store self.old self.new }
+        ensures crash { WritesNothing S.Store self.old self.new }
+        ensures lasts { CommitsNothing S.Store self.old.conn self.new.conn }
         ensures limits { self.new.limits ≡ self.old.limits }
     {
         finding::count(self.alloc, &mut self.conn, query, strategy, column)
@@ -409,11 +409,11 @@ impl<S: Alter> Desk<S> {
         user: &str,
         body: &[u8],
     ) -> Result<Corrected, Fault>
-        ensures answered { HasCleanDisk (state S.Store self.new.conn) → IfOk result (λ reply. (s : Machine) → StandsFor S.Store self.old s → (t : Machine) × Steps self.old.limits s (correct_it number base user.now body.now) (replied (corrected_to reply)) t × StandsFor S.Store self.new t) }
-        ensures refused { HasCleanDisk (state S.Store self.new.conn) → IfErr result (λ e. (r : AnyRefusal) → e ≡ Fault.Refused r → (s : Machine) → StandsFor S.Store self.old s → Steps self.old.limits s (correct_it number base user.now body.now) (refused_by r) s × StandsFor S.Store self.new s) }
-        ensures fails { HasCleanDisk (state S.Store self.new.conn) → (state S.Store self.old.conn).step_limit ≡ None → (s : Machine) → StandsFor S.Store self.old s → result ≢ Err Fault.NotADesk }
-        ensures kept { HasCleanDisk (state S.Store self.new.conn) → IsTrue (state S.Store self.new.conn).is_open → IfErr result (λ _. (s : Machine) → StandsFor S.Store self.old s → StandsFor S.Store self.new s) }
-        ensures crash { Survives (state S.Store self.old.conn) (state S.Store self.new.conn) (λ db. (s : Machine) → StandsFor S.Store self.old s → (a : Answer) × (t : Machine) × Steps self.old.limits s (correct_it number base user.now body.now) a t × Stands (tables_of t) db) }
+        ensures answered { IsDoneAs S.Store self.old self.new result (correct_it number base user.now body.now) corrected_to }
+        ensures refused { IsRefusedAs S.Store self.old self.new result (correct_it number base user.now body.now) }
+        ensures fails { KnowsItself S.Store self.old self.new result }
+        ensures kept { StandsAsBeforeOnErr S.Store self.old self.new result }
+        ensures crash { CrashesWhole S.Store self.old self.new (correct_it number base user.now body.now) }
         ensures limits { self.new.limits ≡ self.old.limits }
     {
         let counts = self.counts();
@@ -472,11 +472,11 @@ impl<S: Alter> Desk<S> {
     ///
     /// The first of `BadName`, `NoSuchBatch`; `WrongState`, `NotYours`, `OwnWork`; `Full`.
     pub fn event(&mut self, name: &str, event: Event, user: &str) -> Result<Moved, Fault>
-        ensures answered { HasCleanDisk (state S.Store self.new.conn) → IfOk result (λ m. (s : Machine) → StandsFor S.Store self.old s → (t : Machine) × Steps self.old.limits s (event_on name.now event user.now) (replied (moved_on m)) t × StandsFor S.Store self.new t) }
-        ensures refused { HasCleanDisk (state S.Store self.new.conn) → IfErr result (λ e. (r : AnyRefusal) → e ≡ Fault.Refused r → (s : Machine) → StandsFor S.Store self.old s → Steps self.old.limits s (event_on name.now event user.now) (refused_by r) s × StandsFor S.Store self.new s) }
-        ensures fails { HasCleanDisk (state S.Store self.new.conn) → (state S.Store self.old.conn).step_limit ≡ None → (s : Machine) → StandsFor S.Store self.old s → result ≢ Err Fault.NotADesk }
-        ensures kept { HasCleanDisk (state S.Store self.new.conn) → IsTrue (state S.Store self.new.conn).is_open → IfErr result (λ _. (s : Machine) → StandsFor S.Store self.old s → StandsFor S.Store self.new s) }
-        ensures crash { Survives (state S.Store self.old.conn) (state S.Store self.new.conn) (λ db. (s : Machine) → StandsFor S.Store self.old s → (a : Answer) × (t : Machine) × Steps self.old.limits s (event_on name.now event user.now) a t × Stands (tables_of t) db) }
+        ensures answered { IsDoneAs S.Store self.old self.new result (event_on name.now event user.now) moved_on }
+        ensures refused { IsRefusedAs S.Store self.old self.new result (event_on name.now event user.now) }
+        ensures fails { KnowsItself S.Store self.old self.new result }
+        ensures kept { StandsAsBeforeOnErr S.Store self.old self.new result }
+        ensures crash { CrashesWhole S.Store self.old self.new (event_on name.now event user.now) }
         ensures limits { self.new.limits ≡ self.old.limits }
     {
         let counts = self.counts();
@@ -499,11 +499,11 @@ impl<S: Alter> Desk<S> {
     ///
     /// The first of `BadName`, `NoSuchSentence`; `WrongState`, `Pulled`; `Full`.
     pub fn pull(&mut self, number: u64, user: &str) -> Result<Pulled, Fault>
-        ensures answered { HasCleanDisk (state S.Store self.new.conn) → IfOk result (λ reply. (s : Machine) → StandsFor S.Store self.old s → (t : Machine) × Steps self.old.limits s (pull_it number user.now) (replied (pulled_out reply)) t × StandsFor S.Store self.new t) }
-        ensures refused { HasCleanDisk (state S.Store self.new.conn) → IfErr result (λ e. (r : AnyRefusal) → e ≡ Fault.Refused r → (s : Machine) → StandsFor S.Store self.old s → Steps self.old.limits s (pull_it number user.now) (refused_by r) s × StandsFor S.Store self.new s) }
-        ensures fails { HasCleanDisk (state S.Store self.new.conn) → (state S.Store self.old.conn).step_limit ≡ None → (s : Machine) → StandsFor S.Store self.old s → result ≢ Err Fault.NotADesk }
-        ensures kept { HasCleanDisk (state S.Store self.new.conn) → IsTrue (state S.Store self.new.conn).is_open → IfErr result (λ _. (s : Machine) → StandsFor S.Store self.old s → StandsFor S.Store self.new s) }
-        ensures crash { Survives (state S.Store self.old.conn) (state S.Store self.new.conn) (λ db. (s : Machine) → StandsFor S.Store self.old s → (a : Answer) × (t : Machine) × Steps self.old.limits s (pull_it number user.now) a t × Stands (tables_of t) db) }
+        ensures answered { IsDoneAs S.Store self.old self.new result (pull_it number user.now) pulled_out }
+        ensures refused { IsRefusedAs S.Store self.old self.new result (pull_it number user.now) }
+        ensures fails { KnowsItself S.Store self.old self.new result }
+        ensures kept { StandsAsBeforeOnErr S.Store self.old self.new result }
+        ensures crash { CrashesWhole S.Store self.old self.new (pull_it number user.now) }
         ensures limits { self.new.limits ≡ self.old.limits }
     {
         let counts = self.counts();
@@ -522,11 +522,11 @@ impl<S: Alter> Desk<S> {
     ///
     /// The first of `BadName`, `NoSuchSentence`; `WrongState`, `NotPulled`; `Full`.
     pub fn restore(&mut self, number: u64, user: &str) -> Result<Restored, Fault>
-        ensures answered { HasCleanDisk (state S.Store self.new.conn) → IfOk result (λ reply. (s : Machine) → StandsFor S.Store self.old s → (t : Machine) × Steps self.old.limits s (restore_it number user.now) (replied (restored_to reply)) t × StandsFor S.Store self.new t) }
-        ensures refused { HasCleanDisk (state S.Store self.new.conn) → IfErr result (λ e. (r : AnyRefusal) → e ≡ Fault.Refused r → (s : Machine) → StandsFor S.Store self.old s → Steps self.old.limits s (restore_it number user.now) (refused_by r) s × StandsFor S.Store self.new s) }
-        ensures fails { HasCleanDisk (state S.Store self.new.conn) → (state S.Store self.old.conn).step_limit ≡ None → (s : Machine) → StandsFor S.Store self.old s → result ≢ Err Fault.NotADesk }
-        ensures kept { HasCleanDisk (state S.Store self.new.conn) → IsTrue (state S.Store self.new.conn).is_open → IfErr result (λ _. (s : Machine) → StandsFor S.Store self.old s → StandsFor S.Store self.new s) }
-        ensures crash { Survives (state S.Store self.old.conn) (state S.Store self.new.conn) (λ db. (s : Machine) → StandsFor S.Store self.old s → (a : Answer) × (t : Machine) × Steps self.old.limits s (restore_it number user.now) a t × Stands (tables_of t) db) }
+        ensures answered { IsDoneAs S.Store self.old self.new result (restore_it number user.now) restored_to }
+        ensures refused { IsRefusedAs S.Store self.old self.new result (restore_it number user.now) }
+        ensures fails { KnowsItself S.Store self.old self.new result }
+        ensures kept { StandsAsBeforeOnErr S.Store self.old self.new result }
+        ensures crash { CrashesWhole S.Store self.old self.new (restore_it number user.now) }
         ensures limits { self.new.limits ≡ self.old.limits }
     {
         let counts = self.counts();
@@ -560,11 +560,11 @@ impl<S: Alter> Desk<S> {
     /// `BadName`, of the batch's name or the user's; of an import that is no repeat `Read`, `Rule`, `Empty`; `NameTaken`;
     /// `SentIdTaken`, with the place in the file, from 1, of the first such sentence; `Full`. The first that holds.
     pub fn import(&mut self, name: &str, user: &str, body: &[u8]) -> Result<Imported, Fault>
-        ensures answered { HasCleanDisk (state S.Store self.new.conn) → IfOk result (λ reply. (s : Machine) → StandsFor S.Store self.old s → (t : Machine) × Steps self.old.limits s (import_file name.now user.now body.now) (replied (imported reply)) t × StandsFor S.Store self.new t) }
-        ensures refused { HasCleanDisk (state S.Store self.new.conn) → IfErr result (λ e. (r : AnyRefusal) → e ≡ Fault.Refused r → (s : Machine) → StandsFor S.Store self.old s → Steps self.old.limits s (import_file name.now user.now body.now) (refused_by r) s × StandsFor S.Store self.new s) }
-        ensures fails { HasCleanDisk (state S.Store self.new.conn) → (state S.Store self.old.conn).step_limit ≡ None → (s : Machine) → StandsFor S.Store self.old s → result ≢ Err Fault.NotADesk }
-        ensures kept { HasCleanDisk (state S.Store self.new.conn) → IsTrue (state S.Store self.new.conn).is_open → IfErr result (λ _. (s : Machine) → StandsFor S.Store self.old s → StandsFor S.Store self.new s) }
-        ensures crash { Survives (state S.Store self.old.conn) (state S.Store self.new.conn) (λ db. (s : Machine) → StandsFor S.Store self.old s → (a : Answer) × (t : Machine) × Steps self.old.limits s (import_file name.now user.now body.now) a t × Stands (tables_of t) db) }
+        ensures answered { IsDoneAs S.Store self.old self.new result (import_file name.now user.now body.now) imported }
+        ensures refused { IsRefusedAs S.Store self.old self.new result (import_file name.now user.now body.now) }
+        ensures fails { KnowsItself S.Store self.old self.new result }
+        ensures kept { StandsAsBeforeOnErr S.Store self.old self.new result }
+        ensures crash { CrashesWhole S.Store self.old self.new (import_file name.now user.now body.now) }
         ensures limits { self.new.limits ≡ self.old.limits }
     {
         let known = self.known();

@@ -6,3 +6,4 @@ pub mod Making
 pub mod Values
 pub mod Commands
 pub mod Failing
+pub mod Leaving

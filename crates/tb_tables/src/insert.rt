@@ -1,12 +1,12 @@
 //! New rows. Each takes the number that follows the rows that are there.
 
-ghost use Rattle.std.specs.Prelude.{◌≡◌, ◌≢◌, ◌⊎◌, ◌+◌, ◌<◌, ◌^◌, length, None, IfErr, OnOk, string_bytes};
-ghost use Rattle.sqlite.specs.State.{HasCleanDisk, KeepsCommit, Survives};
+ghost use Rattle.std.specs.Prelude.{◌≡◌, ◌≢◌, ◌⊎◌, ◌+◌, ◌<◌, ◌^◌, length, string_bytes};
+ghost use Rattle.sqlite.specs.State.{Survives};
 ghost use Rattle.sqlite.specs.Held.{state};
-ghost use Rattle.tb_tables.specs.Records.{Tables, Stands};
-ghost use Rattle.tb_tables.specs.Changes.{IsInside, Changes, with_batch, with_sentence, with_revision, with_move, with_pulled};
+ghost use Rattle.tb_tables.specs.Changes.{with_batch, with_sentence, with_revision, with_move, with_pulled};
 ghost use Rattle.tb_tables.specs.Failing.{IsStoreFault, IsRoomFault, Lacks, AreUnique};
 ghost use Rattle.tb_tables.specs.Values.{move_of};
+ghost use Rattle.tb_tables.specs.Leaving.{FailsInside, KeepsCommitted, StandsIn, StaysInside, Turns};
 
 use crate::rows::MoveRow;
 use sqlite::{Alter, Constraint, Error, ErrorCode, Transaction, params};
@@ -20,10 +20,10 @@ pub fn insert_batch<S: Alter>(
     worker: &str,
 ) -> Result<(), Error>
     ensures same_reference { tx.new.conn.ghost_name ≡ tx.old.conn.ghost_name }
-    ensures ok { HasCleanDisk (state S.Store tx.new.conn.now) → OnOk result (IsInside (state S.Store tx.old.conn.now) → (d : Tables) → no ≡ 1 + length d.batches → Changes (state S.Store tx.old.conn.now) (state S.Store tx.new.conn.now) d (with_batch d (record { name = name.now; state = in_state; worker = worker.now }))) }
-    ensures fails { HasCleanDisk (state S.Store tx.new.conn.now) → (state S.Store tx.old.conn.now).step_limit ≡ None → IsInside (state S.Store tx.old.conn.now) → (d : Tables) → Stands d (state S.Store tx.old.conn.now).now.trees → no ≡ 1 + length d.batches → AreUnique (with_batch d (record { name = name.now; state = in_state; worker = worker.now })) → IfErr result IsStoreFault }
-    ensures inside { HasCleanDisk (state S.Store tx.new.conn.now) → OnOk result (IsInside (state S.Store tx.old.conn.now) → IsInside (state S.Store tx.new.conn.now)) }
-    ensures kept { HasCleanDisk (state S.Store tx.new.conn.now) → KeepsCommit (state S.Store tx.old.conn.now) (state S.Store tx.new.conn.now) }
+    ensures ok { Turns S.Store tx.old.conn.now tx.new.conn.now result (λ d into. no ≡ 1 + length d.batches → into (with_batch d (record { name = name.now; state = in_state; worker = worker.now }))) }
+    ensures fails { FailsInside IsStoreFault S.Store tx.old.conn.now tx.new.conn.now result (λ d fails. StandsIn S.Store tx.old.conn.now d → no ≡ 1 + length d.batches → AreUnique (with_batch d (record { name = name.now; state = in_state; worker = worker.now })) → fails) }
+    ensures inside { StaysInside S.Store tx.old.conn.now tx.new.conn.now result }
+    ensures kept { KeepsCommitted S.Store tx.old.conn.now tx.new.conn.now }
     ensures survives { Survives (state S.Store tx.old.conn.now) (state S.Store tx.new.conn.now) (λ _. ⊥) }
 {
     tx.execute(
@@ -43,10 +43,10 @@ pub fn insert_sentence<S: Alter>(
     words: u32,
 ) -> Result<(), Error>
     ensures same_reference { tx.new.conn.ghost_name ≡ tx.old.conn.ghost_name }
-    ensures ok { HasCleanDisk (state S.Store tx.new.conn.now) → OnOk result (IsInside (state S.Store tx.old.conn.now) → (d : Tables) → no ≡ 1 + length d.sentences → Changes (state S.Store tx.old.conn.now) (state S.Store tx.new.conn.now) d (with_sentence d (record { sent_id = sent_id.now; batch = batch; rev = rev; words = words }))) }
-    ensures fails { HasCleanDisk (state S.Store tx.new.conn.now) → (state S.Store tx.old.conn.now).step_limit ≡ None → IsInside (state S.Store tx.old.conn.now) → (d : Tables) → Stands d (state S.Store tx.old.conn.now).now.trees → no ≡ 1 + length d.sentences → AreUnique (with_sentence d (record { sent_id = sent_id.now; batch = batch; rev = rev; words = words })) → IfErr result IsStoreFault }
-    ensures inside { HasCleanDisk (state S.Store tx.new.conn.now) → OnOk result (IsInside (state S.Store tx.old.conn.now) → IsInside (state S.Store tx.new.conn.now)) }
-    ensures kept { HasCleanDisk (state S.Store tx.new.conn.now) → KeepsCommit (state S.Store tx.old.conn.now) (state S.Store tx.new.conn.now) }
+    ensures ok { Turns S.Store tx.old.conn.now tx.new.conn.now result (λ d into. no ≡ 1 + length d.sentences → into (with_sentence d (record { sent_id = sent_id.now; batch = batch; rev = rev; words = words }))) }
+    ensures fails { FailsInside IsStoreFault S.Store tx.old.conn.now tx.new.conn.now result (λ d fails. StandsIn S.Store tx.old.conn.now d → no ≡ 1 + length d.sentences → AreUnique (with_sentence d (record { sent_id = sent_id.now; batch = batch; rev = rev; words = words })) → fails) }
+    ensures inside { StaysInside S.Store tx.old.conn.now tx.new.conn.now result }
+    ensures kept { KeepsCommitted S.Store tx.old.conn.now tx.new.conn.now }
     ensures survives { Survives (state S.Store tx.old.conn.now) (state S.Store tx.new.conn.now) (λ _. ⊥) }
 {
     tx.execute(
@@ -77,10 +77,10 @@ pub fn insert_revision<S: Alter>(
     body: &str,
 ) -> Result<(), Error>
     ensures same_reference { tx.new.conn.ghost_name ≡ tx.old.conn.ghost_name }
-    ensures ok { HasCleanDisk (state S.Store tx.new.conn.now) → OnOk result (IsInside (state S.Store tx.old.conn.now) → (d : Tables) → Changes (state S.Store tx.old.conn.now) (state S.Store tx.new.conn.now) d (with_revision d (record { sent = sent; rev = rev; who = who.now; body = body.now }))) }
-    ensures fails { HasCleanDisk (state S.Store tx.new.conn.now) → (state S.Store tx.old.conn.now).step_limit ≡ None → IsInside (state S.Store tx.old.conn.now) → (d : Tables) → Stands d (state S.Store tx.old.conn.now).now.trees → AreUnique (with_revision d (record { sent = sent; rev = rev; who = who.now; body = body.now })) → IfErr result IsRoomFault }
-    ensures inside { HasCleanDisk (state S.Store tx.new.conn.now) → OnOk result (IsInside (state S.Store tx.old.conn.now) → IsInside (state S.Store tx.new.conn.now)) }
-    ensures kept { HasCleanDisk (state S.Store tx.new.conn.now) → KeepsCommit (state S.Store tx.old.conn.now) (state S.Store tx.new.conn.now) }
+    ensures ok { Turns S.Store tx.old.conn.now tx.new.conn.now result (λ d into. into (with_revision d (record { sent = sent; rev = rev; who = who.now; body = body.now }))) }
+    ensures fails { FailsInside IsRoomFault S.Store tx.old.conn.now tx.new.conn.now result (λ d fails. StandsIn S.Store tx.old.conn.now d → AreUnique (with_revision d (record { sent = sent; rev = rev; who = who.now; body = body.now })) → fails) }
+    ensures inside { StaysInside S.Store tx.old.conn.now tx.new.conn.now result }
+    ensures kept { KeepsCommitted S.Store tx.old.conn.now tx.new.conn.now }
     ensures survives { Survives (state S.Store tx.old.conn.now) (state S.Store tx.new.conn.now) (λ _. ⊥) }
 {
     match tx.execute(
@@ -95,10 +95,10 @@ pub fn insert_revision<S: Alter>(
 /// Adds a move under the next number.
 pub fn insert_move<S: Alter>(tx: &mut Transaction<'_, S>, no: u32, m: &MoveRow) -> Result<(), Error>
     ensures same_reference { tx.new.conn.ghost_name ≡ tx.old.conn.ghost_name }
-    ensures ok { HasCleanDisk (state S.Store tx.new.conn.now) → OnOk result (IsInside (state S.Store tx.old.conn.now) → (d : Tables) → no ≡ 1 + length d.moves → Changes (state S.Store tx.old.conn.now) (state S.Store tx.new.conn.now) d (with_move d (move_of m.now))) }
-    ensures fails { HasCleanDisk (state S.Store tx.new.conn.now) → (state S.Store tx.old.conn.now).step_limit ≡ None → IsInside (state S.Store tx.old.conn.now) → (d : Tables) → Stands d (state S.Store tx.old.conn.now).now.trees → no ≡ 1 + length d.moves → AreUnique d → IfErr result IsStoreFault }
-    ensures inside { HasCleanDisk (state S.Store tx.new.conn.now) → OnOk result (IsInside (state S.Store tx.old.conn.now) → IsInside (state S.Store tx.new.conn.now)) }
-    ensures kept { HasCleanDisk (state S.Store tx.new.conn.now) → KeepsCommit (state S.Store tx.old.conn.now) (state S.Store tx.new.conn.now) }
+    ensures ok { Turns S.Store tx.old.conn.now tx.new.conn.now result (λ d into. no ≡ 1 + length d.moves → into (with_move d (move_of m.now))) }
+    ensures fails { FailsInside IsStoreFault S.Store tx.old.conn.now tx.new.conn.now result (λ d fails. StandsIn S.Store tx.old.conn.now d → no ≡ 1 + length d.moves → AreUnique d → fails) }
+    ensures inside { StaysInside S.Store tx.old.conn.now tx.new.conn.now result }
+    ensures kept { KeepsCommitted S.Store tx.old.conn.now tx.new.conn.now }
     ensures survives { Survives (state S.Store tx.old.conn.now) (state S.Store tx.new.conn.now) (λ _. ⊥) }
 {
     tx.execute(
@@ -122,10 +122,10 @@ pub fn insert_move<S: Alter>(tx: &mut Transaction<'_, S>, no: u32, m: &MoveRow) 
 /// Adds a sentence to those that are pulled.
 pub fn insert_pulled<S: Alter>(tx: &mut Transaction<'_, S>, sent: u32) -> Result<(), Error>
     ensures same_reference { tx.new.conn.ghost_name ≡ tx.old.conn.ghost_name }
-    ensures ok { HasCleanDisk (state S.Store tx.new.conn.now) → OnOk result (IsInside (state S.Store tx.old.conn.now) → (d : Tables) → Changes (state S.Store tx.old.conn.now) (state S.Store tx.new.conn.now) d (with_pulled d sent)) }
-    ensures fails { HasCleanDisk (state S.Store tx.new.conn.now) → (state S.Store tx.old.conn.now).step_limit ≡ None → IsInside (state S.Store tx.old.conn.now) → (d : Tables) → Stands d (state S.Store tx.old.conn.now).now.trees → Lacks d.pulled sent → AreUnique d → IfErr result IsStoreFault }
-    ensures inside { HasCleanDisk (state S.Store tx.new.conn.now) → OnOk result (IsInside (state S.Store tx.old.conn.now) → IsInside (state S.Store tx.new.conn.now)) }
-    ensures kept { HasCleanDisk (state S.Store tx.new.conn.now) → KeepsCommit (state S.Store tx.old.conn.now) (state S.Store tx.new.conn.now) }
+    ensures ok { Turns S.Store tx.old.conn.now tx.new.conn.now result (λ d into. into (with_pulled d sent)) }
+    ensures fails { FailsInside IsStoreFault S.Store tx.old.conn.now tx.new.conn.now result (λ d fails. StandsIn S.Store tx.old.conn.now d → Lacks d.pulled sent → AreUnique d → fails) }
+    ensures inside { StaysInside S.Store tx.old.conn.now tx.new.conn.now result }
+    ensures kept { KeepsCommitted S.Store tx.old.conn.now tx.new.conn.now }
     ensures survives { Survives (state S.Store tx.old.conn.now) (state S.Store tx.new.conn.now) (λ _. ⊥) }
 {
     tx.execute("INSERT INTO pulled(sent) VALUES (?1)", params![sent])?;

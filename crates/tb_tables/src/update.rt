@@ -1,11 +1,12 @@
 //! Rows that change.
 
-ghost use Rattle.std.specs.Prelude.{◌≡◌, ◌<◌, ◌-◌, IfErr, None, OnOk, Some, slice_get};
-ghost use Rattle.sqlite.specs.State.{HasCleanDisk, KeepsCommit, Survives};
+ghost use Rattle.std.specs.Prelude.{◌≡◌, ◌<◌, ◌-◌, Some, slice_get};
+ghost use Rattle.sqlite.specs.State.{Survives};
 ghost use Rattle.sqlite.specs.Held.{state};
-ghost use Rattle.tb_tables.specs.Records.{Tables, Batch, Sentence, Total, Stands};
-ghost use Rattle.tb_tables.specs.Changes.{IsInside, Changes, batch_replaced, sentence_replaced, total_replaced, without_pulled};
+ghost use Rattle.tb_tables.specs.Records.{Batch, Sentence, Total};
+ghost use Rattle.tb_tables.specs.Changes.{batch_replaced, sentence_replaced, total_replaced, without_pulled};
 ghost use Rattle.tb_tables.specs.Failing.{IsStoreFault, AreUnique};
+ghost use Rattle.tb_tables.specs.Leaving.{FailsInside, KeepsCommitted, StandsIn, StaysInside, Turns};
 
 use sqlite::{Alter, Error, Transaction, params};
 
@@ -18,10 +19,10 @@ pub fn update_batch<S: Alter>(
 ) -> Result<(), Error>
     requires row { 0 < no }
     ensures same_reference { tx.new.conn.ghost_name ≡ tx.old.conn.ghost_name }
-    ensures ok { HasCleanDisk (state S.Store tx.new.conn.now) → OnOk result (IsInside (state S.Store tx.old.conn.now) → (d : Tables) → (b : Batch) → slice_get d.batches (no - 1) ≡ Some b → Stands d (state S.Store tx.old.conn.now).now.trees → Changes (state S.Store tx.old.conn.now) (state S.Store tx.new.conn.now) d (batch_replaced d no (record b { state = in_state; worker = worker.now }))) }
-    ensures fails { HasCleanDisk (state S.Store tx.new.conn.now) → (state S.Store tx.old.conn.now).step_limit ≡ None → IsInside (state S.Store tx.old.conn.now) → (d : Tables) → Stands d (state S.Store tx.old.conn.now).now.trees → AreUnique d → IfErr result IsStoreFault }
-    ensures inside { HasCleanDisk (state S.Store tx.new.conn.now) → OnOk result (IsInside (state S.Store tx.old.conn.now) → IsInside (state S.Store tx.new.conn.now)) }
-    ensures kept { HasCleanDisk (state S.Store tx.new.conn.now) → KeepsCommit (state S.Store tx.old.conn.now) (state S.Store tx.new.conn.now) }
+    ensures ok { Turns S.Store tx.old.conn.now tx.new.conn.now result (λ d into. (b : Batch) → slice_get d.batches (no - 1) ≡ Some b → StandsIn S.Store tx.old.conn.now d → into (batch_replaced d no (record b { state = in_state; worker = worker.now }))) }
+    ensures fails { FailsInside IsStoreFault S.Store tx.old.conn.now tx.new.conn.now result (λ d fails. StandsIn S.Store tx.old.conn.now d → AreUnique d → fails) }
+    ensures inside { StaysInside S.Store tx.old.conn.now tx.new.conn.now result }
+    ensures kept { KeepsCommitted S.Store tx.old.conn.now tx.new.conn.now }
     ensures survives { Survives (state S.Store tx.old.conn.now) (state S.Store tx.new.conn.now) (λ _. ⊥) }
 {
     tx.execute(
@@ -40,10 +41,10 @@ pub fn update_sentence<S: Alter>(
 ) -> Result<(), Error>
     requires row { 0 < no }
     ensures same_reference { tx.new.conn.ghost_name ≡ tx.old.conn.ghost_name }
-    ensures ok { HasCleanDisk (state S.Store tx.new.conn.now) → OnOk result (IsInside (state S.Store tx.old.conn.now) → (d : Tables) → (s : Sentence) → slice_get d.sentences (no - 1) ≡ Some s → Stands d (state S.Store tx.old.conn.now).now.trees → Changes (state S.Store tx.old.conn.now) (state S.Store tx.new.conn.now) d (sentence_replaced d no (record s { rev = rev; words = words }))) }
-    ensures fails { HasCleanDisk (state S.Store tx.new.conn.now) → (state S.Store tx.old.conn.now).step_limit ≡ None → IsInside (state S.Store tx.old.conn.now) → (d : Tables) → Stands d (state S.Store tx.old.conn.now).now.trees → AreUnique d → IfErr result IsStoreFault }
-    ensures inside { HasCleanDisk (state S.Store tx.new.conn.now) → OnOk result (IsInside (state S.Store tx.old.conn.now) → IsInside (state S.Store tx.new.conn.now)) }
-    ensures kept { HasCleanDisk (state S.Store tx.new.conn.now) → KeepsCommit (state S.Store tx.old.conn.now) (state S.Store tx.new.conn.now) }
+    ensures ok { Turns S.Store tx.old.conn.now tx.new.conn.now result (λ d into. (s : Sentence) → slice_get d.sentences (no - 1) ≡ Some s → StandsIn S.Store tx.old.conn.now d → into (sentence_replaced d no (record s { rev = rev; words = words }))) }
+    ensures fails { FailsInside IsStoreFault S.Store tx.old.conn.now tx.new.conn.now result (λ d fails. StandsIn S.Store tx.old.conn.now d → AreUnique d → fails) }
+    ensures inside { StaysInside S.Store tx.old.conn.now tx.new.conn.now result }
+    ensures kept { KeepsCommitted S.Store tx.old.conn.now tx.new.conn.now }
     ensures survives { Survives (state S.Store tx.old.conn.now) (state S.Store tx.new.conn.now) (λ _. ⊥) }
 {
     tx.execute(
@@ -62,10 +63,10 @@ pub fn update_total<S: Alter>(
 ) -> Result<(), Error>
     requires row { 0 < number }
     ensures same_reference { tx.new.conn.ghost_name ≡ tx.old.conn.ghost_name }
-    ensures ok { HasCleanDisk (state S.Store tx.new.conn.now) → OnOk result (IsInside (state S.Store tx.old.conn.now) → (d : Tables) → (t : Total) → slice_get d.totals (number - 1) ≡ Some t → Stands d (state S.Store tx.old.conn.now).now.trees → Changes (state S.Store tx.old.conn.now) (state S.Store tx.new.conn.now) d (total_replaced d number (record { sentences = sentences; words = words }))) }
-    ensures fails { HasCleanDisk (state S.Store tx.new.conn.now) → (state S.Store tx.old.conn.now).step_limit ≡ None → IsInside (state S.Store tx.old.conn.now) → (d : Tables) → Stands d (state S.Store tx.old.conn.now).now.trees → AreUnique d → IfErr result IsStoreFault }
-    ensures inside { HasCleanDisk (state S.Store tx.new.conn.now) → OnOk result (IsInside (state S.Store tx.old.conn.now) → IsInside (state S.Store tx.new.conn.now)) }
-    ensures kept { HasCleanDisk (state S.Store tx.new.conn.now) → KeepsCommit (state S.Store tx.old.conn.now) (state S.Store tx.new.conn.now) }
+    ensures ok { Turns S.Store tx.old.conn.now tx.new.conn.now result (λ d into. (t : Total) → slice_get d.totals (number - 1) ≡ Some t → StandsIn S.Store tx.old.conn.now d → into (total_replaced d number (record { sentences = sentences; words = words }))) }
+    ensures fails { FailsInside IsStoreFault S.Store tx.old.conn.now tx.new.conn.now result (λ d fails. StandsIn S.Store tx.old.conn.now d → AreUnique d → fails) }
+    ensures inside { StaysInside S.Store tx.old.conn.now tx.new.conn.now result }
+    ensures kept { KeepsCommitted S.Store tx.old.conn.now tx.new.conn.now }
     ensures survives { Survives (state S.Store tx.old.conn.now) (state S.Store tx.new.conn.now) (λ _. ⊥) }
 {
     tx.execute(
@@ -78,10 +79,10 @@ pub fn update_total<S: Alter>(
 /// Takes a sentence from those that are pulled. One that is not there changes nothing.
 pub fn delete_pulled<S: Alter>(tx: &mut Transaction<'_, S>, sent: u32) -> Result<(), Error>
     ensures same_reference { tx.new.conn.ghost_name ≡ tx.old.conn.ghost_name }
-    ensures ok { HasCleanDisk (state S.Store tx.new.conn.now) → OnOk result (IsInside (state S.Store tx.old.conn.now) → (d : Tables) → Stands d (state S.Store tx.old.conn.now).now.trees → Changes (state S.Store tx.old.conn.now) (state S.Store tx.new.conn.now) d (without_pulled d sent)) }
-    ensures fails { HasCleanDisk (state S.Store tx.new.conn.now) → (state S.Store tx.old.conn.now).step_limit ≡ None → IsInside (state S.Store tx.old.conn.now) → (d : Tables) → Stands d (state S.Store tx.old.conn.now).now.trees → AreUnique d → IfErr result IsStoreFault }
-    ensures inside { HasCleanDisk (state S.Store tx.new.conn.now) → OnOk result (IsInside (state S.Store tx.old.conn.now) → IsInside (state S.Store tx.new.conn.now)) }
-    ensures kept { HasCleanDisk (state S.Store tx.new.conn.now) → KeepsCommit (state S.Store tx.old.conn.now) (state S.Store tx.new.conn.now) }
+    ensures ok { Turns S.Store tx.old.conn.now tx.new.conn.now result (λ d into. StandsIn S.Store tx.old.conn.now d → into (without_pulled d sent)) }
+    ensures fails { FailsInside IsStoreFault S.Store tx.old.conn.now tx.new.conn.now result (λ d fails. StandsIn S.Store tx.old.conn.now d → AreUnique d → fails) }
+    ensures inside { StaysInside S.Store tx.old.conn.now tx.new.conn.now result }
+    ensures kept { KeepsCommitted S.Store tx.old.conn.now tx.new.conn.now }
     ensures survives { Survives (state S.Store tx.old.conn.now) (state S.Store tx.new.conn.now) (λ _. ⊥) }
 {
     tx.execute("DELETE FROM pulled WHERE sent = ?1", params![sent])?;

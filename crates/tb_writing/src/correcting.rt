@@ -1,14 +1,15 @@
 //! A correction of a sentence.
 
-ghost use Rattle.std.specs.Prelude.{◌≡◌, ◌<◌, ◌-◌, Some, None, slice_get, false, IsTrue, IfErr, OnOk, OnErr};
-ghost use Rattle.sqlite.specs.State.{HasCleanDisk, KeepsCommit, Survives};
+ghost use Rattle.std.specs.Prelude.{◌≡◌, ◌<◌, ◌-◌, Some, slice_get, false};
+ghost use Rattle.sqlite.specs.State.{Survives};
 ghost use Rattle.sqlite.specs.Held.{state};
-ghost use Rattle.tb_tables.specs.Records.{Tables, Sentence, Stands};
-ghost use Rattle.tb_tables.specs.Changes.{IsInside, Changes, Holds, with_revision};
+ghost use Rattle.tb_tables.specs.Records.{Sentence};
+ghost use Rattle.tb_tables.specs.Changes.{with_revision};
 ghost use Rattle.tb_tables.specs.Values.{move_of, total_of};
 ghost use Rattle.tb_tables.specs.Commands.{after_correction};
 ghost use Rattle.tb_tables.specs.Failing.{IsRoomFault, AreUnique};
 ghost use Rattle.tb_writing.specs.Premises.{Follows};
+ghost use Rattle.tb_tables.specs.Leaving.{CrashesInto, FailsInside, FailsOn, KeepsCommitted, KeepsRecordsOnErr, Leads, StandsIn, StaysInside, Turns};
 
 use crate::recording::{Change, record};
 use sqlite::{Alter, Connection, Error, Transaction};
@@ -26,10 +27,10 @@ fn correct<S: Alter>(
 ) -> Result<(), Error>
     requires row { 0 < number }
     ensures same_reference { tx.new.conn.ghost_name ≡ tx.old.conn.ghost_name }
-    ensures ok { HasCleanDisk (state S.Store tx.new.conn.now) → OnOk result (IsInside (state S.Store tx.old.conn.now) → (d : Tables) → (s : Sentence) → slice_get d.sentences (number - 1) ≡ Some s → Follows d change.now → Stands d (state S.Store tx.old.conn.now).now.trees → Changes (state S.Store tx.old.conn.now) (state S.Store tx.new.conn.now) d (after_correction d number s (record { sent = number; rev = rev; who = who.now; body = body.now }) words (move_of change.now.row) (total_of change.now.left) (total_of change.now.reached))) }
-    ensures fails { HasCleanDisk (state S.Store tx.new.conn.now) → (state S.Store tx.old.conn.now).step_limit ≡ None → IsInside (state S.Store tx.old.conn.now) → (d : Tables) → (s : Sentence) → slice_get d.sentences (number - 1) ≡ Some s → Follows d change.now → Stands d (state S.Store tx.old.conn.now).now.trees → AreUnique (with_revision d (record { sent = number; rev = rev; who = who.now; body = body.now })) → IfErr result IsRoomFault }
-    ensures inside { HasCleanDisk (state S.Store tx.new.conn.now) → OnOk result (IsInside (state S.Store tx.old.conn.now) → IsInside (state S.Store tx.new.conn.now)) }
-    ensures kept { HasCleanDisk (state S.Store tx.new.conn.now) → KeepsCommit (state S.Store tx.old.conn.now) (state S.Store tx.new.conn.now) }
+    ensures ok { Turns S.Store tx.old.conn.now tx.new.conn.now result (λ d into. (s : Sentence) → slice_get d.sentences (number - 1) ≡ Some s → Follows d change.now → StandsIn S.Store tx.old.conn.now d → into (after_correction d number s (record { sent = number; rev = rev; who = who.now; body = body.now }) words (move_of change.now.row) (total_of change.now.left) (total_of change.now.reached))) }
+    ensures fails { FailsInside IsRoomFault S.Store tx.old.conn.now tx.new.conn.now result (λ d fails. (s : Sentence) → slice_get d.sentences (number - 1) ≡ Some s → Follows d change.now → StandsIn S.Store tx.old.conn.now d → AreUnique (with_revision d (record { sent = number; rev = rev; who = who.now; body = body.now })) → fails) }
+    ensures inside { StaysInside S.Store tx.old.conn.now tx.new.conn.now result }
+    ensures kept { KeepsCommitted S.Store tx.old.conn.now tx.new.conn.now }
     ensures survives { Survives (state S.Store tx.old.conn.now) (state S.Store tx.new.conn.now) (λ _. ⊥) }
 {
     insert_revision(tx, number, rev, who, body)?;
@@ -55,10 +56,10 @@ pub fn write_correction<S: Alter>(
 ) -> Result<(), Error>
     requires autocommit { conn.old.in_transaction ≡ false }
     requires row { 0 < number }
-    ensures ok { HasCleanDisk (state S.Store conn.new) → OnOk result ((d : Tables) → Holds S.Store conn.old d → (s : Sentence) → slice_get d.sentences (number - 1) ≡ Some s → Follows d change.now → Holds S.Store conn.new (after_correction d number s (record { sent = number; rev = rev; who = who.now; body = body.now }) words (move_of change.now.row) (total_of change.now.left) (total_of change.now.reached))) }
-    ensures fails { HasCleanDisk (state S.Store conn.new) → (state S.Store conn.old).step_limit ≡ None → (d : Tables) → Holds S.Store conn.old d → (s : Sentence) → slice_get d.sentences (number - 1) ≡ Some s → Follows d change.now → AreUnique (with_revision d (record { sent = number; rev = rev; who = who.now; body = body.now })) → IfErr result IsRoomFault }
-    ensures err { HasCleanDisk (state S.Store conn.new) → IsTrue (state S.Store conn.new).is_open → OnErr result ((d : Tables) → Holds S.Store conn.old d → Holds S.Store conn.new d) }
-    ensures crash { Survives (state S.Store conn.old) (state S.Store conn.new) (λ db. (d : Tables) → Holds S.Store conn.old d → (s : Sentence) → slice_get d.sentences (number - 1) ≡ Some s → Follows d change.now → Stands (after_correction d number s (record { sent = number; rev = rev; who = who.now; body = body.now }) words (move_of change.now.row) (total_of change.now.left) (total_of change.now.reached)) db) }
+    ensures ok { Leads S.Store conn.old conn.new result (λ d into. (s : Sentence) → slice_get d.sentences (number - 1) ≡ Some s → Follows d change.now → into (after_correction d number s (record { sent = number; rev = rev; who = who.now; body = body.now }) words (move_of change.now.row) (total_of change.now.left) (total_of change.now.reached))) }
+    ensures fails { FailsOn IsRoomFault S.Store conn.old conn.new result (λ d fails. (s : Sentence) → slice_get d.sentences (number - 1) ≡ Some s → Follows d change.now → AreUnique (with_revision d (record { sent = number; rev = rev; who = who.now; body = body.now })) → fails) }
+    ensures err { KeepsRecordsOnErr S.Store conn.old conn.new result }
+    ensures crash { CrashesInto S.Store conn.old conn.new (λ d into. (s : Sentence) → slice_get d.sentences (number - 1) ≡ Some s → Follows d change.now → into (after_correction d number s (record { sent = number; rev = rev; who = who.now; body = body.now }) words (move_of change.now.row) (total_of change.now.left) (total_of change.now.reached))) }
     ensures mode { conn.new.in_transaction ≡ false }
 {
     let mut tx = conn.transaction();

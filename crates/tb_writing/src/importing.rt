@@ -1,14 +1,14 @@
 //! The import of a file.
 
-ghost use Rattle.std.specs.Prelude.{◌≡◌, ◌+◌, ◌<◌, ◌^◌, length, None, false, [], IsTrue, IfErr, OnOk, OnErr};
-ghost use Rattle.sqlite.specs.State.{HasCleanDisk, KeepsCommit, Survives};
+ghost use Rattle.std.specs.Prelude.{◌≡◌, ◌+◌, ◌<◌, ◌^◌, length, false, []};
+ghost use Rattle.sqlite.specs.State.{Survives};
 ghost use Rattle.sqlite.specs.Held.{state};
-ghost use Rattle.tb_tables.specs.Records.{Tables, Stands};
-ghost use Rattle.tb_tables.specs.Changes.{IsInside, Changes, Holds, with_batch};
+ghost use Rattle.tb_tables.specs.Changes.{with_batch};
 ghost use Rattle.tb_tables.specs.Values.{move_of, total_of};
 ghost use Rattle.tb_tables.specs.Commands.{Item as ItemRecord, with_item, with_items, after_import};
 ghost use Rattle.tb_tables.specs.Failing.{IsRoomFault, AreUnique};
 ghost use Rattle.tb_writing.specs.Premises.{Follows};
+ghost use Rattle.tb_tables.specs.Leaving.{CrashesInto, FailsInside, FailsOn, KeepsCommitted, KeepsRecordsOnErr, Leads, StandsIn, StaysInside, Turns};
 
 use crate::recording::{Change, record};
 use sqlite::{Alter, Connection, Error, Transaction};
@@ -40,10 +40,10 @@ fn insert_item<S: Alter>(
     item: &Item<'_>,
 ) -> Result<(), Error>
     ensures same_reference { tx.new.conn.ghost_name ≡ tx.old.conn.ghost_name }
-    ensures ok { HasCleanDisk (state S.Store tx.new.conn.now) → OnOk result (IsInside (state S.Store tx.old.conn.now) → (d : Tables) → number ≡ 1 + length d.sentences → Changes (state S.Store tx.old.conn.now) (state S.Store tx.new.conn.now) d (with_item batch who.now d item.now)) }
-    ensures fails { HasCleanDisk (state S.Store tx.new.conn.now) → (state S.Store tx.old.conn.now).step_limit ≡ None → IsInside (state S.Store tx.old.conn.now) → (d : Tables) → Stands d (state S.Store tx.old.conn.now).now.trees → number ≡ 1 + length d.sentences → AreUnique (with_item batch who.now d item.now) → IfErr result IsRoomFault }
-    ensures inside { HasCleanDisk (state S.Store tx.new.conn.now) → OnOk result (IsInside (state S.Store tx.old.conn.now) → IsInside (state S.Store tx.new.conn.now)) }
-    ensures kept { HasCleanDisk (state S.Store tx.new.conn.now) → KeepsCommit (state S.Store tx.old.conn.now) (state S.Store tx.new.conn.now) }
+    ensures ok { Turns S.Store tx.old.conn.now tx.new.conn.now result (λ d into. number ≡ 1 + length d.sentences → into (with_item batch who.now d item.now)) }
+    ensures fails { FailsInside IsRoomFault S.Store tx.old.conn.now tx.new.conn.now result (λ d fails. StandsIn S.Store tx.old.conn.now d → number ≡ 1 + length d.sentences → AreUnique (with_item batch who.now d item.now) → fails) }
+    ensures inside { StaysInside S.Store tx.old.conn.now tx.new.conn.now result }
+    ensures kept { KeepsCommitted S.Store tx.old.conn.now tx.new.conn.now }
     ensures survives { Survives (state S.Store tx.old.conn.now) (state S.Store tx.new.conn.now) (λ _. ⊥) }
 {
     insert_sentence(tx, number, item.sent_id, batch, 1, item.words)?;
@@ -61,10 +61,10 @@ fn insert_items<S: Alter>(
 ) -> Result<(), Error>
     requires fits { first + length items.now < 2 ^ 32 }
     ensures same_reference { tx.new.conn.ghost_name ≡ tx.old.conn.ghost_name }
-    ensures ok { HasCleanDisk (state S.Store tx.new.conn.now) → OnOk result (IsInside (state S.Store tx.old.conn.now) → (d : Tables) → first ≡ 1 + length d.sentences → Changes (state S.Store tx.old.conn.now) (state S.Store tx.new.conn.now) d (with_items batch who.now d items.now)) }
-    ensures fails { HasCleanDisk (state S.Store tx.new.conn.now) → (state S.Store tx.old.conn.now).step_limit ≡ None → IsInside (state S.Store tx.old.conn.now) → (d : Tables) → Stands d (state S.Store tx.old.conn.now).now.trees → first ≡ 1 + length d.sentences → AreUnique (with_items batch who.now d items.now) → IfErr result IsRoomFault }
-    ensures inside { HasCleanDisk (state S.Store tx.new.conn.now) → OnOk result (IsInside (state S.Store tx.old.conn.now) → IsInside (state S.Store tx.new.conn.now)) }
-    ensures kept { HasCleanDisk (state S.Store tx.new.conn.now) → KeepsCommit (state S.Store tx.old.conn.now) (state S.Store tx.new.conn.now) }
+    ensures ok { Turns S.Store tx.old.conn.now tx.new.conn.now result (λ d into. first ≡ 1 + length d.sentences → into (with_items batch who.now d items.now)) }
+    ensures fails { FailsInside IsRoomFault S.Store tx.old.conn.now tx.new.conn.now result (λ d fails. StandsIn S.Store tx.old.conn.now d → first ≡ 1 + length d.sentences → AreUnique (with_items batch who.now d items.now) → fails) }
+    ensures inside { StaysInside S.Store tx.old.conn.now tx.new.conn.now result }
+    ensures kept { KeepsCommitted S.Store tx.old.conn.now tx.new.conn.now }
     ensures survives { Survives (state S.Store tx.old.conn.now) (state S.Store tx.new.conn.now) (λ _. ⊥) }
 {
     let mut number = first;
@@ -86,10 +86,10 @@ fn insert_file<S: Alter>(
 ) -> Result<(), Error>
     requires fits { first + length items.now < 2 ^ 32 }
     ensures same_reference { tx.new.conn.ghost_name ≡ tx.old.conn.ghost_name }
-    ensures ok { HasCleanDisk (state S.Store tx.new.conn.now) → OnOk result (IsInside (state S.Store tx.old.conn.now) → (d : Tables) → number ≡ 1 + length d.batches → first ≡ 1 + length d.sentences → Changes (state S.Store tx.old.conn.now) (state S.Store tx.new.conn.now) d (with_items number who.now (with_batch d (record { name = name.now; state = 1; worker = [] })) items.now)) }
-    ensures fails { HasCleanDisk (state S.Store tx.new.conn.now) → (state S.Store tx.old.conn.now).step_limit ≡ None → IsInside (state S.Store tx.old.conn.now) → (d : Tables) → Stands d (state S.Store tx.old.conn.now).now.trees → number ≡ 1 + length d.batches → first ≡ 1 + length d.sentences → AreUnique (with_items number who.now (with_batch d (record { name = name.now; state = 1; worker = [] })) items.now) → IfErr result IsRoomFault }
-    ensures inside { HasCleanDisk (state S.Store tx.new.conn.now) → OnOk result (IsInside (state S.Store tx.old.conn.now) → IsInside (state S.Store tx.new.conn.now)) }
-    ensures kept { HasCleanDisk (state S.Store tx.new.conn.now) → KeepsCommit (state S.Store tx.old.conn.now) (state S.Store tx.new.conn.now) }
+    ensures ok { Turns S.Store tx.old.conn.now tx.new.conn.now result (λ d into. number ≡ 1 + length d.batches → first ≡ 1 + length d.sentences → into (with_items number who.now (with_batch d (record { name = name.now; state = 1; worker = [] })) items.now)) }
+    ensures fails { FailsInside IsRoomFault S.Store tx.old.conn.now tx.new.conn.now result (λ d fails. StandsIn S.Store tx.old.conn.now d → number ≡ 1 + length d.batches → first ≡ 1 + length d.sentences → AreUnique (with_items number who.now (with_batch d (record { name = name.now; state = 1; worker = [] })) items.now) → fails) }
+    ensures inside { StaysInside S.Store tx.old.conn.now tx.new.conn.now result }
+    ensures kept { KeepsCommitted S.Store tx.old.conn.now tx.new.conn.now }
     ensures survives { Survives (state S.Store tx.old.conn.now) (state S.Store tx.new.conn.now) (λ _. ⊥) }
 {
     insert_batch(tx, number, name, 1, "")?;
@@ -109,10 +109,10 @@ fn import<S: Alter>(
 ) -> Result<(), Error>
     requires fits { first + length items.now < 2 ^ 32 }
     ensures same_reference { tx.new.conn.ghost_name ≡ tx.old.conn.ghost_name }
-    ensures ok { HasCleanDisk (state S.Store tx.new.conn.now) → OnOk result (IsInside (state S.Store tx.old.conn.now) → (d : Tables) → number ≡ 1 + length d.batches → first ≡ 1 + length d.sentences → Follows d change.now → Stands d (state S.Store tx.old.conn.now).now.trees → Changes (state S.Store tx.old.conn.now) (state S.Store tx.new.conn.now) d (after_import d name.now who.now items.now (move_of change.now.row) (total_of change.now.left) (total_of change.now.reached))) }
-    ensures fails { HasCleanDisk (state S.Store tx.new.conn.now) → (state S.Store tx.old.conn.now).step_limit ≡ None → IsInside (state S.Store tx.old.conn.now) → (d : Tables) → Stands d (state S.Store tx.old.conn.now).now.trees → number ≡ 1 + length d.batches → first ≡ 1 + length d.sentences → Follows d change.now → AreUnique (after_import d name.now who.now items.now (move_of change.now.row) (total_of change.now.left) (total_of change.now.reached)) → IfErr result IsRoomFault }
-    ensures inside { HasCleanDisk (state S.Store tx.new.conn.now) → OnOk result (IsInside (state S.Store tx.old.conn.now) → IsInside (state S.Store tx.new.conn.now)) }
-    ensures kept { HasCleanDisk (state S.Store tx.new.conn.now) → KeepsCommit (state S.Store tx.old.conn.now) (state S.Store tx.new.conn.now) }
+    ensures ok { Turns S.Store tx.old.conn.now tx.new.conn.now result (λ d into. number ≡ 1 + length d.batches → first ≡ 1 + length d.sentences → Follows d change.now → StandsIn S.Store tx.old.conn.now d → into (after_import d name.now who.now items.now (move_of change.now.row) (total_of change.now.left) (total_of change.now.reached))) }
+    ensures fails { FailsInside IsRoomFault S.Store tx.old.conn.now tx.new.conn.now result (λ d fails. StandsIn S.Store tx.old.conn.now d → number ≡ 1 + length d.batches → first ≡ 1 + length d.sentences → Follows d change.now → AreUnique (after_import d name.now who.now items.now (move_of change.now.row) (total_of change.now.left) (total_of change.now.reached)) → fails) }
+    ensures inside { StaysInside S.Store tx.old.conn.now tx.new.conn.now result }
+    ensures kept { KeepsCommitted S.Store tx.old.conn.now tx.new.conn.now }
     ensures survives { Survives (state S.Store tx.old.conn.now) (state S.Store tx.new.conn.now) (λ _. ⊥) }
 {
     insert_file(tx, number, first, name, who, items)?;
@@ -137,10 +137,10 @@ pub fn write_import<S: Alter>(
 ) -> Result<(), Error>
     requires autocommit { conn.old.in_transaction ≡ false }
     requires fits { first + length items.now < 2 ^ 32 }
-    ensures ok { HasCleanDisk (state S.Store conn.new) → OnOk result ((d : Tables) → Holds S.Store conn.old d → number ≡ 1 + length d.batches → first ≡ 1 + length d.sentences → Follows d change.now → Holds S.Store conn.new (after_import d name.now who.now items.now (move_of change.now.row) (total_of change.now.left) (total_of change.now.reached))) }
-    ensures fails { HasCleanDisk (state S.Store conn.new) → (state S.Store conn.old).step_limit ≡ None → (d : Tables) → Holds S.Store conn.old d → number ≡ 1 + length d.batches → first ≡ 1 + length d.sentences → Follows d change.now → AreUnique (after_import d name.now who.now items.now (move_of change.now.row) (total_of change.now.left) (total_of change.now.reached)) → IfErr result IsRoomFault }
-    ensures err { HasCleanDisk (state S.Store conn.new) → IsTrue (state S.Store conn.new).is_open → OnErr result ((d : Tables) → Holds S.Store conn.old d → Holds S.Store conn.new d) }
-    ensures crash { Survives (state S.Store conn.old) (state S.Store conn.new) (λ db. (d : Tables) → Holds S.Store conn.old d → number ≡ 1 + length d.batches → first ≡ 1 + length d.sentences → Follows d change.now → Stands (after_import d name.now who.now items.now (move_of change.now.row) (total_of change.now.left) (total_of change.now.reached)) db) }
+    ensures ok { Leads S.Store conn.old conn.new result (λ d into. number ≡ 1 + length d.batches → first ≡ 1 + length d.sentences → Follows d change.now → into (after_import d name.now who.now items.now (move_of change.now.row) (total_of change.now.left) (total_of change.now.reached))) }
+    ensures fails { FailsOn IsRoomFault S.Store conn.old conn.new result (λ d fails. number ≡ 1 + length d.batches → first ≡ 1 + length d.sentences → Follows d change.now → AreUnique (after_import d name.now who.now items.now (move_of change.now.row) (total_of change.now.left) (total_of change.now.reached)) → fails) }
+    ensures err { KeepsRecordsOnErr S.Store conn.old conn.new result }
+    ensures crash { CrashesInto S.Store conn.old conn.new (λ d into. number ≡ 1 + length d.batches → first ≡ 1 + length d.sentences → Follows d change.now → into (after_import d name.now who.now items.now (move_of change.now.row) (total_of change.now.left) (total_of change.now.reached))) }
     ensures mode { conn.new.in_transaction ≡ false }
 {
     let mut tx = conn.transaction();

@@ -1,14 +1,14 @@
 //! A step of a batch.
 
-ghost use Rattle.std.specs.Prelude.{◌≡◌, ◌<◌, ◌-◌, Some, None, slice_get, false, IsTrue, IfErr, OnOk, OnErr};
-ghost use Rattle.sqlite.specs.State.{HasCleanDisk, KeepsCommit, Survives};
+ghost use Rattle.std.specs.Prelude.{◌≡◌, ◌<◌, ◌-◌, Some, slice_get, false};
+ghost use Rattle.sqlite.specs.State.{Survives};
 ghost use Rattle.sqlite.specs.Held.{state};
-ghost use Rattle.tb_tables.specs.Records.{Tables, Batch, Stands};
-ghost use Rattle.tb_tables.specs.Changes.{IsInside, Changes, Holds};
+ghost use Rattle.tb_tables.specs.Records.{Batch};
 ghost use Rattle.tb_tables.specs.Values.{move_of, total_of};
 ghost use Rattle.tb_tables.specs.Commands.{after_event};
 ghost use Rattle.tb_tables.specs.Failing.{IsStoreFault, AreUnique};
 ghost use Rattle.tb_writing.specs.Premises.{Follows};
+ghost use Rattle.tb_tables.specs.Leaving.{CrashesInto, FailsInside, FailsOn, KeepsCommitted, KeepsRecordsOnErr, Leads, StandsIn, StaysInside, Turns};
 
 use crate::recording::{Change, record};
 use sqlite::{Alter, Connection, Error, Transaction};
@@ -24,10 +24,10 @@ fn step<S: Alter>(
 ) -> Result<(), Error>
     requires row { 0 < number }
     ensures same_reference { tx.new.conn.ghost_name ≡ tx.old.conn.ghost_name }
-    ensures ok { HasCleanDisk (state S.Store tx.new.conn.now) → OnOk result (IsInside (state S.Store tx.old.conn.now) → (d : Tables) → (b : Batch) → slice_get d.batches (number - 1) ≡ Some b → Follows d change.now → Stands d (state S.Store tx.old.conn.now).now.trees → Changes (state S.Store tx.old.conn.now) (state S.Store tx.new.conn.now) d (after_event d number b in_state worker.now (move_of change.now.row) (total_of change.now.left) (total_of change.now.reached))) }
-    ensures fails { HasCleanDisk (state S.Store tx.new.conn.now) → (state S.Store tx.old.conn.now).step_limit ≡ None → IsInside (state S.Store tx.old.conn.now) → (d : Tables) → (b : Batch) → slice_get d.batches (number - 1) ≡ Some b → Follows d change.now → Stands d (state S.Store tx.old.conn.now).now.trees → AreUnique d → IfErr result IsStoreFault }
-    ensures inside { HasCleanDisk (state S.Store tx.new.conn.now) → OnOk result (IsInside (state S.Store tx.old.conn.now) → IsInside (state S.Store tx.new.conn.now)) }
-    ensures kept { HasCleanDisk (state S.Store tx.new.conn.now) → KeepsCommit (state S.Store tx.old.conn.now) (state S.Store tx.new.conn.now) }
+    ensures ok { Turns S.Store tx.old.conn.now tx.new.conn.now result (λ d into. (b : Batch) → slice_get d.batches (number - 1) ≡ Some b → Follows d change.now → StandsIn S.Store tx.old.conn.now d → into (after_event d number b in_state worker.now (move_of change.now.row) (total_of change.now.left) (total_of change.now.reached))) }
+    ensures fails { FailsInside IsStoreFault S.Store tx.old.conn.now tx.new.conn.now result (λ d fails. (b : Batch) → slice_get d.batches (number - 1) ≡ Some b → Follows d change.now → StandsIn S.Store tx.old.conn.now d → AreUnique d → fails) }
+    ensures inside { StaysInside S.Store tx.old.conn.now tx.new.conn.now result }
+    ensures kept { KeepsCommitted S.Store tx.old.conn.now tx.new.conn.now }
     ensures survives { Survives (state S.Store tx.old.conn.now) (state S.Store tx.new.conn.now) (λ _. ⊥) }
 {
     update_batch(tx, number, in_state, worker)?;
@@ -50,10 +50,10 @@ pub fn write_event<S: Alter>(
 ) -> Result<(), Error>
     requires autocommit { conn.old.in_transaction ≡ false }
     requires row { 0 < number }
-    ensures ok { HasCleanDisk (state S.Store conn.new) → OnOk result ((d : Tables) → Holds S.Store conn.old d → (b : Batch) → slice_get d.batches (number - 1) ≡ Some b → Follows d change.now → Holds S.Store conn.new (after_event d number b in_state worker.now (move_of change.now.row) (total_of change.now.left) (total_of change.now.reached))) }
-    ensures fails { HasCleanDisk (state S.Store conn.new) → (state S.Store conn.old).step_limit ≡ None → (d : Tables) → Holds S.Store conn.old d → (b : Batch) → slice_get d.batches (number - 1) ≡ Some b → Follows d change.now → AreUnique d → IfErr result IsStoreFault }
-    ensures err { HasCleanDisk (state S.Store conn.new) → IsTrue (state S.Store conn.new).is_open → OnErr result ((d : Tables) → Holds S.Store conn.old d → Holds S.Store conn.new d) }
-    ensures crash { Survives (state S.Store conn.old) (state S.Store conn.new) (λ db. (d : Tables) → Holds S.Store conn.old d → (b : Batch) → slice_get d.batches (number - 1) ≡ Some b → Follows d change.now → Stands (after_event d number b in_state worker.now (move_of change.now.row) (total_of change.now.left) (total_of change.now.reached)) db) }
+    ensures ok { Leads S.Store conn.old conn.new result (λ d into. (b : Batch) → slice_get d.batches (number - 1) ≡ Some b → Follows d change.now → into (after_event d number b in_state worker.now (move_of change.now.row) (total_of change.now.left) (total_of change.now.reached))) }
+    ensures fails { FailsOn IsStoreFault S.Store conn.old conn.new result (λ d fails. (b : Batch) → slice_get d.batches (number - 1) ≡ Some b → Follows d change.now → AreUnique d → fails) }
+    ensures err { KeepsRecordsOnErr S.Store conn.old conn.new result }
+    ensures crash { CrashesInto S.Store conn.old conn.new (λ d into. (b : Batch) → slice_get d.batches (number - 1) ≡ Some b → Follows d change.now → into (after_event d number b in_state worker.now (move_of change.now.row) (total_of change.now.left) (total_of change.now.reached))) }
     ensures mode { conn.new.in_transaction ≡ false }
 {
     let mut tx = conn.transaction();

@@ -1,0 +1,65 @@
+-- What a call on a desk answers, and what it leaves of the desk, whatever it answers. What is said of tables is under a disk that
+-- kept what it took (`HasCleanDisk`).
+use Rattle.std.specs.Prelude.{◌≡◌, ◌≢◌, Result, Err, IfOk, IfErr, OnOk, IsTrue, None}
+use Rattle.sqlite.specs.Store.{Ghosts}
+use Rattle.sqlite.specs.Held.{state}
+use Rattle.sqlite.specs.State.{HasCleanDisk, Survives}
+use Rattle.sqlite.specs.Tree.{Trees}
+use Rattle.tb_core.specs.declared.refusals.Fault.{Fault}
+use Rattle.tb_core.specs.declared.refusals.Fault.TheVariants.{NotADesk, Refused}
+use Rattle.tb_core.specs.declared.refusals.Refusal.{Refusal}
+use Rattle.tb_core.specs.Machine.{Machine}
+use Rattle.tb_core.specs.Commands.{Command, Answer, Reply, replied, refused}
+use Rattle.tb_core.specs.Steps.{Steps}
+use Rattle.tb_tables.specs.Records.{Stands}
+use Rattle.tb_standing.specs.Standing.{tables_of}
+use Rattle.tb_store.specs.Kept.{Kept}
+use Rattle.tb_store.specs.Standing.{StandsFor}
+
+-- what it answers is so in the state for which the desk stands
+abbrev pub Gives : {S X E : Type 0} → Ghosts S → Kept S → Kept S → Result X E → (Machine → X → Type 0) → Type 0
+Gives g old new result IsSo = HasCleanDisk (state g new.conn) → IfOk result (λ x. (s : Machine) → StandsFor g old s → IsSo s x)
+
+-- the error with which it ends is so in that state
+abbrev pub GivesOnErr : {S X E : Type 0} → Ghosts S → Kept S → Kept S → Result X E → (Machine → E → Type 0) → Type 0
+GivesOnErr g old new result IsSo = HasCleanDisk (state g new.conn) → IfErr result (λ e. (s : Machine) → StandsFor g old s → IsSo s e)
+
+-- a desk, where there is no limit on steps, is never told to be none
+abbrev pub KnowsItself : {S X : Type 0} → Ghosts S → Kept S → Kept S → Result X Fault → Type 0
+KnowsItself g old new result = HasCleanDisk (state g new.conn) → (state g old.conn).step_limit ≡ None → (s : Machine) → StandsFor g old s → result ≢ Err NotADesk
+
+-- while the store is open, the desk stands for the state for which it stood
+abbrev pub StandsAsBefore : {S : Type 0} → Ghosts S → Kept S → Kept S → Type 0
+StandsAsBefore g old new = HasCleanDisk (state g new.conn) → IsTrue (state g new.conn).is_open → (s : Machine) → StandsFor g old s → StandsFor g new s
+
+-- the same after an error
+abbrev pub StandsAsBeforeOnErr : {S X E : Type 0} → Ghosts S → Kept S → Kept S → Result X E → Type 0
+StandsAsBeforeOnErr g old new result = HasCleanDisk (state g new.conn) → IsTrue (state g new.conn).is_open → IfErr result (λ _. (s : Machine) → StandsFor g old s → StandsFor g new s)
+
+-- a crash leaves what it could leave before
+abbrev pub WritesNothing : {S : Type 0} → Ghosts S → Kept S → Kept S → Type 0
+WritesNothing g old new = (s : Machine) → StandsFor g old s → Survives (state g old.conn) (state g new.conn) (λ _. ⊥)
+
+-- what holds of the state for which the desk stands, and of what the call leaves
+abbrev pub InState : {S : Type 0} → Ghosts S → Kept S → Kept S → (Machine → Type 0) → Type 0
+InState g old new IsSo = HasCleanDisk (state g new.conn) → (s : Machine) → StandsFor g old s → IsSo s
+
+-- what a call that succeeds has done is so in that state
+abbrev pub Does : {S X E : Type 0} → Ghosts S → Kept S → Kept S → Result X E → (Machine → Type 0) → Type 0
+Does g old new result IsSo = HasCleanDisk (state g new.conn) → OnOk result ((s : Machine) → StandsFor g old s → IsSo s)
+
+-- a command that succeeds has the machine's reply, and the desk then stands for the machine's next state
+abbrev pub IsDoneAs : {S X E : Type 0} → Ghosts S → Kept S → Kept S → Result X E → Command → (X → Reply) → Type 0
+IsDoneAs g old new result command reply = Gives g old new result (λ s x. (t : Machine) × Steps old.limits s command (replied (reply x)) t × StandsFor g new t)
+
+-- a command is refused as the machine refuses it, and the desk then stands for the same state
+abbrev pub IsRefusedAs : {S X : Type 0} → Ghosts S → Kept S → Kept S → Result X Fault → Command → Type 0
+IsRefusedAs g old new result command = HasCleanDisk (state g new.conn) → IfErr result (λ e. (r : Refusal) → e ≡ Refused r → (s : Machine) → StandsFor g old s → Steps old.limits s command (refused r) s × StandsFor g new s)
+
+-- the tables of a state in which the command ends
+abbrev pub HoldsAnEnd : {S : Type 0} → Ghosts S → (old : Kept S) → Command → Trees → Type 0
+HoldsAnEnd g old command db = (s : Machine) → StandsFor g old s → (a : Answer) × (t : Machine) × Steps old.limits s command a t × Stands (tables_of t) db
+
+-- a crash leaves what it could leave before, or such tables, whole
+abbrev pub CrashesWhole : {S : Type 0} → Ghosts S → Kept S → Kept S → Command → Type 0
+CrashesWhole g old new command = Survives (state g old.conn) (state g new.conn) (HoldsAnEnd g old command)
