@@ -12,16 +12,19 @@ use Rattle.sqlite.specs.Held.{Held, state}
 use Rattle.sqlite.specs.Given.{HasGiven}
 use Rattle.sqlite.proofs.Callers.{IsPlain, command_of, begins_as, given_begin}
 use Rattle.tb_tables.specs.Layout.{desk_schema}
-use Rattle.tb_tables.specs.Records.{Sentence, Shows, numbered, sentence_shown, sentence_view}
+use Rattle.tb_tables.specs.Records.{Sentence, Revision, Shows, numbered, sentence_shown, sentence_view, revision_shown, revision_view}
 use Rattle.tb_tables.proofs.Texts.{simple}
 use Rattle.tb_reading.specs.declared.stream.Head.{Head}
 use Rattle.std.proofs.lemmas.List.{map-append}
 use Rattle.tb_reading.specs.Streams.{head_of, head_shown, head_columns}
 use Rattle.std.specs.List.{AllByRecursion}
 use Rattle.std.proofs.lemmas.List.Elements.{recursion_from_All}
-use Rattle.tb_reading.specs.Readable.{IsSentence, IsHead}
-use Rattle.tb_reading.proofs.Queries.{rising, select_heads_terms}
-use Rattle.tb_reading.proofs.Ordered.{first, IsFirst, first_in_order, same_list}
+use Rattle.tb_reading.specs.Readable.{IsSentence, IsHead, IsRevision, ComesBefore}
+use Rattle.sqlite.specs.State.{State, Survives}
+use Rattle.sqlite.proofs.StateLemmas.{survives_weaker}
+use Rattle.sqlite_trees.specs.Tree.{IsAscending}
+use Rattle.tb_reading.proofs.Queries.{rising, select_heads_terms, select_revisions_terms}
+use Rattle.tb_reading.proofs.Ordered.{first, IsFirst, first_in_order, same_list, by_order, keyed_twice, pair, IsPair, pair_in_order, revisions_rise, revisions_placed}
 use Rattle.tb_reading.proofs.Sifted.{sifted, sifted_rise, sifted_placed}
 
 pub begun_answer : {S : Type 0} (g : Ghosts S) (sql : List ℕ) (q : Query) (names : List (List ℕ)) (h : Held S) (given : List Row) → command_of (understood desk_schema sql) ≡ Select (record { lets = []; body = q }) names
@@ -77,3 +80,15 @@ heads_fit (x ∷ xs) each = (record { batch_fits = each.0.batch_fits; rev_fits =
 
 pub heads_readable : (xs : List Sentence) → All IsSentence xs → AllByRecursion IsHead (map head_of xs)
 heads_readable xs each = heads_fit xs (recursion_from_All IsSentence xs each)
+
+-- the whole answer shows the revisions, where they stand in the order of their keys
+pub revisions_all : (db : Trees) (rows : List Row) → IsAnswer (simple 5 [] select_revisions_terms (rising 1 ∷ rising 2 ∷ [])) (overlay db []) [] rows → (xs : List Revision) → All IsRevision xs → IsAscending ComesBefore xs
+    → Shows revision_view (map revision_shown xs) (db 5) → rows ≡ map revision_shown xs
+revisions_all db rows answer xs each up holds =
+    let fit = recursion_from_All IsRevision xs each in
+    by_order 5 select_revisions_terms (rising 1 ∷ rising 2 ∷ []) (λ r. column r 1 ∷ column r 2 ∷ []) revision_view (λ _. refl) (overlay db []) rows answer (map revision_shown xs) keyed_twice pair IsPair (λ _. refl) (λ _. refl)
+    (revisions_rise (λ r. r) xs fit up) (revisions_placed (λ r. r) xs fit) (pair_in_order 5 select_revisions_terms) holds
+
+-- what no other tables than a desk's could have made come about, a desk's could not
+pub on_desk : (old new : State) → Survives old new (λ _. old.now.schema ≢ desk_schema) → old.now.schema ≡ desk_schema → Survives old new (λ _. ⊥)
+on_desk old new kept has = survives_weaker old new _ _ (λ _ db other. other has) kept

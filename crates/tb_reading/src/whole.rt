@@ -11,8 +11,8 @@ ghost use Rattle.tb_reading.specs.Failing.{HasNoForm, IsReadFault};
 ghost use Rattle.tb_tables.specs.Leaving.{ChangesNothing, CommitsNothing, CommitsNothingOnDesk, FailsOnlyAs, KeepsRecords, Reads};
 
 use crate::error::ReadError;
-use crate::records::{batches_in, moves_in, numbers_in, revisions_in, sentences_in, totals_in};
-use sqlite::{Alter, Connection, Error, Row};
+use crate::records::{batches_in, moves_in, numbers_in, revision_in, sentences_in, totals_in};
+use sqlite::{Alter, Connection, Error, ErrorCode, Row};
 use std::alloc::Global;
 use tb_tables::{BatchRow, MoveRow, RevisionRow, SentenceRow, TotalRow};
 
@@ -146,23 +146,8 @@ pub fn totals<S: Alter>(alloc: Global, conn: &mut Connection<S>) -> Result<Vec<T
     totals_in(alloc, rows.as_slice())
 }
 
-fn revision_rows<S: Alter>(conn: &mut Connection<S>) -> Result<Vec<Row>, Error>
-    ensures all { Reads S.Store conn.old conn.new result (λ rows trees. IsPermutation (map revision_view (trees 5)) rows.items) }
-    ensures order { Reads S.Store conn.old conn.new result (λ rows trees. (xs : List Revision) → All IsRevision xs → IsAscending ComesBefore xs → Shows revision_view (map revision_shown xs) (trees 5) → rows.items ≡ map revision_shown xs) }
-    ensures fails { FailsOnlyAs IsStoreFault S.Store conn.old conn.new result }
-    ensures same { ChangesNothing S.Store conn.old conn.new result }
-    ensures mode { conn.old.in_transaction ≡ false → conn.new.in_transaction ≡ false }
-    ensures kept { KeepsRecords S.Store conn.old conn.new }
-    ensures lasts { CommitsNothing S.Store conn.old conn.new }
-    ensures survives { CommitsNothingOnDesk S.Store conn.old conn.new }
-{
-    conn.query_all(
-        "SELECT sent, rev, who, body FROM revisions ORDER BY sent, rev",
-        &[],
-    )
-}
-
-/// The revisions, by sentence and number. `Form` is answered exactly where the rows are those of no such list.
+/// The revisions, by sentence and number. `Form` is answered exactly where the rows are those of no such list. One row is at hand
+/// at a time, beside the records, since the texts are most of a file.
 pub fn revisions<S: Alter>(
     alloc: Global,
     conn: &mut Connection<S>,
@@ -177,8 +162,18 @@ pub fn revisions<S: Alter>(
     ensures lasts { CommitsNothing S.Store conn.old conn.new }
     ensures survives { CommitsNothingOnDesk S.Store conn.old conn.new }
 {
-    let rows = revision_rows(conn)?;
-    revisions_in(alloc, rows.as_slice())
+    let mut found = Vec::new(alloc);
+    let mut rows = conn.query(
+        "SELECT sent, rev, who, body FROM revisions ORDER BY sent, rev",
+        &[],
+    )?;
+    'rows: for _ in 0..u64::MAX {
+        let Some(row) = rows.next()? else {
+            return Ok(found);
+        };
+        found.push(revision_in(row)?)?;
+    }
+    Err(ReadError::Store(Error::SqliteFailure(ErrorCode::TooBig)))
 }
 
 fn number_rows<S: Alter>(conn: &mut Connection<S>) -> Result<Vec<Row>, Error>
