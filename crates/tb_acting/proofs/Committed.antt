@@ -1,50 +1,28 @@
 -- What is written of an allowed act stands for the state after it.
-use Rattle.std.proofs.Common.{◌≡◌, ℕ, ◌+◌, ◌-◌, ◌<◌, List, [], ◌∷◌, length, Some, slice_get, option_map, refl, ap, subst, ◌∙◌, arith}
-use Rattle.std.proofs.lemmas.List.{length-map}
+use Rattle.std.proofs.Common.{◌≡◌, ℕ, ◌+◌, ◌-◌, ◌<◌, List, [], ◌∷◌, Some, slice_get, option_map, refl, ap, subst, ◌∙◌, arith}
 use Rattle.std.proofs.lemmas.Option.{slice_get-map}
 use Rattle.sqlite.specs.Tree.{Trees}
-use Rattle.tb_core.specs.declared.kinds.State.{State}
-use Rattle.tb_core.specs.declared.kinds.State.TheVariants.{Opened, Withdrawn}
-use Rattle.tb_core.specs.declared.sums.Totals.{Totals}
+use Rattle.tb_core.specs.declared.kinds.State.TheVariants.{Withdrawn}
 use Rattle.tb_core.specs.Machine as machine
 use Rattle.tb_core.specs.Machine.{Machine, batch_with}
-use Rattle.tb_core.specs.Acts.{Act, IsAllowed, importing, correcting, pulling, restoring, after, state_at}
+use Rattle.tb_core.specs.Acts.{Act, IsAllowed, correcting, pulling, restoring, after, state_at}
 use Rattle.tb_core.specs.Acts.{move_of as move_made}
 use Rattle.tb_core.specs.Reaching.{Reached}
 use Rattle.tb_core.specs.Keeping.{IsWell}
-use Rattle.tb_core.specs.Totals.{StandFor}
 use Rattle.tb_conllu.specs.Text.{BlockText, text_of}
 use Rattle.tb_conllu.specs.Words.{words_of}
-use Rattle.tb_tables.specs.Records.{Move, Revision, Stands}
+use Rattle.tb_tables.specs.Records.{Revision, Stands}
 use Rattle.tb_tables.specs.Values.{move_of, total_of}
-use Rattle.tb_tables.specs.Commands.{Item, after_import, after_correction, after_pull, after_restore}
-use Rattle.tb_tables.specs.declared.rows.TotalRow.{TotalRow}
+use Rattle.tb_tables.specs.Commands.{after_correction, after_pull, after_restore}
 use Rattle.tb_writing.specs.declared.recording.Change.{Change}
-use Rattle.tb_writing.specs.Premises.{Follows}
-use Rattle.tb_standing.specs.Numbers.{state_number, from_number}
+use Rattle.tb_standing.specs.Numbers.{state_number}
 use Rattle.tb_standing.specs.Standing.{tables_of, sentence_record, batch_record, move_record, total_record}
-use Rattle.tb_standing.specs.Written.{import_written, correction_written, pull_written, restore_written}
-use Rattle.tb_standing.proofs.Telling.{state_within, before_within}
-use Rattle.tb_standing.proofs.Places.{total_is}
-use Rattle.tb_standing.proofs.Next.{import_next, correction_next, pull_next, restore_next}
-use Rattle.tb_acting.specs.Recorded.{IsTotalOf, IsWritten, IsMadeRevision, IsMadeBatch}
+use Rattle.tb_standing.specs.Written.{correction_written, pull_written, restore_written}
+use Rattle.tb_standing.proofs.Next.{correction_next, pull_next, restore_next}
+use Rattle.tb_recording.specs.Recorded.{IsWritten}
+use Rattle.tb_acting.specs.Correcting.{IsMadeRevision}
+use Rattle.tb_recording.proofs.Written.{total_told}
 use Rattle.tb_acting.proofs.Finds.{own_batch, own_state}
-
-pub total_told : (t : Totals) (s : Machine) (st : State) (row : TotalRow) → StandFor t s → IsTotalOf t st row → total_of row ≡ total_record s st
-total_told t s st row stand is = total_is (total_of row) (total_record s st) (is.sentences ∙ stand.sentences st) (is.words ∙ stand.words st)
-
-pub follows : (s : Machine) (a : Act) (c : Change) → IsWritten s a c → Follows (tables_of s) c
-follows s a c w =
-    let six : length (tables_of s).totals ≡ 6 = refl in
-    let from : c.row.from ≡ from_number (move_made s a).from = ap (λ (m : Move). m.from) w.change.row in
-    let to : c.row.to ≡ state_number (move_made s a).to = ap (λ (m : Move). m.to) w.change.row in
-    let low = before_within (move_made s a).from in
-    let high = state_within (move_made s a).to in
-    record {
-      number = (let counted : c.number ≡ length s.moves + 1 = w.change.number in omega (arith, counted, length-map s.moves move_record));
-      left = omega (arith, six, from, low);
-      reached = omega (arith, six, to, high.1);
-    }
 
 sentence_told : (s : Machine) (place : ℕ) (x : machine.Sentence) → slice_get s.sentences place ≡ Some x → slice_get (tables_of s).sentences place ≡ Some (sentence_record x)
 sentence_told s place x there = slice_get-map sentence_record s.sentences place ∙ ap (option_map sentence_record) there
@@ -116,22 +94,3 @@ correction_stands s number user body x r k text c above reached well is allowed 
     ∙ ap (λ y. after_correction (tables_of s) y row next (words_of body) m t t) at in
     correction_next s place user body reached allowed row (sentence_told s place x is.there) (batch_record (batch_with s.batches x.batch)) (batch_told s place x well is.there) st (ap state_number (own_state s place x is.there)) trees
     (subst (λ d. Stands d trees) same h)
-
--- ---- an import
-
-pub import_stands : (s : Machine) (name user : List ℕ) (bodies : List BlockText) (number first : ℕ) (items : List Item) (c : Change) → Reached s → IsMadeBatch s number first bodies items → IsAllowed s (importing name user bodies)
-    → IsWritten s (importing name user bodies) c → after_import (tables_of s) name user items (move_of c.row) (total_of c.left) (total_of c.reached) ≡ tables_of (after s (importing name user bodies))
-import_stands s name user bodies number first items c reached is allowed w =
-    let a : Act = importing name user bodies in
-    let there : total_of c.reached ≡ total_record (after s a) Opened = total_told w.totals (after s a) Opened c.reached w.stand w.change.reached in
-    let same : after_import (tables_of s) name user items (move_of c.row) (total_of c.left) (total_of c.reached) ≡ import_written s name user bodies (total_of c.left) =
-    λ j. after_import (tables_of s) name user (is.told j) (w.change.row j) (total_of c.left) (there j) in
-    same ∙ import_next s name user bodies reached allowed (total_of c.left)
-
-pub next_batch : (s : Machine) (number first : ℕ) (bodies : List BlockText) (items : List Item) → IsMadeBatch s number first bodies items → (number ≡ 1 + length (tables_of s).batches) × (first ≡ 1 + length (tables_of s).sentences)
-next_batch s number first bodies items is =
-    let batches = length-map s.batches batch_record in
-    let sentences = length-map s.sentences sentence_record in
-    let n = is.next in
-    let f = is.first_next in
-    (omega (arith, n, batches), omega (arith, f, sentences))

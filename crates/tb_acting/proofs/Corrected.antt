@@ -4,7 +4,6 @@ use Rattle.std.specs.List.{AllByRecursion}
 use Rattle.tb_conllu.specs.Text.{BlockText, text_of}
 use Rattle.tb_conllu.specs.Words.{words_of}
 use Rattle.tb_conllu.specs.Told.{IsFile}
-use Rattle.tb_rules.specs.File.{IsValid}
 use Rattle.tb_core.specs.declared.kinds.Kind.TheVariants.{Correct}
 use Rattle.tb_core.specs.declared.limits.Limits.{Limits}
 use Rattle.tb_core.specs.Machine as machine
@@ -17,15 +16,13 @@ use Rattle.tb_core.specs.Steps.{Steps}
 use Rattle.tb_core.proofs.Chains.{Replied, replied_repeat, replied_new, correct_replied}
 use Rattle.tb_core.proofs.Weights.{weight_there, weight_changed, changed_there, all_there}
 use Rattle.tb_acting.specs.declared.correcting.CurrentRead.{CurrentRead}
-use Rattle.tb_acting.specs.Recorded.{IsMadeRevision}
+use Rattle.tb_acting.specs.Correcting.{IsMadeRevision}
 use Rattle.tb_judge.specs.Found.{FindsCurrent}
 use Rattle.tb_acting.specs.Correcting.{IsCurrentRead, current_seen, correction_move}
+use Rattle.tb_recording.proofs.Telling.{ReadsBack}
 use Rattle.tb_acting.proofs.Finds.{own_state}
 
 -- ---- the text that stands reads back
-
-abbrev pub ReadsBack : BlockText → Type 0
-ReadsBack b = IsValid (b ∷ []) × IsFile (text_of (b ∷ [])) (b ∷ []) × ((bs : List BlockText) → IsFile (text_of (b ∷ [])) bs → bs ≡ b ∷ [])
 
 last_body : (P : BlockText → Type 0) (rs : List machine.Revision) (r : machine.Revision) → AllByRecursion P (map (λ (q : machine.Revision). q.body) (rs ++ r ∷ [])) → P r.body
 last_body P [] r h = h.0

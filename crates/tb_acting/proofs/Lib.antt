@@ -1,15 +1,10 @@
-pub mod Unchanged
-pub mod There
-pub mod Telling
 pub mod Numbering
 pub mod Finds
+pub mod Revised
+pub mod Unpulled
 pub mod Committed
 pub mod Summing
 pub mod Stepped
 pub mod Corrected
 pub mod Pulled
-pub mod Faultless
-pub mod Unique
-pub mod Bounded
-pub mod Revised
 pub mod Replied

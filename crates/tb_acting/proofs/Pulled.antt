@@ -10,9 +10,9 @@ use Rattle.tb_core.specs.Commands.{Command, Reply, pulled_out, restored_to, repl
 use Rattle.tb_core.proofs.Weights.{weight_there}
 use Rattle.tb_judge.specs.Found.{FindsSentence}
 use Rattle.tb_acting.specs.declared.finding.SentenceRead.{SentenceRead}
-use Rattle.tb_acting.specs.declared.preparing.Prepared.{Prepared}
+use Rattle.tb_recording.specs.declared.preparing.Prepared.{Prepared}
 use Rattle.tb_acting.specs.ReadOf.{IsRead}
-use Rattle.tb_acting.specs.Recorded.{IsWritten}
+use Rattle.tb_recording.specs.Recorded.{IsWritten}
 use Rattle.tb_acting.specs.Pulling.{pull_move, restore_move, IsJudged}
 use Rattle.tb_acting.proofs.Finds.{own_state}
 

@@ -23,14 +23,14 @@ use Rattle.tb_writing.specs.declared.recording.Change.{Change}
 use Rattle.tb_standing.specs.Numbers.{state_number}
 use Rattle.tb_standing.specs.Standing.{tables_of, batch_record, move_record, total_record}
 use Rattle.tb_standing.specs.Written.{event_written}
-use Rattle.tb_acting.specs.declared.counted.Counts.{Counts}
+use Rattle.tb_recording.specs.declared.counted.Counts.{Counts}
 use Rattle.tb_acting.specs.declared.finding.BatchRead.{BatchRead}
 use Rattle.tb_acting.specs.declared.working.Sums.{Sums}
 use Rattle.tb_acting.specs.declared.stepping.EventPlan.{EventPlan}
-use Rattle.tb_acting.specs.Recorded.{IsWritten}
-use Rattle.tb_acting.specs.Working.{IsCounted}
+use Rattle.tb_recording.specs.Recorded.{IsWritten}
+use Rattle.tb_recording.specs.Counted.{IsCounted}
 use Rattle.tb_acting.specs.Stepping.{IsPlanned, event_move, seen_of}
-use Rattle.tb_acting.proofs.Committed.{total_told}
+use Rattle.tb_recording.proofs.Written.{total_told}
 
 index_there : {X : Type 0} (xs : List X) (i : ℕ) (x d : X) → slice_get xs i ≡ Some x → slice_index_or xs i d ≡ x
 index_there [] i x d there = let e : None ≡ Some x = there in absurd cc

@@ -1,12 +1,14 @@
 -- What is read of a sentence before it is corrected, and what a correction writes.
-use Rattle.std.specs.Prelude.{◌≡◌, ℕ, ◌-◌, List, [], ◌∷◌, Option, Some, None, string_bytes}
+use Rattle.std.specs.Prelude.{◌≡◌, ℕ, ◌+◌, ◌-◌, List, [], ◌∷◌, Option, Some, None, slice_get, string_bytes}
 use Rattle.sqlite.specs.Store.{Ghosts}
 use Rattle.sqlite.specs.Held.{Held}
 use Rattle.tb_conllu.specs.Text.{BlockText, text_of}
+use Rattle.tb_conllu.specs.Words.{words_of}
 use Rattle.tb_core.specs.declared.limits.Limits.{Limits}
 use Rattle.tb_core.specs.declared.kinds.Kind.TheVariants.{Correct}
 use Rattle.tb_core.specs.declared.replies.Corrected.{Corrected}
 use Rattle.tb_core.specs.Machine.{Machine, Sentence}
+use Rattle.tb_core.specs.Machine.{rev as rev_of}
 use Rattle.tb_core.specs.Acts.{correcting, IsAllowed, after}
 use Rattle.tb_core.specs.Commands.{correct, corrected_to, replied}
 use Rattle.tb_core.specs.Steps.{Steps}
@@ -15,7 +17,7 @@ use Rattle.tb_judge.specs.Found.{CurrentSeen}
 use Rattle.tb_acting.specs.declared.correcting.CurrentRead.{CurrentRead}
 use Rattle.tb_acting.specs.ReadOf.{IsRead}
 use Rattle.tb_acting.specs.Working.{IsDone}
-use Rattle.tb_acting.specs.Recorded.{IsWritten, IsMadeRevision}
+use Rattle.tb_recording.specs.Recorded.{IsWritten}
 use Rattle.tb_writing.specs.declared.recording.Change.{Change}
 use Rattle.tb_core.specs.declared.sums.Totals.{Totals}
 use Rattle.tb_core.specs.Moves.{MoveText}
@@ -41,6 +43,13 @@ current_seen f = record {
 }
 
 -- ---- what is written
+
+-- this sentence has the number, and the revision after its current one has this body
+pub record IsMadeRevision (s : Machine) (number : ℕ) (body : BlockText) (x : Sentence) (rev words : ℕ) (text : List ℕ) : Type 0 where
+  pub there : slice_get s.sentences (number - 1) ≡ Some x
+  pub next : rev ≡ rev_of x + 1
+  pub counted : words ≡ words_of body
+  pub told : text ≡ text_of (body ∷ [])
 
 -- the move of a correction of the sentence with this number, which was read so, to so many words
 abbrev pub correction_move : (counted number : ℕ) → CurrentRead → (words : ℕ) → (user : List ℕ) → MoveText

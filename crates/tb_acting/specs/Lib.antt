@@ -1,9 +1,5 @@
-pub mod Faults
 pub mod Numbered
-pub mod Revisions
-pub mod Finding
 pub mod ReadOf
-pub mod Recorded
 pub mod Working
 pub mod Stepping
 pub mod Correcting

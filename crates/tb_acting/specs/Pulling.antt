@@ -9,8 +9,8 @@ use Rattle.tb_core.specs.Acts.{Act, IsAllowed, after}
 use Rattle.tb_core.specs.Commands.{Command, Reply, replied}
 use Rattle.tb_core.specs.Steps.{Steps}
 use Rattle.tb_acting.specs.declared.finding.SentenceRead.{SentenceRead}
-use Rattle.tb_acting.specs.declared.preparing.Prepared.{Prepared}
-use Rattle.tb_acting.specs.Working.{IsPrepared}
+use Rattle.tb_recording.specs.declared.preparing.Prepared.{Prepared}
+use Rattle.tb_recording.specs.Counted.{IsPrepared}
 
 -- the moves, of a sentence that was read so
 abbrev pub pull_move : (counted number : ℕ) → SentenceRead → (user : List ℕ) → MoveText

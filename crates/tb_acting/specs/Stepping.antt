@@ -13,7 +13,7 @@ use Rattle.tb_judge.specs.Found.{BatchSeen}
 use Rattle.tb_acting.specs.declared.finding.BatchRead.{BatchRead}
 use Rattle.tb_acting.specs.declared.working.Sums.{Sums}
 use Rattle.tb_acting.specs.declared.stepping.EventPlan.{EventPlan}
-use Rattle.tb_acting.specs.Working.{IsPrepared}
+use Rattle.tb_recording.specs.Counted.{IsPrepared}
 
 abbrev pub seen_of : BatchRead → BatchSeen
 seen_of f = record { number = f.number; state = f.state; worker = string_bytes f.worker }

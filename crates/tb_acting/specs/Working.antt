@@ -1,36 +1,16 @@
--- What a command knows of a desk beside its tables, and what it leaves of both.
-use Rattle.std.specs.Prelude.{◌≡◌, ℕ, ◌+◌, ◌≤◌, List, length, cond, Bool, false, ◌||◌, [], ◌∷◌, nat_eq}
+-- What a command leaves of a desk, and what of a batch its events move.
+use Rattle.std.specs.Prelude.{◌≡◌, ℕ, ◌+◌, List, length, cond, Bool, false, ◌||◌, [], ◌∷◌, nat_eq}
 use Rattle.sqlite.specs.Store.{Ghosts}
 use Rattle.sqlite.specs.Held.{Held}
 use Rattle.tb_core.specs.declared.sums.Totals.{Totals}
 use Rattle.tb_core.specs.declared.limits.Limits.{Limits}
 use Rattle.tb_core.specs.Machine.{Machine}
-use Rattle.tb_core.specs.Acts.{Act, after}
-use Rattle.tb_core.specs.Acts.{move_of as move_made}
+use Rattle.tb_core.specs.Acts.{after}
 use Rattle.tb_core.specs.Commands.{Command, Reply, replied}
 use Rattle.tb_core.specs.Steps.{Steps}
 use Rattle.tb_core.specs.Totals.{StandFor}
 use Rattle.tb_standing.specs.Standing.{IsDesk}
 use Rattle.tb_reading.specs.declared.work.Work.{Work}
-use Rattle.tb_acting.specs.declared.counted.Counts.{Counts}
-use Rattle.tb_acting.specs.declared.preparing.Prepared.{Prepared}
-use Rattle.tb_acting.specs.Recorded.{IsChangeOf}
-
--- limits of at most 1,000,000 sentences and hits and 1,000,000,000 moves
-pub record IsWithin (l : Limits) : Type 0 where
-  pub sentences : l.sentences ≤ 1000000
-  pub moves : l.moves ≤ 1000000000
-  pub hits : l.hits ≤ 1000000
-
--- the counts and totals are those of this state
-pub record IsCounted (k : Counts) (s : Machine) : Type 0 where
-  pub moves : k.moves ≡ length s.moves
-  pub totals : StandFor k.totals s
-
--- what is written with an accepted command, and the totals after it
-pub record IsPrepared (s : Machine) (a : Act) (p : Prepared) : Type 0 where
-  pub stand : StandFor p.totals (after s a)
-  pub change : IsChangeOf p.totals (move_made s a) p.change
 
 -- The command is answered so, the desk stands for the state after it, and these are the totals; batches and sentences are
 -- as many as before.

@@ -16,16 +16,13 @@ ghost use Rattle.tb_core.specs.Steps.{Steps};
 ghost use Rattle.tb_standing.specs.Standing.{tables_of, IsDesk};
 ghost use Rattle.tb_judge.specs.Found.{CurrentSeen, LacksSentence};
 ghost use Rattle.tb_judge.specs.Parts.{IsNamedCorrection};
-ghost use Rattle.tb_acting.specs.Working.{IsWithin, IsCounted};
+ghost use Rattle.tb_recording.specs.Counted.{IsWithin, IsCounted};
 ghost use Rattle.tb_acting.specs.Correcting.{PlanText, IsCurrentRead, IsPlannedCorrection, Decides, Corrects, current_seen, correction_move};
 ghost use Rattle.tb_standing.specs.Telling.{CrashesTo, KnowsDeskWhere, RefusesAs, Tells};
 ghost use Rattle.tb_tables.specs.Leaving.{ChangesNothing, CommitsNothing, KeepsRecords, KeepsRecordsOnErr};
 
-use crate::counted::{Counts, next_move};
+use crate::committing;
 use crate::finding::{SentenceRead, find_sentence};
-use crate::preparing::prepare;
-use crate::recording::narrow;
-use crate::{committing, faults};
 use sqlite::{Alter, Connection};
 use std::alloc::Global;
 use std::marker::Model;
@@ -34,6 +31,7 @@ use tb_core::{
     Corrected, Fault, Kind, Move, Totals, commands_stay_within_limits, revisions_read_back,
 };
 use tb_judge::{CurrentFound, Judged, judge_correction_before, judge_correction_body};
+use tb_recording::{Counts, faults, narrow, next_move, prepare};
 use tb_standing::desk_rows_are_readable;
 use tb_tables::RevisionRow;
 use tb_writing::Change;

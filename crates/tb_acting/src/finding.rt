@@ -1,25 +1,22 @@
 //! What a command reads of a desk before it is judged.
 
-ghost use Rattle.std.specs.Prelude.{◌≡◌, ◌≢◌, ◌-◌, ◌<◌, Some, None, Err, slice_get, option_map, string_bytes, IfOk, MatchBool, false};
+ghost use Rattle.std.specs.Prelude.{◌≡◌, ◌≢◌, ◌-◌, ◌<◌, Some, None, Err, slice_get, option_map, string_bytes, IfOk, false};
 ghost use Rattle.sqlite.specs.Held.{state};
 ghost use Rattle.tb_core.specs.declared.refusals.Refusal.{Refusal as AnyRefusal};
 ghost use Rattle.tb_core.specs.declared.kinds.State.{State as AnyState};
-ghost use Rattle.tb_core.specs.Names.{Lacks};
 ghost use Rattle.tb_core.specs.Machine.{Batch, Sentence};
-ghost use Rattle.tb_core.specs.Acts.{ids_of};
 ghost use Rattle.tb_tables.specs.Values.{sentence_of};
 ghost use Rattle.tb_standing.specs.Numbers.{state_number};
 ghost use Rattle.tb_standing.specs.Standing.{sentence_record};
 ghost use Rattle.tb_judge.specs.Found.{FindsBatch};
-ghost use Rattle.tb_acting.specs.Finding.{HasNumber};
 ghost use Rattle.tb_acting.specs.ReadOf.{IsRead};
 ghost use Rattle.tb_standing.specs.Telling.{KnowsDesk, KnowsDeskWhere, Tells};
 ghost use Rattle.tb_tables.specs.Leaving.{ChangesNothing, CommitsNothing, KeepsRecords};
 
-use crate::faults;
 use sqlite::{Alter, Connection};
 use tb_core::{Fault, State, reached_states_are_well};
-use tb_standing::{desk_rows_are_readable, desk_rows_fit, state_numbered};
+use tb_recording::{batch_number, faults};
+use tb_standing::{desk_rows_are_readable, state_numbered};
 use tb_tables::{BatchRow, SentenceRow};
 
 /// A batch, as it was read.
@@ -30,24 +27,6 @@ pub struct BatchRead {
     pub state: State,
     /// Who works on it, empty for nobody.
     pub worker: String,
-}
-
-/// The number of the batch with this name, from 1, or none where no batch has it. Nothing is refused.
-pub fn batch_number<S: Alter>(conn: &mut Connection<S>, name: &str) -> Result<Option<u32>, Fault>
-    ensures answered { Tells S.Store conn.old conn.new result (λ s found. HasNumber s name.now found) }
-    ensures refused { (r : AnyRefusal) → result ≢ Err (Fault.Refused r) }
-    ensures output { result ≢ Err Fault.Output }
-    ensures fails { KnowsDesk S.Store conn.old conn.new result }
-    ensures same { ChangesNothing S.Store conn.old conn.new result }
-    ensures mode { conn.old.in_transaction ≡ false → conn.new.in_transaction ≡ false }
-    ensures kept { KeepsRecords S.Store conn.old conn.new }
-    ensures lasts { CommitsNothing S.Store conn.old conn.new }
-{
-    desk_rows_fit();
-    match tb_reading::batch_named(conn, name) {
-        Ok(found) => Ok(found),
-        Err(error) => Err(faults::of_read(error)),
-    }
 }
 
 /// A row as a batch.
@@ -181,22 +160,4 @@ pub fn find_sentence<S: Alter>(conn: &mut Connection<S>, number: u32) -> Result<
         rev: row.rev,
         words: row.words,
     })
-}
-
-/// Whether a sentence has this `sent_id`, pulled or not. Nothing is refused.
-pub fn is_taken<S: Alter>(conn: &mut Connection<S>, sent_id: &str) -> Result<bool, Fault>
-    ensures answered { Tells S.Store conn.old conn.new result (λ s taken. MatchBool taken (Lacks (ids_of s.sentences) sent_id.now → ⊥) (Lacks (ids_of s.sentences) sent_id.now)) }
-    ensures refused { (r : AnyRefusal) → result ≢ Err (Fault.Refused r) }
-    ensures fails { KnowsDesk S.Store conn.old conn.new result }
-    ensures same { ChangesNothing S.Store conn.old conn.new result }
-    ensures mode { conn.old.in_transaction ≡ false → conn.new.in_transaction ≡ false }
-    ensures kept { KeepsRecords S.Store conn.old conn.new }
-    ensures lasts { CommitsNothing S.Store conn.old conn.new }
-{
-    desk_rows_fit();
-    match tb_reading::sentence_named(conn, sent_id) {
-        Ok(Some(_)) => Ok(true),
-        Ok(None) => Ok(false),
-        Err(error) => Err(faults::of_read(error)),
-    }
 }

@@ -12,19 +12,19 @@ ghost use Rattle.tb_core.specs.Steps.{Steps};
 ghost use Rattle.tb_standing.specs.Standing.{tables_of, IsDesk};
 ghost use Rattle.tb_judge.specs.Found.{LacksSentence};
 ghost use Rattle.tb_acting.specs.ReadOf.{IsRead};
-ghost use Rattle.tb_acting.specs.Working.{IsWithin, IsCounted, IsPrepared, IsDone};
+ghost use Rattle.tb_recording.specs.Counted.{IsWithin, IsCounted, IsPrepared};
+ghost use Rattle.tb_acting.specs.Working.{IsDone};
 ghost use Rattle.tb_acting.specs.Pulling.{pull_move, restore_move, IsJudged};
 ghost use Rattle.tb_tables.specs.Leaving.{ChangesNothing, CommitsNothing, KeepsRecords, KeepsRecordsOnErr};
 ghost use Rattle.tb_standing.specs.Telling.{CrashesTo, KnowsDeskWhere, RefusesAs, Tells};
 
 use crate::committing;
-use crate::counted::{Counts, next_move};
 use crate::finding::{SentenceRead, find_sentence};
-use crate::preparing::{Prepared, prepare};
 use sqlite::{Alter, Connection};
 use std::alloc::Global;
 use tb_core::{Fault, Kind, Move, Pulled, Restored, State, Totals, commands_stay_within_limits};
 use tb_judge::{SentenceFound, judge_pull, judge_restore};
+use tb_recording::{Counts, Prepared, next_move, prepare};
 
 /// The move of a pull of this sentence.
 fn pull_by(who: String, no: u32, number: u32, read: &SentenceRead) -> Move

@@ -14,15 +14,13 @@ ghost use Rattle.tb_core.specs.Commands.{Answer, event_on, replied, refused as r
 ghost use Rattle.tb_core.specs.Steps.{Steps};
 ghost use Rattle.tb_standing.specs.Standing.{tables_of, IsDesk};
 ghost use Rattle.tb_judge.specs.Found.{FindsBatch};
-ghost use Rattle.tb_acting.specs.Working.{IsWithin, IsCounted, IsDone};
+ghost use Rattle.tb_recording.specs.Counted.{IsWithin, IsCounted};
+ghost use Rattle.tb_acting.specs.Working.{IsDone};
 ghost use Rattle.tb_acting.specs.Stepping.{seen_of, event_move, IsPlanned};
 ghost use Rattle.tb_standing.specs.Telling.{CrashesTo, KnowsDeskWhere, RefusesAs, Tells, TellsOnOk};
 ghost use Rattle.tb_tables.specs.Leaving.{ChangesNothing, CommitsNothing, KeepsRecords, KeepsRecordsOnErr};
 
-use crate::counted::{Counts, next_move};
-use crate::faults;
 use crate::finding::{BatchRead, find_batch};
-use crate::preparing::{Prepared, prepare};
 use crate::working::{Sums, find_work};
 use sqlite::{Alter, Connection};
 use std::alloc::Global;
@@ -31,6 +29,7 @@ use tb_core::{
     reached_states_are_well,
 };
 use tb_judge::{BatchFound, judge_event};
+use tb_recording::{Counts, Prepared, faults, next_move, prepare};
 use tb_standing::{events_stand, number_of_state};
 use tb_writing::write_event;
 

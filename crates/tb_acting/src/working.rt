@@ -11,11 +11,11 @@ ghost use Rattle.tb_acting.specs.Working.{is_listed, unless_pulled, each_one, it
 ghost use Rattle.tb_standing.specs.Telling.{KnowsDesk, Tells};
 ghost use Rattle.tb_tables.specs.Leaving.{ChangesNothing, CommitsNothing, KeepsRecords};
 
-use crate::faults;
 use sqlite::{Alter, Connection};
 use std::alloc::Global;
 use tb_core::{Fault, reached_states_are_well};
 use tb_reading::Work;
+use tb_recording::faults;
 use tb_standing::{desk_rows_are_readable, desk_rows_fit};
 
 /// Sentences, and the words of their current revisions.

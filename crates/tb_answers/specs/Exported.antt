@@ -7,7 +7,7 @@ use Rattle.tb_core.specs.declared.refusals.Fault.TheVariants.{Refused, Output}
 use Rattle.tb_core.specs.Machine.{Machine, Sentence}
 use Rattle.tb_search.specs.Released.{released, in_batch, current_text}
 use Rattle.tb_search.specs.Visited.{HasReason}
-use Rattle.tb_acting.specs.Finding.{HasNumber}
+use Rattle.tb_recording.specs.Finding.{HasNumber}
 use Rattle.tb_store.specs.Exports.{IsBrokenOff, IsPartOfBatch, RefusesBatch}
 use Rattle.tb_http.specs.declared.replies.Reply.{Reply}
 use Rattle.tb_http.specs.declared.replies.Reply.TheVariants as reply

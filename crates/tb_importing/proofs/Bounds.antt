@@ -17,10 +17,10 @@ use Rattle.tb_core.proofs.Weights.{all_there}
 use Rattle.tb_core.proofs.Stored.{few_in, few_words}
 use Rattle.tb_core.proofs.Keeps.{well}
 use Rattle.tb_standing.proofs.Lasting.{weigh_words}
-use Rattle.tb_acting.specs.Revisions.{HasRevision}
-use Rattle.tb_acting.proofs.Corrected.{ReadsBack}
-use Rattle.tb_acting.proofs.Bounded.{narrow}
-use Rattle.tb_acting.proofs.Revised.{has_each}
+use Rattle.tb_recording.specs.Revisions.{HasRevision}
+use Rattle.tb_recording.proofs.Telling.{ReadsBack}
+use Rattle.tb_recording.proofs.Bounded.{narrow}
+use Rattle.tb_recording.proofs.Revised.{has_each}
 use Rattle.tb_importing.specs.Firsts.{IsFirst}
 use Rattle.tb_importing.proofs.Counting.{its_words, words_are, first_words_are, new_words_are}
 

@@ -7,3 +7,4 @@ pub mod Firstly
 pub mod Meaning
 pub mod Bounds
 pub mod Filled
+pub mod Committed

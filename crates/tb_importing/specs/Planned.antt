@@ -1,5 +1,5 @@
 -- What an accepted import writes and answers, and what an import leaves.
-use Rattle.std.specs.Prelude.{◌≡◌, ℕ, ◌+◌, List, Option, Some, None, length}
+use Rattle.std.specs.Prelude.{◌≡◌, ℕ, ◌+◌, List, Option, Some, None, length, map}
 use Rattle.sqlite.specs.Store.{Ghosts}
 use Rattle.sqlite.specs.Held.{Held}
 use Rattle.tb_conllu.specs.Text.{BlockText}
@@ -17,7 +17,8 @@ use Rattle.tb_core.specs.Taking.{TakenText}
 use Rattle.tb_core.specs.Totals.{StandFor}
 use Rattle.tb_tables.specs.Commands.{Item}
 use Rattle.tb_standing.specs.Standing.{IsDesk}
-use Rattle.tb_acting.specs.Working.{IsCounted, IsPrepared}
+use Rattle.tb_standing.specs.Written.{item_of}
+use Rattle.tb_recording.specs.Counted.{IsCounted, IsPrepared}
 use Rattle.tb_importing.specs.declared.known.Known.{Known}
 use Rattle.tb_importing.specs.declared.planning.ImportPlan.{ImportPlan}
 
@@ -45,6 +46,12 @@ import_move counted number sentences words user = record {
   words_in = words;
   who = user;
 }
+
+-- the batch and the first of its sentences have the next numbers, and the items are the sentences of the file
+pub record IsMadeBatch (s : Machine) (number first : ℕ) (bodies : List BlockText) (items : List Item) : Type 0 where
+  pub next : number ≡ 1 + length s.batches
+  pub first_next : first ≡ 1 + length s.sentences
+  pub told : items ≡ map item_of bodies
 
 -- the import of these sentences
 pub record IsPlannedImport (s : Machine) (name user : List ℕ) (bs : List BlockText) (p : ImportPlan) : Type 0 where

@@ -14,10 +14,10 @@ ghost use Rattle.tb_importing.specs.Firsts.{IsFirst, IsWorkOf, AreFirsts};
 use crate::words::words_of_text;
 use sqlite::{Alter, Connection};
 use std::alloc::Global;
-use tb_acting::faults;
 use tb_conllu::one_list_has_a_text;
 use tb_core::{Fault, reached_states_are_well, revisions_read_back};
 use tb_reading::Work;
+use tb_recording::faults;
 use tb_standing::{desk_rows_are_readable, records_tell_what_stands};
 
 /// The words of the first revision of the sentence with this number, which stands: its text is read.

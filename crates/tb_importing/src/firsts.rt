@@ -11,9 +11,9 @@ ghost use Rattle.tb_importing.specs.Leaving.{IsLeft, Stays};
 ghost use Rattle.tb_importing.specs.Firsts.{IsFirst, AreFirsts, Tells};
 
 use sqlite::{Alter, Connection};
-use tb_acting::faults;
 use tb_core::Fault;
 use tb_reading::Work;
+use tb_recording::faults;
 use tb_standing::{desk_rows_are_readable, records_tell_what_stands};
 
 /// What of a text follows that of the first revision of the sentence with this number, which stands; nothing where the text

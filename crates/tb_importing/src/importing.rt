@@ -16,19 +16,19 @@ ghost use Rattle.tb_core.specs.Totals.{StandFor};
 ghost use Rattle.tb_standing.specs.Standing.{tables_of, IsDesk};
 ghost use Rattle.tb_judge.specs.Found.{FindsName};
 ghost use Rattle.tb_judge.specs.Parts.{IsNamedImport, IsTakenImport};
-ghost use Rattle.tb_acting.specs.Working.{IsWithin};
+ghost use Rattle.tb_recording.specs.Counted.{IsWithin};
 ghost use Rattle.tb_importing.specs.Leaving.{IsLeft, Stays};
 ghost use Rattle.tb_importing.specs.Planned.{IsKnown, HasImported, Imports};
 ghost use Rattle.tb_standing.specs.Telling.{CrashesTo, KnowsDesk, KnowsDeskWhere, RefusesAs, Tells};
 ghost use Rattle.tb_tables.specs.Leaving.{KeepsRecordsOnErr};
 
+use crate::committing::commit_import;
 use crate::known::Known;
 use crate::naming::find_name;
 use crate::planning::{items_of, plan};
 use crate::taken::first_taken;
 use sqlite::{Alter, Connection};
 use std::alloc::Global;
-use tb_acting::commit_import;
 use tb_core::{Fault, Imported, Taken, Totals, commands_stay_within_limits};
 use tb_judge::{Judged, NameFound, judge_import_after, judge_import_before, judge_import_body};
 

@@ -1,4 +1,4 @@
-use tb_acting::Counts;
+use tb_recording::Counts;
 
 /// What a desk knows without asking the database, as an import needs it: beside what every command needs, how many batches
 /// and sentences stand.

@@ -2,6 +2,7 @@
 #![tactic(auto)]
 
 mod again;
+mod committing;
 mod firsts;
 mod importing;
 mod known;

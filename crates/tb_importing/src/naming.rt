@@ -19,10 +19,10 @@ use crate::again::words_again;
 use crate::firsts::are_firsts;
 use sqlite::{Alter, Connection};
 use std::alloc::Global;
-use tb_acting::{batch_number, faults};
 use tb_core::{Fault, Imported, reached_states_are_well};
 use tb_judge::NameFound;
 use tb_reading::Work;
+use tb_recording::{batch_number, faults};
 use tb_standing::desk_rows_are_readable;
 
 /// The sentences of the batch with this number, pulled ones too.

@@ -8,14 +8,14 @@ ghost use Rattle.tb_core.specs.Machine.{Machine};
 ghost use Rattle.tb_core.specs.Acts.{importing, IsAllowed, after};
 ghost use Rattle.tb_core.specs.Reaching.{Reached, IsReachable};
 ghost use Rattle.tb_core.specs.Taking.{TakenText, taken_of};
-ghost use Rattle.tb_acting.specs.Working.{IsPrepared};
+ghost use Rattle.tb_recording.specs.Counted.{IsPrepared};
 ghost use Rattle.tb_importing.specs.Planned.{IsKnown, IsPlannedImport, item_told, import_move};
 
 use crate::known::Known;
 use crate::words::words_in;
 use std::alloc::Global;
-use tb_acting::{Prepared, narrow, next_move, prepare};
 use tb_core::{Fault, Imported, Kind, Move, State, Taken};
+use tb_recording::{Prepared, narrow, next_move, prepare};
 use tb_writing::Item;
 
 /// The numbers, the reply, and what is written beside the sentences.

@@ -13,8 +13,8 @@ ghost use Rattle.tb_importing.specs.Leaving.{IsLeft, Stays};
 ghost use Rattle.tb_standing.specs.Telling.{KnowsDesk};
 
 use sqlite::{Alter, Connection};
-use tb_acting::is_taken;
 use tb_core::{Fault, Taken};
+use tb_recording::is_taken;
 
 /// The first of these sentences, counted from 1, whose `sent_id` stands. No sentence after it is asked for.
 pub(crate) fn first_taken<S: Alter>(

@@ -6,7 +6,7 @@ use Rattle.tb_core.specs.declared.refusals.Fault.{Fault}
 use Rattle.tb_core.specs.declared.refusals.Fault.TheVariants.{Refused}
 use Rattle.tb_core.specs.Machine.{Machine, Sentence, Revision, rev}
 use Rattle.tb_core.specs.Commands.{HasSentence}
-use Rattle.tb_acting.specs.Revisions.{HasRevision}
+use Rattle.tb_recording.specs.Revisions.{HasRevision}
 
 -- the text of this revision of this sentence
 pub record IsTextOf (s : Machine) (sentence revision : ℕ) (text : List ℕ) : Type 0 where

@@ -8,7 +8,7 @@ use Rattle.tb_core.specs.Names.{is_name}
 use Rattle.tb_core.specs.Machine.{Machine, Sentence}
 use Rattle.tb_core.specs.Tests.{IsBadName, IsNoBatch}
 use Rattle.tb_search.specs.Released.{in_batch, current_text}
-use Rattle.tb_acting.specs.Finding.{HasNumber}
+use Rattle.tb_recording.specs.Finding.{HasNumber}
 
 -- What a sink has where an export ends early: nothing where it was refused, a first part where the sink failed, and whole
 -- sentences after any other fault.

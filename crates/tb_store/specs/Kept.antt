@@ -6,8 +6,8 @@ use Rattle.tb_core.specs.contracts.limits.Limits as limits
 use Rattle.tb_core.specs.contracts.sums.Totals as totals
 use Rattle.tb_core.specs.declared.limits.Limits.{Limits}
 use Rattle.tb_core.specs.declared.sums.Totals.{Totals}
-use Rattle.tb_acting.specs.declared.counted.Counts.{Counts}
-use Rattle.tb_acting.specs.Working.{IsWithin}
+use Rattle.tb_recording.specs.declared.counted.Counts.{Counts}
+use Rattle.tb_recording.specs.Counted.{IsWithin}
 use Rattle.tb_importing.specs.declared.known.Known.{Known}
 
 -- `batches`, `sentences` and `moves` are how many there are

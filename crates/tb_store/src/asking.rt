@@ -8,15 +8,16 @@ ghost use Rattle.tb_core.specs.declared.refusals.Refusal.{Refusal as AnyRefusal}
 ghost use Rattle.tb_core.specs.Machine.{Machine, Sentence, Revision, rev as rev_of};
 ghost use Rattle.tb_core.specs.Totals.{StandFor};
 ghost use Rattle.tb_standing.specs.Standing.{IsDesk};
-ghost use Rattle.tb_acting.specs.Revisions.{HasRevision};
+ghost use Rattle.tb_recording.specs.Revisions.{HasRevision};
 ghost use Rattle.tb_standing.specs.Telling.{KnowsDesk, KnowsDeskWhere, Tells};
 ghost use Rattle.tb_tables.specs.Leaving.{ChangesNothing, CommitsNothing, KeepsRecords};
 
 use crate::answers::Current;
 use sqlite::{Alter, Connection};
 use std::alloc::Global;
-use tb_acting::{faults, read_moves};
+use tb_acting::read_moves;
 use tb_core::{Fault, Move, Refusal, Totals};
+use tb_recording::faults;
 use tb_standing::desk_rows_are_readable;
 use tb_tables::TotalRow;
 

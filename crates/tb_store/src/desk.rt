@@ -14,8 +14,8 @@ ghost use Rattle.tb_report.specs.Tables.{IsTableOf};
 ghost use Rattle.tb_search.specs.Released.{released, in_batch, current_text};
 ghost use Rattle.tb_search.specs.Searched.{Occurrence, answer, keys};
 ghost use Rattle.tb_search.specs.Visited.{HasReason};
-ghost use Rattle.tb_acting.specs.Finding.{HasNumber};
-ghost use Rattle.tb_acting.specs.Working.{IsWithin};
+ghost use Rattle.tb_recording.specs.Finding.{HasNumber};
+ghost use Rattle.tb_recording.specs.Counted.{IsWithin};
 ghost use Rattle.tb_standing.specs.Standing.{tables_of, IsDesk};
 ghost use Rattle.tb_store.specs.Kept.{Kept, counts_of, known_of};
 ghost use Rattle.tb_store.specs.Standing.{StandsFor, unlimited, no_totals};
@@ -30,7 +30,6 @@ use crate::{asking, exporting, finding};
 use sqlite::{Alter, Connection, MemStore};
 use std::alloc::Global;
 use std::marker::Model;
-use tb_acting::{Counts, faults};
 use tb_adopting::{Standing, read_desk};
 use tb_conllu::Sink;
 use tb_core::{
@@ -39,6 +38,7 @@ use tb_core::{
 use tb_importing::Known;
 use tb_match::Strategy;
 use tb_query::{Attr, Query};
+use tb_recording::{Counts, faults};
 use tb_report::Freq;
 
 /// A desk: the connection that holds its tables, its limits, and the counts and totals that it read or wrote last, so that the

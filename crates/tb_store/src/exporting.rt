@@ -6,7 +6,7 @@ ghost use Rattle.tb_core.specs.declared.refusals.Refusal.{Refusal as AnyRefusal}
 ghost use Rattle.tb_core.specs.Names.{is_name};
 ghost use Rattle.tb_search.specs.Released.{released as released_in, in_batch, current_text};
 ghost use Rattle.tb_search.specs.Visited.{HasReason};
-ghost use Rattle.tb_acting.specs.Finding.{HasNumber};
+ghost use Rattle.tb_recording.specs.Finding.{HasNumber};
 ghost use Rattle.tb_store.specs.Exports.{IsBrokenOff, IsPartOfBatch, RefusesBatch};
 ghost use Rattle.tb_standing.specs.Telling.{KnowsDesk, TellsOnErr, TellsOnOk};
 ghost use Rattle.tb_tables.specs.Leaving.{CommitsNothing, CommitsNothingOnDesk, KeepsRecords};
@@ -14,9 +14,9 @@ ghost use Rattle.tb_tables.specs.Leaving.{CommitsNothing, CommitsNothingOnDesk, 
 use crate::stopping::fault_of;
 use sqlite::{Alter, Connection};
 use std::alloc::Global;
-use tb_acting::batch_number;
 use tb_conllu::Sink;
 use tb_core::{Fault, Refusal, good_name};
+use tb_recording::batch_number;
 use tb_search::{export_numbered, export_released};
 
 /// Puts the text of all released sentences, by number.

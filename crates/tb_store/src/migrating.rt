@@ -6,7 +6,7 @@ ghost use Rattle.sqlite.specs.Held.{state};
 ghost use Rattle.tb_tables.specs.Records.{Stands};
 ghost use Rattle.tb_core.specs.declared.refusals.Refusal.{Refusal as AnyRefusal};
 ghost use Rattle.tb_core.specs.Machine.{Machine};
-ghost use Rattle.tb_acting.specs.Working.{IsWithin};
+ghost use Rattle.tb_recording.specs.Counted.{IsWithin};
 ghost use Rattle.tb_standing.specs.Standing.{tables_of};
 ghost use Rattle.tb_migrating.specs.Desk.{IsFirstDesk};
 ghost use Rattle.tb_store.specs.Standing.{StandsFor, unlimited};

@@ -9,8 +9,8 @@ ghost use Rattle.tb_search.specs.Visited.{IsFault, IsStopFault};
 ghost use Rattle.tb_store.specs.Exports.{IsBrokenOff};
 ghost use Rattle.tb_store.specs.Found.{IsPartFound};
 
-use tb_acting::faults;
 use tb_core::Fault;
+use tb_recording::faults;
 use tb_search::Stopped;
 
 /// Why a walk ended early, as a fault. `NotADesk` is told only where rows or texts are of no desk, or the database answered with

@@ -1,6 +1,6 @@
 use Rattle.tb_acting.proofs.Revised.{unique_revised}
-use Rattle.tb_acting.proofs.Unique.{unique_tables}
-use Rattle.tb_acting.proofs.Faultless.{room_told}
+use Rattle.tb_recording.proofs.Unique.{unique_tables}
+use Rattle.tb_recording.proofs.Faultless.{room_told}
 use Rattle.tb_tables.specs.Records.{Revision}
 use Rattle.tb_core.specs.declared.refusals.Fault.TheVariants.{NotADesk}
 use Rattle.std.proofs.Common.{◌-◌, ◌∙◌, ap, option_map, ◌≡◌, refl, sym}
@@ -9,7 +9,8 @@ use Rattle.sqlite.specs.Held.{state}
 use Rattle.sqlite.proofs.StateLemmas.{survives_weaker}
 use Rattle.tb_core.specs.Acts.{correcting}
 use Rattle.tb_standing.specs.Standing.{tables_of, sentence_record}
-use Rattle.tb_acting.proofs.Committed.{follows, correction_stands}
+use Rattle.tb_recording.proofs.Written.{follows}
+use Rattle.tb_acting.proofs.Committed.{correction_stands}
 use Rattle.tb_acting.proofs.committing.correct.Goals as goal
 
 pub returns-in-Ok-clause-made : goal.returns-in-Ok-clause-made

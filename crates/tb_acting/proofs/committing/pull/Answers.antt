@@ -1,11 +1,13 @@
-use Rattle.tb_acting.proofs.Unique.{unique_tables, unpulled_lacks}
-use Rattle.tb_acting.proofs.Faultless.{error_told}
+use Rattle.tb_recording.proofs.Unique.{unique_tables}
+use Rattle.tb_acting.proofs.Unpulled.{unpulled_lacks}
+use Rattle.tb_recording.proofs.Faultless.{error_told}
 use Rattle.tb_core.specs.declared.refusals.Fault.TheVariants.{NotADesk}
 use Rattle.std.proofs.Common.{◌-◌, ◌≡◌, sym, ◌∙◌}
 use Rattle.sqlite.specs.Held.{state}
 use Rattle.sqlite.proofs.StateLemmas.{survives_weaker}
 use Rattle.tb_standing.specs.Standing.{tables_of}
-use Rattle.tb_acting.proofs.Committed.{follows, pull_stands}
+use Rattle.tb_recording.proofs.Written.{follows}
+use Rattle.tb_acting.proofs.Committed.{pull_stands}
 use Rattle.tb_core.specs.Acts.{pulling}
 use Rattle.tb_acting.proofs.committing.pull.Goals as goal
 

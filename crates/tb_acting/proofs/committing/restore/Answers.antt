@@ -1,11 +1,12 @@
-use Rattle.tb_acting.proofs.Unique.{unique_tables}
-use Rattle.tb_acting.proofs.Faultless.{error_told}
+use Rattle.tb_recording.proofs.Unique.{unique_tables}
+use Rattle.tb_recording.proofs.Faultless.{error_told}
 use Rattle.tb_core.specs.declared.refusals.Fault.TheVariants.{NotADesk}
 use Rattle.std.proofs.Common.{◌-◌, ◌≡◌, sym, ◌∙◌}
 use Rattle.sqlite.specs.Held.{state}
 use Rattle.sqlite.proofs.StateLemmas.{survives_weaker}
 use Rattle.tb_standing.specs.Standing.{tables_of}
-use Rattle.tb_acting.proofs.Committed.{follows, restore_stands}
+use Rattle.tb_recording.proofs.Written.{follows}
+use Rattle.tb_acting.proofs.Committed.{restore_stands}
 use Rattle.tb_core.specs.Acts.{restoring}
 use Rattle.tb_acting.proofs.committing.restore.Goals as goal
 

@@ -9,7 +9,7 @@ use Rattle.tb_core.specs.Commands.{correct, replied, corrected_to}
 use Rattle.tb_core.proofs.Weights.{length-changed}
 use Rattle.tb_tables.proofs.Commands.{same_holds}
 use Rattle.tb_acting.specs.Correcting.{PlanText, IsPlannedCorrection}
-use Rattle.tb_acting.proofs.Unchanged.{desk_same}
+use Rattle.tb_recording.proofs.Unchanged.{desk_same}
 use Rattle.tb_acting.proofs.correcting.correct.Goals as goal
 
 pub returns-in_err-reply-clause-refused : goal.returns-in_err-reply-clause-refused

@@ -1,5 +1,5 @@
-use Rattle.tb_acting.proofs.Revised.{revision_found, has_current}
-use Rattle.tb_acting.proofs.Faultless.{read_told, fit}
+use Rattle.tb_recording.proofs.Revised.{revision_found, has_current}
+use Rattle.tb_recording.proofs.Faultless.{read_told, fit}
 use Rattle.tb_standing.specs.Fitting.{IsReadableRevision}
 use Rattle.tb_reading.specs.Readable.{IsRevision}
 use Rattle.tb_core.specs.declared.refusals.Fault.TheVariants.{NotADesk}
@@ -8,7 +8,7 @@ use Rattle.tb_conllu.specs.Text.{text_of}
 use Rattle.tb_core.specs.Machine.{Revision}
 use Rattle.tb_tables.specs.Values.{revision_of}
 use Rattle.tb_standing.specs.Standing.{tables_of}
-use Rattle.tb_acting.proofs.Telling.{revision_told, current_is}
+use Rattle.tb_recording.proofs.Telling.{revision_told, current_is}
 use Rattle.tb_acting.proofs.correcting.current_row.Goals as goal
 
 pub returns-in-Ok-Some-clause-answered : goal.returns-in-Ok-Some-clause-answered

@@ -3,7 +3,7 @@ use Rattle.std.proofs.lemmas.Result.{err_from_is_err_and}
 use Rattle.std.proofs.Common.{arith, ◌≡◌, Err, ◌∙◌}
 use Rattle.sqlite.specs.Held.{state}
 use Rattle.sqlite.specs.State.{HasCleanDisk}
-use Rattle.tb_acting.proofs.Unchanged.{desk_same, lasts_then}
+use Rattle.tb_recording.proofs.Unchanged.{desk_same, lasts_then}
 use Rattle.tb_acting.proofs.correcting.find_current.Goals as goal
 
 pub returns-in_err-row-clause-lasts : goal.returns-in_err-row-clause-lasts

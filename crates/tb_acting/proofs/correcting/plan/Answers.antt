@@ -1,5 +1,5 @@
 use Rattle.tb_acting.proofs.Revised.{few_revisions}
-use Rattle.tb_acting.proofs.Bounded.{narrow}
+use Rattle.tb_recording.proofs.Bounded.{narrow}
 use Rattle.tb_core.proofs.Stored.{few_in}
 use Rattle.tb_core.specs.declared.refusals.Fault.TheVariants.{NotADesk}
 use Rattle.std.proofs.lemmas.Result.{err_from_is_err_and}

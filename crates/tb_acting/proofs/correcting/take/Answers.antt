@@ -1,7 +1,7 @@
 use Rattle.tb_core.specs.declared.refusals.Fault.TheVariants.{NotADesk}
 use Rattle.std.proofs.Common.{◌≡◌, ◌∙◌, [], ◌∷◌, subst, rules, sym}
 use Rattle.tb_conllu.specs.Told.{IsFile}
-use Rattle.tb_acting.proofs.There.{both_ok}
+use Rattle.tb_recording.proofs.There.{both_ok}
 use Rattle.tb_acting.proofs.Corrected.{none_first, stored_alone, body_is_text, stored_file}
 use Rattle.tb_acting.proofs.correcting.take.Goals as goal
 

@@ -4,7 +4,7 @@ use Rattle.tb_tables.specs.Records.{Batch}
 use Rattle.tb_reading.specs.Readable.{IsBatch}
 use Rattle.tb_standing.specs.Standing.{tables_of, batch_record}
 use Rattle.tb_standing.specs.Fitting.{IsReadableBatch}
-use Rattle.tb_acting.proofs.Faultless.{read_told, fit}
+use Rattle.tb_recording.proofs.Faultless.{read_told, fit}
 use Rattle.tb_acting.proofs.Finds.{row_told, none_lacks}
 use Rattle.tb_acting.proofs.finding.batch.Goals as goal
 

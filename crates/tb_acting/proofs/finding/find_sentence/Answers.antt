@@ -5,7 +5,7 @@ use Rattle.sqlite.specs.State.{HasCleanDisk}
 use Rattle.tb_core.specs.declared.refusals.Fault.TheVariants.{NotADesk}
 use Rattle.tb_core.specs.Machine.{batch_with}
 use Rattle.tb_tables.specs.Records.{Sentence}
-use Rattle.tb_acting.proofs.Unchanged.{desk_same, lasts_then, same_two}
+use Rattle.tb_recording.proofs.Unchanged.{desk_same, lasts_then, same_two}
 use Rattle.tb_acting.proofs.Finds.{own_batch, placed_above}
 use Rattle.tb_acting.proofs.finding.find_sentence.Goals as goal
 

@@ -2,7 +2,7 @@ use Rattle.std.proofs.Common.{◌≡◌, ◌+◌, ◌-◌, ◌↔◌, IsTrue, Er
 use Rattle.tb_core.specs.declared.refusals.Fault.TheVariants.{NotADesk}
 use Rattle.tb_core.specs.Rows.{pulled_from}
 use Rattle.tb_standing.specs.Standing.{tables_of}
-use Rattle.tb_acting.proofs.Faultless.{read_told}
+use Rattle.tb_recording.proofs.Faultless.{read_told}
 use Rattle.tb_acting.proofs.Finds.{pulled_told}
 use Rattle.tb_acting.proofs.finding.is_pulled.Goals as goal
 

@@ -3,7 +3,7 @@ use Rattle.tb_core.specs.declared.refusals.Fault.TheVariants.{NotADesk}
 use Rattle.tb_reading.specs.Readable.{IsSentence}
 use Rattle.tb_standing.specs.Standing.{tables_of, sentence_record}
 use Rattle.tb_standing.specs.Fitting.{IsReadableSentence}
-use Rattle.tb_acting.proofs.Faultless.{read_told, fit}
+use Rattle.tb_recording.proofs.Faultless.{read_told, fit}
 use Rattle.tb_acting.proofs.Finds.{none_lacks}
 use Rattle.tb_acting.proofs.finding.sentence_row.Goals as goal
 

@@ -3,7 +3,7 @@ use Rattle.std.proofs.lemmas.Result.{err_from_is_err_and}
 use Rattle.tb_core.specs.declared.refusals.Fault.TheVariants.{NotADesk}
 use Rattle.tb_core.specs.Acts.{pulling}
 use Rattle.tb_acting.specs.Pulling.{pull_move}
-use Rattle.tb_acting.proofs.Faultless.{move_left}
+use Rattle.tb_recording.proofs.Faultless.{move_left}
 use Rattle.tb_acting.proofs.Pulled.{pull_moves, pull_replies}
 use Rattle.tb_acting.proofs.pulling.plan_pull.Goals as goal
 

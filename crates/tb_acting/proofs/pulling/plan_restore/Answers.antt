@@ -3,7 +3,7 @@ use Rattle.std.proofs.lemmas.Result.{err_from_is_err_and}
 use Rattle.tb_core.specs.declared.refusals.Fault.TheVariants.{NotADesk}
 use Rattle.tb_core.specs.Acts.{restoring}
 use Rattle.tb_acting.specs.Pulling.{restore_move}
-use Rattle.tb_acting.proofs.Faultless.{move_left}
+use Rattle.tb_recording.proofs.Faultless.{move_left}
 use Rattle.tb_acting.proofs.Pulled.{restore_moves, restore_replies}
 use Rattle.tb_acting.proofs.pulling.plan_restore.Goals as goal
 

@@ -8,7 +8,7 @@ use Rattle.tb_core.specs.Acts.{restoring, flagged, after, move_of}
 use Rattle.tb_core.specs.Commands.{restore, replied, restored_to}
 use Rattle.tb_core.proofs.Weights.{length-changed}
 use Rattle.tb_tables.proofs.Commands.{same_holds}
-use Rattle.tb_acting.proofs.Unchanged.{desk_same}
+use Rattle.tb_recording.proofs.Unchanged.{desk_same}
 use Rattle.tb_acting.proofs.Pulled.{judged_written}
 use Rattle.tb_acting.proofs.pulling.restore.Goals as goal
 

@@ -2,8 +2,8 @@ use Rattle.std.proofs.Common.{◌≡◌, Err, refl}
 use Rattle.std.proofs.lemmas.Result.{err_from_is_err_and}
 use Rattle.tb_core.specs.declared.refusals.Fault.TheVariants.{NotADesk}
 use Rattle.tb_reading.proofs.Shown.{if_ok}
-use Rattle.tb_acting.proofs.There.{sentence_there}
-use Rattle.tb_acting.proofs.Unchanged.{desk_same}
+use Rattle.tb_recording.proofs.There.{sentence_there}
+use Rattle.tb_recording.proofs.Unchanged.{desk_same}
 use Rattle.tb_acting.proofs.pulling.restore_planned.Goals as goal
 
 pub returns-clause-answered : goal.returns-clause-answered

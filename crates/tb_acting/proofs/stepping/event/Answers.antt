@@ -7,7 +7,7 @@ use Rattle.tb_core.specs.declared.refusals.Fault.TheVariants.{Refused, NotADesk}
 use Rattle.tb_core.specs.Acts.{stepping, after, moved, move_of}
 use Rattle.tb_core.specs.Commands.{event_on, replied, moved_on}
 use Rattle.tb_tables.proofs.Commands.{same_holds}
-use Rattle.tb_acting.proofs.Unchanged.{desk_same}
+use Rattle.tb_recording.proofs.Unchanged.{desk_same}
 use Rattle.tb_acting.proofs.Stepped.{changed_length, one_longer}
 use Rattle.tb_acting.proofs.stepping.event.Goals as goal
 

@@ -4,7 +4,7 @@ use Rattle.tb_core.specs.declared.refusals.Fault.TheVariants.{NotADesk}
 use Rattle.tb_core.specs.Acts.{stepping, with_worker}
 use Rattle.tb_core.specs.Commands.{moved_on}
 use Rattle.tb_standing.specs.Numbers.{state_number}
-use Rattle.tb_acting.proofs.Faultless.{move_left}
+use Rattle.tb_recording.proofs.Faultless.{move_left}
 use Rattle.tb_acting.proofs.Stepped.{event_moves}
 use Rattle.tb_acting.proofs.stepping.plan.Goals as goal
 

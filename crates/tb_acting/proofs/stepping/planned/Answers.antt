@@ -9,7 +9,7 @@ use Rattle.tb_judge.specs.Found.{FindsBatch}
 use Rattle.tb_reading.proofs.Shown.{if_ok}
 use Rattle.tb_acting.specs.declared.finding.BatchRead.{BatchRead}
 use Rattle.tb_acting.specs.Stepping.{seen_of}
-use Rattle.tb_acting.proofs.Unchanged.{desk_same, lasts_then}
+use Rattle.tb_recording.proofs.Unchanged.{desk_same, lasts_then}
 use Rattle.tb_acting.proofs.Stepped.{planned_event, event_fits}
 use Rattle.tb_acting.proofs.stepping.planned.Goals as goal
 

@@ -4,9 +4,9 @@ use Rattle.sqlite.proofs.StateLemmas.{survives_weaker}
 use Rattle.tb_core.specs.declared.refusals.Fault.TheVariants.{NotADesk}
 use Rattle.tb_core.specs.Acts.{stepping}
 use Rattle.tb_standing.specs.Standing.{tables_of, batch_record}
-use Rattle.tb_acting.proofs.Committed.{follows}
-use Rattle.tb_acting.proofs.Faultless.{error_told}
-use Rattle.tb_acting.proofs.Unique.{unique_tables}
+use Rattle.tb_recording.proofs.Written.{follows}
+use Rattle.tb_recording.proofs.Faultless.{error_told}
+use Rattle.tb_recording.proofs.Unique.{unique_tables}
 use Rattle.tb_acting.proofs.Stepped.{event_stands, row_there, prepared_written}
 use Rattle.tb_acting.proofs.stepping.write.Goals as goal
 

@@ -4,7 +4,7 @@ use Rattle.sqlite.specs.Held.{state}
 use Rattle.sqlite.specs.State.{HasCleanDisk}
 use Rattle.tb_core.specs.declared.refusals.Fault.TheVariants.{NotADesk}
 use Rattle.tb_reading.proofs.Shown.{if_ok}
-use Rattle.tb_acting.proofs.Unchanged.{desk_same, lasts_then}
+use Rattle.tb_recording.proofs.Unchanged.{desk_same, lasts_then}
 use Rattle.tb_acting.proofs.Summing.{sums_stand, work_fits}
 use Rattle.tb_acting.proofs.working.find_work.Goals as goal
 

@@ -1,7 +1,7 @@
 use Rattle.std.proofs.Common.{◌≡◌, Err, sym, ap, ◌∙◌}
 use Rattle.tb_core.specs.declared.refusals.Fault.TheVariants.{NotADesk}
 use Rattle.tb_core.specs.Rows.{pulled_from}
-use Rattle.tb_acting.proofs.Faultless.{read_told}
+use Rattle.tb_recording.proofs.Faultless.{read_told}
 use Rattle.tb_acting.proofs.Summing.{pulled_ascends}
 use Rattle.tb_acting.proofs.working.read_pulled.Goals as goal
 

@@ -3,7 +3,7 @@ use Rattle.tb_core.specs.declared.refusals.Fault.TheVariants.{NotADesk}
 use Rattle.tb_reading.specs.Readable.{IsSentence}
 use Rattle.tb_standing.specs.Standing.{tables_of}
 use Rattle.tb_standing.specs.Fitting.{IsReadableSentence}
-use Rattle.tb_acting.proofs.Faultless.{read_told, fit}
+use Rattle.tb_recording.proofs.Faultless.{read_told, fit}
 use Rattle.tb_acting.proofs.working.read_work.Goals as goal
 
 pub returns-in-Err-clause-fails : goal.returns-in-Err-clause-fails

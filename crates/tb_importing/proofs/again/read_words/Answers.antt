@@ -1,6 +1,6 @@
 use Rattle.tb_importing.proofs.Bounds.{first_stands, one_body, one_small}
-use Rattle.tb_acting.proofs.Revised.{revision_found}
-use Rattle.tb_acting.proofs.Faultless.{read_told, fit}
+use Rattle.tb_recording.proofs.Revised.{revision_found}
+use Rattle.tb_recording.proofs.Faultless.{read_told, fit}
 use Rattle.tb_standing.specs.Fitting.{IsReadableRevision}
 use Rattle.tb_reading.specs.Readable.{IsRevision}
 use Rattle.tb_core.specs.declared.refusals.Fault.TheVariants.{NotADesk}

@@ -1,5 +1,5 @@
-use Rattle.tb_acting.proofs.Bounded.{narrow}
-use Rattle.tb_acting.proofs.Faultless.{read_told, fit}
+use Rattle.tb_recording.proofs.Bounded.{narrow}
+use Rattle.tb_recording.proofs.Faultless.{read_told, fit}
 use Rattle.tb_standing.specs.Fitting.{IsReadableSentence}
 use Rattle.tb_reading.specs.Readable.{IsSentence}
 use Rattle.std.proofs.lemmas.List.{length-map}

@@ -1,6 +1,6 @@
 use Rattle.tb_importing.proofs.Filled.{filled}
 use Rattle.tb_importing.proofs.Ordered.{counted}
-use Rattle.tb_acting.proofs.There.{element}
+use Rattle.tb_recording.proofs.There.{element}
 use Rattle.tb_core.specs.Tests.{of_batch}
 use Rattle.tb_core.specs.Machine.{weigh}
 use Rattle.std.proofs.Common.{length, refl, sym, ◌≡◌, ap, ◌∙◌, arith}

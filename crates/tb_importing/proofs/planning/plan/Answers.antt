@@ -1,5 +1,5 @@
 use Rattle.tb_importing.proofs.Bounds.{taken_room, taken_small}
-use Rattle.tb_acting.proofs.Bounded.{narrow}
+use Rattle.tb_recording.proofs.Bounded.{narrow}
 use Rattle.tb_standing.proofs.Lasting.{sound}
 use Rattle.tb_core.specs.Acts.{importing, move_of}
 use Rattle.tb_core.specs.declared.refusals.Fault.TheVariants.{NotADesk}

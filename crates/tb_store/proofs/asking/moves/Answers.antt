@@ -8,9 +8,9 @@ use Rattle.tb_standing.specs.Standing.{tables_of}
 use Rattle.tb_standing.specs.Fitting.{IsReadableMove}
 use Rattle.tb_search.proofs.OneList.{one_list}
 use Rattle.tb_store.proofs.Alike.{same_move}
-use Rattle.tb_acting.proofs.Faultless.{read_told, fit}
+use Rattle.tb_recording.proofs.Faultless.{read_told, fit}
 use Rattle.tb_acting.proofs.Numbering.{moves_are_numbered, same_moves}
-use Rattle.tb_acting.proofs.There.{both_ok}
+use Rattle.tb_recording.proofs.There.{both_ok}
 use Rattle.tb_store.proofs.asking.moves.Goals as goal
 
 pub returns-in-Ok-clause-answered : goal.returns-in-Ok-clause-answered

@@ -4,8 +4,8 @@ use Rattle.sqlite.specs.Held.{state}
 use Rattle.sqlite.specs.State.{HasCleanDisk}
 use Rattle.tb_core.specs.declared.refusals.Fault.TheVariants.{NotADesk}
 use Rattle.tb_reading.proofs.Shown.{if_ok}
-use Rattle.tb_acting.proofs.Unchanged.{desk_same, lasts_then}
-use Rattle.tb_acting.proofs.Revised.{has_each}
+use Rattle.tb_recording.proofs.Unchanged.{desk_same, lasts_then}
+use Rattle.tb_recording.proofs.Revised.{has_each}
 use Rattle.tb_store.proofs.asking.revision.Goals as goal
 
 pub returns-clause-answered : goal.returns-clause-answered

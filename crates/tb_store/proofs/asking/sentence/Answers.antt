@@ -5,9 +5,9 @@ use Rattle.sqlite.specs.State.{HasCleanDisk}
 use Rattle.tb_conllu.specs.Text.{text_of}
 use Rattle.tb_core.specs.declared.refusals.Fault.TheVariants.{NotADesk}
 use Rattle.tb_core.specs.Machine.{Revision}
-use Rattle.tb_acting.proofs.Telling.{current_is}
-use Rattle.tb_acting.proofs.Unchanged.{desk_same, lasts_then}
-use Rattle.tb_acting.proofs.Revised.{has_current}
+use Rattle.tb_recording.proofs.Telling.{current_is}
+use Rattle.tb_recording.proofs.Unchanged.{desk_same, lasts_then}
+use Rattle.tb_recording.proofs.Revised.{has_current}
 use Rattle.tb_store.proofs.asking.sentence.Goals as goal
 
 pub returns-clause-answered : goal.returns-clause-answered

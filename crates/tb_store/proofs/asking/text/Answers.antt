@@ -4,9 +4,9 @@ use Rattle.tb_tables.specs.Values.{revision_of}
 use Rattle.tb_reading.specs.Readable.{IsRevision}
 use Rattle.tb_standing.specs.Standing.{tables_of}
 use Rattle.tb_standing.specs.Fitting.{IsReadableRevision}
-use Rattle.tb_acting.proofs.Telling.{text_told}
-use Rattle.tb_acting.proofs.Faultless.{read_told, fit}
-use Rattle.tb_acting.proofs.Revised.{revision_found}
+use Rattle.tb_recording.proofs.Telling.{text_told}
+use Rattle.tb_recording.proofs.Faultless.{read_told, fit}
+use Rattle.tb_recording.proofs.Revised.{revision_found}
 use Rattle.tb_store.proofs.asking.text.Goals as goal
 
 pub returns-in-Ok-Some-clause-answered : goal.returns-in-Ok-Some-clause-answered

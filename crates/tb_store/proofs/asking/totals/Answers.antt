@@ -12,7 +12,7 @@ use Rattle.tb_core.specs.declared.refusals.Fault.TheVariants.{NotADesk}
 use Rattle.tb_search.proofs.OneList.{one_list}
 use Rattle.tb_store.proofs.Alike.{same_total}
 use Rattle.tb_store.proofs.SixTotals.{totals_stand}
-use Rattle.tb_acting.proofs.Faultless.{read_told, fit}
+use Rattle.tb_recording.proofs.Faultless.{read_told, fit}
 use Rattle.tb_store.proofs.asking.totals.Goals as goal
 
 pub returns-in-Ok-clause-answered : goal.returns-in-Ok-clause-answered

@@ -1,6 +1,6 @@
 use Rattle.std.proofs.Common.{sym, ap, ◌∙◌}
 use Rattle.tb_search.specs.declared.stopped.Stopped.TheVariants.{Read}
-use Rattle.tb_acting.proofs.Faultless.{read_told}
+use Rattle.tb_recording.proofs.Faultless.{read_told}
 use Rattle.tb_store.proofs.stopping.fault_of.Goals as goal
 
 pub returns-in-Read-clause-fails : goal.returns-in-Read-clause-fails

@@ -1,7 +1,7 @@
 use Rattle.std.proofs.Common.{◌≡◌, None, Err, sym, ap, subst, ◌∙◌}
 use Rattle.sqlite.specs.State.{HasCleanDisk, Survives}
 use Rattle.sqlite.specs.Held.{state}
-use Rattle.tb_acting.proofs.Unchanged.{desk_kept}
+use Rattle.tb_recording.proofs.Unchanged.{desk_kept}
 use Rattle.tb_store.specs.Kept.{Kept}
 use Rattle.tb_store.specs.Standing.{unlimited}
 use Rattle.tb_store.proofs.Adopted.{desk_unlimited, desk_before, stands_over}

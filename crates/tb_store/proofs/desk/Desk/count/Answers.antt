@@ -4,7 +4,7 @@ use Rattle.sqlite.specs.State.{Survives}
 use Rattle.tb_tables.specs.Layout.{desk_schema}
 use Rattle.tb_store.specs.Kept.{Kept}
 use Rattle.tb_store.specs.Standing.{StandsFor}
-use Rattle.tb_acting.proofs.Unchanged.{desk_kept}
+use Rattle.tb_recording.proofs.Unchanged.{desk_kept}
 use Rattle.tb_store.proofs.Standings.{still_stands}
 use Rattle.tb_store.proofs.desk.Desk.count.Goals as goal
 

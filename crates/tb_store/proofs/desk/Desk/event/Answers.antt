@@ -9,11 +9,11 @@ use Rattle.tb_core.specs.Commands.{Answer, event_on, replied, refused, moved_on}
 use Rattle.tb_core.specs.Steps.{Steps}
 use Rattle.tb_tables.specs.Records.{Stands}
 use Rattle.tb_standing.specs.Standing.{tables_of}
-use Rattle.tb_acting.specs.declared.counted.Counts.{Counts}
+use Rattle.tb_recording.specs.declared.counted.Counts.{Counts}
 use Rattle.tb_store.specs.Kept.{Kept, counts_of}
 use Rattle.tb_store.specs.Standing.{StandsFor}
-use Rattle.tb_acting.specs.Working.{IsCounted}
-use Rattle.tb_acting.proofs.Unchanged.{desk_kept}
+use Rattle.tb_recording.specs.Counted.{IsCounted}
+use Rattle.tb_recording.proofs.Unchanged.{desk_kept}
 use Rattle.tb_store.proofs.Standings.{still_stands, err_is}
 use Rattle.tb_store.proofs.desk.Desk.event.Goals as goal
 

@@ -8,7 +8,7 @@ use Rattle.tb_core.specs.Steps.{Steps}
 use Rattle.tb_importing.specs.declared.known.Known.{Known}
 use Rattle.tb_store.specs.Kept.{Kept, known_of}
 use Rattle.tb_store.specs.Standing.{StandsFor}
-use Rattle.tb_acting.proofs.Unchanged.{desk_kept}
+use Rattle.tb_recording.proofs.Unchanged.{desk_kept}
 use Rattle.tb_store.proofs.Standings.{still_stands, err_is, is_known}
 use Rattle.tb_store.proofs.desk.Desk.import.Goals as goal
 

@@ -2,7 +2,7 @@ use Rattle.std.proofs.Common.{sym, subst, ◌≡◌, None}
 use Rattle.sqlite.specs.Held.{state}
 use Rattle.tb_store.specs.Kept.{Kept}
 use Rattle.tb_store.specs.Standing.{StandsFor}
-use Rattle.tb_acting.proofs.Unchanged.{desk_kept}
+use Rattle.tb_recording.proofs.Unchanged.{desk_kept}
 use Rattle.tb_store.proofs.Standings.{still_stands}
 use Rattle.tb_store.proofs.desk.Desk.moves.Goals as goal
 

@@ -4,11 +4,11 @@ use Rattle.sqlite.specs.Held.{state}
 use Rattle.sqlite.proofs.StateLemmas.{survives_weaker}
 use Rattle.tb_core.specs.declared.refusals.Fault.TheVariants.{Refused, NotADesk}
 use Rattle.tb_core.specs.Commands.{pull, replied, refused, pulled_out}
-use Rattle.tb_acting.specs.declared.counted.Counts.{Counts}
+use Rattle.tb_recording.specs.declared.counted.Counts.{Counts}
 use Rattle.tb_store.specs.Kept.{Kept}
 use Rattle.tb_store.specs.Standing.{StandsFor}
-use Rattle.tb_acting.specs.Working.{IsCounted}
-use Rattle.tb_acting.proofs.Unchanged.{desk_kept}
+use Rattle.tb_recording.specs.Counted.{IsCounted}
+use Rattle.tb_recording.proofs.Unchanged.{desk_kept}
 use Rattle.tb_store.proofs.Standings.{still_stands, sentence_within, err_is, same_numbered}
 use Rattle.tb_store.proofs.desk.Desk.pull.Goals as goal
 

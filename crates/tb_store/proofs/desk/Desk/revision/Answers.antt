@@ -3,8 +3,8 @@ use Rattle.tb_reading.proofs.Shown.{if_ok}
 use Rattle.sqlite.specs.Held.{state}
 use Rattle.tb_store.specs.Kept.{Kept}
 use Rattle.tb_store.specs.Standing.{StandsFor}
-use Rattle.tb_acting.proofs.Unchanged.{desk_kept}
-use Rattle.tb_acting.proofs.There.{sentence_there}
+use Rattle.tb_recording.proofs.Unchanged.{desk_kept}
+use Rattle.tb_recording.proofs.There.{sentence_there}
 use Rattle.tb_store.proofs.Standings.{still_stands, err_is, refuses_revision}
 use Rattle.tb_store.proofs.desk.Desk.revision.Goals as goal
 

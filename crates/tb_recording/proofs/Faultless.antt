@@ -15,7 +15,7 @@ use Rattle.tb_tables.specs.Failing.{IsStoreFault, IsRoomFault}
 use Rattle.tb_reading.specs.declared.error.ReadError.{ReadError}
 use Rattle.tb_reading.specs.declared.error.ReadError.TheVariants.{Store, Form}
 use Rattle.tb_reading.specs.Failing.{IsReadFault}
-use Rattle.tb_acting.specs.Faults.{fault_of_error, fault_of_read}
+use Rattle.tb_recording.specs.Faults.{fault_of_error, fault_of_read}
 
 store_told : (cause : StoreError) → fault_of_error (store_error cause) ≢ NotADesk
 store_told OutOfMemory e = let is : Memory ≡ NotADesk = e in absurd cc

@@ -2,7 +2,7 @@
 
 ghost use Rattle.std.specs.Prelude.{◌≡◌, ◌≢◌, ◌⊎◌};
 ghost use Rattle.tb_core.specs.declared.refusals.Refusal.{Refusal};
-ghost use Rattle.tb_acting.specs.Faults.{fault_of_code, fault_of_error, fault_of_read, fault_of_making};
+ghost use Rattle.tb_recording.specs.Faults.{fault_of_code, fault_of_error, fault_of_read, fault_of_making};
 
 use sqlite::{Error, ErrorCode};
 use tb_core::Fault;

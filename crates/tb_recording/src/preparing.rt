@@ -6,7 +6,7 @@ ghost use Rattle.tb_core.specs.Machine.{Machine};
 ghost use Rattle.tb_core.specs.Acts.{Act, IsAllowed, after};
 ghost use Rattle.tb_core.specs.Acts.{move_of as move_made};
 ghost use Rattle.tb_core.specs.Reaching.{Reached, IsReachable};
-ghost use Rattle.tb_acting.specs.Working.{IsCounted, IsPrepared};
+ghost use Rattle.tb_recording.specs.Counted.{IsCounted, IsPrepared};
 
 use crate::counted::Counts;
 use crate::recording::record;

@@ -4,9 +4,9 @@ use Rattle.tb_core.specs.declared.refusals.Fault.TheVariants.{NotADesk}
 use Rattle.tb_core.specs.declared.sums.Totals.{Totals}
 use Rattle.tb_core.specs.Acts.{after}
 use Rattle.tb_core.specs.Totals.{Takes, IsApplied, StandFor}
-use Rattle.tb_acting.specs.Recorded.{IsChangeOf, IsNarrowMove}
-use Rattle.tb_acting.proofs.Bounded.{narrow_totals, narrow_move}
-use Rattle.tb_acting.proofs.preparing.prepare.Goals as goal
+use Rattle.tb_recording.specs.Recorded.{IsChangeOf, IsNarrowMove}
+use Rattle.tb_recording.proofs.Bounded.{narrow_totals, narrow_move}
+use Rattle.tb_recording.proofs.preparing.prepare.Goals as goal
 
 pub returns-clause-prepared : goal.returns-clause-prepared
 returns-clause-prepared c s a reached allowed counted is = record {

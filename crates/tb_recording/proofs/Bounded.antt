@@ -13,7 +13,7 @@ use Rattle.tb_core.specs.Totals.{StandFor}
 use Rattle.tb_tables.specs.Records.{Move}
 use Rattle.tb_standing.specs.Standing.{tables_of, move_record, total_record, six_states}
 use Rattle.tb_standing.specs.Fitting.{IsReadable, IsReadableMove, IsReadableTotal}
-use Rattle.tb_acting.specs.Recorded.{AreNarrow, IsNarrowMove}
+use Rattle.tb_recording.specs.Recorded.{AreNarrow, IsNarrowMove}
 
 wide : 1000000000 < 2 ^ 32
 wide = lit< tt

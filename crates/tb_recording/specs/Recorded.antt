@@ -1,20 +1,15 @@
 -- What a move changes in the tables.
-use Rattle.std.specs.Prelude.{◌≡◌, ◌+◌, ◌-◌, ◌^◌, ◌<◌, ℕ, List, [], ◌∷◌, Some, slice_get, length, map}
+use Rattle.std.specs.Prelude.{◌≡◌, ◌-◌, ◌^◌, ◌<◌, Some}
 use Rattle.tb_core.specs.declared.kinds.State.{State}
 use Rattle.tb_core.specs.declared.sums.Totals.{Totals}
 use Rattle.tb_core.specs.Moves.{MoveText}
-use Rattle.tb_core.specs.Machine.{Machine, Sentence}
-use Rattle.tb_core.specs.Machine.{rev as rev_of}
-use Rattle.tb_conllu.specs.Text.{BlockText, text_of}
-use Rattle.tb_conllu.specs.Words.{words_of}
+use Rattle.tb_core.specs.Machine.{Machine}
 use Rattle.tb_core.specs.Acts.{Act, after}
 use Rattle.tb_core.specs.Acts.{move_of as move_made}
 use Rattle.tb_core.specs.Totals.{at_state, StandFor}
 use Rattle.tb_tables.specs.declared.rows.TotalRow.{TotalRow}
 use Rattle.tb_tables.specs.Values.{move_of}
-use Rattle.tb_tables.specs.Commands.{Item}
 use Rattle.tb_standing.specs.Standing.{move_record}
-use Rattle.tb_standing.specs.Written.{item_of}
 use Rattle.tb_writing.specs.declared.recording.Change.{Change}
 
 -- the row tells the totals of the state
@@ -47,16 +42,3 @@ pub record IsWritten (s : Machine) (a : Act) (c : Change) : Type 0 where
   pub totals : Totals
   pub stand : StandFor totals (after s a)
   pub change : IsChangeOf totals (move_made s a) c
-
--- this sentence has the number, and the revision after its current one has this body
-pub record IsMadeRevision (s : Machine) (number : ℕ) (body : BlockText) (x : Sentence) (rev words : ℕ) (text : List ℕ) : Type 0 where
-  pub there : slice_get s.sentences (number - 1) ≡ Some x
-  pub next : rev ≡ rev_of x + 1
-  pub counted : words ≡ words_of body
-  pub told : text ≡ text_of (body ∷ [])
-
--- the batch and the first of its sentences have the next numbers, and the items are the sentences of the file
-pub record IsMadeBatch (s : Machine) (number first : ℕ) (bodies : List BlockText) (items : List Item) : Type 0 where
-  pub next : number ≡ 1 + length s.batches
-  pub first_next : first ≡ 1 + length s.sentences
-  pub told : items ≡ map item_of bodies

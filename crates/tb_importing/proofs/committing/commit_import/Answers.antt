@@ -1,5 +1,5 @@
-use Rattle.tb_acting.proofs.Unique.{unique_tables}
-use Rattle.tb_acting.proofs.Faultless.{room_told}
+use Rattle.tb_recording.proofs.Unique.{unique_tables}
+use Rattle.tb_recording.proofs.Faultless.{room_told}
 use Rattle.tb_tables.specs.Failing.{AreUnique}
 use Rattle.tb_core.specs.declared.refusals.Fault.TheVariants.{NotADesk}
 use Rattle.std.proofs.Common.{subst, ◌≡◌, sym, ◌∙◌}
@@ -9,8 +9,9 @@ use Rattle.tb_core.specs.Acts.{importing, after}
 use Rattle.tb_tables.specs.Records.{Tables, Stands}
 use Rattle.tb_tables.specs.Changes.{Holds}
 use Rattle.tb_standing.specs.Standing.{tables_of}
-use Rattle.tb_acting.proofs.Committed.{follows, import_stands, next_batch}
-use Rattle.tb_acting.proofs.committing.commit_import.Goals as goal
+use Rattle.tb_recording.proofs.Written.{follows}
+use Rattle.tb_importing.proofs.Committed.{import_stands, next_batch}
+use Rattle.tb_importing.proofs.committing.commit_import.Goals as goal
 
 pub returns-in-Ok-clause-made : goal.returns-in-Ok-clause-made
 returns-in-Ok-clause-made g c clean s bodies desk is allowed reachable written =

@@ -1,5 +1,5 @@
 use Rattle.tb_core.specs.declared.kinds.State.TheVariants.{Opened, Assigned, Submitted, Adjudicated, Released, Withdrawn}
-use Rattle.tb_acting.proofs.recording.total_row.Goals as goal
+use Rattle.tb_recording.proofs.recording.total_row.Goals as goal
 
 pub returns-in-Opened-clause-fails : goal.returns-in-Opened-clause-fails
 returns-in-Opened-clause-fails c narrow bad = let row = narrow Opened in c.total_at.ensures.fails row.0 row.1 bad

@@ -7,7 +7,7 @@ ghost use Rattle.tb_core.specs.declared.sums.Totals.{Totals as AnyTotals};
 ghost use Rattle.tb_core.specs.Totals.{at_state, Takes, IsApplied};
 ghost use Rattle.tb_tables.specs.Values.{move_of};
 ghost use Rattle.tb_standing.specs.Standing.{move_record};
-ghost use Rattle.tb_acting.specs.Recorded.{IsTotalOf, IsChangeOf, AreNarrow, IsNarrowMove};
+ghost use Rattle.tb_recording.specs.Recorded.{IsTotalOf, IsChangeOf, AreNarrow, IsNarrowMove};
 
 use tb_core::{Fault, Move, State, Totals};
 use tb_standing::{number_before, number_of_kind, number_of_state};

@@ -2,7 +2,9 @@
 use Rattle.std.proofs.Common.{◌≡◌, ℕ, suc, ◌+◌, ◌-◌, ◌<◌, List, [], ◌∷◌, ◌++◌, map, length, Some, slice_get, refl, sym, ap, subst, ◌∙◌, arith, inl, inr, Contains}
 use Rattle.std.proofs.lemmas.List.Elements.{Contains-append_cases}
 use Rattle.std.proofs.lemmas.List.{map-append}
-use Rattle.tb_conllu.specs.Text.{text_of}
+use Rattle.tb_conllu.specs.Text.{BlockText, text_of}
+use Rattle.tb_conllu.specs.Told.{IsFile}
+use Rattle.tb_rules.specs.File.{IsValid}
 use Rattle.tb_core.specs.Machine as machine
 use Rattle.tb_core.specs.Machine.{Machine, revisions, rev}
 use Rattle.tb_core.specs.Rows.{revision_rows, revisions_from}
@@ -10,7 +12,11 @@ use Rattle.tb_tables.specs.Records.{Revision}
 use Rattle.tb_standing.specs.Standing.{revision_record}
 use Rattle.tb_reading.specs.Found.{IsRevisionAt}
 use Rattle.tb_reading.proofs.Order.{contains_cases}
-use Rattle.tb_acting.specs.Revisions.{HasRevision}
+use Rattle.tb_recording.specs.Revisions.{HasRevision}
+
+-- the text of a stored sentence reads back as it, and as nothing else
+abbrev pub ReadsBack : BlockText → Type 0
+ReadsBack b = IsValid (b ∷ []) × IsFile (text_of (b ∷ [])) (b ∷ []) × ((bs : List BlockText) → IsFile (text_of (b ∷ [])) bs → bs ≡ b ∷ [])
 
 -- the row has the text of the revision, and who gave it
 abbrev Tells : Revision → machine.Revision → Type 0

@@ -1,9 +1,9 @@
 use Rattle.std.proofs.Common.{◌≡◌, ◌<◌, ◌^◌, Err, length, sym, ap, ◌∙◌, arith}
 use Rattle.tb_core.specs.declared.refusals.Fault.TheVariants.{NotADesk}
 use Rattle.tb_standing.specs.Standing.{tables_of}
-use Rattle.tb_acting.proofs.Faultless.{read_told}
-use Rattle.tb_acting.proofs.Finds.{number_told}
-use Rattle.tb_acting.proofs.finding.batch_number.Goals as goal
+use Rattle.tb_recording.proofs.Faultless.{read_told}
+use Rattle.tb_recording.proofs.Names.{number_told}
+use Rattle.tb_recording.proofs.naming.batch_number.Goals as goal
 
 pub returns-in-Ok-clause-answered : goal.returns-in-Ok-clause-answered
 returns-in-Ok-clause-answered g c clean s desk =

@@ -1,0 +1,51 @@
+//! The write of an accepted import: one transaction, after which the tables stand for the state that it leads to.
+
+ghost use Rattle.std.specs.Prelude.{◌≡◌, ◌≢◌, ◌+◌, ◌-◌, ◌^◌, ◌<◌, List, length, Err, None, false, OnOk};
+ghost use Rattle.sqlite.specs.State.{HasCleanDisk, Survives};
+ghost use Rattle.sqlite.specs.Held.{state};
+ghost use Rattle.tb_tables.specs.Records.{Stands};
+ghost use Rattle.tb_core.specs.declared.refusals.Refusal.{Refusal as AnyRefusal};
+ghost use Rattle.tb_core.specs.Machine.{Machine};
+ghost use Rattle.tb_conllu.specs.Text.{BlockText};
+ghost use Rattle.tb_core.specs.Acts.{IsAllowed, importing, after};
+ghost use Rattle.tb_core.specs.Reaching.{IsReachable};
+ghost use Rattle.tb_standing.specs.Standing.{tables_of, IsDesk};
+ghost use Rattle.tb_recording.specs.Recorded.{IsWritten};
+ghost use Rattle.tb_importing.specs.Planned.{IsMadeBatch};
+ghost use Rattle.tb_tables.specs.Leaving.{KeepsRecordsOnErr};
+
+use sqlite::{Alter, Connection};
+use tb_core::{Fault, reached_states_are_well};
+use tb_recording::faults;
+use tb_writing::{Change, Item, write_import};
+
+/// Writes an import in one transaction: the batch under this number, and its sentences from the number `first` on, both
+/// counted from 1.
+///
+/// # Errors
+///
+/// Only what the store fails at; the tables are then as before where the store is still open.
+pub(crate) fn commit_import<S: Alter>(
+    conn: &mut Connection<S>,
+    number: u32,
+    first: u32,
+    name: &str,
+    who: &str,
+    items: &[Item<'_>],
+    change: &Change,
+) -> Result<(), Fault>
+    requires autocommit { conn.old.in_transaction ≡ false }
+    requires fits { first + length items.now < 2 ^ 32 }
+    ensures made { HasCleanDisk (state S.Store conn.new) → OnOk result ((s : Machine) (bodies : List BlockText) → IsDesk S.Store conn.old s → IsMadeBatch s number first bodies items.now → IsAllowed s (importing name.now who.now bodies) → IsReachable (after s (importing name.now who.now bodies)) → IsWritten s (importing name.now who.now bodies) change.now → IsDesk S.Store conn.new (after s (importing name.now who.now bodies))) }
+    ensures refused { (r : AnyRefusal) → result ≢ Err (Fault.Refused r) }
+    ensures fails { HasCleanDisk (state S.Store conn.new) → (state S.Store conn.old).step_limit ≡ None → (s : Machine) (bodies : List BlockText) → IsDesk S.Store conn.old s → IsMadeBatch s number first bodies items.now → IsAllowed s (importing name.now who.now bodies) → IsReachable (after s (importing name.now who.now bodies)) → IsWritten s (importing name.now who.now bodies) change.now → result ≢ Err Fault.NotADesk }
+    ensures kept { KeepsRecordsOnErr S.Store conn.old conn.new result }
+    ensures crash { Survives (state S.Store conn.old) (state S.Store conn.new) (λ db. (s : Machine) (bodies : List BlockText) → IsDesk S.Store conn.old s → IsMadeBatch s number first bodies items.now → IsAllowed s (importing name.now who.now bodies) → IsWritten s (importing name.now who.now bodies) change.now → Stands (tables_of (after s (importing name.now who.now bodies))) db) }
+    ensures mode { conn.new.in_transaction ≡ false }
+{
+    reached_states_are_well();
+    match write_import(conn, number, first, name, who, items, change) {
+        Ok(()) => Ok(()),
+        Err(error) => Err(faults::of_error(error)),
+    }
+}

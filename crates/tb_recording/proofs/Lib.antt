@@ -1,0 +1,9 @@
+pub mod Unchanged
+pub mod There
+pub mod Telling
+pub mod Revised
+pub mod Names
+pub mod Written
+pub mod Faultless
+pub mod Unique
+pub mod Bounded
