@@ -1,16 +1,15 @@
 -- A correction sent again is a repeat while its revision is current, with the reply that it had.
-use Rattle.std.proofs.Common.{◌≡◌, ℕ, zero, suc, ◌+◌, ◌≤◌, List, [], ◌∷◌, ◌++◌, length, get_or, Option, None, Some, Bool, true, refl, sym, ◌∙◌, ap, subst, arith, append-nil, length-append}
+use Rattle.std.proofs.Common.{◌≡◌, ℕ, zero, suc, ◌+◌, List, [], ◌∷◌, ◌++◌, length, get_or, None, Some, refl, sym, ◌∙◌, ap, subst, arith, append-nil, length-append}
 use Rattle.std.specs.Prelude.{slice_get}
 use Rattle.tb_conllu.specs.Text.{BlockText, text_of}
 use Rattle.tb_conllu.specs.Words.{words_of}
 use Rattle.tb_core.specs.declared.limits.Limits.{Limits}
-use Rattle.tb_core.specs.declared.replies.Corrected.{Corrected}
 use Rattle.tb_core.specs.Names.{is_name}
 use Rattle.tb_core.specs.Machine.{Revision, Sentence, Machine, revisions, rev, words, change_at}
-use Rattle.tb_core.specs.Acts.{Act, correcting, after, corrected}
+use Rattle.tb_core.specs.Acts.{correcting, after, corrected}
 use Rattle.tb_core.specs.Reaching.{Later}
-use Rattle.tb_core.specs.Keeping.{Continues, Extends}
-use Rattle.tb_core.specs.Commands.{correct, Reply, corrected_to, Answer, replied, Ending, ending, HasSentence, reply_to}
+use Rattle.tb_core.specs.Keeping.{Continues}
+use Rattle.tb_core.specs.Commands.{correct, Reply, corrected_to, replied, ending, HasSentence, reply_to}
 use Rattle.tb_core.specs.Tests.{RepeatsCorrection, told, passed}
 use Rattle.tb_core.specs.Steps.{Steps}
 use Rattle.tb_core.proofs.Weights.{weight_there, got}

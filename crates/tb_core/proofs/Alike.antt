@@ -1,5 +1,5 @@
 -- Lists that agree, element by element, whatever their elements are seen as.
-use Rattle.std.proofs.Common.{◌≡◌, ℕ, ◌+◌, ◌<◌, ◌≤◌, List, [], ◌∷◌, ◌++◌, length, take, get_or, map, refl, sym, ◌∙◌, ap, arith, take_all}
+use Rattle.std.proofs.Common.{◌≡◌, ℕ, ◌+◌, ◌<◌, ◌≤◌, List, [], ◌∷◌, ◌++◌, length, take, get_or, map, sym, ◌∙◌, ap, take_all}
 use Rattle.std.proofs.lemmas.List.{map-append, take_more, get_or-map}
 
 -- one more element agrees

@@ -1,5 +1,5 @@
 -- A command ends: it cannot be that none of its tests tells an ending.
-use Rattle.std.proofs.Common.{◌≡◌, ℕ, zero, suc, ◌+◌, ◌<◌, List, [], ◌∷◌, ◌++◌, length, map, Bool, true, false, cond, ◌&&◌, Option, None, Some, Result, Ok, Err, eqb, refl, sym, ◌∙◌, ap, subst, arith, append_assoc}
+use Rattle.std.proofs.Common.{◌≡◌, ℕ, suc, ◌+◌, ◌<◌, List, [], ◌∷◌, ◌++◌, length, Bool, true, false, cond, ◌&&◌, Some, Result, Ok, Err, refl, sym, ap, subst, arith, append_assoc}
 use Rattle.std.specs.Prelude.{slice_get, bytes_eq, nat_eq}
 use Rattle.std.specs.List.{AllByRecursion}
 use Rattle.std.proofs.lemmas.Bool.{eqb-true}
@@ -13,10 +13,10 @@ use Rattle.tb_core.specs.declared.refusals.Refusal.{Refusal}
 use Rattle.tb_core.specs.declared.refusals.Refusal.TheVariants.{NoSuchBatch, NoSuchSentence, Read, Rule, Empty, NotOne, SentIdChanged, TextChanged, NothingChanged, NameTaken, SentIdTaken, NotYours, OwnWork, Stale, Pulled, NotPulled}
 use Rattle.tb_core.specs.Names.{is_name, Lacks}
 use Rattle.tb_core.specs.Events.{Asker, anyone, the_worker, not_the_worker, event_row, leads_from, goes_to, makes_worker}
-use Rattle.tb_core.specs.Deciding.{allowed, event_decision, may_correct, current_only, then_current, correct_decision, pull_decision, restore_decision}
-use Rattle.tb_core.specs.Machine.{sent_id_of, text_value_of, Batch, Sentence, Machine, batch_with, state_in, rev}
+use Rattle.tb_core.specs.Deciding.{allowed, may_correct, then_current}
+use Rattle.tb_core.specs.Machine.{sent_id_of, Batch, Machine, batch_with, state_in, rev}
 use Rattle.tb_core.specs.Acts.{Act, importing, stepping, correcting, pulling, restoring, IsAllowed, after, names_of, ids_of, ids_in}
-use Rattle.tb_core.specs.Commands.{Command, import_file, event_on, correct, pull, restore, Answer, replied, refused, Ending, ending, HasBatch, HasSentence, Means, reply_to}
+use Rattle.tb_core.specs.Commands.{Command, import_file, event_on, correct, pull, restore, Answer, replied, refused, Ending, ending, HasBatch, Means, reply_to}
 use Rattle.tb_core.specs.Tests.{◌otherwise◌, told, passed, Refuses, IsFirstTaken, Accepts}
 use Rattle.tb_core.specs.Steps.{ImportEnds, EventEnds, CorrectEnds, PullEnds, RestoreEnds, Ends, Steps}
 use Rattle.tb_core.proofs.Weights.{all_append}

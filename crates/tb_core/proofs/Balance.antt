@@ -1,5 +1,5 @@
 -- Each accepted command moves between the totals just what its move says.
-use Rattle.std.proofs.Common.{◌≡◌, ◌⊎◌, inl, inr, ℕ, ◌+◌, ◌-◌, ◌≤◌, ◌<◌, List, [], ◌∷◌, ◌++◌, length, get_or, Bool, true, false, cond, eqb, Option, None, Some, Result, Ok, Err, refl, sym, ◌∙◌, ap, subst, arith, length-append}
+use Rattle.std.proofs.Common.{◌≡◌, inl, inr, ℕ, ◌+◌, ◌-◌, ◌≤◌, List, [], ◌∷◌, ◌++◌, length, get_or, Bool, true, false, cond, eqb, Result, Ok, Err, refl, sym, ◌∙◌, ap, arith}
 use Rattle.std.specs.List.{AllByRecursion}
 use Rattle.std.proofs.Math.ListN.{get_or-append}
 use Rattle.std.proofs.Math.Seq.{get_or-append_seam}
@@ -12,10 +12,10 @@ use Rattle.tb_core.specs.Events.{is_state, goes_to}
 use Rattle.tb_core.specs.Deciding.{may_correct}
 use Rattle.tb_conllu.specs.Text.{BlockText}
 use Rattle.tb_core.specs.Moves.{MoveText}
-use Rattle.tb_core.specs.Machine.{Batch, Sentence, Machine, empty_machine, no_batch, batch_with, state_in, weigh, weight_at, change_at, when, one, words, at_work}
-use Rattle.tb_core.specs.Acts.{Act, importing, stepping, correcting, pulling, restoring, IsAllowed, after, move_of, leaves, enters, from_state, to_state, batch_at, new_sentence, new_sentences, moved, corrected, flagged}
+use Rattle.tb_core.specs.Machine.{Batch, Sentence, Machine, no_batch, batch_with, state_in, weigh, weight_at, change_at, when, one, words, at_work}
+use Rattle.tb_core.specs.Acts.{Act, importing, stepping, correcting, pulling, restoring, IsAllowed, after, move_of, leaves, enters, from_state, to_state, new_sentence, new_sentences, moved, corrected, flagged}
 use Rattle.tb_core.specs.Reaching.{Reached, begun, further}
-use Rattle.tb_core.specs.Totals.{in_state, total, is_from, sum_moves, out_of, into, IsNet}
+use Rattle.tb_core.specs.Totals.{in_state, total, is_from, sum_moves, IsNet}
 use Rattle.tb_core.specs.Keeping.{IsPlaced}
 use Rattle.tb_core.proofs.Weights.{when_zero, weigh-append, weigh-when, weigh_same, weigh_both, weigh_changed, weight_there, weight_changed, changed_there, changed_elsewhere, got}
 use Rattle.tb_core.proofs.Keeps.{well}

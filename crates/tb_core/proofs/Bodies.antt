@@ -1,7 +1,6 @@
 -- A body that is read and checked one sentence after another.
-use Rattle.std.proofs.Common.{◌≡◌, ℕ, ◌+◌, ◌<◌, ◌≤◌, ◌⊎◌, inl, inr, List, [], ◌∷◌, ◌++◌, length, map, refl, sym, ◌∙◌, ap, subst, arith, append_assoc, length-append}
+use Rattle.std.proofs.Common.{◌≡◌, ℕ, ◌<◌, ◌≤◌, ◌⊎◌, inl, inr, List, [], ◌∷◌, ◌++◌, length, map, refl, sym, ◌∙◌, ap, subst, arith}
 use Rattle.std.specs.Prelude.{Result, Ok, Err, MatchResult, IfOk, IfErr}
-use Rattle.std.specs.List.{AllByRecursion}
 use Rattle.std.proofs.lemmas.List.{map-append, length-map}
 use Rattle.tb_conllu.specs.Left.{Left, IsNext, IsReadTo}
 use Rattle.tb_conllu.specs.Text.{BlockText, text_of}
@@ -10,10 +9,9 @@ use Rattle.tb_conllu.specs.Told.{IsFile, IsNoFile, IsTold}
 use Rattle.tb_conllu.specs.Fault.{IsFaultAfter, IsReadFault}
 use Rattle.tb_conllu.specs.declared.fault.ReadFault.{ReadFault}
 use Rattle.tb_conllu.specs.declared.fault.ReadFault.TheVariants as reading
-use Rattle.tb_rules.specs.File.{IsValid, IsFaultAt, IsFileFault, HasTaken}
+use Rattle.tb_rules.specs.File.{IsValid, IsFaultAt, IsFileFault}
 use Rattle.tb_rules.specs.declared.filefault.FileFault.{FileFault}
 use Rattle.tb_rules.specs.declared.filefault.FileFault.TheVariants as rules
-use Rattle.tb_core.specs.Tests.{IsUnread, IsBroken, IsEmpty}
 use Rattle.tb_core.specs.Taking.{IsBody, IsBodyRefused, unread, broken, empty, IsCorrection, IsUnfit, other_name, other_text, nothing_new, IsCorrectionRefused, as_body, not_one, unfit, IsTakingFault, fault_of_reading, fault_of_rules, TakenText, taken_of}
 use Rattle.tb_core.specs.declared.refusals.Refusal.{Refusal}
 use Rattle.tb_core.specs.declared.refusals.Refusal.TheVariants.{NotOne}

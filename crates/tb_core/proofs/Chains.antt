@@ -1,15 +1,13 @@
 -- Chains of tests taken apart: which test told an ending.
 use Rattle.std.proofs.Common.{◌≡◌, ℕ, List, Bool, true, false, ◌&&◌, refl, sym, ◌∙◌, ap}
-use Rattle.tb_core.specs.declared.kinds.Event.{Event}
 use Rattle.tb_core.specs.declared.limits.Limits.{Limits}
 use Rattle.tb_core.specs.declared.refusals.Refusal.{Refusal}
 use Rattle.tb_core.specs.declared.refusals.Refusal.TheVariants.{BadName}
 use Rattle.tb_core.specs.Names.{is_name}
 use Rattle.tb_core.specs.Machine.{Machine}
-use Rattle.tb_core.specs.Acts.{Act}
 use Rattle.tb_core.specs.Commands.{Command, import_file, event_on, correct, pull, restore, Reply, Answer, replied, refused, Ending, ending}
 use Rattle.tb_core.specs.Tests.{◌otherwise◌, told, passed, Refuses, IsBadName, IsFull, RepeatsImport, RepeatsCorrection, Accepts}
-use Rattle.tb_core.specs.Steps.{ImportEnds, EventEnds, CorrectEnds, PullEnds, RestoreEnds, Ends}
+use Rattle.tb_core.specs.Steps.{ImportEnds, CorrectEnds, Ends}
 
 pub both_true : (a b : Bool) → a ≡ true → b ≡ true → (a && b) ≡ true
 both_true a b e f = ap (λ t. t && b) e ∙ f

@@ -1,8 +1,8 @@
 -- Later states have all that earlier ones have: batches, sentences with their revisions, and moves.
-use Rattle.std.proofs.Common.{◌≡◌, ℕ, zero, suc, ◌+◌, ◌-◌, ◌<◌, ◌≤◌, List, [], ◌∷◌, ◌++◌, length, map, get_or, Option, None, Some, Bool, true, false, refl, sym, ◌∙◌, ap, subst, arith, append_assoc, append-nil, length-append}
+use Rattle.std.proofs.Common.{◌≡◌, ℕ, zero, suc, ◌+◌, ◌<◌, ◌≤◌, List, [], ◌∷◌, ◌++◌, length, get_or, true, false, refl, sym, ◌∙◌, ap, arith, append_assoc, append-nil}
 use Rattle.tb_core.specs.declared.kinds.State.TheVariants.{Opened}
 use Rattle.tb_conllu.specs.Text.{BlockText}
-use Rattle.tb_core.specs.Machine.{Batch, Revision, Sentence, Machine, revisions, change_at}
+use Rattle.tb_core.specs.Machine.{Batch, Sentence, Machine, revisions, change_at}
 use Rattle.tb_core.specs.Keeping.{Continues, Continue, Extends}
 use Rattle.tb_core.specs.Acts.{Act, importing, stepping, correcting, pulling, restoring, after, move_of, names_of, new_sentences, moved, corrected, flagged}
 use Rattle.tb_core.specs.Reaching.{Later, now, later}

@@ -1,14 +1,13 @@
 -- Bytes are a file or have a fault, and sentences are valid or have one: it cannot be that neither is so.
-use Rattle.std.proofs.Common.{◌≡◌, ◌⊎◌, inl, inr, ℕ, zero, suc, ◌+◌, ◌≤◌, ◌<◌, List, [], ◌∷◌, ◌++◌, length, get_or, take, Bool, true, false, ◌||◌, eqb, refl, sym, ◌∙◌, ap, subst, arith, append_assoc, append-nil, length-append}
+use Rattle.std.proofs.Common.{◌≡◌, ◌⊎◌, inl, inr, ℕ, zero, suc, ◌+◌, ◌≤◌, ◌<◌, List, [], ◌∷◌, ◌++◌, length, take, Bool, true, false, ◌||◌, refl, sym, ◌∙◌, ap, subst, arith, append_assoc, append-nil, length-append}
 use Rattle.std.specs.Prelude.{◌==◌, slice_index_or}
-use Rattle.std.specs.List.{AllByRecursion, list_any, flat_map}
+use Rattle.std.specs.List.{list_any}
 use Rattle.std.proofs.lemmas.Bool.Decides.{eqb_tells}
 use Rattle.std.proofs.lemmas.List.Concat.{flat_map-append}
-use Rattle.tb_conllu.specs.Text.{RowText, BlockText, text_of, ended}
-use Rattle.tb_conllu.specs.Shape.{AllShaped}
+use Rattle.tb_conllu.specs.Text.{RowText, BlockText, ended}
 use Rattle.tb_conllu.specs.Words.{words_of}
 use Rattle.tb_conllu.specs.Lines.{line_code, came_through}
-use Rattle.tb_conllu.specs.Told.{IsLine, AreLines, IsFile, IsDead, IsNoFile, IsLineFault, IsUnended, IsTold}
+use Rattle.tb_conllu.specs.Told.{IsLine, AreLines, IsFile, IsDead, IsTold}
 use Rattle.tb_rules.specs.Deps.{dependency_test}
 use Rattle.tb_rules.specs.Feats.{feature_test}
 use Rattle.tb_rules.specs.Nodes.{node_test}

@@ -1,17 +1,16 @@
 -- Each accepted command keeps what every reached state keeps.
-use Rattle.std.proofs.Common.{◌≡◌, inl, inr, ℕ, ◌+◌, ◌≤◌, List, [], ◌∷◌, ◌++◌, length, map, Option, Some, refl, sym, ◌∙◌, ap, subst, arith, Bool, true, false, length-append}
+use Rattle.std.proofs.Common.{◌≡◌, inl, inr, ℕ, ◌+◌, ◌≤◌, List, [], ◌∷◌, ◌++◌, length, refl, sym, ◌∙◌, ap, subst, arith, Bool, true, false, length-append}
 use Rattle.std.specs.List.{AllByRecursion}
 use Rattle.tb_conllu.specs.Text.{BlockText}
 use Rattle.tb_core.specs.declared.kinds.Event.{Event}
 use Rattle.tb_core.specs.declared.kinds.Event.TheVariants.{Assign, Unassign, Submit, SendBack, Adjudicate, Release, Withdraw, Reopen}
-use Rattle.tb_core.specs.declared.kinds.State.TheVariants.{Opened, Assigned, Submitted, Adjudicated, Released, Withdrawn}
 use Rattle.tb_core.specs.Names.{is_name, Lacks, AreApart}
-use Rattle.tb_core.specs.Machine.{sent_id_of, text_value_of, IsLawful, Batch, Revision, Sentence, Machine, empty_machine, revisions, bodies_of, change_at}
-use Rattle.tb_core.specs.Acts.{Act, importing, stepping, correcting, pulling, restoring, IsAllowed, after, names_of, ids_of, ids_in, new_batch, new_sentence, new_sentences, moved, corrected, flagged}
+use Rattle.tb_core.specs.Machine.{sent_id_of, text_value_of, IsLawful, Batch, Revision, Sentence, Machine, empty_machine, revisions, bodies_of}
+use Rattle.tb_core.specs.Acts.{Act, importing, stepping, correcting, pulling, restoring, IsAllowed, after, names_of, ids_of, ids_in, new_batch, new_sentences, moved, corrected, flagged}
 use Rattle.tb_core.specs.Reaching.{Reached, begun, further}
 use Rattle.tb_core.specs.Keeping.{IsPlaced, IsIdle, IsFine, IsWell}
 use Rattle.tb_core.proofs.Weights.{all_append, all_mapped, all_changed, all_changed_at, length-changed, map_changed}
-use Rattle.tb_core.proofs.Lists.{head_is, tail_is, snoc_cases, snoc_last, map-joined}
+use Rattle.tb_core.proofs.Lists.{snoc_cases, snoc_last, map-joined}
 use Rattle.tb_core.proofs.Named.{lawful_all, valid_apart}
 
 pub apart_append : (xs ys : List (List ℕ)) → AreApart xs → AreApart ys → AllByRecursion (Lacks xs) ys → AreApart (xs ++ ys)

@@ -1,18 +1,16 @@
 -- Where commands lead: to a later state, within the limits.
-use Rattle.std.proofs.Common.{◌≡◌, ℕ, ◌+◌, ◌≤◌, List, [], ◌∷◌, ◌++◌, length, Bool, true, false, ◌&&◌, leb, refl, sym, ◌∙◌, ap, subst, arith, length-append}
+use Rattle.std.proofs.Common.{◌≡◌, ℕ, ◌+◌, ◌≤◌, [], ◌∷◌, length, Bool, true, false, refl, sym, subst, arith, length-append}
 use Rattle.std.specs.Prelude.{nat_le}
 use Rattle.std.proofs.lemmas.List.{length-map}
 use Rattle.std.proofs.lemmas.Bool.Decides.{nat_tests}
-use Rattle.tb_conllu.specs.Text.{BlockText}
 use Rattle.tb_core.specs.declared.limits.Limits.{Limits}
-use Rattle.tb_core.specs.declared.refusals.Refusal.{Refusal}
 use Rattle.tb_core.specs.declared.refusals.Refusal.TheVariants.{Full}
-use Rattle.tb_core.specs.Machine.{Sentence, Machine}
+use Rattle.tb_core.specs.Machine.{Machine}
 use Rattle.tb_core.specs.Acts.{Act, importing, stepping, correcting, pulling, restoring, IsAllowed, after, move_of, new_sentence, new_sentences, corrected, flagged}
-use Rattle.tb_core.specs.Reaching.{Reached, further, Later, now, later, has_room, IsReachable}
-use Rattle.tb_core.specs.Commands.{Command, Reply, Answer, replied, refused, Ending, ending, Means, reply_to}
+use Rattle.tb_core.specs.Reaching.{further, Later, now, later, has_room, IsReachable}
+use Rattle.tb_core.specs.Commands.{Command, Answer, refused, Ending, ending, Means}
 use Rattle.tb_core.specs.Tests.{Refuses, IsFull}
-use Rattle.tb_core.specs.Steps.{Ends, Steps}
+use Rattle.tb_core.specs.Steps.{Steps}
 use Rattle.tb_core.proofs.Weights.{length-changed}
 use Rattle.tb_core.proofs.Chains.{Outcome, stays, goes, outcome, good_user, second_good}
 

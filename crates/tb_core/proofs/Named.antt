@@ -1,10 +1,10 @@
 -- Sentences that keep the rules have names, and those of a valid file have different ones.
-use Rattle.std.proofs.Common.{◌≡◌, ℕ, List, [], ◌∷◌, ◌++◌, map, refl, sym, ◌∙◌, ap, subst, append_assoc}
+use Rattle.std.proofs.Common.{◌≡◌, List, [], ◌∷◌, ◌++◌, refl, sym, ap, subst, append_assoc}
 use Rattle.std.specs.List.{AllByRecursion}
 use Rattle.std.specs.Prelude.{unwrap_or}
 use Rattle.tb_conllu.specs.Text.{BlockText}
 use Rattle.tb_conllu.specs.Shape.{AllShaped}
-use Rattle.tb_rules.specs.Comments.{HasSentId, HasText, sent_ids, texts, only}
+use Rattle.tb_rules.specs.Comments.{HasSentId, only}
 use Rattle.tb_rules.specs.Rules.{KeepsRules, sent_id}
 use Rattle.tb_rules.specs.File.{IsNamed, IsFree, HasNewName, IsValid}
 use Rattle.tb_core.specs.Names.{Lacks, AreApart}

@@ -1,9 +1,9 @@
 -- A command ends one way: each of its tests tells at most one ending.
-use Rattle.std.proofs.Common.{◌≡◌, ℕ, zero, suc, ◌+◌, List, [], ◌∷◌, ◌++◌, length, map, Bool, true, false, ◌&&◌, Option, None, Some, Result, Ok, Err, refl, sym, ◌∙◌, ap, subst, arith}
+use Rattle.std.proofs.Common.{◌≡◌, ℕ, zero, suc, ◌+◌, List, [], ◌∷◌, ◌++◌, length, Bool, ◌&&◌, None, Some, Result, Err, refl, sym, ◌∙◌, ap, subst, arith}
 use Rattle.std.specs.Prelude.{slice_get}
 use Rattle.std.specs.List.{AllByRecursion}
-use Rattle.tb_conllu.specs.Text.{BlockText, text_of}
-use Rattle.tb_conllu.specs.Told.{IsFile, IsTold}
+use Rattle.tb_conllu.specs.Text.{BlockText}
+use Rattle.tb_conllu.specs.Told.{IsTold}
 use Rattle.tb_rules.specs.File.{IsFaultAt}
 use Rattle.tb_core.specs.declared.kinds.Event.{Event}
 use Rattle.tb_core.specs.declared.limits.Limits.{Limits}
@@ -17,7 +17,7 @@ use Rattle.tb_core.specs.Reaching.{Reached}
 use Rattle.tb_core.specs.Keeping.{IsWell}
 use Rattle.tb_core.specs.Commands.{Command, import_file, event_on, correct, pull, restore, Answer, replied, refused, Ending, ending, HasBatch, HasSentence, Means, reply_to}
 use Rattle.tb_core.specs.Tests.{◌otherwise◌, told, passed, Refuses, IsBadName, IsNoBatch, IsNoSentence, IsEventRefused, IsCorrectRefused, IsPullRefused, IsRestoreRefused, IsNameTaken, IsFirstTaken, IsIdTaken, IsFull, IsUnread, IsBroken, IsEmpty, IsNotOne, IsIdChanged, IsTextChanged, IsNothingChanged, import_reply, RepeatsImport, RepeatsCorrection, Accepts}
-use Rattle.tb_core.specs.Steps.{ImportEnds, EventEnds, CorrectEnds, PullEnds, RestoreEnds, Ends, Steps}
+use Rattle.tb_core.specs.Steps.{Ends, Steps}
 use Rattle.tb_core.proofs.Lists.{head_is, tail_is, get_one}
 use Rattle.tb_core.proofs.Keeps.{well}
 use Rattle.tb_core.proofs.Same.{IsOneList}

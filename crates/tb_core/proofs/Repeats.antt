@@ -1,5 +1,5 @@
 -- An import sent again is a repeat in every later state, with the reply that it had.
-use Rattle.std.proofs.Common.{◌≡◌, ℕ, zero, suc, ◌+◌, ◌≤◌, ◌<◌, List, [], ◌∷◌, ◌++◌, length, map, Bool, true, false, cond, ◌&&◌, Option, None, Some, refl, sym, ◌∙◌, ap, subst, arith, append-nil, length-append, eqb}
+use Rattle.std.proofs.Common.{◌≡◌, ℕ, zero, suc, ◌+◌, ◌≤◌, ◌<◌, List, [], ◌∷◌, ◌++◌, length, Bool, true, false, cond, ◌&&◌, None, Some, refl, sym, ◌∙◌, ap, subst, arith, append-nil, length-append}
 use Rattle.std.specs.Prelude.{slice_get, nat_eq, nat_lt}
 use Rattle.std.specs.List.{AllByRecursion, flat_map}
 use Rattle.std.proofs.lemmas.Bool.{ne_eqb, eq-eqb, lt-ltb, le-ltb}
@@ -8,13 +8,12 @@ use Rattle.tb_conllu.specs.Text.{BlockText, text_of}
 use Rattle.tb_conllu.specs.Words.{words_of}
 use Rattle.tb_core.specs.declared.kinds.State.TheVariants.{Opened}
 use Rattle.tb_core.specs.declared.limits.Limits.{Limits}
-use Rattle.tb_core.specs.declared.replies.Imported.{Imported}
 use Rattle.tb_core.specs.Names.{is_name}
 use Rattle.tb_core.specs.Machine.{Batch, Revision, Sentence, Machine, weigh, change_at, when, words}
-use Rattle.tb_core.specs.Acts.{Act, importing, stepping, correcting, pulling, restoring, after, new_batch, new_sentences, new_sentence, moved, corrected, flagged, enters}
+use Rattle.tb_core.specs.Acts.{Act, importing, stepping, correcting, pulling, restoring, after, new_sentences, new_sentence, moved, corrected, flagged}
 use Rattle.tb_core.specs.Reaching.{Reached, Later, now, later}
 use Rattle.tb_core.specs.Keeping.{IsPlaced, IsWell}
-use Rattle.tb_core.specs.Commands.{import_file, Reply, imported, Answer, replied, Ending, ending, HasBatch, reply_to}
+use Rattle.tb_core.specs.Commands.{import_file, Reply, imported, replied, ending, HasBatch, reply_to}
 use Rattle.tb_core.specs.Tests.{first_in, first_body, first_of, first_bodies, first_words, of_batch, before_batch, import_reply, RepeatsImport, told, passed}
 use Rattle.tb_core.specs.Steps.{Steps}
 use Rattle.tb_core.proofs.Weights.{weigh-append, length-changed}

@@ -1,9 +1,9 @@
 -- Two reached states with the same rows are equal.
-use Rattle.std.proofs.Common.{◌≡◌, ℕ, ◌+◌, ◌≤◌, List, [], ◌∷◌, ◌++◌, length, map, Bool, true, false, cond, refl, sym, ◌∙◌, ap, subst, arith, length-append}
+use Rattle.std.proofs.Common.{◌≡◌, ℕ, ◌+◌, ◌≤◌, List, [], ◌∷◌, length, map, Bool, true, false, cond, refl, sym, ◌∙◌, ap, arith, length-append}
 use Rattle.std.specs.List.{AllByRecursion}
 use Rattle.tb_conllu.specs.Text.{BlockText, text_of}
 use Rattle.tb_conllu.specs.Told.{IsFile}
-use Rattle.tb_core.specs.Machine.{IsLawful, Batch, Revision, Sentence, Machine, revisions, bodies_of}
+use Rattle.tb_core.specs.Machine.{IsLawful, Revision, Sentence, Machine, revisions}
 use Rattle.tb_core.specs.Reaching.{Reached}
 use Rattle.tb_core.specs.Keeping.{IsFine}
 use Rattle.tb_core.specs.Rows.{SentenceRow, RevisionRow, Rows, sentence_row, revision_rows, revisions_from, pulled_from, rows_of}

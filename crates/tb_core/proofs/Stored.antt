@@ -1,5 +1,5 @@
 -- Stored totals that stand for a state take its next move, and stand for the next state then.
-use Rattle.std.proofs.Common.{◌≡◌, ◌⊎◌, inl, inr, ℕ, zero, suc, ◌+◌, ◌-◌, ◌*◌, ◌^◌, ◌≤◌, ◌<◌, List, [], ◌∷◌, ◌++◌, length, map, get_or, Bool, true, false, cond, eqb, Option, None, Some, refl, sym, ◌∙◌, ap, subst, arith, lit<}
+use Rattle.std.proofs.Common.{◌≡◌, inl, inr, ℕ, zero, suc, ◌+◌, ◌-◌, ◌*◌, ◌^◌, ◌≤◌, ◌<◌, List, [], ◌∷◌, ◌++◌, length, map, get_or, Bool, true, false, cond, eqb, Some, refl, sym, ◌∙◌, ap, subst, arith, lit<}
 use Rattle.std.specs.Prelude.{slice_get}
 use Rattle.std.specs.List.{AllByRecursion}
 use Rattle.std.proofs.lemmas.Bool.Decides.{eqb_tells}
@@ -11,13 +11,13 @@ use Rattle.tb_core.specs.declared.kinds.State.{State}
 use Rattle.tb_core.specs.declared.kinds.State.TheVariants.{Withdrawn}
 use Rattle.tb_core.specs.declared.refusals.Refusal.TheVariants.{WrongState}
 use Rattle.tb_core.specs.declared.sums.Totals.{Totals}
-use Rattle.tb_core.specs.Events.{is_state, goes_to}
-use Rattle.tb_core.specs.Machine.{IsLawful, Batch, Revision, Sentence, Machine, no_batch, batch_with, state_in, bodies_of, weigh, weight_at, when, one, words, at_work}
-use Rattle.tb_core.specs.Acts.{Act, importing, stepping, correcting, pulling, restoring, IsAllowed, after, move_of, leaves, enters, from_state, to_state, state_at, batch_at}
+use Rattle.tb_core.specs.Events.{is_state}
+use Rattle.tb_core.specs.Machine.{IsLawful, Revision, Sentence, Machine, no_batch, batch_with, state_in, weigh, weight_at, when, one, words, at_work}
+use Rattle.tb_core.specs.Acts.{Act, importing, stepping, correcting, pulling, restoring, IsAllowed, after, move_of, leaves, enters, from_state, to_state, state_at}
 use Rattle.tb_core.specs.Reaching.{Reached, further, IsReachable}
-use Rattle.tb_core.specs.Totals.{in_state, total, is_from, at_state, Takes, IsApplied, StandFor}
-use Rattle.tb_core.specs.Keeping.{IsPlaced, IsFine, IsWell}
-use Rattle.tb_core.proofs.Weights.{when_zero, weigh-when, weight_there, all_mapped, got}
+use Rattle.tb_core.specs.Totals.{in_state, total, is_from, Takes, IsApplied, StandFor}
+use Rattle.tb_core.specs.Keeping.{IsPlaced, IsFine}
+use Rattle.tb_core.proofs.Weights.{when_zero, weigh-when, weight_there}
 use Rattle.tb_core.proofs.Keeps.{well}
 use Rattle.tb_core.proofs.Balance.{balance, counted, unpulled, pull_was, restore_was}
 

@@ -15,7 +15,7 @@ use Rattle.tb_core.specs.Moves.{MoveText}
 use Rattle.tb_core.specs.Names.{is_name, Lacks}
 use Rattle.tb_core.specs.Events.{goes_to, makes_worker}
 use Rattle.tb_core.specs.Deciding.{event_decision, may_correct, pull_decision, restore_decision}
-use Rattle.tb_core.specs.Machine.{sent_id_of, text_value_of, IsLawful, Batch, Revision, Sentence, Machine, batch_with, state_in, weigh, weight_at, change_at, one, words, at_work, no_batch}
+use Rattle.tb_core.specs.Machine.{sent_id_of, text_value_of, IsLawful, Batch, Sentence, Machine, batch_with, state_in, weigh, weight_at, change_at, one, words, at_work, no_batch}
 
 -- An accepted command. Places of batches and sentences count from 0.
 pub data Act : Type 0 where

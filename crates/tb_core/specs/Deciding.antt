@@ -1,5 +1,5 @@
 -- What is decided from the state of a batch, its worker and the user, with the refusals in their order.
-use Rattle.std.specs.Prelude.{◌≡◌, ℕ, List, Bool, cond, bytes_eq, nat_eq, Result, Ok, Err}
+use Rattle.std.specs.Prelude.{ℕ, List, Bool, cond, bytes_eq, nat_eq, Result, Ok, Err}
 use Rattle.tb_core.specs.declared.kinds.State.{State}
 use Rattle.tb_core.specs.declared.kinds.State.TheVariants.{Opened, Assigned, Submitted, Adjudicated, Released, Withdrawn}
 use Rattle.tb_core.specs.declared.kinds.Event.{Event}

@@ -1,5 +1,5 @@
 -- The states that accepted commands reach from the empty one.
-use Rattle.std.specs.Prelude.{◌≡◌, ℕ, ◌+◌, ◌≤◌, length, Bool, ◌&&◌, nat_le}
+use Rattle.std.specs.Prelude.{◌+◌, ◌≤◌, length, Bool, ◌&&◌, nat_le}
 use Rattle.tb_core.specs.declared.limits.Limits.{Limits}
 use Rattle.tb_core.specs.Machine.{Machine, empty_machine}
 use Rattle.tb_core.specs.Acts.{Act, importing, stepping, correcting, pulling, restoring, IsAllowed, after}

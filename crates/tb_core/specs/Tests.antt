@@ -1,11 +1,10 @@
 -- The tests of commands. Each tells how a command ends, or tells nothing.
-use Rattle.std.specs.Prelude.{◌≡◌, ℕ, ◌+◌, ◌≤◌, List, [], ◌∷◌, ◌++◌, Bool, true, false, cond, length, map, Err, nat_eq, nat_lt}
+use Rattle.std.specs.Prelude.{◌≡◌, ℕ, ◌+◌, ◌≤◌, List, [], ◌∷◌, ◌++◌, Bool, false, cond, length, Err, nat_eq, nat_lt}
 use Rattle.std.specs.List.{AllByRecursion, flat_map}
 use Rattle.tb_conllu.specs.Text.{BlockText, text_of}
 use Rattle.tb_conllu.specs.Words.{words_of}
 use Rattle.tb_conllu.specs.Told.{IsFile, IsTold}
 use Rattle.tb_rules.specs.File.{IsFaultAt}
-use Rattle.tb_core.specs.declared.kinds.State.{State}
 use Rattle.tb_core.specs.declared.kinds.Event.{Event}
 use Rattle.tb_core.specs.declared.limits.Limits.{Limits}
 use Rattle.tb_core.specs.declared.refusals.Refusal.{Refusal}

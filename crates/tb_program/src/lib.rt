@@ -2,6 +2,7 @@
 #![tactic(auto)]
 
 mod files;
+mod patience;
 mod serving;
 mod words;
 

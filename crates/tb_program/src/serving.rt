@@ -1,5 +1,6 @@
 //! The desk over HTTP on loopback: one connection after another, and on each one request.
 
+use crate::patience::Patient;
 use sqlite::Alter;
 use std::alloc::Global;
 use std::io::{self, BufWriter, Read, Write};
@@ -12,18 +13,23 @@ use tb_store::Desk;
 /// How many seconds one read or write of a connection may take, so that a silent client does not keep others from the desk.
 const PATIENCE: u64 = 10;
 
-/// How many seconds a client that is refused may take to see it.
+/// How many seconds a request may take to come whole.
+const WHOLE_REQUEST: u64 = 30;
+
+/// How many seconds a client that is refused may take to see it, between two pieces that it still sends, and in all.
 const FAREWELL: u64 = 1;
+
+const WHOLE_FAREWELL: u64 = 5;
 
 const BUFFER: usize = 65_536;
 
 /// Takes what a client still sends that was refused before its request was read whole: were the connection closed at once,
 /// what is on its way would have the system take the answer back.
-fn part(stream: &TcpStream) -> io::Result<()> {
+fn part(rt: &HostRuntime, stream: &TcpStream) -> io::Result<()> {
     stream.shutdown(Shutdown::Write)?;
-    stream.set_read_timeout(Some(Duration::from_secs(FAREWELL)))?;
     let mut rest = [0; 4096];
-    let mut reader = stream.take(BODY_BYTES as u64 * 2);
+    let patient = Patient::new(rt, stream, FAREWELL, WHOLE_FAREWELL)?;
+    let mut reader = patient.take(BODY_BYTES as u64 * 2);
     for _ in 0..u64::MAX {
         if reader.read(&mut rest)? == 0 {
             return Ok(());
@@ -33,31 +39,29 @@ fn part(stream: &TcpStream) -> io::Result<()> {
 }
 
 /// Tells a client that its request cannot be read for want of memory, which takes none.
-fn refuse(stream: &TcpStream) -> io::Result<()> {
+fn refuse(rt: &HostRuntime, stream: &TcpStream) -> io::Result<()> {
     let mut out = stream;
     let _ = respond_reply(&mut out, Reply::Memory);
-    part(stream)
+    part(rt, stream)
 }
 
 /// Reads one request of a connection and answers it. A connection that breaks has been served.
 fn serve_one<S: Alter>(
-    alloc: Global,
+    rt: &HostRuntime,
     routes: &Routes,
     desk: &mut Desk<S>,
     stream: &TcpStream,
 ) -> io::Result<()> {
-    let patience = Duration::from_secs(PATIENCE);
-    stream.set_read_timeout(Some(patience))?;
-    stream.set_write_timeout(Some(patience))?;
-    let Ok(mut out) = BufWriter::with_capacity(alloc, BUFFER, stream) else {
-        return refuse(stream);
+    stream.set_write_timeout(Some(Duration::from_secs(PATIENCE)))?;
+    let mut reader = Patient::new(rt, stream, PATIENCE, WHOLE_REQUEST)?;
+    let Ok(mut out) = BufWriter::with_capacity(rt.alloc(), BUFFER, stream) else {
+        return refuse(rt, stream);
     };
-    let mut reader = stream;
-    let answered = answer(alloc, routes, desk, &mut reader, &mut out);
+    let answered = answer(rt.alloc(), routes, desk, &mut reader, &mut out);
     out.flush()?;
     match answered {
         Ok(Status::Ok) | Err(_) => Ok(()),
-        Ok(_) => part(stream),
+        Ok(_) => part(rt, stream),
     }
 }
 
@@ -98,7 +102,7 @@ fn serve_all<S: Alter, W: Write>(
         let Ok((stream, _)) = listener.accept() else {
             return Err(Reply::Device);
         };
-        let _ = serve_one(rt.alloc(), &routes, desk, &stream);
+        let _ = serve_one(rt, &routes, desk, &stream);
     }
     Ok(())
 }

@@ -26,9 +26,7 @@ use Rattle.sqlite_rules.specs.Lists.{Has}
 use Rattle.sqlite_rules.proofs.ListLemmas.{all_has, all_from, some_has, some_from}
 use Rattle.tb_tables.specs.Layout.{desk_schema, batches, sentences, revisions}
 use Rattle.tb_tables.specs.Records.{Tables, Batch, Sentence, Revision, Shows, numbered, batch_shown, sentence_shown, revision_shown, batch_view, sentence_view, revision_view}
-use Rattle.tb_tables.specs.Changes.{with_batch, with_sentence, with_revision}
 use Rattle.tb_tables.specs.Failing.{Lacks, AreApart, AreUnique}
-use Rattle.std.proofs.lemmas.List.{map-append}
 use Rattle.tb_tables.proofs.Keyed.{equals_test}
 
 self_equal : (o : Ordering) → o ≡ ordering_reverse o → is_ne o ≡ false

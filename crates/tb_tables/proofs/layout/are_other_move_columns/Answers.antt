@@ -1,4 +1,4 @@
-use Rattle.std.proofs.Common.{◌≡◌, sym, ap, ◌∙◌}
+use Rattle.std.proofs.Common.{sym, ap, ◌∙◌}
 use Rattle.std.specs.Prelude.{drop}
 use Rattle.tb_tables.specs.Layout.{moves}
 use Rattle.tb_tables.proofs.layout.are_other_move_columns.Goals as goal
