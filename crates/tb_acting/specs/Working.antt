@@ -5,7 +5,6 @@ use Rattle.sqlite.specs.Held.{Held}
 use Rattle.tb_core.specs.declared.sums.Totals.{Totals}
 use Rattle.tb_core.specs.declared.limits.Limits.{Limits}
 use Rattle.tb_core.specs.Machine.{Machine}
-use Rattle.tb_core.specs.Acts.{after}
 use Rattle.tb_core.specs.Commands.{Command, Reply, replied}
 use Rattle.tb_core.specs.Steps.{Steps}
 use Rattle.tb_core.specs.Totals.{StandFor}

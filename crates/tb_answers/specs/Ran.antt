@@ -1,5 +1,5 @@
 -- What a line of words has a desk do in a state, what a sink holds of the answer, and the exit status.
-use Rattle.std.specs.Prelude.{◌≡◌, ℕ, List, codes, Option, Some, None, Result, Ok, Err, IsTrue, option_map}
+use Rattle.std.specs.Prelude.{ℕ, List, codes, Option, Some, None, Result, Ok, Err, IsTrue, option_map}
 use Rattle.sqlite.specs.Store.{Ghosts}
 use Rattle.sqlite.specs.State.{Survives}
 use Rattle.sqlite.specs.Held.{state}

@@ -1,6 +1,6 @@
 //! The body of a correction, taken.
 
-ghost use Rattle.std.specs.Prelude.{◌≡◌, ◌↔◌, ◌∷◌, [], List, IsTrue, IfOk, IfErr, MatchResult, OnOk};
+ghost use Rattle.std.specs.Prelude.{◌≡◌, ◌↔◌, ◌∷◌, [], IsTrue, IfOk, IfErr, MatchResult, OnOk};
 ghost use Rattle.tb_conllu.specs.Text.{BlockText};
 ghost use Rattle.tb_core.specs.Machine.{sent_id_of, text_value_of};
 ghost use Rattle.tb_core.specs.Taking.{IsBody, IsCorrection, IsCorrectionRefused, IsTakingFault, IsUnfit};

@@ -1,6 +1,6 @@
 //! Whether two sentences are the same, whoever holds their texts.
 
-ghost use Rattle.std.specs.Prelude.{◌≡◌, ◌↔◌, IsTrue, bytes_eq, map};
+ghost use Rattle.std.specs.Prelude.{◌≡◌, ◌↔◌, IsTrue, map};
 ghost use Rattle.tb_core.specs.SameRows.{SameFront, SameBack};
 
 use tb_conllu::{BlockOf, RowOf, Text};

@@ -1,6 +1,6 @@
 //! Totals of the six states, kept from move to move. Nothing here takes memory.
 
-ghost use Rattle.std.specs.Prelude.{◌≡◌, ◌↔◌, ◌<◌, ◌≤◌, ◌+◌, ◌-◌, ◌^◌, IsTrue};
+ghost use Rattle.std.specs.Prelude.{◌≡◌, ◌↔◌, ◌<◌, ◌+◌, ◌-◌, ◌^◌, IsTrue};
 ghost use Rattle.tb_core.specs.Events.{state_place, is_state};
 ghost use Rattle.tb_core.specs.Machine.{when};
 ghost use Rattle.tb_core.specs.Totals.{is_from, at_state, HasEnough, HasSpace, Shifts};

@@ -1,6 +1,6 @@
 //! The bodies of imports and corrections, taken.
 
-ghost use Rattle.std.specs.Prelude.{◌≡◌, ◌∷◌, [], ℕ, List, IfOk, IfErr, MatchResult, map};
+ghost use Rattle.std.specs.Prelude.{◌≡◌, ◌∷◌, [], List, IfOk, IfErr, MatchResult, map};
 ghost use Rattle.tb_conllu.specs.Text.{BlockText, text_of};
 ghost use Rattle.tb_core.specs.Taking.{IsBody, IsBodyRefused, IsTakingFault, TakenText, taken_of};
 ghost use Rattle.tb_core.specs.declared.refusals.Fault.TheVariants.{Memory};

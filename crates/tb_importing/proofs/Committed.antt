@@ -1,5 +1,5 @@
 -- What is written of an allowed import stands for the state after it.
-use Rattle.std.proofs.Common.{◌≡◌, ℕ, ◌+◌, ◌-◌, List, length, ◌∙◌, arith}
+use Rattle.std.proofs.Common.{◌≡◌, ℕ, ◌+◌, List, length, ◌∙◌, arith}
 use Rattle.std.proofs.lemmas.List.{length-map}
 use Rattle.tb_core.specs.declared.kinds.State.TheVariants.{Opened}
 use Rattle.tb_core.specs.Machine.{Machine}

@@ -1,10 +1,10 @@
 -- What is written of an allowed act tells the state after it.
-use Rattle.std.proofs.Common.{◌≡◌, ◌+◌, ◌-◌, length, refl, ap, ◌∙◌, arith}
+use Rattle.std.proofs.Common.{◌≡◌, ◌+◌, length, refl, ap, ◌∙◌, arith}
 use Rattle.std.proofs.lemmas.List.{length-map}
 use Rattle.tb_core.specs.declared.kinds.State.{State}
 use Rattle.tb_core.specs.declared.sums.Totals.{Totals}
 use Rattle.tb_core.specs.Machine.{Machine}
-use Rattle.tb_core.specs.Acts.{Act, after}
+use Rattle.tb_core.specs.Acts.{Act}
 use Rattle.tb_core.specs.Acts.{move_of as move_made}
 use Rattle.tb_core.specs.Totals.{StandFor}
 use Rattle.tb_tables.specs.Records.{Move}

@@ -1,5 +1,5 @@
 -- What a move changes in the tables.
-use Rattle.std.specs.Prelude.{◌≡◌, ◌-◌, ◌^◌, ◌<◌, Some}
+use Rattle.std.specs.Prelude.{◌≡◌, ◌^◌, ◌<◌, Some}
 use Rattle.tb_core.specs.declared.kinds.State.{State}
 use Rattle.tb_core.specs.declared.sums.Totals.{Totals}
 use Rattle.tb_core.specs.Moves.{MoveText}

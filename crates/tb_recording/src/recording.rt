@@ -4,7 +4,7 @@ ghost use Rattle.std.specs.Prelude.{◌≡◌, ◌≢◌, ◌<◌, ◌^◌, Some
 ghost use Rattle.tb_core.specs.declared.kinds.State.{State as AnyState};
 ghost use Rattle.tb_core.specs.declared.refusals.Refusal.{Refusal as AnyRefusal};
 ghost use Rattle.tb_core.specs.declared.sums.Totals.{Totals as AnyTotals};
-ghost use Rattle.tb_core.specs.Totals.{at_state, Takes, IsApplied};
+ghost use Rattle.tb_core.specs.Totals.{Takes, IsApplied};
 ghost use Rattle.tb_tables.specs.Values.{move_of};
 ghost use Rattle.tb_standing.specs.Standing.{move_record};
 ghost use Rattle.tb_recording.specs.Recorded.{IsTotalOf, IsChangeOf, AreNarrow, IsNarrowMove};

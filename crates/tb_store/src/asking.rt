@@ -1,6 +1,6 @@
 //! Reads of a desk's tables, told as facts of the state for which they stand. Whatever a read answers, they stand for it still.
 
-ghost use Rattle.std.specs.Prelude.{◌≡◌, ◌≢◌, ℕ, ◌-◌, ◌<◌, map, false, [], ◌∷◌, Some, Err, slice_get, string_bytes, IfOk, None, length};
+ghost use Rattle.std.specs.Prelude.{◌≡◌, ◌≢◌, ◌-◌, ◌<◌, map, false, [], ◌∷◌, Some, Err, slice_get, string_bytes, IfOk, None, length};
 ghost use Rattle.sqlite.specs.State.{HasCleanDisk};
 ghost use Rattle.sqlite.specs.Held.{state};
 ghost use Rattle.tb_conllu.specs.Text.{text_of};
