@@ -36,8 +36,13 @@ const LINES: &str = "\
     migrate --db=F => Migrate { db: \"F\" }\n\
     import --user ann b1 => Import { db: None, user: \"ann\", name: \"b1\" }\n\
     import b1 --user ann --db F => Import { db: Some(\"F\"), user: \"ann\", name: \"b1\" }\n\
-    import --user ∅ ∅ => Import { db: None, user: \"\", name: \"\" }\n\
-    import --user a␣b c/d => Import { db: None, user: \"a b\", name: \"c/d\" }\n\
+    import --user ∅ c => Import { db: None, user: \"\", name: \"c\" }\n\
+    import --user a␣b c␣d => Import { db: None, user: \"a b\", name: \"c d\" }\n\
+    import --user ann ∅ => usage\n\
+    import --user ann c/d => usage\n\
+    event --user ann c/ assign => usage\n\
+    export ∅ => usage\n\
+    export /c => usage\n\
     event --user ann b1 assign => Event { db: None, user: \"ann\", name: \"b1\", event: Assign }\n\
     event --db F --user ann b1 send-back => Event { db: Some(\"F\"), user: \"ann\", name: \"b1\", event: SendBack }\n\
     correct --user ann 17 0 => Correct { db: None, user: \"ann\", no: 17, base: 0 }\n\
@@ -131,5 +136,5 @@ const LINES: &str = "\
 
 #[test]
 fn words_are_read(rt: HostRuntime) -> Result<(), Fail> {
-    assert_answers(&rt, rt.alloc(), &Words, LINES, 97)
+    assert_answers(&rt, rt.alloc(), &Words, LINES, 102)
 }

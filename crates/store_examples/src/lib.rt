@@ -5,6 +5,8 @@
 #[cfg(test)]
 mod asking;
 #[cfg(test)]
+mod broken_tests;
+#[cfg(test)]
 mod files;
 #[cfg(test)]
 mod list_tests;
@@ -14,3 +16,5 @@ mod script_tests;
 mod scripts;
 #[cfg(test)]
 mod telling;
+#[cfg(test)]
+mod turn_tests;

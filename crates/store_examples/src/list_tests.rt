@@ -72,7 +72,7 @@ const CUT: &str = "\
     HTTP/1.1 200 OK§";
 
 /// The text with what its signs stand for.
-fn plain(alloc: Global, text: &str) -> Result<String, Fail> {
+pub(crate) fn plain(alloc: Global, text: &str) -> Result<String, Fail> {
     let headed = text.replace(alloc, "§", HEAD)?;
     let whole = headed.replace(alloc, "…", DOGS)?;
     let ended = whole.replace(alloc, "¶", "\r\n")?;

@@ -16,7 +16,8 @@ use Rattle.tb_tables.specs.Layout.{desk_schema}
 use Rattle.tb_tables.specs.Records.{Tables, Stands}
 use Rattle.tb_tables.specs.Changes.{Holds}
 use Rattle.tb_standing.specs.Standing.{tables_of}
-use Rattle.tb_reading.proofs.Staying.{unchanged_holds}
+use Rattle.tb_reading.specs.Failing.{SeesAsBefore}
+use Rattle.tb_reading.proofs.Staying.{unchanged_holds, still_settled}
 use Rattle.tb_adopting.specs.Reads.{HasRead}
 
 -- where the trees stand for a reachable state
@@ -32,7 +33,7 @@ err_is X e f h = cc
 -- ---- one read
 
 module _ {S : Type 0} (g : Ghosts S) (old new : Held S) (mode : old.in_transaction ≡ false → new.in_transaction ≡ false)
-    (kept : HasCleanDisk (state g new) → IsTrue (state g new).is_open → (d : Tables) → Holds g old d → Holds g new d) (lasts : Survives (state g old) (state g new) (λ _. (state g old).now.schema ≢ desk_schema)) where
+    (kept : HasCleanDisk (state g new) → IsTrue (state g new).is_open → (d : Tables) → Holds g old d → Holds g new d) (lasts : Survives (state g old) (state g new) (λ _. (state g old).now.schema ≢ desk_schema)) (sees : SeesAsBefore g old new) where
   pub read_well : {X : Type 0} (x : X) (IsShown : X → Trees → Type 0) (IsHeld : X → Tables → Type 0) → (HasCleanDisk (state g new) → (state g old).now.schema ≡ desk_schema → IsShown x (state g old).now.trees)
       → (HasCleanDisk (state g new) → (state g old).now.schema ≡ desk_schema → (s : Machine) → IsReachable s → Stands (tables_of s) (state g old).now.trees → IsHeld x (tables_of s))
       → (HasCleanDisk (state g new) → (state g old).now.schema ≡ desk_schema → IsUnchanged (state g old) (state g new)) → HasRead g old new (Ok x) IsShown IsHeld
@@ -40,6 +41,8 @@ module _ {S : Type 0} (g : Ghosts S) (old new : Held S) (mode : old.in_transacti
     shown = shown;
     told = told;
     unfit = λ clean q. ok_is_no_err x NotADesk q;
+    untouched = λ clean q. ok_is_no_err x NotADesk q;
+    sees = sees;
     refused = λ r q. ok_is_no_err x (Refused r) q;
     same = same;
     mode = mode;
@@ -48,11 +51,13 @@ module _ {S : Type 0} (g : Ghosts S) (old new : Held S) (mode : old.in_transacti
   }
 
   pub read_badly : {X : Type 0} (e : Fault) (IsShown : X → Trees → Type 0) (IsHeld : X → Tables → Type 0) → (HasCleanDisk (state g new) → e ≡ NotADesk → (state g old).now.schema ≡ desk_schema → Unstood (state g old).now.trees)
-      → ((r : Refusal) → e ≢ Refused r) → HasRead g old new (Err e) IsShown IsHeld
-  read_badly {X = X} e IsShown IsHeld unfit refused = record {
+      → (HasCleanDisk (state g new) → e ≡ NotADesk → (state g old).now.schema ≡ desk_schema → IsUnchanged (state g old) (state g new)) → ((r : Refusal) → e ≢ Refused r) → HasRead g old new (Err e) IsShown IsHeld
+  read_badly {X = X} e IsShown IsHeld unfit untouched refused = record {
     shown = λ clean. tt;
     told = λ clean. tt;
     unfit = λ clean q. unfit clean (err_is X e NotADesk q);
+    untouched = λ clean q. untouched clean (err_is X e NotADesk q);
+    sees = sees;
     refused = λ r q. refused r (err_is X e (Refused r) q);
     same = λ clean. tt;
     mode = mode;
@@ -92,6 +97,8 @@ module _ {S X Y : Type 0} (g : Ghosts S) (a b c : Held S) (x : X) (P : X → Tre
     shown = λ clean. if_ok_under (λ y. P x (state g a).now.trees × Q y (state g a).now.trees) r (λ has. both_shown r (schema_stays clean has) (two.shown clean) (λ y q. (one.shown (middle clean) has, subst (Q y) (trees_stay clean has) q)));
     told = λ clean. if_ok_under (λ y. (s : Machine) → IsReachable s → Stands (tables_of s) (state g a).now.trees → I x (tables_of s) × J y (tables_of s)) r (λ has. both_shown r (schema_stays clean has) (two.told clean) (λ y q s reach stands. (one.told (middle clean) has s reach stands, q s reach (subst (Stands (tables_of s)) (sym (trees_stay clean has)) stands))));
     unfit = λ clean q has s reach stands. two.unfit clean q (schema_stays clean has) s reach (subst (Stands (tables_of s)) (sym (trees_stay clean has)) stands);
+    untouched = λ clean q has. unchanged_then (state g a) (state g b) (state g c) (one.same (middle clean) has) (two.untouched clean q (schema_stays clean has));
+    sees = λ clean opened has settled. two.sees clean opened (schema_stays clean has) (still_settled g a b settled (one.same (middle clean) has)) ∙ unmoved clean has;
     refused = two.refused;
     same = λ clean. on_ok_under r (two.same clean) (λ more has. unchanged_then (state g a) (state g b) (state g c) (one.same (middle clean) has) (more (schema_stays clean has)));
     mode = λ m. two.mode (one.mode m);
@@ -106,11 +113,12 @@ pub read_failed : {S X Y : Type 0} (g : Ghosts S) (a b : Held S) (e f : Fault) (
     → HasRead g a b r Q J
 read_failed {X = X} g a b e f r P I Q J made is h =
     subst (λ w. HasRead g a b w Q J) (sym made)
-    (read_badly g a b h.mode h.kept h.lasts f Q J (λ clean q. h.unfit clean (ap (λ (k : Fault). let w : Result X Fault = Err k in w) (sym is ∙ q))) (λ r q. h.refused r (ap (λ (k : Fault). let w : Result X Fault = Err k in w) (sym is ∙ q))))
+    (read_badly g a b h.mode h.kept h.lasts h.sees f Q J (λ clean q. h.unfit clean (ap (λ (k : Fault). let w : Result X Fault = Err k in w) (sym is ∙ q)))
+    (λ clean q. h.untouched clean (ap (λ (k : Fault). let w : Result X Fault = Err k in w) (sym is ∙ q))) (λ r q. h.refused r (ap (λ (k : Fault). let w : Result X Fault = Err k in w) (sym is ∙ q))))
 
 -- another value is made
 pub read_as : {S X Y : Type 0} (g : Ghosts S) (a b : Held S) (x : X) (y : Y) (P : X → Trees → Type 0) (I : X → Tables → Type 0) (Q : Y → Trees → Type 0) (J : Y → Tables → Type 0) → ((t : Trees) → P x t → Q y t)
     → ((t : Trees) (d : Tables) → Stands d t → P x t → I x d → J y d) → HasRead g a b (Ok x) P I → HasRead g a b (Ok y) Q J
 read_as g a b x y P I Q J shown told h =
-    read_well g a b h.mode h.kept h.lasts y Q J (λ clean has. shown (state g a).now.trees (h.shown clean has))
+    read_well g a b h.mode h.kept h.lasts h.sees y Q J (λ clean has. shown (state g a).now.trees (h.shown clean has))
     (λ clean has s reach stands. told (state g a).now.trees (tables_of s) stands (h.shown clean has) (h.told clean has s reach stands)) (λ clean has. h.same clean has)

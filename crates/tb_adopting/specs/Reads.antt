@@ -12,6 +12,7 @@ use Rattle.tb_core.specs.Reaching.{IsReachable}
 use Rattle.tb_tables.specs.Layout.{desk_schema}
 use Rattle.tb_tables.specs.Records.{Tables, Stands}
 use Rattle.tb_tables.specs.Changes.{Holds}
+use Rattle.tb_reading.specs.Failing.{SeesAsBefore}
 use Rattle.tb_standing.specs.Standing.{tables_of}
 
 -- On the schema of a desk: what is read is shown by the trees (IsShown), and where they stand for a reachable state, it is
@@ -20,6 +21,8 @@ pub record HasRead {S X : Type 0} (g : Ghosts S) (old new : Held S) (result : Re
   pub shown : HasCleanDisk (state g new) → IfOk result (λ x. (state g old).now.schema ≡ desk_schema → IsShown x (state g old).now.trees)
   pub told : HasCleanDisk (state g new) → IfOk result (λ x. (state g old).now.schema ≡ desk_schema → (s : Machine) → IsReachable s → Stands (tables_of s) (state g old).now.trees → IsHeld x (tables_of s))
   pub unfit : HasCleanDisk (state g new) → result ≡ Err NotADesk → (state g old).now.schema ≡ desk_schema → (s : Machine) → IsReachable s → Stands (tables_of s) (state g old).now.trees → ⊥
+  pub untouched : HasCleanDisk (state g new) → result ≡ Err NotADesk → (state g old).now.schema ≡ desk_schema → IsUnchanged (state g old) (state g new)
+  pub sees : SeesAsBefore g old new
   pub refused : (r : Refusal) → result ≢ Err (Refused r)
   pub same : HasCleanDisk (state g new) → OnOk result ((state g old).now.schema ≡ desk_schema → IsUnchanged (state g old) (state g new))
   pub mode : old.in_transaction ≡ false → new.in_transaction ≡ false

@@ -45,6 +45,10 @@ pub fn read_desk<S: Alter>(alloc: Global, conn: &mut Connection<S>) -> Result<St
     ensures autocommit { OnOk result (conn.new.in_transaction ≡ false) }
     ensures counts { IfOk result (λ x. (x.batches ≤ x.moves) × (x.sentences ≤ 1000000) × (x.moves ≤ 1000000000)) }
     ensures unfit { HasCleanDisk (state S.Store conn.new) → result ≡ Err Fault.NotADesk → (s : Machine) → IsDesk S.Store conn.old s → ⊥ }
+    ensures untouched { HasCleanDisk (state S.Store conn.new) → result ≡ Err Fault.NotADesk
+        → (state S.Store conn.new).now ≡ (state S.Store conn.old).now }
+    ensures sees { HasCleanDisk (state S.Store conn.new) → IsTrue (state S.Store conn.new).is_open
+        → (state S.Store conn.new).now ≡ (state S.Store conn.old).now }
     ensures refused { (r : AnyRefusal) → result ≢ Err (Fault.Refused r) }
     ensures same { HasCleanDisk (state S.Store conn.new) → OnOk result (IsUnchanged (state S.Store conn.old) (state S.Store conn.new)) }
     ensures mode { conn.old.in_transaction ≡ false → conn.new.in_transaction ≡ false }

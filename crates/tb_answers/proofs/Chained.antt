@@ -17,14 +17,15 @@ use Rattle.tb_answers.specs.Commanded as commanded
 use Rattle.tb_answers.specs.declared.answering.Broken.{Broken}
 use Rattle.tb_answers.specs.declared.answering.Broken.TheVariants.{Read, Write}
 use Rattle.tb_answers.specs.Served.{IsCallSent, IsReplied, IsServed}
-use Rattle.tb_answers.specs.Turns.{EndsWith, HasResponse, HasAnswer, LeadsBy, BreaksOff, Lead, IsSound, IsAnswered, AreAnswered}
+use Rattle.tb_answers.specs.Turns.{EndsWith, HasResponse, HasAnswer, LeadsBy, Lead, IsSound, IsAnswered, AreAnswered}
 
 -- ---- the state after one request, for which the desk stands
 
 module _ {S : Type 0} (g : Ghosts S) (l : Limits) (s : Machine) (new : Kept S) (is_open : IsTrue (state g new.conn).is_open) where
   after_command : (c : Command) (r : Reply) → commanded.IsAnswered g l s c new r → (t : Machine) × StandsFor g new t × EndsWith l s t c r
-  after_command c r (inl (a, t, steps, stands, is)) = (t, stands, inl (a, steps, is))
-  after_command c r (inr (failed, kept)) = (s, kept is_open, inr (failed, refl))
+  after_command c r (inl (a, t, steps, durable, is)) = (t, durable.0, inl (a, steps, is))
+  after_command c r (inr (inl (wanted, durable))) = (s, durable.0, inr (inl wanted, refl))
+  after_command c r (inr (inr (failed, kept))) = (s, (kept is_open).0, inr (inr failed, refl))
 
   module _ {Reason : Type 0} (before after : Option (List ℕ)) (is_refusal : Reason → Type 0) where
     after_call : (sent : Option Status) (call : Option CallText) (act : Act) (body : List ℕ) → IsCallSent before after is_refusal sent g l s call act body new
@@ -45,7 +46,7 @@ module _ {S : Type 0} (g : Ghosts S) (l : Limits) (s : Machine) (new : Kept S) (
     after_request bytes old result stands (sent, inl (told, asked, replied), is) =
         let told_so = after_told sent told old stands replied in
         (told_so.0, told_so.1, (sent, inl (told, asked, told_so.2), is))
-    after_request bytes old result stands (sent, inr (same, put), is) = (s, subst (λ d. StandsFor g d s) (sym same) stands, (sent, inr (refl, put), is))
+    after_request bytes old result stands (sent, inr (same, begun, put), is) = (s, subst (λ d. StandsFor g d s) (sym same) stands, (sent, inr (refl, begun, put), is))
 
 -- ---- a list of requests
 
@@ -57,30 +58,26 @@ is_read (Err Write) = false
 pub ok_is_no_read : (code : Status) → ◌≡◌ {A = Result Status Broken} (Ok code) (Err Read) → ⊥
 ok_is_no_read code e = let t : false ≡ true = ap is_read e in cc
 
-write_is_no_read : ◌≡◌ {A = Result Status Broken} (Err Write) (Err Read) → ⊥
-write_is_no_read e = let t : false ≡ true = ap is_read e in cc
+pub only_write : (why : Broken) → (why ≡ Read → ⊥) → why ≡ Write
+only_write Read never = absurd (never refl)
+only_write Write never = refl
 
 module _ {W Reason : Type 0} (held : W → Option (List ℕ)) (is_refusal : W → Reason → Type 0) {S : Type 0} (g : Ghosts S) where
-  last_leads : (b : List ℕ) (l : Limits) (d e : Kept S) (u v : W) (why : Broken) → IsAnswered held is_refusal g b d e u v (Err why) → IsSound g e → d.limits ≡ l
-      → (s : Machine) → StandsFor g d s → (t : Machine) × StandsFor g e t × BreaksOff held is_refusal l s t b u v why
-  last_leads b l d e u v Read turn sound same s stands =
-      let was = turn.broken refl in
-      (s, subst (λ x. StandsFor g x s) (sym was.0) stands, inl (refl, refl, was.1))
-  last_leads b l d e u v Write turn sound same s stands =
-      let served = subst (λ k. IsServed g k s (Some b) d e (held u) (held v) (is_refusal v) (Err Write)) same (turn.answered write_is_no_read sound.0 s stands) in
-      let next = after_request g l s e sound.1 (held u) (held v) (is_refusal v) b d (Err Write) stands served in
-      (next.0, next.1, inr next.2)
+  one_leads : (b : List ℕ) (l : Limits) (d e : Kept S) (u v : W) (told : Result Status Broken) → IsAnswered held is_refusal g b d e u v told → IsSound g e → d.limits ≡ l
+      → (s : Machine) → StandsFor g d s → (t : Machine) × StandsFor g e t × LeadsBy l s t b (held u) (held v) (is_refusal v) told
+  one_leads b l d e u v told turn sound same s stands =
+      let served = subst (λ k. IsServed g k s (Some b) d e (held u) (held v) (is_refusal v) told) same (turn.answered sound.0 s stands) in
+      after_request g l s e sound.1 (held u) (held v) (is_refusal v) b d told stands served
 
   pub all_lead : (bs : List (List ℕ)) (l : Limits) (d e : Kept S) (u v : W) (desks : List (Kept S)) (result : Result (Unit {0}) Broken) → AreAnswered held is_refusal g bs d e u v desks result
       → AllByRecursion (IsSound g) desks → d.limits ≡ l → (s : Machine) → StandsFor g d s → (t : Machine) × StandsFor g e t × Lead held is_refusal l bs s t u v result
   all_lead [] l d e u v desks result h sound same s stands = (s, subst (λ x. StandsFor g x s) (sym h.0) stands, (refl, h.1, h.3))
   all_lead (b ∷ bs) l d e u v desks result (inl (m, w, later, code, turn, are, rest)) sound same s stands =
       let well = subst (AllByRecursion (IsSound g)) are sound in
-      let served = subst (λ k. IsServed g k s (Some b) d m (held u) (held w) (is_refusal w) (Ok code)) same (turn.answered (ok_is_no_read code) well.0.0 s stands) in
-      let next = after_request g l s m well.0.1 (held u) (held w) (is_refusal w) b d (Ok code) stands served in
+      let next = one_leads b l d m u w (Ok code) turn well.0 same s stands in
       let all = all_lead bs l m e w v later result rest well.1 (turn.limits ∙ same) next.0 next.1 in
       (all.0, all.1, inl (next.0, w, code, next.2, all.2))
-  all_lead (b ∷ bs) l d e u v desks result (inr (why, turn, are, is)) sound same s stands =
+  all_lead (b ∷ bs) l d e u v desks result (inr (turn, are, is)) sound same s stands =
       let well = subst (AllByRecursion (IsSound g)) are sound in
-      let last = last_leads b l d e u v why turn well.0 same s stands in
-      (last.0, last.1, inr (why, last.2, is))
+      let last = one_leads b l d e u v (Err Write) turn well.0 same s stands in
+      (last.0, last.1, inr (last.2, is))

@@ -10,9 +10,9 @@ use Rattle.tb_answers.specs.Commanded.{IsFailure}
 use Rattle.tb_answers.specs.Exported.{RefusesExport, IsToldOfExport}
 
 pub told_of_export : (s : Machine) (name : Option (List ℕ)) (e : Fault) (told : Reply) → ((r : Refusal) → e ≡ Refused r → told ≡ reply.Refused r)
-    → (((r : Refusal) → e ≡ Refused r → ⊥) → IsFailure told) → ((r : Refusal) → e ≡ Refused r → RefusesExport s name r) → IsToldOfExport s name told
-told_of_export s name (Refused r) told refused failed refuses = inl (r, refused r refl, refuses r refl)
-told_of_export s name Memory told refused failed refuses = inr (failed (λ r same. let is : Memory ≡ Refused r = same in absurd cc))
-told_of_export s name Device told refused failed refuses = inr (failed (λ r same. let is : Device ≡ Refused r = same in absurd cc))
-told_of_export s name NotADesk told refused failed refuses = inr (failed (λ r same. let is : NotADesk ≡ Refused r = same in absurd cc))
-told_of_export s name Output told refused failed refuses = inr (failed (λ r same. let is : Output ≡ Refused r = same in absurd cc))
+    → (((r : Refusal) → e ≡ Refused r → ⊥) → (e ≡ NotADesk → ⊥) → IsFailure told) → ((r : Refusal) → e ≡ Refused r → RefusesExport s name r) → (e ≡ NotADesk → ⊥) → IsToldOfExport s name told
+told_of_export s name (Refused r) told refused failed refuses knows = inl (r, refused r refl, refuses r refl)
+told_of_export s name Memory told refused failed refuses knows = inr (failed (λ r same. let is : Memory ≡ Refused r = same in absurd cc) knows)
+told_of_export s name Device told refused failed refuses knows = inr (failed (λ r same. let is : Device ≡ Refused r = same in absurd cc) knows)
+told_of_export s name NotADesk told refused failed refuses knows = absurd (knows refl)
+told_of_export s name Output told refused failed refuses knows = inr (failed (λ r same. let is : Output ≡ Refused r = same in absurd cc) knows)

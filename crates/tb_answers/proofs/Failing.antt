@@ -9,7 +9,7 @@ use Rattle.tb_core.specs.declared.refusals.Refusal.{Refusal}
 use Rattle.tb_core.specs.declared.refusals.Fault.{Fault}
 use Rattle.tb_core.specs.declared.refusals.Fault.TheVariants.{Refused, Memory, Device, NotADesk, Output}
 use Rattle.tb_core.specs.Machine.{Machine}
-use Rattle.tb_core.specs.Commands.{Command, refused}
+use Rattle.tb_core.specs.Commands.{Command, refused, Reply as AnyReply}
 use Rattle.tb_core.specs.Steps.{Steps}
 use Rattle.tb_http.specs.declared.replies.Reply.TheVariants as reply
 use Rattle.tb_store.specs.Kept.{Kept}
@@ -17,38 +17,46 @@ use Rattle.tb_store.specs.Standing.{StandsFor}
 use Rattle.tb_store.specs.Answers.{RefusesRevision}
 use Rattle.tb_answers.specs.declared.questions.Question.{Question}
 use Rattle.tb_answers.specs.declared.questions.Question.TheVariants as question
-use Rattle.tb_answers.specs.Commanded.{reply_for_fault, IsFailure, IsAnswered}
+use Rattle.tb_store.specs.Calls.{CommandEnds}
+use Rattle.tb_answers.specs.Commanded.{reply_for_fault, IsFailure, IsStoreFailure, IsAnswered}
 use Rattle.tb_answers.specs.Asked.{Refuses, IsToldOf}
 
-pub answered_by_fault : {S : Type 0} (g : Ghosts S) (l : Limits) (s : Machine) (c : Command) (new : Kept S) (e : Fault)
-    → ((r : Refusal) → e ≡ Refused r → Steps l s c (refused r) s × StandsFor g new s)
-    → (IsTrue (state g new.conn).is_open → StandsFor g new s) → IsAnswered g l s c new (reply_for_fault e)
-answered_by_fault g l s c new (Refused r) refusal kept = let told = refusal r refl in inl (refused r, s, told.0, told.1, refl)
-answered_by_fault g l s c new Memory refusal kept = inr (inl refl, kept)
-answered_by_fault g l s c new Device refusal kept = inr (inr (inl refl), kept)
-answered_by_fault g l s c new NotADesk refusal kept = inr (inr (inr refl), kept)
-answered_by_fault g l s c new Output refusal kept = inr (inr (inl refl), kept)
+pub answered_by_fault : {S X : Type 0} (g : Ghosts S) (old new : Kept S) (c : Command) (reply : X → AnyReply) (s : Machine) (e : Fault)
+    → CommandEnds g old new c reply s (Err e) → IsAnswered g old.limits s c new (reply_for_fault e)
+answered_by_fault g old new c reply s (Refused r) ended = inl (refused r, s, ended.0, ended.1, refl)
+answered_by_fault g old new c reply s Memory ended = inr (inl (refl, ended))
+answered_by_fault g old new c reply s Device ended = inr (inr (refl, ended))
+answered_by_fault g old new c reply s NotADesk ended = absurd ended
+answered_by_fault g old new c reply s Output ended = inr (inr (refl, ended))
 
-pub is_failure : (e : Fault) → ((r : Refusal) → e ≡ Refused r → ⊥) → IsFailure (reply_for_fault e)
-is_failure (Refused r) h = absurd (h r refl)
-is_failure Memory h = inl refl
-is_failure Device h = inr (inl refl)
-is_failure NotADesk h = inr (inr refl)
-is_failure Output h = inr (inl refl)
+-- a desk knows itself, and refuses nothing: it fails
+pub is_failure : (e : Fault) → ((r : Refusal) → e ≡ Refused r → ⊥) → (e ≡ NotADesk → ⊥) → IsFailure (reply_for_fault e)
+is_failure (Refused r) h k = absurd (h r refl)
+is_failure Memory h k = inl refl
+is_failure Device h k = inr refl
+is_failure NotADesk h k = absurd (k refl)
+is_failure Output h k = inr refl
 
-pub told_of : (s : Machine) (q : Question) (e : Fault) → ((r : Refusal) → e ≡ Refused r → Refuses s q r) → IsToldOf s q (reply_for_fault e)
-told_of s q (Refused r) h = inl (r, refl, h r refl)
-told_of s q Memory h = inr (inl refl)
-told_of s q Device h = inr (inr (inl refl))
-told_of s q NotADesk h = inr (inr (inr refl))
-told_of s q Output h = inr (inr (inl refl))
+pub is_store_failure : (e : Fault) → ((r : Refusal) → e ≡ Refused r → ⊥) → IsStoreFailure (reply_for_fault e)
+is_store_failure (Refused r) h = absurd (h r refl)
+is_store_failure Memory h = inl (inl refl)
+is_store_failure Device h = inl (inr refl)
+is_store_failure NotADesk h = inr refl
+is_store_failure Output h = inl (inr refl)
 
-pub told_of_revision : (s : Machine) (n k : ℕ) (e : Fault) → RefusesRevision s n k e → IsToldOf s (question.Revision n k) (reply_for_fault e)
-told_of_revision s n k (Refused r) h = inl (r, refl, h)
-told_of_revision s n k Memory h = inr (inl refl)
-told_of_revision s n k Device h = inr (inr (inl refl))
-told_of_revision s n k NotADesk h = inr (inr (inr refl))
-told_of_revision s n k Output h = inr (inr (inl refl))
+pub told_of : (s : Machine) (q : Question) (e : Fault) → ((r : Refusal) → e ≡ Refused r → Refuses s q r) → (e ≡ NotADesk → ⊥) → IsToldOf s q (reply_for_fault e)
+told_of s q (Refused r) h k = inl (r, refl, h r refl)
+told_of s q Memory h k = inr (inl refl)
+told_of s q Device h k = inr (inr refl)
+told_of s q NotADesk h k = absurd (k refl)
+told_of s q Output h k = inr (inr refl)
+
+pub told_of_revision : (s : Machine) (n m : ℕ) (e : Fault) → RefusesRevision s n m e → (e ≡ NotADesk → ⊥) → IsToldOf s (question.Revision n m) (reply_for_fault e)
+told_of_revision s n m (Refused r) h k = inl (r, refl, h)
+told_of_revision s n m Memory h k = inr (inl refl)
+told_of_revision s n m Device h k = inr (inr refl)
+told_of_revision s n m NotADesk h k = absurd (k refl)
+told_of_revision s n m Output h k = inr (inr refl)
 
 -- a refusal of the desk is told
 pub refusal_told : {T : Type 0} (e : Fault) (r : Refusal) → ◌≡◌ {A = Result T Fault} (Err e) (Err (Refused r)) → reply_for_fault e ≡ reply.Refused r

@@ -5,6 +5,7 @@ use Rattle.sqlite.specs.Store.{Ghosts}
 use Rattle.tb_http.specs.declared.status.Status.{Status}
 use Rattle.tb_store.specs.Kept.{Kept}
 use Rattle.tb_answers.specs.declared.answering.Broken.{Broken}
+use Rattle.tb_answers.specs.declared.answering.Broken.TheVariants.{Read, Write}
 use Rattle.tb_answers.specs.Turns.{IsAnswered, AreAnswered, AreServed}
 use Rattle.tb_answers.proofs.Surviving.{all_served}
 
@@ -26,11 +27,12 @@ module _ {W Reason : Type 0} (held : W → Option (List ℕ)) (is_refusal : W �
       → Awaits all (b ∷ rest) first d begun u → Awaits all rest first m begun w
   one_more all rest b first d m begun u w code turn awaits = λ e v later result run. awaits e v (m ∷ later) result (inl (m, w, later, code, turn, refl, run))
 
-  pub one_broken : (all rest : List (List ℕ)) (b : List ℕ) (first d e : Kept S) (begun u v : W) (why : Broken) → IsAnswered held is_refusal g b d e u v (Err why)
+  pub one_broken : (all rest : List (List ℕ)) (b : List ℕ) (first d e : Kept S) (begun u v : W) (why : Broken) → (why ≡ Read → ⊥) → IsAnswered held is_refusal g b d e u v (Err why)
       → Awaits all (b ∷ rest) first d begun u → AreServed held is_refusal g all first e begun v (Err why)
-  one_broken all rest b first d e begun u v why turn awaits =
-      let run = awaits e v (e ∷ []) (Err why) (inr (why, turn, refl, refl)) in
-      all_served held is_refusal g all first e begun v run.0 (Err why) run.1
+  one_broken all rest b first d e begun u v Read never turn awaits = absurd (never refl)
+  one_broken all rest b first d e begun u v Write never turn awaits =
+      let run = awaits e v (e ∷ []) (Err Write) (inr (turn, refl, refl)) in
+      all_served held is_refusal g all first e begun v run.0 (Err Write) run.1
 
   pub none_left : (all : List (List ℕ)) (first d : Kept S) (begun u : W) → Awaits all [] first d begun u → AreServed held is_refusal g all first d begun u (Ok tt)
   none_left all first d begun u awaits =

@@ -1,5 +1,5 @@
 -- What a query is answered, and what a search leaves at its sink and in the store.
-use Rattle.std.proofs.Common.{◌≡◌, ◌≢◌, ◌⊎◌, ◌∙◌, ℕ, List, [], length, Option, refl, sym, ap, subst, inl, inr, arith}
+use Rattle.std.proofs.Common.{◌≡◌, ◌≢◌, ◌⊎◌, ◌∙◌, ℕ, List, [], length, Option, refl, sym, ap, subst, inl, inr, arith, le_trans}
 use Rattle.std.specs.Io.KnownBytes.{Appends}
 use Rattle.std.proofs.KnownBytes.{Appends-trans}
 use Rattle.sqlite.specs.Store.{Ghosts}
@@ -25,6 +25,7 @@ use Rattle.tb_store.specs.Standing.{StandsFor}
 use Rattle.tb_store.specs.Found.{HasTooMany, IsAbove, IsNumber}
 use Rattle.tb_answers.specs.declared.ending.Ending.{Ending}
 use Rattle.tb_answers.specs.declared.ending.Ending.TheVariants.{Whole, BrokenOff, Refused}
+use Rattle.tb_answers.specs.Calls.{ReadsOnly}
 use Rattle.tb_answers.specs.Commanded.{reply_for_fault}
 use Rattle.tb_answers.specs.Found.{IsAllowed, IsLimitReply, IsStreamed}
 use Rattle.tb_answers.proofs.Parts.{part_of_first, part_of_second}
@@ -34,12 +35,12 @@ abbrev pub OneList : Type 0
 OneList = (s : Strategy) (q : Asked) (bs : List BlockText) (found others : List Occurrence) → AreFound s q bs found → AreFound s q bs others → found ≡ others
 
 pub limit_told : (l : Limits) (s : Machine) (q : Asked) (strategy : Strategy) (e : Fault)
-    → ((r : Refusal) → e ≡ fault.Refused r → (r ≡ TooManyHits) × HasTooMany s q strategy l.hits) → IsLimitReply l s q strategy (reply_for_fault e)
-limit_told l s q strategy (fault.Refused r) h = let it = h r refl in inl (it.1, ap reply.Refused it.0)
-limit_told l s q strategy fault.Memory h = inr (inl refl)
-limit_told l s q strategy fault.Device h = inr (inr (inl refl))
-limit_told l s q strategy fault.NotADesk h = inr (inr (inr refl))
-limit_told l s q strategy fault.Output h = inr (inr (inl refl))
+    → ((r : Refusal) → e ≡ fault.Refused r → (r ≡ TooManyHits) × HasTooMany s q strategy l.hits) → (e ≡ fault.NotADesk → ⊥) → IsLimitReply l s q strategy (reply_for_fault e)
+limit_told l s q strategy (fault.Refused r) h k = let it = h r refl in inl (it.1, ap reply.Refused it.0)
+limit_told l s q strategy fault.Memory h k = inr (inl refl)
+limit_told l s q strategy fault.Device h k = inr (inr refl)
+limit_told l s q strategy fault.NotADesk h k = absurd (k refl)
+limit_told l s q strategy fault.Output h k = inr (inr refl)
 
 pub allowed : OneList → (l : Limits) (s : Machine) (q : Asked) (strategy : Strategy) (n : ℕ) → IsNumber s q strategy l.hits n → IsAllowed l s q strategy
 allowed one l s q strategy n (mine, are, is, within) found finds above =
@@ -68,13 +69,16 @@ module _ (s : Machine) (q : Asked) (strategy : Strategy) (n : ℕ) where
   pub head_refused : (head bytes : List ℕ) (old new : Option (List ℕ)) → bytes ≡ head → AppendsPart old new bytes → IsStreamed s q strategy n head old new Refused
   head_refused head bytes old new is part = λ found are. part_of_first old new head (answer n found) (subst (AppendsPart old new) is part)
 
-module _ {S : Type 0} (g : Ghosts S) (a b : Kept S) (s : Machine) (stands : StandsFor g a s) (one : Survives (state g a.conn) (state g b.conn) (λ _. (state g a.conn).now.schema ≢ desk_schema)) where
-  -- a crash of one read
-  pub crash_here : Survives (state g a.conn) (state g b.conn) (λ _. ⊥)
-  crash_here = survives_weaker (state g a.conn) (state g b.conn) _ _ (λ _ db other. other stands.desk.holds.schema) one
+module _ {S : Type 0} (g : Ghosts S) (a b : Kept S) (one : Survives (state g a.conn) (state g b.conn) (λ _. (state g a.conn).now.schema ≢ desk_schema)) where
+  -- one read
+  pub read_here : ReadsOnly g a b
+  read_here = ((one.clean, one.counts), λ s stands. survives_weaker (state g a.conn) (state g b.conn) _ _ (λ _ db other. other stands.desk.holds.schema) one)
 
-  -- and of one after another
-  pub crash_then : (c : Kept S) → (HasCleanDisk (state g b.conn) → StandsFor g b s)
-      → Survives (state g b.conn) (state g c.conn) (λ _. (state g b.conn).now.schema ≢ desk_schema) → Survives (state g a.conn) (state g c.conn) (λ _. ⊥)
-  crash_then c stays two =
-      survives_then (state g a.conn) (state g b.conn) (state g c.conn) _ _ _ (λ _ db other. other stands.desk.holds.schema) (λ clean db other. other (stays (omega (arith, clean, two.clean))).desk.holds.schema) one two
+  -- and one after another
+  pub read_then : (c : Kept S) → (HasCleanDisk (state g b.conn) → (s : Machine) → StandsFor g a s → StandsFor g b s)
+      → Survives (state g b.conn) (state g c.conn) (λ _. (state g b.conn).now.schema ≢ desk_schema) → ReadsOnly g a c
+  read_then c stays two = (
+    (le_trans one.clean two.clean, le_trans one.counts two.counts),
+    λ s stands. survives_then (state g a.conn) (state g b.conn) (state g c.conn) _ _ _ (λ _ db other. other stands.desk.holds.schema)
+        (λ clean db other. other (stays (omega (arith, clean, two.clean)) s stands).desk.holds.schema) one two,
+  )

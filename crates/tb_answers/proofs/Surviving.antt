@@ -19,9 +19,10 @@ use Rattle.tb_store.specs.Standing.{StandsFor}
 use Rattle.tb_answers.specs.Calls.{CallText, commands, asks, call_asked}
 use Rattle.tb_store.specs.Calls.{HoldsAnEnd}
 use Rattle.tb_answers.specs.declared.answering.Broken.{Broken}
+use Rattle.tb_answers.specs.declared.answering.Broken.TheVariants.{Write}
 use Rattle.tb_answers.specs.Served.{IsSafeCall, IsSafeOf, IsServed}
 use Rattle.tb_answers.specs.Turns.{HasResponse, LeadsBy, command_in, Ends, HoldsAnEndOf, AllButLast, IsSound, IsAnswered, AreAnswered, AreServed}
-use Rattle.tb_answers.proofs.Chained.{after_request, ok_is_no_read, all_lead}
+use Rattle.tb_answers.proofs.Chained.{after_request, all_lead}
 
 -- nothing is done
 survives_none : {S : Type 0} (g : Ghosts S) (c : Held S) (P : Trees → Type 0) → Survives (state g c) (state g c) P
@@ -38,8 +39,8 @@ module _ {S : Type 0} (g : Ghosts S) (d m : Kept S) (s : Machine) (stands : Stan
       → IsSafeCall g o d m → Survives (state g d.conn) (state g m.conn) (HoldsItsEnd d.limits b s)
   call_survives (Some (commands c)) ends safe =
       survives_weaker (state g d.conn) (state g m.conn) (HoldsAnEnd g d c) (HoldsItsEnd d.limits b s) (λ clean db holds. let it = holds s stands in (it.1, ends c refl it.1 it.0 it.2, it.3)) safe
-  call_survives (Some (asks q)) ends safe = survives_weaker (state g d.conn) (state g m.conn) (λ _. ⊥) (HoldsItsEnd d.limits b s) (λ clean db none. absurd none) (safe s stands)
-  call_survives None ends safe = survives_weaker (state g d.conn) (state g m.conn) (λ _. ⊥) (HoldsItsEnd d.limits b s) (λ clean db none. absurd none) (safe s stands)
+  call_survives (Some (asks q)) ends safe = survives_weaker (state g d.conn) (state g m.conn) (λ _. ⊥) (HoldsItsEnd d.limits b s) (λ clean db none. absurd none) (safe.1 s stands)
+  call_survives None ends safe = survives_weaker (state g d.conn) (state g m.conn) (λ _. ⊥) (HoldsItsEnd d.limits b s) (λ clean db none. absurd none) (safe.1 s stands)
 
   same_survives : m ≡ d → Survives (state g d.conn) (state g m.conn) (HoldsItsEnd d.limits b s)
   same_survives same = subst (λ x. Survives (state g d.conn) (state g x.conn) (HoldsItsEnd d.limits b s)) (sym same) (survives_none g d.conn (HoldsItsEnd d.limits b s))
@@ -65,7 +66,7 @@ request_ends l s t b before after is_refusal result (sent, inl (called c, asked,
       | inl same ↦ inl same
       | inr (k, known, a, steps) ↦ inr (called c, asked, k, known, a, steps)
     ]
-request_ends l s t b before after is_refusal result (sent, inr (same, put), is) = inl same
+request_ends l s t b before after is_refusal result (sent, inr (same, begun, put), is) = inl same
 
 -- ---- a list of requests
 
@@ -85,18 +86,18 @@ module _ {W Reason : Type 0} (held : W → Option (List ℕ)) (is_refusal : W �
   none_follow : (bs : List (List ℕ)) (m e : Kept S) (w v : W) (result : Result (Unit {0}) Broken) → AreAnswered held is_refusal g bs m e w v [] result → e ≡ m
   none_follow [] m e w v result h = h.0
   none_follow (b ∷ bs) m e w v result (inl (x, y, later, code, turn, are, rest)) = absurd (cc)
-  none_follow (b ∷ bs) m e w v result (inr (why, turn, are, is)) = absurd (cc)
+  none_follow (b ∷ bs) m e w v result (inr (turn, are, is)) = absurd (cc)
 
   pub all_survive : (bs : List (List ℕ)) (l : Limits) (d e : Kept S) (u v : W) (desks : List (Kept S)) (result : Result (Unit {0}) Broken) → AreAnswered held is_refusal g bs d e u v desks result
       → AllButLast (IsSound g) desks → d.limits ≡ l → (s : Machine) → StandsFor g d s → Survives (state g d.conn) (state g e.conn) (HoldsAnEndOf l bs s)
   all_survive [] l d e u v desks result h sound same s stands = subst (λ x. Survives (state g d.conn) (state g x.conn) (λ _. ⊥)) (sym h.0) (survives_none g d.conn (λ _. ⊥))
-  all_survive (b ∷ bs) l d e u v desks result (inr (why, turn, are, is)) sound same s stands = last_survives bs b l d e u v (Err why) turn same s stands
+  all_survive (b ∷ bs) l d e u v desks result (inr (turn, are, is)) sound same s stands = last_survives bs b l d e u v (Err Write) turn same s stands
   all_survive (b ∷ bs) l d e u v desks result (inl (m, w, [], code, turn, are, rest)) sound same s stands =
       subst (λ x. Survives (state g d.conn) (state g x.conn) (HoldsAnEndOf l (b ∷ bs) s)) (sym (none_follow bs m e w v result rest)) (last_survives bs b l d m u w (Ok code) turn same s stands)
   all_survive (b ∷ bs) l d e u v desks result (inl (m, w, x ∷ later, code, turn, are, rest)) sound same s stands =
       let well = subst (AllButLast (IsSound g)) are sound in
       let mid = well.0 (more_follow x later) in
-      let served = subst (λ k. IsServed g k s (Some b) d m (held u) (held w) (is_refusal w) (Ok code)) same (turn.answered (ok_is_no_read code) mid.0 s stands) in
+      let served = subst (λ k. IsServed g k s (Some b) d m (held u) (held w) (is_refusal w) (Ok code)) same (turn.answered mid.0 s stands) in
       let next = after_request g l s m mid.1 (held u) (held w) (is_refusal w) b d (Ok code) stands served in
       let ends = request_ends l s next.0 b (held u) (held w) (is_refusal w) (Ok code) next.2 in
       survives_then (state g d.conn) (state g m.conn) (state g e.conn) (HoldsAnEndOf l (b ∷ bs) s) (HoldsAnEndOf l bs next.0) (HoldsAnEndOf l (b ∷ bs) s)

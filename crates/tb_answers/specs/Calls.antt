@@ -1,7 +1,8 @@
 -- The calls of a desk, as a line of words makes them, and what each writes and leaves.
-use Rattle.std.specs.Prelude.{◌≡◌, ◌⊎◌, ℕ, List, Option, Some, None, IsTrue}
+use Rattle.std.specs.Prelude.{◌≡◌, ◌≤◌, ◌<◌, ◌-◌, ◌^◌, ◌⊎◌, ℕ, List, Option, Some, None, IsTrue}
 use Rattle.sqlite.specs.Store.{Ghosts}
 use Rattle.sqlite.specs.Held.{state}
+use Rattle.sqlite_trees.specs.View.{doubt}
 use Rattle.tb_core.specs.declared.limits.Limits.{Limits}
 use Rattle.tb_core.specs.Machine.{Machine}
 use Rattle.tb_core.specs.Commands.{Command, import_file, event_on, correct, pull, restore}
@@ -77,7 +78,20 @@ IsOutput g l s (asks q) new text own =
     (IsTrue (state g new.conn).is_open → StandsFor g new s)
     × (((rev : Option ℕ) × IsBody s q rev text × (own ≡ 0)) ⊎ ((r : Reply) × IsToldOf s q r × (text ≡ reply_text r) × (own ≡ exit_of r)))
 
+-- no doubt of the disk, and no fault of it, is forgotten
+abbrev pub ForgetsNothing : {S : Type 0} → Ghosts S → (old new : Kept S) → Type 0
+ForgetsNothing g old new =
+    (doubt (state g old.conn).is_clean ≤ doubt (state g new.conn).is_clean) × ((state g old.conn).faults ≤ (state g new.conn).faults)
+
+-- no fault of the disk came: the count of faults, which ends at 2 ^ 64 - 1, did not grow
+abbrev pub HasNoNewFault : {S : Type 0} → Ghosts S → (old new : Kept S) → Type 0
+HasNoNewFault g old new = ((state g new.conn).faults ≤ (state g old.conn).faults) × ((state g old.conn).faults < 2 ^ 64 - 1)
+
+-- nothing is written to the store of a desk that a crash could leave
+abbrev pub ReadsOnly : {S : Type 0} → Ghosts S → (old new : Kept S) → Type 0
+ReadsOnly g old new = ForgetsNothing g old new × WritesNothing g old new
+
 -- A crash of a command leaves the tables of a state in which it ends; one of a question writes nothing.
 abbrev pub IsSafe : {S : Type 0} → Ghosts S → CallText → (old new : Kept S) → Type 0
 IsSafe g (commands c) old new = CrashesWhole g old new c
-IsSafe g (asks q) old new = WritesNothing g old new
+IsSafe g (asks q) old new = ReadsOnly g old new

@@ -11,7 +11,7 @@ use Rattle.tb_core.specs.Steps.{Steps}
 use Rattle.tb_http.specs.declared.replies.Reply.{Reply}
 use Rattle.tb_http.specs.declared.replies.Reply.TheVariants as reply
 use Rattle.tb_store.specs.Kept.{Kept}
-use Rattle.tb_store.specs.Standing.{StandsFor}
+use Rattle.tb_store.specs.Calls.{IsDurable}
 
 -- the reply for an answer of the machine
 abbrev pub reply_for : Answer → Reply
@@ -30,13 +30,18 @@ reply_for_fault Device = reply.Device
 reply_for_fault NotADesk = reply.Desk
 reply_for_fault Output = reply.Device
 
--- the replies that say nothing of the state: want of memory, a failed device, tables that are no desk's
+-- the replies that say nothing of the state: want of memory, and a failed device
 abbrev pub IsFailure : Reply → Type 0
-IsFailure r = (r ≡ reply.Memory) ⊎ (r ≡ reply.Device) ⊎ (r ≡ reply.Desk)
+IsFailure r = (r ≡ reply.Memory) ⊎ (r ≡ reply.Device)
 
--- In this state the command has the machine's answer, and the desk stands for the state after it; or the call failed, and where
--- the store is open the desk stands for the state still.
+-- the same over a store that may be no desk's
+abbrev pub IsStoreFailure : Reply → Type 0
+IsStoreFailure r = IsFailure r ⊎ (r ≡ reply.Desk)
+
+-- In this state the command has the machine's answer, and its next state outlasts a crash. Or memory was wanted, and the state
+-- outlasts a crash as it was. Or the device failed, and it does so where the store is open.
 abbrev pub IsAnswered : {S : Type 0} → Ghosts S → Limits → Machine → Command → (new : Kept S) → Reply → Type 0
 IsAnswered g l s c new r =
-    ((a : Answer) × (t : Machine) × Steps l s c a t × StandsFor g new t × (r ≡ reply_for a))
-    ⊎ (IsFailure r × (IsTrue (state g new.conn).is_open → StandsFor g new s))
+    ((a : Answer) × (t : Machine) × Steps l s c a t × IsDurable g new t × (r ≡ reply_for a))
+    ⊎ ((r ≡ reply.Memory) × IsDurable g new s)
+    ⊎ ((r ≡ reply.Device) × (IsTrue (state g new.conn).is_open → IsDurable g new s))

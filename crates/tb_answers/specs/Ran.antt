@@ -1,7 +1,6 @@
 -- What a line of words has a desk do in a state, what a sink holds of the answer, and the exit status.
 use Rattle.std.specs.Prelude.{ℕ, List, codes, Option, Some, None, Result, Ok, Err, IsTrue, option_map}
 use Rattle.sqlite.specs.Store.{Ghosts}
-use Rattle.sqlite.specs.State.{Survives}
 use Rattle.sqlite.specs.Held.{state}
 use Rattle.tb_core.specs.declared.limits.Limits.{Limits}
 use Rattle.tb_core.specs.Machine.{Machine}
@@ -10,11 +9,10 @@ use Rattle.tb_http.specs.Replies.{reply_text, exit_of}
 use Rattle.tb_line.specs.Lines.{Said, export, search, count}
 use Rattle.tb_store.specs.Kept.{Kept}
 use Rattle.tb_store.specs.Standing.{StandsFor}
-use Rattle.tb_answers.specs.Calls.{CallText, call_in, IsOutput, IsSafe}
-use Rattle.tb_answers.specs.Exported.{IsExportWritten}
+use Rattle.tb_answers.specs.Calls.{CallText, call_in, IsOutput, IsSafe, ReadsOnly}
+use Rattle.tb_answers.specs.Exported.{IsExportOutput}
 use Rattle.tb_answers.specs.Found.{SearchText, CountText, search_by, count_by, IsSearchRun, IsCountOutput}
 use Rattle.tb_answers.specs.Output.{IsWritten}
-use Rattle.tb_answers.specs.Taken.{IsTaken}
 use Rattle.tb_answers.specs.declared.lines.Reading.{Reading}
 use Rattle.tb_answers.specs.declared.lines.Reading.TheVariants as reading
 
@@ -49,7 +47,7 @@ reading_in _ = None
 
 -- what a sink holds of a reading in a state, and the exit status
 abbrev pub IsRead : {Reason : Type 0} → Limits → Machine → ReadingText → (held holds : Option (List ℕ)) → (Reason → Type 0) → (status : ℕ) → Type 0
-IsRead l s (exported name) held holds is_refusal status = IsExportWritten s name held holds is_refusal status
+IsRead l s (exported name) held holds is_refusal status = (text : List ℕ) × (own : ℕ) × IsExportOutput s name text own × IsWritten held holds text own is_refusal status
 IsRead l s (searched x) held holds is_refusal status = IsSearchRun l s x held holds is_refusal status
 IsRead l s (counted x) held holds is_refusal status = (text : List ℕ) × (own : ℕ) × IsCountOutput l s x text own × IsWritten held holds text own is_refusal status
 
@@ -63,28 +61,15 @@ abbrev pub IsRan : {S Reason : Type 0} → Ghosts S → Limits → Machine → S
 IsRan g l s said (Ok body) new held holds is_refusal status = IsDone g l s (reading_in said) (call_in said body) new held holds is_refusal status
 IsRan g l s said (Err r) new held holds is_refusal status = Stays g s new × IsWritten held holds (reply_text r) (exit_of r) is_refusal status
 
--- nothing is written to the store that a crash could leave
-abbrev pub WritesNothing : {S : Type 0} → Ghosts S → (old new : Kept S) → Type 0
-WritesNothing g old new = (s : Machine) → StandsFor g old s → Survives (state g old.conn) (state g new.conn) (λ _. ⊥)
-
 abbrev pub IsCallSafe : {S : Type 0} → Ghosts S → Option CallText → (old new : Kept S) → Type 0
 IsCallSafe g (Some call) old new = IsSafe g call old new
-IsCallSafe g None old new = WritesNothing g old new
+IsCallSafe g None old new = ReadsOnly g old new
 
 abbrev pub IsDoneSafe : {S : Type 0} → Ghosts S → Option ReadingText → Option CallText → (old new : Kept S) → Type 0
-IsDoneSafe g (Some x) call old new = WritesNothing g old new
+IsDoneSafe g (Some x) call old new = ReadsOnly g old new
 IsDoneSafe g None call old new = IsCallSafe g call old new
 
 -- What a crash leaves of a line: of a command the tables of a state in which it ends; any other writes nothing.
 abbrev pub IsLineSafe : {S : Type 0} → Ghosts S → Said → (taken : Result (List ℕ) Reply) → (old new : Kept S) → Type 0
 IsLineSafe g said (Ok body) old new = IsDoneSafe g (reading_in said) (call_in said body) old new
-IsLineSafe g said (Err r) old new = WritesNothing g old new
-
--- What a line with this input ends with, and what a crash leaves of it: its body is taken from the input, up to so many bytes,
--- and it is done with that.
-abbrev pub IsRunFrom : {S Reason : Type 0} → Ghosts S → Limits → Machine → (limit : ℕ) → Said → (input : List ℕ) → (new : Kept S) → (held holds : Option (List ℕ)) → (Reason → Type 0) → (status : ℕ) → Type 0
-IsRunFrom g l s limit said input new held holds is_refusal status =
-    (taken : Result (List ℕ) Reply) × IsTaken limit said input taken × IsRan g l s said taken new held holds is_refusal status
-
-abbrev pub IsRunSafe : {S : Type 0} → Ghosts S → (limit : ℕ) → Said → (input : List ℕ) → (old new : Kept S) → Type 0
-IsRunSafe g limit said input old new = (taken : Result (List ℕ) Reply) × IsTaken limit said input taken × IsLineSafe g said taken old new
+IsLineSafe g said (Err r) old new = ReadsOnly g old new

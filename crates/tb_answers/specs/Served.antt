@@ -2,7 +2,6 @@
 use Rattle.std.specs.Prelude.{◌≡◌, ◌⊎◌, ℕ, List, Option, Some, None, Result, Ok, Err, IsTrue, IfSome, ⊤}
 use Rattle.std.specs.Str.{IsUtf8}
 use Rattle.sqlite.specs.Store.{Ghosts}
-use Rattle.sqlite.specs.State.{Survives}
 use Rattle.sqlite.specs.Held.{state}
 use Rattle.tb_core.specs.declared.limits.Limits.{Limits}
 use Rattle.tb_core.specs.Machine.{Machine}
@@ -11,11 +10,12 @@ use Rattle.tb_http.specs.declared.replies.Reply.{Reply}
 use Rattle.tb_http.specs.declared.replies.Reply.TheVariants.{Faulty, Memory}
 use Rattle.tb_http.specs.declared.status.Status.{Status}
 use Rattle.tb_http.specs.Actions.{Act, export_batch, export_released, search, count}
-use Rattle.tb_http.specs.Asks.{Told, refused, called, Asks}
+use Rattle.tb_http.specs.Asks.{Told, refused, called, Asks, body_limit}
+use Rattle.tb_http.specs.Faults.{BeginsBody}
 use Rattle.tb_http.specs.Replies.{status_of}
 use Rattle.tb_store.specs.Kept.{Kept}
 use Rattle.tb_store.specs.Standing.{StandsFor}
-use Rattle.tb_answers.specs.Calls.{CallText, call_asked, IsSafe}
+use Rattle.tb_answers.specs.Calls.{CallText, call_asked, IsSafe, ReadsOnly}
 use Rattle.tb_answers.specs.Responses.{reply_response, IsResponse, IsSent}
 use Rattle.tb_answers.specs.Exported.{IsExportResponse}
 use Rattle.tb_answers.specs.Found.{IsSearchResponse, IsCountResponse}
@@ -23,10 +23,6 @@ use Rattle.tb_answers.specs.declared.answering.Broken.{Broken}
 use Rattle.tb_answers.specs.declared.answering.Broken.TheVariants.{Write}
 
 -- ---- what a request asks
-
--- the most bytes of a body
-abbrev pub body_limit : ℕ
-body_limit = 4194304
 
 -- what the bytes of a reader ask, where it tells them
 abbrev pub AsksKnown : Option (List ℕ) → Told → Type 0
@@ -73,18 +69,19 @@ module _ {Reason : Type 0} (before after : Option (List ℕ)) (is_refusal : Reas
   IsReplied g l s (refused why) old new = (new ≡ old) × IsReplySent (Faulty why)
   IsReplied g l s (called c) old new = IsCallSent g l s (call_asked c.act c.user c.body) c.act c.body new
 
-  -- The response to the bytes of a request, in a state: to what they ask; or memory is told to be wanting, before anything is done.
+  -- The response to the bytes of a request, in a state: to what they ask. Or memory is wanting for a body that they begin, before
+  -- anything is done.
   abbrev pub IsAnswerTo : {S : Type 0} → Ghosts S → Limits → Machine → (bytes : Option (List ℕ)) → (old new : Kept S) → Type 0
   IsAnswerTo g l s bytes old new =
       ((told : Told) × AsksKnown bytes told × IsReplied g l s told old new)
-      ⊎ ((new ≡ old) × IsReplySent Memory)
+      ⊎ ((new ≡ old) × IfSome bytes (BeginsBody body_limit) × IsReplySent Memory)
 
 -- ---- what a crash leaves
 
 -- a crash of a command leaves the tables of a state in which it ends; any other call writes nothing
 abbrev pub IsSafeCall : {S : Type 0} → Ghosts S → Option CallText → (old new : Kept S) → Type 0
 IsSafeCall g (Some call) old new = IsSafe g call old new
-IsSafeCall g None old new = (s : Machine) → StandsFor g old s → Survives (state g old.conn) (state g new.conn) (λ _. ⊥)
+IsSafeCall g None old new = ReadsOnly g old new
 
 abbrev pub IsSafeFor : {S : Type 0} → Ghosts S → Told → (old new : Kept S) → Type 0
 IsSafeFor g (refused why) old new = new ≡ old

@@ -15,7 +15,8 @@ use Rattle.tb_http.specs.declared.replies.Reply.TheVariants.{Faulty, Memory}
 use Rattle.tb_http.specs.declared.status.Status.{Status}
 use Rattle.tb_http.specs.declared.status.Status.TheVariants as status
 use Rattle.tb_http.specs.Actions.{Act}
-use Rattle.tb_http.specs.Asks.{Told, refused, called, Asks}
+use Rattle.tb_http.specs.Asks.{Told, refused, called, Asks, body_limit}
+use Rattle.tb_http.specs.Faults.{BeginsBody}
 use Rattle.tb_http.specs.Replies.{status_of}
 use Rattle.tb_standing.specs.Standing.{tables_of}
 use Rattle.tb_store.specs.Kept.{Kept}
@@ -25,8 +26,8 @@ use Rattle.tb_answers.specs.Calls.{CallText, commands, asks, call_asked}
 use Rattle.tb_answers.specs.Commanded.{reply_for, IsFailure}
 use Rattle.tb_answers.specs.Responses.{reply_response, body_response}
 use Rattle.tb_answers.specs.declared.answering.Broken.{Broken}
-use Rattle.tb_answers.specs.declared.answering.Broken.TheVariants.{Read}
-use Rattle.tb_answers.specs.Served.{body_limit, IsSentAs, IsReplySent, IsTextSent, IsSafeOf, IsServed, outcome}
+use Rattle.tb_answers.specs.declared.answering.Broken.TheVariants.{Write}
+use Rattle.tb_answers.specs.Served.{IsSentAs, IsReplySent, IsTextSent, IsSafeOf, IsServed, outcome}
 
 -- ---- one request, in terms of states alone
 
@@ -54,12 +55,12 @@ module _ (l : Limits) (s t : Machine) where
     HasAnswer (refused why) = (t ≡ s) × IsReplySent before after is_refusal sent (Faulty why)
     HasAnswer (called c) = HasResponse (call_asked c.act c.user c.body) c.act c.body
 
-  -- The bytes of a request lead from s to t: what they ask was done and responded to, or memory was told to be wanting, before
-  -- anything was done.
+  -- The bytes of a request lead from s to t: what they ask was done and responded to. Or memory was wanting for a body that they
+  -- begin, before anything was done.
   abbrev pub LeadsBy : {Reason : Type 0} → (bytes : List ℕ) → (before after : Option (List ℕ)) → (Reason → Type 0) → Result Status Broken → Type 0
   LeadsBy bytes before after is_refusal result =
       (sent : Option Status)
-      × (((told : Told) × Asks body_limit bytes told × HasAnswer before after is_refusal sent told) ⊎ ((t ≡ s) × IsReplySent before after is_refusal sent Memory))
+      × (((told : Told) × Asks body_limit bytes told × HasAnswer before after is_refusal sent told) ⊎ ((t ≡ s) × BeginsBody body_limit bytes × IsReplySent before after is_refusal sent Memory))
       × (result ≡ outcome sent)
 
 -- ---- what a crash leaves
@@ -95,24 +96,18 @@ abbrev pub IsSound : {S : Type 0} → Ghosts S → Kept S → Type 0
 IsSound g d = HasCleanDisk (state g d.conn) × IsTrue (state g d.conn).is_open
 
 module _ {W Reason : Type 0} (held : W → Option (List ℕ)) (is_refusal : W → Reason → Type 0) where
-  -- a request that has no whole response: its reader failed, and all is as before; or the sink refused a part of the response
-  abbrev pub BreaksOff : Limits → (s t : Machine) → (bytes : List ℕ) → (before after : W) → Broken → Type 0
-  BreaksOff l s t bytes u v why =
-      ((why ≡ Read) × (t ≡ s) × (held v ≡ held u)) ⊎ LeadsBy l s t bytes (held u) (held v) (is_refusal v) (Err why)
-
   -- Requests lead from s to t: each is responded to in the state that the one before left, and the sink has the responses in
-  -- order; or one has no whole response, and it is the last that leads anywhere.
+  -- order; or the sink refused a part of a response, and that request is the last that leads anywhere.
   abbrev pub Lead : Limits → List (List ℕ) → (s t : Machine) → (before after : W) → Result (Unit {0}) Broken → Type 0
   Lead l [] s t u v result = (t ≡ s) × (v ≡ u) × (result ≡ Ok tt)
   Lead l (b ∷ bs) s t u v result =
       ((mid : Machine) × (w : W) × (code : Status) × LeadsBy l s mid b (held u) (held w) (is_refusal w) (Ok code) × Lead l bs mid t w v result)
-      ⊎ ((why : Broken) × BreaksOff l s t b u v why × (result ≡ Err why))
+      ⊎ (LeadsBy l s t b (held u) (held v) (is_refusal v) (Err Write) × (result ≡ Err Write))
 
   module _ {S : Type 0} (g : Ghosts S) where
-    -- one request answered on a desk: all that is said of it, whatever the disk did
+    -- one request in memory, answered on a desk: all that is said of it, whatever the disk did
     pub record IsAnswered (bytes : List ℕ) (old new : Kept S) (before after : W) (told : Result Status Broken) : Type 0 where
-      pub answered : told ≢ Err Read → HasCleanDisk (state g new.conn) → (s : Machine) → StandsFor g old s → IsServed g old.limits s (Some bytes) old new (held before) (held after) (is_refusal after) told
-      pub broken : told ≡ Err Read → (new ≡ old) × (held after ≡ held before)
+      pub answered : HasCleanDisk (state g new.conn) → (s : Machine) → StandsFor g old s → IsServed g old.limits s (Some bytes) old new (held before) (held after) (is_refusal after) told
       pub crash : IsSafeOf g (Some bytes) old new
       pub limits : new.limits ≡ old.limits
 
@@ -122,7 +117,7 @@ module _ {W Reason : Type 0} (held : W → Option (List ℕ)) (is_refusal : W �
     AreAnswered [] d e u v desks result = (e ≡ d) × (v ≡ u) × (desks ≡ []) × (result ≡ Ok tt)
     AreAnswered (b ∷ bs) d e u v desks result =
         ((m : Kept S) × (w : W) × (later : List (Kept S)) × (code : Status) × IsAnswered b d m u w (Ok code) × (desks ≡ m ∷ later) × AreAnswered bs m e w v later result)
-        ⊎ ((why : Broken) × IsAnswered b d e u v (Err why) × (desks ≡ e ∷ []) × (result ≡ Err why))
+        ⊎ (IsAnswered b d e u v (Err Write) × (desks ≡ e ∷ []) × (result ≡ Err Write))
 
     -- The requests are answered in turn; where the desk stood for a state and was sound after each of them, they lead to a state
     -- for which it stands; and where it was sound after each but the last, a crash leaves the tables that it left before, or those

@@ -1,10 +1,13 @@
 //! One request, read, done and answered.
 
-ghost use Rattle.std.specs.Prelude.{◌≡◌, ◌≢◌, Err as ErrOf, map, vec_items};
+ghost use Rattle.std.specs.Prelude.{◌≡◌, ◌≢◌, ◌≤◌, ◌+◌, ℕ, List, [], length, IfErr, Err as ErrOf, map, vec_items};
 ghost use Rattle.sqlite.specs.State.{HasCleanDisk};
 ghost use Rattle.sqlite.specs.Held.{state};
+ghost use Rattle.tb_conllu.specs.Pieces.{AskedFor};
 ghost use Rattle.tb_core.specs.Machine.{Machine};
 ghost use Rattle.tb_store.specs.Standing.{StandsFor};
+ghost use Rattle.tb_http.specs.Asks.{body_limit};
+ghost use Rattle.tb_http.specs.Faults.{AwaitsMore, IsAtMostOne, TakenAfter};
 ghost use Rattle.tb_answers.specs.Served.{IsServed, IsSafeOf, outcome};
 ghost use Rattle.tb_answers.specs.Turns.{AreServed};
 
@@ -12,8 +15,7 @@ use crate::asks::respond_ask;
 use crate::responses::respond_reply;
 use sqlite::Alter;
 use std::alloc::Global;
-use std::io::Read;
-use tb_conllu::Sink;
+use tb_conllu::{Sink, SliceSource, Source};
 use tb_http::{AskFault, HEAD_BYTES, Reply, Routes, Status, read_ask};
 use tb_store::Desk;
 
@@ -38,20 +40,28 @@ fn outcome(sent: Option<Status>) -> Result<Status, Broken>
 
 /// Reads one request, does what it asks, and answers it. Gives the status of a response that was written whole.
 ///
+/// Each read is made while a head or a body is still wanting. No more is taken than a head of 8,192 bytes and its body.
+///
 /// # Errors
 ///
-/// `Read`, where the reader failed: the desk and the sink are as before. `Write`, where the sink refused a part of the
+/// `Read`, where the reader failed while a head or a body was wanting: the desk and the sink are as before. `Write`, where the sink refused a part of the
 /// response: it holds a part from the front, and a command that was accepted stays accepted.
-pub fn answer<S: Alter, R: Read, W: Sink>(
+pub fn answer<S: Alter, R: Source, W: Sink>(
     alloc: Global,
     routes: &Routes,
     desk: &mut Desk<S>,
     reader: &mut R,
     out: &mut W,
 ) -> Result<Status, Broken>
-    ensures answered { result ≢ ErrOf Broken.Read → HasCleanDisk (state S.Store desk.new.conn) → (s : Machine) → StandsFor S.Store desk.old s → IsServed S.Store desk.old.limits s (R.remaining reader.old) desk.old desk.new (W.held out.old) (W.held out.new) (W.IsRefusal out.new) result }
+    ensures answered { result ≢ ErrOf Broken.Read → HasCleanDisk (state S.Store desk.new.conn) → (s : Machine) → StandsFor S.Store desk.old s → IsServed S.Store desk.old.limits s (R.left reader.old) desk.old desk.new (W.held out.old) (W.held out.new) (W.IsRefusal out.new) result }
     ensures broken { result ≡ ErrOf Broken.Read → (desk.new ≡ desk.old) × (W.held out.new ≡ W.held out.old) }
-    ensures crash { IsSafeOf S.Store (R.remaining reader.old) desk.old desk.new }
+    ensures cause { result ≡ ErrOf Broken.Read → ((why : R.Failure) × R.IsFailure reader.new why)
+        × TakenAfter [] (R.left reader.old) (R.left reader.new) (AwaitsMore body_limit) }
+    ensures asked { result ≢ ErrOf Broken.Read → (taken : List ℕ)
+        × AskedFor (AwaitsMore body_limit) [] (R.pieces reader.old) (R.pieces reader.new) taken }
+    ensures one { TakenAfter [] (R.left reader.old) (R.left reader.new) (IsAtMostOne body_limit) }
+    ensures most { TakenAfter [] (R.left reader.old) (R.left reader.new) (λ taken. length taken ≤ 8192 + body_limit) }
+    ensures crash { IsSafeOf S.Store (R.left reader.old) desk.old desk.new }
     ensures limits { desk.new.limits ≡ desk.old.limits }
 {
     let mut buf = [0; HEAD_BYTES];
@@ -68,7 +78,7 @@ pub fn answer<S: Alter, R: Read, W: Sink>(
 /// # Errors
 ///
 /// `Write`, where the sink refused a part of a response: it holds the responses before and a part of this one from the front. A
-/// command that was accepted stays accepted. `Read` is that of `answer`, which a request in memory gives no cause for.
+/// command that was accepted stays accepted. It is never `Read`, since a request in memory is read without a failure.
 pub fn answer_all<S: Alter, W: Sink>(
     alloc: Global,
     routes: &Routes,
@@ -77,10 +87,14 @@ pub fn answer_all<S: Alter, W: Sink>(
     out: &mut W,
 ) -> Result<(), Broken>
     ensures answered { AreServed W.held W.IsRefusal S.Store (map vec_items requests.now) desk.old desk.new out.old out.new result }
+    ensures write { IfErr result (λ e. e ≡ Broken.Write) }
     ensures limits { desk.new.limits ≡ desk.old.limits }
 {
     for request in requests {
-        answer(alloc, routes, desk, &mut request.as_slice(), out)?;
+        let mut reader = SliceSource {
+            bytes: request.as_slice(),
+        };
+        answer(alloc, routes, desk, &mut reader, out)?;
     }
     Ok(())
 }

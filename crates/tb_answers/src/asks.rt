@@ -3,10 +3,10 @@
 ghost use Rattle.std.specs.Prelude.{◌≡◌};
 ghost use Rattle.tb_http.specs.Actions.{act_by};
 ghost use Rattle.tb_http.specs.Asks.{told_by};
-ghost use Rattle.tb_answers.specs.Calls.{call_asked};
+ghost use Rattle.tb_answers.specs.Calls.{call_asked, ReadsOnly};
 ghost use Rattle.tb_answers.specs.Found.{IsSearchResponse, IsCountResponse};
 ghost use Rattle.tb_answers.specs.Served.{AsksText, ForText, IsReplySent, IsSentAs, IsTextSent, IsCallSent, IsReplied, IsSafeCall, IsSafeFor};
-ghost use Rattle.tb_store.specs.Calls.{InState, StandsAsBefore, WritesNothing};
+ghost use Rattle.tb_store.specs.Calls.{InState, StandsAsBefore};
 
 use crate::calls::DeskCall;
 use crate::counts::respond_count;
@@ -42,7 +42,7 @@ fn respond_to_search<S: Alter, W: Sink>(
 ) -> Option<Status>
     ensures written { InState S.Store desk.old desk.new (λ s. ForText (W.held out.old) (W.held out.new) (W.IsRefusal out.new) result body.now (IsSearchResponse desk.old.limits s (record { query = body.now; strategy = strategy; context = context }) (W.held out.old) (W.held out.new) (W.IsRefusal out.new) result)) }
     ensures kept { StandsAsBefore S.Store desk.old desk.new }
-    ensures crash { WritesNothing S.Store desk.old desk.new }
+    ensures crash { ReadsOnly S.Store desk.old desk.new }
     ensures limits { desk.new.limits ≡ desk.old.limits }
 {
     let Ok(query) = from_utf8(body) else {
@@ -67,7 +67,7 @@ fn respond_to_count<S: Alter, W: Sink>(
 ) -> Option<Status>
     ensures written { InState S.Store desk.old desk.new (λ s. ForText (W.held out.old) (W.held out.new) (W.IsRefusal out.new) result body.now (IsSentAs (W.held out.old) (W.held out.new) (W.IsRefusal out.new) result (IsCountResponse desk.old.limits s (record { query = body.now; strategy = strategy; column = column })))) }
     ensures kept { StandsAsBefore S.Store desk.old desk.new }
-    ensures crash { WritesNothing S.Store desk.old desk.new }
+    ensures crash { ReadsOnly S.Store desk.old desk.new }
     ensures limits { desk.new.limits ≡ desk.old.limits }
 {
     let Ok(query) = from_utf8(body) else {
@@ -92,7 +92,7 @@ fn respond_text<S: Alter, W: Sink>(
     requires { AsksText (act_by action) }
     ensures written { InState S.Store desk.old desk.new (λ s. IsTextSent (W.held out.old) (W.held out.new) (W.IsRefusal out.new) result desk.old.limits s (act_by action.entry) body.now) }
     ensures kept { StandsAsBefore S.Store desk.old desk.new }
-    ensures crash { WritesNothing S.Store desk.old desk.new }
+    ensures crash { ReadsOnly S.Store desk.old desk.new }
     ensures limits { desk.new.limits ≡ desk.old.limits }
 {
     match action {

@@ -5,9 +5,10 @@ ghost use Rattle.tb_core.specs.Machine.{Machine};
 ghost use Rattle.tb_report.specs.Csv.{totals_csv, moves_csv};
 ghost use Rattle.tb_store.specs.Standing.{StandsFor};
 ghost use Rattle.tb_store.specs.Answers.{IsCurrent, IsTextOf, HasNoSentence};
-ghost use Rattle.tb_answers.specs.Commanded.{IsFailure};
+ghost use Rattle.tb_answers.specs.Commanded.{IsFailure, IsStoreFailure};
 ghost use Rattle.tb_answers.specs.Asked.{totals_text, AsksForNone, IsBody, IsToldOf};
-ghost use Rattle.tb_store.specs.Calls.{Gives, GivesOnErr, StandsAsBefore, WritesNothing};
+ghost use Rattle.tb_answers.specs.Calls.{ReadsOnly};
+ghost use Rattle.tb_store.specs.Calls.{Gives, GivesOnErr, StandsAsBefore};
 
 use crate::commands::reply_for_fault;
 use crate::questions::{Body, Question};
@@ -45,9 +46,10 @@ fn moves_text(alloc: Global, moves: &[Move]) -> Result<Vec<u8>, Reply>
 /// Sentences and words of the six states, as CSV. Nothing is refused.
 pub fn totals<S: Alter>(alloc: Global, desk: &mut Desk<S>) -> Result<Vec<u8>, Reply>
     ensures answered { Gives S.Store desk.old desk.new result (λ s v. v.items ≡ totals_text s) }
-    ensures failed { IfErr result IsFailure }
+    ensures failed { GivesOnErr S.Store desk.old desk.new result (λ s r. IsFailure r) }
+    ensures unrefused { IfErr result IsStoreFailure }
     ensures kept { StandsAsBefore S.Store desk.old desk.new }
-    ensures crash { WritesNothing S.Store desk.old desk.new }
+    ensures crash { ReadsOnly S.Store desk.old desk.new }
     ensures limits { desk.new.limits ≡ desk.old.limits }
 {
     match desk.totals() {
@@ -59,9 +61,10 @@ pub fn totals<S: Alter>(alloc: Global, desk: &mut Desk<S>) -> Result<Vec<u8>, Re
 /// All moves in their order, as CSV. Nothing is refused.
 pub fn moves<S: Alter>(alloc: Global, desk: &mut Desk<S>) -> Result<Vec<u8>, Reply>
     ensures answered { Gives S.Store desk.old desk.new result (λ s v. v.items ≡ moves_csv s.moves) }
-    ensures failed { IfErr result IsFailure }
+    ensures failed { GivesOnErr S.Store desk.old desk.new result (λ s r. IsFailure r) }
+    ensures unrefused { IfErr result IsStoreFailure }
     ensures kept { StandsAsBefore S.Store desk.old desk.new }
-    ensures crash { WritesNothing S.Store desk.old desk.new }
+    ensures crash { ReadsOnly S.Store desk.old desk.new }
     ensures limits { desk.new.limits ≡ desk.old.limits }
 {
     match desk.moves() {
@@ -78,9 +81,9 @@ pub fn moves<S: Alter>(alloc: Global, desk: &mut Desk<S>) -> Result<Vec<u8>, Rep
 pub fn sentence<S: Alter>(desk: &mut Desk<S>, number: u64) -> Result<Current, Reply>
     ensures answered { Gives S.Store desk.old desk.new result (λ s c. IsCurrent s number c.rev (string_bytes c.body)) }
     ensures missing { (s : Machine) → StandsFor S.Store desk.old s → HasNoSentence s number → result ≡ Err (Reply.Refused Refusal.NoSuchSentence) }
-    ensures told { IfErr result (λ r. (s : Machine) → StandsFor S.Store desk.old s → IsToldOf s (Question.Sentence number) r) }
+    ensures told { GivesOnErr S.Store desk.old desk.new result (λ s r. IsToldOf s (Question.Sentence number) r) }
     ensures kept { StandsAsBefore S.Store desk.old desk.new }
-    ensures crash { WritesNothing S.Store desk.old desk.new }
+    ensures crash { ReadsOnly S.Store desk.old desk.new }
     ensures limits { desk.new.limits ≡ desk.old.limits }
 {
     match desk.sentence(number) {
@@ -99,7 +102,7 @@ pub fn revision<S: Alter>(desk: &mut Desk<S>, number: u64, rev: u64) -> Result<S
     ensures missing { (s : Machine) → StandsFor S.Store desk.old s → HasNoSentence s number → result ≡ Err (Reply.Refused Refusal.NoSuchSentence) }
     ensures told { GivesOnErr S.Store desk.old desk.new result (λ s r. IsToldOf s (Question.Revision number rev) r) }
     ensures kept { StandsAsBefore S.Store desk.old desk.new }
-    ensures crash { WritesNothing S.Store desk.old desk.new }
+    ensures crash { ReadsOnly S.Store desk.old desk.new }
     ensures limits { desk.new.limits ≡ desk.old.limits }
 {
     match desk.revision(number, rev) {
@@ -138,7 +141,7 @@ pub fn ask<S: Alter>(alloc: Global, desk: &mut Desk<S>, question: Question) -> R
     ensures missing { (s : Machine) → StandsFor S.Store desk.old s → AsksForNone s question → result ≡ Err (Reply.Refused Refusal.NoSuchSentence) }
     ensures told { GivesOnErr S.Store desk.old desk.new result (λ s r. IsToldOf s question r) }
     ensures kept { StandsAsBefore S.Store desk.old desk.new }
-    ensures crash { WritesNothing S.Store desk.old desk.new }
+    ensures crash { ReadsOnly S.Store desk.old desk.new }
     ensures limits { desk.new.limits ≡ desk.old.limits }
 {
     match question {

@@ -10,7 +10,8 @@ ghost use Rattle.tb_answers.specs.Commanded.{IsFailure};
 ghost use Rattle.tb_answers.specs.Output.{IsWritten};
 ghost use Rattle.tb_answers.specs.Responses.{IsSent};
 ghost use Rattle.tb_answers.specs.Found.{count_by, IsCounted, IsCountOutput, IsCountResponse, IsToldOfQuery};
-ghost use Rattle.tb_store.specs.Calls.{Gives, GivesOnErr, InState, StandsAsBefore, WritesNothing};
+ghost use Rattle.tb_answers.specs.Calls.{ReadsOnly};
+ghost use Rattle.tb_store.specs.Calls.{Gives, GivesOnErr, InState, StandsAsBefore};
 ghost use Rattle.tb_tables.specs.Leaving.{CommitsNothing};
 
 use crate::commands::reply_for_fault;
@@ -46,7 +47,7 @@ fn counted<S: Alter>(
     count: Count<'_>,
 ) -> Result<Vec<u8>, Reply>
     ensures counted { Gives S.Store desk.old desk.new result (λ s v. (found : List Occurrence) × AreReleasedHits s query.now count.entry.strategy found × (table : List Row) × (rows : List Row) × IsTableOf (keys count.entry.column found) table × IsRankingOf table rows × (v.items ≡ freq_csv rows)) }
-    ensures failed { IfErr result IsFailure }
+    ensures failed { GivesOnErr S.Store desk.old desk.new result (λ s r. IsFailure r) }
     ensures kept { StandsAsBefore S.Store desk.old desk.new }
     ensures lasts { CommitsNothing S.Store desk.old.conn desk.new.conn }
     ensures limits { desk.new.limits ≡ desk.old.limits }
@@ -70,7 +71,7 @@ fn count_text<S: Alter>(
     ensures counted { Gives S.Store desk.old desk.new result (λ s v. IsCounted desk.old.limits s (count_by count.entry) v.items) }
     ensures told { GivesOnErr S.Store desk.old desk.new result (λ s r. IsToldOfQuery desk.old.limits s count.entry.query.now count.entry.strategy r) }
     ensures kept { StandsAsBefore S.Store desk.old desk.new }
-    ensures crash { WritesNothing S.Store desk.old desk.new }
+    ensures crash { ReadsOnly S.Store desk.old desk.new }
     ensures limits { desk.new.limits ≡ desk.old.limits }
 {
     match accepted(alloc, desk, count.query, count.strategy) {
@@ -88,7 +89,7 @@ pub fn run_count<S: Alter, W: Sink>(
 ) -> u8
     ensures written { InState S.Store desk.old desk.new (λ s. (text : List ℕ) × (own : ℕ) × IsCountOutput desk.old.limits s (count_by count.entry) text own × IsWritten (W.held out.old) (W.held out.new) text own (W.IsRefusal out.new) result) }
     ensures kept { StandsAsBefore S.Store desk.old desk.new }
-    ensures crash { WritesNothing S.Store desk.old desk.new }
+    ensures crash { ReadsOnly S.Store desk.old desk.new }
     ensures limits { desk.new.limits ≡ desk.old.limits }
 {
     match count_text(alloc, desk, count) {
@@ -107,7 +108,7 @@ pub fn respond_count<S: Alter, W: Sink>(
 ) -> Option<Status>
     ensures written { InState S.Store desk.old desk.new (λ s. (text : List ℕ) × (status : AnyStatus) × IsCountResponse desk.old.limits s (count_by count.entry) text status × IsSent (W.held out.old) (W.held out.new) text status (W.IsRefusal out.new) result) }
     ensures kept { StandsAsBefore S.Store desk.old desk.new }
-    ensures crash { WritesNothing S.Store desk.old desk.new }
+    ensures crash { ReadsOnly S.Store desk.old desk.new }
     ensures limits { desk.new.limits ≡ desk.old.limits }
 {
     match count_text(alloc, desk, count) {

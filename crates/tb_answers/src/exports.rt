@@ -1,22 +1,23 @@
-//! Exports: streamed to a sink with an exit status, or as responses over HTTP.
+//! Exports, whole before their first byte: with an exit status, or as responses over HTTP.
 
-ghost use Rattle.std.specs.Prelude.{◌≡◌, ℕ, List, None, Ok as OkOf, Err as ErrOf, IfOk, option_map};
+ghost use Rattle.std.specs.Prelude.{◌≡◌, ◌≢◌, ℕ, List, None, Ok as OkOf, Err as ErrOf, IfOk, option_map};
 ghost use Rattle.std.specs.Io.KnownBytes.{Appends};
 ghost use Rattle.sqlite.specs.State.{HasCleanDisk};
 ghost use Rattle.sqlite.specs.Held.{state};
 ghost use Rattle.tb_core.specs.declared.refusals.Refusal.{Refusal as AnyRefusal};
 ghost use Rattle.tb_core.specs.Machine.{Machine};
-ghost use Rattle.tb_search.specs.Visited.{HasReason};
 ghost use Rattle.tb_http.specs.declared.status.Status.{Status as AnyStatus};
 ghost use Rattle.tb_store.specs.Standing.{StandsFor};
 ghost use Rattle.tb_answers.specs.Commanded.{IsFailure};
+ghost use Rattle.tb_answers.specs.Output.{IsWritten};
 ghost use Rattle.tb_answers.specs.Responses.{IsSent};
-ghost use Rattle.tb_answers.specs.Exported.{HasExport, RefusesExport, IsCutOff, IsExportWritten, IsToldOfExport, IsExportResponse};
-ghost use Rattle.tb_store.specs.Calls.{Does, Gives, GivesOnErr, InState, StandsAsBefore, WritesNothing};
+ghost use Rattle.tb_answers.specs.Exported.{HasExport, RefusesExport, IsExportOutput, IsToldOfExport, IsExportResponse};
+ghost use Rattle.tb_answers.specs.Calls.{ReadsOnly};
+ghost use Rattle.tb_store.specs.Calls.{Does, Gives, GivesOnErr, InState, KnowsItself, StandsAsBefore};
 
 use crate::bodies::body_of;
 use crate::commands::reply_for_fault;
-use crate::output::put_reply;
+use crate::output::{put_body, put_reply};
 use crate::questions::Body;
 use crate::responses::{respond_body, respond_reply};
 use sqlite::Alter;
@@ -26,19 +27,17 @@ use tb_core::Fault;
 use tb_http::{Reply, Status};
 use tb_store::Desk;
 
-/// Puts the text of an export as it is read: of the batch with this name, or of all released sentences.
+/// Puts the text of an export: of the batch with this name, or of all released sentences.
 fn export<S: Alter, W: Sink>(
     desk: &mut Desk<S>,
     name: Option<&str>,
     out: &mut W,
 ) -> Result<(), Fault>
     ensures put { Does S.Store desk.old desk.new result (λ s. (text : List ℕ) × HasExport s (option_map (λ n. n.now) name.entry) (OkOf text) × Appends (W.held out.old) (W.held out.new) text) }
-    ensures part { GivesOnErr S.Store desk.old desk.new result (λ s e. IsCutOff s (option_map (λ n. n.now) name.entry) e (W.held out.old) (W.held out.new)) }
     ensures refused { HasCleanDisk (state S.Store desk.new.conn) → (r : AnyRefusal) → result ≡ ErrOf (Fault.Refused r) → (s : Machine) → StandsFor S.Store desk.old s → RefusesExport s (option_map (λ n. n.now) name.entry) r }
-    ensures output { result ≡ ErrOf Fault.Output → HasReason (W.IsRefusal out.new) }
-    ensures none { (r : AnyRefusal) → result ≡ ErrOf (Fault.Refused r) → W.held out.new ≡ W.held out.old }
+    ensures fails { KnowsItself S.Store desk.old desk.new result }
     ensures kept { StandsAsBefore S.Store desk.old desk.new }
-    ensures crash { WritesNothing S.Store desk.old desk.new }
+    ensures crash { ReadsOnly S.Store desk.old desk.new }
     ensures limits { desk.new.limits ≡ desk.old.limits }
 {
     match name {
@@ -47,25 +46,10 @@ fn export<S: Alter, W: Sink>(
     }
 }
 
-/// Puts an export as it is read, and gives the exit status. A refusal is its line, before which nothing is put; where the
-/// export breaks off nothing more is put, and the status is 3.
-pub fn run_export<S: Alter, W: Sink>(desk: &mut Desk<S>, name: Option<&str>, out: &mut W) -> u8
-    ensures written { InState S.Store desk.old desk.new (λ s. IsExportWritten s (option_map (λ n. n.now) name.entry) (W.held out.old) (W.held out.new) (W.IsRefusal out.new) result) }
-    ensures kept { StandsAsBefore S.Store desk.old desk.new }
-    ensures crash { WritesNothing S.Store desk.old desk.new }
-    ensures limits { desk.new.limits ≡ desk.old.limits }
-{
-    match export(desk, name, out) {
-        Ok(()) => 0,
-        Err(Fault::Refused(refusal)) => put_reply(out, Reply::Refused(refusal)),
-        Err(_) => 3,
-    }
-}
-
 /// The reply for a fault of an export into memory, whose sink lacks nothing but memory.
 fn reply_for_export(fault: Fault) -> Reply
     ensures refused { (r : AnyRefusal) → fault ≡ Fault.Refused r → result ≡ Reply.Refused r }
-    ensures failed { ((r : AnyRefusal) → fault ≡ Fault.Refused r → ⊥) → IsFailure result }
+    ensures failed { ((r : AnyRefusal) → fault ≢ Fault.Refused r) → fault ≢ Fault.NotADesk → IsFailure result }
 {
     match fault {
         Fault::Output => Reply::Memory,
@@ -83,13 +67,34 @@ fn export_body<S: Alter>(
     ensures plain { IfOk result (λ b. b.rev ≡ None) }
     ensures told { GivesOnErr S.Store desk.old desk.new result (λ s r. IsToldOfExport s (option_map (λ n. n.now) name.entry) r) }
     ensures kept { StandsAsBefore S.Store desk.old desk.new }
-    ensures crash { WritesNothing S.Store desk.old desk.new }
+    ensures crash { ReadsOnly S.Store desk.old desk.new }
     ensures limits { desk.new.limits ≡ desk.old.limits }
 {
     let mut text = Vec::new(alloc);
     match export(desk, name, &mut text) {
         Ok(()) => Ok(body_of(text)),
         Err(fault) => Err(reply_for_export(fault)),
+    }
+}
+
+/// Puts the text of an export, and gives the exit status; or puts the line of a reply. The text is whole in memory before its
+/// first byte is put, so that a sink has all of it or none.
+pub fn run_export<S: Alter, W: Sink>(
+    alloc: Global,
+    desk: &mut Desk<S>,
+    name: Option<&str>,
+    out: &mut W,
+) -> u8
+    ensures written { InState S.Store desk.old desk.new (λ s. (text : List ℕ) × (own : ℕ)
+        × IsExportOutput s (option_map (λ n. n.now) name.entry) text own
+        × IsWritten (W.held out.old) (W.held out.new) text own (W.IsRefusal out.new) result) }
+    ensures kept { StandsAsBefore S.Store desk.old desk.new }
+    ensures crash { ReadsOnly S.Store desk.old desk.new }
+    ensures limits { desk.new.limits ≡ desk.old.limits }
+{
+    match export_body(alloc, desk, name) {
+        Ok(body) => put_body(out, body.text.as_slice()),
+        Err(reply) => put_reply(out, reply),
     }
 }
 
@@ -103,7 +108,7 @@ pub fn respond_export<S: Alter, W: Sink>(
 ) -> Option<Status>
     ensures written { InState S.Store desk.old desk.new (λ s. (text : List ℕ) × (status : AnyStatus) × IsExportResponse s (option_map (λ n. n.now) name.entry) text status × IsSent (W.held out.old) (W.held out.new) text status (W.IsRefusal out.new) result) }
     ensures kept { StandsAsBefore S.Store desk.old desk.new }
-    ensures crash { WritesNothing S.Store desk.old desk.new }
+    ensures crash { ReadsOnly S.Store desk.old desk.new }
     ensures limits { desk.new.limits ≡ desk.old.limits }
 {
     match export_body(alloc, desk, name) {

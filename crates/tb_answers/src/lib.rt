@@ -27,7 +27,7 @@ pub use commands::{correct, event, import, pull, reply_for_fault, restore};
 pub use counts::{respond_count, run_count};
 pub use exports::{respond_export, run_export};
 pub use finding::{Count, Search};
-pub use laws::requests_in_memory_lead_on;
+pub use laws::{requests_in_memory_lead_on, requests_lead_on, the_check_counts_what_is_taken};
 pub use lines::{read_body, run_line, run_line_from};
 pub use output::{put_body, put_reply};
 pub use questions::{Body, Question};

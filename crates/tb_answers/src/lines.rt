@@ -1,10 +1,11 @@
 //! A line of words, done on a desk.
 
-ghost use Rattle.std.specs.Prelude.{◌≡◌, IfSome, MatchResult, Ok as Taken, Err as Untaken, option_map, string_bytes};
+ghost use Rattle.std.specs.Prelude.{◌≡◌, MatchResult, Ok as Taken, Err as Untaken, option_map, string_bytes};
+ghost use Rattle.tb_desk.specs.Check.{file_limit};
 ghost use Rattle.tb_line.specs.Lines.{said_by};
-ghost use Rattle.tb_answers.specs.Taken.{IsTaken, has_body};
-ghost use Rattle.tb_answers.specs.Calls.{call_by, call_in};
-ghost use Rattle.tb_answers.specs.Ran.{reading_by, reading_in, IsRead, IsCalled, IsDone, IsRan, WritesNothing, IsCallSafe, IsDoneSafe, IsLineSafe, IsRunFrom, IsRunSafe};
+ghost use Rattle.tb_answers.specs.Taken.{IsTaken, WithTaken, has_body};
+ghost use Rattle.tb_answers.specs.Calls.{call_by, call_in, ReadsOnly};
+ghost use Rattle.tb_answers.specs.Ran.{reading_by, reading_in, IsRead, IsCalled, IsDone, IsRan, IsCallSafe, IsDoneSafe, IsLineSafe};
 ghost use Rattle.tb_store.specs.Calls.{InState, StandsAsBefore};
 
 use crate::calls::DeskCall;
@@ -16,8 +17,7 @@ use crate::running::run_call;
 use crate::searches::run_search;
 use sqlite::Alter;
 use std::alloc::Global;
-use std::io::Read;
-use tb_conllu::Sink;
+use tb_conllu::{Sink, Source};
 use tb_desk::{FILE_LIMIT, Input, read_all};
 use tb_http::{Reply, RequestFault};
 use tb_line::Line;
@@ -31,9 +31,12 @@ fn has_body(line: &Line) -> bool
 }
 
 /// The body of a line: all that the reader gives, up to 4,194,304 bytes, where the line is an import or a correction, and
-/// nothing for other lines, of which the reader is left alone. In its place comes the reply that tells why it did not come.
-pub fn read_body<R: Read>(alloc: Global, line: &Line, reader: &mut R) -> Result<Vec<u8>, Reply>
-    ensures { IfSome (R.remaining reader.old) (λ input. MatchResult result (λ v. IsTaken FILE_LIMIT (said_by line.now) input (Taken v.items)) (λ r. IsTaken FILE_LIMIT (said_by line.now) input (Untaken r))) }
+/// nothing for other lines, which leave the reader as it was. In its place comes the reply that says why it did not come: a
+/// failed device only where the reader failed.
+pub fn read_body<R: Source>(alloc: Global, line: &Line, reader: &mut R) -> Result<Vec<u8>, Reply>
+    ensures { MatchResult result
+        (λ v. IsTaken R.IsFailure R.left file_limit (said_by line.now) reader.old reader.new (Taken v.items))
+        (λ r. IsTaken R.IsFailure R.left file_limit (said_by line.now) reader.old reader.new (Untaken r)) }
 {
     if !has_body(line) {
         return Ok(Vec::new(alloc));
@@ -104,10 +107,11 @@ fn run_reading<S: Alter, W: Sink>(
 ) -> u8
     ensures read { InState S.Store desk.old desk.new (λ s. IsRead desk.old.limits s (reading_by reading.entry) (W.held out.old) (W.held out.new) (W.IsRefusal out.new) result) }
     ensures kept { StandsAsBefore S.Store desk.old desk.new }
-    ensures crash { WritesNothing S.Store desk.old desk.new }
+    ensures crash { ReadsOnly S.Store desk.old desk.new }
+    ensures limits { desk.new.limits ≡ desk.old.limits }
 {
     match reading {
-        Reading::Export(name) => run_export(desk, name, out),
+        Reading::Export(name) => run_export(alloc, desk, name, out),
         Reading::Search(search) => run_search(alloc, desk, search, out),
         Reading::Count(count) => run_count(alloc, desk, count, out),
     }
@@ -122,6 +126,7 @@ fn run_called<S: Alter, W: Sink>(
 ) -> u8
     ensures called { InState S.Store desk.old desk.new (λ s. IsCalled S.Store desk.old.limits s (option_map call_by call.entry) desk.new (W.held out.old) (W.held out.new) (W.IsRefusal out.new) result) }
     ensures crash { IsCallSafe S.Store (option_map call_by call.entry) desk.old desk.new }
+    ensures limits { desk.new.limits ≡ desk.old.limits }
 {
     match call {
         Some(call) => run_call(alloc, call, desk, out),
@@ -139,6 +144,7 @@ fn do_line<S: Alter, W: Sink>(
 ) -> u8
     ensures done { InState S.Store desk.old desk.new (λ s. IsDone S.Store desk.old.limits s (reading_in (said_by line.now)) (call_in (said_by line.now) body.now) desk.new (W.held out.old) (W.held out.new) (W.IsRefusal out.new) result) }
     ensures crash { IsDoneSafe S.Store (reading_in (said_by line.now)) (call_in (said_by line.now) body.now) desk.old desk.new }
+    ensures limits { desk.new.limits ≡ desk.old.limits }
 {
     match reading_of(line) {
         Some(reading) => run_reading(alloc, reading, desk, out),
@@ -158,6 +164,7 @@ pub fn run_line<S: Alter, W: Sink>(
 ) -> u8
     ensures ran { InState S.Store desk.old desk.new (λ s. MatchResult body (λ v. IsRan S.Store desk.old.limits s (said_by line.now) (Taken v.items) desk.new (W.held out.old) (W.held out.new) (W.IsRefusal out.new) result) (λ r. IsRan S.Store desk.old.limits s (said_by line.now) (Untaken r) desk.new (W.held out.old) (W.held out.new) (W.IsRefusal out.new) result)) }
     ensures crash { MatchResult body (λ v. IsLineSafe S.Store (said_by line.now) (Taken v.items) desk.old desk.new) (λ r. IsLineSafe S.Store (said_by line.now) (Untaken r) desk.old desk.new) }
+    ensures limits { desk.new.limits ≡ desk.old.limits }
 {
     match body {
         Ok(body) => do_line(alloc, line, body.as_slice(), desk, out),
@@ -167,15 +174,20 @@ pub fn run_line<S: Alter, W: Sink>(
 
 /// Takes the body of a line from a reader, and does the line with it on a desk: [`read_body`], and then [`run_line`]. Gives the
 /// exit status.
-pub fn run_line_from<S: Alter, R: Read, W: Sink>(
+pub fn run_line_from<S: Alter, R: Source, W: Sink>(
     alloc: Global,
     line: &Line,
     reader: &mut R,
     desk: &mut Desk<S>,
     out: &mut W,
 ) -> u8
-    ensures ran { InState S.Store desk.old desk.new (λ s. IfSome (R.remaining reader.old) (λ input. IsRunFrom S.Store desk.old.limits s FILE_LIMIT (said_by line.now) input desk.new (W.held out.old) (W.held out.new) (W.IsRefusal out.new) result)) }
-    ensures crash { IfSome (R.remaining reader.old) (λ input. IsRunSafe S.Store FILE_LIMIT (said_by line.now) input desk.old desk.new) }
+    ensures ran { InState S.Store desk.old desk.new (λ s.
+        WithTaken R.IsFailure R.left file_limit (said_by line.now) reader.old reader.new (λ taken.
+        IsRan S.Store desk.old.limits s (said_by line.now) taken desk.new
+        (W.held out.old) (W.held out.new) (W.IsRefusal out.new) result)) }
+    ensures crash { WithTaken R.IsFailure R.left file_limit (said_by line.now) reader.old reader.new (λ taken.
+        IsLineSafe S.Store (said_by line.now) taken desk.old desk.new) }
+    ensures limits { desk.new.limits ≡ desk.old.limits }
 {
     let body = read_body(alloc, line, reader);
     run_line(alloc, line, body, desk, out)

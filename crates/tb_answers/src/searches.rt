@@ -3,7 +3,8 @@
 ghost use Rattle.std.specs.Prelude.{◌≡◌, []};
 ghost use Rattle.tb_search.specs.Visited.{HasReason};
 ghost use Rattle.tb_answers.specs.Found.{search_by, search_head, IsSearchResponse, IsSearchRun, IsStreamed};
-ghost use Rattle.tb_store.specs.Calls.{InState, StandsAsBefore, WritesNothing};
+ghost use Rattle.tb_answers.specs.Calls.{ReadsOnly};
+ghost use Rattle.tb_store.specs.Calls.{InState, StandsAsBefore};
 ghost use Rattle.tb_tables.specs.Leaving.{CommitsNothing};
 
 use crate::ending::{Ending, ending_of, exit_of, told_of};
@@ -47,7 +48,7 @@ pub fn run_search<S: Alter, W: Sink>(
 ) -> u8
     ensures written { InState S.Store desk.old desk.new (λ s. IsSearchRun desk.old.limits s (search_by search.entry) (W.held out.old) (W.held out.new) (W.IsRefusal out.new) result) }
     ensures kept { StandsAsBefore S.Store desk.old desk.new }
-    ensures crash { WritesNothing S.Store desk.old desk.new }
+    ensures crash { ReadsOnly S.Store desk.old desk.new }
     ensures limits { desk.new.limits ≡ desk.old.limits }
 {
     match accepted(alloc, desk, search.query, search.strategy) {
@@ -94,7 +95,7 @@ pub fn respond_search<S: Alter, W: Sink>(
 ) -> Option<Status>
     ensures written { InState S.Store desk.old desk.new (λ s. IsSearchResponse desk.old.limits s (search_by search.entry) (W.held out.old) (W.held out.new) (W.IsRefusal out.new) result) }
     ensures kept { StandsAsBefore S.Store desk.old desk.new }
-    ensures crash { WritesNothing S.Store desk.old desk.new }
+    ensures crash { ReadsOnly S.Store desk.old desk.new }
     ensures limits { desk.new.limits ≡ desk.old.limits }
 {
     match accepted(alloc, desk, search.query, search.strategy) {

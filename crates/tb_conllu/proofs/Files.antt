@@ -38,7 +38,7 @@ pub read_all : (bytes : List ℕ) (done : List BlockText) (left : Left) → IsRe
 read_all bytes done left h none = record { shaped = h.shaped; text = h.whole ∙ ap (λ x. text_of done ++ x) none ∙ append-nil (text_of done) }
 
 pub read_fault : (bytes : List ℕ) (done : List BlockText) (left : Left) (e : ReadFault) → IsReadTo bytes done left → IsFaultAfter left.line left.rest e → IsReadFault bytes e
-read_fault bytes done left Memory h f = tt
+read_fault bytes done left Memory h f = omega (arith, f, ap length h.whole, length-append (text_of done) left.rest)
 read_fault bytes done left (At line code) h f =
     let P : List ℕ → Type 0 = λ x. IsTold x line code in
     let Q : ℕ → Type 0 = λ n. IsTold (text_of done ++ left.rest) n code in
@@ -91,8 +91,13 @@ pub from_end : (old now : Left) (bs : List BlockText) → IsReadFrom old bs now 
 from_end old now bs h none = record { shaped = h.shaped; text = h.whole ∙ ap (λ x. text_of bs ++ x) none ∙ append-nil (text_of bs) }
 
 pub from_fault : (old now : Left) (bs : List BlockText) (e : ReadFault) → IsReadFrom old bs now → IsFaultAfter now.line now.rest e → IsFaultAfter old.line old.rest e
-from_fault old now bs Memory h f = tt
+from_fault old now bs Memory h f = omega (arith, f, ap length h.whole, length-append (text_of bs) now.rest)
 from_fault old now bs (At line code) h (n, place, told) =
     let P : List ℕ → Type 0 = λ x. IsTold x (length (lines_of bs) + n) code in
     let before = h.place in
     (length (lines_of bs) + n, omega arith, subst P (sym h.whole) (told_after bs now.rest n code h.shaped told))
+
+-- the text of some sentences has a byte
+pub some_text : (bs : List BlockText) → 0 < length bs → 0 < length (text_of bs)
+some_text [] h = absurd (omega (arith, h))
+some_text (b ∷ bs) h = omega (arith, sentence_some b, ap length (text_of-append (b ∷ []) bs), length-append (text_of (b ∷ [])) (text_of bs))

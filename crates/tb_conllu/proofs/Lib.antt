@@ -26,3 +26,5 @@ pub mod Encoded
 pub mod Marked
 pub mod Recut
 pub mod PartedLines
+pub mod Tried
+pub mod Nine

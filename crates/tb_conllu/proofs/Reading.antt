@@ -75,7 +75,8 @@ quiet_raw rest raw after h e k = quiet_line raw (quiet_parts rest raw after h e)
 -- ---- a line at fault
 
 pub line_told : (bytes : List ℕ) (line : ℕ) (block : BlockText) (rest raw after : List ℕ) (at : ℕ) (e : ReadFault) → IsRead bytes line block rest at → rest ≡ raw ++ 10 ∷ after → Lacks 10 raw → IsRefusal (at + 1) (has_rows block.rows) raw e → IsFaultAfter line bytes e
-line_told bytes line block rest raw after at Memory h same cut refused = tt
+line_told bytes line block rest raw after at Memory h same cut refused =
+    omega (arith, ap length h.whole, length-append (ended (lines_begun block)) rest, shorter rest raw after same)
 line_told bytes line block rest raw after at (At l code) h same cut refused =
     let before : List (List ℕ) = lines_begun block in
     let came : came_through false before ≡ has_rows block.rows = came_so_far (begun block) h.sound in

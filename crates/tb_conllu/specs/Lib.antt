@@ -12,3 +12,6 @@ pub mod Refusal
 pub mod Left
 pub mod Sunk
 pub mod Marks
+pub mod Pieces
+pub mod Tries
+pub mod NineCodes

@@ -1,5 +1,5 @@
 -- Bytes that need a second look.
-use Rattle.std.specs.Prelude.{ℕ, Bool, ◌||◌, ◌&&◌, not, nat_le, nat_lt, ◌==◌}
+use Rattle.std.specs.Prelude.{ℕ, Bool, ◌&&◌, not, nat_le, nat_lt, ◌==◌}
 use Rattle.tb_chars.specs.Spaces.{begins_white}
 
 -- the first byte of a character from U+0300 on; those below are starters that NFC leaves as they are

@@ -1,14 +1,22 @@
 //! Laws of files and faults: each function only states a fact about the definitions, and runs nothing.
 
-ghost use Rattle.std.specs.Prelude.{◌≡◌, ◌<◌, ◌+◌, ℕ, List, [], ◌∷◌, ◌++◌, length, false};
+ghost use Rattle.std.specs.Prelude.{◌≡◌, ◌↔◌, ◌<◌, ◌+◌, ℕ, Bool, List, [], ◌∷◌, ◌++◌, length, false};
 ghost use Rattle.tb_conllu.specs.Fault.{IsFaultAfter, IsReadFault};
 ghost use Rattle.tb_conllu.specs.Left.{Left, IsNext, IsReadTo};
 ghost use Rattle.tb_conllu.specs.declared.fault.ReadFault.{ReadFault};
 ghost use Rattle.tb_conllu.specs.Begun.{BegunText, IsSound, lines_so_far};
 ghost use Rattle.tb_conllu.specs.Lines.{line_code, came_through};
+ghost use Rattle.tb_conllu.specs.NineCodes.{HasLeastCode, HasNoCode};
 ghost use Rattle.tb_conllu.specs.Shape.{AllShaped};
 ghost use Rattle.tb_conllu.specs.Text.{BlockText, text_of, lines_of};
 ghost use Rattle.tb_conllu.specs.Told.{AreLines, IsDead, IsFile, IsNoFile, IsTold};
+
+/// The code of a line is the least of the nine that it has; 0 where it has none.
+pub fn a_line_has_its_least_code()
+    ensures none { (came : Bool) (line : List ℕ) → line_code came line ≡ 0 ↔ HasNoCode came line }
+    ensures least { (came : Bool) (line : List ℕ) (code : ℕ) → 0 < code
+        → line_code came line ≡ code ↔ HasLeastCode came line code }
+{}
 
 /// A line at fault is dead, with the lines before it.
 pub fn faulty_line_is_dead()

@@ -21,6 +21,7 @@ mod rowline;
 mod rows;
 mod sentences;
 mod sink;
+mod source;
 mod spaces;
 mod text;
 mod whole;
@@ -32,8 +33,9 @@ pub use id::LineId;
 pub use ids::{head_of, id_of};
 pub use known::known_block;
 pub use laws::{
-    a_file_begins_one_way, a_file_is_read_in_order, fault_after_sentences, faulty_line_is_dead,
-    one_fault_is_told, one_list_has_a_text, read_lines_are_alive, told_bytes_are_no_file,
+    a_file_begins_one_way, a_file_is_read_in_order, a_line_has_its_least_code,
+    fault_after_sentences, faulty_line_is_dead, one_fault_is_told, one_list_has_a_text,
+    read_lines_are_alive, told_bytes_are_no_file,
 };
 pub use owned::{own_block, own_row};
 pub use round::{reread, rewrite};
@@ -41,6 +43,7 @@ pub use rowline::row_of;
 pub use rows::{Block, BlockOf, BlockRef, Row, RowOf, RowRef};
 pub use sentences::{Passage, Sentences};
 pub use sink::Sink;
+pub use source::{SliceSource, Source, SourceFault};
 pub use text::Text;
 pub use whole::{read, read_ref};
 pub use writer::{put_block, put_blocks, put_number, write, write_block_to, write_to};

@@ -23,6 +23,9 @@ pub fn rewrite(alloc: Global, bytes: &[u8]) -> Result<Vec<u8>, ReadFault>
     ensures told { IfErr result (IsReadFault bytes.now) }
     ensures only { (bs : List BlockText) → IsFile bytes.now bs → IfErr result (λ e. e ≡ Memory) }
 {
+    if bytes.is_empty() {
+        return Ok(Vec::new(alloc));
+    }
     let blocks = read(alloc, bytes)?;
     Ok(write(alloc, &blocks)?)
 }
@@ -37,6 +40,9 @@ pub fn reread(alloc: Global, blocks: &[Block]) -> Result<Vec<Block>, ReadFault>
     ensures file { IfOk result (λ v. IsFile (text_of blocks.now) v.items) }
     ensures told { IfErr result (IsReadFault (text_of blocks.now)) }
 {
+    if blocks.is_empty() {
+        return Ok(Vec::new(alloc));
+    }
     let bytes = write(alloc, blocks)?;
     read(alloc, &bytes)
 }

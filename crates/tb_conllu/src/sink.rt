@@ -1,8 +1,10 @@
 //! Where the writer's bytes go: a writer of std, or whatever takes bytes.
 
-ghost use Rattle.std.specs.Prelude.{◌≡◌, ℕ, List, Option, Some, IfErr, OnOk, OnErr};
-ghost use Rattle.std.specs.Io.KnownBytes.{Appends};
+ghost use Rattle.std.specs.Prelude.{◌≡◌, ◌≤◌, ℕ, List, [], ◌∷◌, length, Option, None, Some, Result, IfErr, IfOk, OnOk, OnErr};
+ghost use Rattle.std.specs.Io.KnownBytes.{Appends, WriteAppends};
 ghost use Rattle.tb_conllu.specs.Sunk.{AppendsPart};
+ghost use Rattle.tb_conllu.specs.declared.sink.Stop.{Stop};
+ghost use Rattle.tb_conllu.specs.Tries.{Answers, HasGivenUp, HasStopped, HasTaken};
 
 use crate::fault::WriteFault;
 use std::alloc::AllocError;
@@ -34,27 +36,92 @@ pub trait Sink {
         ensures refused { IfErr result (IsRefusal self.new) };
 }
 
+/// Why a writer took no byte.
+#[derive(Clone, Copy, Drop)]
+enum Stop {
+    /// A signal came between.
+    Interrupted,
+    /// It failed.
+    Failed,
+}
+
+/// Takes bytes, some at a time.
+///
+/// Each writer of std is one that keeps no count of its answers, and says nothing of them.
+trait PartWriter {
+    // the bytes that it holds, where they are known
+    ghost stored: { Self → Option (List ℕ) };
+
+    // its answers, one for each time that it was asked, where they are counted
+    ghost answers: { Self → Option (List (Result ℕ Stop)) };
+
+    // what is known of an answer, and of the writer as it is after it
+    ghost IsAnswer: { Self → Result ℕ Stop → Type 0 };
+
+    /// Takes some of the bytes, from the front, after those that it holds.
+    ///
+    /// # Errors
+    ///
+    /// It took none.
+    fn write_once(&mut self, bytes: &[u8]) -> Result<usize, Stop>
+        ensures bound { IfOk result (λ n. n ≤ length bytes.now) }
+        ensures bytes { WriteAppends (stored self.old) (stored self.new) result bytes.now }
+        ensures counted { Answers (answers self.old) (answers self.new) (result ∷ []) }
+        ensures known { IsAnswer self.new result };
+}
+
+impl<W: Write> PartWriter for W {
+    ghost stored = { W.contents };
+
+    ghost answers = { λ _. None };
+
+    ghost IsAnswer = { λ _ _. Unit {0} };
+
+    fn write_once(&mut self, bytes: &[u8]) -> Result<usize, Stop> {
+        match self.write(bytes) {
+            Ok(count) => Ok(count),
+            Err(error) => {
+                if error.kind() == ErrorKind::Interrupted {
+                    Err(Stop::Interrupted)
+                } else {
+                    Err(Stop::Failed)
+                }
+            }
+        }
+    }
+}
+
+/// How many times a signal may come between before writing counts as failed.
+const INTERRUPTIONS: usize = 1000;
+
 /// Writes the bytes; a writer that fails keeps what it took before, and nothing is written after.
-fn put_all<W: Write>(bytes: &[u8], out: &mut W) -> Result<(), WriteFault>
-    ensures taken { OnOk result (Appends (W.contents out.old) (W.contents out.new) bytes.now) }
-    ensures part { OnErr result (AppendsPart (W.contents out.old) (W.contents out.new) bytes.now) }
+///
+/// # Errors
+///
+/// The writer took no byte, or failed, or a signal came between for the thousandth time.
+fn put_all<W: PartWriter>(bytes: &[u8], out: &mut W) -> Result<(), WriteFault>
+    ensures taken { OnOk result (Appends (W.stored out.old) (W.stored out.new) bytes.now) }
+    ensures part { OnErr result (AppendsPart (W.stored out.old) (W.stored out.new) bytes.now) }
+    ensures known { OnErr result (HasStopped (W.IsAnswer out.new)) }
+    ensures whole { OnOk result (HasTaken (W.answers out.old) (W.answers out.new) (length bytes.now)) }
+    ensures stopped { OnErr result (HasGivenUp (W.answers out.old) (W.answers out.new) (length bytes.now)) }
 {
     let mut written = 0;
-    for _attempt in 0..u64::MAX {
-        if written >= bytes.len() {
-            return Ok(());
-        }
-        match out.write(&bytes[written..]) {
+    let mut interruptions = 0;
+    'writes: while written < bytes.len() {
+        match out.write_once(&bytes[written..]) {
             Ok(0) => return Err(WriteFault),
             Ok(count) => written += count,
-            Err(error) => {
-                if error.kind() != ErrorKind::Interrupted {
+            Err(Stop::Failed) => return Err(WriteFault),
+            Err(Stop::Interrupted) => {
+                interruptions += 1;
+                if interruptions == INTERRUPTIONS {
                     return Err(WriteFault);
                 }
             }
         }
     }
-    Err(WriteFault)
+    Ok(())
 }
 
 impl<W: Write> Sink for W {

@@ -115,4 +115,6 @@ counted_fault law file unread s w bs (At line code) h (n, place, told) =
     let P : List ℕ → Type 0 = λ f. IsTold f line code in
     let Q : ℕ → Type 0 = λ k. IsTold (text_of bs ++ unread.rest) k code in
     subst P (sym h.whole) (subst Q (sym there) whole)
-counted_fault law file unread s w bs Memory h f = tt
+counted_fault law file unread s w bs Memory h some =
+    let long : length file ≡ length (text_of bs ++ unread.rest) = ap length h.whole in
+    omega (arith, long, some, length-append (text_of bs) unread.rest)

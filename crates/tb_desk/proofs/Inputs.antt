@@ -1,17 +1,17 @@
 -- What was read of an input, against the input itself.
-use Rattle.std.proofs.Common.{◌≡◌, ◌≤◌, ℕ, ◌+◌, List, [], ◌++◌, length, take, Option, Some, None, IfSome, option_map, ◌∙◌, ap, subst, arith, min, take_all}
-use Rattle.std.proofs.lemmas.List.{length-take}
+use Rattle.std.proofs.Common.{◌≤◌, ◌<◌, ℕ, ◌+◌, List, ◌++◌, length, length-append, Option, arith}
+use Rattle.std.specs.Io.KnownBytes.{Consumes}
+use Rattle.std.proofs.KnownBytes.{Consumes-trans}
+use Rattle.tb_desk.specs.Input.{TakenSome}
 
--- a text that stopped below its limit is all there was
-few_taken : (k n : ℕ) → min (k + 1) n ≤ k → n ≤ k
-few_taken k n h = omega (arith, h)
+-- so much was taken, and no more than the limit and one byte
+pub record IsTaking (old new : Option (List ℕ)) (all : List ℕ) (limit : ℕ) : Type 0 where
+  pub within : length all ≤ limit + 1
+  pub taken : Consumes old new all
 
-pub all_read : (limit : ℕ) (a : Option (List ℕ)) (items : List ℕ) → IfSome (option_map (take (limit + 1)) a) (λ xs. items ≡ [] ++ xs)
-    → length items ≤ limit → IfSome a (λ input. (items ≡ input) × (length input ≤ limit))
-all_read limit None items h few = tt
-all_read limit (Some x) items h few =
-    let is : items ≡ take (limit + 1) x = h in
-    let P : ℕ → Type 0 = λ n. n ≤ limit in
-    let less : min (limit + 1) (length x) ≤ limit = subst P (ap length is ∙ length-take (limit + 1) x) few in
-    let small : length x ≤ limit = few_taken limit (length x) less in
-    (is ∙ take_all (limit + 1) x (omega (arith, small)), small)
+-- what a read gave found no room
+pub taking_full : (old mid new : Option (List ℕ)) (all part : List ℕ) (limit : ℕ) → IsTaking old mid all limit
+    → length all + length part ≤ limit + 1 → Consumes mid new part → 0 < length part → TakenSome old new (λ n. (0 < n) × (n ≤ limit + 1))
+taking_full old mid new all part limit h few read some =
+    let long = length-append all part in
+    (all ++ part, Consumes-trans old mid new all part h.taken read, (omega (arith, long, some), omega (arith, long, few)))

@@ -1,5 +1,5 @@
 -- At most one reply is true of an input.
-use Rattle.std.proofs.Common.{◌≡◌, ◌≤◌, ◌<◌, ℕ, List, length, true, false, refl, sym, ◌∙◌, ap, subst, arith}
+use Rattle.std.proofs.Common.{◌≡◌, ◌≤◌, ◌<◌, ◌⊎◌, inl, inr, ℕ, List, length, true, false, refl, sym, ◌∙◌, ap, subst, arith}
 use Rattle.tb_conllu.specs.Text.{BlockText}
 use Rattle.tb_conllu.specs.Told.{IsFile, IsNoFile, IsTold}
 use Rattle.tb_rules.specs.File.{IsValid, IsFaultAt}
@@ -82,3 +82,14 @@ one_reply laws limit f Long Memory a b h k = silent b
 one_reply laws limit f Long Device a b h k = silent b
 one_reply laws limit f Memory other a b h k = silent a
 one_reply laws limit f Device other a b h k = silent a
+
+-- The reply to a file of valid sentences is their counts, or want of memory.
+module _ (one : (limit : ℕ) (input : List ℕ) (reply other : CheckReply) → tells_of_input reply ≡ true → tells_of_input other ≡ true → IsReplyTo limit input reply → IsReplyTo limit input other → reply ≡ other) where
+  pub counted_whole : (limit : ℕ) (input : List ℕ) (bs : List BlockText) (reply : CheckReply) → length input ≤ limit → IsFile input bs → IsValid bs → IsReplyTo limit input reply
+      → (reply ≡ Counts (length bs) (words_in bs)) ⊎ (reply ≡ Memory)
+  counted_whole limit input bs (Counts s w) few file valid h = inl (one limit input (Counts s w) (Counts (length bs) (words_in bs)) refl refl h (few, (bs, file, valid, refl, refl)))
+  counted_whole limit input bs (Read s w) few file valid h = inl (one limit input (Read s w) (Counts (length bs) (words_in bs)) refl refl h (few, (bs, file, valid, refl, refl)))
+  counted_whole limit input bs (Rule s r w) few file valid h = inl (one limit input (Rule s r w) (Counts (length bs) (words_in bs)) refl refl h (few, (bs, file, valid, refl, refl)))
+  counted_whole limit input bs Long few file valid h = inl (one limit input Long (Counts (length bs) (words_in bs)) refl refl h (few, (bs, file, valid, refl, refl)))
+  counted_whole limit input bs Memory few file valid h = inr refl
+  counted_whole limit input bs Device few file valid h = absurd h

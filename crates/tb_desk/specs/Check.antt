@@ -10,6 +10,7 @@ use Rattle.tb_rules.specs.File.{IsValid, IsFaultAt, IsCutShort, HasTaken}
 use Rattle.tb_rules.specs.declared.filefault.FileFault.{FileFault}
 use Rattle.tb_rules.specs.declared.filefault.FileFault.TheVariants.{At}
 use Rattle.tb_rules.specs.declared.filefault.FileFault.TheVariants as rules
+use Rattle.tb_desk.specs.Input.{IsBrokenWithin}
 use Rattle.tb_desk.specs.declared.check.Survey.{Survey}
 use Rattle.tb_desk.specs.declared.reply.CheckReply.{CheckReply}
 use Rattle.tb_desk.specs.declared.reply.CheckReply.TheVariants.{Counts, Read, Rule, Long, Memory, Device}
@@ -32,15 +33,20 @@ IsAsked names told bs = MatchOption told (HasTaken names bs) (IsToldFault bs)
 abbrev pub IsSurvey : List BlockText → Survey → Type 0
 IsSurvey bs s = (s.sentences ≡ length bs) × (s.words ≡ words_in bs) × MatchOption s.fault (IsValid bs) (IsToldFault bs)
 
--- The reply that is true of an input of at most `limit` bytes, or of a longer one. Want of memory and a failed
--- device may come in place of any other reply. A rule is told only of a file that can be read whole.
+-- the greatest size of a file, in bytes
+abbrev pub file_limit : ℕ
+file_limit = 4194304
+
+-- The reply that is true of an input of at most `limit` bytes, or of a longer one. Want of memory may come in place of any
+-- other reply, where there is a byte to hold. A failed device is true of no input. A rule is told only of a file that can
+-- be read whole.
 abbrev pub IsReplyTo : ℕ → List ℕ → CheckReply → Type 0
 IsReplyTo limit input (Counts sentences words) = (length input ≤ limit) × ((bs : List BlockText) × IsFile input bs × IsValid bs × (sentences ≡ length bs) × (words ≡ words_in bs))
 IsReplyTo limit input (Read line code) = (length input ≤ limit) × IsTold input line code
 IsReplyTo limit input (Rule sentence rule row) = (length input ≤ limit) × ((bs : List BlockText) × IsFile input bs × IsFaultAt bs sentence rule row)
 IsReplyTo limit input Long = limit < length input
-IsReplyTo limit input Memory = Unit {0}
-IsReplyTo limit input Device = Unit {0}
+IsReplyTo limit input Memory = 0 < length input
+IsReplyTo limit input Device = ⊥
 
 -- whether a reply tells of the input; want of memory and a failed device don't
 abbrev pub tells_of_input : CheckReply → Bool
@@ -79,6 +85,8 @@ IsWritten {Reason} old new text own is_refusal status =
 abbrev pub Answers : {Reason : Type 0} → (CheckReply → Type 0) → Option (List ℕ) → Option (List ℕ) → (Reason → Type 0) → ℕ → Type 0
 Answers known old new is_refusal status = (reply : CheckReply) × known reply × IsWritten old new (reply_text reply) (status_of reply) is_refusal status
 
--- The reply is true of the input, where a reader tells what it will give.
-abbrev pub IsReplyToRead : ℕ → Option (List ℕ) → CheckReply → Type 0
-IsReplyToRead limit input reply = IfSome input (λ bytes. IsReplyTo limit bytes reply)
+-- The reply is true of the input, where the source says what it will give. The reply is a failed device only where the
+-- source failed.
+abbrev pub IsReplyToRead : {Why : Type 0} → (Why → Type 0) → ℕ → Option (List ℕ) → Option (List ℕ) → CheckReply → Type 0
+IsReplyToRead is_failure limit old new Device = IsBrokenWithin is_failure limit old new
+IsReplyToRead is_failure limit old new reply = IfSome old (λ bytes. IsReplyTo limit bytes reply)

@@ -1,9 +1,10 @@
 -- What the words of a command line ask for, the program's name first.
-use Rattle.std.specs.Prelude.{ℕ, List, [], ◌∷◌, Bool, false, bytes_eq, codes}
+use Rattle.std.specs.Prelude.{ℕ, List, [], ◌∷◌, Bool, false, ◌&&◌, bytes_eq, codes}
 
--- the one word `check`
+-- the one word `check`, or it and the end of options
 abbrev pub asks_check : List (List ℕ) → Bool
 asks_check [] = false
 asks_check (name ∷ []) = false
 asks_check (name ∷ word ∷ []) = bytes_eq word (codes "check")
-asks_check (name ∷ word ∷ next ∷ rest) = false
+asks_check (name ∷ word ∷ end ∷ []) = bytes_eq word (codes "check") && bytes_eq end (codes "--")
+asks_check (name ∷ word ∷ next ∷ more ∷ rest) = false

@@ -1,19 +1,18 @@
 //! The check of a file.
 
-ghost use Rattle.std.specs.Prelude.{◌≢◌, ◌<◌, ◌≤◌, ◌^◌, ℕ, List, [], ◌∷◌, ◌++◌, length, IfOk, IfErr};
+ghost use Rattle.std.specs.Prelude.{◌<◌, ◌≤◌, ◌^◌, ℕ, List, [], ◌∷◌, ◌++◌, length, IfOk, IfErr};
 ghost use Rattle.tb_conllu.specs.Fault.{IsReadFault};
 ghost use Rattle.tb_conllu.specs.Text.{BlockText};
 ghost use Rattle.tb_conllu.specs.Told.{IsFile};
-ghost use Rattle.tb_desk.specs.Check.{Answers, IsAsked, IsReplyTo, IsReplyToRead, IsSurvey};
-ghost use Rattle.tb_desk.specs.Input.{IsInput};
-ghost use Rattle.tb_desk.specs.declared.reply.CheckReply.TheVariants.{Device};
+ghost use Rattle.tb_desk.specs.Check.{Answers, IsAsked, IsReplyTo, IsReplyToRead, IsSurvey, file_limit};
 
 use crate::input::{Input, read_all};
 use crate::output::put_reply;
 use crate::reply::CheckReply;
 use std::alloc::Global;
-use std::io::Read;
-use tb_conllu::{BlockOf, ReadFault, Sentences, Sink, Text, fault_after_sentences, words};
+use tb_conllu::{
+    BlockOf, ReadFault, Sentences, Sink, SliceSource, Source, Text, fault_after_sentences, words,
+};
 use tb_rules::{Checker, FileFault, a_fault_stays};
 
 /// The greatest size of a file, in bytes.
@@ -29,16 +28,14 @@ pub struct Survey {
 }
 
 impl Survey {
-    ghost use Rattle.std.specs.Prelude.{◌≢◌, ◌≤◌, ℕ, List, length};
+    ghost use Rattle.std.specs.Prelude.{◌≤◌, ℕ, List, length};
     ghost use Rattle.tb_conllu.specs.Text.{BlockText};
     ghost use Rattle.tb_conllu.specs.Told.{IsFile};
     ghost use Rattle.tb_desk.specs.Check.{IsReplyTo, IsSurvey};
-    ghost use Rattle.tb_desk.specs.declared.reply.CheckReply.TheVariants.{Device};
 
     /// What the check answers of the file.
     fn reply(self) -> CheckReply
         ensures reply { (limit : ℕ) (input : List ℕ) (bs : List BlockText) → length input ≤ limit → IsFile input bs → IsSurvey bs self → IsReplyTo limit input result }
-        ensures no_device { result ≢ Device }
     {
         match self.fault {
             None => CheckReply::Counts {
@@ -109,7 +106,6 @@ pub fn survey_file(alloc: Global, file: &[u8]) -> Result<Survey, ReadFault>
 pub fn check_file(alloc: Global, file: &[u8], limit: u64) -> CheckReply
     requires { length file.now ≤ limit }
     ensures reply { IsReplyTo limit file.now result }
-    ensures no_device { result ≢ Device }
 {
     match survey_file(alloc, file) {
         Ok(found) => found.reply(),
@@ -121,13 +117,14 @@ pub fn check_file(alloc: Global, file: &[u8], limit: u64) -> CheckReply
     }
 }
 
-/// What the check of an input answers.
-fn check_input(alloc: Global, input: &Input, limit: u64) -> CheckReply
-    ensures { (bytes : List ℕ) → IsInput limit input.now bytes → IsReplyTo limit bytes result }
+/// What the check of a source answers.
+fn check_source<R: Source>(alloc: Global, source: &mut R, limit: u64) -> CheckReply
+    requires { limit < 2 ^ 32 }
+    ensures { IsReplyToRead (R.IsFailure source.new) limit (R.left source.old) (R.left source.new) result }
 {
-    match input {
-        Input::Whole(file) if file.len() as u64 <= limit => check_file(alloc, file, limit),
-        Input::Whole(_) | Input::TooLong => CheckReply::Long,
+    match read_all(alloc, source, limit) {
+        Input::Whole(file) => check_file(alloc, &file, limit),
+        Input::TooLong => CheckReply::Long,
         Input::Memory => CheckReply::Memory,
         Input::Broken => CheckReply::Device,
     }
@@ -135,20 +132,33 @@ fn check_input(alloc: Global, input: &Input, limit: u64) -> CheckReply
 
 /// Checks at most so many bytes, writes the reply, and gives the exit status.
 ///
-/// Whatever the reader, one of the replies is written whole, with its own status, or the sink refused it. Where the
-/// reader tells what it will give, the reply is the one that is true of it.
-pub fn check_within<R: Read, S: Sink>(alloc: Global, reader: &mut R, out: &mut S, limit: u64) -> u8
+/// Whatever the source, one of the replies is written whole, with its own status, or the sink refused it. The reply is a
+/// failed device only where the source failed. Where the source says what it will give, the reply is true of it.
+pub fn check_within<R: Source, S: Sink>(
+    alloc: Global,
+    source: &mut R,
+    out: &mut S,
+    limit: u64,
+) -> u8
     requires { limit < 2 ^ 32 }
-    ensures { Answers (IsReplyToRead limit (R.remaining reader.old)) (S.held out.old) (S.held out.new) (S.IsRefusal out.new) result }
+    ensures { Answers (IsReplyToRead (R.IsFailure source.new) limit (R.left source.old) (R.left source.new))
+        (S.held out.old) (S.held out.new) (S.IsRefusal out.new) result }
 {
-    let input = read_all(alloc, reader, limit);
-    let reply = check_input(alloc, &input, limit);
+    let reply = check_source(alloc, source, limit);
     put_reply(out, reply.line().as_str(), reply.status())
 }
 
-/// Checks what the reader gives, up to 4,194,304 bytes, writes the reply, and gives the exit status, as `check_within`.
-pub fn run_check<R: Read, S: Sink>(alloc: Global, reader: &mut R, out: &mut S) -> u8
-    ensures { Answers (IsReplyToRead FILE_LIMIT (R.remaining reader.old)) (S.held out.old) (S.held out.new) (S.IsRefusal out.new) result }
+/// Checks what the source gives, up to 4,194,304 bytes, writes the reply, and gives the exit status, as `check_within`.
+pub fn run_check<R: Source, S: Sink>(alloc: Global, source: &mut R, out: &mut S) -> u8
+    ensures { Answers (IsReplyToRead (R.IsFailure source.new) file_limit (R.left source.old) (R.left source.new))
+        (S.held out.old) (S.held out.new) (S.IsRefusal out.new) result }
 {
-    check_within(alloc, reader, out, FILE_LIMIT)
+    check_within(alloc, source, out, FILE_LIMIT)
+}
+
+/// Checks bytes in memory, as `run_check`. No device fails, and memory is wanted only where there is a byte.
+pub fn check_bytes<S: Sink>(alloc: Global, bytes: &[u8], out: &mut S) -> u8
+    ensures { Answers (IsReplyTo file_limit bytes.now) (S.held out.old) (S.held out.new) (S.IsRefusal out.new) result }
+{
+    run_check(alloc, &mut SliceSource { bytes }, out)
 }

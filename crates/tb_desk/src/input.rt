@@ -1,10 +1,10 @@
 //! An input taken whole, up to a limit.
 
-ghost use Rattle.std.specs.Prelude.{◌<◌, ◌^◌, IfSome};
+ghost use Rattle.std.specs.Prelude.{◌<◌, ◌^◌};
 ghost use Rattle.tb_desk.specs.Input.{IsInput};
 
 use std::alloc::Global;
-use std::io::{ErrorKind, Read};
+use tb_conllu::Source;
 
 /// What an input was.
 #[derive(Drop)]
@@ -15,25 +15,30 @@ pub enum Input {
     TooLong,
     /// Memory was refused.
     Memory,
-    /// A read failed.
+    /// The source failed.
     Broken,
 }
 
 /// Reads all there is, or one byte more than the limit.
-pub fn read_all<R: Read>(alloc: Global, reader: &mut R, limit: u64) -> Input
+pub fn read_all<R: Source>(alloc: Global, source: &mut R, limit: u64) -> Input
     requires { limit < 2 ^ 32 }
-    ensures { IfSome (R.remaining reader.old) (IsInput limit result) }
+    ensures { IsInput (R.IsFailure source.new) limit (R.left source.old) (R.left source.new) result }
 {
     let mut all = Vec::new(alloc);
-    let mut limited = reader.take(limit + 1);
-    if let Err(error) = limited.read_to_end(&mut all) {
-        if error.kind() == ErrorKind::OutOfMemory {
+    let most = limit as usize + 1;
+    let mut chunk = [0u8; 4096];
+    'reads: while all.len() < most {
+        let room = (most - all.len()).min(4096);
+        let part = &mut chunk[..room];
+        let Ok(count) = source.pull(part) else {
+            return Input::Broken;
+        };
+        if count == 0 {
+            return Input::Whole(all);
+        }
+        if all.extend_from_slice(&part[..count]).is_err() {
             return Input::Memory;
         }
-        return Input::Broken;
     }
-    if all.len() as u64 > limit {
-        return Input::TooLong;
-    }
-    Input::Whole(all)
+    Input::TooLong
 }

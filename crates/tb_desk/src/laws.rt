@@ -1,8 +1,12 @@
-//! A law of replies: the function only states a fact about the definitions.
+//! Laws of replies: each function only states a fact about the definitions.
 
-ghost use Rattle.std.specs.Prelude.{◌≡◌, ℕ, List, true};
-ghost use Rattle.tb_desk.specs.Check.{IsReplyTo, tells_of_input};
+ghost use Rattle.std.specs.Prelude.{◌≡◌, ◌≤◌, ◌⊎◌, ℕ, List, length, true};
+ghost use Rattle.tb_conllu.specs.Text.{BlockText};
+ghost use Rattle.tb_conllu.specs.Told.{IsFile};
+ghost use Rattle.tb_rules.specs.File.{IsValid};
+ghost use Rattle.tb_desk.specs.Check.{IsReplyTo, tells_of_input, words_in};
 ghost use Rattle.tb_desk.specs.declared.reply.CheckReply.{CheckReply};
+ghost use Rattle.tb_desk.specs.declared.reply.CheckReply.TheVariants.{Counts, Memory};
 
 use tb_conllu::{one_fault_is_told, one_list_has_a_text, told_bytes_are_no_file};
 use tb_rules::{faulty_sentences_are_not_valid, one_sentence_is_told};
@@ -16,4 +20,13 @@ pub fn one_reply_is_true()
     one_fault_is_told();
     faulty_sentences_are_not_valid();
     one_sentence_is_told();
+}
+
+/// The reply to valid sentences within the limit is how many they are, and their words; or want of memory.
+pub fn valid_sentences_are_counted()
+    ensures { (limit : ℕ) (input : List ℕ) (bs : List BlockText) (reply : CheckReply) → length input ≤ limit
+        → IsFile input bs → IsValid bs → IsReplyTo limit input reply
+        → (reply ≡ Counts (length bs) (words_in bs)) ⊎ (reply ≡ Memory) }
+{
+    one_reply_is_true();
 }

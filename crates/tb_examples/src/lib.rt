@@ -23,4 +23,6 @@ mod rule_tests;
 #[cfg(test)]
 mod samples;
 #[cfg(test)]
+mod source_tests;
+#[cfg(test)]
 mod write_tests;

@@ -1,8 +1,8 @@
 -- What holds while a body is read.
-use Rattle.std.proofs.Common.{◌≡◌, ◌≤◌, ◌+◌, ◌<◌, ℕ, List, ◌++◌, length, take, Option, Some, None, IfSome, sym, ◌∙◌, ap, subst, append_assoc, length-append, take_at, arith, rules}
+use Rattle.std.proofs.Common.{◌≡◌, ◌≤◌, ◌+◌, ◌<◌, ℕ, List, [], ◌++◌, length, take, Option, Some, None, IfSome, sym, ◌∙◌, ap, subst, append_assoc, length-append, take_at, arith, rules}
 use Rattle.std.proofs.lemmas.List.{places}
 use Rattle.std.specs.Io.KnownBytes.{Consumes, Keeps, IsAtEnd, prepend_known}
-use Rattle.std.proofs.KnownBytes.{Consumes-kept, Consumes-trans, Consumes-whole}
+use Rattle.std.proofs.KnownBytes.{Consumes-kept, Consumes-nil, Consumes-trans, Consumes-whole}
 use Rattle.tb_http.specs.Faults.{TakenAfter}
 
 -- the body so far came from the start and then from the reader
@@ -25,6 +25,22 @@ taking_full old mid new start body part n h few read some =
     let all : body ++ part ≡ start ++ (h.came.0 ++ part) = ap (λ l. l ++ part) h.came.1 ∙ append_assoc start h.came.0 part in
     let long = length-append body part in
     (h.came.0 ++ part, Consumes-trans old mid new h.came.0 part h.came.2 read, subst (λ l. (0 < length l) × (length l ≤ n)) all (omega (arith, long, some), omega (arith, long, few)))
+
+-- no more was taken than the body has
+pub taking_within : (old new : Option (List ℕ)) (start body : List ℕ) (n : ℕ) → IsTaking old new start body n → TakenAfter start old new (λ came. length came ≤ n)
+taking_within old new start body n h = (h.came.0, h.came.2, subst (λ l. length l ≤ n) h.came.1 h.within)
+
+-- a read that failed took nothing
+pub taking_kept : (old mid new : Option (List ℕ)) (start body : List ℕ) (n : ℕ) → IsTaking old mid start body n → Keeps mid new → IsTaking old new start body n
+taking_kept old mid new start body n h kept = record {
+  within = h.within;
+  taken = Consumes-kept (prepend_known start old) mid new body h.taken kept;
+  came = (h.came.0, h.came.1, Consumes-kept old mid new h.came.0 h.came.2 kept);
+}
+
+-- nothing was read
+pub taking_none : (old : Option (List ℕ)) (start : List ℕ) (n : ℕ) → length start ≤ n → TakenAfter start old old (λ came. length came ≤ n)
+taking_none old start n few = ([], Consumes-nil old, omega (arith, few, length-append start []))
 
 under : (old : Option (List ℕ)) (start : List ℕ) (P : List ℕ → Type 0) → IfSome (prepend_known start old) P
     → IfSome old (λ rest. P (start ++ rest))

@@ -7,3 +7,5 @@ pub mod Staged
 pub mod Steps
 pub mod Texts
 pub mod Values
+pub mod Taken
+pub mod Asking

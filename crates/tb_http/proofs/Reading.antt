@@ -16,7 +16,7 @@ pub record IsReading (old new : Option (List ℕ)) (buf : List ℕ) (filled : �
   pub room : length buf ≡ 8192
   pub taken : Consumes old new (take filled buf)
 
-take_more : (buf part : List ℕ) (at k n : ℕ) → at ≤ length buf → n ≤ length part
+pub take_more : (buf part : List ℕ) (at k n : ℕ) → at ≤ length buf → n ≤ length part
     → take (at + n) (put_mid at k buf part) ≡ take at buf ++ take n part
 take_more buf part at k n within fits =
     let after = post_of at k buf in
@@ -58,3 +58,8 @@ full (Some x) (Some y) bytes long none c = λ head rest h.
     let whole : bytes ≡ text ++ drop (length text) bytes =
     sym (take-append-drop (length text) bytes) ∙ ap (λ l. l ++ drop (length text) bytes) front in
     none head (drop (length text) bytes) (h.reads.0, whole)
+
+pub awaits_head : (old new : Option (List ℕ)) (buf : List ℕ) (at : ℕ) → IsReading old new buf at → at < 8192 → HasNoRequest (take at buf) → MayBecomeRequest (take at buf) → AwaitsHead (take at buf)
+awaits_head old new buf at h room none becoming =
+    let long : length (take at buf) ≡ at = length-take-le at buf (omega (arith, h.within, h.room)) in
+    record { none = none; becoming = becoming; room = omega (arith, long, room) }

@@ -12,6 +12,10 @@ use Rattle.tb_http.specs.Head.{BeginsWithHead}
 use Rattle.tb_http.specs.Headers.{Header, body_length, user_of}
 use Rattle.tb_http.specs.Stage.{Stage}
 
+-- the most bytes of a body
+abbrev pub body_limit : ℕ
+body_limit = 4194304
+
 -- an action, who asks for it, and the body that comes with it
 pub record CallText : Type 0 where
   pub act : Act

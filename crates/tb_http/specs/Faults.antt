@@ -31,10 +31,18 @@ AwaitsBody limit taken = (front : Front) × (n : ℕ) × HasCall limit taken fro
 abbrev pub BeginsBody : ℕ → List ℕ → Type 0
 BeginsBody limit taken = (front : Front) × (n : ℕ) × HasCall limit taken front n × (0 < n) × (0 < length front.rest)
 
+-- after these bytes a read is owed: for the head, or for the body
+abbrev pub AwaitsMore : ℕ → List ℕ → Type 0
+AwaitsMore limit taken = AwaitsHead taken ⊎ AwaitsBody limit taken
+
 -- where that fault may come, after these bytes were taken
 abbrev pub IsFaultOf : ℕ → List ℕ → AskFault → Type 0
-IsFaultOf limit taken ask.Broken = AwaitsHead taken ⊎ AwaitsBody limit taken
+IsFaultOf limit taken ask.Broken = AwaitsMore limit taken
 IsFaultOf limit taken ask.Memory = BeginsBody limit taken
+
+-- no more bytes than a head may have, or such a head and no more than its body
+abbrev pub IsAtMostOne : ℕ → List ℕ → Type 0
+IsAtMostOne limit taken = (length taken ≤ 8192) ⊎ ((front : Front) × (n : ℕ) × HasCall limit taken front n × (length front.rest ≤ n))
 
 -- where that fault may come, after these of the n bytes of a body came
 abbrev pub IsBodyFaultOf : ℕ → List ℕ → BodyFault → Type 0

@@ -1,10 +1,12 @@
 //! What the bytes of a request ask, from any reader.
 
-ghost use Rattle.std.specs.Prelude.{◌≡◌, ◌≤◌, ◌++◌, [], length, option_map, IfOk, IfErr, IfSome};
+ghost use Rattle.std.specs.Prelude.{◌≡◌, ◌≢◌, ◌≤◌, ◌+◌, ◌++◌, ℕ, List, [], length, option_map, IfOk, IfErr, IfSome, Err as ErrOf};
 ghost use Rattle.httparse.specs.Spans.{IsRequestOf, IsRequestWithin};
+ghost use Rattle.tb_conllu.specs.Pieces.{AskedFor};
 ghost use Rattle.tb_http.specs.Actions.{act_by};
-ghost use Rattle.tb_http.specs.Asks.{Asks, AsksOneThing, call_text, told_by};
-ghost use Rattle.tb_http.specs.Faults.{IsFaultOf, TakenAfter};
+ghost use Rattle.tb_http.specs.Asks.{Asks, AsksOneThing, body_limit, call_text, told_by};
+ghost use Rattle.tb_http.specs.Faults.{AwaitsBody, AwaitsMore, BeginsBody, IsAtMostOne, IsFaultOf, TakenAfter};
+ghost use Rattle.tb_http.specs.declared.asks.AskFault.TheVariants.{Broken, Memory};
 
 use crate::actions::{Action, Allow, resource_of};
 use crate::head::{BodyFault, HEAD_BYTES, HEADERS, read_body, read_head};
@@ -12,8 +14,8 @@ use crate::headers::{body_length, user_of};
 use crate::routes::Routes;
 use httparse::spans::{EMPTY_HEADER_SPAN, HeaderSpan, RequestSpans};
 use std::alloc::Global;
-use std::io::Read;
 use std::str::from_utf8;
+use tb_conllu::Source;
 
 /// The most bytes of a body.
 pub const BODY_BYTES: usize = 4_194_304;
@@ -73,7 +75,7 @@ fn make_call<'b>(action: Action<'b>, user: &'b str, body: Vec<u8>) -> Ask<'b>
 }
 
 /// What is asked by the head in the buffer and by the bytes after it, of which some stand there already.
-fn ask_after<'b, R: Read>(
+fn ask_after<'b, R: Source>(
     alloc: Global,
     routes: &Routes,
     reader: &mut R,
@@ -87,8 +89,14 @@ fn ask_after<'b, R: Read>(
     requires few { length headers.now ≤ 32 }
     requires inside { IsRequestWithin buf.now headers.now spans }
     requires head { IsRequestOf buf.now headers.now spans }
-    ensures asks { IfOk result (λ ask. IfSome (R.remaining reader.old) (λ later. Asks limit (buf.now ++ later) (told_by ask))) }
-    ensures fault { IfErr result (λ e. TakenAfter buf.now (R.remaining reader.old) (R.remaining reader.new) (λ taken. IsFaultOf limit taken e)) }
+    ensures asks { IfOk result (λ ask. IfSome (R.left reader.old)
+        (λ later. Asks limit (buf.now ++ later) (told_by ask))) }
+    ensures asked { result ≢ ErrOf Broken → (taken : List ℕ)
+        × AskedFor (AwaitsBody limit) buf.now (R.pieces reader.old) (R.pieces reader.new) taken }
+    ensures why { IfErr result (λ e. e ≡ Broken → (why : R.Failure) × R.IsFailure reader.new why) }
+    ensures one { TakenAfter buf.now (R.left reader.old) (R.left reader.new) (IsAtMostOne limit) }
+    ensures fault { IfErr result (λ e. TakenAfter buf.now (R.left reader.old) (R.left reader.new)
+        (λ taken. IsFaultOf limit taken e)) }
 {
     let named = &headers[..spans.headers];
     let Ok(user) = user_of(buf, named) else {
@@ -121,7 +129,7 @@ fn ask_after<'b, R: Read>(
 }
 
 /// What the bytes of the reader ask, where a body has at most `limit` bytes.
-fn ask_within<'b, R: Read>(
+fn ask_within<'b, R: Source>(
     alloc: Global,
     routes: &Routes,
     reader: &mut R,
@@ -132,8 +140,13 @@ fn ask_within<'b, R: Read>(
     requires small { limit ≤ 4194304 }
     requires room { length buf.old ≡ 8192 }
     requires headers { length headers.old ≡ 32 }
-    ensures asks { IfOk result (λ ask. IfSome (R.remaining reader.old) (λ bytes. Asks limit bytes (told_by ask))) }
-    ensures fault { IfErr result (λ e. TakenAfter [] (R.remaining reader.old) (R.remaining reader.new) (λ taken. IsFaultOf limit taken e)) }
+    ensures asks { IfOk result (λ ask. IfSome (R.left reader.old) (λ bytes. Asks limit bytes (told_by ask))) }
+    ensures asked { result ≢ ErrOf Broken → (taken : List ℕ)
+        × AskedFor (AwaitsMore limit) [] (R.pieces reader.old) (R.pieces reader.new) taken }
+    ensures why { IfErr result (λ e. e ≡ Broken → (why : R.Failure) × R.IsFailure reader.new why) }
+    ensures one { TakenAfter [] (R.left reader.old) (R.left reader.new) (IsAtMostOne limit) }
+    ensures fault { IfErr result (λ e. TakenAfter [] (R.left reader.old) (R.left reader.new)
+        (λ taken. IsFaultOf limit taken e)) }
 {
     match read_head(reader, buf, headers) {
         Err(_) => Err(AskFault::Broken),
@@ -150,20 +163,29 @@ fn ask_within<'b, R: Read>(
     }
 }
 
-/// What the bytes of the reader ask. At most one head and one body are taken, and nothing is read after the body. The
-/// head is read into `buf`, and the texts of the call lie there.
+/// What the bytes of the reader ask. The head is read into `buf`, and the texts of the call lie there.
+///
+/// Each read is made while a head or a body is still wanting, so nothing is read after the body. No more is taken than a head
+/// of 8,192 bytes and its body.
 ///
 /// # Errors
 ///
 /// The reader failed, or memory was refused for the body.
-pub fn read_ask<'b, R: Read>(
+pub fn read_ask<'b, R: Source>(
     alloc: Global,
     routes: &Routes,
     reader: &mut R,
     buf: &'b mut [u8; HEAD_BYTES],
 ) -> Result<Ask<'b>, AskFault>
-    ensures asks { IfOk result (λ ask. IfSome (R.remaining reader.old) (λ bytes. Asks BODY_BYTES bytes (told_by ask))) }
-    ensures fault { IfErr result (λ e. TakenAfter [] (R.remaining reader.old) (R.remaining reader.new) (λ taken. IsFaultOf BODY_BYTES taken e)) }
+    ensures asks { IfOk result (λ ask. IfSome (R.left reader.old) (λ bytes. Asks body_limit bytes (told_by ask))) }
+    ensures asked { result ≢ ErrOf Broken → (taken : List ℕ)
+        × AskedFor (AwaitsMore body_limit) [] (R.pieces reader.old) (R.pieces reader.new) taken }
+    ensures one { TakenAfter [] (R.left reader.old) (R.left reader.new) (IsAtMostOne body_limit) }
+    ensures most { TakenAfter [] (R.left reader.old) (R.left reader.new) (λ taken. length taken ≤ 8192 + body_limit) }
+    ensures why { IfErr result (λ e. e ≡ Broken → (why : R.Failure) × R.IsFailure reader.new why) }
+    ensures memory { IfErr result (λ e. e ≡ Memory → IfSome (R.left reader.old) (BeginsBody body_limit)) }
+    ensures fault { IfErr result (λ e. TakenAfter [] (R.left reader.old) (R.left reader.new)
+        (λ taken. IsFaultOf body_limit taken e)) }
 {
     let mut headers = [EMPTY_HEADER_SPAN; HEADERS];
     ask_within(alloc, routes, reader, buf, &mut headers, BODY_BYTES)

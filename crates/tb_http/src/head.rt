@@ -1,15 +1,17 @@
 //! The head of a request, and then its body, from any reader.
 
-ghost use Rattle.std.specs.Prelude.{◌≡◌, ◌≤◌, ◌<◌, ◌++◌, [], length, take, IfOk, IfErr, IfSome, IfNone};
+ghost use Rattle.std.specs.Prelude.{◌≡◌, ◌≢◌, ◌≤◌, ◌<◌, ◌++◌, ℕ, List, [], length, take, IfOk, IfErr, IfSome, IfNone, Err as ErrOf};
 ghost use Rattle.std.specs.Io.KnownBytes.{Consumes};
 ghost use Rattle.httparse.specs.Spans.{IsRequestOf, IsRequestWithin};
+ghost use Rattle.tb_conllu.specs.Pieces.{AskedFor};
 ghost use Rattle.tb_http.specs.Faults.{AwaitsHead, IsBodyFaultOf, TakenAfter};
 ghost use Rattle.tb_http.specs.Head.{HasNoHead};
+ghost use Rattle.tb_http.specs.declared.head.BodyFault.TheVariants.{Read as Broken};
 
 use httparse::Status;
 use httparse::spans::{HeaderSpan, RequestSpans, parse_request};
 use std::alloc::Global;
-use std::io::Read;
+use tb_conllu::Source;
 
 /// The most bytes of a head.
 pub const HEAD_BYTES: usize = 8192;
@@ -30,19 +32,27 @@ pub struct Head {
 }
 
 /// Reads until a head is whole, or until none can come.
-pub fn read_head<R: Read>(
+pub fn read_head<R: Source>(
     reader: &mut R,
     buf: &mut [u8],
     headers: &mut [HeaderSpan],
 ) -> Result<Option<Head>, BrokenRead>
-    requires room { length buf.old ≡ HEAD_BYTES }
-    requires headers { length headers.old ≡ HEADERS }
+    requires room { length buf.old ≡ 8192 }
+    requires headers { length headers.old ≡ 32 }
     ensures within { IfOk result (λ r. IfSome r (λ h. h.filled ≤ length buf.new)) }
-    ensures taken { IfOk result (λ r. IfSome r (λ h. Consumes (R.remaining reader.old) (R.remaining reader.new) (take h.filled buf.new))) }
+    ensures taken { IfOk result (λ r. IfSome r (λ h.
+        Consumes (R.left reader.old) (R.left reader.new) (take h.filled buf.new))) }
     ensures spans { IfOk result (λ r. IfSome r (λ h. IsRequestWithin (take h.filled buf.new) headers.new h.spans)) }
     ensures head { IfOk result (λ r. IfSome r (λ h. IsRequestOf (take h.filled buf.new) headers.new h.spans)) }
-    ensures none { IfOk result (λ r. IfNone r (IfSome (R.remaining reader.old) HasNoHead)) }
-    ensures broken { IfErr result (λ _. TakenAfter [] (R.remaining reader.old) (R.remaining reader.new) AwaitsHead) }
+    ensures none { IfOk result (λ r. IfNone r (IfSome (R.left reader.old) HasNoHead)) }
+    ensures stopped { IfOk result (λ r. IfNone r (TakenAfter [] (R.left reader.old) (R.left reader.new)
+        (λ came. length came ≤ 8192))) }
+    ensures asked { IfOk result (λ r. IfSome r (λ h.
+        AskedFor AwaitsHead [] (R.pieces reader.old) (R.pieces reader.new) (take h.filled buf.new))) }
+    ensures asked_none { IfOk result (λ r. IfNone r ((taken : List ℕ)
+        × AskedFor AwaitsHead [] (R.pieces reader.old) (R.pieces reader.new) taken)) }
+    ensures why { IfErr result (λ _. (why : R.Failure) × R.IsFailure reader.new why) }
+    ensures broken { IfErr result (λ _. TakenAfter [] (R.left reader.old) (R.left reader.new) AwaitsHead) }
 {
     let mut filled = 0;
     'reads: loop {
@@ -54,7 +64,7 @@ pub fn read_head<R: Read>(
         if filled == buf.len() {
             return Ok(None);
         }
-        let Ok(n) = reader.read(&mut buf[filled..]) else {
+        let Ok(n) = reader.pull(&mut buf[filled..]) else {
             return Err(BrokenRead);
         };
         if n == 0 {
@@ -72,7 +82,7 @@ pub enum BodyFault {
 }
 
 /// Reads the rest of a body of n bytes, of which the first stand in `start`, and nothing after it.
-pub fn read_body<R: Read>(
+pub fn read_body<R: Source>(
     alloc: Global,
     reader: &mut R,
     start: &[u8],
@@ -81,10 +91,15 @@ pub fn read_body<R: Read>(
     requires few { length start.now ≤ n }
     requires small { n ≤ 4194304 }
     ensures whole { IfOk result (λ r. IfSome r (λ body.
-        IfSome (R.remaining reader.old) (λ rest. body.items ≡ take n (start.now ++ rest)))) }
+        IfSome (R.left reader.old) (λ rest. body.items ≡ take n (start.now ++ rest)))) }
     ensures length { IfOk result (λ r. IfSome r (λ body. length body.items ≡ n)) }
-    ensures short { IfOk result (λ r. IfNone r (IfSome (R.remaining reader.old) (λ rest. length (start.now ++ rest) < n))) }
-    ensures fault { IfErr result (λ e. TakenAfter start.now (R.remaining reader.old) (R.remaining reader.new) (λ came. IsBodyFaultOf n came e)) }
+    ensures short { IfOk result (λ r. IfNone r (IfSome (R.left reader.old) (λ rest. length (start.now ++ rest) < n))) }
+    ensures taken { TakenAfter start.now (R.left reader.old) (R.left reader.new) (λ came. length came ≤ n) }
+    ensures asked { result ≢ ErrOf Broken → (taken : List ℕ)
+        × AskedFor (λ came. length came < n) start.now (R.pieces reader.old) (R.pieces reader.new) taken }
+    ensures why { IfErr result (λ e. e ≡ Broken → (why : R.Failure) × R.IsFailure reader.new why) }
+    ensures fault { IfErr result (λ e. TakenAfter start.now (R.left reader.old) (R.left reader.new)
+        (λ came. IsBodyFaultOf n came e)) }
 {
     let mut body = Vec::new(alloc);
     if body.extend_from_slice(start).is_err() {
@@ -94,7 +109,7 @@ pub fn read_body<R: Read>(
     'reads: while body.len() < n {
         let room = (n - body.len()).min(4096);
         let part = &mut chunk[..room];
-        let Ok(count) = reader.read(part) else {
+        let Ok(count) = reader.pull(part) else {
             return Err(BodyFault::Read);
         };
         if count == 0 {

@@ -1,5 +1,6 @@
 -- What a fault of a command line says.
-use Rattle.std.specs.Prelude.{⊤}
+use Rattle.std.specs.Prelude.{◌≡◌, [], Result, Ok, Err, ⊤}
+use Rattle.clap.specs.Words.{IsAmong, Kinds, kind_of}
 use Rattle.tb_line.specs.declared.lines.LineFault.{LineFault}
 use Rattle.tb_line.specs.declared.lines.LineFault.TheVariants.{Clap, Usage, Memory}
 
@@ -14,3 +15,11 @@ abbrev pub ComesOnly : LineFault → Type 0 → Type 0 → Type 0
 ComesOnly (Clap e) C U = C
 ComesOnly Usage C U = U
 ComesOnly Memory C U = ⊤
+
+-- clap's definition refuses words by these kinds of error, and takes them where there is none: a result comes only of words that
+-- it takes, and an error of clap has one of the kinds
+abbrev pub AnswersAs : {T : Type 0} → Kinds → Result T LineFault → Type 0
+AnswersAs kinds (Ok x) = kinds ≡ []
+AnswersAs kinds (Err (Clap e)) = IsAmong (kind_of e) kinds
+AnswersAs kinds (Err Usage) = kinds ≡ []
+AnswersAs kinds (Err Memory) = ⊤

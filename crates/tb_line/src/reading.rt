@@ -2,17 +2,17 @@
 
 ghost use Rattle.std.specs.Prelude.{◌≡◌, ◌≢◌, IfOk, IfErr, Some, None, true, option_map, map};
 ghost use Rattle.std.specs.String.{string_bytes};
-ghost use Rattle.clap.specs.Words.{takes, subcommand_of, subcommand_rows_of, rows_of, found_of};
+ghost use Rattle.clap.specs.Words.{takes, fault_of, subcommand_of, subcommand_rows_of, rows_of, found_of};
 ghost use Rattle.tb_line.specs.Tree.{desk_app};
-ghost use Rattle.tb_line.specs.Fault.{ComesOnly};
+ghost use Rattle.tb_line.specs.Fault.{AnswersAs, ComesOnly};
 ghost use Rattle.tb_line.specs.Lines.{said_by, said_of, said_with};
 ghost use Rattle.tb_line.specs.declared.verbs.Verb.TheVariants as verb;
 
 use crate::lines::{Line, LineFault};
 use crate::tree::desk;
 use crate::values::{
-    attribute_in, base_in, context_in, copied, event_in, number_if_any, number_in, port_in,
-    requests_in, strategy_in, value,
+    attribute_in, base_in, batch_if_any, batch_in, context_in, copied, event_in, number_if_any,
+    number_in, port_in, requests_in, strategy_in, value,
 };
 use crate::verbs::{Verb, verb_of};
 use clap::ArgMatches;
@@ -48,7 +48,7 @@ fn import(alloc: Global, matches: &ArgMatches<'_>) -> Result<Line, LineFault>
     let Some(user) = value(matches, "user") else {
         return Err(LineFault::Usage);
     };
-    let Some(name) = value(matches, "name") else {
+    let Some(name) = batch_in(matches, "name") else {
         return Err(LineFault::Usage);
     };
     let user = String::from_str(alloc, user)?;
@@ -64,7 +64,7 @@ fn event(alloc: Global, matches: &ArgMatches<'_>) -> Result<Line, LineFault>
     let Some(user) = value(matches, "user") else {
         return Err(LineFault::Usage);
     };
-    let Some(name) = value(matches, "name") else {
+    let Some(name) = batch_in(matches, "name") else {
         return Err(LineFault::Usage);
     };
     let Some(event) = event_in(matches, "event") else {
@@ -147,8 +147,11 @@ fn export(alloc: Global, matches: &ArgMatches<'_>) -> Result<Line, LineFault>
     ensures ok { IfOk result (λ line. said_with verb.Export (rows_of (found_of matches.now)) ≡ Some (said_by line)) }
     ensures err { IfErr result (λ e. ComesOnly e ⊥ (said_with verb.Export (rows_of (found_of matches.now)) ≡ None)) }
 {
+    let Some(name) = batch_if_any(matches, "name") else {
+        return Err(LineFault::Usage);
+    };
     let db = copied(alloc, value(matches, "db"))?;
-    let name = copied(alloc, value(matches, "name"))?;
+    let name = copied(alloc, name)?;
     Ok(Line::Export { db, name })
 }
 
@@ -263,6 +266,7 @@ fn entered<'a, 'm>(matches: &'m ArgMatches<'a>) -> Option<(&'a str, &'m ArgMatch
 fn parsed(alloc: Global, words: &[String]) -> Result<ArgMatches<'_>, LineFault>
     ensures ok { IfOk result (λ m. subcommand_rows_of m ≡ subcommand_of desk_app (map string_bytes words.now)) }
     ensures err { IfErr result (λ e. ComesOnly e (takes desk_app (map string_bytes words.now) ≢ true) ⊥) }
+    ensures answers { AnswersAs (fault_of desk_app (map string_bytes words.now)) result }
 {
     match desk(alloc)?.try_get_matches_from(words) {
         Ok(matches) => Ok(matches),
@@ -278,21 +282,23 @@ fn parsed(alloc: Global, words: &[String]) -> Result<ArgMatches<'_>, LineFault>
 impl Line {
     ghost use Rattle.std.specs.Prelude.{◌≡◌, ◌≢◌, IfOk, IfErr, Some, None, true, map};
     ghost use Rattle.std.specs.String.{string_bytes};
-    ghost use Rattle.clap.specs.Words.{takes, subcommand_of};
+    ghost use Rattle.clap.specs.Words.{takes, fault_of, subcommand_of};
     ghost use Rattle.tb_line.specs.Tree.{desk_app};
-    ghost use Rattle.tb_line.specs.Fault.{ComesOnly};
+    ghost use Rattle.tb_line.specs.Fault.{AnswersAs, ComesOnly};
     ghost use Rattle.tb_line.specs.Lines.{said_by, said_of};
 
     /// What the words say, the program's name first.
     ///
     /// # Errors
     ///
-    /// clap's only where its definition does not take the words; `Usage` only where it does, and there is no command or a
-    /// value is not of its form; or want of memory.
+    /// clap's only where its definition does not take the words, and of a kind that the definition has for them; `Usage` only
+    /// where it does, and there is no command or a value is not of its form; or want of memory. So words that clap refuses are
+    /// never a line.
     pub fn read(alloc: Global, words: &[String]) -> Result<Line, LineFault>
         ensures ok { IfOk result (λ line. said_of (subcommand_of desk_app (map string_bytes words.now)) ≡ Some (said_by line)) }
         ensures err { IfErr result (λ e. ComesOnly e (takes desk_app (map string_bytes words.now) ≢ true)
             (said_of (subcommand_of desk_app (map string_bytes words.now)) ≡ None)) }
+        ensures answers { AnswersAs (fault_of desk_app (map string_bytes words.now)) result }
     {
         let matches = parsed(alloc, words)?;
         match entered(&matches) {

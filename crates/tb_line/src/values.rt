@@ -1,10 +1,11 @@
 //! The values that clap found.
 
 ghost use Rattle.std.specs.Prelude.{◌≡◌, IfOk, option_map};
+ghost use Rattle.std.specs.List.{list_any};
 ghost use Rattle.std.specs.String.{string_bytes};
 ghost use Rattle.clap.specs.Words.{rows_of, found_of, first_of};
-ghost use Rattle.tb_http.specs.Forms.{number_of, base_of, context_of, event_of, strategy_of, attribute_of, port_of, requests_of};
-ghost use Rattle.tb_line.specs.Lines.{formed, maybe};
+ghost use Rattle.tb_http.specs.Forms.{is_slash, number_of, base_of, context_of, event_of, strategy_of, attribute_of, port_of, requests_of};
+ghost use Rattle.tb_line.specs.Lines.{batch_of, formed, maybe};
 
 use clap::ArgMatches;
 use std::alloc::{AllocError, Global};
@@ -27,6 +28,46 @@ pub fn value<'a>(matches: &ArgMatches<'a>, id: &str) -> Option<&'a str>
     ensures { option_map (λ s. s.now) result ≡ first_of id.now (rows_of (found_of matches.now)) }
 {
     matches.get_str(id)
+}
+
+/// Whether a text has a slash.
+fn has_slash(text: &[u8]) -> bool
+    ensures { result ≡ list_any is_slash text.now }
+{
+    text.iter().any(|b| *b == b'/')
+}
+
+/// A text as the name of a batch: it has a byte and no slash.
+fn batch(text: &str) -> Option<&str>
+    ensures { option_map (λ s. s.now) result ≡ batch_of text.now }
+{
+    if has_slash(text.as_bytes()) || text.is_empty() {
+        return None;
+    }
+    Some(text)
+}
+
+/// The value as the name of a batch.
+pub fn batch_in<'a>(matches: &ArgMatches<'a>, id: &str) -> Option<&'a str>
+    ensures { option_map (λ s. s.now) result ≡ formed batch_of (first_of id.now (rows_of (found_of matches.now))) }
+{
+    match value(matches, id) {
+        Some(text) => batch(text),
+        None => None,
+    }
+}
+
+/// The value as the name of a batch that may be absent.
+pub fn batch_if_any<'a>(matches: &ArgMatches<'a>, id: &str) -> Option<Option<&'a str>>
+    ensures { option_map (λ o. option_map (λ s. s.now) o) result ≡ maybe batch_of (first_of id.now (rows_of (found_of matches.now))) }
+{
+    match value(matches, id) {
+        None => Some(None),
+        Some(text) => match batch(text) {
+            Some(name) => Some(Some(name)),
+            None => None,
+        },
+    }
 }
 
 /// The value as a number that may be absent.

@@ -2,14 +2,14 @@
 
 ghost use Rattle.std.specs.Prelude.{◌≡◌, false, IfOk, IsTrue};
 
+use crate::looking::{PAGE_BYTES, beside, may_be_desk, may_become_desk, reply_of_system};
 use sqlite::{Connection, Error, ErrorCode, File, FileStore, Options};
 use sqlite_disk::{Disk, Files, Unknown};
 use sqlite_std_file::OpenError;
-use std::alloc::Global;
+use std::fs::OpenOptions;
 use std::hash::{BuildHasher, RandomState};
-use std::io::{ErrorKind, Read};
 use std::time::Duration;
-use std::{fs, thread};
+use std::{fs, io, thread};
 use tb_answers::reply_for_fault;
 use tb_core::Limits;
 use tb_http::Reply;
@@ -40,39 +40,51 @@ fn reply_of_error(error: Error) -> Reply {
 fn reply_of_path(error: OpenError) -> Reply {
     match error {
         OpenError::OutOfMemory => Reply::Memory,
-        OpenError::Io(error) if error.kind() == ErrorKind::OutOfMemory => Reply::Memory,
+        OpenError::Io(error) => reply_of_system(error),
         _ => Reply::Desk,
     }
 }
 
-/// What a database file begins with (the file format of SQLite, section 1.3).
-const HEADER: [u8; 16] = *b"SQLite format 3\0";
-
-/// Whether a log lies beside the file: a database that a crash left may have all that it holds there.
-fn has_log(rt: &HostRuntime, path: &str) -> Result<bool, Reply> {
-    let Ok(log) = format!(in rt.alloc(); "{path}-wal") else {
-        return Err(Reply::Memory);
-    };
-    Ok(fs::exists(rt, log.as_str()).unwrap_or(false))
+/// The log beside a file, as it is before the database takes it.
+#[derive(Drop)]
+struct Log {
+    path: String,
+    was_there: bool,
+    /// Once the file is locked: whether nothing was done in the log.
+    is_empty: bool,
 }
 
-fn begins_as_database(rt: &HostRuntime, path: &str) -> bool {
-    let Ok(mut file) = fs::File::open(rt, path) else {
-        return false;
-    };
-    let mut head = [0; 16];
-    file.read_exact(&mut head).is_ok() && head == HEADER
-}
+impl Log {
+    fn before(rt: &HostRuntime, path: &str) -> Result<Log, Reply> {
+        let path = match fs::canonicalize(rt, path) {
+            Ok(real) => beside(rt, real.as_str(), "-wal")?,
+            Err(_) => beside(rt, path, "-wal")?,
+        };
+        Ok(Log {
+            was_there: fs::exists(rt, path.as_str()).unwrap_or(true),
+            path,
+            is_empty: false,
+        })
+    }
 
-/// Whether a plain file is there that may be a database. To open one makes it where it is missing or empty, and leaves a log
-/// beside it where it is foreign; so such files are told apart before.
-fn may_be_database(rt: &HostRuntime, path: &str) -> Result<bool, Reply> {
-    match fs::metadata(rt, path) {
-        Ok(metadata) if !metadata.is_file() => Ok(false),
-        Ok(metadata) if metadata.len() == 0 => has_log(rt, path),
-        Ok(_) => Ok(begins_as_database(rt, path)),
-        Err(error) if error.kind() == ErrorKind::OutOfMemory => Err(Reply::Memory),
-        Err(_) => Ok(false),
+    /// Looks at the log again: the file is locked now, so nobody else writes it.
+    fn look(&mut self, rt: &HostRuntime) {
+        self.is_empty = match fs::metadata(rt, self.path.as_str()) {
+            Ok(found) => found.len() == 0,
+            Err(_) => false,
+        };
+    }
+
+    /// Takes back what opening a file that is no desk has put there. The file is still locked.
+    fn undo(&self, rt: &HostRuntime) -> io::Result<()> {
+        if !self.is_empty {
+            return Ok(());
+        }
+        if self.was_there {
+            let log = OpenOptions::new().write(true).open(rt, self.path.as_str())?;
+            return log.set_len(0);
+        }
+        fs::remove_file(rt, self.path.as_str())
     }
 }
 
@@ -80,9 +92,6 @@ fn may_be_database(rt: &HostRuntime, path: &str) -> Result<bool, Reply> {
 const ATTEMPTS: u32 = 100;
 
 const PAUSE: u64 = 20;
-
-/// How many bytes a page of a desk's file has.
-const PAGE_BYTES: u64 = 4096;
 
 /// How many pages of a file are kept in memory at most: 64 MiB of them.
 const MOST_PAGES: u64 = 16_384;
@@ -113,34 +122,46 @@ fn options(rt: &HostRuntime, path: &str, room: u64) -> Result<Options, Reply> {
     })
 }
 
-/// A connection over these files, in no transaction.
+/// A connection over these files, in no transaction. Where they are no database, the log is as it was.
 fn over<D: Disk + Drop>(
-    alloc: Global,
+    rt: &HostRuntime,
     files: Files<D>,
+    log: &Log,
     options: Options,
 ) -> Result<Connection<FileStore<D>>, Reply>
     requires log { IsTrue (D.Disk.is_usable files.log) }
     requires db { IsTrue (D.Disk.is_usable files.db) }
     ensures { IfOk result (λ c. c.in_transaction ≡ false) }
 {
-    match Connection::open_files(alloc, files, options) {
+    match Connection::open_files(rt.alloc(), files, options) {
         Ok(conn) => Ok(conn),
-        Err((error, _)) => Err(reply_of_error(error)),
+        Err((error, left)) => {
+            let reply = reply_of_error(error);
+            if is_no_desk(reply) {
+                let _ = log.undo(rt);
+            }
+            drop(left);
+            Err(reply)
+        }
     }
 }
 
-/// A connection to the file at this path, in no transaction, with room for so many pages more. Names that SQLite gives a meaning of
-/// its own are no files.
-fn connect(rt: &HostRuntime, path: &str, room: u64) -> Result<Connection<FileStore<File>>, Reply>
+/// A connection to the file at this path, in no transaction, with room for so many pages more.
+fn connect(
+    rt: &HostRuntime,
+    path: &str,
+    log: &mut Log,
+    room: u64,
+) -> Result<Connection<FileStore<File>>, Reply>
     ensures { IfOk result (λ c. c.in_transaction ≡ false) }
 {
-    if path == ":memory:" || path.starts_with("file:") {
-        return Err(Reply::Desk);
-    }
     let options = options(rt, path, room)?;
     for _ in 0..ATTEMPTS {
         match sqlite_std_file::open(rt, path, Unknown) {
-            Ok(files) => return over(rt.alloc(), files, options),
+            Ok(files) => {
+                log.look(rt);
+                return over(rt, files, log, options);
+            }
             Err(OpenError::Busy) => thread::sleep(rt, Duration::from_millis(PAUSE)),
             Err(error) => return Err(reply_of_path(error)),
         }
@@ -154,20 +175,34 @@ pub(crate) fn close(desk: FileDesk) {
     let _ = desk.into_connection().close();
 }
 
-/// The desk that was made of a connection, or why there is none; the file is closed then.
-fn made(made: Result<FileDesk, Unmade<FileStore<File>>>) -> Result<FileDesk, Reply> {
+fn is_no_desk(reply: Reply) -> bool {
+    matches!(reply, Reply::Desk)
+}
+
+/// The desk that was made of a connection, or why there is none. The file is closed then, and what is no desk is left as it was.
+fn made(
+    rt: &HostRuntime,
+    log: &Log,
+    made: Result<FileDesk, Unmade<FileStore<File>>>,
+) -> Result<FileDesk, Reply> {
     match made {
         Ok(desk) => Ok(desk),
         Err(Unmade { fault, conn }) => {
-            let _ = conn.close();
-            Err(reply_for_fault(fault))
+            let reply = reply_for_fault(fault);
+            if is_no_desk(reply) {
+                let _ = log.undo(rt);
+                drop(conn);
+            } else {
+                let _ = conn.close();
+            }
+            Err(reply)
         }
     }
 }
 
 /// Tells a file that is no desk for what it begins with, and leaves it alone.
 pub(crate) fn look(rt: &HostRuntime, path: &str) -> Result<(), Reply> {
-    if may_be_database(rt, path)? {
+    if may_be_desk(rt, path, true)? {
         Ok(())
     } else {
         Err(Reply::Desk)
@@ -177,19 +212,27 @@ pub(crate) fn look(rt: &HostRuntime, path: &str) -> Result<(), Reply> {
 /// The desk of the file at this path, with room for so many pages more.
 pub(crate) fn open(rt: &HostRuntime, path: &str, room: u64) -> Result<FileDesk, Reply> {
     look(rt, path)?;
-    let conn = connect(rt, path, room)?;
-    made(Desk::adopt(rt.alloc(), conn, LIMITS))
+    let mut log = Log::before(rt, path)?;
+    let conn = connect(rt, path, &mut log, room)?;
+    made(rt, &log, Desk::adopt(rt.alloc(), conn, LIMITS))
 }
 
 /// Brings the desk of version 1 in the file at this path to version 2.
 pub(crate) fn migrate(rt: &HostRuntime, path: &str) -> Result<FileDesk, Reply> {
-    look(rt, path)?;
-    let conn = connect(rt, path, ROOM)?;
-    made(Desk::migrate(rt.alloc(), conn, LIMITS))
+    if !may_be_desk(rt, path, false)? {
+        return Err(Reply::Desk);
+    }
+    let mut log = Log::before(rt, path)?;
+    let conn = connect(rt, path, &mut log, ROOM)?;
+    made(rt, &log, Desk::migrate(rt.alloc(), conn, LIMITS))
 }
 
 /// Makes a desk in the file at this path, which is missing, empty or a blank database.
 pub(crate) fn make(rt: &HostRuntime, path: &str) -> Result<FileDesk, Reply> {
-    let conn = connect(rt, path, ROOM)?;
-    made(Desk::make(rt.alloc(), conn, LIMITS))
+    if !may_become_desk(rt, path)? {
+        return Err(Reply::Desk);
+    }
+    let mut log = Log::before(rt, path)?;
+    let conn = connect(rt, path, &mut log, ROOM)?;
+    made(rt, &log, Desk::make(rt.alloc(), conn, LIMITS))
 }

@@ -2,8 +2,11 @@
 #![tactic(auto)]
 
 mod files;
+mod looking;
 mod patience;
+mod place;
 mod serving;
+mod waiting;
 mod words;
 
 pub use words::run_words;

@@ -1,15 +1,26 @@
 //! How long a client may keep the desk to itself.
 
-use std::io::{self, ErrorKind, Read};
+use crate::place::Place;
+use std::io::{self, ErrorKind, Read, Write};
 use std::net::TcpStream;
 use std::time::{Duration, Instant};
 
+/// How many seconds the reads of a request may take together.
+pub(crate) const REQUEST: u64 = 10;
+
+/// How many seconds a client may take longer for an answer than its bytes need.
+const ANSWER: u64 = 3;
+
+/// How many bytes of an answer a client has to take in a millisecond.
+const RATE: u64 = 1_024;
+
 /// Reads a connection: each read has its own time, and all of them together have another, so that a client that sends a byte now
-/// and then is let go too.
+/// and then is let go too. Where a file was moved meanwhile, what came is told as a fault, so that nothing is done on it.
 #[derive(Drop)]
 pub(crate) struct Patient<'a> {
     rt: &'a HostRuntime,
     stream: &'a TcpStream,
+    place: Option<&'a Place>,
     since: Instant,
     each: Duration,
     whole: Duration,
@@ -20,12 +31,14 @@ impl<'a> Patient<'a> {
     pub(crate) fn new(
         rt: &'a HostRuntime,
         stream: &'a TcpStream,
+        place: Option<&'a Place>,
         each: u64,
         whole: u64,
     ) -> io::Result<Patient<'a>> {
         Ok(Patient {
             rt,
             stream,
+            place,
             since: Instant::now(rt)?,
             each: Duration::from_secs(each),
             whole: Duration::from_secs(whole),
@@ -45,6 +58,78 @@ impl Read for Patient<'_> {
     fn read(&mut self, buf: &mut [u8]) -> io::Result<usize> {
         self.stream.set_read_timeout(Some(self.left()?))?;
         let mut stream = self.stream;
-        stream.read(buf)
+        let count = stream.read(buf)?;
+        if has_changed(self.rt, self.place) {
+            return Err(io::Error::from(ErrorKind::StaleNetworkFileHandle));
+        }
+        Ok(count)
+    }
+}
+
+/// Whether the files of a desk are no longer where they were. A desk in memory has none.
+pub(crate) fn has_changed(rt: &HostRuntime, place: Option<&Place>) -> bool {
+    match place {
+        Some(place) => place.has_changed(rt),
+        None => false,
+    }
+}
+
+/// Writes an answer. A client that takes nothing for some seconds, or less than a mebibyte in a second, is let go. Only the time that
+/// the client takes counts. After a write that failed none is tried.
+#[derive(Drop)]
+pub(crate) struct Answer<'a> {
+    rt: &'a HostRuntime,
+    stream: &'a TcpStream,
+    left: Duration,
+}
+
+impl<'a> Answer<'a> {
+    pub(crate) fn new(rt: &'a HostRuntime, stream: &'a TcpStream) -> Answer<'a> {
+        Answer {
+            rt,
+            stream,
+            left: Duration::from_secs(ANSWER),
+        }
+    }
+
+    /// Has the next write take no longer than what is left, from now on.
+    fn begin(&self) -> io::Result<Instant> {
+        if self.left.is_zero() {
+            return Err(io::Error::from(ErrorKind::TimedOut));
+        }
+        self.stream.set_write_timeout(Some(self.left))?;
+        Instant::now(self.rt)
+    }
+
+    /// So many bytes were taken since.
+    fn note(&mut self, since: Instant, count: usize) {
+        let took = since.elapsed(self.rt).unwrap_or(Duration::ZERO);
+        let earned = Duration::from_millis(count as u64 / RATE);
+        self.left = self
+            .left
+            .saturating_sub(took)
+            .saturating_add(earned)
+            .min(Duration::from_secs(ANSWER));
+    }
+}
+
+impl Write for Answer<'_> {
+    fn write(&mut self, buf: &[u8]) -> io::Result<usize> {
+        let since = self.begin()?;
+        let mut stream = self.stream;
+        match stream.write(buf) {
+            Ok(count) => {
+                self.note(since, count);
+                Ok(count)
+            }
+            Err(error) => {
+                self.left = Duration::ZERO;
+                Err(error)
+            }
+        }
+    }
+
+    fn flush(&mut self) -> io::Result<()> {
+        Ok(())
     }
 }

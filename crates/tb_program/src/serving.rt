@@ -1,34 +1,29 @@
 //! The desk over HTTP on loopback: one connection after another, and on each one request.
 
-use crate::patience::Patient;
+use crate::patience::{Answer, Patient, REQUEST, has_changed};
+use crate::place::Place;
+use crate::waiting::Waiting;
 use sqlite::Alter;
 use std::alloc::Global;
 use std::io::{self, BufWriter, Read, Write};
 use std::net::{Ipv4Addr, Shutdown, TcpListener, TcpStream};
-use std::time::Duration;
-use tb_answers::{answer, put_reply, respond_reply};
-use tb_http::{BODY_BYTES, Reply, Routes, Status};
+use tb_answers::{Broken, answer, put_reply, respond_reply};
+use tb_http::{BODY_BYTES, Reply, Routes};
 use tb_store::Desk;
 
-/// How many seconds one read or write of a connection may take, so that a silent client does not keep others from the desk.
-const PATIENCE: u64 = 10;
-
-/// How many seconds a request may take to come whole.
-const WHOLE_REQUEST: u64 = 30;
-
-/// How many seconds a client that is refused may take to see it, between two pieces that it still sends, and in all.
+/// How many seconds a client may take to see its answer, between two pieces that it still sends, and in all.
 const FAREWELL: u64 = 1;
 
-const WHOLE_FAREWELL: u64 = 5;
+const WHOLE_FAREWELL: u64 = 2;
 
 const BUFFER: usize = 65_536;
 
-/// Takes what a client still sends that was refused before its request was read whole: were the connection closed at once,
-/// what is on its way would have the system take the answer back.
-fn part(rt: &HostRuntime, stream: &TcpStream) -> io::Result<()> {
+/// Takes what a client still sends after its answer: were the connection closed at once, what is on its way would have the system
+/// take the answer back.
+fn part<'a>(rt: &'a HostRuntime, stream: &'a TcpStream) -> io::Result<()> {
     stream.shutdown(Shutdown::Write)?;
     let mut rest = [0; 4096];
-    let patient = Patient::new(rt, stream, FAREWELL, WHOLE_FAREWELL)?;
+    let patient = Patient::new(rt, stream, None, FAREWELL, WHOLE_FAREWELL)?;
     let mut reader = patient.take(BODY_BYTES as u64 * 2);
     for _ in 0..u64::MAX {
         if reader.read(&mut rest)? == 0 {
@@ -38,30 +33,35 @@ fn part(rt: &HostRuntime, stream: &TcpStream) -> io::Result<()> {
     Ok(())
 }
 
-/// Tells a client that its request cannot be read for want of memory, which takes none.
-fn refuse(rt: &HostRuntime, stream: &TcpStream) -> io::Result<()> {
-    let mut out = stream;
-    let _ = respond_reply(&mut out, Reply::Memory);
+/// Tells a client that its request is not done, which takes no memory.
+fn refuse<'a>(rt: &'a HostRuntime, stream: &'a TcpStream, reply: Reply) -> io::Result<()> {
+    let mut out = Answer::new(rt, stream);
+    let _ = respond_reply(&mut out, reply);
     part(rt, stream)
 }
 
-/// Reads one request of a connection and answers it. A connection that breaks has been served.
-fn serve_one<S: Alter>(
-    rt: &HostRuntime,
+/// Reads one request of a connection and answers it. A connection that breaks has been served. Where the desk's files are no longer
+/// where they were, nothing is done.
+fn serve_one<'a, S: Alter>(
+    rt: &'a HostRuntime,
     routes: &Routes,
     desk: &mut Desk<S>,
-    stream: &TcpStream,
+    place: Option<&'a Place>,
+    stream: &'a TcpStream,
 ) -> io::Result<()> {
-    stream.set_write_timeout(Some(Duration::from_secs(PATIENCE)))?;
-    let mut reader = Patient::new(rt, stream, PATIENCE, WHOLE_REQUEST)?;
-    let Ok(mut out) = BufWriter::with_capacity(rt.alloc(), BUFFER, stream) else {
-        return refuse(rt, stream);
+    if has_changed(rt, place) {
+        return refuse(rt, stream, Reply::Device);
+    }
+    let mut reader = Patient::new(rt, stream, place, REQUEST, REQUEST)?;
+    let Ok(mut out) = BufWriter::with_capacity(rt.alloc(), BUFFER, Answer::new(rt, stream)) else {
+        return refuse(rt, stream, Reply::Memory);
     };
     let answered = answer(rt.alloc(), routes, desk, &mut reader, &mut out);
     out.flush()?;
     match answered {
-        Ok(Status::Ok) | Err(_) => Ok(()),
         Ok(_) => part(rt, stream),
+        Err(Broken::Read) if has_changed(rt, place) => refuse(rt, stream, Reply::Device),
+        Err(_) => Ok(()),
     }
 }
 
@@ -86,6 +86,7 @@ fn listen(rt: &HostRuntime, port: u16) -> Result<TcpListener, Reply> {
 fn serve_all<S: Alter, W: Write>(
     rt: &HostRuntime,
     desk: &mut Desk<S>,
+    place: Option<&Place>,
     port: u16,
     requests: u64,
     out: &mut W,
@@ -98,25 +99,32 @@ fn serve_all<S: Alter, W: Write>(
         return Err(Reply::Device);
     };
     announce(rt.alloc(), address.port(), out)?;
+    let mut waiting = Waiting::new(rt.alloc());
     for _ in 0..requests {
-        let Ok((stream, _)) = listener.accept() else {
+        let Ok(next) = waiting.next(rt, &listener) else {
             return Err(Reply::Device);
         };
-        let _ = serve_one(rt, &routes, desk, &stream);
+        if let Some(stream) = next {
+            let _ = serve_one(rt, &routes, desk, place, &stream);
+        }
+        if has_changed(rt, place) {
+            return Err(Reply::Device);
+        }
     }
     Ok(())
 }
 
 /// Serves so many connections on this port of loopback, or on one that the system chooses where it is 0, and gives the exit
-/// status.
+/// status. It ends where the desk's files are no longer where they were.
 pub(crate) fn serve<S: Alter, W: Write>(
     rt: &HostRuntime,
     desk: &mut Desk<S>,
+    place: Option<&Place>,
     port: u16,
     requests: u64,
     out: &mut W,
 ) -> u8 {
-    match serve_all(rt, desk, port, requests, out) {
+    match serve_all(rt, desk, place, port, requests, out) {
         Ok(()) => 0,
         Err(reply) => put_reply(out, reply),
     }

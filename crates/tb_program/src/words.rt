@@ -1,17 +1,18 @@
 //! The words of a command line.
 
 ghost use Rattle.std.specs.Prelude.{◌≡◌, map, string_bytes, true};
-ghost use Rattle.tb_desk.specs.Check.{Answers, IsReplyToRead};
+ghost use Rattle.tb_desk.specs.Check.{Answers, IsReplyToRead, file_limit};
 ghost use Rattle.tb_desk.specs.Words.{asks_check};
 ghost use Rattle.tb_conllu.specs.declared.fault.WriteFault.{WriteFault};
 
 use crate::files::{self, FileDesk};
+use crate::place::Place;
 use crate::serving::serve;
 use std::alloc::Global;
-use std::io::{Read, Write};
+use std::io::Write;
 use tb_answers::{put_reply, read_body, run_line, run_line_from};
-use tb_conllu::Sink;
-use tb_desk::{FILE_LIMIT, is_check, run_check};
+use tb_conllu::{Sink, Source};
+use tb_desk::{is_check, run_check};
 use tb_http::Reply;
 use tb_line::{Line, LineFault};
 use tb_store::Desk;
@@ -70,6 +71,7 @@ fn put_opened<W: Sink>(opened: Result<FileDesk, Reply>, line: &str, out: &mut W)
 /// Does a line on the desk of a file, with its body.
 fn run_on_desk<W: Write>(
     rt: &HostRuntime,
+    path: &str,
     line: &Line,
     body: Result<Vec<u8>, Reply>,
     desk: &mut FileDesk,
@@ -80,14 +82,17 @@ fn run_on_desk<W: Write>(
             db: _,
             port,
             requests,
-        } => serve(rt, desk, *port, *requests, out),
+        } => match Place::new(rt, path) {
+            Ok(place) => serve(rt, desk, Some(&place), *port, *requests, out),
+            Err(reply) => put_reply(out, reply),
+        },
         _ => run_line(rt.alloc(), line, body, desk, out),
     }
 }
 
 /// The body is read before the file is opened, and so before others are kept from it: in `show | correct` on one file each
 /// command then has its turn. A fault of the file is told before one of the body all the same.
-fn run_on_file<R: Read, W: Write>(
+fn run_on_file<R: Source, W: Write>(
     rt: &HostRuntime,
     path: &str,
     line: &Line,
@@ -100,7 +105,7 @@ fn run_on_file<R: Read, W: Write>(
     let body = read_body(rt.alloc(), line, reader);
     match files::open(rt, path, room_of(line)) {
         Ok(mut desk) => {
-            let status = run_on_desk(rt, line, body, &mut desk, out);
+            let status = run_on_desk(rt, path, line, body, &mut desk, out);
             files::close(desk);
             status
         }
@@ -109,7 +114,7 @@ fn run_on_file<R: Read, W: Write>(
 }
 
 /// Without a file the desk is in memory, for this run.
-fn run_in_memory<R: Read, W: Write>(
+fn run_in_memory<R: Source, W: Write>(
     rt: &HostRuntime,
     line: &Line,
     reader: &mut R,
@@ -121,14 +126,14 @@ fn run_in_memory<R: Read, W: Write>(
                 db: _,
                 port,
                 requests,
-            } => serve(rt, &mut desk, *port, *requests, out),
+            } => serve(rt, &mut desk, None, *port, *requests, out),
             _ => run_line_from(rt.alloc(), line, reader, &mut desk, out),
         },
         Err(_) => put_reply(out, Reply::Memory),
     }
 }
 
-fn run<R: Read, W: Write>(rt: &HostRuntime, line: &Line, reader: &mut R, out: &mut W) -> u8 {
+fn run<R: Source, W: Write>(rt: &HostRuntime, line: &Line, reader: &mut R, out: &mut W) -> u8 {
     match line {
         Line::New { db } => put_opened(files::make(rt, db.as_str()), "made\n", out),
         Line::Migrate { db } => put_opened(files::migrate(rt, db.as_str()), "migrated\n", out),
@@ -141,13 +146,15 @@ fn run<R: Read, W: Write>(rt: &HostRuntime, line: &Line, reader: &mut R, out: &m
 
 /// Does what the words ask, the program's name first, and gives the exit status: `check` checks what the reader gives, and
 /// other commands work on a desk in a file, or in memory for this run.
-pub fn run_words<R: Read, W: Write>(
+pub fn run_words<R: Source, W: Write>(
     rt: &HostRuntime,
     words: &[String],
     reader: &mut R,
     out: &mut W,
 ) -> u8
-    ensures check { asks_check (map string_bytes words.now) ≡ true → Answers (IsReplyToRead FILE_LIMIT (R.remaining reader.old)) (W.contents out.old) (W.contents out.new) (λ (_ : WriteFault). Unit {0}) result }
+    ensures check { asks_check (map string_bytes words.now) ≡ true
+        → Answers (IsReplyToRead (R.IsFailure reader.new) file_limit (R.left reader.old) (R.left reader.new))
+        (W.contents out.old) (W.contents out.new) (λ (_ : WriteFault). Unit {0}) result }
 {
     let alloc = rt.alloc();
     if is_check(words) {

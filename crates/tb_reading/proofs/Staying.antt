@@ -1,5 +1,5 @@
 -- Whatever a read answers, the records stay.
-use Rattle.std.proofs.Common.{◌≢◌, ◌⊎◌, ℕ, List, Result, Ok, Err, IfOk, IfErr, OnErr, IsTrue, inl, inr, sym, ap, subst, ◌∙◌}
+use Rattle.std.proofs.Common.{◌≡◌, ◌≢◌, ◌⊎◌, ℕ, List, Result, Ok, Err, IfOk, IfErr, OnErr, IsTrue, inl, inr, sym, ap, subst, ◌∙◌}
 use Rattle.sqlite.specs.Order.{Row}
 use Rattle.sqlite.specs.Listing.{understood}
 use Rattle.sqlite.specs.Clock.{timed}
@@ -14,6 +14,7 @@ use Rattle.sqlite.proofs.StateLemmas.{survives_weaker}
 use Rattle.tb_tables.specs.Layout.{desk_schema}
 use Rattle.tb_tables.specs.Records.{Tables, Stands}
 use Rattle.tb_tables.specs.Changes.{Holds}
+use Rattle.tb_reading.specs.Failing.{IsSettled}
 use Rattle.tb_reading.proofs.Shown.{shown_same}
 
 pub either_way : {T E X : Type 0} {P : T → Type 0} {Q : E → Type 0} (r : Result T E) → IfOk r P → IfErr r Q → ((x : T) → P x → X) → ((e : E) → Q e → X) → X
@@ -70,6 +71,43 @@ module _ {S : Type 0} (g : Ghosts S) where
   pub stopped_stays : (old new : Held S) (d : Tables) (e : Error) → Holds g old d → IsTrue (state g new).is_open → Fails (state g old) (state g new) ⊥ e ⊎ IsUnchanged (state g old) (state g new) → Holds g new d
   stopped_stays old new d e h opened (inl failed) = undone_holds old new d h opened failed.3
   stopped_stays old new d e h opened (inr same) = unchanged_holds old new d h same
+
+-- Whatever a read answers, the connection sees what it saw.
+module _ {S : Type 0} (g : Ghosts S) (old new : Held S) (opened : IsTrue (state g new).is_open) (settled : IsSettled g old) where
+  undone_sees : IsRolledBack (state g old) (state g new) → (state g new).now ≡ (state g old).now
+  undone_sees back = (back.undone opened).0 ∙ sym (settled (back.was_open opened))
+
+  not_run_sees : (sql : List ℕ) (params : Row) (e : Error) → IsNotRun (state g old) (state g new) sql params e → (state g new).now ≡ (state g old).now
+  unfolding IsNotRun
+  not_run_sees sql params e (inl refused) = refused.1.0.now_is
+  not_run_sees sql params e (inr failed) = undone_sees failed.3
+
+  pub stopped_sees : (e : Error) → Fails (state g old) (state g new) ⊥ e ⊎ IsUnchanged (state g old) (state g new) → (state g new).now ≡ (state g old).now
+  stopped_sees e (inl failed) = undone_sees failed.3
+  stopped_sees e (inr same) = same.0.now_is
+
+  module _ (sql : List ℕ) (params : Row) (plain : IsPlain (understood desk_schema sql)) (has : (state g old).now.schema ≡ desk_schema) where
+    pub failed_sees : (e : Error) → FailsToQuery sql params (state g old) (state g new) e → (state g new).now ≡ (state g old).now
+    unfolding FailsToQuery
+    failed_sees e (inl stopped) = not_run_sees sql params e stopped
+    failed_sees e (inr ran) =
+        let here = subst (λ s. IsPlain (understood s sql)) (sym has) plain in
+        let none = (subst IsPlain ran.1.is here).0 in
+        (subst (FailsToShow (state g old) (state g new) sql ran.0 (timed params ran.0.formats ran.1.now) e) none ran.2).3.0.now_is
+
+    pub answered_sees : {T : Type 0} (rows_of : T → List Row) (r : Result T Error) → IfOk r (λ x. Shown sql params (state g old) (state g new) (rows_of x))
+        → IfErr r (λ e. FailsToQuery sql params (state g old) (state g new) e) → (state g new).now ≡ (state g old).now
+    answered_sees rows_of (Ok x) shown failed = (shown_same sql params (state g old) (state g new) desk_schema (rows_of x) plain has shown).0.now_is
+    answered_sees rows_of (Err e) shown failed = failed_sees e failed
+
+pub refused_sees : {S : Type 0} (g : Ghosts S) (sql : List ℕ) (params : Row) (old new : Held S) {X : Type 0} (result : Result X Error) → IsPlain (understood desk_schema sql) → OnErr result (IsRefused g sql params old result new)
+    → OnErr result (HasCleanDisk (state g new) → IsTrue (state g new).is_open → (state g old).now.schema ≡ desk_schema → IsSettled g old → (state g new).now ≡ (state g old).now)
+refused_sees g sql params old new (Ok rows) plain h = tt
+refused_sees g sql params old new (Err e) plain refused = λ clean opened has settled. failed_sees g old new opened settled sql params plain has e (refused.err clean)
+
+-- it is settled still after a read that changed nothing
+pub still_settled : {S : Type 0} (g : Ghosts S) (old new : Held S) → IsSettled g old → IsUnchanged (state g old) (state g new) → IsSettled g new
+still_settled g old new settled same opened = same.0.now_is ∙ settled same.0.was_open ∙ sym same.0.committed_is
 
 -- On the tables of a desk a read commits nothing; on others its text may mean something else.
 pub lasts : (sql : List ℕ) (params : Row) (old new : State) → IsPlain (understood desk_schema sql) → Survives old new (CommitsShowing sql params old) → Survives old new (λ _. old.now.schema ≢ desk_schema)

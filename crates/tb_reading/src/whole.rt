@@ -7,7 +7,7 @@ ghost use Rattle.tb_tables.specs.Records.{Batch, Sentence, Revision, Move, Total
 ghost use Rattle.tb_tables.specs.Values.{batch_of, sentence_of, revision_of, move_of, total_of};
 ghost use Rattle.tb_reading.specs.Readable.{IsBatch, IsSentence, IsRevision, IsMove, IsTotal, ComesBefore};
 ghost use Rattle.tb_tables.specs.Failing.{IsStoreFault};
-ghost use Rattle.tb_reading.specs.Failing.{HasNoForm, IsReadFault};
+ghost use Rattle.tb_reading.specs.Failing.{HasNoForm, IsReadFault, IsUnchangedOnForm, SeesAsBefore};
 ghost use Rattle.tb_tables.specs.Leaving.{ChangesNothing, CommitsNothing, CommitsNothingOnDesk, FailsOnlyAs, KeepsRecords, Reads};
 
 use crate::error::ReadError;
@@ -19,6 +19,7 @@ use tb_tables::{BatchRow, MoveRow, RevisionRow, SentenceRow, TotalRow};
 fn batch_rows<S: Alter>(conn: &mut Connection<S>) -> Result<Vec<Row>, Error>
     ensures all { Reads S.Store conn.old conn.new result (λ rows trees. IsPermutation (map batch_view (trees 1)) rows.items) }
     ensures order { Reads S.Store conn.old conn.new result (λ rows trees. (xs : List Batch) → Shows batch_view (numbered batch_shown 1 xs) (trees 1) → rows.items ≡ numbered batch_shown 1 xs) }
+    ensures sees { SeesAsBefore S.Store conn.old conn.new }
     ensures fails { FailsOnlyAs IsStoreFault S.Store conn.old conn.new result }
     ensures same { ChangesNothing S.Store conn.old conn.new result }
     ensures mode { conn.old.in_transaction ≡ false → conn.new.in_transaction ≡ false }
@@ -39,6 +40,8 @@ pub fn batches<S: Alter>(
 ) -> Result<Vec<BatchRow>, ReadError>
     ensures ok { Reads S.Store conn.old conn.new result (λ v trees. Shows batch_view (numbered batch_shown 1 (map batch_of v.items)) (trees 1)) }
     ensures form { HasNoForm S.Store conn.old conn.new result (λ trees. (xs : List Batch) → All IsBatch xs → ¬ Shows batch_view (numbered batch_shown 1 xs) (trees 1)) }
+    ensures untouched { IsUnchangedOnForm S.Store conn.old conn.new result }
+    ensures sees { SeesAsBefore S.Store conn.old conn.new }
     ensures fails { FailsOnlyAs IsReadFault S.Store conn.old conn.new result }
     ensures same { ChangesNothing S.Store conn.old conn.new result }
     ensures mode { conn.old.in_transaction ≡ false → conn.new.in_transaction ≡ false }
@@ -53,6 +56,7 @@ pub fn batches<S: Alter>(
 fn sentence_rows<S: Alter>(conn: &mut Connection<S>) -> Result<Vec<Row>, Error>
     ensures all { Reads S.Store conn.old conn.new result (λ rows trees. IsPermutation (map sentence_view (trees 3)) rows.items) }
     ensures order { Reads S.Store conn.old conn.new result (λ rows trees. (xs : List Sentence) → Shows sentence_view (numbered sentence_shown 1 xs) (trees 3) → rows.items ≡ numbered sentence_shown 1 xs) }
+    ensures sees { SeesAsBefore S.Store conn.old conn.new }
     ensures fails { FailsOnlyAs IsStoreFault S.Store conn.old conn.new result }
     ensures same { ChangesNothing S.Store conn.old conn.new result }
     ensures mode { conn.old.in_transaction ≡ false → conn.new.in_transaction ≡ false }
@@ -73,6 +77,8 @@ pub fn sentences<S: Alter>(
 ) -> Result<Vec<SentenceRow>, ReadError>
     ensures ok { Reads S.Store conn.old conn.new result (λ v trees. Shows sentence_view (numbered sentence_shown 1 (map sentence_of v.items)) (trees 3)) }
     ensures form { HasNoForm S.Store conn.old conn.new result (λ trees. (xs : List Sentence) → All IsSentence xs → ¬ Shows sentence_view (numbered sentence_shown 1 xs) (trees 3)) }
+    ensures untouched { IsUnchangedOnForm S.Store conn.old conn.new result }
+    ensures sees { SeesAsBefore S.Store conn.old conn.new }
     ensures fails { FailsOnlyAs IsReadFault S.Store conn.old conn.new result }
     ensures same { ChangesNothing S.Store conn.old conn.new result }
     ensures mode { conn.old.in_transaction ≡ false → conn.new.in_transaction ≡ false }
@@ -87,6 +93,7 @@ pub fn sentences<S: Alter>(
 fn move_rows<S: Alter>(conn: &mut Connection<S>) -> Result<Vec<Row>, Error>
     ensures all { Reads S.Store conn.old conn.new result (λ rows trees. IsPermutation (map move_view (trees 7)) rows.items) }
     ensures order { Reads S.Store conn.old conn.new result (λ rows trees. (xs : List Move) → Shows move_view (numbered move_shown 1 xs) (trees 7) → rows.items ≡ numbered move_shown 1 xs) }
+    ensures sees { SeesAsBefore S.Store conn.old conn.new }
     ensures fails { FailsOnlyAs IsStoreFault S.Store conn.old conn.new result }
     ensures same { ChangesNothing S.Store conn.old conn.new result }
     ensures mode { conn.old.in_transaction ≡ false → conn.new.in_transaction ≡ false }
@@ -104,6 +111,8 @@ fn move_rows<S: Alter>(conn: &mut Connection<S>) -> Result<Vec<Row>, Error>
 pub fn moves<S: Alter>(alloc: Global, conn: &mut Connection<S>) -> Result<Vec<MoveRow>, ReadError>
     ensures ok { Reads S.Store conn.old conn.new result (λ v trees. Shows move_view (numbered move_shown 1 (map move_of v.items)) (trees 7)) }
     ensures form { HasNoForm S.Store conn.old conn.new result (λ trees. (xs : List Move) → All IsMove xs → ¬ Shows move_view (numbered move_shown 1 xs) (trees 7)) }
+    ensures untouched { IsUnchangedOnForm S.Store conn.old conn.new result }
+    ensures sees { SeesAsBefore S.Store conn.old conn.new }
     ensures fails { FailsOnlyAs IsReadFault S.Store conn.old conn.new result }
     ensures same { ChangesNothing S.Store conn.old conn.new result }
     ensures mode { conn.old.in_transaction ≡ false → conn.new.in_transaction ≡ false }
@@ -118,6 +127,7 @@ pub fn moves<S: Alter>(alloc: Global, conn: &mut Connection<S>) -> Result<Vec<Mo
 fn total_rows<S: Alter>(conn: &mut Connection<S>) -> Result<Vec<Row>, Error>
     ensures all { Reads S.Store conn.old conn.new result (λ rows trees. IsPermutation (map total_view (trees 8)) rows.items) }
     ensures order { Reads S.Store conn.old conn.new result (λ rows trees. (xs : List Total) → Shows total_view (numbered total_shown 1 xs) (trees 8) → rows.items ≡ numbered total_shown 1 xs) }
+    ensures sees { SeesAsBefore S.Store conn.old conn.new }
     ensures fails { FailsOnlyAs IsStoreFault S.Store conn.old conn.new result }
     ensures same { ChangesNothing S.Store conn.old conn.new result }
     ensures mode { conn.old.in_transaction ≡ false → conn.new.in_transaction ≡ false }
@@ -135,6 +145,8 @@ fn total_rows<S: Alter>(conn: &mut Connection<S>) -> Result<Vec<Row>, Error>
 pub fn totals<S: Alter>(alloc: Global, conn: &mut Connection<S>) -> Result<Vec<TotalRow>, ReadError>
     ensures ok { Reads S.Store conn.old conn.new result (λ v trees. Shows total_view (numbered total_shown 1 (map total_of v.items)) (trees 8)) }
     ensures form { HasNoForm S.Store conn.old conn.new result (λ trees. (xs : List Total) → All IsTotal xs → ¬ Shows total_view (numbered total_shown 1 xs) (trees 8)) }
+    ensures untouched { IsUnchangedOnForm S.Store conn.old conn.new result }
+    ensures sees { SeesAsBefore S.Store conn.old conn.new }
     ensures fails { FailsOnlyAs IsReadFault S.Store conn.old conn.new result }
     ensures same { ChangesNothing S.Store conn.old conn.new result }
     ensures mode { conn.old.in_transaction ≡ false → conn.new.in_transaction ≡ false }
@@ -155,6 +167,8 @@ pub fn revisions<S: Alter>(
     ensures ok { Reads S.Store conn.old conn.new result (λ v trees. Shows revision_view (map revision_shown (map revision_of v.items)) (trees 5)) }
     ensures order { Reads S.Store conn.old conn.new result (λ v trees. (xs : List Revision) → All IsRevision xs → IsAscending ComesBefore xs → Shows revision_view (map revision_shown xs) (trees 5) → map revision_of v.items ≡ xs) }
     ensures form { HasNoForm S.Store conn.old conn.new result (λ trees. (xs : List Revision) → All IsRevision xs → IsAscending ComesBefore xs → ¬ Shows revision_view (map revision_shown xs) (trees 5)) }
+    ensures untouched { IsUnchangedOnForm S.Store conn.old conn.new result }
+    ensures sees { SeesAsBefore S.Store conn.old conn.new }
     ensures fails { FailsOnlyAs IsReadFault S.Store conn.old conn.new result }
     ensures same { ChangesNothing S.Store conn.old conn.new result }
     ensures mode { conn.old.in_transaction ≡ false → conn.new.in_transaction ≡ false }
@@ -179,6 +193,7 @@ pub fn revisions<S: Alter>(
 fn number_rows<S: Alter>(conn: &mut Connection<S>) -> Result<Vec<Row>, Error>
     ensures all { Reads S.Store conn.old conn.new result (λ rows trees. IsPermutation (map number_view (trees 9)) rows.items) }
     ensures order { Reads S.Store conn.old conn.new result (λ rows trees. (xs : List ℕ) → IsAscending (λ a b. a < b) xs → Shows number_view (map number_shown xs) (trees 9) → rows.items ≡ map number_shown xs) }
+    ensures sees { SeesAsBefore S.Store conn.old conn.new }
     ensures fails { FailsOnlyAs IsStoreFault S.Store conn.old conn.new result }
     ensures same { ChangesNothing S.Store conn.old conn.new result }
     ensures mode { conn.old.in_transaction ≡ false → conn.new.in_transaction ≡ false }
@@ -194,6 +209,8 @@ pub fn pulled<S: Alter>(alloc: Global, conn: &mut Connection<S>) -> Result<Vec<u
     ensures ok { Reads S.Store conn.old conn.new result (λ v trees. Shows number_view (map number_shown v.items) (trees 9)) }
     ensures order { Reads S.Store conn.old conn.new result (λ v trees. (xs : List ℕ) → IsAscending (λ a b. a < b) xs → Shows number_view (map number_shown xs) (trees 9) → v.items ≡ xs) }
     ensures form { HasNoForm S.Store conn.old conn.new result (λ trees. (xs : List ℕ) → All (λ n. n < 2 ^ 32) xs → IsAscending (λ a b. a < b) xs → ¬ Shows number_view (map number_shown xs) (trees 9)) }
+    ensures untouched { IsUnchangedOnForm S.Store conn.old conn.new result }
+    ensures sees { SeesAsBefore S.Store conn.old conn.new }
     ensures fails { FailsOnlyAs IsReadFault S.Store conn.old conn.new result }
     ensures same { ChangesNothing S.Store conn.old conn.new result }
     ensures mode { conn.old.in_transaction ≡ false → conn.new.in_transaction ≡ false }
@@ -208,6 +225,7 @@ pub fn pulled<S: Alter>(alloc: Global, conn: &mut Connection<S>) -> Result<Vec<u
 fn version_rows<S: Alter>(conn: &mut Connection<S>) -> Result<Vec<Row>, Error>
     ensures all { Reads S.Store conn.old conn.new result (λ rows trees. IsPermutation (map meta_view (trees 0)) rows.items) }
     ensures order { Reads S.Store conn.old conn.new result (λ rows trees. (xs : List ℕ) → IsAscending (λ a b. a < b) xs → Shows meta_view (map number_shown xs) (trees 0) → rows.items ≡ map number_shown xs) }
+    ensures sees { SeesAsBefore S.Store conn.old conn.new }
     ensures fails { FailsOnlyAs IsStoreFault S.Store conn.old conn.new result }
     ensures same { ChangesNothing S.Store conn.old conn.new result }
     ensures mode { conn.old.in_transaction ≡ false → conn.new.in_transaction ≡ false }
@@ -223,6 +241,8 @@ pub fn versions<S: Alter>(alloc: Global, conn: &mut Connection<S>) -> Result<Vec
     ensures ok { Reads S.Store conn.old conn.new result (λ v trees. Shows meta_view (map number_shown v.items) (trees 0)) }
     ensures order { Reads S.Store conn.old conn.new result (λ v trees. (xs : List ℕ) → IsAscending (λ a b. a < b) xs → Shows meta_view (map number_shown xs) (trees 0) → v.items ≡ xs) }
     ensures form { HasNoForm S.Store conn.old conn.new result (λ trees. (xs : List ℕ) → All (λ n. n < 2 ^ 32) xs → IsAscending (λ a b. a < b) xs → ¬ Shows meta_view (map number_shown xs) (trees 0)) }
+    ensures untouched { IsUnchangedOnForm S.Store conn.old conn.new result }
+    ensures sees { SeesAsBefore S.Store conn.old conn.new }
     ensures fails { FailsOnlyAs IsReadFault S.Store conn.old conn.new result }
     ensures same { ChangesNothing S.Store conn.old conn.new result }
     ensures mode { conn.old.in_transaction ≡ false → conn.new.in_transaction ≡ false }

@@ -8,3 +8,4 @@ mod ExactImport
 mod Ends
 mod Loops
 mod Summed
+mod Accepting

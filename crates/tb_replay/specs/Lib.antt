@@ -4,3 +4,4 @@ pub mod Fine
 pub mod Slots
 pub mod Playing
 pub mod Sums
+pub mod Commanded

@@ -8,7 +8,10 @@ mod replaying;
 mod rows;
 mod totals;
 
-pub use laws::{reached_states_are_fine, replay_is_exact};
+pub use laws::{
+    acts_are_accepted_commands, commands_do_acts, commands_lead_to_reached_states,
+    reached_states_are_fine, replay_is_exact,
+};
 pub use replaying::replays;
 pub use rows::{BatchRow, Entry, Revision};
 pub use totals::totals_of;

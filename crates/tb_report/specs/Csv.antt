@@ -72,3 +72,9 @@ IsBetweenRows w = (writer_setup w ≡ default_writer) × (fields_written w ≡ 0
 -- these rows were written, and no further row is begun
 abbrev pub PutsRows : {W : Type 0} → (W → Option (List ℕ)) → Writer W → Writer W → List (List (List ℕ)) → Type 0
 PutsRows contents old new rows = IsBetweenRows old → IsBetweenRows new × Appends (text_written contents old) (text_written contents new) (csv_of rows)
+
+-- ---- the sink of a whole table
+
+-- the sink refused a piece, and says why
+abbrev pub IsRefused : {S Refusal : Type 0} → (S → Refusal → Type 0) → S → Type 0
+IsRefused {S} {Refusal} is_refusal sink = (refusal : Refusal) × is_refusal sink refusal

@@ -1,12 +1,12 @@
 //! Frequency tables, totals and moves as CSV.
 
-ghost use Rattle.std.specs.Prelude.{◌≡◌, [], ◌∷◌, IfErr, IfOk, List, OnErr, OnOk, Some, map};
+ghost use Rattle.std.specs.Prelude.{◌≡◌, [], ◌∷◌, Err, IfErr, IfOk, List, OnErr, OnOk, Some, map};
 ghost use Rattle.std.specs.Io.KnownBytes.{Appends, Keeps};
 ghost use Rattle.csv.specs.Writing.{text_written};
 ghost use Rattle.tb_conllu.specs.Sunk.{AppendsPart};
 ghost use Rattle.tb_core.specs.Events.{state_place};
 ghost use Rattle.tb_core.specs.Words.{kind_word, state_word};
-ghost use Rattle.tb_report.specs.Csv.{IsBetweenRows, PutsRows, freq_csv, freq_fields, from_word, move_fields, moves_csv, moves_head, totals_csv, totals_fields};
+ghost use Rattle.tb_report.specs.Csv.{IsBetweenRows, IsRefused, PutsRows, freq_csv, freq_fields, from_word, move_fields, moves_csv, moves_head, totals_csv, totals_fields};
 ghost use Rattle.tb_report.specs.Kept.{ranked_row};
 ghost use Rattle.tb_report.specs.Tables.{IsRankingOf, Row};
 
@@ -232,10 +232,11 @@ fn moves_text(alloc: Global, moves: &[Move]) -> Result<Vec<u8>, ReportFault>
 }
 
 /// Appends a text that was made.
-fn put_text<W: Write>(text: &[u8], out: &mut W) -> Result<(), ReportFault>
-    ensures written { OnOk result (Appends (W.contents out.old) (W.contents out.new) text.now) }
-    ensures part { OnErr result (AppendsPart (W.contents out.old) (W.contents out.new) text.now) }
+fn put_text<S: Sink>(text: &[u8], out: &mut S) -> Result<(), ReportFault>
+    ensures written { OnOk result (Appends (S.held out.old) (S.held out.new) text.now) }
+    ensures part { OnErr result (AppendsPart (S.held out.old) (S.held out.new) text.now) }
     ensures fault { IfErr result (λ e. e ≡ ReportFault.Write) }
+    ensures refused { result ≡ Err ReportFault.Write → IsRefused S.IsRefusal out.new }
 {
     match out.put(text) {
         Ok(()) => Ok(()),
@@ -248,11 +249,13 @@ fn put_text<W: Write>(text: &[u8], out: &mut W) -> Result<(), ReportFault>
 ///
 /// # Errors
 ///
-/// No memory is left, and nothing was written; or the writer failed.
-pub fn csv_freq<W: Write>(freq: &Freq, out: &mut W) -> Result<(), ReportFault>
-    ensures written { OnOk result ((rows : List Row) × IsRankingOf freq.now rows × Appends (W.contents out.old) (W.contents out.new) (freq_csv rows)) }
+/// `Memory`: no memory is left, and nothing was put. `Write`: the sink refused the text, and may have taken some of it,
+/// from the front. Over a sink that never refuses, `Write` never comes.
+pub fn csv_freq<S: Sink>(freq: &Freq, out: &mut S) -> Result<(), ReportFault>
+    ensures written { OnOk result ((rows : List Row) × IsRankingOf freq.now rows × Appends (S.held out.old) (S.held out.new) (freq_csv rows)) }
     ensures memory { IfErr result (λ e. e ≡ ReportFault.Memory → out.new ≡ out.old) }
-    ensures part { OnErr result ((rows : List Row) → IsRankingOf freq.now rows → AppendsPart (W.contents out.old) (W.contents out.new) (freq_csv rows)) }
+    ensures refused { result ≡ Err ReportFault.Write → IsRefused S.IsRefusal out.new }
+    ensures part { OnErr result ((rows : List Row) → IsRankingOf freq.now rows → AppendsPart (S.held out.old) (S.held out.new) (freq_csv rows)) }
 {
     let Ok(text) = freq_text(freq) else {
         return Err(ReportFault::Memory);
@@ -264,11 +267,13 @@ pub fn csv_freq<W: Write>(freq: &Freq, out: &mut W) -> Result<(), ReportFault>
 ///
 /// # Errors
 ///
-/// No memory is left, and nothing was written; or the writer failed.
-pub fn csv_totals<W: Write>(alloc: Global, totals: &Totals, out: &mut W) -> Result<(), ReportFault>
-    ensures written { OnOk result (Appends (W.contents out.old) (W.contents out.new) (totals_csv totals.now)) }
+/// `Memory`: no memory is left, and nothing was put. `Write`: the sink refused the text, and may have taken some of it,
+/// from the front. Over a sink that never refuses, `Write` never comes.
+pub fn csv_totals<S: Sink>(alloc: Global, totals: &Totals, out: &mut S) -> Result<(), ReportFault>
+    ensures written { OnOk result (Appends (S.held out.old) (S.held out.new) (totals_csv totals.now)) }
     ensures memory { IfErr result (λ e. e ≡ ReportFault.Memory → out.new ≡ out.old) }
-    ensures part { OnErr result (AppendsPart (W.contents out.old) (W.contents out.new) (totals_csv totals.now)) }
+    ensures refused { result ≡ Err ReportFault.Write → IsRefused S.IsRefusal out.new }
+    ensures part { OnErr result (AppendsPart (S.held out.old) (S.held out.new) (totals_csv totals.now)) }
 {
     let Ok(text) = totals_text(alloc, totals) else {
         return Err(ReportFault::Memory);
@@ -281,11 +286,13 @@ pub fn csv_totals<W: Write>(alloc: Global, totals: &Totals, out: &mut W) -> Resu
 ///
 /// # Errors
 ///
-/// No memory is left, and nothing was written; or the writer failed.
-pub fn csv_moves<W: Write>(alloc: Global, moves: &[Move], out: &mut W) -> Result<(), ReportFault>
-    ensures written { OnOk result (Appends (W.contents out.old) (W.contents out.new) (moves_csv moves.now)) }
+/// `Memory`: no memory is left, and nothing was put. `Write`: the sink refused the text, and may have taken some of it,
+/// from the front. Over a sink that never refuses, `Write` never comes.
+pub fn csv_moves<S: Sink>(alloc: Global, moves: &[Move], out: &mut S) -> Result<(), ReportFault>
+    ensures written { OnOk result (Appends (S.held out.old) (S.held out.new) (moves_csv moves.now)) }
     ensures memory { IfErr result (λ e. e ≡ ReportFault.Memory → out.new ≡ out.old) }
-    ensures part { OnErr result (AppendsPart (W.contents out.old) (W.contents out.new) (moves_csv moves.now)) }
+    ensures refused { result ≡ Err ReportFault.Write → IsRefused S.IsRefusal out.new }
+    ensures part { OnErr result (AppendsPart (S.held out.old) (S.held out.new) (moves_csv moves.now)) }
 {
     let Ok(text) = moves_text(alloc, moves) else {
         return Err(ReportFault::Memory);

@@ -1,10 +1,13 @@
 -- The desk of a store that was read, and the connection without a step limit.
-use Rattle.std.proofs.Common.{◌≡◌}
+use Rattle.std.proofs.Common.{◌≡◌, subst}
 use Rattle.sqlite.specs.Store.{Ghosts}
 use Rattle.sqlite.specs.Held.{Held}
+use Rattle.sqlite_trees.specs.Tree.{Trees}
 use Rattle.tb_core.specs.declared.limits.Limits.{Limits}
 use Rattle.tb_core.specs.Machine.{Machine}
-use Rattle.tb_standing.specs.Standing.{IsDesk}
+use Rattle.tb_core.specs.Reaching.{IsReachable}
+use Rattle.tb_tables.specs.Records.{Stands}
+use Rattle.tb_standing.specs.Standing.{tables_of, IsDesk}
 use Rattle.tb_adopting.specs.declared.telling.Standing.{Standing}
 use Rattle.tb_adopting.specs.Told.{IsStanding}
 use Rattle.tb_store.specs.Kept.{Kept}
@@ -30,3 +33,8 @@ module _ {S : Type 0} (g : Ghosts S) where
 
   pub stands_over : (k : Kept S) (conn : Held S) (l : Limits) (x : Standing) → k ≡ record { conn = conn; limits = l; batches = x.batches; sentences = x.sentences; moves = x.moves; totals = x.totals } → (s : Machine) → IsDesk g conn s → IsStanding x s → StandsFor g k s
   stands_over k conn l x is s desk h = rw is (record { desk = desk; batches = h.batches; sentences = h.sentences; moves = h.moves; totals = h.totals })
+
+  -- the state for which it stands is the one of which the connection is the desk
+  pub stands_again : (c : Held S) (k : Kept S) → ((s t : Machine) (trees : Trees) → IsReachable s → IsReachable t → Stands (tables_of s) trees → Stands (tables_of t) trees → s ≡ t) → (s t : Machine) → IsDesk g c s → IsDesk g c t → StandsFor g k s
+      → StandsFor g k t
+  stands_again c k one s t a b stands = subst (StandsFor g k) (one s t _ a.reachable b.reachable a.holds.stands b.holds.stands) stands

@@ -4,3 +4,7 @@ pub mod SixTotals
 pub mod Standings
 pub mod Adopted
 pub mod Migrated
+pub mod Lasting
+pub mod Preparing
+pub mod Netted
+mod Reopened

@@ -1,12 +1,21 @@
 -- What the state of a desk answers.
-use Rattle.std.specs.Prelude.{◌≡◌, ◌⊎◌, ℕ, List, [], ◌∷◌, ⊤}
+use Rattle.std.specs.Prelude.{◌≡◌, ◌⊎◌, ◌+◌, ℕ, List, [], ◌∷◌, ⊤}
 use Rattle.tb_conllu.specs.Text.{text_of}
 use Rattle.tb_core.specs.declared.refusals.Refusal.TheVariants.{NoSuchSentence, NoSuchRevision}
 use Rattle.tb_core.specs.declared.refusals.Fault.{Fault}
 use Rattle.tb_core.specs.declared.refusals.Fault.TheVariants.{Refused}
+use Rattle.tb_core.specs.declared.kinds.State.{State}
+use Rattle.tb_core.specs.declared.sums.Totals.{Totals}
 use Rattle.tb_core.specs.Machine.{Machine, Sentence, Revision, rev}
+use Rattle.tb_core.specs.Moves.{MoveText}
+use Rattle.tb_core.specs.Totals.{at_state, sum_moves, out_of, into}
 use Rattle.tb_core.specs.Commands.{HasSentence}
 use Rattle.tb_recording.specs.Revisions.{HasRevision}
+
+-- These numbers are the net of the moves: what is in a state, with what left it, is what came into it.
+pub record AreNet (t : Totals) (moves : List MoveText) : Type 0 where
+  pub sentences : (st : State) → at_state t.sentences st + sum_moves (out_of st (λ m. m.sentences)) moves ≡ sum_moves (into st (λ m. m.sentences)) moves
+  pub words : (st : State) → at_state t.words st + sum_moves (out_of st (λ m. m.words_out)) moves ≡ sum_moves (into st (λ m. m.words_in)) moves
 
 -- the text of this revision of this sentence
 pub record IsTextOf (s : Machine) (sentence revision : ℕ) (text : List ℕ) : Type 0 where

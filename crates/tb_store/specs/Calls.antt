@@ -1,12 +1,12 @@
 -- What a call on a desk answers, and what it leaves of the desk, whatever it answers. What is said of tables is under a disk that
 -- kept what it took (`HasCleanDisk`).
-use Rattle.std.specs.Prelude.{◌≡◌, ◌≢◌, Result, Err, IfOk, IfErr, OnOk, IsTrue, None}
+use Rattle.std.specs.Prelude.{◌≡◌, ◌≢◌, Result, Ok, Err, IfOk, IfErr, OnOk, IsTrue}
 use Rattle.sqlite.specs.Store.{Ghosts}
 use Rattle.sqlite.specs.Held.{state}
 use Rattle.sqlite.specs.State.{HasCleanDisk, Survives}
 use Rattle.sqlite.specs.Tree.{Trees}
 use Rattle.tb_core.specs.declared.refusals.Fault.{Fault}
-use Rattle.tb_core.specs.declared.refusals.Fault.TheVariants.{NotADesk, Refused}
+use Rattle.tb_core.specs.declared.refusals.Fault.TheVariants.{Memory, NotADesk, Refused}
 use Rattle.tb_core.specs.declared.refusals.Refusal.{Refusal}
 use Rattle.tb_core.specs.Machine.{Machine}
 use Rattle.tb_core.specs.Commands.{Command, Answer, Reply, replied, refused}
@@ -24,17 +24,13 @@ Gives g old new result IsSo = HasCleanDisk (state g new.conn) → IfOk result (�
 abbrev pub GivesOnErr : {S X E : Type 0} → Ghosts S → Kept S → Kept S → Result X E → (Machine → E → Type 0) → Type 0
 GivesOnErr g old new result IsSo = HasCleanDisk (state g new.conn) → IfErr result (λ e. (s : Machine) → StandsFor g old s → IsSo s e)
 
--- a desk, where there is no limit on steps, is never told to be none
+-- a desk is never told to be none
 abbrev pub KnowsItself : {S X : Type 0} → Ghosts S → Kept S → Kept S → Result X Fault → Type 0
-KnowsItself g old new result = HasCleanDisk (state g new.conn) → (state g old.conn).step_limit ≡ None → (s : Machine) → StandsFor g old s → result ≢ Err NotADesk
+KnowsItself g old new result = HasCleanDisk (state g new.conn) → (s : Machine) → StandsFor g old s → result ≢ Err NotADesk
 
 -- while the store is open, the desk stands for the state for which it stood
 abbrev pub StandsAsBefore : {S : Type 0} → Ghosts S → Kept S → Kept S → Type 0
 StandsAsBefore g old new = HasCleanDisk (state g new.conn) → IsTrue (state g new.conn).is_open → (s : Machine) → StandsFor g old s → StandsFor g new s
-
--- the same after an error
-abbrev pub StandsAsBeforeOnErr : {S X E : Type 0} → Ghosts S → Kept S → Kept S → Result X E → Type 0
-StandsAsBeforeOnErr g old new result = HasCleanDisk (state g new.conn) → IsTrue (state g new.conn).is_open → IfErr result (λ _. (s : Machine) → StandsFor g old s → StandsFor g new s)
 
 -- a crash leaves what it could leave before
 abbrev pub WritesNothing : {S : Type 0} → Ghosts S → Kept S → Kept S → Type 0
@@ -48,14 +44,6 @@ InState g old new IsSo = HasCleanDisk (state g new.conn) → (s : Machine) → S
 abbrev pub Does : {S X E : Type 0} → Ghosts S → Kept S → Kept S → Result X E → (Machine → Type 0) → Type 0
 Does g old new result IsSo = HasCleanDisk (state g new.conn) → OnOk result ((s : Machine) → StandsFor g old s → IsSo s)
 
--- a command that succeeds has the machine's reply, and the desk then stands for the machine's next state
-abbrev pub IsDoneAs : {S X E : Type 0} → Ghosts S → Kept S → Kept S → Result X E → Command → (X → Reply) → Type 0
-IsDoneAs g old new result command reply = Gives g old new result (λ s x. (t : Machine) × Steps old.limits s command (replied (reply x)) t × StandsFor g new t)
-
--- a command is refused as the machine refuses it, and the desk then stands for the same state
-abbrev pub IsRefusedAs : {S X : Type 0} → Ghosts S → Kept S → Kept S → Result X Fault → Command → Type 0
-IsRefusedAs g old new result command = HasCleanDisk (state g new.conn) → IfErr result (λ e. (r : Refusal) → e ≡ Refused r → (s : Machine) → StandsFor g old s → Steps old.limits s command (refused r) s × StandsFor g new s)
-
 -- the tables of a state in which the command ends
 abbrev pub HoldsAnEnd : {S : Type 0} → Ghosts S → (old : Kept S) → Command → Trees → Type 0
 HoldsAnEnd g old command db = (s : Machine) → StandsFor g old s → (a : Answer) × (t : Machine) × Steps old.limits s command a t × Stands (tables_of t) db
@@ -63,3 +51,24 @@ HoldsAnEnd g old command db = (s : Machine) → StandsFor g old s → (a : Answe
 -- a crash leaves what it could leave before, or such tables, whole
 abbrev pub CrashesWhole : {S : Type 0} → Ghosts S → Kept S → Kept S → Command → Type 0
 CrashesWhole g old new command = Survives (state g old.conn) (state g new.conn) (HoldsAnEnd g old command)
+
+-- a crash at this moment leaves the tables of this state, whole, and nothing else
+abbrev pub LeavesOnly : {S : Type 0} → Ghosts S → Kept S → Machine → Type 0
+LeavesOnly g d s = (db : Trees) → (state g d.conn).may_leave db → Stands (tables_of s) db
+
+-- the desk stands for this state, and a crash at this moment leaves its tables
+abbrev pub IsDurable : {S : Type 0} → Ghosts S → Kept S → Machine → Type 0
+IsDurable g d s = StandsFor g d s × LeavesOnly g d s
+
+-- How a command ends in a state, by what it answers: with the machine's reply, in its next state; with the machine's refusal, or for want
+-- of memory, in the same state; after another fault in the same state, where the store is open. A desk is never told to be none.
+abbrev pub CommandEnds : {S X : Type 0} → Ghosts S → Kept S → Kept S → Command → (X → Reply) → Machine → Result X Fault → Type 0
+CommandEnds g old new command reply s (Ok x) = (t : Machine) × Steps old.limits s command (replied (reply x)) t × IsDurable g new t
+CommandEnds g old new command reply s (Err (Refused r)) = Steps old.limits s command (refused r) s × IsDurable g new s
+CommandEnds g old new command reply s (Err Memory) = IsDurable g new s
+CommandEnds g old new command reply s (Err NotADesk) = ⊥
+CommandEnds g old new command reply s (Err _) = IsTrue (state g new.conn).is_open → IsDurable g new s
+
+-- a command ends so in the state for which the desk stands
+abbrev pub EndsAs : {S X : Type 0} → Ghosts S → Kept S → Kept S → Result X Fault → Command → (X → Reply) → Type 0
+EndsAs g old new result command reply = HasCleanDisk (state g new.conn) → (s : Machine) → StandsFor g old s → CommandEnds g old new command reply s result

@@ -1,5 +1,5 @@
 -- What a desk keeps: its connection, its limits, and what it read or wrote last of counts and totals.
-use Rattle.std.specs.Prelude.{◌≡◌, ◌≤◌, ℕ, false, refl}
+use Rattle.std.specs.Prelude.{◌≡◌, ◌≤◌, ℕ, false, None, refl}
 use Rattle.std.specs.Coded.{Coded, code_by, coded×, coded_ℕ}
 use Rattle.sqlite.specs.Held.{Held, held_code}
 use Rattle.tb_core.specs.contracts.limits.Limits as limits
@@ -27,9 +27,11 @@ kept_code {S} store =
     (λ p. record { conn = p.0; limits = p.1.0; batches = p.1.1.0; sentences = p.1.1.1.0; moves = p.1.1.1.1.0; totals = p.1.1.1.1.1 })
     (λ _. refl)
 
--- what each call needs of a desk, whatever the store holds: it is in no transaction, and there is room for one more of each
+-- what each call needs of a desk, whatever the store holds: it is in no transaction, there is no limit on the steps of a statement, and
+-- there is room for one more of each
 pub record IsReady {S : Type 0} (d : Kept S) : Type 0 where
   pub autocommit : d.conn.in_transaction ≡ false
+  pub unlimited : d.conn.step_limit ≡ None
   pub limited : IsWithin d.limits
   pub batches : d.batches ≤ d.moves
   pub sentences : d.sentences ≤ 1000000

@@ -4,3 +4,4 @@ pub mod Answers
 pub mod Exports
 pub mod Found
 pub mod Calls
+pub mod Reopened

@@ -1,6 +1,6 @@
 ghost use Rattle.std.specs.Prelude.{◌≡◌, ◌≢◌, ◌↔◌, ◌⊎◌, ◌<◌, ◌≤◌, ℕ, List, length, false, None, Some, Err, string_bytes, IsTrue, IfOk, IfErr, IfSome};
 ghost use Rattle.std.specs.Io.KnownBytes.{Appends};
-ghost use Rattle.sqlite.specs.State.{HasCleanDisk, Survives};
+ghost use Rattle.sqlite.specs.State.{HasCleanDisk, IsUnchanged, Survives};
 ghost use Rattle.sqlite.specs.Held.{state};
 ghost use Rattle.sqlite.specs.Steps.{over_memory};
 ghost use Rattle.tb_tables.specs.Records.{Stands};
@@ -19,13 +19,14 @@ ghost use Rattle.tb_recording.specs.Counted.{IsWithin};
 ghost use Rattle.tb_standing.specs.Standing.{tables_of, IsDesk};
 ghost use Rattle.tb_store.specs.Kept.{Kept, counts_of, known_of};
 ghost use Rattle.tb_store.specs.Standing.{StandsFor, unlimited, no_totals};
-ghost use Rattle.tb_store.specs.Answers.{IsCurrent, IsTextOf, HasNoSentence, RefusesRevision};
+ghost use Rattle.tb_store.specs.Answers.{AreNet, IsCurrent, IsTextOf, HasNoSentence, RefusesRevision};
 ghost use Rattle.tb_store.specs.Exports.{IsBrokenOff, IsPartOfBatch, RefusesBatch};
 ghost use Rattle.tb_store.specs.Found.{AreReleasedHits, HasTooMany, IsNumber, IsPartFound};
-ghost use Rattle.tb_store.specs.Calls.{CrashesWhole, Does, Gives, GivesOnErr, IsDoneAs, IsRefusedAs, KnowsItself, StandsAsBefore, StandsAsBeforeOnErr, WritesNothing};
+ghost use Rattle.tb_store.specs.Calls.{CrashesWhole, Does, EndsAs, Gives, GivesOnErr, KnowsItself, LeavesOnly, StandsAsBefore, WritesNothing};
 ghost use Rattle.tb_tables.specs.Leaving.{CommitsNothing};
 
 use crate::answers::Current;
+use crate::wanting::certain;
 use crate::{asking, exporting, finding};
 use sqlite::{Alter, Connection, MemStore};
 use std::alloc::Global;
@@ -34,15 +35,18 @@ use tb_adopting::{Standing, read_desk};
 use tb_conllu::Sink;
 use tb_core::{
     Corrected, Event, Fault, Imported, Limits, Move, Moved, Pulled, Refusal, Restored, Totals,
+    totals_are_nets,
 };
 use tb_importing::Known;
 use tb_match::Strategy;
 use tb_query::{Attr, Query};
 use tb_recording::{Counts, faults};
 use tb_report::Freq;
+use tb_standing::one_state_for_the_file;
 
 /// A desk: the connection that holds its tables, its limits, and the counts and totals that it read or wrote last, so that the
-/// next numbers are known without asking the database. It may be let go at any time: what it answered to have done stands.
+/// next numbers are known without asking the database. It may be let go at any time: what it answered to have done stands, after a
+/// crash too.
 #[derive(Drop)]
 pub struct Desk<S: Alter> {
     conn: Connection<S>,
@@ -83,29 +87,31 @@ pub(crate) fn without_limit<S: Alter>(mut conn: Connection<S>) -> Connection<S>
 
 impl<S: Alter> Desk<S> {
     /// The desk of a blank database, in which it makes the tables of a desk without a batch, and whose step limit it takes off.
-    /// A database that is not blank is `NotADesk`, and is not touched. A fault gives the connection back, over a database that
-    /// is as blank as before where the store is still open; a crash on the way leaves it blank, or the whole tables.
+    /// A database that is not blank is `NotADesk`, and is not touched. A fault gives the connection back without its step limit,
+    /// over a database that is as blank as before where the store is still open; a crash on the way leaves it blank, or the whole
+    /// tables.
     pub fn make(alloc: Global, conn: Connection<S>, limits: Limits) -> Result<Desk<S>, Unmade<S>>
         requires autocommit { conn.in_transaction ≡ false }
         requires within { IsWithin limits }
         ensures made { IfOk result (λ d. HasCleanDisk (state S.Store d.conn) → IsBlank S.Store conn → StandsFor S.Store d empty_machine) }
         ensures limits { IfOk result (λ d. d.limits ≡ limits) }
         ensures no_step_limit { IfOk result (λ d. (state S.Store d.conn).step_limit ≡ None) }
+        ensures limit_off { IfErr result (λ u. (state S.Store u.conn).step_limit ≡ None) }
         ensures blank { IfOk result (λ _. (state S.Store conn).now.schema ≡ no_schema) }
         ensures used { IfErr result (λ u. (u.fault ≡ Fault.NotADesk) ↔ ((state S.Store conn).now.schema ≢ no_schema)) }
         ensures known { IfErr result (λ u. (u.fault ≡ Fault.NotADesk) ⊎ ((u.fault ≡ Fault.Memory) ⊎ (u.fault ≡ Fault.Device))) }
-        ensures untouched { IfErr result (λ u. u.fault ≡ Fault.NotADesk → u.conn ≡ conn) }
+        ensures untouched { IfErr result (λ u. u.fault ≡ Fault.NotADesk → u.conn ≡ unlimited conn) }
         ensures again { IfErr result (λ u. HasCleanDisk (state S.Store u.conn) → IsTrue (state S.Store u.conn).is_open → IsBlank S.Store conn → IsBlank S.Store u.conn) }
         ensures crash { IfOk result (λ d. Survives (state S.Store (unlimited conn)) (state S.Store d.conn) (λ db. IsBlank S.Store conn → Stands (tables_of empty_machine) db)) }
         ensures crash_on_the_way { IfErr result (λ u. u.fault ≢ Fault.NotADesk → Survives (state S.Store (unlimited conn)) (state S.Store u.conn) (λ db. IsBlank S.Store conn → Stands (tables_of empty_machine) db)) }
     {
+        let mut conn = without_limit(conn);
         if !tb_tables::is_blank(&conn) {
             return Err(Unmade {
                 fault: Fault::NotADesk,
                 conn,
             });
         }
-        let mut conn = without_limit(conn);
         match tb_tables::create(&mut conn) {
             Ok(()) => Ok(Desk::empty(alloc, conn, limits)),
             Err(error) => Err(Unmade {
@@ -118,6 +124,7 @@ impl<S: Alter> Desk<S> {
     /// The desk without a batch, over this connection.
     fn empty(alloc: Global, conn: Connection<S>, limits: Limits) -> Desk<S>
         requires autocommit { conn.in_transaction ≡ false }
+        requires unlimited { conn.step_limit ≡ None }
         requires within { IsWithin limits }
         ensures { result ≡ record { conn = conn; limits = limits; batches = 0; sentences = 0; moves = 0; totals = no_totals } }
     {
@@ -154,8 +161,8 @@ impl<S: Alter> Desk<S> {
 
 impl<S: Alter> Desk<S> {
     /// The desk of a store that is one, whose step limit it takes off: all its tables are read and tested, and nothing is
-    /// changed. The rows of all tables are in memory at a time, with the texts of all revisions. A fault gives the connection
-    /// back, over a store that is as it was.
+    /// changed, whatever the store is. The rows of all tables are in memory at a time, with the texts of all revisions. A fault
+    /// gives the connection back without its step limit, over a store that is as it was.
     ///
     /// # Errors
     ///
@@ -164,13 +171,23 @@ impl<S: Alter> Desk<S> {
         requires within { IsWithin limits }
         ensures adopted { IfOk result (λ d. HasCleanDisk (state S.Store d.conn) → (s : Machine) × IsDesk S.Store conn s × StandsFor S.Store d s) }
         ensures limits { IfOk result (λ d. d.limits ≡ limits) }
+        ensures stands { IfOk result (λ d. HasCleanDisk (state S.Store d.conn) → (s : Machine) → IsDesk S.Store conn s
+            → StandsFor S.Store d s) }
+        ensures same { IfOk result (λ d. HasCleanDisk (state S.Store d.conn)
+            → IsUnchanged (state S.Store (unlimited conn)) (state S.Store d.conn)) }
         ensures no_step_limit { IfOk result (λ d. (state S.Store d.conn).step_limit ≡ None) }
+        ensures limit_off { IfErr result (λ u. (state S.Store u.conn).step_limit ≡ None) }
         ensures unfit { IfErr result (λ u. HasCleanDisk (state S.Store u.conn) → u.fault ≡ Fault.NotADesk → (s : Machine) → IsDesk S.Store conn s → ⊥) }
+        ensures untouched { IfErr result (λ u. HasCleanDisk (state S.Store u.conn) → u.fault ≡ Fault.NotADesk
+            → (state S.Store u.conn).now ≡ (state S.Store conn).now) }
+        ensures unchanged { IfErr result (λ u. HasCleanDisk (state S.Store u.conn) → IsTrue (state S.Store u.conn).is_open
+            → (state S.Store u.conn).now ≡ (state S.Store conn).now) }
         ensures refused { IfErr result (λ u. (r : AnyRefusal) → u.fault ≢ Fault.Refused r) }
         ensures again { IfErr result (λ u. HasCleanDisk (state S.Store u.conn) → IsTrue (state S.Store u.conn).is_open → (s : Machine) → IsDesk S.Store conn s → IsDesk S.Store u.conn s) }
         ensures crash { IfOk result (λ d. Survives (state S.Store (unlimited conn)) (state S.Store d.conn) (λ _. ⊥)) }
         ensures crash_on_the_way { IfErr result (λ u. Survives (state S.Store (unlimited conn)) (state S.Store u.conn) (λ _. ⊥)) }
     {
+        one_state_for_the_file();
         let mut conn = without_limit(conn);
         match read_desk(alloc, &mut conn) {
             Ok(standing) => Ok(Desk::over(alloc, conn, limits, standing)),
@@ -186,6 +203,7 @@ impl<S: Alter> Desk<S> {
         standing: Standing,
     ) -> Desk<S>
         requires autocommit { conn.in_transaction ≡ false }
+        requires unlimited { conn.step_limit ≡ None }
         requires within { IsWithin limits }
         requires counts { (standing.batches ≤ standing.moves) × (standing.sentences ≤ 1000000) × (standing.moves ≤ 1000000000) }
         ensures { result ≡ record { conn = conn; limits = limits; batches = standing.batches; sentences = standing.sentences; moves = standing.moves; totals = standing.totals } }
@@ -214,15 +232,19 @@ impl<S: Alter> Desk<S> {
         Some(number as u32)
     }
 
-    /// The totals of the six states. Nothing is refused.
+    /// The totals of the six states: the sums over the sentences in each, and the net of the moves. Nothing is refused.
     pub fn totals(&mut self) -> Result<Totals, Fault>
         ensures answered { Gives S.Store self.old self.new result (λ s t. StandFor t s) }
+        ensures net { Gives S.Store self.old self.new result (λ s t. AreNet t s.moves) }
         ensures refused { (r : AnyRefusal) → result ≢ Err (Fault.Refused r) }
         ensures fails { KnowsItself S.Store self.old self.new result }
+        ensures stays { Does S.Store self.old self.new result (λ s. StandsFor S.Store self.new s) }
         ensures kept { StandsAsBefore S.Store self.old self.new }
         ensures crash { WritesNothing S.Store self.old self.new }
+        ensures lasts { CommitsNothing S.Store self.old.conn self.new.conn }
         ensures limits { self.new.limits ≡ self.old.limits }
     {
+        totals_are_nets();
         asking::totals(self.alloc, &mut self.conn)
     }
 
@@ -231,8 +253,10 @@ impl<S: Alter> Desk<S> {
         ensures answered { Gives S.Store self.old self.new result (λ s v. v.items ≡ s.moves) }
         ensures refused { (r : AnyRefusal) → result ≢ Err (Fault.Refused r) }
         ensures fails { KnowsItself S.Store self.old self.new result }
+        ensures stays { Does S.Store self.old self.new result (λ s. StandsFor S.Store self.new s) }
         ensures kept { StandsAsBefore S.Store self.old self.new }
         ensures crash { WritesNothing S.Store self.old self.new }
+        ensures lasts { CommitsNothing S.Store self.old.conn self.new.conn }
         ensures limits { self.new.limits ≡ self.old.limits }
     {
         asking::moves(self.alloc, &mut self.conn)
@@ -248,8 +272,10 @@ impl<S: Alter> Desk<S> {
         ensures refused { (s : Machine) → StandsFor S.Store self.old s → (result ≡ Err (Fault.Refused Refusal.NoSuchSentence)) ↔ HasNoSentence s number }
         ensures alone { (r : AnyRefusal) → result ≡ Err (Fault.Refused r) → r ≡ Refusal.NoSuchSentence }
         ensures fails { KnowsItself S.Store self.old self.new result }
+        ensures stays { Does S.Store self.old self.new result (λ s. StandsFor S.Store self.new s) }
         ensures kept { StandsAsBefore S.Store self.old self.new }
         ensures crash { WritesNothing S.Store self.old self.new }
+        ensures lasts { CommitsNothing S.Store self.old.conn self.new.conn }
         ensures limits { self.new.limits ≡ self.old.limits }
     {
         let Some(number) = self.standing(number) else {
@@ -268,8 +294,10 @@ impl<S: Alter> Desk<S> {
         ensures no_sentence { (s : Machine) → StandsFor S.Store self.old s → HasNoSentence s number → result ≡ Err (Fault.Refused Refusal.NoSuchSentence) }
         ensures refused { GivesOnErr S.Store self.old self.new result (λ s e. RefusesRevision s number rev e) }
         ensures fails { KnowsItself S.Store self.old self.new result }
+        ensures stays { Does S.Store self.old self.new result (λ s. StandsFor S.Store self.new s) }
         ensures kept { StandsAsBefore S.Store self.old self.new }
         ensures crash { WritesNothing S.Store self.old self.new }
+        ensures lasts { CommitsNothing S.Store self.old.conn self.new.conn }
         ensures limits { self.new.limits ≡ self.old.limits }
     {
         let Some(number) = self.standing(number) else {
@@ -293,8 +321,10 @@ impl<S: Alter> Desk<S> {
         ensures refused { (r : AnyRefusal) → result ≢ Err (Fault.Refused r) }
         ensures output { result ≡ Err Fault.Output → HasReason (W.IsRefusal out.new) }
         ensures fails { KnowsItself S.Store self.old self.new result }
+        ensures stays { Does S.Store self.old self.new result (λ s. StandsFor S.Store self.new s) }
         ensures kept { StandsAsBefore S.Store self.old self.new }
         ensures crash { WritesNothing S.Store self.old self.new }
+        ensures lasts { CommitsNothing S.Store self.old.conn self.new.conn }
         ensures limits { self.new.limits ≡ self.old.limits }
     {
         exporting::released(self.alloc, &mut self.conn, out)
@@ -313,8 +343,10 @@ impl<S: Alter> Desk<S> {
         ensures output { result ≡ Err Fault.Output → HasReason (W.IsRefusal out.new) }
         ensures fails { KnowsItself S.Store self.old self.new result }
         ensures none { (r : AnyRefusal) → result ≡ Err (Fault.Refused r) → W.held out.new ≡ W.held out.old }
+        ensures stays { Does S.Store self.old self.new result (λ s. StandsFor S.Store self.new s) }
         ensures kept { StandsAsBefore S.Store self.old self.new }
         ensures crash { WritesNothing S.Store self.old self.new }
+        ensures lasts { CommitsNothing S.Store self.old.conn self.new.conn }
         ensures limits { self.new.limits ≡ self.old.limits }
     {
         exporting::batch(self.alloc, &mut self.conn, name, out)
@@ -369,6 +401,7 @@ impl<S: Alter> Desk<S> {
         ensures refused { (r : AnyRefusal) → result ≢ Err (Fault.Refused r) }
         ensures output { result ≡ Err Fault.Output → HasReason (W.IsRefusal out.new) }
         ensures fails { KnowsItself S.Store self.old self.new result }
+        ensures stays { Does S.Store self.old self.new result (λ s. StandsFor S.Store self.new s) }
         ensures kept { StandsAsBefore S.Store self.old self.new }
         ensures crash { WritesNothing S.Store self.old self.new }
         ensures lasts { CommitsNothing S.Store self.old.conn self.new.conn }
@@ -384,6 +417,7 @@ impl<S: Alter> Desk<S> {
         ensures refused { (r : AnyRefusal) → result ≢ Err (Fault.Refused r) }
         ensures output { result ≢ Err Fault.Output }
         ensures fails { KnowsItself S.Store self.old self.new result }
+        ensures stays { Does S.Store self.old self.new result (λ s. StandsFor S.Store self.new s) }
         ensures kept { StandsAsBefore S.Store self.old self.new }
         ensures crash { WritesNothing S.Store self.old self.new }
         ensures lasts { CommitsNothing S.Store self.old.conn self.new.conn }
@@ -409,10 +443,7 @@ impl<S: Alter> Desk<S> {
         user: &str,
         body: &[u8],
     ) -> Result<Corrected, Fault>
-        ensures answered { IsDoneAs S.Store self.old self.new result (correct_it number base user.now body.now) corrected_to }
-        ensures refused { IsRefusedAs S.Store self.old self.new result (correct_it number base user.now body.now) }
-        ensures fails { KnowsItself S.Store self.old self.new result }
-        ensures kept { StandsAsBeforeOnErr S.Store self.old self.new result }
+        ensures ends { EndsAs S.Store self.old self.new result (correct_it number base user.now body.now) corrected_to }
         ensures crash { CrashesWhole S.Store self.old self.new (correct_it number base user.now body.now) }
         ensures limits { self.new.limits ≡ self.old.limits }
     {
@@ -420,20 +451,15 @@ impl<S: Alter> Desk<S> {
         let Some(at) = self.standing(number) else {
             return Err(tb_acting::no_correction(number, base, user, body));
         };
-        let (reply, totals) = tb_acting::correct(
-            self.alloc,
-            &mut self.conn,
-            &counts,
-            at,
-            base,
-            user,
-            body,
-        )?;
-        if let Some(next) = totals {
-            self.moves += 1;
-            self.totals = next;
+        match tb_acting::correct(self.alloc, &mut self.conn, &counts, at, base, user, body) {
+            Ok((reply, Some(next))) => {
+                self.moves += 1;
+                self.totals = next;
+                Ok(reply)
+            }
+            Ok((reply, None)) => Ok(reply),
+            Err(fault) => Err(certain(&mut self.conn, fault)),
         }
-        Ok(reply)
     }
 }
 
@@ -472,25 +498,19 @@ impl<S: Alter> Desk<S> {
     ///
     /// The first of `BadName`, `NoSuchBatch`; `WrongState`, `NotYours`, `OwnWork`; `Full`.
     pub fn event(&mut self, name: &str, event: Event, user: &str) -> Result<Moved, Fault>
-        ensures answered { IsDoneAs S.Store self.old self.new result (event_on name.now event user.now) moved_on }
-        ensures refused { IsRefusedAs S.Store self.old self.new result (event_on name.now event user.now) }
-        ensures fails { KnowsItself S.Store self.old self.new result }
-        ensures kept { StandsAsBeforeOnErr S.Store self.old self.new result }
+        ensures ends { EndsAs S.Store self.old self.new result (event_on name.now event user.now) moved_on }
         ensures crash { CrashesWhole S.Store self.old self.new (event_on name.now event user.now) }
         ensures limits { self.new.limits ≡ self.old.limits }
     {
         let counts = self.counts();
-        let (reply, totals) = tb_acting::event(
-            self.alloc,
-            &mut self.conn,
-            &counts,
-            name,
-            event,
-            user,
-        )?;
-        self.moves += 1;
-        self.totals = totals;
-        Ok(reply)
+        match tb_acting::event(self.alloc, &mut self.conn, &counts, name, event, user) {
+            Ok((reply, sums)) => {
+                self.moves += 1;
+                self.totals = sums;
+                Ok(reply)
+            }
+            Err(fault) => Err(certain(&mut self.conn, fault)),
+        }
     }
 
     /// Pulls the sentence with this number, from 1, out of its batch.
@@ -499,10 +519,7 @@ impl<S: Alter> Desk<S> {
     ///
     /// The first of `BadName`, `NoSuchSentence`; `WrongState`, `Pulled`; `Full`.
     pub fn pull(&mut self, number: u64, user: &str) -> Result<Pulled, Fault>
-        ensures answered { IsDoneAs S.Store self.old self.new result (pull_it number user.now) pulled_out }
-        ensures refused { IsRefusedAs S.Store self.old self.new result (pull_it number user.now) }
-        ensures fails { KnowsItself S.Store self.old self.new result }
-        ensures kept { StandsAsBeforeOnErr S.Store self.old self.new result }
+        ensures ends { EndsAs S.Store self.old self.new result (pull_it number user.now) pulled_out }
         ensures crash { CrashesWhole S.Store self.old self.new (pull_it number user.now) }
         ensures limits { self.new.limits ≡ self.old.limits }
     {
@@ -510,10 +527,14 @@ impl<S: Alter> Desk<S> {
         let Some(at) = self.standing(number) else {
             return Err(tb_acting::no_pull(&counts, number, user));
         };
-        let (reply, totals) = tb_acting::pull(self.alloc, &mut self.conn, &counts, at, user)?;
-        self.moves += 1;
-        self.totals = totals;
-        Ok(reply)
+        match tb_acting::pull(self.alloc, &mut self.conn, &counts, at, user) {
+            Ok((reply, totals)) => {
+                self.moves += 1;
+                self.totals = totals;
+                Ok(reply)
+            }
+            Err(fault) => Err(certain(&mut self.conn, fault)),
+        }
     }
 
     /// Brings the pulled sentence with this number, from 1, back to its batch.
@@ -522,10 +543,7 @@ impl<S: Alter> Desk<S> {
     ///
     /// The first of `BadName`, `NoSuchSentence`; `WrongState`, `NotPulled`; `Full`.
     pub fn restore(&mut self, number: u64, user: &str) -> Result<Restored, Fault>
-        ensures answered { IsDoneAs S.Store self.old self.new result (restore_it number user.now) restored_to }
-        ensures refused { IsRefusedAs S.Store self.old self.new result (restore_it number user.now) }
-        ensures fails { KnowsItself S.Store self.old self.new result }
-        ensures kept { StandsAsBeforeOnErr S.Store self.old self.new result }
+        ensures ends { EndsAs S.Store self.old self.new result (restore_it number user.now) restored_to }
         ensures crash { CrashesWhole S.Store self.old self.new (restore_it number user.now) }
         ensures limits { self.new.limits ≡ self.old.limits }
     {
@@ -533,10 +551,14 @@ impl<S: Alter> Desk<S> {
         let Some(at) = self.standing(number) else {
             return Err(tb_acting::no_restore(&counts, number, user));
         };
-        let (reply, totals) = tb_acting::restore(self.alloc, &mut self.conn, &counts, at, user)?;
-        self.moves += 1;
-        self.totals = totals;
-        Ok(reply)
+        match tb_acting::restore(self.alloc, &mut self.conn, &counts, at, user) {
+            Ok((reply, totals)) => {
+                self.moves += 1;
+                self.totals = totals;
+                Ok(reply)
+            }
+            Err(fault) => Err(certain(&mut self.conn, fault)),
+        }
     }
 }
 
@@ -560,28 +582,26 @@ impl<S: Alter> Desk<S> {
     /// `BadName`, of the batch's name or the user's; of an import that is no repeat `Read`, `Rule`, `Empty`; `NameTaken`;
     /// `SentIdTaken`, with the place in the file, from 1, of the first such sentence; `Full`. The first that holds.
     pub fn import(&mut self, name: &str, user: &str, body: &[u8]) -> Result<Imported, Fault>
-        ensures answered { IsDoneAs S.Store self.old self.new result (import_file name.now user.now body.now) imported }
-        ensures refused { IsRefusedAs S.Store self.old self.new result (import_file name.now user.now body.now) }
-        ensures fails { KnowsItself S.Store self.old self.new result }
-        ensures kept { StandsAsBeforeOnErr S.Store self.old self.new result }
+        ensures ends { EndsAs S.Store self.old self.new result (import_file name.now user.now body.now) imported }
         ensures crash { CrashesWhole S.Store self.old self.new (import_file name.now user.now body.now) }
         ensures limits { self.new.limits ≡ self.old.limits }
     {
         let known = self.known();
-        let (reply, totals) = tb_importing::import(
-            self.alloc,
-            &mut self.conn,
-            &known,
-            name,
-            user,
-            body,
-        )?;
-        if let Some(after) = totals {
-            self.batches += 1;
-            self.sentences += reply.sentences as u32;
-            self.moves += 1;
-            self.totals = after;
+        match tb_importing::import(self.alloc, &mut self.conn, &known, name, user, body) {
+            Ok((reply, Some(after))) => {
+                self.batches += 1;
+                self.sentences += reply.sentences as u32;
+                self.moves += 1;
+                self.totals = after;
+                Ok(reply)
+            }
+            Ok((reply, None)) => Ok(reply),
+            Err(why) => Err(certain(&mut self.conn, why)),
         }
-        Ok(reply)
     }
 }
+
+/// Between two calls a crash leaves the whole tables of the desk's state, and nothing else.
+pub fn left_by_a_crash<S: Alter>(_desk: &Desk<S>)
+    ensures { (s : Machine) → StandsFor S.Store _desk.now s → LeavesOnly S.Store _desk.now s }
+{}

@@ -9,7 +9,7 @@ ghost use Rattle.tb_search.specs.Visited.{HasReason};
 ghost use Rattle.tb_recording.specs.Finding.{HasNumber};
 ghost use Rattle.tb_store.specs.Exports.{IsBrokenOff, IsPartOfBatch, RefusesBatch};
 ghost use Rattle.tb_standing.specs.Telling.{KnowsDesk, TellsOnErr, TellsOnOk};
-ghost use Rattle.tb_tables.specs.Leaving.{CommitsNothing, CommitsNothingOnDesk, KeepsRecords};
+ghost use Rattle.tb_tables.specs.Leaving.{ChangesNothing, CommitsNothing, KeepsRecords};
 
 use crate::stopping::fault_of;
 use sqlite::{Alter, Connection};
@@ -30,9 +30,10 @@ pub(crate) fn released<S: Alter, W: Sink>(
     ensures refused { (r : AnyRefusal) → result ≢ Err (Fault.Refused r) }
     ensures output { result ≡ Err Fault.Output → HasReason (W.IsRefusal out.new) }
     ensures fails { KnowsDesk S.Store conn.old conn.new result }
+    ensures same { ChangesNothing S.Store conn.old conn.new result }
     ensures mode { conn.old.in_transaction ≡ false → conn.new.in_transaction ≡ false }
     ensures kept { KeepsRecords S.Store conn.old conn.new }
-    ensures survives { CommitsNothingOnDesk S.Store conn.old conn.new }
+    ensures lasts { CommitsNothing S.Store conn.old conn.new }
 {
     match export_released(alloc, conn, out) {
         Ok(()) => Ok(()),
@@ -52,6 +53,7 @@ fn numbered<S: Alter, W: Sink>(
     ensures refused { (r : AnyRefusal) → result ≢ Err (Fault.Refused r) }
     ensures output { result ≡ Err Fault.Output → HasReason (W.IsRefusal out.new) }
     ensures fails { KnowsDesk S.Store conn.old conn.new result }
+    ensures same { ChangesNothing S.Store conn.old conn.new result }
     ensures mode { conn.old.in_transaction ≡ false → conn.new.in_transaction ≡ false }
     ensures kept { KeepsRecords S.Store conn.old conn.new }
     ensures lasts { CommitsNothing S.Store conn.old conn.new }
@@ -80,6 +82,7 @@ pub(crate) fn batch<S: Alter, W: Sink>(
     ensures output { result ≡ Err Fault.Output → HasReason (W.IsRefusal out.new) }
     ensures fails { KnowsDesk S.Store conn.old conn.new result }
     ensures none { (r : AnyRefusal) → result ≡ Err (Fault.Refused r) → W.held out.new ≡ W.held out.old }
+    ensures same { ChangesNothing S.Store conn.old conn.new result }
     ensures mode { conn.old.in_transaction ≡ false → conn.new.in_transaction ≡ false }
     ensures kept { KeepsRecords S.Store conn.old conn.new }
     ensures lasts { CommitsNothing S.Store conn.old conn.new }

@@ -7,7 +7,10 @@ mod desk;
 mod exporting;
 mod finding;
 mod migrating;
+mod reopening;
 mod stopping;
+mod wanting;
 
 pub use answers::Current;
-pub use desk::{Desk, Unmade};
+pub use desk::{Desk, Unmade, left_by_a_crash};
+pub use reopening::left_to_the_next_run;

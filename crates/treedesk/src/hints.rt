@@ -135,7 +135,7 @@ fn meant_by(texts: &[&'static str], number: &str) -> &'static str {
 fn meant_by_word(word: &str) -> &'static str {
     match word {
         "desk" =>
-            "this is not the file of a desk, another program has changed it, or it cannot be opened",
+            "this is not the file of a desk, another program has changed it, it cannot be opened, or a log of another desk lies beside it",
         "device" => "the file, the input or the output failed, or another command has the file",
         "long" => "the input has more than 4,194,304 bytes: cut it at blank lines",
         _ => "",

@@ -5,9 +5,10 @@ use Rattle.tb_adopting.proofs.Rises.{moves_fit}
 use Rattle.tb_adopting.proofs.reading.read_moves.Goals as goal
 
 pub returns-in-Ok : goal.returns-in-Ok
-returns-in-Ok g c = read_well g.S.Store c.args.conn.now c.moves.new.conn c.moves.ensures.mode c.moves.ensures.kept c.moves.ensures.lasts c.in-Ok.rows _ _ c.in-Ok.ensures.ok (λ clean has s reach stands. tt) c.in-Ok.ensures.same
+returns-in-Ok g c = read_well g.S.Store c.args.conn.now c.moves.new.conn c.moves.ensures.mode c.moves.ensures.kept c.moves.ensures.lasts c.moves.ensures.sees c.in-Ok.rows _ _ c.in-Ok.ensures.ok (λ clean has s reach stands. tt) c.in-Ok.ensures.same
 
 pub returns-in-Err : goal.returns-in-Err
-returns-in-Err g c = read_badly g.S.Store c.args.conn.now c.moves.new.conn c.moves.ensures.mode c.moves.ensures.kept c.moves.ensures.lasts c.of_read.result _ _
+returns-in-Err g c = read_badly g.S.Store c.args.conn.now c.moves.new.conn c.moves.ensures.mode c.moves.ensures.kept c.moves.ensures.lasts c.moves.ensures.sees c.of_read.result _ _
     (λ clean q has s reach stands. c.in-Err.ensures.form clean (ap (λ e. Err e) (c.of_read.ensures.form q)) has (tables_of s).moves (moves_fit (tables_of s).moves (c.desk_rows_are_readable.ensures s reach).moves) stands.moves)
+    (λ clean q. c.in-Err.ensures.untouched clean (ap (λ e. Err e) (c.of_read.ensures.form q)))
     c.of_read.ensures.refused

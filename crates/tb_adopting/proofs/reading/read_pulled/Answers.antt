@@ -5,11 +5,12 @@ use Rattle.tb_adopting.proofs.Rises.{pulled_rise}
 use Rattle.tb_adopting.proofs.reading.read_pulled.Goals as goal
 
 pub returns-in-Ok : goal.returns-in-Ok
-returns-in-Ok g c = read_well g.S.Store c.args.conn.now c.pulled.new.conn c.pulled.ensures.mode c.pulled.ensures.kept c.pulled.ensures.lasts c.in-Ok.rows _ _ c.in-Ok.ensures.ok
+returns-in-Ok g c = read_well g.S.Store c.args.conn.now c.pulled.new.conn c.pulled.ensures.mode c.pulled.ensures.kept c.pulled.ensures.lasts c.pulled.ensures.sees c.in-Ok.rows _ _ c.in-Ok.ensures.ok
     (λ clean has s reach stands. c.in-Ok.ensures.order clean has (tables_of s).pulled (pulled_rise 1 s.sentences) stands.pulled)
     c.in-Ok.ensures.same
 
 pub returns-in-Err : goal.returns-in-Err
-returns-in-Err g c = read_badly g.S.Store c.args.conn.now c.pulled.new.conn c.pulled.ensures.mode c.pulled.ensures.kept c.pulled.ensures.lasts c.of_read.result _ _
+returns-in-Err g c = read_badly g.S.Store c.args.conn.now c.pulled.new.conn c.pulled.ensures.mode c.pulled.ensures.kept c.pulled.ensures.lasts c.pulled.ensures.sees c.of_read.result _ _
     (λ clean q has s reach stands. c.in-Err.ensures.form clean (ap (λ e. Err e) (c.of_read.ensures.form q)) has (tables_of s).pulled (c.desk_rows_are_readable.ensures s reach).pulled (pulled_rise 1 s.sentences) stands.pulled)
+    (λ clean q. c.in-Err.ensures.untouched clean (ap (λ e. Err e) (c.of_read.ensures.form q)))
     c.of_read.ensures.refused

@@ -6,12 +6,11 @@ use Rattle.tb_answers.proofs.commands.import.Goals as goal
 
 pub returns-in-Ok-clause-answered : goal.returns-in-Ok-clause-answered
 returns-in-Ok-clause-answered g c clean s stands =
-    let made = c.in-Ok.ensures.answered clean s stands in
+    let made = c.in-Ok.ensures.ends clean s stands in
     inl (replied (imported c.in-Ok.reply), made.0, made.1, made.2, refl)
 
 pub returns-in-Err-clause-answered : goal.returns-in-Err-clause-answered
 returns-in-Err-clause-answered g c clean s stands =
     let act = import_file c.args.name.now c.args.user.now c.args.body.now in
     subst (IsAnswered g.S.Store c.args.desk.now.limits s act c.import.new.self) (sym c.reply_for_fault.ensures)
-    (answered_by_fault g.S.Store c.args.desk.now.limits s act c.import.new.self c.in-Err.fault
-    (λ r is. c.in-Err.ensures.refused clean r is s stands) (λ opened. c.in-Err.ensures.kept clean opened s stands))
+    (answered_by_fault g.S.Store c.args.desk.now c.import.new.self act imported s c.in-Err.fault (c.in-Err.ensures.ends clean s stands))

@@ -2,7 +2,7 @@ use Rattle.std.proofs.Common.{inr, arith}
 use Rattle.sqlite.specs.Held.{state}
 use Rattle.sqlite.specs.State.{HasCleanDisk}
 use Rattle.tb_answers.proofs.Failing.{if_ok, if_err}
-use Rattle.tb_answers.proofs.SearchTexts.{crash_here, crash_then}
+use Rattle.tb_answers.proofs.SearchTexts.{read_here, read_then}
 use Rattle.tb_answers.proofs.counts.count_text.Goals as goal
 
 pub returns-in-Ok-clause-counted : goal.returns-in-Ok-clause-counted
@@ -12,10 +12,10 @@ returns-in-Ok-clause-counted g c clean = if_ok c.counted.result (c.counted.ensur
     (c.in-Ok.query, c.in-Ok.ensures.accepted mid s stands, it.0, it.1, it.2, it.3, it.4, it.5, it.6))
 
 pub returns-in-Ok-clause-told : goal.returns-in-Ok-clause-told
-returns-in-Ok-clause-told g c clean = if_err c.counted.result c.counted.ensures.failed (λ r failed s stands.
+returns-in-Ok-clause-told g c clean = if_err c.counted.result (c.counted.ensures.failed clean) (λ r failed s stands.
     let mid : HasCleanDisk (state g.S.Store c.accepted.new.desk.conn) = omega (arith, clean, c.counted.ensures.lasts.clean) in
     let asks = c.in-Ok.ensures.accepted mid s stands in
-    inr (c.in-Ok.query, asks.0, inr failed))
+    inr (c.in-Ok.query, asks.0, inr (failed s (c.in-Ok.ensures.stays mid s stands))))
 
 pub returns-in-Ok-clause-kept : goal.returns-in-Ok-clause-kept
 returns-in-Ok-clause-kept g c clean opened s stands =
@@ -23,8 +23,7 @@ returns-in-Ok-clause-kept g c clean opened s stands =
     c.counted.ensures.kept clean opened s (c.in-Ok.ensures.stays mid s stands)
 
 pub returns-in-Ok-clause-crash : goal.returns-in-Ok-clause-crash
-returns-in-Ok-clause-crash g c s stands =
-    crash_then g.S.Store c.args.desk.now c.accepted.new.desk s stands c.accepted.ensures.lasts c.counted.new.desk (λ mid. c.in-Ok.ensures.stays mid s stands) c.counted.ensures.lasts
+returns-in-Ok-clause-crash g c = read_then g.S.Store c.args.desk.now c.accepted.new.desk c.accepted.ensures.lasts c.counted.new.desk c.in-Ok.ensures.stays c.counted.ensures.lasts
 
 pub returns-in-Err-clause-crash : goal.returns-in-Err-clause-crash
-returns-in-Err-clause-crash g c s stands = crash_here g.S.Store c.args.desk.now c.accepted.new.desk s stands c.accepted.ensures.lasts
+returns-in-Err-clause-crash g c = read_here g.S.Store c.args.desk.now c.accepted.new.desk c.accepted.ensures.lasts

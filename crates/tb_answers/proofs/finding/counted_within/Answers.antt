@@ -10,4 +10,5 @@ returns-in-Ok-clause-allowed g c clean =
 pub returns-in-Err-clause-told : goal.returns-in-Err-clause-told
 returns-in-Err-clause-told g c clean s stands =
     subst (IsLimitReply c.args.desk.now.limits s c.args.query c.args.strategy) (sym c.reply_for_fault.ensures)
-    (limit_told c.args.desk.now.limits s c.args.query c.args.strategy c.in-Err.fault (λ r is. let it = c.in-Err.ensures.refused clean r (ap Err is) in (it.0, it.1 s stands)))
+    (limit_told c.args.desk.now.limits s c.args.query c.args.strategy c.in-Err.fault (λ r is. let it = c.in-Err.ensures.refused clean r (ap Err is) in (it.0, it.1 s stands))
+    (λ is. c.in-Err.ensures.fails clean s stands (ap Err is)))

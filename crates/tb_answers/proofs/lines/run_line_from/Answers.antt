@@ -1,7 +1,7 @@
 use Rattle.std.proofs.Common.{ℕ, List, Result}
-use Rattle.tb_desk.specs.declared.check.TheConstants.{FILE_LIMIT}
 use Rattle.tb_http.specs.declared.replies.Reply.{Reply}
 use Rattle.tb_line.specs.Lines.{said_by}
+use Rattle.tb_desk.specs.Check.{file_limit}
 use Rattle.tb_answers.specs.Taken.{IsTaken}
 use Rattle.tb_answers.specs.Ran.{IsRan, IsLineSafe}
 use Rattle.tb_answers.proofs.Joined.{joined}
@@ -10,13 +10,13 @@ use Rattle.tb_answers.proofs.lines.run_line_from.Goals as goal
 pub returns-clause-ran : goal.returns-clause-ran
 returns-clause-ran g c clean s stands =
     let said = said_by c.args.line.now in
-    let taken : List ℕ → Result (List ℕ) Reply → Type 0 = λ input t. IsTaken FILE_LIMIT said input t in
+    let taken : Result (List ℕ) Reply → Type 0 = λ t. IsTaken g.R.Source.IsFailure g.R.Source.left file_limit said c.args.reader.now c.read_body-body.new.reader t in
     let ran : Result (List ℕ) Reply → Type 0 = λ t. IsRan g.S.Store c.args.desk.now.limits s said t c.run_line.new.desk (g.W.Sink.held c.args.out.now) (g.W.Sink.held c.run_line.new.out) (g.W.Sink.IsRefusal c.run_line.new.out) c.run_line.result in
-    joined (λ v. v.items) (g.R.Read.remaining c.args.reader.now) c.read_body-body.result taken ran c.read_body-body.ensures (c.run_line.ensures.ran clean s stands)
+    joined (λ v. v.items) c.read_body-body.result taken ran c.read_body-body.ensures (c.run_line.ensures.ran clean s stands)
 
 pub returns-clause-crash : goal.returns-clause-crash
 returns-clause-crash g c =
     let said = said_by c.args.line.now in
-    let taken : List ℕ → Result (List ℕ) Reply → Type 0 = λ input t. IsTaken FILE_LIMIT said input t in
+    let taken : Result (List ℕ) Reply → Type 0 = λ t. IsTaken g.R.Source.IsFailure g.R.Source.left file_limit said c.args.reader.now c.read_body-body.new.reader t in
     let safe : Result (List ℕ) Reply → Type 0 = λ t. IsLineSafe g.S.Store said t c.args.desk.now c.run_line.new.desk in
-    joined (λ v. v.items) (g.R.Read.remaining c.args.reader.now) c.read_body-body.result taken safe c.read_body-body.ensures c.run_line.ensures.crash
+    joined (λ v. v.items) c.read_body-body.result taken safe c.read_body-body.ensures c.run_line.ensures.crash

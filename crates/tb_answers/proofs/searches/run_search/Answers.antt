@@ -1,7 +1,7 @@
 use Rattle.std.proofs.Common.{inl, inr, arith}
 use Rattle.sqlite.specs.Held.{state}
 use Rattle.sqlite.specs.State.{HasCleanDisk}
-use Rattle.tb_answers.proofs.SearchTexts.{crash_here, crash_then}
+use Rattle.tb_answers.proofs.SearchTexts.{read_here, read_then}
 use Rattle.tb_answers.proofs.searches.run_search.Goals as goal
 
 pub returns-in-Ok-clause-written : goal.returns-in-Ok-clause-written
@@ -15,11 +15,10 @@ returns-in-Ok-clause-kept g c clean opened s stands =
     c.put_found.ensures.kept clean opened s (c.in-Ok.ensures.stays mid s stands)
 
 pub returns-in-Ok-clause-crash : goal.returns-in-Ok-clause-crash
-returns-in-Ok-clause-crash g c s stands =
-    crash_then g.S.Store c.args.desk.now c.accepted.new.desk s stands c.accepted.ensures.lasts c.put_found.new.desk (λ mid. c.in-Ok.ensures.stays mid s stands) c.put_found.ensures.lasts
+returns-in-Ok-clause-crash g c = read_then g.S.Store c.args.desk.now c.accepted.new.desk c.accepted.ensures.lasts c.put_found.new.desk c.in-Ok.ensures.stays c.put_found.ensures.lasts
 
 pub returns-in-Err-clause-written : goal.returns-in-Err-clause-written
 returns-in-Err-clause-written g c clean s stands = inr (c.in-Err.reply, c.in-Err.ensures.told clean s stands, c.put_reply.ensures)
 
 pub returns-in-Err-clause-crash : goal.returns-in-Err-clause-crash
-returns-in-Err-clause-crash g c s stands = crash_here g.S.Store c.args.desk.now c.accepted.new.desk s stands c.accepted.ensures.lasts
+returns-in-Err-clause-crash g c = read_here g.S.Store c.args.desk.now c.accepted.new.desk c.accepted.ensures.lasts

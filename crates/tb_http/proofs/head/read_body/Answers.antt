@@ -1,39 +1,97 @@
-use Rattle.std.proofs.Common.{rules, arith, sym, subst, ◌≡◌, ◌+◌, ◌++◌, ◌<◌, ◌≤◌, ℕ, List, length, take}
+use Rattle.std.proofs.Common.{rules, arith, sym, subst, ap, ◌∙◌, append_assoc, ◌≡◌, ◌+◌, ◌++◌, ◌<◌, ◌≤◌, ℕ, List, [], length, take}
 use Rattle.std.proofs.lemmas.List.{places}
 use Rattle.std.proofs.lemmas.Slice.{overwrites}
-use Rattle.tb_http.proofs.Bodies.{IsTaking, taking_broken, taking_full, taking_more, taking_short, taking_whole}
+use Rattle.tb_http.proofs.Asking.{asked_none, asked_one, asked_more}
+use Rattle.tb_http.proofs.Bodies.{IsTaking, taking_broken, taking_full, taking_kept, taking_more, taking_none, taking_short, taking_whole, taking_within}
 use Rattle.tb_http.proofs.head.read_body.Goals as goal
 
 pub returns-in_default-clause-fault : goal.returns-in_default-clause-fault
 returns-in_default-clause-fault g c =
-    taking_broken _ _ (g.R.Read.remaining c.read.new.self) _ _ _ c.reads.invariant c.in_default.ensures.bytes (search rules)
+    taking_broken _ _ (g.R.Source.left c.pull.new.self) _ _ _ c.reads.invariant.0 c.in_default.ensures.bytes (search rules)
 
 pub returns-then-is_err-2-clause-fault : goal.returns-then-is_err-2-clause-fault
 returns-then-is_err-2-clause-fault g c =
     let read = c.in-Ok.ensures in
-    let part = take c.in-Ok.count c.read.new.buf in
+    let part = take c.in-Ok.count c.pull.new.buf in
     let few : length c.reads.body.items + length part ≤ c.args.n = search (rules, places) in
     let some : 0 < length part = search (rules, places, c.if-count-eq0.false) in
-    taking_full _ _ (g.R.Read.remaining c.read.new.self) _ _ part _ c.reads.invariant few read.bytes.0 some
+    taking_full _ _ (g.R.Source.left c.pull.new.self) _ _ part _ c.reads.invariant.0 few read.bytes.0 some
 
 pub returns-then-count-eq0-clause-short : goal.returns-then-count-eq0-clause-short
 returns-then-count-eq0-clause-short g c =
     let read = c.in-Ok.ensures in
-    let part = take c.in-Ok.count c.read.new.buf in
+    let part = take c.in-Ok.count c.pull.new.buf in
     let none : length part ≡ 0 = search (rules, places, c.if-count-eq0.true) in
-    let more = taking_more _ _ (g.R.Read.remaining c.read.new.self) _ c.reads.body.items part _ c.reads.invariant (omega (arith, none, c.reads.invariant.within)) read.bytes.0 in
+    let more = taking_more _ _ (g.R.Source.left c.pull.new.self) _ c.reads.body.items part _ c.reads.invariant.0 (omega (arith, none, c.reads.invariant.0.within)) read.bytes.0 in
     let short : length (c.reads.body.items ++ part) < c.args.n = search (rules, places, none) in
-    taking_short _ (g.R.Read.remaining c.read.new.self) _ _ _ more (read.bytes.1 c.if-count-eq0.true (search rules)) short
+    taking_short _ (g.R.Source.left c.pull.new.self) _ _ _ more (read.bytes.1 c.if-count-eq0.true (search rules)) short
 
 pub reads-preserved : goal.reads-preserved
 reads-preserved g c =
     let read = c.in-Ok.ensures in
-    let part = take c.in-Ok.count c.read.new.buf in
+    let part = take c.in-Ok.count c.pull.new.buf in
     let items : c.extend_from_slice-in-reads.new.self.items ≡ c.reads.body.items ++ part = search (rules, places, overwrites) in
     let few : length c.reads.body.items + length part ≤ c.args.n = search (rules, places) in
-    let P : List ℕ → Type 0 = λ l. IsTaking (g.R.Read.remaining c.args.reader.now) (g.R.Read.remaining c.read.new.self) c.args.start.now l c.args.n in
-    subst P (sym items) (taking_more _ _ _ _ _ part _ c.reads.invariant few read.bytes.0)
+    let P : List ℕ → Type 0 = λ l. IsTaking (g.R.Source.left c.args.reader.now) (g.R.Source.left c.pull.new.self) c.args.start.now l c.args.n in
+    let asked = c.reads.invariant.1 in
+    let here : length c.reads.body.items < c.args.n = search rules in
+    let owed : length (c.args.start.now ++ asked.0) < c.args.n = subst (λ l. length l < c.args.n) asked.1 here in (
+      subst P (sym items) (taking_more _ _ _ _ _ part _ c.reads.invariant.0 few read.bytes.0),
+      (
+        asked.0 ++ part,
+        items ∙ ap (λ l. l ++ part) asked.1 ∙ append_assoc c.args.start.now asked.0 part,
+        asked_more (λ came. length came < c.args.n) c.args.start.now _ _ _ asked.0 part asked.2 (asked_one (λ came. length came < c.args.n) (c.args.start.now ++ asked.0) _ _ part owed read.piece),
+      ),
+    )
 
 pub returns-clause-whole : goal.returns-clause-whole
 returns-clause-whole g c =
-    taking_whole _ (g.R.Read.remaining c.reads.reader) _ _ _ c.reads.invariant (search rules)
+    taking_whole _ (g.R.Source.left c.reads.reader) _ _ _ c.reads.invariant.0 (search rules)
+
+pub returns-then-is_err-clause-taken : goal.returns-then-is_err-clause-taken
+returns-then-is_err-clause-taken g c = taking_none _ c.args.start.now c.args.n c.requires.few
+
+pub returns-in_default-clause-taken : goal.returns-in_default-clause-taken
+returns-in_default-clause-taken g c =
+    taking_within _ _ _ _ _ (taking_kept _ _ (g.R.Source.left c.pull.new.self) _ _ _ c.reads.invariant.0 c.in_default.ensures.bytes)
+
+pub returns-then-count-eq0-clause-taken : goal.returns-then-count-eq0-clause-taken
+returns-then-count-eq0-clause-taken g c =
+    let read = c.in-Ok.ensures in
+    let part = take c.in-Ok.count c.pull.new.buf in
+    let few : length c.reads.body.items + length part ≤ c.args.n = search (rules, places) in
+    taking_within _ _ _ _ _ (taking_more _ _ (g.R.Source.left c.pull.new.self) _ c.reads.body.items part _ c.reads.invariant.0 few read.bytes.0)
+
+pub returns-then-is_err-2-clause-taken : goal.returns-then-is_err-2-clause-taken
+returns-then-is_err-2-clause-taken g c =
+    let read = c.in-Ok.ensures in
+    let part = take c.in-Ok.count c.pull.new.buf in
+    let few : length c.reads.body.items + length part ≤ c.args.n = search (rules, places) in
+    taking_within _ _ _ _ _ (taking_more _ _ (g.R.Source.left c.pull.new.self) _ c.reads.body.items part _ c.reads.invariant.0 few read.bytes.0)
+
+pub returns-clause-taken : goal.returns-clause-taken
+returns-clause-taken g c = taking_within _ _ _ _ _ c.reads.invariant.0
+
+pub returns-then-is_err-clause-asked : goal.returns-then-is_err-clause-asked
+returns-then-is_err-clause-asked g c other = ([], asked_none (λ came. length came < c.args.n) c.args.start.now _)
+
+pub returns-then-count-eq0-clause-asked : goal.returns-then-count-eq0-clause-asked
+returns-then-count-eq0-clause-asked g c other =
+    let read = c.in-Ok.ensures in
+    let part = take c.in-Ok.count c.pull.new.buf in
+    let asked = c.reads.invariant.1 in
+    let here : length c.reads.body.items < c.args.n = search rules in
+    let owed : length (c.args.start.now ++ asked.0) < c.args.n = subst (λ l. length l < c.args.n) asked.1 here in
+    (asked.0 ++ part, asked_more (λ came. length came < c.args.n) c.args.start.now _ _ _ asked.0 part asked.2 (asked_one (λ came. length came < c.args.n) (c.args.start.now ++ asked.0) _ _ part owed read.piece))
+
+pub returns-then-is_err-2-clause-asked : goal.returns-then-is_err-2-clause-asked
+returns-then-is_err-2-clause-asked g c other =
+    let read = c.in-Ok.ensures in
+    let part = take c.in-Ok.count c.pull.new.buf in
+    let asked = c.reads.invariant.1 in
+    let here : length c.reads.body.items < c.args.n = search rules in
+    let owed : length (c.args.start.now ++ asked.0) < c.args.n = subst (λ l. length l < c.args.n) asked.1 here in
+    (asked.0 ++ part, asked_more (λ came. length came < c.args.n) c.args.start.now _ _ _ asked.0 part asked.2 (asked_one (λ came. length came < c.args.n) (c.args.start.now ++ asked.0) _ _ part owed read.piece))
+
+pub returns-clause-asked : goal.returns-clause-asked
+returns-clause-asked g c other = (c.reads.invariant.1.0, c.reads.invariant.1.2)

@@ -1,9 +1,11 @@
-use Rattle.std.proofs.Common.{◌-◌, vec_len}
+use Rattle.std.proofs.Common.{◌≡◌, ◌-◌, ◌<◌, ◌++◌, ℕ, List, length, vec_len}
+use Rattle.tb_conllu.specs.Pieces.{AskedFor}
 use Rattle.tb_http.proofs.Bodies.{IsTaking}
 use Rattle.tb_http.proofs.head.read_body.Given as goal
 
 abbrev pub invariant-reads : goal.invariant-reads
-invariant-reads g l = IsTaking (g.R.Read.remaining l.fn.reader) (g.R.Read.remaining l.reader) l.start l.body.items l.n
+invariant-reads g l = IsTaking (g.R.Source.left l.fn.reader) (g.R.Source.left l.reader) l.start l.body.items l.n
+    × ((taken : List ℕ) × (l.body.items ≡ l.start ++ taken) × AskedFor (λ came. length came < l.n) l.start (g.R.Source.pieces l.fn.reader) (g.R.Source.pieces l.reader) taken)
 
 abbrev pub decreases-reads : goal.decreases-reads
 decreases-reads g l = l.n - vec_len l.body

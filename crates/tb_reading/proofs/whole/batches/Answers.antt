@@ -13,3 +13,6 @@ returns-clause-ok g c clean = if_ok c.batches_in.result c.batches_in.ensures.ok 
 
 pub returns-clause-same : goal.returns-clause-same
 returns-clause-same g c clean = on_ok c.batches_in.result (c.in_ok-rows.ensures.same clean)
+
+pub returns-clause-untouched : goal.returns-clause-untouched
+returns-clause-untouched g c clean form has = c.in_ok-rows.ensures.same clean has

@@ -9,7 +9,7 @@ use Rattle.tb_tables.specs.Records.{number_view, number_shown}
 use Rattle.std.proofs.Common.{map}
 use Rattle.tb_reading.proofs.Queries.{select_pulled, select_pulled_is, select_pulled_terms, rising}
 use Rattle.tb_reading.proofs.Ordered.{all_shown, by_order, keyed, first, IsFirst, first_in_order, numbers_rise, numbers_placed}
-use Rattle.tb_reading.proofs.Staying.{either_way, shown_stays, failed_stays, lasts}
+use Rattle.tb_reading.proofs.Staying.{either_way, shown_stays, failed_stays, lasts, answered_sees}
 use Rattle.tb_reading.proofs.Shown.{if_ok, when_ok, shown_same, commits_nothing}
 use Rattle.tb_reading.proofs.Failing.{if_err, pulled_fails}
 use Rattle.tb_reading.proofs.whole.number_rows.Goals as goal
@@ -48,3 +48,7 @@ returns-clause-lasts g c = lasts select_pulled _ (state g.S.Store c.args.conn.no
 pub returns-clause-fails : goal.returns-clause-fails
 returns-clause-fails g c clean unlimited has =
     if_err c.query_all.result (c.query_all.ensures.err clean) (λ e failed. pulled_fails (state g.S.Store c.args.conn.now) (state g.S.Store c.query_all.new.self) _ e failed (search rules) has unlimited)
+
+pub returns-clause-sees : goal.returns-clause-sees
+returns-clause-sees g c clean opened has settled =
+    answered_sees g.S.Store c.args.conn.now c.query_all.new.self opened settled select_pulled _ select_pulled_is.1 has (λ rows. rows.items) c.query_all.result (c.query_all.ensures.ok clean) (c.query_all.ensures.err clean)

@@ -19,3 +19,6 @@ pub returns-clause-order : goal.returns-clause-order
 returns-clause-order g c clean = if_ok c.numbers_in.result c.numbers_in.ensures.ok (λ v is has xs up holds.
     let same : c.as_slice.result.now ≡ c.in_ok-rows.rows.items = search rules in
     same_numbers _ xs (sym is ∙ same ∙ c.in_ok-rows.ensures.order clean has xs up holds))
+
+pub returns-clause-untouched : goal.returns-clause-untouched
+returns-clause-untouched g c clean form has = c.in_ok-rows.ensures.same clean has

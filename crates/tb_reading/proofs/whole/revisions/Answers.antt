@@ -3,7 +3,7 @@ use Rattle.sqlite.specs.declared.types.Value.TheVariants.{Null}
 use Rattle.sqlite.specs.Effect.{Database}
 use Rattle.sqlite.specs.Listing.{understood}
 use Rattle.sqlite.specs.Given.{HasGiven}
-use Rattle.sqlite.specs.State.{HasCleanDisk, Survives, CommitsShowing}
+use Rattle.sqlite.specs.State.{HasCleanDisk, IsUnchanged, Survives, CommitsShowing}
 use Rattle.sqlite.specs.Held.{state}
 use Rattle.sqlite.proofs.StateLemmas.{survives_then, survives_weaker}
 use Rattle.sqlite.proofs.Callers.{IsPlain, begun_plain, unchanged_then, reads_as}
@@ -24,7 +24,7 @@ use Rattle.std.proofs.lemmas.List.Sorted.{IsPermutation-sym}
 use Rattle.sqlite.specs.Order.{column}
 use Rattle.sqlite.specs.Program.{overlay}
 use Rattle.tb_reading.proofs.Failing.{err_is, revisions_fails}
-use Rattle.tb_reading.proofs.Staying.{lasts, unchanged_holds, stopped_stays, refused_stays, then_holds}
+use Rattle.tb_reading.proofs.Staying.{lasts, unchanged_holds, stopped_stays, refused_stays, then_holds, stopped_sees, refused_sees, still_settled}
 use Rattle.tb_reading.proofs.whole.revisions.Goals as goal
 
 pub returns-in_err-rows-clause-lasts : goal.returns-in_err-rows-clause-lasts
@@ -236,3 +236,63 @@ returns-in_err-push-clause-survives g c has = on_desk _ _ (returns-in_err-push-c
 
 pub returns-clause-survives : goal.returns-clause-survives
 returns-clause-survives g c has = on_desk _ _ (returns-clause-lasts g c) has
+
+pub returns-in_err-rows-clause-sees : goal.returns-in_err-rows-clause-sees
+returns-in_err-rows-clause-sees g c = rw c.in_err-rows.was at (refused_sees g.S.Store select_revisions [] c.args.conn.now c.query.follows.lender-at-none c.query.result select_revisions_is.1 c.query.follows.holds-at-none)
+
+pub returns-in_err-row-clause-sees : goal.returns-in_err-row-clause-sees
+returns-in_err-row-clause-sees g c clean opened has settled =
+    let moved = c.next.follows.holds-at-none in
+    let old = c.args.conn.now in
+    let mid = c.rows.rows.conn.now in
+    let conn = c.next.follows.lender-at-none.conn.now in
+    let late : HasCleanDisk (state g.S.Store conn) = search rules in
+    let was = c.rows.invariant.3 (omega (arith, moved.survives.clean)) has in
+    let still : IsTrue (state g.S.Store conn).is_open = search rules in
+    let here : (state g.S.Store conn).now ≡ (state g.S.Store old).now = stopped_sees g.S.Store mid conn still (still_settled g.S.Store old mid settled was.1) _ (rw c.in_err-row.was at (moved.kept late)) ∙ was.1.0.now_is in
+    search rules
+
+pub returns-in_default-clause-sees : goal.returns-in_default-clause-sees
+returns-in_default-clause-sees g c clean opened has settled =
+    let moved = c.next.follows.holds-at-none in
+    let conn = c.next.follows.lender-at-none.conn.now in
+    let late : HasCleanDisk (state g.S.Store conn) = search rules in
+    let was = c.rows.invariant.3 (omega (arith, moved.survives.clean)) has in
+    let here : (state g.S.Store conn).now ≡ (state g.S.Store c.args.conn.now).now = (rw c.in_ok-row.was at (moved.same late)).0.now_is ∙ was.1.0.now_is in
+    search rules
+
+pub returns-in_err-revision_in-clause-sees : goal.returns-in_err-revision_in-clause-sees
+returns-in_err-revision_in-clause-sees g c clean opened has settled =
+    let moved = c.next.follows.holds-at-none in
+    let conn = c.next.follows.lender-at-none.conn.now in
+    let late : HasCleanDisk (state g.S.Store conn) = search rules in
+    let was = c.rows.invariant.3 (omega (arith, moved.survives.clean)) has in
+    let here : (state g.S.Store conn).now ≡ (state g.S.Store c.args.conn.now).now = (rw c.in_ok-row.was at (moved.same late)).0.now_is ∙ was.1.0.now_is in
+    search rules
+
+pub returns-in_err-push-clause-sees : goal.returns-in_err-push-clause-sees
+returns-in_err-push-clause-sees g c clean opened has settled =
+    let moved = c.next.follows.holds-at-none in
+    let conn = c.next.follows.lender-at-none.conn.now in
+    let late : HasCleanDisk (state g.S.Store conn) = search rules in
+    let was = c.rows.invariant.3 (omega (arith, moved.survives.clean)) has in
+    let here : (state g.S.Store conn).now ≡ (state g.S.Store c.args.conn.now).now = (rw c.in_ok-row.was at (moved.same late)).0.now_is ∙ was.1.0.now_is in
+    search rules
+
+pub returns-clause-sees : goal.returns-clause-sees
+returns-clause-sees g c clean opened has settled =
+    let mid = c.rows.rows.conn.now in
+    let late : HasCleanDisk (state g.S.Store mid) = search rules in
+    let here : (state g.S.Store mid).now ≡ (state g.S.Store c.args.conn.now).now = (c.rows.invariant.3 late has).1.0.now_is in
+    search rules
+
+pub returns-in_err-revision_in-clause-untouched : goal.returns-in_err-revision_in-clause-untouched
+returns-in_err-revision_in-clause-untouched g c clean form has =
+    let moved = c.next.follows.holds-at-none in
+    let old = state g.S.Store c.args.conn.now in
+    let mid = state g.S.Store c.rows.rows.conn.now in
+    let conn = c.next.follows.lender-at-none.conn.now in
+    let late : HasCleanDisk (state g.S.Store conn) = search rules in
+    let was = c.rows.invariant.3 (omega (arith, moved.survives.clean)) has in
+    let here : IsUnchanged old (state g.S.Store conn) = unchanged_then old mid (state g.S.Store conn) was.1 (rw c.in_ok-row.was at (moved.same late)) in
+    search rules

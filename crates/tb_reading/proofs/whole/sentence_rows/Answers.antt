@@ -8,7 +8,7 @@ use Rattle.tb_tables.specs.Layout.{desk_schema}
 use Rattle.tb_tables.specs.Records.{sentence_view, sentence_shown, numbered}
 use Rattle.tb_reading.proofs.Queries.{select_sentences, select_sentences_is, select_sentences_terms, rising}
 use Rattle.tb_reading.proofs.Ordered.{all_shown, by_order, keyed, first, IsFirst, first_in_order, rises, placed}
-use Rattle.tb_reading.proofs.Staying.{either_way, shown_stays, failed_stays, lasts}
+use Rattle.tb_reading.proofs.Staying.{either_way, shown_stays, failed_stays, lasts, answered_sees}
 use Rattle.tb_reading.proofs.Shown.{if_ok, when_ok, shown_same, commits_nothing}
 use Rattle.tb_reading.proofs.Failing.{if_err, sentences_fails}
 use Rattle.tb_reading.proofs.whole.sentence_rows.Goals as goal
@@ -47,3 +47,7 @@ returns-clause-lasts g c = lasts select_sentences _ (state g.S.Store c.args.conn
 pub returns-clause-fails : goal.returns-clause-fails
 returns-clause-fails g c clean unlimited has =
     if_err c.query_all.result (c.query_all.ensures.err clean) (λ e failed. sentences_fails (state g.S.Store c.args.conn.now) (state g.S.Store c.query_all.new.self) _ e failed (search rules) has unlimited)
+
+pub returns-clause-sees : goal.returns-clause-sees
+returns-clause-sees g c clean opened has settled =
+    answered_sees g.S.Store c.args.conn.now c.query_all.new.self opened settled select_sentences _ select_sentences_is.1 has (λ rows. rows.items) c.query_all.result (c.query_all.ensures.ok clean) (c.query_all.ensures.err clean)

@@ -4,7 +4,7 @@ use Rattle.sqlite.specs.State.{HasCleanDisk}
 use Rattle.tb_core.specs.Machine.{Sentence}
 use Rattle.tb_search.specs.Released.{in_batch}
 use Rattle.tb_search.proofs.Copied.{copies, breaks, all_copied, cut_short, copied_fault}
-use Rattle.tb_search.proofs.Visiting.{if_put, if_cut, desk_same, lasts_then, of_desk, all_visited, some_visited}
+use Rattle.tb_search.proofs.Visiting.{if_put, if_cut, desk_same, lasts_then, same_then, of_desk, all_visited, some_visited}
 use Rattle.tb_search.proofs.export.export_numbered.Goals as goal
 
 pub returns-clause-put : goal.returns-clause-put
@@ -20,6 +20,11 @@ returns-clause-part g c clean = if_cut c.visit_picked.result (λ e told s desk.
     let still = desk_same g.S.Store c.args.conn.now c.batch_picks.new.conn s desk (c.in_ok-picks.ensures.same mid desk.holds.schema) in
     let picks : c.as_slice.result.now ≡ c.in_ok-picks.picks.items = search rules in
     cut_short g.W.Sink.held (in_batch s c.args.batch) _ c.args.out.now e c.visit_picked.new.filled (some_visited g.S.Store (copies g.W.Sink.held) (breaks g.W.Sink.held) c.batch_picks.new.conn s (λ (x : Sentence). nat_eq x.batch c.args.batch) c.as_slice.result.now (picks ∙ c.in_ok-picks.ensures.picked mid s desk) still (c.desk_rows_are_readable.ensures s desk.reachable) _ c.args.out.now e c.visit_picked.new.filled told)) (c.visit_picked.ensures.halted clean)
+
+pub returns-clause-same : goal.returns-clause-same
+returns-clause-same g c clean = if_put c.visit_picked.result (λ told has.
+    let mid : HasCleanDisk (state g.S.Store c.batch_picks.new.conn) = omega (arith, clean, c.visit_picked.ensures.lasts.clean) in
+    same_then g.S.Store c.args.conn.now c.batch_picks.new.conn c.visit_picked.new.conn (c.in_ok-picks.ensures.same mid) told has) (c.visit_picked.ensures.same clean)
 
 pub returns-clause-lasts : goal.returns-clause-lasts
 returns-clause-lasts g c = lasts_then g.S.Store c.args.conn.now c.batch_picks.new.conn c.visit_picked.new.conn c.in_ok-picks.ensures.same c.batch_picks.ensures.lasts c.visit_picked.ensures.lasts

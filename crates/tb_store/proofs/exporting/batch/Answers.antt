@@ -3,11 +3,16 @@ use Rattle.std.proofs.lemmas.Result.{err_from_is_err_and}
 use Rattle.sqlite.specs.Held.{state}
 use Rattle.sqlite.specs.State.{HasCleanDisk}
 use Rattle.tb_core.specs.declared.refusals.Fault.TheVariants.{NotADesk}
-use Rattle.tb_recording.proofs.Unchanged.{desk_same, lasts_then}
+use Rattle.tb_recording.proofs.Unchanged.{desk_same, lasts_then, same_two}
+use Rattle.tb_store.proofs.Standings.{on_ok_then}
 use Rattle.tb_store.proofs.exporting.batch.Goals as goal
 
 pub returns-clause-lasts : goal.returns-clause-lasts
 returns-clause-lasts g c = lasts_then g.S.Store c.args.conn.now c.batch_number.new.conn c.numbered.new.conn c.in_ok-number.ensures.same c.batch_number.ensures.lasts c.numbered.ensures.lasts
+
+pub returns-clause-same : goal.returns-clause-same
+returns-clause-same g c clean = on_ok_then c.numbered.result (c.numbered.ensures.same clean) (λ more has.
+    same_two g.S.Store c.args.conn.now c.batch_number.new.conn c.numbered.new.conn c.numbered.ensures.lasts c.in_ok-number.ensures.same (λ _. more) clean has)
 
 pub returns-in_err-number-clause-fails : goal.returns-in_err-number-clause-fails
 returns-in_err-number-clause-fails g c clean unlimited s desk bad =

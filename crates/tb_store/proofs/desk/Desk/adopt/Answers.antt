@@ -1,10 +1,10 @@
 use Rattle.std.proofs.Common.{◌≡◌, None, Err, sym, ap, subst, ◌∙◌}
-use Rattle.sqlite.specs.State.{HasCleanDisk, Survives}
+use Rattle.sqlite.specs.State.{HasCleanDisk, IsUnchanged, Survives}
 use Rattle.sqlite.specs.Held.{state}
 use Rattle.tb_recording.proofs.Unchanged.{desk_kept}
 use Rattle.tb_store.specs.Kept.{Kept}
 use Rattle.tb_store.specs.Standing.{unlimited}
-use Rattle.tb_store.proofs.Adopted.{desk_unlimited, desk_before, stands_over}
+use Rattle.tb_store.proofs.Adopted.{desk_unlimited, desk_before, stands_over, stands_again}
 use Rattle.tb_store.proofs.desk.Desk.adopt.Goals as goal
 
 pub returns-in-Ok-clause-adopted : goal.returns-in-Ok-clause-adopted
@@ -38,3 +38,25 @@ returns-in-Err-clause-again g c clean opened s desk =
 
 pub returns-in-Err-clause-crash_on_the_way : goal.returns-in-Err-clause-crash_on_the_way
 returns-in-Err-clause-crash_on_the_way g c = subst (λ h. Survives (state g.S.Store h) (state g.S.Store c.read_desk.new.conn) (λ _. ⊥)) c.without_limit-conn.ensures c.read_desk.ensures.survives
+
+pub returns-in-Ok-clause-stands : goal.returns-in-Ok-clause-stands
+returns-in-Ok-clause-stands g c clean s desk =
+    let told = returns-in-Ok-clause-adopted g c clean in
+    stands_again g.S.Store c.args.conn c.over.result c.one_state_for_the_file.ensures told.0 s told.1 desk told.2
+
+pub returns-in-Ok-clause-same : goal.returns-in-Ok-clause-same
+returns-in-Ok-clause-same g c clean =
+    let same = ap (λ (k : Kept g.row.S.Denot). k.conn) c.over.ensures in
+    let late = subst (λ h. HasCleanDisk (state g.S.Store h)) same clean in
+    let read = subst (λ h. IsUnchanged (state g.S.Store h) (state g.S.Store c.read_desk.new.conn)) c.without_limit-conn.ensures (c.in-Ok.ensures.same late) in
+    subst (λ h. IsUnchanged (state g.S.Store (unlimited c.args.conn)) (state g.S.Store h)) (sym same) read
+
+pub returns-in-Err-clause-untouched : goal.returns-in-Err-clause-untouched
+returns-in-Err-clause-untouched g c clean is =
+    c.in-Err.ensures.untouched clean (ap (λ f. Err f) is) ∙ ap (λ h. (state g.S.Store h).now) c.without_limit-conn.ensures
+
+pub returns-in-Err-clause-unchanged : goal.returns-in-Err-clause-unchanged
+returns-in-Err-clause-unchanged g c clean opened = c.in-Err.ensures.sees clean opened ∙ ap (λ h. (state g.S.Store h).now) c.without_limit-conn.ensures
+
+pub returns-in-Err-clause-limit_off : goal.returns-in-Err-clause-limit_off
+returns-in-Err-clause-limit_off g c = c.read_desk.ensures.survives.limit ∙ ap (λ h. (state g.S.Store h).step_limit) c.without_limit-conn.ensures

@@ -35,3 +35,6 @@ returns-in-Ok-clause-no_step_limit g c =
     let same = ap (λ (k : Kept g.row.S.Denot). k.conn) c.empty.ensures in
     let made : (state g.S.Store c.create.new.conn).step_limit ≡ None = c.create.ensures.crash.limit ∙ ap (λ h. (state g.S.Store h).step_limit) c.without_limit-conn.ensures in
     subst (λ h. (state g.S.Store h).step_limit ≡ None) (sym same) made
+
+pub returns-in-Err-clause-limit_off : goal.returns-in-Err-clause-limit_off
+returns-in-Err-clause-limit_off g c = c.create.ensures.crash.limit ∙ ap (λ h. (state g.S.Store h).step_limit) c.without_limit-conn.ensures

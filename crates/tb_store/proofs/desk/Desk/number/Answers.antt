@@ -1,4 +1,4 @@
-use Rattle.std.proofs.Common.{◌≢◌, sym, subst, ◌≡◌, None}
+use Rattle.std.proofs.Common.{◌≢◌, sym, subst}
 use Rattle.sqlite.specs.Held.{state}
 use Rattle.sqlite.specs.State.{Survives}
 use Rattle.tb_tables.specs.Layout.{desk_schema}
@@ -23,7 +23,7 @@ returns-clause-lasts g c =
     subst (λ (k : Kept _). Survives (state g.S.Store k.conn) (state g.S.Store c.number.new.conn) (λ _. (state g.S.Store k.conn).now.schema ≢ desk_schema)) c.self.view_is c.number.ensures.lasts
 
 pub returns-clause-fails : goal.returns-clause-fails
-returns-clause-fails g c clean unlimited s stands bad =
+returns-clause-fails g c clean s stands bad =
     let here = subst (λ k. StandsFor g.S.Store k s) (sym c.self.view_is) stands in
-    let limit = subst (λ (k : Kept _). (state g.S.Store k.conn).step_limit ≡ None) (sym c.self.view_is) unlimited in
+    let limit = c.self.invariant.unlimited in
     c.number.ensures.fails clean limit s here.desk bad

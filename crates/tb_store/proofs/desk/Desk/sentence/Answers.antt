@@ -1,17 +1,28 @@
-use Rattle.std.proofs.Common.{sym, subst, arith, ◌≡◌, None}
+use Rattle.std.proofs.Common.{◌≢◌, sym, subst, arith}
 use Rattle.tb_reading.proofs.Shown.{if_ok}
 use Rattle.sqlite.specs.Held.{state}
+use Rattle.sqlite.specs.State.{Survives}
+use Rattle.tb_tables.specs.Layout.{desk_schema}
 use Rattle.tb_store.specs.Kept.{Kept}
 use Rattle.tb_store.specs.Standing.{StandsFor}
-use Rattle.tb_recording.proofs.Unchanged.{desk_kept}
+use Rattle.tb_recording.proofs.Unchanged.{desk_kept, desk_same}
 use Rattle.tb_recording.proofs.There.{sentence_there}
-use Rattle.tb_store.proofs.Standings.{still_stands}
+use Rattle.tb_store.proofs.Standings.{still_stands, on_ok_then}
 use Rattle.tb_store.proofs.desk.Desk.sentence.Goals as goal
 
 pub returns-clause-kept : goal.returns-clause-kept
 returns-clause-kept g c clean opened s stands =
     let here = subst (λ k. StandsFor g.S.Store k s) (sym c.self.view_is) stands in
     still_stands g.S.Store _ c.sentence.new.conn s (desk_kept g.S.Store c.self.inside.conn c.sentence.new.conn (c.sentence.ensures.kept clean opened) s here.desk) here
+
+pub returns-clause-stays : goal.returns-clause-stays
+returns-clause-stays g c clean = on_ok_then c.sentence.result (c.sentence.ensures.same clean) (λ same s stands.
+    let here = subst (λ k. StandsFor g.S.Store k s) (sym c.self.view_is) stands in
+    still_stands g.S.Store _ c.sentence.new.conn s (desk_same g.S.Store c.self.inside.conn c.sentence.new.conn s here.desk (same here.desk.holds.schema)) here)
+
+pub returns-clause-lasts : goal.returns-clause-lasts
+returns-clause-lasts g c =
+    subst (λ (k : Kept _). Survives (state g.S.Store k.conn) (state g.S.Store c.sentence.new.conn) (λ _. (state g.S.Store k.conn).now.schema ≢ desk_schema)) c.self.view_is c.sentence.ensures.lasts
 
 pub returns-clause-answered : goal.returns-clause-answered
 returns-clause-answered g c clean = if_ok c.sentence.result (c.sentence.ensures.answered clean) (λ current told s stands.
@@ -29,9 +40,9 @@ returns-clause-refused g c s stands =
     ((λ e place x has. c.sentence.ensures.refused _ e), (λ lacks. absurd (lacks _ it.0 it.2)))
 
 pub returns-clause-fails : goal.returns-clause-fails
-returns-clause-fails g c clean unlimited s stands bad =
+returns-clause-fails g c clean s stands bad =
     let here = subst (λ k. StandsFor g.S.Store k s) (sym c.self.view_is) stands in
-    let limit = subst (λ (k : Kept _). (state g.S.Store k.conn).step_limit ≡ None) (sym c.self.view_is) unlimited in
+    let limit = c.self.invariant.unlimited in
     let fits = c.in-Some.ensures.stands in
     let it = sentence_there s c.args.number c.in-Some.number fits.0 fits.1 (omega (arith, fits.2, stands.sentences, here.sentences)) in
     c.sentence.ensures.fails clean limit s here.desk it.0 it.1 bad

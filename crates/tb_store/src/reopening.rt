@@ -1,0 +1,38 @@
+//! What the next run finds of a desk after a crash.
+
+ghost use Rattle.std.specs.Prelude.{◌≡◌, IsTrue};
+ghost use Rattle.sqlite_wal.specs.Recovery.{Image};
+ghost use Rattle.sqlite_store.specs.FileStore.{view};
+ghost use Rattle.sqlite_trees.specs.View.{IsClean};
+ghost use Rattle.sqlite.specs.Held.{state};
+ghost use Rattle.sqlite.specs.Files.{over_files};
+ghost use Rattle.tb_core.specs.Machine.{Machine};
+ghost use Rattle.tb_standing.specs.Standing.{IsDesk};
+ghost use Rattle.tb_store.specs.Standing.{StandsFor};
+ghost use Rattle.tb_store.specs.Reopened.{MayLeaveFiles, IsOpenedOver};
+
+use crate::desk::Desk;
+use sqlite::{Alter, Connection, FileStore};
+use sqlite_disk::Disk;
+
+/// While the store is open, a crash leaves the trees of the last commit and nothing else.
+fn leaves_the_last_commit<S: Alter>(_conn: &Connection<S>)
+    ensures { (db : _) → IsTrue (state S.Store _conn.now).is_open → (state S.Store _conn.now).may_leave db
+        → db ≡ (state S.Store _conn.now).committed.trees }
+{}
+
+/// A crash leaves the desk to the next run. Whatever files `left` a crash may leave of a desk in a file that stands for a state,
+/// a connection that the next run opens over them is the desk of this state, tables and schema: `Desk::adopt` then gives a desk
+/// that stands for it. The desk is given up without a close, and its store is given back.
+pub fn left_to_the_next_run<D: Disk + Drop, E: Disk>(
+    desk: Desk<FileStore<D>>,
+    _next: &Connection<FileStore<E>>,
+) -> FileStore<D>
+    ensures { (s : Machine) (left : Image) → StandsFor over_files desk s → IsClean (view result)
+        → MayLeaveFiles desk.conn left → IsOpenedOver left _next.now → ∥ IsDesk over_files _next.now s ∥₁ }
+{
+    let conn = desk.into_connection();
+    let _schema = conn.schema();
+    leaves_the_last_commit(&conn);
+    conn.into_store()
+}

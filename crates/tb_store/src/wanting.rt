@@ -1,0 +1,49 @@
+//! Want of memory: a command ends for it only where the store is open.
+
+ghost use Rattle.std.specs.Prelude.{◌≡◌, ◌⊎◌, false, IsTrue};
+ghost use Rattle.sqlite.specs.State.{HasCleanDisk, Survives};
+ghost use Rattle.sqlite.specs.Held.{state};
+ghost use Rattle.tb_core.specs.declared.refusals.Refusal.{Refusal as AnyRefusal};
+ghost use Rattle.tb_tables.specs.Leaving.{KeepsRecords};
+
+use sqlite::{Alter, Connection, Error};
+use tb_core::Fault;
+
+/// A text that is no statement. Only a store that is open refuses it as such, and it takes no memory to do so.
+const NO_STATEMENT: &str = "unknown";
+
+/// The fault of a command for which memory was refused. It is want of memory where the store is open: then the command committed
+/// nothing. Else the store failed.
+fn memory_or_device<S: Alter>(conn: &mut Connection<S>) -> Fault
+    ensures known { (result ≡ Fault.Memory) ⊎ (result ≡ Fault.Device) }
+    ensures open { HasCleanDisk (state S.Store conn.new) → result ≡ Fault.Memory → IsTrue (state S.Store conn.new).is_open }
+    ensures was_open { HasCleanDisk (state S.Store conn.new) → IsTrue (state S.Store conn.new).is_open → IsTrue (state S.Store conn.old).is_open }
+    ensures kept { KeepsRecords S.Store conn.old conn.new }
+    ensures mode { conn.old.in_transaction ≡ false → conn.new.in_transaction ≡ false }
+    ensures crash { Survives (state S.Store conn.old) (state S.Store conn.new) (λ _. ⊥) }
+{
+    match conn.prepare(NO_STATEMENT) {
+        Ok(_) => Fault::Memory,
+        Err(Error::SqlInputError(_)) => Fault::Memory,
+        Err(_) => Fault::Device,
+    }
+}
+
+/// The fault of a command. It is want of memory only where the store is open.
+pub(crate) fn certain<S: Alter>(conn: &mut Connection<S>, fault: Fault) -> Fault
+    ensures refused { (r : AnyRefusal) → result ≡ Fault.Refused r → (fault ≡ Fault.Refused r) × (conn.new ≡ conn.old) }
+    ensures desk { result ≡ Fault.NotADesk → fault ≡ Fault.NotADesk }
+    ensures open { HasCleanDisk (state S.Store conn.new) → result ≡ Fault.Memory → IsTrue (state S.Store conn.new).is_open }
+    ensures was_open { HasCleanDisk (state S.Store conn.new) → IsTrue (state S.Store conn.new).is_open → IsTrue (state S.Store conn.old).is_open }
+    ensures kept { KeepsRecords S.Store conn.old conn.new }
+    ensures mode { conn.old.in_transaction ≡ false → conn.new.in_transaction ≡ false }
+    ensures crash { Survives (state S.Store conn.old) (state S.Store conn.new) (λ _. ⊥) }
+{
+    match fault {
+        Fault::Memory => memory_or_device(conn),
+        Fault::Refused(refusal) => Fault::Refused(refusal),
+        Fault::Device => Fault::Device,
+        Fault::NotADesk => Fault::NotADesk,
+        Fault::Output => Fault::Output,
+    }
+}
