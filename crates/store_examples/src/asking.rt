@@ -6,17 +6,11 @@ use sqlite::Alter;
 use std::alloc::Global;
 use std::test::Fail;
 use tb_answers::{DeskCommand, obey};
-use tb_core::{Limits, Move, Totals};
+use tb_core::{Move, Totals};
 use tb_http::{attribute_of, event_of, strategy_of};
 use tb_query::{Query, parse};
 use tb_report::{csv_freq, csv_moves, csv_totals};
 use tb_store::Desk;
-
-pub(crate) const LIMITS: Limits = Limits {
-    sentences: 1000,
-    moves: 1000,
-    hits: 1000,
-};
 
 const NOUN_PHRASES: &str =
     "[upos=\"DET\"]? [upos=\"ADJ\"]* [upos=\"NOUN\"] ([upos=\"ADP\"] [upos=\"DET\"]? [upos=\"ADJ\"]* [upos=\"NOUN\"])* within s;";

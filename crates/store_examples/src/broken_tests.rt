@@ -2,14 +2,13 @@
 
 ghost use Rattle.std.specs.Prelude.{◌≡◌, [], None, Some};
 
-use crate::asking::LIMITS;
 use crate::list_tests::plain;
+use crate::server::Server;
 use crate::telling::assert_told;
 use std::test::Fail;
-use tb_answers::{Broken, answer};
+use tb_answers::Broken;
 use tb_conllu::{Source, SourceFault};
-use tb_http::{Routes, Status};
-use tb_store::Desk;
+use tb_http::Status;
 
 /// An import, 225 bytes.
 const IMPORT: &str = "POST /batches/b1 HTTP/1.1¶Host: x¶Desk-User: ann¶Content-Length: 150¶¶…";
@@ -45,29 +44,26 @@ impl<'a> Source for Dripping<'a> {
     }
 }
 
-/// Where the reader fails before the last byte, nothing is written and nothing is done; with the last byte the request is
-/// answered, and no further read is made, which would fail.
+/// Where the reader fails before the last byte, nothing is written and nothing is done; with the last byte the
+/// request is answered, and no further read is made, which would fail.
 #[test]
 fn a_reader_that_fails_at_each_byte(rt: HostRuntime) -> Result<(), Fail> {
     let alloc = rt.alloc();
-    let routes = Routes::new(alloc).ok().ok_or("routes")?;
     let request = plain(alloc, IMPORT)?;
-    let mut desk = Desk::in_memory(alloc, LIMITS)?;
+    let mut server = Server::new(alloc)?;
     let mut out: Vec<u8> = Vec::new(alloc);
     assert_eq!(rt; request.len(), 225);
     for end in 0..225 {
         let mut reader = Dripping {
             bytes: request.as_bytes().get(..end).ok_or("a part")?,
         };
-        let told = answer(alloc, &routes, &mut desk, &mut reader, &mut out);
-        assert_eq!(rt; told, Err(Broken::Read));
+        assert_eq!(rt; server.answer(&mut reader, &mut out), Err(Broken::Read));
     }
-    assert!(rt; out.is_empty() && desk.moves()?.is_empty());
+    assert!(rt; out.is_empty() && server.moves()? == 0);
     let mut reader = Dripping {
         bytes: request.as_bytes(),
     };
-    let told = answer(alloc, &routes, &mut desk, &mut reader, &mut out);
-    assert_eq!(rt; told, Ok(Status::Ok));
+    assert_eq!(rt; server.answer(&mut reader, &mut out), Ok(Status::Ok));
     let wanted = plain(alloc, IMPORTED)?;
     assert_told(&rt, str::from_utf8(&out)?, wanted.as_str(), IMPORT);
     Ok(())
@@ -77,22 +73,19 @@ fn a_reader_that_fails_at_each_byte(rt: HostRuntime) -> Result<(), Fail> {
 #[test]
 fn a_writer_that_fails_at_each_byte(rt: HostRuntime) -> Result<(), Fail> {
     let alloc = rt.alloc();
-    let routes = Routes::new(alloc).ok().ok_or("routes")?;
     let request = plain(alloc, IMPORT)?;
     let wanted = plain(alloc, IMPORTED)?;
-    let mut desk = Desk::in_memory(alloc, LIMITS)?;
+    let mut server = Server::new(alloc)?;
     for end in 0..wanted.len() {
         let mut room = vec![in alloc; 0u8; end]?;
         let mut out: &mut [u8] = &mut room;
         let mut reader = request.as_bytes();
-        let told = answer(alloc, &routes, &mut desk, &mut reader, &mut out);
-        assert_eq!(rt; told, Err(Broken::Write));
-        assert_eq!(rt; desk.moves()?.len(), 1);
+        assert_eq!(rt; server.answer(&mut reader, &mut out), Err(Broken::Write));
+        assert_eq!(rt; server.moves()?, 1);
     }
     let mut out: Vec<u8> = Vec::new(alloc);
     let mut reader = request.as_bytes();
-    let told = answer(alloc, &routes, &mut desk, &mut reader, &mut out);
-    assert_eq!(rt; told, Ok(Status::Ok));
+    assert_eq!(rt; server.answer(&mut reader, &mut out), Ok(Status::Ok));
     assert_told(&rt, str::from_utf8(&out)?, wanted.as_str(), IMPORT);
     Ok(())
 }

@@ -7,6 +7,8 @@ mod asking;
 #[cfg(test)]
 mod broken_tests;
 #[cfg(test)]
+mod disk_tests;
+#[cfg(test)]
 mod files;
 #[cfg(test)]
 mod list_tests;
@@ -14,6 +16,8 @@ mod list_tests;
 mod script_tests;
 #[cfg(test)]
 mod scripts;
+#[cfg(test)]
+mod server;
 #[cfg(test)]
 mod telling;
 #[cfg(test)]

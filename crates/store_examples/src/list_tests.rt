@@ -2,16 +2,13 @@
 //! stands for CR LF, `␊` for LF, `…` for a file of one sentence, 150 bytes, and `§` for what a head says from its status to
 //! its length.
 
-use crate::asking::LIMITS;
 use crate::files::DOGS;
+use crate::server::Server;
 use crate::telling::assert_told;
-use sqlite::MemStore;
 use std::alloc::Global;
 use std::test::Fail;
-use tb_answers::{Broken, answer_all};
+use tb_answers::Broken;
 use tb_conllu::Sink;
-use tb_http::Routes;
-use tb_store::Desk;
 
 const HEAD: &str = "¶Content-Type: text/plain; charset=utf-8¶Content-Length: ";
 
@@ -91,21 +88,20 @@ fn requests_in(alloc: Global, list: &str) -> Result<Vec<Vec<u8>>, Fail> {
 /// Has a desk answer the requests that stand in lines, and gives what is told of it.
 fn answer_lines<W: Sink>(
     alloc: Global,
-    desk: &mut Desk<MemStore>,
+    server: &mut Server,
     list: &str,
     out: &mut W,
 ) -> Result<Result<(), Broken>, Fail> {
-    let routes = Routes::new(alloc).ok().ok_or("routes")?;
     let requests = requests_in(alloc, list)?;
-    Ok(answer_all(alloc, &routes, desk, &requests, out))
+    Ok(server.answer_all(&requests, out))
 }
 
 #[test]
 fn a_list_is_answered_in_turn(rt: HostRuntime) -> Result<(), Fail> {
     let alloc = rt.alloc();
-    let mut desk = Desk::in_memory(alloc, LIMITS)?;
+    let mut server = Server::new(alloc)?;
     let mut out: Vec<u8> = Vec::new(alloc);
-    let told = answer_lines(alloc, &mut desk, ASKED, &mut out)?;
+    let told = answer_lines(alloc, &mut server, ASKED, &mut out)?;
     assert_eq!(rt; told, Ok(()));
     assert_told(
         &rt,
@@ -120,14 +116,14 @@ fn a_list_is_answered_in_turn(rt: HostRuntime) -> Result<(), Fail> {
 #[test]
 fn a_list_stops_where_the_sink_refuses(rt: HostRuntime) -> Result<(), Fail> {
     let alloc = rt.alloc();
-    let mut desk = Desk::in_memory(alloc, LIMITS)?;
+    let mut server = Server::new(alloc)?;
     let mut room = [0; 218];
-    let told = answer_lines(alloc, &mut desk, COMMANDS, &mut room.as_mut_slice())?;
+    let told = answer_lines(alloc, &mut server, COMMANDS, &mut room.as_mut_slice())?;
     assert_eq!(rt; told, Err(Broken::Write));
     let put = plain(alloc, CUT)?;
     assert_told(&rt, str::from_utf8(&room)?, put.as_str(), "a list");
     let mut out: Vec<u8> = Vec::new(alloc);
-    let told = answer_lines(alloc, &mut desk, "GET /moves HTTP/1.1¶¶", &mut out)?;
+    let told = answer_lines(alloc, &mut server, "GET /moves HTTP/1.1¶¶", &mut out)?;
     assert_eq!(rt; told, Ok(()));
     assert!(rt;
         str::from_utf8(out.as_slice())?.ends_with("2,assign,1,0,open,assigned,1,3,3,ann\n")

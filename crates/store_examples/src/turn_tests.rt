@@ -1,23 +1,14 @@
-//! Long lists of requests, and requests one at a time: the status that is returned beside the head that is written, a sink
-//! that refuses at each place, and more hits than an answer may have.
+//! Long lists of requests, and requests one at a time: the status that is returned beside the head that is written, a
+//! sink that refuses at each place, and more hits than an answer may have.
 
 use crate::files::{DOGS, body_of};
+use crate::server::Server;
 use crate::telling::assert_told;
-use sqlite::MemStore;
 use std::alloc::Global;
 use std::process::Abort;
 use std::test::Fail;
-use tb_answers::{Broken, answer, answer_all};
-use tb_core::Limits;
-use tb_http::{Routes, Status};
-use tb_store::Desk;
-
-/// The largest limits that a desk may have.
-const LIMITS: Limits = Limits {
-    sentences: 1_000_000,
-    moves: 1_000_000_000,
-    hits: 1_000_000,
-};
+use tb_answers::Broken;
+use tb_http::Status;
 
 /// The events that release a batch, each with its user.
 const RELEASE: &str = "assign ann,submit ann,adjudicate ben,release cem";
@@ -79,12 +70,10 @@ fn hundred_hits(alloc: Global) -> Result<String, Fail> {
 #[test]
 fn a_hundred_batches_are_released_and_searched(rt: HostRuntime) -> Result<(), Fail> {
     let alloc = rt.alloc();
-    let mut desk = Desk::in_memory(alloc, LIMITS)?;
-    let routes = Routes::new(alloc).ok().ok_or("routes")?;
+    let mut server = Server::new(alloc)?;
     let requests = hundred(alloc)?;
     let mut out: Vec<u8> = Vec::new(alloc);
-    let told = answer_all(alloc, &routes, &mut desk, &requests, &mut out);
-    assert_eq!(rt; told, Ok(()));
+    assert_eq!(rt; server.answer_all(&requests, &mut out), Ok(()));
     let said = str::from_utf8(out.as_slice())?;
     assert_eq!(rt; said.matches("HTTP/1.1 200 OK\r\n").count(), 501);
     let place = said.rfind("HTTP/1.1 ").ok_or("a response")?;
@@ -100,33 +89,30 @@ fn a_hundred_batches_are_released_and_searched(rt: HostRuntime) -> Result<(), Fa
 /// Answers one request into so many bytes, and tells how it ended and what they hold.
 fn answer_into(
     alloc: Global,
-    routes: &Routes,
-    desk: &mut Desk<MemStore>,
+    server: &mut Server,
     request: &[u8],
     size: usize,
 ) -> Result<(Result<Status, Broken>, Vec<u8>), Fail> {
     let mut room = vec![in alloc; 0u8; size]?;
     let mut reader = request;
     let mut out: &mut [u8] = &mut room;
-    let told = answer(alloc, routes, desk, &mut reader, &mut out);
+    let told = server.answer(&mut reader, &mut out);
     Ok((told, room))
 }
 
-/// The search of a hundred sentences, whose sink refuses at each of its bytes: it holds what came before, and the desk answers
-/// the next request.
+/// The search of a hundred sentences, whose sink refuses at each of its bytes: it holds what came before, and the
+/// desk answers the next request.
 #[test]
 fn a_search_is_refused_at_each_byte(rt: HostRuntime) -> Result<(), Fail> {
     let alloc = rt.alloc();
-    let mut desk = Desk::in_memory(alloc, LIMITS)?;
-    let routes = Routes::new(alloc).ok().ok_or("routes")?;
+    let mut server = Server::new(alloc)?;
     let mut requests = hundred(alloc)?;
     let search = requests.pop().ok_or("a search")?;
     let mut out: Vec<u8> = Vec::new(alloc);
-    let told = answer_all(alloc, &routes, &mut desk, &requests, &mut out);
-    assert_eq!(rt; told, Ok(()));
+    assert_eq!(rt; server.answer_all(&requests, &mut out), Ok(()));
     let whole = hundred_hits(alloc)?;
     for size in 0..=whole.len() {
-        let (told, held) = answer_into(alloc, &routes, &mut desk, search.as_slice(), size)?;
+        let (told, held) = answer_into(alloc, &mut server, search.as_slice(), size)?;
         let wanted = if size < whole.len() {
             Err(Broken::Write)
         } else {
@@ -142,15 +128,13 @@ fn a_search_is_refused_at_each_byte(rt: HostRuntime) -> Result<(), Fail> {
 fn assert_answered(
     rt: &impl Abort,
     alloc: Global,
-    routes: &Routes,
-    desk: &mut Desk<MemStore>,
+    server: &mut Server,
     asked: &[u8],
     wanted: &str,
 ) -> Result<(), Fail> {
     let mut out: Vec<u8> = Vec::new(alloc);
     let mut reader = asked;
-    let told = answer(alloc, routes, desk, &mut reader, &mut out);
-    let status = told.ok().ok_or("a status")?;
+    let status = server.answer(&mut reader, &mut out).ok().ok_or("a status")?;
     let code = format!(in alloc; "HTTP/1.1 {} ", status.code().as_u16())?;
     let said = str::from_utf8(out.as_slice())?;
     assert!(rt; said.starts_with(code.as_str()));
@@ -158,54 +142,38 @@ fn assert_answered(
     Ok(())
 }
 
+/// Releases a batch of a sentence of 1,000 words.
+fn release(
+    rt: &impl Abort,
+    alloc: Global,
+    server: &mut Server,
+    name: &str,
+    body: &str,
+) -> Result<(), Fail> {
+    let mut requests = Vec::new(alloc);
+    push_batch(alloc, &mut requests, name, body)?;
+    for asked in &requests {
+        assert_answered(rt, alloc, server, asked.as_slice(), "words=1000\n")?;
+    }
+    Ok(())
+}
+
 /// Two released sentences of 1,000 words have 1,001,000 matches of some words in a row, above the limit of 1,000,000.
 #[test]
 fn too_many_hits_are_refused(rt: HostRuntime) -> Result<(), Fail> {
     let alloc = rt.alloc();
-    let mut desk = Desk::in_memory(alloc, LIMITS)?;
-    let routes = Routes::new(alloc).ok().ok_or("routes")?;
-    let one = body_of(alloc, "thousand")?;
-    let other = one.replace(alloc, "= s9", "= s10")?;
-    let mut requests = Vec::new(alloc);
-    push_batch(alloc, &mut requests, "one", one.as_str())?;
+    let mut server = Server::new(alloc)?;
     let every = request(alloc, "/search/every/0", "", "[]+")?;
-    for asked in &requests {
-        assert_answered(
-            &rt,
-            alloc,
-            &routes,
-            &mut desk,
-            asked.as_slice(),
-            "words=1000\n",
-        )?;
-    }
+    let body = body_of(alloc, "thousand")?;
+    release(&rt, alloc, &mut server, "one", body.as_str())?;
+    assert_answered(&rt, alloc, &mut server, every.as_slice(), "hits 500500\n")?;
+    let body = body.replace(alloc, "= s9", "= s10")?;
+    release(&rt, alloc, &mut server, "other", body.as_str())?;
     assert_answered(
         &rt,
         alloc,
-        &routes,
-        &mut desk,
-        every.as_slice(),
-        "hits 500500\n",
-    )?;
-    let mut requests = Vec::new(alloc);
-    push_batch(alloc, &mut requests, "other", other.as_str())?;
-    for asked in &requests {
-        assert_answered(
-            &rt,
-            alloc,
-            &routes,
-            &mut desk,
-            asked.as_slice(),
-            "words=1000\n",
-        )?;
-    }
-    assert_answered(
-        &rt,
-        alloc,
-        &routes,
-        &mut desk,
+        &mut server,
         every.as_slice(),
         "refused 22 TooManyHits\n",
-    )?;
-    Ok(())
+    )
 }

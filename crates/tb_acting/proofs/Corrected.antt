@@ -1,10 +1,14 @@
 -- What a correction reads, plans and writes.
-use Rattle.std.proofs.Common.{◌≡◌, ℕ, ◌+◌, ◌-◌, ◌<◌, List, [], ◌∷◌, ◌++◌, length, map, get_or, None, Some, slice_get, sym, ap, subst, ◌∙◌, arith}
+use Rattle.std.proofs.Common.{◌≡◌, Result, Ok, Err, IfErr, ℕ, ◌+◌, ◌-◌, ◌<◌, List, [], ◌∷◌, ◌++◌, length, map, get_or, None, Some, slice_get, sym, ap, subst, ◌∙◌, arith}
 use Rattle.std.specs.List.{AllByRecursion}
 use Rattle.tb_conllu.specs.Text.{BlockText, text_of}
 use Rattle.tb_conllu.specs.Words.{words_of}
 use Rattle.tb_conllu.specs.Told.{IsFile}
 use Rattle.tb_core.specs.declared.kinds.Kind.TheVariants.{Correct}
+use Rattle.tb_core.specs.declared.refusals.Fault.{Fault}
+use Rattle.tb_core.specs.declared.refusals.Fault.TheVariants.{Refused, Memory, Device, NotADesk, Output}
+use Rattle.tb_core.specs.declared.refusals.Refusal.{Refusal}
+use Rattle.tb_core.specs.Taking.{IsTakingFault}
 use Rattle.tb_core.specs.declared.limits.Limits.{Limits}
 use Rattle.tb_core.specs.Machine as machine
 use Rattle.tb_core.specs.Machine.{Machine, bodies_of, one, words, change_at, rev}
@@ -19,6 +23,7 @@ use Rattle.tb_acting.specs.declared.correcting.CurrentRead.{CurrentRead}
 use Rattle.tb_acting.specs.Correcting.{IsMadeRevision}
 use Rattle.tb_judge.specs.Found.{FindsCurrent}
 use Rattle.tb_acting.specs.Correcting.{IsCurrentRead, current_seen, correction_move}
+use Rattle.tb_recording.specs.Faults.{IsNoDevice}
 use Rattle.tb_recording.proofs.Telling.{ReadsBack}
 use Rattle.tb_acting.proofs.Finds.{own_state}
 
@@ -108,3 +113,16 @@ current_found s n x f above there read = (
     words = read.sentence.words;
   },
 )
+
+-- ---- a body that is taken is refused, or memory is wanting
+
+clear : (P : Refusal → Type 0) (e : Fault) → IsTakingFault P e → IsNoDevice e
+clear P (Refused r) h is = absurd cc
+clear P Memory h is = absurd cc
+clear P Device h is = h
+clear P NotADesk h is = h
+clear P Output h is = h
+
+pub taking_clear : {X : Type 0} (P : Refusal → Type 0) (r : Result X Fault) → IfErr r (IsTakingFault P) → IfErr r IsNoDevice
+taking_clear P (Ok x) h = tt
+taking_clear P (Err e) h = clear P e h

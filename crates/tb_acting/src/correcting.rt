@@ -1,6 +1,7 @@
 //! A correction of a sentence.
 
-ghost use Rattle.std.specs.Prelude.{◌≡◌, ◌≢◌, ℕ, ◌+◌, ◌-◌, ◌^◌, ◌<◌, ◌≤◌, List, [], ◌∷◌, length, None, Some, Err, slice_get, string_bytes, false, IfOk, IfSome};
+ghost use Rattle.std.specs.Prelude.{◌≡◌, ◌≢◌, ℕ, ◌+◌, ◌-◌, ◌^◌, ◌<◌, ◌≤◌, List, [], ◌∷◌, length, None, Some, Err};
+ghost use Rattle.std.specs.Prelude.{slice_get, string_bytes, false, IfOk, IfSome, IfErr};
 ghost use Rattle.sqlite.specs.State.{HasCleanDisk};
 ghost use Rattle.sqlite.specs.Held.{state};
 ghost use Rattle.tb_conllu.specs.Text.{text_of};
@@ -19,6 +20,8 @@ ghost use Rattle.tb_recording.specs.Counted.{IsWithin, IsCounted};
 ghost use Rattle.tb_acting.specs.Correcting.{PlanText, IsCurrentRead, IsPlannedCorrection, Decides, Corrects, current_seen, correction_move};
 ghost use Rattle.tb_standing.specs.Telling.{CrashesTo, KnowsDeskWhere, RefusesAs, Tells};
 ghost use Rattle.tb_tables.specs.Leaving.{ChangesNothing, CommitsNothing, KeepsRecords, KeepsRecordsOnErr};
+ghost use Rattle.tb_tables.specs.Leaving.{IsFaultless, FailsOnlyAs};
+ghost use Rattle.tb_recording.specs.Faults.{IsNoDevice};
 
 use crate::committing;
 use crate::finding::{SentenceRead, find_sentence};
@@ -80,6 +83,7 @@ fn current_row<S: Alter>(
         → (string_bytes f.who ≡ x.current.who) × (string_bytes f.body ≡ text_of (x.current.body ∷ []))) }
     ensures refused { (r : AnyRefusal) → result ≢ Err (Fault.Refused r) }
     ensures fails { KnowsDeskWhere S.Store conn.old conn.new result (λ s so. (x : Sentence) → slice_get s.sentences (number - 1) ≡ Some x → rev ≡ rev_of x → so) }
+    ensures cause { IsFaultless S.Store conn.old conn.new → FailsOnlyAs IsNoDevice S.Store conn.old conn.new result }
     ensures same { ChangesNothing S.Store conn.old conn.new result }
     ensures mode { conn.old.in_transaction ≡ false → conn.new.in_transaction ≡ false }
     ensures kept { KeepsRecords S.Store conn.old conn.new }
@@ -99,6 +103,7 @@ fn find_current<S: Alter>(conn: &mut Connection<S>, number: u32) -> Result<Curre
     ensures answered { Tells S.Store conn.old conn.new result (λ s f. (x : Sentence) → slice_get s.sentences (number - 1) ≡ Some x → IsCurrentRead s x f) }
     ensures refused { (r : AnyRefusal) → result ≢ Err (Fault.Refused r) }
     ensures fails { KnowsDeskWhere S.Store conn.old conn.new result (λ s so. (x : Sentence) → slice_get s.sentences (number - 1) ≡ Some x → so) }
+    ensures cause { IsFaultless S.Store conn.old conn.new → FailsOnlyAs IsNoDevice S.Store conn.old conn.new result }
     ensures same { ChangesNothing S.Store conn.old conn.new result }
     ensures mode { conn.old.in_transaction ≡ false → conn.new.in_transaction ≡ false }
     ensures kept { KeepsRecords S.Store conn.old conn.new }
@@ -132,6 +137,7 @@ fn found_of(read: &CurrentRead) -> CurrentFound<'_>
 fn fault_of_text(fault: ReadFault) -> Fault
     ensures refused { (r : AnyRefusal) → result ≢ Fault.Refused r }
     ensures fails { fault ≡ ReadFault.Memory → result ≢ Fault.NotADesk }
+    ensures cause { IsNoDevice result }
 {
     match fault {
         ReadFault::Memory => Fault::Memory,
@@ -154,6 +160,7 @@ fn take<'a>(
         IsAllowed s act × Steps counts.now.limits s (correct_it n base user body.now) (replied (reply_to s act)) (after s act) × (p.text.now ≡ text_of (p.block ∷ []))) }
     ensures fails { (s : Machine) (n base : ℕ) (user : List ℕ) (place : ℕ) (x : Sentence) → Reached s → IsNamedCorrection s n base user body.now place x
         → text.now ≡ text_of (x.current.body ∷ []) → result ≢ Err Fault.NotADesk }
+    ensures cause { IfErr result IsNoDevice }
 {
     revisions_read_back();
     let blocks = match read_ref(alloc, text.as_bytes()) {
@@ -177,6 +184,7 @@ fn next_revision(rev: u32) -> Result<u32, Fault>
     ensures next { IfOk result (λ n. n ≡ rev + 1) }
     ensures refused { (r : AnyRefusal) → result ≢ Err (Fault.Refused r) }
     ensures fails { rev + 1 < 2 ^ 32 → result ≢ Err Fault.NotADesk }
+    ensures cause { IfErr result IsNoDevice }
 {
     match rev.checked_add(1) {
         Some(next) => Ok(next),
@@ -219,6 +227,7 @@ fn plan<'a>(
     ensures refused { (r : AnyRefusal) → result ≢ Err (Fault.Refused r) }
     ensures fails { (s : Machine) (x : Sentence) → IsReachable s → IsAllowed s (correcting (number - 1) user.now passage.now.block) → IsReachable (after s (correcting (number - 1) user.now passage.now.block)) → IsCounted counts.now s
         → slice_get s.sentences (number - 1) ≡ Some x → IsCurrentRead s x read.now → result ≢ Err Fault.NotADesk }
+    ensures cause { IfErr result IsNoDevice }
 {
     let rev = next_revision(read.sentence.rev)?;
     let new_words = narrow(words(&passage.block) as u64)?;
@@ -260,6 +269,7 @@ fn plan_body<'a>(
     ensures refused { (r : AnyRefusal) → result ≡ Err (Fault.Refused r) → (s : Machine) (base : ℕ) (x : Sentence) → Reached s → IsCounted counts.now s → IsCurrentRead s x read.now → IsNamedCorrection s number base user.now body.now (number - 1) x
         → Steps counts.now.limits s (correct_it number base user.now body.now) (refused_by r) s }
     ensures fails { IsWithin counts.now.limits → (s : Machine) (base : ℕ) (x : Sentence) → IsReachable s → IsCounted counts.now s → IsCurrentRead s x read.now → IsNamedCorrection s number base user.now body.now (number - 1) x → result ≢ Err Fault.NotADesk }
+    ensures cause { IfErr result IsNoDevice }
     ensures room { IfOk result (λ _. counts.now.moves + 1 ≤ 1000000000) }
 {
     commands_stay_within_limits();
@@ -284,6 +294,7 @@ fn decide<'a>(
     ensures refused { (r : AnyRefusal) → result ≡ Err (Fault.Refused r) → (s : Machine) (x : Sentence) → Reached s → IsCounted counts.now s → slice_get s.sentences (number - 1) ≡ Some x → IsCurrentRead s x read.now
         → Steps counts.now.limits s (correct_it number base user.now body.now) (refused_by r) s }
     ensures fails { IsWithin counts.now.limits → (s : Machine) (x : Sentence) → IsReachable s → IsCounted counts.now s → slice_get s.sentences (number - 1) ≡ Some x → IsCurrentRead s x read.now → result ≢ Err Fault.NotADesk }
+    ensures cause { IfErr result IsNoDevice }
     ensures room { IfOk result (λ r. IfSome r.1 (λ _. counts.now.moves + 1 ≤ 1000000000)) }
 {
     let found = found_of(read);
@@ -312,6 +323,7 @@ fn planned<'a, S: Alter>(
     ensures refused { RefusesAs S.Store conn.old conn.new result (λ s r. IsCounted counts.now s → number ≤ length s.sentences
         → Steps counts.now.limits s (correct_it number base user.now body.now) (refused_by r) s × IsDesk S.Store conn.new s) }
     ensures fails { HasCleanDisk (state S.Store conn.new) → (state S.Store conn.old).step_limit ≡ None → IsWithin counts.now.limits → (s : Machine) → IsDesk S.Store conn.old s → IsCounted counts.now s → number ≤ length s.sentences → result ≢ Err Fault.NotADesk }
+    ensures cause { IsFaultless S.Store conn.old conn.new → FailsOnlyAs IsNoDevice S.Store conn.old conn.new result }
     ensures room { IfOk result (λ r. IfSome r.1 (λ _. counts.now.moves + 1 ≤ 1000000000)) }
     ensures same { ChangesNothing S.Store conn.old conn.new result }
     ensures mode { conn.old.in_transaction ≡ false → conn.new.in_transaction ≡ false }
@@ -373,6 +385,7 @@ pub fn correct<S: Alter>(
 pub fn no_correction(number: u64, base: u64, user: &str, body: &[u8]) -> Fault
     ensures refused { (r : AnyRefusal) → result ≡ Fault.Refused r → (l : AnyLimits) (s : Machine) → LacksSentence s number → Steps l s (correct_it number base user.now body.now) (refused_by r) s }
     ensures fails { result ≢ Fault.NotADesk }
+    ensures cause { IsNoDevice result }
 {
     match judge_correction_before(number, base, user, body, None) {
         Err(refusal) => Fault::from(refusal),

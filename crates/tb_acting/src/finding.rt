@@ -1,6 +1,7 @@
 //! What a command reads of a desk before it is judged.
 
-ghost use Rattle.std.specs.Prelude.{◌≡◌, ◌≢◌, ◌-◌, ◌<◌, Some, None, Err, slice_get, option_map, string_bytes, IfOk, false};
+ghost use Rattle.std.specs.Prelude.{◌≡◌, ◌≢◌, ◌-◌, ◌<◌, Some, None, Err, slice_get, option_map, string_bytes, IfOk};
+ghost use Rattle.std.specs.Prelude.{false, IfErr};
 ghost use Rattle.sqlite.specs.Held.{state};
 ghost use Rattle.tb_core.specs.declared.refusals.Refusal.{Refusal as AnyRefusal};
 ghost use Rattle.tb_core.specs.declared.kinds.State.{State as AnyState};
@@ -11,7 +12,8 @@ ghost use Rattle.tb_standing.specs.Standing.{sentence_record};
 ghost use Rattle.tb_judge.specs.Found.{FindsBatch};
 ghost use Rattle.tb_acting.specs.ReadOf.{IsRead};
 ghost use Rattle.tb_standing.specs.Telling.{KnowsDesk, KnowsDeskWhere, Tells};
-ghost use Rattle.tb_tables.specs.Leaving.{ChangesNothing, CommitsNothing, KeepsRecords};
+ghost use Rattle.tb_tables.specs.Leaving.{ChangesNothing, CommitsNothing, KeepsRecords, IsFaultless, FailsOnlyAs};
+ghost use Rattle.tb_recording.specs.Faults.{IsNoDevice};
 
 use sqlite::{Alter, Connection};
 use tb_core::{Fault, State, reached_states_are_well};
@@ -34,6 +36,7 @@ fn read_batch(row: BatchRow, number: u32) -> Result<BatchRead, Fault>
     ensures batch { IfOk result (λ f. (st : AnyState) → row.state ≡ state_number st → (f.number ≡ number) × (f.state ≡ st) × (f.worker ≡ row.worker)) }
     ensures refused { (r : AnyRefusal) → result ≢ Err (Fault.Refused r) }
     ensures fails { (st : AnyState) → row.state ≡ state_number st → result ≢ Err Fault.NotADesk }
+    ensures cause { IfErr result IsNoDevice }
 {
     let Some(state) = state_numbered(row.state) else {
         return Err(Fault::NotADesk);
@@ -50,6 +53,7 @@ fn batch<S: Alter>(conn: &mut Connection<S>, number: u32) -> Result<BatchRead, F
     ensures answered { Tells S.Store conn.old conn.new result (λ s f. (b : Batch) → slice_get s.batches (number - 1) ≡ Some b → (f.number ≡ number) × (f.state ≡ b.state) × (string_bytes f.worker ≡ b.worker)) }
     ensures refused { (r : AnyRefusal) → result ≢ Err (Fault.Refused r) }
     ensures fails { KnowsDeskWhere S.Store conn.old conn.new result (λ s so. 0 < number → (b : Batch) → slice_get s.batches (number - 1) ≡ Some b → so) }
+    ensures cause { IsFaultless S.Store conn.old conn.new → FailsOnlyAs IsNoDevice S.Store conn.old conn.new result }
     ensures same { ChangesNothing S.Store conn.old conn.new result }
     ensures mode { conn.old.in_transaction ≡ false → conn.new.in_transaction ≡ false }
     ensures kept { KeepsRecords S.Store conn.old conn.new }
@@ -74,6 +78,7 @@ pub fn find_batch<S: Alter>(
     ensures answered { Tells S.Store conn.old conn.new result (λ s found. FindsBatch s name.now (option_map (λ f. record { number = f.number; state = f.state; worker = string_bytes f.worker }) found)) }
     ensures refused { (r : AnyRefusal) → result ≢ Err (Fault.Refused r) }
     ensures fails { KnowsDesk S.Store conn.old conn.new result }
+    ensures cause { IsFaultless S.Store conn.old conn.new → FailsOnlyAs IsNoDevice S.Store conn.old conn.new result }
     ensures same { ChangesNothing S.Store conn.old conn.new result }
     ensures mode { conn.old.in_transaction ≡ false → conn.new.in_transaction ≡ false }
     ensures kept { KeepsRecords S.Store conn.old conn.new }
@@ -107,6 +112,7 @@ fn sentence_row<S: Alter>(conn: &mut Connection<S>, number: u32) -> Result<Sente
     ensures answered { Tells S.Store conn.old conn.new result (λ s f. (x : Sentence) → slice_get s.sentences (number - 1) ≡ Some x → sentence_of f ≡ sentence_record x) }
     ensures refused { (r : AnyRefusal) → result ≢ Err (Fault.Refused r) }
     ensures fails { KnowsDeskWhere S.Store conn.old conn.new result (λ s so. (x : Sentence) → slice_get s.sentences (number - 1) ≡ Some x → so) }
+    ensures cause { IsFaultless S.Store conn.old conn.new → FailsOnlyAs IsNoDevice S.Store conn.old conn.new result }
     ensures same { ChangesNothing S.Store conn.old conn.new result }
     ensures mode { conn.old.in_transaction ≡ false → conn.new.in_transaction ≡ false }
     ensures kept { KeepsRecords S.Store conn.old conn.new }
@@ -126,6 +132,7 @@ fn is_pulled<S: Alter>(conn: &mut Connection<S>, number: u32) -> Result<bool, Fa
     ensures answered { Tells S.Store conn.old conn.new result (λ s pulled. (x : Sentence) → slice_get s.sentences (number - 1) ≡ Some x → pulled ≡ x.pulled) }
     ensures refused { (r : AnyRefusal) → result ≢ Err (Fault.Refused r) }
     ensures fails { KnowsDesk S.Store conn.old conn.new result }
+    ensures cause { IsFaultless S.Store conn.old conn.new → FailsOnlyAs IsNoDevice S.Store conn.old conn.new result }
     ensures same { ChangesNothing S.Store conn.old conn.new result }
     ensures mode { conn.old.in_transaction ≡ false → conn.new.in_transaction ≡ false }
     ensures kept { KeepsRecords S.Store conn.old conn.new }
@@ -143,6 +150,7 @@ pub fn find_sentence<S: Alter>(conn: &mut Connection<S>, number: u32) -> Result<
     ensures answered { Tells S.Store conn.old conn.new result (λ s f. (x : Sentence) → slice_get s.sentences (number - 1) ≡ Some x → IsRead s x f) }
     ensures refused { (r : AnyRefusal) → result ≢ Err (Fault.Refused r) }
     ensures fails { KnowsDeskWhere S.Store conn.old conn.new result (λ s so. (x : Sentence) → slice_get s.sentences (number - 1) ≡ Some x → so) }
+    ensures cause { IsFaultless S.Store conn.old conn.new → FailsOnlyAs IsNoDevice S.Store conn.old conn.new result }
     ensures same { ChangesNothing S.Store conn.old conn.new result }
     ensures mode { conn.old.in_transaction ≡ false → conn.new.in_transaction ≡ false }
     ensures kept { KeepsRecords S.Store conn.old conn.new }

@@ -1,11 +1,12 @@
 //! Rows of moves as moves of the machine.
 
-ghost use Rattle.std.specs.Prelude.{◌≡◌, ◌≢◌, List, map, Err, IfOk};
+ghost use Rattle.std.specs.Prelude.{◌≡◌, ◌≢◌, List, map, Err, IfOk, IfErr};
 ghost use Rattle.tb_core.specs.declared.refusals.Refusal.{Refusal as AnyRefusal};
 ghost use Rattle.tb_core.specs.Moves.{MoveText};
 ghost use Rattle.tb_tables.specs.Values.{move_of};
 ghost use Rattle.tb_standing.specs.Standing.{move_record};
 ghost use Rattle.tb_acting.specs.Numbered.{AreNumbered};
+ghost use Rattle.tb_recording.specs.Faults.{IsNoDevice};
 
 use std::alloc::Global;
 use tb_core::{Fault, Move};
@@ -17,6 +18,7 @@ fn read_move(alloc: Global, row: &MoveRow, no: u64) -> Result<Move, Fault>
     ensures record { IfOk result (λ m. move_record m ≡ move_of row.now) }
     ensures number { IfOk result (λ m. m.no ≡ no) }
     ensures known { result ≡ Err Fault.NotADesk → (m : MoveText) → move_of row.now ≢ move_record m }
+    ensures cause { IfErr result IsNoDevice }
     ensures refused { (r : AnyRefusal) → result ≢ Err (Fault.Refused r) }
 {
     let Some(kind) = kind_numbered(row.kind) else {
@@ -52,6 +54,7 @@ pub fn read_moves(alloc: Global, rows: &[MoveRow]) -> Result<Vec<Move>, Fault>
     ensures records { IfOk result (λ v. map move_record v.items ≡ map move_of rows.now) }
     ensures numbers { IfOk result (λ v. AreNumbered 1 v.items) }
     ensures known { result ≡ Err Fault.NotADesk → (ms : List MoveText) → map move_of rows.now ≢ map move_record ms }
+    ensures cause { IfErr result IsNoDevice }
     ensures refused { (r : AnyRefusal) → result ≢ Err (Fault.Refused r) }
 {
     let mut moves = Vec::new(alloc);

@@ -1,6 +1,7 @@
 //! A pull of a sentence, and its way back.
 
-ghost use Rattle.std.specs.Prelude.{◌≡◌, ◌≢◌, ◌+◌, ◌-◌, ◌<◌, ◌≤◌, length, Some, None, Err, slice_get, string_bytes, false, IfOk};
+ghost use Rattle.std.specs.Prelude.{◌≡◌, ◌≢◌, ◌+◌, ◌-◌, ◌<◌, ◌≤◌, length, Some, None, Err, slice_get, string_bytes};
+ghost use Rattle.std.specs.Prelude.{false, IfOk, IfErr};
 ghost use Rattle.sqlite.specs.Held.{state};
 ghost use Rattle.tb_tables.specs.Records.{Stands};
 ghost use Rattle.tb_core.specs.declared.refusals.Refusal.{Refusal as AnyRefusal};
@@ -16,7 +17,9 @@ ghost use Rattle.tb_recording.specs.Counted.{IsWithin, IsCounted, IsPrepared};
 ghost use Rattle.tb_acting.specs.Working.{IsDone};
 ghost use Rattle.tb_acting.specs.Pulling.{pull_move, restore_move, IsJudged};
 ghost use Rattle.tb_tables.specs.Leaving.{ChangesNothing, CommitsNothing, KeepsRecords, KeepsRecordsOnErr};
+ghost use Rattle.tb_tables.specs.Leaving.{IsFaultless, FailsOnlyAs};
 ghost use Rattle.tb_standing.specs.Telling.{CrashesTo, KnowsDeskWhere, RefusesAs, Tells};
+ghost use Rattle.tb_recording.specs.Faults.{IsNoDevice};
 
 use crate::committing;
 use crate::finding::{SentenceRead, find_sentence};
@@ -59,6 +62,7 @@ fn plan_pull(
     ensures refused { (r : AnyRefusal) → result ≢ Err (Fault.Refused r) }
     ensures fails { (s : Machine) (x : Sentence) → IsReachable s → IsAllowed s (pulling (number - 1) user.now) → IsReachable (after s (pulling (number - 1) user.now)) → IsCounted counts.now s → slice_get s.sentences (number - 1) ≡ Some x → IsRead s x read.now
         → result ≢ Err Fault.NotADesk }
+    ensures cause { IfErr result IsNoDevice }
 {
     let no = next_move(counts)?;
     let who = String::from_str(alloc, user)?;
@@ -87,6 +91,7 @@ fn decide_pull(
         → Steps counts.now.limits s (pull_it number user.now) (refused_by r) s }
     ensures fails { (s : Machine) (x : Sentence) → IsReachable s → IsCounted counts.now s → IsWithin counts.now.limits → slice_get s.sentences (number - 1) ≡ Some x → IsRead s x read.now
         → result ≢ Err Fault.NotADesk }
+    ensures cause { IfErr result IsNoDevice }
     ensures room { IfOk result (λ _. counts.now.moves + 1 ≤ 1000000000) }
 {
     commands_stay_within_limits();
@@ -121,6 +126,7 @@ fn pull_planned<S: Alter>(
         → Steps counts.now.limits s (pull_it number user.now) (refused_by r) s × IsDesk S.Store conn.new s) }
     ensures fails { KnowsDeskWhere S.Store conn.old conn.new result (λ s so. IsCounted counts.now s → IsWithin counts.now.limits
         → number ≤ length s.sentences → so) }
+    ensures cause { IsFaultless S.Store conn.old conn.new → FailsOnlyAs IsNoDevice S.Store conn.old conn.new result }
     ensures room { IfOk result (λ _. counts.now.moves + 1 ≤ 1000000000) }
     ensures same { ChangesNothing S.Store conn.old conn.new result }
     ensures mode { conn.old.in_transaction ≡ false → conn.new.in_transaction ≡ false }
@@ -167,6 +173,7 @@ pub fn pull<S: Alter>(
 pub fn no_pull(counts: &Counts, number: u64, user: &str) -> Fault
     ensures refused { (r : AnyRefusal) → result ≡ Fault.Refused r → (s : Machine) → LacksSentence s number → counts.now.moves ≡ length s.moves → Steps counts.now.limits s (pull_it number user.now) (refused_by r) s }
     ensures fails { (s : Machine) → LacksSentence s number → counts.now.moves ≡ length s.moves → result ≢ Fault.NotADesk }
+    ensures cause { IsNoDevice result }
 {
     match judge_pull(&counts.limits, number, user, None, u64::from(counts.moves)) {
         Err(refusal) => Fault::Refused(refusal),
@@ -207,6 +214,7 @@ fn plan_restore(
     ensures refused { (r : AnyRefusal) → result ≢ Err (Fault.Refused r) }
     ensures fails { (s : Machine) (x : Sentence) → IsReachable s → IsAllowed s (restoring (number - 1) user.now) → IsReachable (after s (restoring (number - 1) user.now)) → IsCounted counts.now s → slice_get s.sentences (number - 1) ≡ Some x → IsRead s x read.now
         → result ≢ Err Fault.NotADesk }
+    ensures cause { IfErr result IsNoDevice }
 {
     let no = next_move(counts)?;
     let who = String::from_str(alloc, user)?;
@@ -236,6 +244,7 @@ fn decide_restore(
         → Steps counts.now.limits s (restore_it number user.now) (refused_by r) s }
     ensures fails { (s : Machine) (x : Sentence) → IsReachable s → IsCounted counts.now s → IsWithin counts.now.limits → slice_get s.sentences (number - 1) ≡ Some x → IsRead s x read.now
         → result ≢ Err Fault.NotADesk }
+    ensures cause { IfErr result IsNoDevice }
     ensures room { IfOk result (λ _. counts.now.moves + 1 ≤ 1000000000) }
 {
     commands_stay_within_limits();
@@ -270,6 +279,7 @@ fn restore_planned<S: Alter>(
         → Steps counts.now.limits s (restore_it number user.now) (refused_by r) s × IsDesk S.Store conn.new s) }
     ensures fails { KnowsDeskWhere S.Store conn.old conn.new result (λ s so. IsCounted counts.now s → IsWithin counts.now.limits
         → number ≤ length s.sentences → so) }
+    ensures cause { IsFaultless S.Store conn.old conn.new → FailsOnlyAs IsNoDevice S.Store conn.old conn.new result }
     ensures room { IfOk result (λ _. counts.now.moves + 1 ≤ 1000000000) }
     ensures same { ChangesNothing S.Store conn.old conn.new result }
     ensures mode { conn.old.in_transaction ≡ false → conn.new.in_transaction ≡ false }
@@ -316,6 +326,7 @@ pub fn restore<S: Alter>(
 pub fn no_restore(counts: &Counts, number: u64, user: &str) -> Fault
     ensures refused { (r : AnyRefusal) → result ≡ Fault.Refused r → (s : Machine) → LacksSentence s number → counts.now.moves ≡ length s.moves → Steps counts.now.limits s (restore_it number user.now) (refused_by r) s }
     ensures fails { (s : Machine) → LacksSentence s number → counts.now.moves ≡ length s.moves → result ≢ Fault.NotADesk }
+    ensures cause { IsNoDevice result }
 {
     match judge_restore(&counts.limits, number, user, None, u64::from(counts.moves)) {
         Err(refusal) => Fault::Refused(refusal),

@@ -19,6 +19,8 @@ ghost use Rattle.tb_acting.specs.Working.{IsDone};
 ghost use Rattle.tb_acting.specs.Stepping.{seen_of, event_move, IsPlanned};
 ghost use Rattle.tb_standing.specs.Telling.{CrashesTo, KnowsDeskWhere, RefusesAs, Tells, TellsOnOk};
 ghost use Rattle.tb_tables.specs.Leaving.{ChangesNothing, CommitsNothing, KeepsRecords, KeepsRecordsOnErr};
+ghost use Rattle.tb_tables.specs.Leaving.{IsFaultless, FailsOnlyAs};
+ghost use Rattle.tb_recording.specs.Faults.{IsNoDevice};
 
 use crate::finding::{BatchRead, find_batch};
 use crate::working::{Sums, find_work};
@@ -89,6 +91,7 @@ fn judge(
     ensures found { IfOk result (λ r. (found ≡ Some r.0) × (r.1 ≡ makes_worker event)) }
     ensures refused { (r : AnyRefusal) → result ≡ Err (Fault.Refused r) → (s : Machine) → Reached s → FindsBatch s name.now (option_map seen_of found) → counts.now.moves ≡ length s.moves → Steps counts.now.limits s (event_on name.now event user.now) (refused_by r) s }
     ensures fails { (s : Machine) → Reached s → FindsBatch s name.now (option_map seen_of found) → counts.now.moves ≡ length s.moves → result ≢ Err Fault.NotADesk }
+    ensures cause { IfErr result IsNoDevice }
     ensures accepted { IfOk result (λ r. (s : Machine) → Reached s → FindsBatch s name.now (option_map seen_of found) → counts.now.moves ≡ length s.moves
         → let act = stepping (r.0.number - 1) event user.now in
         IsAllowed s act × Steps counts.now.limits s (event_on name.now event user.now) (replied (reply_to s act)) (after s act)) }
@@ -115,6 +118,7 @@ fn worker_after(alloc: Global, makes: Worker, user: &str, worker: String) -> Res
     ensures value { IfOk result (λ name. string_bytes name ≡ with_worker makes user.now (string_bytes worker)) }
     ensures refused { (r : AnyRefusal) → result ≢ Err (Fault.Refused r) }
     ensures fails { result ≢ Err Fault.NotADesk }
+    ensures cause { IfErr result IsNoDevice }
 {
     match makes {
         Worker::Keep => Ok(worker),
@@ -135,6 +139,7 @@ fn event_step(
     ensures step { IfOk result (λ m. m ≡ event_move number event found.now sums user.now) }
     ensures refused { (r : AnyRefusal) → result ≢ Err (Fault.Refused r) }
     ensures fails { result ≢ Err Fault.NotADesk }
+    ensures cause { IfErr result IsNoDevice }
 {
     Ok(Move {
         no: u64::from(number),
@@ -170,6 +175,7 @@ fn plan(
         → slice_get s.batches place ≡ Some b → found.number ≡ place + 1 → found.state ≡ b.state
         → sums.sentences ≡ weigh (at_work (place + 1) one) s.sentences → sums.words ≡ weigh (at_work (place + 1) words) s.sentences
         → result ≢ Err Fault.NotADesk }
+    ensures cause { IfErr result IsNoDevice }
 {
     let step = event_step(alloc, next_move(counts)?, event, &found, sums, user)?;
     let prepared = prepare(counts, step)?;
@@ -202,6 +208,7 @@ fn planned<S: Alter>(
     ensures refused { RefusesAs S.Store conn.old conn.new result (λ s r. IsCounted counts.now s
         → Steps counts.now.limits s (event_on name.now event user.now) (refused_by r) s × IsDesk S.Store conn.new s) }
     ensures fails { KnowsDeskWhere S.Store conn.old conn.new result (λ s so. IsCounted counts.now s → IsWithin counts.now.limits → so) }
+    ensures cause { IsFaultless S.Store conn.old conn.new → FailsOnlyAs IsNoDevice S.Store conn.old conn.new result }
     ensures room { IfOk result (λ _. counts.now.moves + 1 ≤ 1000000000) }
     ensures same { ChangesNothing S.Store conn.old conn.new result }
     ensures mode { conn.old.in_transaction ≡ false → conn.new.in_transaction ≡ false }

@@ -1,6 +1,6 @@
 //! What of a batch its events move: its sentences that are not pulled.
 
-ghost use Rattle.std.specs.Prelude.{◌≡◌, ◌≢◌, ◌<◌, ◌≤◌, ◌+◌, ◌^◌, length, Err, sum_by, map, IfOk, false};
+ghost use Rattle.std.specs.Prelude.{◌≡◌, ◌≢◌, ◌<◌, ◌≤◌, ◌+◌, ◌^◌, length, Err, sum_by, map, IfOk, false, IfErr};
 ghost use Rattle.sqlite_trees.specs.Tree.{IsAscending};
 ghost use Rattle.tb_core.specs.declared.refusals.Refusal.{Refusal as AnyRefusal};
 ghost use Rattle.tb_core.specs.Machine.{weigh, at_work, one, words};
@@ -9,7 +9,8 @@ ghost use Rattle.tb_standing.specs.Standing.{sentence_record};
 ghost use Rattle.tb_reading.specs.Found.{work_of};
 ghost use Rattle.tb_acting.specs.Working.{is_listed, unless_pulled, each_one, its_words};
 ghost use Rattle.tb_standing.specs.Telling.{KnowsDesk, Tells};
-ghost use Rattle.tb_tables.specs.Leaving.{ChangesNothing, CommitsNothing, KeepsRecords};
+ghost use Rattle.tb_tables.specs.Leaving.{ChangesNothing, CommitsNothing, KeepsRecords, IsFaultless, FailsOnlyAs};
+ghost use Rattle.tb_recording.specs.Faults.{IsNoDevice};
 
 use sqlite::{Alter, Connection};
 use std::alloc::Global;
@@ -37,6 +38,7 @@ fn with_one(sums: Sums, item: &Work) -> Result<Sums, Fault>
     ensures value { IfOk result (λ r. (r.sentences ≡ sums.sentences + 1) × (r.words ≡ sums.words + item.now.words)) }
     ensures refused { (r : AnyRefusal) → result ≢ Err (Fault.Refused r) }
     ensures fails { sums.sentences + 1 < 2 ^ 32 → sums.words + item.now.words < 2 ^ 32 → result ≢ Err Fault.NotADesk }
+    ensures cause { IfErr result IsNoDevice }
 {
     let (Some(sentences), Some(words)) = (
         sums.sentences.checked_add(1),
@@ -53,6 +55,7 @@ fn with_work(sums: Sums, item: &Work, pulled: &[u32]) -> Result<Sums, Fault>
     ensures bound { IfOk result (λ r. (r.sentences ≤ sums.sentences + 1) × (r.words ≤ sums.words + item.now.words)) }
     ensures refused { (r : AnyRefusal) → result ≢ Err (Fault.Refused r) }
     ensures fails { sums.sentences + 1 < 2 ^ 32 → sums.words + item.now.words < 2 ^ 32 → result ≢ Err Fault.NotADesk }
+    ensures cause { IfErr result IsNoDevice }
 {
     if is_among(item.number, pulled) {
         return Ok(sums);
@@ -65,6 +68,7 @@ fn sums_of(work: &[Work], pulled: &[u32]) -> Result<Sums, Fault>
     ensures value { IfOk result (λ r. IsAscending (λ a b. a < b) pulled.now → (r.sentences ≡ sum_by (unless_pulled pulled.now each_one) work.now) × (r.words ≡ sum_by (unless_pulled pulled.now its_words) work.now)) }
     ensures refused { (r : AnyRefusal) → result ≢ Err (Fault.Refused r) }
     ensures fails { length work.now < 2 ^ 32 → sum_by its_words work.now < 2 ^ 32 → result ≢ Err Fault.NotADesk }
+    ensures cause { IfErr result IsNoDevice }
 {
     let mut sums = Sums {
         sentences: 0,
@@ -85,6 +89,7 @@ fn read_work<S: Alter>(
     ensures answered { Tells S.Store conn.old conn.new result (λ s v. v.items ≡ work_of number 1 (map sentence_record s.sentences)) }
     ensures refused { (r : AnyRefusal) → result ≢ Err (Fault.Refused r) }
     ensures fails { KnowsDesk S.Store conn.old conn.new result }
+    ensures cause { IsFaultless S.Store conn.old conn.new → FailsOnlyAs IsNoDevice S.Store conn.old conn.new result }
     ensures same { ChangesNothing S.Store conn.old conn.new result }
     ensures mode { conn.old.in_transaction ≡ false → conn.new.in_transaction ≡ false }
     ensures kept { KeepsRecords S.Store conn.old conn.new }
@@ -103,6 +108,7 @@ fn read_pulled<S: Alter>(alloc: Global, conn: &mut Connection<S>) -> Result<Vec<
     ensures answered { Tells S.Store conn.old conn.new result (λ s v. v.items ≡ pulled_from 1 s.sentences) }
     ensures refused { (r : AnyRefusal) → result ≢ Err (Fault.Refused r) }
     ensures fails { KnowsDesk S.Store conn.old conn.new result }
+    ensures cause { IsFaultless S.Store conn.old conn.new → FailsOnlyAs IsNoDevice S.Store conn.old conn.new result }
     ensures same { ChangesNothing S.Store conn.old conn.new result }
     ensures mode { conn.old.in_transaction ≡ false → conn.new.in_transaction ≡ false }
     ensures kept { KeepsRecords S.Store conn.old conn.new }
@@ -124,6 +130,7 @@ pub(crate) fn find_work<S: Alter>(
     ensures answered { Tells S.Store conn.old conn.new result (λ s r. (r.sentences ≡ weigh (at_work number one) s.sentences) × (r.words ≡ weigh (at_work number words) s.sentences)) }
     ensures refused { (r : AnyRefusal) → result ≢ Err (Fault.Refused r) }
     ensures fails { KnowsDesk S.Store conn.old conn.new result }
+    ensures cause { IsFaultless S.Store conn.old conn.new → FailsOnlyAs IsNoDevice S.Store conn.old conn.new result }
     ensures same { ChangesNothing S.Store conn.old conn.new result }
     ensures mode { conn.old.in_transaction ≡ false → conn.new.in_transaction ≡ false }
     ensures kept { KeepsRecords S.Store conn.old conn.new }

@@ -21,7 +21,8 @@ pub record HasRead {S X : Type 0} (g : Ghosts S) (old new : Held S) (result : Re
   pub shown : HasCleanDisk (state g new) → IfOk result (λ x. (state g old).now.schema ≡ desk_schema → IsShown x (state g old).now.trees)
   pub told : HasCleanDisk (state g new) → IfOk result (λ x. (state g old).now.schema ≡ desk_schema → (s : Machine) → IsReachable s → Stands (tables_of s) (state g old).now.trees → IsHeld x (tables_of s))
   pub unfit : HasCleanDisk (state g new) → result ≡ Err NotADesk → (state g old).now.schema ≡ desk_schema → (s : Machine) → IsReachable s → Stands (tables_of s) (state g old).now.trees → ⊥
-  pub untouched : HasCleanDisk (state g new) → result ≡ Err NotADesk → (state g old).now.schema ≡ desk_schema → IsUnchanged (state g old) (state g new)
+  pub untouched : HasCleanDisk (state g new) → result ≡ Err NotADesk → (state g old).now.schema ≡ desk_schema
+      → IsUnchanged (state g old) (state g new)
   pub sees : SeesAsBefore g old new
   pub refused : (r : Refusal) → result ≢ Err (Refused r)
   pub same : HasCleanDisk (state g new) → OnOk result ((state g old).now.schema ≡ desk_schema → IsUnchanged (state g old) (state g new))

@@ -81,11 +81,13 @@ IsOutput g l s (asks q) new text own =
 -- no doubt of the disk, and no fault of it, is forgotten
 abbrev pub ForgetsNothing : {S : Type 0} → Ghosts S → (old new : Kept S) → Type 0
 ForgetsNothing g old new =
-    (doubt (state g old.conn).is_clean ≤ doubt (state g new.conn).is_clean) × ((state g old.conn).faults ≤ (state g new.conn).faults)
+    (doubt (state g old.conn).is_clean ≤ doubt (state g new.conn).is_clean)
+    × ((state g old.conn).faults ≤ (state g new.conn).faults)
 
 -- no fault of the disk came: the count of faults, which ends at 2 ^ 64 - 1, did not grow
 abbrev pub HasNoNewFault : {S : Type 0} → Ghosts S → (old new : Kept S) → Type 0
-HasNoNewFault g old new = ((state g new.conn).faults ≤ (state g old.conn).faults) × ((state g old.conn).faults < 2 ^ 64 - 1)
+HasNoNewFault g old new =
+    ((state g new.conn).faults ≤ (state g old.conn).faults) × ((state g old.conn).faults < 2 ^ 64 - 1)
 
 -- nothing is written to the store of a desk that a crash could leave
 abbrev pub ReadsOnly : {S : Type 0} → Ghosts S → (old new : Kept S) → Type 0

@@ -38,8 +38,8 @@ IsFailure r = (r ≡ reply.Memory) ⊎ (r ≡ reply.Device)
 abbrev pub IsStoreFailure : Reply → Type 0
 IsStoreFailure r = IsFailure r ⊎ (r ≡ reply.Desk)
 
--- In this state the command has the machine's answer, and its next state outlasts a crash. Or memory was wanted, and the state
--- outlasts a crash as it was. Or the device failed, and it does so where the store is open.
+-- In this state the command has the machine's answer, and its next state outlasts a crash. Or memory was wanted, and
+-- the state outlasts a crash as it was. Or the device failed, and it does so where the store is open.
 abbrev pub IsAnswered : {S : Type 0} → Ghosts S → Limits → Machine → Command → (new : Kept S) → Reply → Type 0
 IsAnswered g l s c new r =
     ((a : Answer) × (t : Machine) × Steps l s c a t × IsDurable g new t × (r ≡ reply_for a))

@@ -47,7 +47,8 @@ reading_in _ = None
 
 -- what a sink holds of a reading in a state, and the exit status
 abbrev pub IsRead : {Reason : Type 0} → Limits → Machine → ReadingText → (held holds : Option (List ℕ)) → (Reason → Type 0) → (status : ℕ) → Type 0
-IsRead l s (exported name) held holds is_refusal status = (text : List ℕ) × (own : ℕ) × IsExportOutput s name text own × IsWritten held holds text own is_refusal status
+IsRead l s (exported name) held holds is_refusal status =
+    (text : List ℕ) × (own : ℕ) × IsExportOutput s name text own × IsWritten held holds text own is_refusal status
 IsRead l s (searched x) held holds is_refusal status = IsSearchRun l s x held holds is_refusal status
 IsRead l s (counted x) held holds is_refusal status = (text : List ℕ) × (own : ℕ) × IsCountOutput l s x text own × IsWritten held holds text own is_refusal status
 

@@ -15,6 +15,7 @@ use Rattle.tb_http.specs.Faults.{BeginsBody}
 use Rattle.tb_http.specs.Replies.{status_of}
 use Rattle.tb_store.specs.Kept.{Kept}
 use Rattle.tb_store.specs.Standing.{StandsFor}
+use Rattle.tb_store.specs.Calls.{InState}
 use Rattle.tb_answers.specs.Calls.{CallText, call_asked, IsSafe, ReadsOnly}
 use Rattle.tb_answers.specs.Responses.{reply_response, IsResponse, IsSent}
 use Rattle.tb_answers.specs.Exported.{IsExportResponse}
@@ -69,8 +70,8 @@ module _ {Reason : Type 0} (before after : Option (List ℕ)) (is_refusal : Reas
   IsReplied g l s (refused why) old new = (new ≡ old) × IsReplySent (Faulty why)
   IsReplied g l s (called c) old new = IsCallSent g l s (call_asked c.act c.user c.body) c.act c.body new
 
-  -- The response to the bytes of a request, in a state: to what they ask. Or memory is wanting for a body that they begin, before
-  -- anything is done.
+  -- The response to the bytes of a request, in a state: to what they ask. Or memory is wanting for a body that they
+  -- begin, before anything is done.
   abbrev pub IsAnswerTo : {S : Type 0} → Ghosts S → Limits → Machine → (bytes : Option (List ℕ)) → (old new : Kept S) → Type 0
   IsAnswerTo g l s bytes old new =
       ((told : Told) × AsksKnown bytes told × IsReplied g l s told old new)
@@ -99,6 +100,13 @@ outcome (Some status) = Ok status
 outcome None = Err Write
 
 -- The response to the bytes of a request in a state, and what is told of it.
-abbrev pub IsServed : {S Reason : Type 0} → Ghosts S → Limits → Machine → (bytes : Option (List ℕ)) → (old new : Kept S) → (before after : Option (List ℕ)) → (Reason → Type 0) → Result Status Broken → Type 0
+abbrev pub IsServed : {S Reason : Type 0} → Ghosts S → Limits → Machine → (bytes : Option (List ℕ)) → (old new : Kept S)
+    → (before after : Option (List ℕ)) → (Reason → Type 0) → Result Status Broken → Type 0
 IsServed g l s bytes old new before after is_refusal result =
     (sent : Option Status) × IsAnswerTo before after is_refusal sent g l s bytes old new × (result ≡ outcome sent)
+
+-- The same in the state for which the desk stands.
+abbrev pub Serves : {S Reason : Type 0} → Ghosts S → (bytes : Option (List ℕ)) → (old new : Kept S)
+    → (before after : Option (List ℕ)) → (Reason → Type 0) → Result Status Broken → Type 0
+Serves g bytes old new before after is_refusal result =
+    InState g old new (λ s. IsServed g old.limits s bytes old new before after is_refusal result)

@@ -27,7 +27,7 @@ use Rattle.tb_answers.specs.Commanded.{reply_for, IsFailure}
 use Rattle.tb_answers.specs.Responses.{reply_response, body_response}
 use Rattle.tb_answers.specs.declared.answering.Broken.{Broken}
 use Rattle.tb_answers.specs.declared.answering.Broken.TheVariants.{Write}
-use Rattle.tb_answers.specs.Served.{IsSentAs, IsReplySent, IsTextSent, IsSafeOf, IsServed, outcome}
+use Rattle.tb_answers.specs.Served.{IsSentAs, IsReplySent, IsTextSent, IsSafeOf, Serves, outcome}
 
 -- ---- one request, in terms of states alone
 
@@ -55,13 +55,18 @@ module _ (l : Limits) (s t : Machine) where
     HasAnswer (refused why) = (t ≡ s) × IsReplySent before after is_refusal sent (Faulty why)
     HasAnswer (called c) = HasResponse (call_asked c.act c.user c.body) c.act c.body
 
-  -- The bytes of a request lead from s to t: what they ask was done and responded to. Or memory was wanting for a body that they
-  -- begin, before anything was done.
-  abbrev pub LeadsBy : {Reason : Type 0} → (bytes : List ℕ) → (before after : Option (List ℕ)) → (Reason → Type 0) → Result Status Broken → Type 0
+    -- That of the bytes of a request: of what they ask. Or memory was wanting for a body that they begin, before
+    -- anything was done.
+    abbrev pub HasAnswerTo : (bytes : List ℕ) → Type 0
+    HasAnswerTo bytes =
+        ((told : Told) × Asks body_limit bytes told × HasAnswer told)
+        ⊎ ((t ≡ s) × BeginsBody body_limit bytes × IsReplySent before after is_refusal sent Memory)
+
+  -- The bytes of a request lead from s to t: what they ask was done and responded to.
+  abbrev pub LeadsBy : {Reason : Type 0} → (bytes : List ℕ) → (before after : Option (List ℕ)) → (Reason → Type 0)
+      → Result Status Broken → Type 0
   LeadsBy bytes before after is_refusal result =
-      (sent : Option Status)
-      × (((told : Told) × Asks body_limit bytes told × HasAnswer before after is_refusal sent told) ⊎ ((t ≡ s) × BeginsBody body_limit bytes × IsReplySent before after is_refusal sent Memory))
-      × (result ≡ outcome sent)
+      (sent : Option Status) × HasAnswerTo before after is_refusal sent bytes × (result ≡ outcome sent)
 
 -- ---- what a crash leaves
 
@@ -105,9 +110,19 @@ module _ {W Reason : Type 0} (held : W → Option (List ℕ)) (is_refusal : W �
       ⊎ (LeadsBy l s t b (held u) (held v) (is_refusal v) (Err Write) × (result ≡ Err Write))
 
   module _ {S : Type 0} (g : Ghosts S) where
+    -- they lead on from each state for which the desk stood to one for which it stands
+    abbrev pub LeadOn : List (List ℕ) → (old new : Kept S) → (before after : W) → Result (Unit {0}) Broken → Type 0
+    LeadOn bs d e u v result =
+        (s : Machine) → StandsFor g d s → (t : Machine) × StandsFor g e t × Lead d.limits bs s t u v result
+
+    -- a crash leaves the tables that it left before, or those of a state that some of the requests lead to
+    abbrev pub CrashesToAnEnd : List (List ℕ) → (old new : Kept S) → Type 0
+    CrashesToAnEnd bs d e =
+        (s : Machine) → StandsFor g d s → Survives (state g d.conn) (state g e.conn) (HoldsAnEndOf d.limits bs s)
+
     -- one request in memory, answered on a desk: all that is said of it, whatever the disk did
     pub record IsAnswered (bytes : List ℕ) (old new : Kept S) (before after : W) (told : Result Status Broken) : Type 0 where
-      pub answered : HasCleanDisk (state g new.conn) → (s : Machine) → StandsFor g old s → IsServed g old.limits s (Some bytes) old new (held before) (held after) (is_refusal after) told
+      pub answered : Serves g (Some bytes) old new (held before) (held after) (is_refusal after) told
       pub crash : IsSafeOf g (Some bytes) old new
       pub limits : new.limits ≡ old.limits
 
@@ -125,5 +140,5 @@ module _ {W Reason : Type 0} (held : W → Option (List ℕ)) (is_refusal : W �
     abbrev pub AreServed : List (List ℕ) → (old new : Kept S) → (before after : W) → Result (Unit {0}) Broken → Type 0
     AreServed bs d e u v result =
         (desks : List (Kept S)) × AreAnswered bs d e u v desks result
-        × (AllByRecursion (IsSound g) desks → (s : Machine) → StandsFor g d s → (t : Machine) × StandsFor g e t × Lead d.limits bs s t u v result)
-        × (AllButLast (IsSound g) desks → (s : Machine) → StandsFor g d s → Survives (state g d.conn) (state g e.conn) (HoldsAnEndOf d.limits bs s))
+        × (AllByRecursion (IsSound g) desks → LeadOn bs d e u v result)
+        × (AllButLast (IsSound g) desks → CrashesToAnEnd bs d e)

@@ -1,14 +1,10 @@
 //! One request, read, done and answered.
 
 ghost use Rattle.std.specs.Prelude.{◌≡◌, ◌≢◌, ◌≤◌, ◌+◌, ℕ, List, [], length, IfErr, Err as ErrOf, map, vec_items};
-ghost use Rattle.sqlite.specs.State.{HasCleanDisk};
-ghost use Rattle.sqlite.specs.Held.{state};
 ghost use Rattle.tb_conllu.specs.Pieces.{AskedFor};
-ghost use Rattle.tb_core.specs.Machine.{Machine};
-ghost use Rattle.tb_store.specs.Standing.{StandsFor};
 ghost use Rattle.tb_http.specs.Asks.{body_limit};
 ghost use Rattle.tb_http.specs.Faults.{AwaitsMore, IsAtMostOne, TakenAfter};
-ghost use Rattle.tb_answers.specs.Served.{IsServed, IsSafeOf, outcome};
+ghost use Rattle.tb_answers.specs.Served.{IsSafeOf, Serves, outcome};
 ghost use Rattle.tb_answers.specs.Turns.{AreServed};
 
 use crate::asks::respond_ask;
@@ -44,8 +40,9 @@ fn outcome(sent: Option<Status>) -> Result<Status, Broken>
 ///
 /// # Errors
 ///
-/// `Read`, where the reader failed while a head or a body was wanting: the desk and the sink are as before. `Write`, where the sink refused a part of the
-/// response: it holds a part from the front, and a command that was accepted stays accepted.
+/// `Read`, where the reader failed while a head or a body was wanting: the desk and the sink are as before. `Write`,
+/// where the sink refused a part of the response: it holds a part from the front, and a command that was accepted
+/// stays accepted.
 pub fn answer<S: Alter, R: Source, W: Sink>(
     alloc: Global,
     routes: &Routes,
@@ -53,7 +50,8 @@ pub fn answer<S: Alter, R: Source, W: Sink>(
     reader: &mut R,
     out: &mut W,
 ) -> Result<Status, Broken>
-    ensures answered { result ≢ ErrOf Broken.Read → HasCleanDisk (state S.Store desk.new.conn) → (s : Machine) → StandsFor S.Store desk.old s → IsServed S.Store desk.old.limits s (R.left reader.old) desk.old desk.new (W.held out.old) (W.held out.new) (W.IsRefusal out.new) result }
+    ensures answered { result ≢ ErrOf Broken.Read → Serves S.Store (R.left reader.old) desk.old desk.new
+        (W.held out.old) (W.held out.new) (W.IsRefusal out.new) result }
     ensures broken { result ≡ ErrOf Broken.Read → (desk.new ≡ desk.old) × (W.held out.new ≡ W.held out.old) }
     ensures cause { result ≡ ErrOf Broken.Read → ((why : R.Failure) × R.IsFailure reader.new why)
         × TakenAfter [] (R.left reader.old) (R.left reader.new) (AwaitsMore body_limit) }

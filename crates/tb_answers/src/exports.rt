@@ -77,8 +77,8 @@ fn export_body<S: Alter>(
     }
 }
 
-/// Puts the text of an export, and gives the exit status; or puts the line of a reply. The text is whole in memory before its
-/// first byte is put, so that a sink has all of it or none.
+/// Puts the text of an export, and gives the exit status; or puts the line of a reply. The text is whole in memory
+/// before its first byte is put, so that a sink has all of it or none.
 pub fn run_export<S: Alter, W: Sink>(
     alloc: Global,
     desk: &mut Desk<S>,

@@ -5,7 +5,8 @@ ghost use Rattle.tb_desk.specs.Check.{file_limit};
 ghost use Rattle.tb_line.specs.Lines.{said_by};
 ghost use Rattle.tb_answers.specs.Taken.{IsTaken, WithTaken, has_body};
 ghost use Rattle.tb_answers.specs.Calls.{call_by, call_in, ReadsOnly};
-ghost use Rattle.tb_answers.specs.Ran.{reading_by, reading_in, IsRead, IsCalled, IsDone, IsRan, IsCallSafe, IsDoneSafe, IsLineSafe};
+ghost use Rattle.tb_answers.specs.Ran.{reading_by, reading_in, IsRead, IsCalled, IsDone, IsRan, IsCallSafe};
+ghost use Rattle.tb_answers.specs.Ran.{IsDoneSafe, IsLineSafe};
 ghost use Rattle.tb_store.specs.Calls.{InState, StandsAsBefore};
 
 use crate::calls::DeskCall;
@@ -30,9 +31,9 @@ fn has_body(line: &Line) -> bool
     matches!(line, Line::Import { .. } | Line::Correct { .. })
 }
 
-/// The body of a line: all that the reader gives, up to 4,194,304 bytes, where the line is an import or a correction, and
-/// nothing for other lines, which leave the reader as it was. In its place comes the reply that says why it did not come: a
-/// failed device only where the reader failed.
+/// The body of a line: all that the reader gives, up to 4,194,304 bytes, where the line is an import or a correction,
+/// and nothing for other lines, which leave the reader as it was. In its place comes the reply that says why it did
+/// not come: a failed device only where the reader failed.
 pub fn read_body<R: Source>(alloc: Global, line: &Line, reader: &mut R) -> Result<Vec<u8>, Reply>
     ensures { MatchResult result
         (λ v. IsTaken R.IsFailure R.left file_limit (said_by line.now) reader.old reader.new (Taken v.items))

@@ -1,10 +1,11 @@
 -- What may be wrong with a line, in nine conditions, each by itself.
--- CoNLL-U format page (https://universaldependencies.org/format.html): a file is UTF-8 and NFC; a blank line ends a sentence;
--- a line that begins with a hash is a comment, and stands before the word lines; every other line is a word line of ten
--- fields, with one tab between each two; no field is empty, and only FORM, LEMMA and MISC may hold white space; an ID is an
--- integer from 1, a range of two, or a decimal number of an empty node; a HEAD is an integer from 0, or an underscore.
--- Numbers of at most six digits, and no control character but tab, are this project's own limits.
-use Rattle.std.specs.Prelude.{◌≡◌, ◌≢◌, ℕ, ◌<◌, ◌⊎◌, List, [], ◌∷◌, length, take, Any, Bool, true, false, IfSome, Option, chars}
+-- CoNLL-U format page (https://universaldependencies.org/format.html): a file is UTF-8 and NFC; a blank line ends a
+-- sentence; a line that begins with a hash is a comment, and stands before the word lines; every other line is a word
+-- line of ten fields, with one tab between each two; no field is empty, and only FORM, LEMMA and MISC may hold white
+-- space; an ID is an integer from 1, a range of two, or a decimal number of an empty node; a HEAD is an integer from
+-- 0, or an underscore. Numbers of at most six digits, and no control character but tab, are this project's own limits.
+use Rattle.std.specs.Prelude.{◌≡◌, ◌≢◌, ℕ, ◌<◌, ◌⊎◌, List, [], ◌∷◌, length, take, Any, Bool, true, false, IfSome}
+use Rattle.std.specs.Prelude.{Option, chars}
 use Rattle.std.specs.Str.{IsUtf8}
 use Rattle.tb_chars.specs.Spaces.{has_space}
 use Rattle.unicode_normalization.specs.Forms.{IsInForm, Nfc}

@@ -37,9 +37,9 @@ IsSurvey bs s = (s.sentences ≡ length bs) × (s.words ≡ words_in bs) × Matc
 abbrev pub file_limit : ℕ
 file_limit = 4194304
 
--- The reply that is true of an input of at most `limit` bytes, or of a longer one. Want of memory may come in place of any
--- other reply, where there is a byte to hold. A failed device is true of no input. A rule is told only of a file that can
--- be read whole.
+-- The reply that is true of an input of at most `limit` bytes, or of a longer one. Want of memory may come in place
+-- of any other reply, where there is a byte to hold. A failed device is true of no input. A rule is told only of a
+-- file that can be read whole.
 abbrev pub IsReplyTo : ℕ → List ℕ → CheckReply → Type 0
 IsReplyTo limit input (Counts sentences words) = (length input ≤ limit) × ((bs : List BlockText) × IsFile input bs × IsValid bs × (sentences ≡ length bs) × (words ≡ words_in bs))
 IsReplyTo limit input (Read line code) = (length input ≤ limit) × IsTold input line code

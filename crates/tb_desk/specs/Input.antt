@@ -14,7 +14,8 @@ IsBrokenWithin {Why} is_failure limit old new = ((why : Why) × is_failure why) 
 
 -- what was found, and what was taken for it; memory is wanted only for bytes that came
 abbrev pub IsInput : {Why : Type 0} → (Why → Type 0) → ℕ → Option (List ℕ) → Option (List ℕ) → Input → Type 0
-IsInput is_failure limit old new (Whole bytes) = Consumes old new bytes.items × IsAtEnd new × (length bytes.items ≤ limit)
+IsInput is_failure limit old new (Whole bytes) =
+    Consumes old new bytes.items × IsAtEnd new × (length bytes.items ≤ limit)
 IsInput is_failure limit old new TooLong = TakenSome old new (λ n. n ≡ limit + 1)
 IsInput is_failure limit old new Memory = TakenSome old new (λ n. (0 < n) × (n ≤ limit + 1))
 IsInput is_failure limit old new Broken = IsBrokenWithin is_failure limit old new

@@ -132,8 +132,8 @@ fn check_source<R: Source>(alloc: Global, source: &mut R, limit: u64) -> CheckRe
 
 /// Checks at most so many bytes, writes the reply, and gives the exit status.
 ///
-/// Whatever the source, one of the replies is written whole, with its own status, or the sink refused it. The reply is a
-/// failed device only where the source failed. Where the source says what it will give, the reply is true of it.
+/// Whatever the source, one of the replies is written whole, with its own status, or the sink refused it. The reply
+/// is a failed device only where the source failed. Where the source says what it will give, the reply is true of it.
 pub fn check_within<R: Source, S: Sink>(
     alloc: Global,
     source: &mut R,

@@ -1,4 +1,5 @@
-//! What is asked of a source, and what is answered where it fails: sources that count their pieces, and that are cut off.
+//! What is asked of a source, and what is answered where it fails: sources that count their pieces, and that are cut
+//! off.
 
 ghost use Rattle.std.specs.Prelude.{◌≡◌, ◌≤◌, [], length, map, vec_items, None, Some};
 ghost use Rattle.tb_desk.specs.Check.{Answers, file_limit};

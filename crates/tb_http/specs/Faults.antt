@@ -42,7 +42,8 @@ IsFaultOf limit taken ask.Memory = BeginsBody limit taken
 
 -- no more bytes than a head may have, or such a head and no more than its body
 abbrev pub IsAtMostOne : ℕ → List ℕ → Type 0
-IsAtMostOne limit taken = (length taken ≤ 8192) ⊎ ((front : Front) × (n : ℕ) × HasCall limit taken front n × (length front.rest ≤ n))
+IsAtMostOne limit taken =
+    (length taken ≤ 8192) ⊎ ((front : Front) × (n : ℕ) × HasCall limit taken front n × (length front.rest ≤ n))
 
 -- where that fault may come, after these of the n bytes of a body came
 abbrev pub IsBodyFaultOf : ℕ → List ℕ → BodyFault → Type 0

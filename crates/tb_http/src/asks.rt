@@ -1,6 +1,7 @@
 //! What the bytes of a request ask, from any reader.
 
-ghost use Rattle.std.specs.Prelude.{◌≡◌, ◌≢◌, ◌≤◌, ◌+◌, ◌++◌, ℕ, List, [], length, option_map, IfOk, IfErr, IfSome, Err as ErrOf};
+ghost use Rattle.std.specs.Prelude.{◌≡◌, ◌≢◌, ◌≤◌, ◌+◌, ◌++◌, ℕ, List, [], length, option_map, IfOk, IfErr, IfSome};
+ghost use Rattle.std.specs.Prelude.{Err as ErrOf};
 ghost use Rattle.httparse.specs.Spans.{IsRequestOf, IsRequestWithin};
 ghost use Rattle.tb_conllu.specs.Pieces.{AskedFor};
 ghost use Rattle.tb_http.specs.Actions.{act_by};
@@ -165,8 +166,8 @@ fn ask_within<'b, R: Source>(
 
 /// What the bytes of the reader ask. The head is read into `buf`, and the texts of the call lie there.
 ///
-/// Each read is made while a head or a body is still wanting, so nothing is read after the body. No more is taken than a head
-/// of 8,192 bytes and its body.
+/// Each read is made while a head or a body is still wanting, so nothing is read after the body. No more is taken
+/// than a head of 8,192 bytes and its body.
 ///
 /// # Errors
 ///

@@ -16,8 +16,8 @@ ComesOnly (Clap e) C U = C
 ComesOnly Usage C U = U
 ComesOnly Memory C U = ⊤
 
--- clap's definition refuses words by these kinds of error, and takes them where there is none: a result comes only of words that
--- it takes, and an error of clap has one of the kinds
+-- clap's definition refuses words by these kinds of error, and takes them where there is none: a result comes only of
+-- words that it takes, and an error of clap has one of the kinds
 abbrev pub AnswersAs : {T : Type 0} → Kinds → Result T LineFault → Type 0
 AnswersAs kinds (Ok x) = kinds ≡ []
 AnswersAs kinds (Err (Clap e)) = IsAmong (kind_of e) kinds

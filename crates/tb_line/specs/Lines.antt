@@ -6,7 +6,8 @@ use Rattle.clap.specs.Words.{Row, Text, first_of}
 use Rattle.tb_core.specs.declared.kinds.Event.{Event}
 use Rattle.tb_match.specs.declared.strategy.Strategy.{Strategy}
 use Rattle.tb_syntax.specs.declared.lexeme.Attr.{Attr}
-use Rattle.tb_http.specs.Forms.{is_slash, name_of, number_of, base_of, context_of, event_of, strategy_of, attribute_of, port_of, requests_of}
+use Rattle.tb_http.specs.Forms.{is_slash, name_of, number_of, base_of, context_of, event_of, strategy_of}
+use Rattle.tb_http.specs.Forms.{attribute_of, port_of, requests_of}
 use Rattle.tb_line.specs.declared.lines.Line.{Line}
 use Rattle.tb_line.specs.declared.lines.Line.TheVariants as line
 use Rattle.tb_line.specs.declared.verbs.Verb.{Verb}
@@ -81,18 +82,37 @@ abbrev pub said_with : Verb → List Row → Option Said
 said_with verb.Check rows = Some check
 said_with verb.New rows = with_one new_desk (first_of (codes "db") rows)
 said_with verb.Migrate rows = with_one migrate (first_of (codes "db") rows)
-said_with verb.Import rows = with_two (import_batch (first_of (codes "db") rows)) (first_of (codes "user") rows) (formed batch_of (first_of (codes "name") rows))
-said_with verb.Event rows = with_three (step_batch (first_of (codes "db") rows)) (first_of (codes "user") rows) (formed batch_of (first_of (codes "name") rows)) (formed event_of (first_of (codes "event") rows))
-said_with verb.Correct rows = with_three (correct (first_of (codes "db") rows)) (first_of (codes "user") rows) (formed number_of (first_of (codes "no") rows)) (formed base_of (first_of (codes "base") rows))
-said_with verb.Pull rows = with_two (pull (first_of (codes "db") rows)) (first_of (codes "user") rows) (formed number_of (first_of (codes "no") rows))
-said_with verb.Restore rows = with_two (restore (first_of (codes "db") rows)) (first_of (codes "user") rows) (formed number_of (first_of (codes "no") rows))
-said_with verb.Show rows = with_two (show (first_of (codes "db") rows)) (formed number_of (first_of (codes "no") rows)) (maybe number_of (first_of (codes "rev") rows))
-said_with verb.Export rows = with_one (export (first_of (codes "db") rows)) (maybe batch_of (first_of (codes "name") rows))
+said_with verb.Import rows =
+    with_two (import_batch (first_of (codes "db") rows)) (first_of (codes "user") rows)
+    (formed batch_of (first_of (codes "name") rows))
+said_with verb.Event rows =
+    with_three (step_batch (first_of (codes "db") rows)) (first_of (codes "user") rows)
+    (formed batch_of (first_of (codes "name") rows)) (formed event_of (first_of (codes "event") rows))
+said_with verb.Correct rows =
+    with_three (correct (first_of (codes "db") rows)) (first_of (codes "user") rows)
+    (formed number_of (first_of (codes "no") rows)) (formed base_of (first_of (codes "base") rows))
+said_with verb.Pull rows =
+    with_two (pull (first_of (codes "db") rows)) (first_of (codes "user") rows)
+    (formed number_of (first_of (codes "no") rows))
+said_with verb.Restore rows =
+    with_two (restore (first_of (codes "db") rows)) (first_of (codes "user") rows)
+    (formed number_of (first_of (codes "no") rows))
+said_with verb.Show rows =
+    with_two (show (first_of (codes "db") rows)) (formed number_of (first_of (codes "no") rows))
+    (maybe number_of (first_of (codes "rev") rows))
+said_with verb.Export rows =
+    with_one (export (first_of (codes "db") rows)) (maybe batch_of (first_of (codes "name") rows))
 said_with verb.Totals rows = Some (totals (first_of (codes "db") rows))
 said_with verb.Moves rows = Some (moves (first_of (codes "db") rows))
-said_with verb.Search rows = with_three (search (first_of (codes "db") rows)) (formed strategy_of (first_of (codes "strategy") rows)) (formed context_of (first_of (codes "context") rows)) (first_of (codes "query") rows)
-said_with verb.Count rows = with_three (count (first_of (codes "db") rows)) (formed strategy_of (first_of (codes "strategy") rows)) (formed attribute_of (first_of (codes "attribute") rows)) (first_of (codes "query") rows)
-said_with verb.Serve rows = with_two (serve (first_of (codes "db") rows)) (formed port_of (first_of (codes "port") rows)) (formed requests_of (first_of (codes "requests") rows))
+said_with verb.Search rows =
+    with_three (search (first_of (codes "db") rows)) (formed strategy_of (first_of (codes "strategy") rows))
+    (formed context_of (first_of (codes "context") rows)) (first_of (codes "query") rows)
+said_with verb.Count rows =
+    with_three (count (first_of (codes "db") rows)) (formed strategy_of (first_of (codes "strategy") rows))
+    (formed attribute_of (first_of (codes "attribute") rows)) (first_of (codes "query") rows)
+said_with verb.Serve rows =
+    with_two (serve (first_of (codes "db") rows)) (formed port_of (first_of (codes "port") rows))
+    (formed requests_of (first_of (codes "requests") rows))
 
 -- what the subcommand that clap finds says with its values
 abbrev pub said_of : Option (Text × List Row) → Option Said

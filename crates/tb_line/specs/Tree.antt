@@ -30,6 +30,9 @@ with_db a = with_rule a (option_rule (codes "db"))
 abbrev pub with_db_and_user : App → App
 with_db_and_user a = with_rule (with_db a) (needed_rule (codes "user"))
 
+abbrev pub with_db_and_strategy : App → App
+with_db_and_strategy a = with_rule (with_db a) (default_rule (codes "strategy") (codes "longest"))
+
 abbrev pub check_app : App
 check_app = new_app (codes "check")
 
@@ -68,13 +71,13 @@ moves_app = with_db (new_app (codes "moves"))
 
 abbrev pub search_app : App
 search_app =
-    with_rule (with_rule (with_rule (with_db (new_app (codes "search"))) (default_rule (codes "strategy") (codes "longest")))
-    (default_rule (codes "context") (codes "5"))) (word_rule (codes "query"))
+    with_rule (with_rule (with_db_and_strategy (new_app (codes "search"))) (default_rule (codes "context") (codes "5")))
+    (word_rule (codes "query"))
 
 abbrev pub count_app : App
 count_app =
-    with_rule (with_rule (with_rule (with_db (new_app (codes "count"))) (default_rule (codes "strategy") (codes "longest")))
-    (word_rule (codes "attribute"))) (word_rule (codes "query"))
+    with_rule (with_rule (with_db_and_strategy (new_app (codes "count"))) (word_rule (codes "attribute")))
+    (word_rule (codes "query"))
 
 abbrev pub serve_app : App
 serve_app = with_rule (with_rule (with_db (new_app (codes "serve"))) (needed_rule (codes "port"))) (default_rule (codes "requests") (codes "1000000000"))

@@ -291,9 +291,9 @@ impl Line {
     ///
     /// # Errors
     ///
-    /// clap's only where its definition does not take the words, and of a kind that the definition has for them; `Usage` only
-    /// where it does, and there is no command or a value is not of its form; or want of memory. So words that clap refuses are
-    /// never a line.
+    /// clap's only where its definition does not take the words, and of a kind that the definition has for them;
+    /// `Usage` only where it does, and there is no command or a value is not of its form; or want of memory. So words
+    /// that clap refuses are never a line.
     pub fn read(alloc: Global, words: &[String]) -> Result<Line, LineFault>
         ensures ok { IfOk result (λ line. said_of (subcommand_of desk_app (map string_bytes words.now)) ≡ Some (said_by line)) }
         ensures err { IfErr result (λ e. ComesOnly e (takes desk_app (map string_bytes words.now) ≢ true)

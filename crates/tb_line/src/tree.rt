@@ -3,7 +3,11 @@
 ghost use Rattle.std.specs.Prelude.{◌≡◌, IfOk, false, codes};
 ghost use Rattle.clap.specs.Words.{app_of, rule_of, new_app, with_rule, with_subcommand};
 ghost use Rattle.clap.specs.declared.Command.TheViews.{out-Command};
-ghost use Rattle.tb_line.specs.Tree.{option_rule, needed_rule, default_rule, word_rule, optional_rule, with_db, with_db_and_user, new_desk_app, migrate_app, import_app, event_app, correct_app, pull_app, restore_app, show_app, export_app, totals_app, moves_app, search_app, count_app, serve_app, top_app, app_by, desk_app};
+ghost use Rattle.tb_line.specs.Tree.{option_rule, needed_rule, default_rule, word_rule, optional_rule};
+ghost use Rattle.tb_line.specs.Tree.{with_db, with_db_and_user, with_db_and_strategy};
+ghost use Rattle.tb_line.specs.Tree.{new_desk_app, migrate_app, import_app, event_app, correct_app, pull_app};
+ghost use Rattle.tb_line.specs.Tree.{restore_app, show_app, export_app, totals_app, moves_app, search_app, count_app};
+ghost use Rattle.tb_line.specs.Tree.{serve_app, top_app, app_by, desk_app};
 
 use crate::verbs::{VERBS, Verb};
 use clap::{Arg, Command};
@@ -105,6 +109,22 @@ fn and_db_and_user<'a>(alloc: Global, command: Command<'a>) -> Result<Command<'a
     ensures local { IfOk result (λ r. (out-Command r).has_globals ≡ false) }
 {
     with(and_db(alloc, command)?, needed(alloc, "user", "Who asks"))
+}
+
+fn and_db_and_strategy<'a>(alloc: Global, command: Command<'a>) -> Result<Command<'a>, AllocError>
+    requires whole { (out-Command command).has_globals ≡ false }
+    ensures app { IfOk result (λ r. app_of r ≡ with_db_and_strategy (app_of command.entry)) }
+    ensures local { IfOk result (λ r. (out-Command r).has_globals ≡ false) }
+{
+    with(
+        and_db(alloc, command)?,
+        defaulted(
+            alloc,
+            "strategy",
+            "longest",
+            "Which matches are hits: shortest, longest or every",
+        ),
+    )
 }
 
 fn check<'a>(alloc: Global) -> Command<'a>
@@ -303,18 +323,8 @@ fn search<'a>(alloc: Global) -> Result<Command<'a>, AllocError>
         "Find a query in the released sentences, as keyword lines",
         "Example: treedesk search --db desk.db --context 3 '[upos=\"ADJ\"] [lemma=\"book\"]'",
     );
-    let command = and_db(alloc, command)?;
     let command = with(
-        command,
-        defaulted(
-            alloc,
-            "strategy",
-            "longest",
-            "Which matches are hits: shortest, longest or every",
-        ),
-    )?;
-    let command = with(
-        command,
+        and_db_and_strategy(alloc, command)?,
         defaulted(
             alloc,
             "context",
@@ -335,18 +345,8 @@ fn count<'a>(alloc: Global) -> Result<Command<'a>, AllocError>
         "Count what a query finds in the released sentences, as CSV",
         "Example: treedesk count --db desk.db lemma '[upos=\"ADJ\"]'",
     );
-    let command = and_db(alloc, command)?;
     let command = with(
-        command,
-        defaulted(
-            alloc,
-            "strategy",
-            "longest",
-            "Which matches are hits: shortest, longest or every",
-        ),
-    )?;
-    let command = with(
-        command,
+        and_db_and_strategy(alloc, command)?,
         word(
             alloc,
             "attribute",

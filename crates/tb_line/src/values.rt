@@ -4,7 +4,8 @@ ghost use Rattle.std.specs.Prelude.{◌≡◌, IfOk, option_map};
 ghost use Rattle.std.specs.List.{list_any};
 ghost use Rattle.std.specs.String.{string_bytes};
 ghost use Rattle.clap.specs.Words.{rows_of, found_of, first_of};
-ghost use Rattle.tb_http.specs.Forms.{is_slash, number_of, base_of, context_of, event_of, strategy_of, attribute_of, port_of, requests_of};
+ghost use Rattle.tb_http.specs.Forms.{is_slash, number_of, base_of, context_of, event_of, strategy_of, attribute_of};
+ghost use Rattle.tb_http.specs.Forms.{port_of, requests_of};
 ghost use Rattle.tb_line.specs.Lines.{batch_of, formed, maybe};
 
 use clap::ArgMatches;
@@ -59,7 +60,8 @@ pub fn batch_in<'a>(matches: &ArgMatches<'a>, id: &str) -> Option<&'a str>
 
 /// The value as the name of a batch that may be absent.
 pub fn batch_if_any<'a>(matches: &ArgMatches<'a>, id: &str) -> Option<Option<&'a str>>
-    ensures { option_map (λ o. option_map (λ s. s.now) o) result ≡ maybe batch_of (first_of id.now (rows_of (found_of matches.now))) }
+    ensures { option_map (λ o. option_map (λ s. s.now) o) result
+        ≡ maybe batch_of (first_of id.now (rows_of (found_of matches.now))) }
 {
     match value(matches, id) {
         None => Some(None),

@@ -2,7 +2,8 @@
 
 ghost use Rattle.std.specs.Prelude.{◌≡◌, false, IfOk, IsTrue};
 
-use crate::looking::{PAGE_BYTES, beside, may_be_desk, may_become_desk, reply_of_system};
+use crate::causes::FileCause;
+use crate::looking::{PAGE_BYTES, Version, beside, may_become_desk, version_of};
 use sqlite::{Connection, Error, ErrorCode, File, FileStore, Options};
 use sqlite_disk::{Disk, Files, Unknown};
 use sqlite_std_file::OpenError;
@@ -10,9 +11,7 @@ use std::fs::OpenOptions;
 use std::hash::{BuildHasher, RandomState};
 use std::time::Duration;
 use std::{fs, io, thread};
-use tb_answers::reply_for_fault;
-use tb_core::Limits;
-use tb_http::Reply;
+use tb_core::{Fault, Limits};
 use tb_store::{Desk, Unmade};
 
 /// A desk in a file.
@@ -26,22 +25,32 @@ pub(crate) const LIMITS: Limits = Limits {
 };
 
 /// What is told of a file that the database does not open.
-fn reply_of_error(error: Error) -> Reply {
+fn cause_of_error(error: Error) -> FileCause {
     match error {
-        Error::SqliteFailure(ErrorCode::OutOfMemory) => Reply::Memory,
-        Error::SqliteFailure(
-            ErrorCode::SystemIoFailure | ErrorCode::DiskFull | ErrorCode::DatabaseBusy,
-        ) => Reply::Device,
-        _ => Reply::Desk,
+        Error::SqliteFailure(ErrorCode::OutOfMemory) => FileCause::Memory,
+        Error::SqliteFailure(ErrorCode::DiskFull) => FileCause::Full,
+        Error::SqliteFailure(ErrorCode::DatabaseBusy) => FileCause::Busy,
+        Error::SqliteFailure(ErrorCode::SystemIoFailure) => FileCause::Failed,
+        _ => FileCause::Damaged,
     }
 }
 
 /// What is told of a file that the system does not open.
-fn reply_of_path(error: OpenError) -> Reply {
+fn cause_of_path(error: OpenError) -> FileCause {
     match error {
-        OpenError::OutOfMemory => Reply::Memory,
-        OpenError::Io(error) => reply_of_system(error),
-        _ => Reply::Desk,
+        OpenError::OutOfMemory => FileCause::Memory,
+        OpenError::Busy => FileCause::Busy,
+        OpenError::HotJournal => FileCause::Journal,
+        OpenError::Io(error) => FileCause::of_system(error),
+    }
+}
+
+/// What is told of a database of which no desk is made, where its tables or rows do not allow it.
+fn cause_of_fault(fault: Fault, not_a_desk: FileCause) -> FileCause {
+    match fault {
+        Fault::Memory => FileCause::Memory,
+        Fault::Device | Fault::Output => FileCause::Failed,
+        Fault::NotADesk | Fault::Refused(_) => not_a_desk,
     }
 }
 
@@ -55,7 +64,7 @@ struct Log {
 }
 
 impl Log {
-    fn before(rt: &HostRuntime, path: &str) -> Result<Log, Reply> {
+    fn before(rt: &HostRuntime, path: &str) -> Result<Log, FileCause> {
         let path = match fs::canonicalize(rt, path) {
             Ok(real) => beside(rt, real.as_str(), "-wal")?,
             Err(_) => beside(rt, path, "-wal")?,
@@ -112,9 +121,9 @@ fn pages_to_keep(rt: &HostRuntime, path: &str, room: u64) -> usize {
     (bytes / PAGE_BYTES).saturating_add(room).min(MOST_PAGES) as usize
 }
 
-fn options(rt: &HostRuntime, path: &str, room: u64) -> Result<Options, Reply> {
+fn options(rt: &HostRuntime, path: &str, room: u64) -> Result<Options, FileCause> {
     let Ok(state) = RandomState::new(rt) else {
-        return Err(Reply::Device);
+        return Err(FileCause::NoRandom);
     };
     Ok(Options {
         cache_pages: pages_to_keep(rt, path, room),
@@ -128,7 +137,7 @@ fn over<D: Disk + Drop>(
     files: Files<D>,
     log: &Log,
     options: Options,
-) -> Result<Connection<FileStore<D>>, Reply>
+) -> Result<Connection<FileStore<D>>, FileCause>
     requires log { IsTrue (D.Disk.is_usable files.log) }
     requires db { IsTrue (D.Disk.is_usable files.db) }
     ensures { IfOk result (λ c. c.in_transaction ≡ false) }
@@ -136,12 +145,12 @@ fn over<D: Disk + Drop>(
     match Connection::open_files(rt.alloc(), files, options) {
         Ok(conn) => Ok(conn),
         Err((error, left)) => {
-            let reply = reply_of_error(error);
-            if is_no_desk(reply) {
+            let cause = cause_of_error(error);
+            if cause.is_no_desk() {
                 let _ = log.undo(rt);
             }
             drop(left);
-            Err(reply)
+            Err(cause)
         }
     }
 }
@@ -152,7 +161,7 @@ fn connect(
     path: &str,
     log: &mut Log,
     room: u64,
-) -> Result<Connection<FileStore<File>>, Reply>
+) -> Result<Connection<FileStore<File>>, FileCause>
     ensures { IfOk result (λ c. c.in_transaction ≡ false) }
 {
     let options = options(rt, path, room)?;
@@ -163,10 +172,10 @@ fn connect(
                 return over(rt, files, log, options);
             }
             Err(OpenError::Busy) => thread::sleep(rt, Duration::from_millis(PAUSE)),
-            Err(error) => return Err(reply_of_path(error)),
+            Err(error) => return Err(cause_of_path(error)),
         }
     }
-    Err(Reply::Device)
+    Err(FileCause::Busy)
 }
 
 /// Closes the file, so that it holds all by itself. What fails there loses nothing: the log beside the file keeps what was
@@ -175,64 +184,66 @@ pub(crate) fn close(desk: FileDesk) {
     let _ = desk.into_connection().close();
 }
 
-fn is_no_desk(reply: Reply) -> bool {
-    matches!(reply, Reply::Desk)
-}
-
-/// The desk that was made of a connection, or why there is none. The file is closed then, and what is no desk is left as it was.
+/// The desk that was made of a connection, or why there is none. The file is closed then, and what is no desk is left
+/// as it was.
 fn made(
     rt: &HostRuntime,
     log: &Log,
     made: Result<FileDesk, Unmade<FileStore<File>>>,
-) -> Result<FileDesk, Reply> {
+    not_a_desk: FileCause,
+) -> Result<FileDesk, FileCause> {
     match made {
         Ok(desk) => Ok(desk),
         Err(Unmade { fault, conn }) => {
-            let reply = reply_for_fault(fault);
-            if is_no_desk(reply) {
+            let cause = cause_of_fault(fault, not_a_desk);
+            if cause.is_no_desk() {
                 let _ = log.undo(rt);
                 drop(conn);
             } else {
                 let _ = conn.close();
             }
-            Err(reply)
+            Err(cause)
         }
     }
 }
 
 /// Tells a file that is no desk for what it begins with, and leaves it alone.
-pub(crate) fn look(rt: &HostRuntime, path: &str) -> Result<(), Reply> {
-    if may_be_desk(rt, path, true)? {
-        Ok(())
-    } else {
-        Err(Reply::Desk)
+pub(crate) fn look(rt: &HostRuntime, path: &str) -> Result<(), FileCause> {
+    match version_of(rt, path)? {
+        Version::Two => Ok(()),
+        Version::One => Err(FileCause::Version1),
     }
 }
 
 /// The desk of the file at this path, with room for so many pages more.
-pub(crate) fn open(rt: &HostRuntime, path: &str, room: u64) -> Result<FileDesk, Reply> {
+pub(crate) fn open(rt: &HostRuntime, path: &str, room: u64) -> Result<FileDesk, FileCause> {
     look(rt, path)?;
     let mut log = Log::before(rt, path)?;
     let conn = connect(rt, path, &mut log, room)?;
-    made(rt, &log, Desk::adopt(rt.alloc(), conn, LIMITS))
+    let desk = Desk::adopt(rt.alloc(), conn, LIMITS);
+    made(rt, &log, desk, FileCause::Rows)
 }
 
 /// Brings the desk of version 1 in the file at this path to version 2.
-pub(crate) fn migrate(rt: &HostRuntime, path: &str) -> Result<FileDesk, Reply> {
-    if !may_be_desk(rt, path, false)? {
-        return Err(Reply::Desk);
-    }
+pub(crate) fn migrate(rt: &HostRuntime, path: &str) -> Result<FileDesk, FileCause> {
+    let not_a_desk = match version_of(rt, path)? {
+        Version::One => FileCause::Rows,
+        Version::Two => FileCause::Version2,
+    };
     let mut log = Log::before(rt, path)?;
     let conn = connect(rt, path, &mut log, ROOM)?;
-    made(rt, &log, Desk::migrate(rt.alloc(), conn, LIMITS))
+    let desk = Desk::migrate(rt.alloc(), conn, LIMITS);
+    made(rt, &log, desk, not_a_desk)
 }
 
 /// Makes a desk in the file at this path, which is missing, empty or a blank database.
-pub(crate) fn make(rt: &HostRuntime, path: &str) -> Result<FileDesk, Reply> {
-    if !may_become_desk(rt, path)? {
-        return Err(Reply::Desk);
-    }
+pub(crate) fn make(rt: &HostRuntime, path: &str) -> Result<FileDesk, FileCause> {
+    may_become_desk(rt, path)?;
     let mut log = Log::before(rt, path)?;
-    let conn = connect(rt, path, &mut log, ROOM)?;
-    made(rt, &log, Desk::make(rt.alloc(), conn, LIMITS))
+    let conn = match connect(rt, path, &mut log, ROOM) {
+        Ok(conn) => conn,
+        Err(cause) => return Err(cause.of_new()),
+    };
+    let desk = Desk::make(rt.alloc(), conn, LIMITS);
+    made(rt, &log, desk, FileCause::NotBlank)
 }

@@ -14,8 +14,9 @@ const ANSWER: u64 = 3;
 /// How many bytes of an answer a client has to take in a millisecond.
 const RATE: u64 = 1_024;
 
-/// Reads a connection: each read has its own time, and all of them together have another, so that a client that sends a byte now
-/// and then is let go too. Where a file was moved meanwhile, what came is told as a fault, so that nothing is done on it.
+/// Reads a connection: each read has its own time, and all of them together have another, so that a client that sends
+/// a byte now and then is let go too. Where a file was moved meanwhile, what came is told as a fault, so that nothing
+/// is done on it.
 #[derive(Drop)]
 pub(crate) struct Patient<'a> {
     rt: &'a HostRuntime,
@@ -74,8 +75,8 @@ pub(crate) fn has_changed(rt: &HostRuntime, place: Option<&Place>) -> bool {
     }
 }
 
-/// Writes an answer. A client that takes nothing for some seconds, or less than a mebibyte in a second, is let go. Only the time that
-/// the client takes counts. After a write that failed none is tried.
+/// Writes an answer. A client that takes nothing for some seconds, or less than a mebibyte in a second, is let go.
+/// Only the time that the client takes counts. After a write that failed none is tried.
 #[derive(Drop)]
 pub(crate) struct Answer<'a> {
     rt: &'a HostRuntime,

@@ -1,10 +1,10 @@
 //! Where a desk's files lie, while it is served.
 
-use crate::looking::{beside, real, reply_of_system};
+use crate::causes::FileCause;
+use crate::looking::{beside, real};
 use std::fs;
 use std::io::ErrorKind;
 use std::os::unix::fs::MetadataExt;
-use tb_http::Reply;
 
 /// A file by the numbers that the system gives it: at its path another may lie later.
 #[derive(Clone, Copy)]
@@ -22,13 +22,13 @@ pub(crate) struct Place {
     log: Numbers,
 }
 
-fn numbers_of(rt: &HostRuntime, path: &str) -> Result<Numbers, Reply> {
+fn numbers_of(rt: &HostRuntime, path: &str) -> Result<Numbers, FileCause> {
     match fs::metadata(rt, path) {
         Ok(found) => Ok(Numbers {
             device: found.dev(),
             file: found.ino(),
         }),
-        Err(error) => Err(reply_of_system(error)),
+        Err(error) => Err(FileCause::of_system(error)),
     }
 }
 
@@ -43,7 +43,7 @@ fn has_another(rt: &HostRuntime, path: &str, numbers: Numbers) -> bool {
 
 impl Place {
     /// Where the files lie now.
-    pub(crate) fn new(rt: &HostRuntime, path: &str) -> Result<Place, Reply> {
+    pub(crate) fn new(rt: &HostRuntime, path: &str) -> Result<Place, FileCause> {
         let log_path = beside(rt, real(rt, path)?.as_str(), "-wal")?;
         Ok(Place {
             path: beside(rt, path, "")?,

@@ -1,14 +1,16 @@
 //! The desk over HTTP on loopback: one connection after another, and on each one request.
 
+use crate::causes::{Cause, PortCause};
 use crate::patience::{Answer, Patient, REQUEST, has_changed};
 use crate::place::Place;
+use crate::telling::{Outcome, Told};
 use crate::waiting::Waiting;
 use sqlite::Alter;
 use std::alloc::Global;
 use std::io::{self, BufWriter, Read, Write};
 use std::net::{Ipv4Addr, Shutdown, TcpListener, TcpStream};
 use tb_answers::{Broken, answer, put_reply, respond_reply};
-use tb_http::{BODY_BYTES, Reply, Routes};
+use tb_http::{BODY_BYTES, Reply, Routes, Status};
 use tb_store::Desk;
 
 /// How many seconds a client may take to see its answer, between two pieces that it still sends, and in all.
@@ -18,9 +20,9 @@ const WHOLE_FAREWELL: u64 = 2;
 
 const BUFFER: usize = 65_536;
 
-/// Takes what a client still sends after its answer: were the connection closed at once, what is on its way would have the system
-/// take the answer back.
-fn part<'a>(rt: &'a HostRuntime, stream: &'a TcpStream) -> io::Result<()> {
+/// Takes what a client still sends after its answer: were the connection closed at once, what is on its way would
+/// have the system take the answer back.
+fn take_rest<'a>(rt: &'a HostRuntime, stream: &'a TcpStream) -> io::Result<()> {
     stream.shutdown(Shutdown::Write)?;
     let mut rest = [0; 4096];
     let patient = Patient::new(rt, stream, None, FAREWELL, WHOLE_FAREWELL)?;
@@ -33,35 +35,54 @@ fn part<'a>(rt: &'a HostRuntime, stream: &'a TcpStream) -> io::Result<()> {
     Ok(())
 }
 
-/// Tells a client that its request is not done, which takes no memory.
-fn refuse<'a>(rt: &'a HostRuntime, stream: &'a TcpStream, reply: Reply) -> io::Result<()> {
-    let mut out = Answer::new(rt, stream);
-    let _ = respond_reply(&mut out, reply);
-    part(rt, stream)
+/// Parts from a client that has its answer. A connection that fails meanwhile has ended.
+fn part<'a>(rt: &'a HostRuntime, stream: &'a TcpStream) {
+    let _ = take_rest(rt, stream);
 }
 
-/// Reads one request of a connection and answers it. A connection that breaks has been served. Where the desk's files are no longer
-/// where they were, nothing is done.
+/// Tells a client that its request is not done, which takes no memory.
+fn refuse<'a>(rt: &'a HostRuntime, stream: &'a TcpStream, reply: Reply) {
+    let mut out = Answer::new(rt, stream);
+    let _ = respond_reply(&mut out, reply);
+    part(rt, stream);
+}
+
+/// Reads one request of a connection and answers it. Gives the cause for which the desk can be served no further. Where
+/// its files are no longer where they were, nothing is done. A connection that fails has been served.
 fn serve_one<'a, S: Alter>(
     rt: &'a HostRuntime,
     routes: &Routes,
     desk: &mut Desk<S>,
     place: Option<&'a Place>,
     stream: &'a TcpStream,
-) -> io::Result<()> {
+) -> Option<Cause> {
     if has_changed(rt, place) {
-        return refuse(rt, stream, Reply::Device);
+        refuse(rt, stream, Reply::Device);
+        return Some(Cause::FilesMoved);
     }
-    let mut reader = Patient::new(rt, stream, place, REQUEST, REQUEST)?;
+    let Ok(mut reader) = Patient::new(rt, stream, place, REQUEST, REQUEST) else {
+        return None;
+    };
     let Ok(mut out) = BufWriter::with_capacity(rt.alloc(), BUFFER, Answer::new(rt, stream)) else {
-        return refuse(rt, stream, Reply::Memory);
+        refuse(rt, stream, Reply::Memory);
+        return None;
     };
     let answered = answer(rt.alloc(), routes, desk, &mut reader, &mut out);
-    out.flush()?;
+    let _ = out.flush();
     match answered {
-        Ok(_) => part(rt, stream),
-        Err(Broken::Read) if has_changed(rt, place) => refuse(rt, stream, Reply::Device),
-        Err(_) => Ok(()),
+        Err(Broken::Read) if has_changed(rt, place) => {
+            refuse(rt, stream, Reply::Device);
+            Some(Cause::FilesMoved)
+        }
+        Err(_) => None,
+        Ok(status) => {
+            part(rt, stream);
+            if status == Status::ServiceUnavailable && !desk.is_open() {
+                Some(Cause::FileShut)
+            } else {
+                None
+            }
+        }
     }
 }
 
@@ -76,46 +97,51 @@ fn announce<W: Write>(alloc: Global, port: u16, out: &mut W) -> Result<(), Reply
     }
 }
 
-fn listen(rt: &HostRuntime, port: u16) -> Result<TcpListener, Reply> {
+/// Listens on this port of loopback, or on one that the system chooses where it is 0, and tells which it is.
+fn listen(rt: &HostRuntime, port: u16) -> Result<(TcpListener, u16), PortCause> {
     match TcpListener::bind(rt, (Ipv4Addr::LOCALHOST, port)) {
-        Ok(listener) => Ok(listener),
-        Err(_) => Err(Reply::Device),
+        Ok(listener) => match listener.local_addr() {
+            Ok(address) => Ok((listener, address.port())),
+            Err(error) => Err(PortCause::of_system(error)),
+        },
+        Err(error) => Err(PortCause::of_system(error)),
     }
 }
 
-fn serve_all<S: Alter, W: Write>(
+fn serve_all<S: Alter>(
     rt: &HostRuntime,
+    routes: Routes,
     desk: &mut Desk<S>,
     place: Option<&Place>,
-    port: u16,
+    listener: TcpListener,
     requests: u64,
-    out: &mut W,
-) -> Result<(), Reply> {
-    let Ok(routes) = Routes::new(rt.alloc()) else {
-        return Err(Reply::Memory);
-    };
-    let listener = listen(rt, port)?;
-    let Ok(address) = listener.local_addr() else {
-        return Err(Reply::Device);
-    };
-    announce(rt.alloc(), address.port(), out)?;
+) -> Result<(), Cause> {
     let mut waiting = Waiting::new(rt.alloc());
     for _ in 0..requests {
         let Ok(next) = waiting.next(rt, &listener) else {
-            return Err(Reply::Device);
+            return Err(Cause::NoConnections);
         };
-        if let Some(stream) = next {
-            let _ = serve_one(rt, &routes, desk, place, &stream);
-        }
-        if has_changed(rt, place) {
-            return Err(Reply::Device);
+        let Some(stream) = next else { continue };
+        if let Some(cause) = serve_one(rt, &routes, desk, place, &stream) {
+            return Err(cause);
         }
     }
     Ok(())
 }
 
-/// Serves so many connections on this port of loopback, or on one that the system chooses where it is 0, and gives the exit
-/// status. It ends where the desk's files are no longer where they were.
+/// Tells that a port cannot be listened on.
+fn put_port_cause<W: Write>(rt: &HostRuntime, port: u16, cause: PortCause, out: &mut W) -> Outcome {
+    Outcome {
+        status: put_reply(out, Reply::Device),
+        told: Some(Told {
+            place: format!(in rt.alloc(); "port {port}").ok(),
+            cause: Cause::Port(cause),
+        }),
+    }
+}
+
+/// Serves so many connections on this port of loopback, or on one that the system chooses where it is 0, and gives the
+/// exit status. It ends where the desk's files are no longer where they were, and where a fault has shut the store.
 pub(crate) fn serve<S: Alter, W: Write>(
     rt: &HostRuntime,
     desk: &mut Desk<S>,
@@ -123,9 +149,22 @@ pub(crate) fn serve<S: Alter, W: Write>(
     port: u16,
     requests: u64,
     out: &mut W,
-) -> u8 {
-    match serve_all(rt, desk, place, port, requests, out) {
-        Ok(()) => 0,
-        Err(reply) => put_reply(out, reply),
+) -> Outcome {
+    let Ok(routes) = Routes::new(rt.alloc()) else {
+        return Outcome::from(put_reply(out, Reply::Memory));
+    };
+    let (listener, chosen) = match listen(rt, port) {
+        Ok(both) => both,
+        Err(cause) => return put_port_cause(rt, port, cause, out),
+    };
+    if let Err(reply) = announce(rt.alloc(), chosen, out) {
+        return Outcome::from(put_reply(out, reply));
+    }
+    match serve_all(rt, routes, desk, place, listener, requests) {
+        Ok(()) => Outcome::from(0),
+        Err(cause) => Outcome {
+            status: put_reply(out, Reply::Device),
+            told: Some(Told::from(cause)),
+        },
     }
 }

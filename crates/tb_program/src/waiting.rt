@@ -18,6 +18,9 @@ const PAUSE: u64 = 2;
 /// How many connections may wait. The system keeps others until there is room.
 const MOST: usize = 256;
 
+/// What the system calls want of room: ENOMEM, ENFILE, EMFILE and ENOBUFS, as Linux numbers them.
+const NO_ROOM: [i32; 4] = [12, 23, 24, 105];
+
 /// A connection that has said nothing yet.
 #[derive(Drop)]
 struct Silent {
@@ -50,16 +53,31 @@ fn speaks_now(stream: &TcpStream) -> bool {
 }
 
 /// Whether no connection is there yet, or one that went again, and no fault of the listener.
-fn is_none_yet(error: io::Error) -> bool {
+fn is_none_yet(error: &io::Error) -> bool {
     error.kind() == ErrorKind::WouldBlock
         || error.kind() == ErrorKind::Interrupted
         || error.kind() == ErrorKind::ConnectionAborted
+}
+
+/// Whether the system has no room for one more connection now: no memory, or too many open files.
+fn wants_room(error: &io::Error) -> bool {
+    match error.raw_os_error() {
+        Some(code) => NO_ROOM.contains(&code),
+        None => false,
+    }
 }
 
 impl Waiting {
     pub(crate) fn new(alloc: Global) -> Waiting {
         Waiting {
             silent: Vec::new(alloc),
+        }
+    }
+
+    /// Makes room for one more.
+    fn let_one_go(&mut self) {
+        if !self.silent.is_empty() {
+            let _ = self.silent.remove(0);
         }
     }
 
@@ -75,11 +93,20 @@ impl Waiting {
         listener.set_nonblocking(!self.silent.is_empty())?;
         let stream = match listener.accept() {
             Ok((stream, _)) => stream,
-            Err(error) if is_none_yet(error) => return Ok(None),
+            Err(error) if is_none_yet(&error) => return Ok(None),
+            Err(error) if wants_room(&error) => {
+                self.let_one_go();
+                return Ok(None);
+            }
             Err(error) => return Err(error),
         };
         let since = Instant::now(rt)?;
-        stream.set_read_timeout(Some(Duration::from_millis(FIRST)))?;
+        if stream
+            .set_read_timeout(Some(Duration::from_millis(FIRST)))
+            .is_err()
+        {
+            return Ok(None);
+        }
         if speaks(&stream) {
             return Ok(Some(stream));
         }

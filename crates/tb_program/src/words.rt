@@ -5,10 +5,13 @@ ghost use Rattle.tb_desk.specs.Check.{Answers, IsReplyToRead, file_limit};
 ghost use Rattle.tb_desk.specs.Words.{asks_check};
 ghost use Rattle.tb_conllu.specs.declared.fault.WriteFault.{WriteFault};
 
+use crate::causes::{Cause, FileCause};
 use crate::files::{self, FileDesk};
 use crate::place::Place;
 use crate::serving::serve;
-use std::alloc::Global;
+use crate::telling::{Outcome, Told, wants_words};
+use crate::wrong::wrong_word;
+use sqlite::Alter;
 use std::io::Write;
 use tb_answers::{put_reply, read_body, run_line, run_line_from};
 use tb_conllu::{Sink, Source};
@@ -17,15 +20,42 @@ use tb_http::Reply;
 use tb_line::{Line, LineFault};
 use tb_store::Desk;
 
+/// Puts the line of a cause that lies in a file, and tells it of the file at this path.
+fn put_file_cause<W: Sink>(rt: &HostRuntime, path: &str, cause: FileCause, out: &mut W) -> Outcome {
+    Outcome {
+        status: put_reply(out, cause.reply()),
+        told: Some(Told::at(rt, path, Cause::File(cause))),
+    }
+}
+
 /// Tells why words are no line: clap's text, which is help too, or the desk's own.
-fn put_fault<W: Sink>(alloc: Global, fault: LineFault, out: &mut W) -> u8 {
+fn put_fault<W: Sink>(
+    rt: &HostRuntime,
+    words: &[String],
+    fault: LineFault,
+    out: &mut W,
+) -> Outcome {
     match fault {
-        LineFault::Clap(error) => match error.to_string(alloc) {
-            Ok(text) => tb_desk::put_reply(out, text.as_str(), error.exit_code() as u8),
-            Err(_) => put_reply(out, Reply::Memory),
+        LineFault::Clap(error) => match error.to_string(rt.alloc()) {
+            Ok(text) => Outcome::from(tb_desk::put_reply(
+                out,
+                text.as_str(),
+                error.exit_code() as u8,
+            )),
+            Err(_) => put_memory(out),
         },
-        LineFault::Usage => tb_desk::put_reply(out, "refused usage\n", 2),
-        LineFault::Memory => put_reply(out, Reply::Memory),
+        LineFault::Usage => Outcome {
+            status: tb_desk::put_reply(out, "refused usage\n", 2),
+            told: Some(wrong_word(rt, words)),
+        },
+        LineFault::Memory => put_memory(out),
+    }
+}
+
+fn put_memory<W: Sink>(out: &mut W) -> Outcome {
+    Outcome {
+        status: put_reply(out, Reply::Memory),
+        told: Some(Told::from(Cause::Memory)),
     }
 }
 
@@ -57,14 +87,20 @@ fn room_of(line: &Line) -> u64 {
     }
 }
 
-/// Puts a line where a desk was brought into a file, and closes it.
-fn put_opened<W: Sink>(opened: Result<FileDesk, Reply>, line: &str, out: &mut W) -> u8 {
+/// Puts a line where a desk was brought into the file at this path, and closes it.
+fn put_opened<W: Sink>(
+    rt: &HostRuntime,
+    path: &str,
+    opened: Result<FileDesk, FileCause>,
+    line: &str,
+    out: &mut W,
+) -> Outcome {
     match opened {
         Ok(desk) => {
             files::close(desk);
-            tb_desk::put_reply(out, line, 0)
+            Outcome::from(tb_desk::put_reply(out, line, 0))
         }
-        Err(reply) => put_reply(out, reply),
+        Err(cause) => put_file_cause(rt, path, cause, out),
     }
 }
 
@@ -76,7 +112,7 @@ fn run_on_desk<W: Write>(
     body: Result<Vec<u8>, Reply>,
     desk: &mut FileDesk,
     out: &mut W,
-) -> u8 {
+) -> Outcome {
     match line {
         Line::Serve {
             db: _,
@@ -84,33 +120,67 @@ fn run_on_desk<W: Write>(
             requests,
         } => match Place::new(rt, path) {
             Ok(place) => serve(rt, desk, Some(&place), *port, *requests, out),
-            Err(reply) => put_reply(out, reply),
+            Err(cause) => put_file_cause(rt, path, cause, out),
         },
-        _ => run_line(rt.alloc(), line, body, desk, out),
+        _ => Outcome::from(run_line(rt.alloc(), line, body, desk, out)),
     }
 }
 
-/// The body is read before the file is opened, and so before others are kept from it: in `show | correct` on one file each
-/// command then has its turn. A fault of the file is told before one of the body all the same.
+/// The body is read before the file is opened, and so before others are kept from it: in `show | correct` on one file
+/// each command then has its turn. A fault of the file is told before one of the body all the same.
 fn run_on_file<R: Source, W: Write>(
     rt: &HostRuntime,
     path: &str,
     line: &Line,
     reader: &mut R,
     out: &mut W,
-) -> u8 {
-    if let Err(reply) = files::look(rt, path) {
-        return put_reply(out, reply);
+) -> Outcome {
+    if let Err(cause) = files::look(rt, path) {
+        return put_file_cause(rt, path, cause, out);
     }
     let body = read_body(rt.alloc(), line, reader);
     match files::open(rt, path, room_of(line)) {
         Ok(mut desk) => {
-            let status = run_on_desk(rt, path, line, body, &mut desk, out);
+            let outcome = run_on_desk(rt, path, line, body, &mut desk, out);
             files::close(desk);
-            status
+            outcome
         }
-        Err(reply) => put_reply(out, reply),
+        Err(cause) => put_file_cause(rt, path, cause, out),
     }
+}
+
+/// Whether a line changes the desk that it works on, where it is done.
+fn changes_desk(line: &Line) -> bool {
+    matches!(
+        line,
+        Line::Import { .. }
+            | Line::Event { .. }
+            | Line::Correct { .. }
+            | Line::Pull { .. }
+            | Line::Restore { .. }
+    )
+}
+
+/// What is told of a line that was done on a desk in memory, with this exit status.
+fn told_of_memory(line: &Line, status: u8) -> Option<Told> {
+    if status != 0 || !changes_desk(line) {
+        return None;
+    }
+    Some(Told::from(Cause::NothingKept))
+}
+
+/// Serves a desk in memory. Whoever would lose what is sent to it is told before the first request.
+fn serve_in_memory<S: Alter, W: Write>(
+    rt: &HostRuntime,
+    desk: &mut Desk<S>,
+    port: u16,
+    requests: u64,
+    out: &mut W,
+) -> Outcome {
+    if wants_words(rt) {
+        let _told = eprintln!(rt; "treedesk: {}", Cause::NothingWillBeKept);
+    }
+    serve(rt, desk, None, port, requests, out)
 }
 
 /// Without a file the desk is in memory, for this run.
@@ -119,24 +189,36 @@ fn run_in_memory<R: Source, W: Write>(
     line: &Line,
     reader: &mut R,
     out: &mut W,
-) -> u8 {
+) -> Outcome {
     match Desk::in_memory(rt.alloc(), files::LIMITS) {
         Ok(mut desk) => match line {
             Line::Serve {
                 db: _,
                 port,
                 requests,
-            } => serve(rt, &mut desk, None, *port, *requests, out),
-            _ => run_line_from(rt.alloc(), line, reader, &mut desk, out),
+            } => serve_in_memory(rt, &mut desk, *port, *requests, out),
+            _ => {
+                let status = run_line_from(rt.alloc(), line, reader, &mut desk, out);
+                Outcome {
+                    status,
+                    told: told_of_memory(line, status),
+                }
+            }
         },
-        Err(_) => put_reply(out, Reply::Memory),
+        Err(_) => put_memory(out),
     }
 }
 
-fn run<R: Source, W: Write>(rt: &HostRuntime, line: &Line, reader: &mut R, out: &mut W) -> u8 {
+fn run<R: Source, W: Write>(rt: &HostRuntime, line: &Line, reader: &mut R, out: &mut W) -> Outcome {
     match line {
-        Line::New { db } => put_opened(files::make(rt, db.as_str()), "made\n", out),
-        Line::Migrate { db } => put_opened(files::migrate(rt, db.as_str()), "migrated\n", out),
+        Line::New { db } => {
+            let made = files::make(rt, db.as_str());
+            put_opened(rt, db.as_str(), made, "made\n", out)
+        }
+        Line::Migrate { db } => {
+            let migrated = files::migrate(rt, db.as_str());
+            put_opened(rt, db.as_str(), migrated, "migrated\n", out)
+        }
         _ => match file_of(line) {
             Some(path) => run_on_file(rt, path, line, reader, out),
             None => run_in_memory(rt, line, reader, out),
@@ -144,8 +226,32 @@ fn run<R: Source, W: Write>(rt: &HostRuntime, line: &Line, reader: &mut R, out: 
     }
 }
 
-/// Does what the words ask, the program's name first, and gives the exit status: `check` checks what the reader gives, and
-/// other commands work on a desk in a file, or in memory for this run.
+/// Does what the words ask, the program's name first, and gives the exit status and what is told beside it: `check`
+/// checks what the reader gives, and other commands work on a desk in a file, or in memory for this run.
+pub fn run_words_told<R: Source, W: Write>(
+    rt: &HostRuntime,
+    words: &[String],
+    reader: &mut R,
+    out: &mut W,
+) -> Outcome
+    ensures check { asks_check (map string_bytes words.now) ≡ true
+        → Answers (IsReplyToRead (R.IsFailure reader.new) file_limit (R.left reader.old) (R.left reader.new))
+        (W.contents out.old) (W.contents out.new) (λ (_ : WriteFault). Unit {0}) result.status }
+{
+    let alloc = rt.alloc();
+    if is_check(words) {
+        return Outcome {
+            status: run_check(alloc, reader, out),
+            told: None,
+        };
+    }
+    match Line::read(alloc, words) {
+        Ok(line) => run(rt, &line, reader, out),
+        Err(fault) => put_fault(rt, words, fault, out),
+    }
+}
+
+/// Does what the words ask, as [`run_words_told`], and gives the exit status.
 pub fn run_words<R: Source, W: Write>(
     rt: &HostRuntime,
     words: &[String],
@@ -156,12 +262,5 @@ pub fn run_words<R: Source, W: Write>(
         → Answers (IsReplyToRead (R.IsFailure reader.new) file_limit (R.left reader.old) (R.left reader.new))
         (W.contents out.old) (W.contents out.new) (λ (_ : WriteFault). Unit {0}) result }
 {
-    let alloc = rt.alloc();
-    if is_check(words) {
-        return run_check(alloc, reader, out);
-    }
-    match Line::read(alloc, words) {
-        Ok(line) => run(rt, &line, reader, out),
-        Err(fault) => put_fault(alloc, fault, out),
-    }
+    run_words_told(rt, words, reader, out).status
 }

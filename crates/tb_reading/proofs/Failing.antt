@@ -10,7 +10,7 @@ use Rattle.sqlite_sql.specs.declared.ops.CompareOp.TheVariants.{Eq}
 use Rattle.sqlite.specs.Collation.TheVariants.{Binary}
 use Rattle.sqlite.specs.Effect.{Database, RefusesQuery, RefusesToRead}
 use Rattle.sqlite.specs.Listing.{understood, reads_listing, IsSourceOf}
-use Rattle.sqlite.specs.State.{State, FailsToQuery, IsNotRun, IsNoStatement}
+use Rattle.sqlite.specs.State.{State, Fails, FailsToQuery, IsNotRun, IsNoStatement}
 use Rattle.sqlite.proofs.Callers.{IsPlain, command_of}
 use Rattle.sqlite_resolve.specs.declared.compiled.Compiled.{Compiled}
 use Rattle.sqlite_resolve.specs.declared.error.CompileError.{CompileError}
@@ -19,10 +19,10 @@ use Rattle.sqlite_typing.specs.Types.{accepts_program}
 use Rattle.sqlite_tied.specs.Compute.{everything}
 use Rattle.tb_tables.specs.Layout.{desk_schema}
 use Rattle.tb_tables.proofs.Texts.{simple, by_number}
-use Rattle.tb_tables.specs.Failing.{IsStoreFault}
+use Rattle.tb_tables.specs.Failing.{IsStoreFault, IsWant}
 use Rattle.tb_reading.specs.declared.error.ReadError.{ReadError}
 use Rattle.tb_reading.specs.declared.error.ReadError.TheVariants.{Store}
-use Rattle.tb_reading.specs.Failing.{IsReadFault}
+use Rattle.tb_reading.specs.Failing.{IsReadFault, IsReadWant}
 use Rattle.tb_reading.proofs.Queries.{rising, select_batches, select_batches_terms, select_batches_is, select_sentences, select_sentences_terms, select_sentences_is, select_moves, select_moves_terms, select_moves_is, select_totals, select_totals_terms, select_totals_is, select_revisions, select_revisions_terms, select_revisions_is, select_pulled, select_pulled_terms, select_pulled_is, select_versions, select_versions_terms, select_versions_is, select_batch, select_batch_terms, select_batch_is, select_sentence, select_sentence_terms, select_sentence_is, select_named_batch, select_named_batch_terms, select_named_batch_is, select_named_sentence, select_named_sentence_terms, select_named_sentence_is, select_revision, select_revision_terms, select_revision_is, select_one_pulled, select_one_pulled_terms, select_one_pulled_is, select_work, select_work_terms, select_work_is, select_heads, select_heads_terms, select_heads_is, select_bodies, select_bodies_terms, select_bodies_is}
 
 pub if_err : {T E : Type 0} {P Q : E → Type 0} (r : Result T E) → IfErr r P → ((e : E) → P e → Q e) → IfErr r Q
@@ -32,6 +32,13 @@ if_err (Err e) h f = f e h
 -- what is told of the error of the database holds of it as that of a read
 pub err_is : {T : Type 0} (r : Result T ReadError) (e : ReadError) (x : Error) → r ≡ Err e → e ≡ Store x → IsStoreFault x → IfErr r IsReadFault
 err_is r e x is from_it fault = subst (λ s. IfErr s IsReadFault) (sym is) (subst IsReadFault (sym from_it) fault)
+
+pub want_is : {T : Type 0} (r : Result T ReadError) (e : ReadError) (x : Error) → r ≡ Err e → e ≡ Store x → IsWant x → IfErr r IsReadWant
+want_is r e x is from_it want = subst (λ s. IfErr s IsReadWant) (sym is) (subst IsReadWant (sym from_it) want)
+
+-- the store failed, whatever the cause
+pub fault_of : {old new : State} {e : Error} → Fails old new ⊥ e → IsStoreFault e
+fault_of h = (h.0, h.1)
 
 -- a text of this length is one statement, with so many parameters
 abbrev pub IsWhole : ℕ → ℕ → Result Compiled CompileError → Type 0
@@ -60,10 +67,10 @@ module _ (sql : List ℕ) (params : Row) (old new : State) (command : Command) (
   is_statement e (inr (c, made, inr (inl count))) = count.0 (subst (IsWhole (length sql) (length params)) made whole_here).1
   is_statement e (inr (c, made, inr (inr clock))) = clock.0 (subst IsPlain made plain_here).1
 
-  pub read_fails : ((db : Database) (e : Error) → db.schema ≡ desk_schema → RefusesToRead None command db params e → ⊥) → (e : Error) → FailsToQuery sql params old new e → IsStoreFault e
+  pub read_fails : ((db : Database) (e : Error) → db.schema ≡ desk_schema → RefusesToRead None command db params e → ⊥) → (e : Error) → FailsToQuery sql params old new e → Fails old new ⊥ e
   unfolding FailsToQuery IsNotRun
   read_fails never e (inl (inl h)) = absurd (is_statement e h.0)
-  read_fails never e (inl (inr h)) = (h.0, h.1)
+  read_fails never e (inl (inr h)) = h
   read_fails never e (inr ran) =
       let known = sym ran.1.is ∙ ap (λ s. understood s sql) has in
       let bare = subst IsPlain (sym known) plain in
@@ -82,7 +89,7 @@ batches_typed : accepts_program desk_schema [] (simple 1 [] select_batches_terms
 unfolding everything
 batches_typed = refl
 
-pub batches_fails : (old new : State) (given : Row) (e : Error) → FailsToQuery select_batches given old new e → given ≡ [] → old.now.schema ≡ desk_schema → old.step_limit ≡ None → IsStoreFault e
+pub batches_fails : (old new : State) (given : Row) (e : Error) → FailsToQuery select_batches given old new e → given ≡ [] → old.now.schema ≡ desk_schema → old.step_limit ≡ None → Fails old new ⊥ e
 batches_fails old new given e failed same has unlimited =
     read_fails select_batches [] old new _ has unlimited select_batches_is.0 select_batches_is.1 select_batches_is.2 batches_whole (unrefused 1 [] select_batches_terms (rising 0 ∷ []) [] batches_typed) e (subst (λ ps. FailsToQuery select_batches ps old new e) same failed)
 
@@ -94,7 +101,7 @@ sentences_typed : accepts_program desk_schema [] (simple 3 [] select_sentences_t
 unfolding everything
 sentences_typed = refl
 
-pub sentences_fails : (old new : State) (given : Row) (e : Error) → FailsToQuery select_sentences given old new e → given ≡ [] → old.now.schema ≡ desk_schema → old.step_limit ≡ None → IsStoreFault e
+pub sentences_fails : (old new : State) (given : Row) (e : Error) → FailsToQuery select_sentences given old new e → given ≡ [] → old.now.schema ≡ desk_schema → old.step_limit ≡ None → Fails old new ⊥ e
 sentences_fails old new given e failed same has unlimited =
     read_fails select_sentences [] old new _ has unlimited select_sentences_is.0 select_sentences_is.1 select_sentences_is.2 sentences_whole (unrefused 3 [] select_sentences_terms (rising 0 ∷ []) [] sentences_typed) e (subst (λ ps. FailsToQuery select_sentences ps old new e) same failed)
 
@@ -106,7 +113,7 @@ moves_typed : accepts_program desk_schema [] (simple 7 [] select_moves_terms (ri
 unfolding everything
 moves_typed = refl
 
-pub moves_fails : (old new : State) (given : Row) (e : Error) → FailsToQuery select_moves given old new e → given ≡ [] → old.now.schema ≡ desk_schema → old.step_limit ≡ None → IsStoreFault e
+pub moves_fails : (old new : State) (given : Row) (e : Error) → FailsToQuery select_moves given old new e → given ≡ [] → old.now.schema ≡ desk_schema → old.step_limit ≡ None → Fails old new ⊥ e
 moves_fails old new given e failed same has unlimited =
     read_fails select_moves [] old new _ has unlimited select_moves_is.0 select_moves_is.1 select_moves_is.2 moves_whole (unrefused 7 [] select_moves_terms (rising 0 ∷ []) [] moves_typed) e (subst (λ ps. FailsToQuery select_moves ps old new e) same failed)
 
@@ -118,7 +125,7 @@ totals_typed : accepts_program desk_schema [] (simple 8 [] select_totals_terms (
 unfolding everything
 totals_typed = refl
 
-pub totals_fails : (old new : State) (given : Row) (e : Error) → FailsToQuery select_totals given old new e → given ≡ [] → old.now.schema ≡ desk_schema → old.step_limit ≡ None → IsStoreFault e
+pub totals_fails : (old new : State) (given : Row) (e : Error) → FailsToQuery select_totals given old new e → given ≡ [] → old.now.schema ≡ desk_schema → old.step_limit ≡ None → Fails old new ⊥ e
 totals_fails old new given e failed same has unlimited =
     read_fails select_totals [] old new _ has unlimited select_totals_is.0 select_totals_is.1 select_totals_is.2 totals_whole (unrefused 8 [] select_totals_terms (rising 0 ∷ []) [] totals_typed) e (subst (λ ps. FailsToQuery select_totals ps old new e) same failed)
 
@@ -130,7 +137,7 @@ revisions_typed : accepts_program desk_schema [] (simple 5 [] select_revisions_t
 unfolding everything
 revisions_typed = refl
 
-pub revisions_fails : (old new : State) (given : Row) (e : Error) → FailsToQuery select_revisions given old new e → given ≡ [] → old.now.schema ≡ desk_schema → old.step_limit ≡ None → IsStoreFault e
+pub revisions_fails : (old new : State) (given : Row) (e : Error) → FailsToQuery select_revisions given old new e → given ≡ [] → old.now.schema ≡ desk_schema → old.step_limit ≡ None → Fails old new ⊥ e
 revisions_fails old new given e failed same has unlimited =
     read_fails select_revisions [] old new _ has unlimited select_revisions_is.0 select_revisions_is.1 select_revisions_is.2 revisions_whole (unrefused 5 [] select_revisions_terms (rising 1 ∷ rising 2 ∷ []) [] revisions_typed) e (subst (λ ps. FailsToQuery select_revisions ps old new e) same failed)
 
@@ -142,7 +149,7 @@ pulled_typed : accepts_program desk_schema [] (simple 9 [] select_pulled_terms (
 unfolding everything
 pulled_typed = refl
 
-pub pulled_fails : (old new : State) (given : Row) (e : Error) → FailsToQuery select_pulled given old new e → given ≡ [] → old.now.schema ≡ desk_schema → old.step_limit ≡ None → IsStoreFault e
+pub pulled_fails : (old new : State) (given : Row) (e : Error) → FailsToQuery select_pulled given old new e → given ≡ [] → old.now.schema ≡ desk_schema → old.step_limit ≡ None → Fails old new ⊥ e
 pulled_fails old new given e failed same has unlimited =
     read_fails select_pulled [] old new _ has unlimited select_pulled_is.0 select_pulled_is.1 select_pulled_is.2 pulled_whole (unrefused 9 [] select_pulled_terms (rising 0 ∷ []) [] pulled_typed) e (subst (λ ps. FailsToQuery select_pulled ps old new e) same failed)
 
@@ -154,7 +161,7 @@ versions_typed : accepts_program desk_schema [] (simple 0 [] select_versions_ter
 unfolding everything
 versions_typed = refl
 
-pub versions_fails : (old new : State) (given : Row) (e : Error) → FailsToQuery select_versions given old new e → given ≡ [] → old.now.schema ≡ desk_schema → old.step_limit ≡ None → IsStoreFault e
+pub versions_fails : (old new : State) (given : Row) (e : Error) → FailsToQuery select_versions given old new e → given ≡ [] → old.now.schema ≡ desk_schema → old.step_limit ≡ None → Fails old new ⊥ e
 versions_fails old new given e failed same has unlimited =
     read_fails select_versions [] old new _ has unlimited select_versions_is.0 select_versions_is.1 select_versions_is.2 versions_whole (unrefused 0 [] select_versions_terms (rising 1 ∷ []) [] versions_typed) e (subst (λ ps. FailsToQuery select_versions ps old new e) same failed)
 
@@ -166,7 +173,7 @@ batch_typed : (a : ℕ) → accepts_program desk_schema [] (simple 1 (by_number 
 unfolding everything
 batch_typed a = refl
 
-pub batch_fails : (a : ℕ) (old new : State) (given : Row) (e : Error) → FailsToQuery select_batch given old new e → given ≡ Int (pos a) ∷ [] → old.now.schema ≡ desk_schema → old.step_limit ≡ None → IsStoreFault e
+pub batch_fails : (a : ℕ) (old new : State) (given : Row) (e : Error) → FailsToQuery select_batch given old new e → given ≡ Int (pos a) ∷ [] → old.now.schema ≡ desk_schema → old.step_limit ≡ None → Fails old new ⊥ e
 batch_fails a old new given e failed same has unlimited =
     read_fails select_batch (Int (pos a) ∷ []) old new _ has unlimited select_batch_is.0 select_batch_is.1 select_batch_is.2 batch_whole (unrefused 1 (by_number ∷ []) select_batch_terms ([]) (Int (pos a) ∷ []) (batch_typed a)) e (subst (λ ps. FailsToQuery select_batch ps old new e) same failed)
 
@@ -178,7 +185,7 @@ sentence_typed : (a : ℕ) → accepts_program desk_schema [] (simple 3 (by_numb
 unfolding everything
 sentence_typed a = refl
 
-pub sentence_fails : (a : ℕ) (old new : State) (given : Row) (e : Error) → FailsToQuery select_sentence given old new e → given ≡ Int (pos a) ∷ [] → old.now.schema ≡ desk_schema → old.step_limit ≡ None → IsStoreFault e
+pub sentence_fails : (a : ℕ) (old new : State) (given : Row) (e : Error) → FailsToQuery select_sentence given old new e → given ≡ Int (pos a) ∷ [] → old.now.schema ≡ desk_schema → old.step_limit ≡ None → Fails old new ⊥ e
 sentence_fails a old new given e failed same has unlimited =
     read_fails select_sentence (Int (pos a) ∷ []) old new _ has unlimited select_sentence_is.0 select_sentence_is.1 select_sentence_is.2 sentence_whole (unrefused 3 (by_number ∷ []) select_sentence_terms ([]) (Int (pos a) ∷ []) (sentence_typed a)) e (subst (λ ps. FailsToQuery select_sentence ps old new e) same failed)
 
@@ -190,7 +197,7 @@ named_batch_typed : (a : List ℕ) → accepts_program desk_schema [] (simple 1 
 unfolding everything
 named_batch_typed a = refl
 
-pub named_batch_fails : (a : List ℕ) (old new : State) (given : Row) (e : Error) → FailsToQuery select_named_batch given old new e → given ≡ Text a ∷ [] → old.now.schema ≡ desk_schema → old.step_limit ≡ None → IsStoreFault e
+pub named_batch_fails : (a : List ℕ) (old new : State) (given : Row) (e : Error) → FailsToQuery select_named_batch given old new e → given ≡ Text a ∷ [] → old.now.schema ≡ desk_schema → old.step_limit ≡ None → Fails old new ⊥ e
 named_batch_fails a old new given e failed same has unlimited =
     read_fails select_named_batch (Text a ∷ []) old new _ has unlimited select_named_batch_is.0 select_named_batch_is.1 select_named_batch_is.2 named_batch_whole (unrefused 1 (op2 (Compare Eq Binary) (col 1 2) (col 0 0) ∷ []) select_named_batch_terms [] (Text a ∷ []) (named_batch_typed a)) e (subst (λ ps. FailsToQuery select_named_batch ps old new e) same failed)
 
@@ -202,7 +209,7 @@ named_sentence_typed : (a : List ℕ) → accepts_program desk_schema [] (simple
 unfolding everything
 named_sentence_typed a = refl
 
-pub named_sentence_fails : (a : List ℕ) (old new : State) (given : Row) (e : Error) → FailsToQuery select_named_sentence given old new e → given ≡ Text a ∷ [] → old.now.schema ≡ desk_schema → old.step_limit ≡ None → IsStoreFault e
+pub named_sentence_fails : (a : List ℕ) (old new : State) (given : Row) (e : Error) → FailsToQuery select_named_sentence given old new e → given ≡ Text a ∷ [] → old.now.schema ≡ desk_schema → old.step_limit ≡ None → Fails old new ⊥ e
 named_sentence_fails a old new given e failed same has unlimited =
     read_fails select_named_sentence (Text a ∷ []) old new _ has unlimited select_named_sentence_is.0 select_named_sentence_is.1 select_named_sentence_is.2 named_sentence_whole (unrefused 3 (op2 (Compare Eq Binary) (col 1 2) (col 0 0) ∷ []) select_named_sentence_terms [] (Text a ∷ []) (named_sentence_typed a)) e (subst (λ ps. FailsToQuery select_named_sentence ps old new e) same failed)
 
@@ -214,7 +221,7 @@ revision_typed : (a : ℕ) (b : ℕ) → accepts_program desk_schema [] (simple 
 unfolding everything
 revision_typed a b = refl
 
-pub revision_fails : (a : ℕ) (b : ℕ) (old new : State) (given : Row) (e : Error) → FailsToQuery select_revision given old new e → given ≡ Int (pos a) ∷ Int (pos b) ∷ [] → old.now.schema ≡ desk_schema → old.step_limit ≡ None → IsStoreFault e
+pub revision_fails : (a : ℕ) (b : ℕ) (old new : State) (given : Row) (e : Error) → FailsToQuery select_revision given old new e → given ≡ Int (pos a) ∷ Int (pos b) ∷ [] → old.now.schema ≡ desk_schema → old.step_limit ≡ None → Fails old new ⊥ e
 revision_fails a b old new given e failed same has unlimited =
     read_fails select_revision (Int (pos a) ∷ Int (pos b) ∷ []) old new _ has unlimited select_revision_is.0 select_revision_is.1 select_revision_is.2 revision_whole (unrefused 5 (op2 (Compare Eq Binary) (col 1 1) (col 0 0) ∷ op2 (Compare Eq Binary) (col 1 2) (col 0 1) ∷ []) select_revision_terms [] (Int (pos a) ∷ Int (pos b) ∷ []) (revision_typed a b)) e (subst (λ ps. FailsToQuery select_revision ps old new e) same failed)
 
@@ -226,7 +233,7 @@ one_pulled_typed : (a : ℕ) → accepts_program desk_schema [] (simple 9 (by_nu
 unfolding everything
 one_pulled_typed a = refl
 
-pub one_pulled_fails : (a : ℕ) (old new : State) (given : Row) (e : Error) → FailsToQuery select_one_pulled given old new e → given ≡ Int (pos a) ∷ [] → old.now.schema ≡ desk_schema → old.step_limit ≡ None → IsStoreFault e
+pub one_pulled_fails : (a : ℕ) (old new : State) (given : Row) (e : Error) → FailsToQuery select_one_pulled given old new e → given ≡ Int (pos a) ∷ [] → old.now.schema ≡ desk_schema → old.step_limit ≡ None → Fails old new ⊥ e
 one_pulled_fails a old new given e failed same has unlimited =
     read_fails select_one_pulled (Int (pos a) ∷ []) old new _ has unlimited select_one_pulled_is.0 select_one_pulled_is.1 select_one_pulled_is.2 one_pulled_whole (unrefused 9 (by_number ∷ []) select_one_pulled_terms [] (Int (pos a) ∷ []) (one_pulled_typed a)) e (subst (λ ps. FailsToQuery select_one_pulled ps old new e) same failed)
 
@@ -238,7 +245,7 @@ work_typed : (a : ℕ) → accepts_program desk_schema [] (simple 3 (op2 (Compar
 unfolding everything
 work_typed a = refl
 
-pub work_fails : (a : ℕ) (old new : State) (given : Row) (e : Error) → FailsToQuery select_work given old new e → given ≡ Int (pos a) ∷ [] → old.now.schema ≡ desk_schema → old.step_limit ≡ None → IsStoreFault e
+pub work_fails : (a : ℕ) (old new : State) (given : Row) (e : Error) → FailsToQuery select_work given old new e → given ≡ Int (pos a) ∷ [] → old.now.schema ≡ desk_schema → old.step_limit ≡ None → Fails old new ⊥ e
 work_fails a old new given e failed same has unlimited =
     read_fails select_work (Int (pos a) ∷ []) old new _ has unlimited select_work_is.0 select_work_is.1 select_work_is.2 work_whole (unrefused 3 (op2 (Compare Eq Binary) (col 1 3) (col 0 0) ∷ []) select_work_terms (rising 0 ∷ []) (Int (pos a) ∷ []) (work_typed a)) e (subst (λ ps. FailsToQuery select_work ps old new e) same failed)
 
@@ -250,7 +257,7 @@ heads_typed : accepts_program desk_schema [] (simple 3 [] select_heads_terms (ri
 unfolding everything
 heads_typed = refl
 
-pub heads_fails : (old new : State) (given : Row) (e : Error) → FailsToQuery select_heads given old new e → given ≡ [] → old.now.schema ≡ desk_schema → old.step_limit ≡ None → IsStoreFault e
+pub heads_fails : (old new : State) (given : Row) (e : Error) → FailsToQuery select_heads given old new e → given ≡ [] → old.now.schema ≡ desk_schema → old.step_limit ≡ None → Fails old new ⊥ e
 heads_fails old new given e failed same has unlimited =
     read_fails select_heads [] old new _ has unlimited select_heads_is.0 select_heads_is.1 select_heads_is.2 heads_whole (unrefused 3 [] select_heads_terms (rising 0 ∷ []) [] heads_typed) e (subst (λ ps. FailsToQuery select_heads ps old new e) same failed)
 
@@ -262,6 +269,6 @@ bodies_typed : accepts_program desk_schema [] (simple 5 [] select_bodies_terms (
 unfolding everything
 bodies_typed = refl
 
-pub bodies_fails : (old new : State) (given : Row) (e : Error) → FailsToQuery select_bodies given old new e → given ≡ [] → old.now.schema ≡ desk_schema → old.step_limit ≡ None → IsStoreFault e
+pub bodies_fails : (old new : State) (given : Row) (e : Error) → FailsToQuery select_bodies given old new e → given ≡ [] → old.now.schema ≡ desk_schema → old.step_limit ≡ None → Fails old new ⊥ e
 bodies_fails old new given e failed same has unlimited =
     read_fails select_bodies [] old new _ has unlimited select_bodies_is.0 select_bodies_is.1 select_bodies_is.2 bodies_whole (unrefused 5 [] select_bodies_terms (rising 1 ∷ rising 2 ∷ []) [] bodies_typed) e (subst (λ ps. FailsToQuery select_bodies ps old new e) same failed)

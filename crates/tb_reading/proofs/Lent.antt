@@ -11,7 +11,7 @@ use Rattle.sqlite.specs.Query.{IsAnswer}
 use Rattle.sqlite.specs.Program.{overlay}
 use Rattle.sqlite.specs.Store.{Ghosts}
 use Rattle.sqlite.specs.Held.{Held, state}
-use Rattle.sqlite.specs.State.{IsUnchanged}
+use Rattle.sqlite.specs.State.{IsUnchanged, Fails}
 use Rattle.sqlite.specs.Given.{HasGiven, HasBegun, IsRefused, Advances, FailsToAdvance}
 use Rattle.sqlite.specs.Listing.{understood}
 use Rattle.sqlite.specs.declared.error.Error.{Error}
@@ -20,7 +20,7 @@ use Rattle.sqlite_trees.specs.Tree.{IsAscending}
 use Rattle.sqlite_trees.proofs.ListLemmas.{map-map}
 use Rattle.tb_tables.specs.Layout.{desk_schema}
 use Rattle.tb_tables.specs.Records.{Revision, Shows, revision_shown, revision_view}
-use Rattle.tb_tables.specs.Failing.{IsStoreFault}
+use Rattle.tb_tables.proofs.Causes.{failed_wants}
 use Rattle.tb_tables.proofs.Texts.{simple}
 use Rattle.tb_reading.specs.declared.cursor.Body.{Body}
 use Rattle.tb_reading.specs.Readable.{IsRevision, ComesBefore}
@@ -28,7 +28,7 @@ use Rattle.tb_reading.specs.Streams.{AreToCome, IsLeft, StandsAt, GoesOn, IsBody
 use Rattle.tb_reading.proofs.Shown.{commits_nothing}
 use Rattle.tb_reading.proofs.Staying.{failed_stays, lasts}
 use Rattle.tb_reading.proofs.Queries.{rising, select_bodies_is, select_bodies_terms}
-use Rattle.tb_reading.proofs.Failing.{bodies_fails}
+use Rattle.tb_reading.proofs.Failing.{bodies_fails, fault_of}
 use Rattle.tb_reading.proofs.Ordered.{pair, IsPair, pair_in_order, revisions_rise, revisions_placed}
 use Rattle.tb_reading.proofs.Sifted.{sifted, sorted_by}
 use Rattle.tb_reading.proofs.Streaming.{all_kept, begun_answer, shown_push}
@@ -146,12 +146,13 @@ module _ {S : Type 0} (g : Ghosts S) (old new : Held S) (has : (state g old).now
 pub left_so : {S : Type 0} (g : Ghosts S) (old new : Held S) {X : Type 0} (result : Result X Error) → OnErr result (IsRefused g bodies_text [] old result new) → OnErr result (IsLeft g old result new)
 left_so g old new (Ok rows) h = tt
 left_so g old new (Err e) refused = record {
-  fails = λ clean unlimited has. bodies_fails (state g old) (state g new) [] e (refused.err clean) refl has unlimited;
+  fails = λ clean unlimited has. fault_of (bodies_fails (state g old) (state g new) [] e (refused.err clean) refl has unlimited);
+  cause = λ good clean unlimited has. failed_wants (state g old) (state g new) good e (bodies_fails (state g old) (state g new) [] e (refused.err clean) refl has unlimited);
   mode = refused.mode;
   kept = λ clean opened d holds. failed_stays g bodies_text [] old new d e select_bodies_is.1 holds opened (refused.err clean);
   lasts = lasts bodies_text [] (state g old) (state g new) select_bodies_is.1 refused.survives;
   survives = λ has. commits_nothing bodies_text [] (state g old) (state g new) desk_schema select_bodies_is.1 has refused.survives;
 }
 
-pub advance_fails : {S : Type 0} (g : Ghosts S) (old new : Held S) (e : Error) → FailsToAdvance g old new e → (state g old).step_limit ≡ None → (xs : List Revision) → AreToCome g old xs → IsStoreFault e
+pub advance_fails : {S : Type 0} (g : Ghosts S) (old new : Held S) (e : Error) → FailsToAdvance g old new e → (state g old).step_limit ≡ None → (xs : List Revision) → AreToCome g old xs → Fails (state g old) (state g new) ⊥ e
 advance_fails g old new e failed unlimited xs left = bodies_fails (state g old) (state g new) [] e (failed bodies_text [] (map body_shown left.before) left.given) refl left.schema unlimited

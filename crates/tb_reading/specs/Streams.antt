@@ -16,13 +16,14 @@ use Rattle.sqlite_trees.specs.Tree.{IsAscending}
 use Rattle.tb_tables.specs.Layout.{desk_schema}
 use Rattle.tb_tables.specs.Records.{Tables, Sentence, Revision, Shows, revision_shown, revision_view}
 use Rattle.tb_tables.specs.Changes.{Holds}
-use Rattle.tb_tables.specs.Failing.{IsStoreFault}
+use Rattle.tb_tables.specs.Failing.{IsStoreFault, IsWant}
+use Rattle.tb_tables.specs.Leaving.{IsFaultless, FailsOnlyAs}
 use Rattle.tb_reading.specs.declared.stream.Head.{Head}
 use Rattle.tb_reading.specs.declared.cursor.Body.{Body}
 use Rattle.tb_reading.specs.declared.error.ReadError.{ReadError}
 use Rattle.tb_reading.specs.declared.error.ReadError.TheVariants.{Form}
 use Rattle.tb_reading.specs.Readable.{IsRevision, ComesBefore}
-use Rattle.tb_reading.specs.Failing.{IsReadFault}
+use Rattle.tb_reading.specs.Failing.{IsReadFault, IsReadWant}
 
 -- ---- the batch and the current revision of a sentence
 
@@ -80,6 +81,7 @@ StandsAt g h (Some r) xs = (x : Revision) × (rest : List Revision) × (xs ≡ x
 -- what the connection is left as where no rows are handed out, and why: on the tables of a desk for a fault of the store alone
 pub record IsLeft {S X : Type 0} (g : Ghosts S) (old : Held S) (result : Result X Error) (new : Held S) : Type 0 where
   pub fails : HasCleanDisk (state g new) → (state g old).step_limit ≡ None → (state g old).now.schema ≡ desk_schema → IfErr result IsStoreFault
+  pub cause : IsFaultless g old new → FailsOnlyAs IsWant g old new result
   pub mode : old.in_transaction ≡ false → new.in_transaction ≡ false
   pub kept : HasCleanDisk (state g new) → IsTrue (state g new).is_open → (d : Tables) → Holds g old d → Holds g new d
   pub lasts : Survives (state g old) (state g new) (λ _. (state g old).now.schema ≢ desk_schema)
@@ -91,6 +93,9 @@ pub record HasGone {S : Type 0} (g : Ghosts S) (old : Rows S g) (result : Result
   pub ok : HasCleanDisk (state g new.conn.now) → IfOk result (λ found. (xs : List Revision) → AreToCome g old.conn.now xs → GoesOn g new.conn.now found xs)
   pub form : HasCleanDisk (state g new.conn.now) → result ≡ Err Form → (xs : List Revision) → ¬ AreToCome g old.conn.now xs
   pub fails : HasCleanDisk (state g new.conn.now) → (state g old.conn.now).step_limit ≡ None → IfErr result (λ e. (xs : List Revision) → AreToCome g old.conn.now xs → IsReadFault e)
+  pub cause : IsFaultless g old.conn.now new.conn.now → HasCleanDisk (state g new.conn.now)
+      → (state g old.conn.now).step_limit ≡ None
+      → IfErr result (λ e. (xs : List Revision) → AreToCome g old.conn.now xs → IsReadWant e)
   pub same : HasCleanDisk (state g new.conn.now) → OnOk result (IsUnchanged (state g old.conn.now) (state g new.conn.now))
   pub mode : old.conn.now.in_transaction ≡ false → new.conn.now.in_transaction ≡ false
   pub kept : HasCleanDisk (state g new.conn.now) → IsTrue (state g new.conn.now).is_open → (d : Tables) → Holds g old.conn.now d → Holds g new.conn.now d

@@ -10,7 +10,7 @@ ghost use Rattle.sqlite_trees.specs.Tree.{IsAscending};
 ghost use Rattle.tb_tables.specs.Layout.{desk_schema};
 ghost use Rattle.tb_tables.specs.Records.{Revision, Shows, revision_shown, revision_view};
 ghost use Rattle.tb_reading.specs.Readable.{IsRevision, ComesBefore};
-ghost use Rattle.tb_reading.specs.Failing.{IsReadFault};
+ghost use Rattle.tb_reading.specs.Failing.{IsReadFault, IsReadWant};
 ghost use Rattle.tb_reading.specs.Streams.{AreToCome, EndsAs, IsLeft, body_shown, lent_shown};
 
 use crate::error::ReadError;
@@ -33,6 +33,7 @@ fn body_in(row: &Row) -> Result<Body<'_>, ReadError>
     ensures ok { IfOk result (λ b. row.now ≡ lent_shown b) }
     ensures form { result ≡ Err ReadError.Form → (x : Revision) → IsRevision x → row.now ≢ body_shown x }
     ensures fails { IfErr result IsReadFault }
+    ensures cause { IfErr result IsReadWant }
 {
     if row.column_count() != 3 {
         return Err(ReadError::Form);
@@ -68,6 +69,7 @@ fn body_at<'a, S: Alter>(rows: &'a Rows<'_, S>) -> Result<Option<Body<'a>>, Read
     ensures ok { IfOk result (λ found. option_map lent_shown found ≡ row_if rows.now.has_row rows.now.conn.now) }
     ensures form { result ≡ Err ReadError.Form → (row_if rows.now.has_row rows.now.conn.now ≢ None) × ((x : Revision) → IsRevision x → row_if rows.now.has_row rows.now.conn.now ≢ Some (body_shown x)) }
     ensures fails { IfErr result IsReadFault }
+    ensures cause { IfErr result IsReadWant }
 {
     match rows.get() {
         Some(row) => Ok(Some(body_in(row)?)),

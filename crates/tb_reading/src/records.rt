@@ -6,7 +6,7 @@ ghost use Rattle.sqlite.specs.declared.types.Value.TheVariants.{Int, Text};
 ghost use Rattle.tb_tables.specs.Records.{Batch, Sentence, Revision, Move, Total, numbered, batch_shown, sentence_shown, revision_shown, move_shown, total_shown, number_shown};
 ghost use Rattle.tb_tables.specs.Values.{batch_of, sentence_of, revision_of, move_of, total_of};
 ghost use Rattle.tb_reading.specs.Readable.{IsBatch, IsSentence, IsRevision, IsMove, IsTotal};
-ghost use Rattle.tb_reading.specs.Failing.{IsReadFault};
+ghost use Rattle.tb_reading.specs.Failing.{IsReadFault, IsReadWant};
 
 use crate::error::ReadError;
 use sqlite::{Error, ErrorCode, Row};
@@ -18,6 +18,7 @@ pub(crate) fn number_at(row: &Row, at: usize) -> Result<u32, ReadError>
     ensures ok { IfOk result (λ n. column row.now at ≡ Int (pos n)) }
     ensures form { result ≡ Err ReadError.Form → (n : ℕ) → n < 2 ^ 32 → column row.now at ≢ Int (pos n) }
     ensures fails { IfErr result IsReadFault }
+    ensures cause { IfErr result IsReadWant }
 {
     match row.get::<u32>(at) {
         Ok(n) => Ok(n),
@@ -34,6 +35,7 @@ fn key_at(row: &Row) -> Result<u64, ReadError>
     ensures ok { IfOk result (λ n. column row.now 0 ≡ Int (pos n)) }
     ensures form { result ≡ Err ReadError.Form → (n : ℕ) → column row.now 0 ≢ Int (pos n) }
     ensures fails { IfErr result IsReadFault }
+    ensures cause { IfErr result IsReadWant }
 {
     match row.get::<u64>(0) {
         Ok(n) => Ok(n),
@@ -49,6 +51,7 @@ fn text_at(row: &Row, at: usize) -> Result<String, ReadError>
     ensures ok { IfOk result (λ s. column row.now at ≡ Text (string_bytes s)) }
     ensures form { result ≡ Err ReadError.Form → (t : List ℕ) → IsUtf8 t → column row.now at ≢ Text t }
     ensures fails { IfErr result IsReadFault }
+    ensures cause { IfErr result IsReadWant }
 {
     match row.get::<String>(at) {
         Ok(text) => Ok(text),
@@ -64,6 +67,7 @@ pub(crate) fn batch_in(row: &Row, number: u64) -> Result<BatchRow, ReadError>
     ensures ok { IfOk result (λ x. row.now ≡ batch_shown number (batch_of x)) }
     ensures form { result ≡ Err ReadError.Form → (x : Batch) → IsBatch x → row.now ≢ batch_shown number x }
     ensures fails { IfErr result IsReadFault }
+    ensures cause { IfErr result IsReadWant }
 {
     if row.column_count() != 4 {
         return Err(ReadError::Form);
@@ -87,6 +91,7 @@ pub fn batches_in(alloc: Global, rows: &[Row]) -> Result<Vec<BatchRow>, ReadErro
     ensures ok { IfOk result (λ v. rows.now ≡ numbered batch_shown 1 (map batch_of v.items)) }
     ensures form { result ≡ Err ReadError.Form → (xs : List Batch) → All IsBatch xs → rows.now ≢ numbered batch_shown 1 xs }
     ensures fails { IfErr result IsReadFault }
+    ensures cause { IfErr result IsReadWant }
 {
     let mut found = Vec::new(alloc);
     let mut number = 0u64;
@@ -102,6 +107,7 @@ pub(crate) fn sentence_in(row: &Row, number: u64) -> Result<SentenceRow, ReadErr
     ensures ok { IfOk result (λ x. row.now ≡ sentence_shown number (sentence_of x)) }
     ensures form { result ≡ Err ReadError.Form → (x : Sentence) → IsSentence x → row.now ≢ sentence_shown number x }
     ensures fails { IfErr result IsReadFault }
+    ensures cause { IfErr result IsReadWant }
 {
     if row.column_count() != 5 {
         return Err(ReadError::Form);
@@ -126,6 +132,7 @@ pub fn sentences_in(alloc: Global, rows: &[Row]) -> Result<Vec<SentenceRow>, Rea
     ensures ok { IfOk result (λ v. rows.now ≡ numbered sentence_shown 1 (map sentence_of v.items)) }
     ensures form { result ≡ Err ReadError.Form → (xs : List Sentence) → All IsSentence xs → rows.now ≢ numbered sentence_shown 1 xs }
     ensures fails { IfErr result IsReadFault }
+    ensures cause { IfErr result IsReadWant }
 {
     let mut found = Vec::new(alloc);
     let mut number = 0u64;
@@ -141,6 +148,7 @@ pub(crate) fn move_in(row: &Row, number: u64) -> Result<MoveRow, ReadError>
     ensures ok { IfOk result (λ x. row.now ≡ move_shown number (move_of x)) }
     ensures form { result ≡ Err ReadError.Form → (x : Move) → IsMove x → row.now ≢ move_shown number x }
     ensures fails { IfErr result IsReadFault }
+    ensures cause { IfErr result IsReadWant }
 {
     if row.column_count() != 10 {
         return Err(ReadError::Form);
@@ -175,6 +183,7 @@ pub fn moves_in(alloc: Global, rows: &[Row]) -> Result<Vec<MoveRow>, ReadError>
     ensures ok { IfOk result (λ v. rows.now ≡ numbered move_shown 1 (map move_of v.items)) }
     ensures form { result ≡ Err ReadError.Form → (xs : List Move) → All IsMove xs → rows.now ≢ numbered move_shown 1 xs }
     ensures fails { IfErr result IsReadFault }
+    ensures cause { IfErr result IsReadWant }
 {
     let mut found = Vec::new(alloc);
     let mut number = 0u64;
@@ -190,6 +199,7 @@ pub(crate) fn total_in(row: &Row, number: u64) -> Result<TotalRow, ReadError>
     ensures ok { IfOk result (λ x. row.now ≡ total_shown number (total_of x)) }
     ensures form { result ≡ Err ReadError.Form → (x : Total) → IsTotal x → row.now ≢ total_shown number x }
     ensures fails { IfErr result IsReadFault }
+    ensures cause { IfErr result IsReadWant }
 {
     if row.column_count() != 3 {
         return Err(ReadError::Form);
@@ -207,6 +217,7 @@ pub fn totals_in(alloc: Global, rows: &[Row]) -> Result<Vec<TotalRow>, ReadError
     ensures ok { IfOk result (λ v. rows.now ≡ numbered total_shown 1 (map total_of v.items)) }
     ensures form { result ≡ Err ReadError.Form → (xs : List Total) → All IsTotal xs → rows.now ≢ numbered total_shown 1 xs }
     ensures fails { IfErr result IsReadFault }
+    ensures cause { IfErr result IsReadWant }
 {
     let mut found = Vec::new(alloc);
     let mut number = 0u64;
@@ -222,6 +233,7 @@ pub(crate) fn revision_in(row: &Row) -> Result<RevisionRow, ReadError>
     ensures ok { IfOk result (λ x. row.now ≡ revision_shown (revision_of x)) }
     ensures form { result ≡ Err ReadError.Form → (x : Revision) → IsRevision x → row.now ≢ revision_shown x }
     ensures fails { IfErr result IsReadFault }
+    ensures cause { IfErr result IsReadWant }
 {
     if row.column_count() != 4 {
         return Err(ReadError::Form);
@@ -243,6 +255,7 @@ pub fn revisions_in(alloc: Global, rows: &[Row]) -> Result<Vec<RevisionRow>, Rea
     ensures ok { IfOk result (λ v. rows.now ≡ map revision_shown (map revision_of v.items)) }
     ensures form { result ≡ Err ReadError.Form → (xs : List Revision) → All IsRevision xs → rows.now ≢ map revision_shown xs }
     ensures fails { IfErr result IsReadFault }
+    ensures cause { IfErr result IsReadWant }
 {
     let mut found = Vec::new(alloc);
     for row in rows {
@@ -256,6 +269,7 @@ pub(crate) fn number_in(row: &Row) -> Result<u32, ReadError>
     ensures ok { IfOk result (λ n. row.now ≡ number_shown n) }
     ensures form { result ≡ Err ReadError.Form → (n : ℕ) → n < 2 ^ 32 → row.now ≢ number_shown n }
     ensures fails { IfErr result IsReadFault }
+    ensures cause { IfErr result IsReadWant }
 {
     if row.column_count() != 1 {
         return Err(ReadError::Form);
@@ -268,6 +282,7 @@ pub(crate) fn numbers_in(alloc: Global, rows: &[Row]) -> Result<Vec<u32>, ReadEr
     ensures ok { IfOk result (λ v. rows.now ≡ map number_shown v.items) }
     ensures form { result ≡ Err ReadError.Form → (ns : List ℕ) → All (λ n. n < 2 ^ 32) ns → rows.now ≢ map number_shown ns }
     ensures fails { IfErr result IsReadFault }
+    ensures cause { IfErr result IsReadWant }
 {
     let mut found = Vec::new(alloc);
     for row in rows {

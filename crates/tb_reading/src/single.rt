@@ -8,9 +8,10 @@ ghost use Rattle.tb_tables.specs.Records.{Batch, Sentence, Revision, Shows, numb
 ghost use Rattle.tb_tables.specs.Values.{batch_of, sentence_of, revision_of};
 ghost use Rattle.tb_reading.specs.Readable.{IsBatch, IsSentence, IsRevision};
 ghost use Rattle.tb_reading.specs.Found.{IsNumberOf, IsRevisionAt, HasUnreadable, has_number, has_name, has_pair, key_alone};
-ghost use Rattle.tb_tables.specs.Failing.{IsStoreFault};
-ghost use Rattle.tb_reading.specs.Failing.{HasNoForm, IsReadFault};
-ghost use Rattle.tb_tables.specs.Leaving.{ChangesNothing, CommitsNothing, CommitsNothingOnDesk, FailsOnlyAs, KeepsRecords, Reads};
+ghost use Rattle.tb_tables.specs.Failing.{IsStoreFault, IsWant};
+ghost use Rattle.tb_reading.specs.Failing.{HasNoForm, IsReadFault, IsReadWant};
+ghost use Rattle.tb_tables.specs.Leaving.{ChangesNothing, CommitsNothing, CommitsNothingOnDesk, FailsOnlyAs};
+ghost use Rattle.tb_tables.specs.Leaving.{KeepsRecords, Reads, IsFaultless};
 
 use crate::error::ReadError;
 use crate::records::{batch_in, number_in, revision_in, sentence_in};
@@ -21,6 +22,7 @@ fn first_batch(rows: &[Row], number: u64) -> Result<Option<BatchRow>, ReadError>
     ensures ok { IfOk result (λ found. (x : Option Batch) → rows.now ≡ map (batch_shown number) (option_to_list x) → option_map batch_of found ≡ x) }
     ensures form { result ≡ Err ReadError.Form → (x : Option Batch) → IfSome x IsBatch → rows.now ≢ map (batch_shown number) (option_to_list x) }
     ensures fails { IfErr result IsReadFault }
+    ensures cause { IfErr result IsReadWant }
 {
     match rows.first() {
         Some(row) => Ok(Some(batch_in(row, number)?)),
@@ -32,6 +34,7 @@ fn batch_rows<S: Alter>(conn: &mut Connection<S>, number: u32) -> Result<Vec<Row
     requires row { 0 < number }
     ensures found { Reads S.Store conn.old conn.new result (λ rows trees. (xs : List Batch) → Shows batch_view (numbered batch_shown 1 xs) (trees 1) → rows.items ≡ map (batch_shown number) (option_to_list (slice_get xs (number - 1)))) }
     ensures fails { FailsOnlyAs IsStoreFault S.Store conn.old conn.new result }
+    ensures cause { IsFaultless S.Store conn.old conn.new → FailsOnlyAs IsWant S.Store conn.old conn.new result }
     ensures same { ChangesNothing S.Store conn.old conn.new result }
     ensures mode { conn.old.in_transaction ≡ false → conn.new.in_transaction ≡ false }
     ensures kept { KeepsRecords S.Store conn.old conn.new }
@@ -50,6 +53,7 @@ pub fn batch<S: Alter>(conn: &mut Connection<S>, number: u32) -> Result<Option<B
     ensures ok { Reads S.Store conn.old conn.new result (λ found trees. (xs : List Batch) → Shows batch_view (numbered batch_shown 1 xs) (trees 1) → option_map batch_of found ≡ slice_get xs (number - 1)) }
     ensures form { HasNoForm S.Store conn.old conn.new result (λ trees. (xs : List Batch) → All IsBatch xs → ¬ Shows batch_view (numbered batch_shown 1 xs) (trees 1)) }
     ensures fails { FailsOnlyAs IsReadFault S.Store conn.old conn.new result }
+    ensures cause { IsFaultless S.Store conn.old conn.new → FailsOnlyAs IsReadWant S.Store conn.old conn.new result }
     ensures same { ChangesNothing S.Store conn.old conn.new result }
     ensures mode { conn.old.in_transaction ≡ false → conn.new.in_transaction ≡ false }
     ensures kept { KeepsRecords S.Store conn.old conn.new }
@@ -64,6 +68,7 @@ fn first_sentence(rows: &[Row], number: u64) -> Result<Option<SentenceRow>, Read
     ensures ok { IfOk result (λ found. (x : Option Sentence) → rows.now ≡ map (sentence_shown number) (option_to_list x) → option_map sentence_of found ≡ x) }
     ensures form { result ≡ Err ReadError.Form → (x : Option Sentence) → IfSome x IsSentence → rows.now ≢ map (sentence_shown number) (option_to_list x) }
     ensures fails { IfErr result IsReadFault }
+    ensures cause { IfErr result IsReadWant }
 {
     match rows.first() {
         Some(row) => Ok(Some(sentence_in(row, number)?)),
@@ -75,6 +80,7 @@ fn sentence_rows<S: Alter>(conn: &mut Connection<S>, number: u32) -> Result<Vec<
     requires row { 0 < number }
     ensures found { Reads S.Store conn.old conn.new result (λ rows trees. (xs : List Sentence) → Shows sentence_view (numbered sentence_shown 1 xs) (trees 3) → rows.items ≡ map (sentence_shown number) (option_to_list (slice_get xs (number - 1)))) }
     ensures fails { FailsOnlyAs IsStoreFault S.Store conn.old conn.new result }
+    ensures cause { IsFaultless S.Store conn.old conn.new → FailsOnlyAs IsWant S.Store conn.old conn.new result }
     ensures same { ChangesNothing S.Store conn.old conn.new result }
     ensures mode { conn.old.in_transaction ≡ false → conn.new.in_transaction ≡ false }
     ensures kept { KeepsRecords S.Store conn.old conn.new }
@@ -96,6 +102,7 @@ pub fn sentence<S: Alter>(
     ensures ok { Reads S.Store conn.old conn.new result (λ found trees. (xs : List Sentence) → Shows sentence_view (numbered sentence_shown 1 xs) (trees 3) → option_map sentence_of found ≡ slice_get xs (number - 1)) }
     ensures form { HasNoForm S.Store conn.old conn.new result (λ trees. (xs : List Sentence) → All IsSentence xs → ¬ Shows sentence_view (numbered sentence_shown 1 xs) (trees 3)) }
     ensures fails { FailsOnlyAs IsReadFault S.Store conn.old conn.new result }
+    ensures cause { IsFaultless S.Store conn.old conn.new → FailsOnlyAs IsReadWant S.Store conn.old conn.new result }
     ensures same { ChangesNothing S.Store conn.old conn.new result }
     ensures mode { conn.old.in_transaction ≡ false → conn.new.in_transaction ≡ false }
     ensures kept { KeepsRecords S.Store conn.old conn.new }
@@ -109,6 +116,7 @@ pub fn sentence<S: Alter>(
 fn named_batch_rows<S: Alter>(conn: &mut Connection<S>, name: &str) -> Result<Vec<Row>, Error>
     ensures found { Reads S.Store conn.old conn.new result (λ rows trees. (xs : List Batch) → Shows batch_view (numbered batch_shown 1 xs) (trees 1) → IsPermutation (map key_alone (filter (has_name name.now) (numbered batch_shown 1 xs))) rows.items) }
     ensures fails { FailsOnlyAs IsStoreFault S.Store conn.old conn.new result }
+    ensures cause { IsFaultless S.Store conn.old conn.new → FailsOnlyAs IsWant S.Store conn.old conn.new result }
     ensures same { ChangesNothing S.Store conn.old conn.new result }
     ensures mode { conn.old.in_transaction ≡ false → conn.new.in_transaction ≡ false }
     ensures kept { KeepsRecords S.Store conn.old conn.new }
@@ -123,6 +131,7 @@ pub fn batch_named<S: Alter>(conn: &mut Connection<S>, name: &str) -> Result<Opt
     ensures ok { Reads S.Store conn.old conn.new result (λ found trees. (xs : List Batch) → Shows batch_view (numbered batch_shown 1 xs) (trees 1) → IsNumberOf (λ x. x.name) name.now xs found) }
     ensures form { HasNoForm S.Store conn.old conn.new result (λ trees. (xs : List Batch) → length xs < 2 ^ 32 → ¬ Shows batch_view (numbered batch_shown 1 xs) (trees 1)) }
     ensures fails { FailsOnlyAs IsReadFault S.Store conn.old conn.new result }
+    ensures cause { IsFaultless S.Store conn.old conn.new → FailsOnlyAs IsReadWant S.Store conn.old conn.new result }
     ensures same { ChangesNothing S.Store conn.old conn.new result }
     ensures mode { conn.old.in_transaction ≡ false → conn.new.in_transaction ≡ false }
     ensures kept { KeepsRecords S.Store conn.old conn.new }
@@ -136,6 +145,7 @@ pub fn batch_named<S: Alter>(conn: &mut Connection<S>, name: &str) -> Result<Opt
 fn named_sentence_rows<S: Alter>(conn: &mut Connection<S>, sent_id: &str) -> Result<Vec<Row>, Error>
     ensures found { Reads S.Store conn.old conn.new result (λ rows trees. (xs : List Sentence) → Shows sentence_view (numbered sentence_shown 1 xs) (trees 3) → IsPermutation (map key_alone (filter (has_name sent_id.now) (numbered sentence_shown 1 xs))) rows.items) }
     ensures fails { FailsOnlyAs IsStoreFault S.Store conn.old conn.new result }
+    ensures cause { IsFaultless S.Store conn.old conn.new → FailsOnlyAs IsWant S.Store conn.old conn.new result }
     ensures same { ChangesNothing S.Store conn.old conn.new result }
     ensures mode { conn.old.in_transaction ≡ false → conn.new.in_transaction ≡ false }
     ensures kept { KeepsRecords S.Store conn.old conn.new }
@@ -156,6 +166,7 @@ pub fn sentence_named<S: Alter>(
     ensures ok { Reads S.Store conn.old conn.new result (λ found trees. (xs : List Sentence) → Shows sentence_view (numbered sentence_shown 1 xs) (trees 3) → IsNumberOf (λ x. x.sent_id) sent_id.now xs found) }
     ensures form { HasNoForm S.Store conn.old conn.new result (λ trees. (xs : List Sentence) → length xs < 2 ^ 32 → ¬ Shows sentence_view (numbered sentence_shown 1 xs) (trees 3)) }
     ensures fails { FailsOnlyAs IsReadFault S.Store conn.old conn.new result }
+    ensures cause { IsFaultless S.Store conn.old conn.new → FailsOnlyAs IsReadWant S.Store conn.old conn.new result }
     ensures same { ChangesNothing S.Store conn.old conn.new result }
     ensures mode { conn.old.in_transaction ≡ false → conn.new.in_transaction ≡ false }
     ensures kept { KeepsRecords S.Store conn.old conn.new }
@@ -170,6 +181,7 @@ fn first_number(rows: &[Row]) -> Result<Option<u32>, ReadError>
     ensures first { IfOk result (λ found. (found ≡ None → rows.now ≡ []) × IfSome found (λ n. Contains rows.now (number_shown n))) }
     ensures form { result ≡ Err ReadError.Form → HasUnreadable (λ n. n < 2 ^ 32) number_shown rows.now }
     ensures fails { IfErr result IsReadFault }
+    ensures cause { IfErr result IsReadWant }
 {
     match rows.first() {
         Some(row) => Ok(Some(number_in(row)?)),
@@ -180,6 +192,7 @@ fn first_number(rows: &[Row]) -> Result<Option<u32>, ReadError>
 fn revision_rows<S: Alter>(conn: &mut Connection<S>, sent: u32, rev: u32) -> Result<Vec<Row>, Error>
     ensures found { Reads S.Store conn.old conn.new result (λ rows trees. (xs : List Revision) → Shows revision_view (map revision_shown xs) (trees 5) → IsPermutation (filter (has_pair sent rev) (map revision_shown xs)) rows.items) }
     ensures fails { FailsOnlyAs IsStoreFault S.Store conn.old conn.new result }
+    ensures cause { IsFaultless S.Store conn.old conn.new → FailsOnlyAs IsWant S.Store conn.old conn.new result }
     ensures same { ChangesNothing S.Store conn.old conn.new result }
     ensures mode { conn.old.in_transaction ≡ false → conn.new.in_transaction ≡ false }
     ensures kept { KeepsRecords S.Store conn.old conn.new }
@@ -196,6 +209,7 @@ fn first_revision(rows: &[Row]) -> Result<Option<RevisionRow>, ReadError>
     ensures first { IfOk result (λ found. (option_map revision_of found ≡ None → rows.now ≡ []) × IfSome (option_map revision_of found) (λ r. Contains rows.now (revision_shown r))) }
     ensures form { result ≡ Err ReadError.Form → HasUnreadable IsRevision revision_shown rows.now }
     ensures fails { IfErr result IsReadFault }
+    ensures cause { IfErr result IsReadWant }
 {
     match rows.first() {
         Some(row) => Ok(Some(revision_in(row)?)),
@@ -212,6 +226,7 @@ pub fn revision<S: Alter>(
     ensures ok { Reads S.Store conn.old conn.new result (λ found trees. (xs : List Revision) → Shows revision_view (map revision_shown xs) (trees 5) → IsRevisionAt sent rev xs (option_map revision_of found)) }
     ensures form { HasNoForm S.Store conn.old conn.new result (λ trees. (xs : List Revision) → All IsRevision xs → ¬ Shows revision_view (map revision_shown xs) (trees 5)) }
     ensures fails { FailsOnlyAs IsReadFault S.Store conn.old conn.new result }
+    ensures cause { IsFaultless S.Store conn.old conn.new → FailsOnlyAs IsReadWant S.Store conn.old conn.new result }
     ensures same { ChangesNothing S.Store conn.old conn.new result }
     ensures mode { conn.old.in_transaction ≡ false → conn.new.in_transaction ≡ false }
     ensures kept { KeepsRecords S.Store conn.old conn.new }
@@ -225,6 +240,7 @@ pub fn revision<S: Alter>(
 fn pulled_rows<S: Alter>(conn: &mut Connection<S>, sent: u32) -> Result<Vec<Row>, Error>
     ensures found { Reads S.Store conn.old conn.new result (λ rows trees. (xs : List ℕ) → Shows number_view (map number_shown xs) (trees 9) → IsPermutation (filter (has_number sent) (map number_shown xs)) rows.items) }
     ensures fails { FailsOnlyAs IsStoreFault S.Store conn.old conn.new result }
+    ensures cause { IsFaultless S.Store conn.old conn.new → FailsOnlyAs IsWant S.Store conn.old conn.new result }
     ensures same { ChangesNothing S.Store conn.old conn.new result }
     ensures mode { conn.old.in_transaction ≡ false → conn.new.in_transaction ≡ false }
     ensures kept { KeepsRecords S.Store conn.old conn.new }
@@ -239,6 +255,7 @@ pub fn is_pulled<S: Alter>(conn: &mut Connection<S>, sent: u32) -> Result<bool, 
     ensures ok { Reads S.Store conn.old conn.new result (λ found trees. (xs : List ℕ) → Shows number_view (map number_shown xs) (trees 9) → (IsTrue found ↔ Contains xs sent)) }
     ensures form { ¬ (result ≡ Err ReadError.Form) }
     ensures fails { FailsOnlyAs IsReadFault S.Store conn.old conn.new result }
+    ensures cause { IsFaultless S.Store conn.old conn.new → FailsOnlyAs IsReadWant S.Store conn.old conn.new result }
     ensures same { ChangesNothing S.Store conn.old conn.new result }
     ensures mode { conn.old.in_transaction ≡ false → conn.new.in_transaction ≡ false }
     ensures kept { KeepsRecords S.Store conn.old conn.new }

@@ -3,9 +3,10 @@
 ghost use Rattle.std.specs.Prelude.{◌≡◌, ◌≢◌, map, false, List, All, Err, IfOk, IfErr};
 ghost use Rattle.tb_tables.specs.Records.{Sentence, Shows, numbered, sentence_shown, sentence_view};
 ghost use Rattle.tb_reading.specs.Readable.{IsSentence, IsHead};
-ghost use Rattle.tb_reading.specs.Failing.{HasNoForm, IsReadFault};
+ghost use Rattle.tb_reading.specs.Failing.{HasNoForm, IsReadFault, IsReadWant};
 ghost use Rattle.tb_reading.specs.Streams.{head_of, head_shown};
 ghost use Rattle.tb_tables.specs.Leaving.{ChangesNothing, CommitsNothing, FailsOnlyAs, KeepsRecords, Reads};
+ghost use Rattle.tb_tables.specs.Leaving.{IsFaultless};
 
 use crate::error::ReadError;
 use crate::records::number_at;
@@ -25,6 +26,7 @@ fn head_in(row: &Row) -> Result<Head, ReadError>
     ensures ok { IfOk result (λ x. row.now ≡ head_shown x) }
     ensures form { result ≡ Err ReadError.Form → (x : Head) → IsHead x → row.now ≢ head_shown x }
     ensures fails { IfErr result IsReadFault }
+    ensures cause { IfErr result IsReadWant }
 {
     if row.column_count() != 2 {
         return Err(ReadError::Form);
@@ -40,6 +42,7 @@ pub fn heads<S: Alter>(alloc: Global, conn: &mut Connection<S>) -> Result<Vec<He
     ensures ok { Reads S.Store conn.old conn.new result (λ v trees. (xs : List Sentence) → Shows sentence_view (numbered sentence_shown 1 xs) (trees 3) → v.items ≡ map head_of xs) }
     ensures form { HasNoForm S.Store conn.old conn.new result (λ trees. (xs : List Sentence) → All IsSentence xs → ¬ Shows sentence_view (numbered sentence_shown 1 xs) (trees 3)) }
     ensures fails { FailsOnlyAs IsReadFault S.Store conn.old conn.new result }
+    ensures cause { IsFaultless S.Store conn.old conn.new → FailsOnlyAs IsReadWant S.Store conn.old conn.new result }
     ensures same { ChangesNothing S.Store conn.old conn.new result }
     ensures kept { KeepsRecords S.Store conn.old conn.new }
     ensures mode { conn.old.in_transaction ≡ false → conn.new.in_transaction ≡ false }
@@ -53,5 +56,5 @@ pub fn heads<S: Alter>(alloc: Global, conn: &mut Connection<S>) -> Result<Vec<He
         };
         found.push(head_in(row)?)?;
     }
-    Err(ReadError::Store(Error::SqliteFailure(ErrorCode::TooBig)))
+    Err(ReadError::Store(Error::SqliteFailure(ErrorCode::OutOfMemory)))
 }

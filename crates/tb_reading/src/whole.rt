@@ -6,9 +6,10 @@ ghost use Rattle.sqlite_trees.specs.Tree.{IsAscending};
 ghost use Rattle.tb_tables.specs.Records.{Batch, Sentence, Revision, Move, Total, Shows, numbered, batch_shown, sentence_shown, revision_shown, move_shown, total_shown, number_shown, meta_view, batch_view, sentence_view, revision_view, move_view, total_view, number_view};
 ghost use Rattle.tb_tables.specs.Values.{batch_of, sentence_of, revision_of, move_of, total_of};
 ghost use Rattle.tb_reading.specs.Readable.{IsBatch, IsSentence, IsRevision, IsMove, IsTotal, ComesBefore};
-ghost use Rattle.tb_tables.specs.Failing.{IsStoreFault};
-ghost use Rattle.tb_reading.specs.Failing.{HasNoForm, IsReadFault, IsUnchangedOnForm, SeesAsBefore};
-ghost use Rattle.tb_tables.specs.Leaving.{ChangesNothing, CommitsNothing, CommitsNothingOnDesk, FailsOnlyAs, KeepsRecords, Reads};
+ghost use Rattle.tb_tables.specs.Failing.{IsStoreFault, IsWant};
+ghost use Rattle.tb_reading.specs.Failing.{HasNoForm, IsReadFault, IsUnchangedOnForm, SeesAsBefore, IsReadWant};
+ghost use Rattle.tb_tables.specs.Leaving.{ChangesNothing, CommitsNothing, CommitsNothingOnDesk, FailsOnlyAs};
+ghost use Rattle.tb_tables.specs.Leaving.{KeepsRecords, Reads, IsFaultless};
 
 use crate::error::ReadError;
 use crate::records::{batches_in, moves_in, numbers_in, revision_in, sentences_in, totals_in};
@@ -21,6 +22,7 @@ fn batch_rows<S: Alter>(conn: &mut Connection<S>) -> Result<Vec<Row>, Error>
     ensures order { Reads S.Store conn.old conn.new result (λ rows trees. (xs : List Batch) → Shows batch_view (numbered batch_shown 1 xs) (trees 1) → rows.items ≡ numbered batch_shown 1 xs) }
     ensures sees { SeesAsBefore S.Store conn.old conn.new }
     ensures fails { FailsOnlyAs IsStoreFault S.Store conn.old conn.new result }
+    ensures cause { IsFaultless S.Store conn.old conn.new → FailsOnlyAs IsWant S.Store conn.old conn.new result }
     ensures same { ChangesNothing S.Store conn.old conn.new result }
     ensures mode { conn.old.in_transaction ≡ false → conn.new.in_transaction ≡ false }
     ensures kept { KeepsRecords S.Store conn.old conn.new }
@@ -43,6 +45,7 @@ pub fn batches<S: Alter>(
     ensures untouched { IsUnchangedOnForm S.Store conn.old conn.new result }
     ensures sees { SeesAsBefore S.Store conn.old conn.new }
     ensures fails { FailsOnlyAs IsReadFault S.Store conn.old conn.new result }
+    ensures cause { IsFaultless S.Store conn.old conn.new → FailsOnlyAs IsReadWant S.Store conn.old conn.new result }
     ensures same { ChangesNothing S.Store conn.old conn.new result }
     ensures mode { conn.old.in_transaction ≡ false → conn.new.in_transaction ≡ false }
     ensures kept { KeepsRecords S.Store conn.old conn.new }
@@ -58,6 +61,7 @@ fn sentence_rows<S: Alter>(conn: &mut Connection<S>) -> Result<Vec<Row>, Error>
     ensures order { Reads S.Store conn.old conn.new result (λ rows trees. (xs : List Sentence) → Shows sentence_view (numbered sentence_shown 1 xs) (trees 3) → rows.items ≡ numbered sentence_shown 1 xs) }
     ensures sees { SeesAsBefore S.Store conn.old conn.new }
     ensures fails { FailsOnlyAs IsStoreFault S.Store conn.old conn.new result }
+    ensures cause { IsFaultless S.Store conn.old conn.new → FailsOnlyAs IsWant S.Store conn.old conn.new result }
     ensures same { ChangesNothing S.Store conn.old conn.new result }
     ensures mode { conn.old.in_transaction ≡ false → conn.new.in_transaction ≡ false }
     ensures kept { KeepsRecords S.Store conn.old conn.new }
@@ -80,6 +84,7 @@ pub fn sentences<S: Alter>(
     ensures untouched { IsUnchangedOnForm S.Store conn.old conn.new result }
     ensures sees { SeesAsBefore S.Store conn.old conn.new }
     ensures fails { FailsOnlyAs IsReadFault S.Store conn.old conn.new result }
+    ensures cause { IsFaultless S.Store conn.old conn.new → FailsOnlyAs IsReadWant S.Store conn.old conn.new result }
     ensures same { ChangesNothing S.Store conn.old conn.new result }
     ensures mode { conn.old.in_transaction ≡ false → conn.new.in_transaction ≡ false }
     ensures kept { KeepsRecords S.Store conn.old conn.new }
@@ -95,6 +100,7 @@ fn move_rows<S: Alter>(conn: &mut Connection<S>) -> Result<Vec<Row>, Error>
     ensures order { Reads S.Store conn.old conn.new result (λ rows trees. (xs : List Move) → Shows move_view (numbered move_shown 1 xs) (trees 7) → rows.items ≡ numbered move_shown 1 xs) }
     ensures sees { SeesAsBefore S.Store conn.old conn.new }
     ensures fails { FailsOnlyAs IsStoreFault S.Store conn.old conn.new result }
+    ensures cause { IsFaultless S.Store conn.old conn.new → FailsOnlyAs IsWant S.Store conn.old conn.new result }
     ensures same { ChangesNothing S.Store conn.old conn.new result }
     ensures mode { conn.old.in_transaction ≡ false → conn.new.in_transaction ≡ false }
     ensures kept { KeepsRecords S.Store conn.old conn.new }
@@ -114,6 +120,7 @@ pub fn moves<S: Alter>(alloc: Global, conn: &mut Connection<S>) -> Result<Vec<Mo
     ensures untouched { IsUnchangedOnForm S.Store conn.old conn.new result }
     ensures sees { SeesAsBefore S.Store conn.old conn.new }
     ensures fails { FailsOnlyAs IsReadFault S.Store conn.old conn.new result }
+    ensures cause { IsFaultless S.Store conn.old conn.new → FailsOnlyAs IsReadWant S.Store conn.old conn.new result }
     ensures same { ChangesNothing S.Store conn.old conn.new result }
     ensures mode { conn.old.in_transaction ≡ false → conn.new.in_transaction ≡ false }
     ensures kept { KeepsRecords S.Store conn.old conn.new }
@@ -129,6 +136,7 @@ fn total_rows<S: Alter>(conn: &mut Connection<S>) -> Result<Vec<Row>, Error>
     ensures order { Reads S.Store conn.old conn.new result (λ rows trees. (xs : List Total) → Shows total_view (numbered total_shown 1 xs) (trees 8) → rows.items ≡ numbered total_shown 1 xs) }
     ensures sees { SeesAsBefore S.Store conn.old conn.new }
     ensures fails { FailsOnlyAs IsStoreFault S.Store conn.old conn.new result }
+    ensures cause { IsFaultless S.Store conn.old conn.new → FailsOnlyAs IsWant S.Store conn.old conn.new result }
     ensures same { ChangesNothing S.Store conn.old conn.new result }
     ensures mode { conn.old.in_transaction ≡ false → conn.new.in_transaction ≡ false }
     ensures kept { KeepsRecords S.Store conn.old conn.new }
@@ -148,6 +156,7 @@ pub fn totals<S: Alter>(alloc: Global, conn: &mut Connection<S>) -> Result<Vec<T
     ensures untouched { IsUnchangedOnForm S.Store conn.old conn.new result }
     ensures sees { SeesAsBefore S.Store conn.old conn.new }
     ensures fails { FailsOnlyAs IsReadFault S.Store conn.old conn.new result }
+    ensures cause { IsFaultless S.Store conn.old conn.new → FailsOnlyAs IsReadWant S.Store conn.old conn.new result }
     ensures same { ChangesNothing S.Store conn.old conn.new result }
     ensures mode { conn.old.in_transaction ≡ false → conn.new.in_transaction ≡ false }
     ensures kept { KeepsRecords S.Store conn.old conn.new }
@@ -170,6 +179,7 @@ pub fn revisions<S: Alter>(
     ensures untouched { IsUnchangedOnForm S.Store conn.old conn.new result }
     ensures sees { SeesAsBefore S.Store conn.old conn.new }
     ensures fails { FailsOnlyAs IsReadFault S.Store conn.old conn.new result }
+    ensures cause { IsFaultless S.Store conn.old conn.new → FailsOnlyAs IsReadWant S.Store conn.old conn.new result }
     ensures same { ChangesNothing S.Store conn.old conn.new result }
     ensures mode { conn.old.in_transaction ≡ false → conn.new.in_transaction ≡ false }
     ensures kept { KeepsRecords S.Store conn.old conn.new }
@@ -187,7 +197,7 @@ pub fn revisions<S: Alter>(
         };
         found.push(revision_in(row)?)?;
     }
-    Err(ReadError::Store(Error::SqliteFailure(ErrorCode::TooBig)))
+    Err(ReadError::Store(Error::SqliteFailure(ErrorCode::OutOfMemory)))
 }
 
 fn number_rows<S: Alter>(conn: &mut Connection<S>) -> Result<Vec<Row>, Error>
@@ -195,6 +205,7 @@ fn number_rows<S: Alter>(conn: &mut Connection<S>) -> Result<Vec<Row>, Error>
     ensures order { Reads S.Store conn.old conn.new result (λ rows trees. (xs : List ℕ) → IsAscending (λ a b. a < b) xs → Shows number_view (map number_shown xs) (trees 9) → rows.items ≡ map number_shown xs) }
     ensures sees { SeesAsBefore S.Store conn.old conn.new }
     ensures fails { FailsOnlyAs IsStoreFault S.Store conn.old conn.new result }
+    ensures cause { IsFaultless S.Store conn.old conn.new → FailsOnlyAs IsWant S.Store conn.old conn.new result }
     ensures same { ChangesNothing S.Store conn.old conn.new result }
     ensures mode { conn.old.in_transaction ≡ false → conn.new.in_transaction ≡ false }
     ensures kept { KeepsRecords S.Store conn.old conn.new }
@@ -212,6 +223,7 @@ pub fn pulled<S: Alter>(alloc: Global, conn: &mut Connection<S>) -> Result<Vec<u
     ensures untouched { IsUnchangedOnForm S.Store conn.old conn.new result }
     ensures sees { SeesAsBefore S.Store conn.old conn.new }
     ensures fails { FailsOnlyAs IsReadFault S.Store conn.old conn.new result }
+    ensures cause { IsFaultless S.Store conn.old conn.new → FailsOnlyAs IsReadWant S.Store conn.old conn.new result }
     ensures same { ChangesNothing S.Store conn.old conn.new result }
     ensures mode { conn.old.in_transaction ≡ false → conn.new.in_transaction ≡ false }
     ensures kept { KeepsRecords S.Store conn.old conn.new }
@@ -227,6 +239,7 @@ fn version_rows<S: Alter>(conn: &mut Connection<S>) -> Result<Vec<Row>, Error>
     ensures order { Reads S.Store conn.old conn.new result (λ rows trees. (xs : List ℕ) → IsAscending (λ a b. a < b) xs → Shows meta_view (map number_shown xs) (trees 0) → rows.items ≡ map number_shown xs) }
     ensures sees { SeesAsBefore S.Store conn.old conn.new }
     ensures fails { FailsOnlyAs IsStoreFault S.Store conn.old conn.new result }
+    ensures cause { IsFaultless S.Store conn.old conn.new → FailsOnlyAs IsWant S.Store conn.old conn.new result }
     ensures same { ChangesNothing S.Store conn.old conn.new result }
     ensures mode { conn.old.in_transaction ≡ false → conn.new.in_transaction ≡ false }
     ensures kept { KeepsRecords S.Store conn.old conn.new }
@@ -244,6 +257,7 @@ pub fn versions<S: Alter>(alloc: Global, conn: &mut Connection<S>) -> Result<Vec
     ensures untouched { IsUnchangedOnForm S.Store conn.old conn.new result }
     ensures sees { SeesAsBefore S.Store conn.old conn.new }
     ensures fails { FailsOnlyAs IsReadFault S.Store conn.old conn.new result }
+    ensures cause { IsFaultless S.Store conn.old conn.new → FailsOnlyAs IsReadWant S.Store conn.old conn.new result }
     ensures same { ChangesNothing S.Store conn.old conn.new result }
     ensures mode { conn.old.in_transaction ≡ false → conn.new.in_transaction ≡ false }
     ensures kept { KeepsRecords S.Store conn.old conn.new }

@@ -4,9 +4,10 @@ ghost use Rattle.std.specs.Prelude.{ℕ, ◌≡◌, ◌≢◌, ◌<◌, ◌^◌,
 ghost use Rattle.tb_tables.specs.Records.{Sentence, Shows, numbered, sentence_shown, sentence_view};
 ghost use Rattle.tb_reading.specs.Readable.{IsSentence, IsWork};
 ghost use Rattle.tb_reading.specs.Found.{work_of, work_shown};
-ghost use Rattle.tb_tables.specs.Failing.{IsStoreFault};
-ghost use Rattle.tb_reading.specs.Failing.{HasNoForm, IsReadFault};
-ghost use Rattle.tb_tables.specs.Leaving.{ChangesNothing, CommitsNothing, CommitsNothingOnDesk, FailsOnlyAs, KeepsRecords, Reads};
+ghost use Rattle.tb_tables.specs.Failing.{IsStoreFault, IsWant};
+ghost use Rattle.tb_reading.specs.Failing.{HasNoForm, IsReadFault, IsReadWant};
+ghost use Rattle.tb_tables.specs.Leaving.{ChangesNothing, CommitsNothing, CommitsNothingOnDesk, FailsOnlyAs};
+ghost use Rattle.tb_tables.specs.Leaving.{KeepsRecords, Reads, IsFaultless};
 
 use crate::error::ReadError;
 use crate::records::number_at;
@@ -28,6 +29,7 @@ fn work_in(row: &Row) -> Result<Work, ReadError>
     ensures ok { IfOk result (λ x. row.now ≡ work_shown x) }
     ensures form { result ≡ Err ReadError.Form → (x : Work) → IsWork x → row.now ≢ work_shown x }
     ensures fails { IfErr result IsReadFault }
+    ensures cause { IfErr result IsReadWant }
 {
     if row.column_count() != 3 {
         return Err(ReadError::Form);
@@ -42,6 +44,7 @@ fn all_work_in(alloc: Global, rows: &[Row]) -> Result<Vec<Work>, ReadError>
     ensures ok { IfOk result (λ v. rows.now ≡ map work_shown v.items) }
     ensures form { result ≡ Err ReadError.Form → (xs : List Work) → All IsWork xs → rows.now ≢ map work_shown xs }
     ensures fails { IfErr result IsReadFault }
+    ensures cause { IfErr result IsReadWant }
 {
     let mut found = Vec::new(alloc);
     for row in rows {
@@ -53,6 +56,7 @@ fn all_work_in(alloc: Global, rows: &[Row]) -> Result<Vec<Work>, ReadError>
 fn work_rows<S: Alter>(conn: &mut Connection<S>, batch: u32) -> Result<Vec<Row>, Error>
     ensures found { Reads S.Store conn.old conn.new result (λ rows trees. (xs : List Sentence) → Shows sentence_view (numbered sentence_shown 1 xs) (trees 3) → rows.items ≡ map work_shown (work_of batch 1 xs)) }
     ensures fails { FailsOnlyAs IsStoreFault S.Store conn.old conn.new result }
+    ensures cause { IsFaultless S.Store conn.old conn.new → FailsOnlyAs IsWant S.Store conn.old conn.new result }
     ensures same { ChangesNothing S.Store conn.old conn.new result }
     ensures mode { conn.old.in_transaction ≡ false → conn.new.in_transaction ≡ false }
     ensures kept { KeepsRecords S.Store conn.old conn.new }
@@ -75,6 +79,7 @@ pub fn sentences_of<S: Alter>(
     ensures ok { Reads S.Store conn.old conn.new result (λ v trees. (xs : List Sentence) → Shows sentence_view (numbered sentence_shown 1 xs) (trees 3) → v.items ≡ work_of batch 1 xs) }
     ensures form { HasNoForm S.Store conn.old conn.new result (λ trees. (xs : List Sentence) → All IsSentence xs → length xs < 2 ^ 32 → ¬ Shows sentence_view (numbered sentence_shown 1 xs) (trees 3)) }
     ensures fails { FailsOnlyAs IsReadFault S.Store conn.old conn.new result }
+    ensures cause { IsFaultless S.Store conn.old conn.new → FailsOnlyAs IsReadWant S.Store conn.old conn.new result }
     ensures same { ChangesNothing S.Store conn.old conn.new result }
     ensures mode { conn.old.in_transaction ≡ false → conn.new.in_transaction ≡ false }
     ensures kept { KeepsRecords S.Store conn.old conn.new }

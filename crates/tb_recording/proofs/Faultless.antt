@@ -14,7 +14,7 @@ use Rattle.tb_core.proofs.Weights.{all_mapped}
 use Rattle.tb_tables.specs.Failing.{IsStoreFault, IsRoomFault}
 use Rattle.tb_reading.specs.declared.error.ReadError.{ReadError}
 use Rattle.tb_reading.specs.declared.error.ReadError.TheVariants.{Store, Form}
-use Rattle.tb_reading.specs.Failing.{IsReadFault}
+use Rattle.tb_reading.specs.Failing.{IsReadFault, IsReadWant}
 use Rattle.tb_recording.specs.Faults.{fault_of_error, fault_of_read}
 
 store_told : (cause : StoreError) → fault_of_error (store_error cause) ≢ NotADesk
@@ -37,6 +37,11 @@ room_told e h told = elim h [
 pub read_told : (e : ReadError) → IsReadFault e → e ≢ Form → fault_of_read e ≢ NotADesk
 read_told (Store e) h fits told = error_told e h told
 read_told Form h fits told = absurd (fits refl)
+
+-- want of memory, and rows that are no records, are not the device's
+pub want_told : (e : ReadError) → IsReadWant e → fault_of_read e ≢ Device
+want_told (Store e) want told = let is : Memory ≡ Device = ap fault_of_error (sym want) ∙ told in absurd cc
+want_told Form want told = let is : NotADesk ≡ Device = told in absurd cc
 
 pub fit : {X : Type 0} (P Q : X → Type 0) → ((x : X) → P x → Q x) → (xs : List X) → All P xs → All Q xs
 fit P Q f xs h = All-from_recursion Q xs (all_mapped P Q f xs (recursion_from_All P xs h))

@@ -1,17 +1,21 @@
 -- A read leaves the desk as it was.
-use Rattle.std.proofs.Common.{◌≡◌, ◌≢◌, ap, ◌∙◌, arith}
+use Rattle.std.proofs.Common.{◌≡◌, ◌≢◌, ap, ◌∙◌, arith, Result, IfErr, IsErrAnd, None}
 use Rattle.sqlite.specs.Store.{Ghosts}
 use Rattle.sqlite.specs.Effect.{Database}
 use Rattle.sqlite.specs.Held.{Held, state}
 use Rattle.sqlite.specs.State.{HasCleanDisk, IsUnchanged, Survives}
 use Rattle.sqlite.proofs.StateLemmas.{survives_then}
 use Rattle.sqlite.proofs.Callers.{unchanged_then}
+use Rattle.tb_core.specs.declared.refusals.Fault.{Fault}
 use Rattle.tb_core.specs.Machine.{Machine}
 use Rattle.tb_tables.specs.Layout.{desk_schema}
 use Rattle.tb_tables.specs.Records.{Tables}
 use Rattle.tb_tables.specs.Changes.{Holds}
+use Rattle.tb_tables.specs.Leaving.{IsFaultless}
 use Rattle.tb_tables.proofs.Commands.{same_holds}
+use Rattle.tb_tables.proofs.Causes.{handed_on, faultless_next}
 use Rattle.tb_standing.specs.Standing.{tables_of, IsDesk}
+use Rattle.tb_recording.specs.Faults.{IsNoDevice}
 
 module _ {S : Type 0} (g : Ghosts S) where
   pub desk_kept : (old new : Held S) → ((d : Tables) → Holds g old d → Holds g new d) → (s : Machine) → IsDesk g old s → IsDesk g new s
@@ -35,3 +39,13 @@ module _ {S : Type 0} (g : Ghosts S) where
     same_two two one more clean has =
         let first = one (omega (arith, clean, two.clean)) has in
         unchanged_then (state g a) (state g b) (state g c) first (more clean (schema_stays first has))
+
+    -- where the disk fails at nothing in both, it does not in the second
+    pub second_clear : {T : Type 0} (r : Result T Fault) (e : Fault) → IsErrAnd r (λ x. x ≡ e) → (HasCleanDisk (state g b) → (state g a).now.schema ≡ desk_schema → IsUnchanged (state g a) (state g b))
+        → Survives (state g a) (state g b) (λ _. (state g a).now.schema ≢ desk_schema) → Survives (state g b) (state g c) (λ _. (state g b).now.schema ≢ desk_schema)
+        → (IsFaultless g b c → HasCleanDisk (state g c) → (state g b).step_limit ≡ None → (state g b).now.schema ≡ desk_schema → IsNoDevice e)
+        → IsFaultless g a c → HasCleanDisk (state g c) → (state g a).step_limit ≡ None → (state g a).now.schema ≡ desk_schema → IfErr r IsNoDevice
+    second_clear r e handed same one two fine good clean unlimited has =
+        let mid : HasCleanDisk (state g b) = omega (arith, clean, two.clean) in
+        let here = faultless_next (state g a) (state g b) (state g c) good one mid two.counts in
+        handed_on IsNoDevice r e handed (fine here clean (one.limit ∙ unlimited) (schema_stays (same mid has) has))

@@ -1,4 +1,5 @@
 -- What an error of the database, or of a read, is to a caller.
+use Rattle.std.specs.Prelude.{◌≢◌}
 use Rattle.sqlite.specs.declared.error.Error.{Error}
 use Rattle.sqlite.specs.declared.error.Error.TheVariants.{SqliteFailure}
 use Rattle.sqlite.specs.declared.error.ErrorCode.{ErrorCode}
@@ -36,3 +37,7 @@ making_fault_of_code _ = Device
 abbrev pub fault_of_making : Error → Fault
 fault_of_making (SqliteFailure code) = making_fault_of_code code
 fault_of_making _ = Device
+
+-- the fault is not the device's
+abbrev pub IsNoDevice : Fault → Type 0
+IsNoDevice fault = fault ≢ Device

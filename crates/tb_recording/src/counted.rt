@@ -1,7 +1,8 @@
 //! What a desk knows beside its tables.
 
-ghost use Rattle.std.specs.Prelude.{◌≡◌, ◌≢◌, ◌+◌, ◌<◌, ◌≤◌, Err, IfOk};
+ghost use Rattle.std.specs.Prelude.{◌≡◌, ◌≢◌, ◌+◌, ◌<◌, ◌≤◌, Err, IfOk, IfErr};
 ghost use Rattle.tb_core.specs.declared.refusals.Refusal.{Refusal as AnyRefusal};
+ghost use Rattle.tb_recording.specs.Faults.{IsNoDevice};
 
 use tb_core::{Fault, Limits, Totals};
 
@@ -23,6 +24,7 @@ pub fn next_move(counts: &Counts) -> Result<u32, Fault>
     ensures next { IfOk result (λ n. (n ≡ counts.now.moves + 1) × (n ≤ 1000000000)) }
     ensures refused { (r : AnyRefusal) → result ≢ Err (Fault.Refused r) }
     ensures fails { counts.now.moves < 1000000000 → result ≢ Err Fault.NotADesk }
+    ensures cause { IfErr result IsNoDevice }
 {
     if counts.moves >= 1_000_000_000 {
         return Err(Fault::NotADesk);

@@ -6,7 +6,8 @@ ghost use Rattle.tb_core.specs.Names.{Lacks};
 ghost use Rattle.tb_core.specs.Acts.{ids_of};
 ghost use Rattle.tb_recording.specs.Finding.{HasNumber};
 ghost use Rattle.tb_standing.specs.Telling.{KnowsDesk, Tells};
-ghost use Rattle.tb_tables.specs.Leaving.{ChangesNothing, CommitsNothing, KeepsRecords};
+ghost use Rattle.tb_tables.specs.Leaving.{ChangesNothing, CommitsNothing, KeepsRecords, IsFaultless, FailsOnlyAs};
+ghost use Rattle.tb_recording.specs.Faults.{IsNoDevice};
 
 use crate::faults;
 use sqlite::{Alter, Connection};
@@ -19,6 +20,7 @@ pub fn batch_number<S: Alter>(conn: &mut Connection<S>, name: &str) -> Result<Op
     ensures refused { (r : AnyRefusal) → result ≢ Err (Fault.Refused r) }
     ensures output { result ≢ Err Fault.Output }
     ensures fails { KnowsDesk S.Store conn.old conn.new result }
+    ensures cause { IsFaultless S.Store conn.old conn.new → FailsOnlyAs IsNoDevice S.Store conn.old conn.new result }
     ensures same { ChangesNothing S.Store conn.old conn.new result }
     ensures mode { conn.old.in_transaction ≡ false → conn.new.in_transaction ≡ false }
     ensures kept { KeepsRecords S.Store conn.old conn.new }
@@ -36,6 +38,7 @@ pub fn is_taken<S: Alter>(conn: &mut Connection<S>, sent_id: &str) -> Result<boo
     ensures answered { Tells S.Store conn.old conn.new result (λ s taken. MatchBool taken (Lacks (ids_of s.sentences) sent_id.now → ⊥) (Lacks (ids_of s.sentences) sent_id.now)) }
     ensures refused { (r : AnyRefusal) → result ≢ Err (Fault.Refused r) }
     ensures fails { KnowsDesk S.Store conn.old conn.new result }
+    ensures cause { IsFaultless S.Store conn.old conn.new → FailsOnlyAs IsNoDevice S.Store conn.old conn.new result }
     ensures same { ChangesNothing S.Store conn.old conn.new result }
     ensures mode { conn.old.in_transaction ≡ false → conn.new.in_transaction ≡ false }
     ensures kept { KeepsRecords S.Store conn.old conn.new }

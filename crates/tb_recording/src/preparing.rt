@@ -1,12 +1,13 @@
 //! What is written with every accepted command, and the totals after it.
 
-ghost use Rattle.std.specs.Prelude.{◌≡◌, ◌≢◌, Err, IfOk};
+ghost use Rattle.std.specs.Prelude.{◌≡◌, ◌≢◌, Err, IfOk, IfErr};
 ghost use Rattle.tb_core.specs.declared.refusals.Refusal.{Refusal as AnyRefusal};
 ghost use Rattle.tb_core.specs.Machine.{Machine};
 ghost use Rattle.tb_core.specs.Acts.{Act, IsAllowed, after};
 ghost use Rattle.tb_core.specs.Acts.{move_of as move_made};
 ghost use Rattle.tb_core.specs.Reaching.{Reached, IsReachable};
 ghost use Rattle.tb_recording.specs.Counted.{IsCounted, IsPrepared};
+ghost use Rattle.tb_recording.specs.Faults.{IsNoDevice};
 
 use crate::counted::Counts;
 use crate::recording::record;
@@ -30,6 +31,7 @@ pub fn prepare(counts: &Counts, step: Move) -> Result<Prepared, Fault>
     ensures prepared { IfOk result (λ p. (s : Machine) (a : Act) → Reached s → IsAllowed s a → IsCounted counts.now s → step ≡ move_made s a → IsPrepared s a p) }
     ensures refused { (r : AnyRefusal) → result ≢ Err (Fault.Refused r) }
     ensures fails { (s : Machine) (a : Act) → IsReachable s → IsAllowed s a → IsReachable (after s a) → IsCounted counts.now s → step ≡ move_made s a → result ≢ Err Fault.NotADesk }
+    ensures cause { IfErr result IsNoDevice }
 {
     stored_totals_take_moves();
     stored_totals_stand();

@@ -1,6 +1,6 @@
 //! What every accepted act writes last: its move, and what the move makes of the totals.
 
-ghost use Rattle.std.specs.Prelude.{◌≡◌, ◌≢◌, ◌<◌, ◌^◌, Some, Err, slice_index, IfOk};
+ghost use Rattle.std.specs.Prelude.{◌≡◌, ◌≢◌, ◌<◌, ◌^◌, Some, Err, slice_index, IfOk, IfErr};
 ghost use Rattle.tb_core.specs.declared.kinds.State.{State as AnyState};
 ghost use Rattle.tb_core.specs.declared.refusals.Refusal.{Refusal as AnyRefusal};
 ghost use Rattle.tb_core.specs.declared.sums.Totals.{Totals as AnyTotals};
@@ -8,6 +8,7 @@ ghost use Rattle.tb_core.specs.Totals.{Takes, IsApplied};
 ghost use Rattle.tb_tables.specs.Values.{move_of};
 ghost use Rattle.tb_standing.specs.Standing.{move_record};
 ghost use Rattle.tb_recording.specs.Recorded.{IsTotalOf, IsChangeOf, AreNarrow, IsNarrowMove};
+ghost use Rattle.tb_recording.specs.Faults.{IsNoDevice};
 
 use tb_core::{Fault, Move, State, Totals};
 use tb_standing::{number_before, number_of_kind, number_of_state};
@@ -23,6 +24,7 @@ pub fn narrow(number: u64) -> Result<u32, Fault>
     ensures same { IfOk result (λ n. n ≡ number) }
     ensures refused { (r : AnyRefusal) → result ≢ Err (Fault.Refused r) }
     ensures fails { number < 2 ^ 32 → result ≢ Err Fault.NotADesk }
+    ensures cause { IfErr result IsNoDevice }
 {
     if number > u64::from(u32::MAX) {
         return Err(Fault::NotADesk);
@@ -35,6 +37,7 @@ fn total_at(totals: &Totals, place: usize) -> Result<TotalRow, Fault>
     ensures row { IfOk result (λ t. (t.sentences ≡ slice_index totals.now.sentences place) × (t.words ≡ slice_index totals.now.words place)) }
     ensures refused { (r : AnyRefusal) → result ≢ Err (Fault.Refused r) }
     ensures fails { slice_index totals.now.sentences place < 2 ^ 32 → slice_index totals.now.words place < 2 ^ 32 → result ≢ Err Fault.NotADesk }
+    ensures cause { IfErr result IsNoDevice }
 {
     let sentences = narrow(totals.sentences[place])?;
     let words = narrow(totals.words[place])?;
@@ -46,6 +49,7 @@ fn total_row(totals: &Totals, state: State) -> Result<TotalRow, Fault>
     ensures row { IfOk result (λ t. IsTotalOf totals.now state t) }
     ensures refused { (r : AnyRefusal) → result ≢ Err (Fault.Refused r) }
     ensures fails { AreNarrow totals.now → result ≢ Err Fault.NotADesk }
+    ensures cause { IfErr result IsNoDevice }
 {
     match state {
         State::Opened => total_at(totals, 0),
@@ -62,6 +66,7 @@ fn left_row(totals: &Totals, from: Option<State>) -> Result<TotalRow, Fault>
     ensures row { IfOk result (λ t. (st : AnyState) → from ≡ Some st → IsTotalOf totals.now st t) }
     ensures refused { (r : AnyRefusal) → result ≢ Err (Fault.Refused r) }
     ensures fails { AreNarrow totals.now → result ≢ Err Fault.NotADesk }
+    ensures cause { IfErr result IsNoDevice }
 {
     match from {
         Some(state) => total_row(totals, state),
@@ -77,6 +82,7 @@ fn move_row(moved: Move) -> Result<MoveRow, Fault>
     ensures row { IfOk result (λ row. move_of row ≡ move_record moved) }
     ensures refused { (r : AnyRefusal) → result ≢ Err (Fault.Refused r) }
     ensures fails { IsNarrowMove moved → result ≢ Err Fault.NotADesk }
+    ensures cause { IfErr result IsNoDevice }
 {
     let batch = narrow(moved.batch)?;
     let sent = narrow(moved.sent)?;
@@ -101,6 +107,7 @@ fn change_of(totals: &Totals, moved: Move) -> Result<Change, Fault>
     ensures change { IfOk result (λ c. IsChangeOf totals.now moved c) }
     ensures refused { (r : AnyRefusal) → result ≢ Err (Fault.Refused r) }
     ensures fails { AreNarrow totals.now → IsNarrowMove moved → result ≢ Err Fault.NotADesk }
+    ensures cause { IfErr result IsNoDevice }
 {
     let number = narrow(moved.no)?;
     let left = left_row(totals, moved.from)?;
@@ -124,6 +131,7 @@ pub fn record(totals: &mut Totals, moved: Move) -> Result<Change, Fault>
     ensures change { IfOk result (λ c. IsChangeOf totals.new moved c) }
     ensures refused { (r : AnyRefusal) → result ≢ Err (Fault.Refused r) }
     ensures fails { Takes totals.old moved → ((after : AnyTotals) → IsApplied totals.old after moved → AreNarrow after) → IsNarrowMove moved → result ≢ Err Fault.NotADesk }
+    ensures cause { IfErr result IsNoDevice }
 {
     if !totals.takes(&moved) {
         return Err(Fault::NotADesk);

@@ -24,8 +24,8 @@ pub fn reached_states_are_fine()
     ensures { (f : Machine) → Reached f → AreFine f }
 {}
 
-/// In a reached state an act is allowed and has room exactly where some command that means it is accepted, with the act's
-/// reply and the state after the act.
+/// In a reached state an act is allowed and has room exactly where some command that means it is accepted, with the
+/// act's reply and the state after the act.
 pub fn acts_are_accepted_commands()
     ensures { (l : Limits) (s : Machine) (a : Act) → Reached s
         → MayBeDone l s a ↔ ((c : Command) × IsAccepted l s c a) }
@@ -41,8 +41,8 @@ pub fn commands_do_acts()
         → (t ≡ s) ⊎ ((a : Act) × Did l s c answer t a) }
 {}
 
-/// The states that commands lead to under any limits are the reached ones within these limits. Under the largest limits they
-/// are those of which a desk may be.
+/// The states that commands lead to under any limits are the reached ones within these limits. Under the largest
+/// limits they are those of which a desk may be.
 pub fn commands_lead_to_reached_states()
     ensures within { (l : Limits) (s : Machine) → IsCommanded l s ↔ IsReachedWithin l s }
     ensures largest { (s : Machine) → IsCommanded largest s ↔ IsReachable s }

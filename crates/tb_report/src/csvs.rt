@@ -6,7 +6,8 @@ ghost use Rattle.csv.specs.Writing.{text_written};
 ghost use Rattle.tb_conllu.specs.Sunk.{AppendsPart};
 ghost use Rattle.tb_core.specs.Events.{state_place};
 ghost use Rattle.tb_core.specs.Words.{kind_word, state_word};
-ghost use Rattle.tb_report.specs.Csv.{IsBetweenRows, IsRefused, PutsRows, freq_csv, freq_fields, from_word, move_fields, moves_csv, moves_head, totals_csv, totals_fields};
+ghost use Rattle.tb_report.specs.Csv.{IsBetweenRows, IsRefused, PutsRows, freq_csv, freq_fields, from_word};
+ghost use Rattle.tb_report.specs.Csv.{move_fields, moves_csv, moves_head, totals_csv, totals_fields};
 ghost use Rattle.tb_report.specs.Kept.{ranked_row};
 ghost use Rattle.tb_report.specs.Tables.{IsRankingOf, Row};
 
@@ -252,10 +253,12 @@ fn put_text<S: Sink>(text: &[u8], out: &mut S) -> Result<(), ReportFault>
 /// `Memory`: no memory is left, and nothing was put. `Write`: the sink refused the text, and may have taken some of it,
 /// from the front. Over a sink that never refuses, `Write` never comes.
 pub fn csv_freq<S: Sink>(freq: &Freq, out: &mut S) -> Result<(), ReportFault>
-    ensures written { OnOk result ((rows : List Row) × IsRankingOf freq.now rows × Appends (S.held out.old) (S.held out.new) (freq_csv rows)) }
+    ensures written { OnOk result ((rows : List Row) × IsRankingOf freq.now rows
+        × Appends (S.held out.old) (S.held out.new) (freq_csv rows)) }
     ensures memory { IfErr result (λ e. e ≡ ReportFault.Memory → out.new ≡ out.old) }
     ensures refused { result ≡ Err ReportFault.Write → IsRefused S.IsRefusal out.new }
-    ensures part { OnErr result ((rows : List Row) → IsRankingOf freq.now rows → AppendsPart (S.held out.old) (S.held out.new) (freq_csv rows)) }
+    ensures part { OnErr result ((rows : List Row) → IsRankingOf freq.now rows
+        → AppendsPart (S.held out.old) (S.held out.new) (freq_csv rows)) }
 {
     let Ok(text) = freq_text(freq) else {
         return Err(ReportFault::Memory);

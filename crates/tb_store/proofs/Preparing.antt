@@ -2,8 +2,6 @@
 use Rattle.std.proofs.Common.{◌≡◌, ◌⊎◌, ℕ, List, [], Bool, true, false, refl, sym, ap, ◌∙◌, true≢false, IsTrue, inl, inr}
 use Rattle.sqlite_trees.specs.declared.error.StoreError.{StoreError}
 use Rattle.sqlite_trees.specs.declared.error.StoreError.TheVariants.{OutOfMemory, Io, Corrupt, Full, Broken, Unstorable}
-use Rattle.tb_core.specs.declared.refusals.Fault.{Fault}
-use Rattle.tb_core.specs.declared.refusals.Fault.TheVariants.{Memory, Device}
 use Rattle.sqlite.specs.State.{State, Fails, IsNotRun, IsUnchanged, store_error}
 use Rattle.sqlite.specs.declared.error.Error.{Error}
 use Rattle.sqlite.specs.declared.error.Error.TheVariants.{SqlInputError}
@@ -34,10 +32,3 @@ no_store_error Unstorable = refl
 pub open_where_refused : (old new : State) (e : Error) → is_of_text e ≡ true → Fails old new ⊥ e ⊎ IsUnchanged old new → IsTrue new.is_open
 open_where_refused old new e is (inl failed) = absurd (true≢false (sym is ∙ ap is_of_text failed.1 ∙ no_store_error failed.0))
 open_where_refused old new e is (inr same) = same.0.is_open
-
-abbrev is_device : Fault → Bool
-is_device Device = true
-is_device _ = false
-
-pub no_device : Device ≡ Memory → ⊥
-no_device same = true≢false (ap is_device same)

@@ -14,8 +14,12 @@ use Rattle.tb_recording.specs.Revisions.{HasRevision}
 
 -- These numbers are the net of the moves: what is in a state, with what left it, is what came into it.
 pub record AreNet (t : Totals) (moves : List MoveText) : Type 0 where
-  pub sentences : (st : State) → at_state t.sentences st + sum_moves (out_of st (λ m. m.sentences)) moves ≡ sum_moves (into st (λ m. m.sentences)) moves
-  pub words : (st : State) → at_state t.words st + sum_moves (out_of st (λ m. m.words_out)) moves ≡ sum_moves (into st (λ m. m.words_in)) moves
+  pub sentences : (st : State)
+      → at_state t.sentences st + sum_moves (out_of st (λ m. m.sentences)) moves
+      ≡ sum_moves (into st (λ m. m.sentences)) moves
+  pub words : (st : State)
+      → at_state t.words st + sum_moves (out_of st (λ m. m.words_out)) moves
+      ≡ sum_moves (into st (λ m. m.words_in)) moves
 
 -- the text of this revision of this sentence
 pub record IsTextOf (s : Machine) (sentence revision : ℕ) (text : List ℕ) : Type 0 where

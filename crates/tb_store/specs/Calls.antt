@@ -26,7 +26,8 @@ GivesOnErr g old new result IsSo = HasCleanDisk (state g new.conn) → IfErr res
 
 -- a desk is never told to be none
 abbrev pub KnowsItself : {S X : Type 0} → Ghosts S → Kept S → Kept S → Result X Fault → Type 0
-KnowsItself g old new result = HasCleanDisk (state g new.conn) → (s : Machine) → StandsFor g old s → result ≢ Err NotADesk
+KnowsItself g old new result =
+    HasCleanDisk (state g new.conn) → (s : Machine) → StandsFor g old s → result ≢ Err NotADesk
 
 -- while the store is open, the desk stands for the state for which it stood
 abbrev pub StandsAsBefore : {S : Type 0} → Ghosts S → Kept S → Kept S → Type 0
@@ -60,10 +61,13 @@ LeavesOnly g d s = (db : Trees) → (state g d.conn).may_leave db → Stands (ta
 abbrev pub IsDurable : {S : Type 0} → Ghosts S → Kept S → Machine → Type 0
 IsDurable g d s = StandsFor g d s × LeavesOnly g d s
 
--- How a command ends in a state, by what it answers: with the machine's reply, in its next state; with the machine's refusal, or for want
--- of memory, in the same state; after another fault in the same state, where the store is open. A desk is never told to be none.
-abbrev pub CommandEnds : {S X : Type 0} → Ghosts S → Kept S → Kept S → Command → (X → Reply) → Machine → Result X Fault → Type 0
-CommandEnds g old new command reply s (Ok x) = (t : Machine) × Steps old.limits s command (replied (reply x)) t × IsDurable g new t
+-- How a command ends in a state, by what it answers: with the machine's reply, in its next state; with the machine's
+-- refusal, or for want of memory, in the same state; after another fault in the same state, where the store is open.
+-- A desk is never told to be none.
+abbrev pub CommandEnds : {S X : Type 0} → Ghosts S → Kept S → Kept S → Command → (X → Reply) → Machine → Result X Fault
+    → Type 0
+CommandEnds g old new command reply s (Ok x) =
+    (t : Machine) × Steps old.limits s command (replied (reply x)) t × IsDurable g new t
 CommandEnds g old new command reply s (Err (Refused r)) = Steps old.limits s command (refused r) s × IsDurable g new s
 CommandEnds g old new command reply s (Err Memory) = IsDurable g new s
 CommandEnds g old new command reply s (Err NotADesk) = ⊥
@@ -71,4 +75,4 @@ CommandEnds g old new command reply s (Err _) = IsTrue (state g new.conn).is_ope
 
 -- a command ends so in the state for which the desk stands
 abbrev pub EndsAs : {S X : Type 0} → Ghosts S → Kept S → Kept S → Result X Fault → Command → (X → Reply) → Type 0
-EndsAs g old new result command reply = HasCleanDisk (state g new.conn) → (s : Machine) → StandsFor g old s → CommandEnds g old new command reply s result
+EndsAs g old new result command reply = InState g old new (λ s. CommandEnds g old new command reply s result)

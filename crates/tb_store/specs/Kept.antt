@@ -27,8 +27,8 @@ kept_code {S} store =
     (λ p. record { conn = p.0; limits = p.1.0; batches = p.1.1.0; sentences = p.1.1.1.0; moves = p.1.1.1.1.0; totals = p.1.1.1.1.1 })
     (λ _. refl)
 
--- what each call needs of a desk, whatever the store holds: it is in no transaction, there is no limit on the steps of a statement, and
--- there is room for one more of each
+-- what each call needs of a desk, whatever the store holds: it is in no transaction, there is no limit on the steps
+-- of a statement, and there is room for one more of each
 pub record IsReady {S : Type 0} (d : Kept S) : Type 0 where
   pub autocommit : d.conn.in_transaction ≡ false
   pub unlimited : d.conn.step_limit ≡ None

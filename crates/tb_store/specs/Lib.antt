@@ -4,4 +4,5 @@ pub mod Answers
 pub mod Exports
 pub mod Found
 pub mod Calls
+pub mod Handing
 pub mod Reopened

@@ -1,4 +1,5 @@
-ghost use Rattle.std.specs.Prelude.{◌≡◌, ◌≢◌, ◌↔◌, ◌⊎◌, ◌<◌, ◌≤◌, ℕ, List, length, false, None, Some, Err, string_bytes, IsTrue, IfOk, IfErr, IfSome};
+ghost use Rattle.std.specs.Prelude.{◌≡◌, ◌≢◌, ◌↔◌, ◌⊎◌, ◌<◌, ◌≤◌, ℕ, List, length, true, false, None, Some, Err};
+ghost use Rattle.std.specs.Prelude.{string_bytes, IsTrue, IfOk, IfErr, IfSome};
 ghost use Rattle.std.specs.Io.KnownBytes.{Appends};
 ghost use Rattle.sqlite.specs.State.{HasCleanDisk, IsUnchanged, Survives};
 ghost use Rattle.sqlite.specs.Held.{state};
@@ -22,12 +23,14 @@ ghost use Rattle.tb_store.specs.Standing.{StandsFor, unlimited, no_totals};
 ghost use Rattle.tb_store.specs.Answers.{AreNet, IsCurrent, IsTextOf, HasNoSentence, RefusesRevision};
 ghost use Rattle.tb_store.specs.Exports.{IsBrokenOff, IsPartOfBatch, RefusesBatch};
 ghost use Rattle.tb_store.specs.Found.{AreReleasedHits, HasTooMany, IsNumber, IsPartFound};
-ghost use Rattle.tb_store.specs.Calls.{CrashesWhole, Does, EndsAs, Gives, GivesOnErr, KnowsItself, LeavesOnly, StandsAsBefore, WritesNothing};
+ghost use Rattle.tb_store.specs.Calls.{CrashesWhole, Does, EndsAs, Gives, GivesOnErr, KnowsItself, LeavesOnly};
+ghost use Rattle.tb_store.specs.Calls.{StandsAsBefore, WritesNothing};
+ghost use Rattle.tb_store.specs.Handing.{SeesTheSame, StaysADesk, StaysBlank};
 ghost use Rattle.tb_tables.specs.Leaving.{CommitsNothing};
 
 use crate::answers::Current;
 use crate::wanting::certain;
-use crate::{asking, exporting, finding};
+use crate::{asking, exporting, finding, wanting};
 use sqlite::{Alter, Connection, MemStore};
 use std::alloc::Global;
 use std::marker::Model;
@@ -44,9 +47,9 @@ use tb_recording::{Counts, faults};
 use tb_report::Freq;
 use tb_standing::one_state_for_the_file;
 
-/// A desk: the connection that holds its tables, its limits, and the counts and totals that it read or wrote last, so that the
-/// next numbers are known without asking the database. It may be let go at any time: what it answered to have done stands, after a
-/// crash too.
+/// A desk: the connection that holds its tables, its limits, and the counts and totals that it read or wrote last, so
+/// that the next numbers are known without asking the database. It may be let go at any time: what it answered to
+/// have done stands, after a crash too.
 #[derive(Drop)]
 pub struct Desk<S: Alter> {
     conn: Connection<S>,
@@ -86,10 +89,10 @@ pub(crate) fn without_limit<S: Alter>(mut conn: Connection<S>) -> Connection<S>
 }
 
 impl<S: Alter> Desk<S> {
-    /// The desk of a blank database, in which it makes the tables of a desk without a batch, and whose step limit it takes off.
-    /// A database that is not blank is `NotADesk`, and is not touched. A fault gives the connection back without its step limit,
-    /// over a database that is as blank as before where the store is still open; a crash on the way leaves it blank, or the whole
-    /// tables.
+    /// The desk of a blank database, in which it makes the tables of a desk without a batch, and whose step limit it
+    /// takes off. A database that is not blank is `NotADesk`, and is not touched. A fault gives the connection back
+    /// without its step limit, over a database that is as blank as before where the store is still open; a crash on
+    /// the way leaves it blank, or the whole tables.
     pub fn make(alloc: Global, conn: Connection<S>, limits: Limits) -> Result<Desk<S>, Unmade<S>>
         requires autocommit { conn.in_transaction ≡ false }
         requires within { IsWithin limits }
@@ -101,7 +104,7 @@ impl<S: Alter> Desk<S> {
         ensures used { IfErr result (λ u. (u.fault ≡ Fault.NotADesk) ↔ ((state S.Store conn).now.schema ≢ no_schema)) }
         ensures known { IfErr result (λ u. (u.fault ≡ Fault.NotADesk) ⊎ ((u.fault ≡ Fault.Memory) ⊎ (u.fault ≡ Fault.Device))) }
         ensures untouched { IfErr result (λ u. u.fault ≡ Fault.NotADesk → u.conn ≡ unlimited conn) }
-        ensures again { IfErr result (λ u. HasCleanDisk (state S.Store u.conn) → IsTrue (state S.Store u.conn).is_open → IsBlank S.Store conn → IsBlank S.Store u.conn) }
+        ensures again { IfErr result (λ u. StaysBlank S.Store conn u.conn) }
         ensures crash { IfOk result (λ d. Survives (state S.Store (unlimited conn)) (state S.Store d.conn) (λ db. IsBlank S.Store conn → Stands (tables_of empty_machine) db)) }
         ensures crash_on_the_way { IfErr result (λ u. u.fault ≢ Fault.NotADesk → Survives (state S.Store (unlimited conn)) (state S.Store u.conn) (λ db. IsBlank S.Store conn → Stands (tables_of empty_machine) db)) }
     {
@@ -160,9 +163,9 @@ impl<S: Alter> Desk<S> {
 }
 
 impl<S: Alter> Desk<S> {
-    /// The desk of a store that is one, whose step limit it takes off: all its tables are read and tested, and nothing is
-    /// changed, whatever the store is. The rows of all tables are in memory at a time, with the texts of all revisions. A fault
-    /// gives the connection back without its step limit, over a store that is as it was.
+    /// The desk of a store that is one, whose step limit it takes off: all its tables are read and tested, and
+    /// nothing is changed, whatever the store is. The rows of all tables are in memory at a time, with the texts of
+    /// all revisions. A fault gives the connection back without its step limit, over a store that is as it was.
     ///
     /// # Errors
     ///
@@ -180,10 +183,9 @@ impl<S: Alter> Desk<S> {
         ensures unfit { IfErr result (λ u. HasCleanDisk (state S.Store u.conn) → u.fault ≡ Fault.NotADesk → (s : Machine) → IsDesk S.Store conn s → ⊥) }
         ensures untouched { IfErr result (λ u. HasCleanDisk (state S.Store u.conn) → u.fault ≡ Fault.NotADesk
             → (state S.Store u.conn).now ≡ (state S.Store conn).now) }
-        ensures unchanged { IfErr result (λ u. HasCleanDisk (state S.Store u.conn) → IsTrue (state S.Store u.conn).is_open
-            → (state S.Store u.conn).now ≡ (state S.Store conn).now) }
+        ensures unchanged { IfErr result (λ u. SeesTheSame S.Store conn u.conn) }
         ensures refused { IfErr result (λ u. (r : AnyRefusal) → u.fault ≢ Fault.Refused r) }
-        ensures again { IfErr result (λ u. HasCleanDisk (state S.Store u.conn) → IsTrue (state S.Store u.conn).is_open → (s : Machine) → IsDesk S.Store conn s → IsDesk S.Store u.conn s) }
+        ensures again { IfErr result (λ u. StaysADesk S.Store conn u.conn) }
         ensures crash { IfOk result (λ d. Survives (state S.Store (unlimited conn)) (state S.Store d.conn) (λ _. ⊥)) }
         ensures crash_on_the_way { IfErr result (λ u. Survives (state S.Store (unlimited conn)) (state S.Store u.conn) (λ _. ⊥)) }
     {
@@ -230,6 +232,17 @@ impl<S: Alter> Desk<S> {
             return None;
         }
         Some(number as u32)
+    }
+
+    /// Whether the store is open. A fault of the device may have shut it: then no call is answered any more.
+    pub fn is_open(&mut self) -> bool
+        ensures open { HasCleanDisk (state S.Store self.new.conn) → result ≡ true
+            → IsTrue (state S.Store self.new.conn).is_open }
+        ensures kept { StandsAsBefore S.Store self.old self.new }
+        ensures crash { Survives (state S.Store self.old.conn) (state S.Store self.new.conn) (λ _. ⊥) }
+        ensures limits { self.new.limits ≡ self.old.limits }
+    {
+        wanting::is_open(&mut self.conn)
     }
 
     /// The totals of the six states: the sums over the sentences in each, and the net of the moves. Nothing is refused.

@@ -31,6 +31,7 @@ impl<S: Alter> Desk<S> {
         ensures migrated { IfOk result (λ d. HasCleanDisk (state S.Store d.conn) → (s : Machine) × IsFirstDesk S.Store conn s × StandsFor S.Store d s) }
         ensures limits { IfOk result (λ d. d.limits ≡ limits) }
         ensures no_step_limit { IfOk result (λ d. (state S.Store d.conn).step_limit ≡ None) }
+        ensures limit_off { IfErr result (λ u. (state S.Store u.conn).step_limit ≡ None) }
         ensures unfit { IfErr result (λ u. HasCleanDisk (state S.Store u.conn) → u.fault ≡ Fault.NotADesk → (s : Machine) → IsFirstDesk S.Store conn s → ⊥) }
         ensures untouched { IfErr result (λ u. HasCleanDisk (state S.Store u.conn) → u.fault ≡ Fault.NotADesk → (state S.Store u.conn).now ≡ (state S.Store conn).now) }
         ensures unwritten { IfErr result (λ u. u.fault ≡ Fault.NotADesk → Survives (state S.Store (unlimited conn)) (state S.Store u.conn) (λ _. ⊥)) }

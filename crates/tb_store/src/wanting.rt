@@ -1,10 +1,11 @@
-//! Want of memory: a command ends for it only where the store is open.
+//! Whether the store is open: a command ends for want of memory only there.
 
-ghost use Rattle.std.specs.Prelude.{◌≡◌, ◌⊎◌, false, IsTrue};
+ghost use Rattle.std.specs.Prelude.{◌≡◌, ◌⊎◌, true, false, IsTrue};
 ghost use Rattle.sqlite.specs.State.{HasCleanDisk, Survives};
 ghost use Rattle.sqlite.specs.Held.{state};
 ghost use Rattle.tb_core.specs.declared.refusals.Refusal.{Refusal as AnyRefusal};
 ghost use Rattle.tb_tables.specs.Leaving.{KeepsRecords};
+ghost use Rattle.tb_store.specs.Handing.{IsOpenOnMemory, WasOpen};
 
 use sqlite::{Alter, Connection, Error};
 use tb_core::Fault;
@@ -12,20 +13,35 @@ use tb_core::Fault;
 /// A text that is no statement. Only a store that is open refuses it as such, and it takes no memory to do so.
 const NO_STATEMENT: &str = "unknown";
 
-/// The fault of a command for which memory was refused. It is want of memory where the store is open: then the command committed
-/// nothing. Else the store failed.
-fn memory_or_device<S: Alter>(conn: &mut Connection<S>) -> Fault
-    ensures known { (result ≡ Fault.Memory) ⊎ (result ≡ Fault.Device) }
-    ensures open { HasCleanDisk (state S.Store conn.new) → result ≡ Fault.Memory → IsTrue (state S.Store conn.new).is_open }
-    ensures was_open { HasCleanDisk (state S.Store conn.new) → IsTrue (state S.Store conn.new).is_open → IsTrue (state S.Store conn.old).is_open }
+/// Whether the store is open.
+pub(crate) fn is_open<S: Alter>(conn: &mut Connection<S>) -> bool
+    ensures open { HasCleanDisk (state S.Store conn.new) → result ≡ true → IsTrue (state S.Store conn.new).is_open }
+    ensures was_open { WasOpen S.Store conn.old conn.new }
     ensures kept { KeepsRecords S.Store conn.old conn.new }
     ensures mode { conn.old.in_transaction ≡ false → conn.new.in_transaction ≡ false }
     ensures crash { Survives (state S.Store conn.old) (state S.Store conn.new) (λ _. ⊥) }
 {
     match conn.prepare(NO_STATEMENT) {
-        Ok(_) => Fault::Memory,
-        Err(Error::SqlInputError(_)) => Fault::Memory,
-        Err(_) => Fault::Device,
+        Ok(_) => true,
+        Err(Error::SqlInputError(_)) => true,
+        Err(_) => false,
+    }
+}
+
+/// The fault of a command for which memory was refused. It is want of memory where the store is open: then the command
+/// committed nothing. Else the store failed.
+fn memory_or_device<S: Alter>(conn: &mut Connection<S>) -> Fault
+    ensures known { (result ≡ Fault.Memory) ⊎ (result ≡ Fault.Device) }
+    ensures open { IsOpenOnMemory S.Store conn.new result }
+    ensures was_open { WasOpen S.Store conn.old conn.new }
+    ensures kept { KeepsRecords S.Store conn.old conn.new }
+    ensures mode { conn.old.in_transaction ≡ false → conn.new.in_transaction ≡ false }
+    ensures crash { Survives (state S.Store conn.old) (state S.Store conn.new) (λ _. ⊥) }
+{
+    if is_open(conn) {
+        Fault::Memory
+    } else {
+        Fault::Device
     }
 }
 
@@ -33,8 +49,8 @@ fn memory_or_device<S: Alter>(conn: &mut Connection<S>) -> Fault
 pub(crate) fn certain<S: Alter>(conn: &mut Connection<S>, fault: Fault) -> Fault
     ensures refused { (r : AnyRefusal) → result ≡ Fault.Refused r → (fault ≡ Fault.Refused r) × (conn.new ≡ conn.old) }
     ensures desk { result ≡ Fault.NotADesk → fault ≡ Fault.NotADesk }
-    ensures open { HasCleanDisk (state S.Store conn.new) → result ≡ Fault.Memory → IsTrue (state S.Store conn.new).is_open }
-    ensures was_open { HasCleanDisk (state S.Store conn.new) → IsTrue (state S.Store conn.new).is_open → IsTrue (state S.Store conn.old).is_open }
+    ensures open { IsOpenOnMemory S.Store conn.new result }
+    ensures was_open { WasOpen S.Store conn.old conn.new }
     ensures kept { KeepsRecords S.Store conn.old conn.new }
     ensures mode { conn.old.in_transaction ≡ false → conn.new.in_transaction ≡ false }
     ensures crash { Survives (state S.Store conn.old) (state S.Store conn.new) (λ _. ⊥) }

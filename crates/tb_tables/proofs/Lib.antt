@@ -12,3 +12,4 @@ pub mod Refusing
 pub mod Failing
 pub mod Changing
 pub mod Creating
+pub mod Causes

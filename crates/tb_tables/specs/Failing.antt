@@ -1,9 +1,10 @@
 -- How a statement on the tables of a desk fails, and which records SQLite takes.
-use Rattle.std.specs.Prelude.{◌≡◌, ◌≢◌, ◌⊎◌, ℕ, List, [], ◌∷◌, ◌≤◌, map, length, Result, Ok, Err}
+use Rattle.std.specs.Prelude.{◌≡◌, ◌≢◌, ◌⊎◌, ℕ, List, [], ◌∷◌, ◌≤◌, map, length, Result, Ok, Err, ⊤}
 use Rattle.std.specs.List.{AllByRecursion}
 use Rattle.sqlite.specs.declared.error.Error.{Error}
 use Rattle.sqlite.specs.declared.error.Error.TheVariants.{SqliteFailure}
-use Rattle.sqlite.specs.declared.error.ErrorCode.TheVariants.{NoRowid}
+use Rattle.sqlite.specs.declared.error.ErrorCode.TheVariants.{NoRowid, OutOfMemory, SystemIoFailure, DatabaseCorrupt}
+use Rattle.sqlite.specs.declared.error.ErrorCode.TheVariants.{DiskFull, Closed}
 use Rattle.sqlite.specs.State.{store_error}
 use Rattle.sqlite_resolve.specs.declared.compiled.Compiled.{Compiled}
 use Rattle.sqlite_resolve.specs.declared.error.CompileError.{CompileError}
@@ -17,6 +18,23 @@ IsStoreFault e = (cause : StoreError) × (e ≡ store_error cause)
 -- a fault of the store, or no rowid is left for a further row
 abbrev pub IsRoomFault : Error → Type 0
 IsRoomFault e = IsStoreFault e ⊎ (e ≡ SqliteFailure NoRowid)
+
+-- the error is want of memory
+abbrev pub IsWant : Error → Type 0
+IsWant e = e ≡ SqliteFailure OutOfMemory
+
+-- No disk that failed and no store that was shut is behind the error: it is a refusal, want of memory, or a size that
+-- cannot be stored.
+abbrev pub NeedsNoFault : Error → Type 0
+NeedsNoFault (SqliteFailure SystemIoFailure) = ⊥
+NeedsNoFault (SqliteFailure DatabaseCorrupt) = ⊥
+NeedsNoFault (SqliteFailure DiskFull) = ⊥
+NeedsNoFault (SqliteFailure Closed) = ⊥
+NeedsNoFault _ = ⊤
+
+-- the same, or the rowid that SQLite chose for a revision is taken, which is told as a corrupt file
+abbrev pub NeedsNoFaultOnRevisions : Error → Type 0
+NeedsNoFaultOnRevisions e = NeedsNoFault e ⊎ (e ≡ SqliteFailure DatabaseCorrupt)
 
 -- a text of this length is one statement, with so many parameters
 abbrev pub IsWhole : ℕ → ℕ → Result Compiled CompileError → Type 0

@@ -1,6 +1,6 @@
 -- What a call tells of the tables of a desk, and what it leaves of them. What it says of records is under a disk that kept what
 -- it took (`HasCleanDisk`).
-use Rattle.std.specs.Prelude.{◌≡◌, ◌≢◌, Result, IfOk, IfErr, OnOk, OnErr, IsTrue, None}
+use Rattle.std.specs.Prelude.{◌≡◌, ◌≢◌, ◌-◌, ◌^◌, ◌<◌, ◌≤◌, Result, IfOk, IfErr, OnOk, OnErr, IsTrue, None}
 use Rattle.sqlite.specs.Store.{Ghosts}
 use Rattle.sqlite.specs.Held.{Held, state}
 use Rattle.sqlite.specs.State.{HasCleanDisk, IsUnchanged, KeepsCommit, Survives}
@@ -16,6 +16,15 @@ Reads g old new result IsShown = HasCleanDisk (state g new) → IfOk result (λ 
 -- an error, where there is no limit on steps, is such a fault
 abbrev pub FailsOnlyAs : {S X E : Type 0} → (E → Type 0) → Ghosts S → Held S → Held S → Result X E → Type 0
 FailsOnlyAs IsFault g old new result = HasCleanDisk (state g new) → (state g old).step_limit ≡ None → (state g old).now.schema ≡ desk_schema → IfErr result IsFault
+
+-- the store is open, and its disk fails at nothing meanwhile (the count of faults ends at 2 ^ 64 - 1)
+abbrev pub IsFaultless : {S : Type 0} → Ghosts S → Held S → Held S → Type 0
+IsFaultless g old new =
+    IsTrue (state g old).is_open × ((state g new).faults ≤ (state g old).faults) × ((state g old).faults < 2 ^ 64 - 1)
+
+-- where the disk fails at nothing, an error is such a one as needs no fault
+abbrev pub BlamesNoDisk : {S X E : Type 0} → (E → Type 0) → Ghosts S → Held S → Held S → Result X E → Type 0
+BlamesNoDisk NeedsNone g old new result = HasCleanDisk (state g new) → IsFaultless g old new → IfErr result NeedsNone
 
 -- a call that succeeds changes nothing
 abbrev pub ChangesNothing : {S X E : Type 0} → Ghosts S → Held S → Held S → Result X E → Type 0

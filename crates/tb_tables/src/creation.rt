@@ -10,8 +10,8 @@ ghost use Rattle.tb_tables.specs.Layout.{desk_schema};
 ghost use Rattle.tb_tables.specs.Records.{Stands};
 ghost use Rattle.tb_tables.specs.Changes.{IsInside, Holds};
 ghost use Rattle.tb_tables.specs.Making.{no_schema, first_schema, empty_tables, IsBlank, IsBare, IsVersioned, Makes, Takes};
-ghost use Rattle.tb_tables.specs.Failing.{IsStoreFault};
-ghost use Rattle.tb_tables.specs.Leaving.{KeepsCommitted};
+ghost use Rattle.tb_tables.specs.Failing.{IsStoreFault, NeedsNoFault};
+ghost use Rattle.tb_tables.specs.Leaving.{BlamesNoDisk, KeepsCommitted};
 
 use sqlite::{Alter, Connection, Error, Transaction};
 
@@ -20,6 +20,7 @@ fn make<S: Alter>(tx: &mut Transaction<'_, S>, text: &str) -> Result<(), Error>
     ensures same_reference { tx.new.conn.ghost_name ≡ tx.old.conn.ghost_name }
     ensures ok { HasCleanDisk (state S.Store tx.new.conn.now) → OnOk result ((schema : Schema) (table : Table) → IsBare (state S.Store tx.old.conn.now) schema → Makes schema text.now table → IsBare (state S.Store tx.new.conn.now) (created schema table)) }
     ensures fails { HasCleanDisk (state S.Store tx.new.conn.now) → (schema : Schema) → (table : Table) → IsBare (state S.Store tx.old.conn.now) schema → Makes schema text.now table → Takes schema text.now → IfErr result IsStoreFault }
+    ensures cause { BlamesNoDisk NeedsNoFault S.Store tx.old.conn.now tx.new.conn.now result }
     ensures kept { KeepsCommitted S.Store tx.old.conn.now tx.new.conn.now }
     ensures survives { Survives (state S.Store tx.old.conn.now) (state S.Store tx.new.conn.now) (λ _. ⊥) }
 {
@@ -32,6 +33,7 @@ fn make_first<S: Alter>(tx: &mut Transaction<'_, S>) -> Result<(), Error>
     ensures same_reference { tx.new.conn.ghost_name ≡ tx.old.conn.ghost_name }
     ensures ok { HasCleanDisk (state S.Store tx.new.conn.now) → OnOk result (IsBare (state S.Store tx.old.conn.now) no_schema → IsBare (state S.Store tx.new.conn.now) first_schema) }
     ensures fails { HasCleanDisk (state S.Store tx.new.conn.now) → IsBare (state S.Store tx.old.conn.now) no_schema → IfErr result IsStoreFault }
+    ensures cause { BlamesNoDisk NeedsNoFault S.Store tx.old.conn.now tx.new.conn.now result }
     ensures kept { KeepsCommitted S.Store tx.old.conn.now tx.new.conn.now }
     ensures survives { Survives (state S.Store tx.old.conn.now) (state S.Store tx.new.conn.now) (λ _. ⊥) }
 {
@@ -56,6 +58,7 @@ fn make_last<S: Alter>(tx: &mut Transaction<'_, S>) -> Result<(), Error>
     ensures same_reference { tx.new.conn.ghost_name ≡ tx.old.conn.ghost_name }
     ensures ok { HasCleanDisk (state S.Store tx.new.conn.now) → OnOk result (IsBare (state S.Store tx.old.conn.now) first_schema → IsBare (state S.Store tx.new.conn.now) desk_schema) }
     ensures fails { HasCleanDisk (state S.Store tx.new.conn.now) → IsBare (state S.Store tx.old.conn.now) first_schema → IfErr result IsStoreFault }
+    ensures cause { BlamesNoDisk NeedsNoFault S.Store tx.old.conn.now tx.new.conn.now result }
     ensures kept { KeepsCommitted S.Store tx.old.conn.now tx.new.conn.now }
     ensures survives { Survives (state S.Store tx.old.conn.now) (state S.Store tx.new.conn.now) (λ _. ⊥) }
 {
@@ -76,6 +79,7 @@ fn insert_version<S: Alter>(tx: &mut Transaction<'_, S>) -> Result<(), Error>
     ensures same_reference { tx.new.conn.ghost_name ≡ tx.old.conn.ghost_name }
     ensures ok { HasCleanDisk (state S.Store tx.new.conn.now) → OnOk result (IsBare (state S.Store tx.old.conn.now) desk_schema → IsVersioned (state S.Store tx.new.conn.now)) }
     ensures fails { HasCleanDisk (state S.Store tx.new.conn.now) → (state S.Store tx.old.conn.now).step_limit ≡ None → IsBare (state S.Store tx.old.conn.now) desk_schema → IfErr result IsStoreFault }
+    ensures cause { BlamesNoDisk NeedsNoFault S.Store tx.old.conn.now tx.new.conn.now result }
     ensures kept { KeepsCommitted S.Store tx.old.conn.now tx.new.conn.now }
     ensures survives { Survives (state S.Store tx.old.conn.now) (state S.Store tx.new.conn.now) (λ _. ⊥) }
 {
@@ -88,6 +92,7 @@ fn insert_totals<S: Alter>(tx: &mut Transaction<'_, S>) -> Result<(), Error>
     ensures same_reference { tx.new.conn.ghost_name ≡ tx.old.conn.ghost_name }
     ensures ok { HasCleanDisk (state S.Store tx.new.conn.now) → OnOk result (IsVersioned (state S.Store tx.old.conn.now) → IsInside (state S.Store tx.new.conn.now) × Stands empty_tables (state S.Store tx.new.conn.now).now.trees) }
     ensures fails { HasCleanDisk (state S.Store tx.new.conn.now) → (state S.Store tx.old.conn.now).step_limit ≡ None → IsVersioned (state S.Store tx.old.conn.now) → IfErr result IsStoreFault }
+    ensures cause { BlamesNoDisk NeedsNoFault S.Store tx.old.conn.now tx.new.conn.now result }
     ensures kept { KeepsCommitted S.Store tx.old.conn.now tx.new.conn.now }
     ensures survives { Survives (state S.Store tx.old.conn.now) (state S.Store tx.new.conn.now) (λ _. ⊥) }
 {
@@ -103,6 +108,7 @@ fn make_all<S: Alter>(tx: &mut Transaction<'_, S>) -> Result<(), Error>
     ensures same_reference { tx.new.conn.ghost_name ≡ tx.old.conn.ghost_name }
     ensures ok { HasCleanDisk (state S.Store tx.new.conn.now) → OnOk result (IsBare (state S.Store tx.old.conn.now) no_schema → IsInside (state S.Store tx.new.conn.now) × Stands empty_tables (state S.Store tx.new.conn.now).now.trees) }
     ensures fails { HasCleanDisk (state S.Store tx.new.conn.now) → (state S.Store tx.old.conn.now).step_limit ≡ None → IsBare (state S.Store tx.old.conn.now) no_schema → IfErr result IsStoreFault }
+    ensures cause { BlamesNoDisk NeedsNoFault S.Store tx.old.conn.now tx.new.conn.now result }
     ensures kept { KeepsCommitted S.Store tx.old.conn.now tx.new.conn.now }
     ensures survives { Survives (state S.Store tx.old.conn.now) (state S.Store tx.new.conn.now) (λ _. ⊥) }
 {
@@ -128,6 +134,7 @@ pub fn create<S: Alter>(conn: &mut Connection<S>) -> Result<(), Error>
     ensures ok { HasCleanDisk (state S.Store conn.new) → OnOk result (IsBlank S.Store conn.old → Holds S.Store conn.new empty_tables) }
     ensures err { HasCleanDisk (state S.Store conn.new) → IsTrue (state S.Store conn.new).is_open → OnErr result (IsBlank S.Store conn.old → IsBlank S.Store conn.new) }
     ensures fails { HasCleanDisk (state S.Store conn.new) → (state S.Store conn.old).step_limit ≡ None → IsBlank S.Store conn.old → IfErr result IsStoreFault }
+    ensures cause { BlamesNoDisk NeedsNoFault S.Store conn.old conn.new result }
     ensures mode { conn.new.in_transaction ≡ false }
     ensures crash { Survives (state S.Store conn.old) (state S.Store conn.new) (λ db. IsBlank S.Store conn.old → Stands empty_tables db) }
 {

@@ -4,9 +4,10 @@ ghost use Rattle.std.specs.Prelude.{◌≡◌, ◌≢◌, ◌⊎◌, ◌+◌, �
 ghost use Rattle.sqlite.specs.State.{Survives};
 ghost use Rattle.sqlite.specs.Held.{state};
 ghost use Rattle.tb_tables.specs.Changes.{with_batch, with_sentence, with_revision, with_move, with_pulled};
-ghost use Rattle.tb_tables.specs.Failing.{IsStoreFault, IsRoomFault, Lacks, AreUnique};
+ghost use Rattle.tb_tables.specs.Failing.{IsStoreFault, IsRoomFault, Lacks, AreUnique, NeedsNoFault};
+ghost use Rattle.tb_tables.specs.Failing.{NeedsNoFaultOnRevisions};
 ghost use Rattle.tb_tables.specs.Values.{move_of};
-ghost use Rattle.tb_tables.specs.Leaving.{FailsInside, KeepsCommitted, StandsIn, StaysInside, Turns};
+ghost use Rattle.tb_tables.specs.Leaving.{BlamesNoDisk, FailsInside, KeepsCommitted, StandsIn, StaysInside, Turns};
 
 use crate::rows::MoveRow;
 use sqlite::{Alter, Constraint, Error, ErrorCode, Transaction, params};
@@ -22,6 +23,7 @@ pub fn insert_batch<S: Alter>(
     ensures same_reference { tx.new.conn.ghost_name ≡ tx.old.conn.ghost_name }
     ensures ok { Turns S.Store tx.old.conn.now tx.new.conn.now result (λ d into. no ≡ 1 + length d.batches → into (with_batch d (record { name = name.now; state = in_state; worker = worker.now }))) }
     ensures fails { FailsInside IsStoreFault S.Store tx.old.conn.now tx.new.conn.now result (λ d fails. StandsIn S.Store tx.old.conn.now d → no ≡ 1 + length d.batches → AreUnique (with_batch d (record { name = name.now; state = in_state; worker = worker.now })) → fails) }
+    ensures cause { BlamesNoDisk NeedsNoFault S.Store tx.old.conn.now tx.new.conn.now result }
     ensures inside { StaysInside S.Store tx.old.conn.now tx.new.conn.now result }
     ensures kept { KeepsCommitted S.Store tx.old.conn.now tx.new.conn.now }
     ensures survives { Survives (state S.Store tx.old.conn.now) (state S.Store tx.new.conn.now) (λ _. ⊥) }
@@ -45,6 +47,7 @@ pub fn insert_sentence<S: Alter>(
     ensures same_reference { tx.new.conn.ghost_name ≡ tx.old.conn.ghost_name }
     ensures ok { Turns S.Store tx.old.conn.now tx.new.conn.now result (λ d into. no ≡ 1 + length d.sentences → into (with_sentence d (record { sent_id = sent_id.now; batch = batch; rev = rev; words = words }))) }
     ensures fails { FailsInside IsStoreFault S.Store tx.old.conn.now tx.new.conn.now result (λ d fails. StandsIn S.Store tx.old.conn.now d → no ≡ 1 + length d.sentences → AreUnique (with_sentence d (record { sent_id = sent_id.now; batch = batch; rev = rev; words = words })) → fails) }
+    ensures cause { BlamesNoDisk NeedsNoFault S.Store tx.old.conn.now tx.new.conn.now result }
     ensures inside { StaysInside S.Store tx.old.conn.now tx.new.conn.now result }
     ensures kept { KeepsCommitted S.Store tx.old.conn.now tx.new.conn.now }
     ensures survives { Survives (state S.Store tx.old.conn.now) (state S.Store tx.new.conn.now) (λ _. ⊥) }
@@ -79,6 +82,7 @@ pub fn insert_revision<S: Alter>(
     ensures same_reference { tx.new.conn.ghost_name ≡ tx.old.conn.ghost_name }
     ensures ok { Turns S.Store tx.old.conn.now tx.new.conn.now result (λ d into. into (with_revision d (record { sent = sent; rev = rev; who = who.now; body = body.now }))) }
     ensures fails { FailsInside IsRoomFault S.Store tx.old.conn.now tx.new.conn.now result (λ d fails. StandsIn S.Store tx.old.conn.now d → AreUnique (with_revision d (record { sent = sent; rev = rev; who = who.now; body = body.now })) → fails) }
+    ensures cause { BlamesNoDisk NeedsNoFaultOnRevisions S.Store tx.old.conn.now tx.new.conn.now result }
     ensures inside { StaysInside S.Store tx.old.conn.now tx.new.conn.now result }
     ensures kept { KeepsCommitted S.Store tx.old.conn.now tx.new.conn.now }
     ensures survives { Survives (state S.Store tx.old.conn.now) (state S.Store tx.new.conn.now) (λ _. ⊥) }
@@ -97,6 +101,7 @@ pub fn insert_move<S: Alter>(tx: &mut Transaction<'_, S>, no: u32, m: &MoveRow) 
     ensures same_reference { tx.new.conn.ghost_name ≡ tx.old.conn.ghost_name }
     ensures ok { Turns S.Store tx.old.conn.now tx.new.conn.now result (λ d into. no ≡ 1 + length d.moves → into (with_move d (move_of m.now))) }
     ensures fails { FailsInside IsStoreFault S.Store tx.old.conn.now tx.new.conn.now result (λ d fails. StandsIn S.Store tx.old.conn.now d → no ≡ 1 + length d.moves → AreUnique d → fails) }
+    ensures cause { BlamesNoDisk NeedsNoFault S.Store tx.old.conn.now tx.new.conn.now result }
     ensures inside { StaysInside S.Store tx.old.conn.now tx.new.conn.now result }
     ensures kept { KeepsCommitted S.Store tx.old.conn.now tx.new.conn.now }
     ensures survives { Survives (state S.Store tx.old.conn.now) (state S.Store tx.new.conn.now) (λ _. ⊥) }
@@ -124,6 +129,7 @@ pub fn insert_pulled<S: Alter>(tx: &mut Transaction<'_, S>, sent: u32) -> Result
     ensures same_reference { tx.new.conn.ghost_name ≡ tx.old.conn.ghost_name }
     ensures ok { Turns S.Store tx.old.conn.now tx.new.conn.now result (λ d into. into (with_pulled d sent)) }
     ensures fails { FailsInside IsStoreFault S.Store tx.old.conn.now tx.new.conn.now result (λ d fails. StandsIn S.Store tx.old.conn.now d → Lacks d.pulled sent → AreUnique d → fails) }
+    ensures cause { BlamesNoDisk NeedsNoFault S.Store tx.old.conn.now tx.new.conn.now result }
     ensures inside { StaysInside S.Store tx.old.conn.now tx.new.conn.now result }
     ensures kept { KeepsCommitted S.Store tx.old.conn.now tx.new.conn.now }
     ensures survives { Survives (state S.Store tx.old.conn.now) (state S.Store tx.new.conn.now) (λ _. ⊥) }

@@ -5,9 +5,10 @@ ghost use Rattle.sqlite.specs.State.{Survives};
 ghost use Rattle.sqlite.specs.Held.{state};
 ghost use Rattle.tb_tables.specs.Values.{move_of, total_of};
 ghost use Rattle.tb_tables.specs.Commands.{after_pull, after_restore};
-ghost use Rattle.tb_tables.specs.Failing.{IsStoreFault, Lacks, AreUnique};
+ghost use Rattle.tb_tables.specs.Failing.{IsStoreFault, Lacks, AreUnique, NeedsNoFault};
 ghost use Rattle.tb_writing.specs.Premises.{Follows};
-ghost use Rattle.tb_tables.specs.Leaving.{CrashesInto, FailsInside, FailsOn, KeepsCommitted, KeepsRecordsOnErr, Leads, StandsIn, StaysInside, Turns};
+ghost use Rattle.tb_tables.specs.Leaving.{CrashesInto, FailsInside, FailsOn, KeepsCommitted, KeepsRecordsOnErr};
+ghost use Rattle.tb_tables.specs.Leaving.{Leads, StandsIn, StaysInside, Turns, BlamesNoDisk};
 
 use crate::recording::{Change, record};
 use sqlite::{Alter, Connection, Error, Transaction};
@@ -18,6 +19,7 @@ fn pull<S: Alter>(tx: &mut Transaction<'_, S>, number: u32, change: &Change) -> 
     ensures same_reference { tx.new.conn.ghost_name ≡ tx.old.conn.ghost_name }
     ensures ok { Turns S.Store tx.old.conn.now tx.new.conn.now result (λ d into. Follows d change.now → StandsIn S.Store tx.old.conn.now d → into (after_pull d number (move_of change.now.row) (total_of change.now.left) (total_of change.now.reached))) }
     ensures fails { FailsInside IsStoreFault S.Store tx.old.conn.now tx.new.conn.now result (λ d fails. Follows d change.now → StandsIn S.Store tx.old.conn.now d → Lacks d.pulled number → AreUnique d → fails) }
+    ensures cause { BlamesNoDisk NeedsNoFault S.Store tx.old.conn.now tx.new.conn.now result }
     ensures inside { StaysInside S.Store tx.old.conn.now tx.new.conn.now result }
     ensures kept { KeepsCommitted S.Store tx.old.conn.now tx.new.conn.now }
     ensures survives { Survives (state S.Store tx.old.conn.now) (state S.Store tx.new.conn.now) (λ _. ⊥) }
@@ -40,6 +42,7 @@ pub fn write_pull<S: Alter>(
     requires autocommit { conn.old.in_transaction ≡ false }
     ensures ok { Leads S.Store conn.old conn.new result (λ d into. Follows d change.now → into (after_pull d number (move_of change.now.row) (total_of change.now.left) (total_of change.now.reached))) }
     ensures fails { FailsOn IsStoreFault S.Store conn.old conn.new result (λ d fails. Follows d change.now → Lacks d.pulled number → AreUnique d → fails) }
+    ensures cause { BlamesNoDisk NeedsNoFault S.Store conn.old conn.new result }
     ensures err { KeepsRecordsOnErr S.Store conn.old conn.new result }
     ensures crash { CrashesInto S.Store conn.old conn.new (λ d into. Follows d change.now → into (after_pull d number (move_of change.now.row) (total_of change.now.left) (total_of change.now.reached))) }
     ensures mode { conn.new.in_transaction ≡ false }
@@ -55,6 +58,7 @@ fn restore<S: Alter>(tx: &mut Transaction<'_, S>, number: u32, change: &Change) 
     ensures same_reference { tx.new.conn.ghost_name ≡ tx.old.conn.ghost_name }
     ensures ok { Turns S.Store tx.old.conn.now tx.new.conn.now result (λ d into. Follows d change.now → StandsIn S.Store tx.old.conn.now d → into (after_restore d number (move_of change.now.row) (total_of change.now.left) (total_of change.now.reached))) }
     ensures fails { FailsInside IsStoreFault S.Store tx.old.conn.now tx.new.conn.now result (λ d fails. Follows d change.now → StandsIn S.Store tx.old.conn.now d → AreUnique d → fails) }
+    ensures cause { BlamesNoDisk NeedsNoFault S.Store tx.old.conn.now tx.new.conn.now result }
     ensures inside { StaysInside S.Store tx.old.conn.now tx.new.conn.now result }
     ensures kept { KeepsCommitted S.Store tx.old.conn.now tx.new.conn.now }
     ensures survives { Survives (state S.Store tx.old.conn.now) (state S.Store tx.new.conn.now) (λ _. ⊥) }
@@ -77,6 +81,7 @@ pub fn write_restore<S: Alter>(
     requires autocommit { conn.old.in_transaction ≡ false }
     ensures ok { Leads S.Store conn.old conn.new result (λ d into. Follows d change.now → into (after_restore d number (move_of change.now.row) (total_of change.now.left) (total_of change.now.reached))) }
     ensures fails { FailsOn IsStoreFault S.Store conn.old conn.new result (λ d fails. Follows d change.now → AreUnique d → fails) }
+    ensures cause { BlamesNoDisk NeedsNoFault S.Store conn.old conn.new result }
     ensures err { KeepsRecordsOnErr S.Store conn.old conn.new result }
     ensures crash { CrashesInto S.Store conn.old conn.new (λ d into. Follows d change.now → into (after_restore d number (move_of change.now.row) (total_of change.now.left) (total_of change.now.reached))) }
     ensures mode { conn.new.in_transaction ≡ false }

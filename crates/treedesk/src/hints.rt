@@ -1,17 +1,20 @@
-//! What a refusal means, in words, for whoever sits at a terminal: the line that is printed has numbers and a name alone.
+//! What an answer means, in words, on standard error: the line that is printed has numbers and a name alone. What the
+//! desk itself refuses is read off that line; of all else the cause is handed up, with the place that it is about.
 
-use std::io::{self, Write};
+use std::io::{self, ErrorKind, Write};
+use tb_program::{Cause, StreamCause, Told};
 
 /// How much of the first line of an answer is kept. A refusal is shorter.
 const LONGEST: usize = 64;
 
-/// An output, of which the first line is kept.
+/// An output, of which the first line is kept, and why it failed.
 #[derive(Drop)]
 pub(crate) struct Heard<W> {
     out: W,
     line: [u8; LONGEST],
     length: usize,
     has_ended: bool,
+    failed: Option<ErrorKind>,
 }
 
 impl<W> Heard<W> {
@@ -21,7 +24,13 @@ impl<W> Heard<W> {
             line: [0; LONGEST],
             length: 0,
             has_ended: false,
+            failed: None,
         }
+    }
+
+    /// How the first write failed that did.
+    pub(crate) fn failed(&self) -> Option<ErrorKind> {
+        self.failed
     }
 
     /// The first line, or what is kept of it.
@@ -40,11 +49,22 @@ impl<W> Heard<W> {
         }
         self.length = self.length.saturating_add(1).min(LONGEST);
     }
+
+    /// Notes how a write failed. One that a signal came between is tried again.
+    fn note(&mut self, error: io::Error) -> io::Error {
+        if self.failed.is_none() && error.kind() != ErrorKind::Interrupted {
+            self.failed = Some(error.kind());
+        }
+        error
+    }
 }
 
 impl<W: Write> Write for Heard<W> {
     fn write(&mut self, buf: &[u8]) -> io::Result<usize> {
-        let taken = self.out.write(buf)?;
+        let taken = match self.out.write(buf) {
+            Ok(taken) => taken,
+            Err(error) => return Err(self.note(error)),
+        };
         for byte in buf.iter().take(taken) {
             if self.has_ended {
                 break;
@@ -55,7 +75,10 @@ impl<W: Write> Write for Heard<W> {
     }
 
     fn flush(&mut self) -> io::Result<()> {
-        self.out.flush()
+        match self.out.flush() {
+            Ok(()) => Ok(()),
+            Err(error) => Err(self.note(error)),
+        }
     }
 }
 
@@ -131,12 +154,14 @@ fn meant_by(texts: &[&'static str], number: &str) -> &'static str {
     texts.get(place.wrapping_sub(1)).copied().unwrap_or("")
 }
 
-/// Of what is refused by a word.
+/// Of what is refused by a word, where no cause was handed up.
 fn meant_by_word(word: &str) -> &'static str {
     match word {
         "desk" =>
-            "this is not the file of a desk, another program has changed it, it cannot be opened, or a log of another desk lies beside it",
-        "device" => "the file, the input or the output failed, or another command has the file",
+            "a row of the desk is not of its form; another program has changed the file, take a copy back",
+        "device" =>
+            "the desk's file could not be read or written; see whether its disk is full, and ask again",
+        "memory" => "the system gave no memory, or a pattern of the query is larger than is taken",
         "long" => "the input has more than 4,194,304 bytes: cut it at blank lines",
         _ => "",
     }
@@ -160,7 +185,7 @@ fn explain_query(rt: &HostRuntime, fault: &str, place: &str) -> io::Result<()> {
 }
 
 /// Tells on standard error what an answer means, where it is a refusal.
-pub(crate) fn explain(rt: &HostRuntime, answer: &str) -> io::Result<()> {
+fn explain(rt: &HostRuntime, answer: &str) -> io::Result<()> {
     let mut words = answer.split(' ');
     if words.next() != Some("refused") {
         return Ok(());
@@ -177,5 +202,51 @@ pub(crate) fn explain(rt: &HostRuntime, answer: &str) -> io::Result<()> {
             ("", "") => Ok(()),
             (text, more) => eprintln!(rt; "treedesk: {text}{more}"),
         },
+    }
+}
+
+/// What is known at the end of a run: its exit status, the first line of its answer, what the program tells of it,
+/// and what is to be told of its streams.
+#[derive(Drop)]
+pub(crate) struct Ended<'a> {
+    pub(crate) status: u8,
+    pub(crate) answer: &'a str,
+    pub(crate) told: Option<Told>,
+    pub(crate) input: Option<StreamCause>,
+    pub(crate) output: Option<StreamCause>,
+}
+
+/// Tells one cause.
+pub(crate) fn tell(rt: &HostRuntime, cause: Cause) -> io::Result<()> {
+    eprintln!(rt; "treedesk: {cause}")
+}
+
+impl Ended<'_> {
+    /// Whether an answer ended before its last line, though all of it that came was written.
+    fn is_broken_off(&self) -> bool {
+        self.status == 3 && self.output.is_none() && !self.answer.starts_with("refused ")
+    }
+
+    /// Tells why the answer is what it is.
+    fn tell_cause(&self, rt: &HostRuntime) -> io::Result<()> {
+        if let Some(told) = &self.told {
+            return eprintln!(rt; "treedesk: {told}");
+        }
+        if let Some(cause) = self.input {
+            return tell(rt, Cause::Stream(cause));
+        }
+        if self.is_broken_off() {
+            return tell(rt, Cause::BrokenOff);
+        }
+        explain(rt, self.answer)
+    }
+
+    /// Tells it, and what became of the output.
+    pub(crate) fn tell(&self, rt: &HostRuntime) -> io::Result<()> {
+        self.tell_cause(rt)?;
+        match self.output {
+            Some(cause) => tell(rt, Cause::Stream(cause)),
+            None => Ok(()),
+        }
     }
 }

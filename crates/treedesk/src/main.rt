@@ -3,13 +3,14 @@
 
 mod hints;
 
-use hints::{Heard, explain};
+use hints::{Ended, Heard, tell};
 use std::env;
 use std::fs::File;
 use std::io::{self, BufWriter, ErrorKind, IsTerminal, Read, Write};
+use std::os::fd::AsRawFd;
 use std::process::ExitCode;
 use tb_desk::put_reply;
-use tb_program::run_words;
+use tb_program::{Cause, StreamCause, run_words_told, wants_words};
 
 /// How much of an answer waits to be written at once.
 const BUFFER: usize = 65_536;
@@ -19,21 +20,69 @@ fn words(rt: &HostRuntime) -> io::Result<Vec<String>> {
     Ok(env::args(rt)?.collect(rt.alloc())?)
 }
 
-/// Takes the numbers of standard streams that are closed: else the file of a desk would get one, and what is printed would land
-/// in it. Such an input is empty then, and such an output takes nothing.
-fn hold_streams(rt: &HostRuntime) -> [io::Result<File>; 3] {
-    [
-        File::open(rt, "/dev/null"),
-        File::open(rt, "/dev/null"),
-        File::open(rt, "/dev/null"),
-    ]
+/// The numbers of the standard streams, by which the system knows them.
+const INPUT: i32 = 0;
+
+const OUTPUT: i32 = 1;
+
+/// What stands in for standard streams that are closed: else the file of a desk would get the number of one, and what
+/// is printed would land in it. Such an input is empty then, and such an output takes nothing.
+#[derive(Drop)]
+struct Held {
+    files: [io::Result<File>; 3],
 }
 
-/// Standard input. Whoever types it is told that it is being read, at the first read; where that cannot be told, nothing is lost.
+impl Held {
+    fn new(rt: &HostRuntime) -> Held {
+        Held {
+            files: [
+                File::open(rt, "/dev/null"),
+                File::open(rt, "/dev/null"),
+                File::open(rt, "/dev/null"),
+            ],
+        }
+    }
+
+    /// Whether the stream with this number was closed.
+    fn stands_for(&self, stream: i32) -> bool {
+        for file in &self.files {
+            if let Ok(file) = file {
+                if file.as_raw_fd() == stream {
+                    return true;
+                }
+            }
+        }
+        false
+    }
+
+    /// What is told of an output that failed so.
+    fn output_cause(&self, failed: Option<ErrorKind>) -> Option<StreamCause> {
+        match failed {
+            Some(_) if self.stands_for(OUTPUT) => Some(StreamCause::OutputClosed),
+            Some(kind) => Some(StreamCause::of_output(kind)),
+            None => None,
+        }
+    }
+}
+
+/// Standard input. Whoever types it is told that it is being read, at the first read; where that cannot be told,
+/// nothing is lost.
 #[derive(Drop)]
 struct Typed<'a> {
     rt: &'a HostRuntime,
     was_read: bool,
+    failed: Option<ErrorKind>,
+}
+
+impl Typed<'_> {
+    /// What is to be told of it.
+    fn cause(&self, held: &Held) -> Option<StreamCause> {
+        match self.failed {
+            Some(kind) => Some(StreamCause::of_input(kind)),
+            None if self.was_read && held.stands_for(INPUT) => Some(StreamCause::InputClosed),
+            None => None,
+        }
+    }
 }
 
 impl Read for Typed<'_> {
@@ -42,39 +91,66 @@ impl Read for Typed<'_> {
             let _told = eprintln!(self.rt; "treedesk: reads standard input; Ctrl-D ends it");
         }
         self.was_read = true;
-        self.rt.stdin().read(buf)
+        match self.rt.stdin().read(buf) {
+            Ok(count) => Ok(count),
+            Err(error) => {
+                if error.kind() != ErrorKind::Interrupted {
+                    self.failed = Some(error.kind());
+                }
+                Err(error)
+            }
+        }
     }
 }
 
-/// Does what the words ask on standard input and output, and gives the exit status. Whoever sits at a terminal is told what a
-/// refusal means; where that cannot be told, nothing is lost.
-fn run(rt: &HostRuntime) -> io::Result<u8> {
+/// Does what the words ask on standard input and output, and gives the exit status. Where words are wanted on
+/// standard error, it is told there why; where that cannot be told, nothing is lost.
+fn run(rt: &HostRuntime, held: &Held) -> io::Result<u8> {
     let words = words(rt)?;
     let mut out = Heard::new(BufWriter::with_capacity(rt.alloc(), BUFFER, rt.stdout())?);
     let mut input = Typed {
         rt,
         was_read: false,
+        failed: None,
     };
-    let status = run_words(rt, &words, &mut input, &mut out);
-    if out.flush().is_err() {
-        return Ok(3);
-    }
-    if status != 0 && rt.stderr().is_terminal() {
-        let _told = explain(rt, out.line());
+    let outcome = run_words_told(rt, &words, &mut input, &mut out);
+    let status = match out.flush() {
+        Ok(()) => outcome.status,
+        Err(_) => 3,
+    };
+    if wants_words(rt) {
+        let ended = Ended {
+            status,
+            answer: out.line(),
+            told: outcome.told,
+            input: input.cause(held),
+            output: held.output_cause(out.failed()),
+        };
+        let _told = ended.tell(rt);
     }
     Ok(status)
 }
 
+/// Puts the line of a run that did not begin, and tells why.
+fn put_and_tell(rt: &HostRuntime, line: &str, status: u8, cause: Cause) -> u8 {
+    let status = put_reply(&mut rt.stdout(), line, status);
+    if wants_words(rt) {
+        let _told = tell(rt, cause);
+    }
+    status
+}
+
 fn main(rt: HostRuntime) -> ExitCode {
-    let _held = hold_streams(&rt);
-    let status = match run(&rt) {
+    let held = Held::new(&rt);
+    let status = match run(&rt, &held) {
         Ok(status) => status,
-        Err(error) if error.kind() == ErrorKind::OutOfMemory => put_reply(
-            &mut rt.stdout(),
+        Err(error) if error.kind() == ErrorKind::OutOfMemory => put_and_tell(
+            &rt,
             "refused memory\n",
             3,
+            Cause::Memory,
         ),
-        Err(_) => put_reply(&mut rt.stdout(), "refused usage\n", 2),
+        Err(_) => put_and_tell(&rt, "refused usage\n", 2, Cause::NotText),
     };
     ExitCode::from(status)
 }

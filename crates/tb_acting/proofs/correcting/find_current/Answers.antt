@@ -3,7 +3,7 @@ use Rattle.std.proofs.lemmas.Result.{err_from_is_err_and}
 use Rattle.std.proofs.Common.{arith, ◌≡◌, Err, ◌∙◌}
 use Rattle.sqlite.specs.Held.{state}
 use Rattle.sqlite.specs.State.{HasCleanDisk}
-use Rattle.tb_recording.proofs.Unchanged.{desk_same, lasts_then}
+use Rattle.tb_recording.proofs.Unchanged.{desk_same, lasts_then, second_clear}
 use Rattle.tb_acting.proofs.correcting.find_current.Goals as goal
 
 pub returns-in_err-row-clause-lasts : goal.returns-in_err-row-clause-lasts
@@ -34,3 +34,8 @@ returns-in_err-row-clause-fails g c clean unlimited s desk x there bad =
     let first = c.in_ok-sentence.ensures.answered mid s desk x there in
     let still = desk_same g.S.Store c.args.conn.now c.find_sentence.new.conn s desk (c.in_ok-sentence.ensures.same mid desk.holds.schema) in
     c.current_row.ensures.fails clean (c.find_sentence.ensures.lasts.limit ∙ unlimited) s still x there first.rev failed
+
+pub returns-in_err-row-clause-cause : goal.returns-in_err-row-clause-cause
+returns-in_err-row-clause-cause g c =
+    second_clear g.S.Store c.args.conn.now c.find_sentence.new.conn c.current_row.new.conn c.from_residual-in_err-row.result c.in_err-row.field-0.0 c.from_residual-in_err-row.ensures.1
+    c.in_ok-sentence.ensures.same c.find_sentence.ensures.lasts c.current_row.ensures.lasts c.in_err-row.ensures.cause

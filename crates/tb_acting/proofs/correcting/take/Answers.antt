@@ -2,7 +2,7 @@ use Rattle.tb_core.specs.declared.refusals.Fault.TheVariants.{NotADesk}
 use Rattle.std.proofs.Common.{◌≡◌, ◌∙◌, [], ◌∷◌, subst, rules, sym}
 use Rattle.tb_conllu.specs.Told.{IsFile}
 use Rattle.tb_recording.proofs.There.{both_ok}
-use Rattle.tb_acting.proofs.Corrected.{none_first, stored_alone, body_is_text, stored_file}
+use Rattle.tb_acting.proofs.Corrected.{none_first, stored_alone, body_is_text, stored_file, taking_clear}
 use Rattle.tb_acting.proofs.correcting.take.Goals as goal
 
 pub returns-clause-refused : goal.returns-clause-refused
@@ -36,3 +36,6 @@ returns-in_default-clause-fails c s n base user place x reached named text bad =
 
 pub returns-clause-fails : goal.returns-clause-fails
 returns-clause-fails c s n base user place x reached named text bad = rw bad at c.judge_correction_body.ensures.refused
+
+pub returns-clause-cause : goal.returns-clause-cause
+returns-clause-cause c = taking_clear _ c.judge_correction_body.result c.judge_correction_body.ensures.refused

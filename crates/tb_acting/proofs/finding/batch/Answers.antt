@@ -1,10 +1,10 @@
 use Rattle.std.proofs.Common.{◌≡◌, ◌-◌, Err, sym, ap, ◌∙◌}
-use Rattle.tb_core.specs.declared.refusals.Fault.TheVariants.{NotADesk}
+use Rattle.tb_core.specs.declared.refusals.Fault.TheVariants.{NotADesk, Device}
 use Rattle.tb_tables.specs.Records.{Batch}
 use Rattle.tb_reading.specs.Readable.{IsBatch}
 use Rattle.tb_standing.specs.Standing.{tables_of, batch_record}
 use Rattle.tb_standing.specs.Fitting.{IsReadableBatch}
-use Rattle.tb_recording.proofs.Faultless.{read_told, fit}
+use Rattle.tb_recording.proofs.Faultless.{read_told, fit, want_told}
 use Rattle.tb_acting.proofs.Finds.{row_told, none_lacks}
 use Rattle.tb_acting.proofs.finding.batch.Goals as goal
 
@@ -25,3 +25,8 @@ returns-in-Err-clause-fails g c clean unlimited s desk above b there bad =
     let readable = c.desk_rows_are_readable.ensures s desk.reachable in
     let fits = fit IsReadableBatch IsBatch (λ y h. record { name_fits = h.name_fits; state_fits = h.state_fits; worker_fits = h.worker_fits }) (tables_of s).batches readable.batches in
     read_told c.in-Err.error (c.in-Err.ensures.fails clean unlimited desk.holds.schema) (λ unfit. c.in-Err.ensures.form clean (ap Err unfit) desk.holds.schema (tables_of s).batches fits desk.holds.stands.batches) (sym c.of_read.ensures.value ∙ told)
+
+pub returns-in-Err-clause-cause : goal.returns-in-Err-clause-cause
+returns-in-Err-clause-cause g c good clean unlimited has bad =
+    let told : c.of_read.result ≡ Device = cc in
+    want_told c.in-Err.error (c.in-Err.ensures.cause good clean unlimited has) (sym c.of_read.ensures.value ∙ told)

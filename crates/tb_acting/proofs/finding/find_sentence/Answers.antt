@@ -5,7 +5,7 @@ use Rattle.sqlite.specs.State.{HasCleanDisk}
 use Rattle.tb_core.specs.declared.refusals.Fault.TheVariants.{NotADesk}
 use Rattle.tb_core.specs.Machine.{batch_with}
 use Rattle.tb_tables.specs.Records.{Sentence}
-use Rattle.tb_recording.proofs.Unchanged.{desk_same, lasts_then, same_two}
+use Rattle.tb_recording.proofs.Unchanged.{desk_same, lasts_then, same_two, second_clear}
 use Rattle.tb_acting.proofs.Finds.{own_batch, placed_above}
 use Rattle.tb_acting.proofs.finding.find_sentence.Goals as goal
 
@@ -71,3 +71,15 @@ returns-in_err-pulled-clause-fails g c clean unlimited s desk x there bad =
     let first = desk_same g.S.Store c.args.conn.now c.sentence_row.new.conn s desk (c.in_ok-row.ensures.same mid desk.holds.schema) in
     let second = desk_same g.S.Store c.sentence_row.new.conn c.batch.new.conn s first (c.in_ok-of.ensures.same late first.holds.schema) in
     c.is_pulled.ensures.fails clean (c.batch.ensures.lasts.limit ∙ c.sentence_row.ensures.lasts.limit ∙ unlimited) s second failed
+
+pub returns-in_err-of-clause-cause : goal.returns-in_err-of-clause-cause
+returns-in_err-of-clause-cause g c =
+    second_clear g.S.Store c.args.conn.now c.sentence_row.new.conn c.batch.new.conn c.from_residual-in_err-of.result c.in_err-of.field-0.0 c.from_residual-in_err-of.ensures.1
+    c.in_ok-row.ensures.same c.sentence_row.ensures.lasts c.batch.ensures.lasts c.in_err-of.ensures.cause
+
+pub returns-in_err-pulled-clause-cause : goal.returns-in_err-pulled-clause-cause
+returns-in_err-pulled-clause-cause g c =
+    let two = lasts_then g.S.Store c.args.conn.now c.sentence_row.new.conn c.batch.new.conn c.in_ok-row.ensures.same c.sentence_row.ensures.lasts c.batch.ensures.lasts in
+    let same = same_two g.S.Store c.args.conn.now c.sentence_row.new.conn c.batch.new.conn c.batch.ensures.lasts c.in_ok-row.ensures.same c.in_ok-of.ensures.same in
+    second_clear g.S.Store c.args.conn.now c.batch.new.conn c.is_pulled.new.conn c.from_residual-in_err-pulled.result c.in_err-pulled.field-0.0 c.from_residual-in_err-pulled.ensures.1
+    same two c.is_pulled.ensures.lasts c.in_err-pulled.ensures.cause

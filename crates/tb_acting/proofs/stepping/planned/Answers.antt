@@ -9,7 +9,7 @@ use Rattle.tb_judge.specs.Found.{FindsBatch}
 use Rattle.tb_reading.proofs.Shown.{if_ok}
 use Rattle.tb_acting.specs.declared.finding.BatchRead.{BatchRead}
 use Rattle.tb_acting.specs.Stepping.{seen_of}
-use Rattle.tb_recording.proofs.Unchanged.{desk_same, lasts_then}
+use Rattle.tb_recording.proofs.Unchanged.{desk_same, lasts_then, second_clear}
 use Rattle.tb_acting.proofs.Stepped.{planned_event, event_fits}
 use Rattle.tb_acting.proofs.stepping.planned.Goals as goal
 
@@ -71,3 +71,8 @@ returns-clause-fails g c clean unlimited s desk counted within bad =
     let next = c.commands_stay_within_limits.ensures limits s (after s act) (event_on c.args.name.now event user) (replied (reply_to s act)) within.sentences within.moves desk.reachable judged.1 in
     event_fits s c.args.counts.now c.args.name.now event user c.in_ok-batch.batch c.in_ok-sums.sums desk.reachable counted here (c.in_ok-sums.ensures.answered clean s first) judged.0 next
     (λ place b reachable allowed further known there at st n w. c.plan.ensures.fails s place b reachable allowed further known there at st n w bad)
+
+pub returns-in_err-sums-clause-cause : goal.returns-in_err-sums-clause-cause
+returns-in_err-sums-clause-cause g c =
+    second_clear g.S.Store c.args.conn.now c.find_batch.new.conn c.find_work.new.conn c.from_residual-in_err-sums.result c.in_err-sums.field-0.0 c.from_residual-in_err-sums.ensures.1
+    c.in_ok-found.ensures.same c.find_batch.ensures.lasts c.find_work.ensures.lasts c.in_err-sums.ensures.cause

@@ -4,7 +4,7 @@ use Rattle.sqlite.specs.Held.{state}
 use Rattle.sqlite.specs.State.{HasCleanDisk}
 use Rattle.tb_core.specs.declared.refusals.Fault.TheVariants.{NotADesk}
 use Rattle.tb_reading.proofs.Shown.{if_ok}
-use Rattle.tb_recording.proofs.Unchanged.{desk_same, lasts_then}
+use Rattle.tb_recording.proofs.Unchanged.{desk_same, lasts_then, second_clear}
 use Rattle.tb_acting.proofs.Summing.{sums_stand, work_fits}
 use Rattle.tb_acting.proofs.working.find_work.Goals as goal
 
@@ -43,3 +43,8 @@ returns-clause-fails g c clean unlimited s desk bad =
     let work : c.as_slice.result.now ≡ c.in_ok-work.work.items = search rules in
     let fits = work_fits s c.args.number c.as_slice.result.now well desk.reachable.sentences (work ∙ c.in_ok-work.ensures.answered mid s desk) in
     c.sums_of.ensures.fails fits.0 fits.1 bad
+
+pub returns-in_err-pulled-clause-cause : goal.returns-in_err-pulled-clause-cause
+returns-in_err-pulled-clause-cause g c =
+    second_clear g.S.Store c.args.conn.now c.read_work.new.conn c.read_pulled.new.conn c.from_residual-in_err-pulled.result c.in_err-pulled.field-0.0 c.from_residual-in_err-pulled.ensures.1
+    c.in_ok-work.ensures.same c.read_work.ensures.lasts c.read_pulled.ensures.lasts c.in_err-pulled.ensures.cause

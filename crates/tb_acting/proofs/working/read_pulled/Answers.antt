@@ -1,7 +1,7 @@
 use Rattle.std.proofs.Common.{◌≡◌, Err, sym, ap, ◌∙◌}
-use Rattle.tb_core.specs.declared.refusals.Fault.TheVariants.{NotADesk}
+use Rattle.tb_core.specs.declared.refusals.Fault.TheVariants.{NotADesk, Device}
 use Rattle.tb_core.specs.Rows.{pulled_from}
-use Rattle.tb_recording.proofs.Faultless.{read_told}
+use Rattle.tb_recording.proofs.Faultless.{read_told, want_told}
 use Rattle.tb_acting.proofs.Summing.{pulled_ascends}
 use Rattle.tb_acting.proofs.working.read_pulled.Goals as goal
 
@@ -16,3 +16,8 @@ returns-in-Err-clause-fails g c clean unlimited s desk bad =
     let readable = c.desk_rows_are_readable.ensures s desk.reachable in
     read_told c.in-Err.error (c.in-Err.ensures.fails clean unlimited desk.holds.schema)
     (λ unfit. c.in-Err.ensures.form clean (ap Err unfit) desk.holds.schema (pulled_from 1 s.sentences) readable.pulled (pulled_ascends 1 s.sentences) desk.holds.stands.pulled) (sym c.of_read.ensures.value ∙ told)
+
+pub returns-in-Err-clause-cause : goal.returns-in-Err-clause-cause
+returns-in-Err-clause-cause g c good clean unlimited has bad =
+    let told : c.of_read.result ≡ Device = cc in
+    want_told c.in-Err.error (c.in-Err.ensures.cause good clean unlimited has) (sym c.of_read.ensures.value ∙ told)

@@ -1,11 +1,13 @@
 use Rattle.std.proofs.Common.{refl, sym, subst}
 use Rattle.std.proofs.lemmas.Result.{err_from_is_err_and}
+use Rattle.sqlite.specs.Held.{state}
 use Rattle.sqlite.specs.Given.{row_if}
-use Rattle.tb_reading.specs.Failing.{IsReadFault}
+use Rattle.tb_reading.specs.Failing.{IsReadFault, IsReadWant}
 use Rattle.tb_reading.proofs.Lent.{stands_at, goes_on, always_readable, advance_fails}
 use Rattle.tb_reading.proofs.Shown.{if_ok, on_ok}
 use Rattle.tb_reading.proofs.Staying.{unchanged_holds, stopped_stays}
-use Rattle.tb_reading.proofs.Failing.{if_err}
+use Rattle.tb_reading.proofs.Failing.{if_err, fault_of}
+use Rattle.tb_tables.proofs.Causes.{failed_wants}
 use Rattle.tb_reading.proofs.cursor.next_body.Goals as goal
 
 pub returns : goal.returns
@@ -25,6 +27,7 @@ returns g c =
               let none = c.body_at.ensures.form failed in
               always_readable g.S.Store old now.conn.now row xs left (stands_at g.S.Store old now.conn.now (moved.same clean) row xs left (moved.ok clean)) none.0 none.1;
           fails = λ clean unlimited. if_err found c.body_at.ensures.fails (λ e fault xs left. fault);
+          cause = λ good clean unlimited. if_err found c.body_at.ensures.cause (λ e want xs left. want);
           same = λ clean. on_ok found (moved.same clean);
           mode = moved.mode;
           kept = λ clean opened d holds. unchanged_holds g.S.Store old now.conn.now d holds (moved.same clean);
@@ -47,7 +50,8 @@ returns-in_err-advance g c =
           same_reference = moved.same_reference;
           ok = λ clean. tt;
           form = λ clean failed xs left. let from_it = told.2 in absurd cc;
-          fails = λ clean unlimited xs left. subst IsReadFault (sym told.2) (advance_fails g.S.Store old new _ (moved.err clean) unlimited xs left);
+          fails = λ clean unlimited xs left. subst IsReadFault (sym told.2) (fault_of (advance_fails g.S.Store old new _ (moved.err clean) unlimited xs left));
+          cause = λ good clean unlimited xs left. subst IsReadWant (sym told.2) (failed_wants (state g.S.Store old) (state g.S.Store new) good _ (advance_fails g.S.Store old new _ (moved.err clean) unlimited xs left));
           same = λ clean. tt;
           mode = moved.mode;
           kept = λ clean opened d holds. stopped_stays g.S.Store old new d _ holds opened (moved.kept clean);

@@ -10,7 +10,8 @@ use Rattle.tb_reading.proofs.Queries.{select_named_sentence, select_named_senten
 use Rattle.tb_reading.proofs.Picked.{picked}
 use Rattle.tb_reading.proofs.Staying.{either_way, shown_stays, failed_stays, lasts}
 use Rattle.tb_reading.proofs.Shown.{if_ok, when_ok, shown_same, commits_nothing, shown_at}
-use Rattle.tb_reading.proofs.Failing.{if_err, named_sentence_fails}
+use Rattle.tb_reading.proofs.Failing.{if_err, fault_of, named_sentence_fails}
+use Rattle.tb_tables.proofs.Causes.{failed_wants}
 use Rattle.tb_reading.proofs.single.named_sentence_rows.Goals as goal
 
 pub returns-clause-same : goal.returns-clause-same
@@ -44,4 +45,8 @@ returns-clause-lasts g c = lasts select_named_sentence _ (state g.S.Store c.args
 
 pub returns-clause-fails : goal.returns-clause-fails
 returns-clause-fails g c clean unlimited has =
-    if_err c.query_all.result (c.query_all.ensures.err clean) (λ e failed. named_sentence_fails c.args.sent_id.now (state g.S.Store c.args.conn.now) (state g.S.Store c.query_all.new.self) _ e failed (search rules) has unlimited)
+    if_err c.query_all.result (c.query_all.ensures.err clean) (λ e failed. fault_of (named_sentence_fails c.args.sent_id.now (state g.S.Store c.args.conn.now) (state g.S.Store c.query_all.new.self) _ e failed (search rules) has unlimited))
+
+pub returns-clause-cause : goal.returns-clause-cause
+returns-clause-cause g c good clean unlimited has =
+    if_err c.query_all.result (c.query_all.ensures.err clean) (λ e failed. failed_wants (state g.S.Store c.args.conn.now) (state g.S.Store c.query_all.new.self) good e (named_sentence_fails c.args.sent_id.now (state g.S.Store c.args.conn.now) (state g.S.Store c.query_all.new.self) _ e failed (search rules) has unlimited))

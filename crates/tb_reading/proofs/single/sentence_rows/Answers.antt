@@ -11,7 +11,8 @@ use Rattle.tb_reading.proofs.Queries.{select_sentence, select_sentence_is, selec
 use Rattle.tb_reading.proofs.Picked.{picked, found_numbered}
 use Rattle.tb_reading.proofs.Staying.{either_way, shown_stays, failed_stays, lasts}
 use Rattle.tb_reading.proofs.Shown.{if_ok, when_ok, shown_same, commits_nothing, shown_at}
-use Rattle.tb_reading.proofs.Failing.{if_err, sentence_fails}
+use Rattle.tb_reading.proofs.Failing.{if_err, fault_of, sentence_fails}
+use Rattle.tb_tables.proofs.Causes.{failed_wants}
 use Rattle.tb_reading.proofs.single.sentence_rows.Goals as goal
 
 pub returns-clause-same : goal.returns-clause-same
@@ -45,4 +46,8 @@ returns-clause-lasts g c = lasts select_sentence _ (state g.S.Store c.args.conn.
 
 pub returns-clause-fails : goal.returns-clause-fails
 returns-clause-fails g c clean unlimited has =
-    if_err c.query_all.result (c.query_all.ensures.err clean) (λ e failed. sentence_fails c.args.number (state g.S.Store c.args.conn.now) (state g.S.Store c.query_all.new.self) _ e failed (search rules) has unlimited)
+    if_err c.query_all.result (c.query_all.ensures.err clean) (λ e failed. fault_of (sentence_fails c.args.number (state g.S.Store c.args.conn.now) (state g.S.Store c.query_all.new.self) _ e failed (search rules) has unlimited))
+
+pub returns-clause-cause : goal.returns-clause-cause
+returns-clause-cause g c good clean unlimited has =
+    if_err c.query_all.result (c.query_all.ensures.err clean) (λ e failed. failed_wants (state g.S.Store c.args.conn.now) (state g.S.Store c.query_all.new.self) good e (sentence_fails c.args.number (state g.S.Store c.args.conn.now) (state g.S.Store c.query_all.new.self) _ e failed (search rules) has unlimited))

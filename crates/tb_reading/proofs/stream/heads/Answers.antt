@@ -1,4 +1,4 @@
-use Rattle.std.proofs.Common.{◌≡◌, ◌≢◌, [], ◌∷◌, ◌++◌, map, IsTrue, Err, refl, sym, subst, ap, ◌∙◌, rules, arith}
+use Rattle.std.proofs.Common.{◌≡◌, ◌≢◌, ◌≤◌, [], ◌∷◌, ◌++◌, map, IsTrue, Err, refl, sym, subst, ap, ◌∙◌, rules, arith}
 use Rattle.sqlite.specs.declared.types.Value.TheVariants.{Null}
 use Rattle.sqlite.specs.Effect.{Database}
 use Rattle.sqlite.specs.Listing.{understood}
@@ -17,7 +17,8 @@ use Rattle.tb_reading.specs.Readable.{IsHead}
 use Rattle.tb_reading.specs.Streams.{head_of, head_shown}
 use Rattle.tb_reading.proofs.Queries.{select_heads, select_heads_is, select_heads_terms, rising}
 use Rattle.tb_reading.proofs.Streaming.{heads_all, same_heads, shown_push, begun_answer, not_among, heads_readable}
-use Rattle.tb_reading.proofs.Failing.{err_is, heads_fails}
+use Rattle.tb_tables.proofs.Causes.{failed_wants, faultless_first, faultless_next}
+use Rattle.tb_reading.proofs.Failing.{err_is, want_is, fault_of, heads_fails}
 use Rattle.tb_reading.proofs.Staying.{lasts, unchanged_holds, stopped_stays, refused_stays, then_holds}
 use Rattle.tb_reading.proofs.stream.heads.Goals as goal
 
@@ -184,7 +185,7 @@ pub returns-in_err-rows-clause-fails : goal.returns-in_err-rows-clause-fails
 returns-in_err-rows-clause-fails g c clean unlimited has =
     let told = err_from_is_err_and c.from_residual.result c.from_residual.ensures.1 in
     let refused = rw c.in_err-rows.was at c.query.follows.holds-at-none in
-    err_is _ told.0 _ told.1 told.2 (heads_fails (state g.S.Store c.args.conn.now) (state g.S.Store c.query.follows.lender-at-none) _ _ (refused.err clean) refl has unlimited)
+    err_is _ told.0 _ told.1 told.2 (fault_of (heads_fails (state g.S.Store c.args.conn.now) (state g.S.Store c.query.follows.lender-at-none) _ _ (refused.err clean) refl has unlimited))
 
 pub returns-in_err-row-clause-fails : goal.returns-in_err-row-clause-fails
 returns-in_err-row-clause-fails g c clean unlimited has =
@@ -196,4 +197,27 @@ returns-in_err-row-clause-fails g c clean unlimited has =
     let same : mid.now.schema ≡ desk_schema = ap (λ (d : Database). d.schema) was.1.0.now_is ∙ has in
     let told = err_from_is_err_and c.from_residual-in_err-row.result c.from_residual-in_err-row.ensures.1 in
     let failed = (rw c.in_err-row.was at (moved.err late)) select_heads [] (map head_shown c.rows.found.items) was.0 in
-    err_is _ told.0 _ told.1 told.2 (heads_fails mid now _ _ failed refl same (c.rows.invariant.1.limit ∙ unlimited))
+    err_is _ told.0 _ told.1 told.2 (fault_of (heads_fails mid now _ _ failed refl same (c.rows.invariant.1.limit ∙ unlimited)))
+
+pub returns-in_err-rows-clause-cause : goal.returns-in_err-rows-clause-cause
+returns-in_err-rows-clause-cause g c good clean unlimited has =
+    let told = err_from_is_err_and c.from_residual.result c.from_residual.ensures.1 in
+    let refused = rw c.in_err-rows.was at c.query.follows.holds-at-none in
+    want_is _ told.0 _ told.1 told.2 (failed_wants (state g.S.Store c.args.conn.now) (state g.S.Store c.query.follows.lender-at-none) good _ (heads_fails (state g.S.Store c.args.conn.now) (state g.S.Store c.query.follows.lender-at-none) _ _ (refused.err clean) refl has unlimited))
+
+pub returns-in_err-row-clause-cause : goal.returns-in_err-row-clause-cause
+returns-in_err-row-clause-cause g c good clean unlimited has =
+    let moved = c.next.follows.holds-at-none in
+    let old = state g.S.Store c.args.conn.now in
+    let mid = state g.S.Store c.rows.rows.conn.now in
+    let now = state g.S.Store c.next.follows.lender-at-none.conn.now in
+    let end = state g.S.Store c.conn-in_err-row-1.given.0 in
+    let late : HasCleanDisk now = search rules in
+    let early : HasCleanDisk mid = omega (arith, moved.survives.clean) in
+    let more : now.faults ≤ end.faults = search rules in
+    let here = faultless_next old mid now (faultless_first old now end good more) c.rows.invariant.1 early moved.survives.counts in
+    let was = c.rows.invariant.3 early has in
+    let same : mid.now.schema ≡ desk_schema = ap (λ (d : Database). d.schema) was.1.0.now_is ∙ has in
+    let told = err_from_is_err_and c.from_residual-in_err-row.result c.from_residual-in_err-row.ensures.1 in
+    let failed = (rw c.in_err-row.was at (moved.err late)) select_heads [] (map head_shown c.rows.found.items) was.0 in
+    want_is _ told.0 _ told.1 told.2 (failed_wants mid now here _ (heads_fails mid now _ _ failed refl same (c.rows.invariant.1.limit ∙ unlimited)))

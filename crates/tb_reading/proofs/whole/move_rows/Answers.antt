@@ -10,7 +10,8 @@ use Rattle.tb_reading.proofs.Queries.{select_moves, select_moves_is, select_move
 use Rattle.tb_reading.proofs.Ordered.{all_shown, by_order, keyed, first, IsFirst, first_in_order, rises, placed}
 use Rattle.tb_reading.proofs.Staying.{either_way, shown_stays, failed_stays, lasts, answered_sees}
 use Rattle.tb_reading.proofs.Shown.{if_ok, when_ok, shown_same, commits_nothing}
-use Rattle.tb_reading.proofs.Failing.{if_err, moves_fails}
+use Rattle.tb_reading.proofs.Failing.{if_err, fault_of, moves_fails}
+use Rattle.tb_tables.proofs.Causes.{failed_wants}
 use Rattle.tb_reading.proofs.whole.move_rows.Goals as goal
 
 pub returns-clause-same : goal.returns-clause-same
@@ -46,7 +47,11 @@ returns-clause-lasts g c = lasts select_moves _ (state g.S.Store c.args.conn.now
 
 pub returns-clause-fails : goal.returns-clause-fails
 returns-clause-fails g c clean unlimited has =
-    if_err c.query_all.result (c.query_all.ensures.err clean) (λ e failed. moves_fails (state g.S.Store c.args.conn.now) (state g.S.Store c.query_all.new.self) _ e failed (search rules) has unlimited)
+    if_err c.query_all.result (c.query_all.ensures.err clean) (λ e failed. fault_of (moves_fails (state g.S.Store c.args.conn.now) (state g.S.Store c.query_all.new.self) _ e failed (search rules) has unlimited))
+
+pub returns-clause-cause : goal.returns-clause-cause
+returns-clause-cause g c good clean unlimited has =
+    if_err c.query_all.result (c.query_all.ensures.err clean) (λ e failed. failed_wants (state g.S.Store c.args.conn.now) (state g.S.Store c.query_all.new.self) good e (moves_fails (state g.S.Store c.args.conn.now) (state g.S.Store c.query_all.new.self) _ e failed (search rules) has unlimited))
 
 pub returns-clause-sees : goal.returns-clause-sees
 returns-clause-sees g c clean opened has settled =

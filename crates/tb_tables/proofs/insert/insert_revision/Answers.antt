@@ -3,6 +3,7 @@ use Rattle.sqlite.specs.Held.{state}
 use Rattle.tb_tables.specs.Records.{Revision}
 use Rattle.tb_tables.proofs.Inside.{kept_by}
 use Rattle.tb_tables.proofs.Meaning.{puts_revision, stands_revision}
+use Rattle.tb_tables.proofs.Causes.{statement_needs_none, chosen_needs_none}
 use Rattle.tb_tables.proofs.insert.insert_revision.Goals as goal
 
 pub returns-in-Ok-clause-ok : goal.returns-in-Ok-clause-ok
@@ -36,3 +37,8 @@ returns-in-Err-clause-fails g c clean unlimited inside d stands unique =
     let ran = c.in-Err.ensures.runs clean inside.begun in
     let x : Revision = record { sent = c.args.sent; rev = c.args.rev; who = c.args.who.now; body = c.args.body.now } in
     chosen_fails c.in-Err.error c.of_chosen_rowid.result (revision_fails old new d x c.in-Err.error inside.schema unlimited stands unique (rw (c.params-to_sql.ensures, c.params-to_sql-2.ensures, c.params-to_sql-3.ensures, c.params-to_sql-4.ensures) at ran)) c.of_chosen_rowid.ensures
+
+pub returns-in-Err-clause-cause : goal.returns-in-Err-clause-cause
+returns-in-Err-clause-cause g c clean good =
+    let none = statement_needs_none g.S.Store c.args.tx.now.conn.now c.execute.new.self.conn.now good _ _ c.in-Err.error c.in-Err.is c.execute.ensures.ended (c.execute.ensures.runs clean) in
+    chosen_needs_none c.in-Err.error c.of_chosen_rowid.result none c.of_chosen_rowid.ensures

@@ -1,10 +1,11 @@
 use Rattle.std.proofs.Common.{not, filter, ◌==◌, subst, sym}
 use Rattle.std.proofs.lemmas.Result.{err_from_is_err_and}
-use Rattle.tb_tables.specs.Failing.{IsStoreFault}
+use Rattle.tb_tables.specs.Failing.{IsStoreFault, NeedsNoFault}
 use Rattle.tb_tables.proofs.Changing.{delete_fails}
 use Rattle.sqlite.specs.Held.{state}
 use Rattle.tb_tables.proofs.Inside.{kept_by}
 use Rattle.tb_tables.proofs.Meaning.{removes_pulled, deleted_pulled, stands_numbers}
+use Rattle.tb_tables.proofs.Causes.{handed_on, statement_needs_none}
 use Rattle.tb_tables.proofs.update.delete_pulled.Goals as goal
 
 pub returns-clause-ok : goal.returns-clause-ok
@@ -38,3 +39,8 @@ returns-in_err-execute-clause-fails g c clean unlimited inside d stands unique =
     let told = err_from_is_err_and c.from_residual.result c.from_residual.ensures.1 in
     let ran = c.in_err-execute.ensures.runs clean inside.begun in
     rw told.1 (subst IsStoreFault (sym told.2) (delete_fails old new d c.args.sent c.in_err-execute.field-0.0 inside.schema unlimited stands unique (rw c.params-to_sql.ensures at ran)))
+
+pub returns-in_err-execute-clause-cause : goal.returns-in_err-execute-clause-cause
+returns-in_err-execute-clause-cause g c clean good =
+    let none = statement_needs_none g.S.Store c.args.tx.now.conn.now c.execute.new.self.conn.now good _ _ c.in_err-execute.field-0.0 c.in_err-execute.was c.execute.ensures.ended (c.execute.ensures.runs clean) in
+    handed_on NeedsNoFault c.from_residual.result c.in_err-execute.field-0.0 c.from_residual.ensures.1 none

@@ -1,11 +1,12 @@
 use Rattle.std.proofs.Common.{◌-◌, arith, slice_set, subst, sym}
 use Rattle.std.proofs.lemmas.Result.{err_from_is_err_and}
-use Rattle.tb_tables.specs.Failing.{IsStoreFault}
+use Rattle.tb_tables.specs.Failing.{IsStoreFault, NeedsNoFault}
 use Rattle.tb_tables.proofs.Changing.{batch_fails}
 use Rattle.sqlite.specs.Held.{state}
 use Rattle.tb_tables.specs.Records.{Batch}
 use Rattle.tb_tables.proofs.Inside.{kept_by}
 use Rattle.tb_tables.proofs.Meaning.{sets_batch, stands_batches, updated_batch}
+use Rattle.tb_tables.proofs.Causes.{handed_on, statement_needs_none}
 use Rattle.tb_tables.proofs.update.update_batch.Goals as goal
 
 pub returns-clause-ok : goal.returns-clause-ok
@@ -41,3 +42,8 @@ returns-in_err-execute-clause-fails g c clean unlimited inside d stands unique =
     let ran = c.in_err-execute.ensures.runs clean inside.begun in
     let small = c.ranges.no.fits in
     rw told.1 (subst IsStoreFault (sym told.2) (batch_fails old new d c.args.no c.args.in_state c.args.worker.now c.in_err-execute.field-0.0 inside.schema unlimited stands c.requires.row (omega (arith, small)) unique (rw (c.params-to_sql.ensures, c.params-to_sql-2.ensures, c.params-to_sql-3.ensures) at ran)))
+
+pub returns-in_err-execute-clause-cause : goal.returns-in_err-execute-clause-cause
+returns-in_err-execute-clause-cause g c clean good =
+    let none = statement_needs_none g.S.Store c.args.tx.now.conn.now c.execute.new.self.conn.now good _ _ c.in_err-execute.field-0.0 c.in_err-execute.was c.execute.ensures.ended (c.execute.ensures.runs clean) in
+    handed_on NeedsNoFault c.from_residual.result c.in_err-execute.field-0.0 c.from_residual.ensures.1 none

@@ -7,9 +7,9 @@ use Rattle.tb_tables.specs.Commands.{after_correction}
 use Rattle.tb_tables.specs.Values.{move_of, total_of}
 use Rattle.tb_writing.proofs.Commands.{changes_then}
 use Rattle.tb_writing.proofs.Numbers.{follows_too}
-use Rattle.tb_tables.specs.Failing.{IsRoomFault}
+use Rattle.tb_tables.specs.Failing.{IsRoomFault, NeedsNoFaultOnRevisions}
 use Rattle.tb_writing.proofs.Apart.{unique_corrected}
-use Rattle.tb_writing.proofs.Failing.{handed_on}
+use Rattle.tb_writing.proofs.Failing.{handed_on, second_blames, both_survive}
 use Rattle.tb_writing.proofs.correcting.correct.Goals as goal
 
 pub returns-clause-ok : goal.returns-clause-ok
@@ -55,3 +55,13 @@ returns-in_err-record-clause-fails g c clean unlimited inside d s is follows sta
     let apart = unique_corrected written c.args.number s c.args.rev c.args.words is unique in
     let fault = c.in_err-record.ensures.fails clean free two.inside current (follows_too d current c.args.change.now refl refl follows) (two.stands (one.stands stands)) apart in
     handed_on IsRoomFault c.from_residual-in_err-record.result c.in_err-record.field-0.0 c.from_residual-in_err-record.ensures.1 (inl fault)
+
+pub returns-in_err-update_sentence-clause-cause : goal.returns-in_err-update_sentence-clause-cause
+returns-in_err-update_sentence-clause-cause g c clean good =
+    second_blames g.S.Store c.args.tx.now.conn.now c.insert_revision.new.tx.conn.now c.update_sentence.new.tx.conn.now NeedsNoFaultOnRevisions c.from_residual-in_err-update_sentence.result c.in_err-update_sentence.field-0.0 c.from_residual-in_err-update_sentence.ensures.1
+    c.insert_revision.ensures.survives c.update_sentence.ensures.survives (λ still whole. inl (c.in_err-update_sentence.ensures.cause still whole)) clean good
+
+pub returns-in_err-record-clause-cause : goal.returns-in_err-record-clause-cause
+returns-in_err-record-clause-cause g c clean good =
+    second_blames g.S.Store c.args.tx.now.conn.now c.update_sentence.new.tx.conn.now c.record.new.tx.conn.now NeedsNoFaultOnRevisions c.from_residual-in_err-record.result c.in_err-record.field-0.0 c.from_residual-in_err-record.ensures.1
+    (both_survive (state g.S.Store c.args.tx.now.conn.now) (state g.S.Store c.insert_revision.new.tx.conn.now) (state g.S.Store c.update_sentence.new.tx.conn.now) c.insert_revision.ensures.survives c.update_sentence.ensures.survives) c.record.ensures.survives (λ still whole. inl (c.in_err-record.ensures.cause still whole)) clean good

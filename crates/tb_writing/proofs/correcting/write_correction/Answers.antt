@@ -1,4 +1,5 @@
-use Rattle.std.proofs.Common.{◌≡◌, ◌-◌, Some, slice_get, arith, rules, sym, subst, IsTrue}
+use Rattle.tb_tables.specs.Leaving.{IsFaultless}
+use Rattle.std.proofs.Common.{◌≡◌, ◌-◌, Some, slice_get, arith, rules, sym, subst, IsTrue, inl, ◌≤◌}
 use Rattle.sqlite.specs.Tree.{Trees}
 use Rattle.sqlite.specs.State.{HasCleanDisk, Survives}
 use Rattle.sqlite.specs.Held.{state}
@@ -8,8 +9,8 @@ use Rattle.tb_tables.specs.Commands.{after_correction}
 use Rattle.tb_tables.specs.Values.{move_of, total_of}
 use Rattle.tb_writing.specs.Premises.{Follows}
 use Rattle.tb_writing.proofs.Commands.{on_err, begins_inside, committed_holds, failed_holds, command_survives}
-use Rattle.tb_tables.specs.Failing.{IsRoomFault}
-use Rattle.tb_writing.proofs.Failing.{handed_on, begins_unlimited}
+use Rattle.tb_tables.specs.Failing.{IsRoomFault, NeedsNoFaultOnRevisions}
+use Rattle.tb_writing.proofs.Failing.{handed_on, begins_unlimited, inside_blames, commit_blames}
 use Rattle.tb_writing.proofs.correcting.write_correction.Goals as goal
 
 pub returns-clause-ok : goal.returns-clause-ok
@@ -83,3 +84,23 @@ returns-in_err-correct-clause-fails g c clean unlimited d holds s is follows uni
     let free = begins_unlimited g.S.Store old begun c.transaction-tx.ensures.begun unlimited in
     let fault = c.in_err-correct.ensures.fails was free start.0 d s is follows start.1 unique in
     handed_on IsRoomFault c.from_residual.result c.in_err-correct.field-0.0 c.from_residual.ensures.1 fault
+
+pub returns-in_err-correct-clause-cause : goal.returns-in_err-correct-clause-cause
+returns-in_err-correct-clause-cause g c clean good =
+    let last = c.correct.new.tx.conn.now in
+    let end = c.conn-1.given.0 in
+    let was : HasCleanDisk (state g.S.Store last) = search rules in
+    let more : (state g.S.Store last).faults ≤ (state g.S.Store end).faults = search rules in
+    inside_blames g.S.Store c.args.conn.now c.transaction-tx.result.conn.now last end c.transaction-tx.ensures.begun NeedsNoFaultOnRevisions c.from_residual.result c.in_err-correct.field-0.0 c.from_residual.ensures.1
+    (λ whole. c.in_err-correct.ensures.cause was whole) more good
+
+pub returns-in_err-commit-clause-cause : goal.returns-in_err-commit-clause-cause
+returns-in_err-commit-clause-cause g c clean good =
+    let old = c.args.conn.now in
+    let last = c.correct.new.tx.conn.now in
+    let end = c.commit.new.self.0 in
+    let same : end ≡ c.conn-2-1.given.0 = search rules in
+    let late : HasCleanDisk (state g.S.Store end) = search rules in
+    let whole = subst (IsFaultless g.S.Store old) (sym same) good in
+    commit_blames g.S.Store old c.transaction-tx.result.conn.now last end c.transaction-tx.ensures.begun NeedsNoFaultOnRevisions c.from_residual-in_err-commit.result c.in_err-commit.field-0.0 c.from_residual-in_err-commit.ensures.1
+    inl c.correct.ensures.survives c.commit.ensures.survives (c.in_err-commit.ensures.err late) late whole

@@ -8,9 +8,9 @@ use Rattle.tb_tables.specs.Values.{move_of, total_of}
 use Rattle.tb_writing.proofs.Commands.{changes_then}
 use Rattle.tb_writing.proofs.Numbers.{items_keep, follows_too}
 use Rattle.tb_writing.proofs.importing.import.Goals as goal
-use Rattle.tb_tables.specs.Failing.{IsRoomFault, AreUnique}
+use Rattle.tb_tables.specs.Failing.{IsRoomFault, AreUnique, NeedsNoFaultOnRevisions}
 use Rattle.tb_writing.proofs.Apart.{unique_unrecorded}
-use Rattle.tb_writing.proofs.Failing.{handed_on}
+use Rattle.tb_writing.proofs.Failing.{handed_on, second_blames}
 
 pub returns-clause-ok : goal.returns-clause-ok
 returns-clause-ok g c clean inside d number first follows stands =
@@ -53,3 +53,8 @@ returns-in_err-record-clause-fails g c clean unlimited inside d stands number fi
     let free = c.insert_file.ensures.survives.limit ∙ unlimited in
     let fault = c.in_err-record.ensures.fails clean free one.inside between (follows_too d between change kept.0 kept.1 follows) (one.stands stands) apart in
     handed_on IsRoomFault c.from_residual-in_err-record.result c.in_err-record.field-0.0 c.from_residual-in_err-record.ensures.1 (inl fault)
+
+pub returns-in_err-record-clause-cause : goal.returns-in_err-record-clause-cause
+returns-in_err-record-clause-cause g c clean good =
+    second_blames g.S.Store c.args.tx.now.conn.now c.insert_file.new.tx.conn.now c.record.new.tx.conn.now NeedsNoFaultOnRevisions c.from_residual-in_err-record.result c.in_err-record.field-0.0 c.from_residual-in_err-record.ensures.1
+    c.insert_file.ensures.survives c.record.ensures.survives (λ still whole. inl (c.in_err-record.ensures.cause still whole)) clean good

@@ -5,9 +5,9 @@ use Rattle.tb_tables.specs.Changes.{with_batch}
 use Rattle.tb_tables.specs.Commands.{with_items}
 use Rattle.tb_writing.proofs.Commands.{changes_then}
 use Rattle.tb_writing.proofs.importing.insert_file.Goals as goal
-use Rattle.tb_tables.specs.Failing.{IsRoomFault}
+use Rattle.tb_tables.specs.Failing.{IsRoomFault, NeedsNoFaultOnRevisions}
 use Rattle.tb_writing.proofs.Apart.{unique_before}
-use Rattle.tb_writing.proofs.Failing.{handed_on}
+use Rattle.tb_writing.proofs.Failing.{handed_on, second_blames}
 
 pub returns-clause-ok : goal.returns-clause-ok
 returns-clause-ok g c clean inside d number first =
@@ -26,3 +26,11 @@ returns-in_err-insert_batch-clause-fails g c clean unlimited inside d stands num
     let apart = unique_before c.args.number c.args.who.now opened c.args.items.now unique in
     let fault = c.in_err-insert_batch.ensures.fails clean unlimited inside d stands number apart in
     handed_on IsRoomFault c.from_residual.result c.in_err-insert_batch.field-0.0 c.from_residual.ensures.1 (inl fault)
+
+pub returns-in_err-insert_batch-clause-cause : goal.returns-in_err-insert_batch-clause-cause
+returns-in_err-insert_batch-clause-cause g c clean good = handed_on NeedsNoFaultOnRevisions c.from_residual.result c.in_err-insert_batch.field-0.0 c.from_residual.ensures.1 (inl (c.in_err-insert_batch.ensures.cause clean good))
+
+pub returns-in_err-insert_items-clause-cause : goal.returns-in_err-insert_items-clause-cause
+returns-in_err-insert_items-clause-cause g c clean good =
+    second_blames g.S.Store c.args.tx.now.conn.now c.insert_batch.new.tx.conn.now c.insert_items.new.tx.conn.now NeedsNoFaultOnRevisions c.from_residual-in_err-insert_items.result c.in_err-insert_items.field-0.0 c.from_residual-in_err-insert_items.ensures.1
+    c.insert_batch.ensures.survives c.insert_items.ensures.survives c.in_err-insert_items.ensures.cause clean good

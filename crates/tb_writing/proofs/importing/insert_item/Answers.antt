@@ -6,9 +6,9 @@ use Rattle.tb_tables.specs.Changes.{Changes, with_sentence, with_revision}
 use Rattle.tb_tables.specs.Commands.{Item, with_item}
 use Rattle.tb_writing.proofs.Commands.{changes_then}
 use Rattle.tb_writing.proofs.importing.insert_item.Goals as goal
-use Rattle.tb_tables.specs.Failing.{IsRoomFault, AreUnique}
+use Rattle.tb_tables.specs.Failing.{IsRoomFault, AreUnique, NeedsNoFaultOnRevisions}
 use Rattle.tb_writing.proofs.Apart.{unique_sentence}
-use Rattle.tb_writing.proofs.Failing.{handed_on}
+use Rattle.tb_writing.proofs.Failing.{handed_on, second_blames}
 
 pub returns-clause-ok : goal.returns-clause-ok
 returns-clause-ok g c clean inside d at =
@@ -49,3 +49,11 @@ returns-in_err-insert_revision-clause-fails g c clean unlimited inside d stands 
     let free = c.insert_sentence.ensures.survives.limit ∙ unlimited in
     let fault = c.in_err-insert_revision.ensures.fails clean free one.inside between (one.stands stands) apart in
     handed_on IsRoomFault c.from_residual-in_err-insert_revision.result c.in_err-insert_revision.field-0.0 c.from_residual-in_err-insert_revision.ensures.1 fault
+
+pub returns-in_err-insert_sentence-clause-cause : goal.returns-in_err-insert_sentence-clause-cause
+returns-in_err-insert_sentence-clause-cause g c clean good = handed_on NeedsNoFaultOnRevisions c.from_residual.result c.in_err-insert_sentence.field-0.0 c.from_residual.ensures.1 (inl (c.in_err-insert_sentence.ensures.cause clean good))
+
+pub returns-in_err-insert_revision-clause-cause : goal.returns-in_err-insert_revision-clause-cause
+returns-in_err-insert_revision-clause-cause g c clean good =
+    second_blames g.S.Store c.args.tx.now.conn.now c.insert_sentence.new.tx.conn.now c.insert_revision.new.tx.conn.now NeedsNoFaultOnRevisions c.from_residual-in_err-insert_revision.result c.in_err-insert_revision.field-0.0 c.from_residual-in_err-insert_revision.ensures.1
+    c.insert_sentence.ensures.survives c.insert_revision.ensures.survives c.in_err-insert_revision.ensures.cause clean good

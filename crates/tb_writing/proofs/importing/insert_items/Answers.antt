@@ -8,9 +8,9 @@ use Rattle.tb_tables.specs.Commands.{with_item, with_items}
 use Rattle.tb_writing.proofs.Commands.{kept_then, changes_then}
 use Rattle.tb_writing.proofs.Numbers.{one_longer, one_more}
 use Rattle.tb_writing.proofs.importing.insert_items.Goals as goal
-use Rattle.tb_tables.specs.Failing.{IsRoomFault}
+use Rattle.tb_tables.specs.Failing.{IsRoomFault, NeedsNoFaultOnRevisions}
 use Rattle.tb_writing.proofs.Apart.{unique_so_far}
-use Rattle.tb_writing.proofs.Failing.{handed_on}
+use Rattle.tb_writing.proofs.Failing.{handed_on, second_blames}
 
 pub loop-item-preserved : goal.loop-item-preserved
 loop-item-preserved g c =
@@ -59,3 +59,8 @@ returns-in_err-insert_item-clause-fails g c clean unlimited inside d stands firs
     let free = inv.1.limit ∙ unlimited in
     let fault = c.in_err-insert_item.ensures.fails clean free far.0 done (went.0.stands stands) went.1 apart in
     handed_on IsRoomFault c.from_residual.result c.in_err-insert_item.field-0.0 c.from_residual.ensures.1 fault
+
+pub returns-in_err-insert_item-clause-cause : goal.returns-in_err-insert_item-clause-cause
+returns-in_err-insert_item-clause-cause g c clean good =
+    second_blames g.S.Store c.args.tx.now.conn.now c.loop-item.tx.conn.now c.insert_item.new.tx.conn.now NeedsNoFaultOnRevisions c.from_residual.result c.in_err-insert_item.field-0.0 c.from_residual.ensures.1
+    c.loop-item.invariant.1 c.insert_item.ensures.survives c.in_err-insert_item.ensures.cause clean good

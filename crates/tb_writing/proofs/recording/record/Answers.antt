@@ -6,9 +6,9 @@ use Rattle.tb_tables.specs.Commands.{with_total}
 use Rattle.tb_tables.specs.Values.{move_of, total_of}
 use Rattle.tb_writing.proofs.Commands.{changes_then}
 use Rattle.tb_writing.proofs.Numbers.{total_count}
-use Rattle.tb_tables.specs.Failing.{IsStoreFault}
+use Rattle.tb_tables.specs.Failing.{IsStoreFault, NeedsNoFault}
 use Rattle.tb_writing.proofs.Apart.{unique_moved, unique_total}
-use Rattle.tb_writing.proofs.Failing.{handed_on}
+use Rattle.tb_writing.proofs.Failing.{handed_on, second_blames, both_survive}
 use Rattle.tb_writing.proofs.recording.record.Goals as goal
 
 pub returns-clause-ok : goal.returns-clause-ok
@@ -56,3 +56,13 @@ returns-in_err-write_total-2-clause-fails g c clean unlimited inside d follows s
     let apart = unique_total moved change.row.from (total_of change.left) (unique_moved d _ unique) in
     let fault = c.in_err-write_total-2.ensures.fails clean free two.inside left (two.stands (one.stands stands)) apart in
     handed_on IsStoreFault c.from_residual-in_err-write_total-2.result c.in_err-write_total-2.field-0.0 c.from_residual-in_err-write_total-2.ensures.1 fault
+
+pub returns-in_err-write_total-clause-cause : goal.returns-in_err-write_total-clause-cause
+returns-in_err-write_total-clause-cause g c clean good =
+    second_blames g.S.Store c.args.tx.now.conn.now c.insert_move.new.tx.conn.now c.write_total.new.tx.conn.now NeedsNoFault c.from_residual-in_err-write_total.result c.in_err-write_total.field-0.0 c.from_residual-in_err-write_total.ensures.1
+    c.insert_move.ensures.survives c.write_total.ensures.survives c.in_err-write_total.ensures.cause clean good
+
+pub returns-in_err-write_total-2-clause-cause : goal.returns-in_err-write_total-2-clause-cause
+returns-in_err-write_total-2-clause-cause g c clean good =
+    second_blames g.S.Store c.args.tx.now.conn.now c.write_total.new.tx.conn.now c.write_total-2.new.tx.conn.now NeedsNoFault c.from_residual-in_err-write_total-2.result c.in_err-write_total-2.field-0.0 c.from_residual-in_err-write_total-2.ensures.1
+    (both_survive (state g.S.Store c.args.tx.now.conn.now) (state g.S.Store c.insert_move.new.tx.conn.now) (state g.S.Store c.write_total.new.tx.conn.now) c.insert_move.ensures.survives c.write_total.ensures.survives) c.write_total-2.ensures.survives c.in_err-write_total-2.ensures.cause clean good

@@ -6,9 +6,9 @@ use Rattle.tb_tables.specs.Commands.{after_event}
 use Rattle.tb_tables.specs.Values.{move_of, total_of}
 use Rattle.tb_writing.proofs.Commands.{changes_then}
 use Rattle.tb_writing.proofs.Numbers.{follows_too}
-use Rattle.tb_tables.specs.Failing.{IsStoreFault}
+use Rattle.tb_tables.specs.Failing.{IsStoreFault, NeedsNoFault}
 use Rattle.tb_writing.proofs.Apart.{unique_stepped}
-use Rattle.tb_writing.proofs.Failing.{handed_on}
+use Rattle.tb_writing.proofs.Failing.{handed_on, second_blames}
 use Rattle.tb_writing.proofs.stepping.step.Goals as goal
 
 pub returns-clause-ok : goal.returns-clause-ok
@@ -32,3 +32,8 @@ returns-in_err-record-clause-fails g c clean unlimited inside d b is follows sta
     let free = c.update_batch.ensures.survives.limit ∙ unlimited in
     let fault = c.in_err-record.ensures.fails clean free one.inside between (follows_too d between c.args.change.now refl refl follows) (one.stands stands) (unique_stepped d c.args.number b c.args.in_state c.args.worker.now is unique) in
     handed_on IsStoreFault c.from_residual-in_err-record.result c.in_err-record.field-0.0 c.from_residual-in_err-record.ensures.1 fault
+
+pub returns-in_err-record-clause-cause : goal.returns-in_err-record-clause-cause
+returns-in_err-record-clause-cause g c clean good =
+    second_blames g.S.Store c.args.tx.now.conn.now c.update_batch.new.tx.conn.now c.record.new.tx.conn.now NeedsNoFault c.from_residual-in_err-record.result c.in_err-record.field-0.0 c.from_residual-in_err-record.ensures.1
+    c.update_batch.ensures.survives c.record.ensures.survives c.in_err-record.ensures.cause clean good

@@ -1,4 +1,7 @@
-use Rattle.std.proofs.Common.{◌≡◌, ◌-◌, Some, slice_get, arith, rules, sym, subst, IsTrue}
+use Rattle.tb_tables.specs.Leaving.{IsFaultless}
+use Rattle.tb_tables.specs.Failing.{NeedsNoFault}
+use Rattle.tb_writing.proofs.Failing.{inside_blames, commit_blames}
+use Rattle.std.proofs.Common.{◌≡◌, ◌-◌, Some, slice_get, arith, rules, sym, subst, IsTrue, ◌≤◌}
 use Rattle.sqlite.specs.Tree.{Trees}
 use Rattle.sqlite.specs.State.{HasCleanDisk, Survives}
 use Rattle.sqlite.specs.Held.{state}
@@ -71,3 +74,23 @@ returns-in_err-commit-clause-crash g c =
     (c.in_ok-step.ensures.ok was start.0 d b is follows start.1).stands start.1 in
     subst (λ h. Survives (state g.S.Store old) (state g.S.Store h) P) same
     (command_survives g.S.Store old begun last end c.transaction-tx.ensures.begun P c.step.ensures.survives c.commit.ensures.survives written)
+
+pub returns-in_err-step-clause-cause : goal.returns-in_err-step-clause-cause
+returns-in_err-step-clause-cause g c clean good =
+    let last = c.step.new.tx.conn.now in
+    let end = c.conn-1.given.0 in
+    let was : HasCleanDisk (state g.S.Store last) = search rules in
+    let more : (state g.S.Store last).faults ≤ (state g.S.Store end).faults = search rules in
+    inside_blames g.S.Store c.args.conn.now c.transaction-tx.result.conn.now last end c.transaction-tx.ensures.begun NeedsNoFault c.from_residual.result c.in_err-step.field-0.0 c.from_residual.ensures.1
+    (λ whole. c.in_err-step.ensures.cause was whole) more good
+
+pub returns-in_err-commit-clause-cause : goal.returns-in_err-commit-clause-cause
+returns-in_err-commit-clause-cause g c clean good =
+    let old = c.args.conn.now in
+    let last = c.step.new.tx.conn.now in
+    let end = c.commit.new.self.0 in
+    let same : end ≡ c.conn-2-1.given.0 = search rules in
+    let late : HasCleanDisk (state g.S.Store end) = search rules in
+    let whole = subst (IsFaultless g.S.Store old) (sym same) good in
+    commit_blames g.S.Store old c.transaction-tx.result.conn.now last end c.transaction-tx.ensures.begun NeedsNoFault c.from_residual-in_err-commit.result c.in_err-commit.field-0.0 c.from_residual-in_err-commit.ensures.1
+    (λ none. none) c.step.ensures.survives c.commit.ensures.survives (c.in_err-commit.ensures.err late) late whole

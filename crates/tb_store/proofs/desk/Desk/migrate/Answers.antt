@@ -46,3 +46,6 @@ pub returns-in-Err-clause-crash_on_the_way : goal.returns-in-Err-clause-crash_on
 returns-in-Err-clause-crash_on_the_way g c =
     let there = survives_unlimited g.S.Store c.args.conn c.without_limit-conn.result c.migrate.new.conn c.without_limit-conn.ensures c.migrate.ensures.crash in
     subst (λ h. Survives (state g.S.Store h) (state g.S.Store c.migrate.new.conn) (LeavesDesk g.S.Store c.args.conn)) c.without_limit-conn.ensures there
+
+pub returns-in-Err-clause-limit_off : goal.returns-in-Err-clause-limit_off
+returns-in-Err-clause-limit_off g c = c.migrate.ensures.crash.limit ∙ ap (λ h. (state g.S.Store h).step_limit) c.without_limit-conn.ensures

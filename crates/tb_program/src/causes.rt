@@ -1,0 +1,324 @@
+//! Why the program does not do what it was asked, in words: each cause has one sentence, and all of them stand here.
+
+use std::fmt::{self, Display, Formatter};
+use std::io::{self, ErrorKind};
+use tb_http::Reply;
+
+/// Why no desk is opened or made in a file.
+#[derive(Clone, Copy)]
+pub enum FileCause {
+    Missing,
+    NoFolder,
+    Folder,
+    NotPlain,
+    ReservedName,
+    Denied,
+    ReadOnly,
+    Unopened,
+    SecondName,
+    NotSqlite,
+    Empty,
+    OtherDatabase,
+    Version1,
+    Version2,
+    DeskAlready,
+    NotBlank,
+    OtherLog,
+    OddLog,
+    Journal,
+    Rows,
+    Damaged,
+    Busy,
+    Full,
+    Quota,
+    Failed,
+    NoRandom,
+    Memory,
+}
+
+impl FileCause {
+    /// What is told of a file that the system refuses.
+    pub(crate) fn of_system(error: io::Error) -> FileCause {
+        match error.kind() {
+            ErrorKind::OutOfMemory => FileCause::Memory,
+            ErrorKind::StorageFull => FileCause::Full,
+            ErrorKind::QuotaExceeded => FileCause::Quota,
+            ErrorKind::Uncategorized => FileCause::Failed,
+            ErrorKind::NotFound => FileCause::Missing,
+            ErrorKind::NotADirectory => FileCause::NoFolder,
+            ErrorKind::IsADirectory => FileCause::Folder,
+            ErrorKind::PermissionDenied => FileCause::Denied,
+            ErrorKind::ReadOnlyFilesystem => FileCause::ReadOnly,
+            // (so the database refuses a file with two names, and a link in the place of its log)
+            ErrorKind::Unsupported => FileCause::SecondName,
+            _ => FileCause::Unopened,
+        }
+    }
+
+    /// The same of a file that is to be made: then its folder is missing.
+    pub(crate) fn of_new(self) -> FileCause {
+        match self {
+            FileCause::Missing => FileCause::NoFolder,
+            other => other,
+        }
+    }
+
+    /// The line that is printed: that memory or a device fails, or that this is no desk.
+    pub(crate) fn reply(self) -> Reply {
+        match self {
+            FileCause::Memory => Reply::Memory,
+            FileCause::Busy
+            | FileCause::Full
+            | FileCause::Quota
+            | FileCause::Failed
+            | FileCause::NoRandom => Reply::Device,
+            _ => Reply::Desk,
+        }
+    }
+
+    /// Whether the file is no desk, so that it is left as it was.
+    pub(crate) fn is_no_desk(self) -> bool {
+        matches!(self.reply(), Reply::Desk)
+    }
+
+    fn text(self) -> &'static str {
+        match self {
+            FileCause::Missing => "there is no such file; `new` makes a desk",
+            FileCause::NoFolder =>
+                "the folder of this file is missing, or is no folder; make it first",
+            FileCause::Folder => "this is a folder; name the file of a desk in it",
+            FileCause::NotPlain => "this is no plain file; name the file of a desk",
+            FileCause::ReservedName =>
+                "SQLite gives this name a meaning of its own; choose another one",
+            FileCause::Denied =>
+                "you may not read and write it, or its folder; a desk needs both, also to be read",
+            FileCause::ReadOnly =>
+                "it stands where nothing may be written; copy it to another disk",
+            FileCause::Unopened =>
+                "the system does not open a file of this name; choose another one",
+            FileCause::SecondName =>
+                "it has two names, or a link lies in its place or its log's; copy it to a name of its own",
+            FileCause::NotSqlite =>
+                "this is not an SQLite file, so it is no desk; name the file that `new` made",
+            FileCause::Empty => "the file is empty; `new` makes a desk in it",
+            FileCause::OtherDatabase =>
+                "this is an SQLite database of something else; name the file that `new` made",
+            FileCause::Version1 => "this is a desk of version 1; `migrate` brings it to version 2",
+            FileCause::Version2 => "this has the tables of version 2; there is nothing to migrate",
+            FileCause::DeskAlready =>
+                "here is a desk already; work on it without `new`, or name another file",
+            FileCause::NotBlank =>
+                "the file holds something already; `new` takes a missing or an empty one",
+            FileCause::OtherLog =>
+                "beside it, under its name with -wal, lies what was done on another desk; move that away",
+            FileCause::OddLog =>
+                "under its name with -wal lies no plain file, but its log belongs there; move that away",
+            FileCause::Journal =>
+                "another program left a journal beside it, its name with -journal; open it once with sqlite3",
+            FileCause::Rows =>
+                "its rows are not a desk's; another program changed it, or its log is another's; take a copy back",
+            FileCause::Damaged =>
+                "SQLite cannot read it, it is damaged or cut; take a copy back, with its log",
+            FileCause::Busy =>
+                "another command has had it for two seconds; try again once that has ended",
+            FileCause::Full => "the disk is full; make room and try again",
+            FileCause::Quota => "your share of the disk is used up; make room and try again",
+            FileCause::Failed => "the system failed to read or write it; look after the disk",
+            FileCause::NoRandom =>
+                "the system gives no random numbers, which a desk needs; try again",
+            FileCause::Memory =>
+                "the system gives no more memory; end other programs and try again",
+        }
+    }
+}
+
+/// What a value on the command line is to be.
+#[derive(Clone, Copy)]
+pub enum Form {
+    Batch,
+    Event,
+    Number,
+    Base,
+    Strategy,
+    Context,
+    Attribute,
+    Port,
+    Requests,
+}
+
+impl Form {
+    /// Whether a text is of this form.
+    pub(crate) fn takes(self, text: &str) -> bool {
+        match self {
+            Form::Batch => !text.is_empty() && !text.contains('/'),
+            Form::Event => tb_http::event_of(text).is_some(),
+            Form::Number => tb_http::number_of(text).is_some(),
+            Form::Base => tb_http::base_of(text).is_some(),
+            Form::Strategy => tb_http::strategy_of(text).is_some(),
+            Form::Context => tb_http::context_of(text).is_some(),
+            Form::Attribute => tb_http::attribute_of(text).is_some(),
+            Form::Port => tb_http::port_of(text).is_some(),
+            Form::Requests => tb_http::requests_of(text).is_some(),
+        }
+    }
+
+    fn text(self) -> &'static str {
+        match self {
+            Form::Batch => "the name of a batch is not empty and has no slash",
+            Form::Event =>
+                "write assign, unassign, submit, send-back, adjudicate, release, withdraw or reopen",
+            Form::Number =>
+                "write a number of 1 to 10 digits, the first not 0; a sent_id cannot stand here",
+            Form::Base => "write the number of the revision that was corrected",
+            Form::Strategy => "write shortest, longest or every",
+            Form::Context => "write a number of words from 0 to 20",
+            Form::Attribute => "write word, lemma, upos, xpos, feats or deprel",
+            Form::Port => "write a port from 0 to 65535; 0 lets the system choose one",
+            Form::Requests => "write a number of 1 to 10 digits",
+        }
+    }
+}
+
+/// Why a port cannot be listened on.
+#[derive(Clone, Copy)]
+pub enum PortCause {
+    Taken,
+    Denied,
+    Failed,
+}
+
+impl PortCause {
+    pub(crate) fn of_system(error: io::Error) -> PortCause {
+        match error.kind() {
+            ErrorKind::AddrInUse => PortCause::Taken,
+            ErrorKind::PermissionDenied => PortCause::Denied,
+            _ => PortCause::Failed,
+        }
+    }
+
+    fn text(self) -> &'static str {
+        match self {
+            PortCause::Taken =>
+                "another program listens on it; choose another port, or 0 for a free one",
+            PortCause::Denied =>
+                "you may not listen on it; choose a port from 1024 on, or 0 for a free one",
+            PortCause::Failed =>
+                "the system does not let a program listen on it; choose another port",
+        }
+    }
+}
+
+/// Why a standard stream gives or takes no more.
+#[derive(Clone, Copy)]
+pub enum StreamCause {
+    InputClosed,
+    InputFolder,
+    InputFailed,
+    OutputClosed,
+    OutputPipe,
+    OutputFull,
+    OutputQuota,
+    OutputTooLarge,
+    OutputFailed,
+}
+
+impl StreamCause {
+    /// What is told of an input that failed so.
+    pub fn of_input(kind: ErrorKind) -> StreamCause {
+        match kind {
+            ErrorKind::IsADirectory => StreamCause::InputFolder,
+            _ => StreamCause::InputFailed,
+        }
+    }
+
+    /// What is told of an output that failed so.
+    pub fn of_output(kind: ErrorKind) -> StreamCause {
+        match kind {
+            ErrorKind::BrokenPipe => StreamCause::OutputPipe,
+            ErrorKind::StorageFull => StreamCause::OutputFull,
+            ErrorKind::QuotaExceeded => StreamCause::OutputQuota,
+            ErrorKind::FileTooLarge => StreamCause::OutputTooLarge,
+            _ => StreamCause::OutputFailed,
+        }
+    }
+
+    fn text(self) -> &'static str {
+        match self {
+            StreamCause::InputClosed =>
+                "standard input: it is closed, so nothing was read; give a file by `< FILE`",
+            StreamCause::InputFolder => "standard input: it is a folder; give a file by `< FILE`",
+            StreamCause::InputFailed =>
+                "standard input: the system failed to read it; nothing was done",
+            StreamCause::OutputClosed =>
+                "standard output: it is closed, so the answer is lost; ask again",
+            StreamCause::OutputPipe =>
+                "standard output: its reader closed the pipe before the end of the answer",
+            StreamCause::OutputFull =>
+                "standard output: the disk is full, so the answer is not whole; make room and ask again",
+            StreamCause::OutputQuota =>
+                "standard output: your share of the disk is used up, the answer is not whole; make room, ask again",
+            StreamCause::OutputTooLarge =>
+                "standard output: the file may not grow so large, so the answer is not whole",
+            StreamCause::OutputFailed =>
+                "standard output: the system failed to write it, so the answer is not whole",
+        }
+    }
+}
+
+/// Why a command was not done, or what else is to be known of it.
+#[derive(Clone, Copy)]
+pub enum Cause {
+    File(FileCause),
+    Value(Form),
+    Port(PortCause),
+    Stream(StreamCause),
+    /// No command stands on the line.
+    NoCommand,
+    /// A word of the line is not text.
+    NotText,
+    /// A server ended: the desk's files are no longer where they were.
+    FilesMoved,
+    /// A server ended: a fault has shut the desk's file.
+    FileShut,
+    /// A server ended: no more connections came to it.
+    NoConnections,
+    /// The answer has no last line, and the output took all that came.
+    BrokenOff,
+    /// The system gave no memory before a command began.
+    Memory,
+    /// A command was done on a desk in memory.
+    NothingKept,
+    /// A desk in memory is served.
+    NothingWillBeKept,
+}
+
+impl Cause {
+    fn text(self) -> &'static str {
+        match self {
+            Cause::File(cause) => cause.text(),
+            Cause::Value(form) => form.text(),
+            Cause::Port(cause) => cause.text(),
+            Cause::Stream(cause) => cause.text(),
+            Cause::NoCommand => "no command is given; `treedesk --help` lists them",
+            Cause::NotText => "a word of the command line is not UTF-8; write it anew",
+            Cause::FilesMoved =>
+                "serving ended: the desk's files were moved, removed or replaced; serve the file that is meant",
+            Cause::FileShut =>
+                "serving ended: a fault of the device shut the desk's file; look after the disk and serve it again",
+            Cause::NoConnections => "serving ended: the system gave no more connections",
+            Cause::BrokenOff =>
+                "the answer broke off, as memory was wanting or the desk's file could not be read; ask again",
+            Cause::Memory => "the system gives no more memory; end other programs and try again",
+            Cause::NothingKept =>
+                "nothing is kept: without --db the desk was in memory, for this command alone",
+            Cause::NothingWillBeKept =>
+                "without --db the desk is in memory; what is sent to it is gone when the server ends",
+        }
+    }
+}
+
+impl Display for Cause {
+    fn fmt<W: fmt::Write>(&self, f: &mut Formatter<W>) -> fmt::Result {
+        f.write_str(self.text())
+    }
+}

@@ -1,0 +1,33 @@
+-- What a call leaves of a connection that it was given. What is said of tables is under a disk that kept what it took
+-- (`HasCleanDisk`).
+use Rattle.std.specs.Prelude.{◌≡◌, IsTrue}
+use Rattle.sqlite.specs.Store.{Ghosts}
+use Rattle.sqlite.specs.Held.{Held, state}
+use Rattle.sqlite.specs.State.{HasCleanDisk}
+use Rattle.tb_core.specs.declared.refusals.Fault.{Fault}
+use Rattle.tb_core.specs.declared.refusals.Fault.TheVariants.{Memory}
+use Rattle.tb_core.specs.Machine.{Machine}
+use Rattle.tb_tables.specs.Making.{IsBlank}
+use Rattle.tb_standing.specs.Standing.{IsDesk}
+
+-- want of memory is told only where the store is open
+abbrev pub IsOpenOnMemory : {S : Type 0} → Ghosts S → Held S → Fault → Type 0
+IsOpenOnMemory g new fault = HasCleanDisk (state g new) → fault ≡ Memory → IsTrue (state g new).is_open
+
+-- a store that is open was open before
+abbrev pub WasOpen : {S : Type 0} → Ghosts S → (old new : Held S) → Type 0
+WasOpen g old new = HasCleanDisk (state g new) → IsTrue (state g new).is_open → IsTrue (state g old).is_open
+
+-- while the store is open, the connection sees what it saw
+abbrev pub SeesTheSame : {S : Type 0} → Ghosts S → (old new : Held S) → Type 0
+SeesTheSame g old new =
+    HasCleanDisk (state g new) → IsTrue (state g new).is_open → (state g new).now ≡ (state g old).now
+
+-- while the store is open, it is the desk of each state of which it was
+abbrev pub StaysADesk : {S : Type 0} → Ghosts S → (old new : Held S) → Type 0
+StaysADesk g old new =
+    HasCleanDisk (state g new) → IsTrue (state g new).is_open → (s : Machine) → IsDesk g old s → IsDesk g new s
+
+-- while the store is open, it is as blank as before
+abbrev pub StaysBlank : {S : Type 0} → Ghosts S → (old new : Held S) → Type 0
+StaysBlank g old new = HasCleanDisk (state g new) → IsTrue (state g new).is_open → IsBlank g old → IsBlank g new
