@@ -1,8 +1,9 @@
 -- What a command of a user is answered over a connection, as a line, and what it leaves.
-use Rattle.std.specs.Prelude.{◌≡◌, ◌⊎◌, IsTrue}
+use Rattle.std.specs.Prelude.{◌≡◌, ◌≢◌, ◌⊎◌, IsTrue}
 use Rattle.sqlite.specs.Store.{Ghosts}
 use Rattle.sqlite.specs.Held.{state}
 use Rattle.tb_core.specs.declared.limits.Limits.{Limits}
+use Rattle.tb_core.specs.declared.refusals.Refusal.{Refusal}
 use Rattle.tb_core.specs.declared.refusals.Fault.{Fault}
 use Rattle.tb_core.specs.declared.refusals.Fault.TheVariants.{Refused, Memory, Device, NotADesk, Output}
 use Rattle.tb_core.specs.Machine.{Machine}
@@ -29,6 +30,10 @@ reply_for_fault Memory = reply.Memory
 reply_for_fault Device = reply.Device
 reply_for_fault NotADesk = reply.Desk
 reply_for_fault Output = reply.Device
+
+-- a fault that tells no refusal of the machine's
+abbrev pub IsNoRefusal : Fault → Type 0
+IsNoRefusal fault = (r : Refusal) → fault ≢ Refused r
 
 -- the replies that say nothing of the state: want of memory, and a failed device
 abbrev pub IsFailure : Reply → Type 0

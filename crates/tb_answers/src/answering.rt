@@ -1,9 +1,9 @@
 //! One request, read, done and answered.
 
-ghost use Rattle.std.specs.Prelude.{◌≡◌, ◌≢◌, ◌≤◌, ◌+◌, ℕ, List, [], length, IfErr, Err as ErrOf, map, vec_items};
+ghost use Rattle.std.specs.Prelude.{◌≡◌, ◌≢◌, ◌+◌, ℕ, List, [], IfErr, Err as ErrOf, map, vec_items};
 ghost use Rattle.tb_conllu.specs.Pieces.{AskedFor};
 ghost use Rattle.tb_http.specs.Asks.{body_limit};
-ghost use Rattle.tb_http.specs.Faults.{AwaitsMore, IsAtMostOne, TakenAfter};
+ghost use Rattle.tb_http.specs.Faults.{AwaitsMore, IsAtMostOne, TakenAfter, TakesAtMost};
 ghost use Rattle.tb_answers.specs.Served.{IsSafeOf, Serves, outcome};
 ghost use Rattle.tb_answers.specs.Turns.{AreServed};
 
@@ -58,7 +58,7 @@ pub fn answer<S: Alter, R: Source, W: Sink>(
     ensures asked { result ≢ ErrOf Broken.Read → (taken : List ℕ)
         × AskedFor (AwaitsMore body_limit) [] (R.pieces reader.old) (R.pieces reader.new) taken }
     ensures one { TakenAfter [] (R.left reader.old) (R.left reader.new) (IsAtMostOne body_limit) }
-    ensures most { TakenAfter [] (R.left reader.old) (R.left reader.new) (λ taken. length taken ≤ 8192 + body_limit) }
+    ensures most { TakesAtMost (8192 + body_limit) (R.left reader.old) (R.left reader.new) }
     ensures crash { IsSafeOf S.Store (R.left reader.old) desk.old desk.new }
     ensures limits { desk.new.limits ≡ desk.old.limits }
 {

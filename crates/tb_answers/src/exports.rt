@@ -8,7 +8,7 @@ ghost use Rattle.tb_core.specs.declared.refusals.Refusal.{Refusal as AnyRefusal}
 ghost use Rattle.tb_core.specs.Machine.{Machine};
 ghost use Rattle.tb_http.specs.declared.status.Status.{Status as AnyStatus};
 ghost use Rattle.tb_store.specs.Standing.{StandsFor};
-ghost use Rattle.tb_answers.specs.Commanded.{IsFailure};
+ghost use Rattle.tb_answers.specs.Commanded.{IsFailure, IsNoRefusal};
 ghost use Rattle.tb_answers.specs.Output.{IsWritten};
 ghost use Rattle.tb_answers.specs.Responses.{IsSent};
 ghost use Rattle.tb_answers.specs.Exported.{HasExport, RefusesExport, IsExportOutput, IsToldOfExport, IsExportResponse};
@@ -49,7 +49,7 @@ fn export<S: Alter, W: Sink>(
 /// The reply for a fault of an export into memory, whose sink lacks nothing but memory.
 fn reply_for_export(fault: Fault) -> Reply
     ensures refused { (r : AnyRefusal) → fault ≡ Fault.Refused r → result ≡ Reply.Refused r }
-    ensures failed { ((r : AnyRefusal) → fault ≢ Fault.Refused r) → fault ≢ Fault.NotADesk → IsFailure result }
+    ensures failed { IsNoRefusal fault → fault ≢ Fault.NotADesk → IsFailure result }
 {
     match fault {
         Fault::Output => Reply::Memory,

@@ -1,5 +1,5 @@
 -- When it stays unknown what a request asks: only where a read was owed, or memory for the body.
-use Rattle.std.specs.Prelude.{◌≡◌, ◌<◌, ◌≤◌, ◌⊎◌, ℕ, List, ◌++◌, length, Option, Some}
+use Rattle.std.specs.Prelude.{◌≡◌, ◌<◌, ◌≤◌, ◌⊎◌, ℕ, List, [], ◌++◌, length, Option, Some, IfSome}
 use Rattle.std.specs.Io.KnownBytes.{Consumes}
 use Rattle.httparse.specs.Grammar.{HasNoRequest, MayBecomeRequest}
 use Rattle.tb_http.specs.declared.asks.AskFault.{AskFault}
@@ -53,3 +53,11 @@ IsBodyFaultOf n came body.Memory = (0 < length came) × (length came ≤ n)
 -- what was taken of a reader's bytes, after some others, has P
 abbrev pub TakenAfter : List ℕ → Option (List ℕ) → Option (List ℕ) → (List ℕ → Type 0) → Type 0
 TakenAfter before old new P = (taken : List ℕ) × Consumes old new taken × P (before ++ taken)
+
+-- no more than that many bytes were taken of a reader's
+abbrev pub TakesAtMost : ℕ → Option (List ℕ) → Option (List ℕ) → Type 0
+TakesAtMost most old new = TakenAfter [] old new (λ taken. length taken ≤ most)
+
+-- the first bytes, and all that a reader has, are fewer than n
+abbrev pub AreTooFew : ℕ → List ℕ → Option (List ℕ) → Type 0
+AreTooFew n start left = IfSome left (λ rest. length (start ++ rest) < n)

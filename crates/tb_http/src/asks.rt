@@ -6,7 +6,7 @@ ghost use Rattle.httparse.specs.Spans.{IsRequestOf, IsRequestWithin};
 ghost use Rattle.tb_conllu.specs.Pieces.{AskedFor};
 ghost use Rattle.tb_http.specs.Actions.{act_by};
 ghost use Rattle.tb_http.specs.Asks.{Asks, AsksOneThing, body_limit, call_text, told_by};
-ghost use Rattle.tb_http.specs.Faults.{AwaitsBody, AwaitsMore, BeginsBody, IsAtMostOne, IsFaultOf, TakenAfter};
+ghost use Rattle.tb_http.specs.Faults.{AwaitsBody, AwaitsMore, BeginsBody, IsAtMostOne, IsFaultOf, TakenAfter, TakesAtMost};
 ghost use Rattle.tb_http.specs.declared.asks.AskFault.TheVariants.{Broken, Memory};
 
 use crate::actions::{Action, Allow, resource_of};
@@ -182,7 +182,7 @@ pub fn read_ask<'b, R: Source>(
     ensures asked { result ≢ ErrOf Broken → (taken : List ℕ)
         × AskedFor (AwaitsMore body_limit) [] (R.pieces reader.old) (R.pieces reader.new) taken }
     ensures one { TakenAfter [] (R.left reader.old) (R.left reader.new) (IsAtMostOne body_limit) }
-    ensures most { TakenAfter [] (R.left reader.old) (R.left reader.new) (λ taken. length taken ≤ 8192 + body_limit) }
+    ensures most { TakesAtMost (8192 + body_limit) (R.left reader.old) (R.left reader.new) }
     ensures why { IfErr result (λ e. e ≡ Broken → (why : R.Failure) × R.IsFailure reader.new why) }
     ensures memory { IfErr result (λ e. e ≡ Memory → IfSome (R.left reader.old) (BeginsBody body_limit)) }
     ensures fault { IfErr result (λ e. TakenAfter [] (R.left reader.old) (R.left reader.new)

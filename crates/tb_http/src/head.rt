@@ -5,7 +5,7 @@ ghost use Rattle.std.specs.Prelude.{Err as ErrOf};
 ghost use Rattle.std.specs.Io.KnownBytes.{Consumes};
 ghost use Rattle.httparse.specs.Spans.{IsRequestOf, IsRequestWithin};
 ghost use Rattle.tb_conllu.specs.Pieces.{AskedFor};
-ghost use Rattle.tb_http.specs.Faults.{AwaitsHead, IsBodyFaultOf, TakenAfter};
+ghost use Rattle.tb_http.specs.Faults.{AreTooFew, AwaitsHead, IsBodyFaultOf, TakenAfter};
 ghost use Rattle.tb_http.specs.Head.{HasNoHead};
 ghost use Rattle.tb_http.specs.declared.head.BodyFault.TheVariants.{Read as Broken};
 
@@ -94,7 +94,7 @@ pub fn read_body<R: Source>(
     ensures whole { IfOk result (λ r. IfSome r (λ body.
         IfSome (R.left reader.old) (λ rest. body.items ≡ take n (start.now ++ rest)))) }
     ensures length { IfOk result (λ r. IfSome r (λ body. length body.items ≡ n)) }
-    ensures short { IfOk result (λ r. IfNone r (IfSome (R.left reader.old) (λ rest. length (start.now ++ rest) < n))) }
+    ensures short { IfOk result (λ r. IfNone r (AreTooFew n start.now (R.left reader.old))) }
     ensures taken { TakenAfter start.now (R.left reader.old) (R.left reader.new) (λ came. length came ≤ n) }
     ensures asked { result ≢ ErrOf Broken → (taken : List ℕ)
         × AskedFor (λ came. length came < n) start.now (R.pieces reader.old) (R.pieces reader.new) taken }

@@ -1,14 +1,23 @@
 -- What a call leaves of a connection that it was given. What is said of tables is under a disk that kept what it took
 -- (`HasCleanDisk`).
-use Rattle.std.specs.Prelude.{◌≡◌, IsTrue}
+use Rattle.std.specs.Prelude.{◌≡◌, Bool, true, IsTrue}
 use Rattle.sqlite.specs.Store.{Ghosts}
 use Rattle.sqlite.specs.Held.{Held, state}
 use Rattle.sqlite.specs.State.{HasCleanDisk}
+use Rattle.tb_core.specs.declared.refusals.Refusal.{Refusal}
 use Rattle.tb_core.specs.declared.refusals.Fault.{Fault}
-use Rattle.tb_core.specs.declared.refusals.Fault.TheVariants.{Memory}
+use Rattle.tb_core.specs.declared.refusals.Fault.TheVariants.{Memory, Refused}
 use Rattle.tb_core.specs.Machine.{Machine}
 use Rattle.tb_tables.specs.Making.{IsBlank}
 use Rattle.tb_standing.specs.Standing.{IsDesk}
+
+-- a store that is told to be open is open
+abbrev pub TellsOpen : {S : Type 0} → Ghosts S → (new : Held S) → Bool → Type 0
+TellsOpen g new told = HasCleanDisk (state g new) → told ≡ true → IsTrue (state g new).is_open
+
+-- a refusal is the one that was given, and nothing was asked of the connection
+abbrev pub HandsOnRefusal : {S : Type 0} → (old new : Held S) → (given fault : Fault) → Type 0
+HandsOnRefusal old new given fault = (r : Refusal) → fault ≡ Refused r → (given ≡ Refused r) × (new ≡ old)
 
 -- want of memory is told only where the store is open
 abbrev pub IsOpenOnMemory : {S : Type 0} → Ghosts S → Held S → Fault → Type 0

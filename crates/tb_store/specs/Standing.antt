@@ -1,7 +1,8 @@
 -- When a desk stands for a state of the machine.
 use Rattle.std.specs.Prelude.{◌≡◌, length, [], ◌∷◌, None}
 use Rattle.sqlite.specs.Store.{Ghosts}
-use Rattle.sqlite.specs.Held.{Held}
+use Rattle.sqlite.specs.State.{HasCleanDisk}
+use Rattle.sqlite.specs.Held.{Held, state}
 use Rattle.tb_core.specs.Machine.{Machine}
 use Rattle.tb_core.specs.declared.sums.Totals.{Totals}
 use Rattle.tb_core.specs.Totals.{StandFor}
@@ -15,6 +16,10 @@ pub record StandsFor {S : Type 0} (g : Ghosts S) (d : Kept S) (s : Machine) : Ty
   pub sentences : d.sentences ≡ length s.sentences
   pub moves : d.moves ≡ length s.moves
   pub totals : StandFor d.totals s
+
+-- over a disk that kept what it took, it stands for each state of which the connection was the desk
+abbrev pub StandsForEach : {S : Type 0} → Ghosts S → Held S → Kept S → Type 0
+StandsForEach g conn d = HasCleanDisk (state g d.conn) → (s : Machine) → IsDesk g conn s → StandsFor g d s
 
 -- the connection without a limit on the steps of a statement
 abbrev pub unlimited : {S : Type 0} → Held S → Held S

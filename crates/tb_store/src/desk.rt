@@ -19,13 +19,13 @@ ghost use Rattle.tb_recording.specs.Finding.{HasNumber};
 ghost use Rattle.tb_recording.specs.Counted.{IsWithin};
 ghost use Rattle.tb_standing.specs.Standing.{tables_of, IsDesk};
 ghost use Rattle.tb_store.specs.Kept.{Kept, counts_of, known_of};
-ghost use Rattle.tb_store.specs.Standing.{StandsFor, unlimited, no_totals};
+ghost use Rattle.tb_store.specs.Standing.{StandsFor, StandsForEach, unlimited, no_totals};
 ghost use Rattle.tb_store.specs.Answers.{AreNet, IsCurrent, IsTextOf, HasNoSentence, RefusesRevision};
 ghost use Rattle.tb_store.specs.Exports.{IsBrokenOff, IsPartOfBatch, RefusesBatch};
 ghost use Rattle.tb_store.specs.Found.{AreReleasedHits, HasTooMany, IsNumber, IsPartFound};
 ghost use Rattle.tb_store.specs.Calls.{CrashesWhole, Does, EndsAs, Gives, GivesOnErr, KnowsItself, LeavesOnly};
 ghost use Rattle.tb_store.specs.Calls.{StandsAsBefore, WritesNothing};
-ghost use Rattle.tb_store.specs.Handing.{SeesTheSame, StaysADesk, StaysBlank};
+ghost use Rattle.tb_store.specs.Handing.{SeesTheSame, StaysADesk, StaysBlank, TellsOpen};
 ghost use Rattle.tb_tables.specs.Leaving.{CommitsNothing};
 
 use crate::answers::Current;
@@ -174,8 +174,7 @@ impl<S: Alter> Desk<S> {
         requires within { IsWithin limits }
         ensures adopted { IfOk result (λ d. HasCleanDisk (state S.Store d.conn) → (s : Machine) × IsDesk S.Store conn s × StandsFor S.Store d s) }
         ensures limits { IfOk result (λ d. d.limits ≡ limits) }
-        ensures stands { IfOk result (λ d. HasCleanDisk (state S.Store d.conn) → (s : Machine) → IsDesk S.Store conn s
-            → StandsFor S.Store d s) }
+        ensures stands { IfOk result (StandsForEach S.Store conn) }
         ensures same { IfOk result (λ d. HasCleanDisk (state S.Store d.conn)
             → IsUnchanged (state S.Store (unlimited conn)) (state S.Store d.conn)) }
         ensures no_step_limit { IfOk result (λ d. (state S.Store d.conn).step_limit ≡ None) }
@@ -236,8 +235,7 @@ impl<S: Alter> Desk<S> {
 
     /// Whether the store is open. A fault of the device may have shut it: then no call is answered any more.
     pub fn is_open(&mut self) -> bool
-        ensures open { HasCleanDisk (state S.Store self.new.conn) → result ≡ true
-            → IsTrue (state S.Store self.new.conn).is_open }
+        ensures open { TellsOpen S.Store self.new.conn result }
         ensures kept { StandsAsBefore S.Store self.old self.new }
         ensures crash { Survives (state S.Store self.old.conn) (state S.Store self.new.conn) (λ _. ⊥) }
         ensures limits { self.new.limits ≡ self.old.limits }

@@ -1,11 +1,10 @@
 //! Whether the store is open: a command ends for want of memory only there.
 
-ghost use Rattle.std.specs.Prelude.{◌≡◌, ◌⊎◌, true, false, IsTrue};
-ghost use Rattle.sqlite.specs.State.{HasCleanDisk, Survives};
+ghost use Rattle.std.specs.Prelude.{◌≡◌, ◌⊎◌, false};
+ghost use Rattle.sqlite.specs.State.{Survives};
 ghost use Rattle.sqlite.specs.Held.{state};
-ghost use Rattle.tb_core.specs.declared.refusals.Refusal.{Refusal as AnyRefusal};
 ghost use Rattle.tb_tables.specs.Leaving.{KeepsRecords};
-ghost use Rattle.tb_store.specs.Handing.{IsOpenOnMemory, WasOpen};
+ghost use Rattle.tb_store.specs.Handing.{HandsOnRefusal, IsOpenOnMemory, TellsOpen, WasOpen};
 
 use sqlite::{Alter, Connection, Error};
 use tb_core::Fault;
@@ -15,7 +14,7 @@ const NO_STATEMENT: &str = "unknown";
 
 /// Whether the store is open.
 pub(crate) fn is_open<S: Alter>(conn: &mut Connection<S>) -> bool
-    ensures open { HasCleanDisk (state S.Store conn.new) → result ≡ true → IsTrue (state S.Store conn.new).is_open }
+    ensures open { TellsOpen S.Store conn.new result }
     ensures was_open { WasOpen S.Store conn.old conn.new }
     ensures kept { KeepsRecords S.Store conn.old conn.new }
     ensures mode { conn.old.in_transaction ≡ false → conn.new.in_transaction ≡ false }
@@ -47,7 +46,7 @@ fn memory_or_device<S: Alter>(conn: &mut Connection<S>) -> Fault
 
 /// The fault of a command. It is want of memory only where the store is open.
 pub(crate) fn certain<S: Alter>(conn: &mut Connection<S>, fault: Fault) -> Fault
-    ensures refused { (r : AnyRefusal) → result ≡ Fault.Refused r → (fault ≡ Fault.Refused r) × (conn.new ≡ conn.old) }
+    ensures refused { HandsOnRefusal conn.old conn.new fault result }
     ensures desk { result ≡ Fault.NotADesk → fault ≡ Fault.NotADesk }
     ensures open { IsOpenOnMemory S.Store conn.new result }
     ensures was_open { WasOpen S.Store conn.old conn.new }
