@@ -1,4 +1,4 @@
-//! Small files that the examples use. `docs/FORMAT.md` names the first three D, V and C.
+//! Small files that the examples use. `docs/guide/FORMAT.md` names the first three D, V and C.
 
 use crate::samples::{ARABIC, CHINESE, ENGLISH, HINDI, RUSSIAN};
 use std::alloc::{AllocError, Global};
