@@ -17,6 +17,8 @@ mod needle_tests;
 #[cfg(test)]
 mod patterns;
 #[cfg(test)]
+mod prefilter_tests;
+#[cfg(test)]
 mod queries;
 #[cfg(test)]
 mod questions;

@@ -13,7 +13,7 @@ use tb_match::Strategy;
 use tb_query::{Attr, Expr, Flag, Query, QueryFault, Searcher, parse};
 
 /// "the old big sea the boat".
-const BOAT: &str = "\
+pub(crate) const BOAT: &str = "\
     1\tthe\t_\tDET\t_\t_\t_\t_\t_\t_\n\
     2\told\t_\tADJ\t_\t_\t_\t_\t_\t_\n\
     3\tbig\t_\tADJ\t_\t_\t_\t_\t_\t_\n\

@@ -3,3 +3,4 @@ pub mod NeedleLemmas
 pub mod ItemLemmas
 pub mod PlainLemmas
 pub mod Deciding
+pub mod PlainTexts

@@ -1,5 +1,5 @@
 -- The literals of a query, and the values that they fit (The CQP Query Language Manual, on regular expressions and the flags %c and %l).
-use Rattle.std.specs.Prelude.{ℕ, List, Bool, true, false}
+use Rattle.std.specs.Prelude.{◌≡◌, IsUtf8, ℕ, List, Bool, true, false}
 use Rattle.std.specs.Str.{bytes_eq}
 use Rattle.tb_syntax.specs.declared.lexeme.Flag.{Flag}
 use Rattle.tb_syntax.specs.declared.lexeme.Flag.TheVariants.{Plain, NoCase, Literal}
@@ -24,3 +24,7 @@ meets_as Literal text value = bytes_eq value text
 -- the pattern matches the whole value, or with %l the text is the value
 abbrev pub meets : PlainLit → List ℕ → Bool
 meets literal value = meets_as literal.flag literal.text value
+
+-- the literal fits no value but its own text
+pub record IsPlainText (l : PlainLit) : Type 0 where
+  pub alone : (value : List ℕ) → IsUtf8 value → meets l value ≡ true → value ≡ l.text

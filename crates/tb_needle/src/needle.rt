@@ -1,8 +1,8 @@
 //! A literal with what was built for it, and what tests values against it.
 
-ghost use Rattle.std.specs.Prelude.{◌≡◌, IfOk, IfErr, IsOk};
+ghost use Rattle.std.specs.Prelude.{◌≡◌, IfOk, IfErr, IfSome, IsOk};
 ghost use Rattle.std.specs.List.{list_any};
-ghost use Rattle.tb_needle.specs.Literals.{IsAccepted, meets};
+ghost use Rattle.tb_needle.specs.Literals.{IsAccepted, IsPlainText, meets};
 ghost use Rattle.tb_needle.specs.Items.{pieces, meets_item};
 
 use crate::cutting::cut;
@@ -95,6 +95,17 @@ impl Needle {
         ensures { result ≡ self.now.flag }
     {
         self.flag
+    }
+
+    /// The text of a literal that fits no value but its own text.
+    pub fn plain_text(&self) -> Option<&str>
+        ensures text { IfSome result (λ t. t.now ≡ self.now.text) }
+        ensures alone { IfSome result (λ _. IsPlainText self.now) }
+    {
+        match &self.built {
+            Some(_) => None,
+            None => Some(self.text.as_str()),
+        }
     }
 
     /// What tests values against the literal. With `%l` it takes no memory.

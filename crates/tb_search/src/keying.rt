@@ -80,6 +80,9 @@ impl<'q> Visitor<Freq> for Keying<'q> {
     ghost Refused = { λ _. ⊥ };
 
     fn visit(&mut self, body: &[u8], filled: &mut Freq) -> Result<(), Stopped> {
+        if !self.seeker.may_hit(body) {
+            return Ok(());
+        }
         let alloc = self.seeker.alloc;
         let block = sentence_in(alloc, body)?;
         let hits = self.seeker.hits(&block)?;

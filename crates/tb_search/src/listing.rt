@@ -123,6 +123,9 @@ impl<'q, W: Sink> Visitor<W> for Listing<'q> {
     ghost Refused = { λ p. HasReason (W.IsRefusal p) };
 
     fn visit(&mut self, body: &[u8], filled: &mut W) -> Result<(), Stopped> {
+        if !self.seeker.may_hit(body) {
+            return Ok(());
+        }
         let alloc = self.seeker.alloc;
         let block = sentence_in(alloc, body)?;
         let hits = self.seeker.hits(&block)?;

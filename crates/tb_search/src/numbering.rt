@@ -25,6 +25,9 @@ impl<'q> Visitor<u64> for Numbering<'q> {
     ghost Refused = { λ _. ⊥ };
 
     fn visit(&mut self, body: &[u8], filled: &mut u64) -> Result<(), Stopped> {
+        if !self.seeker.may_hit(body) {
+            return Ok(());
+        }
         let block = sentence_in(self.seeker.alloc, body)?;
         let hits = self.seeker.hits(&block)?;
         let total = raised(*filled, hits.len())?;

@@ -1,6 +1,6 @@
 //! Sentences, read back from their texts, and what is found in them.
 
-ghost use Rattle.std.specs.Prelude.{◌≡◌, ◌≢◌, ◌<◌, ◌≤◌, ◌+◌, All, Err, IfErr, IfOk, [], ◌∷◌};
+ghost use Rattle.std.specs.Prelude.{◌≡◌, ◌≢◌, ◌<◌, ◌≤◌, ◌+◌, false, All, Err, IfErr, IfOk, [], ◌∷◌};
 ghost use Rattle.tb_conllu.specs.Text.{BlockText};
 ghost use Rattle.tb_conllu.specs.Told.{IsFile};
 ghost use Rattle.tb_conllu.specs.Words.{words_of};
@@ -12,7 +12,8 @@ use sqlite::{Error, ErrorCode};
 use std::alloc::Global;
 use tb_conllu::{BlockRef, known_block, words};
 use tb_match::{Found, Strategy};
-use tb_query::{Query, Searcher};
+use tb_prefilter::PrefilteredSearcher;
+use tb_query::Query;
 use tb_reading::ReadError;
 
 /// The sentence of which this is the text. It borrows from the text, which is cut, and tested for no more than UTF-8.
@@ -45,7 +46,7 @@ pub(crate) fn raised(count: u64, more: usize) -> Result<u64, Stopped>
 #[derive(Drop)]
 pub(crate) struct Seeker<'q> {
     pub alloc: Global,
-    pub searcher: Searcher<'q>,
+    pub searcher: PrefilteredSearcher<'q>,
     pub strategy: Strategy,
 }
 
@@ -61,12 +62,20 @@ impl<'q> Seeker<'q> {
         ensures fault { IfErr result IsFault }
         ensures fails { IfErr result IsStopFault }
     {
-        let searcher = query.searcher(alloc)?;
+        let searcher = PrefilteredSearcher::new(alloc, query)?;
         Ok(Seeker {
             alloc,
             searcher,
             strategy,
         })
+    }
+
+    /// Whether the text may be that of a sentence with a hit. Where it is not, it is not cut into rows.
+    pub(crate) fn may_hit(&self, body: &[u8]) -> bool
+        ensures { result ≡ false → (b : BlockText) → IsFile body.now (b ∷ [])
+            → AreHitsIn self.now.strategy self.now.searcher b [] }
+    {
+        self.searcher.may_hit(body)
     }
 
     /// Its hits in a sentence.

@@ -1,0 +1,14 @@
+use Rattle.std.proofs.Common.{◌≡◌, ◌∷◌, ◌++◌, [], ap, sym, ◌∙◌, subst}
+use Rattle.std.proofs.lemmas.List.Elements.{All-push}
+use Rattle.tb_prefilter.specs.Needed.{IsNeeded, AreNeeded}
+use Rattle.tb_prefilter.proofs.Gathered.{item_needed}
+use Rattle.tb_prefilter.proofs.gathering.push_item.Goals as goal
+
+pub returns : goal.returns
+returns c = λ q t entails part old.
+    let l = c.args.needle.now in
+    let text = c.as_bytes.ensures.value ∙ c.in-Some.ensures.text in
+    let bytes = c.in_ok-extend_from_slice.ensures.items ∙ ap (λ xs. xs ++ c.as_bytes.result.now) c.new-bytes.ensures.items ∙ text in
+    let v = c.extend_from_slice.new.self in
+    subst (AreNeeded q) (sym c.in_ok-push.ensures.items)
+    (All-push (λ x. IsNeeded q x.items) c.args.needles.now.items v old (item_needed q t l v.items c.in-Some.ensures.alone entails part bytes))

@@ -1,0 +1,53 @@
+-- Bytes that are in the text of each sentence in which a query has a hit (needles, in the words of regex-automata's prefilters).
+use Rattle.std.specs.Prelude.{◌≡◌, ℕ, zero, suc, List, [], ◌∷◌, ◌++◌, Bool, true, false, nat_eq, if◌then◌else◌}
+use Rattle.std.specs.List.{AllByRecursion, All}
+use Rattle.std.specs.Global.{Global}
+use Rattle.std.specs.declared.vec.Vec.{Vec}
+use Rattle.tb_conllu.specs.Shape.{IsRowShaped}
+use Rattle.tb_conllu.specs.Text.{RowText, BlockText, row_line, text_of}
+use Rattle.tb_match.specs.Trees.{Tree, tok, cat, alt, rep, Forest, no_more, and_more}
+use Rattle.tb_needle.specs.Literals.{PlainLit}
+pub use Rattle.tb_needle.specs.Literals.{IsPlainText}
+use Rattle.tb_syntax.specs.Tests.{Test}
+use Rattle.tb_query.specs.Meaning.{holds}
+use Rattle.tb_query.specs.Search.{Asked, Finds}
+
+-- the bytes are in the text, one after the other
+pub record IsSubstring (needle text : List ℕ) : Type 0 where
+  pub before : List ℕ
+  pub after : List ℕ
+  pub cut : text ≡ before ++ needle ++ after
+
+-- each match of the pattern has a word of which the expression holds; of a choice, no expression is told
+abbrev mutual
+  pub needs : Tree → ℕ → Bool
+  needs (tok e) n = nat_eq e n
+  needs (cat parts) n = some_needs parts n
+  needs (alt parts) n = false
+  needs (rep t zero b) n = false
+  needs (rep t (suc a) b) n = needs t n
+
+  pub some_needs : Forest → ℕ → Bool
+  some_needs no_more n = false
+  some_needs (and_more t rest) n = if needs t n then true else some_needs rest n
+
+-- the bytes are in the line of each row of which the test holds
+pub record Requires (t : Test PlainLit) (needle : List ℕ) : Type 0 where
+  pub there : (r : RowText) → IsRowShaped r → holds t r ≡ true → IsSubstring needle (row_line r)
+
+-- the bytes are in the text of each sentence in which the query finds something
+pub record IsNeeded (q : Asked) (needle : List ℕ) : Type 0 where
+  pub there : (b : BlockText) → AllByRecursion IsRowShaped b.rows → (i j : ℕ) → Finds q b i j
+      → IsSubstring needle (text_of (b ∷ []))
+
+-- where the first test holds of a row, so does the second
+abbrev pub Entails : Test PlainLit → Test PlainLit → Type 0
+Entails t u = (r : RowText) → holds t r ≡ true → holds u r ≡ true
+
+-- what the test requires is needed by each hit of the query
+abbrev pub IsPartOf : Test PlainLit → Asked → Type 0
+IsPartOf t q = (n : List ℕ) → Requires t n → IsNeeded q n
+
+-- each of these needles is in the text of each sentence with a hit
+abbrev pub AreNeeded : Asked → List (Vec ℕ Global) → Type 0
+AreNeeded q ns = All (λ (n : Vec ℕ Global). IsNeeded q n.items) ns

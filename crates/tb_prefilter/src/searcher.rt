@@ -1,0 +1,71 @@
+//! A searcher with a prefilter.
+
+ghost use Rattle.std.specs.Prelude.{◌≡◌, ◌≤◌, ◌+◌, ◌*◌, ◌/◌, List, [], ◌∷◌, IfOk, false};
+ghost use Rattle.tb_conllu.specs.Text.{BlockText};
+ghost use Rattle.tb_conllu.specs.Told.{IsFile};
+ghost use Rattle.tb_conllu.specs.Words.{words_of};
+ghost use Rattle.tb_match.specs.declared.strategy.Strategy.{Strategy as AnyStrategy};
+ghost use Rattle.tb_query.specs.Search.{AreHitsIn};
+
+use crate::prefilter::{may_hit, needles_of};
+use std::alloc::{AllocError, Global};
+use std::marker::Model;
+use tb_conllu::{BlockOf, Text};
+use tb_match::{Found, Strategy};
+use tb_query::{Query, Searcher};
+
+/// A query made ready for a search, with the needles of its prefilter.
+#[derive(Drop)]
+pub struct PrefilteredSearcher<'q> {
+    searcher: Searcher<'q>,
+    needles: Vec<Vec<u8>>,
+}
+
+impl<'q> Model for PrefilteredSearcher<'q> {
+    ghost use Rattle.tb_query.specs.Search.{Asked};
+
+    ghost Value = { Asked };
+
+    ghost use Rattle.tb_query.specs.Codes.{coded_asked};
+
+    ghost coded = { coded_asked };
+
+    ghost use Rattle.tb_prefilter.specs.Needed.{AreNeeded};
+
+    ghost view = { λ s. s.searcher };
+
+    ghost invariant = { λ s. AreNeeded s.searcher s.needles.items };
+}
+
+impl<'q> PrefilteredSearcher<'q> {
+    /// Makes a query ready.
+    pub fn new(alloc: Global, query: &'q Query) -> Result<PrefilteredSearcher<'q>, AllocError>
+        ensures { IfOk result (λ s. s ≡ query.now) }
+    {
+        let searcher = query.searcher(alloc)?;
+        let needles = needles_of(alloc, query)?;
+        Ok(PrefilteredSearcher { searcher, needles })
+    }
+
+    /// Whether the text may be that of a sentence with a hit. Where it is not, the text need not be cut into rows.
+    pub fn may_hit(&self, body: &[u8]) -> bool
+        ensures { result ≡ false → (s : AnyStrategy) (b : BlockText) → IsFile body.now (b ∷ [])
+            → AreHitsIn s self.now b [] }
+    {
+        may_hit(&self.needles, body)
+    }
+
+    /// The hits of the query in the sentence, by the strategy.
+    pub fn hits<T: Text>(
+        &mut self,
+        alloc: Global,
+        block: &BlockOf<T>,
+        strategy: Strategy,
+    ) -> Result<Found, AllocError>
+        requires { words_of block.now ≤ 1000 }
+        ensures hits { IfOk result (λ f. AreHitsIn strategy self.old block.now f.hits.items) }
+        ensures same { self.new ≡ self.old }
+    {
+        self.searcher.hits(alloc, block, strategy)
+    }
+}
