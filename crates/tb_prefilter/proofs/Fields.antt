@@ -1,17 +1,17 @@
 -- What stands in the line of a row.
-use Rattle.std.proofs.Common.{◌≡◌, ◌<◌, ℕ, List, [], ◌∷◌, ◌++◌, true, refl, sym, ap, ◌∙◌, subst}
+use Rattle.std.proofs.Common.{ℕ, List, [], ◌∷◌, ◌++◌, sym, ap, ◌∙◌, subst}
 use Rattle.std.proofs.lemmas.List.{append_assoc}
 use Rattle.std.specs.List.{join_with_byte}
 use Rattle.std.proofs.Common.{IsUtf8}
 use Rattle.tb_conllu.specs.Shape.{IsRowShaped}
-use Rattle.tb_conllu.specs.Text.{RowText, row_line, fields_of, id_text, head_text}
+use Rattle.tb_conllu.specs.Text.{RowText, row_line, id_text, head_text}
 use Rattle.tb_syntax.specs.declared.lexeme.Attr.{Attr}
 use Rattle.tb_syntax.specs.declared.lexeme.Attr.TheVariants.{Form, Lemma, Upos, Xpos, Feats, Deprel}
-use Rattle.tb_syntax.specs.Tests.{whole, feature}
-use Rattle.tb_needle.specs.Literals.{PlainLit, meets}
-use Rattle.tb_query.specs.Meaning.{value_of, holds}
+use Rattle.tb_syntax.specs.Tests.{whole}
+use Rattle.tb_needle.specs.Literals.{PlainLit}
+use Rattle.tb_query.specs.Meaning.{value_of}
 use Rattle.tb_prefilter.specs.Needed.{IsSubstring, IsPlainText, Requires}
-use Rattle.tb_prefilter.proofs.Substrings.{in_after, in_before}
+use Rattle.tb_prefilter.proofs.Substrings.{in_after}
 
 abbrev pub between : List ℕ → List ℕ
 between v = 9 ∷ (v ++ 9 ∷ [])

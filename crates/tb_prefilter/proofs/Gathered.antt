@@ -1,11 +1,10 @@
 -- What is gathered of expressions.
-use Rattle.std.proofs.Common.{◌≡◌, ◌<◌, ◌≤◌, ◌+◌, ℕ, zero, suc, List, [], ◌∷◌, ◌++◌, Bool, true, false, Some, option_map, length, map, get_or, slice_get, Vec, Global, All, if◌then◌else◌, refl, sym, ap, ◌∙◌, subst, arith}
+use Rattle.std.proofs.Common.{◌≡◌, ◌<◌, ℕ, zero, suc, List, [], ◌∷◌, ◌++◌, Bool, true, false, Some, option_map, length, map, get_or, slice_get, Vec, Global, if◌then◌else◌, refl, sym, ap, ◌∙◌, subst, arith}
 use Rattle.std.proofs.lemmas.Bool.{false≢true}
 use Rattle.std.proofs.lemmas.Option.{slice_get-map, slice_get-get_or}
 use Rattle.tb_conllu.specs.Text.{RowText}
 use Rattle.tb_syntax.specs.declared.lexeme.Attr.{Attr}
 use Rattle.tb_syntax.specs.declared.expr.Expr.{Expr}
-use Rattle.tb_syntax.specs.declared.expr.Expr.TheOpen.{Expr-F}
 use Rattle.tb_syntax.specs.declared.expr.Expr.TheVariants.{Whole, Item, Both, rolls-Whole, rolls-Item, rolls-Both}
 use Rattle.tb_syntax.specs.declared.expr.Expr.TheFolds.{fold-roll-Expr}
 use Rattle.tb_syntax.specs.Exprs.{test, test_step}

@@ -1,7 +1,7 @@
 -- An item of the features stands in the row.
-use Rattle.std.proofs.Common.{◌≡◌, ◌<◌, ◌≤◌, ◌+◌, ◌⊎◌, ℕ, zero, suc, List, [], ◌∷◌, ◌++◌, Bool, true, false, ◌||◌, codes, length, take, drop, get_or, slice_index, refl, sym, ap, ◌∙◌, subst, inl, inr, ⊎_elim, append-nil, arith, IsUtf8, All, if◌then◌else◌, bytes_eq, IsCharBoundary, nat_eq}
+use Rattle.std.proofs.Common.{◌≡◌, ◌≤◌, ◌+◌, ◌⊎◌, ℕ, zero, suc, List, [], ◌∷◌, ◌++◌, Bool, true, false, ◌||◌, codes, length, get_or, refl, sym, ap, ◌∙◌, subst, inl, inr, ⊎_elim, append-nil, arith, IsUtf8, All, if◌then◌else◌, bytes_eq, IsCharBoundary}
 use Rattle.std.proofs.lemmas.Bool.{cases_Bool, cases_lt, false≢true, eqb-true}
-use Rattle.std.proofs.lemmas.List.{length-take, length-drop, get_or_default}
+use Rattle.std.proofs.lemmas.List.{length-drop}
 use Rattle.std.proofs.lemmas.List.Splits.{slice_split_none, slice_split_first}
 use Rattle.std.proofs.lemmas.List.Sums.{split_at_first, fails_before_first, passes_at_first}
 use Rattle.std.proofs.lemmas.Str.{IsUtf8-take, IsUtf8-drop, IsCharBoundary-after_ascii}
@@ -10,11 +10,11 @@ use Rattle.tb_conllu.specs.Shape.{IsRowShaped}
 use Rattle.tb_conllu.specs.Text.{RowText, row_line}
 use Rattle.tb_syntax.specs.declared.lexeme.Attr.TheVariants.{Feats}
 use Rattle.tb_syntax.specs.Tests.{feature}
-use Rattle.tb_needle.specs.Items.{is_bar, pieces, items, meets_item}
+use Rattle.tb_needle.specs.Items.{is_bar, pieces, meets_item}
 use Rattle.tb_needle.specs.Literals.{PlainLit, meets}
 use Rattle.tb_query.specs.Meaning.{holds}
 use Rattle.tb_prefilter.specs.Needed.{IsSubstring, IsPlainText, Requires}
-use Rattle.tb_prefilter.proofs.Substrings.{in_after, in_before, in_here}
+use Rattle.tb_prefilter.proofs.Substrings.{in_after, in_before}
 use Rattle.tb_prefilter.proofs.Fields.{between, column_there}
 
 one_or : (b c : Bool) → (b || c) ≡ true → (b ≡ true) ⊎ (c ≡ true)

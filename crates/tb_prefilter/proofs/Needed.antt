@@ -1,9 +1,6 @@
 -- What each match of a pattern needs.
-use Rattle.std.proofs.Common.{◌≡◌, ◌≢◌, ◌+◌, ◌-◌, ◌<◌, ◌≤◌, ℕ, zero, suc, List, [], ◌∷◌, Bool, true, false, Some, refl, sym, ap, ◌∙◌, subst, inl, inr, arith, slice_get, nat_eq, if◌then◌else◌}
+use Rattle.std.proofs.Common.{◌≡◌, ◌-◌, ℕ, zero, suc, List, [], true, Some, sym, ap, ◌∙◌, subst, inl, inr, arith, slice_get, if◌then◌else◌}
 use Rattle.std.proofs.lemmas.Bool.{cases_Bool, false≢true, eqb-true}
-use Rattle.std.specs.List.{AllByRecursion}
-use Rattle.tb_conllu.specs.Shape.{IsRowShaped}
-use Rattle.tb_conllu.specs.Text.{BlockText, text_of}
 use Rattle.tb_conllu.specs.Words.{is_word}
 use Rattle.tb_match.specs.Match.{Match, EachInTurn}
 use Rattle.tb_match.specs.Trees.{Tree, tok, cat, alt, rep, Forest, no_more, and_more}
@@ -14,8 +11,8 @@ use Rattle.tb_match.proofs.Parts.{first_link}
 use Rattle.tb_needle.specs.Literals.{PlainLit}
 use Rattle.tb_syntax.specs.Tests.{Test}
 use Rattle.tb_query.specs.Meaning.{word_rows, HoldsOf, holds}
-use Rattle.tb_query.specs.Search.{Asked, Finds, AreHitsIn}
-use Rattle.tb_prefilter.specs.Needed.{IsSubstring, Requires, IsNeeded, needs, some_needs}
+use Rattle.tb_query.specs.Search.{Asked}
+use Rattle.tb_prefilter.specs.Needed.{Requires, IsNeeded, needs, some_needs}
 use Rattle.tb_prefilter.proofs.Substrings.{one_of, row_shaped, is_in_text}
 
 module _ (H : ℕ → ℕ → Type 0) (e : ℕ) where

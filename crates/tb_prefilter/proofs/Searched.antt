@@ -1,12 +1,12 @@
 -- Bytes that are found nowhere in a text do not stand in it.
-use Rattle.std.proofs.Common.{◌≡◌, ◌<◌, ◌≤◌, ◌+◌, ℕ, List, [], ◌∷◌, ◌++◌, Option, None, Some, true, length, get_or, slice_index, is_none, Vec, Global, sym, ap, ◌∙◌, subst, arith, length-append}
+use Rattle.std.proofs.Common.{◌≡◌, ◌+◌, ℕ, List, [], ◌∷◌, ◌++◌, Option, None, Some, true, length, slice_index, is_none, sym, ap, ◌∙◌, subst, arith, length-append}
 use Rattle.std.proofs.lemmas.Grind.{common_steps}
 use Rattle.memchr.specs.Find.{OccursAt, FindsNeedle}
-use Rattle.tb_conllu.specs.Text.{BlockText, text_of}
+use Rattle.tb_conllu.specs.Text.{BlockText}
 use Rattle.tb_conllu.specs.Told.{IsFile}
 use Rattle.tb_match.specs.declared.strategy.Strategy.{Strategy}
 use Rattle.tb_query.specs.Search.{Asked, AreHitsIn, Finds}
-use Rattle.tb_prefilter.specs.Needed.{IsSubstring, IsNeeded, AreNeeded}
+use Rattle.tb_prefilter.specs.Needed.{IsSubstring, IsNeeded}
 use Rattle.tb_prefilter.proofs.Needed.{none_found}
 
 pub occurs : (n text : List ℕ) → IsSubstring n text → (k : ℕ) × OccursAt text n k

@@ -1,12 +1,10 @@
 -- Bytes that stand in a part of a text stand in the text.
-use Rattle.std.proofs.Common.{◌≡◌, ℕ, zero, suc, List, [], ◌∷◌, ◌++◌, map, filter, Some, Bool, true, false, refl, sym, ap, ◌∙◌, subst, inl, inr, slice_get, append-nil, flat_map, cond, option_to_list}
+use Rattle.std.proofs.Common.{◌≡◌, ℕ, zero, suc, List, [], ◌∷◌, ◌++◌, map, filter, Some, Bool, refl, sym, ap, ◌∙◌, subst, inl, inr, slice_get, append-nil, cond, option_to_list}
 use Rattle.std.proofs.lemmas.List.{append_assoc}
 use Rattle.std.proofs.lemmas.Bool.{cases_Bool}
-use Rattle.std.proofs.lemmas.List.Concat.{flat_map-append}
-use Rattle.std.specs.List.{AllByRecursion, join_with_byte}
+use Rattle.std.specs.List.{AllByRecursion}
 use Rattle.tb_conllu.specs.Shape.{IsRowShaped}
 use Rattle.tb_conllu.specs.Text.{RowText, BlockText, ended, block_lines, row_line, text_of}
-use Rattle.tb_conllu.specs.Words.{is_word}
 use Rattle.tb_prefilter.specs.Needed.{IsSubstring}
 
 module _ (n : List ℕ) where

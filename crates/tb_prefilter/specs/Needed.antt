@@ -1,4 +1,4 @@
--- Bytes that are in the text of each sentence in which a query has a hit (needles, in the words of regex-automata's prefilters).
+-- Bytes that are in the text of each sentence in which a query has a hit: the needles of a prefilter (regex-automata).
 use Rattle.std.specs.Prelude.{◌≡◌, ℕ, zero, suc, List, [], ◌∷◌, ◌++◌, Bool, true, false, nat_eq, if◌then◌else◌}
 use Rattle.std.specs.List.{AllByRecursion, All}
 use Rattle.std.specs.Global.{Global}
@@ -51,3 +51,7 @@ IsPartOf t q = (n : List ℕ) → Requires t n → IsNeeded q n
 -- each of these needles is in the text of each sentence with a hit
 abbrev pub AreNeeded : Asked → List (Vec ℕ Global) → Type 0
 AreNeeded q ns = All (λ (n : Vec ℕ Global). IsNeeded q n.items) ns
+
+-- more needles than before, each of which a test requires: they are needed by each query of which the test is a part
+abbrev pub Gathers : Test PlainLit → (old new : List (Vec ℕ Global)) → Type 0
+Gathers u old new = (q : Asked) (t : Test PlainLit) → Entails t u → IsPartOf t q → AreNeeded q old → AreNeeded q new

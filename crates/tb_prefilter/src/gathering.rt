@@ -1,20 +1,17 @@
 //! The bytes that token expressions require of a row.
 
-ghost use Rattle.std.specs.Prelude.{◌≡◌, ℕ, List, IfOk, OnOk, IfSome, map};
+ghost use Rattle.std.specs.Prelude.{OnOk, map};
 ghost use Rattle.tb_syntax.specs.Exprs.{test};
-ghost use Rattle.tb_syntax.specs.Tests.{Test, whole, feature, both, tests};
+ghost use Rattle.tb_syntax.specs.Tests.{whole, feature, both, tests};
 ghost use Rattle.tb_syntax.specs.declared.lexeme.Attr.{Attr as AnyAttr};
-ghost use Rattle.tb_needle.specs.Literals.{PlainLit};
-ghost use Rattle.tb_query.specs.Search.{Asked};
-ghost use Rattle.tb_prefilter.specs.Needed.{AreNeeded, Entails, IsPartOf, IsPlainText};
+ghost use Rattle.tb_prefilter.specs.Needed.{Gathers};
 
 use std::alloc::{AllocError, Global};
 use tb_query::{Expr, Needle};
 
 /// Adds the bytes that a column requires whose value is to be the literal: the value between two tabs.
 fn push_column(alloc: Global, needle: &Needle, needles: &mut Vec<Vec<u8>>) -> Result<(), AllocError>
-    ensures { OnOk result ((a : AnyAttr) (q : Asked) (t : Test PlainLit) → Entails t (whole a needle.now) → IsPartOf t q
-        → AreNeeded q needles.old.items → AreNeeded q needles.new.items) }
+    ensures { OnOk result ((a : AnyAttr) → Gathers (whole a needle.now) needles.old.items needles.new.items) }
 {
     let Some(text) = needle.plain_text() else {
         return Ok(());
@@ -29,8 +26,7 @@ fn push_column(alloc: Global, needle: &Needle, needles: &mut Vec<Vec<u8>>) -> Re
 
 /// Adds the bytes that features require among which the literal is to be.
 fn push_item(alloc: Global, needle: &Needle, needles: &mut Vec<Vec<u8>>) -> Result<(), AllocError>
-    ensures { OnOk result ((q : Asked) (t : Test PlainLit) → Entails t (feature needle.now) → IsPartOf t q
-        → AreNeeded q needles.old.items → AreNeeded q needles.new.items) }
+    ensures { OnOk result (Gathers (feature needle.now) needles.old.items needles.new.items) }
 {
     let Some(text) = needle.plain_text() else {
         return Ok(());
@@ -44,8 +40,7 @@ fn push_item(alloc: Global, needle: &Needle, needles: &mut Vec<Vec<u8>>) -> Resu
 /// Adds what each of the expressions requires, where all are to hold of one word.
 #[cycle(gather)]
 fn gather_all(alloc: Global, exprs: &[Expr], needles: &mut Vec<Vec<u8>>) -> Result<(), AllocError>
-    ensures { OnOk result ((q : Asked) (t : Test PlainLit) → Entails t (both (tests (map test exprs.now))) → IsPartOf t q
-        → AreNeeded q needles.old.items → AreNeeded q needles.new.items) }
+    ensures { OnOk result (Gathers (both (tests (map test exprs.now))) needles.old.items needles.new.items) }
 {
     for expr in exprs {
         gather(alloc, expr, needles)?;
@@ -60,8 +55,7 @@ pub(crate) fn gather(
     expr: &Expr,
     needles: &mut Vec<Vec<u8>>,
 ) -> Result<(), AllocError>
-    ensures { OnOk result ((q : Asked) (t : Test PlainLit) → Entails t (test expr.now) → IsPartOf t q
-        → AreNeeded q needles.old.items → AreNeeded q needles.new.items) }
+    ensures { OnOk result (Gathers (test expr.now) needles.old.items needles.new.items) }
 {
     match expr {
         Expr::Any => Ok(()),

@@ -30,5 +30,6 @@ pub fn a_feature_is_in_its_row()
 /// Where bytes that the query needs are not in a sentence's text, it has no hit.
 pub fn no_needle_no_hit()
     ensures { (s : AnyStrategy) (q : Asked) (b : BlockText) (needle : List ℕ) → IsNeeded q needle
-        → AllByRecursion IsRowShaped b.rows → (IsSubstring needle (text_of (b ∷ [])) → ⊥) → AreHitsIn s q b [] }
+        → AllByRecursion IsRowShaped b.rows → (IsSubstring needle (text_of (b ∷ [])) → ⊥)
+        → AreHitsIn s q b [] }
 {}

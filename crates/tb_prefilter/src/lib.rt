@@ -1,5 +1,5 @@
-//! A prefilter of a search: bytes that the text of a sentence needs to have for a hit. Where they are not in it, the text
-//! is passed over before it is cut into rows. `specs/Needed.antt` says what is meant; `PrefilteredSearcher` is for callers.
+//! A prefilter of a search: bytes that the text of a sentence needs to have for a hit. A text without them is passed
+//! over before it is cut into rows. Begin with `specs/Needed.antt`. Callers use `PrefilteredSearcher`.
 #![tactic(auto)]
 
 mod gathering;

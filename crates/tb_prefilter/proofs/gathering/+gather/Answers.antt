@@ -1,4 +1,4 @@
-use Rattle.std.proofs.Common.{sym, subst}
+use Rattle.std.proofs.Common.{subst}
 use Rattle.std.proofs.lemmas.Result.{IfOk-weaker}
 use Rattle.tb_prefilter.specs.Needed.{Entails}
 use Rattle.tb_prefilter.proofs.Gathered.{is_whole, is_item, is_both, entails_part}

@@ -1,4 +1,4 @@
-use Rattle.std.proofs.Common.{◌≡◌, ◌∷◌, ◌++◌, [], ap, sym, ◌∙◌, subst}
+use Rattle.std.proofs.Common.{◌++◌, ap, sym, ◌∙◌, subst}
 use Rattle.std.proofs.lemmas.List.Elements.{All-push}
 use Rattle.tb_prefilter.specs.Needed.{IsNeeded, AreNeeded}
 use Rattle.tb_prefilter.proofs.Gathered.{item_needed}

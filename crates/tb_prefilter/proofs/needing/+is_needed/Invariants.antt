@@ -1,4 +1,4 @@
-use Rattle.std.proofs.Common.{◌≡◌, ℕ, drop, ◌+◌, ◌*◌}
+use Rattle.std.proofs.Common.{◌≡◌, drop, ◌+◌, ◌*◌}
 use Rattle.tb_match.specs.Trees.{tree, trees}
 use Rattle.tb_match.specs.Weight.{weight_of, weight_of_all}
 use Rattle.tb_prefilter.specs.Needed.{some_needs}

@@ -1,4 +1,4 @@
-use Rattle.std.proofs.Common.{◌≡◌, ◌∙◌, sym, subst, ap, not, is_some, is_none, true}
+use Rattle.std.proofs.Common.{◌≡◌, ◌∙◌, sym, subst, ap, not, is_none, true}
 use Rattle.memchr.specs.Find.{FindsNeedle}
 use Rattle.tb_prefilter.specs.Needed.{IsNeeded}
 use Rattle.tb_prefilter.proofs.Searched.{no_hit_by}

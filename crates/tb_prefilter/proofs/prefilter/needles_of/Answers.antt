@@ -1,5 +1,5 @@
 use Rattle.std.proofs.Common.{◌≡◌, true, sym, subst, ap, ◌∙◌}
-use Rattle.tb_match.specs.Trees.{Tree, tree}
+use Rattle.tb_match.specs.Trees.{Tree}
 use Rattle.tb_syntax.specs.Exprs.{test}
 use Rattle.tb_prefilter.specs.Needed.{AreNeeded, needs}
 use Rattle.tb_prefilter.proofs.Needed.{is_needed_by}
