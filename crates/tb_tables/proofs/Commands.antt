@@ -38,7 +38,7 @@ kept_then a b c p q = record {
 }
 
 pub changes_then : (a b c : State) (d e f : Tables) → Changes a b d e → Changes b c e f → Changes a c d f
-changes_then a b c d e f p q = record { inside = q.inside; committed = q.committed ∙ p.committed; stands = λ s. q.stands (p.stands s) }
+changes_then a b c d e f p q = record { inside = q.inside; committed = q.committed ∙ p.committed; stands = λ s. q.stands (p.stands s); rowids = λ n h. q.rowids n (p.rowids n h) }
 
 module _ {S : Type 0} (g : Ghosts S) where
   -- as `transaction` leaves it

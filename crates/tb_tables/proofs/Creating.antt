@@ -42,7 +42,7 @@ use Rattle.tb_tables.specs.Making.{Makes, Takes, IsBare, IsVersioned, empty_tabl
 use Rattle.tb_tables.specs.Texts.{meta_text, batches_text, sentences_text, revisions_text, moves_text, totals_text, pulled_text}
 use Rattle.tb_tables.specs.Layout.{desk_schema, meta, batches, sentences, revisions, moves, totals, pulled}
 use Rattle.tb_tables.proofs.Making.{same_command, same_statement, same_value}
-use Rattle.tb_tables.proofs.Refusing.{IsAllowed, IsWrite, only_fails, rows_fail, never_inserts, never_both}
+use Rattle.tb_tables.proofs.Refusing.{IsAllowed, IsWrite, only_fails, rows_fail, store_fault, inserts_stop, never_both}
 use Rattle.tb_tables.proofs.Texts.{insert_version, insert_version_is, insert_version_terms, insert_totals, insert_totals_is, insert_totals_terms}
 use Rattle.tb_tables.proofs.Lists.{cast_int, cast_null, lower}
 use Rattle.tb_tables.proofs.Filling.{none_shown, six}
@@ -340,7 +340,7 @@ version_fails old new e bare unlimited ran =
     let none : db 0 ≡ [] = bare.empty.0 in
     let stored : Row = Int (pos 1) ∷ Int (pos 2) ∷ [] in
     let it : edit_of db meta [] Chosen 0 ((Null ∷ Int (pos 2) ∷ []) ∷ []) ≡ one_row meta stored = rw (cast_null, cast_int (pos 2), none) refl in
-    let allowed : IsAllowed db (one_row meta stored) = record {
+    let allowed : IsAllowed (Unit {0}) db (one_row meta stored) = record {
       typed = refl;
       present = refl;
       checked = refl;
@@ -349,9 +349,10 @@ version_fails old new e bare unlimited ran =
       fits = rw (in_range 1 (omega arith)) refl;
       referred = refl;
       unique = keeps_unique empty_tables (with_tree db 0 (put_row stored (db 0))) (none_shown batch_view _ bare.empty.1.0) (none_shown sentence_view _ bare.empty.1.1.0) (none_shown revision_view _ bare.empty.1.1.1.0) all_unique;
+      big = λ _. tt;
     } in
-    rows_fail old new insert_version [] (Insert 0 (Values insert_version_terms 2)) meta bare.is unlimited version_is (λ e h. h)
-    (never_inserts db meta [] (Values insert_version_terms 2) refl (version_given db) (λ rows is. subst (IsAllowed db) (sym (ap (edit_of db meta [] Chosen 0) is.1 ∙ it)) allowed)) e ran
+    store_fault old new e (rows_fail (Unit {0}) old new insert_version [] (Insert 0 (Values insert_version_terms 2)) meta bare.is unlimited version_is (λ e h. h)
+    (inserts_stop db meta [] (Unit {0}) (Values insert_version_terms 2) refl (version_given db) (λ rows is. subst (IsAllowed (Unit {0}) db) (sym (ap (edit_of db meta [] Chosen 0) is.1 ∙ it)) allowed)) e ran)
 
 totals_whole_text : IsWhole (length insert_totals) 0 (understood desk_schema insert_totals)
 unfolding understood everything
@@ -372,7 +373,7 @@ totals_fails old new e start unlimited ran =
     let fill : Edit = record { table = totals; gone = []; news = six } in
     let it : edit_of db totals [] Chosen 0 six ≡ fill = rw (cast_int (pos 0), cast_int (pos 1), cast_int (pos 2), cast_int (pos 3), cast_int (pos 4), cast_int (pos 5), cast_int (pos 6), cast_null) refl in
     let fresh : are_fresh (db 8) six ≡ true = rw (none, lower 1 2 (omega arith), lower 1 3 (omega arith), lower 2 3 (omega arith), lower 1 4 (omega arith), lower 2 4 (omega arith), lower 3 4 (omega arith), lower 1 5 (omega arith), lower 2 5 (omega arith), lower 3 5 (omega arith), lower 4 5 (omega arith), lower 1 6 (omega arith), lower 2 6 (omega arith), lower 3 6 (omega arith), lower 4 6 (omega arith), lower 5 6 (omega arith)) refl in
-    let allowed : IsAllowed db fill = record {
+    let allowed : IsAllowed (Unit {0}) db fill = record {
       typed = refl;
       present = refl;
       checked = refl;
@@ -381,9 +382,10 @@ totals_fails old new e start unlimited ran =
       referred = refl;
       fits = rw (in_range 1 (omega arith), in_range 2 (omega arith), in_range 3 (omega arith), in_range 4 (omega arith), in_range 5 (omega arith), in_range 6 (omega arith)) refl;
       unique = keeps_unique empty_tables (with_tree db 8 (edited db fill)) (none_shown batch_view _ start.empty.0) (none_shown sentence_view _ start.empty.1.0) (none_shown revision_view _ start.empty.1.1.0) all_unique;
+      big = λ _. tt;
     } in
-    rows_fail old new insert_totals [] (Insert 5 (Values insert_totals_terms 4)) totals start.inside.schema unlimited totals_is (λ e h. h)
-    (never_inserts db totals [] (Values insert_totals_terms 4) refl (totals_given db) (λ rows is. subst (IsAllowed db) (sym (ap (edit_of db totals [] Chosen 0) is.1 ∙ it)) allowed)) e ran
+    store_fault old new e (rows_fail (Unit {0}) old new insert_totals [] (Insert 5 (Values insert_totals_terms 4)) totals start.inside.schema unlimited totals_is (λ e h. h)
+    (inserts_stop db totals [] (Unit {0}) (Values insert_totals_terms 4) refl (totals_given db) (λ rows is. subst (IsAllowed (Unit {0}) db) (sym (ap (edit_of db totals [] Chosen 0) is.1 ∙ it)) allowed)) e ran)
 
 -- ---- the commit
 

@@ -9,6 +9,8 @@ pub mod Filling
 pub mod Commands
 pub mod Unique
 pub mod Refusing
+pub mod Sizes
+pub mod Rowids
 pub mod Failing
 pub mod Changing
 pub mod Creating

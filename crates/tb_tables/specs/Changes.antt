@@ -1,21 +1,29 @@
 -- What a statement makes of the records.
-use Rattle.std.specs.Prelude.{◌≡◌, ◌-◌, ◌==◌, ℕ, not, false, [], ◌∷◌, ◌++◌, filter, slice_set, IsTrue}
+use Rattle.std.specs.Prelude.{◌≡◌, ◌-◌, ◌==◌, ℕ, length, not, false, [], ◌∷◌, ◌++◌, filter, slice_set, IsTrue}
 use Rattle.sqlite.specs.Store.{Ghosts}
 use Rattle.sqlite.specs.Held.{Held, state}
 use Rattle.sqlite.specs.State.{State}
-use Rattle.tb_tables.specs.Layout.{desk_schema}
+use Rattle.tb_tables.specs.Layout.{desk_schema, revisions}
 use Rattle.tb_tables.specs.Records.{Tables, Move, Batch, Sentence, Revision, Total, Stands}
+use Rattle.tb_tables.specs.Failing.{HasRowids}
 
 -- a transaction is open on the seven tables
 pub record IsInside (s : State) : Type 0 where
   pub begun : IsTrue s.in_transaction
   pub schema : s.now.schema ≡ desk_schema
 
+-- SQLite finds rowids for so many more revisions
+abbrev pub HasRevisionRowids : State → ℕ → Type 0
+HasRevisionRowids s count = HasRowids count (s.now.trees revisions.tree)
+
 -- the transaction goes on, nothing is committed, and where the tables stood for the old records, they stand for the new ones
 pub record Changes (old new : State) (d after : Tables) : Type 0 where
   pub inside : IsInside new
   pub committed : new.committed ≡ old.committed
   pub stands : Stands d old.now.trees → Stands after new.now.trees
+  -- where SQLite finds rowids for so many revisions in all, it goes on to do so
+  pub rowids : (n : ℕ) → HasRevisionRowids old (n - length d.revisions)
+      → HasRevisionRowids new (n - length after.revisions)
 
 -- a connection in no transaction, whose tables stand for these records, now and after each crash
 pub record Holds {S : Type 0} (g : Ghosts S) (c : Held S) (d : Tables) : Type 0 where

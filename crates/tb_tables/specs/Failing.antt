@@ -1,14 +1,20 @@
 -- How a statement on the tables of a desk fails, and which records SQLite takes.
-use Rattle.std.specs.Prelude.{◌≡◌, ◌≢◌, ◌⊎◌, ℕ, List, [], ◌∷◌, ◌≤◌, map, length, Result, Ok, Err, ⊤}
+use Rattle.std.specs.Prelude.{◌≡◌, ◌≢◌, ◌⊎◌, ℕ, pos, ◌+ℤ◌, List, [], ◌∷◌, ◌<◌, ◌≤◌, map, length}
+use Rattle.std.specs.Prelude.{true, IsTrue, Result, Ok, Err, ⊤}
 use Rattle.std.specs.List.{AllByRecursion}
 use Rattle.sqlite.specs.declared.error.Error.{Error}
 use Rattle.sqlite.specs.declared.error.Error.TheVariants.{SqliteFailure}
 use Rattle.sqlite.specs.declared.error.ErrorCode.TheVariants.{NoRowid, OutOfMemory, SystemIoFailure, DatabaseCorrupt}
 use Rattle.sqlite.specs.declared.error.ErrorCode.TheVariants.{DiskFull, Closed}
 use Rattle.sqlite.specs.State.{store_error}
+use Rattle.sqlite.specs.Order.{Row}
+use Rattle.sqlite.specs.Tree.{IsTable, rowid}
 use Rattle.sqlite_resolve.specs.declared.compiled.Compiled.{Compiled}
 use Rattle.sqlite_resolve.specs.declared.error.CompileError.{CompileError}
 use Rattle.sqlite_trees.specs.declared.error.StoreError.{StoreError}
+use Rattle.sqlite_trees.specs.View.{is_int}
+use Rattle.sqlite_sql.specs.Ops.{fits_i64}
+use Rattle.sqlite_rules.specs.Edit.{next_rowid}
 use Rattle.tb_tables.specs.Records.{Tables, Batch, Sentence, Revision}
 
 -- a fault of the store, of its size, or want of memory: the database refused nothing
@@ -35,6 +41,19 @@ NeedsNoFault _ = ⊤
 -- the same, or the rowid that SQLite chose for a revision is taken, which is told as a corrupt file
 abbrev pub NeedsNoFaultOnRevisions : Error → Type 0
 NeedsNoFaultOnRevisions e = NeedsNoFault e ⊎ (e ≡ SqliteFailure DatabaseCorrupt)
+
+-- Two texts of this length beside the numbers of a row stay below the billion bytes that SQLite stores.
+abbrev pub longest_text : ℕ
+longest_text = 400000000
+
+abbrev pub IsShort : List ℕ → Type 0
+IsShort text = length text ≤ longest_text
+
+-- SQLite finds rowids for so many more rows: the rows ascend by rowid, and the numbers above the last one have 64 bits.
+pub record HasRowids (count : ℕ) (rows : List Row) : Type 0 where
+  pub ascend : IsTable rows
+  pub keyed : AllByRecursion (λ r. IsTrue (is_int (rowid r))) rows
+  pub room : (i : ℕ) → i < count → fits_i64 (next_rowid rows +ℤ pos i) ≡ true
 
 -- a text of this length is one statement, with so many parameters
 abbrev pub IsWhole : ℕ → ℕ → Result Compiled CompileError → Type 0

@@ -4,10 +4,12 @@ use Rattle.std.specs.Prelude.{◌≡◌, ◌≢◌, ◌-◌, ◌^◌, ◌<◌, �
 use Rattle.sqlite.specs.Store.{Ghosts}
 use Rattle.sqlite.specs.Held.{Held, state}
 use Rattle.sqlite.specs.State.{HasCleanDisk, IsUnchanged, KeepsCommit, Survives}
+use Rattle.sqlite.specs.declared.error.Error.{Error}
 use Rattle.sqlite_trees.specs.Tree.{Trees}
 use Rattle.tb_tables.specs.Layout.{desk_schema}
 use Rattle.tb_tables.specs.Records.{Tables, Stands}
 use Rattle.tb_tables.specs.Changes.{IsInside, Changes, Holds}
+use Rattle.tb_tables.specs.Failing.{IsWant}
 
 -- what is read is what the trees show (`IsShown`)
 abbrev pub Reads : {S X E : Type 0} → Ghosts S → Held S → Held S → Result X E → (X → Trees → Type 0) → Type 0
@@ -66,6 +68,12 @@ Turns g old new result IsSo = HasCleanDisk (state g new) → OnOk result (IsInsi
 abbrev pub FailsInside : {S X E : Type 0} → (E → Type 0) → Ghosts S → Held S → Held S → Result X E → (Tables → Type 0 → Type 0) → Type 0
 FailsInside IsFault g old new result IsSo = HasCleanDisk (state g new) → (state g old).step_limit ≡ None → IsInside (state g old) → (d : Tables) → IsSo d (IfErr result IsFault)
 
+-- in a transaction: an error, where the disk fails at nothing and there is no limit on steps, is want of memory
+-- (`IsSo d wants`: under which premises)
+abbrev pub WantsInside : {S X : Type 0} → Ghosts S → Held S → Held S → Result X Error
+    → (Tables → Type 0 → Type 0) → Type 0
+WantsInside g old new result IsSo = IsFaultless g old new → FailsInside IsWant g old new result IsSo
+
 -- a call that succeeds on the tables of records d leaves those of others (`IsSo d into`: under which premises which)
 abbrev pub Leads : {S X E : Type 0} → Ghosts S → Held S → Held S → Result X E → (Tables → (Tables → Type 0) → Type 0) → Type 0
 Leads g old new result IsSo = HasCleanDisk (state g new) → OnOk result ((d : Tables) → Holds g old d → IsSo d (Holds g new))
@@ -77,3 +85,9 @@ CrashesInto g old new IsSo = Survives (state g old) (state g new) (λ db. (d : T
 -- an error on the tables of records d, where there is no limit on steps, is such a fault (`IsSo d fails`: under which premises)
 abbrev pub FailsOn : {S X E : Type 0} → (E → Type 0) → Ghosts S → Held S → Held S → Result X E → (Tables → Type 0 → Type 0) → Type 0
 FailsOn IsFault g old new result IsSo = HasCleanDisk (state g new) → (state g old).step_limit ≡ None → (d : Tables) → Holds g old d → IsSo d (IfErr result IsFault)
+
+-- an error on the tables of records d, where the disk fails at nothing and there is no limit on steps, is want of
+-- memory (`IsSo d wants`: under which premises)
+abbrev pub WantsOn : {S X : Type 0} → Ghosts S → Held S → Held S → Result X Error
+    → (Tables → Type 0 → Type 0) → Type 0
+WantsOn g old new result IsSo = IsFaultless g old new → FailsOn IsWant g old new result IsSo

@@ -4,10 +4,12 @@ ghost use Rattle.std.specs.Prelude.{◌≡◌, ◌≢◌, ◌⊎◌, ◌+◌, �
 ghost use Rattle.sqlite.specs.State.{Survives};
 ghost use Rattle.sqlite.specs.Held.{state};
 ghost use Rattle.tb_tables.specs.Changes.{with_batch, with_sentence, with_revision, with_move, with_pulled};
+ghost use Rattle.tb_tables.specs.Changes.{HasRevisionRowids};
 ghost use Rattle.tb_tables.specs.Failing.{IsStoreFault, IsRoomFault, Lacks, AreUnique, NeedsNoFault};
-ghost use Rattle.tb_tables.specs.Failing.{NeedsNoFaultOnRevisions};
+ghost use Rattle.tb_tables.specs.Failing.{IsShort, NeedsNoFaultOnRevisions};
 ghost use Rattle.tb_tables.specs.Values.{move_of};
 ghost use Rattle.tb_tables.specs.Leaving.{BlamesNoDisk, FailsInside, KeepsCommitted, StandsIn, StaysInside, Turns};
+ghost use Rattle.tb_tables.specs.Leaving.{WantsInside};
 
 use crate::rows::MoveRow;
 use sqlite::{Alter, Constraint, Error, ErrorCode, Transaction, params};
@@ -23,6 +25,10 @@ pub fn insert_batch<S: Alter>(
     ensures same_reference { tx.new.conn.ghost_name ≡ tx.old.conn.ghost_name }
     ensures ok { Turns S.Store tx.old.conn.now tx.new.conn.now result (λ d into. no ≡ 1 + length d.batches → into (with_batch d (record { name = name.now; state = in_state; worker = worker.now }))) }
     ensures fails { FailsInside IsStoreFault S.Store tx.old.conn.now tx.new.conn.now result (λ d fails. StandsIn S.Store tx.old.conn.now d → no ≡ 1 + length d.batches → AreUnique (with_batch d (record { name = name.now; state = in_state; worker = worker.now })) → fails) }
+    ensures wants { WantsInside S.Store tx.old.conn.now tx.new.conn.now result (λ d wants.
+        StandsIn S.Store tx.old.conn.now d → no ≡ 1 + length d.batches
+        → AreUnique (with_batch d (record { name = name.now; state = in_state; worker = worker.now }))
+        → IsShort name.now → IsShort worker.now → wants) }
     ensures cause { BlamesNoDisk NeedsNoFault S.Store tx.old.conn.now tx.new.conn.now result }
     ensures inside { StaysInside S.Store tx.old.conn.now tx.new.conn.now result }
     ensures kept { KeepsCommitted S.Store tx.old.conn.now tx.new.conn.now }
@@ -47,6 +53,10 @@ pub fn insert_sentence<S: Alter>(
     ensures same_reference { tx.new.conn.ghost_name ≡ tx.old.conn.ghost_name }
     ensures ok { Turns S.Store tx.old.conn.now tx.new.conn.now result (λ d into. no ≡ 1 + length d.sentences → into (with_sentence d (record { sent_id = sent_id.now; batch = batch; rev = rev; words = words }))) }
     ensures fails { FailsInside IsStoreFault S.Store tx.old.conn.now tx.new.conn.now result (λ d fails. StandsIn S.Store tx.old.conn.now d → no ≡ 1 + length d.sentences → AreUnique (with_sentence d (record { sent_id = sent_id.now; batch = batch; rev = rev; words = words })) → fails) }
+    ensures wants { WantsInside S.Store tx.old.conn.now tx.new.conn.now result (λ d wants.
+        StandsIn S.Store tx.old.conn.now d → no ≡ 1 + length d.sentences
+        → AreUnique (with_sentence d (record { sent_id = sent_id.now; batch = batch; rev = rev; words = words }))
+        → IsShort sent_id.now → wants) }
     ensures cause { BlamesNoDisk NeedsNoFault S.Store tx.old.conn.now tx.new.conn.now result }
     ensures inside { StaysInside S.Store tx.old.conn.now tx.new.conn.now result }
     ensures kept { KeepsCommitted S.Store tx.old.conn.now tx.new.conn.now }
@@ -82,6 +92,10 @@ pub fn insert_revision<S: Alter>(
     ensures same_reference { tx.new.conn.ghost_name ≡ tx.old.conn.ghost_name }
     ensures ok { Turns S.Store tx.old.conn.now tx.new.conn.now result (λ d into. into (with_revision d (record { sent = sent; rev = rev; who = who.now; body = body.now }))) }
     ensures fails { FailsInside IsRoomFault S.Store tx.old.conn.now tx.new.conn.now result (λ d fails. StandsIn S.Store tx.old.conn.now d → AreUnique (with_revision d (record { sent = sent; rev = rev; who = who.now; body = body.now })) → fails) }
+    ensures wants { WantsInside S.Store tx.old.conn.now tx.new.conn.now result (λ d wants.
+        StandsIn S.Store tx.old.conn.now d
+        → AreUnique (with_revision d (record { sent = sent; rev = rev; who = who.now; body = body.now }))
+        → IsShort who.now → IsShort body.now → HasRevisionRowids (state S.Store tx.old.conn.now) 1 → wants) }
     ensures cause { BlamesNoDisk NeedsNoFaultOnRevisions S.Store tx.old.conn.now tx.new.conn.now result }
     ensures inside { StaysInside S.Store tx.old.conn.now tx.new.conn.now result }
     ensures kept { KeepsCommitted S.Store tx.old.conn.now tx.new.conn.now }
@@ -101,6 +115,9 @@ pub fn insert_move<S: Alter>(tx: &mut Transaction<'_, S>, no: u32, m: &MoveRow) 
     ensures same_reference { tx.new.conn.ghost_name ≡ tx.old.conn.ghost_name }
     ensures ok { Turns S.Store tx.old.conn.now tx.new.conn.now result (λ d into. no ≡ 1 + length d.moves → into (with_move d (move_of m.now))) }
     ensures fails { FailsInside IsStoreFault S.Store tx.old.conn.now tx.new.conn.now result (λ d fails. StandsIn S.Store tx.old.conn.now d → no ≡ 1 + length d.moves → AreUnique d → fails) }
+    ensures wants { WantsInside S.Store tx.old.conn.now tx.new.conn.now result (λ d wants.
+        StandsIn S.Store tx.old.conn.now d → no ≡ 1 + length d.moves
+        → AreUnique d → IsShort (move_of m.now).who → wants) }
     ensures cause { BlamesNoDisk NeedsNoFault S.Store tx.old.conn.now tx.new.conn.now result }
     ensures inside { StaysInside S.Store tx.old.conn.now tx.new.conn.now result }
     ensures kept { KeepsCommitted S.Store tx.old.conn.now tx.new.conn.now }
@@ -129,6 +146,8 @@ pub fn insert_pulled<S: Alter>(tx: &mut Transaction<'_, S>, sent: u32) -> Result
     ensures same_reference { tx.new.conn.ghost_name ≡ tx.old.conn.ghost_name }
     ensures ok { Turns S.Store tx.old.conn.now tx.new.conn.now result (λ d into. into (with_pulled d sent)) }
     ensures fails { FailsInside IsStoreFault S.Store tx.old.conn.now tx.new.conn.now result (λ d fails. StandsIn S.Store tx.old.conn.now d → Lacks d.pulled sent → AreUnique d → fails) }
+    ensures wants { WantsInside S.Store tx.old.conn.now tx.new.conn.now result (λ d wants.
+        StandsIn S.Store tx.old.conn.now d → Lacks d.pulled sent → AreUnique d → wants) }
     ensures cause { BlamesNoDisk NeedsNoFault S.Store tx.old.conn.now tx.new.conn.now result }
     ensures inside { StaysInside S.Store tx.old.conn.now tx.new.conn.now result }
     ensures kept { KeepsCommitted S.Store tx.old.conn.now tx.new.conn.now }

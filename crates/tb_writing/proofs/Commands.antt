@@ -24,11 +24,11 @@ kept_then a b c p q = record {
 }
 
 pub changes_then : (a b c : State) (d e f : Tables) → Changes a b d e → Changes b c e f → Changes a c d f
-changes_then a b c d e f p q = record { inside = q.inside; committed = q.committed ∙ p.committed; stands = λ s. q.stands (p.stands s) }
+changes_then a b c d e f p q = record { inside = q.inside; committed = q.committed ∙ p.committed; stands = λ s. q.stands (p.stands s); rowids = λ n h. q.rowids n (p.rowids n h) }
 
 -- nothing is done
 pub changes_none : (a : State) (d : Tables) → IsInside a → Changes a a d d
-changes_none a d inside = record { inside = inside; committed = refl; stands = λ s. s }
+changes_none a d inside = record { inside = inside; committed = refl; stands = λ s. s; rowids = λ n h. h }
 
 module _ {S : Type 0} (g : Ghosts S) (old begun last end : Held S) (begins : begun ≡ record old { in_transaction = true }) where
   -- as `transaction` leaves it

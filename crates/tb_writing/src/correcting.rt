@@ -4,13 +4,15 @@ ghost use Rattle.std.specs.Prelude.{◌≡◌, ◌<◌, ◌-◌, Some, slice_get
 ghost use Rattle.sqlite.specs.State.{Survives};
 ghost use Rattle.sqlite.specs.Held.{state};
 ghost use Rattle.tb_tables.specs.Records.{Sentence};
-ghost use Rattle.tb_tables.specs.Changes.{with_revision};
+ghost use Rattle.tb_tables.specs.Changes.{with_revision, HasRevisionRowids};
 ghost use Rattle.tb_tables.specs.Values.{move_of, total_of};
 ghost use Rattle.tb_tables.specs.Commands.{after_correction};
 ghost use Rattle.tb_tables.specs.Failing.{IsRoomFault, AreUnique, NeedsNoFaultOnRevisions};
+ghost use Rattle.tb_tables.specs.Failing.{IsShort};
 ghost use Rattle.tb_writing.specs.Premises.{Follows};
 ghost use Rattle.tb_tables.specs.Leaving.{CrashesInto, FailsInside, FailsOn, KeepsCommitted, KeepsRecordsOnErr};
 ghost use Rattle.tb_tables.specs.Leaving.{Leads, StandsIn, StaysInside, Turns, BlamesNoDisk};
+ghost use Rattle.tb_tables.specs.Leaving.{WantsInside, WantsOn};
 
 use crate::recording::{Change, record};
 use sqlite::{Alter, Connection, Error, Transaction};
@@ -30,6 +32,12 @@ fn correct<S: Alter>(
     ensures same_reference { tx.new.conn.ghost_name ≡ tx.old.conn.ghost_name }
     ensures ok { Turns S.Store tx.old.conn.now tx.new.conn.now result (λ d into. (s : Sentence) → slice_get d.sentences (number - 1) ≡ Some s → Follows d change.now → StandsIn S.Store tx.old.conn.now d → into (after_correction d number s (record { sent = number; rev = rev; who = who.now; body = body.now }) words (move_of change.now.row) (total_of change.now.left) (total_of change.now.reached))) }
     ensures fails { FailsInside IsRoomFault S.Store tx.old.conn.now tx.new.conn.now result (λ d fails. (s : Sentence) → slice_get d.sentences (number - 1) ≡ Some s → Follows d change.now → StandsIn S.Store tx.old.conn.now d → AreUnique (with_revision d (record { sent = number; rev = rev; who = who.now; body = body.now })) → fails) }
+    ensures wants { WantsInside S.Store tx.old.conn.now tx.new.conn.now result (λ d wants.
+        (s : Sentence) → slice_get d.sentences (number - 1) ≡ Some s → Follows d change.now
+        → StandsIn S.Store tx.old.conn.now d
+        → AreUnique (with_revision d (record { sent = number; rev = rev; who = who.now; body = body.now }))
+        → IsShort s.sent_id → IsShort who.now → IsShort body.now → IsShort (move_of change.now.row).who
+        → HasRevisionRowids (state S.Store tx.old.conn.now) 1 → wants) }
     ensures cause { BlamesNoDisk NeedsNoFaultOnRevisions S.Store tx.old.conn.now tx.new.conn.now result }
     ensures inside { StaysInside S.Store tx.old.conn.now tx.new.conn.now result }
     ensures kept { KeepsCommitted S.Store tx.old.conn.now tx.new.conn.now }
@@ -60,6 +68,11 @@ pub fn write_correction<S: Alter>(
     requires row { 0 < number }
     ensures ok { Leads S.Store conn.old conn.new result (λ d into. (s : Sentence) → slice_get d.sentences (number - 1) ≡ Some s → Follows d change.now → into (after_correction d number s (record { sent = number; rev = rev; who = who.now; body = body.now }) words (move_of change.now.row) (total_of change.now.left) (total_of change.now.reached))) }
     ensures fails { FailsOn IsRoomFault S.Store conn.old conn.new result (λ d fails. (s : Sentence) → slice_get d.sentences (number - 1) ≡ Some s → Follows d change.now → AreUnique (with_revision d (record { sent = number; rev = rev; who = who.now; body = body.now })) → fails) }
+    ensures wants { WantsOn S.Store conn.old conn.new result (λ d wants.
+        (s : Sentence) → slice_get d.sentences (number - 1) ≡ Some s → Follows d change.now
+        → AreUnique (with_revision d (record { sent = number; rev = rev; who = who.now; body = body.now }))
+        → IsShort s.sent_id → IsShort who.now → IsShort body.now → IsShort (move_of change.now.row).who
+        → HasRevisionRowids (state S.Store conn.old) 1 → wants) }
     ensures cause { BlamesNoDisk NeedsNoFaultOnRevisions S.Store conn.old conn.new result }
     ensures err { KeepsRecordsOnErr S.Store conn.old conn.new result }
     ensures crash { CrashesInto S.Store conn.old conn.new (λ d into. (s : Sentence) → slice_get d.sentences (number - 1) ≡ Some s → Follows d change.now → into (after_correction d number s (record { sent = number; rev = rev; who = who.now; body = body.now }) words (move_of change.now.row) (total_of change.now.left) (total_of change.now.reached))) }

@@ -1,15 +1,17 @@
 //! The import of a file.
 
-ghost use Rattle.std.specs.Prelude.{◌≡◌, ◌+◌, ◌<◌, ◌^◌, length, false, []};
+ghost use Rattle.std.specs.Prelude.{◌≡◌, ◌+◌, ◌<◌, ◌^◌, length, false, [], All};
 ghost use Rattle.sqlite.specs.State.{Survives};
 ghost use Rattle.sqlite.specs.Held.{state};
-ghost use Rattle.tb_tables.specs.Changes.{with_batch};
+ghost use Rattle.tb_tables.specs.Changes.{with_batch, HasRevisionRowids};
 ghost use Rattle.tb_tables.specs.Values.{move_of, total_of};
 ghost use Rattle.tb_tables.specs.Commands.{Item as ItemRecord, with_item, with_items, after_import};
 ghost use Rattle.tb_tables.specs.Failing.{IsRoomFault, AreUnique, NeedsNoFaultOnRevisions};
-ghost use Rattle.tb_writing.specs.Premises.{Follows};
+ghost use Rattle.tb_tables.specs.Failing.{IsShort};
+ghost use Rattle.tb_writing.specs.Premises.{Follows, IsShortItem};
 ghost use Rattle.tb_tables.specs.Leaving.{CrashesInto, FailsInside, FailsOn, KeepsCommitted, KeepsRecordsOnErr};
 ghost use Rattle.tb_tables.specs.Leaving.{Leads, StandsIn, StaysInside, Turns, BlamesNoDisk};
+ghost use Rattle.tb_tables.specs.Leaving.{WantsInside, WantsOn};
 
 use crate::recording::{Change, record};
 use sqlite::{Alter, Connection, Error, Transaction};
@@ -43,6 +45,10 @@ fn insert_item<S: Alter>(
     ensures same_reference { tx.new.conn.ghost_name ≡ tx.old.conn.ghost_name }
     ensures ok { Turns S.Store tx.old.conn.now tx.new.conn.now result (λ d into. number ≡ 1 + length d.sentences → into (with_item batch who.now d item.now)) }
     ensures fails { FailsInside IsRoomFault S.Store tx.old.conn.now tx.new.conn.now result (λ d fails. StandsIn S.Store tx.old.conn.now d → number ≡ 1 + length d.sentences → AreUnique (with_item batch who.now d item.now) → fails) }
+    ensures wants { WantsInside S.Store tx.old.conn.now tx.new.conn.now result (λ d wants.
+        StandsIn S.Store tx.old.conn.now d → number ≡ 1 + length d.sentences
+        → AreUnique (with_item batch who.now d item.now) → IsShort who.now → IsShortItem item.now
+        → HasRevisionRowids (state S.Store tx.old.conn.now) 1 → wants) }
     ensures cause { BlamesNoDisk NeedsNoFaultOnRevisions S.Store tx.old.conn.now tx.new.conn.now result }
     ensures inside { StaysInside S.Store tx.old.conn.now tx.new.conn.now result }
     ensures kept { KeepsCommitted S.Store tx.old.conn.now tx.new.conn.now }
@@ -65,6 +71,10 @@ fn insert_items<S: Alter>(
     ensures same_reference { tx.new.conn.ghost_name ≡ tx.old.conn.ghost_name }
     ensures ok { Turns S.Store tx.old.conn.now tx.new.conn.now result (λ d into. first ≡ 1 + length d.sentences → into (with_items batch who.now d items.now)) }
     ensures fails { FailsInside IsRoomFault S.Store tx.old.conn.now tx.new.conn.now result (λ d fails. StandsIn S.Store tx.old.conn.now d → first ≡ 1 + length d.sentences → AreUnique (with_items batch who.now d items.now) → fails) }
+    ensures wants { WantsInside S.Store tx.old.conn.now tx.new.conn.now result (λ d wants.
+        StandsIn S.Store tx.old.conn.now d → first ≡ 1 + length d.sentences
+        → AreUnique (with_items batch who.now d items.now) → IsShort who.now → All IsShortItem items.now
+        → HasRevisionRowids (state S.Store tx.old.conn.now) (length items.now) → wants) }
     ensures cause { BlamesNoDisk NeedsNoFaultOnRevisions S.Store tx.old.conn.now tx.new.conn.now result }
     ensures inside { StaysInside S.Store tx.old.conn.now tx.new.conn.now result }
     ensures kept { KeepsCommitted S.Store tx.old.conn.now tx.new.conn.now }
@@ -91,6 +101,12 @@ fn insert_file<S: Alter>(
     ensures same_reference { tx.new.conn.ghost_name ≡ tx.old.conn.ghost_name }
     ensures ok { Turns S.Store tx.old.conn.now tx.new.conn.now result (λ d into. number ≡ 1 + length d.batches → first ≡ 1 + length d.sentences → into (with_items number who.now (with_batch d (record { name = name.now; state = 1; worker = [] })) items.now)) }
     ensures fails { FailsInside IsRoomFault S.Store tx.old.conn.now tx.new.conn.now result (λ d fails. StandsIn S.Store tx.old.conn.now d → number ≡ 1 + length d.batches → first ≡ 1 + length d.sentences → AreUnique (with_items number who.now (with_batch d (record { name = name.now; state = 1; worker = [] })) items.now) → fails) }
+    ensures wants { WantsInside S.Store tx.old.conn.now tx.new.conn.now result (λ d wants.
+        StandsIn S.Store tx.old.conn.now d → number ≡ 1 + length d.batches → first ≡ 1 + length d.sentences
+        → AreUnique (with_items number who.now
+        (with_batch d (record { name = name.now; state = 1; worker = [] })) items.now)
+        → IsShort name.now → IsShort who.now → All IsShortItem items.now
+        → HasRevisionRowids (state S.Store tx.old.conn.now) (length items.now) → wants) }
     ensures cause { BlamesNoDisk NeedsNoFaultOnRevisions S.Store tx.old.conn.now tx.new.conn.now result }
     ensures inside { StaysInside S.Store tx.old.conn.now tx.new.conn.now result }
     ensures kept { KeepsCommitted S.Store tx.old.conn.now tx.new.conn.now }
@@ -115,6 +131,13 @@ fn import<S: Alter>(
     ensures same_reference { tx.new.conn.ghost_name ≡ tx.old.conn.ghost_name }
     ensures ok { Turns S.Store tx.old.conn.now tx.new.conn.now result (λ d into. number ≡ 1 + length d.batches → first ≡ 1 + length d.sentences → Follows d change.now → StandsIn S.Store tx.old.conn.now d → into (after_import d name.now who.now items.now (move_of change.now.row) (total_of change.now.left) (total_of change.now.reached))) }
     ensures fails { FailsInside IsRoomFault S.Store tx.old.conn.now tx.new.conn.now result (λ d fails. StandsIn S.Store tx.old.conn.now d → number ≡ 1 + length d.batches → first ≡ 1 + length d.sentences → Follows d change.now → AreUnique (after_import d name.now who.now items.now (move_of change.now.row) (total_of change.now.left) (total_of change.now.reached)) → fails) }
+    ensures wants { WantsInside S.Store tx.old.conn.now tx.new.conn.now result (λ d wants.
+        StandsIn S.Store tx.old.conn.now d → number ≡ 1 + length d.batches → first ≡ 1 + length d.sentences
+        → Follows d change.now
+        → AreUnique (after_import d name.now who.now items.now (move_of change.now.row)
+        (total_of change.now.left) (total_of change.now.reached))
+        → IsShort name.now → IsShort who.now → All IsShortItem items.now → IsShort (move_of change.now.row).who
+        → HasRevisionRowids (state S.Store tx.old.conn.now) (length items.now) → wants) }
     ensures cause { BlamesNoDisk NeedsNoFaultOnRevisions S.Store tx.old.conn.now tx.new.conn.now result }
     ensures inside { StaysInside S.Store tx.old.conn.now tx.new.conn.now result }
     ensures kept { KeepsCommitted S.Store tx.old.conn.now tx.new.conn.now }
@@ -144,6 +167,12 @@ pub fn write_import<S: Alter>(
     requires fits { first + length items.now < 2 ^ 32 }
     ensures ok { Leads S.Store conn.old conn.new result (λ d into. number ≡ 1 + length d.batches → first ≡ 1 + length d.sentences → Follows d change.now → into (after_import d name.now who.now items.now (move_of change.now.row) (total_of change.now.left) (total_of change.now.reached))) }
     ensures fails { FailsOn IsRoomFault S.Store conn.old conn.new result (λ d fails. number ≡ 1 + length d.batches → first ≡ 1 + length d.sentences → Follows d change.now → AreUnique (after_import d name.now who.now items.now (move_of change.now.row) (total_of change.now.left) (total_of change.now.reached)) → fails) }
+    ensures wants { WantsOn S.Store conn.old conn.new result (λ d wants.
+        number ≡ 1 + length d.batches → first ≡ 1 + length d.sentences → Follows d change.now
+        → AreUnique (after_import d name.now who.now items.now (move_of change.now.row)
+        (total_of change.now.left) (total_of change.now.reached))
+        → IsShort name.now → IsShort who.now → All IsShortItem items.now → IsShort (move_of change.now.row).who
+        → HasRevisionRowids (state S.Store conn.old) (length items.now) → wants) }
     ensures cause { BlamesNoDisk NeedsNoFaultOnRevisions S.Store conn.old conn.new result }
     ensures err { KeepsRecordsOnErr S.Store conn.old conn.new result }
     ensures crash { CrashesInto S.Store conn.old conn.new (λ d into. number ≡ 1 + length d.batches → first ≡ 1 + length d.sentences → Follows d change.now → into (after_import d name.now who.now items.now (move_of change.now.row) (total_of change.now.left) (total_of change.now.reached))) }

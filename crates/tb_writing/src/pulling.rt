@@ -6,9 +6,11 @@ ghost use Rattle.sqlite.specs.Held.{state};
 ghost use Rattle.tb_tables.specs.Values.{move_of, total_of};
 ghost use Rattle.tb_tables.specs.Commands.{after_pull, after_restore};
 ghost use Rattle.tb_tables.specs.Failing.{IsStoreFault, Lacks, AreUnique, NeedsNoFault};
+ghost use Rattle.tb_tables.specs.Failing.{IsShort};
 ghost use Rattle.tb_writing.specs.Premises.{Follows};
 ghost use Rattle.tb_tables.specs.Leaving.{CrashesInto, FailsInside, FailsOn, KeepsCommitted, KeepsRecordsOnErr};
 ghost use Rattle.tb_tables.specs.Leaving.{Leads, StandsIn, StaysInside, Turns, BlamesNoDisk};
+ghost use Rattle.tb_tables.specs.Leaving.{WantsInside, WantsOn};
 
 use crate::recording::{Change, record};
 use sqlite::{Alter, Connection, Error, Transaction};
@@ -19,6 +21,9 @@ fn pull<S: Alter>(tx: &mut Transaction<'_, S>, number: u32, change: &Change) -> 
     ensures same_reference { tx.new.conn.ghost_name ≡ tx.old.conn.ghost_name }
     ensures ok { Turns S.Store tx.old.conn.now tx.new.conn.now result (λ d into. Follows d change.now → StandsIn S.Store tx.old.conn.now d → into (after_pull d number (move_of change.now.row) (total_of change.now.left) (total_of change.now.reached))) }
     ensures fails { FailsInside IsStoreFault S.Store tx.old.conn.now tx.new.conn.now result (λ d fails. Follows d change.now → StandsIn S.Store tx.old.conn.now d → Lacks d.pulled number → AreUnique d → fails) }
+    ensures wants { WantsInside S.Store tx.old.conn.now tx.new.conn.now result (λ d wants.
+        Follows d change.now → StandsIn S.Store tx.old.conn.now d → Lacks d.pulled number → AreUnique d
+        → IsShort (move_of change.now.row).who → wants) }
     ensures cause { BlamesNoDisk NeedsNoFault S.Store tx.old.conn.now tx.new.conn.now result }
     ensures inside { StaysInside S.Store tx.old.conn.now tx.new.conn.now result }
     ensures kept { KeepsCommitted S.Store tx.old.conn.now tx.new.conn.now }
@@ -42,6 +47,9 @@ pub fn write_pull<S: Alter>(
     requires autocommit { conn.old.in_transaction ≡ false }
     ensures ok { Leads S.Store conn.old conn.new result (λ d into. Follows d change.now → into (after_pull d number (move_of change.now.row) (total_of change.now.left) (total_of change.now.reached))) }
     ensures fails { FailsOn IsStoreFault S.Store conn.old conn.new result (λ d fails. Follows d change.now → Lacks d.pulled number → AreUnique d → fails) }
+    ensures wants { WantsOn S.Store conn.old conn.new result (λ d wants.
+        Follows d change.now → Lacks d.pulled number → AreUnique d
+        → IsShort (move_of change.now.row).who → wants) }
     ensures cause { BlamesNoDisk NeedsNoFault S.Store conn.old conn.new result }
     ensures err { KeepsRecordsOnErr S.Store conn.old conn.new result }
     ensures crash { CrashesInto S.Store conn.old conn.new (λ d into. Follows d change.now → into (after_pull d number (move_of change.now.row) (total_of change.now.left) (total_of change.now.reached))) }
@@ -58,6 +66,9 @@ fn restore<S: Alter>(tx: &mut Transaction<'_, S>, number: u32, change: &Change) 
     ensures same_reference { tx.new.conn.ghost_name ≡ tx.old.conn.ghost_name }
     ensures ok { Turns S.Store tx.old.conn.now tx.new.conn.now result (λ d into. Follows d change.now → StandsIn S.Store tx.old.conn.now d → into (after_restore d number (move_of change.now.row) (total_of change.now.left) (total_of change.now.reached))) }
     ensures fails { FailsInside IsStoreFault S.Store tx.old.conn.now tx.new.conn.now result (λ d fails. Follows d change.now → StandsIn S.Store tx.old.conn.now d → AreUnique d → fails) }
+    ensures wants { WantsInside S.Store tx.old.conn.now tx.new.conn.now result (λ d wants.
+        Follows d change.now → StandsIn S.Store tx.old.conn.now d → AreUnique d
+        → IsShort (move_of change.now.row).who → wants) }
     ensures cause { BlamesNoDisk NeedsNoFault S.Store tx.old.conn.now tx.new.conn.now result }
     ensures inside { StaysInside S.Store tx.old.conn.now tx.new.conn.now result }
     ensures kept { KeepsCommitted S.Store tx.old.conn.now tx.new.conn.now }
@@ -81,6 +92,8 @@ pub fn write_restore<S: Alter>(
     requires autocommit { conn.old.in_transaction ≡ false }
     ensures ok { Leads S.Store conn.old conn.new result (λ d into. Follows d change.now → into (after_restore d number (move_of change.now.row) (total_of change.now.left) (total_of change.now.reached))) }
     ensures fails { FailsOn IsStoreFault S.Store conn.old conn.new result (λ d fails. Follows d change.now → AreUnique d → fails) }
+    ensures wants { WantsOn S.Store conn.old conn.new result (λ d wants.
+        Follows d change.now → AreUnique d → IsShort (move_of change.now.row).who → wants) }
     ensures cause { BlamesNoDisk NeedsNoFault S.Store conn.old conn.new result }
     ensures err { KeepsRecordsOnErr S.Store conn.old conn.new result }
     ensures crash { CrashesInto S.Store conn.old conn.new (λ d into. Follows d change.now → into (after_restore d number (move_of change.now.row) (total_of change.now.left) (total_of change.now.reached))) }

@@ -6,8 +6,10 @@ ghost use Rattle.sqlite.specs.Held.{state};
 ghost use Rattle.tb_tables.specs.Values.{move_of, total_of};
 ghost use Rattle.tb_tables.specs.Commands.{with_total, recorded};
 ghost use Rattle.tb_tables.specs.Failing.{IsStoreFault, AreUnique, NeedsNoFault};
+ghost use Rattle.tb_tables.specs.Failing.{IsShort};
 ghost use Rattle.tb_writing.specs.Premises.{Follows};
 ghost use Rattle.tb_tables.specs.Leaving.{FailsInside, KeepsCommitted, StandsIn, StaysInside, Turns, BlamesNoDisk};
+ghost use Rattle.tb_tables.specs.Leaving.{WantsInside};
 
 use sqlite::{Alter, Error, Transaction};
 use tb_tables::{MoveRow, TotalRow, insert_move, update_total};
@@ -33,6 +35,8 @@ fn write_total<S: Alter>(
     ensures same_reference { tx.new.conn.ghost_name ≡ tx.old.conn.ghost_name }
     ensures ok { Turns S.Store tx.old.conn.now tx.new.conn.now result (λ d into. in_state ≤ length d.totals → StandsIn S.Store tx.old.conn.now d → into (with_total d in_state (total_of total.now))) }
     ensures fails { FailsInside IsStoreFault S.Store tx.old.conn.now tx.new.conn.now result (λ d fails. StandsIn S.Store tx.old.conn.now d → AreUnique d → fails) }
+    ensures wants { WantsInside S.Store tx.old.conn.now tx.new.conn.now result (λ d wants.
+        StandsIn S.Store tx.old.conn.now d → AreUnique d → wants) }
     ensures cause { BlamesNoDisk NeedsNoFault S.Store tx.old.conn.now tx.new.conn.now result }
     ensures inside { StaysInside S.Store tx.old.conn.now tx.new.conn.now result }
     ensures kept { KeepsCommitted S.Store tx.old.conn.now tx.new.conn.now }
@@ -50,6 +54,9 @@ pub(crate) fn record<S: Alter>(tx: &mut Transaction<'_, S>, change: &Change) -> 
     ensures same_reference { tx.new.conn.ghost_name ≡ tx.old.conn.ghost_name }
     ensures ok { Turns S.Store tx.old.conn.now tx.new.conn.now result (λ d into. Follows d change.now → StandsIn S.Store tx.old.conn.now d → into (recorded d (move_of change.now.row) (total_of change.now.left) (total_of change.now.reached))) }
     ensures fails { FailsInside IsStoreFault S.Store tx.old.conn.now tx.new.conn.now result (λ d fails. Follows d change.now → StandsIn S.Store tx.old.conn.now d → AreUnique d → fails) }
+    ensures wants { WantsInside S.Store tx.old.conn.now tx.new.conn.now result (λ d wants.
+        Follows d change.now → StandsIn S.Store tx.old.conn.now d → AreUnique d
+        → IsShort (move_of change.now.row).who → wants) }
     ensures cause { BlamesNoDisk NeedsNoFault S.Store tx.old.conn.now tx.new.conn.now result }
     ensures inside { StaysInside S.Store tx.old.conn.now tx.new.conn.now result }
     ensures kept { KeepsCommitted S.Store tx.old.conn.now tx.new.conn.now }

@@ -7,9 +7,11 @@ ghost use Rattle.tb_tables.specs.Records.{Batch};
 ghost use Rattle.tb_tables.specs.Values.{move_of, total_of};
 ghost use Rattle.tb_tables.specs.Commands.{after_event};
 ghost use Rattle.tb_tables.specs.Failing.{IsStoreFault, AreUnique, NeedsNoFault};
+ghost use Rattle.tb_tables.specs.Failing.{IsShort};
 ghost use Rattle.tb_writing.specs.Premises.{Follows};
 ghost use Rattle.tb_tables.specs.Leaving.{CrashesInto, FailsInside, FailsOn, KeepsCommitted, KeepsRecordsOnErr};
 ghost use Rattle.tb_tables.specs.Leaving.{Leads, StandsIn, StaysInside, Turns, BlamesNoDisk};
+ghost use Rattle.tb_tables.specs.Leaving.{WantsInside, WantsOn};
 
 use crate::recording::{Change, record};
 use sqlite::{Alter, Connection, Error, Transaction};
@@ -27,6 +29,10 @@ fn step<S: Alter>(
     ensures same_reference { tx.new.conn.ghost_name ≡ tx.old.conn.ghost_name }
     ensures ok { Turns S.Store tx.old.conn.now tx.new.conn.now result (λ d into. (b : Batch) → slice_get d.batches (number - 1) ≡ Some b → Follows d change.now → StandsIn S.Store tx.old.conn.now d → into (after_event d number b in_state worker.now (move_of change.now.row) (total_of change.now.left) (total_of change.now.reached))) }
     ensures fails { FailsInside IsStoreFault S.Store tx.old.conn.now tx.new.conn.now result (λ d fails. (b : Batch) → slice_get d.batches (number - 1) ≡ Some b → Follows d change.now → StandsIn S.Store tx.old.conn.now d → AreUnique d → fails) }
+    ensures wants { WantsInside S.Store tx.old.conn.now tx.new.conn.now result (λ d wants.
+        (b : Batch) → slice_get d.batches (number - 1) ≡ Some b → Follows d change.now
+        → StandsIn S.Store tx.old.conn.now d → AreUnique d
+        → IsShort b.name → IsShort worker.now → IsShort (move_of change.now.row).who → wants) }
     ensures cause { BlamesNoDisk NeedsNoFault S.Store tx.old.conn.now tx.new.conn.now result }
     ensures inside { StaysInside S.Store tx.old.conn.now tx.new.conn.now result }
     ensures kept { KeepsCommitted S.Store tx.old.conn.now tx.new.conn.now }
@@ -54,6 +60,9 @@ pub fn write_event<S: Alter>(
     requires row { 0 < number }
     ensures ok { Leads S.Store conn.old conn.new result (λ d into. (b : Batch) → slice_get d.batches (number - 1) ≡ Some b → Follows d change.now → into (after_event d number b in_state worker.now (move_of change.now.row) (total_of change.now.left) (total_of change.now.reached))) }
     ensures fails { FailsOn IsStoreFault S.Store conn.old conn.new result (λ d fails. (b : Batch) → slice_get d.batches (number - 1) ≡ Some b → Follows d change.now → AreUnique d → fails) }
+    ensures wants { WantsOn S.Store conn.old conn.new result (λ d wants.
+        (b : Batch) → slice_get d.batches (number - 1) ≡ Some b → Follows d change.now → AreUnique d
+        → IsShort b.name → IsShort worker.now → IsShort (move_of change.now.row).who → wants) }
     ensures cause { BlamesNoDisk NeedsNoFault S.Store conn.old conn.new result }
     ensures err { KeepsRecordsOnErr S.Store conn.old conn.new result }
     ensures crash { CrashesInto S.Store conn.old conn.new (λ d into. (b : Batch) → slice_get d.batches (number - 1) ≡ Some b → Follows d change.now → into (after_event d number b in_state worker.now (move_of change.now.row) (total_of change.now.left) (total_of change.now.reached))) }

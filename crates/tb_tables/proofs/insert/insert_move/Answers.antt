@@ -1,12 +1,14 @@
 use Rattle.std.proofs.Common.{arith, subst, sym}
 use Rattle.std.proofs.lemmas.Result.{err_from_is_err_and}
-use Rattle.tb_tables.specs.Failing.{IsStoreFault, NeedsNoFault}
+use Rattle.tb_tables.specs.Failing.{IsStoreFault, IsWant, NeedsNoFault}
 use Rattle.tb_tables.proofs.Failing.{move_fails}
 use Rattle.sqlite.specs.Held.{state}
 use Rattle.tb_tables.specs.Values.{move_of}
 use Rattle.tb_tables.proofs.Inside.{kept_by}
 use Rattle.tb_tables.proofs.Meaning.{puts_move, stands_move}
-use Rattle.tb_tables.proofs.Causes.{handed_on, statement_needs_none}
+use Rattle.tb_tables.proofs.Refusing.{store_fault, fails_as}
+use Rattle.tb_tables.proofs.Rowids.{rowids_stay}
+use Rattle.tb_tables.proofs.Causes.{handed_on, statement_needs_none, failed_wants}
 use Rattle.tb_tables.proofs.insert.insert_move.Goals as goal
 
 pub returns-clause-ok : goal.returns-clause-ok
@@ -16,7 +18,7 @@ returns-clause-ok g c clean inside d at =
     let ran = c.in_ok-execute.ensures.runs clean inside.begun in
     let x = move_of c.args.m.now in
     let puts = puts_move old new c.args.no x c.in_ok-execute.field-0 inside.schema (rw (c.params-to_sql.ensures, c.params-to_sql-2.ensures, c.params-to_sql-3.ensures, c.params-to_sql-4.ensures, c.params-to_sql-5.ensures, c.params-to_sql-6.ensures, c.params-to_sql-7.ensures, c.params-to_sql-8.ensures, c.params-to_sql-9.ensures, c.params-to_sql-10.ensures) at ran.0) in
-    record { inside = record { begun = ran.1.mode; schema = puts.sets.schema }; committed = ran.1.committed_is; stands = stands_move old new d c.args.no x puts at }
+    record { inside = record { begun = ran.1.mode; schema = puts.sets.schema }; committed = ran.1.committed_is; stands = stands_move old new d c.args.no x puts at; rowids = rowids_stay old new 7 _ puts.sets (λ e. cc) d }
 
 pub returns-clause-inside : goal.returns-clause-inside
 returns-clause-inside g c clean inside =
@@ -40,7 +42,16 @@ returns-in_err-execute-clause-fails g c clean unlimited inside d stands next uni
     let told = err_from_is_err_and c.from_residual.result c.from_residual.ensures.1 in
     let ran = c.in_err-execute.ensures.runs clean inside.begun in
     let small = c.ranges.no.fits in
-    rw told.1 (subst IsStoreFault (sym told.2) (move_fails old new d c.args.no (move_of c.args.m.now) c.in_err-execute.field-0.0 inside.schema unlimited stands (omega (arith, small)) next unique (rw (c.params-to_sql.ensures, c.params-to_sql-2.ensures, c.params-to_sql-3.ensures, c.params-to_sql-4.ensures, c.params-to_sql-5.ensures, c.params-to_sql-6.ensures, c.params-to_sql-7.ensures, c.params-to_sql-8.ensures, c.params-to_sql-9.ensures, c.params-to_sql-10.ensures) at ran)))
+    rw told.1 (subst IsStoreFault (sym told.2) (store_fault old new c.in_err-execute.field-0.0 (move_fails old new d c.args.no (move_of c.args.m.now) c.in_err-execute.field-0.0 inside.schema unlimited stands (omega (arith, small)) next unique (rw (c.params-to_sql.ensures, c.params-to_sql-2.ensures, c.params-to_sql-3.ensures, c.params-to_sql-4.ensures, c.params-to_sql-5.ensures, c.params-to_sql-6.ensures, c.params-to_sql-7.ensures, c.params-to_sql-8.ensures, c.params-to_sql-9.ensures, c.params-to_sql-10.ensures) at ran))))
+
+pub returns-in_err-execute-clause-wants : goal.returns-in_err-execute-clause-wants
+returns-in_err-execute-clause-wants g c good clean unlimited inside d stands next unique who =
+    let old = state g.S.Store c.args.tx.now.conn.now in
+    let new = state g.S.Store c.execute.new.self.conn.now in
+    let told = err_from_is_err_and c.from_residual.result c.from_residual.ensures.1 in
+    let ran = c.in_err-execute.ensures.runs clean inside.begun in
+    let small = c.ranges.no.fits in
+    rw told.1 (subst IsWant (sym told.2) (failed_wants old new good c.in_err-execute.field-0.0 (fails_as (λ big. big who) old new c.in_err-execute.field-0.0 (move_fails old new d c.args.no (move_of c.args.m.now) c.in_err-execute.field-0.0 inside.schema unlimited stands (omega (arith, small)) next unique (rw (c.params-to_sql.ensures, c.params-to_sql-2.ensures, c.params-to_sql-3.ensures, c.params-to_sql-4.ensures, c.params-to_sql-5.ensures, c.params-to_sql-6.ensures, c.params-to_sql-7.ensures, c.params-to_sql-8.ensures, c.params-to_sql-9.ensures, c.params-to_sql-10.ensures) at ran)))))
 
 pub returns-in_err-execute-clause-cause : goal.returns-in_err-execute-clause-cause
 returns-in_err-execute-clause-cause g c clean good =

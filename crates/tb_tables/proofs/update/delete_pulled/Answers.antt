@@ -1,11 +1,13 @@
 use Rattle.std.proofs.Common.{not, filter, ◌==◌, subst, sym}
 use Rattle.std.proofs.lemmas.Result.{err_from_is_err_and}
-use Rattle.tb_tables.specs.Failing.{IsStoreFault, NeedsNoFault}
+use Rattle.tb_tables.specs.Failing.{IsStoreFault, IsWant, NeedsNoFault}
 use Rattle.tb_tables.proofs.Changing.{delete_fails}
 use Rattle.sqlite.specs.Held.{state}
 use Rattle.tb_tables.proofs.Inside.{kept_by}
 use Rattle.tb_tables.proofs.Meaning.{removes_pulled, deleted_pulled, stands_numbers}
-use Rattle.tb_tables.proofs.Causes.{handed_on, statement_needs_none}
+use Rattle.tb_tables.proofs.Refusing.{store_fault, fails_as}
+use Rattle.tb_tables.proofs.Rowids.{rowids_stay}
+use Rattle.tb_tables.proofs.Causes.{handed_on, statement_needs_none, failed_wants}
 use Rattle.tb_tables.proofs.update.delete_pulled.Goals as goal
 
 pub returns-clause-ok : goal.returns-clause-ok
@@ -19,6 +21,7 @@ returns-clause-ok g c clean inside d holds =
       inside = record { begun = ran.1.mode; schema = sets.1.schema };
       committed = ran.1.committed_is;
       stands = stands_numbers old new d (filter (λ m. not (m == n)) d.pulled) sets.0 sets.1 sets.2;
+      rowids = rowids_stay old new 9 sets.0 sets.1 (λ e. cc) d;
     }
 
 pub returns-clause-inside : goal.returns-clause-inside
@@ -38,7 +41,15 @@ returns-in_err-execute-clause-fails g c clean unlimited inside d stands unique =
     let new = state g.S.Store c.execute.new.self.conn.now in
     let told = err_from_is_err_and c.from_residual.result c.from_residual.ensures.1 in
     let ran = c.in_err-execute.ensures.runs clean inside.begun in
-    rw told.1 (subst IsStoreFault (sym told.2) (delete_fails old new d c.args.sent c.in_err-execute.field-0.0 inside.schema unlimited stands unique (rw c.params-to_sql.ensures at ran)))
+    rw told.1 (subst IsStoreFault (sym told.2) (store_fault old new c.in_err-execute.field-0.0 (delete_fails old new d c.args.sent c.in_err-execute.field-0.0 inside.schema unlimited stands unique (rw c.params-to_sql.ensures at ran))))
+
+pub returns-in_err-execute-clause-wants : goal.returns-in_err-execute-clause-wants
+returns-in_err-execute-clause-wants g c good clean unlimited inside d stands unique =
+    let old = state g.S.Store c.args.tx.now.conn.now in
+    let new = state g.S.Store c.execute.new.self.conn.now in
+    let told = err_from_is_err_and c.from_residual.result c.from_residual.ensures.1 in
+    let ran = c.in_err-execute.ensures.runs clean inside.begun in
+    rw told.1 (subst IsWant (sym told.2) (failed_wants old new good c.in_err-execute.field-0.0 (fails_as (λ none. none) old new c.in_err-execute.field-0.0 (delete_fails old new d c.args.sent c.in_err-execute.field-0.0 inside.schema unlimited stands unique (rw c.params-to_sql.ensures at ran)))))
 
 pub returns-in_err-execute-clause-cause : goal.returns-in_err-execute-clause-cause
 returns-in_err-execute-clause-cause g c clean good =

@@ -9,8 +9,8 @@ use Rattle.tb_tables.specs.Commands.{after_correction}
 use Rattle.tb_tables.specs.Values.{move_of, total_of}
 use Rattle.tb_writing.specs.Premises.{Follows}
 use Rattle.tb_writing.proofs.Commands.{on_err, begins_inside, committed_holds, failed_holds, command_survives}
-use Rattle.tb_tables.specs.Failing.{IsRoomFault, NeedsNoFaultOnRevisions}
-use Rattle.tb_writing.proofs.Failing.{handed_on, begins_unlimited, inside_blames, commit_blames}
+use Rattle.tb_tables.specs.Failing.{IsRoomFault, IsWant, NeedsNoFaultOnRevisions}
+use Rattle.tb_writing.proofs.Failing.{handed_on, begins_unlimited, inside_blames, commit_blames, commit_wants, rowids_begun}
 use Rattle.tb_writing.proofs.correcting.write_correction.Goals as goal
 
 pub returns-clause-ok : goal.returns-clause-ok
@@ -104,3 +104,31 @@ returns-in_err-commit-clause-cause g c clean good =
     let whole = subst (IsFaultless g.S.Store old) (sym same) good in
     commit_blames g.S.Store old c.transaction-tx.result.conn.now last end c.transaction-tx.ensures.begun NeedsNoFaultOnRevisions c.from_residual-in_err-commit.result c.in_err-commit.field-0.0 c.from_residual-in_err-commit.ensures.1
     inl c.correct.ensures.survives c.commit.ensures.survives (c.in_err-commit.ensures.err late) late whole
+
+pub returns-in_err-correct-clause-wants : goal.returns-in_err-correct-clause-wants
+returns-in_err-correct-clause-wants g c good clean unlimited d holds s is follows unique name who body mover ids =
+    let old = c.args.conn.now in
+    let begun = c.transaction-tx.result.conn.now in
+    let last = c.correct.new.tx.conn.now in
+    let end = c.conn-1.given.0 in
+    let was : HasCleanDisk (state g.S.Store last) = search rules in
+    let more : (state g.S.Store last).faults ≤ (state g.S.Store end).faults = search rules in
+    let start = begins_inside g.S.Store old begun last last c.transaction-tx.ensures.begun d holds in
+    let free = begins_unlimited g.S.Store old begun c.transaction-tx.ensures.begun unlimited in
+    inside_blames g.S.Store old begun last end c.transaction-tx.ensures.begun IsWant c.from_residual.result c.in_err-correct.field-0.0 c.from_residual.ensures.1
+    (λ whole. c.in_err-correct.ensures.wants whole was free start.0 d s is follows start.1 unique name who body mover (rowids_begun g.S.Store old begun 1 c.transaction-tx.ensures.begun ids)) more good
+
+pub returns-in_err-commit-clause-wants : goal.returns-in_err-commit-clause-wants
+returns-in_err-commit-clause-wants g c good clean unlimited d holds s is follows unique name who body mover ids =
+    let old = c.args.conn.now in
+    let begun = c.transaction-tx.result.conn.now in
+    let last = c.correct.new.tx.conn.now in
+    let end = c.commit.new.self.0 in
+    let same : end ≡ c.conn-2-1.given.0 = search rules in
+    let late : HasCleanDisk (state g.S.Store end) = search rules in
+    let was : HasCleanDisk (state g.S.Store last) = omega (arith, c.commit.ensures.survives.clean) in
+    let whole = subst (IsFaultless g.S.Store old) (sym same) good in
+    let start = begins_inside g.S.Store old begun last last c.transaction-tx.ensures.begun d holds in
+    let there = c.in_ok-correct.ensures.inside was start.0 in
+    commit_wants g.S.Store old begun last end c.transaction-tx.ensures.begun IsWant c.from_residual-in_err-commit.result c.in_err-commit.field-0.0 c.from_residual-in_err-commit.ensures.1
+    there.begun c.correct.ensures.survives c.commit.ensures.survives (c.in_err-commit.ensures.err late) late whole

@@ -1,4 +1,5 @@
-use Rattle.std.proofs.Common.{◌≡◌, ◌+◌, length, take, arith, rules, subst, sym, ◌∙◌}
+use Rattle.std.proofs.Common.{◌≡◌, ◌<◌, ◌+◌, length, take, get_or, arith, rules, subst, sym, ◌∙◌}
+use Rattle.std.proofs.lemmas.List.{length-take-le}
 use Rattle.sqlite.specs.State.{HasCleanDisk}
 use Rattle.sqlite.specs.Held.{state}
 use Rattle.sqlite.proofs.StateLemmas.{survives_then}
@@ -8,9 +9,10 @@ use Rattle.tb_tables.specs.Commands.{with_item, with_items}
 use Rattle.tb_writing.proofs.Commands.{kept_then, changes_then}
 use Rattle.tb_writing.proofs.Numbers.{one_longer, one_more}
 use Rattle.tb_writing.proofs.importing.insert_items.Goals as goal
-use Rattle.tb_tables.specs.Failing.{IsRoomFault, NeedsNoFaultOnRevisions}
+use Rattle.tb_tables.specs.Failing.{IsRoomFault, IsWant, NeedsNoFaultOnRevisions}
 use Rattle.tb_writing.proofs.Apart.{unique_so_far}
-use Rattle.tb_writing.proofs.Failing.{handed_on, second_blames}
+use Rattle.tb_writing.proofs.Failing.{handed_on, second_blames, rowids_after, revisions_of}
+use Rattle.tb_writing.specs.Premises.{IsShortItem}
 
 pub loop-item-preserved : goal.loop-item-preserved
 loop-item-preserved g c =
@@ -59,6 +61,25 @@ returns-in_err-insert_item-clause-fails g c clean unlimited inside d stands firs
     let free = inv.1.limit ∙ unlimited in
     let fault = c.in_err-insert_item.ensures.fails clean free far.0 done (went.0.stands stands) went.1 apart in
     handed_on IsRoomFault c.from_residual.result c.in_err-insert_item.field-0.0 c.from_residual.ensures.1 fault
+
+pub returns-in_err-insert_item-clause-wants : goal.returns-in_err-insert_item-clause-wants
+returns-in_err-insert_item-clause-wants g c good clean unlimited inside d stands first unique who short ids =
+    let now = state g.S.Store c.loop-item.tx.conn.now in
+    let inv = c.loop-item.invariant in
+    let was : HasCleanDisk now = omega (arith, c.insert_item.ensures.survives.clean) in
+    let far = (inv.3 was).1 inside in
+    let went = far.1 d first in
+    let done = with_items c.args.batch c.args.who.now d (take c.loop-item.item-index c.args.items.now) in
+    let apart = unique_so_far c.args.batch c.args.who.now d c.args.items.now c.loop-item.item-index c.item-item.result (omega (arith, c.loop-item-test.true)) (search rules) unique in
+    let free = inv.1.limit ∙ unlimited in
+    let k = c.loop-item.item-index in
+    let items = c.args.items.now in
+    let below : k < length items = omega (arith, c.loop-item-test.true) in
+    let taken : length done.revisions ≡ length d.revisions + k = (let of = revisions_of c.args.batch c.args.who.now d (take k items) in omega (arith, of, length-take-le k items (omega (arith, below)))) in
+    let left = rowids_after (state g.S.Store c.args.tx.now.conn.now) now d done k 1 (length items) went.0 taken (omega (arith, below)) ids in
+    let here : get_or items k c.item-item.result ≡ c.item-item.result = search rules in
+    let item = subst IsShortItem here (short k c.item-item.result below) in
+    second_blames g.S.Store c.args.tx.now.conn.now c.loop-item.tx.conn.now c.insert_item.new.tx.conn.now IsWant c.from_residual.result c.in_err-insert_item.field-0.0 c.from_residual.ensures.1 c.loop-item.invariant.1 c.insert_item.ensures.survives (λ still whole. c.in_err-insert_item.ensures.wants whole still free far.0 done (went.0.stands stands) went.1 apart who item left) clean good
 
 pub returns-in_err-insert_item-clause-cause : goal.returns-in_err-insert_item-clause-cause
 returns-in_err-insert_item-clause-cause g c clean good =

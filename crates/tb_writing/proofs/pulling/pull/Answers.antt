@@ -6,7 +6,7 @@ use Rattle.tb_tables.specs.Commands.{after_pull}
 use Rattle.tb_tables.specs.Values.{move_of, total_of}
 use Rattle.tb_writing.proofs.Commands.{changes_then}
 use Rattle.tb_writing.proofs.Numbers.{follows_too}
-use Rattle.tb_tables.specs.Failing.{IsStoreFault, NeedsNoFault}
+use Rattle.tb_tables.specs.Failing.{IsStoreFault, IsWant, NeedsNoFault}
 use Rattle.tb_writing.proofs.Apart.{unique_pulled}
 use Rattle.tb_writing.proofs.Failing.{handed_on, second_blames}
 use Rattle.tb_writing.proofs.pulling.pull.Goals as goal
@@ -32,6 +32,15 @@ returns-in_err-record-clause-fails g c clean unlimited inside d follows stands l
     let free = c.insert_pulled.ensures.survives.limit ∙ unlimited in
     let fault = c.in_err-record.ensures.fails clean free one.inside between (follows_too d between c.args.change.now refl refl follows) (one.stands stands) (unique_pulled d c.args.number unique) in
     handed_on IsStoreFault c.from_residual-in_err-record.result c.in_err-record.field-0.0 c.from_residual-in_err-record.ensures.1 fault
+
+pub returns-in_err-record-clause-wants : goal.returns-in_err-record-clause-wants
+returns-in_err-record-clause-wants g c good clean unlimited inside d follows stands lacks unique who =
+    let mid = state g.S.Store c.insert_pulled.new.tx.conn.now in
+    let was : HasCleanDisk mid = omega (arith, c.record.ensures.survives.clean) in
+    let between = with_pulled d c.args.number in
+    let one = c.in_ok-insert_pulled.ensures.ok was inside d in
+    let free = c.insert_pulled.ensures.survives.limit ∙ unlimited in
+    second_blames g.S.Store c.args.tx.now.conn.now c.insert_pulled.new.tx.conn.now c.record.new.tx.conn.now IsWant c.from_residual-in_err-record.result c.in_err-record.field-0.0 c.from_residual-in_err-record.ensures.1 c.insert_pulled.ensures.survives c.record.ensures.survives (λ still whole. c.in_err-record.ensures.wants whole still free one.inside between (follows_too d between c.args.change.now refl refl follows) (one.stands stands) (unique_pulled d c.args.number unique) who) clean good
 
 pub returns-in_err-record-clause-cause : goal.returns-in_err-record-clause-cause
 returns-in_err-record-clause-cause g c clean good =

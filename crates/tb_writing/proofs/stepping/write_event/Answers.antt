@@ -1,6 +1,6 @@
 use Rattle.tb_tables.specs.Leaving.{IsFaultless}
-use Rattle.tb_tables.specs.Failing.{NeedsNoFault}
-use Rattle.tb_writing.proofs.Failing.{inside_blames, commit_blames}
+use Rattle.tb_tables.specs.Failing.{NeedsNoFault, IsWant}
+use Rattle.tb_writing.proofs.Failing.{begins_unlimited, inside_blames, commit_blames, commit_wants}
 use Rattle.std.proofs.Common.{◌≡◌, ◌-◌, Some, slice_get, arith, rules, sym, subst, IsTrue, ◌≤◌}
 use Rattle.sqlite.specs.Tree.{Trees}
 use Rattle.sqlite.specs.State.{HasCleanDisk, Survives}
@@ -94,3 +94,31 @@ returns-in_err-commit-clause-cause g c clean good =
     let whole = subst (IsFaultless g.S.Store old) (sym same) good in
     commit_blames g.S.Store old c.transaction-tx.result.conn.now last end c.transaction-tx.ensures.begun NeedsNoFault c.from_residual-in_err-commit.result c.in_err-commit.field-0.0 c.from_residual-in_err-commit.ensures.1
     (λ none. none) c.step.ensures.survives c.commit.ensures.survives (c.in_err-commit.ensures.err late) late whole
+
+pub returns-in_err-step-clause-wants : goal.returns-in_err-step-clause-wants
+returns-in_err-step-clause-wants g c good clean unlimited d holds b is follows unique name worker who =
+    let old = c.args.conn.now in
+    let begun = c.transaction-tx.result.conn.now in
+    let last = c.step.new.tx.conn.now in
+    let end = c.conn-1.given.0 in
+    let was : HasCleanDisk (state g.S.Store last) = search rules in
+    let more : (state g.S.Store last).faults ≤ (state g.S.Store end).faults = search rules in
+    let start = begins_inside g.S.Store old begun last last c.transaction-tx.ensures.begun d holds in
+    let free = begins_unlimited g.S.Store old begun c.transaction-tx.ensures.begun unlimited in
+    inside_blames g.S.Store old begun last end c.transaction-tx.ensures.begun IsWant c.from_residual.result c.in_err-step.field-0.0 c.from_residual.ensures.1
+    (λ whole. c.in_err-step.ensures.wants whole was free start.0 d b is follows start.1 unique name worker who) more good
+
+pub returns-in_err-commit-clause-wants : goal.returns-in_err-commit-clause-wants
+returns-in_err-commit-clause-wants g c good clean unlimited d holds b is follows unique name worker who =
+    let old = c.args.conn.now in
+    let begun = c.transaction-tx.result.conn.now in
+    let last = c.step.new.tx.conn.now in
+    let end = c.commit.new.self.0 in
+    let same : end ≡ c.conn-2-1.given.0 = search rules in
+    let late : HasCleanDisk (state g.S.Store end) = search rules in
+    let was : HasCleanDisk (state g.S.Store last) = omega (arith, c.commit.ensures.survives.clean) in
+    let whole = subst (IsFaultless g.S.Store old) (sym same) good in
+    let start = begins_inside g.S.Store old begun last last c.transaction-tx.ensures.begun d holds in
+    let there = c.in_ok-step.ensures.inside was start.0 in
+    commit_wants g.S.Store old begun last end c.transaction-tx.ensures.begun IsWant c.from_residual-in_err-commit.result c.in_err-commit.field-0.0 c.from_residual-in_err-commit.ensures.1
+    there.begun c.step.ensures.survives c.commit.ensures.survives (c.in_err-commit.ensures.err late) late whole
