@@ -1,16 +1,21 @@
 -- One call that only reads after another.
-use Rattle.std.proofs.Common.{◌≡◌, ◌≢◌, false, IsTrue, Result, Ok, Err, OnOk, OnErr, refl, inl, arith}
+use Rattle.std.proofs.Common.{◌≡◌, ◌≢◌, ◌∙◌, ap, false, IsTrue, None, Result, Ok, Err, OnOk, OnErr, IfErr, IsErrAnd, refl, inl, arith}
 use Rattle.sqlite.specs.Store.{Ghosts}
+use Rattle.sqlite.specs.Effect.{Database}
 use Rattle.sqlite.specs.Tree.{Trees}
 use Rattle.sqlite.specs.Held.{Held, state}
 use Rattle.sqlite.specs.State.{HasCleanDisk, IsUnchanged, Survives}
 use Rattle.sqlite.proofs.StateLemmas.{survives_then, survives_weaker}
+use Rattle.tb_core.specs.declared.refusals.Fault.{Fault}
 use Rattle.tb_core.specs.Machine.{Machine}
 use Rattle.tb_tables.specs.Layout.{desk_schema}
 use Rattle.tb_tables.specs.Records.{Tables}
 use Rattle.tb_tables.specs.Changes.{Holds}
+use Rattle.tb_tables.specs.Leaving.{IsFaultless}
 use Rattle.tb_tables.proofs.Commands.{same_holds}
+use Rattle.tb_tables.proofs.Causes.{handed_on, faultless_next}
 use Rattle.tb_standing.specs.Standing.{tables_of, IsDesk}
+use Rattle.tb_recording.specs.Faults.{IsNoDevice}
 use Rattle.tb_importing.specs.Leaving.{IsLeft, Stays}
 
 module _ {S : Type 0} (g : Ghosts S) where
@@ -29,21 +34,42 @@ module _ {S : Type 0} (g : Ghosts S) where
     left_from mode kept lasts = record { mode = mode; kept = kept; lasts = survives_weaker (state g a) (state g b) _ _ (λ _ _ other d holds. other holds.schema) lasts }
 
     pub stays_from : (HasCleanDisk (state g b) → (state g a).now.schema ≡ desk_schema → IsUnchanged (state g a) (state g b)) → Stays g a b
-    stays_from same clean d holds = same_holds g a b d holds (same clean holds.schema)
+    stays_from same = record {
+      schema = λ clean has. ap (λ (d : Database). d.schema) (same clean has).0.now_is ∙ has;
+      holds = λ clean d holds. same_holds g a b d holds (same clean holds.schema);
+    }
 
     pub desk_stays : Stays g a b → HasCleanDisk (state g b) → (s : Machine) → IsDesk g a s → IsDesk g b s
-    desk_stays stays clean s desk = record { reachable = desk.reachable; holds = stays clean (tables_of s) desk.holds }
+    desk_stays stays clean s desk = record { reachable = desk.reachable; holds = stays.holds clean (tables_of s) desk.holds }
 
   module _ (a b c : Held S) where
     pub left_then : IsLeft g a b → Stays g a b → IsLeft g b c → IsLeft g a c
     left_then one stays two = record {
       mode = λ h. two.mode (one.mode h);
-      kept = λ clean opened d holds. two.kept clean opened d (stays (omega (arith, clean, two.lasts.clean)) d holds);
-      lasts = survives_then (state g a) (state g b) (state g c) _ _ _ (λ _ _ none. none) (λ clean _ none d holds. none d (stays (omega (arith, clean, two.lasts.clean)) d holds)) one.lasts two.lasts;
+      kept = λ clean opened d holds. two.kept clean opened d (stays.holds (omega (arith, clean, two.lasts.clean)) d holds);
+      lasts = survives_then (state g a) (state g b) (state g c) _ _ _ (λ _ _ none. none) (λ clean _ none d holds. none d (stays.holds (omega (arith, clean, two.lasts.clean)) d holds)) one.lasts two.lasts;
     }
 
     pub stays_then : Stays g a b → IsLeft g b c → Stays g b c → Stays g a c
-    stays_then one two more clean d holds = more clean d (one (omega (arith, clean, two.lasts.clean)) d holds)
+    stays_then one two more = record {
+      schema = λ clean has. more.schema clean (one.schema (omega (arith, clean, two.lasts.clean)) has);
+      holds = λ clean d holds. more.holds clean d (one.holds (omega (arith, clean, two.lasts.clean)) d holds);
+    }
+
+    -- where the disk fails at nothing in both, it does not in the second
+    pub next_clear : (P : Type 0) → IsLeft g a b → Stays g a b → IsLeft g b c
+        → (IsFaultless g b c → HasCleanDisk (state g c) → (state g b).step_limit ≡ None → (state g b).now.schema ≡ desk_schema → P)
+        → IsFaultless g a c → HasCleanDisk (state g c) → (state g a).step_limit ≡ None → (state g a).now.schema ≡ desk_schema → P
+    next_clear P one stays two fine good clean unlimited has =
+        let mid : HasCleanDisk (state g b) = omega (arith, clean, two.lasts.clean) in
+        let here = faultless_next (state g a) (state g b) (state g c) good one.lasts mid two.lasts.counts in
+        fine here clean (one.lasts.limit ∙ unlimited) (stays.schema mid has)
+
+    -- and its error is handed on
+    pub left_clear : {T : Type 0} (r : Result T Fault) (e : Fault) → IsErrAnd r (λ x. x ≡ e) → IsLeft g a b → Stays g a b → IsLeft g b c
+        → (IsFaultless g b c → HasCleanDisk (state g c) → (state g b).step_limit ≡ None → (state g b).now.schema ≡ desk_schema → IsNoDevice e)
+        → IsFaultless g a c → HasCleanDisk (state g c) → (state g a).step_limit ≡ None → (state g a).now.schema ≡ desk_schema → IfErr r IsNoDevice
+    left_clear r e handed one stays two fine good clean unlimited has = handed_on IsNoDevice r e handed (next_clear (IsNoDevice e) one stays two fine good clean unlimited has)
 
 pub stays_if : {T E : Type 0} {X Y : Type 0} (r : Result T E) → (X → Y) → OnOk r X → OnOk r Y
 stays_if (Ok x) f h = f h

@@ -10,11 +10,12 @@ use Rattle.tb_core.specs.Machine.{Machine, one, words}
 use Rattle.tb_core.specs.Acts.{importing, move_of, enters}
 use Rattle.tb_core.specs.declared.refusals.Refusal.{Refusal}
 use Rattle.tb_core.specs.declared.refusals.Fault.{Fault}
-use Rattle.tb_core.specs.declared.refusals.Fault.TheVariants.{Refused}
+use Rattle.tb_core.specs.declared.refusals.Fault.TheVariants.{Refused, Memory, Device, NotADesk, Output}
 use Rattle.tb_core.specs.Commands.{Reply, imported, moved_on, corrected_to, pulled_out, restored_to, reply_to}
 use Rattle.tb_core.specs.Taking.{TakenText, taken_of, IsTakingFault}
 use Rattle.tb_tables.specs.Commands.{Item}
 use Rattle.tb_standing.specs.Written.{item_of}
+use Rattle.tb_recording.specs.Faults.{IsNoDevice}
 use Rattle.tb_importing.specs.Planned.{item_told, import_move}
 use Rattle.tb_importing.proofs.Counting.{its_words, words_are, new_words_are, new_count}
 
@@ -58,6 +59,13 @@ answer_is s name user bs number first count w at start many summed =
 
 pub taking_refused : (P : Refusal → Type 0) (e : Fault) (r : Refusal) → e ≡ Refused r → IsTakingFault P e → P r
 taking_refused P e r is h = subst (IsTakingFault P) is h
+
+pub taking_clear : (P : Refusal → Type 0) (e : Fault) → IsTakingFault P e → IsNoDevice e
+taking_clear P (Refused r) h is = absurd cc
+taking_clear P Memory h is = absurd cc
+taking_clear P Device h is = h
+taking_clear P NotADesk h is = h
+taking_clear P Output h is = h
 
 abbrev pub told_sentences : Reply → ℕ
 told_sentences (imported r) = r.sentences

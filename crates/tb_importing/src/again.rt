@@ -8,6 +8,8 @@ ghost use Rattle.tb_conllu.specs.Words.{words_of};
 ghost use Rattle.tb_core.specs.declared.refusals.Refusal.{Refusal as AnyRefusal};
 ghost use Rattle.tb_core.specs.Machine.{Machine};
 ghost use Rattle.tb_standing.specs.Standing.{IsDesk};
+ghost use Rattle.tb_tables.specs.Leaving.{IsFaultless, FailsOnlyAs};
+ghost use Rattle.tb_recording.specs.Faults.{IsNoDevice};
 ghost use Rattle.tb_importing.specs.Leaving.{IsLeft, Stays};
 ghost use Rattle.tb_importing.specs.Firsts.{IsFirst, IsWorkOf, AreFirsts};
 
@@ -25,6 +27,7 @@ fn read_words<S: Alter>(alloc: Global, conn: &mut Connection<S>, number: u32) ->
     ensures answered { HasCleanDisk (state S.Store conn.new) → IfOk result (λ n. (s : Machine) (b : BlockText) → IsDesk S.Store conn.old s → IsFirst s number b → n ≡ words_of b) }
     ensures refused { (r : AnyRefusal) → result ≢ Err (Fault.Refused r) }
     ensures fails { HasCleanDisk (state S.Store conn.new) → (state S.Store conn.old).step_limit ≡ None → (s : Machine) (b : BlockText) → IsDesk S.Store conn.old s → IsFirst s number b → result ≢ Err Fault.NotADesk }
+    ensures cause { IsFaultless S.Store conn.old conn.new → FailsOnlyAs IsNoDevice S.Store conn.old conn.new result }
     ensures stays { OnOk result (Stays S.Store conn.old conn.new) }
     ensures left { IsLeft S.Store conn.old conn.new }
 {
@@ -45,6 +48,7 @@ fn first_words<S: Alter>(alloc: Global, conn: &mut Connection<S>, one: &Work) ->
     ensures answered { HasCleanDisk (state S.Store conn.new) → IfOk result (λ n. (s : Machine) (b : BlockText) → IsDesk S.Store conn.old s → IsWorkOf s one.now b → n ≡ words_of b) }
     ensures refused { (r : AnyRefusal) → result ≢ Err (Fault.Refused r) }
     ensures fails { HasCleanDisk (state S.Store conn.new) → (state S.Store conn.old).step_limit ≡ None → (s : Machine) (b : BlockText) → IsDesk S.Store conn.old s → IsWorkOf s one.now b → result ≢ Err Fault.NotADesk }
+    ensures cause { IsFaultless S.Store conn.old conn.new → FailsOnlyAs IsNoDevice S.Store conn.old conn.new result }
     ensures stays { OnOk result (Stays S.Store conn.old conn.new) }
     ensures left { IsLeft S.Store conn.old conn.new }
 {
@@ -63,6 +67,7 @@ pub(crate) fn words_again<S: Alter>(
     ensures answered { HasCleanDisk (state S.Store conn.new) → IfOk result (λ n. (s : Machine) (bs : List BlockText) → IsDesk S.Store conn.old s → AreFirsts s work.now bs → n ≡ sum_by words_of bs) }
     ensures refused { (r : AnyRefusal) → result ≢ Err (Fault.Refused r) }
     ensures fails { HasCleanDisk (state S.Store conn.new) → (state S.Store conn.old).step_limit ≡ None → (s : Machine) (bs : List BlockText) → IsDesk S.Store conn.old s → AreFirsts s work.now bs → sum_by words_of bs < 2 ^ 64 → result ≢ Err Fault.NotADesk }
+    ensures cause { IsFaultless S.Store conn.old conn.new → FailsOnlyAs IsNoDevice S.Store conn.old conn.new result }
     ensures stays { OnOk result (Stays S.Store conn.old conn.new) }
     ensures left { IsLeft S.Store conn.old conn.new }
 {

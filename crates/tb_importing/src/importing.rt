@@ -17,10 +17,11 @@ ghost use Rattle.tb_standing.specs.Standing.{tables_of, IsDesk};
 ghost use Rattle.tb_judge.specs.Found.{FindsName};
 ghost use Rattle.tb_judge.specs.Parts.{IsNamedImport, IsTakenImport};
 ghost use Rattle.tb_recording.specs.Counted.{IsWithin};
-ghost use Rattle.tb_importing.specs.Leaving.{IsLeft, Stays};
+ghost use Rattle.tb_recording.specs.Faults.{IsNoDevice};
+ghost use Rattle.tb_importing.specs.Leaving.{IsLeft, Stays, BlamesNoDevice};
 ghost use Rattle.tb_importing.specs.Planned.{IsKnown, HasImported, Imports};
 ghost use Rattle.tb_standing.specs.Telling.{CrashesTo, KnowsDesk, KnowsDeskWhere, RefusesAs, Tells};
-ghost use Rattle.tb_tables.specs.Leaving.{KeepsRecordsOnErr};
+ghost use Rattle.tb_tables.specs.Leaving.{KeepsRecordsOnErr, IsFaultless, FailsOnlyAs};
 
 use crate::committing::commit_import;
 use crate::known::Known;
@@ -29,7 +30,9 @@ use crate::planning::{items_of, plan};
 use crate::taken::first_taken;
 use sqlite::{Alter, Connection};
 use std::alloc::Global;
-use tb_core::{Fault, Imported, Taken, Totals, commands_stay_within_limits};
+use tb_core::{
+    Fault, Imported, Taken, Totals, commands_stay_within_limits, each_command_ends_one_way,
+};
 use tb_judge::{Judged, NameFound, judge_import_after, judge_import_before, judge_import_body};
 
 /// The last tests of an import, of its sentences against those that stand.
@@ -41,6 +44,7 @@ fn admit<S: Alter>(
     ensures refused { HasCleanDisk (state S.Store conn.new) → (r : AnyRefusal) → result ≡ Err (Fault.Refused r) → (s : Machine) (name user body : List ℕ) (bs : List BlockText) → IsDesk S.Store conn.old s → IsKnown known.now s
         → IsTakenImport s name user body bs → taken.now ≡ map taken_of bs → Steps known.now.counts.limits s (import_file name user body) (refused_by r) s × IsDesk S.Store conn.new s }
     ensures fails { KnowsDesk S.Store conn.old conn.new result }
+    ensures cause { IsFaultless S.Store conn.old conn.new → FailsOnlyAs IsNoDevice S.Store conn.old conn.new result }
     ensures accepted { HasCleanDisk (state S.Store conn.new) → OnOk result ((s : Machine) (name user body : List ℕ) (bs : List BlockText) → IsDesk S.Store conn.old s → IsKnown known.now s
         → IsTakenImport s name user body bs → taken.now ≡ map taken_of bs
         → let act = importing name user bs in
@@ -114,6 +118,9 @@ fn import_new<S: Alter>(
         → Steps known.now.counts.limits s (import_file name.now user.now body.now) (refused_by r) s × IsDesk S.Store conn.new s) }
     ensures fails { KnowsDeskWhere S.Store conn.old conn.new result (λ s so. IsKnown known.now s → IsNamedImport s name.now user.now body.now
         → FindsName s name.now body.now found → so) }
+    ensures cause { BlamesNoDevice S.Store conn.old conn.new result (λ s so. IsKnown known.now s
+        → IsNamedImport s name.now user.now body.now → FindsName s name.now body.now found → (a : Answer)
+        → Steps known.now.counts.limits s (import_file name.now user.now body.now) a s → so) }
     ensures room { IfOk result (λ r. (known.now.counts.moves + 1 ≤ 1000000000) × (known.now.sentences + r.0.sentences ≤ 1000000)) }
     ensures kept { KeepsRecordsOnErr S.Store conn.old conn.new result }
     ensures crash { CrashesTo S.Store conn.old conn.new (λ s db. IsKnown known.now s → IsNamedImport s name.now user.now body.now
@@ -122,6 +129,8 @@ fn import_new<S: Alter>(
     ensures mode { conn.new.in_transaction ≡ false }
 {
     commands_stay_within_limits();
+    // The law by which an import that is allowed is no repeat and no refusal.
+    each_command_ends_one_way();
     let taken = judge_import_body(alloc, body, found)?;
     admit(conn, known, taken.as_slice())?;
     write(alloc, conn, known, name, user, taken.as_slice())
@@ -150,6 +159,8 @@ pub fn import<S: Alter>(
     ensures refused { RefusesAs S.Store conn.old conn.new result (λ s r. IsKnown known.now s
         → Steps known.now.counts.limits s (import_file name.now user.now body.now) (refused_by r) s × IsDesk S.Store conn.new s) }
     ensures fails { KnowsDeskWhere S.Store conn.old conn.new result (λ s so. IsKnown known.now s → so) }
+    ensures cause { BlamesNoDevice S.Store conn.old conn.new result (λ s so. IsKnown known.now s → (a : Answer)
+        → Steps known.now.counts.limits s (import_file name.now user.now body.now) a s → so) }
     ensures room { IfOk result (λ r. IfSome r.1 (λ _. (known.now.counts.moves + 1 ≤ 1000000000) × (known.now.sentences + r.0.sentences ≤ 1000000))) }
     ensures kept { KeepsRecordsOnErr S.Store conn.old conn.new result }
     ensures crash { CrashesTo S.Store conn.old conn.new (λ s db. IsKnown known.now s

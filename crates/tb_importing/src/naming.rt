@@ -1,6 +1,7 @@
 //! What the name of an import is to the batches that stand.
 
 ghost use Rattle.std.specs.Prelude.{◌≡◌, ◌≢◌, ◌<◌, ◌≤◌, ◌+◌, ℕ, List, map, length, sum_by, None, Err, IfOk, OnOk};
+ghost use Rattle.std.specs.Prelude.{IfErr};
 ghost use Rattle.sqlite.specs.State.{HasCleanDisk};
 ghost use Rattle.sqlite.specs.Held.{state};
 ghost use Rattle.tb_conllu.specs.Words.{words_of};
@@ -12,6 +13,8 @@ ghost use Rattle.tb_core.specs.Tests.{first_bodies, import_reply};
 ghost use Rattle.tb_standing.specs.Standing.{IsDesk, sentence_record};
 ghost use Rattle.tb_reading.specs.Found.{work_of};
 ghost use Rattle.tb_judge.specs.Found.{FindsName};
+ghost use Rattle.tb_tables.specs.Leaving.{IsFaultless, FailsOnlyAs};
+ghost use Rattle.tb_recording.specs.Faults.{IsNoDevice};
 ghost use Rattle.tb_importing.specs.Leaving.{IsLeft, Stays};
 ghost use Rattle.tb_standing.specs.Telling.{KnowsDesk, KnowsDeskWhere, Tells};
 
@@ -34,6 +37,7 @@ fn read_work<S: Alter>(
     ensures answered { Tells S.Store conn.old conn.new result (λ s v. v.items ≡ work_of number 1 (map sentence_record s.sentences)) }
     ensures refused { (r : AnyRefusal) → result ≢ Err (Fault.Refused r) }
     ensures fails { KnowsDesk S.Store conn.old conn.new result }
+    ensures cause { IsFaultless S.Store conn.old conn.new → FailsOnlyAs IsNoDevice S.Store conn.old conn.new result }
     ensures stays { OnOk result (Stays S.Store conn.old conn.new) }
     ensures left { IsLeft S.Store conn.old conn.new }
 {
@@ -50,6 +54,7 @@ fn reply_again(number: u32, work: &[Work], words: u64) -> Result<Imported, Fault
     ensures answered { IfOk result (λ r. (s : Machine) → Reached s → work.now ≡ work_of number 1 (map sentence_record s.sentences) → words ≡ sum_by words_of (first_bodies number s.sentences) → imported r ≡ import_reply s number) }
     ensures refused { (r : AnyRefusal) → result ≢ Err (Fault.Refused r) }
     ensures fails { (s : Machine) → Reached s → 0 < number → number ≤ length s.batches → work.now ≡ work_of number 1 (map sentence_record s.sentences) → result ≢ Err Fault.NotADesk }
+    ensures cause { IfErr result IsNoDevice }
 {
     // The law by which sentences stand in the order of their batches.
     reached_states_are_well();
@@ -75,6 +80,7 @@ fn repeat<S: Alter>(
     ensures refused { (r : AnyRefusal) → result ≢ Err (Fault.Refused r) }
     ensures fails { KnowsDeskWhere S.Store conn.old conn.new result (λ s so. 0 < number → number ≤ length s.batches
         → work.now ≡ work_of number 1 (map sentence_record s.sentences) → so) }
+    ensures cause { IsFaultless S.Store conn.old conn.new → FailsOnlyAs IsNoDevice S.Store conn.old conn.new result }
     ensures stays { OnOk result (Stays S.Store conn.old conn.new) }
     ensures left { IsLeft S.Store conn.old conn.new }
 {
@@ -92,6 +98,7 @@ fn compare<S: Alter>(
     ensures answered { HasCleanDisk (state S.Store conn.new) → IfOk result (λ found. (s : Machine) (name : List ℕ) (place : ℕ) (b : Batch) → IsDesk S.Store conn.old s → HasBatch s name place b → number ≡ place + 1 → FindsName s name body.now found) }
     ensures refused { (r : AnyRefusal) → result ≢ Err (Fault.Refused r) }
     ensures fails { HasCleanDisk (state S.Store conn.new) → (state S.Store conn.old).step_limit ≡ None → (s : Machine) (name : List ℕ) (place : ℕ) (b : Batch) → IsDesk S.Store conn.old s → HasBatch s name place b → number ≡ place + 1 → result ≢ Err Fault.NotADesk }
+    ensures cause { IsFaultless S.Store conn.old conn.new → FailsOnlyAs IsNoDevice S.Store conn.old conn.new result }
     ensures stays { OnOk result (Stays S.Store conn.old conn.new) }
     ensures left { IsLeft S.Store conn.old conn.new }
 {
@@ -113,6 +120,7 @@ pub(crate) fn find_name<S: Alter>(
     ensures answered { Tells S.Store conn.old conn.new result (λ s found. FindsName s name.now body.now found) }
     ensures refused { (r : AnyRefusal) → result ≢ Err (Fault.Refused r) }
     ensures fails { KnowsDesk S.Store conn.old conn.new result }
+    ensures cause { IsFaultless S.Store conn.old conn.new → FailsOnlyAs IsNoDevice S.Store conn.old conn.new result }
     ensures stays { OnOk result (Stays S.Store conn.old conn.new) }
     ensures left { IsLeft S.Store conn.old conn.new }
 {

@@ -1,6 +1,7 @@
 //! What an accepted import writes and answers.
 
 ghost use Rattle.std.specs.Prelude.{◌≡◌, ◌≢◌, ◌+◌, ◌^◌, ◌≤◌, ◌<◌, List, ℕ, map, length, sum_by, string_bytes, Err, IfOk};
+ghost use Rattle.std.specs.Prelude.{IfErr};
 ghost use Rattle.std.specs.List.{AllByRecursion};
 ghost use Rattle.tb_conllu.specs.Text.{BlockText};
 ghost use Rattle.tb_core.specs.declared.refusals.Refusal.{Refusal as AnyRefusal};
@@ -9,6 +10,7 @@ ghost use Rattle.tb_core.specs.Acts.{importing, IsAllowed, after};
 ghost use Rattle.tb_core.specs.Reaching.{Reached, IsReachable};
 ghost use Rattle.tb_core.specs.Taking.{TakenText, taken_of};
 ghost use Rattle.tb_recording.specs.Counted.{IsPrepared};
+ghost use Rattle.tb_recording.specs.Faults.{IsNoDevice};
 ghost use Rattle.tb_importing.specs.Planned.{IsKnown, IsPlannedImport, item_told, import_move};
 
 use crate::known::Known;
@@ -33,6 +35,7 @@ fn item<'a>(one: &Taken<'a>) -> Result<Item<'a>, Fault>
     ensures told { IfOk result (λ i. i ≡ item_told one.now) }
     ensures refused { (r : AnyRefusal) → result ≢ Err (Fault.Refused r) }
     ensures fails { one.now.words < 2 ^ 32 → result ≢ Err Fault.NotADesk }
+    ensures cause { IfErr result IsNoDevice }
 {
     let words = narrow(one.words)?;
     Ok(Item {
@@ -47,6 +50,7 @@ pub(crate) fn items_of<'a>(alloc: Global, taken: &[Taken<'a>]) -> Result<Vec<Ite
     ensures told { IfOk result (λ v. v.items ≡ map item_told taken.now) }
     ensures refused { (r : AnyRefusal) → result ≢ Err (Fault.Refused r) }
     ensures fails { AllByRecursion (λ (t : TakenText). t.words < 2 ^ 32) taken.now → result ≢ Err Fault.NotADesk }
+    ensures cause { IfErr result IsNoDevice }
 {
     let mut items = Vec::new(alloc);
     for one in taken {
@@ -60,6 +64,7 @@ fn next_batch(batches: u32) -> Result<u32, Fault>
     ensures next { IfOk result (λ n. n ≡ 1 + batches) }
     ensures refused { (r : AnyRefusal) → result ≢ Err (Fault.Refused r) }
     ensures fails { 1 + batches < 2 ^ 32 → result ≢ Err Fault.NotADesk }
+    ensures cause { IfErr result IsNoDevice }
 {
     match batches.checked_add(1) {
         Some(next) => Ok(next),
@@ -73,6 +78,7 @@ fn next_sentence(sentences: u32, new: usize) -> Result<u32, Fault>
     ensures next { IfOk result (λ n. (n ≡ 1 + sentences) × (sentences + new ≤ 1000000)) }
     ensures refused { (r : AnyRefusal) → result ≢ Err (Fault.Refused r) }
     ensures fails { sentences + new ≤ 1000000 → result ≢ Err Fault.NotADesk }
+    ensures cause { IfErr result IsNoDevice }
 {
     if sentences > 1_000_000 || new > 1_000_000 - sentences as usize {
         return Err(Fault::NotADesk);
@@ -113,6 +119,7 @@ fn change_by(
     ensures refused { (r : AnyRefusal) → result ≢ Err (Fault.Refused r) }
     ensures fails { (s : Machine) (name : List ℕ) (bs : List BlockText) → IsReachable s → IsAllowed s (importing name user.now bs) → IsReachable (after s (importing name user.now bs)) → IsKnown known.now s
         → number ≡ 1 + length s.batches → sentences ≡ length bs → words ≡ sum_by (λ (t : TakenText). t.words) (map taken_of bs) → result ≢ Err Fault.NotADesk }
+    ensures cause { IfErr result IsNoDevice }
 {
     let no = next_move(&known.counts)?;
     let who = String::from_str(alloc, user)?;
@@ -132,6 +139,7 @@ pub(crate) fn plan(
     ensures sentences { IfOk result (λ p. (p.first ≡ 1 + known.now.sentences) × (p.reply.sentences ≡ length taken.now) × (known.now.sentences + length taken.now ≤ 1000000)) }
     ensures refused { (r : AnyRefusal) → result ≢ Err (Fault.Refused r) }
     ensures fails { (s : Machine) (name : List ℕ) (bs : List BlockText) → IsReachable s → IsAllowed s (importing name user.now bs) → IsReachable (after s (importing name user.now bs)) → IsKnown known.now s → taken.now ≡ map taken_of bs → result ≢ Err Fault.NotADesk }
+    ensures cause { IfErr result IsNoDevice }
 {
     let number = next_batch(known.batches)?;
     let first = next_sentence(known.sentences, taken.len())?;

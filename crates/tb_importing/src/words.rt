@@ -1,10 +1,11 @@
 //! How many words sentences have.
 
-ghost use Rattle.std.specs.Prelude.{◌≡◌, ◌≢◌, ◌<◌, ◌^◌, List, sum_by, Err, IfOk};
+ghost use Rattle.std.specs.Prelude.{◌≡◌, ◌≢◌, ◌<◌, ◌^◌, List, sum_by, Err, IfOk, IfErr};
 ghost use Rattle.tb_conllu.specs.Text.{BlockText};
 ghost use Rattle.tb_conllu.specs.Words.{words_of};
 ghost use Rattle.tb_core.specs.declared.refusals.Refusal.{Refusal as AnyRefusal};
 ghost use Rattle.tb_core.specs.Taking.{IsBody, TakenText};
+ghost use Rattle.tb_recording.specs.Faults.{IsNoDevice};
 
 use std::alloc::Global;
 use tb_core::{Fault, Taken, take_file_ref};
@@ -14,6 +15,7 @@ pub(crate) fn words_in(taken: &[Taken<'_>]) -> Result<u64, Fault>
     ensures value { IfOk result (λ n. n ≡ sum_by (λ (t : TakenText). t.words) taken.now) }
     ensures refused { (r : AnyRefusal) → result ≢ Err (Fault.Refused r) }
     ensures fails { sum_by (λ (t : TakenText). t.words) taken.now < 2 ^ 64 → result ≢ Err Fault.NotADesk }
+    ensures cause { IfErr result IsNoDevice }
 {
     let mut total = 0u64;
     for one in taken {
@@ -30,6 +32,7 @@ pub(crate) fn words_of_text(alloc: Global, text: &[u8]) -> Result<u64, Fault>
     ensures value { IfOk result (λ n. (bs : List BlockText) × IsBody text.now bs × (n ≡ sum_by words_of bs)) }
     ensures refused { (r : AnyRefusal) → result ≢ Err (Fault.Refused r) }
     ensures fails { (bs : List BlockText) → IsBody text.now bs → sum_by words_of bs < 2 ^ 64 → result ≢ Err Fault.NotADesk }
+    ensures cause { IfErr result IsNoDevice }
 {
     match take_file_ref(alloc, text) {
         Ok(taken) => words_in(taken.as_slice()),

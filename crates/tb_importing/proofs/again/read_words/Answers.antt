@@ -1,9 +1,9 @@
 use Rattle.tb_importing.proofs.Bounds.{first_stands, one_body, one_small}
 use Rattle.tb_recording.proofs.Revised.{revision_found}
-use Rattle.tb_recording.proofs.Faultless.{read_told, fit}
+use Rattle.tb_recording.proofs.Faultless.{read_told, fit, want_told}
 use Rattle.tb_standing.specs.Fitting.{IsReadableRevision}
 use Rattle.tb_reading.specs.Readable.{IsRevision}
-use Rattle.tb_core.specs.declared.refusals.Fault.TheVariants.{NotADesk}
+use Rattle.tb_core.specs.declared.refusals.Fault.TheVariants.{NotADesk, Device}
 use Rattle.std.proofs.Common.{◌∙◌, ◌≡◌, Err, ap, sym, ◌∷◌, []}
 use Rattle.tb_tables.specs.Values.{revision_of}
 use Rattle.tb_reading.proofs.Shown.{if_ok}
@@ -55,3 +55,11 @@ returns-in-Ok-Some-clause-fails g c clean unlimited s b desk first bad =
     let text = c.as_bytes.ensures.value ∙ first_told s c.args.number b row first of found.1 found.2 in
     let body = one_body s c.args.number b first c.as_bytes.result.now (c.revisions_read_back.ensures s desk.reachable.reached) text in
     c.words_of_text.ensures.fails (b ∷ []) body (one_small s c.args.number b first desk.reachable) bad
+
+pub returns-in-Err-clause-cause : goal.returns-in-Err-clause-cause
+returns-in-Err-clause-cause g c good clean unlimited has bad =
+    let told : c.of_read.result ≡ Device = cc in
+    want_told c.in-Err.error (c.in-Err.ensures.cause good clean unlimited has) (sym c.of_read.ensures.value ∙ told)
+
+pub returns-in-Ok-Some-clause-cause : goal.returns-in-Ok-Some-clause-cause
+returns-in-Ok-Some-clause-cause g c good clean unlimited has = c.words_of_text.ensures.cause

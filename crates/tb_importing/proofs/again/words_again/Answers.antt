@@ -5,7 +5,7 @@ use Rattle.std.proofs.lemmas.Result.{err_from_is_err_and}
 use Rattle.std.proofs.Common.{◌≡◌, ◌+◌, ◌<◌, ◌≤◌, length, arith, rules, Err, ◌∙◌, ◌^◌, refl}
 use Rattle.sqlite.specs.Held.{state}
 use Rattle.sqlite.specs.State.{HasCleanDisk}
-use Rattle.tb_importing.proofs.Left.{left_then, stays_then, desk_stays}
+use Rattle.tb_importing.proofs.Left.{left_then, stays_then, desk_stays, left_clear}
 use Rattle.tb_importing.proofs.Follows.{next_of, more_words, all_words}
 use Rattle.tb_importing.proofs.again.words_again.Goals as goal
 
@@ -61,3 +61,9 @@ returns-in_default-clause-fails g c clean unlimited s bs desk firsts small bad =
     let part = so_far_below words_of bs i small in
     let over : 2 ^ 64 ≤ c.loop-one.total + c.in_ok-words.words = search rules in
     absurd (omega (arith, sum, part, over))
+
+pub returns-in_err-words-clause-cause : goal.returns-in_err-words-clause-cause
+returns-in_err-words-clause-cause g c =
+    let inv = c.loop-one.invariant in
+    left_clear g.S.Store c.args.conn.now c.loop-one.conn c.first_words.new.conn c.from_residual.result c.in_err-words.field-0.0 c.from_residual.ensures.1
+    inv.0 inv.1 c.first_words.ensures.left c.in_err-words.ensures.cause

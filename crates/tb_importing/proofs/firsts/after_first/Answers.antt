@@ -1,16 +1,16 @@
 use Rattle.tb_importing.proofs.Bounds.{first_stands}
 use Rattle.tb_recording.proofs.Revised.{revision_found}
-use Rattle.tb_recording.proofs.Faultless.{read_told, fit}
+use Rattle.tb_recording.proofs.Faultless.{read_told, fit, want_told}
 use Rattle.tb_standing.specs.Fitting.{IsReadableRevision}
 use Rattle.tb_reading.specs.Readable.{IsRevision}
-use Rattle.tb_core.specs.declared.refusals.Fault.TheVariants.{NotADesk}
+use Rattle.tb_core.specs.declared.refusals.Fault.TheVariants.{NotADesk, Device}
 use Rattle.std.proofs.Common.{◌≡◌, ◌≢◌, ◌++◌, List, ℕ, subst, ◌∙◌, Err, ap, sym}
 use Rattle.std.specs.Prelude.{MatchOption}
 use Rattle.std.proofs.lemmas.Bool.Decides.{Decides-eqb}
 use Rattle.std.proofs.lemmas.Slice.Eq.{strip_prefix_is}
 use Rattle.tb_tables.specs.Values.{revision_of}
 use Rattle.tb_standing.specs.Standing.{tables_of}
-use Rattle.tb_importing.proofs.Left.{left_from}
+use Rattle.tb_importing.proofs.Left.{left_from, stays_from}
 use Rattle.tb_importing.proofs.Firstly.{first_told}
 use Rattle.tb_importing.proofs.firsts.after_first.Goals as goal
 
@@ -45,3 +45,11 @@ returns-in-Err-clause-fails g c clean unlimited s b desk first bad =
     let readable = c.desk_rows_are_readable.ensures s desk.reachable in
     let fits = fit IsReadableRevision IsRevision (λ r h. record { sent_fits = h.sent_fits; rev_fits = h.rev_fits; who_fits = h.who_fits; body_fits = h.body_fits }) (tables_of s).revisions readable.revisions in
     read_told c.in-Err.error (c.in-Err.ensures.fails clean unlimited desk.holds.schema) (λ unfit. c.in-Err.ensures.form clean (ap Err unfit) desk.holds.schema (tables_of s).revisions fits desk.holds.stands.revisions) (sym c.of_read.ensures.value ∙ told)
+
+pub returns-in-Err-clause-cause : goal.returns-in-Err-clause-cause
+returns-in-Err-clause-cause g c good clean unlimited has bad =
+    let told : c.of_read.result ≡ Device = cc in
+    want_told c.in-Err.error (c.in-Err.ensures.cause good clean unlimited has) (sym c.of_read.ensures.value ∙ told)
+
+pub returns-in-Ok-Some-clause-stays : goal.returns-in-Ok-Some-clause-stays
+returns-in-Ok-Some-clause-stays g c = stays_from g.S.Store c.args.conn.now c.revision.new.conn c.in-Ok-Some.ensures.same

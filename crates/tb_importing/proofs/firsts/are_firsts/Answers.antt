@@ -3,7 +3,7 @@ use Rattle.std.proofs.lemmas.Result.{err_from_is_err_and}
 use Rattle.std.proofs.Common.{◌<◌, ◌≤◌, length, arith, ◌≡◌, Err, ◌∙◌}
 use Rattle.sqlite.specs.Held.{state}
 use Rattle.sqlite.specs.State.{HasCleanDisk}
-use Rattle.tb_importing.proofs.Left.{left_then, stays_then, desk_stays}
+use Rattle.tb_importing.proofs.Left.{left_then, stays_then, desk_stays, left_clear}
 use Rattle.tb_importing.proofs.Follows.{next_of, one_more, other_text, ended}
 use Rattle.tb_importing.proofs.firsts.are_firsts.Goals as goal
 
@@ -50,3 +50,12 @@ returns-in_err-more-clause-fails g c clean unlimited s bs desk firsts bad =
     let here = desk_stays g.S.Store c.args.conn.now c.loop-one.conn inv.1 mid s desk in
     let next = next_of s c.args.work.now bs i low firsts in
     c.after_first.ensures.fails clean (inv.0.lasts.limit ∙ unlimited) s next.body here next.work.first failed
+
+pub returns-in_default-clause-stays : goal.returns-in_default-clause-stays
+returns-in_default-clause-stays g c = stays_then g.S.Store c.args.conn.now c.loop-one.conn c.after_first.new.conn c.loop-one.invariant.1 c.after_first.ensures.left c.in_ok-more.ensures.stays
+
+pub returns-in_err-more-clause-cause : goal.returns-in_err-more-clause-cause
+returns-in_err-more-clause-cause g c =
+    let inv = c.loop-one.invariant in
+    left_clear g.S.Store c.args.conn.now c.loop-one.conn c.after_first.new.conn c.from_residual.result c.in_err-more.field-0.0 c.from_residual.ensures.1
+    inv.0 inv.1 c.after_first.ensures.left c.in_err-more.ensures.cause

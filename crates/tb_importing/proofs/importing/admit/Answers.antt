@@ -38,3 +38,9 @@ returns-in_err-judge_import_after-clause-fails g c clean unlimited s desk bad =
     let one = told.1 in
     let two = told.2 in
     absurd cc
+
+pub returns-in_err-judge_import_after-clause-cause : goal.returns-in_err-judge_import_after-clause-cause
+returns-in_err-judge_import_after-clause-cause g c good clean unlimited has =
+    let told = err_from_is_err_and c.from_residual-in_err-judge_import_after.result c.from_residual-in_err-judge_import_after.ensures.1 in
+    let two = told.2 in
+    rw told.1 (λ bad. absurd cc)

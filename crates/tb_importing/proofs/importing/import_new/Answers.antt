@@ -13,9 +13,11 @@ use Rattle.tb_core.specs.Steps.{Steps}
 use Rattle.tb_judge.specs.Found.{FindsName}
 use Rattle.tb_judge.specs.Parts.{IsNamedImport}
 use Rattle.tb_reading.proofs.Shown.{if_ok}
+use Rattle.tb_tables.proofs.Causes.{handed_on}
 use Rattle.tb_standing.specs.Standing.{tables_of}
+use Rattle.tb_recording.specs.Faults.{IsNoDevice}
 use Rattle.tb_importing.proofs.Left.{desk_stays, kept_if}
-use Rattle.tb_importing.proofs.Meaning.{taking_refused, told_sentences}
+use Rattle.tb_importing.proofs.Meaning.{taking_refused, taking_clear, told_sentences}
 use Rattle.tb_importing.proofs.importing.import_new.Goals as goal
 
 -- ---- the body is refused
@@ -46,7 +48,7 @@ returns-in_err-admit-clause-crash g c = survives_weaker (state g.S.Store c.args.
 pub returns-clause-kept : goal.returns-clause-kept
 returns-clause-kept g c clean opened =
     let mid : HasCleanDisk (state g.S.Store c.admit.new.conn) = omega (arith, clean, c.write.ensures.crash.clean) in
-    kept_if c.write.result (λ kept d holds. kept d (c.in_ok-admit.ensures.stays mid d holds)) (c.write.ensures.kept clean opened)
+    kept_if c.write.result (λ kept d holds. kept d (c.in_ok-admit.ensures.stays.holds mid d holds)) (c.write.ensures.kept clean opened)
 
 pub returns-clause-crash : goal.returns-clause-crash
 returns-clause-crash g c = survives_then (state g.S.Store c.args.conn.now) (state g.S.Store c.admit.new.conn) (state g.S.Store c.write.new.conn) _ _ _ (λ _ _ none s desk known named found. absurd (none (tables_of s) desk.holds)) (λ clean db whole s desk known named found.
@@ -113,3 +115,30 @@ returns-clause-fails g c clean unlimited s desk known named found bad =
     let limits = c.requires.within in
     let reachable = c.commands_stay_within_limits.ensures c.args.known.now.counts.limits s (after s a) (import_file name user c.args.body.now) (replied (reply_to s a)) limits.sentences limits.moves desk.reachable allowed.1 in
     c.write.ensures.fails clean (c.admit.ensures.left.lasts.limit ∙ unlimited) s bs here known (c.as_slice-2.ensures.value ∙ taken.2) allowed.0 reachable bad
+
+-- ---- and of no device
+
+pub returns-in_err-taken-clause-cause : goal.returns-in_err-taken-clause-cause
+returns-in_err-taken-clause-cause g c good clean unlimited s desk known named found a steps =
+    let clear = taking_clear (λ q. (l : Limits) (t : Machine) (name by : List ℕ) → IsNamedImport t name by c.args.body.now → FindsName t name c.args.body.now c.args.found → Steps l t (import_file name by c.args.body.now) (refused q) t)
+    c.in_err-taken.field-0.0 c.in_err-taken.ensures.refused in
+    handed_on IsNoDevice c.from_residual.result c.in_err-taken.field-0.0 c.from_residual.ensures.1 clear
+
+pub returns-in_err-admit-clause-cause : goal.returns-in_err-admit-clause-cause
+returns-in_err-admit-clause-cause g c good clean unlimited s desk known named found a steps =
+    handed_on IsNoDevice c.from_residual-in_err-admit.result c.in_err-admit.field-0.0 c.from_residual-in_err-admit.ensures.1 (c.in_err-admit.ensures.cause good clean unlimited desk.holds.schema)
+
+pub returns-clause-cause : goal.returns-clause-cause
+returns-clause-cause g c good clean unlimited s desk known named found a steps =
+    let mid : HasCleanDisk (state g.S.Store c.admit.new.conn) = omega (arith, clean, c.write.ensures.crash.clean) in
+    let taken = c.in_ok-taken.ensures.taken in
+    let bs = taken.0 in
+    let name = c.args.name.now in
+    let user = c.args.user.now in
+    let goes = c.in_ok-taken.ensures.goes s name user bs named found taken.1 in
+    let allowed = c.in_ok-admit.ensures.accepted mid s name user c.args.body.now bs desk known goes (c.as_slice.ensures.value ∙ taken.2) in
+    let act = importing name user bs in
+    let one = c.each_command_ends_one_way.ensures c.args.known.now.counts.limits s (after s act) s (import_file name user c.args.body.now) (replied (reply_to s act)) a desk.reachable.reached allowed.1 steps in
+    let more : length (after s act).batches ≡ length s.batches + 1 = length-append s.batches (new_batch name ∷ []) in
+    let same : length (after s act).batches ≡ length s.batches = ap (λ (m : Machine). length m.batches) one.1 in
+    absurd (omega (arith, more, same))

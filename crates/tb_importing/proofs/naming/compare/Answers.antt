@@ -11,7 +11,7 @@ use Rattle.tb_standing.specs.Standing.{sentence_record}
 use Rattle.tb_reading.specs.declared.work.Work.{Work}
 use Rattle.tb_reading.specs.Found.{work_of}
 use Rattle.tb_importing.specs.Firsts.{AreFirsts}
-use Rattle.tb_importing.proofs.Left.{left_then, stays_then, desk_stays}
+use Rattle.tb_importing.proofs.Left.{left_then, stays_then, desk_stays, left_clear}
 use Rattle.tb_importing.proofs.Firstly.{firsts_stand}
 use Rattle.tb_importing.proofs.naming.compare.Goals as goal
 
@@ -85,3 +85,18 @@ returns-in_err-reply-clause-fails g c clean unlimited s name place b desk has at
     let free = c.are_firsts.ensures.left.lasts.limit ∙ c.read_work.ensures.left.lasts.limit ∙ unlimited in
     let low = get_within s.batches place b has.there in
     c.repeat.ensures.fails clean free s still (omega (arith, at)) (omega (arith, at, low)) (c.as_slice-2.ensures.value ∙ read) failed
+
+pub returns-then-not-branch-clause-stays : goal.returns-then-not-branch-clause-stays
+returns-then-not-branch-clause-stays g c = stays_then g.S.Store c.args.conn.now c.read_work.new.conn c.are_firsts.new.conn c.in_ok-work.ensures.stays c.are_firsts.ensures.left c.in_ok-are_firsts.ensures.stays
+
+pub returns-in_err-are_firsts-clause-cause : goal.returns-in_err-are_firsts-clause-cause
+returns-in_err-are_firsts-clause-cause g c =
+    left_clear g.S.Store c.args.conn.now c.read_work.new.conn c.are_firsts.new.conn c.from_residual-in_err-are_firsts.result c.in_err-are_firsts.field-0.0 c.from_residual-in_err-are_firsts.ensures.1
+    c.read_work.ensures.left c.in_ok-work.ensures.stays c.are_firsts.ensures.left c.in_err-are_firsts.ensures.cause
+
+pub returns-in_err-reply-clause-cause : goal.returns-in_err-reply-clause-cause
+returns-in_err-reply-clause-cause g c =
+    let first = left_then g.S.Store c.args.conn.now c.read_work.new.conn c.are_firsts.new.conn c.read_work.ensures.left c.in_ok-work.ensures.stays c.are_firsts.ensures.left in
+    let stays = stays_then g.S.Store c.args.conn.now c.read_work.new.conn c.are_firsts.new.conn c.in_ok-work.ensures.stays c.are_firsts.ensures.left c.in_ok-are_firsts.ensures.stays in
+    left_clear g.S.Store c.args.conn.now c.are_firsts.new.conn c.repeat.new.conn c.from_residual-in_err-reply.result c.in_err-reply.field-0.0 c.from_residual-in_err-reply.ensures.1
+    first stays c.repeat.ensures.left c.in_err-reply.ensures.cause

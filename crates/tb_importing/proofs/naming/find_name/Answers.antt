@@ -1,10 +1,11 @@
 use Rattle.tb_core.specs.declared.refusals.Fault.TheVariants.{NotADesk}
 use Rattle.std.proofs.lemmas.Result.{err_from_is_err_and}
-use Rattle.std.proofs.Common.{◌≡◌, ◌+◌, ◌-◌, arith, Err, ◌∙◌}
+use Rattle.std.proofs.Common.{◌≡◌, ◌+◌, ◌-◌, arith, Err, IfErr, ◌∙◌}
 use Rattle.sqlite.specs.Held.{state}
 use Rattle.sqlite.specs.State.{HasCleanDisk}
 use Rattle.tb_reading.proofs.Shown.{if_ok}
-use Rattle.tb_importing.proofs.Left.{left_from, stays_from, left_then, stays_then, desk_stays, stays_if}
+use Rattle.tb_recording.specs.Faults.{IsNoDevice}
+use Rattle.tb_importing.proofs.Left.{left_from, stays_from, left_then, stays_then, desk_stays, stays_if, next_clear}
 use Rattle.tb_importing.proofs.naming.find_name.Goals as goal
 
 pub returns-in_err-number-clause-left : goal.returns-in_err-number-clause-left
@@ -44,3 +45,12 @@ returns-clause-fails g c clean unlimited s desk bad =
     let number = rw c.in-Some.is at (c.in_ok-number.ensures.answered mid s desk) in
     let at : c.in-Some.number ≡ (c.in-Some.number - 1) + 1 = (let above = number.1 in omega (arith, above)) in
     c.compare.ensures.fails clean (c.batch_number.ensures.lasts.limit ∙ unlimited) s c.args.name.now (c.in-Some.number - 1) number.0 here (record { there = number.2; named = number.3 }) at bad
+
+pub returns-in_default-clause-stays : goal.returns-in_default-clause-stays
+returns-in_default-clause-stays g c = stays_from g.S.Store c.args.conn.now c.batch_number.new.conn c.in_ok-number.ensures.same
+
+pub returns-clause-cause : goal.returns-clause-cause
+returns-clause-cause g c =
+    let read = c.batch_number.ensures in
+    next_clear g.S.Store c.args.conn.now c.batch_number.new.conn c.compare.new.conn (IfErr c.compare.result IsNoDevice)
+    (left_from g.S.Store c.args.conn.now c.batch_number.new.conn read.mode read.kept read.lasts) (stays_from g.S.Store c.args.conn.now c.batch_number.new.conn c.in_ok-number.ensures.same) c.compare.ensures.left c.compare.ensures.cause

@@ -7,7 +7,7 @@ use Rattle.tb_core.specs.Names.{Lacks}
 use Rattle.tb_core.specs.Acts.{ids_of}
 use Rattle.tb_core.specs.Taking.{TakenText}
 use Rattle.tb_core.specs.Tests.{IsFirstTaken}
-use Rattle.tb_importing.proofs.Left.{left_from, stays_from, left_then, stays_then, desk_stays}
+use Rattle.tb_importing.proofs.Left.{left_from, stays_from, left_then, stays_then, desk_stays, left_clear}
 use Rattle.tb_importing.proofs.Takes.{one_free, first_of, all_free}
 use Rattle.tb_importing.proofs.taken.first_taken.Goals as goal
 
@@ -66,3 +66,16 @@ returns-in_err-is_taken-clause-fails g c clean unlimited s desk bad =
     let mid : HasCleanDisk (state g.S.Store c.loop-one.conn) = omega (arith, clean, c.is_taken.ensures.lasts.clean) in
     let here = desk_stays g.S.Store c.args.conn.now c.loop-one.conn inv.2 mid s desk in
     c.is_taken.ensures.fails clean (inv.1.lasts.limit ∙ unlimited) s here failed
+
+pub returns-then-branch-clause-stays : goal.returns-then-branch-clause-stays
+returns-then-branch-clause-stays g c =
+    let read = c.is_taken.ensures in
+    stays_then g.S.Store c.args.conn.now c.loop-one.conn c.is_taken.new.conn c.loop-one.invariant.2
+    (left_from g.S.Store c.loop-one.conn c.is_taken.new.conn read.mode read.kept read.lasts) (stays_from g.S.Store c.loop-one.conn c.is_taken.new.conn c.in_ok-is_taken.ensures.same)
+
+pub returns-in_err-is_taken-clause-cause : goal.returns-in_err-is_taken-clause-cause
+returns-in_err-is_taken-clause-cause g c =
+    let inv = c.loop-one.invariant in
+    let read = c.is_taken.ensures in
+    left_clear g.S.Store c.args.conn.now c.loop-one.conn c.is_taken.new.conn c.from_residual.result c.in_err-is_taken.field-0.0 c.from_residual.ensures.1
+    inv.1 inv.2 (left_from g.S.Store c.loop-one.conn c.is_taken.new.conn read.mode read.kept read.lasts) c.in_err-is_taken.ensures.cause
