@@ -1,5 +1,5 @@
 -- What one read tells, and several in a row.
-use Rattle.std.proofs.Common.{◌≡◌, ◌≢◌, false, Result, Ok, Err, OnOk, IfOk, IsTrue, sym, ap, subst, ◌∙◌, arith}
+use Rattle.std.proofs.Common.{◌≡◌, ◌≢◌, false, None, Result, Ok, Err, OnOk, IfOk, IsTrue, sym, ap, subst, ◌∙◌, arith}
 use Rattle.sqlite.specs.Store.{Ghosts}
 use Rattle.sqlite.specs.Effect.{Database}
 use Rattle.sqlite.specs.Held.{Held, state}
@@ -8,13 +8,15 @@ use Rattle.sqlite.proofs.StateLemmas.{survives_then}
 use Rattle.sqlite.proofs.Callers.{unchanged_then}
 use Rattle.sqlite_trees.specs.Tree.{Trees}
 use Rattle.tb_core.specs.declared.refusals.Fault.{Fault}
-use Rattle.tb_core.specs.declared.refusals.Fault.TheVariants.{Refused, NotADesk}
+use Rattle.tb_core.specs.declared.refusals.Fault.TheVariants.{Refused, Device, NotADesk}
 use Rattle.tb_core.specs.declared.refusals.Refusal.{Refusal}
 use Rattle.tb_core.specs.Machine.{Machine}
 use Rattle.tb_core.specs.Reaching.{IsReachable}
 use Rattle.tb_tables.specs.Layout.{desk_schema}
 use Rattle.tb_tables.specs.Records.{Tables, Stands}
 use Rattle.tb_tables.specs.Changes.{Holds}
+use Rattle.tb_tables.specs.Leaving.{IsFaultless}
+use Rattle.tb_tables.proofs.Causes.{faultless_next}
 use Rattle.tb_standing.specs.Standing.{tables_of}
 use Rattle.tb_reading.specs.Failing.{SeesAsBefore}
 use Rattle.tb_reading.proofs.Staying.{unchanged_holds, still_settled}
@@ -44,6 +46,7 @@ module _ {S : Type 0} (g : Ghosts S) (old new : Held S) (mode : old.in_transacti
     untouched = λ clean q. ok_is_no_err x NotADesk q;
     sees = sees;
     refused = λ r q. ok_is_no_err x (Refused r) q;
+    cause = λ good clean unlimited has. tt;
     same = same;
     mode = mode;
     kept = kept;
@@ -51,14 +54,16 @@ module _ {S : Type 0} (g : Ghosts S) (old new : Held S) (mode : old.in_transacti
   }
 
   pub read_badly : {X : Type 0} (e : Fault) (IsShown : X → Trees → Type 0) (IsHeld : X → Tables → Type 0) → (HasCleanDisk (state g new) → e ≡ NotADesk → (state g old).now.schema ≡ desk_schema → Unstood (state g old).now.trees)
-      → (HasCleanDisk (state g new) → e ≡ NotADesk → (state g old).now.schema ≡ desk_schema → IsUnchanged (state g old) (state g new)) → ((r : Refusal) → e ≢ Refused r) → HasRead g old new (Err e) IsShown IsHeld
-  read_badly {X = X} e IsShown IsHeld unfit untouched refused = record {
+      → (HasCleanDisk (state g new) → e ≡ NotADesk → (state g old).now.schema ≡ desk_schema → IsUnchanged (state g old) (state g new)) → ((r : Refusal) → e ≢ Refused r)
+      → (IsFaultless g old new → HasCleanDisk (state g new) → (state g old).step_limit ≡ None → (state g old).now.schema ≡ desk_schema → e ≢ Device) → HasRead g old new (Err e) IsShown IsHeld
+  read_badly {X = X} e IsShown IsHeld unfit untouched refused cause = record {
     shown = λ clean. tt;
     told = λ clean. tt;
     unfit = λ clean q. unfit clean (err_is X e NotADesk q);
     untouched = λ clean q. untouched clean (err_is X e NotADesk q);
     sees = sees;
     refused = λ r q. refused r (err_is X e (Refused r) q);
+    cause = cause;
     same = λ clean. tt;
     mode = mode;
     kept = kept;
@@ -100,6 +105,7 @@ module _ {S X Y : Type 0} (g : Ghosts S) (a b c : Held S) (x : X) (P : X → Tre
     untouched = λ clean q has. unchanged_then (state g a) (state g b) (state g c) (one.same (middle clean) has) (two.untouched clean q (schema_stays clean has));
     sees = λ clean opened has settled. two.sees clean opened (schema_stays clean has) (still_settled g a b settled (one.same (middle clean) has)) ∙ unmoved clean has;
     refused = two.refused;
+    cause = λ good clean unlimited has. two.cause (faultless_next (state g a) (state g b) (state g c) good one.lasts (middle clean) two.lasts.counts) clean (one.lasts.limit ∙ unlimited) (schema_stays clean has);
     same = λ clean. on_ok_under r (two.same clean) (λ more has. unchanged_then (state g a) (state g b) (state g c) (one.same (middle clean) has) (more (schema_stays clean has)));
     mode = λ m. two.mode (one.mode m);
     kept = λ clean is_open d holds. two.kept clean is_open d (unchanged_holds g a b d holds (one.same (middle clean) holds.schema));
@@ -114,7 +120,8 @@ pub read_failed : {S X Y : Type 0} (g : Ghosts S) (a b : Held S) (e f : Fault) (
 read_failed {X = X} g a b e f r P I Q J made is h =
     subst (λ w. HasRead g a b w Q J) (sym made)
     (read_badly g a b h.mode h.kept h.lasts h.sees f Q J (λ clean q. h.unfit clean (ap (λ (k : Fault). let w : Result X Fault = Err k in w) (sym is ∙ q)))
-    (λ clean q. h.untouched clean (ap (λ (k : Fault). let w : Result X Fault = Err k in w) (sym is ∙ q))) (λ r q. h.refused r (ap (λ (k : Fault). let w : Result X Fault = Err k in w) (sym is ∙ q))))
+    (λ clean q. h.untouched clean (ap (λ (k : Fault). let w : Result X Fault = Err k in w) (sym is ∙ q))) (λ r q. h.refused r (ap (λ (k : Fault). let w : Result X Fault = Err k in w) (sym is ∙ q)))
+    (λ good clean unlimited has q. h.cause good clean unlimited has (sym is ∙ q)))
 
 -- another value is made
 pub read_as : {S X Y : Type 0} (g : Ghosts S) (a b : Held S) (x : X) (y : Y) (P : X → Trees → Type 0) (I : X → Tables → Type 0) (Q : Y → Trees → Type 0) (J : Y → Tables → Type 0) → ((t : Trees) → P x t → Q y t)

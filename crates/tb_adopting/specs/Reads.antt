@@ -5,18 +5,20 @@ use Rattle.sqlite.specs.Held.{Held, state}
 use Rattle.sqlite.specs.State.{HasCleanDisk, IsUnchanged, Survives}
 use Rattle.sqlite_trees.specs.Tree.{Trees}
 use Rattle.tb_core.specs.declared.refusals.Fault.{Fault}
-use Rattle.tb_core.specs.declared.refusals.Fault.TheVariants.{Refused, NotADesk}
+use Rattle.tb_core.specs.declared.refusals.Fault.TheVariants.{Refused, Device, NotADesk}
 use Rattle.tb_core.specs.declared.refusals.Refusal.{Refusal}
 use Rattle.tb_core.specs.Machine.{Machine}
 use Rattle.tb_core.specs.Reaching.{IsReachable}
 use Rattle.tb_tables.specs.Layout.{desk_schema}
 use Rattle.tb_tables.specs.Records.{Tables, Stands}
 use Rattle.tb_tables.specs.Changes.{Holds}
+use Rattle.tb_tables.specs.Leaving.{IsFaultless, FailsOnlyAs}
 use Rattle.tb_reading.specs.Failing.{SeesAsBefore}
 use Rattle.tb_standing.specs.Standing.{tables_of}
 
 -- On the schema of a desk: what is read is shown by the trees (IsShown), and where they stand for a reachable state, it is
--- what the tables of this state hold (IsHeld); `NotADesk` is answered only where they stand for none. Nothing is changed.
+-- what the tables of this state hold (IsHeld); `NotADesk` is answered only where they stand for none, and `Device`, with
+-- no limit on steps, only where the disk failed or the store was shut. Nothing is changed.
 pub record HasRead {S X : Type 0} (g : Ghosts S) (old new : Held S) (result : Result X Fault) (IsShown : X → Trees → Type 0) (IsHeld : X → Tables → Type 0) : Type 0 where
   pub shown : HasCleanDisk (state g new) → IfOk result (λ x. (state g old).now.schema ≡ desk_schema → IsShown x (state g old).now.trees)
   pub told : HasCleanDisk (state g new) → IfOk result (λ x. (state g old).now.schema ≡ desk_schema → (s : Machine) → IsReachable s → Stands (tables_of s) (state g old).now.trees → IsHeld x (tables_of s))
@@ -25,6 +27,7 @@ pub record HasRead {S X : Type 0} (g : Ghosts S) (old new : Held S) (result : Re
       → IsUnchanged (state g old) (state g new)
   pub sees : SeesAsBefore g old new
   pub refused : (r : Refusal) → result ≢ Err (Refused r)
+  pub cause : IsFaultless g old new → FailsOnlyAs (λ (fault : Fault). fault ≢ Device) g old new result
   pub same : HasCleanDisk (state g new) → OnOk result ((state g old).now.schema ≡ desk_schema → IsUnchanged (state g old) (state g new))
   pub mode : old.in_transaction ≡ false → new.in_transaction ≡ false
   pub kept : HasCleanDisk (state g new) → IsTrue (state g new).is_open → (d : Tables) → Holds g old d → Holds g new d

@@ -2,6 +2,7 @@
 
 ghost use Rattle.std.specs.Prelude.{◌≡◌, ◌≢◌};
 ghost use Rattle.tb_core.specs.declared.refusals.Refusal.{Refusal};
+ghost use Rattle.tb_reading.specs.Failing.{IsReadWant};
 
 use sqlite::{Error, ErrorCode};
 use tb_core::Fault;
@@ -12,6 +13,7 @@ use tb_reading::ReadError;
 /// not a desk's. So `NotADesk` never comes of a read that was cut short.
 pub(crate) fn of_read(error: ReadError) -> Fault
     ensures form { result ≡ Fault.NotADesk → error ≡ ReadError.Form }
+    ensures cause { IsReadWant error → result ≢ Fault.Device }
     ensures refused { (r : Refusal) → result ≢ Fault.Refused r }
 {
     match error {
@@ -24,6 +26,7 @@ pub(crate) fn of_read(error: ReadError) -> Fault
 /// The same of rows that were tested.
 pub(crate) fn of_unfit(unfit: Unfit) -> Fault
     ensures form { result ≡ Fault.NotADesk → unfit ≡ Unfit.NotADesk }
+    ensures cause { result ≢ Fault.Device }
     ensures refused { (r : Refusal) → result ≢ Fault.Refused r }
 {
     match unfit {

@@ -7,15 +7,16 @@
 //! connection is in a transaction, the schema is another, or the rows are those of no such state. A read that the store
 //! cuts short, for whatever reason, is the device's.
 
-ghost use Rattle.std.specs.Prelude.{◌≡◌, ◌≢◌, ◌≤◌, false, Err, IsTrue, IfOk, OnOk};
+ghost use Rattle.std.specs.Prelude.{◌≡◌, ◌≢◌, ◌≤◌, false, None, Err, IsTrue, IfOk, OnOk};
 ghost use Rattle.sqlite.specs.State.{HasCleanDisk, IsUnchanged, Survives};
 ghost use Rattle.sqlite.specs.Held.{state};
 ghost use Rattle.tb_core.specs.declared.refusals.Refusal.{Refusal as AnyRefusal};
+ghost use Rattle.tb_core.specs.declared.refusals.Fault.{Fault as AnyFault};
 ghost use Rattle.tb_core.specs.Machine.{Machine};
 ghost use Rattle.tb_standing.specs.Standing.{IsDesk};
 ghost use Rattle.tb_adopting.specs.Told.{IsStanding};
 ghost use Rattle.tb_adopting.specs.Reads.{LooksLikeDesk};
-ghost use Rattle.tb_tables.specs.Leaving.{KeepsRecords};
+ghost use Rattle.tb_tables.specs.Leaving.{KeepsRecords, BlamesNoDisk};
 
 use crate::faults::of_unfit;
 use crate::reading::read_rows;
@@ -39,7 +40,8 @@ fn may_be_desk<S: Alter>(conn: &Connection<S>) -> bool
 ///
 /// # Errors
 ///
-/// `NotADesk`, where the store is the desk of no state; want of memory; or the store's.
+/// `NotADesk`, where the store is the desk of no state; want of memory; or the store's, only where the disk failed or the
+/// store was shut.
 pub fn read_desk<S: Alter>(alloc: Global, conn: &mut Connection<S>) -> Result<Standing, Fault>
     ensures answered { HasCleanDisk (state S.Store conn.new) → IfOk result (λ x. (s : Machine) × IsDesk S.Store conn.old s × IsDesk S.Store conn.new s × IsStanding x s) }
     ensures autocommit { OnOk result (conn.new.in_transaction ≡ false) }
@@ -50,6 +52,8 @@ pub fn read_desk<S: Alter>(alloc: Global, conn: &mut Connection<S>) -> Result<St
     ensures sees { HasCleanDisk (state S.Store conn.new) → IsTrue (state S.Store conn.new).is_open
         → (state S.Store conn.new).now ≡ (state S.Store conn.old).now }
     ensures refused { (r : AnyRefusal) → result ≢ Err (Fault.Refused r) }
+    ensures cause { (state S.Store conn.old).step_limit ≡ None
+        → BlamesNoDisk (λ (fault : AnyFault). fault ≢ Fault.Device) S.Store conn.old conn.new result }
     ensures same { HasCleanDisk (state S.Store conn.new) → OnOk result (IsUnchanged (state S.Store conn.old) (state S.Store conn.new)) }
     ensures mode { conn.old.in_transaction ≡ false → conn.new.in_transaction ≡ false }
     ensures kept { KeepsRecords S.Store conn.old conn.new }

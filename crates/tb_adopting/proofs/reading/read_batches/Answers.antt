@@ -12,3 +12,4 @@ returns-in-Err g c = read_badly g.S.Store c.args.conn.now c.batches.new.conn c.b
     (λ clean q has s reach stands. c.in-Err.ensures.form clean (ap (λ e. Err e) (c.of_read.ensures.form q)) has (tables_of s).batches (batches_fit (tables_of s).batches (c.desk_rows_are_readable.ensures s reach).batches) stands.batches)
     (λ clean q. c.in-Err.ensures.untouched clean (ap (λ e. Err e) (c.of_read.ensures.form q)))
     c.of_read.ensures.refused
+    (λ good clean unlimited has. c.of_read.ensures.cause (c.in-Err.ensures.cause good clean unlimited has))

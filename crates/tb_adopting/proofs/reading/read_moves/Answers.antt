@@ -12,3 +12,4 @@ returns-in-Err g c = read_badly g.S.Store c.args.conn.now c.moves.new.conn c.mov
     (λ clean q has s reach stands. c.in-Err.ensures.form clean (ap (λ e. Err e) (c.of_read.ensures.form q)) has (tables_of s).moves (moves_fit (tables_of s).moves (c.desk_rows_are_readable.ensures s reach).moves) stands.moves)
     (λ clean q. c.in-Err.ensures.untouched clean (ap (λ e. Err e) (c.of_read.ensures.form q)))
     c.of_read.ensures.refused
+    (λ good clean unlimited has. c.of_read.ensures.cause (c.in-Err.ensures.cause good clean unlimited has))

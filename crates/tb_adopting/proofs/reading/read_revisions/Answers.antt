@@ -14,3 +14,4 @@ returns-in-Err g c = read_badly g.S.Store c.args.conn.now c.revisions.new.conn c
     (λ clean q has s reach stands. c.in-Err.ensures.form clean (ap (λ e. Err e) (c.of_read.ensures.form q)) has (tables_of s).revisions (revisions_fit (tables_of s).revisions (c.desk_rows_are_readable.ensures s reach).revisions) (revisions_rise 1 s.sentences) stands.revisions)
     (λ clean q. c.in-Err.ensures.untouched clean (ap (λ e. Err e) (c.of_read.ensures.form q)))
     c.of_read.ensures.refused
+    (λ good clean unlimited has. c.of_read.ensures.cause (c.in-Err.ensures.cause good clean unlimited has))

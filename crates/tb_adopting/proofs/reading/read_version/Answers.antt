@@ -11,10 +11,11 @@ returns-then-not-is_second g c =
     let is = c.is_second.ensures.1 (read ∙ c.in-Ok.ensures.order clean has (2 ∷ []) second_rises stands.meta) in
     absurd (let d : false ≡ true = sym c.if-not-is_second.true ∙ is in cc))
     (λ clean q has. c.in-Ok.ensures.same clean has)
-    (λ r q. cc)
+    (λ r q. cc) (λ good clean unlimited has q. cc)
 
 pub returns-in-Err : goal.returns-in-Err
 returns-in-Err g c = read_badly g.S.Store c.args.conn.now c.versions.new.conn c.versions.ensures.mode c.versions.ensures.kept c.versions.ensures.lasts c.versions.ensures.sees c.of_read.result _ _
     (λ clean q has s reach stands. c.in-Err.ensures.form clean (ap (λ e. Err e) (c.of_read.ensures.form q)) has (2 ∷ []) second_fits second_rises stands.meta)
     (λ clean q. c.in-Err.ensures.untouched clean (ap (λ e. Err e) (c.of_read.ensures.form q)))
     c.of_read.ensures.refused
+    (λ good clean unlimited has. c.of_read.ensures.cause (c.in-Err.ensures.cause good clean unlimited has))
