@@ -1,5 +1,5 @@
 -- The rows that such a statement shows, and what it leaves whatever it answers.
-use Rattle.std.proofs.Common.{◌≡◌, ℕ, pos, false, List, [], ◌∷◌, Result, IfOk, IfErr, IsTrue, IsPermutation, inl, inr, map, refl, sym, subst}
+use Rattle.std.proofs.Common.{◌≡◌, ℕ, pos, false, None, List, [], ◌∷◌, Result, IfOk, IfErr, IsTrue, IsPermutation, inl, inr, map, refl, sym, subst}
 use Rattle.std.proofs.lemmas.List.Elements.{recursion_from_All}
 use Rattle.sqlite.specs.declared.types.Value.TheVariants.{Null, Int}
 use Rattle.sqlite.specs.declared.error.Error.{Error}
@@ -11,7 +11,7 @@ use Rattle.sqlite.specs.Store.{Ghosts}
 use Rattle.sqlite.specs.Held.{Held, state}
 use Rattle.sqlite.specs.Program.{overlay}
 use Rattle.sqlite.specs.Query.{IsAnswer, output}
-use Rattle.sqlite.specs.State.{State, HasCleanDisk, Shown, FailsToQuery, FailsToShow, IsNotRun, Survives, CommitsShowing}
+use Rattle.sqlite.specs.State.{State, HasCleanDisk, Shown, Fails, FailsToQuery, FailsToShow, IsNotRun, Survives, CommitsShowing}
 use Rattle.sqlite.proofs.Callers.{IsPlain, never_commits, reads_as}
 use Rattle.sqlite.proofs.StateLemmas.{survives_weaker}
 use Rattle.sqlite_trees.specs.Tree.{Trees}
@@ -19,7 +19,9 @@ use Rattle.sqlite_value.specs.declared.keys.Key.{Key}
 use Rattle.tb_tables.specs.Layout.{version_one_schema}
 use Rattle.tb_tables.specs.Records.{Tables, Shows, numbered, revision_shown, revision_view}
 use Rattle.tb_tables.proofs.Texts.{simple}
+use Rattle.tb_tables.proofs.Causes.{failed_wants}
 use Rattle.tb_reading.proofs.Queries.{rising, select_revisions_terms}
+use Rattle.tb_reading.proofs.Failing.{if_err}
 use Rattle.tb_reading.proofs.Ordered.{all_shown, by_order, keyed, first, IsFirst, first_in_order, rises, placed, keyed_twice, pair, IsPair, pair_in_order, revisions_rise, revisions_placed}
 use Rattle.tb_reading.proofs.Staying.{either_way}
 use Rattle.tb_reading.proofs.Shown.{if_ok, when_ok, shown_same}
@@ -45,9 +47,11 @@ module _ {S : Type 0} (g : Ghosts S) (sql : List ℕ) (params : Row) (plain : Is
   pub selected : {X : Type 0} (rows_of : X → List Row) (r : Result X Error) (Are : X → Trees → Type 0) → (HasCleanDisk (state g new) → IfOk r (λ x. Shown sql params (state g old) (state g new) (rows_of x)))
       → (HasCleanDisk (state g new) → IfErr r (FailsToQuery sql params (state g old) (state g new))) → (old.in_transaction ≡ false → new.in_transaction ≡ false)
       → Survives (state g old) (state g new) (CommitsShowing sql params (state g old))
-      → ((x : X) → (state g old).now.schema ≡ version_one_schema → Shown sql params (state g old) (state g new) (rows_of x) → Are x (state g old).now.trees) → HasSelected g old new r Are
-  selected rows_of r Are ok err mode survives are = record {
+      → ((x : X) → (state g old).now.schema ≡ version_one_schema → Shown sql params (state g old) (state g new) (rows_of x) → Are x (state g old).now.trees)
+      → ((e : Error) → (state g old).now.schema ≡ version_one_schema → (state g old).step_limit ≡ None → FailsToQuery sql params (state g old) (state g new) e → Fails (state g old) (state g new) ⊥ e) → HasSelected g old new r Are
+  selected rows_of r Are ok err mode survives are unrefused = record {
     are = λ clean. if_ok r (ok clean) (λ x shown has. are x has shown);
+    cause = λ good clean unlimited has. if_err r (err clean) (λ e failed. failed_wants (state g old) (state g new) good e (unrefused e has unlimited failed));
     same = λ clean. when_ok r (ok clean) (λ x shown has. shown_same sql params (state g old) (state g new) version_one_schema (rows_of x) plain has shown);
     mode = mode;
     kept = λ clean opened d h. either_way r (ok clean) (err clean)

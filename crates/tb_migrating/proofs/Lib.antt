@@ -1,6 +1,7 @@
 mod Upgraded
 mod Begun
 mod Texts
+mod Unrefused
 mod Answered
 mod Read
 mod NoPulls

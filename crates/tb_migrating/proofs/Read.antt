@@ -1,5 +1,5 @@
 -- What one read tells, and several in a row.
-use Rattle.std.proofs.Common.{◌≡◌, ◌≢◌, List, Result, Ok, Err, OnOk, IfOk, IsPermutation, map, sym, ap, subst, ◌∙◌, arith}
+use Rattle.std.proofs.Common.{◌≡◌, ◌≢◌, None, List, Result, Ok, Err, OnOk, IfOk, IsPermutation, map, sym, ap, subst, ◌∙◌, arith}
 use Rattle.std.proofs.lemmas.List.Sorted.{IsPermutation-sym}
 use Rattle.sqlite.specs.declared.error.Error.{Error}
 use Rattle.sqlite.specs.Order.{Row}
@@ -11,10 +11,12 @@ use Rattle.sqlite.proofs.StateLemmas.{survives_then}
 use Rattle.sqlite.proofs.Callers.{unchanged_then}
 use Rattle.sqlite_trees.specs.Tree.{Trees}
 use Rattle.tb_core.specs.declared.refusals.Fault.{Fault}
-use Rattle.tb_core.specs.declared.refusals.Fault.TheVariants.{Refused, NotADesk}
+use Rattle.tb_core.specs.declared.refusals.Fault.TheVariants.{Refused, Device, NotADesk}
 use Rattle.tb_core.specs.declared.refusals.Refusal.{Refusal}
 use Rattle.tb_tables.specs.Layout.{version_one_schema}
 use Rattle.tb_tables.specs.Records.{Shows}
+use Rattle.tb_tables.specs.Leaving.{IsFaultless}
+use Rattle.tb_tables.proofs.Causes.{faultless_next}
 use Rattle.tb_migrating.specs.Selected.{HasSelected}
 use Rattle.tb_migrating.specs.Reads.{HasRead, StandForNone}
 use Rattle.tb_migrating.proofs.Begun.{first_unchanged}
@@ -37,6 +39,7 @@ module _ {S R : Type 0} (g : Ghosts S) (old new : Held S) (selection : Result R 
     are = are;
     unfit = λ clean q. ok_is_no_err x NotADesk q;
     refused = λ r q. ok_is_no_err x (Refused r) q;
+    cause = λ good clean unlimited has. tt;
     same = same;
     mode = h.mode;
     kept = h.kept;
@@ -44,11 +47,13 @@ module _ {S R : Type 0} (g : Ghosts S) (old new : Held S) (selection : Result R 
   }
 
   pub read_badly : {X : Type 0} (e : Fault) (Are : X → Trees → Type 0)
-      → (HasCleanDisk (state g new) → e ≡ NotADesk → (state g old).now.schema ≡ version_one_schema → StandForNone (state g old).now.trees × IsUnchanged (state g old) (state g new)) → ((r : Refusal) → e ≢ Refused r) → HasRead g old new (Err e) Are
-  read_badly {X = X} e Are unfit refused = record {
+      → (HasCleanDisk (state g new) → e ≡ NotADesk → (state g old).now.schema ≡ version_one_schema → StandForNone (state g old).now.trees × IsUnchanged (state g old) (state g new)) → ((r : Refusal) → e ≢ Refused r)
+      → (IsFaultless g old new → HasCleanDisk (state g new) → (state g old).step_limit ≡ None → (state g old).now.schema ≡ version_one_schema → e ≢ Device) → HasRead g old new (Err e) Are
+  read_badly {X = X} e Are unfit refused cause = record {
     are = λ clean. tt;
     unfit = λ clean q. unfit clean (err_is X e NotADesk q);
     refused = λ r q. refused r (err_is X e (Refused r) q);
+    cause = cause;
     same = λ clean. tt;
     mode = h.mode;
     kept = h.kept;
@@ -87,6 +92,7 @@ module _ {S X Y : Type 0} (g : Ghosts S) (a b c : Held S) (x : X) (P : X → Tre
     are = λ clean. if_ok_under (λ y. P x (state g a).now.trees × Q y (state g a).now.trees) r (λ has. both_told r (schema_stays clean has) (two.are clean) (λ y q. (one.are (middle clean) has, subst (Q y) (trees_stay clean has) q)));
     unfit = λ clean q has. let no = two.unfit clean q (schema_stays clean has) in (subst StandForNone (trees_stay clean has) no.0, unchanged_then (state g a) (state g b) (state g c) (one.same (middle clean) has) no.1);
     refused = two.refused;
+    cause = λ good clean unlimited has. two.cause (faultless_next (state g a) (state g b) (state g c) good one.lasts (middle clean) two.lasts.counts) clean (one.lasts.limit ∙ unlimited) (schema_stays clean has);
     same = λ clean. on_ok_under r (two.same clean) (λ more has. unchanged_then (state g a) (state g b) (state g c) (one.same (middle clean) has) (more (schema_stays clean has)));
     mode = λ m. two.mode (one.mode m);
     kept = λ clean is_open d holds. two.kept clean is_open d (first_unchanged g a b d holds (one.same (middle clean) holds.schema));
@@ -101,6 +107,7 @@ read_failed {X = X} {Y = Y} g a b e f r P Q made is h = subst (λ w. HasRead g a
   are = λ clean. tt;
   unfit = λ clean q. h.unfit clean (back NotADesk q);
   refused = λ r q. h.refused r (back (Refused r) q);
+  cause = λ good clean unlimited has q. h.cause good clean unlimited has (sym is ∙ q);
   same = λ clean. tt;
   mode = h.mode;
   kept = h.kept;
@@ -116,6 +123,7 @@ read_as g a b x y P Q told h = record {
   are = λ clean has. told (state g a).now.trees (h.are clean has);
   unfit = λ clean q. ok_is_no_err y NotADesk q;
   refused = λ r q. ok_is_no_err y (Refused r) q;
+  cause = λ good clean unlimited has. tt;
   same = λ clean has. h.same clean has;
   mode = h.mode;
   kept = h.kept;

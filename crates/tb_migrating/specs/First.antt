@@ -1,11 +1,11 @@
 -- The tables of version 1, as they were before a sentence could be pulled.
-use Rattle.std.specs.Prelude.{◌≡◌, ℤ, pos, false, [], ◌∷◌, map, IsTrue}
+use Rattle.std.specs.Prelude.{◌≡◌, ℤ, pos, false, None, [], ◌∷◌, map, Result, IfErr, IsTrue}
 use Rattle.sqlite.specs.declared.types.Value.TheVariants.{Int}
 use Rattle.sqlite.specs.Order.{Row, column}
 use Rattle.sqlite.specs.Tree.{Trees}
 use Rattle.sqlite.specs.Store.{Ghosts}
 use Rattle.sqlite.specs.Held.{Held, state}
-use Rattle.sqlite.specs.State.{State}
+use Rattle.sqlite.specs.State.{State, HasCleanDisk}
 use Rattle.tb_tables.specs.Layout.{version_one_schema}
 use Rattle.tb_tables.specs.Records.{Tables, Shows, numbered, batch_shown, sentence_shown, revision_shown, move_shown, total_shown, batch_view, sentence_view, revision_view, move_view, total_view}
 
@@ -25,6 +25,13 @@ pub record StandsFirst (d : Tables) (trees : Trees) : Type 0 where
   pub revisions : Shows revision_view (map revision_shown d.revisions) (trees 5)
   pub moves : Shows move_view (numbered move_shown 1 d.moves) (trees 7)
   pub totals : Shows total_view (numbered total_shown 1 d.totals) (trees 8)
+
+-- an error on the six tables, where there is no limit on steps, is such a fault
+abbrev pub FailsOnlyAsFirst : {S X E : Type 0} → (E → Type 0) → Ghosts S → Held S → Held S → Result X E
+    → Type 0
+FailsOnlyAsFirst IsFault g old new result =
+    HasCleanDisk (state g new) → (state g old).step_limit ≡ None → (state g old).now.schema ≡ version_one_schema
+    → IfErr result IsFault
 
 -- a transaction is open on the six tables
 pub record IsInsideFirst (s : State) : Type 0 where

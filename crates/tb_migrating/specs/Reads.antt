@@ -5,18 +5,19 @@ use Rattle.sqlite.specs.Held.{Held, state}
 use Rattle.sqlite.specs.State.{HasCleanDisk, IsUnchanged, Survives}
 use Rattle.sqlite_trees.specs.Tree.{Trees}
 use Rattle.tb_core.specs.declared.refusals.Fault.{Fault}
-use Rattle.tb_core.specs.declared.refusals.Fault.TheVariants.{Refused, NotADesk}
+use Rattle.tb_core.specs.declared.refusals.Fault.TheVariants.{Refused, Device, NotADesk}
 use Rattle.tb_core.specs.declared.refusals.Refusal.{Refusal}
 use Rattle.tb_core.specs.Machine.{Machine}
 use Rattle.tb_core.specs.Reaching.{IsReachable}
 use Rattle.tb_tables.specs.Layout.{version_one_schema}
+use Rattle.tb_tables.specs.Leaving.{IsFaultless}
 use Rattle.tb_tables.specs.Records.{Tables, Shows, revision_shown, revision_view}
 use Rattle.tb_tables.specs.Values.{revision_of}
 use Rattle.tb_tables.specs.declared.rows.RevisionRow.{RevisionRow}
 use Rattle.tb_standing.specs.Standing.{tables_of}
 use Rattle.tb_adopting.specs.Told.{tables_in}
 use Rattle.tb_adopting.specs.declared.telling.TableRows.{TableRows}
-use Rattle.tb_migrating.specs.First.{StandsFirst, HoldsFirst}
+use Rattle.tb_migrating.specs.First.{StandsFirst, HoldsFirst, FailsOnlyAsFirst}
 
 -- the six tables stand for no reachable state
 abbrev pub StandForNone : Trees → Type 0
@@ -34,12 +35,13 @@ pub record AreTheRows (r : TableRows) (trees : Trees) : Type 0 where
   pub unpulled : (tables_in r).pulled ≡ []
   pub whole : (s : Machine) → IsReachable s → (tables_of s).pulled ≡ [] → StandsFirst (tables_of s) trees → tables_in r ≡ tables_of s
 
--- On the schema of version 1: the trees are as is told. `NotADesk` is answered only where they stand for no reachable state.
--- Nothing is changed.
+-- On the schema of version 1: the trees are as is told. `NotADesk` is answered only where they stand for no reachable
+-- state, and `Device`, with no limit on steps, only where the disk failed or the store was shut. Nothing is changed.
 pub record HasRead {S X : Type 0} (g : Ghosts S) (old new : Held S) (result : Result X Fault) (Are : X → Trees → Type 0) : Type 0 where
   pub are : HasCleanDisk (state g new) → IfOk result (λ x. (state g old).now.schema ≡ version_one_schema → Are x (state g old).now.trees)
   pub unfit : HasCleanDisk (state g new) → result ≡ Err NotADesk → (state g old).now.schema ≡ version_one_schema → StandForNone (state g old).now.trees × IsUnchanged (state g old) (state g new)
   pub refused : (r : Refusal) → result ≢ Err (Refused r)
+  pub cause : IsFaultless g old new → FailsOnlyAsFirst (λ (fault : Fault). fault ≢ Device) g old new result
   pub same : HasCleanDisk (state g new) → OnOk result ((state g old).now.schema ≡ version_one_schema → IsUnchanged (state g old) (state g new))
   pub mode : old.in_transaction ≡ false → new.in_transaction ≡ false
   pub kept : HasCleanDisk (state g new) → IsTrue (state g new).is_open → (d : Tables) → HoldsFirst g old d → HoldsFirst g new d

@@ -7,9 +7,11 @@ use Rattle.sqlite.specs.State.{HasCleanDisk, IsUnchanged, Survives}
 use Rattle.sqlite.specs.declared.error.Error.{Error}
 use Rattle.sqlite_trees.specs.Tree.{IsAscending, Trees}
 use Rattle.tb_tables.specs.Layout.{version_one_schema}
+use Rattle.tb_tables.specs.Failing.{IsWant}
+use Rattle.tb_tables.specs.Leaving.{IsFaultless}
 use Rattle.tb_tables.specs.Records.{Tables, Revision, Shows, numbered, revision_shown, revision_view}
 use Rattle.tb_reading.specs.Readable.{IsRevision, ComesBefore}
-use Rattle.tb_migrating.specs.First.{HoldsFirst}
+use Rattle.tb_migrating.specs.First.{HoldsFirst, FailsOnlyAsFirst}
 
 -- in some order, what the rows of a table show
 abbrev pub AreRows : (Row → Row) → ℕ → List Row → Trees → Type 0
@@ -23,9 +25,11 @@ AreNumbered {X} view shown tree rows trees = AreRows view tree rows trees × ((x
 abbrev pub AreRevisions : List Row → Trees → Type 0
 AreRevisions rows trees = AreRows revision_view 5 rows trees × ((xs : List Revision) → All IsRevision xs → IsAscending ComesBefore xs → Shows revision_view (map revision_shown xs) (trees 5) → rows ≡ map revision_shown xs)
 
--- On the schema of version 1: the rows are these. Whatever is answered, nothing is changed.
+-- On the schema of version 1: the rows are these. An error, with no limit on steps, is want of memory where the store
+-- was open and its disk failed at nothing. Whatever is answered, nothing is changed.
 pub record HasSelected {S X : Type 0} (g : Ghosts S) (old new : Held S) (result : Result X Error) (Are : X → Trees → Type 0) : Type 0 where
   pub are : HasCleanDisk (state g new) → IfOk result (λ x. (state g old).now.schema ≡ version_one_schema → Are x (state g old).now.trees)
+  pub cause : IsFaultless g old new → FailsOnlyAsFirst IsWant g old new result
   pub same : HasCleanDisk (state g new) → OnOk result ((state g old).now.schema ≡ version_one_schema → IsUnchanged (state g old) (state g new))
   pub mode : old.in_transaction ≡ false → new.in_transaction ≡ false
   pub kept : HasCleanDisk (state g new) → IsTrue (state g new).is_open → (d : Tables) → HoldsFirst g old d → HoldsFirst g new d

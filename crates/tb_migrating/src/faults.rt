@@ -2,6 +2,8 @@
 
 ghost use Rattle.std.specs.Prelude.{◌≡◌, ◌≢◌};
 ghost use Rattle.tb_core.specs.declared.refusals.Refusal.{Refusal};
+ghost use Rattle.tb_tables.specs.Failing.{IsWant};
+ghost use Rattle.tb_reading.specs.Failing.{IsReadWant};
 
 use sqlite::{Error, ErrorCode};
 use tb_core::Fault;
@@ -11,6 +13,7 @@ use tb_reading::ReadError;
 /// Want of memory is `Memory`, and whatever else the database answers is the store's.
 pub(crate) fn of_error(error: Error) -> Fault
     ensures no_form { result ≢ Fault.NotADesk }
+    ensures cause { IsWant error → result ≢ Fault.Device }
     ensures refused { (r : Refusal) → result ≢ Fault.Refused r }
 {
     match error {
@@ -22,6 +25,7 @@ pub(crate) fn of_error(error: Error) -> Fault
 /// Rows that are those of no records are not a desk's.
 pub(crate) fn of_rows(error: ReadError) -> Fault
     ensures form { result ≡ Fault.NotADesk → error ≡ ReadError.Form }
+    ensures cause { IsReadWant error → result ≢ Fault.Device }
     ensures refused { (r : Refusal) → result ≢ Fault.Refused r }
 {
     match error {
@@ -33,6 +37,7 @@ pub(crate) fn of_rows(error: ReadError) -> Fault
 /// The same of rows that were tested.
 pub(crate) fn of_unfit(unfit: Unfit) -> Fault
     ensures form { result ≡ Fault.NotADesk → unfit ≡ Unfit.NotADesk }
+    ensures cause { result ≢ Fault.Device }
     ensures refused { (r : Refusal) → result ≢ Fault.Refused r }
 {
     match unfit {

@@ -1,11 +1,13 @@
 //! Whether a store is a desk of version 1, and the change of one into a desk.
 
-ghost use Rattle.std.specs.Prelude.{◌≡◌, ◌≢◌, ◌≤◌, false, Err, IsTrue, IfOk, OnOk, OnErr};
+ghost use Rattle.std.specs.Prelude.{◌≡◌, ◌≢◌, ◌≤◌, false, None, Err, IsTrue, IfOk, OnOk, OnErr};
 ghost use Rattle.sqlite.specs.State.{HasCleanDisk, IsUnchanged, Survives};
 ghost use Rattle.sqlite.specs.Held.{state};
 ghost use Rattle.tb_core.specs.declared.refusals.Refusal.{Refusal as AnyRefusal};
+ghost use Rattle.tb_core.specs.declared.refusals.Fault.{Fault as AnyFault};
 ghost use Rattle.tb_core.specs.Machine.{Machine};
 ghost use Rattle.tb_tables.specs.Records.{Tables, Stands};
+ghost use Rattle.tb_tables.specs.Leaving.{BlamesNoDisk};
 ghost use Rattle.tb_standing.specs.Standing.{tables_of, IsDesk};
 ghost use Rattle.tb_adopting.specs.Told.{IsStanding};
 ghost use Rattle.tb_migrating.specs.First.{HoldsFirst, StandsFirst};
@@ -38,6 +40,8 @@ fn read_first_desk<S: Alter>(alloc: Global, conn: &mut Connection<S>) -> Result<
     ensures unfit { HasCleanDisk (state S.Store conn.new) → result ≡ Err Fault.NotADesk → (s : Machine) → IsFirstDesk S.Store conn.old s → ⊥ }
     ensures untouched { HasCleanDisk (state S.Store conn.new) → result ≡ Err Fault.NotADesk → (state S.Store conn.new).now ≡ (state S.Store conn.old).now }
     ensures refused { (r : AnyRefusal) → result ≢ Err (Fault.Refused r) }
+    ensures cause { (state S.Store conn.old).step_limit ≡ None
+        → BlamesNoDisk (λ (fault : AnyFault). fault ≢ Fault.Device) S.Store conn.old conn.new result }
     ensures same { HasCleanDisk (state S.Store conn.new) → OnOk result (IsUnchanged (state S.Store conn.old) (state S.Store conn.new)) }
     ensures kept { HasCleanDisk (state S.Store conn.new) → IsTrue (state S.Store conn.new).is_open → (d : Tables) → HoldsFirst S.Store conn.old d → HoldsFirst S.Store conn.new d }
     ensures survives { Survives (state S.Store conn.old) (state S.Store conn.new) (λ _. ⊥) }
@@ -64,6 +68,9 @@ pub fn migrate<S: Alter>(alloc: Global, conn: &mut Connection<S>) -> Result<Stan
     ensures untouched { HasCleanDisk (state S.Store conn.new) → result ≡ Err Fault.NotADesk → (state S.Store conn.new).now ≡ (state S.Store conn.old).now }
     ensures unwritten { result ≡ Err Fault.NotADesk → Survives (state S.Store conn.old) (state S.Store conn.new) (λ _. ⊥) }
     ensures refused { (r : AnyRefusal) → result ≢ Err (Fault.Refused r) }
+    ensures cause { ((s : Machine) → IsFirstDesk S.Store conn.old s → ⊥)
+        → (state S.Store conn.old).step_limit ≡ None
+        → BlamesNoDisk (λ (fault : AnyFault). fault ≢ Fault.Device) S.Store conn.old conn.new result }
     ensures again { HasCleanDisk (state S.Store conn.new) → IsTrue (state S.Store conn.new).is_open → OnErr result ((s : Machine) → IsFirstDesk S.Store conn.old s → IsFirstDesk S.Store conn.new s) }
     ensures crash { Survives (state S.Store conn.old) (state S.Store conn.new) (λ db. (s : Machine) → IsFirstDesk S.Store conn.old s → Stands (tables_of s) db) }
 {

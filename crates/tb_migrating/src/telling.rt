@@ -1,7 +1,8 @@
 //! Whether rows are those of a state without pulls. No database is in it.
 
-ghost use Rattle.std.specs.Prelude.{◌≡◌, ◌≢◌, ◌≤◌, ◌↔◌, All, Err, IsTrue, IfOk};
+ghost use Rattle.std.specs.Prelude.{◌≡◌, ◌≢◌, ◌≤◌, ◌↔◌, All, Err, IsTrue, IfOk, IfErr};
 ghost use Rattle.tb_core.specs.declared.refusals.Refusal.{Refusal as AnyRefusal};
+ghost use Rattle.tb_core.specs.declared.refusals.Fault.{Fault as AnyFault};
 ghost use Rattle.tb_core.specs.Machine.{Machine};
 ghost use Rattle.tb_core.specs.Reaching.{IsReachable};
 ghost use Rattle.tb_tables.specs.declared.rows.MoveRow.{MoveRow as AnyMoveRow};
@@ -39,6 +40,7 @@ pub(crate) fn standing_without_pulls(alloc: Global, rows: &TableRows) -> Result<
     ensures counts { IfOk result (λ x. (x.batches ≤ x.moves) × (x.sentences ≤ 1000000) × (x.moves ≤ 1000000000)) }
     ensures unfit { result ≡ Err Fault.NotADesk → (s : Machine) → IsReachable s → HasNoPull s → tables_in rows.now ≡ tables_of s → ⊥ }
     ensures refused { (r : AnyRefusal) → result ≢ Err (Fault.Refused r) }
+    ensures cause { IfErr result (λ (fault : AnyFault). fault ≢ Fault.Device) }
 {
     if !has_no_pull(rows.moves.as_slice()) {
         return Err(Fault::NotADesk);

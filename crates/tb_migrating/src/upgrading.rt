@@ -6,7 +6,8 @@ ghost use Rattle.sqlite.specs.Held.{state};
 ghost use Rattle.tb_tables.specs.Records.{Tables, Stands};
 ghost use Rattle.tb_tables.specs.Changes.{IsInside, Holds};
 ghost use Rattle.tb_migrating.specs.First.{StandsFirst, IsInsideFirst, HoldsFirst};
-ghost use Rattle.tb_tables.specs.Leaving.{KeepsCommitted};
+ghost use Rattle.tb_tables.specs.Failing.{NeedsNoFault};
+ghost use Rattle.tb_tables.specs.Leaving.{KeepsCommitted, BlamesNoDisk};
 
 use sqlite::{Alter, Connection, Error, Transaction};
 
@@ -14,6 +15,7 @@ use sqlite::{Alter, Connection, Error, Transaction};
 fn make_pulled<S: Alter>(tx: &mut Transaction<'_, S>) -> Result<(), Error>
     ensures same_reference { tx.new.conn.ghost_name ≡ tx.old.conn.ghost_name }
     ensures ok { HasCleanDisk (state S.Store tx.new.conn.now) → OnOk result (IsInsideFirst (state S.Store tx.old.conn.now) → IsInside (state S.Store tx.new.conn.now) × ((state S.Store tx.new.conn.now).now.trees 9 ≡ []) × ((d : Tables) → StandsFirst d (state S.Store tx.old.conn.now).now.trees → StandsFirst d (state S.Store tx.new.conn.now).now.trees)) }
+    ensures cause { BlamesNoDisk NeedsNoFault S.Store tx.old.conn.now tx.new.conn.now result }
     ensures kept { KeepsCommitted S.Store tx.old.conn.now tx.new.conn.now }
     ensures survives { Survives (state S.Store tx.old.conn.now) (state S.Store tx.new.conn.now) (λ _. ⊥) }
 {
@@ -25,6 +27,7 @@ fn make_pulled<S: Alter>(tx: &mut Transaction<'_, S>) -> Result<(), Error>
 fn update_version<S: Alter>(tx: &mut Transaction<'_, S>) -> Result<(), Error>
     ensures same_reference { tx.new.conn.ghost_name ≡ tx.old.conn.ghost_name }
     ensures ok { HasCleanDisk (state S.Store tx.new.conn.now) → OnOk result (IsInside (state S.Store tx.old.conn.now) → (state S.Store tx.old.conn.now).now.trees 9 ≡ [] → IsInside (state S.Store tx.new.conn.now) × ((d : Tables) → d.pulled ≡ [] → StandsFirst d (state S.Store tx.old.conn.now).now.trees → Stands d (state S.Store tx.new.conn.now).now.trees)) }
+    ensures cause { BlamesNoDisk NeedsNoFault S.Store tx.old.conn.now tx.new.conn.now result }
     ensures kept { KeepsCommitted S.Store tx.old.conn.now tx.new.conn.now }
     ensures survives { Survives (state S.Store tx.old.conn.now) (state S.Store tx.new.conn.now) (λ _. ⊥) }
 {
@@ -35,6 +38,7 @@ fn update_version<S: Alter>(tx: &mut Transaction<'_, S>) -> Result<(), Error>
 fn change_tables<S: Alter>(tx: &mut Transaction<'_, S>) -> Result<(), Error>
     ensures same_reference { tx.new.conn.ghost_name ≡ tx.old.conn.ghost_name }
     ensures ok { HasCleanDisk (state S.Store tx.new.conn.now) → OnOk result (IsInsideFirst (state S.Store tx.old.conn.now) → IsInside (state S.Store tx.new.conn.now) × ((d : Tables) → d.pulled ≡ [] → StandsFirst d (state S.Store tx.old.conn.now).now.trees → Stands d (state S.Store tx.new.conn.now).now.trees)) }
+    ensures cause { BlamesNoDisk NeedsNoFault S.Store tx.old.conn.now tx.new.conn.now result }
     ensures kept { KeepsCommitted S.Store tx.old.conn.now tx.new.conn.now }
     ensures survives { Survives (state S.Store tx.old.conn.now) (state S.Store tx.new.conn.now) (λ _. ⊥) }
 {
@@ -49,6 +53,7 @@ pub fn upgrade<S: Alter>(conn: &mut Connection<S>) -> Result<(), Error>
     requires autocommit { conn.old.in_transaction ≡ false }
     ensures ok { HasCleanDisk (state S.Store conn.new) → OnOk result ((d : Tables) → d.pulled ≡ [] → HoldsFirst S.Store conn.old d → Holds S.Store conn.new d) }
     ensures err { HasCleanDisk (state S.Store conn.new) → IsTrue (state S.Store conn.new).is_open → OnErr result ((d : Tables) → HoldsFirst S.Store conn.old d → HoldsFirst S.Store conn.new d) }
+    ensures cause { BlamesNoDisk NeedsNoFault S.Store conn.old conn.new result }
     ensures mode { conn.new.in_transaction ≡ false }
     ensures crash { Survives (state S.Store conn.old) (state S.Store conn.new) (λ db. (d : Tables) → d.pulled ≡ [] → HoldsFirst S.Store conn.old d → Stands d db) }
 {

@@ -1,7 +1,10 @@
-use Rattle.std.proofs.Common.{arith}
+use Rattle.std.proofs.Common.{◌≢◌, arith}
 use Rattle.sqlite.specs.State.{HasCleanDisk}
 use Rattle.sqlite.specs.Held.{state}
 use Rattle.sqlite.proofs.StateLemmas.{survives_weaker}
+use Rattle.tb_core.specs.declared.refusals.Fault.{Fault}
+use Rattle.tb_core.specs.declared.refusals.Fault.TheVariants.{Device}
+use Rattle.tb_tables.proofs.Causes.{handed_on}
 use Rattle.tb_tables.proofs.Commands.{on_err}
 use Rattle.tb_migrating.proofs.Begun.{first_unchanged}
 use Rattle.tb_migrating.proofs.Whole.{becomes_desk, first_stays, migration_survives}
@@ -33,3 +36,14 @@ returns-in_err-standing-clause-again g c clean opened =
 
 pub returns-in_err-standing-clause-crash : goal.returns-in_err-standing-clause-crash
 returns-in_err-standing-clause-crash g c = survives_weaker (state g.S.Store c.args.conn.now) (state g.S.Store c.read_first_desk.new.conn) _ _ (λ _ db none. absurd none) c.read_first_desk.ensures.survives
+
+pub returns-in_err-standing-clause-cause : goal.returns-in_err-standing-clause-cause
+returns-in_err-standing-clause-cause g c none unlimited clean good =
+    handed_on (λ (fault : Fault). fault ≢ Device) c.from_residual.result c.in_err-standing.field-0.0 c.from_residual.ensures.1 (c.in_err-standing.ensures.cause unlimited clean good)
+
+pub returns-in-Err-clause-cause : goal.returns-in-Err-clause-cause
+returns-in-Err-clause-cause g c none unlimited clean good =
+    let late = c.upgrade.ensures.crash.clean in
+    let was : HasCleanDisk (state g.S.Store c.read_first_desk.new.conn) = omega (arith, clean, late) in
+    let told = c.in_ok-standing.ensures.answered was in
+    absurd (none told.0 told.1)

@@ -1,3 +1,7 @@
+use Rattle.std.proofs.Common.{◌≢◌}
+use Rattle.tb_core.specs.declared.refusals.Fault.{Fault}
+use Rattle.tb_core.specs.declared.refusals.Fault.TheVariants.{Device}
+use Rattle.tb_tables.proofs.Causes.{handed_on}
 use Rattle.tb_tables.proofs.Commands.{if_ok}
 use Rattle.tb_migrating.proofs.Whole.{first_desk, rows_of_desk}
 use Rattle.tb_migrating.proofs.opening.read_first_desk.Goals as goal
@@ -15,3 +19,8 @@ returns-clause-unfit g c clean q s desk =
     let looks = c.may_be_first_desk.ensures.looks c.if-not-may_be_first_desk.false in
     let rows = c.in_ok-rows.ensures.are clean looks.schema in
     c.standing_without_pulls.ensures.unfit q s desk.reachable desk.unpulled (rows_of_desk g.S.Store c.args.conn.now c.in_ok-rows.rows s rows desk)
+
+pub returns-in_err-rows-clause-cause : goal.returns-in_err-rows-clause-cause
+returns-in_err-rows-clause-cause g c unlimited clean good =
+    let looks = c.may_be_first_desk.ensures.looks c.if-not-may_be_first_desk.false in
+    handed_on (λ (fault : Fault). fault ≢ Device) c.from_residual.result c.in_err-rows.field-0.0 c.from_residual.ensures.1 (c.in_err-rows.ensures.cause good clean unlimited looks.schema)

@@ -28,3 +28,4 @@ returns-in-Ok g c =
       h.same clean has,
     ))
     c.of_rows.ensures.refused
+    (λ good clean unlimited has. c.of_rows.ensures.cause c.in-Err-revisions_in.ensures.cause)

@@ -21,3 +21,4 @@ returns-in-Ok g c =
       h.same clean has,
     ))
     c.of_rows.ensures.refused
+    (λ good clean unlimited has. c.of_rows.ensures.cause c.in-Err-totals_in.ensures.cause)

@@ -17,7 +17,7 @@ returns-then-not-is_first_version g c =
           c.is_first_version.ensures.differs c.if-not-is_first_version.true n (read ∙ one_permutation (Int n ∷ Int (pos 1) ∷ []) c.in-Ok.rows.items (IsPermutation-trans _ _ _ stands.meta.1 (h.are clean has))),
       h.same clean has,
     ))
-    (λ r q. cc)
+    (λ r q. cc) (λ good clean unlimited has q. cc)
 
 pub returns-else-not-is_first_version : goal.returns-else-not-is_first_version
 returns-else-not-is_first_version g c =
