@@ -3,7 +3,7 @@ use Rattle.std.specs.Prelude.{◌≡◌, ◌≢◌, ℕ, List, [], ◌∷◌, �
 use Rattle.tb_conllu.specs.Text.{text_of}
 use Rattle.tb_core.specs.Machine.{Sentence}
 use Rattle.tb_reading.specs.declared.error.ReadError.TheVariants.{Form}
-use Rattle.tb_reading.specs.Failing.{IsReadFault}
+use Rattle.tb_reading.specs.Failing.{IsReadFault, IsReadWant}
 use Rattle.tb_search.specs.declared.stopped.Stopped.{Stopped}
 use Rattle.tb_search.specs.declared.stopped.Stopped.TheVariants.{Read, Output}
 
@@ -19,6 +19,11 @@ IsFault e = e ≢ Read Form
 abbrev pub IsStopFault : Stopped → Type 0
 IsStopFault (Read e) = IsReadFault e
 IsStopFault Output = ⊤
+
+-- where the database answered with an error, it is want of memory
+abbrev pub IsStopWant : Stopped → Type 0
+IsStopWant (Read e) = IsReadWant e
+IsStopWant Output = ⊤
 
 -- a sink refused a piece, for a reason of which this is known
 abbrev pub HasReason : {Reason : Type 0} → (Reason → Type 0) → Type 0

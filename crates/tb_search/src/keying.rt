@@ -4,7 +4,7 @@ ghost use Rattle.std.specs.Prelude.{◌≡◌, ◌≢◌, ◌<◌, ◌≤◌, �
 ghost use Rattle.tb_conllu.specs.Words.{words_of};
 ghost use Rattle.tb_report.specs.Keywords.{key_of};
 ghost use Rattle.tb_report.specs.Tables.{IsTableOf};
-ghost use Rattle.tb_search.specs.Visited.{IsFault, IsStopFault};
+ghost use Rattle.tb_search.specs.Visited.{IsFault, IsStopFault, IsStopWant};
 
 use crate::seeker::{Seeker, sentence_in};
 use crate::stopped::Stopped;
@@ -30,9 +30,10 @@ fn count_hit(
     ensures refused { result ≢ Err Stopped.Output }
     ensures fault { IfErr result IsFault }
     ensures fails { IfErr result IsStopFault }
+    ensures cause { IfErr result IsStopWant }
 {
     if table.total() == u64::MAX {
-        return Err(Stopped::Read(ReadError::Store(Error::SqliteFailure(ErrorCode::TooBig))));
+        return Err(Stopped::Read(ReadError::Store(Error::SqliteFailure(ErrorCode::OutOfMemory))));
     }
     let key = key(alloc, block, hit, column)?;
     table.add(key.as_str())?;
@@ -52,6 +53,7 @@ fn count_hits(
     ensures refused { result ≢ Err Stopped.Output }
     ensures fault { IfErr result IsFault }
     ensures fails { IfErr result IsStopFault }
+    ensures cause { IfErr result IsStopWant }
 {
     for hit in hits {
         count_hit(alloc, block, *hit, column, table)?;

@@ -6,7 +6,7 @@ ghost use Rattle.tb_conllu.specs.Words.{words_of};
 ghost use Rattle.tb_conllu.specs.Sunk.{AppendsPart};
 ghost use Rattle.tb_core.specs.Machine.{sent_id_of};
 ghost use Rattle.tb_report.specs.Keywords.{keyword_line};
-ghost use Rattle.tb_search.specs.Visited.{HasReason, IsFault, IsStopFault};
+ghost use Rattle.tb_search.specs.Visited.{HasReason, IsFault, IsStopFault, IsStopWant};
 ghost use Rattle.tb_search.specs.Searched.{AreCut, lines, occurrences, total_line};
 
 use crate::seeker::{Seeker, raised, sentence_in};
@@ -45,6 +45,7 @@ fn put_piece<W: Sink>(bytes: &[u8], out: &mut W) -> Result<(), Stopped>
     ensures part { IfErr result (λ e. (e ≡ Stopped.Output) × AppendsPart (W.held out.old) (W.held out.new) bytes.now) }
     ensures refused { result ≡ Err Stopped.Output → HasReason (W.IsRefusal out.new) }
     ensures fails { IfErr result IsStopFault }
+    ensures cause { IfErr result IsStopWant }
 {
     match out.put(bytes) {
         Ok(()) => Ok(()),
@@ -69,6 +70,7 @@ fn put_hit<W: Sink>(
     ensures refused { result ≡ Err Stopped.Output → HasReason (W.IsRefusal out.new) }
     ensures fault { IfErr result IsFault }
     ensures fails { IfErr result IsStopFault }
+    ensures cause { IfErr result IsStopWant }
 {
     line.bytes.clear();
     kwic_named(name, block, hit, context, line)?;
@@ -91,6 +93,7 @@ fn put_hits<W: Sink>(
     ensures refused { result ≡ Err Stopped.Output → HasReason (W.IsRefusal out.new) }
     ensures fault { IfErr result IsFault }
     ensures fails { IfErr result IsStopFault }
+    ensures cause { IfErr result IsStopWant }
 {
     let mut line = Line {
         bytes: Vec::new(alloc),
@@ -145,6 +148,7 @@ pub(crate) fn put_total<W: Sink>(found: u64, out: &mut W) -> Result<(), Stopped>
     ensures part { IfErr result (λ e. (e ≡ Stopped.Output) × AppendsPart (W.held out.old) (W.held out.new) (total_line found)) }
     ensures refused { result ≡ Err Stopped.Output → HasReason (W.IsRefusal out.new) }
     ensures fails { IfErr result IsStopFault }
+    ensures cause { IfErr result IsStopWant }
 {
     let mut digits = Buffer::new();
     put_piece(b"hits ".as_slice(), out)?;

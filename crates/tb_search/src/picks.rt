@@ -9,7 +9,7 @@ ghost use Rattle.tb_tables.specs.Values.{batch_of};
 ghost use Rattle.tb_standing.specs.Standing.{batch_record, sentence_record};
 ghost use Rattle.tb_reading.specs.Streams.{head_of};
 ghost use Rattle.tb_search.specs.Released.{is_released as is_in_release};
-ghost use Rattle.tb_search.specs.Visited.{IsFault, IsStopFault};
+ghost use Rattle.tb_search.specs.Visited.{IsFault, IsStopFault, IsStopWant};
 ghost use Rattle.tb_search.specs.Picked.{picks_from, begins, pick_of};
 
 use crate::stopped::Stopped;
@@ -69,6 +69,7 @@ fn push_where(found: &mut Vec<Pick>, wanted: bool, pick: Pick) -> Result<(), Sto
     ensures refused { result ≢ Err Stopped.Output }
     ensures fault { IfErr result IsFault }
     ensures fails { IfErr result IsStopFault }
+    ensures cause { IfErr result IsStopWant }
 {
     if wanted {
         found.push(pick)?;
@@ -88,6 +89,7 @@ pub(crate) fn released_of(
     ensures refused { result ≢ Err Stopped.Output }
     ensures fault { IfErr result IsFault }
     ensures fails { IfErr result IsStopFault }
+    ensures cause { IfErr result IsStopWant }
 {
     let mut found = Vec::new(alloc);
     let mut number = 0;
@@ -115,6 +117,7 @@ pub(crate) fn picks_of(alloc: Global, work: &[Work]) -> Result<Vec<Pick>, Stoppe
     ensures refused { result ≢ Err Stopped.Output }
     ensures fault { IfErr result IsFault }
     ensures fails { IfErr result IsStopFault }
+    ensures cause { IfErr result IsStopWant }
 {
     let mut found = Vec::new(alloc);
     for one in work {

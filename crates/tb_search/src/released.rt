@@ -6,7 +6,7 @@ ghost use Rattle.tb_reading.specs.Streams.{head_of};
 ghost use Rattle.tb_search.specs.Released.{released, is_released as is_in_release};
 ghost use Rattle.tb_search.specs.Picked.{picks_from};
 ghost use Rattle.tb_search.specs.Visited.{AllTaken, Halted, texts};
-ghost use Rattle.tb_search.specs.Ending.{StopsForFault, StopsForStore};
+ghost use Rattle.tb_search.specs.Ending.{StopsForFault, StopsForStore, StopsForWant};
 ghost use Rattle.tb_standing.specs.Telling.{Tells, TellsOnErr, TellsOnOk};
 ghost use Rattle.tb_tables.specs.Leaving.{ChangesNothing, CommitsNothing, KeepsRecords};
 
@@ -30,6 +30,7 @@ fn released_among<S: Alter>(
     ensures refused { result ≢ Err Stopped.Output }
     ensures fault { StopsForFault S.Store conn.old conn.new result }
     ensures fails { StopsForStore S.Store conn.old conn.new result }
+    ensures cause { StopsForWant S.Store conn.old conn.new result }
     ensures same { ChangesNothing S.Store conn.old conn.new result }
     ensures mode { conn.old.in_transaction ≡ false → conn.new.in_transaction ≡ false }
     ensures kept { KeepsRecords S.Store conn.old conn.new }
@@ -47,6 +48,7 @@ fn released_picks<S: Alter>(alloc: Global, conn: &mut Connection<S>) -> Result<V
     ensures refused { result ≢ Err Stopped.Output }
     ensures fault { StopsForFault S.Store conn.old conn.new result }
     ensures fails { StopsForStore S.Store conn.old conn.new result }
+    ensures cause { StopsForWant S.Store conn.old conn.new result }
     ensures same { ChangesNothing S.Store conn.old conn.new result }
     ensures mode { conn.old.in_transaction ≡ false → conn.new.in_transaction ≡ false }
     ensures kept { KeepsRecords S.Store conn.old conn.new }
@@ -72,6 +74,7 @@ pub(crate) fn visit_released<S: Alter, O, V: Visitor<O>>(
     ensures halted { TellsOnErr S.Store conn.old conn.new result (λ s e. Halted V.Takes V.Stops visitor.old filled.old (texts (released s)) e filled.new) }
     ensures refused { result ≡ Err Stopped.Output → V.Refused filled.new }
     ensures fails { StopsForStore S.Store conn.old conn.new result }
+    ensures cause { StopsForWant S.Store conn.old conn.new result }
     ensures same { ChangesNothing S.Store conn.old conn.new result }
     ensures mode { conn.old.in_transaction ≡ false → conn.new.in_transaction ≡ false }
     ensures kept { KeepsRecords S.Store conn.old conn.new }

@@ -8,7 +8,7 @@ ghost use Rattle.tb_query.specs.Search.{Asked};
 ghost use Rattle.tb_report.specs.Tables.{IsTableOf};
 ghost use Rattle.tb_search.specs.Visited.{HasReason};
 ghost use Rattle.tb_search.specs.Searched.{AreFound, IsBrokenOff, Occurrence, answer, keys, searched};
-ghost use Rattle.tb_search.specs.Ending.{StopsForFault, StopsForStore};
+ghost use Rattle.tb_search.specs.Ending.{StopsForFault, StopsForStore, StopsForWant};
 ghost use Rattle.tb_standing.specs.Telling.{Tells, TellsOnErr};
 ghost use Rattle.tb_tables.specs.Leaving.{ChangesNothing, CommitsNothing, KeepsRecords};
 
@@ -42,6 +42,7 @@ pub fn number_released<S: Alter>(
     ensures refused { result ≢ Err Stopped.Output }
     ensures fault { StopsForFault S.Store conn.old conn.new result }
     ensures fails { StopsForStore S.Store conn.old conn.new result }
+    ensures cause { StopsForWant S.Store conn.old conn.new result }
     ensures same { ChangesNothing S.Store conn.old conn.new result }
     ensures mode { conn.old.in_transaction ≡ false → conn.new.in_transaction ≡ false }
     ensures kept { KeepsRecords S.Store conn.old conn.new }
@@ -72,6 +73,7 @@ pub fn count_released<S: Alter>(
     ensures refused { result ≢ Err Stopped.Output }
     ensures fault { StopsForFault S.Store conn.old conn.new result }
     ensures fails { StopsForStore S.Store conn.old conn.new result }
+    ensures cause { StopsForWant S.Store conn.old conn.new result }
     ensures same { ChangesNothing S.Store conn.old conn.new result }
     ensures mode { conn.old.in_transaction ≡ false → conn.new.in_transaction ≡ false }
     ensures kept { KeepsRecords S.Store conn.old conn.new }
@@ -106,6 +108,7 @@ pub fn search_released<S: Alter, W: Sink>(
     ensures refused { result ≡ Err Stopped.Output → HasReason (W.IsRefusal out.new) }
     ensures fault { StopsForFault S.Store conn.old conn.new result }
     ensures fails { StopsForStore S.Store conn.old conn.new result }
+    ensures cause { StopsForWant S.Store conn.old conn.new result }
     ensures broken { TellsOnErr S.Store conn.old conn.new result (λ s e. (found : List Occurrence) → AreFound strategy query.now (searched s) found → IsBrokenOff e (W.held out.old) (W.held out.new) context found) }
     ensures same { ChangesNothing S.Store conn.old conn.new result }
     ensures mode { conn.old.in_transaction ≡ false → conn.new.in_transaction ≡ false }

@@ -5,7 +5,7 @@ ghost use Rattle.tb_conllu.specs.Text.{BlockText};
 ghost use Rattle.tb_conllu.specs.Told.{IsFile};
 ghost use Rattle.tb_conllu.specs.Words.{words_of};
 ghost use Rattle.tb_query.specs.Search.{AreHitsIn};
-ghost use Rattle.tb_search.specs.Visited.{IsFault, IsStopFault};
+ghost use Rattle.tb_search.specs.Visited.{IsFault, IsStopFault, IsStopWant};
 
 use crate::stopped::Stopped;
 use sqlite::{Error, ErrorCode};
@@ -22,6 +22,7 @@ pub(crate) fn sentence_in<'a>(alloc: Global, body: &'a [u8]) -> Result<BlockRef<
     ensures refused { result ≢ Err Stopped.Output }
     ensures fault { IfErr result (λ e. (x : BlockText) → IsFile body.now (x ∷ []) → IsFault e) }
     ensures fails { IfErr result IsStopFault }
+    ensures cause { IfErr result IsStopWant }
 {
     let Some(block) = known_block(alloc, body)? else {
         return Err(Stopped::Read(ReadError::Form));
@@ -29,16 +30,17 @@ pub(crate) fn sentence_in<'a>(alloc: Global, body: &'a [u8]) -> Result<BlockRef<
     Ok(block)
 }
 
-/// A count and some more.
+/// A count and some more. No memory holds what a `u64` does not count.
 pub(crate) fn raised(count: u64, more: usize) -> Result<u64, Stopped>
     ensures sum { IfOk result (λ n. n ≡ count + more) }
     ensures refused { result ≢ Err Stopped.Output }
     ensures fault { IfErr result IsFault }
     ensures fails { IfErr result IsStopFault }
+    ensures cause { IfErr result IsStopWant }
 {
     match count.checked_add(more as u64) {
         Some(sum) => Ok(sum),
-        None => Err(Stopped::Read(ReadError::Store(Error::SqliteFailure(ErrorCode::TooBig)))),
+        None => Err(Stopped::Read(ReadError::Store(Error::SqliteFailure(ErrorCode::OutOfMemory)))),
     }
 }
 
@@ -61,6 +63,7 @@ impl<'q> Seeker<'q> {
         ensures refused { result ≢ Err Stopped.Output }
         ensures fault { IfErr result IsFault }
         ensures fails { IfErr result IsStopFault }
+        ensures cause { IfErr result IsStopWant }
     {
         let searcher = PrefilteredSearcher::new(alloc, query)?;
         Ok(Seeker {
@@ -85,6 +88,7 @@ impl<'q> Seeker<'q> {
         ensures refused { result ≢ Err Stopped.Output }
         ensures fault { IfErr result (λ e. words_of block.now ≤ 1000 → IsFault e) }
         ensures fails { IfErr result IsStopFault }
+        ensures cause { IfErr result IsStopWant }
         ensures same { self.new ≡ self.old }
     {
         if words(block) > 1000 {

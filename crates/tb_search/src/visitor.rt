@@ -9,7 +9,7 @@ use crate::stopped::Stopped;
 pub(crate) trait Visitor<O> {
     ghost use Rattle.std.specs.Prelude.{ℕ, List};
     ghost use Rattle.tb_search.specs.declared.stopped.Stopped.{Stopped};
-    ghost use Rattle.tb_search.specs.Visited.{IsStopFault};
+    ghost use Rattle.tb_search.specs.Visited.{IsStopFault, IsStopWant};
 
     // what a text makes of the visitor and of what is filled
     ghost Takes: { Self → O → List ℕ → Self → O → Type 0 };
@@ -25,5 +25,6 @@ pub(crate) trait Visitor<O> {
         ensures taken { OnOk result (Takes self.old filled.old body.now self.new filled.new) }
         ensures stopped { IfErr result (λ e. Stops self.old filled.old body.now e filled.new) }
         ensures refused { result ≡ Err Stopped.Output → Refused filled.new }
-        ensures fails { IfErr result IsStopFault };
+        ensures fails { IfErr result IsStopFault }
+        ensures cause { IfErr result IsStopWant };
 }

@@ -8,7 +8,8 @@ ghost use Rattle.tb_tables.specs.Layout.{desk_schema};
 ghost use Rattle.tb_tables.specs.Records.{Revision, Shows, revision_shown, revision_view};
 ghost use Rattle.tb_reading.specs.Readable.{IsRevision, ComesBefore};
 ghost use Rattle.tb_search.specs.Picked.{asks, picked, bodies as bodies_of};
-ghost use Rattle.tb_search.specs.Visited.{AllTaken, Halted, IsStopFault};
+ghost use Rattle.tb_search.specs.Visited.{AllTaken, Halted, IsStopFault, IsStopWant};
+ghost use Rattle.tb_search.specs.Ending.{WalksUntilWant};
 ghost use Rattle.tb_tables.specs.Leaving.{ChangesNothing, CommitsNothing, KeepsRecords};
 
 use crate::picks::Pick;
@@ -37,6 +38,7 @@ fn visit_asked<O, V: Visitor<O>>(
     ensures stopped { IfErr result (λ e. (asks pick.now sent rev ≡ true) × V.Stops visitor.old filled.old body.now e filled.new) }
     ensures refused { result ≡ Err Stopped.Output → V.Refused filled.new }
     ensures fails { IfErr result IsStopFault }
+    ensures cause { IfErr result IsStopWant }
 {
     if !is_asked(pick, sent, rev) {
         return Ok(0);
@@ -56,6 +58,7 @@ pub(crate) fn visit_picked<S: Alter, O, V: Visitor<O>>(
     ensures halted { HasCleanDisk (state S.Store conn.new) → IfErr result (λ e. (state S.Store conn.old).now.schema ≡ desk_schema → (xs : List Revision) → All IsRevision xs → IsAscending ComesBefore xs → Shows revision_view (map revision_shown xs) ((state S.Store conn.old).now.trees 5) → Halted V.Takes V.Stops visitor.old filled.old (bodies_of (picked picks.now xs)) e filled.new) }
     ensures refused { result ≡ Err Stopped.Output → V.Refused filled.new }
     ensures fails { HasCleanDisk (state S.Store conn.new) → (state S.Store conn.old).step_limit ≡ None → IfErr result (λ e. (state S.Store conn.old).now.schema ≡ desk_schema → (xs : List Revision) → All IsRevision xs → IsAscending ComesBefore xs → Shows revision_view (map revision_shown xs) ((state S.Store conn.old).now.trees 5) → IsStopFault e) }
+    ensures cause { WalksUntilWant S.Store conn.old conn.new result }
     ensures same { ChangesNothing S.Store conn.old conn.new result }
     ensures mode { conn.old.in_transaction ≡ false → conn.new.in_transaction ≡ false }
     ensures kept { KeepsRecords S.Store conn.old conn.new }
@@ -79,5 +82,5 @@ pub(crate) fn visit_picked<S: Alter, O, V: Visitor<O>>(
             filled,
         )?;
     }
-    Err(Stopped::Read(ReadError::Store(Error::SqliteFailure(ErrorCode::TooBig))))
+    Err(Stopped::Read(ReadError::Store(Error::SqliteFailure(ErrorCode::OutOfMemory))))
 }

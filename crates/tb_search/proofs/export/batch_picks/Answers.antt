@@ -34,3 +34,11 @@ returns-in_err-work-clause-fails g c clean unlimited =
 
 pub returns-clause-fails : goal.returns-clause-fails
 returns-clause-fails g c clean unlimited = if_err c.picks_of.result (λ e fault s desk. fault) c.picks_of.ensures.fails
+
+pub returns-in_err-work-clause-cause : goal.returns-in_err-work-clause-cause
+returns-in_err-work-clause-cause g c good clean unlimited =
+    let told = err_from_is_err_and c.from_residual.result c.from_residual.ensures.1 in
+    err_is _ _ _ told.0 told.1 told.2 (λ s desk. c.in_err-work.ensures.cause good clean unlimited desk.holds.schema)
+
+pub returns-clause-cause : goal.returns-clause-cause
+returns-clause-cause g c good clean unlimited = if_err c.picks_of.result (λ e want s desk. want) c.picks_of.ensures.cause

@@ -2,6 +2,7 @@ use Rattle.std.proofs.Common.{◌≡◌, nat_eq, ◌∙◌, rules, arith}
 use Rattle.sqlite.specs.Held.{state}
 use Rattle.sqlite.specs.State.{HasCleanDisk}
 use Rattle.tb_core.specs.Machine.{Sentence}
+use Rattle.tb_tables.proofs.Causes.{faultless_next}
 use Rattle.tb_search.specs.Released.{in_batch}
 use Rattle.tb_search.proofs.Copied.{copies, breaks, all_copied, cut_short, copied_fault}
 use Rattle.tb_search.proofs.Visiting.{if_put, if_cut, desk_same, lasts_then, same_then, of_desk, all_visited, some_visited}
@@ -41,3 +42,13 @@ returns-clause-fails g c clean unlimited = if_cut c.visit_picked.result (λ e to
     let mid : HasCleanDisk (state g.S.Store c.batch_picks.new.conn) = omega (arith, clean, c.visit_picked.ensures.lasts.clean) in
     let still = desk_same g.S.Store c.args.conn.now c.batch_picks.new.conn s desk (c.in_ok-picks.ensures.same mid desk.holds.schema) in
     of_desk g.S.Store c.batch_picks.new.conn s still (c.desk_rows_are_readable.ensures s desk.reachable) told) (c.visit_picked.ensures.fails clean (c.batch_picks.ensures.lasts.limit ∙ unlimited))
+
+pub returns-clause-cause : goal.returns-clause-cause
+returns-clause-cause g c good clean unlimited =
+    let picking = c.batch_picks.ensures.lasts in
+    let walking = c.visit_picked.ensures.lasts in
+    let mid : HasCleanDisk (state g.S.Store c.batch_picks.new.conn) = omega (arith, clean, walking.clean) in
+    let later = faultless_next (state g.S.Store c.args.conn.now) (state g.S.Store c.batch_picks.new.conn) (state g.S.Store c.visit_picked.new.conn) good picking mid walking.counts in
+    if_cut c.visit_picked.result (λ e told s desk.
+    let still = desk_same g.S.Store c.args.conn.now c.batch_picks.new.conn s desk (c.in_ok-picks.ensures.same mid desk.holds.schema) in
+    of_desk g.S.Store c.batch_picks.new.conn s still (c.desk_rows_are_readable.ensures s desk.reachable) told) (c.visit_picked.ensures.cause later clean (picking.limit ∙ unlimited))

@@ -6,6 +6,7 @@ use Rattle.tb_core.specs.Rows.{pulled_from}
 use Rattle.tb_tables.specs.Records.{batch_shown, batch_view}
 use Rattle.tb_tables.specs.Values.{batch_of}
 use Rattle.tb_standing.specs.Standing.{batch_record}
+use Rattle.tb_tables.proofs.Causes.{faultless_next}
 use Rattle.tb_reading.proofs.Shown.{if_ok}
 use Rattle.tb_search.proofs.OneList.{one_list, same_batch}
 use Rattle.tb_search.proofs.Rises.{pulled_rise, batches_fit}
@@ -64,3 +65,22 @@ returns-in_err-pulled-clause-fails g c clean unlimited =
 
 pub returns-clause-fails : goal.returns-clause-fails
 returns-clause-fails g c clean unlimited = if_err c.released_of.result (λ e fault s desk. fault) c.released_of.ensures.fails
+
+pub returns-in_err-batches-clause-cause : goal.returns-in_err-batches-clause-cause
+returns-in_err-batches-clause-cause g c good clean unlimited =
+    let told = err_from_is_err_and c.from_residual.result c.from_residual.ensures.1 in
+    err_is _ _ _ told.0 told.1 told.2 (λ s desk. c.in_err-batches.ensures.cause good clean unlimited desk.holds.schema)
+
+pub returns-in_err-pulled-clause-cause : goal.returns-in_err-pulled-clause-cause
+returns-in_err-pulled-clause-cause g c good clean unlimited =
+    let batches = c.batches.ensures.lasts in
+    let pulled = c.pulled.ensures.lasts in
+    let mid : HasCleanDisk (state g.S.Store c.batches.new.conn) = omega (arith, clean, pulled.clean) in
+    let later = faultless_next (state g.S.Store c.args.conn.now) (state g.S.Store c.batches.new.conn) (state g.S.Store c.pulled.new.conn) good batches mid pulled.counts in
+    let told = err_from_is_err_and c.from_residual-in_err-pulled.result c.from_residual-in_err-pulled.ensures.1 in
+    err_is _ _ _ told.0 told.1 told.2 (λ s desk.
+    let still = desk_same g.S.Store c.args.conn.now c.batches.new.conn s desk (c.in_ok-batches.ensures.same mid desk.holds.schema) in
+    c.in_err-pulled.ensures.cause later clean (batches.limit ∙ unlimited) still.holds.schema)
+
+pub returns-clause-cause : goal.returns-clause-cause
+returns-clause-cause g c good clean unlimited = if_err c.released_of.result (λ e want s desk. want) c.released_of.ensures.cause

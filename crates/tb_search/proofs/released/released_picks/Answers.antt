@@ -2,6 +2,7 @@ use Rattle.std.proofs.Common.{Err, map, ap, ◌∙◌, arith}
 use Rattle.std.proofs.lemmas.Result.{err_from_is_err_and}
 use Rattle.sqlite.specs.Held.{state}
 use Rattle.sqlite.specs.State.{HasCleanDisk}
+use Rattle.tb_tables.proofs.Causes.{faultless_next}
 use Rattle.tb_standing.specs.Standing.{sentence_record}
 use Rattle.tb_search.proofs.Rises.{sentences_fit}
 use Rattle.tb_search.proofs.Visiting.{desk_same, lasts_then, if_err}
@@ -32,3 +33,17 @@ pub returns-clause-fails : goal.returns-clause-fails
 returns-clause-fails g c clean unlimited = if_err c.released_among.result (λ e told s desk.
     let mid : HasCleanDisk (state g.S.Store c.heads.new.conn) = omega (arith, clean, c.released_among.ensures.lasts.clean) in
     told s (desk_same g.S.Store c.args.conn.now c.heads.new.conn s desk (c.in_ok-heads.ensures.same mid desk.holds.schema))) (c.released_among.ensures.fails clean (c.heads.ensures.lasts.limit ∙ unlimited))
+
+pub returns-in_err-heads-clause-cause : goal.returns-in_err-heads-clause-cause
+returns-in_err-heads-clause-cause g c good clean unlimited =
+    let told = err_from_is_err_and c.from_residual.result c.from_residual.ensures.1 in
+    err_is _ _ _ told.0 told.1 told.2 (λ s desk. c.in_err-heads.ensures.cause good clean unlimited desk.holds.schema)
+
+pub returns-clause-cause : goal.returns-clause-cause
+returns-clause-cause g c good clean unlimited =
+    let heads = c.heads.ensures.lasts in
+    let among = c.released_among.ensures.lasts in
+    let mid : HasCleanDisk (state g.S.Store c.heads.new.conn) = omega (arith, clean, among.clean) in
+    let later = faultless_next (state g.S.Store c.args.conn.now) (state g.S.Store c.heads.new.conn) (state g.S.Store c.released_among.new.conn) good heads mid among.counts in
+    if_err c.released_among.result (λ e told s desk.
+    told s (desk_same g.S.Store c.args.conn.now c.heads.new.conn s desk (c.in_ok-heads.ensures.same mid desk.holds.schema))) (c.released_among.ensures.cause later clean (heads.limit ∙ unlimited))

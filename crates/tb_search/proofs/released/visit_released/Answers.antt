@@ -2,6 +2,7 @@ use Rattle.std.proofs.Common.{◌≡◌, ◌∙◌, rules, arith}
 use Rattle.std.proofs.lemmas.Result.{err_from_is_err_and}
 use Rattle.sqlite.specs.Held.{state}
 use Rattle.sqlite.specs.State.{HasCleanDisk}
+use Rattle.tb_tables.proofs.Causes.{faultless_next}
 use Rattle.tb_search.specs.Released.{is_released, released}
 use Rattle.tb_search.specs.Visited.{texts}
 use Rattle.tb_search.proofs.Visiting.{if_put, if_cut, desk_same, lasts_then, same_then, of_desk, all_visited, some_visited}
@@ -45,3 +46,18 @@ returns-clause-fails g c clean unlimited = if_cut c.visit_picked.result (λ e to
     let mid : HasCleanDisk (state g.S.Store c.released_picks.new.conn) = omega (arith, clean, c.visit_picked.ensures.lasts.clean) in
     let still = desk_same g.S.Store c.args.conn.now c.released_picks.new.conn s desk (c.in_ok-picks.ensures.same mid desk.holds.schema) in
     of_desk g.S.Store c.released_picks.new.conn s still (c.desk_rows_are_readable.ensures s desk.reachable) told) (c.visit_picked.ensures.fails clean (c.released_picks.ensures.lasts.limit ∙ unlimited))
+
+pub returns-in_err-picks-clause-cause : goal.returns-in_err-picks-clause-cause
+returns-in_err-picks-clause-cause g c good clean unlimited =
+    let told = err_from_is_err_and c.from_residual.result c.from_residual.ensures.1 in
+    err_is _ _ _ told.0 told.1 told.2 (λ s desk. c.in_err-picks.ensures.cause good clean unlimited s desk)
+
+pub returns-clause-cause : goal.returns-clause-cause
+returns-clause-cause g c good clean unlimited =
+    let picking = c.released_picks.ensures.lasts in
+    let walking = c.visit_picked.ensures.lasts in
+    let mid : HasCleanDisk (state g.S.Store c.released_picks.new.conn) = omega (arith, clean, walking.clean) in
+    let later = faultless_next (state g.S.Store c.args.conn.now) (state g.S.Store c.released_picks.new.conn) (state g.S.Store c.visit_picked.new.conn) good picking mid walking.counts in
+    if_cut c.visit_picked.result (λ e told s desk.
+    let still = desk_same g.S.Store c.args.conn.now c.released_picks.new.conn s desk (c.in_ok-picks.ensures.same mid desk.holds.schema) in
+    of_desk g.S.Store c.released_picks.new.conn s still (c.desk_rows_are_readable.ensures s desk.reachable) told) (c.visit_picked.ensures.cause later clean (picking.limit ∙ unlimited))

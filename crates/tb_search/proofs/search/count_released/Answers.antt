@@ -38,3 +38,13 @@ pub returns-in_err-visit_released-clause-fails : goal.returns-in_err-visit_relea
 returns-in_err-visit_released-clause-fails g c clean unlimited =
     let told = err_from_is_err_and c.from_residual-in_err-visit_released.result c.from_residual-in_err-visit_released.ensures.1 in
     err_is _ _ _ told.0 told.1 told.2 (λ s desk. c.in_err-visit_released.ensures.fails clean unlimited s desk)
+
+pub returns-in_err-seeker-clause-cause : goal.returns-in_err-seeker-clause-cause
+returns-in_err-seeker-clause-cause g c good clean unlimited =
+    let told = err_from_is_err_and c.from_residual.result c.from_residual.ensures.1 in
+    err_is _ _ _ told.0 told.1 told.2 (λ s desk. c.in_err-seeker.ensures.cause)
+
+pub returns-in_err-visit_released-clause-cause : goal.returns-in_err-visit_released-clause-cause
+returns-in_err-visit_released-clause-cause g c good clean unlimited =
+    let told = err_from_is_err_and c.from_residual-in_err-visit_released.result c.from_residual-in_err-visit_released.ensures.1 in
+    err_is _ _ _ told.0 told.1 told.2 (λ s desk. c.in_err-visit_released.ensures.cause good clean unlimited s desk)

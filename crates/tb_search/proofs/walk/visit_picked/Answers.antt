@@ -1,12 +1,13 @@
-use Rattle.std.proofs.Common.{ap, Err, ◌≢◌, ◌<◌, get_or, length, refl, ◌∙◌, rules, arith}
+use Rattle.std.proofs.Common.{ap, Err, ◌≢◌, ◌<◌, ◌≤◌, get_or, length, refl, ◌∙◌, rules, arith}
 use Rattle.std.proofs.lemmas.List.{drop_more}
 use Rattle.std.proofs.lemmas.Result.{err_from_is_err_and}
 use Rattle.sqlite.specs.State.{HasCleanDisk}
 use Rattle.sqlite.specs.Held.{state}
 use Rattle.sqlite.proofs.StateLemmas.{survives_then, survives_weaker}
 use Rattle.sqlite.proofs.Callers.{unchanged_then}
-use Rattle.sqlite_trees.specs.declared.error.StoreError.TheVariants.{Unstorable}
+use Rattle.sqlite_trees.specs.declared.error.StoreError.TheVariants.{OutOfMemory}
 use Rattle.tb_tables.specs.Layout.{desk_schema}
+use Rattle.tb_tables.proofs.Causes.{faultless_first, faultless_next}
 use Rattle.tb_search.specs.Picked.{picked, bodies}
 use Rattle.tb_search.proofs.Walking.{walk_starts, halts_here, none_left, some_taken, one_more, one_stopped, err_is, of_store, not_form}
 use Rattle.tb_search.proofs.walk.visit_picked.Goals as goal
@@ -157,4 +158,38 @@ returns-in_err-next-clause-fails g c clean unlimited =
     err_is _ _ _ told.0 told.1 told.2 (λ has xs each rises shows. fault)
 
 pub returns-clause-fails : goal.returns-clause-fails
-returns-clause-fails g c clean unlimited has xs each rises shows = (Unstorable, refl)
+returns-clause-fails g c clean unlimited has xs each rises shows = (OutOfMemory, refl)
+
+-- ---- and where the disk fails at nothing, want of memory
+
+pub returns-in_err-rows-clause-cause : goal.returns-in_err-rows-clause-cause
+returns-in_err-rows-clause-cause g c good clean unlimited =
+    let told = err_from_is_err_and c.from_residual.result c.from_residual.ensures.1 in
+    let left = rw c.in_err-rows.was at c.bodies.follows.holds-at-none in
+    err_is _ _ _ told.0 told.1 told.2 (λ has xs each rises shows. left.cause good clean unlimited has)
+
+pub returns-in_err-body-clause-cause : goal.returns-in_err-body-clause-cause
+returns-in_err-body-clause-cause g c good clean unlimited =
+    let moved = c.next_body.follows.holds-at-none in
+    let old = state g.S.Store c.args.conn.now in
+    let mid = state g.S.Store c.rows.rows.conn.now in
+    let now = state g.S.Store c.next_body.follows.lender-at-none.conn.now in
+    let end = state g.S.Store c.conn-in_err-body-1.given.0 in
+    let late : HasCleanDisk now = search rules in
+    let early : HasCleanDisk mid = omega (arith, moved.survives.clean) in
+    let more : now.faults ≤ end.faults = search rules in
+    let here = faultless_next old mid now (faultless_first old now end good more) c.rows.invariant.2 early moved.survives.counts in
+    let told = err_from_is_err_and c.from_residual-in_err-body.result c.from_residual-in_err-body.ensures.1 in
+    let want = rw c.in_err-body.was at (moved.cause here late (c.rows.invariant.2.limit ∙ unlimited)) in
+    err_is _ _ _ told.0 told.1 told.2 (λ has xs each rises shows.
+    let it = c.rows.invariant.4 early has xs each rises shows in
+    want it.left it.coming)
+
+pub returns-in_err-next-clause-cause : goal.returns-in_err-next-clause-cause
+returns-in_err-next-clause-cause g c good clean unlimited =
+    let told = err_from_is_err_and c.from_residual-in_err-next.result c.from_residual-in_err-next.ensures.1 in
+    let want = rw c.in_err-next.was at c.visit_asked.ensures.cause in
+    err_is _ _ _ told.0 told.1 told.2 (λ has xs each rises shows. want)
+
+pub returns-clause-cause : goal.returns-clause-cause
+returns-clause-cause g c good clean unlimited has xs each rises shows = refl
