@@ -12,7 +12,10 @@ ghost use Rattle.tb_core.specs.Reaching.{IsReachable};
 ghost use Rattle.tb_standing.specs.Standing.{tables_of, IsDesk};
 ghost use Rattle.tb_recording.specs.Recorded.{IsWritten};
 ghost use Rattle.tb_acting.specs.Correcting.{IsMadeRevision};
+ghost use Rattle.tb_tables.specs.Changes.{HasRevisionRowids};
+ghost use Rattle.tb_tables.specs.Failing.{IsShort};
 ghost use Rattle.tb_tables.specs.Leaving.{KeepsRecordsOnErr};
+ghost use Rattle.tb_standing.specs.Telling.{BlamesNoDevice};
 
 use sqlite::{Alter, Connection};
 use tb_core::{Fault, reached_states_are_well};
@@ -34,6 +37,10 @@ pub(crate) fn correct<S: Alter>(
     ensures made { HasCleanDisk (state S.Store conn.new) → OnOk result ((s : Machine) (body : BlockText) (x : Sentence) → IsDesk S.Store conn.old s → IsMadeRevision s number body x rev words text.now → IsAllowed s (correcting (number - 1) who.now body) → IsReachable (after s (correcting (number - 1) who.now body)) → IsWritten s (correcting (number - 1) who.now body) change.now → IsDesk S.Store conn.new (after s (correcting (number - 1) who.now body))) }
     ensures refused { (r : AnyRefusal) → result ≢ Err (Fault.Refused r) }
     ensures fails { HasCleanDisk (state S.Store conn.new) → (state S.Store conn.old).step_limit ≡ None → (s : Machine) (body : BlockText) (x : Sentence) → IsDesk S.Store conn.old s → IsMadeRevision s number body x rev words text.now → IsAllowed s (correcting (number - 1) who.now body) → IsWritten s (correcting (number - 1) who.now body) change.now → result ≢ Err Fault.NotADesk }
+    ensures cause { BlamesNoDevice S.Store conn.old conn.new result (λ s so. (body : BlockText) (x : Sentence)
+        → IsMadeRevision s number body x rev words text.now → IsAllowed s (correcting (number - 1) who.now body)
+        → IsWritten s (correcting (number - 1) who.now body) change.now → IsShort text.now
+        → HasRevisionRowids (state S.Store conn.old) 1 → so) }
     ensures kept { KeepsRecordsOnErr S.Store conn.old conn.new result }
     ensures crash { Survives (state S.Store conn.old) (state S.Store conn.new) (λ db. (s : Machine) (body : BlockText) (x : Sentence) → IsDesk S.Store conn.old s → IsMadeRevision s number body x rev words text.now → IsAllowed s (correcting (number - 1) who.now body) → IsWritten s (correcting (number - 1) who.now body) change.now → Stands (tables_of (after s (correcting (number - 1) who.now body))) db) }
     ensures mode { conn.new.in_transaction ≡ false }
@@ -56,6 +63,8 @@ pub(crate) fn pull<S: Alter>(
     ensures made { HasCleanDisk (state S.Store conn.new) → OnOk result ((s : Machine) (user : List ℕ) → IsDesk S.Store conn.old s → IsAllowed s (pulling (number - 1) user) → IsReachable (after s (pulling (number - 1) user)) → IsWritten s (pulling (number - 1) user) change.now → IsDesk S.Store conn.new (after s (pulling (number - 1) user))) }
     ensures refused { (r : AnyRefusal) → result ≢ Err (Fault.Refused r) }
     ensures fails { HasCleanDisk (state S.Store conn.new) → (state S.Store conn.old).step_limit ≡ None → (s : Machine) (user : List ℕ) → IsDesk S.Store conn.old s → IsAllowed s (pulling (number - 1) user) → IsWritten s (pulling (number - 1) user) change.now → result ≢ Err Fault.NotADesk }
+    ensures cause { BlamesNoDevice S.Store conn.old conn.new result (λ s so. (user : List ℕ)
+        → IsAllowed s (pulling (number - 1) user) → IsWritten s (pulling (number - 1) user) change.now → so) }
     ensures kept { KeepsRecordsOnErr S.Store conn.old conn.new result }
     ensures crash { Survives (state S.Store conn.old) (state S.Store conn.new) (λ db. (s : Machine) (user : List ℕ) → IsDesk S.Store conn.old s → IsAllowed s (pulling (number - 1) user) → IsWritten s (pulling (number - 1) user) change.now → Stands (tables_of (after s (pulling (number - 1) user))) db) }
     ensures mode { conn.new.in_transaction ≡ false }
@@ -78,6 +87,8 @@ pub(crate) fn restore<S: Alter>(
     ensures made { HasCleanDisk (state S.Store conn.new) → OnOk result ((s : Machine) (user : List ℕ) → IsDesk S.Store conn.old s → IsAllowed s (restoring (number - 1) user) → IsReachable (after s (restoring (number - 1) user)) → IsWritten s (restoring (number - 1) user) change.now → IsDesk S.Store conn.new (after s (restoring (number - 1) user))) }
     ensures refused { (r : AnyRefusal) → result ≢ Err (Fault.Refused r) }
     ensures fails { HasCleanDisk (state S.Store conn.new) → (state S.Store conn.old).step_limit ≡ None → (s : Machine) (user : List ℕ) → IsDesk S.Store conn.old s → IsAllowed s (restoring (number - 1) user) → IsWritten s (restoring (number - 1) user) change.now → result ≢ Err Fault.NotADesk }
+    ensures cause { BlamesNoDevice S.Store conn.old conn.new result (λ s so. (user : List ℕ)
+        → IsAllowed s (restoring (number - 1) user) → IsWritten s (restoring (number - 1) user) change.now → so) }
     ensures kept { KeepsRecordsOnErr S.Store conn.old conn.new result }
     ensures crash { Survives (state S.Store conn.old) (state S.Store conn.new) (λ db. (s : Machine) (user : List ℕ) → IsDesk S.Store conn.old s → IsAllowed s (restoring (number - 1) user) → IsWritten s (restoring (number - 1) user) change.now → Stands (tables_of (after s (restoring (number - 1) user))) db) }
     ensures mode { conn.new.in_transaction ≡ false }

@@ -19,6 +19,9 @@ ghost use Rattle.tb_judge.specs.Parts.{IsNamedCorrection};
 ghost use Rattle.tb_recording.specs.Counted.{IsWithin, IsCounted};
 ghost use Rattle.tb_acting.specs.Correcting.{PlanText, IsCurrentRead, IsPlannedCorrection, Decides, Corrects, current_seen, correction_move};
 ghost use Rattle.tb_standing.specs.Telling.{CrashesTo, KnowsDeskWhere, RefusesAs, Tells};
+ghost use Rattle.tb_standing.specs.Telling.{BlamesNoDevice};
+ghost use Rattle.tb_tables.specs.Changes.{HasRevisionRowids};
+ghost use Rattle.tb_tables.specs.Failing.{IsShort};
 ghost use Rattle.tb_tables.specs.Leaving.{ChangesNothing, CommitsNothing, KeepsRecords, KeepsRecordsOnErr};
 ghost use Rattle.tb_tables.specs.Leaving.{IsFaultless, FailsOnlyAs};
 ghost use Rattle.tb_recording.specs.Faults.{IsNoDevice};
@@ -152,6 +155,7 @@ fn take<'a>(
     text: &str,
     body: &'a [u8],
 ) -> Result<Passage<'a>, Fault>
+    ensures text { IfOk result (λ p. p.text.now ≡ body.now) }
     ensures refused { (r : AnyRefusal) → result ≡ Err (Fault.Refused r) → (s : Machine) (n base : ℕ) (user : List ℕ) (place : ℕ) (x : Sentence) → Reached s → IsNamedCorrection s n base user body.now place x
         → text.now ≡ text_of (x.current.body ∷ []) → counts.now.moves ≡ length s.moves → Steps counts.now.limits s (correct_it n base user body.now) (refused_by r) s }
     ensures accepted { IfOk result (λ p. (s : Machine) (n base : ℕ) (user : List ℕ) (place : ℕ) (x : Sentence) → Reached s → IsNamedCorrection s n base user body.now place x
@@ -224,6 +228,7 @@ fn plan<'a>(
         → slice_get s.sentences (number - 1) ≡ Some x → IsCurrentRead s x read.now → passage.now.text.now ≡ text_of (passage.now.block ∷ [])
         → IsPlannedCorrection s number user.now passage.now.block p) }
     ensures room { IfOk result (λ _. counts.now.moves + 1 ≤ 1000000000) }
+    ensures text { IfOk result (λ p. p.text ≡ passage.now.text.now) }
     ensures refused { (r : AnyRefusal) → result ≢ Err (Fault.Refused r) }
     ensures fails { (s : Machine) (x : Sentence) → IsReachable s → IsAllowed s (correcting (number - 1) user.now passage.now.block) → IsReachable (after s (correcting (number - 1) user.now passage.now.block)) → IsCounted counts.now s
         → slice_get s.sentences (number - 1) ≡ Some x → IsCurrentRead s x read.now → result ≢ Err Fault.NotADesk }
@@ -266,6 +271,7 @@ fn plan_body<'a>(
     requires { 0 < number }
     ensures answered { IfOk result (λ r. (s : Machine) (base : ℕ) (x : Sentence) → Reached s → IsCounted counts.now s → IsCurrentRead s x read.now → IsNamedCorrection s number base user.now body.now (number - 1) x
         → Decides counts.now.limits s number base user.now body.now r.0 (Some r.1)) }
+    ensures text { IfOk result (λ r. r.1.text ≡ body.now) }
     ensures refused { (r : AnyRefusal) → result ≡ Err (Fault.Refused r) → (s : Machine) (base : ℕ) (x : Sentence) → Reached s → IsCounted counts.now s → IsCurrentRead s x read.now → IsNamedCorrection s number base user.now body.now (number - 1) x
         → Steps counts.now.limits s (correct_it number base user.now body.now) (refused_by r) s }
     ensures fails { IsWithin counts.now.limits → (s : Machine) (base : ℕ) (x : Sentence) → IsReachable s → IsCounted counts.now s → IsCurrentRead s x read.now → IsNamedCorrection s number base user.now body.now (number - 1) x → result ≢ Err Fault.NotADesk }
@@ -291,6 +297,7 @@ fn decide<'a>(
     requires { 0 < number }
     ensures answered { IfOk result (λ r. (s : Machine) (x : Sentence) → Reached s → IsCounted counts.now s → slice_get s.sentences (number - 1) ≡ Some x → IsCurrentRead s x read.now
         → Decides counts.now.limits s number base user.now body.now r.0 r.1) }
+    ensures text { IfOk result (λ r. IfSome r.1 (λ p. p.text ≡ body.now)) }
     ensures refused { (r : AnyRefusal) → result ≡ Err (Fault.Refused r) → (s : Machine) (x : Sentence) → Reached s → IsCounted counts.now s → slice_get s.sentences (number - 1) ≡ Some x → IsCurrentRead s x read.now
         → Steps counts.now.limits s (correct_it number base user.now body.now) (refused_by r) s }
     ensures fails { IsWithin counts.now.limits → (s : Machine) (x : Sentence) → IsReachable s → IsCounted counts.now s → slice_get s.sentences (number - 1) ≡ Some x → IsCurrentRead s x read.now → result ≢ Err Fault.NotADesk }
@@ -320,6 +327,7 @@ fn planned<'a, S: Alter>(
     requires { 0 < number }
     ensures answered { Tells S.Store conn.old conn.new result (λ s r. IsCounted counts.now s → number ≤ length s.sentences
         → Decides counts.now.limits s number base user.now body.now r.0 r.1) }
+    ensures text { IfOk result (λ r. IfSome r.1 (λ p. p.text ≡ body.now)) }
     ensures refused { RefusesAs S.Store conn.old conn.new result (λ s r. IsCounted counts.now s → number ≤ length s.sentences
         → Steps counts.now.limits s (correct_it number base user.now body.now) (refused_by r) s × IsDesk S.Store conn.new s) }
     ensures fails { HasCleanDisk (state S.Store conn.new) → (state S.Store conn.old).step_limit ≡ None → IsWithin counts.now.limits → (s : Machine) → IsDesk S.Store conn.old s → IsCounted counts.now s → number ≤ length s.sentences → result ≢ Err Fault.NotADesk }
@@ -358,6 +366,9 @@ pub fn correct<S: Alter>(
     ensures refused { RefusesAs S.Store conn.old conn.new result (λ s r. IsCounted counts.now s → number ≤ length s.sentences
         → Steps counts.now.limits s (correct_it number base user.now body.now) (refused_by r) s × IsDesk S.Store conn.new s) }
     ensures fails { KnowsDeskWhere S.Store conn.old conn.new result (λ s so. IsCounted counts.now s → number ≤ length s.sentences → so) }
+    ensures cause { BlamesNoDevice S.Store conn.old conn.new result (λ s so. IsCounted counts.now s
+        → number ≤ length s.sentences
+        → IsShort body.now → HasRevisionRowids (state S.Store conn.old) 1 → so) }
     ensures room { IfOk result (λ r. IfSome r.1 (λ _. counts.now.moves + 1 ≤ 1000000000)) }
     ensures kept { KeepsRecordsOnErr S.Store conn.old conn.new result }
     ensures crash { CrashesTo S.Store conn.old conn.new (λ s db. IsCounted counts.now s → number ≤ length s.sentences

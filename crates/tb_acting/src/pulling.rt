@@ -19,6 +19,7 @@ ghost use Rattle.tb_acting.specs.Pulling.{pull_move, restore_move, IsJudged};
 ghost use Rattle.tb_tables.specs.Leaving.{ChangesNothing, CommitsNothing, KeepsRecords, KeepsRecordsOnErr};
 ghost use Rattle.tb_tables.specs.Leaving.{IsFaultless, FailsOnlyAs};
 ghost use Rattle.tb_standing.specs.Telling.{CrashesTo, KnowsDeskWhere, RefusesAs, Tells};
+ghost use Rattle.tb_standing.specs.Telling.{BlamesNoDevice};
 ghost use Rattle.tb_recording.specs.Faults.{IsNoDevice};
 
 use crate::committing;
@@ -157,6 +158,8 @@ pub fn pull<S: Alter>(
     ensures refused { RefusesAs S.Store conn.old conn.new result (λ s r. IsCounted counts.now s → number ≤ length s.sentences
         → Steps counts.now.limits s (pull_it number user.now) (refused_by r) s × IsDesk S.Store conn.new s) }
     ensures fails { KnowsDeskWhere S.Store conn.old conn.new result (λ s so. IsCounted counts.now s → number ≤ length s.sentences → so) }
+    ensures cause { BlamesNoDevice S.Store conn.old conn.new result (λ s so. IsCounted counts.now s
+        → number ≤ length s.sentences → so) }
     ensures room { IfOk result (λ _. counts.now.moves + 1 ≤ 1000000000) }
     ensures kept { KeepsRecordsOnErr S.Store conn.old conn.new result }
     ensures crash { CrashesTo S.Store conn.old conn.new (λ s db. IsCounted counts.now s → number ≤ length s.sentences
@@ -310,6 +313,8 @@ pub fn restore<S: Alter>(
     ensures refused { RefusesAs S.Store conn.old conn.new result (λ s r. IsCounted counts.now s → number ≤ length s.sentences
         → Steps counts.now.limits s (restore_it number user.now) (refused_by r) s × IsDesk S.Store conn.new s) }
     ensures fails { KnowsDeskWhere S.Store conn.old conn.new result (λ s so. IsCounted counts.now s → number ≤ length s.sentences → so) }
+    ensures cause { BlamesNoDevice S.Store conn.old conn.new result (λ s so. IsCounted counts.now s
+        → number ≤ length s.sentences → so) }
     ensures room { IfOk result (λ _. counts.now.moves + 1 ≤ 1000000000) }
     ensures kept { KeepsRecordsOnErr S.Store conn.old conn.new result }
     ensures crash { CrashesTo S.Store conn.old conn.new (λ s db. IsCounted counts.now s → number ≤ length s.sentences

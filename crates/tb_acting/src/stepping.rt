@@ -18,6 +18,7 @@ ghost use Rattle.tb_recording.specs.Counted.{IsWithin, IsCounted};
 ghost use Rattle.tb_acting.specs.Working.{IsDone};
 ghost use Rattle.tb_acting.specs.Stepping.{seen_of, event_move, IsPlanned};
 ghost use Rattle.tb_standing.specs.Telling.{CrashesTo, KnowsDeskWhere, RefusesAs, Tells, TellsOnOk};
+ghost use Rattle.tb_standing.specs.Telling.{BlamesNoDevice};
 ghost use Rattle.tb_tables.specs.Leaving.{ChangesNothing, CommitsNothing, KeepsRecords, KeepsRecordsOnErr};
 ghost use Rattle.tb_tables.specs.Leaving.{IsFaultless, FailsOnlyAs};
 ghost use Rattle.tb_recording.specs.Faults.{IsNoDevice};
@@ -231,6 +232,9 @@ fn write<S: Alter>(conn: &mut Connection<S>, plan: &EventPlan) -> Result<(), Fau
     ensures refused { (r : AnyRefusal) → result ≢ Err (Fault.Refused r) }
     ensures fails { KnowsDeskWhere S.Store conn.old conn.new result (λ s so. (place : ℕ) (event : AnyEvent) (user : List ℕ)
         → IsPlanned s place event user plan.now → IsAllowed s (stepping place event user) → so) }
+    ensures cause { BlamesNoDevice S.Store conn.old conn.new result (λ s so.
+        (place : ℕ) (event : AnyEvent) (user : List ℕ)
+        → IsPlanned s place event user plan.now → IsAllowed s (stepping place event user) → so) }
     ensures kept { KeepsRecordsOnErr S.Store conn.old conn.new result }
     ensures crash { CrashesTo S.Store conn.old conn.new (λ s db. (place : ℕ) (event : AnyEvent) (user : List ℕ)
         → IsPlanned s place event user plan.now → IsAllowed s (stepping place event user)
@@ -273,6 +277,7 @@ pub fn event<S: Alter>(
     ensures refused { RefusesAs S.Store conn.old conn.new result (λ s r. IsCounted counts.now s
         → Steps counts.now.limits s (event_on name.now event user.now) (refused_by r) s × IsDesk S.Store conn.new s) }
     ensures fails { KnowsDeskWhere S.Store conn.old conn.new result (λ s so. IsCounted counts.now s → so) }
+    ensures cause { BlamesNoDevice S.Store conn.old conn.new result (λ s so. IsCounted counts.now s → so) }
     ensures room { IfOk result (λ _. counts.now.moves + 1 ≤ 1000000000) }
     ensures kept { KeepsRecordsOnErr S.Store conn.old conn.new result }
     ensures crash { CrashesTo S.Store conn.old conn.new (λ s db. IsCounted counts.now s

@@ -11,7 +11,7 @@ use Rattle.tb_core.specs.Machine.{Machine}
 use Rattle.tb_core.specs.Acts.{Act, after, move_of}
 use Rattle.tb_core.specs.Reaching.{IsReachable}
 use Rattle.tb_core.proofs.Weights.{all_mapped}
-use Rattle.tb_tables.specs.Failing.{IsStoreFault, IsRoomFault}
+use Rattle.tb_tables.specs.Failing.{IsStoreFault, IsRoomFault, IsWant}
 use Rattle.tb_reading.specs.declared.error.ReadError.{ReadError}
 use Rattle.tb_reading.specs.declared.error.ReadError.TheVariants.{Store, Form}
 use Rattle.tb_reading.specs.Failing.{IsReadFault, IsReadWant}
@@ -27,6 +27,10 @@ store_told Unstorable e = let is : Device ≡ NotADesk = e in absurd cc
 
 pub error_told : (e : Error) → IsStoreFault e → fault_of_error e ≢ NotADesk
 error_told e h told = store_told h.0 (ap fault_of_error (sym h.1) ∙ told)
+
+-- want of memory is not the device's
+pub memory_told : (e : Error) → IsWant e → fault_of_error e ≢ Device
+memory_told e want told = let is : Memory ≡ Device = ap fault_of_error (sym want) ∙ told in absurd cc
 
 pub room_told : (e : Error) → IsRoomFault e → fault_of_error e ≢ NotADesk
 room_told e h told = elim h [

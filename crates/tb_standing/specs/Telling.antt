@@ -5,9 +5,10 @@ use Rattle.sqlite.specs.Held.{Held, state}
 use Rattle.sqlite.specs.State.{HasCleanDisk, Survives}
 use Rattle.sqlite.specs.Tree.{Trees}
 use Rattle.tb_core.specs.declared.refusals.Fault.{Fault}
-use Rattle.tb_core.specs.declared.refusals.Fault.TheVariants.{NotADesk, Refused}
+use Rattle.tb_core.specs.declared.refusals.Fault.TheVariants.{Device, NotADesk, Refused}
 use Rattle.tb_core.specs.declared.refusals.Refusal.{Refusal}
 use Rattle.tb_core.specs.Machine.{Machine}
+use Rattle.tb_tables.specs.Leaving.{IsFaultless}
 use Rattle.tb_standing.specs.Standing.{IsDesk}
 
 -- what it answers is so in that state
@@ -33,6 +34,13 @@ KnowsDesk g old new result = HasCleanDisk (state g new) → (state g old).step_l
 -- the same of the desks of some states (`IsSo s so`: of which)
 abbrev pub KnowsDeskWhere : {S X : Type 0} → Ghosts S → Held S → Held S → Result X Fault → (Machine → Type 0 → Type 0) → Type 0
 KnowsDeskWhere g old new result IsSo = HasCleanDisk (state g new) → (state g old).step_limit ≡ None → (s : Machine) → IsDesk g old s → IsSo s (result ≢ Err NotADesk)
+
+-- where the disk fails at nothing and there is no limit on steps, no fault is told to be the device's, on the desks of
+-- some states (`IsSo s so`: of which)
+abbrev pub BlamesNoDevice : {S X : Type 0} → Ghosts S → Held S → Held S → Result X Fault
+    → (Machine → Type 0 → Type 0) → Type 0
+BlamesNoDevice g old new result IsSo = IsFaultless g old new → HasCleanDisk (state g new)
+    → (state g old).step_limit ≡ None → (s : Machine) → IsDesk g old s → IsSo s (result ≢ Err Device)
 
 -- a crash leaves what it could leave before, or tables that are so in that state
 abbrev pub CrashesTo : {S : Type 0} → Ghosts S → Held S → Held S → (Machine → Trees → Type 0) → Type 0

@@ -1,7 +1,7 @@
 use Rattle.tb_recording.proofs.Unique.{unique_tables}
 use Rattle.tb_acting.proofs.Unpulled.{unpulled_lacks}
-use Rattle.tb_recording.proofs.Faultless.{error_told}
-use Rattle.tb_core.specs.declared.refusals.Fault.TheVariants.{NotADesk}
+use Rattle.tb_recording.proofs.Faultless.{error_told, memory_told}
+use Rattle.tb_core.specs.declared.refusals.Fault.TheVariants.{Device, NotADesk}
 use Rattle.std.proofs.Common.{◌-◌, ◌≡◌, sym, ◌∙◌}
 use Rattle.sqlite.specs.Held.{state}
 use Rattle.sqlite.proofs.StateLemmas.{survives_weaker}
@@ -9,6 +9,7 @@ use Rattle.tb_standing.specs.Standing.{tables_of}
 use Rattle.tb_recording.proofs.Written.{follows}
 use Rattle.tb_acting.proofs.Committed.{pull_stands}
 use Rattle.tb_core.specs.Acts.{pulling}
+use Rattle.tb_acting.proofs.Short.{short_mover}
 use Rattle.tb_acting.proofs.committing.pull.Goals as goal
 
 pub returns-in-Ok-clause-made : goal.returns-in-Ok-clause-made
@@ -42,3 +43,11 @@ returns-in-Err-clause-fails g c clean unlimited s user desk allowed written bad 
     let well = c.reached_states_are_well.ensures s desk.reachable.reached in
     let fault = c.in-Err.ensures.fails clean unlimited (tables_of s) desk.holds (follows s (pulling (c.args.number - 1) user) c.args.change.now written) (unpulled_lacks s c.args.number user c.requires.row allowed) (unique_tables s well) in
     error_told c.in-Err.error fault (sym c.of_error.ensures.value ∙ told)
+
+pub returns-in-Err-clause-cause : goal.returns-in-Err-clause-cause
+returns-in-Err-clause-cause g c good clean unlimited s desk user allowed written bad =
+    let told : c.of_error.result ≡ Device = cc in
+    let well = c.reached_states_are_well.ensures s desk.reachable.reached in
+    let a = pulling (c.args.number - 1) user in
+    let want = c.in-Err.ensures.wants good clean unlimited (tables_of s) desk.holds (follows s a c.args.change.now written) (unpulled_lacks s c.args.number user c.requires.row allowed) (unique_tables s well) (short_mover s a c.args.change.now written allowed.by) in
+    memory_told c.in-Err.error want (sym c.of_error.ensures.value ∙ told)

@@ -1,6 +1,6 @@
 use Rattle.tb_recording.proofs.Unique.{unique_tables}
-use Rattle.tb_recording.proofs.Faultless.{error_told}
-use Rattle.tb_core.specs.declared.refusals.Fault.TheVariants.{NotADesk}
+use Rattle.tb_recording.proofs.Faultless.{error_told, memory_told}
+use Rattle.tb_core.specs.declared.refusals.Fault.TheVariants.{Device, NotADesk}
 use Rattle.std.proofs.Common.{◌-◌, ◌≡◌, sym, ◌∙◌}
 use Rattle.sqlite.specs.Held.{state}
 use Rattle.sqlite.proofs.StateLemmas.{survives_weaker}
@@ -8,6 +8,7 @@ use Rattle.tb_standing.specs.Standing.{tables_of}
 use Rattle.tb_recording.proofs.Written.{follows}
 use Rattle.tb_acting.proofs.Committed.{restore_stands}
 use Rattle.tb_core.specs.Acts.{restoring}
+use Rattle.tb_acting.proofs.Short.{short_mover}
 use Rattle.tb_acting.proofs.committing.restore.Goals as goal
 
 pub returns-in-Ok-clause-made : goal.returns-in-Ok-clause-made
@@ -41,3 +42,11 @@ returns-in-Err-clause-fails g c clean unlimited s user desk allowed written bad 
     let well = c.reached_states_are_well.ensures s desk.reachable.reached in
     let fault = c.in-Err.ensures.fails clean unlimited (tables_of s) desk.holds (follows s (restoring (c.args.number - 1) user) c.args.change.now written) (unique_tables s well) in
     error_told c.in-Err.error fault (sym c.of_error.ensures.value ∙ told)
+
+pub returns-in-Err-clause-cause : goal.returns-in-Err-clause-cause
+returns-in-Err-clause-cause g c good clean unlimited s desk user allowed written bad =
+    let told : c.of_error.result ≡ Device = cc in
+    let well = c.reached_states_are_well.ensures s desk.reachable.reached in
+    let a = restoring (c.args.number - 1) user in
+    let want = c.in-Err.ensures.wants good clean unlimited (tables_of s) desk.holds (follows s a c.args.change.now written) (unique_tables s well) (short_mover s a c.args.change.now written allowed.by) in
+    memory_told c.in-Err.error want (sym c.of_error.ensures.value ∙ told)

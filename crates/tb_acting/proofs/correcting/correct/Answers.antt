@@ -3,13 +3,17 @@ use Rattle.std.proofs.lemmas.Result.{err_from_is_err_and}
 use Rattle.sqlite.specs.Held.{state}
 use Rattle.sqlite.specs.State.{HasCleanDisk}
 use Rattle.sqlite.proofs.StateLemmas.{survives_then, survives_weaker}
-use Rattle.tb_core.specs.declared.refusals.Fault.TheVariants.{Refused, NotADesk}
+use Rattle.tb_core.specs.declared.refusals.Fault.TheVariants.{Device, Refused, NotADesk}
 use Rattle.tb_core.specs.Acts.{correcting, corrected, after, move_of}
 use Rattle.tb_core.specs.Commands.{correct, replied, corrected_to}
 use Rattle.tb_core.proofs.Weights.{length-changed}
 use Rattle.tb_tables.proofs.Commands.{same_holds}
 use Rattle.tb_acting.specs.Correcting.{PlanText, IsPlannedCorrection}
 use Rattle.tb_recording.proofs.Unchanged.{desk_same}
+use Rattle.sqlite.specs.Effect.{Database}
+use Rattle.tb_tables.specs.Failing.{IsShort, HasRowids}
+use Rattle.tb_tables.proofs.Causes.{faultless_next}
+use Rattle.tb_acting.proofs.Short.{never_told}
 use Rattle.tb_acting.proofs.correcting.correct.Goals as goal
 
 pub returns-in_err-reply-clause-refused : goal.returns-in_err-reply-clause-refused
@@ -75,6 +79,12 @@ returns-in_err-reply-clause-fails g c clean unlimited s desk counted within bad 
     let failed : c.planned.result ≡ Err NotADesk = let was = c.in_err-reply.was in let one = told.1 in let two = told.2 in cc in
     c.planned.ensures.fails clean unlimited c.requires.within s desk counted within failed
 
+pub returns-in_err-correct-clause-refused : goal.returns-in_err-correct-clause-refused
+returns-in_err-correct-clause-refused g c clean r is s desk counted within =
+    let told = err_from_is_err_and c.from_residual-in_err-correct.result c.from_residual-in_err-correct.ensures.1 in
+    let failed : c.correct.result ≡ Err (Refused r) = let was = c.in_err-correct.was in let one = told.1 in let two = told.2 in cc in
+    absurd (c.correct.ensures.refused r failed)
+
 pub returns-in_err-correct-clause-fails : goal.returns-in_err-correct-clause-fails
 returns-in_err-correct-clause-fails g c clean unlimited s desk counted within bad =
     let told = err_from_is_err_and c.from_residual-in_err-correct.result c.from_residual-in_err-correct.ensures.1 in
@@ -85,3 +95,25 @@ returns-in_err-correct-clause-fails g c clean unlimited s desk counted within ba
     let plan = answered mid s desk counted within in
     let held = subst (λ (p : PlanText). IsPlannedCorrection s c.args.number c.args.user.now plan.0 p) (sym c.plan.view_is) plan.1 in
     c.correct.ensures.fails clean (c.planned.ensures.lasts.limit ∙ unlimited) s plan.0 held.sentence first held.made plan.2 held.change failed
+
+pub returns-in_err-reply-clause-cause : goal.returns-in_err-reply-clause-cause
+returns-in_err-reply-clause-cause g c good clean unlimited s desk counted within short free bad =
+    let told = err_from_is_err_and c.from_residual.result c.from_residual.ensures.1 in
+    let failed : c.planned.result ≡ Err Device = let was = c.in_err-reply.was in let one = told.1 in let two = told.2 in cc in
+    never_told c.planned.result failed (c.planned.ensures.cause good clean unlimited desk.holds.schema)
+
+pub returns-in_err-correct-clause-cause : goal.returns-in_err-correct-clause-cause
+returns-in_err-correct-clause-cause g c good clean unlimited s desk counted within short free bad =
+    let told = err_from_is_err_and c.from_residual-in_err-correct.result c.from_residual-in_err-correct.ensures.1 in
+    let failed : c.correct.result ≡ Err Device = let was = c.in_err-correct.was in let one = told.1 in let two = told.2 in cc in
+    let mid : HasCleanDisk (state g.S.Store c.planned.new.conn) = omega (arith, clean, c.correct.ensures.crash.clean) in
+    let here = faultless_next (state g.S.Store c.args.conn.now) (state g.S.Store c.planned.new.conn) (state g.S.Store c.correct.new.conn) good c.planned.ensures.lasts mid c.correct.ensures.crash.counts in
+    let same = c.in_ok-reply.ensures.same mid desk.holds.schema in
+    let first = desk_same g.S.Store c.args.conn.now c.planned.new.conn s desk same in
+    let answered = rw c.in-Some.is at c.in_ok-reply.ensures.answered in
+    let plan = answered mid s desk counted within in
+    let held = subst (λ (p : PlanText). IsPlannedCorrection s c.args.number c.args.user.now plan.0 p) (sym c.plan.view_is) plan.1 in
+    let text = rw c.in-Some.is at c.in_ok-reply.ensures.text in
+    let spelled = subst (λ (p : PlanText). p.text ≡ c.args.body.now) (sym c.plan.view_is) text in
+    let left = subst (λ (d : Database). HasRowids 1 (d.trees 5)) (sym same.0.now_is) free in
+    c.correct.ensures.cause here clean (c.planned.ensures.lasts.limit ∙ unlimited) s first plan.0 held.sentence held.made plan.2 held.change (subst IsShort (sym spelled) short) left failed

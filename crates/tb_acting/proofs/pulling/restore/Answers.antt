@@ -3,13 +3,15 @@ use Rattle.std.proofs.lemmas.Result.{err_from_is_err_and}
 use Rattle.sqlite.specs.Held.{state}
 use Rattle.sqlite.specs.State.{HasCleanDisk}
 use Rattle.sqlite.proofs.StateLemmas.{survives_then, survives_weaker}
-use Rattle.tb_core.specs.declared.refusals.Fault.TheVariants.{Refused, NotADesk}
+use Rattle.tb_core.specs.declared.refusals.Fault.TheVariants.{Device, Refused, NotADesk}
 use Rattle.tb_core.specs.Acts.{restoring, flagged, after, move_of}
 use Rattle.tb_core.specs.Commands.{restore, replied, restored_to}
 use Rattle.tb_core.proofs.Weights.{length-changed}
 use Rattle.tb_tables.proofs.Commands.{same_holds}
 use Rattle.tb_recording.proofs.Unchanged.{desk_same}
 use Rattle.tb_acting.proofs.Pulled.{judged_written}
+use Rattle.tb_tables.proofs.Causes.{faultless_next}
+use Rattle.tb_acting.proofs.Short.{never_told}
 use Rattle.tb_acting.proofs.pulling.restore.Goals as goal
 
 pub returns-in_err-reply-clause-refused : goal.returns-in_err-reply-clause-refused
@@ -77,3 +79,21 @@ returns-in_err-restore-clause-fails g c clean unlimited s desk counted within ba
     let plan = c.in_ok-reply.ensures.answered mid s desk counted within in
     let a = restoring (c.args.number - 1) c.args.user.now in
     c.restore.ensures.fails clean (c.restore_planned.ensures.lasts.limit ∙ unlimited) s c.args.user.now first plan.allowed (judged_written _ s _ a _ c.in_ok-reply.prepared plan) failed
+
+pub returns-in_err-reply-clause-cause : goal.returns-in_err-reply-clause-cause
+returns-in_err-reply-clause-cause g c good clean unlimited s desk counted within bad =
+    let told = err_from_is_err_and c.from_residual.result c.from_residual.ensures.1 in
+    let failed : c.restore_planned.result ≡ Err Device = let was = c.in_err-reply.was in let one = told.1 in let two = told.2 in cc in
+    never_told c.restore_planned.result failed (c.restore_planned.ensures.cause good clean unlimited desk.holds.schema)
+
+pub returns-in_err-restore-clause-cause : goal.returns-in_err-restore-clause-cause
+returns-in_err-restore-clause-cause g c good clean unlimited s desk counted within bad =
+    let told = err_from_is_err_and c.from_residual-in_err-restore.result c.from_residual-in_err-restore.ensures.1 in
+    let failed : c.restore.result ≡ Err Device = let was = c.in_err-restore.was in let one = told.1 in let two = told.2 in cc in
+    let mid : HasCleanDisk (state g.S.Store c.restore_planned.new.conn) = omega (arith, clean, c.restore.ensures.crash.clean) in
+    let here = faultless_next (state g.S.Store c.args.conn.now) (state g.S.Store c.restore_planned.new.conn) (state g.S.Store c.restore.new.conn) good c.restore_planned.ensures.lasts mid c.restore.ensures.crash.counts in
+    let same = c.in_ok-reply.ensures.same mid desk.holds.schema in
+    let first = desk_same g.S.Store c.args.conn.now c.restore_planned.new.conn s desk same in
+    let plan = c.in_ok-reply.ensures.answered mid s desk counted within in
+    let a = restoring (c.args.number - 1) c.args.user.now in
+    c.restore.ensures.cause here clean (c.restore_planned.ensures.lasts.limit ∙ unlimited) s first c.args.user.now plan.allowed (judged_written _ s _ a _ c.in_ok-reply.prepared plan) failed

@@ -3,12 +3,14 @@ use Rattle.std.proofs.lemmas.Result.{err_from_is_err_and}
 use Rattle.sqlite.specs.Held.{state}
 use Rattle.sqlite.specs.State.{HasCleanDisk}
 use Rattle.sqlite.proofs.StateLemmas.{survives_then, survives_weaker}
-use Rattle.tb_core.specs.declared.refusals.Fault.TheVariants.{Refused, NotADesk}
+use Rattle.tb_core.specs.declared.refusals.Fault.TheVariants.{Device, Refused, NotADesk}
 use Rattle.tb_core.specs.Acts.{stepping, after, moved, move_of}
 use Rattle.tb_core.specs.Commands.{event_on, replied, moved_on}
 use Rattle.tb_tables.proofs.Commands.{same_holds}
 use Rattle.tb_recording.proofs.Unchanged.{desk_same}
 use Rattle.tb_acting.proofs.Stepped.{changed_length, one_longer}
+use Rattle.tb_tables.proofs.Causes.{faultless_next}
+use Rattle.tb_acting.proofs.Short.{never_told}
 use Rattle.tb_acting.proofs.stepping.event.Goals as goal
 
 pub returns-in_err-plan-clause-refused : goal.returns-in_err-plan-clause-refused
@@ -75,3 +77,20 @@ returns-in_err-write-clause-fails g c clean unlimited s desk counted bad =
     let first = desk_same g.S.Store c.args.conn.now c.planned.new.conn s desk (c.in_ok-plan.ensures.same mid desk.holds.schema) in
     let plan = c.in_ok-plan.ensures.answered mid s desk counted in
     c.write.ensures.fails clean (c.planned.ensures.lasts.limit ∙ unlimited) s first plan.0 c.args.event c.args.user.now plan.1 plan.2 failed
+
+pub returns-in_err-plan-clause-cause : goal.returns-in_err-plan-clause-cause
+returns-in_err-plan-clause-cause g c good clean unlimited s desk counted bad =
+    let told = err_from_is_err_and c.from_residual.result c.from_residual.ensures.1 in
+    let failed : c.planned.result ≡ Err Device = let was = c.in_err-plan.was in let one = told.1 in let two = told.2 in cc in
+    never_told c.planned.result failed (c.planned.ensures.cause good clean unlimited desk.holds.schema)
+
+pub returns-in_err-write-clause-cause : goal.returns-in_err-write-clause-cause
+returns-in_err-write-clause-cause g c good clean unlimited s desk counted bad =
+    let told = err_from_is_err_and c.from_residual-in_err-write.result c.from_residual-in_err-write.ensures.1 in
+    let failed : c.write.result ≡ Err Device = let was = c.in_err-write.was in let one = told.1 in let two = told.2 in cc in
+    let mid : HasCleanDisk (state g.S.Store c.planned.new.conn) = omega (arith, clean, c.write.ensures.crash.clean) in
+    let here = faultless_next (state g.S.Store c.args.conn.now) (state g.S.Store c.planned.new.conn) (state g.S.Store c.write.new.conn) good c.planned.ensures.lasts mid c.write.ensures.crash.counts in
+    let same = c.in_ok-plan.ensures.same mid desk.holds.schema in
+    let first = desk_same g.S.Store c.args.conn.now c.planned.new.conn s desk same in
+    let plan = c.in_ok-plan.ensures.answered mid s desk counted in
+    c.write.ensures.cause here clean (c.planned.ensures.lasts.limit ∙ unlimited) s first plan.0 c.args.event c.args.user.now plan.1 plan.2 failed

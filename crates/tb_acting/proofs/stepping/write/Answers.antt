@@ -1,13 +1,15 @@
-use Rattle.std.proofs.Common.{◌≡◌, string_bytes, sym, ◌∙◌, rules}
+use Rattle.std.proofs.Common.{◌≡◌, string_bytes, sym, subst, ◌∙◌, rules}
 use Rattle.sqlite.specs.Held.{state}
 use Rattle.sqlite.proofs.StateLemmas.{survives_weaker}
-use Rattle.tb_core.specs.declared.refusals.Fault.TheVariants.{NotADesk}
+use Rattle.tb_core.specs.declared.refusals.Fault.TheVariants.{Device, NotADesk}
 use Rattle.tb_core.specs.Acts.{stepping}
 use Rattle.tb_standing.specs.Standing.{tables_of, batch_record}
 use Rattle.tb_recording.proofs.Written.{follows}
-use Rattle.tb_recording.proofs.Faultless.{error_told}
+use Rattle.tb_recording.proofs.Faultless.{error_told, memory_told}
 use Rattle.tb_recording.proofs.Unique.{unique_tables}
 use Rattle.tb_acting.proofs.Stepped.{event_stands, row_there, prepared_written}
+use Rattle.tb_tables.specs.Failing.{IsShort}
+use Rattle.tb_acting.proofs.Short.{short_batch, short_mover, short_worker}
 use Rattle.tb_acting.proofs.stepping.write.Goals as goal
 
 pub returns-in-Ok-clause-done : goal.returns-in-Ok-clause-done
@@ -42,3 +44,16 @@ returns-in-Err-clause-fails g c clean unlimited s desk place event user plan all
     let fault = c.in-Err.ensures.fails clean unlimited (tables_of s) desk.holds (batch_record plan.batch) (row_there s place event user c.args.plan.now plan)
     (follows s (stepping place event user) c.args.plan.now.prepared.change (prepared_written s place event user c.args.plan.now plan)) (unique_tables s well) in
     error_told c.in-Err.error fault (sym c.of_error.ensures.value ∙ told)
+
+pub returns-in-Err-clause-cause : goal.returns-in-Err-clause-cause
+returns-in-Err-clause-cause g c good clean unlimited s desk place event user plan allowed bad =
+    let told : c.of_error.result ≡ Device = cc in
+    let well = c.reached_states_are_well.ensures s desk.reachable.reached in
+    let a = stepping place event user in
+    let change = c.args.plan.now.prepared.change in
+    let written = prepared_written s place event user c.args.plan.now plan in
+    let who : c.as_str.result.now ≡ string_bytes c.args.plan.now.worker = search rules in
+    let worker : IsShort c.as_str.result.now = subst IsShort (sym (who ∙ plan.worker)) (short_worker s place event user plan.batch desk.reachable.reached plan.there allowed.by) in
+    let want = c.in-Err.ensures.wants good clean unlimited (tables_of s) desk.holds (batch_record plan.batch) (row_there s place event user c.args.plan.now plan)
+    (follows s a change written) (unique_tables s well) (short_batch s place plan.batch well plan.there) worker (short_mover s a change written allowed.by) in
+    memory_told c.in-Err.error want (sym c.of_error.ensures.value ∙ told)
