@@ -7,6 +7,7 @@ use Rattle.tb_core.specs.declared.limits.Limits.{Limits}
 use Rattle.tb_core.specs.Machine.{Machine}
 use Rattle.tb_core.specs.Reaching.{IsReachable}
 use Rattle.tb_tables.specs.Records.{Stands}
+use Rattle.tb_tables.specs.Leaving.{IsFaultless}
 use Rattle.tb_standing.specs.Standing.{tables_of, IsDesk}
 use Rattle.tb_adopting.specs.declared.telling.Standing.{Standing}
 use Rattle.tb_adopting.specs.Told.{IsStanding}
@@ -30,6 +31,9 @@ module _ {S : Type 0} (g : Ghosts S) where
 
   pub desk_before : (c d : Held S) → d ≡ unlimited c → (s : Machine) → IsDesk g d s → IsDesk g c s
   desk_before c d is s desk = lifted c s (rw is at desk)
+
+  pub faultless_unlimited : (c d new : Held S) → d ≡ unlimited c → IsFaultless g c new → IsFaultless g d new
+  faultless_unlimited c d new is good = rw is good
 
   pub stands_over : (k : Kept S) (conn : Held S) (l : Limits) (x : Standing) → k ≡ record { conn = conn; limits = l; batches = x.batches; sentences = x.sentences; moves = x.moves; totals = x.totals } → (s : Machine) → IsDesk g conn s → IsStanding x s → StandsFor g k s
   stands_over k conn l x is s desk h = rw is (record { desk = desk; batches = h.batches; sentences = h.sentences; moves = h.moves; totals = h.totals })

@@ -9,7 +9,9 @@ use Rattle.tb_core.specs.declared.refusals.Fault.{Fault}
 use Rattle.tb_core.specs.declared.refusals.Fault.TheVariants.{Memory, Refused}
 use Rattle.tb_core.specs.Machine.{Machine}
 use Rattle.tb_tables.specs.Making.{IsBlank}
+use Rattle.tb_tables.specs.Leaving.{IsFaultless}
 use Rattle.tb_standing.specs.Standing.{IsDesk}
+use Rattle.tb_recording.specs.Faults.{IsNoDevice}
 
 -- a store that is told to be open is open
 abbrev pub TellsOpen : {S : Type 0} → Ghosts S → (new : Held S) → Bool → Type 0
@@ -18,6 +20,10 @@ TellsOpen g new told = HasCleanDisk (state g new) → told ≡ true → IsTrue (
 -- a refusal is the one that was given, and nothing was asked of the connection
 abbrev pub HandsOnRefusal : {S : Type 0} → (old new : Held S) → (given fault : Fault) → Type 0
 HandsOnRefusal old new given fault = (r : Refusal) → fault ≡ Refused r → (given ≡ Refused r) × (new ≡ old)
+
+-- where the store was open and its disk failed at nothing meanwhile, the fault is not the device's
+abbrev pub IsNoDeviceIfFaultless : {S : Type 0} → Ghosts S → (old new : Held S) → Fault → Type 0
+IsNoDeviceIfFaultless g old new fault = HasCleanDisk (state g new) → IsFaultless g old new → IsNoDevice fault
 
 -- want of memory is told only where the store is open
 abbrev pub IsOpenOnMemory : {S : Type 0} → Ghosts S → Held S → Fault → Type 0

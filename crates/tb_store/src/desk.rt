@@ -25,7 +25,7 @@ ghost use Rattle.tb_store.specs.Exports.{IsBrokenOff, IsPartOfBatch, RefusesBatc
 ghost use Rattle.tb_store.specs.Found.{AreReleasedHits, HasTooMany, IsNumber, IsPartFound};
 ghost use Rattle.tb_store.specs.Calls.{CrashesWhole, Does, EndsAs, Gives, GivesOnErr, KnowsItself, LeavesOnly};
 ghost use Rattle.tb_store.specs.Calls.{StandsAsBefore, WritesNothing};
-ghost use Rattle.tb_store.specs.Handing.{SeesTheSame, StaysADesk, StaysBlank, TellsOpen};
+ghost use Rattle.tb_store.specs.Handing.{IsNoDeviceIfFaultless, SeesTheSame, StaysADesk, StaysBlank, TellsOpen};
 ghost use Rattle.tb_tables.specs.Leaving.{CommitsNothing};
 
 use crate::answers::Current;
@@ -184,6 +184,7 @@ impl<S: Alter> Desk<S> {
             → (state S.Store u.conn).now ≡ (state S.Store conn).now) }
         ensures unchanged { IfErr result (λ u. SeesTheSame S.Store conn u.conn) }
         ensures refused { IfErr result (λ u. (r : AnyRefusal) → u.fault ≢ Fault.Refused r) }
+        ensures cause { IfErr result (λ u. IsNoDeviceIfFaultless S.Store conn u.conn u.fault) }
         ensures again { IfErr result (λ u. StaysADesk S.Store conn u.conn) }
         ensures crash { IfOk result (λ d. Survives (state S.Store (unlimited conn)) (state S.Store d.conn) (λ _. ⊥)) }
         ensures crash_on_the_way { IfErr result (λ u. Survives (state S.Store (unlimited conn)) (state S.Store u.conn) (λ _. ⊥)) }

@@ -10,6 +10,7 @@ ghost use Rattle.tb_recording.specs.Counted.{IsWithin};
 ghost use Rattle.tb_standing.specs.Standing.{tables_of};
 ghost use Rattle.tb_migrating.specs.Desk.{IsFirstDesk};
 ghost use Rattle.tb_store.specs.Standing.{StandsFor, unlimited};
+ghost use Rattle.tb_store.specs.Handing.{IsNoDeviceIfFaultless};
 
 use crate::desk::{Desk, Unmade, without_limit};
 use sqlite::{Alter, Connection};
@@ -36,6 +37,8 @@ impl<S: Alter> Desk<S> {
         ensures untouched { IfErr result (λ u. HasCleanDisk (state S.Store u.conn) → u.fault ≡ Fault.NotADesk → (state S.Store u.conn).now ≡ (state S.Store conn).now) }
         ensures unwritten { IfErr result (λ u. u.fault ≡ Fault.NotADesk → Survives (state S.Store (unlimited conn)) (state S.Store u.conn) (λ _. ⊥)) }
         ensures refused { IfErr result (λ u. (r : AnyRefusal) → u.fault ≢ Fault.Refused r) }
+        ensures cause { IfErr result (λ u. ((s : Machine) → IsFirstDesk S.Store conn s → ⊥)
+            → IsNoDeviceIfFaultless S.Store conn u.conn u.fault) }
         ensures again { IfErr result (λ u. HasCleanDisk (state S.Store u.conn) → IsTrue (state S.Store u.conn).is_open → (s : Machine) → IsFirstDesk S.Store conn s → IsFirstDesk S.Store u.conn s) }
         ensures crash { IfOk result (λ d. Survives (state S.Store (unlimited conn)) (state S.Store d.conn) (λ db. (s : Machine) → IsFirstDesk S.Store conn s → Stands (tables_of s) db)) }
         ensures crash_on_the_way { IfErr result (λ u. Survives (state S.Store (unlimited conn)) (state S.Store u.conn) (λ db. (s : Machine) → IsFirstDesk S.Store conn s → Stands (tables_of s) db)) }

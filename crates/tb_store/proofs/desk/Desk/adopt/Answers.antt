@@ -4,7 +4,7 @@ use Rattle.sqlite.specs.Held.{state}
 use Rattle.tb_recording.proofs.Unchanged.{desk_kept}
 use Rattle.tb_store.specs.Kept.{Kept}
 use Rattle.tb_store.specs.Standing.{unlimited}
-use Rattle.tb_store.proofs.Adopted.{desk_unlimited, desk_before, stands_over, stands_again}
+use Rattle.tb_store.proofs.Adopted.{desk_unlimited, desk_before, faultless_unlimited, stands_over, stands_again}
 use Rattle.tb_store.proofs.desk.Desk.adopt.Goals as goal
 
 pub returns-in-Ok-clause-adopted : goal.returns-in-Ok-clause-adopted
@@ -60,3 +60,8 @@ returns-in-Err-clause-unchanged g c clean opened = c.in-Err.ensures.sees clean o
 
 pub returns-in-Err-clause-limit_off : goal.returns-in-Err-clause-limit_off
 returns-in-Err-clause-limit_off g c = c.read_desk.ensures.survives.limit ∙ ap (λ h. (state g.S.Store h).step_limit) c.without_limit-conn.ensures
+
+pub returns-in-Err-clause-cause : goal.returns-in-Err-clause-cause
+returns-in-Err-clause-cause g c clean good =
+    let is = c.without_limit-conn.ensures in
+    c.in-Err.ensures.cause (ap (λ h. (state g.S.Store h).step_limit) is) clean (faultless_unlimited g.S.Store c.args.conn c.without_limit-conn.result c.read_desk.new.conn is good)

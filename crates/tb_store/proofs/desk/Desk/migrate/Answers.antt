@@ -3,7 +3,7 @@ use Rattle.sqlite.specs.State.{HasCleanDisk, Survives}
 use Rattle.sqlite.specs.Held.{state}
 use Rattle.tb_store.specs.Kept.{Kept}
 use Rattle.tb_store.specs.Standing.{unlimited}
-use Rattle.tb_store.proofs.Adopted.{stands_over}
+use Rattle.tb_store.proofs.Adopted.{faultless_unlimited, stands_over}
 use Rattle.tb_store.proofs.Migrated.{first_unlimited, first_before, LeavesDesk, survives_unlimited}
 use Rattle.tb_store.proofs.desk.Desk.migrate.Goals as goal
 
@@ -49,3 +49,9 @@ returns-in-Err-clause-crash_on_the_way g c =
 
 pub returns-in-Err-clause-limit_off : goal.returns-in-Err-clause-limit_off
 returns-in-Err-clause-limit_off g c = c.migrate.ensures.crash.limit ∙ ap (λ h. (state g.S.Store h).step_limit) c.without_limit-conn.ensures
+
+pub returns-in-Err-clause-cause : goal.returns-in-Err-clause-cause
+returns-in-Err-clause-cause g c none clean good =
+    let is = c.without_limit-conn.ensures in
+    c.in-Err.ensures.cause (λ s desk. none s (first_before g.S.Store c.args.conn c.without_limit-conn.result is s desk)) (ap (λ h. (state g.S.Store h).step_limit) is) clean
+    (faultless_unlimited g.S.Store c.args.conn c.without_limit-conn.result c.migrate.new.conn is good)
