@@ -12,6 +12,7 @@ ghost use Rattle.tb_rules.specs.Nodes.{node_test};
 ghost use Rattle.tb_rules.specs.Feats.{feature_test};
 ghost use Rattle.tb_rules.specs.Deps.{dependency_test};
 
+use crate::accepted::AcceptedFeatures;
 use crate::comments::{has_sent_id, has_text};
 use crate::deps::dependency_fault;
 use crate::fault::RuleFault;
@@ -43,10 +44,14 @@ fn node_row<T: Text>(block: &BlockOf<T>) -> Option<usize>
     node_fault(&block.rows)
 }
 
-fn feature_row<T: Text>(alloc: Global, block: &BlockOf<T>) -> Result<Option<usize>, AllocError>
+fn feature_row<T: Text>(
+    alloc: Global,
+    accepted: &mut AcceptedFeatures,
+    block: &BlockOf<T>,
+) -> Result<Option<usize>, AllocError>
     ensures { IfOk result (λ r. MatchOption r (HasFeatures block.now) (IsFirstFault feature_test block.now.rows)) }
 {
-    feature_fault(alloc, &block.rows)
+    feature_fault(alloc, accepted, &block.rows)
 }
 
 fn dependency_row<T: Text>(alloc: Global, block: &BlockOf<T>) -> Result<Option<usize>, AllocError>
@@ -84,12 +89,16 @@ fn check_rows<T: Text>(block: &BlockOf<T>) -> Result<(), RuleFault>
 }
 
 /// The least broken rule of 7 to 11: lists in fields, the tree, and the text.
-fn check_whole<T: Text>(alloc: Global, block: &BlockOf<T>) -> Result<(), RuleFault>
+fn check_whole<T: Text>(
+    alloc: Global,
+    accepted: &mut AcceptedFeatures,
+    block: &BlockOf<T>,
+) -> Result<(), RuleFault>
     requires { KeepsTo6 block.now }
     ensures valid { OnOk result (KeepsRules block.now) }
     ensures fault { IfErr result (IsRuleFault block.now) }
 {
-    if let Some(row) = feature_row(alloc, block)? {
+    if let Some(row) = feature_row(alloc, accepted, block)? {
         return Err(RuleFault::At { rule: 7, row });
     }
     if let Some(row) = dependency_row(alloc, block)? {
@@ -107,14 +116,18 @@ fn check_whole<T: Text>(alloc: Global, block: &BlockOf<T>) -> Result<(), RuleFau
     Ok(())
 }
 
-/// The least broken rule of 1 to 11.
-fn first_broken<T: Text>(alloc: Global, block: &BlockOf<T>) -> Result<(), RuleFault>
+/// The least broken rule of 1 to 11. Values of FEATS that were accepted before are not looked at again.
+pub(crate) fn first_broken<T: Text>(
+    alloc: Global,
+    accepted: &mut AcceptedFeatures,
+    block: &BlockOf<T>,
+) -> Result<(), RuleFault>
     ensures valid { OnOk result (KeepsRules block.now) }
     ensures fault { IfErr result (IsRuleFault block.now) }
     ensures memory { IfErr result (λ e. e ≡ Memory → KeepsTo6 block.now) }
 {
     match check_rows(block) {
-        Ok(()) => check_whole(alloc, block),
+        Ok(()) => check_whole(alloc, accepted, block),
         Err(fault) => Err(fault),
     }
 }
@@ -131,5 +144,5 @@ pub fn check<T: Text>(alloc: Global, block: &BlockOf<T>) -> Result<(), RuleFault
     ensures only { KeepsRules block.now → IfErr result (λ e. e ≡ Memory) }
     ensures memory { IfErr result (λ e. e ≡ Memory → KeepsTo6 block.now) }
 {
-    first_broken(alloc, block)
+    first_broken(alloc, &mut AcceptedFeatures::none(alloc), block)
 }

@@ -1,6 +1,7 @@
 //! The rules that a sentence of a treebank keeps beyond its shape.
 #![tactic(auto)]
 
+mod accepted;
 mod checking;
 mod comments;
 mod covering;

@@ -6,7 +6,8 @@ ghost use Rattle.tb_rules.specs.File.{IsValid, IsCutShort, IsFileFault, IsSenten
 ghost use Rattle.tb_rules.specs.Rules.{KeepsTo6, KeepsRules};
 ghost use Rattle.tb_rules.specs.declared.filefault.FileFault.TheVariants.{Memory};
 
-use crate::checking::check;
+use crate::accepted::AcceptedFeatures;
+use crate::checking::first_broken;
 use crate::comments::sent_id;
 use crate::fault::RuleFault;
 use crate::filefault::FileFault;
@@ -16,12 +17,17 @@ use std::marker::Model;
 use tb_conllu::{BlockOf, Text};
 
 /// Rules 1 to 11 of the sentence with this number.
-fn check_alone<T: Text>(alloc: Global, block: &BlockOf<T>, sentence: usize) -> Result<(), FileFault>
+fn check_alone<T: Text>(
+    alloc: Global,
+    accepted: &mut AcceptedFeatures,
+    block: &BlockOf<T>,
+    sentence: usize,
+) -> Result<(), FileFault>
     ensures valid { OnOk result (KeepsRules block.now) }
     ensures fault { IfErr result (IsSentenceFault sentence block.now) }
     ensures memory { IfErr result (λ e. e ≡ Memory → KeepsTo6 block.now) }
 {
-    match check(alloc, block) {
+    match first_broken(alloc, accepted, block) {
         Ok(()) => Ok(()),
         Err(RuleFault::At { rule, row }) => Err(FileFault::At {
             sentence,
@@ -39,6 +45,7 @@ pub struct Checker {
     alloc: Global,
     // In order, not hashed: no file can make its names collide.
     names: BTreeSet<String>,
+    accepted: AcceptedFeatures,
 }
 
 impl Model for Checker {
@@ -55,6 +62,7 @@ impl Checker {
         Checker {
             alloc,
             names: BTreeSet::new(alloc),
+            accepted: AcceptedFeatures::new(alloc),
         }
     }
 
@@ -72,7 +80,7 @@ impl Checker {
         ensures kept { OnErr result (self.new ≡ self.old) }
     {
         let sentence = self.names.len() + 1;
-        check_alone(self.alloc, block, sentence)?;
+        check_alone(self.alloc, &mut self.accepted, block, sentence)?;
         let Some(name) = sent_id(block) else {
             return Err(FileFault::At {
                 sentence,
