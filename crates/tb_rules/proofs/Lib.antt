@@ -1,5 +1,6 @@
 pub mod Trims
 pub mod Values
+pub mod Keys
 pub mod RowSteps
 pub mod Ends
 pub mod Counts

@@ -2,6 +2,7 @@ ghost use Rattle.std.specs.Prelude.{◌≡◌, ◌↔◌, IsTrue, map, reverse};
 ghost use Rattle.std.specs.Option.{option_copied};
 ghost use Rattle.tb_rules.specs.Comments.{drop_spaces, trimmed, value_under, values_of, only, sent_ids, texts, HasSentId, HasText};
 
+use crate::matching::strip_text;
 use tb_chars::has_white_space;
 use tb_conllu::{BlockOf, BlockRef, Text};
 
@@ -41,6 +42,10 @@ fn value_with<'a>(comment: &'a str, key: &str) -> Option<&'a str>
     ensures { option_copied result ≡ value_under key.now comment.now }
 {
     let Some(rest) = comment.strip_prefix('#') else {
+        return None;
+    };
+    // Most comments have another key, and are not looked through for the `=`.
+    let Some(_) = strip_text(trim_front(rest), key) else {
         return None;
     };
     let Some((name, value)) = rest.split_once('=') else {

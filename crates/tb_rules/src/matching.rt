@@ -39,7 +39,8 @@ fn strip_char(text: &str, c: char) -> Option<&str>
     text.strip_prefix(c)
 }
 
-fn strip_text<'a>(text: &'a str, front: &str) -> Option<&'a str>
+/// What follows the front of a text that begins with it.
+pub(crate) fn strip_text<'a>(text: &'a str, front: &str) -> Option<&'a str>
     ensures { MatchOption result ((rest : List ℕ) → text.now ≢ front.now ++ rest) (λ x. text.now ≡ front.now ++ x.now) }
 {
     text.strip_prefix(front)

@@ -13,6 +13,9 @@ use std::alloc::{AllocError, Global};
 use tb_conllu::{BlockOf, RowOf, Text};
 use tb_fields::is_blank_field;
 
+/// The item of MISC that says that no space follows. Mostly it stands alone.
+const NO_SPACE: &str = "SpaceAfter=No";
+
 /// A text whose white space is folded as it comes.
 #[derive(Drop)]
 struct Folding {
@@ -94,7 +97,11 @@ fn has_item(misc: &str, wanted: &str) -> bool
 pub(crate) fn has_no_space<T: Text>(row: &RowOf<T>) -> bool
     ensures { result ≡ has_no_space_after row.now }
 {
-    !is_blank_field(row.misc.text()) && has_item(row.misc.text(), "SpaceAfter=No")
+    let misc = row.misc.text();
+    if is_blank_field(misc) {
+        return false;
+    }
+    misc == NO_SPACE || has_item(misc, NO_SPACE)
 }
 
 fn put_row<T: Text>(folding: &mut Folding, row: &RowOf<T>) -> Result<(), AllocError>

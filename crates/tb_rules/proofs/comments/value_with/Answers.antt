@@ -1,13 +1,21 @@
 use lib.Utf8
-use Rattle.std.proofs.Common.{sym, ap, ◌∙◌, Some, lit<}
+use Rattle.std.proofs.Common.{◌≡◌, sym, ap, ◌∙◌, Some, lit<}
 use Rattle.std.specs.Str.{bytes_eq}
 use Rattle.std.proofs.lemmas.Str.Pattern.{split_once_first, strip_prefix_char}
 use Rattle.tb_rules.proofs.Values.{value_under-no_hash, value_under-no_equals, value_under-found}
+use Rattle.tb_rules.proofs.Keys.{value_under-other_key}
+use Rattle.tb_rules.specs.Comments.{drop_spaces}
 use Rattle.tb_rules.proofs.comments.value_with.Goals as goal
 
 pub returns-in_default : goal.returns-in_default
 unfolding lib.Utf8.encode
 returns-in_default c = sym (value_under-no_hash c.args.key.now c.args.comment.now c.in_default.ensures.cases)
+
+pub returns-in_default-strip_text : goal.returns-in_default-strip_text
+returns-in_default-strip_text c =
+    let hash = rw c.in-Some.is at (strip_prefix_char 35 c.args.comment.now c.strip_prefix.result c.strip_prefix.ensures.cases (lit< tt)) in
+    let front : c.trim_front.result.now ≡ drop_spaces c.in-Some.rest.now = c.trim_front.ensures in
+    sym (value_under-other_key c.args.key.now c.args.comment.now c.in-Some.rest.now hash (λ back e. c.in_default-strip_text.ensures back (front ∙ e)))
 
 pub returns-in_default-split_once : goal.returns-in_default-split_once
 returns-in_default-split_once c =
