@@ -1,5 +1,5 @@
 -- A comment that gives a value to a key begins with the key, but for the hash and spaces.
-use Rattle.std.proofs.Common.{◌≡◌, ◌≢◌, ℕ, suc, ◌+◌, List, [], ◌∷◌, ◌++◌, length, take, drop, reverse, Bool, true, false, Option, None, refl, sym, ◌∙◌, ap, eqb, inl, inr, append_assoc, arith}
+use Rattle.std.proofs.Common.{◌≡◌, ◌≢◌, ℕ, suc, ◌+◌, List, [], ◌∷◌, ◌++◌, take, drop, reverse, false, None, refl, sym, ◌∙◌, ap, eqb, inl, inr, append_assoc, arith}
 use Rattle.std.specs.List.{list_any, before_first, position_or_len}
 use Rattle.std.specs.Str.{bytes_eq}
 use Rattle.std.proofs.lemmas.Bool.{cases_Bool}

@@ -1,113 +1,204 @@
-//! Values of FEATS that were accepted before. Those of a file come back in a few hundred forms.
+//! Fields of rows that were accepted before. Those of a file come back in a few hundred forms.
 
-ghost use Rattle.std.specs.Prelude.{◌≡◌, IfOk, true, string_bytes};
+ghost use Rattle.std.specs.Prelude.{◌≡◌, ◌&&◌, IfOk, true, string_bytes};
 ghost use Rattle.tb_fields.specs.Feats.{is_feature_text};
+ghost use Rattle.tb_fields.specs.Relations.{is_relation};
+ghost use Rattle.tb_fields.specs.Tags.{is_universal_tag};
 
 use std::alloc::{AllocError, Global};
-use tb_fields::{is_blank_field, is_feature_list};
+use tb_fields::{is_blank_field, is_feature_list, is_relation_text, is_tag};
 
 /// How many bits number a place.
 const PLACE_BITS: u32 = 10;
 
-/// How many values are remembered at most.
+/// How many values of each kind are remembered at most.
 const PLACES: usize = 1 << PLACE_BITS;
 
-/// Of how many bytes a value is at most that is remembered.
+/// How many values come before the first that is remembered: more than most sentences have.
+const LET_BY: usize = 128;
+
+/// Of how many bytes a field is at most that is remembered.
 const LONGEST: usize = 128;
 
-/// Spreads the bits of a word over the upper ones (2^64 divided by the golden ratio).
+/// Spreads the bits of a word over the upper ones: 2^64 divided by the golden ratio.
 const SPREAD: u64 = 0x9E37_79B9_7F4A_7C15;
 
-/// A value that was accepted.
+/// A value of FEATS that was accepted.
 #[derive(Drop)]
-struct AcceptedText {
+struct AcceptedFeatures {
     text: String,
     ghost fine: { is_feature_text (string_bytes text) ≡ true },
 }
 
-/// The values that were accepted last, each in the place that its bytes say.
+/// A part of speech and a relation of one word that were accepted.
 #[derive(Drop)]
-pub(crate) struct AcceptedFeatures {
-    /// How many places there are as soon as a value was accepted.
-    places: usize,
-    slots: Vec<Option<AcceptedText>>,
+struct AcceptedWord {
+    tag: String,
+    relation: String,
+    ghost fine: { (is_universal_tag (string_bytes tag) && is_relation (string_bytes relation)) ≡ true },
 }
 
-/// The place of a text. Any would do, since the texts are compared.
-fn place(text: &[u8]) -> usize {
-    let (words, _) = text.as_chunks::<8>();
-    let mut mixed = text.len() as u64;
-    for word in words {
-        mixed = (mixed ^ u64::from_le_bytes(*word)).wrapping_mul(SPREAD);
-    }
+/// What was accepted, each in the place that its bytes say. What came first stays there.
+#[derive(Drop)]
+pub(crate) struct Accepted {
+    /// How many values are still let by. Of a short text it does not pay to remember any.
+    let_by: usize,
+    features: Vec<Option<AcceptedFeatures>>,
+    words: Vec<Option<AcceptedWord>>,
+}
+
+/// The last eight bytes of a text, or all of a shorter one.
+fn last_bytes(text: &[u8]) -> u64 {
     if let Some(last) = text.last_chunk::<8>() {
-        mixed = (mixed ^ u64::from_le_bytes(*last)).wrapping_mul(SPREAD);
+        return u64::from_le_bytes(*last);
     }
-    (mixed >> (64 - PLACE_BITS)) as usize
+    let mut word = 0;
+    for byte in text {
+        word = (word << 8) | u64::from(*byte);
+    }
+    word
 }
 
-impl AcceptedFeatures {
-    /// Remembers up to 1,024 values. Takes no memory before the first.
+fn mixed_with(mixed: u64, word: u64) -> u64 {
+    (mixed ^ word).wrapping_mul(SPREAD)
+}
+
+/// All bytes of a text, mixed with what was mixed before.
+fn mixed_all(mixed: u64, text: &[u8]) -> u64 {
+    let (words, _) = text.as_chunks::<8>();
+    let mut mixed = mixed_with(mixed, text.len() as u64);
+    for word in words {
+        mixed = mixed_with(mixed, u64::from_le_bytes(*word));
+    }
+    mixed_with(mixed, last_bytes(text))
+}
+
+/// The place of a value of FEATS. Any would do, since the texts are compared.
+fn features_place(text: &str) -> usize {
+    (mixed_all(0, text.as_bytes()) >> (64 - PLACE_BITS)) as usize
+}
+
+/// The same of a part of speech and a relation.
+fn word_place(tag: &str, relation: &str) -> usize {
+    (mixed_all(last_bytes(tag.as_bytes()), relation.as_bytes()) >> (64 - PLACE_BITS)) as usize
+}
+
+/// Makes the places, where there are none.
+fn make_places<X: Drop>(slots: &mut Vec<Option<X>>) -> Result<(), AllocError> {
+    for _ in slots.len()..PLACES {
+        slots.push(None)?;
+    }
+    Ok(())
+}
+
+impl Accepted {
+    /// Remembers up to 1,024 values of each kind. Takes no memory before the first.
     pub(crate) fn new(alloc: Global) -> Self {
-        AcceptedFeatures {
-            places: PLACES,
-            slots: Vec::new(alloc),
+        Accepted {
+            let_by: LET_BY,
+            features: Vec::new(alloc),
+            words: Vec::new(alloc),
         }
     }
 
-    /// Remembers none, and takes no memory.
+    /// Remembers nothing of a sentence, and takes no memory.
     pub(crate) fn none(alloc: Global) -> Self {
-        AcceptedFeatures {
-            places: 0,
-            slots: Vec::new(alloc),
+        Accepted {
+            let_by: usize::MAX,
+            features: Vec::new(alloc),
+            words: Vec::new(alloc),
         }
     }
 
-    fn holds(&self, text: &str) -> bool
+    fn holds_features(&self, text: &str) -> bool
         ensures { result ≡ true → is_feature_text text.now ≡ true }
     {
-        match self.slots.get(place(text.as_bytes())) {
+        match self.features.get(features_place(text)) {
             Some(Some(known)) => known.text.as_str() == text,
             _ => false,
         }
     }
 
-    fn make_places(&mut self) -> Result<(), AllocError> {
-        for _ in 0..self.places {
-            self.slots.push(None)?;
+    fn holds_word(&self, tag: &str, relation: &str) -> bool
+        ensures { result ≡ true → (is_universal_tag tag.now && is_relation relation.now) ≡ true }
+    {
+        match self.words.get(word_place(tag, relation)) {
+            Some(Some(known)) => known.tag.as_str() == tag && known.relation.as_str() == relation,
+            _ => false,
+        }
+    }
+
+    /// Whether the next value is remembered.
+    fn remembers_next(&mut self) -> bool {
+        if self.let_by == 0 {
+            return true;
+        }
+        self.let_by -= 1;
+        false
+    }
+
+    /// Remembers a value of FEATS, where its place is free.
+    fn remember_features(&mut self, alloc: Global, text: &str) -> Result<(), AllocError>
+        requires { is_feature_text text.now ≡ true }
+    {
+        make_places(&mut self.features)?;
+        if let Some(slot) = self.features.get_mut(features_place(text)) {
+            if slot.is_none() {
+                *slot = Some(AcceptedFeatures {
+                    text: String::from_str(alloc, text)?,
+                });
+            }
         }
         Ok(())
     }
 
-    /// Remembers a value in the place of the one that was there.
-    fn remember(&mut self, alloc: Global, text: &str) -> Result<(), AllocError>
-        requires { is_feature_text text.now ≡ true }
+    /// Remembers a part of speech and a relation, where their place is free.
+    fn remember_word(&mut self, alloc: Global, tag: &str, relation: &str) -> Result<(), AllocError>
+        requires { (is_universal_tag tag.now && is_relation relation.now) ≡ true }
     {
-        if self.slots.is_empty() {
-            self.make_places()?;
-        }
-        if let Some(slot) = self.slots.get_mut(place(text.as_bytes())) {
-            *slot = Some(AcceptedText {
-                text: String::from_str(alloc, text)?,
-            });
+        make_places(&mut self.words)?;
+        if let Some(slot) = self.words.get_mut(word_place(tag, relation)) {
+            if slot.is_none() {
+                *slot = Some(AcceptedWord {
+                    tag: String::from_str(alloc, tag)?,
+                    relation: String::from_str(alloc, relation)?,
+                });
+            }
         }
         Ok(())
     }
 
     /// Whether the text may stand in FEATS, as `is_feature_list` says. Where no memory is left to remember it, it is
     /// looked at again when it comes again.
-    pub(crate) fn accept(&mut self, alloc: Global, text: &str) -> Result<bool, AllocError>
+    pub(crate) fn accept_features(&mut self, alloc: Global, text: &str) -> Result<bool, AllocError>
         ensures { IfOk result (λ b. b ≡ is_feature_text text.now) }
     {
-        if is_blank_field(text) || self.holds(text) {
+        if is_blank_field(text) || self.holds_features(text) {
             return Ok(true);
         }
         if !is_feature_list(alloc, text)? {
             return Ok(false);
         }
-        if text.len() <= LONGEST {
-            let _remembered = self.remember(alloc, text).is_ok();
+        if text.len() <= LONGEST && self.remembers_next() {
+            let _remembered = self.remember_features(alloc, text).is_ok();
         }
         Ok(true)
+    }
+
+    /// Whether the texts are a universal part of speech and a universal relation, as `is_tag` and `is_relation_text`
+    /// say. Where no memory is left to remember them, they are looked at again when they come again.
+    pub(crate) fn accept_word(&mut self, alloc: Global, tag: &str, relation: &str) -> bool
+        ensures { result ≡ (is_universal_tag tag.now && is_relation relation.now) }
+    {
+        if self.holds_word(tag, relation) {
+            return true;
+        }
+        if !is_tag(tag) || !is_relation_text(relation) {
+            return false;
+        }
+        if relation.len() <= LONGEST && self.remembers_next() {
+            let _remembered = self.remember_word(alloc, tag, relation).is_ok();
+        }
+        true
     }
 }

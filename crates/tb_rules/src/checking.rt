@@ -12,7 +12,7 @@ ghost use Rattle.tb_rules.specs.Nodes.{node_test};
 ghost use Rattle.tb_rules.specs.Feats.{feature_test};
 ghost use Rattle.tb_rules.specs.Deps.{dependency_test};
 
-use crate::accepted::AcceptedFeatures;
+use crate::accepted::Accepted;
 use crate::comments::{has_sent_id, has_text};
 use crate::deps::dependency_fault;
 use crate::fault::RuleFault;
@@ -26,10 +26,10 @@ use crate::words::word_fault;
 use std::alloc::{AllocError, Global};
 use tb_conllu::{BlockOf, Text, words};
 
-fn word_row<T: Text>(block: &BlockOf<T>) -> Option<usize>
+fn word_row<T: Text>(alloc: Global, accepted: &mut Accepted, block: &BlockOf<T>) -> Option<usize>
     ensures { MatchOption result (HasWords block.now) (IsFirstFault (word_test (words_of block.now)) block.now.rows) }
 {
-    word_fault(&block.rows, words(block))
+    word_fault(alloc, accepted, &block.rows, words(block))
 }
 
 fn span_row<T: Text>(block: &BlockOf<T>) -> Option<usize>
@@ -46,7 +46,7 @@ fn node_row<T: Text>(block: &BlockOf<T>) -> Option<usize>
 
 fn feature_row<T: Text>(
     alloc: Global,
-    accepted: &mut AcceptedFeatures,
+    accepted: &mut Accepted,
     block: &BlockOf<T>,
 ) -> Result<Option<usize>, AllocError>
     ensures { IfOk result (λ r. MatchOption r (HasFeatures block.now) (IsFirstFault feature_test block.now.rows)) }
@@ -62,7 +62,11 @@ fn dependency_row<T: Text>(alloc: Global, block: &BlockOf<T>) -> Result<Option<u
 }
 
 /// The least broken rule of 1 to 6: comments, and what each row says by itself and by its place.
-fn check_rows<T: Text>(block: &BlockOf<T>) -> Result<(), RuleFault>
+fn check_rows<T: Text>(
+    alloc: Global,
+    accepted: &mut Accepted,
+    block: &BlockOf<T>,
+) -> Result<(), RuleFault>
     ensures valid { OnOk result (KeepsTo6 block.now) }
     ensures fault { IfErr result (IsRuleFault block.now) }
     ensures memory { IfErr result (λ e. e ≡ Memory → ⊥) }
@@ -76,7 +80,7 @@ fn check_rows<T: Text>(block: &BlockOf<T>) -> Result<(), RuleFault>
     if !has_ids(block) {
         return Err(RuleFault::At { rule: 3, row: 0 });
     }
-    if let Some(row) = word_row(block) {
+    if let Some(row) = word_row(alloc, accepted, block) {
         return Err(RuleFault::At { rule: 4, row });
     }
     if let Some(row) = span_row(block) {
@@ -91,7 +95,7 @@ fn check_rows<T: Text>(block: &BlockOf<T>) -> Result<(), RuleFault>
 /// The least broken rule of 7 to 11: lists in fields, the tree, and the text.
 fn check_whole<T: Text>(
     alloc: Global,
-    accepted: &mut AcceptedFeatures,
+    accepted: &mut Accepted,
     block: &BlockOf<T>,
 ) -> Result<(), RuleFault>
     requires { KeepsTo6 block.now }
@@ -116,17 +120,17 @@ fn check_whole<T: Text>(
     Ok(())
 }
 
-/// The least broken rule of 1 to 11. Values of FEATS that were accepted before are not looked at again.
+/// The least broken rule of 1 to 11. What was accepted before is not looked at again.
 pub(crate) fn first_broken<T: Text>(
     alloc: Global,
-    accepted: &mut AcceptedFeatures,
+    accepted: &mut Accepted,
     block: &BlockOf<T>,
 ) -> Result<(), RuleFault>
     ensures valid { OnOk result (KeepsRules block.now) }
     ensures fault { IfErr result (IsRuleFault block.now) }
     ensures memory { IfErr result (λ e. e ≡ Memory → KeepsTo6 block.now) }
 {
-    match check_rows(block) {
+    match check_rows(alloc, accepted, block) {
         Ok(()) => check_whole(alloc, accepted, block),
         Err(fault) => Err(fault),
     }
@@ -144,5 +148,5 @@ pub fn check<T: Text>(alloc: Global, block: &BlockOf<T>) -> Result<(), RuleFault
     ensures only { KeepsRules block.now → IfErr result (λ e. e ≡ Memory) }
     ensures memory { IfErr result (λ e. e ≡ Memory → KeepsTo6 block.now) }
 {
-    first_broken(alloc, &mut AcceptedFeatures::none(alloc), block)
+    first_broken(alloc, &mut Accepted::none(alloc), block)
 }

@@ -2,20 +2,20 @@ ghost use Rattle.std.specs.Prelude.{MatchOption, IfOk};
 ghost use Rattle.tb_rules.specs.Rows.{EachRowPasses, IsFirstFault};
 ghost use Rattle.tb_rules.specs.Feats.{feature_test};
 
-use crate::accepted::AcceptedFeatures;
+use crate::accepted::Accepted;
 use std::alloc::{AllocError, Global};
 use tb_conllu::{RowOf, Text};
 
 /// The first row whose FEATS are at fault, by its number (from 1).
 pub(crate) fn feature_fault<T: Text>(
     alloc: Global,
-    accepted: &mut AcceptedFeatures,
+    accepted: &mut Accepted,
     rows: &[RowOf<T>],
 ) -> Result<Option<usize>, AllocError>
     ensures { IfOk result (λ r. MatchOption r (EachRowPasses feature_test rows.now) (IsFirstFault feature_test rows.now)) }
 {
     for (i, row) in rows.iter().enumerate() {
-        if !accepted.accept(alloc, row.feats.text())? {
+        if !accepted.accept_features(alloc, row.feats.text())? {
             return Ok(Some(i + 1));
         }
     }

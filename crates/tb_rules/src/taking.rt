@@ -6,7 +6,7 @@ ghost use Rattle.tb_rules.specs.File.{IsValid, IsCutShort, IsFileFault, IsSenten
 ghost use Rattle.tb_rules.specs.Rules.{KeepsTo6, KeepsRules};
 ghost use Rattle.tb_rules.specs.declared.filefault.FileFault.TheVariants.{Memory};
 
-use crate::accepted::AcceptedFeatures;
+use crate::accepted::Accepted;
 use crate::checking::first_broken;
 use crate::comments::sent_id;
 use crate::fault::RuleFault;
@@ -19,7 +19,7 @@ use tb_conllu::{BlockOf, Text};
 /// Rules 1 to 11 of the sentence with this number.
 fn check_alone<T: Text>(
     alloc: Global,
-    accepted: &mut AcceptedFeatures,
+    accepted: &mut Accepted,
     block: &BlockOf<T>,
     sentence: usize,
 ) -> Result<(), FileFault>
@@ -45,7 +45,7 @@ pub struct Checker {
     alloc: Global,
     // In order, not hashed: no file can make its names collide.
     names: BTreeSet<String>,
-    accepted: AcceptedFeatures,
+    accepted: Accepted,
 }
 
 impl Model for Checker {
@@ -62,7 +62,7 @@ impl Checker {
         Checker {
             alloc,
             names: BTreeSet::new(alloc),
-            accepted: AcceptedFeatures::new(alloc),
+            accepted: Accepted::new(alloc),
         }
     }
 

@@ -3,8 +3,10 @@ ghost use Rattle.tb_fields.specs.Relations.{universal_part};
 ghost use Rattle.tb_rules.specs.Rows.{EachRowPasses, IsFirstFault};
 ghost use Rattle.tb_rules.specs.Words.{is_head_of, is_root_head, fits_root, is_word_row_fine, is_fine_as_word, word_test};
 
+use crate::accepted::Accepted;
+use std::alloc::Global;
 use tb_conllu::{LineId, RowOf, Text};
-use tb_fields::{is_relation_text, is_tag, relation_base};
+use tb_fields::relation_base;
 
 fn is_root_number(head: Option<u32>) -> bool
     ensures { result ≡ is_root_head head }
@@ -46,30 +48,42 @@ fn root_fits(head: Option<u32>, relation: &str) -> bool
     }
 }
 
-fn word_row_is_fine<T: Text>(row: &RowOf<T>, word: u32, words: usize) -> bool
+fn word_row_is_fine<T: Text>(
+    alloc: Global,
+    accepted: &mut Accepted,
+    row: &RowOf<T>,
+    word: u32,
+    words: usize,
+) -> bool
     ensures { result ≡ is_word_row_fine words word row.now }
 {
-    is_tag(row.upos.text())
-        && head_is_fine(row.head, word, words)
-        && is_relation_text(row.deprel.text())
-        && root_fits(row.head, row.deprel.text())
+    let relation = row.deprel.text();
+    if !accepted.accept_word(alloc, row.upos.text(), relation) {
+        return false;
+    }
+    head_is_fine(row.head, word, words) && root_fits(row.head, relation)
 }
 
-fn is_fine<T: Text>(row: &RowOf<T>, words: usize) -> bool
+fn is_fine<T: Text>(alloc: Global, accepted: &mut Accepted, row: &RowOf<T>, words: usize) -> bool
     ensures { result ≡ is_fine_as_word words row.now.id row.now }
 {
     match row.id {
-        LineId::Word(word) => word_row_is_fine(row, word, words),
+        LineId::Word(word) => word_row_is_fine(alloc, accepted, row, word, words),
         LineId::Span(..) | LineId::Empty(..) => true,
     }
 }
 
 /// The first word at fault, as the number of its row (from 1), in a sentence of so many words.
-pub(crate) fn word_fault<T: Text>(rows: &[RowOf<T>], words: usize) -> Option<usize>
+pub(crate) fn word_fault<T: Text>(
+    alloc: Global,
+    accepted: &mut Accepted,
+    rows: &[RowOf<T>],
+    words: usize,
+) -> Option<usize>
     ensures { MatchOption result (EachRowPasses (word_test words) rows.now) (IsFirstFault (word_test words) rows.now) }
 {
     for (i, row) in rows.iter().enumerate() {
-        if !is_fine(row, words) {
+        if !is_fine(alloc, accepted, row, words) {
             return Some(i + 1);
         }
     }
