@@ -77,7 +77,7 @@ fn serve_one<'a, S: Alter>(
         Err(_) => None,
         Ok(status) => {
             part(rt, stream);
-            if status == Status::ServiceUnavailable && !desk.is_open() {
+            if status == Status::ServiceUnavailable && !matches!(desk.is_open(), Ok(true)) {
                 Some(Cause::FileShut)
             } else {
                 None

@@ -1,10 +1,15 @@
 -- What a statement leaves that is compiled and not run.
-use Rattle.std.proofs.Common.{◌≡◌, ◌⊎◌, ℕ, List, [], Bool, true, false, refl, sym, ap, ◌∙◌, true≢false, IsTrue, inl, inr}
+use Rattle.std.proofs.Common.{◌≡◌, ◌⊎◌, ◌<◌, ◌≤◌, ◌-◌, ◌^◌, ℕ, List, [], Bool, true, false, refl, sym, ap, subst, ◌∙◌, IsTrue, inl, inr, codes, Result, Ok, Err}
 use Rattle.sqlite_trees.specs.declared.error.StoreError.{StoreError}
 use Rattle.sqlite_trees.specs.declared.error.StoreError.TheVariants.{OutOfMemory, Io, Corrupt, Full, Broken, Unstorable}
 use Rattle.sqlite.specs.State.{State, Fails, IsNotRun, IsUnchanged, store_error}
 use Rattle.sqlite.specs.declared.error.Error.{Error}
-use Rattle.sqlite.specs.declared.error.Error.TheVariants.{SqlInputError}
+use Rattle.sqlite.specs.Listing.{understood}
+use Rattle.sqlite.specs.Schema.{Schema}
+use Rattle.sqlite_tied.specs.Compute.{everything}
+use Rattle.tb_tables.proofs.Causes.{failed_wants}
+use Rattle.tb_core.specs.declared.refusals.Fault.TheVariants.{Memory}
+use Rattle.tb_store.specs.Handing.{told_of_error}
 
 pub not_run : (old new : State) (sql : List ℕ) (e : Error) → IsNotRun old new sql [] e → Fails old new ⊥ e ⊎ IsUnchanged old new
 unfolding IsNotRun
@@ -15,20 +20,48 @@ pub was_open_before : (old new : State) (e : Error) → Fails old new ⊥ e ⊎ 
 was_open_before old new e (inl failed) opened = failed.3.was_open opened
 was_open_before old new e (inr same) opened = same.0.was_open
 
--- whether the text is at fault
-abbrev pub is_of_text : Error → Bool
-is_of_text (SqlInputError why) = true
-is_of_text _ = false
+-- ---- what is told of the store
 
-no_store_error : (cause : StoreError) → is_of_text (store_error cause) ≡ false
-no_store_error OutOfMemory = refl
-no_store_error Io = refl
-no_store_error Corrupt = refl
-no_store_error Full = refl
-no_store_error Broken = refl
-no_store_error Unstorable = refl
+pub told_once : {E : Type 0} (told : Result Bool E) → told ≡ Ok true → told ≡ Ok false → ⊥
+told_once told is also = absurd cc
+
+told_or_not : {E : Type 0} (told : Result Bool E) (b : Bool) (e : E) → told ≡ Ok b → told ≡ Err e → ⊥
+told_or_not told b e is also = absurd cc
+
+no_store_opens : (cause : StoreError) → told_of_error (store_error cause) ≡ Ok true → ⊥
+no_store_opens OutOfMemory is = told_or_not _ true Memory is refl
+no_store_opens Io is = told_once _ is refl
+no_store_opens Corrupt is = told_once _ is refl
+no_store_opens Full is = told_once _ is refl
+no_store_opens Broken is = told_once _ is refl
+no_store_opens Unstorable is = told_once _ is refl
 
 -- only a store that is open finds a text at fault
-pub open_where_refused : (old new : State) (e : Error) → is_of_text e ≡ true → Fails old new ⊥ e ⊎ IsUnchanged old new → IsTrue new.is_open
-open_where_refused old new e is (inl failed) = absurd (true≢false (sym is ∙ ap is_of_text failed.1 ∙ no_store_error failed.0))
-open_where_refused old new e is (inr same) = same.0.is_open
+pub open_where_told : (old new : State) (e : Error) → told_of_error e ≡ Ok true → Fails old new ⊥ e ⊎ IsUnchanged old new → IsTrue new.is_open
+open_where_told old new e is (inl failed) = absurd (no_store_opens failed.0 (ap told_of_error (sym failed.1) ∙ is))
+open_where_told old new e is (inr same) = same.0.is_open
+
+-- ---- the text that is no statement
+
+abbrev IsRefused : {X E : Type 0} → Result X E → Type 0
+IsRefused (Ok x) = ⊥
+IsRefused (Err e) = Unit {0}
+
+no_statement : (schema : Schema) → IsRefused (understood schema (codes "unknown"))
+unfolding understood everything
+no_statement schema = tt
+
+-- the store was open, and no fault was counted
+abbrev NoFault : State → State → Type 0
+NoFault old new = IsTrue old.is_open × (new.faults ≤ old.faults) × (old.faults < 2 ^ 64 - 1)
+
+-- where no disk fails, an open store finds the text at fault, or memory is wanting
+pub open_where_asked : (old new : State) (sql : List ℕ) (e : Error) → sql ≡ codes "unknown" → NoFault old new
+    → IsNotRun old new sql [] e → told_of_error e ≡ Ok false → ⊥
+unfolding IsNotRun
+open_where_asked old new sql e is good (inl (inl (fault, failed, told), same)) shut = told_once _ (ap told_of_error told) shut
+open_where_asked old new sql e is good (inl (inr (c, made, more), same)) shut =
+    subst IsRefused made (subst (λ (text : List ℕ). IsRefused (understood old.now.schema text)) (sym is) (no_statement old.now.schema))
+open_where_asked old new sql e is good (inr failed) shut =
+    let want = failed_wants old new good e failed in
+    told_or_not _ false Memory shut (ap told_of_error want)

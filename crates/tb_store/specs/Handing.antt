@@ -1,6 +1,10 @@
 -- What a call leaves of a connection that it was given. What is said of tables is under a disk that kept what it took
 -- (`HasCleanDisk`).
-use Rattle.std.specs.Prelude.{◌≡◌, Bool, true, IsTrue}
+use Rattle.std.specs.Prelude.{◌≡◌, Bool, true, false, Result, Ok, Err, IsTrue}
+use Rattle.sqlite.specs.declared.error.Error.{Error}
+use Rattle.sqlite.specs.declared.error.Error.TheVariants.{SqlInputError, SqliteFailure}
+use Rattle.sqlite.specs.declared.error.ErrorCode.{ErrorCode}
+use Rattle.sqlite.specs.declared.error.ErrorCode.TheVariants.{OutOfMemory}
 use Rattle.sqlite.specs.Store.{Ghosts}
 use Rattle.sqlite.specs.Held.{Held, state}
 use Rattle.sqlite.specs.State.{HasCleanDisk}
@@ -8,14 +12,29 @@ use Rattle.tb_core.specs.declared.refusals.Refusal.{Refusal}
 use Rattle.tb_core.specs.declared.refusals.Fault.{Fault}
 use Rattle.tb_core.specs.declared.refusals.Fault.TheVariants.{Memory, Refused}
 use Rattle.tb_core.specs.Machine.{Machine}
+use Rattle.tb_tables.specs.Leaving.{IsFaultless}
 use Rattle.tb_tables.specs.Making.{IsBlank}
 use Rattle.tb_tables.specs.Leaving.{IsFaultless}
 use Rattle.tb_standing.specs.Standing.{IsDesk}
 use Rattle.tb_recording.specs.Faults.{IsNoDevice}
 
+-- what an error tells of the store with which it refuses a text that is no statement
+abbrev pub told_of_code : ErrorCode → Result Bool Fault
+told_of_code OutOfMemory = Err Memory
+told_of_code _ = Ok false
+
+abbrev pub told_of_error : Error → Result Bool Fault
+told_of_error (SqlInputError why) = Ok true
+told_of_error (SqliteFailure code) = told_of_code code
+told_of_error _ = Ok false
+
 -- a store that is told to be open is open
-abbrev pub TellsOpen : {S : Type 0} → Ghosts S → (new : Held S) → Bool → Type 0
-TellsOpen g new told = HasCleanDisk (state g new) → told ≡ true → IsTrue (state g new).is_open
+abbrev pub TellsOpen : {S : Type 0} → Ghosts S → (new : Held S) → Result Bool Fault → Type 0
+TellsOpen g new told = HasCleanDisk (state g new) → told ≡ Ok true → IsTrue (state g new).is_open
+
+-- one that is told to be shut was shut, or its disk failed meanwhile
+abbrev pub TellsShut : {S : Type 0} → Ghosts S → (old new : Held S) → Result Bool Fault → Type 0
+TellsShut g old new told = HasCleanDisk (state g new) → told ≡ Ok false → IsFaultless g old new → ⊥
 
 -- a refusal is the one that was given, and nothing was asked of the connection
 abbrev pub HandsOnRefusal : {S : Type 0} → (old new : Held S) → (given fault : Fault) → Type 0

@@ -6,3 +6,4 @@ pub mod Found
 pub mod Calls
 pub mod Handing
 pub mod Reopened
+pub mod Blaming

@@ -1,6 +1,7 @@
 //! Reads of a desk's tables, told as facts of the state for which they stand. Whatever a read answers, they stand for it still.
 
 ghost use Rattle.std.specs.Prelude.{◌≡◌, ◌≢◌, ◌-◌, ◌<◌, map, false, [], ◌∷◌, Some, Err, slice_get, string_bytes, IfOk, None, length};
+ghost use Rattle.std.specs.Prelude.{IfErr};
 ghost use Rattle.sqlite.specs.State.{HasCleanDisk};
 ghost use Rattle.sqlite.specs.Held.{state};
 ghost use Rattle.tb_conllu.specs.Text.{text_of};
@@ -10,7 +11,8 @@ ghost use Rattle.tb_core.specs.Totals.{StandFor};
 ghost use Rattle.tb_standing.specs.Standing.{IsDesk};
 ghost use Rattle.tb_recording.specs.Revisions.{HasRevision};
 ghost use Rattle.tb_standing.specs.Telling.{KnowsDesk, KnowsDeskWhere, Tells};
-ghost use Rattle.tb_tables.specs.Leaving.{ChangesNothing, CommitsNothing, KeepsRecords};
+ghost use Rattle.tb_tables.specs.Leaving.{ChangesNothing, CommitsNothing, FailsOnlyAs, IsFaultless, KeepsRecords};
+ghost use Rattle.tb_recording.specs.Faults.{IsNoDevice};
 
 use crate::answers::Current;
 use sqlite::{Alter, Connection};
@@ -25,6 +27,7 @@ use tb_tables::TotalRow;
 fn six_totals(rows: &[TotalRow]) -> Result<Totals, Fault>
     ensures rows { IfOk result (λ t. (t.sentences ≡ map (λ r. r.sentences) rows.now) × (t.words ≡ map (λ r. r.words) rows.now)) }
     ensures six { result ≡ Err Fault.NotADesk → length rows.now ≢ 6 }
+    ensures cause { IfErr result IsNoDevice }
     ensures refused { (r : AnyRefusal) → result ≢ Err (Fault.Refused r) }
 {
     match rows {
@@ -55,6 +58,7 @@ pub(crate) fn totals<S: Alter>(alloc: Global, conn: &mut Connection<S>) -> Resul
     ensures answered { Tells S.Store conn.old conn.new result (λ s t. StandFor t s) }
     ensures refused { (r : AnyRefusal) → result ≢ Err (Fault.Refused r) }
     ensures fails { KnowsDesk S.Store conn.old conn.new result }
+    ensures cause { IsFaultless S.Store conn.old conn.new → FailsOnlyAs IsNoDevice S.Store conn.old conn.new result }
     ensures same { ChangesNothing S.Store conn.old conn.new result }
     ensures mode { conn.old.in_transaction ≡ false → conn.new.in_transaction ≡ false }
     ensures kept { KeepsRecords S.Store conn.old conn.new }
@@ -73,6 +77,7 @@ pub(crate) fn current<S: Alter>(conn: &mut Connection<S>, number: u32) -> Result
     ensures answered { Tells S.Store conn.old conn.new result (λ s n. (x : Sentence) → slice_get s.sentences (number - 1) ≡ Some x → n ≡ rev_of x) }
     ensures refused { (r : AnyRefusal) → result ≢ Err (Fault.Refused r) }
     ensures fails { KnowsDeskWhere S.Store conn.old conn.new result (λ s so. (x : Sentence) → slice_get s.sentences (number - 1) ≡ Some x → so) }
+    ensures cause { IsFaultless S.Store conn.old conn.new → FailsOnlyAs IsNoDevice S.Store conn.old conn.new result }
     ensures same { ChangesNothing S.Store conn.old conn.new result }
     ensures mode { conn.old.in_transaction ≡ false → conn.new.in_transaction ≡ false }
     ensures kept { KeepsRecords S.Store conn.old conn.new }
@@ -97,6 +102,7 @@ pub(crate) fn text<S: Alter>(
     ensures refused { (r : AnyRefusal) → result ≢ Err (Fault.Refused r) }
     ensures fails { KnowsDeskWhere S.Store conn.old conn.new result (λ s so. (x : Sentence) → slice_get s.sentences (number - 1) ≡ Some x
         → (q : Revision) → HasRevision x rev q → so) }
+    ensures cause { IsFaultless S.Store conn.old conn.new → FailsOnlyAs IsNoDevice S.Store conn.old conn.new result }
     ensures same { ChangesNothing S.Store conn.old conn.new result }
     ensures mode { conn.old.in_transaction ≡ false → conn.new.in_transaction ≡ false }
     ensures kept { KeepsRecords S.Store conn.old conn.new }
@@ -116,6 +122,7 @@ pub(crate) fn sentence<S: Alter>(conn: &mut Connection<S>, number: u32) -> Resul
     ensures answered { Tells S.Store conn.old conn.new result (λ s c. (x : Sentence) → slice_get s.sentences (number - 1) ≡ Some x → (c.rev ≡ rev_of x) × (string_bytes c.body ≡ text_of (x.current.body ∷ []))) }
     ensures refused { (r : AnyRefusal) → result ≢ Err (Fault.Refused r) }
     ensures fails { KnowsDeskWhere S.Store conn.old conn.new result (λ s so. (x : Sentence) → slice_get s.sentences (number - 1) ≡ Some x → so) }
+    ensures cause { IsFaultless S.Store conn.old conn.new → FailsOnlyAs IsNoDevice S.Store conn.old conn.new result }
     ensures same { ChangesNothing S.Store conn.old conn.new result }
     ensures mode { conn.old.in_transaction ≡ false → conn.new.in_transaction ≡ false }
     ensures kept { KeepsRecords S.Store conn.old conn.new }
@@ -143,6 +150,7 @@ pub(crate) fn revision<S: Alter>(
     ensures answered { Tells S.Store conn.old conn.new result (λ s t. (x : Sentence) → slice_get s.sentences (number - 1) ≡ Some x → (q : Revision) × HasRevision x rev q × (string_bytes t ≡ text_of (q.body ∷ []))) }
     ensures refused { HasCleanDisk (state S.Store conn.new) → (r : AnyRefusal) → result ≡ Err (Fault.Refused r) → (r ≡ Refusal.NoSuchRevision) × ((s : Machine) → IsDesk S.Store conn.old s → (x : Sentence) → slice_get s.sentences (number - 1) ≡ Some x → (q : Revision) → HasRevision x rev q → ⊥) }
     ensures fails { KnowsDeskWhere S.Store conn.old conn.new result (λ s so. (x : Sentence) → slice_get s.sentences (number - 1) ≡ Some x → so) }
+    ensures cause { IsFaultless S.Store conn.old conn.new → FailsOnlyAs IsNoDevice S.Store conn.old conn.new result }
     ensures same { ChangesNothing S.Store conn.old conn.new result }
     ensures mode { conn.old.in_transaction ≡ false → conn.new.in_transaction ≡ false }
     ensures kept { KeepsRecords S.Store conn.old conn.new }
@@ -160,6 +168,7 @@ pub(crate) fn moves<S: Alter>(alloc: Global, conn: &mut Connection<S>) -> Result
     ensures answered { Tells S.Store conn.old conn.new result (λ s v. v.items ≡ s.moves) }
     ensures refused { (r : AnyRefusal) → result ≢ Err (Fault.Refused r) }
     ensures fails { KnowsDesk S.Store conn.old conn.new result }
+    ensures cause { IsFaultless S.Store conn.old conn.new → FailsOnlyAs IsNoDevice S.Store conn.old conn.new result }
     ensures same { ChangesNothing S.Store conn.old conn.new result }
     ensures mode { conn.old.in_transaction ≡ false → conn.new.in_transaction ≡ false }
     ensures kept { KeepsRecords S.Store conn.old conn.new }

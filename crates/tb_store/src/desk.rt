@@ -24,8 +24,10 @@ ghost use Rattle.tb_store.specs.Answers.{AreNet, IsCurrent, IsTextOf, HasNoSente
 ghost use Rattle.tb_store.specs.Exports.{IsBrokenOff, IsPartOfBatch, RefusesBatch};
 ghost use Rattle.tb_store.specs.Found.{AreReleasedHits, HasTooMany, IsNumber, IsPartFound};
 ghost use Rattle.tb_store.specs.Calls.{CrashesWhole, Does, EndsAs, Gives, GivesOnErr, KnowsItself, LeavesOnly};
+ghost use Rattle.tb_store.specs.Blaming.{BlamesNoDevice};
 ghost use Rattle.tb_store.specs.Calls.{StandsAsBefore, WritesNothing};
-ghost use Rattle.tb_store.specs.Handing.{IsNoDeviceIfFaultless, SeesTheSame, StaysADesk, StaysBlank, TellsOpen};
+ghost use Rattle.tb_store.specs.Handing.{IsNoDeviceIfFaultless, SeesTheSame, StaysADesk, StaysBlank};
+ghost use Rattle.tb_store.specs.Handing.{TellsOpen, TellsShut};
 ghost use Rattle.tb_tables.specs.Leaving.{CommitsNothing};
 
 use crate::answers::Current;
@@ -234,9 +236,16 @@ impl<S: Alter> Desk<S> {
         Some(number as u32)
     }
 
-    /// Whether the store is open. A fault of the device may have shut it: then no call is answered any more.
-    pub fn is_open(&mut self) -> bool
+    /// Whether the store is open. A fault of the device may have shut it: then no call is answered any more. A store
+    /// whose disk fails at the question is told to be shut.
+    ///
+    /// # Errors
+    ///
+    /// `Memory`: the store may be open or shut.
+    pub fn is_open(&mut self) -> Result<bool, Fault>
         ensures open { TellsOpen S.Store self.new.conn result }
+        ensures shut { TellsShut S.Store self.old.conn self.new.conn result }
+        ensures known { IfErr result (λ e. e ≡ Fault.Memory) }
         ensures kept { StandsAsBefore S.Store self.old self.new }
         ensures crash { Survives (state S.Store self.old.conn) (state S.Store self.new.conn) (λ _. ⊥) }
         ensures limits { self.new.limits ≡ self.old.limits }
@@ -250,6 +259,7 @@ impl<S: Alter> Desk<S> {
         ensures net { Gives S.Store self.old self.new result (λ s t. AreNet t s.moves) }
         ensures refused { (r : AnyRefusal) → result ≢ Err (Fault.Refused r) }
         ensures fails { KnowsItself S.Store self.old self.new result }
+        ensures cause { BlamesNoDevice S.Store self.old self.new result }
         ensures stays { Does S.Store self.old self.new result (λ s. StandsFor S.Store self.new s) }
         ensures kept { StandsAsBefore S.Store self.old self.new }
         ensures crash { WritesNothing S.Store self.old self.new }
@@ -265,6 +275,7 @@ impl<S: Alter> Desk<S> {
         ensures answered { Gives S.Store self.old self.new result (λ s v. v.items ≡ s.moves) }
         ensures refused { (r : AnyRefusal) → result ≢ Err (Fault.Refused r) }
         ensures fails { KnowsItself S.Store self.old self.new result }
+        ensures cause { BlamesNoDevice S.Store self.old self.new result }
         ensures stays { Does S.Store self.old self.new result (λ s. StandsFor S.Store self.new s) }
         ensures kept { StandsAsBefore S.Store self.old self.new }
         ensures crash { WritesNothing S.Store self.old self.new }
@@ -284,6 +295,7 @@ impl<S: Alter> Desk<S> {
         ensures refused { (s : Machine) → StandsFor S.Store self.old s → (result ≡ Err (Fault.Refused Refusal.NoSuchSentence)) ↔ HasNoSentence s number }
         ensures alone { (r : AnyRefusal) → result ≡ Err (Fault.Refused r) → r ≡ Refusal.NoSuchSentence }
         ensures fails { KnowsItself S.Store self.old self.new result }
+        ensures cause { BlamesNoDevice S.Store self.old self.new result }
         ensures stays { Does S.Store self.old self.new result (λ s. StandsFor S.Store self.new s) }
         ensures kept { StandsAsBefore S.Store self.old self.new }
         ensures crash { WritesNothing S.Store self.old self.new }
@@ -306,6 +318,7 @@ impl<S: Alter> Desk<S> {
         ensures no_sentence { (s : Machine) → StandsFor S.Store self.old s → HasNoSentence s number → result ≡ Err (Fault.Refused Refusal.NoSuchSentence) }
         ensures refused { GivesOnErr S.Store self.old self.new result (λ s e. RefusesRevision s number rev e) }
         ensures fails { KnowsItself S.Store self.old self.new result }
+        ensures cause { BlamesNoDevice S.Store self.old self.new result }
         ensures stays { Does S.Store self.old self.new result (λ s. StandsFor S.Store self.new s) }
         ensures kept { StandsAsBefore S.Store self.old self.new }
         ensures crash { WritesNothing S.Store self.old self.new }
@@ -333,6 +346,7 @@ impl<S: Alter> Desk<S> {
         ensures refused { (r : AnyRefusal) → result ≢ Err (Fault.Refused r) }
         ensures output { result ≡ Err Fault.Output → HasReason (W.IsRefusal out.new) }
         ensures fails { KnowsItself S.Store self.old self.new result }
+        ensures cause { BlamesNoDevice S.Store self.old self.new result }
         ensures stays { Does S.Store self.old self.new result (λ s. StandsFor S.Store self.new s) }
         ensures kept { StandsAsBefore S.Store self.old self.new }
         ensures crash { WritesNothing S.Store self.old self.new }
@@ -354,6 +368,7 @@ impl<S: Alter> Desk<S> {
         ensures refused { GivesOnErr S.Store self.old self.new result (λ s e. RefusesBatch s name.now e) }
         ensures output { result ≡ Err Fault.Output → HasReason (W.IsRefusal out.new) }
         ensures fails { KnowsItself S.Store self.old self.new result }
+        ensures cause { BlamesNoDevice S.Store self.old self.new result }
         ensures none { (r : AnyRefusal) → result ≡ Err (Fault.Refused r) → W.held out.new ≡ W.held out.old }
         ensures stays { Does S.Store self.old self.new result (λ s. StandsFor S.Store self.new s) }
         ensures kept { StandsAsBefore S.Store self.old self.new }
@@ -377,6 +392,7 @@ impl<S: Alter> Desk<S> {
         ensures refused { HasCleanDisk (state S.Store self.new.conn) → (r : AnyRefusal) → result ≡ Err (Fault.Refused r) → (r ≡ Refusal.TooManyHits) × ((s : Machine) → StandsFor S.Store self.old s → HasTooMany s query.now strategy self.old.limits.hits) }
         ensures output { result ≢ Err Fault.Output }
         ensures fails { KnowsItself S.Store self.old self.new result }
+        ensures cause { BlamesNoDevice S.Store self.old self.new result }
         ensures stays { Does S.Store self.old self.new result (λ s. StandsFor S.Store self.new s) }
         ensures kept { StandsAsBefore S.Store self.old self.new }
         ensures crash { WritesNothing S.Store self.old self.new }
@@ -413,6 +429,7 @@ impl<S: Alter> Desk<S> {
         ensures refused { (r : AnyRefusal) → result ≢ Err (Fault.Refused r) }
         ensures output { result ≡ Err Fault.Output → HasReason (W.IsRefusal out.new) }
         ensures fails { KnowsItself S.Store self.old self.new result }
+        ensures cause { BlamesNoDevice S.Store self.old self.new result }
         ensures stays { Does S.Store self.old self.new result (λ s. StandsFor S.Store self.new s) }
         ensures kept { StandsAsBefore S.Store self.old self.new }
         ensures crash { WritesNothing S.Store self.old self.new }
@@ -429,6 +446,7 @@ impl<S: Alter> Desk<S> {
         ensures refused { (r : AnyRefusal) → result ≢ Err (Fault.Refused r) }
         ensures output { result ≢ Err Fault.Output }
         ensures fails { KnowsItself S.Store self.old self.new result }
+        ensures cause { BlamesNoDevice S.Store self.old self.new result }
         ensures stays { Does S.Store self.old self.new result (λ s. StandsFor S.Store self.new s) }
         ensures kept { StandsAsBefore S.Store self.old self.new }
         ensures crash { WritesNothing S.Store self.old self.new }

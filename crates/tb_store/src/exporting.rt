@@ -8,6 +8,7 @@ ghost use Rattle.tb_search.specs.Released.{released as released_in, in_batch, cu
 ghost use Rattle.tb_search.specs.Visited.{HasReason};
 ghost use Rattle.tb_recording.specs.Finding.{HasNumber};
 ghost use Rattle.tb_store.specs.Exports.{IsBrokenOff, IsPartOfBatch, RefusesBatch};
+ghost use Rattle.tb_store.specs.Blaming.{FailsWithoutDevice};
 ghost use Rattle.tb_standing.specs.Telling.{KnowsDesk, TellsOnErr, TellsOnOk};
 ghost use Rattle.tb_tables.specs.Leaving.{ChangesNothing, CommitsNothing, KeepsRecords};
 
@@ -30,6 +31,7 @@ pub(crate) fn released<S: Alter, W: Sink>(
     ensures refused { (r : AnyRefusal) → result ≢ Err (Fault.Refused r) }
     ensures output { result ≡ Err Fault.Output → HasReason (W.IsRefusal out.new) }
     ensures fails { KnowsDesk S.Store conn.old conn.new result }
+    ensures cause { FailsWithoutDevice S.Store conn.old conn.new result }
     ensures same { ChangesNothing S.Store conn.old conn.new result }
     ensures mode { conn.old.in_transaction ≡ false → conn.new.in_transaction ≡ false }
     ensures kept { KeepsRecords S.Store conn.old conn.new }
@@ -53,6 +55,7 @@ fn numbered<S: Alter, W: Sink>(
     ensures refused { (r : AnyRefusal) → result ≢ Err (Fault.Refused r) }
     ensures output { result ≡ Err Fault.Output → HasReason (W.IsRefusal out.new) }
     ensures fails { KnowsDesk S.Store conn.old conn.new result }
+    ensures cause { FailsWithoutDevice S.Store conn.old conn.new result }
     ensures same { ChangesNothing S.Store conn.old conn.new result }
     ensures mode { conn.old.in_transaction ≡ false → conn.new.in_transaction ≡ false }
     ensures kept { KeepsRecords S.Store conn.old conn.new }
@@ -81,6 +84,7 @@ pub(crate) fn batch<S: Alter, W: Sink>(
     ensures refused { TellsOnErr S.Store conn.old conn.new result (λ s e. RefusesBatch s name.now e) }
     ensures output { result ≡ Err Fault.Output → HasReason (W.IsRefusal out.new) }
     ensures fails { KnowsDesk S.Store conn.old conn.new result }
+    ensures cause { FailsWithoutDevice S.Store conn.old conn.new result }
     ensures none { (r : AnyRefusal) → result ≡ Err (Fault.Refused r) → W.held out.new ≡ W.held out.old }
     ensures same { ChangesNothing S.Store conn.old conn.new result }
     ensures mode { conn.old.in_transaction ≡ false → conn.new.in_transaction ≡ false }

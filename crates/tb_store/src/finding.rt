@@ -11,6 +11,7 @@ ghost use Rattle.tb_report.specs.Tables.{IsTableOf};
 ghost use Rattle.tb_search.specs.Searched.{Occurrence, answer, keys};
 ghost use Rattle.tb_search.specs.Visited.{HasReason};
 ghost use Rattle.tb_store.specs.Found.{AreReleasedHits, HasTooMany, IsAbove, IsNumber, IsPartFound};
+ghost use Rattle.tb_store.specs.Blaming.{FailsWithoutDevice};
 ghost use Rattle.tb_standing.specs.Telling.{KnowsDesk, Tells, TellsOnErr};
 ghost use Rattle.tb_tables.specs.Leaving.{ChangesNothing, CommitsNothing, KeepsRecords};
 
@@ -45,6 +46,7 @@ fn whole_number<S: Alter>(
     ensures refused { (r : AnyRefusal) → result ≢ Err (Fault.Refused r) }
     ensures output { result ≢ Err Fault.Output }
     ensures fails { KnowsDesk S.Store conn.old conn.new result }
+    ensures cause { FailsWithoutDevice S.Store conn.old conn.new result }
     ensures same { ChangesNothing S.Store conn.old conn.new result }
     ensures mode { conn.old.in_transaction ≡ false → conn.new.in_transaction ≡ false }
     ensures kept { KeepsRecords S.Store conn.old conn.new }
@@ -72,6 +74,7 @@ pub(crate) fn number<S: Alter>(
     ensures refused { HasCleanDisk (state S.Store conn.new) → (r : AnyRefusal) → result ≡ Err (Fault.Refused r) → (r ≡ Refusal.TooManyHits) × ((s : Machine) → IsDesk S.Store conn.old s → HasTooMany s query.now strategy limit) }
     ensures output { result ≢ Err Fault.Output }
     ensures fails { KnowsDesk S.Store conn.old conn.new result }
+    ensures cause { FailsWithoutDevice S.Store conn.old conn.new result }
     ensures same { ChangesNothing S.Store conn.old conn.new result }
     ensures mode { conn.old.in_transaction ≡ false → conn.new.in_transaction ≡ false }
     ensures kept { KeepsRecords S.Store conn.old conn.new }
@@ -98,6 +101,7 @@ pub(crate) fn search<S: Alter, W: Sink>(
     ensures refused { (r : AnyRefusal) → result ≢ Err (Fault.Refused r) }
     ensures output { result ≡ Err Fault.Output → HasReason (W.IsRefusal out.new) }
     ensures fails { KnowsDesk S.Store conn.old conn.new result }
+    ensures cause { FailsWithoutDevice S.Store conn.old conn.new result }
     ensures same { ChangesNothing S.Store conn.old conn.new result }
     ensures mode { conn.old.in_transaction ≡ false → conn.new.in_transaction ≡ false }
     ensures kept { KeepsRecords S.Store conn.old conn.new }
@@ -121,6 +125,7 @@ pub(crate) fn count<S: Alter>(
     ensures refused { (r : AnyRefusal) → result ≢ Err (Fault.Refused r) }
     ensures output { result ≢ Err Fault.Output }
     ensures fails { KnowsDesk S.Store conn.old conn.new result }
+    ensures cause { FailsWithoutDevice S.Store conn.old conn.new result }
     ensures same { ChangesNothing S.Store conn.old conn.new result }
     ensures mode { conn.old.in_transaction ≡ false → conn.new.in_transaction ≡ false }
     ensures kept { KeepsRecords S.Store conn.old conn.new }

@@ -5,7 +5,8 @@ ghost use Rattle.tb_core.specs.declared.refusals.Refusal.{Refusal as AnyRefusal}
 ghost use Rattle.tb_core.specs.Machine.{Sentence};
 ghost use Rattle.tb_search.specs.Released.{IsCutShort};
 ghost use Rattle.tb_search.specs.Searched.{Occurrence, IsBrokenOff as IsSearchBrokenOff};
-ghost use Rattle.tb_search.specs.Visited.{IsFault, IsStopFault};
+ghost use Rattle.tb_search.specs.Visited.{IsFault, IsStopFault, IsStopWant};
+ghost use Rattle.tb_recording.specs.Faults.{IsNoDevice};
 ghost use Rattle.tb_store.specs.Exports.{IsBrokenOff};
 ghost use Rattle.tb_store.specs.Found.{IsPartFound};
 
@@ -21,6 +22,7 @@ pub(crate) fn fault_of(stopped: Stopped) -> Fault
     ensures refused { (r : AnyRefusal) → result ≢ Fault.Refused r }
     ensures output { result ≡ Fault.Output → stopped ≡ Stopped.Output }
     ensures fails { IsFault stopped → IsStopFault stopped → result ≢ Fault.NotADesk }
+    ensures cause { IsStopWant stopped → IsNoDevice result }
 {
     match stopped {
         Stopped::Read(error) => faults::of_read(error),

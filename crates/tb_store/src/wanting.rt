@@ -1,34 +1,50 @@
 //! Whether the store is open: a command ends for want of memory only there.
 
-ghost use Rattle.std.specs.Prelude.{◌≡◌, ◌⊎◌, false};
+ghost use Rattle.std.specs.Prelude.{◌≡◌, ◌⊎◌, false, IfErr};
 ghost use Rattle.sqlite.specs.State.{Survives};
 ghost use Rattle.sqlite.specs.Held.{state};
 ghost use Rattle.tb_tables.specs.Leaving.{KeepsRecords};
-ghost use Rattle.tb_store.specs.Handing.{HandsOnRefusal, IsOpenOnMemory, TellsOpen, WasOpen};
+ghost use Rattle.tb_store.specs.Handing.{HandsOnRefusal, IsOpenOnMemory, TellsOpen, TellsShut, WasOpen, told_of_error};
 
-use sqlite::{Alter, Connection, Error};
+use sqlite::{Alter, Connection, Error, ErrorCode};
 use tb_core::Fault;
 
 /// A text that is no statement. Only a store that is open refuses it as such, and it takes no memory to do so.
 const NO_STATEMENT: &str = "unknown";
 
-/// Whether the store is open.
-pub(crate) fn is_open<S: Alter>(conn: &mut Connection<S>) -> bool
+/// What the error tells of the store with which it refuses the text.
+fn told_by(error: Error) -> Result<bool, Fault>
+    ensures { result ≡ told_of_error error }
+{
+    match error {
+        Error::SqlInputError(_) => Ok(true),
+        Error::SqliteFailure(ErrorCode::OutOfMemory) => Err(Fault::Memory),
+        _ => Ok(false),
+    }
+}
+
+/// Whether the store is open. One whose disk fails at the question is told to be shut.
+///
+/// # Errors
+///
+/// `Memory`: the store may be open or shut.
+pub(crate) fn is_open<S: Alter>(conn: &mut Connection<S>) -> Result<bool, Fault>
     ensures open { TellsOpen S.Store conn.new result }
+    ensures shut { TellsShut S.Store conn.old conn.new result }
+    ensures known { IfErr result (λ e. e ≡ Fault.Memory) }
     ensures was_open { WasOpen S.Store conn.old conn.new }
     ensures kept { KeepsRecords S.Store conn.old conn.new }
     ensures mode { conn.old.in_transaction ≡ false → conn.new.in_transaction ≡ false }
     ensures crash { Survives (state S.Store conn.old) (state S.Store conn.new) (λ _. ⊥) }
 {
     match conn.prepare(NO_STATEMENT) {
-        Ok(_) => true,
-        Err(Error::SqlInputError(_)) => true,
-        Err(_) => false,
+        Ok(_) => Ok(true),
+        Err(error) => told_by(error),
     }
 }
 
-/// The fault of a command for which memory was refused. It is want of memory where the store is open: then the command
-/// committed nothing. Else the store failed.
+/// The fault of a command for which memory was refused. It is want of memory where the store says that it is open: then
+/// the command committed nothing. Else the store failed, or it could not be asked.
 fn memory_or_device<S: Alter>(conn: &mut Connection<S>) -> Fault
     ensures known { (result ≡ Fault.Memory) ⊎ (result ≡ Fault.Device) }
     ensures open { IsOpenOnMemory S.Store conn.new result }
@@ -37,10 +53,9 @@ fn memory_or_device<S: Alter>(conn: &mut Connection<S>) -> Fault
     ensures mode { conn.old.in_transaction ≡ false → conn.new.in_transaction ≡ false }
     ensures crash { Survives (state S.Store conn.old) (state S.Store conn.new) (λ _. ⊥) }
 {
-    if is_open(conn) {
-        Fault::Memory
-    } else {
-        Fault::Device
+    match is_open(conn) {
+        Ok(true) => Fault::Memory,
+        _ => Fault::Device,
     }
 }
 
@@ -48,6 +63,7 @@ fn memory_or_device<S: Alter>(conn: &mut Connection<S>) -> Fault
 pub(crate) fn certain<S: Alter>(conn: &mut Connection<S>, fault: Fault) -> Fault
     ensures refused { HandsOnRefusal conn.old conn.new fault result }
     ensures desk { result ≡ Fault.NotADesk → fault ≡ Fault.NotADesk }
+    ensures device { result ≡ Fault.Device → (fault ≡ Fault.Device) ⊎ (fault ≡ Fault.Memory) }
     ensures open { IsOpenOnMemory S.Store conn.new result }
     ensures was_open { WasOpen S.Store conn.old conn.new }
     ensures kept { KeepsRecords S.Store conn.old conn.new }

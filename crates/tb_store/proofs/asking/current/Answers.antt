@@ -1,9 +1,9 @@
 use Rattle.std.proofs.Common.{◌≡◌, ◌-◌, Err, sym, ap, ◌∙◌}
-use Rattle.tb_core.specs.declared.refusals.Fault.TheVariants.{NotADesk}
+use Rattle.tb_core.specs.declared.refusals.Fault.TheVariants.{Device, NotADesk}
 use Rattle.tb_reading.specs.Readable.{IsSentence}
 use Rattle.tb_standing.specs.Standing.{tables_of, sentence_record}
 use Rattle.tb_standing.specs.Fitting.{IsReadableSentence}
-use Rattle.tb_recording.proofs.Faultless.{read_told, fit}
+use Rattle.tb_recording.proofs.Faultless.{read_told, want_told, fit}
 use Rattle.tb_acting.proofs.Finds.{none_lacks}
 use Rattle.tb_store.proofs.asking.current.Goals as goal
 
@@ -18,3 +18,8 @@ returns-in-Err-clause-fails g c clean unlimited s desk x there bad =
     let readable = c.desk_rows_are_readable.ensures s desk.reachable in
     let fits = fit IsReadableSentence IsSentence (λ y h. record { sent_id_fits = h.sent_id_fits; batch_fits = h.batch_fits; rev_fits = h.rev_fits; words_fits = h.words_fits }) (tables_of s).sentences readable.sentences in
     read_told c.in-Err.error (c.in-Err.ensures.fails clean unlimited desk.holds.schema) (λ unfit. c.in-Err.ensures.form clean (ap Err unfit) desk.holds.schema (tables_of s).sentences fits desk.holds.stands.sentences) (sym c.of_read.ensures.value ∙ told)
+
+pub returns-in-Err-clause-cause : goal.returns-in-Err-clause-cause
+returns-in-Err-clause-cause g c good clean unlimited has bad =
+    let told : c.of_read.result ≡ Device = cc in
+    want_told c.in-Err.error (c.in-Err.ensures.cause good clean unlimited has) (sym c.of_read.ensures.value ∙ told)

@@ -3,8 +3,9 @@ use Rattle.std.proofs.lemmas.Result.{err_from_is_err_and}
 use Rattle.sqlite.specs.Held.{state}
 use Rattle.sqlite.specs.State.{HasCleanDisk}
 use Rattle.tb_core.specs.declared.refusals.Fault.TheVariants.{NotADesk}
+use Rattle.tb_tables.proofs.Causes.{faultless_next}
 use Rattle.tb_reading.proofs.Shown.{if_ok}
-use Rattle.tb_recording.proofs.Unchanged.{desk_same, lasts_then}
+use Rattle.tb_recording.proofs.Unchanged.{desk_same, lasts_then, schema_stays}
 use Rattle.tb_recording.proofs.Revised.{has_each}
 use Rattle.tb_store.proofs.asking.revision.Goals as goal
 
@@ -31,3 +32,11 @@ returns-clause-fails g c clean unlimited s desk x there bad =
     let within : c.args.rev ≤ c.in_ok-last.last = search rules in
     let each = has_each x c.args.rev c.in_ok-last.last above within last_is in
     c.text.ensures.fails clean (c.current.ensures.lasts.limit ∙ unlimited) s still x there each.0 each.1 bad
+
+pub returns-clause-cause : goal.returns-clause-cause
+returns-clause-cause g c good clean unlimited has =
+    let first = c.current.ensures.lasts in
+    let then_ = c.text.ensures.lasts in
+    let mid : HasCleanDisk (state g.S.Store c.current.new.conn) = omega (arith, clean, then_.clean) in
+    let later = faultless_next (state g.S.Store c.args.conn.now) (state g.S.Store c.current.new.conn) (state g.S.Store c.text.new.conn) good first mid then_.counts in
+    c.text.ensures.cause later clean (first.limit ∙ unlimited) (schema_stays g.S.Store c.args.conn.now c.current.new.conn c.text.new.conn (c.in_ok-last.ensures.same mid has) has)

@@ -6,7 +6,7 @@ use Rattle.tb_conllu.specs.Text.{text_of}
 use Rattle.tb_core.specs.declared.refusals.Fault.TheVariants.{NotADesk}
 use Rattle.tb_core.specs.Machine.{Revision}
 use Rattle.tb_recording.proofs.Telling.{current_is}
-use Rattle.tb_recording.proofs.Unchanged.{desk_same, lasts_then}
+use Rattle.tb_recording.proofs.Unchanged.{desk_same, lasts_then, second_clear}
 use Rattle.tb_recording.proofs.Revised.{has_current}
 use Rattle.tb_store.proofs.asking.sentence.Goals as goal
 
@@ -40,3 +40,8 @@ returns-in_err-body-clause-fails g c clean unlimited s desk x there bad =
     let rev_is = c.in_ok-rev.ensures.answered mid s desk x there in
     let still = desk_same g.S.Store c.args.conn.now c.current.new.conn s desk (c.in_ok-rev.ensures.same mid desk.holds.schema) in
     c.text.ensures.fails clean (c.current.ensures.lasts.limit ∙ unlimited) s still x there x.current (has_current x c.in_ok-rev.rev rev_is) failed
+
+pub returns-in_err-body-clause-cause : goal.returns-in_err-body-clause-cause
+returns-in_err-body-clause-cause g c =
+    second_clear g.S.Store c.args.conn.now c.current.new.conn c.text.new.conn c.from_residual-in_err-body.result c.in_err-body.field-0.0 c.from_residual-in_err-body.ensures.1
+    c.in_ok-rev.ensures.same c.current.ensures.lasts c.text.ensures.lasts c.in_err-body.ensures.cause

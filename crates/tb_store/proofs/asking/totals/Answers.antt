@@ -8,11 +8,11 @@ use Rattle.tb_reading.proofs.Shown.{if_ok}
 use Rattle.tb_reading.specs.Readable.{IsTotal}
 use Rattle.tb_standing.specs.Standing.{tables_of}
 use Rattle.tb_standing.specs.Fitting.{IsReadableTotal}
-use Rattle.tb_core.specs.declared.refusals.Fault.TheVariants.{NotADesk}
+use Rattle.tb_core.specs.declared.refusals.Fault.TheVariants.{Device, NotADesk}
 use Rattle.tb_search.proofs.OneList.{one_list}
 use Rattle.tb_store.proofs.Alike.{same_total}
 use Rattle.tb_store.proofs.SixTotals.{totals_stand}
-use Rattle.tb_recording.proofs.Faultless.{read_told, fit}
+use Rattle.tb_recording.proofs.Faultless.{read_told, want_told, fit}
 use Rattle.tb_store.proofs.asking.totals.Goals as goal
 
 pub returns-in-Ok-clause-answered : goal.returns-in-Ok-clause-answered
@@ -35,3 +35,8 @@ returns-in-Err-clause-fails g c clean unlimited s desk bad =
     let readable = c.desk_rows_are_readable.ensures s desk.reachable in
     let fits = fit IsReadableTotal IsTotal (λ x h. record { sentences_fits = h.sentences_fits; words_fits = h.words_fits }) (tables_of s).totals readable.totals in
     read_told c.in-Err.error (c.in-Err.ensures.fails clean unlimited desk.holds.schema) (λ unfit. c.in-Err.ensures.form clean (ap Err unfit) desk.holds.schema (tables_of s).totals fits desk.holds.stands.totals) (sym c.of_read.ensures.value ∙ told)
+
+pub returns-in-Err-clause-cause : goal.returns-in-Err-clause-cause
+returns-in-Err-clause-cause g c good clean unlimited has bad =
+    let told : c.of_read.result ≡ Device = cc in
+    want_told c.in-Err.error (c.in-Err.ensures.cause good clean unlimited has) (sym c.of_read.ensures.value ∙ told)

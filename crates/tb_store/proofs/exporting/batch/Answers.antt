@@ -3,6 +3,8 @@ use Rattle.std.proofs.lemmas.Result.{err_from_is_err_and}
 use Rattle.sqlite.specs.Held.{state}
 use Rattle.sqlite.specs.State.{HasCleanDisk}
 use Rattle.tb_core.specs.declared.refusals.Fault.TheVariants.{NotADesk}
+use Rattle.tb_tables.proofs.Causes.{faultless_next, handed_on}
+use Rattle.tb_recording.specs.Faults.{IsNoDevice}
 use Rattle.tb_recording.proofs.Unchanged.{desk_same, lasts_then, same_two}
 use Rattle.tb_store.proofs.Standings.{on_ok_then}
 use Rattle.tb_store.proofs.exporting.batch.Goals as goal
@@ -25,3 +27,16 @@ returns-clause-fails g c clean unlimited s desk bad =
     let mid : HasCleanDisk (state g.S.Store c.batch_number.new.conn) = omega (arith, clean, c.numbered.ensures.lasts.clean) in
     let still = desk_same g.S.Store c.args.conn.now c.batch_number.new.conn s desk (c.in_ok-number.ensures.same mid desk.holds.schema) in
     c.numbered.ensures.fails clean (c.batch_number.ensures.lasts.limit ∙ unlimited) s still bad
+
+pub returns-in_err-number-clause-cause : goal.returns-in_err-number-clause-cause
+returns-in_err-number-clause-cause g c good clean unlimited s desk =
+    handed_on IsNoDevice c.from_residual.result c.in_err-number.field-0.0 c.from_residual.ensures.1 (c.in_err-number.ensures.cause good clean unlimited desk.holds.schema)
+
+pub returns-clause-cause : goal.returns-clause-cause
+returns-clause-cause g c good clean unlimited s desk =
+    let finding = c.batch_number.ensures.lasts in
+    let putting = c.numbered.ensures.lasts in
+    let mid : HasCleanDisk (state g.S.Store c.batch_number.new.conn) = omega (arith, clean, putting.clean) in
+    let later = faultless_next (state g.S.Store c.args.conn.now) (state g.S.Store c.batch_number.new.conn) (state g.S.Store c.numbered.new.conn) good finding mid putting.counts in
+    let still = desk_same g.S.Store c.args.conn.now c.batch_number.new.conn s desk (c.in_ok-number.ensures.same mid desk.holds.schema) in
+    c.numbered.ensures.cause later clean (finding.limit ∙ unlimited) s still

@@ -1,15 +1,20 @@
-use Rattle.std.proofs.Common.{[], sym, ap, ◌∙◌, true≢false}
+use Rattle.std.proofs.Common.{[], refl, sym, ◌∙◌}
 use Rattle.sqlite.specs.Held.{state}
 use Rattle.tb_reading.proofs.Staying.{either_way, unchanged_holds, stopped_stays}
-use Rattle.tb_store.proofs.Preparing.{not_run, was_open_before, is_of_text, open_where_refused}
-use Rattle.tb_store.proofs.wanting.is_open.Goals.{in-Ok, in-Err-SqlInputError, in-Err}
+use Rattle.tb_store.proofs.Preparing.{not_run, was_open_before, open_where_told, open_where_asked, told_once}
+use Rattle.tb_store.proofs.wanting.is_open.Goals.{in-Ok, in-Err}
 use Rattle.tb_store.proofs.wanting.is_open.Goals as goal
 
 pub returns-clause-open : goal.returns-clause-open
 returns-clause-open g c clean is = elim c.match-prepare.branch [
   | in-Ok w ↦ (w.in-Ok.ensures.ok clean).1.0.is_open
-  | in-Err-SqlInputError w ↦ open_where_refused (state g.S.Store c.args.conn.now) (state g.S.Store c.prepare.new.self) _ (ap is_of_text w.in-Err-SqlInputError.field-0-is) (not_run _ _ _ _ (w.in-Err-SqlInputError.ensures.err clean []))
-  | in-Err w ↦ absurd (true≢false (sym is ∙ w.result-is))
+  | in-Err w ↦ open_where_told (state g.S.Store c.args.conn.now) (state g.S.Store c.prepare.new.self) w.in-Err.error (sym (w.result-is ∙ w.told_by.ensures) ∙ is) (not_run _ _ _ _ (w.in-Err.ensures.err clean []))
+]
+
+pub returns-clause-shut : goal.returns-clause-shut
+returns-clause-shut g c clean is good = elim c.match-prepare.branch [
+  | in-Ok w ↦ told_once _ w.result-is is
+  | in-Err w ↦ open_where_asked (state g.S.Store c.args.conn.now) (state g.S.Store c.prepare.new.self) _ w.in-Err.error refl good (w.in-Err.ensures.err clean []) (sym (w.result-is ∙ w.told_by.ensures) ∙ is)
 ]
 
 pub returns-clause-was_open : goal.returns-clause-was_open

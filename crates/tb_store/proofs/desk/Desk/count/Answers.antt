@@ -2,6 +2,7 @@ use Rattle.std.proofs.Common.{◌≢◌, sym, subst}
 use Rattle.sqlite.specs.Held.{state}
 use Rattle.sqlite.specs.State.{Survives}
 use Rattle.tb_tables.specs.Layout.{desk_schema}
+use Rattle.tb_tables.specs.Leaving.{IsFaultless}
 use Rattle.tb_store.specs.Kept.{Kept}
 use Rattle.tb_store.specs.Standing.{StandsFor}
 use Rattle.tb_recording.proofs.Unchanged.{desk_kept, desk_same}
@@ -27,3 +28,9 @@ returns-clause-fails g c clean s stands bad =
     let here = subst (λ k. StandsFor g.S.Store k s) (sym c.self.view_is) stands in
     let limit = c.self.invariant.unlimited in
     c.count.ensures.fails clean limit s here.desk bad
+
+pub returns-clause-cause : goal.returns-clause-cause
+returns-clause-cause g c clean s stands good =
+    let here = subst (λ k. StandsFor g.S.Store k s) (sym c.self.view_is) stands in
+    let calm = subst (λ (k : Kept _). IsFaultless g.S.Store k.conn c.count.new.conn) (sym c.self.view_is) good in
+    c.count.ensures.cause calm clean c.self.invariant.unlimited s here.desk

@@ -3,6 +3,7 @@ use Rattle.tb_reading.proofs.Shown.{if_ok}
 use Rattle.sqlite.specs.Held.{state}
 use Rattle.sqlite.specs.State.{Survives}
 use Rattle.tb_tables.specs.Layout.{desk_schema}
+use Rattle.tb_tables.specs.Leaving.{IsFaultless}
 use Rattle.tb_store.specs.Kept.{Kept}
 use Rattle.tb_store.specs.Standing.{StandsFor}
 use Rattle.tb_recording.proofs.Unchanged.{desk_kept, desk_same}
@@ -55,3 +56,9 @@ returns-clause-fails g c clean s stands bad =
     let fits = c.in-Some.ensures.stands in
     let it = sentence_there s c.args.number c.in-Some.number fits.0 fits.1 (omega (arith, fits.2, stands.sentences, here.sentences)) in
     c.revision.ensures.fails clean limit s here.desk it.0 it.1 bad
+
+pub returns-clause-cause : goal.returns-clause-cause
+returns-clause-cause g c clean s stands good =
+    let here = subst (λ k. StandsFor g.S.Store k s) (sym c.self.view_is) stands in
+    let calm = subst (λ (k : Kept _). IsFaultless g.S.Store k.conn c.revision.new.conn) (sym c.self.view_is) good in
+    c.revision.ensures.cause calm clean c.self.invariant.unlimited here.desk.holds.schema

@@ -1,0 +1,22 @@
+-- When a fault is the device's. The store is open, and its disk fails at nothing meanwhile (`IsFaultless`): then none is.
+use Rattle.std.specs.Prelude.{◌≡◌, Result, IfErr, None}
+use Rattle.sqlite.specs.Store.{Ghosts}
+use Rattle.sqlite.specs.Held.{Held, state}
+use Rattle.sqlite.specs.State.{HasCleanDisk}
+use Rattle.tb_core.specs.declared.refusals.Fault.{Fault}
+use Rattle.tb_core.specs.Machine.{Machine}
+use Rattle.tb_tables.specs.Leaving.{IsFaultless}
+use Rattle.tb_standing.specs.Standing.{IsDesk}
+use Rattle.tb_recording.specs.Faults.{IsNoDevice}
+use Rattle.tb_store.specs.Kept.{Kept}
+use Rattle.tb_store.specs.Calls.{InState}
+
+-- of a call on the connection of a desk, where there is no limit on steps
+abbrev pub FailsWithoutDevice : {S X : Type 0} → Ghosts S → Held S → Held S → Result X Fault → Type 0
+FailsWithoutDevice g old new result =
+    IsFaultless g old new → HasCleanDisk (state g new) → (state g old).step_limit ≡ None
+    → (s : Machine) → IsDesk g old s → IfErr result IsNoDevice
+
+-- of a call on a desk
+abbrev pub BlamesNoDevice : {S X : Type 0} → Ghosts S → Kept S → Kept S → Result X Fault → Type 0
+BlamesNoDevice g old new result = InState g old new (λ s. IsFaultless g old.conn new.conn → IfErr result IsNoDevice)
