@@ -47,40 +47,42 @@ pub(crate) struct Accepted {
     words: Vec<Option<AcceptedWord>>,
 }
 
-/// The last eight bytes of a text, or all of a shorter one.
-fn last_bytes(text: &[u8]) -> u64 {
-    if let Some(last) = text.last_chunk::<8>() {
-        return u64::from_le_bytes(*last);
-    }
-    let mut word = 0;
-    for byte in text {
-        word = (word << 8) | u64::from(*byte);
-    }
-    word
-}
-
+/// Mixes a word into what was mixed before.
 fn mixed_with(mixed: u64, word: u64) -> u64 {
     (mixed ^ word).wrapping_mul(SPREAD)
 }
 
-/// All bytes of a text, mixed with what was mixed before.
-fn mixed_all(mixed: u64, text: &[u8]) -> u64 {
+/// The place that the upper bits of what was mixed say.
+fn place_of(mixed: u64) -> usize {
+    (mixed >> (64 - PLACE_BITS)) as usize
+}
+
+/// The place of a value of FEATS, by all of its bytes. Any would do, since the texts are compared.
+fn features_place(text: &[u8]) -> usize {
     let (words, _) = text.as_chunks::<8>();
-    let mut mixed = mixed_with(mixed, text.len() as u64);
+    let mut mixed = mixed_with(0, text.len() as u64);
     for word in words {
         mixed = mixed_with(mixed, u64::from_le_bytes(*word));
     }
-    mixed_with(mixed, last_bytes(text))
+    if let Some(last) = text.last_chunk::<8>() {
+        mixed = mixed_with(mixed, u64::from_le_bytes(*last));
+    }
+    place_of(mixed)
 }
 
-/// The place of a value of FEATS. Any would do, since the texts are compared.
-fn features_place(text: &str) -> usize {
-    (mixed_all(0, text.as_bytes()) >> (64 - PLACE_BITS)) as usize
+/// The first two bytes of a short text, its last two, and its length.
+fn ends_of(text: &[u8]) -> u64 {
+    match (text.first_chunk::<2>(), text.last_chunk::<2>()) {
+        (Some(first), Some(last)) => u64::from(u16::from_le_bytes(*first))
+            | (u64::from(u16::from_le_bytes(*last)) << 16)
+            | ((text.len() as u64) << 32),
+        _ => text.len() as u64,
+    }
 }
 
-/// The same of a part of speech and a relation.
-fn word_place(tag: &str, relation: &str) -> usize {
-    (mixed_all(last_bytes(tag.as_bytes()), relation.as_bytes()) >> (64 - PLACE_BITS)) as usize
+/// The place of a part of speech and a relation, by their ends.
+fn word_place(tag: &[u8], relation: &[u8]) -> usize {
+    place_of(mixed_with(mixed_with(0, ends_of(tag)), ends_of(relation)))
 }
 
 /// Makes the places, where there are none.
@@ -113,7 +115,10 @@ impl Accepted {
     fn holds_features(&self, text: &str) -> bool
         ensures { result ≡ true → is_feature_text text.now ≡ true }
     {
-        match self.features.get(features_place(text)) {
+        if self.features.is_empty() {
+            return false;
+        }
+        match self.features.get(features_place(text.as_bytes())) {
             Some(Some(known)) => known.text.as_str() == text,
             _ => false,
         }
@@ -122,7 +127,13 @@ impl Accepted {
     fn holds_word(&self, tag: &str, relation: &str) -> bool
         ensures { result ≡ true → (is_universal_tag tag.now && is_relation relation.now) ≡ true }
     {
-        match self.words.get(word_place(tag, relation)) {
+        if self.words.is_empty() {
+            return false;
+        }
+        match self
+            .words
+            .get(word_place(tag.as_bytes(), relation.as_bytes()))
+        {
             Some(Some(known)) => known.tag.as_str() == tag && known.relation.as_str() == relation,
             _ => false,
         }
@@ -142,7 +153,7 @@ impl Accepted {
         requires { is_feature_text text.now ≡ true }
     {
         make_places(&mut self.features)?;
-        if let Some(slot) = self.features.get_mut(features_place(text)) {
+        if let Some(slot) = self.features.get_mut(features_place(text.as_bytes())) {
             if slot.is_none() {
                 *slot = Some(AcceptedFeatures {
                     text: String::from_str(alloc, text)?,
@@ -157,7 +168,10 @@ impl Accepted {
         requires { (is_universal_tag tag.now && is_relation relation.now) ≡ true }
     {
         make_places(&mut self.words)?;
-        if let Some(slot) = self.words.get_mut(word_place(tag, relation)) {
+        if let Some(slot) = self
+            .words
+            .get_mut(word_place(tag.as_bytes(), relation.as_bytes()))
+        {
             if slot.is_none() {
                 *slot = Some(AcceptedWord {
                     tag: String::from_str(alloc, tag)?,

@@ -38,8 +38,8 @@ fn check_alone<T: Text>(
     }
 }
 
-/// Takes the sentences of a file one after another, of which it keeps the names. A contract sees it as these names, in
-/// the order of their bytes.
+/// Takes the sentences of a file one after another, of which it keeps the names, and within fixed bounds the fields that it
+/// accepted. A contract sees it as the names, in the order of their bytes.
 #[derive(Drop)]
 pub struct Checker {
     alloc: Global,
