@@ -77,7 +77,7 @@ fn serve_one<'a, S: Alter>(
         Err(_) => None,
         Ok(status) => {
             part(rt, stream);
-            if status == Status::ServiceUnavailable && !matches!(desk.is_open(), Ok(true)) {
+            if status == Status::ServiceUnavailable && matches!(desk.is_open(), Ok(false)) {
                 Some(Cause::FileShut)
             } else {
                 None
