@@ -25,18 +25,9 @@ use Rattle.tb_core.specs.declared.refusals.Fault.{Fault}
 use Rattle.tb_core.specs.declared.refusals.Fault.TheVariants.{Device}
 use Rattle.tb_recording.specs.Recorded.{IsWritten}
 use Rattle.tb_recording.specs.Faults.{IsNoDevice}
+pub use Rattle.tb_recording.proofs.Short.{short_name, short_mover, short_id, never_told}
 
--- ---- names and workers
-
-pub short_name : (name : List ℕ) → is_name name ≡ true → IsShort name
-short_name name named =
-    let low : nat_le (length name) 32 ≡ true = (and_parts _ _ (and_parts _ _ named).0).1 in
-    let few : length name ≤ 32 = grind (arith, nat_tests) in
-    omega (arith, few)
-
--- the user of a move
-pub short_mover : (s : Machine) (a : Act) (c : Change) → IsWritten s a c → is_name (user_of a) ≡ true → IsShort (move_of c.row).who
-short_mover s a c written named = subst (λ (m : Move). IsShort m.who) (sym written.change.row) (short_name (user_of a) named)
+-- ---- workers
 
 short_with : (makes : Worker) (user old : List ℕ) → IsShort user → IsShort old → IsShort (with_worker makes user old)
 short_with Keep user old new kept = kept
@@ -59,69 +50,3 @@ short_worker s place event user b reached there named =
 
 pub short_batch : (s : Machine) (place : ℕ) (b : Batch) → IsWell s → slice_get s.batches place ≡ Some b → IsShort b.name
 short_batch s place b well there = short_name b.name (all_there (λ (b : Batch). is_name b.name ≡ true) s.batches place b there well.named)
-
--- ---- what a comment says is no longer than the text
-
-dropped : (bs : List ℕ) → length (drop_spaces bs) ≤ length bs
-dropped [] = omega arith
-dropped (b ∷ bs) = by (b == 32) (dropped bs)
-  where
-    by : (test : Bool) → length (drop_spaces bs) ≤ length bs → length (if test then drop_spaces bs else b ∷ bs) ≤ length (b ∷ bs)
-    by true few = omega (arith, few)
-    by false few = omega arith
-
-cut : (bs : List ℕ) → length (trimmed bs) ≤ length bs
-cut bs =
-    let first = dropped bs in
-    let inner = dropped (reverse (drop_spaces bs)) in
-    let turned = length-reverse (drop_spaces bs) in
-    let back = length-reverse (drop_spaces (reverse (drop_spaces bs))) in
-    omega (arith, first, inner, turned, back)
-
-first : (top : ℕ) (vs : List (List ℕ)) (value : Option (List ℕ)) → ((v : List ℕ) → value ≡ Some v → length v ≤ top) → AllByRecursion (λ v. length v ≤ top) vs → AllByRecursion (λ v. length v ≤ top) (cons_option value vs)
-first top vs None fits later = later
-first top vs (Some v) fits later = (fits v refl, later)
-
-module _ (key : List ℕ) where
-  value_fits : (c v : List ℕ) → value_under key c ≡ Some v → length v ≤ length c
-  value_fits [] v is = absurd cc
-  value_fits (b ∷ bs) v is = by (b == 35 && list_any is_equals bs && bytes_eq (trimmed (before_first is_equals bs)) key) is
-    where
-      by : (test : Bool) → (if test then Some (trimmed (after_first is_equals bs)) else None) ≡ Some v → length v ≤ length (b ∷ bs)
-      by true e =
-          let same : trimmed (after_first is_equals bs) ≡ v = cc in
-          let short = cut (after_first is_equals bs) in
-          let rest = length-drop (position_or_len is_equals bs + 1) bs in
-          subst (λ w. length w ≤ length (b ∷ bs)) same (omega (arith, short, rest))
-      by false e = absurd cc
-
-  -- each value, in a text that goes on
-  values_fit : (cs more : List (List ℕ)) → AllByRecursion (λ v. length v ≤ length (ended (cs ++ more))) (values_of key cs)
-  values_fit [] more = tt
-  values_fit (c ∷ cs) more = by (value_under key c) (λ v is. value_fits c v is) (values_fit cs more)
-    where
-      by : (value : Option (List ℕ)) → ((v : List ℕ) → value ≡ Some v → length v ≤ length c) → AllByRecursion (λ v. length v ≤ length (ended (cs ++ more))) (values_of key cs)
-          → AllByRecursion (λ v. length v ≤ length (ended ((c ∷ cs) ++ more))) (cons_option value (values_of key cs))
-      by value fits rest =
-          let line : length (ended ((c ∷ cs) ++ more)) ≡ length (c ++ 10 ∷ []) + length (ended (cs ++ more)) = length-append (c ++ 10 ∷ []) (ended (cs ++ more)) in
-          let one : length (c ++ 10 ∷ []) ≡ length c + 1 = length-append c (10 ∷ []) in
-          let later = all_mapped (λ v. length v ≤ length (ended (cs ++ more))) (λ v. length v ≤ length (ended ((c ∷ cs) ++ more))) (λ v h. omega (arith, h, line)) (values_of key cs) rest in
-          first (length (ended ((c ∷ cs) ++ more))) (values_of key cs) value (λ v is. let few = fits v is in omega (arith, few, line, one)) later
-
-only_fits : (top : ℕ) (vs : List (List ℕ)) → AllByRecursion (λ v. length v ≤ top) vs → length (unwrap_or (only vs) []) ≤ top
-only_fits top [] h = omega arith
-only_fits top (v ∷ []) h = h.0
-only_fits top (v ∷ w ∷ vs) h = omega arith
-
-pub short_id : (b : BlockText) → IsShort (text_of (b ∷ [])) → IsShort (sent_id_of b)
-short_id b short =
-    let rest = map row_line b.rows ++ [] ∷ [] in
-    let all : length (sent_id_of b) ≤ length (ended (b.comments ++ rest)) = only_fits (length (ended (b.comments ++ rest))) (sent_ids b) (values_fit sent_id_key b.comments rest) in
-    let same : text_of (b ∷ []) ≡ ended (b.comments ++ rest) = ap ended (append-nil (b.comments ++ rest)) in
-    let long = ap length same in
-    omega (arith, all, long, short)
-
--- ---- a fault that is not the device's
-
-pub never_told : {X : Type 0} (r : Result X Fault) → r ≡ Err Device → IfErr r IsNoDevice → ⊥
-never_told {X} r is h = subst (λ (q : Result X Fault). IfErr q IsNoDevice) is h refl

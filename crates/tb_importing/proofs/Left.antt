@@ -37,6 +37,7 @@ module _ {S : Type 0} (g : Ghosts S) where
     stays_from same = record {
       schema = λ clean has. ap (λ (d : Database). d.schema) (same clean has).0.now_is ∙ has;
       holds = λ clean d holds. same_holds g a b d holds (same clean holds.schema);
+      sees = λ clean has. (same clean has).0.now_is;
     }
 
     pub desk_stays : Stays g a b → HasCleanDisk (state g b) → (s : Machine) → IsDesk g a s → IsDesk g b s
@@ -54,6 +55,7 @@ module _ {S : Type 0} (g : Ghosts S) where
     stays_then one two more = record {
       schema = λ clean has. more.schema clean (one.schema (omega (arith, clean, two.lasts.clean)) has);
       holds = λ clean d holds. more.holds clean d (one.holds (omega (arith, clean, two.lasts.clean)) d holds);
+      sees = λ clean has. let mid : HasCleanDisk (state g b) = omega (arith, clean, two.lasts.clean) in more.sees clean (one.schema mid has) ∙ one.sees mid has;
     }
 
     -- where the disk fails at nothing in both, it does not in the second

@@ -8,3 +8,4 @@ pub mod Meaning
 pub mod Bounds
 pub mod Filled
 pub mod Committed
+pub mod Sized

@@ -6,11 +6,14 @@ ghost use Rattle.sqlite.specs.Held.{state};
 ghost use Rattle.tb_tables.specs.Records.{Stands};
 ghost use Rattle.tb_core.specs.declared.refusals.Refusal.{Refusal as AnyRefusal};
 ghost use Rattle.tb_core.specs.Machine.{Machine};
-ghost use Rattle.tb_conllu.specs.Text.{BlockText};
+ghost use Rattle.tb_conllu.specs.Text.{BlockText, text_of};
 ghost use Rattle.tb_core.specs.Acts.{IsAllowed, importing, after};
 ghost use Rattle.tb_core.specs.Reaching.{IsReachable};
 ghost use Rattle.tb_standing.specs.Standing.{tables_of, IsDesk};
 ghost use Rattle.tb_recording.specs.Recorded.{IsWritten};
+ghost use Rattle.tb_standing.specs.Telling.{BlamesNoDevice};
+ghost use Rattle.tb_tables.specs.Changes.{HasRevisionRowids};
+ghost use Rattle.tb_tables.specs.Failing.{IsShort};
 ghost use Rattle.tb_importing.specs.Planned.{IsMadeBatch};
 ghost use Rattle.tb_tables.specs.Leaving.{KeepsRecordsOnErr};
 
@@ -39,6 +42,11 @@ pub(crate) fn commit_import<S: Alter>(
     ensures made { HasCleanDisk (state S.Store conn.new) → OnOk result ((s : Machine) (bodies : List BlockText) → IsDesk S.Store conn.old s → IsMadeBatch s number first bodies items.now → IsAllowed s (importing name.now who.now bodies) → IsReachable (after s (importing name.now who.now bodies)) → IsWritten s (importing name.now who.now bodies) change.now → IsDesk S.Store conn.new (after s (importing name.now who.now bodies))) }
     ensures refused { (r : AnyRefusal) → result ≢ Err (Fault.Refused r) }
     ensures fails { HasCleanDisk (state S.Store conn.new) → (state S.Store conn.old).step_limit ≡ None → (s : Machine) (bodies : List BlockText) → IsDesk S.Store conn.old s → IsMadeBatch s number first bodies items.now → IsAllowed s (importing name.now who.now bodies) → IsReachable (after s (importing name.now who.now bodies)) → IsWritten s (importing name.now who.now bodies) change.now → result ≢ Err Fault.NotADesk }
+    ensures cause { BlamesNoDevice S.Store conn.old conn.new result (λ s so. (bodies : List BlockText)
+        → IsMadeBatch s number first bodies items.now → IsAllowed s (importing name.now who.now bodies)
+        → IsReachable (after s (importing name.now who.now bodies))
+        → IsWritten s (importing name.now who.now bodies) change.now → IsShort (text_of bodies)
+        → HasRevisionRowids (state S.Store conn.old) (length bodies) → so) }
     ensures kept { KeepsRecordsOnErr S.Store conn.old conn.new result }
     ensures crash { Survives (state S.Store conn.old) (state S.Store conn.new) (λ db. (s : Machine) (bodies : List BlockText) → IsDesk S.Store conn.old s → IsMadeBatch s number first bodies items.now → IsAllowed s (importing name.now who.now bodies) → IsWritten s (importing name.now who.now bodies) change.now → Stands (tables_of (after s (importing name.now who.now bodies))) db) }
     ensures mode { conn.new.in_transaction ≡ false }

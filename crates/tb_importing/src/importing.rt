@@ -1,9 +1,9 @@
 //! An import, from its name to its commit.
 
-ghost use Rattle.std.specs.Prelude.{◌≡◌, ◌≢◌, ◌+◌, ◌≤◌, ℕ, List, map, None, Err, false, IfOk, IfSome, OnOk};
+ghost use Rattle.std.specs.Prelude.{◌≡◌, ◌≢◌, ◌+◌, ◌≤◌, ℕ, List, length, map, None, Err, false, IfOk, IfSome, OnOk};
 ghost use Rattle.sqlite.specs.State.{HasCleanDisk, Survives};
 ghost use Rattle.sqlite.specs.Held.{state};
-ghost use Rattle.tb_conllu.specs.Text.{BlockText};
+ghost use Rattle.tb_conllu.specs.Text.{BlockText, text_of};
 ghost use Rattle.tb_tables.specs.Records.{Stands};
 ghost use Rattle.tb_core.specs.declared.refusals.Refusal.{Refusal as AnyRefusal};
 ghost use Rattle.tb_core.specs.Machine.{Machine};
@@ -18,7 +18,10 @@ ghost use Rattle.tb_judge.specs.Found.{FindsName};
 ghost use Rattle.tb_judge.specs.Parts.{IsNamedImport, IsTakenImport};
 ghost use Rattle.tb_recording.specs.Counted.{IsWithin};
 ghost use Rattle.tb_recording.specs.Faults.{IsNoDevice};
-ghost use Rattle.tb_importing.specs.Leaving.{IsLeft, Stays, BlamesNoDevice};
+ghost use Rattle.tb_standing.specs.Telling.{BlamesNoDevice};
+ghost use Rattle.tb_tables.specs.Changes.{HasRevisionRowids};
+ghost use Rattle.tb_tables.specs.Failing.{IsShort};
+ghost use Rattle.tb_importing.specs.Leaving.{IsLeft, Stays};
 ghost use Rattle.tb_importing.specs.Planned.{IsKnown, HasImported, Imports};
 ghost use Rattle.tb_standing.specs.Telling.{CrashesTo, KnowsDesk, KnowsDeskWhere, RefusesAs, Tells};
 ghost use Rattle.tb_tables.specs.Leaving.{KeepsRecordsOnErr, IsFaultless, FailsOnlyAs};
@@ -30,9 +33,7 @@ use crate::planning::{items_of, plan};
 use crate::taken::first_taken;
 use sqlite::{Alter, Connection};
 use std::alloc::Global;
-use tb_core::{
-    Fault, Imported, Taken, Totals, commands_stay_within_limits, each_command_ends_one_way,
-};
+use tb_core::{Fault, Imported, Taken, Totals, commands_stay_within_limits};
 use tb_judge::{Judged, NameFound, judge_import_after, judge_import_before, judge_import_body};
 
 /// The last tests of an import, of its sentences against those that stand.
@@ -79,6 +80,10 @@ fn write<S: Alter>(
     ensures refused { (r : AnyRefusal) → result ≢ Err (Fault.Refused r) }
     ensures fails { HasCleanDisk (state S.Store conn.new) → (state S.Store conn.old).step_limit ≡ None → (s : Machine) (bs : List BlockText) → IsDesk S.Store conn.old s → IsKnown known.now s → taken.now ≡ map taken_of bs
         → IsAllowed s (importing name.now user.now bs) → IsReachable (after s (importing name.now user.now bs)) → result ≢ Err Fault.NotADesk }
+    ensures cause { BlamesNoDevice S.Store conn.old conn.new result (λ s so. (bs : List BlockText) → IsKnown known.now s
+        → taken.now ≡ map taken_of bs → IsAllowed s (importing name.now user.now bs)
+        → IsReachable (after s (importing name.now user.now bs)) → IsShort (text_of bs)
+        → HasRevisionRowids (state S.Store conn.old) (length bs) → so) }
     ensures room { IfOk result (λ r. (known.now.counts.moves + 1 ≤ 1000000000) × (known.now.sentences + r.0.sentences ≤ 1000000)) }
     ensures kept { KeepsRecordsOnErr S.Store conn.old conn.new result }
     ensures crash { Survives (state S.Store conn.old) (state S.Store conn.new) (λ db. (s : Machine) (bs : List BlockText) → IsDesk S.Store conn.old s → IsKnown known.now s → taken.now ≡ map taken_of bs
@@ -119,8 +124,8 @@ fn import_new<S: Alter>(
     ensures fails { KnowsDeskWhere S.Store conn.old conn.new result (λ s so. IsKnown known.now s → IsNamedImport s name.now user.now body.now
         → FindsName s name.now body.now found → so) }
     ensures cause { BlamesNoDevice S.Store conn.old conn.new result (λ s so. IsKnown known.now s
-        → IsNamedImport s name.now user.now body.now → FindsName s name.now body.now found → (a : Answer)
-        → Steps known.now.counts.limits s (import_file name.now user.now body.now) a s → so) }
+        → IsNamedImport s name.now user.now body.now → FindsName s name.now body.now found → IsShort body.now
+        → HasRevisionRowids (state S.Store conn.old) (length body.now) → so) }
     ensures room { IfOk result (λ r. (known.now.counts.moves + 1 ≤ 1000000000) × (known.now.sentences + r.0.sentences ≤ 1000000)) }
     ensures kept { KeepsRecordsOnErr S.Store conn.old conn.new result }
     ensures crash { CrashesTo S.Store conn.old conn.new (λ s db. IsKnown known.now s → IsNamedImport s name.now user.now body.now
@@ -129,8 +134,6 @@ fn import_new<S: Alter>(
     ensures mode { conn.new.in_transaction ≡ false }
 {
     commands_stay_within_limits();
-    // The law by which an import that is allowed is no repeat and no refusal.
-    each_command_ends_one_way();
     let taken = judge_import_body(alloc, body, found)?;
     admit(conn, known, taken.as_slice())?;
     write(alloc, conn, known, name, user, taken.as_slice())
@@ -159,8 +162,8 @@ pub fn import<S: Alter>(
     ensures refused { RefusesAs S.Store conn.old conn.new result (λ s r. IsKnown known.now s
         → Steps known.now.counts.limits s (import_file name.now user.now body.now) (refused_by r) s × IsDesk S.Store conn.new s) }
     ensures fails { KnowsDeskWhere S.Store conn.old conn.new result (λ s so. IsKnown known.now s → so) }
-    ensures cause { BlamesNoDevice S.Store conn.old conn.new result (λ s so. IsKnown known.now s → (a : Answer)
-        → Steps known.now.counts.limits s (import_file name.now user.now body.now) a s → so) }
+    ensures cause { BlamesNoDevice S.Store conn.old conn.new result (λ s so. IsKnown known.now s
+        → IsShort body.now → HasRevisionRowids (state S.Store conn.old) (length body.now) → so) }
     ensures room { IfOk result (λ r. IfSome r.1 (λ _. (known.now.counts.moves + 1 ≤ 1000000000) × (known.now.sentences + r.0.sentences ≤ 1000000))) }
     ensures kept { KeepsRecordsOnErr S.Store conn.old conn.new result }
     ensures crash { CrashesTo S.Store conn.old conn.new (λ s db. IsKnown known.now s

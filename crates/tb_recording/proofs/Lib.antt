@@ -7,3 +7,4 @@ pub mod Written
 pub mod Faultless
 pub mod Unique
 pub mod Bounded
+pub mod Short

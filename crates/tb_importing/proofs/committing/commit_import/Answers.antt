@@ -1,8 +1,10 @@
 use Rattle.tb_recording.proofs.Unique.{unique_tables}
-use Rattle.tb_recording.proofs.Faultless.{room_told}
+use Rattle.tb_recording.proofs.Faultless.{room_told, memory_told}
+use Rattle.tb_recording.proofs.Short.{short_name, short_mover}
 use Rattle.tb_tables.specs.Failing.{AreUnique}
-use Rattle.tb_core.specs.declared.refusals.Fault.TheVariants.{NotADesk}
-use Rattle.std.proofs.Common.{subst, ◌≡◌, sym, ◌∙◌}
+use Rattle.tb_core.specs.declared.refusals.Fault.TheVariants.{Device, NotADesk}
+use Rattle.std.proofs.Common.{subst, ap, length, All, ◌≡◌, sym, ◌∙◌}
+use Rattle.std.proofs.lemmas.List.{length-map}
 use Rattle.sqlite.specs.Held.{state}
 use Rattle.sqlite.proofs.StateLemmas.{survives_weaker}
 use Rattle.tb_core.specs.Acts.{importing, after}
@@ -10,7 +12,11 @@ use Rattle.tb_tables.specs.Records.{Tables, Stands}
 use Rattle.tb_tables.specs.Changes.{Holds}
 use Rattle.tb_standing.specs.Standing.{tables_of}
 use Rattle.tb_recording.proofs.Written.{follows}
+use Rattle.tb_standing.specs.Written.{item_of}
+use Rattle.tb_tables.specs.Changes.{HasRevisionRowids}
+use Rattle.tb_writing.specs.Premises.{IsShortItem}
 use Rattle.tb_importing.proofs.Committed.{import_stands, next_batch}
+use Rattle.tb_importing.proofs.Sized.{short_items}
 use Rattle.tb_importing.proofs.committing.commit_import.Goals as goal
 
 pub returns-in-Ok-clause-made : goal.returns-in-Ok-clause-made
@@ -42,3 +48,17 @@ returns-in-Err-clause-fails g c clean unlimited s bodies desk is allowed reachab
     let apart = subst AreUnique (sym same) (unique_tables (after s act) (c.reached_states_are_well.ensures (after s act) reachable.reached)) in
     let fault = c.in-Err.ensures.fails clean unlimited (tables_of s) desk.holds next.0 next.1 (follows s act c.args.change.now written) apart in
     room_told c.in-Err.error fault (sym c.of_error.ensures.value ∙ told)
+
+pub returns-in-Err-clause-cause : goal.returns-in-Err-clause-cause
+returns-in-Err-clause-cause g c good clean unlimited s desk bodies is allowed reachable written short free bad =
+    let told : c.of_error.result ≡ Device = cc in
+    let act = importing c.args.name.now c.args.who.now bodies in
+    let next = next_batch s c.args.number c.args.first bodies c.args.items.now is in
+    let same = import_stands s c.args.name.now c.args.who.now bodies c.args.number c.args.first c.args.items.now c.args.change.now desk.reachable.reached is allowed written in
+    let apart = subst AreUnique (sym same) (unique_tables (after s act) (c.reached_states_are_well.ensures (after s act) reachable.reached)) in
+    let items = subst (All IsShortItem) (sym is.told) (short_items bodies short) in
+    let many : length c.args.items.now ≡ length bodies = ap length is.told ∙ length-map bodies item_of in
+    let left = subst (HasRevisionRowids (state g.S.Store c.args.conn.now)) (sym many) free in
+    let want = c.in-Err.ensures.wants good clean unlimited (tables_of s) desk.holds next.0 next.1 (follows s act c.args.change.now written) apart
+    (short_name c.args.name.now allowed.named) (short_name c.args.who.now allowed.by) items (short_mover s act c.args.change.now written allowed.by) left in
+    memory_told c.in-Err.error want (sym c.of_error.ensures.value ∙ told)

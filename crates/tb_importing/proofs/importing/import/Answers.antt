@@ -1,13 +1,16 @@
-use Rattle.std.proofs.Common.{◌≡◌, subst, arith, Err, ◌∙◌}
+use Rattle.std.proofs.Common.{◌≡◌, length, subst, sym, arith, Err, ◌∙◌}
 use Rattle.std.proofs.lemmas.Result.{err_from_is_err_and}
 use Rattle.sqlite.specs.Held.{state}
 use Rattle.sqlite.specs.State.{HasCleanDisk}
 use Rattle.sqlite.proofs.StateLemmas.{survives_then, survives_weaker}
 use Rattle.tb_core.specs.declared.refusals.Refusal.{Refusal}
-use Rattle.tb_core.specs.declared.refusals.Fault.TheVariants.{Refused, NotADesk}
+use Rattle.tb_core.specs.declared.refusals.Fault.TheVariants.{Device, Refused, NotADesk}
 use Rattle.tb_core.specs.Commands.{import_file, refused}
 use Rattle.tb_core.specs.Steps.{Steps}
+use Rattle.sqlite.specs.Effect.{Database}
+use Rattle.tb_tables.specs.Failing.{HasRowids}
 use Rattle.tb_tables.proofs.Causes.{handed_on, faultless_next}
+use Rattle.tb_recording.proofs.Short.{never_told}
 use Rattle.tb_standing.specs.Standing.{tables_of}
 use Rattle.tb_recording.specs.Faults.{IsNoDevice}
 use Rattle.tb_importing.proofs.Left.{desk_stays}
@@ -109,22 +112,26 @@ returns-in_err-reply-in-Goes-clause-fails g c clean unlimited s desk known bad =
 -- ---- and of no device
 
 pub returns-in_err-found-clause-cause : goal.returns-in_err-found-clause-cause
-returns-in_err-found-clause-cause g c good clean unlimited s desk known a steps =
-    handed_on IsNoDevice c.from_residual.result c.in_err-found.field-0.0 c.from_residual.ensures.1 (c.in_err-found.ensures.cause good clean unlimited desk.holds.schema)
+returns-in_err-found-clause-cause g c good clean unlimited s desk known short free bad =
+    never_told c.from_residual.result bad (handed_on IsNoDevice c.from_residual.result c.in_err-found.field-0.0 c.from_residual.ensures.1 (c.in_err-found.ensures.cause good clean unlimited desk.holds.schema))
 
 pub returns-in_err-reply-clause-cause : goal.returns-in_err-reply-clause-cause
-returns-in_err-reply-clause-cause g c good clean unlimited s desk known a steps =
+returns-in_err-reply-clause-cause g c good clean unlimited s desk known short free bad =
     let told = err_from_is_err_and c.from_residual-in_err-reply.result c.from_residual-in_err-reply.ensures.1 in
+    let one = told.1 in
     let two = told.2 in
-    rw told.1 (λ bad. absurd cc)
+    absurd cc
 
 pub returns-in_err-reply-in-Goes-clause-cause : goal.returns-in_err-reply-in-Goes-clause-cause
-returns-in_err-reply-in-Goes-clause-cause g c good clean unlimited s desk known a steps =
+returns-in_err-reply-in-Goes-clause-cause g c good clean unlimited s desk known short free bad =
+    let told = err_from_is_err_and c.from_residual-in_err-reply-in-Goes.result c.from_residual-in_err-reply-in-Goes.ensures.1 in
+    let failed : c.import_new.result ≡ Err Device = let was = c.in_err-reply-in-Goes.was in let one = told.1 in let two = told.2 in cc in
     let mid : HasCleanDisk (state g.S.Store c.find_name.new.conn) = omega (arith, clean, c.import_new.ensures.crash.clean) in
     let left = c.find_name.ensures.left.lasts in
     let still = faultless_next (state g.S.Store c.args.conn.now) (state g.S.Store c.find_name.new.conn) (state g.S.Store c.import_new.new.conn) good left mid c.import_new.ensures.crash.counts in
     let here = desk_stays g.S.Store c.args.conn.now c.find_name.new.conn c.in_ok-found.ensures.stays mid s desk in
     let found = c.in_ok-found.ensures.answered mid s desk in
     let goes = rw c.in-Goes.is at c.in_ok-reply.ensures.goes in
-    let clear = c.in_err-reply-in-Goes.ensures.cause still clean (left.limit ∙ unlimited) s here known (goes s c.args.body.now desk.reachable.reached found) found a steps in
-    handed_on IsNoDevice c.from_residual-in_err-reply-in-Goes.result c.in_err-reply-in-Goes.field-0.0 c.from_residual-in_err-reply-in-Goes.ensures.1 clear
+    let sees = c.in_ok-found.ensures.stays.sees mid desk.holds.schema in
+    let rows = subst (λ (d : Database). HasRowids (length c.args.body.now) (d.trees 5)) (sym sees) free in
+    c.import_new.ensures.cause still clean (left.limit ∙ unlimited) s here known (goes s c.args.body.now desk.reachable.reached found) found short rows failed

@@ -13,7 +13,12 @@ use Rattle.tb_core.specs.Steps.{Steps}
 use Rattle.tb_judge.specs.Found.{FindsName}
 use Rattle.tb_judge.specs.Parts.{IsNamedImport}
 use Rattle.tb_reading.proofs.Shown.{if_ok}
-use Rattle.tb_tables.proofs.Causes.{handed_on}
+use Rattle.sqlite.specs.Effect.{Database}
+use Rattle.tb_conllu.specs.Text.{text_of}
+use Rattle.tb_tables.specs.Failing.{IsShort, HasRowids}
+use Rattle.tb_tables.proofs.Causes.{handed_on, faultless_next}
+use Rattle.tb_recording.proofs.Short.{never_told}
+use Rattle.tb_importing.proofs.Sized.{few, fewer_rowids}
 use Rattle.tb_standing.specs.Standing.{tables_of}
 use Rattle.tb_recording.specs.Faults.{IsNoDevice}
 use Rattle.tb_importing.proofs.Left.{desk_stays, kept_if}
@@ -119,26 +124,33 @@ returns-clause-fails g c clean unlimited s desk known named found bad =
 -- ---- and of no device
 
 pub returns-in_err-taken-clause-cause : goal.returns-in_err-taken-clause-cause
-returns-in_err-taken-clause-cause g c good clean unlimited s desk known named found a steps =
+returns-in_err-taken-clause-cause g c good clean unlimited s desk known named found short free bad =
     let clear = taking_clear (λ q. (l : Limits) (t : Machine) (name by : List ℕ) → IsNamedImport t name by c.args.body.now → FindsName t name c.args.body.now c.args.found → Steps l t (import_file name by c.args.body.now) (refused q) t)
     c.in_err-taken.field-0.0 c.in_err-taken.ensures.refused in
-    handed_on IsNoDevice c.from_residual.result c.in_err-taken.field-0.0 c.from_residual.ensures.1 clear
+    never_told c.from_residual.result bad (handed_on IsNoDevice c.from_residual.result c.in_err-taken.field-0.0 c.from_residual.ensures.1 clear)
 
 pub returns-in_err-admit-clause-cause : goal.returns-in_err-admit-clause-cause
-returns-in_err-admit-clause-cause g c good clean unlimited s desk known named found a steps =
-    handed_on IsNoDevice c.from_residual-in_err-admit.result c.in_err-admit.field-0.0 c.from_residual-in_err-admit.ensures.1 (c.in_err-admit.ensures.cause good clean unlimited desk.holds.schema)
+returns-in_err-admit-clause-cause g c good clean unlimited s desk known named found short free bad =
+    never_told c.from_residual-in_err-admit.result bad (handed_on IsNoDevice c.from_residual-in_err-admit.result c.in_err-admit.field-0.0 c.from_residual-in_err-admit.ensures.1 (c.in_err-admit.ensures.cause good clean unlimited desk.holds.schema))
 
 pub returns-clause-cause : goal.returns-clause-cause
-returns-clause-cause g c good clean unlimited s desk known named found a steps =
+returns-clause-cause g c good clean unlimited s desk known named found short free bad =
     let mid : HasCleanDisk (state g.S.Store c.admit.new.conn) = omega (arith, clean, c.write.ensures.crash.clean) in
+    let left = c.admit.ensures.left.lasts in
+    let still = faultless_next (state g.S.Store c.args.conn.now) (state g.S.Store c.admit.new.conn) (state g.S.Store c.write.new.conn) good left mid c.write.ensures.crash.counts in
+    let here = desk_stays g.S.Store c.args.conn.now c.admit.new.conn c.in_ok-admit.ensures.stays mid s desk in
     let taken = c.in_ok-taken.ensures.taken in
     let bs = taken.0 in
     let name = c.args.name.now in
     let user = c.args.user.now in
     let goes = c.in_ok-taken.ensures.goes s name user bs named found taken.1 in
     let allowed = c.in_ok-admit.ensures.accepted mid s name user c.args.body.now bs desk known goes (c.as_slice.ensures.value ∙ taken.2) in
-    let act = importing name user bs in
-    let one = c.each_command_ends_one_way.ensures c.args.known.now.counts.limits s (after s act) s (import_file name user c.args.body.now) (replied (reply_to s act)) a desk.reachable.reached allowed.1 steps in
-    let more : length (after s act).batches ≡ length s.batches + 1 = length-append s.batches (new_batch name ∷ []) in
-    let same : length (after s act).batches ≡ length s.batches = ap (λ (m : Machine). length m.batches) one.1 in
-    absurd (omega (arith, more, same))
+    let a = importing name user bs in
+    let limits = c.requires.within in
+    let reachable = c.commands_stay_within_limits.ensures c.args.known.now.counts.limits s (after s a) (import_file name user c.args.body.now) (replied (reply_to s a)) limits.sentences limits.moves desk.reachable allowed.1 in
+    let text : c.args.body.now ≡ text_of bs = taken.1.file.text in
+    let size = ap length text in
+    let sees = c.in_ok-admit.ensures.stays.sees mid desk.holds.schema in
+    let rows = subst (λ (d : Database). HasRowids (length c.args.body.now) (d.trees 5)) (sym sees) free in
+    let rowids = fewer_rowids (length c.args.body.now) (length bs) _ (omega (arith, size, few bs)) rows in
+    c.write.ensures.cause still clean (left.limit ∙ unlimited) s here bs known (c.as_slice-2.ensures.value ∙ taken.2) allowed.0 reachable (subst IsShort text short) rowids bad

@@ -1,12 +1,13 @@
 use Rattle.tb_importing.proofs.Bounds.{taken_narrow}
 use Rattle.tb_core.specs.Taking.{TakenText}
 use Rattle.std.specs.List.{AllByRecursion}
-use Rattle.tb_core.specs.declared.refusals.Fault.TheVariants.{NotADesk}
+use Rattle.tb_core.specs.declared.refusals.Fault.TheVariants.{Device, NotADesk}
 use Rattle.std.proofs.lemmas.Result.{err_from_is_err_and}
 use Rattle.std.proofs.Common.{◌≡◌, map, ◌∙◌, Err, ◌<◌, ◌^◌, sym, subst}
 use Rattle.sqlite.specs.Held.{state}
 use Rattle.sqlite.proofs.StateLemmas.{survives_weaker}
 use Rattle.tb_standing.specs.Written.{item_of}
+use Rattle.tb_recording.proofs.Short.{never_told}
 use Rattle.tb_importing.proofs.Meaning.{items_are}
 use Rattle.tb_importing.proofs.importing.write.Goals as goal
 
@@ -50,3 +51,23 @@ returns-in_err-commit_import-clause-fails g c clean unlimited s bs desk known is
     let planned = c.in_ok-plan.ensures.planned s c.args.name.now bs desk.reachable.reached allowed known is in
     let items : c.as_slice.result.now ≡ map item_of bs = c.as_slice.ensures.value ∙ c.in_ok-items.ensures.told ∙ items_are bs c.args.taken.now is in
     c.commit_import.ensures.fails clean unlimited s bs desk (record { next = planned.number; first_next = planned.first; told = items }) allowed next (record { totals = c.in_ok-plan.plan.prepared.totals; stand = planned.prepared.stand; change = planned.prepared.change }) failed
+
+pub returns-in_err-items-clause-cause : goal.returns-in_err-items-clause-cause
+returns-in_err-items-clause-cause g c good clean unlimited s desk bs known is allowed next short free bad =
+    let told = err_from_is_err_and c.from_residual.result c.from_residual.ensures.1 in
+    let failed : c.items_of.result ≡ Err Device = let was = c.in_err-items.was in let one = told.1 in let two = told.2 in cc in
+    never_told c.items_of.result failed c.items_of.ensures.cause
+
+pub returns-in_err-plan-clause-cause : goal.returns-in_err-plan-clause-cause
+returns-in_err-plan-clause-cause g c good clean unlimited s desk bs known is allowed next short free bad =
+    let told = err_from_is_err_and c.from_residual-in_err-plan.result c.from_residual-in_err-plan.ensures.1 in
+    let failed : c.plan.result ≡ Err Device = let was = c.in_err-plan.was in let one = told.1 in let two = told.2 in cc in
+    never_told c.plan.result failed c.plan.ensures.cause
+
+pub returns-in_err-commit_import-clause-cause : goal.returns-in_err-commit_import-clause-cause
+returns-in_err-commit_import-clause-cause g c good clean unlimited s desk bs known is allowed next short free bad =
+    let told = err_from_is_err_and c.from_residual-in_err-commit_import.result c.from_residual-in_err-commit_import.ensures.1 in
+    let failed : c.commit_import.result ≡ Err Device = let was = c.in_err-commit_import.was in let one = told.1 in let two = told.2 in cc in
+    let planned = c.in_ok-plan.ensures.planned s c.args.name.now bs desk.reachable.reached allowed known is in
+    let items : c.as_slice.result.now ≡ map item_of bs = c.as_slice.ensures.value ∙ c.in_ok-items.ensures.told ∙ items_are bs c.args.taken.now is in
+    c.commit_import.ensures.cause good clean unlimited s desk bs (record { next = planned.number; first_next = planned.first; told = items }) allowed next (record { totals = c.in_ok-plan.plan.prepared.totals; stand = planned.prepared.stand; change = planned.prepared.change }) short free failed
