@@ -102,6 +102,36 @@ fn goes_on_after_a_fault(rt: HostRuntime) -> Result<(), Fail> {
     Ok(())
 }
 
+/// A sentence without its name.
+const GO: &str = "# text = Go\n1\tGo\t_\tVERB\t_\tMood=Imp|VerbForm=Fin\t0\troot\t_\t_\n\n";
+
+/// What is told of a sentence with this name, after a change.
+fn told_of(alloc: Global, checker: &mut Checker, name: u32, change: &str) -> Result<String, Fail> {
+    let file = format!(in alloc; "# sent_id = {name}\n{GO}")?;
+    let file = changed(alloc, file.as_str(), change)?;
+    let told = checker.take(&sentence_of(alloc, file.as_str())?);
+    Ok(format!(in alloc; "/{told:?}")?)
+}
+
+/// What comes again and again is taken each time, and what differs from it in one letter is not.
+#[test]
+fn knows_what_came_before(rt: HostRuntime) -> Result<(), Fail> {
+    let alloc = rt.alloc();
+    let mut checker = Checker::new(alloc);
+    for name in 1..=100 {
+        let told = told_of(alloc, &mut checker, name, "Go -> Go")?;
+        assert_eq!(rt; told.as_str(), "/Ok(())");
+    }
+    let mut told = String::new(alloc);
+    for change in ["Imp -> imp", "VERB -> VERV", "root -> rood"] {
+        told.push_str(told_of(alloc, &mut checker, 101, change)?.as_str())?;
+    }
+    let wanted =
+        "/Err(At { sentence: 101, rule: 7, row: 1 })/Err(At { sentence: 101, rule: 4, row: 1 })/Err(At { sentence: 101, rule: 4, row: 1 })";
+    assert_eq!(rt; told.as_str(), wanted);
+    Ok(())
+}
+
 /// What is told in words of a file after a change, `NAMES: OLD -> NEW`: whether all that follows its first sentence is
 /// read, and then whether the rules are kept.
 struct Words;
