@@ -80,8 +80,8 @@ fn write<S: Alter>(
     ensures refused { (r : AnyRefusal) → result ≢ Err (Fault.Refused r) }
     ensures fails { HasCleanDisk (state S.Store conn.new) → (state S.Store conn.old).step_limit ≡ None → (s : Machine) (bs : List BlockText) → IsDesk S.Store conn.old s → IsKnown known.now s → taken.now ≡ map taken_of bs
         → IsAllowed s (importing name.now user.now bs) → IsReachable (after s (importing name.now user.now bs)) → result ≢ Err Fault.NotADesk }
-    ensures cause { BlamesNoDevice S.Store conn.old conn.new result (λ s so. (bs : List BlockText) → IsKnown known.now s
-        → taken.now ≡ map taken_of bs → IsAllowed s (importing name.now user.now bs)
+    ensures cause { BlamesNoDevice S.Store conn.old conn.new result (λ s so. (bs : List BlockText)
+        → IsKnown known.now s → taken.now ≡ map taken_of bs → IsAllowed s (importing name.now user.now bs)
         → IsReachable (after s (importing name.now user.now bs)) → IsShort (text_of bs)
         → HasRevisionRowids (state S.Store conn.old) (length bs) → so) }
     ensures room { IfOk result (λ r. (known.now.counts.moves + 1 ≤ 1000000000) × (known.now.sentences + r.0.sentences ≤ 1000000)) }
