@@ -120,7 +120,7 @@ impl FileCause {
             FileCause::Damaged =>
                 "SQLite cannot read it, it is damaged or cut; take a copy back, with its log",
             FileCause::Busy =>
-                "another command has had it for two seconds; try again once that has ended",
+                "another command has had it for ten seconds; try again once that has ended",
             FileCause::Full => "the disk is full; make room and try again",
             FileCause::Quota => "your share of the disk is used up; make room and try again",
             FileCause::Failed => "the system failed to read or write it; look after the disk",

@@ -4,13 +4,13 @@ ghost use Rattle.std.specs.Prelude.{◌≡◌, false, IfOk, IsTrue};
 
 use crate::causes::FileCause;
 use crate::looking::{PAGE_BYTES, Version, beside, may_become_desk, version_of};
+use crate::turns::Turn;
 use sqlite::{Connection, Error, ErrorCode, File, FileStore, Options};
 use sqlite_disk::{Disk, Files, Unknown};
 use sqlite_std_file::OpenError;
 use std::fs::OpenOptions;
 use std::hash::{BuildHasher, RandomState};
-use std::time::Duration;
-use std::{fs, io, thread};
+use std::{fs, io};
 use tb_core::{Fault, Limits};
 use tb_store::{Desk, Unmade};
 
@@ -97,11 +97,6 @@ impl Log {
     }
 }
 
-/// How often a file is asked for that another command has, and after how many milliseconds: for two seconds.
-const ATTEMPTS: u32 = 100;
-
-const PAUSE: u64 = 20;
-
 /// How many pages of a file are kept in memory at most: 64 MiB of them.
 const MOST_PAGES: u64 = 16_384;
 
@@ -155,7 +150,8 @@ fn over<D: Disk + Drop>(
     }
 }
 
-/// A connection to the file at this path, in no transaction, with room for so many pages more.
+/// A connection to the file at this path, in no transaction, with room for so many pages more. A file that another
+/// command has is waited for.
 fn connect(
     rt: &HostRuntime,
     path: &str,
@@ -165,13 +161,14 @@ fn connect(
     ensures { IfOk result (λ c. c.in_transaction ≡ false) }
 {
     let options = options(rt, path, room)?;
-    for _ in 0..ATTEMPTS {
+    let mut turn = Turn::new(rt, path)?;
+    for _ in 0..u64::MAX {
         match sqlite_std_file::open(rt, path, Unknown) {
             Ok(files) => {
                 log.look(rt);
                 return over(rt, files, log, options);
             }
-            Err(OpenError::Busy) => thread::sleep(rt, Duration::from_millis(PAUSE)),
+            Err(OpenError::Busy) => turn.wait()?,
             Err(error) => return Err(cause_of_path(error)),
         }
     }

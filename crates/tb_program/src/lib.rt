@@ -1,6 +1,7 @@
 //! The program `treedesk`: what the words of its command line ask, done on a file or in memory, or served over HTTP.
 #![tactic(auto)]
 
+mod callers;
 mod causes;
 mod files;
 mod looking;
@@ -8,6 +9,7 @@ mod patience;
 mod place;
 mod serving;
 mod telling;
+mod turns;
 mod waiting;
 mod words;
 mod wrong;

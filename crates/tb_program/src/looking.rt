@@ -68,7 +68,7 @@ pub(crate) fn real(rt: &HostRuntime, path: &str) -> Result<PathBuf, FileCause> {
 }
 
 /// What a file begins with, so many bytes at most; nothing of a file that is not there.
-fn beginning(rt: &HostRuntime, path: &str, most: u64) -> Result<Vec<u8>, FileCause> {
+pub(crate) fn beginning(rt: &HostRuntime, path: &str, most: u64) -> Result<Vec<u8>, FileCause> {
     let mut bytes = Vec::new(rt.alloc());
     match fs::File::open(rt, path) {
         Ok(file) => match file.take(most).read_to_end(&mut bytes) {
@@ -122,9 +122,9 @@ fn has_journal(rt: &HostRuntime, path: &str) -> Result<bool, FileCause> {
     Ok(first.first().is_some_and(|byte| *byte != 0))
 }
 
-/// Which desk a file may be, by what it and its log begin with: the log has tables that the file itself does not have
-/// yet.
-fn listed(rt: &HostRuntime, path: &str) -> Result<Version, FileCause> {
+/// Which desk a file may be, by what it and its log begin with at one look: the log has tables that the file itself
+/// does not have yet.
+fn listed_now(rt: &HostRuntime, path: &str) -> Result<Version, FileCause> {
     let head = beginning(rt, path, LOOKED_AT)?;
     if !head.is_empty() && !head.starts_with(HEADER) {
         return Err(FileCause::NotSqlite);
@@ -143,6 +143,15 @@ fn listed(rt: &HostRuntime, path: &str) -> Result<Version, FileCause> {
         (Some(Version::One), _) | (None, Some(Version::One)) => Ok(Version::One),
         _ if head.is_empty() => Err(FileCause::Empty),
         _ => Err(FileCause::OtherDatabase),
+    }
+}
+
+/// Which desk a file may be. While another command closes a desk, its tables pass from the log into the file: what
+/// neither has at the first look, the file has at the second.
+fn listed(rt: &HostRuntime, path: &str) -> Result<Version, FileCause> {
+    match listed_now(rt, path) {
+        Err(FileCause::Empty | FileCause::OtherDatabase) => listed_now(rt, path),
+        found => found,
     }
 }
 

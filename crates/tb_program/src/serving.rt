@@ -1,7 +1,8 @@
 //! The desk over HTTP on loopback: one connection after another, and on each one request.
 
+use crate::callers::Caller;
 use crate::causes::{Cause, PortCause};
-use crate::patience::{Answer, Patient, REQUEST, has_changed};
+use crate::patience::{Answer, Patient, has_changed};
 use crate::place::Place;
 use crate::telling::{Outcome, Told};
 use crate::waiting::Waiting;
@@ -54,13 +55,14 @@ fn serve_one<'a, S: Alter>(
     routes: &Routes,
     desk: &mut Desk<S>,
     place: Option<&'a Place>,
-    stream: &'a TcpStream,
+    caller: &'a Caller,
 ) -> Option<Cause> {
+    let stream = caller.stream();
     if has_changed(rt, place) {
         refuse(rt, stream, Reply::Device);
         return Some(Cause::FilesMoved);
     }
-    let Ok(mut reader) = Patient::new(rt, stream, place, REQUEST, REQUEST) else {
+    let Ok(mut reader) = caller.request(rt, place) else {
         return None;
     };
     let Ok(mut out) = BufWriter::with_capacity(rt.alloc(), BUFFER, Answer::new(rt, stream)) else {
@@ -113,16 +115,16 @@ fn serve_all<S: Alter>(
     routes: Routes,
     desk: &mut Desk<S>,
     place: Option<&Place>,
+    mut waiting: Waiting,
     listener: TcpListener,
     requests: u64,
 ) -> Result<(), Cause> {
-    let mut waiting = Waiting::new(rt.alloc());
     for _ in 0..requests {
         let Ok(next) = waiting.next(rt, &listener) else {
             return Err(Cause::NoConnections);
         };
-        let Some(stream) = next else { continue };
-        if let Some(cause) = serve_one(rt, &routes, desk, place, &stream) {
+        let Some(caller) = next else { continue };
+        if let Some(cause) = serve_one(rt, &routes, desk, place, &caller) {
             return Err(cause);
         }
     }
@@ -153,6 +155,9 @@ pub(crate) fn serve<S: Alter, W: Write>(
     let Ok(routes) = Routes::new(rt.alloc()) else {
         return Outcome::from(put_reply(out, Reply::Memory));
     };
+    let Ok(waiting) = Waiting::new(rt.alloc()) else {
+        return Outcome::from(put_reply(out, Reply::Memory));
+    };
     let (listener, chosen) = match listen(rt, port) {
         Ok(both) => both,
         Err(cause) => return put_port_cause(rt, port, cause, out),
@@ -160,7 +165,7 @@ pub(crate) fn serve<S: Alter, W: Write>(
     if let Err(reply) = announce(rt.alloc(), chosen, out) {
         return Outcome::from(put_reply(out, reply));
     }
-    match serve_all(rt, routes, desk, place, listener, requests) {
+    match serve_all(rt, routes, desk, place, waiting, listener, requests) {
         Ok(()) => Outcome::from(0),
         Err(cause) => Outcome {
             status: put_reply(out, Reply::Device),

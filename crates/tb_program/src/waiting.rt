@@ -1,55 +1,31 @@
-//! Connections that wait for their turn: one that says nothing keeps nobody from the desk.
+//! Connections that wait for their turn: one that says nothing, or says it slowly, keeps nobody from the desk.
 
-use std::alloc::Global;
+use crate::callers::Caller;
+use std::alloc::{AllocError, Global};
 use std::io::{self, ErrorKind};
 use std::net::{TcpListener, TcpStream};
 use std::thread;
 use std::time::{Duration, Instant};
 
-/// How many seconds a connection may say nothing.
-const SILENCE: u64 = 10;
+/// How many seconds a connection has for the head of its request.
+const HEAD: u64 = 10;
 
-/// For how many milliseconds a new connection is listened to alone: nearly every client speaks at once.
+/// For how many milliseconds a connection is listened to alone where no other waits: nearly every client speaks at once.
 const FIRST: u64 = 20;
 
 /// After how many milliseconds those that wait are asked again.
 const PAUSE: u64 = 2;
 
-/// How many connections may wait. The system keeps others until there is room.
+/// How many connections may wait.
 const MOST: usize = 256;
 
 /// What the system calls want of room: ENOMEM, ENFILE, EMFILE and ENOBUFS, as Linux numbers them.
 const NO_ROOM: [i32; 4] = [12, 23, 24, 105];
 
-/// A connection that has said nothing yet.
-#[derive(Drop)]
-struct Silent {
-    stream: TcpStream,
-    since: Instant,
-}
-
-/// The connections that have said nothing yet, the longest first.
+/// The connections whose request is not answered yet, the longest first.
 #[derive(Drop)]
 pub(crate) struct Waiting {
-    silent: Vec<Silent>,
-}
-
-/// Whether a connection has something to say, or has ended.
-fn speaks(stream: &TcpStream) -> bool {
-    let mut byte = [0];
-    match stream.peek(&mut byte) {
-        Ok(_) => true,
-        Err(error) => error.kind() != ErrorKind::WouldBlock && error.kind() != ErrorKind::TimedOut,
-    }
-}
-
-/// The same, at once. What cannot be asked is served, and fails there.
-fn speaks_now(stream: &TcpStream) -> bool {
-    if stream.set_nonblocking(true).is_err() {
-        return true;
-    }
-    let found = speaks(stream);
-    stream.set_nonblocking(false).is_err() || found
+    callers: Vec<Caller>,
 }
 
 /// Whether no connection is there yet, or one that went again, and no fault of the listener.
@@ -67,83 +43,101 @@ fn wants_room(error: &io::Error) -> bool {
     }
 }
 
+/// A new connection, which is listened to for a moment where no other waits.
+fn heard(rt: &HostRuntime, stream: TcpStream, is_alone: bool) -> io::Result<Caller> {
+    let since = Instant::now(rt)?;
+    if is_alone {
+        stream.set_read_timeout(Some(Duration::from_millis(FIRST)))?;
+    } else {
+        stream.set_nonblocking(true)?;
+    }
+    let mut caller = Caller::new(rt.alloc(), stream, since);
+    caller.hear();
+    if is_alone && !caller.is_ready() {
+        caller.stream().set_nonblocking(true)?;
+    }
+    Ok(caller)
+}
+
 impl Waiting {
-    pub(crate) fn new(alloc: Global) -> Waiting {
-        Waiting {
-            silent: Vec::new(alloc),
-        }
+    pub(crate) fn new(alloc: Global) -> Result<Waiting, AllocError> {
+        Ok(Waiting {
+            callers: Vec::with_capacity(alloc, MOST)?,
+        })
     }
 
     /// Makes room for one more.
     fn let_one_go(&mut self) {
-        if !self.silent.is_empty() {
-            let _ = self.silent.remove(0);
+        if !self.callers.is_empty() {
+            let _ = self.callers.remove(0);
         }
     }
 
-    /// A new connection, where one is there that speaks. Where others wait, it is not waited for.
-    fn accepted(
-        &mut self,
-        rt: &HostRuntime,
-        listener: &TcpListener,
-    ) -> io::Result<Option<TcpStream>> {
-        if self.silent.len() >= MOST {
-            return Ok(None);
+    /// Takes one more connection, and says whether one was there. Only where none waits, it is waited for.
+    fn take(&mut self, rt: &HostRuntime, listener: &TcpListener) -> io::Result<bool> {
+        let is_alone = self.callers.is_empty();
+        if self.callers.len() >= MOST {
+            return Ok(false);
         }
-        listener.set_nonblocking(!self.silent.is_empty())?;
-        let stream = match listener.accept() {
-            Ok((stream, _)) => stream,
-            Err(error) if is_none_yet(&error) => return Ok(None),
+        listener.set_nonblocking(!is_alone)?;
+        match listener.accept() {
+            Ok((stream, _)) => {
+                // (one that cannot be asked is let go)
+                if let Ok(caller) = heard(rt, stream, is_alone) {
+                    let _ = self.callers.push(caller);
+                }
+                Ok(true)
+            }
+            Err(error) if is_none_yet(&error) => Ok(false),
             Err(error) if wants_room(&error) => {
                 self.let_one_go();
-                return Ok(None);
+                Ok(false)
             }
-            Err(error) => return Err(error),
-        };
-        let since = Instant::now(rt)?;
-        if stream
-            .set_read_timeout(Some(Duration::from_millis(FIRST)))
-            .is_err()
-        {
-            return Ok(None);
+            Err(error) => Err(error),
         }
-        if speaks(&stream) {
-            return Ok(Some(stream));
-        }
-        // (without memory for one more it is let go)
-        let _ = self.silent.push(Silent { stream, since });
-        Ok(None)
     }
 
-    /// The place of the first connection that speaks, or that has said nothing for too long, and whether it speaks.
-    fn place(&self, rt: &HostRuntime) -> io::Result<Option<(usize, bool)>> {
-        for at in 0..self.silent.len() {
-            if speaks_now(&self.silent[at].stream) {
+    /// The place of the first connection whose head is there, or that has had its time for it, and whether it is there.
+    fn place(&mut self, rt: &HostRuntime) -> io::Result<Option<(usize, bool)>> {
+        for at in 0..self.callers.len() {
+            let Some(caller) = self.callers.get_mut(at) else {
+                return Ok(None);
+            };
+            caller.hear();
+            if caller.is_ready() {
                 return Ok(Some((at, true)));
             }
-            if self.silent[at].since.elapsed(rt)? >= Duration::from_secs(SILENCE) {
+            if caller.waited(rt)? >= Duration::from_secs(HEAD) {
                 return Ok(Some((at, false)));
             }
         }
         Ok(None)
     }
 
-    /// Waits for a connection that has something to say, or lets one go that has said nothing for too long.
+    /// Waits a little, or makes room at once for those that the system keeps.
+    fn rest(&mut self, rt: &HostRuntime, has_come: bool) {
+        if self.callers.len() >= MOST {
+            self.let_one_go();
+        } else if !has_come {
+            thread::sleep(rt, Duration::from_millis(PAUSE));
+        }
+    }
+
+    /// Waits for a connection with the head of a request, or lets one go that has had its time for it.
     pub(crate) fn next(
         &mut self,
         rt: &HostRuntime,
         listener: &TcpListener,
-    ) -> io::Result<Option<TcpStream>> {
+    ) -> io::Result<Option<Caller>> {
         for _ in 0..u64::MAX {
-            if let Some(stream) = self.accepted(rt, listener)? {
-                return Ok(Some(stream));
-            }
+            let has_come = self.take(rt, listener)?;
             match self.place(rt)? {
-                Some((at, is_speaking)) if at < self.silent.len() => {
-                    let Silent { stream, since: _ } = self.silent.remove(at);
-                    return Ok(if is_speaking { Some(stream) } else { None });
+                Some((at, is_ready)) if at < self.callers.len() => {
+                    let caller = self.callers.remove(at);
+                    let is_served = is_ready && caller.stream().set_nonblocking(false).is_ok();
+                    return Ok(if is_served { Some(caller) } else { None });
                 }
-                _ => thread::sleep(rt, Duration::from_millis(PAUSE)),
+                _ => self.rest(rt, has_come),
             }
         }
         Ok(None)
