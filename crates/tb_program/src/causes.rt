@@ -3,6 +3,7 @@
 use std::fmt::{self, Display, Formatter};
 use std::io::{self, ErrorKind};
 use tb_http::Reply;
+use tb_words::Words;
 
 /// Why no desk is opened or made in a file.
 #[derive(Clone, Copy)]
@@ -266,7 +267,7 @@ impl StreamCause {
 }
 
 /// Why a command was not done, or what else is to be known of it.
-#[derive(Clone, Copy)]
+#[derive(Drop)]
 pub enum Cause {
     File(FileCause),
     Value(Form),
@@ -290,11 +291,15 @@ pub enum Cause {
     NothingKept,
     /// A desk in memory is served.
     NothingWillBeKept,
+    /// The desk or the check refuses, or something else is to be told of its answer.
+    Words(Words),
 }
 
 impl Cause {
-    fn text(self) -> &'static str {
+    /// The sentence of a cause that stands here.
+    fn text(&self) -> &'static str {
         match self {
+            Cause::Words(_) => "",
             Cause::File(cause) => cause.text(),
             Cause::Value(form) => form.text(),
             Cause::Port(cause) => cause.text(),
@@ -319,6 +324,9 @@ impl Cause {
 
 impl Display for Cause {
     fn fmt<W: fmt::Write>(&self, f: &mut Formatter<W>) -> fmt::Result {
-        f.write_str(self.text())
+        match self {
+            Cause::Words(words) => write!(f, "{words}"),
+            _ => f.write_str(self.text()),
+        }
     }
 }

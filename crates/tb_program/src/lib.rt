@@ -3,8 +3,11 @@
 
 mod callers;
 mod causes;
+mod checking;
+mod explaining;
 mod files;
 mod looking;
+mod nothing;
 mod patience;
 mod place;
 mod serving;

@@ -13,6 +13,11 @@ pub struct Told {
 }
 
 impl Told {
+    /// Whether it is told of what the desk or the check answers.
+    pub fn is_of_answer(&self) -> bool {
+        matches!(self.cause, Cause::Words(_))
+    }
+
     /// Without memory for the place, the cause is told alone.
     pub(crate) fn at(rt: &HostRuntime, place: &str, cause: Cause) -> Told {
         Told {

@@ -6,6 +6,8 @@ ghost use Rattle.tb_desk.specs.Words.{asks_check};
 ghost use Rattle.tb_conllu.specs.declared.fault.WriteFault.{WriteFault};
 
 use crate::causes::{Cause, FileCause};
+use crate::checking::check_told;
+use crate::explaining::run_told;
 use crate::files::{self, FileDesk};
 use crate::place::Place;
 use crate::serving::serve;
@@ -13,9 +15,9 @@ use crate::telling::{Outcome, Told, wants_words};
 use crate::wrong::wrong_word;
 use sqlite::Alter;
 use std::io::Write;
-use tb_answers::{put_reply, read_body, run_line, run_line_from};
+use tb_answers::{put_reply, read_body};
 use tb_conllu::{Sink, Source};
-use tb_desk::{is_check, run_check};
+use tb_desk::is_check;
 use tb_http::Reply;
 use tb_line::{Line, LineFault};
 use tb_store::Desk;
@@ -122,7 +124,7 @@ fn run_on_desk<W: Write>(
             Ok(place) => serve(rt, desk, Some(&place), *port, *requests, out),
             Err(cause) => put_file_cause(rt, path, cause, out),
         },
-        _ => Outcome::from(run_line(rt.alloc(), line, body, desk, out)),
+        _ => run_told(rt, line, body, desk, out),
     }
 }
 
@@ -161,12 +163,15 @@ fn changes_desk(line: &Line) -> bool {
     )
 }
 
-/// What is told of a line that was done on a desk in memory, with this exit status.
-fn told_of_memory(line: &Line, status: u8) -> Option<Told> {
-    if status != 0 || !changes_desk(line) {
-        return None;
+/// How a line ended that was done on a desk in memory: nothing is kept of what it changed.
+fn ended_in_memory(line: &Line, outcome: Outcome) -> Outcome {
+    if outcome.status != 0 || !changes_desk(line) {
+        return outcome;
     }
-    Some(Told::from(Cause::NothingKept))
+    Outcome {
+        status: outcome.status,
+        told: Some(Told::from(Cause::NothingKept)),
+    }
 }
 
 /// Serves a desk in memory. Whoever would lose what is sent to it is told before the first request.
@@ -198,11 +203,8 @@ fn run_in_memory<R: Source, W: Write>(
                 requests,
             } => serve_in_memory(rt, &mut desk, *port, *requests, out),
             _ => {
-                let status = run_line_from(rt.alloc(), line, reader, &mut desk, out);
-                Outcome {
-                    status,
-                    told: told_of_memory(line, status),
-                }
+                let body = read_body(rt.alloc(), line, reader);
+                ended_in_memory(line, run_told(rt, line, body, &mut desk, out))
             }
         },
         Err(_) => put_memory(out),
@@ -238,14 +240,10 @@ pub fn run_words_told<R: Source, W: Write>(
         → Answers (IsReplyToRead (R.IsFailure reader.new) file_limit (R.left reader.old) (R.left reader.new))
         (W.contents out.old) (W.contents out.new) (λ (_ : WriteFault). Unit {0}) result.status }
 {
-    let alloc = rt.alloc();
     if is_check(words) {
-        return Outcome {
-            status: run_check(alloc, reader, out),
-            told: None,
-        };
+        return check_told(rt, reader, out);
     }
-    match Line::read(alloc, words) {
+    match Line::read(rt.alloc(), words) {
         Ok(line) => run(rt, &line, reader, out),
         Err(fault) => put_fault(rt, words, fault, out),
     }

@@ -121,7 +121,6 @@ fn run(rt: &HostRuntime, held: &Held) -> io::Result<u8> {
     if wants_words(rt) {
         let ended = Ended {
             status,
-            answer: out.line(),
             told: outcome.told,
             input: input.cause(held),
             output: held.output_cause(out.failed()),

@@ -1,0 +1,59 @@
+//! Words that hang from one another.
+
+use std::alloc::Global;
+use tb_conllu::{LineId, RowRef};
+
+/// How many words of a circle are told.
+const MOST: usize = 8;
+
+/// The HEADs of the words of a sentence, in order.
+pub(crate) fn heads_of(alloc: Global, rows: &[RowRef<'_>]) -> Option<Vec<u32>> {
+    let mut heads = Vec::new(alloc);
+    for row in rows {
+        if let LineId::Word(_) = row.id {
+            heads.push(row.head.unwrap_or(0)).ok()?;
+        }
+    }
+    Some(heads)
+}
+
+/// The HEAD of a word; 0 of what is no word.
+fn head_of(heads: &[u32], word: u32) -> u32 {
+    let at = (word as usize).wrapping_sub(1);
+    heads.get(at).copied().unwrap_or(0)
+}
+
+/// Where so many steps along HEAD lead.
+fn after(heads: &[u32], word: u32, steps: usize) -> u32 {
+    let mut here = word;
+    for _ in 0..steps {
+        here = head_of(heads, here);
+    }
+    here
+}
+
+/// A word to which steps along HEAD come back.
+pub(crate) fn on_circle(heads: &[u32]) -> Option<u32> {
+    for head in heads {
+        let end = after(heads, *head, heads.len());
+        if end != 0 {
+            return Some(end);
+        }
+    }
+    None
+}
+
+/// The circle from a word on.
+pub(crate) fn circle_text(alloc: Global, heads: &[u32], word: u32) -> Option<String> {
+    let mut text = format!(in alloc; "{word}").ok()?;
+    let mut here = word;
+    for _ in 0..MOST {
+        here = head_of(heads, here);
+        write!(text, " -> {here}").ok()?;
+        if here == word {
+            return Some(text);
+        }
+    }
+    text.push_str(" -> ..").ok()?;
+    Some(text)
+}

@@ -1,0 +1,55 @@
+//! The ten columns of a word line.
+
+use tb_conllu::RowRef;
+
+const NAMES: [&str; 10] = [
+    "ID", "FORM", "LEMMA", "UPOS", "XPOS", "FEATS", "HEAD", "DEPREL", "DEPS", "MISC",
+];
+
+/// The places of columns, counted from 0.
+pub(crate) const ID: usize = 0;
+
+pub(crate) const FORM: usize = 1;
+
+pub(crate) const LEMMA: usize = 2;
+
+pub(crate) const UPOS: usize = 3;
+
+pub(crate) const XPOS: usize = 4;
+
+pub(crate) const FEATS: usize = 5;
+
+pub(crate) const HEAD: usize = 6;
+
+pub(crate) const DEPREL: usize = 7;
+
+pub(crate) const DEPS: usize = 8;
+
+pub(crate) const MISC: usize = 9;
+
+/// The name of a column.
+pub(crate) fn name(column: usize) -> &'static str {
+    NAMES.get(column).copied().unwrap_or("a column too many")
+}
+
+/// What stands in a column of a line.
+pub(crate) fn field(line: &str, column: usize) -> &str {
+    line.split('\t').nth(column).unwrap_or("")
+}
+
+/// The first column of a range that has to be `_` and is not.
+pub(crate) fn filled(row: &RowRef<'_>) -> usize {
+    if row.lemma != "_" {
+        LEMMA
+    } else if row.upos != "_" {
+        UPOS
+    } else if row.xpos != "_" {
+        XPOS
+    } else if row.head.is_some() {
+        HEAD
+    } else if row.deprel != "_" {
+        DEPREL
+    } else {
+        DEPS
+    }
+}

@@ -1,0 +1,88 @@
+//! Which of the features of a row is at fault.
+
+use crate::sentences as told;
+use std::alloc::{AllocError, Global};
+use tb_fields::is_feature_list;
+
+/// How many features are looked at: no row has more in earnest.
+const LOOKED_AT: usize = 1000;
+
+/// Whether a text may stand in FEATS. Where memory is wanting, nothing is found.
+fn is_list(alloc: Global, text: &str) -> bool {
+    is_feature_list(alloc, text).unwrap_or(true)
+}
+
+/// The same of a text that is made.
+fn is_made_list(alloc: Global, made: Result<String, AllocError>) -> bool {
+    match made {
+        Ok(text) => is_list(alloc, text.as_str()),
+        Err(_) => true,
+    }
+}
+
+fn name_of(item: &str) -> &str {
+    match item.split_once('=') {
+        Some((name, _)) => name,
+        None => item,
+    }
+}
+
+fn has_wrong_value(alloc: Global, values: &str) -> bool {
+    for value in values.split(',') {
+        if !is_made_list(alloc, format!(in alloc; "X={value}")) {
+            return true;
+        }
+    }
+    false
+}
+
+/// What is wrong with one feature, if something is.
+fn item_fault(alloc: Global, item: &str) -> Option<&'static str> {
+    let Some((name, values)) = item.split_once('=') else {
+        return Some(told::FEATURE_FORM);
+    };
+    if is_list(alloc, item) {
+        return None;
+    }
+    if !is_made_list(alloc, format!(in alloc; "{name}=X")) {
+        return Some(told::FEATURE_NAME);
+    }
+    if has_wrong_value(alloc, values) {
+        return Some(told::FEATURE_VALUE);
+    }
+    Some(told::VALUE_TWICE)
+}
+
+/// Whether one of the features before, of which there are so many, has the name of this one.
+fn is_named_before(feats: &str, before: usize, item: &str) -> bool {
+    for earlier in feats.split('|').take(before) {
+        if name_of(earlier) == name_of(item) {
+            return true;
+        }
+    }
+    false
+}
+
+/// Whether a feature, before which stand so many, may not follow the one before it.
+fn is_out_of_order(alloc: Global, feats: &str, before: usize, item: &str) -> bool {
+    match feats.split('|').nth(before.wrapping_sub(1)) {
+        Some(last) => !is_made_list(alloc, format!(in alloc; "{last}|{item}")),
+        None => false,
+    }
+}
+
+/// The first feature that is at fault, and what is wrong with it.
+pub(crate) fn feature_fault(alloc: Global, feats: &str) -> (&str, &'static str) {
+    for (before, item) in feats.split('|').enumerate().take(LOOKED_AT) {
+        if let Some(sentence) = item_fault(alloc, item) {
+            return (item, sentence);
+        }
+        if is_named_before(feats, before, item) {
+            return (item, told::FEATURE_TWICE);
+        }
+        if is_out_of_order(alloc, feats, before, item) {
+            return (item, told::FEATURE_ORDER);
+        }
+    }
+    (feats, told::BROKEN)
+}

@@ -1,0 +1,53 @@
+//! A line of a query, and under it a mark.
+
+use crate::words::visible;
+use std::alloc::Global;
+
+/// How many characters of a line are shown, and how many of them at most stand before the mark.
+const WIDTH: usize = 72;
+
+const BEFORE: usize = 48;
+
+/// What stands before each line of a picture.
+const MARGIN: &str = "    ";
+
+/// The line in which a byte stands, and what of it stands before the byte.
+fn line_with(text: &str, at: usize) -> (&str, &str) {
+    let start = match text.get(..at).unwrap_or("").rsplit_once('\n') {
+        Some((before, _)) => before.len().saturating_add(1),
+        None => 0,
+    };
+    let rest = text.get(start..).unwrap_or("");
+    let line = match rest.split_once('\n') {
+        Some((line, _)) => line,
+        None => rest,
+    };
+    (line, text.get(start..at).unwrap_or(""))
+}
+
+/// The line of a query in which a byte stands, and a mark under the byte's character.
+pub(crate) fn picture(alloc: Global, text: &str, at: usize) -> Option<String> {
+    let (line, before) = line_with(text, at);
+    let count = before.chars().count();
+    let skipped = count.saturating_sub(BEFORE);
+    let mut picture = String::from_str(alloc, MARGIN).ok()?;
+    for c in line.chars().skip(skipped).take(WIDTH) {
+        picture.push(visible(c)).ok()?;
+    }
+    picture.push('\n').ok()?;
+    picture.push_str(MARGIN).ok()?;
+    for _ in skipped..count {
+        picture.push(' ').ok()?;
+    }
+    picture.push('^').ok()?;
+    Some(picture)
+}
+
+/// The number of the character that begins at a byte, counted from 1.
+pub(crate) fn character(text: &str, at: usize) -> usize {
+    text.get(..at)
+        .unwrap_or(text)
+        .chars()
+        .count()
+        .saturating_add(1)
+}

@@ -1,0 +1,122 @@
+//! What is wrong with a query, or what it most likely means where it finds nothing.
+
+use crate::literals::{Literal, holds, literals, written};
+use crate::pictures::{character, picture};
+use crate::sentences as told;
+use crate::syntax::Wrong;
+use crate::words::{Page, Words, shown};
+use std::alloc::Global;
+use tb_query::QueryFault;
+
+/// What is wrong at a byte of a query.
+fn at_byte(alloc: Global, text: &str, at: usize, sentence: &'static str) -> Words {
+    let place = character(text, at);
+    Words::at(format!(in alloc; "query, character {place}"), sentence).with_picture(picture(
+        alloc, text, at,
+    ))
+}
+
+fn syntax(alloc: Global, text: &str, literals: &[Literal], at: usize) -> Words {
+    let is_closed = holds(literals, at);
+    let sentence = Wrong::new(text, literals, at).sentence(is_closed);
+    at_byte(alloc, text, at, sentence)
+}
+
+/// A number that white space may stand around; one that is too large for the type stands as its greatest.
+fn number(text: &str) -> Option<u32> {
+    let digits = text.trim();
+    if digits.is_empty() {
+        return None;
+    }
+    Some(digits.parse::<u32>().unwrap_or(u32::MAX))
+}
+
+/// What is wrong with the numbers of a repetition, which stand between its braces.
+fn numbers_fault(text: &str) -> Option<&'static str> {
+    let (first, second) = text.split_once(',').unwrap_or((text, text));
+    let lower = number(first)?;
+    let upper = number(second);
+    if lower > 32 || upper.unwrap_or(0) > 32 {
+        return Some(told::REPEAT_ABOVE);
+    }
+    let upper = upper?;
+    if upper == 0 {
+        return Some(told::REPEAT_ZERO);
+    }
+    if upper < lower {
+        return Some(told::REPEAT_BACKWARD);
+    }
+    None
+}
+
+/// The first repetition whose numbers are wrong.
+fn repetition(alloc: Global, text: &str, literals: &[Literal]) -> Option<Words> {
+    for (at, c) in text.char_indices() {
+        if c != '{' || holds(literals, at) {
+            continue;
+        }
+        let (numbers, _) = text.get(at.saturating_add(1)..)?.split_once('}')?;
+        if let Some(sentence) = numbers_fault(numbers) {
+            return Some(at_byte(alloc, text, at, sentence));
+        }
+    }
+    None
+}
+
+/// Whether a pattern names what was found before, as by `\1`.
+fn looks_back(pattern: &str) -> bool {
+    pattern.split('\\').skip(1).any(|piece| piece.starts_with(|c: char| matches!(c, '1'..='9')))
+}
+
+fn pattern_fault(pattern: &str) -> &'static str {
+    if pattern.contains("(?=")
+        || pattern.contains("(?!")
+        || pattern.contains("(?<=")
+        || pattern.contains("(?<!")
+    {
+        told::PATTERN_LOOKING
+    } else if looks_back(pattern) {
+        told::PATTERN_BACK
+    } else {
+        told::PATTERN_OTHER
+    }
+}
+
+/// The literal of this number, counted from 1, that is no pattern.
+fn pattern(alloc: Global, text: &str, literals: &[Literal], number: u64) -> Option<Words> {
+    let literal = *literals.get(number.checked_sub(1)? as usize)?;
+    let sentence = pattern_fault(written(text, literal));
+    Some(at_byte(alloc, text, literal.start, sentence))
+}
+
+/// What is wrong with a text that is no query.
+pub fn words_of_query(alloc: Global, text: &str, fault: QueryFault) -> Words {
+    let found = literals(alloc, text).unwrap_or(Vec::new(alloc));
+    let literals = found.as_slice();
+    let words = match fault {
+        QueryFault::TooLong => Words::alone(told::TOO_LONG),
+        QueryFault::Syntax(at) => syntax(alloc, text, literals, at as usize),
+        QueryFault::TooMany => Words::alone(told::TOO_MANY),
+        QueryFault::TooDeep => Words::alone(told::TOO_DEEP),
+        QueryFault::Repeat => repetition(alloc, text, literals).unwrap_or(Words::alone(
+            told::REPEAT_ABOVE,
+        )),
+        QueryFault::Pattern(number) => pattern(alloc, text, literals, number).unwrap_or(
+            Words::alone(told::PATTERN_OTHER),
+        ),
+        QueryFault::Memory => Words::alone(told::PATTERN_LARGE),
+    };
+    words.on(Page::Queries)
+}
+
+/// What is told of a query that finds nothing, but as this text finds so much.
+pub fn words_of_hits(alloc: Global, text: &str, hits: u64) -> Words {
+    let query = shown(text);
+    Words::at(format!(in alloc; "`{query}` finds {hits}"), told::LITERALLY).on(Page::Queries)
+}
+
+/// What is told of a form that is asked for and stands on a range alone.
+pub fn words_of_range(alloc: Global, form: &str) -> Words {
+    let form = shown(form);
+    Words::at(format!(in alloc; "`{form}`"), told::ON_A_RANGE).on(Page::Queries)
+}

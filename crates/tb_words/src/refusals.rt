@@ -1,0 +1,121 @@
+//! What is told of a refused command, and of what comes next.
+
+use crate::codes::words_of_line;
+use crate::rules::words_of_rule;
+use crate::sentences as told;
+use crate::words::{Page, Words};
+use std::alloc::Global;
+use tb_core::{Refusal, State};
+use tb_http::{Reply, RequestFault};
+
+/// What was asked, as far as words need it.
+#[derive(Clone, Copy)]
+pub enum Asked {
+    Event,
+    /// A correction that was made on this revision.
+    Correction(u64),
+    /// A pull or a restore.
+    Pull,
+    Other,
+}
+
+/// What may come after this state of a batch.
+fn next_of(state: State) -> &'static str {
+    match state {
+        State::Opened => told::OPEN,
+        State::Assigned => told::ASSIGNED,
+        State::Submitted => told::SUBMITTED,
+        State::Adjudicated => told::ADJUDICATED,
+        State::Released => told::RELEASED,
+        State::Withdrawn => told::WITHDRAWN,
+    }
+}
+
+/// What is told of a batch in this state.
+fn words_of_move(alloc: Global, state: State) -> Words {
+    let word = state.word();
+    Words::at(format!(in alloc; "the batch is {word}"), next_of(state))
+}
+
+/// The sentence of a refusal that is about no place.
+fn sentence_of(refusal: Refusal) -> &'static str {
+    match refusal {
+        Refusal::BadName => told::BAD_NAME,
+        Refusal::NoSuchBatch => told::NO_SUCH_BATCH,
+        Refusal::NoSuchSentence => told::NO_SUCH_SENTENCE,
+        Refusal::WrongState(state) => next_of(state),
+        Refusal::NotYours => told::NOT_YOURS,
+        Refusal::OwnWork => told::OWN_WORK,
+        Refusal::Stale(_) => told::STALE,
+        Refusal::Read(_, _) | Refusal::Rule(_, _, _) => told::BROKEN,
+        Refusal::Empty => told::EMPTY,
+        Refusal::NotOne => told::NOT_ONE,
+        Refusal::SentIdChanged => told::SENT_ID_CHANGED,
+        Refusal::TextChanged => told::TEXT_CHANGED,
+        Refusal::NothingChanged => told::NOTHING_CHANGED,
+        Refusal::NameTaken => told::NAME_TAKEN,
+        Refusal::SentIdTaken(_) => told::SENT_ID_TAKEN,
+        Refusal::Full => told::FULL,
+        Refusal::NoSuchRevision => told::NO_SUCH_REVISION,
+        Refusal::Query(_, _) => told::SYNTAX,
+        Refusal::Pulled => told::PULLED,
+        Refusal::NotPulled => told::NOT_PULLED,
+        Refusal::TooManyHits => told::TOO_MANY_HITS,
+    }
+}
+
+/// What is told of a state that does not allow what was asked.
+fn wrong_state(alloc: Global, state: State, asked: Asked) -> Words {
+    let word = state.word();
+    let words = match asked {
+        Asked::Correction(_) => Words::at(
+            format!(in alloc; "the sentence is {word}"),
+            told::CORRECT_STATE,
+        ),
+        Asked::Pull => Words::at(format!(in alloc; "the batch is {word}"), told::PULL_STATE),
+        Asked::Event | Asked::Other => words_of_move(alloc, state),
+    };
+    words.on(Page::Batches)
+}
+
+fn stale(alloc: Global, current: u64, asked: Asked) -> Words {
+    let base = match asked {
+        Asked::Correction(base) => base,
+        Asked::Event | Asked::Pull | Asked::Other => 0,
+    };
+    Words::at(
+        format!(in alloc; "made on revision {base}, the current one is {current}"),
+        told::STALE,
+    )
+}
+
+fn of_refusal(alloc: Global, refusal: Refusal, asked: Asked) -> Words {
+    match refusal {
+        Refusal::WrongState(state) => wrong_state(alloc, state, asked),
+        Refusal::Stale(current) => stale(alloc, current, asked),
+        Refusal::SentIdTaken(sentence) => Words::at(
+            format!(in alloc; "sentence {sentence} of the input"),
+            told::SENT_ID_TAKEN,
+        ),
+        other => Words::alone(sentence_of(other)),
+    }
+}
+
+/// What is told of a reply: of one that refuses, with what is wrong in the body, and of a batch that moved.
+pub fn words_of_reply(alloc: Global, reply: Reply, body: &[u8], asked: Asked) -> Option<Words> {
+    match reply {
+        Reply::Moved(moved) => Some(words_of_move(alloc, moved.state)),
+        Reply::Refused(Refusal::Read(line, code)) => {
+            Some(words_of_line(alloc, body, line as usize, code))
+        }
+        Reply::Refused(Refusal::Rule(sentence, rule, row)) => {
+            Some(words_of_rule(alloc, body, sentence, rule, row))
+        }
+        Reply::Refused(refusal) => Some(of_refusal(alloc, refusal, asked)),
+        Reply::Faulty(RequestFault::Long) => Some(Words::alone(told::LONG)),
+        Reply::Memory => Some(Words::alone(told::MEMORY)),
+        Reply::Device => Some(Words::alone(told::DEVICE)),
+        Reply::Desk => Some(Words::alone(told::DESK)),
+        _ => None,
+    }
+}

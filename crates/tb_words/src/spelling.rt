@@ -1,0 +1,68 @@
+//! Where the forms of a sentence and its text part.
+
+use crate::places::Placed;
+use crate::rules::keyed;
+use crate::sentences as told;
+use crate::words::{Words, shown};
+use std::alloc::Global;
+use tb_rules::restored;
+
+/// A text with each run of white space as one space, and none at the ends.
+fn folded(alloc: Global, text: &str) -> Option<String> {
+    let mut all = String::new(alloc);
+    for word in text.split_whitespace() {
+        if !all.is_empty() {
+            all.push(' ').ok()?;
+        }
+        all.push_str(word).ok()?;
+    }
+    Some(all)
+}
+
+/// How many bytes two texts begin with that are the same, in whole characters.
+fn same(first: &str, second: &str) -> usize {
+    for ((at, one), other) in first.char_indices().zip(second.chars()) {
+        if one != other {
+            return at;
+        }
+    }
+    first.len().min(second.len())
+}
+
+fn rest(text: &str, from: usize) -> &str {
+    text.get(from..).unwrap_or("")
+}
+
+/// Where the word begins in which the texts part.
+fn word_start(text: &str, at: usize) -> usize {
+    match text.get(..at).unwrap_or("").rsplit_once(' ') {
+        Some((before, _)) => before.len().saturating_add(1),
+        None => 0,
+    }
+}
+
+fn sentence_of(text: &str, forms: &str) -> &'static str {
+    if forms.starts_with(' ') {
+        told::FORMS_HAVE_SPACE
+    } else if text.starts_with(' ') {
+        told::TEXT_HAS_SPACE
+    } else {
+        told::TEXT_DIFFERS
+    }
+}
+
+pub(crate) fn difference(alloc: Global, placed: &Placed<'_>) -> Option<Words> {
+    let given = keyed(&placed.block, "text", 0)?;
+    let text = folded(alloc, given.value)?;
+    let forms = restored(alloc, &placed.block).ok()?;
+    let at = same(text.as_str(), forms.as_str());
+    let start = word_start(text.as_str(), at);
+    let sentence = sentence_of(rest(text.as_str(), at), rest(forms.as_str(), at));
+    let written = shown(rest(text.as_str(), start));
+    let spelled = shown(rest(forms.as_str(), start));
+    let line = placed.comment_line(given.at);
+    Some(Words::at(
+        format!(in alloc; "line {line}, the text has `{written}`, the forms `{spelled}`"),
+        sentence,
+    ))
+}

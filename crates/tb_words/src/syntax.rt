@@ -1,0 +1,248 @@
+//! What most likely is meant where a query has what no query can have.
+
+use crate::literals::{Literal, holds};
+use crate::sentences as told;
+
+/// Quotes that are not those of a query.
+const CURLY: &[char] = &[
+    '\u{2018}', '\u{2019}', '\u{201A}', '\u{201B}', '\u{201C}', '\u{201D}', '\u{201E}', '\u{201F}',
+    '\u{2032}', '\u{2033}', '\u{AB}', '\u{BB}', '\u{2039}', '\u{203A}', '`', '\u{B4}',
+];
+
+/// A text, and the place where it goes wrong.
+#[derive(Clone, Copy)]
+pub(crate) struct Wrong<'a> {
+    /// What stands before the place, without the white space next to it.
+    before: &'a str,
+    /// What stands from the place on.
+    rest: &'a str,
+    /// How many brackets and round parentheses are open at the place.
+    brackets: usize,
+    parentheses: usize,
+}
+
+/// How many of one sign are open before a place, literals aside.
+fn open(text: &str, literals: &[Literal], at: usize, opens: char, closes: char) -> usize {
+    let mut count: usize = 0;
+    for (place, c) in text.char_indices() {
+        if place >= at || holds(literals, place) {
+            continue;
+        }
+        if c == opens {
+            count = count.saturating_add(1);
+        } else if c == closes {
+            count = count.saturating_sub(1);
+        }
+    }
+    count
+}
+
+/// The run of ASCII letters and digits with which a text begins.
+fn word(text: &str) -> &str {
+    for (at, c) in text.char_indices() {
+        if !c.is_ascii_alphanumeric() && c != '_' {
+            return text.get(..at).unwrap_or("");
+        }
+    }
+    text
+}
+
+fn is_column(word: &str) -> bool {
+    matches!(
+        word,
+        "word" | "lemma" | "upos" | "xpos" | "feats" | "deprel"
+    )
+}
+
+/// Whether a word is the name of a column but for the case of its letters.
+fn is_column_in_capitals(word: &str) -> bool {
+    for name in ["word", "lemma", "upos", "xpos", "feats", "deprel"] {
+        if name.eq_ignore_ascii_case(word) {
+            return true;
+        }
+    }
+    false
+}
+
+/// What is wrong with a word that stands for the name of a column.
+fn column_fault(word: &str) -> &'static str {
+    if is_column_in_capitals(word) {
+        return told::COLUMN_CASE;
+    }
+    match word {
+        "pos" | "POS" | "tag" | "cpos" | "postag" => told::COLUMN_POS,
+        "form" | "FORM" | "token" | "text" => told::COLUMN_WORD,
+        "morph" | "feat" | "features" | "featscontains" => told::COLUMN_FEATS,
+        "rel" | "dep" | "relation" | "deprels" => told::COLUMN_DEPREL,
+        "id" | "ID" | "head" | "HEAD" | "deps" | "DEPS" | "misc" | "MISC" => told::COLUMN_CLOSED,
+        _ => told::COLUMN_OTHER,
+    }
+}
+
+fn is_connective(word: &str) -> bool {
+    matches!(word, "and" | "or" | "not" | "AND" | "OR" | "NOT")
+}
+
+impl<'a> Wrong<'a> {
+    pub(crate) fn new(text: &'a str, literals: &[Literal], at: usize) -> Wrong<'a> {
+        Wrong {
+            before: text.get(..at).unwrap_or(text).trim_end(),
+            rest: text.get(at..).unwrap_or(""),
+            brackets: open(text, literals, at, '[', ']'),
+            parentheses: open(text, literals, at, '(', ')'),
+        }
+    }
+
+    /// Whether a name of a column stands just before.
+    fn follows_column(&self) -> bool {
+        ["word", "lemma", "upos", "xpos", "feats", "deprel"]
+            .iter()
+            .any(|name| self.before.ends_with(*name))
+    }
+
+    /// Whether a value has to stand here.
+    fn wants_value(&self) -> bool {
+        self.brackets > 0 && (self.before.ends_with('=') || self.before.ends_with("contains"))
+    }
+
+    fn follows_flag(&self) -> bool {
+        self.before.ends_with("%c") || self.before.ends_with("%l")
+    }
+
+    fn follows_repetition(&self) -> bool {
+        self.before.ends_with(['?', '*', '+', '}'])
+    }
+
+    /// Where the text ends too early.
+    fn end(&self) -> &'static str {
+        if self.before.is_empty() {
+            told::EMPTY_QUERY
+        } else if self.brackets > 0 {
+            told::BRACKET_OPEN
+        } else if self.parentheses > 0 {
+            told::PARENTHESIS_OPEN
+        } else if self.before.ends_with(',') || self.before.ends_with('{') {
+            told::BRACE_OPEN
+        } else if self.before.ends_with("within") {
+            told::WITHIN
+        } else if self.before.ends_with('|') {
+            told::ENDS_EARLY
+        } else {
+            told::BRACE_OPEN
+        }
+    }
+
+    /// A word within brackets.
+    fn word_inside(&self, word: &str) -> &'static str {
+        if self.wants_value() {
+            told::VALUE_UNQUOTED
+        } else if word == "contains" {
+            told::CONTAINS
+        } else if self.follows_column() && (word == "matches" || word == "not") {
+            told::MATCHES
+        } else if is_connective(word) {
+            told::AND_OR
+        } else if self.follows_flag() {
+            told::FLAG
+        } else if self.before.ends_with(['[', '(', '&', '|', '!']) {
+            column_fault(word)
+        } else {
+            told::SYNTAX
+        }
+    }
+
+    /// A word outside brackets.
+    fn word_outside(&self, word: &str) -> &'static str {
+        let after = self.rest.get(word.len()..).unwrap_or("");
+        if self.follows_flag() {
+            told::FLAG
+        } else if self.before.ends_with("within") {
+            told::WITHIN
+        } else if self.before.ends_with("\\\"") || self.before.ends_with("\\'") {
+            told::BACKSLASH_QUOTE
+        } else if after.starts_with(':') {
+            told::LABEL
+        } else if word == "MU" || word == "TAB" {
+            told::MU
+        } else if is_column(word) || after.trim_start().starts_with('=') {
+            told::BRACKETS
+        } else if self.before.ends_with('{') || self.before.ends_with(',') {
+            told::NUMBER_ZERO
+        } else {
+            told::WORD_UNQUOTED
+        }
+    }
+
+    fn word(&self) -> &'static str {
+        let word = word(self.rest);
+        if self.brackets > 0 {
+            self.word_inside(word)
+        } else {
+            self.word_outside(word)
+        }
+    }
+
+    /// A quote. `is_closed` says whether its literal ends.
+    fn quote(&self, is_closed: bool) -> &'static str {
+        if !is_closed {
+            told::QUOTE_OPEN
+        } else if self.follows_column() {
+            told::TEST_WANTED
+        } else {
+            told::SYNTAX
+        }
+    }
+
+    fn repetition(&self) -> &'static str {
+        if self.follows_repetition() {
+            told::REPEATED_TWICE
+        } else {
+            told::NOTHING_REPEATED
+        }
+    }
+
+    fn closing_bracket(&self) -> &'static str {
+        if self.wants_value() {
+            told::VALUE_WANTED
+        } else if self.follows_column() {
+            told::TEST_WANTED
+        } else {
+            told::SYNTAX
+        }
+    }
+
+    /// A sign that is no letter and no digit.
+    fn sign(&self, sign: char) -> &'static str {
+        match sign {
+            '%' => told::FLAG,
+            '<' => told::TAG,
+            '@' => told::ANCHOR,
+            ':' => told::LABEL,
+            '-' if self.rest.starts_with("->") => told::ARROW,
+            ',' if self.before.ends_with('{') => told::NO_LOWER,
+            '{' | '?' | '*' | '+' => self.repetition(),
+            '=' if self.before.ends_with('=') => told::EQUALS_TWICE,
+            '!' if self.follows_column() => told::NOT_SPACED,
+            ')' => told::NO_PARENTHESIS,
+            ']' => self.closing_bracket(),
+            _ if self.wants_value() => told::VALUE_WANTED,
+            _ => told::SYNTAX,
+        }
+    }
+
+    /// What is most likely meant.
+    pub(crate) fn sentence(&self, is_closed: bool) -> &'static str {
+        let Some(first) = self.rest.chars().next() else {
+            return self.end();
+        };
+        if CURLY.contains(&first) {
+            told::CURLY_QUOTE
+        } else if first == '"' || first == '\'' {
+            self.quote(is_closed)
+        } else if first.is_alphanumeric() {
+            self.word()
+        } else {
+            self.sign(first)
+        }
+    }
+}
