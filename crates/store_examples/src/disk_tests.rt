@@ -82,11 +82,12 @@ fn migrate(alloc: Global, db: Memory) -> Result<Result<Desk<Store>, Fault>, Fail
 /// What a desk with one batch tells.
 const STANDING: &str = "desk open,1,3 1,import,1,0,none,open,1,0,3,ann";
 
-/// The file of a desk with one batch.
+/// The file of a desk with one batch, which was open before and after its import.
 fn one_batch(rt: &impl Abort, alloc: Global) -> Result<Memory, Fail>
     ensures { IfOk result (λ db. IsTrue (memory_is_usable db)) }
 {
     let mut desk = make(alloc, Memory::new(alloc))?.ok().ok_or("a desk")?;
+    assert!(rt; matches!(desk.is_open(), Ok(true)));
     let told = obeyed(alloc, &mut desk, "import b1 ann dogs")?;
     assert_told(
         rt,
@@ -94,15 +95,17 @@ fn one_batch(rt: &impl Abort, alloc: Global) -> Result<Memory, Fail>
         "imported batch=1 first=1 sentences=1 words=3",
         "dogs",
     );
+    assert!(rt; matches!(desk.is_open(), Ok(true)));
     leave(desk)
 }
 
-/// A desk that was left is found again as it was.
+/// A desk that was left is found again as it was, and is open.
 #[test]
 fn a_desk_is_left_and_adopted(rt: HostRuntime) -> Result<(), Fail> {
     let alloc = rt.alloc();
     let db = one_batch(&rt, alloc)?;
     let mut desk = adopt(alloc, db)?.ok().ok_or("a desk")?;
+    assert!(rt; matches!(desk.is_open(), Ok(true)));
     let told = obeyed(alloc, &mut desk, "standing")?;
     assert_told(&rt, told.as_str(), STANDING, "a desk that was left");
     Ok(())
