@@ -4,7 +4,7 @@ use Rattle.std.specs.Prelude.{◌==◌}
 use Rattle.std.specs.List.{list_any}
 use Rattle.std.proofs.lemmas.Bool.{or_parts, both_ways}
 use Rattle.tb_conllu.specs.Text.{ended}
-use Rattle.tb_conllu.specs.Told.{IsLine, AreLines}
+use Rattle.tb_conllu.specs.Reported.{IsLine, AreLines}
 
 -- no byte of the list is c
 abbrev pub Lacks : ℕ → List ℕ → Type 0

@@ -8,7 +8,7 @@ use Rattle.tb_conllu.specs.Left.{Left, IsNext}
 use Rattle.tb_conllu.specs.Lines.{line_code, came_after}
 use Rattle.tb_conllu.specs.Shape.{IsShaped}
 use Rattle.tb_conllu.specs.Text.{BlockText, ended, lines_of, text_of}
-use Rattle.tb_conllu.proofs.Told.{AreClean, lines_clean}
+use Rattle.tb_conllu.proofs.Reported.{AreClean, lines_clean}
 
 -- a line feed
 feed_utf8 : IsUtf8 (10 ∷ [])

@@ -5,30 +5,30 @@ use Rattle.std.proofs.lemmas.Bool.{both_ways}
 use Rattle.tb_conllu.specs.Text.{RowText, BlockText, text_of, lines_of, row_line, ended}
 use Rattle.tb_conllu.specs.Shape.{IsRowShaped, IsCommentText, AllShaped}
 use Rattle.tb_conllu.specs.Lines.{line_code, came_through, is_empty}
-use Rattle.tb_conllu.specs.Told.{IsLine, AreLines, IsNoFile, IsTold}
+use Rattle.tb_conllu.specs.Reported.{IsLine, AreLines, IsNoFile, IsReported}
 use Rattle.tb_conllu.specs.Begun.{BegunText, IsSound, lines_so_far, has_rows}
 use Rattle.tb_conllu.proofs.Cuts.{begin_same, all_lines}
 use Rattle.tb_conllu.proofs.RowLines.{hash_is, row_begins}
-use Rattle.tb_conllu.proofs.Told.{all_append, lines_cut, begun_cut, came_so_far, dead, alive}
+use Rattle.tb_conllu.proofs.Reported.{all_append, lines_cut, begun_cut, came_so_far, dead, alive}
 use Rattle.tb_conllu.proofs.OneList.{begins_one_way, block_ends}
 use Rattle.tb_conllu.proofs.Faults.{ended_more}
 
 -- ---- at a line
 
 -- a line with a code after lines that were read is the fault of the bytes
-pub line_told : (f : List ℕ) (b : BegunText) (told rest : List ℕ) (code : ℕ) → IsSound b → IsLine told → f ≡ ended (lines_so_far b) ++ (told ++ 10 ∷ rest) → line_code (has_rows b.rows) told ≡ code → 0 < code → IsTold f (length (lines_so_far b) + 1) code
-line_told f b told rest code h cut whole least some =
+pub line_reported : (f : List ℕ) (b : BegunText) (reported rest : List ℕ) (code : ℕ) → IsSound b → IsLine reported → f ≡ ended (lines_so_far b) ++ (reported ++ 10 ∷ rest) → line_code (has_rows b.rows) reported ≡ code → 0 < code → IsReported f (length (lines_so_far b) + 1) code
+line_reported f b reported rest code h cut whole least some =
     let came = came_so_far b h in
-    let same : line_code (came_through false (lines_so_far b)) told ≡ code = ap (λ c. line_code c told) came ∙ least in
-    let lines = all_append IsLine (lines_so_far b) (told ∷ []) (begun_cut b h) (cut, tt) in
+    let same : line_code (came_through false (lines_so_far b)) reported ≡ code = ap (λ c. line_code c reported) came ∙ least in
+    let lines = all_append IsLine (lines_so_far b) (reported ∷ []) (begun_cut b h) (cut, tt) in
     inl (record {
       before = lines_so_far b;
-      told = told;
+      reported = reported;
       rest = rest;
-      whole = whole ∙ ap (λ t. ended (lines_so_far b) ++ t) (sym (append_assoc told (10 ∷ []) rest)) ∙ ap (λ t. ended (lines_so_far b) ++ (t ++ rest)) (sym (append-nil (told ++ 10 ∷ []))) ∙ sym (ended_more (lines_so_far b) (told ∷ []) rest);
+      whole = whole ∙ ap (λ t. ended (lines_so_far b) ++ t) (sym (append_assoc reported (10 ∷ []) rest)) ∙ ap (λ t. ended (lines_so_far b) ++ (t ++ rest)) (sym (append-nil (reported ++ 10 ∷ []))) ∙ sym (ended_more (lines_so_far b) (reported ∷ []) rest);
       cut = lines;
       place = refl;
-      dead = dead (lines_so_far b) told lines (omega (arith, same, some));
+      dead = dead (lines_so_far b) reported lines (omega (arith, same, some));
       alive = alive b h;
       least = same;
     })
@@ -81,8 +81,8 @@ unended_no_file b rest h cut some cs hc e =
     begun_no_text b.comments b.rows rest found.0 h.comments h.rows cut lines some found.2.shaped found.2.text
 
 -- the fault that is told of them
-pub end_told : (f : List ℕ) (b : BegunText) (rest : List ℕ) → IsSound b → IsLine rest → f ≡ ended (lines_so_far b) ++ rest → 0 < length b.comments + length b.rows + length rest → IsTold f (length (lines_so_far b) + 1) 10
-end_told f b rest h cut whole some =
+pub end_reported : (f : List ℕ) (b : BegunText) (rest : List ℕ) → IsSound b → IsLine rest → f ≡ ended (lines_so_far b) ++ rest → 0 < length b.comments + length b.rows + length rest → IsReported f (length (lines_so_far b) + 1) 10
+end_reported f b rest h cut whole some =
     let N : List ℕ → Type 0 = IsNoFile in
     inr (
       record {

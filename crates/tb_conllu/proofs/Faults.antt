@@ -5,9 +5,9 @@ use Rattle.std.proofs.lemmas.List.Concat.{flat_map-append}
 use Rattle.tb_conllu.specs.Text.{BlockText, text_of, lines_of, ended, block_lines}
 use Rattle.tb_conllu.specs.Shape.{IsShaped, AllShaped}
 use Rattle.tb_conllu.specs.Lines.{line_code, came_through}
-use Rattle.tb_conllu.specs.Told.{AreLines, IsDead, IsNoFile, IsLineFault, IsUnended, IsTold}
+use Rattle.tb_conllu.specs.Reported.{AreLines, IsDead, IsNoFile, IsLineFault, IsUnended, IsReported}
 use Rattle.tb_conllu.proofs.Cuts.{begin_same, all_lines}
-use Rattle.tb_conllu.proofs.Told.{all_append, lines_cut_more, came_append, came_sentences, dead, alive}
+use Rattle.tb_conllu.proofs.Reported.{all_append, lines_cut_more, came_append, came_sentences, dead, alive}
 use Rattle.tb_conllu.proofs.OneList.{begins_one_way}
 
 pub ended-append : (xs ys : List (List ℕ)) → ended (xs ++ ys) ≡ ended xs ++ ended ys
@@ -42,19 +42,19 @@ no_file_after bs f hb h cs hc e =
 
 line_fault_after : (bs : List BlockText) (f : List ℕ) (line code : ℕ) → AllShaped bs → IsLineFault f line code → IsLineFault (text_of bs ++ f) (length (lines_of bs) + line) code
 line_fault_after bs f line code hb h =
-    let joined : (lines_of bs ++ h.before) ++ h.told ∷ [] ≡ lines_of bs ++ (h.before ++ h.told ∷ []) = append_assoc (lines_of bs) h.before (h.told ∷ []) in
+    let joined : (lines_of bs ++ h.before) ++ h.reported ∷ [] ≡ lines_of bs ++ (h.before ++ h.reported ∷ []) = append_assoc (lines_of bs) h.before (h.reported ∷ []) in
     let D : List (List ℕ) → Type 0 = IsDead in
     let C : List (List ℕ) → Type 0 = AreLines in
     record {
       before = lines_of bs ++ h.before;
-      told = h.told;
+      reported = h.reported;
       rest = h.rest;
-      whole = ap (λ t. text_of bs ++ t) h.whole ∙ sym (ended_more (lines_of bs) (h.before ++ h.told ∷ []) h.rest) ∙ ap (λ l. ended l ++ h.rest) (sym joined);
-      cut = subst C (sym joined) (lines_cut_more bs (h.before ++ h.told ∷ []) hb h.cut);
+      whole = ap (λ t. text_of bs ++ t) h.whole ∙ sym (ended_more (lines_of bs) (h.before ++ h.reported ∷ []) h.rest) ∙ ap (λ l. ended l ++ h.rest) (sym joined);
+      cut = subst C (sym joined) (lines_cut_more bs (h.before ++ h.reported ∷ []) hb h.cut);
       place = (let n = length-append (lines_of bs) h.before in let p = h.place in omega (arith, n, p));
-      dead = subst D (sym joined) (dead_after bs (h.before ++ h.told ∷ []) hb h.dead);
+      dead = subst D (sym joined) (dead_after bs (h.before ++ h.reported ∷ []) hb h.dead);
       alive = alive_after bs h.before hb h.alive;
-      least = ap (λ c. line_code c h.told) (came_append false (lines_of bs) h.before ∙ ap (λ c. came_through c h.before) (came_sentences bs)) ∙ h.least;
+      least = ap (λ c. line_code c h.reported) (came_append false (lines_of bs) h.before ∙ ap (λ c. came_through c h.before) (came_sentences bs)) ∙ h.least;
     }
 
 unended_after : (bs : List BlockText) (f : List ℕ) (line : ℕ) → AllShaped bs → IsUnended f line → IsUnended (text_of bs ++ f) (length (lines_of bs) + line)
@@ -70,9 +70,9 @@ unended_after bs f line hb h = record {
 }
 
 -- a fault of what follows whole sentences is the fault of the whole, so many lines later
-pub told_after : (bs : List BlockText) (f : List ℕ) (line code : ℕ) → AllShaped bs → IsTold f line code → IsTold (text_of bs ++ f) (length (lines_of bs) + line) code
-told_after bs f line code hb (inl h) = inl (line_fault_after bs f line code hb h)
-told_after bs f line code hb (inr h) = inr (unended_after bs f line hb h.0, h.1)
+pub reported_after : (bs : List BlockText) (f : List ℕ) (line code : ℕ) → AllShaped bs → IsReported f line code → IsReported (text_of bs ++ f) (length (lines_of bs) + line) code
+reported_after bs f line code hb (inl h) = inl (line_fault_after bs f line code hb h)
+reported_after bs f line code hb (inr h) = inr (unended_after bs f line hb h.0, h.1)
 
 -- ---- at most one fault
 
@@ -93,10 +93,10 @@ cut_front (x ∷ xs) ys h = (h.0, cut_front xs ys h.1)
 -- of two faults at a line, none stands before the other
 not_before : (f : List ℕ) (line code other_line other_code : ℕ) → IsLineFault f line code → IsLineFault f other_line other_code → line < other_line → ⊥
 not_before f line code other_line other_code h k less =
-    let n = push_length h.before h.told in
+    let n = push_length h.before h.reported in
     let p = h.place in
     let q = k.place in
-    dead_within (h.before ++ h.told ∷ []) k.before h.rest (ended (k.told ∷ []) ++ k.rest) h.cut (cut_front k.before (k.told ∷ []) k.cut) (omega (arith, n, p, q)) (sym h.whole ∙ k.whole ∙ ended_more k.before (k.told ∷ []) k.rest) h.dead k.alive
+    dead_within (h.before ++ h.reported ∷ []) k.before h.rest (ended (k.reported ∷ []) ++ k.rest) h.cut (cut_front k.before (k.reported ∷ []) k.cut) (omega (arith, n, p, q)) (sym h.whole ∙ k.whole ∙ ended_more k.before (k.reported ∷ []) k.rest) h.dead k.alive
 
 push_same : (xs ys : List (List ℕ)) (x y : List ℕ) → xs ++ x ∷ [] ≡ ys ++ y ∷ [] → (xs ≡ ys) × (x ≡ y)
 push_same [] [] x y e = (refl, cc)
@@ -112,16 +112,16 @@ push_same (a ∷ xs) (b ∷ ys) x y e =
 
 code_same : (f : List ℕ) (line code other_line other_code : ℕ) → IsLineFault f line code → IsLineFault f other_line other_code → line ≡ other_line → code ≡ other_code
 code_same f line code other_line other_code h k same =
-    let n = push_length h.before h.told in
-    let m = push_length k.before k.told in
+    let n = push_length h.before h.reported in
+    let m = push_length k.before k.reported in
     let p = h.place in
     let q = k.place in
-    let found = begin_same (h.before ++ h.told ∷ []) (k.before ++ k.told ∷ []) h.rest k.rest h.cut k.cut (omega (arith, n, m, p, q)) (sym h.whole ∙ k.whole) in
-    let sum = ap length found.1 ∙ length-append (h.before ++ h.told ∷ []) found.0 in
+    let found = begin_same (h.before ++ h.reported ∷ []) (k.before ++ k.reported ∷ []) h.rest k.rest h.cut k.cut (omega (arith, n, m, p, q)) (sym h.whole ∙ k.whole) in
+    let sum = ap length found.1 ∙ length-append (h.before ++ h.reported ∷ []) found.0 in
     let none = nothing found.0 (omega (arith, n, m, p, q, sum)) in
-    let lines = found.1 ∙ ap (λ l. (h.before ++ h.told ∷ []) ++ l) none ∙ append-nil (h.before ++ h.told ∷ []) in
-    let parts = push_same k.before h.before k.told h.told lines in
-    sym h.least ∙ ap (λ l. line_code (came_through false l) h.told) (sym parts.0) ∙ ap (λ t. line_code (came_through false k.before) t) (sym parts.1) ∙ k.least
+    let lines = found.1 ∙ ap (λ l. (h.before ++ h.reported ∷ []) ++ l) none ∙ append-nil (h.before ++ h.reported ∷ []) in
+    let parts = push_same k.before h.before k.reported h.reported lines in
+    sym h.least ∙ ap (λ l. line_code (came_through false l) h.reported) (sym parts.0) ∙ ap (λ t. line_code (came_through false k.before) t) (sym parts.1) ∙ k.least
   where
     nothing : (zs : List (List ℕ)) → length zs ≡ 0 → zs ≡ []
     nothing [] e = refl
@@ -131,7 +131,7 @@ code_same f line code other_line other_code h k same =
 not_both : (f : List ℕ) (line code other_line : ℕ) → IsLineFault f line code → IsUnended f other_line → ⊥
 not_both f line code other_line h k =
     let e = sym h.whole ∙ k.whole in
-    dead_within (h.before ++ h.told ∷ []) k.before h.rest k.rest h.cut k.cut (all_lines (h.before ++ h.told ∷ []) k.before h.rest k.rest h.cut k.cut k.cut_rest e) e h.dead k.alive
+    dead_within (h.before ++ h.reported ∷ []) k.before h.rest k.rest h.cut k.cut (all_lines (h.before ++ h.reported ∷ []) k.before h.rest k.rest h.cut k.cut k.cut_rest e) e h.dead k.alive
 
 end_same : (f : List ℕ) (line other_line : ℕ) → IsUnended f line → IsUnended f other_line → line ≡ other_line
 end_same f line other_line h k =
@@ -142,8 +142,8 @@ end_same f line other_line h k =
     omega (arith, a, b, p, q)
 
 -- at most one fault is told of any bytes
-pub one_told : (f : List ℕ) (line code other_line other_code : ℕ) → IsTold f line code → IsTold f other_line other_code → (line ≡ other_line) × (code ≡ other_code)
-one_told f line code other_line other_code (inl h) (inl k) =
+pub one_reported : (f : List ℕ) (line code other_line other_code : ℕ) → IsReported f line code → IsReported f other_line other_code → (line ≡ other_line) × (code ≡ other_code)
+one_reported f line code other_line other_code (inl h) (inl k) =
     elim (cases_order line other_line) [
       | inl same ↦ (same, code_same f line code other_line other_code h k same)
       | inr apart ↦ elim apart [
@@ -151,6 +151,6 @@ one_told f line code other_line other_code (inl h) (inl k) =
         | inr more ↦ absurd (not_before f other_line other_code line code k h more)
       ]
     ]
-one_told f line code other_line other_code (inl h) (inr k) = absurd (not_both f line code other_line h k.0)
-one_told f line code other_line other_code (inr h) (inl k) = absurd (not_both f other_line other_code line k h.0)
-one_told f line code other_line other_code (inr h) (inr k) = (end_same f line other_line h.0 k.0, h.1 ∙ sym k.1)
+one_reported f line code other_line other_code (inl h) (inr k) = absurd (not_both f line code other_line h k.0)
+one_reported f line code other_line other_code (inr h) (inl k) = absurd (not_both f other_line other_code line k h.0)
+one_reported f line code other_line other_code (inr h) (inr k) = (end_same f line other_line h.0 k.0, h.1 ∙ sym k.1)

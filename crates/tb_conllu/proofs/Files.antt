@@ -5,13 +5,13 @@ use Rattle.tb_conllu.specs.declared.fault.ReadFault.{ReadFault}
 use Rattle.tb_conllu.specs.declared.fault.ReadFault.TheVariants.{At, Memory}
 use Rattle.tb_conllu.specs.Text.{BlockText, block_lines, lines_of, text_of}
 use Rattle.tb_conllu.specs.Shape.{IsShaped, AllShaped}
-use Rattle.tb_conllu.specs.Told.{IsFile, IsNoFile, IsTold}
+use Rattle.tb_conllu.specs.Reported.{IsFile, IsNoFile, IsReported}
 use Rattle.tb_conllu.specs.Fault.{IsFaultAfter, IsReadFault}
 use Rattle.tb_conllu.specs.Left.{Left, IsNext, IsReadTo}
-use Rattle.tb_conllu.proofs.Told.{all_append}
+use Rattle.tb_conllu.proofs.Reported.{all_append}
 use Rattle.tb_conllu.proofs.Reading.{sentence_some}
 use Rattle.tb_conllu.proofs.OneList.{one_list}
-use Rattle.tb_conllu.proofs.Faults.{text_of-append, told_after}
+use Rattle.tb_conllu.proofs.Faults.{text_of-append, reported_after}
 
 pub read_nothing : (bytes : List ℕ) (done : List BlockText) (left : Left) → done ≡ [] → left ≡ record { rest = bytes; line = 0 } → IsReadTo bytes done left
 read_nothing bytes done left none e =
@@ -40,20 +40,20 @@ read_all bytes done left h none = record { shaped = h.shaped; text = h.whole ∙
 pub read_fault : (bytes : List ℕ) (done : List BlockText) (left : Left) (e : ReadFault) → IsReadTo bytes done left → IsFaultAfter left.line left.rest e → IsReadFault bytes e
 read_fault bytes done left Memory h f = omega (arith, f, ap length h.whole, length-append (text_of done) left.rest)
 read_fault bytes done left (At line code) h f =
-    let P : List ℕ → Type 0 = λ x. IsTold x line code in
-    let Q : ℕ → Type 0 = λ n. IsTold (text_of done ++ left.rest) n code in
+    let P : List ℕ → Type 0 = λ x. IsReported x line code in
+    let Q : ℕ → Type 0 = λ n. IsReported (text_of done ++ left.rest) n code in
     let place = h.place in
     let here = f.1 in
     let same : length (lines_of done) + f.0 ≡ line = omega (arith, place, here) in
-    subst P (sym h.whole) (subst Q same (told_after done left.rest f.0 code h.shaped f.2))
+    subst P (sym h.whole) (subst Q same (reported_after done left.rest f.0 code h.shaped f.2))
 
-told_no_file : (f : List ℕ) (line code : ℕ) → IsTold f line code → IsNoFile f
-told_no_file f line code (inl h) bs shaped e = h.dead bs h.rest shaped (sym e ∙ h.whole)
-told_no_file f line code (inr h) bs shaped e = h.0.no_file bs shaped e
+reported_no_file : (f : List ℕ) (line code : ℕ) → IsReported f line code → IsNoFile f
+reported_no_file f line code (inl h) bs shaped e = h.dead bs h.rest shaped (sym e ∙ h.whole)
+reported_no_file f line code (inr h) bs shaped e = h.0.no_file bs shaped e
 
 pub only_memory : (f : List ℕ) (e : ReadFault) → IsReadFault f e → (bs : List BlockText) → IsFile f bs → e ≡ Memory
 only_memory f Memory h bs file = refl
-only_memory f (At line code) h bs file = absurd (told_no_file f line code h bs file.shaped file.text)
+only_memory f (At line code) h bs file = absurd (reported_no_file f line code h bs file.shaped file.text)
 
 pub only_these : (f : List ℕ) (done : List BlockText) → IsFile f done → (bs : List BlockText) → IsFile f bs → done ≡ bs
 only_these f done h bs file = one_list f done bs h file
@@ -92,10 +92,10 @@ from_end old now bs h none = record { shaped = h.shaped; text = h.whole ∙ ap (
 
 pub from_fault : (old now : Left) (bs : List BlockText) (e : ReadFault) → IsReadFrom old bs now → IsFaultAfter now.line now.rest e → IsFaultAfter old.line old.rest e
 from_fault old now bs Memory h f = omega (arith, f, ap length h.whole, length-append (text_of bs) now.rest)
-from_fault old now bs (At line code) h (n, place, told) =
-    let P : List ℕ → Type 0 = λ x. IsTold x (length (lines_of bs) + n) code in
+from_fault old now bs (At line code) h (n, place, reported) =
+    let P : List ℕ → Type 0 = λ x. IsReported x (length (lines_of bs) + n) code in
     let before = h.place in
-    (length (lines_of bs) + n, omega arith, subst P (sym h.whole) (told_after bs now.rest n code h.shaped told))
+    (length (lines_of bs) + n, omega arith, subst P (sym h.whole) (reported_after bs now.rest n code h.shaped reported))
 
 -- the text of some sentences has a byte
 pub some_text : (bs : List BlockText) → 0 < length bs → 0 < length (text_of bs)

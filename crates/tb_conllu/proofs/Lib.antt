@@ -4,7 +4,7 @@ pub mod Tights
 pub mod Parts
 pub mod Decimals
 pub mod RowLines
-pub mod Told
+pub mod Reported
 pub mod OneList
 pub mod Faults
 pub mod Appended

@@ -74,9 +74,9 @@ near_mask bytes long =
     ∙ bitmask_splat w8 leb (map less_nine bytes) 64 1 (length-map bytes less_nine ∙ long) (omega arith)
     ∙ ap mask_l (map-map (λ x. leb x 1) less_nine bytes)
 
-told : (b : Bool) → (cond {A = ℕ} b 1 0 ≡ 1) ↔ (b ≡ true)
-told true = (λ h. refl, λ h. refl)
-told false = (λ h. absurd (omega arith), λ h. absurd (true_is_no_false (sym h)))
+reported : (b : Bool) → (cond {A = ℕ} b 1 0 ≡ 1) ↔ (b ≡ true)
+reported true = (λ h. refl, λ h. refl)
+reported false = (λ h. absurd (omega arith), λ h. absurd (true_is_no_false (sym h)))
 
 pub compared : (bytes : List ℕ) (k : ℕ) → length bytes ≡ 64 → Each1 (Fits w8) bytes
     → (bit_at (mask_l (map (top 7) (zip2 (λ a b. cond (leb a b) 255 0) (zip2 (λ a b. (a + (256 - b)) % 256) bytes (replicate 64 9)) (replicate 64 1))) % 2 ^ 64) k ≡ 1) ↔ ((k < 64) × (is_mark (get_or bytes k 0) ≡ true))
@@ -84,7 +84,7 @@ compared bytes k long fit =
     let bit : bit_at (mask_l (map is_near bytes)) k ≡ cond (is_near (get_or bytes k 0)) 1 0 = bit_mask_l (map is_near bytes) k ∙ ap (λ b. cond b 1 0) (get_or-map is_near bytes k 0) in
     let whole = ap (λ m. bit_at m k) (near_mask bytes long) ∙ bit in
     let same = lane bytes k long fit in
-    let t = told (is_near (get_or bytes k 0)) in (
+    let t = reported (is_near (get_or bytes k 0)) in (
       λ h.
           let hit : is_mark (get_or bytes k 0) ≡ true = sym same ∙ t.0 (sym whole ∙ h) in
           (⊎_elim (λ l. l) (λ ge. absurd (true_is_no_false (sym hit ∙ ap is_mark (get_or-eq_default bytes 0 (omega (arith, ge, long)))))) (cases_lt k 64), hit),

@@ -11,11 +11,11 @@ use Rattle.tb_conllu.specs.declared.id.LineId.TheVariants.{Word, Span, Empty}
 use Rattle.tb_conllu.specs.Text.{RowText, BlockText, id_text, head_text, fields_of, text_of, lines_of, block_lines, row_line, ended}
 use Rattle.tb_conllu.specs.Shape.{IsIdShaped, IsShort, IsRowShaped, IsCommentText, IsShaped, AllShaped}
 use Rattle.tb_conllu.specs.Lines.{fields, is_empty, is_comment}
-use Rattle.tb_conllu.specs.Told.{IsFile}
+use Rattle.tb_conllu.specs.Reported.{IsFile}
 use Rattle.tb_conllu.proofs.Cuts.{Lacks, cut_same, lacks_not, ended_prefix}
 use Rattle.tb_conllu.proofs.Decimals.{decimal_same}
 use Rattle.tb_conllu.proofs.RowLines.{row_fields, row_begins, hash_is, decimal_lacks}
-use Rattle.tb_conllu.proofs.Told.{lines_cut}
+use Rattle.tb_conllu.proofs.Reported.{lines_cut}
 
 -- ---- a row is known by its line
 

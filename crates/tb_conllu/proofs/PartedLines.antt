@@ -24,7 +24,7 @@ use Rattle.tb_conllu.proofs.Parts.{HasNoTab, split_join}
 use Rattle.tb_conllu.proofs.Reading.{IsRead, line_read, more_lines}
 use Rattle.tb_conllu.proofs.RowLines.{each}
 use Rattle.tb_conllu.proofs.Splits.{ten_with}
-use Rattle.tb_conllu.proofs.Told.{all_append, map_append}
+use Rattle.tb_conllu.proofs.Reported.{all_append, map_append}
 
 -- ---- one line
 

@@ -10,14 +10,14 @@ use Rattle.tb_conllu.specs.declared.fault.ReadFault.TheVariants.{At, Memory}
 use Rattle.tb_conllu.specs.Text.{RowText, BlockText, row_line, block_lines, lines_of, ended, text_of}
 use Rattle.tb_conllu.specs.Shape.{is_control, IsLineText, IsRowShaped, IsCommentText, IsShaped}
 use Rattle.tb_conllu.specs.Lines.{line_code, is_empty, came_through}
-use Rattle.tb_conllu.specs.Told.{IsLine, AreLines, IsNoFile}
+use Rattle.tb_conllu.specs.Reported.{IsLine, AreLines, IsNoFile}
 use Rattle.tb_conllu.specs.Begun.{IsSound, has_rows}
 use Rattle.tb_conllu.specs.Fault.{IsFaultAfter}
 use Rattle.tb_conllu.specs.Plain.{is_stray}
 use Rattle.tb_conllu.specs.Refusal.{IsRefusal, begun, lines_begun}
 use Rattle.tb_conllu.proofs.Cuts.{Lacks, lacks_not, ended-cons, ended_prefix}
 use Rattle.tb_conllu.proofs.RowLines.{text_code, hash_is, row_begins}
-use Rattle.tb_conllu.proofs.Told.{lines_cut, begun_cut, dead, alive, all_append, came_so_far}
+use Rattle.tb_conllu.proofs.Reported.{lines_cut, begun_cut, dead, alive, all_append, came_so_far}
 use Rattle.std.proofs.lemmas.Bool.{cond-true, cond-false}
 
 -- the lines of a sentence that were read from bytes that come after so many lines, and what is left
@@ -74,10 +74,10 @@ quiet_raw rest raw after h e k = quiet_line raw (quiet_parts rest raw after h e)
 
 -- ---- a line at fault
 
-pub line_told : (bytes : List ℕ) (line : ℕ) (block : BlockText) (rest raw after : List ℕ) (at : ℕ) (e : ReadFault) → IsRead bytes line block rest at → rest ≡ raw ++ 10 ∷ after → Lacks 10 raw → IsRefusal (at + 1) (has_rows block.rows) raw e → IsFaultAfter line bytes e
-line_told bytes line block rest raw after at Memory h same cut refused =
+pub line_reported : (bytes : List ℕ) (line : ℕ) (block : BlockText) (rest raw after : List ℕ) (at : ℕ) (e : ReadFault) → IsRead bytes line block rest at → rest ≡ raw ++ 10 ∷ after → Lacks 10 raw → IsRefusal (at + 1) (has_rows block.rows) raw e → IsFaultAfter line bytes e
+line_reported bytes line block rest raw after at Memory h same cut refused =
     omega (arith, ap length h.whole, length-append (ended (lines_begun block)) rest, shorter rest raw after same)
-line_told bytes line block rest raw after at (At l code) h same cut refused =
+line_reported bytes line block rest raw after at (At l code) h same cut refused =
     let before : List (List ℕ) = lines_begun block in
     let came : came_through false before ≡ has_rows block.rows = came_so_far (begun block) h.sound in
     let least : line_code (came_through false before) raw ≡ code = ap (λ c. line_code c raw) came ∙ refused.1 in
@@ -89,7 +89,7 @@ line_told bytes line block rest raw after at (At l code) h same cut refused =
       omega (arith, place, here),
       inl (record {
         before = before;
-        told = raw;
+        reported = raw;
         rest = after;
         whole = h.whole ∙ ap (λ x. ended before ++ x) same ∙ sym (more_lines before raw after);
         cut = lines;
@@ -194,8 +194,8 @@ unended_no_file bytes block rest h whole cut some bs shaped same =
     let nil = ap length (same ∙ ap text_of empty) in
     absurd (omega (arith, nil))
 
-pub end_told : (bytes : List ℕ) (line : ℕ) (block : BlockText) (rest : List ℕ) (at : ℕ) → IsRead bytes line block rest at → Lacks 10 rest → 0 < length bytes → IsFaultAfter line bytes (At (at + 1) 10)
-end_told bytes line block rest at h cut some =
+pub end_reported : (bytes : List ℕ) (line : ℕ) (block : BlockText) (rest : List ℕ) (at : ℕ) → IsRead bytes line block rest at → Lacks 10 rest → 0 < length bytes → IsFaultAfter line bytes (At (at + 1) 10)
+end_reported bytes line block rest at h cut some =
     let before : List (List ℕ) = lines_begun block in
     let place = h.place in (
       length before + 1,

@@ -9,7 +9,7 @@ use Rattle.tb_conllu.specs.Lines.{is_comment, is_empty, is_id, is_head}
 use Rattle.tb_conllu.specs.Marks.{parts}
 use Rattle.tb_conllu.specs.Shape.{IsIdShaped, IsShort, IsRowShaped, IsCommentText}
 use Rattle.tb_conllu.specs.Text.{RowText, BlockText, id_text, head_text, fields_of, row_line, block_lines, text_of, ended}
-use Rattle.tb_conllu.specs.Told.{IsLine}
+use Rattle.tb_conllu.specs.Reported.{IsLine}
 use Rattle.tb_conllu.proofs.Cuts.{cut_same, lacks_not}
 use Rattle.tb_conllu.proofs.OneList.{id_same, head_same}
 use Rattle.tb_conllu.proofs.Marked.{parts_of_rows, some_parts}

@@ -19,7 +19,7 @@ use Rattle.tb_conllu.specs.declared.id.LineId.TheVariants.{Word, Span, Empty}
 use Rattle.tb_conllu.specs.Text.{RowText, row_line, fields_of, id_text, head_text}
 use Rattle.tb_conllu.specs.Shape.{IsRowShaped, IsLineText, IsFieldText, IsTightText, IsIdShaped, IsCommentText, IsShort, is_control, is_tab}
 use Rattle.tb_conllu.specs.Lines.{line_code, word_code, came_after, is_nfc_text, is_number, is_positive, are_two, is_id, is_head, is_empty, is_comment, fields, field, has_ten_fields, has_spaced_field}
-use Rattle.tb_conllu.specs.Told.{IsLine}
+use Rattle.tb_conllu.specs.Reported.{IsLine}
 use Rattle.tb_conllu.proofs.Cuts.{Lacks}
 use Rattle.tb_conllu.proofs.Parts.{HasNoTab, split_at, split_last, split_join, line_from_parts}
 use Rattle.tb_conllu.proofs.Decimals.{is_number-decimal, is_positive-decimal, number_digits, digits_lack, digits_have, begins_word}

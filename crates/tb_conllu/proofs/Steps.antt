@@ -7,7 +7,7 @@ use Rattle.tb_conllu.specs.Lines.{line_code, word_code, is_empty, is_comment}
 use Rattle.tb_conllu.specs.Begun.{IsSound}
 use Rattle.tb_conllu.specs.Refusal.{begun, lines_begun}
 use Rattle.tb_conllu.proofs.RowLines.{text_code}
-use Rattle.tb_conllu.proofs.Told.{all_append}
+use Rattle.tb_conllu.proofs.Reported.{all_append}
 
 -- the code of a line that is neither blank nor a comment is that of a word line
 pub word_line_code : (came : Bool) (t : List ℕ) → IsLineText t → is_empty t ≡ false → is_comment t ≡ false → line_code came t ≡ word_code t

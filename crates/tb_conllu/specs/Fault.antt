@@ -2,14 +2,14 @@
 use Rattle.std.specs.Prelude.{◌≡◌, ◌<◌, ℕ, ◌+◌, List, length}
 use Rattle.tb_conllu.specs.declared.fault.ReadFault.{ReadFault}
 use Rattle.tb_conllu.specs.declared.fault.ReadFault.TheVariants.{At, Memory}
-use Rattle.tb_conllu.specs.Told.{IsTold}
+use Rattle.tb_conllu.specs.Reported.{IsReported}
 
 -- the fault of bytes that come after so many lines; memory is wanted only where there is a byte
 abbrev pub IsFaultAfter : ℕ → List ℕ → ReadFault → Type 0
-IsFaultAfter lines f (At line code) = (n : ℕ) × (line ≡ lines + n) × IsTold f n code
+IsFaultAfter lines f (At line code) = (n : ℕ) × (line ≡ lines + n) × IsReported f n code
 IsFaultAfter lines f Memory = 0 < length f
 
 -- the fault of a whole file
 abbrev pub IsReadFault : List ℕ → ReadFault → Type 0
-IsReadFault f (At line code) = IsTold f line code
+IsReadFault f (At line code) = IsReported f line code
 IsReadFault f Memory = 0 < length f

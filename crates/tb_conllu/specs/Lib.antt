@@ -1,7 +1,7 @@
 pub mod Text
 pub mod Shape
 pub mod Lines
-pub mod Told
+pub mod Reported
 pub mod Begun
 pub mod Words
 pub mod Fault

@@ -1,7 +1,9 @@
 -- What is wrong with one line: the least of nine codes.
 -- CoNLL-U format page: a blank line ends a sentence, a line that begins with a hash is a comment and stands
 -- before the word lines, every other line is a word line of ten fields.
-use Rattle.std.specs.Prelude.{ℕ, List, [], ◌∷◌, length, take, Bool, true, false, ◌&&◌, ◌||◌, not, nat_lt, nat_le, ◌==◌, bytes_eq, if◌then◌else◌, slice_index, slice_index_or, chars}
+use Rattle.std.specs.Prelude.{ℕ, List, [], ◌∷◌, length, take, Bool, true, false, ◌&&◌, ◌||◌, not}
+use Rattle.std.specs.Prelude.{nat_lt, nat_le, ◌==◌, bytes_eq, if◌then◌else◌, slice_index, slice_index_or}
+use Rattle.std.specs.Prelude.{chars}
 use Rattle.std.specs.List.{list_any, list_all, slice_split}
 use Rattle.std.specs.Str.{is_utf8}
 use Rattle.unicode_normalization.specs.Forms.{nfc}
@@ -32,7 +34,8 @@ has_ten_fields line = length (fields line) == 10 && not (list_any is_empty (fiel
 
 -- `0`, or one to six digits of which the first isn't `0`
 abbrev pub is_number : List ℕ → Bool
-is_number ds = list_all is_digit ds && nat_lt 0 (length ds) && nat_le (length ds) 6 && (not (slice_index ds 0 == 48) || length ds == 1)
+is_number ds = list_all is_digit ds && nat_lt 0 (length ds) && nat_le (length ds) 6 && (not
+    (slice_index ds 0 == 48) || length ds == 1)
 
 abbrev pub is_positive : List ℕ → Bool
 is_positive ds = is_number ds && not (bytes_eq ds (48 ∷ []))

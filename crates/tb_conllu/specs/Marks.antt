@@ -1,6 +1,7 @@
 -- Where a text of rows is cut: at tabs and line feeds.
 -- CoNLL-U format page, "CoNLL-U Format": single tabs separate the fields of a word line, and a line feed ends it.
-use Rattle.std.specs.Prelude.{◌≡◌, ◌↔◌, ℕ, ◌+◌, ◌<◌, ◌≤◌, List, length, Bool, true, false, ◌||◌, ◌==◌, slice_index}
+use Rattle.std.specs.Prelude.{◌≡◌, ◌↔◌, ℕ, ◌+◌, ◌<◌, ◌≤◌, List, length, Bool, true, false}
+use Rattle.std.specs.Prelude.{◌||◌, ◌==◌, slice_index}
 use Rattle.std.specs.Int.{bit_at}
 use Rattle.std.specs.List.{slice_split}
 use Rattle.std.specs.Str.{IsUtf8}
@@ -19,7 +20,8 @@ pub record AreMarks (text : List ℕ) (start base marks : ℕ) : Type 0 where
   pub within : base ≤ length text
   pub near : start ≤ base + 64
   pub passed : (k : ℕ) → start ≤ k → k < base → is_mark (slice_index text k) ≡ false
-  pub bits : (k : ℕ) → (bit_at marks k ≡ 1) ↔ ((k < 64) × (start ≤ base + k) × (is_mark (slice_index text (base + k)) ≡ true))
+  pub bits : (k : ℕ) → (bit_at marks k ≡ 1) ↔ ((k < 64) × (start ≤ base + k)
+      × (is_mark (slice_index text (base + k)) ≡ true))
 
 -- what is left begins in the text, and with a character
 pub record IsCutAt (text : List ℕ) (start : ℕ) : Type 0 where

@@ -4,7 +4,8 @@
 -- line of ten fields, with one tab between each two; no field is empty, and only FORM, LEMMA and MISC may hold white
 -- space; an ID is an integer from 1, a range of two, or a decimal number of an empty node; a HEAD is an integer from
 -- 0, or an underscore. Numbers of at most six digits, and no control character but tab, are this project's own limits.
-use Rattle.std.specs.Prelude.{◌≡◌, ◌≢◌, ℕ, ◌<◌, ◌⊎◌, List, [], ◌∷◌, length, take, Any, Bool, true, false, IfSome}
+use Rattle.std.specs.Prelude.{◌≡◌, ◌≢◌, ℕ, ◌<◌, ◌⊎◌, List, [], ◌∷◌, length, take, Any}
+use Rattle.std.specs.Prelude.{Bool, true, false, IfSome}
 use Rattle.std.specs.Prelude.{Option, chars}
 use Rattle.std.specs.Str.{IsUtf8}
 use Rattle.tb_chars.specs.Spaces.{has_space}
@@ -97,4 +98,5 @@ HasNoCode came line = (code : ℕ) → HasCode came line code → ⊥
 
 -- The line has this code, and no lower one.
 abbrev pub HasLeastCode : Bool → List ℕ → ℕ → Type 0
-HasLeastCode came line code = HasCode came line code × ((lower : ℕ) → lower < code → HasCode came line lower → ⊥)
+HasLeastCode came line code = HasCode came line code × ((lower : ℕ) → lower < code
+    → HasCode came line lower → ⊥)

@@ -14,5 +14,7 @@ AllOwed P before [] = ⊤
 AllOwed P before (p ∷ ps) = P before × AllOwed P (before ++ p) ps
 
 -- after some bytes these were asked for, in pieces that were owed
-abbrev pub AskedFor : (List ℕ → Type 0) → List ℕ → Option (List (List ℕ)) → Option (List (List ℕ)) → List ℕ → Type 0
-AskedFor P before old new taken = (ps : List (List ℕ)) × Gives old new ps × (concat ps ≡ taken) × AllOwed P before ps
+abbrev pub AskedFor : (List ℕ → Type 0) → List ℕ → Option (List (List ℕ)) → Option (List (List ℕ))
+    → List ℕ → Type 0
+AskedFor P before old new taken = (ps : List (List ℕ)) × Gives old new ps × (concat ps ≡ taken)
+    × AllOwed P before ps

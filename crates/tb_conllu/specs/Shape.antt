@@ -1,7 +1,8 @@
 -- Which sentences can be written and read back: the shape that the format asks of each of their parts.
 -- CoNLL-U format page: the text is NFC and UTF-8, fields are not empty, only FORM, LEMMA and MISC may hold
 -- spaces, comments begin with a hash. Numbers of at most six digits are this project's own limit.
-use Rattle.std.specs.Prelude.{◌≡◌, ℕ, ◌<◌, ◌≤◌, List, [], ◌∷◌, length, take, IfSome, Bool, false, ◌&&◌, not, nat_lt, ◌==◌, chars}
+use Rattle.std.specs.Prelude.{◌≡◌, ℕ, ◌<◌, ◌≤◌, List, [], ◌∷◌, length, take, IfSome, Bool}
+use Rattle.std.specs.Prelude.{false, ◌&&◌, not, nat_lt, ◌==◌, chars}
 use Rattle.std.specs.List.{AllByRecursion, list_any}
 use Rattle.std.specs.Str.{IsUtf8}
 use Rattle.tb_chars.specs.Spaces.{has_space}

@@ -1,5 +1,6 @@
 -- What a writer answers each time that it is asked to take some of a text, and when writing the text ends.
-use Rattle.std.specs.Prelude.{◌≡◌, ℕ, ◌+◌, ◌<◌, ◌≤◌, List, [], ◌∷◌, ◌++◌, length, Option, Some, None, Result, Ok, Err}
+use Rattle.std.specs.Prelude.{◌≡◌, ℕ, ◌+◌, ◌<◌, ◌≤◌, List, [], ◌∷◌, ◌++◌, length}
+use Rattle.std.specs.Prelude.{Option, Some, None, Result, Ok, Err}
 use Rattle.std.specs.Prelude.{⊤, ◌⊎◌}
 use Rattle.std.specs.List.{AllByRecursion}
 use Rattle.tb_conllu.specs.declared.sink.Stop.{Stop}

@@ -24,7 +24,8 @@ pub struct TenFields<'a> {
 
 /// The first field of a line and what follows its tab; `None` where no tab is left.
 fn next_field(line: &str) -> Option<(&str, &str)>
-    ensures { MatchOption result (fields line.now ≡ line.now ∷ []) (λ p. fields line.now ≡ p.0.now ∷ fields p.1.now) }
+    ensures { MatchOption result (fields line.now ≡ line.now ∷ []) (λ p.
+        fields line.now ≡ p.0.now ∷ fields p.1.now) }
 {
     let end = memchr(b'\t', line.as_bytes())?;
     Some((&line[..end], &line[end + 1..]))
@@ -83,7 +84,8 @@ fn any_empty(p: TenFields<'_>) -> bool
 
 /// The fields of a line that has ten, none of them empty.
 pub fn ten_fields(line: &str) -> Option<TenFields<'_>>
-    ensures { MatchOption result (has_ten_fields line.now ≡ false) (λ p. (has_ten_fields line.now ≡ true) × (fields line.now ≡ list_of p)) }
+    ensures { MatchOption result (has_ten_fields line.now ≡ false) (λ p. (has_ten_fields line.now ≡ true)
+        × (fields line.now ≡ list_of p)) }
 {
     let p = cut(line)?;
     if any_empty(p) {

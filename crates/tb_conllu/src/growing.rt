@@ -48,7 +48,10 @@ pub fn is_hashed(text: &str) -> bool
 }
 
 pub fn add_comment<T: Text>(block: &mut BlockOf<T>, text: T) -> Result<(), AllocError>
-    ensures ok { OnOk result (block.new ≡ record { comments = block.old.comments ++ T.bytes text ∷ []; rows = block.old.rows }) }
+    ensures ok { OnOk result (block.new ≡ record {
+      comments = block.old.comments ++ T.bytes text ∷ [];
+      rows = block.old.rows;
+    }) }
 {
     block.comments.push(text)?;
     Ok(())
@@ -56,7 +59,10 @@ pub fn add_comment<T: Text>(block: &mut BlockOf<T>, text: T) -> Result<(), Alloc
 
 #[inline(always)]
 pub fn add_row<T: Text>(block: &mut BlockOf<T>, row: RowOf<T>) -> Result<(), AllocError>
-    ensures ok { OnOk result (block.new ≡ record { comments = block.old.comments; rows = block.old.rows ++ row ∷ [] }) }
+    ensures ok { OnOk result (block.new ≡ record {
+      comments = block.old.comments;
+      rows = block.old.rows ++ row ∷ [];
+    }) }
 {
     block.rows.push(row)?;
     Ok(())

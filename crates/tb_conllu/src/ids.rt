@@ -12,7 +12,9 @@ use crate::pieces::cut_once;
 
 /// `n-m`.
 fn span(text: &[u8]) -> Option<(u32, u32)>
-    ensures { MatchOption result (is_span text.now ≡ false) (λ p. (is_span text.now ≡ true) × (decimal p.0 ++ 45 ∷ decimal p.1 ≡ text.now) × ((1 ≤ p.0) × IsShort p.0) × ((1 ≤ p.1) × IsShort p.1)) }
+    ensures { MatchOption result (is_span text.now ≡ false) (λ p. (is_span text.now ≡ true)
+        × (decimal p.0 ++ 45 ∷ decimal p.1 ≡ text.now) × ((1 ≤ p.0) × IsShort p.0)
+        × ((1 ≤ p.1) × IsShort p.1)) }
 {
     let (before, after) = cut_once(b'-', text)?;
     let first = positive(before)?;
@@ -22,7 +24,8 @@ fn span(text: &[u8]) -> Option<(u32, u32)>
 
 /// `i.k`.
 fn node(text: &[u8]) -> Option<(u32, u32)>
-    ensures { MatchOption result (is_node text.now ≡ false) (λ p. (is_node text.now ≡ true) × (decimal p.0 ++ 46 ∷ decimal p.1 ≡ text.now) × IsShort p.0 × ((1 ≤ p.1) × IsShort p.1)) }
+    ensures { MatchOption result (is_node text.now ≡ false) (λ p. (is_node text.now ≡ true)
+        × (decimal p.0 ++ 46 ∷ decimal p.1 ≡ text.now) × IsShort p.0 × ((1 ≤ p.1) × IsShort p.1)) }
 {
     let (before, after) = cut_once(b'.', text)?;
     let word = number(before)?;
@@ -32,7 +35,8 @@ fn node(text: &[u8]) -> Option<(u32, u32)>
 
 /// The ID that a text spells: `n`, `n-m` or `i.k`, where n, m and k are at least 1.
 pub fn id_of(text: &str) -> Option<LineId>
-    ensures { MatchOption result (is_id text.now ≡ false) (λ id. (is_id text.now ≡ true) × (id_text id ≡ text.now) × IsIdShaped id) }
+    ensures { MatchOption result (is_id text.now ≡ false) (λ id. (is_id text.now ≡ true)
+        × (id_text id ≡ text.now) × IsIdShaped id) }
 {
     let bytes = text.as_bytes();
     if let Some(n) = positive(bytes) {
@@ -49,7 +53,8 @@ pub fn id_of(text: &str) -> Option<LineId>
 
 /// The HEAD that a text spells: `_`, or a number; `None` where it is neither.
 pub fn head_of(text: &str) -> Option<Option<u32>>
-    ensures { MatchOption result (is_head text.now ≡ false) (λ head. (is_head text.now ≡ true) × (head_text head ≡ text.now) × IfSome head IsShort) }
+    ensures { MatchOption result (is_head text.now ≡ false) (λ head. (is_head text.now ≡ true)
+        × (head_text head ≡ text.now) × IfSome head IsShort) }
 {
     if text == "_" {
         return Some(None);

@@ -1,21 +1,22 @@
 //! Sentences of texts that are known to be those of sentences, as the texts are that a desk keeps: they are cut, and
 //! nothing of them is tested again but that they are UTF-8.
 
-ghost use Rattle.std.specs.Prelude.{◌≡◌, ◌<◌, ℕ, List, [], ◌∷◌, ◌++◌, map, length, nat_le, true, false, Some, IfOk, IfSome, OnOk, MatchOption, MatchBool};
+ghost use Rattle.std.specs.Prelude.{◌≡◌, ◌<◌, ℕ, List, [], ◌∷◌, ◌++◌, map, length, nat_le, true};
+ghost use Rattle.std.specs.Prelude.{false, Some, IfOk, IfSome, OnOk, MatchOption, MatchBool};
 ghost use Rattle.std.specs.List.{AllByRecursion};
 ghost use Rattle.tb_conllu.specs.Lines.{is_comment};
 ghost use Rattle.tb_conllu.specs.Marks.{parts};
 ghost use Rattle.tb_conllu.specs.Shape.{IsCommentText, IsRowShaped};
 ghost use Rattle.tb_conllu.specs.TenFields.{list_of};
 ghost use Rattle.tb_conllu.specs.Text.{RowText, BlockText, ended, fields_of, row_line};
-ghost use Rattle.tb_conllu.specs.Told.{IsFile, IsLine};
+ghost use Rattle.tb_conllu.specs.Reported.{IsFile, IsLine};
 
-use crate::cutter::Cutter;
 use crate::fields::{TenFields, is_empty_text};
 use crate::growing::{add_comment, add_row, is_hashed};
 use crate::ids::{head_of, id_of};
 use crate::rowline::row_from;
 use crate::rows::{BlockOf, BlockRef, RowRef};
+use crate::scanner::FieldScanner;
 use memchr::memchr;
 use simdutf8::basic::from_utf8;
 use std::alloc::{AllocError, Global};
@@ -30,8 +31,11 @@ fn next_line(text: &str) -> Option<(&str, &str)>
 
 /// Takes the comments with which a text begins into the sentence. Answers what follows them.
 fn take_comments<'a>(block: &mut BlockRef<'a>, text: &'a str) -> Result<&'a str, AllocError>
-    ensures taken { (cs : List (List ℕ)) (rest : List ℕ) → AllByRecursion IsCommentText cs → is_comment rest ≡ false → text.now ≡ ended cs ++ rest → OnOk result (block.new ≡ record { comments = block.old.comments ++ cs; rows = block.old.rows }) }
-    ensures left { (cs : List (List ℕ)) (rest : List ℕ) → AllByRecursion IsCommentText cs → is_comment rest ≡ false → text.now ≡ ended cs ++ rest → IfOk result (λ left. left.now ≡ rest) }
+    ensures taken { (cs : List (List ℕ)) (rest : List ℕ) → AllByRecursion IsCommentText cs
+        → is_comment rest ≡ false → text.now ≡ ended cs ++ rest
+        → OnOk result (block.new ≡ record { comments = block.old.comments ++ cs; rows = block.old.rows }) }
+    ensures left { (cs : List (List ℕ)) (rest : List ℕ) → AllByRecursion IsCommentText cs
+        → is_comment rest ≡ false → text.now ≡ ended cs ++ rest → IfOk result (λ left. left.now ≡ rest) }
 {
     let mut left = text;
     while is_hashed(left) {
@@ -46,16 +50,18 @@ fn take_comments<'a>(block: &mut BlockRef<'a>, text: &'a str) -> Result<&'a str,
 
 /// What stands before the next tab or line feed, which is passed by; `None` where no such is left.
 #[inline(always)]
-fn next_part<'a>(cutter: &mut Cutter<'a>) -> Option<&'a str>
-    ensures { MatchOption result (parts cutter.old ≡ cutter.old ∷ []) (λ part. parts cutter.old ≡ part.now ∷ parts cutter.new) }
+fn next_part<'a>(cutter: &mut FieldScanner<'a>) -> Option<&'a str>
+    ensures { MatchOption result (parts cutter.old ≡ cutter.old ∷ []) (λ part.
+        parts cutter.old ≡ part.now ∷ parts cutter.new) }
 {
     cutter.cut()
 }
 
 /// The ten fields of a row of which the first is at hand; `None` where fewer are left.
 #[inline(always)]
-fn fields_after<'a>(id: &'a str, cutter: &mut Cutter<'a>) -> Option<TenFields<'a>>
-    ensures { MatchOption result (nat_le (length (parts cutter.old)) 9 ≡ true) (λ p. id.now ∷ parts cutter.old ≡ list_of p ++ parts cutter.new) }
+fn fields_after<'a>(id: &'a str, cutter: &mut FieldScanner<'a>) -> Option<TenFields<'a>>
+    ensures { MatchOption result (nat_le (length (parts cutter.old)) 9 ≡ true) (λ p. id.now ∷ parts cutter.old
+        ≡ list_of p ++ parts cutter.new) }
 {
     let form = next_part(cutter)?;
     let lemma = next_part(cutter)?;
@@ -82,9 +88,11 @@ fn fields_after<'a>(id: &'a str, cutter: &mut Cutter<'a>) -> Option<TenFields<'a
 
 /// The row of which the first field is at hand.
 #[inline(always)]
-fn row_after<'a>(id: &'a str, cutter: &mut Cutter<'a>) -> Option<RowRef<'a>>
-    ensures row { (r : RowText) (rest : List (List ℕ)) → IsRowShaped r → 0 < length rest → id.now ∷ parts cutter.old ≡ fields_of r ++ rest → MatchOption result ⊥ (λ x. x ≡ r) }
-    ensures rest { (r : RowText) (rest : List (List ℕ)) → IsRowShaped r → 0 < length rest → id.now ∷ parts cutter.old ≡ fields_of r ++ rest → parts cutter.new ≡ rest }
+fn row_after<'a>(id: &'a str, cutter: &mut FieldScanner<'a>) -> Option<RowRef<'a>>
+    ensures row { (r : RowText) (rest : List (List ℕ)) → IsRowShaped r → 0 < length rest
+        → id.now ∷ parts cutter.old ≡ fields_of r ++ rest → MatchOption result ⊥ (λ x. x ≡ r) }
+    ensures rest { (r : RowText) (rest : List (List ℕ)) → IsRowShaped r → 0 < length rest
+        → id.now ∷ parts cutter.old ≡ fields_of r ++ rest → parts cutter.new ≡ rest }
     ensures fewer { IfSome result (λ _. length (parts cutter.new) < length (parts cutter.old)) }
 {
     let Some(fields) = fields_after(id, cutter) else {
@@ -112,10 +120,13 @@ fn roomy_block<'a>(alloc: Global, bytes: usize) -> Result<BlockRef<'a>, AllocErr
 
 /// Takes the rows of a text, up to a blank line, into the sentence. Answers whether it came to one.
 fn take_rows<'a>(block: &mut BlockRef<'a>, text: &'a str) -> Result<bool, AllocError>
-    ensures whole { (rs : List RowText) → AllByRecursion IsRowShaped rs → text.now ≡ ended (map row_line rs ++ [] ∷ []) → IfOk result (λ whole. whole ≡ true) }
-    ensures taken { (rs : List RowText) → AllByRecursion IsRowShaped rs → text.now ≡ ended (map row_line rs ++ [] ∷ []) → OnOk result (block.new ≡ record { comments = block.old.comments; rows = block.old.rows ++ rs }) }
+    ensures whole { (rs : List RowText) → AllByRecursion IsRowShaped rs
+        → text.now ≡ ended (map row_line rs ++ [] ∷ []) → IfOk result (λ whole. whole ≡ true) }
+    ensures taken { (rs : List RowText) → AllByRecursion IsRowShaped rs
+        → text.now ≡ ended (map row_line rs ++ [] ∷ [])
+        → OnOk result (block.new ≡ record { comments = block.old.comments; rows = block.old.rows ++ rs }) }
 {
-    let mut cutter = Cutter::new(text);
+    let mut cutter = FieldScanner::new(text);
     while let Some(id) = next_part(&mut cutter) {
         if is_empty_text(id) {
             return Ok(true);

@@ -1,6 +1,7 @@
 //! Laws of files and faults: each function only states a fact about the definitions, and runs nothing.
 
-ghost use Rattle.std.specs.Prelude.{◌≡◌, ◌↔◌, ◌<◌, ◌+◌, ℕ, Bool, List, [], ◌∷◌, ◌++◌, length, false};
+ghost use Rattle.std.specs.Prelude.{◌≡◌, ◌↔◌, ◌<◌, ◌+◌, ℕ, Bool, List, [], ◌∷◌, ◌++◌};
+ghost use Rattle.std.specs.Prelude.{length, false};
 ghost use Rattle.tb_conllu.specs.Fault.{IsFaultAfter, IsReadFault};
 ghost use Rattle.tb_conllu.specs.Left.{Left, IsNext, IsReadTo};
 ghost use Rattle.tb_conllu.specs.declared.fault.ReadFault.{ReadFault};
@@ -9,7 +10,7 @@ ghost use Rattle.tb_conllu.specs.Lines.{line_code, came_through};
 ghost use Rattle.tb_conllu.specs.NineCodes.{HasLeastCode, HasNoCode};
 ghost use Rattle.tb_conllu.specs.Shape.{AllShaped};
 ghost use Rattle.tb_conllu.specs.Text.{BlockText, text_of, lines_of};
-ghost use Rattle.tb_conllu.specs.Told.{AreLines, IsDead, IsFile, IsNoFile, IsTold};
+ghost use Rattle.tb_conllu.specs.Reported.{AreLines, IsDead, IsFile, IsNoFile, IsReported};
 
 /// The code of a line is the least of the nine that it has; 0 where it has none.
 pub fn a_line_has_its_least_code()
@@ -20,7 +21,8 @@ pub fn a_line_has_its_least_code()
 
 /// A line at fault is dead, with the lines before it.
 pub fn faulty_line_is_dead()
-    ensures { (before : List (List ℕ)) (told : List ℕ) → AreLines (before ++ told ∷ []) → 0 < line_code (came_through false before) told → IsDead (before ++ told ∷ []) }
+    ensures { (before : List (List ℕ)) (reported : List ℕ) → AreLines (before ++ reported ∷ [])
+        → 0 < line_code (came_through false before) reported → IsDead (before ++ reported ∷ []) }
 {}
 
 /// Lines that were read without a fault can still become a file.
@@ -35,29 +37,36 @@ pub fn one_list_has_a_text()
 
 /// A file that begins with the text of shaped sentences begins with these sentences.
 pub fn a_file_begins_one_way()
-    ensures { (bs cs : List BlockText) (rest : List ℕ) → AllShaped bs → AllShaped cs → text_of cs ≡ text_of bs ++ rest → (more : List BlockText) × (cs ≡ bs ++ more) × IsFile rest more }
+    ensures { (bs cs : List BlockText) (rest : List ℕ) → AllShaped bs → AllShaped cs
+        → text_of cs ≡ text_of bs ++ rest → (more : List BlockText) × (cs ≡ bs ++ more) × IsFile rest more }
 {}
 
 /// A fault of what follows whole sentences is the fault of the whole, so many lines later.
 pub fn fault_after_sentences()
-    ensures { (bs : List BlockText) (f : List ℕ) (line code : ℕ) → AllShaped bs → IsTold f line code → IsTold (text_of bs ++ f) (length (lines_of bs) + line) code }
+    ensures { (bs : List BlockText) (f : List ℕ) (line code : ℕ) → AllShaped bs → IsReported f line code
+        → IsReported (text_of bs ++ f) (length (lines_of bs) + line) code }
 {}
 
 /// Bytes of which a fault is told are no file.
-pub fn told_bytes_are_no_file()
-    ensures { (f : List ℕ) (line code : ℕ) → IsTold f line code → IsNoFile f }
+pub fn reported_bytes_are_no_file()
+    ensures { (f : List ℕ) (line code : ℕ) → IsReported f line code → IsNoFile f }
 {}
 
 /// At most one fault is told of any bytes.
-pub fn one_fault_is_told()
-    ensures { (f : List ℕ) (line code other_line other_code : ℕ) → IsTold f line code → IsTold f other_line other_code → (line ≡ other_line) × (code ≡ other_code) }
+pub fn one_fault_is_reported()
+    ensures { (f : List ℕ) (line code other_line other_code : ℕ) → IsReported f line code
+        → IsReported f other_line other_code → (line ≡ other_line) × (code ≡ other_code) }
 {}
 
 /// A file that is read one sentence after another: what the next one leaves, the end, all that is left, and a fault.
 pub fn a_file_is_read_in_order()
     ensures begin { (f : List ℕ) → IsReadTo f [] (record { rest = f; line = 0 }) }
-    ensures next { (f : List ℕ) (bs : List BlockText) (old new : Left) (b : BlockText) → IsReadTo f bs old → IsNext old new b → IsReadTo f (bs ++ b ∷ []) new }
-    ensures end { (f : List ℕ) (bs : List BlockText) (left : Left) → IsReadTo f bs left → left.rest ≡ [] → IsFile f bs }
-    ensures rest { (f : List ℕ) (bs more : List BlockText) (left : Left) → IsReadTo f bs left → IsFile left.rest more → IsFile f (bs ++ more) }
-    ensures fault { (f : List ℕ) (bs : List BlockText) (left : Left) (e : ReadFault) → IsReadTo f bs left → IsFaultAfter left.line left.rest e → IsReadFault f e }
+    ensures next { (f : List ℕ) (bs : List BlockText) (old new : Left) (b : BlockText) → IsReadTo f bs old
+        → IsNext old new b → IsReadTo f (bs ++ b ∷ []) new }
+    ensures end { (f : List ℕ) (bs : List BlockText) (left : Left) → IsReadTo f bs left → left.rest ≡ []
+        → IsFile f bs }
+    ensures rest { (f : List ℕ) (bs more : List BlockText) (left : Left) → IsReadTo f bs left
+        → IsFile left.rest more → IsFile f (bs ++ more) }
+    ensures fault { (f : List ℕ) (bs : List BlockText) (left : Left) (e : ReadFault) → IsReadTo f bs left
+        → IsFaultAfter left.line left.rest e → IsReadFault f e }
 {}

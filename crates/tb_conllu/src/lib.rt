@@ -3,7 +3,6 @@
 #![tactic(auto)]
 
 mod counts;
-mod cutter;
 mod fault;
 mod fields;
 mod growing;
@@ -19,6 +18,7 @@ mod quick;
 mod round;
 mod rowline;
 mod rows;
+mod scanner;
 mod sentences;
 mod sink;
 mod source;
@@ -34,14 +34,14 @@ pub use ids::{head_of, id_of};
 pub use known::known_block;
 pub use laws::{
     a_file_begins_one_way, a_file_is_read_in_order, a_line_has_its_least_code,
-    fault_after_sentences, faulty_line_is_dead, one_fault_is_told, one_list_has_a_text,
-    read_lines_are_alive, told_bytes_are_no_file,
+    fault_after_sentences, faulty_line_is_dead, one_fault_is_reported, one_list_has_a_text,
+    read_lines_are_alive, reported_bytes_are_no_file,
 };
 pub use owned::{own_block, own_row};
 pub use round::{reread, rewrite};
 pub use rowline::row_of;
 pub use rows::{Block, BlockOf, BlockRef, Row, RowOf, RowRef};
-pub use sentences::{Passage, Sentences};
+pub use sentences::{Sentences, SourcedSentence};
 pub use sink::Sink;
 pub use source::{SliceSource, Source, SourceFault};
 pub use text::Text;

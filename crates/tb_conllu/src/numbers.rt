@@ -30,7 +30,8 @@ fn value(text: &[u8]) -> u32
 
 /// The number that a text spells: `0`, or one to six digits of which the first isn't `0`.
 pub fn number(text: &[u8]) -> Option<u32>
-    ensures { MatchOption result (is_number text.now ≡ false) (λ n. (is_number text.now ≡ true) × (decimal n ≡ text.now) × IsShort n) }
+    ensures { MatchOption result (is_number text.now ≡ false) (λ n. (is_number text.now ≡ true)
+        × (decimal n ≡ text.now) × IsShort n) }
 {
     if test_number(text) {
         Some(value(text))
@@ -41,7 +42,8 @@ pub fn number(text: &[u8]) -> Option<u32>
 
 /// The number that a text spells, where it isn't 0.
 pub fn positive(text: &[u8]) -> Option<u32>
-    ensures { MatchOption result (is_positive text.now ≡ false) (λ n. (is_positive text.now ≡ true) × (decimal n ≡ text.now) × (1 ≤ n) × IsShort n) }
+    ensures { MatchOption result (is_positive text.now ≡ false) (λ n. (is_positive text.now ≡ true)
+        × (decimal n ≡ text.now) × (1 ≤ n) × IsShort n) }
 {
     let n = number(text)?;
     if n == 0 {

@@ -1,7 +1,8 @@
 //! Rows read one after another of a text that was tested as a whole: its tabs and line feeds are found 64 bytes at a time, and
 //! a row that is not plainly one is left to those who tell what it is.
 
-ghost use Rattle.std.specs.Prelude.{◌≡◌, ℕ, List, [], ◌∷◌, ◌++◌, map, take, slice_index, IfOk, IfSome, IsTrue, ◌||◌};
+ghost use Rattle.std.specs.Prelude.{◌≡◌, ℕ, List, [], ◌∷◌, ◌++◌, map, take, slice_index, IfOk};
+ghost use Rattle.std.specs.Prelude.{IfSome, IsTrue, ◌||◌};
 ghost use Rattle.std.specs.List.{AllByRecursion, join_with_byte, list_any};
 ghost use Rattle.tb_chars.specs.Digits.{is_digit};
 ghost use Rattle.tb_chars.specs.Spaces.{has_space};
@@ -10,22 +11,22 @@ ghost use Rattle.tb_conllu.specs.Shape.{IsRowShaped};
 ghost use Rattle.tb_conllu.specs.TenFields.{IsParted, list_of};
 ghost use Rattle.tb_conllu.specs.Tested.{HoldsOf};
 ghost use Rattle.tb_conllu.specs.Text.{RowText, ended, row_line};
-ghost use Rattle.tb_conllu.specs.Told.{IsLine};
+ghost use Rattle.tb_conllu.specs.Reported.{IsLine};
 
-use crate::cutter::Cutter;
 use crate::fields::TenFields;
 use crate::growing::add_row;
 use crate::ids::{head_of, id_of};
 use crate::linetext::{Tested, is_composed};
 use crate::rowline::{any_field_spaced, row_from};
 use crate::rows::{BlockRef, RowRef};
+use crate::scanner::FieldScanner;
 use crate::spaces::any_wide_near;
 use std::alloc::{AllocError, Global};
 use tb_chars::is_digit_byte;
 
 /// The field that this mark ends; `None` where it is empty, or not ended so.
 #[inline(always)]
-fn field_before<'a>(cutter: &mut Cutter<'a>, mark: u8) -> Option<&'a str>
+fn field_before<'a>(cutter: &mut FieldScanner<'a>, mark: u8) -> Option<&'a str>
     ensures { IfSome result (λ field. IsParted field.now × (cutter.old ≡ field.now ++ mark ∷ cutter.new)) }
 {
     let unread = cutter.left();
@@ -38,8 +39,9 @@ fn field_before<'a>(cutter: &mut Cutter<'a>, mark: u8) -> Option<&'a str>
 
 /// The fields of the line with which what is left begins, which is passed by; `None` where it has not ten, all of them filled.
 #[inline(always)]
-fn fields_next<'a>(cutter: &mut Cutter<'a>) -> Option<TenFields<'a>>
-    ensures { IfSome result (λ p. AllByRecursion IsParted (list_of p) × (cutter.old ≡ join_with_byte 9 (list_of p) ++ 10 ∷ cutter.new)) }
+fn fields_next<'a>(cutter: &mut FieldScanner<'a>) -> Option<TenFields<'a>>
+    ensures { IfSome result (λ p. AllByRecursion IsParted (list_of p)
+        × (cutter.old ≡ join_with_byte 9 (list_of p) ++ 10 ∷ cutter.new)) }
 {
     let id = field_before(cutter, b'\t')?;
     let form = field_before(cutter, b'\t')?;
@@ -80,7 +82,8 @@ fn any_spaced_next(unread: &str, line: &str, p: TenFields<'_>) -> bool
     requires first { (rest : List ℕ) × (unread.now ≡ line.now ++ 10 ∷ rest) }
     requires cut { IsLine line.now }
     requires fields { fields line.now ≡ list_of p }
-    ensures { result ≡ (has_space p.entry.upos.now || has_space p.entry.xpos.now || has_space p.entry.feats.now || has_space p.entry.head.now || has_space p.entry.deprel.now || has_space p.entry.deps.now) }
+    ensures { result ≡
+        (has_space p.entry.upos.now || has_space p.entry.xpos.now || has_space p.entry.feats.now || has_space p.entry.head.now || has_space p.entry.deprel.now || has_space p.entry.deps.now) }
 {
     any_wide_near(unread.as_bytes(), line.len()) && any_field_spaced(p)
 }
@@ -89,12 +92,13 @@ fn any_spaced_next(unread: &str, line: &str, p: TenFields<'_>) -> bool
 #[inline(always)]
 fn row_next<'a>(
     alloc: Global,
-    cutter: &mut Cutter<'a>,
+    cutter: &mut FieldScanner<'a>,
     tested: Tested,
 ) -> Result<Option<RowRef<'a>>, AllocError>
     requires tested { HoldsOf tested cutter.now }
     requires quiet { IsTrue tested.quiet }
-    ensures { IfOk result (λ row. IfSome row (λ r. IsRowShaped r × (cutter.old ≡ row_line r ++ 10 ∷ cutter.new))) }
+    ensures { IfOk result (λ row. IfSome row (λ r. IsRowShaped r
+        × (cutter.old ≡ row_line r ++ 10 ∷ cutter.new))) }
 {
     let unread = cutter.left();
     let Some(fields) = fields_next(cutter) else {
@@ -133,9 +137,11 @@ pub fn take_rows<'a>(
 ) -> Result<&'a str, AllocError>
     requires tested { HoldsOf tested text.now }
     requires quiet { IsTrue tested.quiet }
-    ensures { IfOk result (λ left. (rs : List RowText) × AllByRecursion IsRowShaped rs × (block.new ≡ record { comments = block.old.comments; rows = block.old.rows ++ rs }) × (text.now ≡ ended (map row_line rs) ++ left.now)) }
+    ensures { IfOk result (λ left. (rs : List RowText) × AllByRecursion IsRowShaped rs
+        × (block.new ≡ record { comments = block.old.comments; rows = block.old.rows ++ rs })
+        × (text.now ≡ ended (map row_line rs) ++ left.now)) }
 {
-    let mut cutter = Cutter::new(text);
+    let mut cutter = FieldScanner::new(text);
     let mut left = text;
     while is_numbered(left.as_bytes()) {
         let Some(row) = row_next(alloc, &mut cutter, tested)? else {

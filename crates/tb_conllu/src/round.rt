@@ -4,7 +4,7 @@ ghost use Rattle.std.specs.Prelude.{◌≡◌, List, IfOk, IfErr, MatchResult};
 ghost use Rattle.tb_conllu.specs.Fault.{IsReadFault};
 ghost use Rattle.tb_conllu.specs.Shape.{AllShaped};
 ghost use Rattle.tb_conllu.specs.Text.{BlockText, text_of};
-ghost use Rattle.tb_conllu.specs.Told.{IsFile};
+ghost use Rattle.tb_conllu.specs.Reported.{IsFile};
 ghost use Rattle.tb_conllu.specs.declared.fault.ReadFault.TheVariants.{Memory};
 
 use crate::fault::ReadFault;
@@ -19,8 +19,8 @@ use std::alloc::Global;
 ///
 /// The file's fault, as `read` tells it, or want of memory.
 pub fn rewrite(alloc: Global, bytes: &[u8]) -> Result<Vec<u8>, ReadFault>
-    ensures same { IfOk result (λ v. v.items ≡ bytes.now) }
-    ensures told { IfErr result (IsReadFault bytes.now) }
+    ensures unchanged { IfOk result (λ v. v.items ≡ bytes.now) }
+    ensures reported { IfErr result (IsReadFault bytes.now) }
     ensures only { (bs : List BlockText) → IsFile bytes.now bs → IfErr result (λ e. e ≡ Memory) }
 {
     if bytes.is_empty() {
@@ -36,9 +36,10 @@ pub fn rewrite(alloc: Global, bytes: &[u8]) -> Result<Vec<u8>, ReadFault>
 ///
 /// Want of memory; the fault of the text, where a sentence is not shaped so.
 pub fn reread(alloc: Global, blocks: &[Block]) -> Result<Vec<Block>, ReadFault>
-    ensures same { AllShaped blocks.now → MatchResult result (λ v. v.items ≡ blocks.now) (λ e. e ≡ Memory) }
+    ensures unchanged { AllShaped blocks.now → MatchResult result (λ v. v.items ≡ blocks.now) (λ e.
+        e ≡ Memory) }
     ensures file { IfOk result (λ v. IsFile (text_of blocks.now) v.items) }
-    ensures told { IfErr result (IsReadFault (text_of blocks.now)) }
+    ensures reported { IfErr result (IsReadFault (text_of blocks.now)) }
 {
     if blocks.is_empty() {
         return Ok(Vec::new(alloc));

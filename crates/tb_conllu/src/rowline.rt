@@ -15,7 +15,8 @@ use crate::spaces::any_loose;
 use tb_chars::has_white_space;
 
 pub fn any_field_spaced(p: TenFields<'_>) -> bool
-    ensures { result ≡ (has_space p.entry.upos.now || has_space p.entry.xpos.now || has_space p.entry.feats.now || has_space p.entry.head.now || has_space p.entry.deprel.now || has_space p.entry.deps.now) }
+    ensures { result ≡
+        (has_space p.entry.upos.now || has_space p.entry.xpos.now || has_space p.entry.feats.now || has_space p.entry.head.now || has_space p.entry.deprel.now || has_space p.entry.deps.now) }
 {
     has_white_space(p.upos)
         || has_white_space(p.xpos)
@@ -28,7 +29,8 @@ pub fn any_field_spaced(p: TenFields<'_>) -> bool
 /// Whether one of the fields that may hold no white space has some.
 fn any_spaced(line: &str, p: TenFields<'_>) -> bool
     requires { fields line.now ≡ list_of p }
-    ensures { result ≡ (has_space p.entry.upos.now || has_space p.entry.xpos.now || has_space p.entry.feats.now || has_space p.entry.head.now || has_space p.entry.deprel.now || has_space p.entry.deps.now) }
+    ensures { result ≡
+        (has_space p.entry.upos.now || has_space p.entry.xpos.now || has_space p.entry.feats.now || has_space p.entry.head.now || has_space p.entry.deprel.now || has_space p.entry.deps.now) }
 {
     any_loose(line.as_bytes()) && any_field_spaced(p)
 }
@@ -36,7 +38,18 @@ fn any_spaced(line: &str, p: TenFields<'_>) -> bool
 /// The row of these fields, with its ID and its HEAD as they were read.
 #[inline(always)]
 pub fn row_from<'a>(p: TenFields<'a>, id: LineId, head: Option<u32>) -> RowRef<'a>
-    ensures { result ≡ record { id = id; form = p.entry.form.now; lemma = p.entry.lemma.now; upos = p.entry.upos.now; xpos = p.entry.xpos.now; feats = p.entry.feats.now; head = head; deprel = p.entry.deprel.now; deps = p.entry.deps.now; misc = p.entry.misc.now } }
+    ensures { result ≡ record {
+      id = id;
+      form = p.entry.form.now;
+      lemma = p.entry.lemma.now;
+      upos = p.entry.upos.now;
+      xpos = p.entry.xpos.now;
+      feats = p.entry.feats.now;
+      head = head;
+      deprel = p.entry.deprel.now;
+      deps = p.entry.deps.now;
+      misc = p.entry.misc.now;
+    } }
 {
     RowOf {
         id,

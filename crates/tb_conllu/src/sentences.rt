@@ -1,6 +1,7 @@
 //! Sentences read one after another.
 
-ghost use Rattle.std.specs.Prelude.{◌≡◌, ◌+◌, ◌<◌, ◌≤◌, ◌-◌, ◌^◌, List, [], ◌∷◌, ◌++◌, IfOk, IfErr, IfSome, OnOk, MatchOption, length, map, take};
+ghost use Rattle.std.specs.Prelude.{◌≡◌, ◌+◌, ◌<◌, ◌≤◌, ◌-◌, ◌^◌, List, [], ◌∷◌};
+ghost use Rattle.std.specs.Prelude.{◌++◌, IfOk, IfErr, IfSome, OnOk, MatchOption, length, map, take};
 ghost use Rattle.std.specs.List.{AllByRecursion};
 ghost use Rattle.std.specs.Str.{IsUtf8};
 ghost use Rattle.tb_conllu.specs.Fault.{IsFaultAfter};
@@ -8,7 +9,7 @@ ghost use Rattle.tb_conllu.specs.Left.{Left, IsNext};
 ghost use Rattle.tb_conllu.specs.Shape.{IsRowShaped, IsShaped};
 ghost use Rattle.tb_conllu.specs.Tested.{HoldsOf};
 ghost use Rattle.tb_conllu.specs.Text.{BlockText, RowText, block_lines, ended, row_line, text_of};
-ghost use Rattle.tb_conllu.specs.Told.{IsFile};
+ghost use Rattle.tb_conllu.specs.Reported.{IsFile};
 
 use crate::fault::ReadFault;
 use crate::fields::is_empty_text;
@@ -49,7 +50,9 @@ fn quick_rows<'a>(
     tested: Tested,
 ) -> Result<&'a [u8], AllocError>
     requires { HoldsOf tested bytes.now }
-    ensures { IfOk result (λ left. (rs : List RowText) × AllByRecursion IsRowShaped rs × (block.new ≡ record { comments = block.old.comments; rows = block.old.rows ++ rs }) × (bytes.now ≡ ended (map row_line rs) ++ left.now)) }
+    ensures { IfOk result (λ left. (rs : List RowText) × AllByRecursion IsRowShaped rs
+        × (block.new ≡ record { comments = block.old.comments; rows = block.old.rows ++ rs })
+        × (bytes.now ≡ ended (map row_line rs) ++ left.now)) }
 {
     if !(tested.utf8 && tested.quiet && is_numbered(bytes)) {
         return Ok(bytes);
@@ -104,7 +107,7 @@ fn read_block<'a>(
 
 /// A sentence, and its text: the bytes of the file that it was read of.
 #[derive(Drop)]
-pub struct Passage<'a> {
+pub struct SourcedSentence<'a> {
     pub block: BlockRef<'a>,
     pub text: &'a str,
 }
@@ -147,7 +150,8 @@ impl<'a> Sentences<'a> {
 
     /// The next sentence, which borrows its texts; `None` where nothing is left. After an `Err` all is left as it was.
     pub fn read_next(&mut self, alloc: Global) -> Result<Option<BlockRef<'a>>, ReadFault>
-        ensures next { IfOk result (λ o. MatchOption o ((self.old.rest ≡ []) × (self.new ≡ self.old)) (IsNext self.old self.new)) }
+        ensures next { IfOk result (λ o. MatchOption o ((self.old.rest ≡ [])
+            × (self.new ≡ self.old)) (IsNext self.old self.new)) }
         ensures fault { IfErr result (λ e. IsFaultAfter self.old.line self.old.rest e × (self.new ≡ self.old)) }
     {
         if self.rest.is_empty() {
@@ -161,8 +165,9 @@ impl<'a> Sentences<'a> {
 
     /// The next sentence with its text; `None` where nothing is left. After an `Err` all is left as it was. The texts of
     /// all sentences, one after the other, are the file. No byte is copied, and none is tested again.
-    pub fn read_passage(&mut self, alloc: Global) -> Result<Option<Passage<'a>>, ReadFault>
-        ensures next { IfOk result (λ o. MatchOption o ((self.old.rest ≡ []) × (self.new ≡ self.old)) (λ p. IsNext self.old self.new p.block)) }
+    pub fn read_passage(&mut self, alloc: Global) -> Result<Option<SourcedSentence<'a>>, ReadFault>
+        ensures next { IfOk result (λ o. MatchOption o ((self.old.rest ≡ []) × (self.new ≡ self.old)) (λ p.
+            IsNext self.old self.new p.block)) }
         ensures text { IfOk result (λ o. IfSome o (λ p. p.text.now ≡ text_of (p.block ∷ []))) }
         ensures fault { IfErr result (λ e. IsFaultAfter self.old.line self.old.rest e × (self.new ≡ self.old)) }
     {
@@ -171,7 +176,7 @@ impl<'a> Sentences<'a> {
             return Ok(None);
         };
         let text = known_text(before_rest(unread, self.rest.len()));
-        Ok(Some(Passage { block, text }))
+        Ok(Some(SourcedSentence { block, text }))
     }
 
     /// Reads what is left to its end, and keeps nothing of it.

@@ -3,7 +3,7 @@
 ghost use Rattle.std.specs.Prelude.{◌≡◌, List, IfOk, IfErr, MatchResult};
 ghost use Rattle.tb_conllu.specs.Fault.{IsReadFault};
 ghost use Rattle.tb_conllu.specs.Text.{BlockText};
-ghost use Rattle.tb_conllu.specs.Told.{IsFile};
+ghost use Rattle.tb_conllu.specs.Reported.{IsFile};
 ghost use Rattle.tb_conllu.specs.declared.fault.ReadFault.TheVariants.{Memory};
 
 use crate::fault::ReadFault;
@@ -16,8 +16,9 @@ use std::alloc::Global;
 /// 1 to 9 at a line, 10 where nothing is at fault but the end.
 pub fn read_ref<'a>(alloc: Global, bytes: &'a [u8]) -> Result<Vec<BlockRef<'a>>, ReadFault>
     ensures file { IfOk result (λ v. IsFile bytes.now v.items) }
-    ensures told { IfErr result (IsReadFault bytes.now) }
-    ensures only { (bs : List BlockText) → IsFile bytes.now bs → MatchResult result (λ v. v.items ≡ bs) (λ e. e ≡ Memory) }
+    ensures reported { IfErr result (IsReadFault bytes.now) }
+    ensures only { (bs : List BlockText) → IsFile bytes.now bs → MatchResult result (λ v. v.items ≡ bs) (λ e.
+        e ≡ Memory) }
 {
     let mut left = Sentences::new(bytes);
     let mut all: Vec<BlockRef<'a>> = Vec::new(alloc);
@@ -30,8 +31,9 @@ pub fn read_ref<'a>(alloc: Global, bytes: &'a [u8]) -> Result<Vec<BlockRef<'a>>,
 /// The sentences of a file, which hold their texts; or its fault, as `read_ref` tells it.
 pub fn read(alloc: Global, bytes: &[u8]) -> Result<Vec<Block>, ReadFault>
     ensures file { IfOk result (λ v. IsFile bytes.now v.items) }
-    ensures told { IfErr result (IsReadFault bytes.now) }
-    ensures only { (bs : List BlockText) → IsFile bytes.now bs → MatchResult result (λ v. v.items ≡ bs) (λ e. e ≡ Memory) }
+    ensures reported { IfErr result (IsReadFault bytes.now) }
+    ensures only { (bs : List BlockText) → IsFile bytes.now bs → MatchResult result (λ v. v.items ≡ bs) (λ e.
+        e ≡ Memory) }
 {
     let mut left = Sentences::new(bytes);
     let mut all: Vec<Block> = Vec::new(alloc);

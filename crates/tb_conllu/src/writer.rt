@@ -66,7 +66,8 @@ fn put_head<S: Sink>(head: Option<u32>, out: &mut S) -> Result<(), S::Refusal>
 
 /// Each text after a tab.
 fn put_fields<S: Sink>(fields: &[&str], out: &mut S) -> Result<(), S::Refusal>
-    ensures put { OnOk result (Appends (S.held out.old) (S.held out.new) (flat_map (λ field. 9 ∷ field.now) fields.now)) }
+    ensures put { OnOk result (Appends (S.held out.old) (S.held out.new) (flat_map (λ field.
+        9 ∷ field.now) fields.now)) }
     ensures refused { IfErr result (S.IsRefusal out.new) }
 {
     for field in fields {
@@ -97,7 +98,8 @@ fn put_row<T: Text, S: Sink>(row: &RowOf<T>, out: &mut S) -> Result<(), S::Refus
 }
 
 fn put_rows<T: Text, S: Sink>(rows: &[RowOf<T>], out: &mut S) -> Result<(), S::Refusal>
-    ensures put { OnOk result (Appends (S.held out.old) (S.held out.new) (flat_map (λ row. row_line row ++ 10 ∷ []) rows.now)) }
+    ensures put { OnOk result (Appends (S.held out.old) (S.held out.new) (flat_map (λ row.
+        row_line row ++ 10 ∷ []) rows.now)) }
     ensures refused { IfErr result (S.IsRefusal out.new) }
 {
     for row in rows {
@@ -107,7 +109,8 @@ fn put_rows<T: Text, S: Sink>(rows: &[RowOf<T>], out: &mut S) -> Result<(), S::R
 }
 
 fn put_comments<T: Text, S: Sink>(comments: &[T], out: &mut S) -> Result<(), S::Refusal>
-    ensures put { OnOk result (Appends (S.held out.old) (S.held out.new) (flat_map (λ comment. T.bytes comment ++ 10 ∷ []) comments.now)) }
+    ensures put { OnOk result (Appends (S.held out.old) (S.held out.new) (flat_map (λ comment.
+        T.bytes comment ++ 10 ∷ []) comments.now)) }
     ensures refused { IfErr result (S.IsRefusal out.new) }
 {
     for comment in comments {

@@ -10,7 +10,7 @@ use Rattle.tb_core.specs.Acts.{correcting, after, corrected}
 use Rattle.tb_core.specs.Reaching.{Later}
 use Rattle.tb_core.specs.Keeping.{Continues}
 use Rattle.tb_core.specs.Commands.{correct, Reply, corrected_to, replied, ending, HasSentence, reply_to}
-use Rattle.tb_core.specs.Tests.{RepeatsCorrection, told, passed}
+use Rattle.tb_core.specs.Tests.{RepeatsCorrection, reported, passed}
 use Rattle.tb_core.specs.Steps.{Steps}
 use Rattle.tb_core.proofs.Weights.{weight_there, got}
 use Rattle.tb_core.proofs.Lists.{get_within, nothing_more, snoc_last}
@@ -103,4 +103,4 @@ pub correction_repeats : (l k : Limits) (s t u : Machine) (n base : ℕ) (user b
 correction_repeats l k s t u n base user body r place y steps on there is =
     let answered = correct_replied l s n base user body r t steps in
     let again = repeat_later t u n base user body r (repeat_after s n base user body r t answered.1) on place y there is in
-    passed (not_bad_name u (is_name user) answered.0) (passed (λ d h. h.1.0 place y there) (told again))
+    passed (not_bad_name u (is_name user) answered.0) (passed (λ d h. h.1.0 place y there) (reported again))

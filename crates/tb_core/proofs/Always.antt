@@ -4,7 +4,7 @@ use Rattle.std.specs.Prelude.{slice_get, bytes_eq, nat_eq}
 use Rattle.std.specs.List.{AllByRecursion}
 use Rattle.std.proofs.lemmas.Bool.{eqb-true}
 use Rattle.tb_conllu.specs.Text.{BlockText}
-use Rattle.tb_conllu.specs.Told.{IsFile, IsTold}
+use Rattle.tb_conllu.specs.Reported.{IsFile, IsReported}
 use Rattle.tb_rules.specs.File.{IsValid, IsFaultAt}
 use Rattle.tb_core.specs.declared.kinds.Event.{Event}
 use Rattle.tb_core.specs.declared.kinds.State.{State}
@@ -17,28 +17,28 @@ use Rattle.tb_core.specs.Deciding.{allowed, may_correct, then_current}
 use Rattle.tb_core.specs.Machine.{sent_id_of, Batch, Machine, batch_with, state_in, rev}
 use Rattle.tb_core.specs.Acts.{Act, importing, stepping, correcting, pulling, restoring, IsAllowed, after, names_of, ids_of, ids_in}
 use Rattle.tb_core.specs.Commands.{Command, import_file, event_on, correct, pull, restore, Answer, replied, refused, Ending, ending, HasBatch, Means, reply_to}
-use Rattle.tb_core.specs.Tests.{◌otherwise◌, told, passed, Refuses, IsFirstTaken, Accepts}
+use Rattle.tb_core.specs.Tests.{◌otherwise◌, reported, passed, Refuses, IsFirstTaken, Accepts}
 use Rattle.tb_core.specs.Steps.{ImportEnds, EventEnds, CorrectEnds, PullEnds, RestoreEnds, Ends, Steps}
 use Rattle.tb_core.proofs.Weights.{all_append}
 use Rattle.tb_core.proofs.Lists.{map-joined}
 use Rattle.tb_core.proofs.Chains.{good_name_of, good_user, second_good}
-use Rattle.tb_core.proofs.Judged.{read_some, valid_some}
+use Rattle.tb_core.proofs.Judging.{read_some, valid_some}
 
 -- no ending is told
-abbrev Untold : (Ending → Type 0) → Type 0
-Untold p = (e : Ending) → p e → ⊥
+abbrev Unreported : (Ending → Type 0) → Type 0
+Unreported p = (e : Ending) → p e → ⊥
 
-first_none : (p q : Ending → Type 0) → Untold (◌otherwise◌ p q) → Untold p
-first_none p q none e x = none e (told x)
+first_none : (p q : Ending → Type 0) → Unreported (◌otherwise◌ p q) → Unreported p
+first_none p q none e x = none e (reported x)
 
-second_none : (p q : Ending → Type 0) → Untold (◌otherwise◌ p q) → Untold q
+second_none : (p q : Ending → Type 0) → Unreported (◌otherwise◌ p q) → Unreported q
 second_none p q none e y = none e (passed (first_none p q none) y)
 
 -- a refusal that is not told
-silent : (s : Machine) (test : Refusal → Type 0) → Untold (Refuses s test) → (r : Refusal) → test r → ⊥
+silent : (s : Machine) (test : Refusal → Type 0) → Unreported (Refuses s test) → (r : Refusal) → test r → ⊥
 silent s test none r h = none (ending (refused r) s) (r, h, refl)
 
-unaccepted : (s : Machine) (c : Command) → Untold (Accepts s c) → (a : Act) → Means s c a → IsAllowed s a → ⊥
+unaccepted : (s : Machine) (c : Command) → Unreported (Accepts s c) → (a : Act) → Means s c a → IsAllowed s a → ⊥
 unaccepted s c none a means k = none (ending (replied (reply_to s a)) (after s a)) (a, means, k, refl)
 
 -- ---- decisions that refuse nothing
@@ -102,7 +102,7 @@ some_length (b ∷ bs) h = omega arith
 -- ---- bodies that no test refuses
 
 -- a body without a fault is a valid file
-file_some : (body : List ℕ) → ((line code : ℕ) → IsTold body line code → ⊥) → ((bs : List BlockText) (sentence rule row : ℕ) → IsFile body bs → IsFaultAt bs sentence rule row → ⊥)
+file_some : (body : List ℕ) → ((line code : ℕ) → IsReported body line code → ⊥) → ((bs : List BlockText) (sentence rule row : ℕ) → IsFile body bs → IsFaultAt bs sentence rule row → ⊥)
     → ((bs : List BlockText) → IsFile body bs → IsValid bs → ⊥) → ⊥
 file_some body read rules unless = read_some body read (λ bs file. valid_some bs (λ sentence rule row fault. rules bs sentence rule row file fault) (λ valid. unless bs file valid))
 
@@ -116,7 +116,7 @@ one_body body (a ∷ b ∷ more) empty many file valid = λ unless. many a b mor
 
 -- ---- each command
 
-import_some : (l : Limits) (s : Machine) (name user body : List ℕ) → Untold (ImportEnds l s name user body) → ⊥
+import_some : (l : Limits) (s : Machine) (name user body : List ℕ) → Unreported (ImportEnds l s name user body) → ⊥
 import_some l s name user body m0 =
     let good = good_name_of s (is_name name && is_name user) (first_none _ _ m0) in
     let m1 = second_none _ _ m0 in
@@ -145,7 +145,7 @@ import_some l s name user body m0 =
       refl,
     ))
 
-event_some : (l : Limits) (s : Machine) (name : List ℕ) (event : Event) (user : List ℕ) → Untold (EventEnds l s name event user) → ⊥
+event_some : (l : Limits) (s : Machine) (name : List ℕ) (event : Event) (user : List ℕ) → Unreported (EventEnds l s name event user) → ⊥
 event_some l s name event user m0 =
     let good = good_name_of s (is_name name && is_name user) (first_none _ _ m0) in
     let m1 = second_none _ _ m0 in
@@ -160,7 +160,7 @@ event_some l s name event user m0 =
       refl,
     )
 
-correct_some : (l : Limits) (s : Machine) (n base : ℕ) (user body : List ℕ) → Untold (CorrectEnds l s n base user body) → ⊥
+correct_some : (l : Limits) (s : Machine) (n base : ℕ) (user body : List ℕ) → Unreported (CorrectEnds l s n base user body) → ⊥
 correct_some l s n base user body m0 =
     let good = good_name_of s (is_name user) (first_none _ _ m0) in
     let m1 = second_none _ _ m0 in
@@ -216,7 +216,7 @@ correct_some l s n base user body m0 =
       refl,
     )
 
-pull_some : (l : Limits) (s : Machine) (n : ℕ) (user : List ℕ) → Untold (PullEnds l s n user) → ⊥
+pull_some : (l : Limits) (s : Machine) (n : ℕ) (user : List ℕ) → Unreported (PullEnds l s n user) → ⊥
 pull_some l s n user m0 =
     let good = good_name_of s (is_name user) (first_none _ _ m0) in
     let m1 = second_none _ _ m0 in
@@ -230,7 +230,7 @@ pull_some l s n user m0 =
       refl,
     )
 
-restore_some : (l : Limits) (s : Machine) (n : ℕ) (user : List ℕ) → Untold (RestoreEnds l s n user) → ⊥
+restore_some : (l : Limits) (s : Machine) (n : ℕ) (user : List ℕ) → Unreported (RestoreEnds l s n user) → ⊥
 restore_some l s n user m0 =
     let good = good_name_of s (is_name user) (first_none _ _ m0) in
     let m1 = second_none _ _ m0 in
@@ -244,7 +244,7 @@ restore_some l s n user m0 =
       refl,
     )
 
-ends_some : (l : Limits) (s : Machine) (c : Command) → Untold (Ends l s c) → ⊥
+ends_some : (l : Limits) (s : Machine) (c : Command) → Unreported (Ends l s c) → ⊥
 ends_some l s (import_file name user body) none = import_some l s name user body none
 ends_some l s (event_on name event user) none = event_some l s name event user none
 ends_some l s (correct n base user body) none = correct_some l s n base user body none

@@ -5,14 +5,14 @@ use Rattle.std.proofs.lemmas.List.{map-append, length-map}
 use Rattle.tb_conllu.specs.Left.{Left, IsNext, IsReadTo}
 use Rattle.tb_conllu.specs.Text.{BlockText, text_of}
 use Rattle.tb_conllu.specs.Shape.{AllShaped}
-use Rattle.tb_conllu.specs.Told.{IsFile, IsNoFile, IsTold}
+use Rattle.tb_conllu.specs.Reported.{IsFile, IsNoFile, IsReported}
 use Rattle.tb_conllu.specs.Fault.{IsFaultAfter, IsReadFault}
 use Rattle.tb_conllu.specs.declared.fault.ReadFault.{ReadFault}
 use Rattle.tb_conllu.specs.declared.fault.ReadFault.TheVariants as reading
 use Rattle.tb_rules.specs.File.{IsValid, IsFaultAt, IsFileFault}
 use Rattle.tb_rules.specs.declared.filefault.FileFault.{FileFault}
 use Rattle.tb_rules.specs.declared.filefault.FileFault.TheVariants as rules
-use Rattle.tb_core.specs.Taking.{IsBody, IsBodyRefused, unread, broken, empty, IsCorrection, IsUnfit, other_name, other_text, nothing_new, IsCorrectionRefused, as_body, not_one, unfit, IsTakingFault, fault_of_reading, fault_of_rules, TakenText, taken_of}
+use Rattle.tb_core.specs.Taking.{IsBody, IsBodyRefused, unread, broken, empty, IsCorrection, IsUnfit, other_name, other_text, nothing_new, IsCorrectionRefused, as_body, not_one, unfit, IsTakingFault, fault_of_reading, fault_of_rules, NewSentenceText, taken_of}
 use Rattle.tb_core.specs.declared.refusals.Refusal.{Refusal}
 use Rattle.tb_core.specs.declared.refusals.Refusal.TheVariants.{NotOne}
 use Rattle.tb_core.specs.declared.refusals.Fault.{Fault}
@@ -31,8 +31,8 @@ FaultStays = (bs more : List BlockText) (sentence rule row : ℕ) → IsFaultAt 
 
 -- a fault of reading
 pub read_refused : (body : List ℕ) (e : ReadFault) → IsReadFault body e → IsTakingFault (IsBodyRefused body) (fault_of_reading e)
-read_refused body (reading.At line code) told = unread (line, code, told, refl)
-read_refused body reading.Memory told = tt
+read_refused body (reading.At line code) reported = unread (line, code, reported, refl)
+read_refused body reading.Memory reported = tt
 
 -- a fault of the rules in a file
 pub rules_refused : (body : List ℕ) (bs : List BlockText) (e : FileFault) → IsFile body bs → IsFileFault bs e → IsTakingFault (IsBodyRefused body) (fault_of_rules e)
@@ -44,28 +44,28 @@ fault_stays law bs more (rules.At sentence rule row) at = law bs more sentence r
 fault_stays law bs more rules.Memory at = tt
 
 -- a sentence breaks a rule, and what is left was read
-pub told_refused : Reading → FaultStays → (body : List ℕ) (bs : List BlockText) (old new : Left) (b : BlockText) (e : FileFault) (told : Fault) → IsReadTo body bs old → IsNext old new b
+pub reported_refused : Reading → FaultStays → (body : List ℕ) (bs : List BlockText) (old new : Left) (b : BlockText) (e : FileFault) (reported : Fault) → IsReadTo body bs old → IsNext old new b
     → IsFileFault (bs ++ b ∷ []) e
-    → (((more : List BlockText) × IsFile new.rest more × (told ≡ fault_of_rules e)) ⊎ ((f : ReadFault) × IsFaultAfter new.line new.rest f × (told ≡ fault_of_reading f)))
-    → IsTakingFault (IsBodyRefused body) told
-told_refused law stays body bs old new b e told read next at (inl (more, file, is)) =
+    → (((more : List BlockText) × IsFile new.rest more × (reported ≡ fault_of_rules e)) ⊎ ((f : ReadFault) × IsFaultAfter new.line new.rest f × (reported ≡ fault_of_reading f)))
+    → IsTakingFault (IsBodyRefused body) reported
+reported_refused law stays body bs old new b e reported read next at (inl (more, file, is)) =
     let here = law.next body bs old new b read next in
     subst (IsTakingFault (IsBodyRefused body)) (sym is) (rules_refused body ((bs ++ b ∷ []) ++ more) e (law.rest body (bs ++ b ∷ []) more new here file) (fault_stays stays (bs ++ b ∷ []) more e at))
-told_refused law stays body bs old new b e told read next at (inr (f, fault, is)) =
+reported_refused law stays body bs old new b e reported read next at (inr (f, fault, is)) =
     let here = law.next body bs old new b read next in
     subst (IsTakingFault (IsBodyRefused body)) (sym is) (read_refused body f (law.fault body (bs ++ b ∷ []) new f here fault))
 
 -- one more sentence is kept
-pub kept_more : (xs ys : List TakenText) (bs : List BlockText) (b : BlockText) (t : TakenText) → xs ≡ map taken_of bs → t ≡ taken_of b → ys ≡ xs ++ t ∷ [] → ys ≡ map taken_of (bs ++ b ∷ [])
-kept_more xs ys bs b t before is more = more ∙ ap (λ (x : TakenText). xs ++ x ∷ []) is ∙ ap (λ (l : List TakenText). l ++ taken_of b ∷ []) before ∙ sym (map-append taken_of bs (b ∷ []))
+pub kept_more : (xs ys : List NewSentenceText) (bs : List BlockText) (b : BlockText) (t : NewSentenceText) → xs ≡ map taken_of bs → t ≡ taken_of b → ys ≡ xs ++ t ∷ [] → ys ≡ map taken_of (bs ++ b ∷ [])
+kept_more xs ys bs b t before is more = more ∙ ap (λ (x : NewSentenceText). xs ++ x ∷ []) is ∙ ap (λ (l : List NewSentenceText). l ++ taken_of b ∷ []) before ∙ sym (map-append taken_of bs (b ∷ []))
 
 -- nothing was kept
-pub nothing_kept : (body : List ℕ) (bs : List BlockText) (xs : List TakenText) → xs ≡ map taken_of bs → length xs ≡ 0 → IsFile body bs → IsFile body []
+pub nothing_kept : (body : List ℕ) (bs : List BlockText) (xs : List NewSentenceText) → xs ≡ map taken_of bs → length xs ≡ 0 → IsFile body bs → IsFile body []
 nothing_kept body [] xs e none file = file
 nothing_kept body (b ∷ bs) xs e none file = absurd (omega (arith, ap length e))
 
 -- something was kept
-pub some_kept : (bs : List BlockText) (xs : List TakenText) → xs ≡ map taken_of bs → (length xs ≡ 0 → ⊥) → 0 < length bs
+pub some_kept : (bs : List BlockText) (xs : List NewSentenceText) → xs ≡ map taken_of bs → (length xs ≡ 0 → ⊥) → 0 < length bs
 some_kept [] xs e some = absurd (some (ap length e))
 some_kept (b ∷ bs) xs e some = omega arith
 
@@ -73,17 +73,17 @@ some_kept (b ∷ bs) xs e some = omega arith
 
 pub record Laws : Type 0 where
   pub one_list : (f : List ℕ) (bs cs : List BlockText) → IsFile f bs → IsFile f cs → bs ≡ cs
-  pub no_file : (f : List ℕ) (line code : ℕ) → IsTold f line code → IsNoFile f
+  pub no_file : (f : List ℕ) (line code : ℕ) → IsReported f line code → IsNoFile f
   pub not_valid : (bs : List BlockText) (sentence rule row : ℕ) → IsFaultAt bs sentence rule row → IsValid bs → ⊥
 
 pub not_refused : Laws → (body : List ℕ) (bs : List BlockText) (r : Refusal) → IsBody body bs → IsBodyRefused body r → ⊥
-not_refused laws body bs r good (unread (line, code, told, is)) = laws.no_file body line code told bs good.file.shaped good.file.text
+not_refused laws body bs r good (unread (line, code, reported, is)) = laws.no_file body line code reported bs good.file.shaped good.file.text
 not_refused laws body bs r good (broken (cs, sentence, rule, row, file, at, is)) =
     laws.not_valid bs sentence rule row (subst (λ l. IsFaultAt l sentence rule row) (laws.one_list body cs bs file good.file) at) good.valid
 not_refused laws body bs r good (empty (file, is)) = omega (arith, good.some, ap length (laws.one_list body [] bs file good.file))
 
 -- where a body is good, no other sentences are taken, and it is not refused
-pub only_these : {X : Type 0} → Laws → (items : X → List TakenText) (body : List ℕ) (r : Result X Fault) → IfOk r (λ v. (cs : List BlockText) × IsBody body cs × (items v ≡ map taken_of cs))
+pub only_these : {X : Type 0} → Laws → (items : X → List NewSentenceText) (body : List ℕ) (r : Result X Fault) → IfOk r (λ v. (cs : List BlockText) × IsBody body cs × (items v ≡ map taken_of cs))
     → IfErr r (IsTakingFault (IsBodyRefused body)) → (bs : List BlockText) → IsBody body bs → MatchResult r (λ v. items v ≡ map taken_of bs) (λ e. e ≡ Memory)
 only_these laws items body (Ok v) (cs, good, same) refused bs h = same ∙ ap (map taken_of) (laws.one_list body cs bs good.file h.file)
 only_these laws items body (Err (Refused r)) taken refused bs h = absurd (not_refused laws body bs r h refused)
@@ -95,8 +95,8 @@ only_these laws items body (Err Output) taken refused bs h = absurd refused
 -- ---- the one sentence of a correction
 
 pub correction_read_refused : (body : List ℕ) (current : BlockText) (e : ReadFault) → IsReadFault body e → IsTakingFault (IsCorrectionRefused body current) (fault_of_reading e)
-correction_read_refused body current (reading.At line code) told = as_body (unread (line, code, told, refl))
-correction_read_refused body current reading.Memory told = tt
+correction_read_refused body current (reading.At line code) reported = as_body (unread (line, code, reported, refl))
+correction_read_refused body current reading.Memory reported = tt
 
 two_at_least : (body : List ℕ) (bs : List BlockText) → 1 < length bs → IsFile body bs → (a : BlockText) × (b : BlockText) × (more : List BlockText) × IsFile body (a ∷ b ∷ more)
 two_at_least body [] many file = absurd (omega (arith, many))
@@ -104,9 +104,9 @@ two_at_least body (a ∷ []) many file = absurd (omega (arith, many))
 two_at_least body (a ∷ b ∷ more) many file = (a, b, more, file)
 
 -- more than one sentence was kept
-pub many_refused : (body : List ℕ) (current : BlockText) (bs : List BlockText) (xs : List TakenText) (told : Fault) → IsBody body bs → xs ≡ map taken_of bs → 1 < length xs → told ≡ Refused NotOne
-    → IsTakingFault (IsCorrectionRefused body current) told
-many_refused body current bs xs told good same many is =
+pub many_refused : (body : List ℕ) (current : BlockText) (bs : List BlockText) (xs : List NewSentenceText) (reported : Fault) → IsBody body bs → xs ≡ map taken_of bs → 1 < length xs → reported ≡ Refused NotOne
+    → IsTakingFault (IsCorrectionRefused body current) reported
+many_refused body current bs xs reported good same many is =
     let n = ap length same ∙ length-map bs taken_of in
     let more = two_at_least body bs (omega (arith, n, many)) good.file in
     subst (IsTakingFault (IsCorrectionRefused body current)) (sym is) (not_one bs good (more.0, more.1, more.2, more.3, refl))
@@ -120,7 +120,7 @@ all_of_it b bs [] same few = same
 all_of_it b bs (c ∷ more) same few = absurd (omega (arith, ap length same))
 
 -- the sentence that is read first is the one that was checked
-pub one_is : BeginsOneWay → (body : List ℕ) (bs : List BlockText) (xs : List TakenText) (old new : Left) (b : BlockText) → IsBody body bs → xs ≡ map taken_of bs
+pub one_is : BeginsOneWay → (body : List ℕ) (bs : List BlockText) (xs : List NewSentenceText) (old new : Left) (b : BlockText) → IsBody body bs → xs ≡ map taken_of bs
     → old ≡ record { rest = body; line = 0 } → IsNext old new b → length xs ≤ 1 → IsBody body (b ∷ [])
 one_is law body bs xs old new b good same begun next few =
     let n = ap length same ∙ length-map bs taken_of in

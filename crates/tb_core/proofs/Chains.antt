@@ -6,7 +6,7 @@ use Rattle.tb_core.specs.declared.refusals.Refusal.TheVariants.{BadName}
 use Rattle.tb_core.specs.Names.{is_name}
 use Rattle.tb_core.specs.Machine.{Machine}
 use Rattle.tb_core.specs.Commands.{Command, import_file, event_on, correct, pull, restore, Reply, Answer, replied, refused, Ending, ending}
-use Rattle.tb_core.specs.Tests.{◌otherwise◌, told, passed, Refuses, IsBadName, IsFull, RepeatsImport, RepeatsCorrection, Accepts}
+use Rattle.tb_core.specs.Tests.{◌otherwise◌, reported, passed, Refuses, IsBadName, IsFull, RepeatsImport, RepeatsCorrection, Accepts}
 use Rattle.tb_core.specs.Steps.{ImportEnds, CorrectEnds, Ends}
 
 pub both_true : (a b : Bool) → a ≡ true → b ≡ true → (a && b) ≡ true
@@ -45,20 +45,20 @@ pub data Replied (s : Machine) (c : Command) (repeats : Ending → Type 0) (e : 
 
 pub import_replied : (l : Limits) (s : Machine) (name user body : List ℕ) (r : Reply) (t : Machine) → ImportEnds l s name user body (ending (replied r) t)
     → ((is_name name && is_name user) ≡ true) × Replied s (import_file name user body) (RepeatsImport s name body) (ending (replied r) t)
-import_replied l s name user body r t (told h) = absurd (no_refusal s _ r t h)
-import_replied l s name user body r t (passed n (told h)) = (good_name_of s (is_name name && is_name user) n, replied_repeat h)
-import_replied l s name user body r t (passed n (passed n1 (told h))) = absurd (no_refusal s _ r t h)
-import_replied l s name user body r t (passed n (passed n1 (passed n2 (told h)))) = absurd (no_refusal s _ r t h)
-import_replied l s name user body r t (passed n (passed n1 (passed n2 (passed n3 (told h))))) = absurd (no_refusal s _ r t h)
-import_replied l s name user body r t (passed n (passed n1 (passed n2 (passed n3 (passed n4 (told h)))))) = absurd (no_refusal s _ r t h)
-import_replied l s name user body r t (passed n (passed n1 (passed n2 (passed n3 (passed n4 (passed n5 (told h))))))) = absurd (no_refusal s _ r t h)
-import_replied l s name user body r t (passed n (passed n1 (passed n2 (passed n3 (passed n4 (passed n5 (passed n6 (told h)))))))) = absurd (no_refusal s _ r t h)
+import_replied l s name user body r t (reported h) = absurd (no_refusal s _ r t h)
+import_replied l s name user body r t (passed n (reported h)) = (good_name_of s (is_name name && is_name user) n, replied_repeat h)
+import_replied l s name user body r t (passed n (passed n1 (reported h))) = absurd (no_refusal s _ r t h)
+import_replied l s name user body r t (passed n (passed n1 (passed n2 (reported h)))) = absurd (no_refusal s _ r t h)
+import_replied l s name user body r t (passed n (passed n1 (passed n2 (passed n3 (reported h))))) = absurd (no_refusal s _ r t h)
+import_replied l s name user body r t (passed n (passed n1 (passed n2 (passed n3 (passed n4 (reported h)))))) = absurd (no_refusal s _ r t h)
+import_replied l s name user body r t (passed n (passed n1 (passed n2 (passed n3 (passed n4 (passed n5 (reported h))))))) = absurd (no_refusal s _ r t h)
+import_replied l s name user body r t (passed n (passed n1 (passed n2 (passed n3 (passed n4 (passed n5 (passed n6 (reported h)))))))) = absurd (no_refusal s _ r t h)
 import_replied l s name user body r t (passed n (passed n1 (passed n2 (passed n3 (passed n4 (passed n5 (passed n6 (passed n7 h)))))))) = (good_name_of s (is_name name && is_name user) n, replied_new h)
 
 -- ---- chains in general
 
 pub either : {p q : Ending → Type 0} {e : Ending} (O : Type 0) → ◌otherwise◌ p q e → (p e → O) → (((d : Ending) → p d → ⊥) → q e → O) → O
-either O (told h) f g = f h
+either O (reported h) f g = f h
 either O (passed n h) f g = g n h
 
 pub correct_replied : (l : Limits) (s : Machine) (n base : ℕ) (user body : List ℕ) (r : Reply) (t : Machine) → CorrectEnds l s n base user body (ending (replied r) t)

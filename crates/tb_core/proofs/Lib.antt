@@ -11,8 +11,15 @@ pub mod Repeats
 pub mod Again
 pub mod Leading
 pub mod Once
-pub mod Judged
+pub mod Judging
 pub mod Always
 pub mod Stored
 pub mod Bodies
 pub mod Alike
+pub mod FoundOnce
+pub mod Eventful
+pub mod Pulls
+pub mod BodyTests
+pub mod Corrections
+pub mod Imports
+pub mod FirstTaken

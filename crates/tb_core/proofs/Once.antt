@@ -3,7 +3,7 @@ use Rattle.std.proofs.Common.{◌≡◌, ℕ, zero, suc, ◌+◌, List, [], ◌�
 use Rattle.std.specs.Prelude.{slice_get}
 use Rattle.std.specs.List.{AllByRecursion}
 use Rattle.tb_conllu.specs.Text.{BlockText}
-use Rattle.tb_conllu.specs.Told.{IsTold}
+use Rattle.tb_conllu.specs.Reported.{IsReported}
 use Rattle.tb_rules.specs.File.{IsFaultAt}
 use Rattle.tb_core.specs.declared.kinds.Event.{Event}
 use Rattle.tb_core.specs.declared.limits.Limits.{Limits}
@@ -16,7 +16,7 @@ use Rattle.tb_core.specs.Acts.{Act, importing, stepping, correcting, pulling, re
 use Rattle.tb_core.specs.Reaching.{Reached}
 use Rattle.tb_core.specs.Keeping.{IsWell}
 use Rattle.tb_core.specs.Commands.{Command, import_file, event_on, correct, pull, restore, Answer, replied, refused, Ending, ending, HasBatch, HasSentence, Means, reply_to}
-use Rattle.tb_core.specs.Tests.{◌otherwise◌, told, passed, Refuses, IsBadName, IsNoBatch, IsNoSentence, IsEventRefused, IsCorrectRefused, IsPullRefused, IsRestoreRefused, IsNameTaken, IsFirstTaken, IsIdTaken, IsFull, IsUnread, IsBroken, IsEmpty, IsNotOne, IsIdChanged, IsTextChanged, IsNothingChanged, import_reply, RepeatsImport, RepeatsCorrection, Accepts}
+use Rattle.tb_core.specs.Tests.{◌otherwise◌, reported, passed, Refuses, IsBadName, IsNoBatch, IsNoSentence, IsEventRefused, IsCorrectRefused, IsPullRefused, IsRestoreRefused, IsNameTaken, IsFirstTaken, IsIdTaken, IsFull, IsUnread, IsBroken, IsEmpty, IsNotOne, IsIdChanged, IsTextChanged, IsNothingChanged, import_reply, RepeatsImport, RepeatsCorrection, Accepts}
 use Rattle.tb_core.specs.Steps.{Ends, Steps}
 use Rattle.tb_core.proofs.Lists.{head_is, tail_is, get_one}
 use Rattle.tb_core.proofs.Keeps.{well}
@@ -30,14 +30,14 @@ record AreOne (p : Ending → Type 0) : Type 0 where
 -- what is known of bodies
 pub record Bodies : Type 0 where
   pub one_list : IsOneList
-  pub one_fault : (f : List ℕ) (line code other_line other_code : ℕ) → IsTold f line code → IsTold f other_line other_code → (line ≡ other_line) × (code ≡ other_code)
+  pub one_fault : (f : List ℕ) (line code other_line other_code : ℕ) → IsReported f line code → IsReported f other_line other_code → (line ≡ other_line) × (code ≡ other_code)
   pub one_rule : (bs : List BlockText) (sentence rule row other_sentence other_rule other_row : ℕ) → IsFaultAt bs sentence rule row → IsFaultAt bs other_sentence other_rule other_row
       → (sentence ≡ other_sentence) × (rule ≡ other_rule) × (row ≡ other_row)
 
 join : (p q : Ending → Type 0) → AreOne p → AreOne q → (d e : Ending) → ◌otherwise◌ p q d → ◌otherwise◌ p q e → d ≡ e
-join p q a b d e (told x) (told y) = a.one d e x y
-join p q a b d e (told x) (passed n y) = absurd (n d x)
-join p q a b d e (passed n x) (told y) = absurd (n e y)
+join p q a b d e (reported x) (reported y) = a.one d e x y
+join p q a b d e (reported x) (passed n y) = absurd (n d x)
+join p q a b d e (passed n x) (reported y) = absurd (n e y)
 join p q a b d e (passed n x) (passed m y) = b.one d e x y
 
 one_of : {p q : Ending → Type 0} → AreOne p → AreOne q → AreOne (◌otherwise◌ p q)

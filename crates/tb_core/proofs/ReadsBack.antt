@@ -2,7 +2,7 @@
 use Rattle.std.proofs.Common.{◌≡◌, ℕ, List, [], ◌∷◌, ◌++◌, length, refl, ap, arith, length-append}
 use Rattle.std.specs.List.{AllByRecursion}
 use Rattle.tb_conllu.specs.Text.{BlockText, text_of}
-use Rattle.tb_conllu.specs.Told.{IsFile}
+use Rattle.tb_conllu.specs.Reported.{IsFile}
 use Rattle.tb_rules.specs.File.{IsFree, IsValid}
 use Rattle.tb_core.specs.Machine.{IsLawful, Sentence, Machine, bodies_of}
 use Rattle.tb_core.specs.Keeping.{IsFine}

@@ -14,7 +14,7 @@ use Rattle.tb_core.specs.Acts.{Act, importing, stepping, correcting, pulling, re
 use Rattle.tb_core.specs.Reaching.{Reached, Later, now, later}
 use Rattle.tb_core.specs.Keeping.{IsPlaced, IsWell}
 use Rattle.tb_core.specs.Commands.{import_file, Reply, imported, replied, ending, HasBatch, reply_to}
-use Rattle.tb_core.specs.Tests.{first_in, first_body, first_of, first_bodies, first_words, of_batch, before_batch, import_reply, RepeatsImport, told, passed}
+use Rattle.tb_core.specs.Tests.{first_in, first_body, first_of, first_bodies, first_words, of_batch, before_batch, import_reply, RepeatsImport, reported, passed}
 use Rattle.tb_core.specs.Steps.{Steps}
 use Rattle.tb_core.proofs.Weights.{weigh-append, length-changed}
 use Rattle.tb_core.proofs.Lists.{get_front, get_seam, get_within}
@@ -253,4 +253,4 @@ import_repeats l k s t u name user other body r reached steps on good =
     let answered = import_replied l s name user body r t steps in
     let shown = shows_after s name user body r t (well s reached) answered.1 in
     passed (not_bad_name u (is_name name && is_name other) (both_true (is_name name) (is_name other) (good_user (is_name name) (is_name user) answered.0) good))
-    (told (shown_repeat u name body shown.0 shown.1 r shown.2 (shown_later t u name shown.0 shown.1 r on shown.3)))
+    (reported (shown_repeat u name body shown.0 shown.1 r shown.2 (shown_later t u name shown.0 shown.1 r on shown.3)))

@@ -15,7 +15,7 @@ use Rattle.tb_core.specs.Events.{is_state}
 use Rattle.tb_core.specs.Machine.{IsLawful, Revision, Sentence, Machine, no_batch, batch_with, state_in, weigh, weight_at, when, one, words, at_work}
 use Rattle.tb_core.specs.Acts.{Act, importing, stepping, correcting, pulling, restoring, IsAllowed, after, move_of, leaves, enters, from_state, to_state, state_at}
 use Rattle.tb_core.specs.Reaching.{Reached, further, IsReachable}
-use Rattle.tb_core.specs.Totals.{in_state, total, is_from, Takes, IsApplied, StandFor}
+use Rattle.tb_core.specs.Totals.{in_state, total, is_from, Takes, IsApplied, AreTotalsOf}
 use Rattle.tb_core.specs.Keeping.{IsPlaced, IsFine}
 use Rattle.tb_core.proofs.Weights.{when_zero, weigh-when, weight_there}
 use Rattle.tb_core.proofs.Keeps.{well}
@@ -126,7 +126,7 @@ afterwards was out coming is top e l f = omega arith
 
 -- ---- the laws
 
-pub takes_next : (s : Machine) (a : Act) (t : Totals) → IsReachable s → IsAllowed s a → IsReachable (after s a) → StandFor t s → Takes t (move_of s a)
+pub takes_next : (s : Machine) (a : Act) (t : Totals) → IsReachable s → IsAllowed s a → IsReachable (after s a) → AreTotalsOf t s → Takes t (move_of s a)
 takes_next s a t r k next h =
     let w = well s r.reached in
     let later = well (after s a) (further s a r.reached k) in
@@ -150,7 +150,7 @@ takes_next s a t r k next h =
           subst (λ n. n - when (is_from from st) (leaves words s a) + when (is_state to st) (enters words s a) < 2 ^ 64) (sym (h.words st)) all;
     }
 
-pub stand_next : (s : Machine) (a : Act) (t u : Totals) → Reached s → IsAllowed s a → StandFor t s → IsApplied t u (move_of s a) → StandFor u (after s a)
+pub stand_next : (s : Machine) (a : Act) (t u : Totals) → Reached s → IsAllowed s a → AreTotalsOf t s → IsApplied t u (move_of s a) → AreTotalsOf u (after s a)
 stand_next s a t u r k h done =
     let w = well s r in
     record {

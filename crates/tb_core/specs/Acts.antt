@@ -1,5 +1,6 @@
 -- What an accepted command does, and when it may be done.
-use Rattle.std.specs.Prelude.{◌≡◌, ℕ, ◌+◌, ◌<◌, List, [], ◌∷◌, ◌++◌, Bool, true, false, map, length, Option, Some, None, Ok, slice_get, slice_index_or}
+use Rattle.std.specs.Prelude.{◌≡◌, ℕ, ◌+◌, ◌<◌, List, [], ◌∷◌, ◌++◌, Bool, true, false, map}
+use Rattle.std.specs.Prelude.{length, Option, Some, None, Ok, slice_get, slice_index_or}
 use Rattle.std.specs.List.{AllByRecursion}
 use Rattle.tb_conllu.specs.Text.{BlockText}
 use Rattle.tb_conllu.specs.Shape.{AllShaped}
@@ -15,7 +16,8 @@ use Rattle.tb_core.specs.Moves.{MoveText}
 use Rattle.tb_core.specs.Names.{is_name, Lacks}
 use Rattle.tb_core.specs.Events.{goes_to, makes_worker}
 use Rattle.tb_core.specs.Deciding.{event_decision, may_correct, pull_decision, restore_decision}
-use Rattle.tb_core.specs.Machine.{sent_id_of, text_value_of, IsLawful, Batch, Sentence, Machine, batch_with, state_in, weigh, weight_at, change_at, one, words, at_work, no_batch}
+use Rattle.tb_core.specs.Machine.{sent_id_of, text_value_of, IsLawful, Batch, Sentence, Machine, batch_with, state_in}
+use Rattle.tb_core.specs.Machine.{weigh, weight_at, change_at, one, words, at_work, no_batch}
 
 -- An accepted command. Places of batches and sentences count from 0.
 pub data Act : Type 0 where
@@ -73,7 +75,8 @@ pub record MayRestore (s : Machine) (place : ℕ) (user : List ℕ) : Type 0 whe
   pub by : is_name user ≡ true
   pub sentence : Sentence
   pub there : slice_get s.sentences place ≡ Some sentence
-  pub decided : restore_decision (batch_with s.batches sentence.batch).state sentence.pulled ≡ Ok (batch_with s.batches sentence.batch).state
+  pub decided : restore_decision (batch_with s.batches sentence.batch).state sentence.pulled
+      ≡ Ok (batch_with s.batches sentence.batch).state
 
 abbrev pub IsAllowed : Machine → Act → Type 0
 IsAllowed s (importing name user bodies) = MayImport s name user bodies
@@ -88,7 +91,13 @@ abbrev pub new_batch : List ℕ → Batch
 new_batch name = record { name = name; state = Opened; worker = [] }
 
 abbrev pub new_sentence : ℕ → List ℕ → BlockText → Sentence
-new_sentence n user b = record { sent_id = sent_id_of b; batch = n; pulled = false; before = []; current = record { who = user; body = b } }
+new_sentence n user b = record {
+  sent_id = sent_id_of b;
+  batch = n;
+  pulled = false;
+  before = [];
+  current = record { who = user; body = b };
+}
 
 abbrev pub new_sentences : ℕ → List ℕ → List BlockText → List Sentence
 new_sentences n user bs = map (new_sentence n user) bs
@@ -102,7 +111,13 @@ abbrev pub moved : Event → List ℕ → Batch → Batch
 moved e user b = record { name = b.name; state = goes_to e; worker = with_worker (makes_worker e) user b.worker }
 
 abbrev pub corrected : List ℕ → BlockText → Sentence → Sentence
-corrected user body x = record { sent_id = x.sent_id; batch = x.batch; pulled = x.pulled; before = x.before ++ x.current ∷ []; current = record { who = user; body = body } }
+corrected user body x = record {
+  sent_id = x.sent_id;
+  batch = x.batch;
+  pulled = x.pulled;
+  before = x.before ++ x.current ∷ [];
+  current = record { who = user; body = body };
+}
 
 abbrev pub flagged : Bool → Sentence → Sentence
 flagged p x = record { sent_id = x.sent_id; batch = x.batch; pulled = p; before = x.before; current = x.current }
@@ -205,4 +220,8 @@ move_of s a = record {
 
 -- the one state after it
 abbrev pub after : Machine → Act → Machine
-after s a = record { batches = batches_after s a; sentences = sentences_after s a; moves = s.moves ++ move_of s a ∷ [] }
+after s a = record {
+  batches = batches_after s a;
+  sentences = sentences_after s a;
+  moves = s.moves ++ move_of s a ∷ [];
+}

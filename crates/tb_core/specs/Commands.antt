@@ -2,7 +2,7 @@
 use Rattle.std.specs.Prelude.{◌≡◌, ℕ, ◌+◌, List, [], ◌∷◌, length, Some, slice_get}
 use Rattle.tb_conllu.specs.Text.{BlockText}
 use Rattle.tb_conllu.specs.Words.{words_of}
-use Rattle.tb_conllu.specs.Told.{IsFile}
+use Rattle.tb_conllu.specs.Reported.{IsFile}
 use Rattle.tb_core.specs.declared.kinds.Event.{Event}
 use Rattle.tb_core.specs.declared.refusals.Refusal.{Refusal}
 use Rattle.tb_core.specs.declared.replies.Imported.{Imported}
@@ -55,14 +55,37 @@ pub record HasSentence (s : Machine) (n place : ℕ) (x : Sentence) : Type 0 whe
 
 abbrev pub Means : Machine → Command → Act → Type 0
 Means s (import_file name user body) a = (bs : List BlockText) × IsFile body bs × (a ≡ importing name user bs)
-Means s (event_on name event user) a = (place : ℕ) × (b : Batch) × HasBatch s name place b × (a ≡ stepping place event user)
-Means s (correct n base user body) a = (place : ℕ) × (x : Sentence) × (b : BlockText) × HasSentence s n place x × (base ≡ rev x) × IsFile body (b ∷ []) × (a ≡ correcting place user b)
+Means s (event_on name event user) a = (place : ℕ) × (b : Batch) × HasBatch s name place b
+    × (a ≡ stepping place event user)
+Means s (correct n base user body) a = (place : ℕ) × (x : Sentence) × (b : BlockText) × HasSentence s n place x
+    × (base ≡ rev x) × IsFile body (b ∷ []) × (a ≡ correcting place user b)
 Means s (pull n user) a = (place : ℕ) × (x : Sentence) × HasSentence s n place x × (a ≡ pulling place user)
 Means s (restore n user) a = (place : ℕ) × (x : Sentence) × HasSentence s n place x × (a ≡ restoring place user)
 
 abbrev pub reply_to : Machine → Act → Reply
-reply_to s (importing name user bs) = imported (record { batch = length s.batches + 1; first = length s.sentences + 1; sentences = length bs; words = enters words s (importing name user bs) })
-reply_to s (stepping place event user) = moved_on (record { batch = place + 1; state = to_state s (stepping place event user); sentences = enters one s (stepping place event user); words = enters words s (stepping place event user) })
-reply_to s (correcting place user b) = corrected_to (record { sentence = place + 1; rev = weight_at rev s.sentences place + 1; words = words_of b })
-reply_to s (pulling place user) = pulled_out (record { sentence = place + 1; words = leaves words s (pulling place user) })
-reply_to s (restoring place user) = restored_to (record { sentence = place + 1; state = to_state s (restoring place user); words = enters words s (restoring place user) })
+reply_to s (importing name user bs) = imported (record {
+  batch = length s.batches + 1;
+  first = length s.sentences + 1;
+  sentences = length bs;
+  words = enters words s (importing name user bs);
+})
+reply_to s (stepping place event user) = moved_on (record {
+  batch = place + 1;
+  state = to_state s (stepping place event user);
+  sentences = enters one s (stepping place event user);
+  words = enters words s (stepping place event user);
+})
+reply_to s (correcting place user b) = corrected_to (record {
+  sentence = place + 1;
+  rev = weight_at rev s.sentences place + 1;
+  words = words_of b;
+})
+reply_to s (pulling place user) = pulled_out (record {
+  sentence = place + 1;
+  words = leaves words s (pulling place user);
+})
+reply_to s (restoring place user) = restored_to (record {
+  sentence = place + 1;
+  state = to_state s (restoring place user);
+  words = enters words s (restoring place user);
+})

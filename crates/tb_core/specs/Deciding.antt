@@ -1,12 +1,14 @@
 -- What is decided from the state of a batch, its worker and the user, with the refusals in their order.
 use Rattle.std.specs.Prelude.{ℕ, List, Bool, cond, bytes_eq, nat_eq, Result, Ok, Err}
 use Rattle.tb_core.specs.declared.kinds.State.{State}
-use Rattle.tb_core.specs.declared.kinds.State.TheVariants.{Opened, Assigned, Submitted, Adjudicated, Released, Withdrawn}
+use Rattle.tb_core.specs.declared.kinds.State.TheVariants.{Opened, Assigned, Submitted, Adjudicated, Released}
+use Rattle.tb_core.specs.declared.kinds.State.TheVariants.{Withdrawn}
 use Rattle.tb_core.specs.declared.kinds.Event.{Event}
 use Rattle.tb_core.specs.declared.kinds.Worker.{Worker}
 use Rattle.tb_core.specs.declared.refusals.Refusal.{Refusal}
 use Rattle.tb_core.specs.declared.refusals.Refusal.TheVariants.{WrongState, NotYours, OwnWork, Stale, Pulled, NotPulled}
-use Rattle.tb_core.specs.Events.{is_state, Asker, anyone, the_worker, not_the_worker, event_row, leads_from, goes_to, makes_worker}
+use Rattle.tb_core.specs.Events.{is_state, Asker, anyone, the_worker, not_the_worker, event_row, leads_from, goes_to}
+use Rattle.tb_core.specs.Events.{makes_worker}
 
 -- whether the user is one of those who may ask
 abbrev pub allowed : {X : Type 0} → Asker → List ℕ → List ℕ → X → Result X Refusal
@@ -16,7 +18,10 @@ allowed not_the_worker worker user x = cond (bytes_eq worker user) (Err OwnWork)
 
 -- an event: where the batch goes and what becomes of its worker
 abbrev pub event_decision : State → List ℕ → Event → List ℕ → Result (State × Worker) Refusal
-event_decision s worker e user = cond (leads_from e s) (allowed (event_row e).asker worker user (goes_to e, makes_worker e)) (Err (WrongState s))
+event_decision s worker e user = cond (leads_from e s) (allowed (event_row e).asker worker user (
+  goes_to e,
+  makes_worker e,
+)) (Err (WrongState s))
 
 -- who may correct a sentence in this state: its worker while it is assigned, the others once it is submitted
 abbrev pub may_correct : State → List ℕ → List ℕ → Result (Unit {0}) Refusal

@@ -1,9 +1,11 @@
 -- The table of events: from which states an event leads, to which, what becomes of the worker, and who may ask for it.
 use Rattle.std.specs.Prelude.{ℕ, Bool, not, nat_eq}
 use Rattle.tb_core.specs.declared.kinds.State.{State}
-use Rattle.tb_core.specs.declared.kinds.State.TheVariants.{Opened, Assigned, Submitted, Adjudicated, Released, Withdrawn}
+use Rattle.tb_core.specs.declared.kinds.State.TheVariants.{Opened, Assigned, Submitted, Adjudicated, Released}
+use Rattle.tb_core.specs.declared.kinds.State.TheVariants.{Withdrawn}
 use Rattle.tb_core.specs.declared.kinds.Event.{Event}
-use Rattle.tb_core.specs.declared.kinds.Event.TheVariants.{Assign, Unassign, Submit, SendBack, Adjudicate, Release, Withdraw, Reopen}
+use Rattle.tb_core.specs.declared.kinds.Event.TheVariants.{Assign, Unassign, Submit, SendBack, Adjudicate, Release}
+use Rattle.tb_core.specs.declared.kinds.Event.TheVariants.{Withdraw, Reopen}
 use Rattle.tb_core.specs.declared.kinds.Worker.{Worker}
 use Rattle.tb_core.specs.declared.kinds.Worker.TheVariants.{Keep, Caller, Cleared}
 

@@ -5,7 +5,8 @@ use Rattle.tb_conllu.specs.Text.{BlockText}
 use Rattle.tb_core.specs.declared.kinds.State.TheVariants.{Opened, Withdrawn}
 use Rattle.tb_core.specs.Moves.{MoveText}
 use Rattle.tb_core.specs.Names.{is_name, AreApart}
-use Rattle.tb_core.specs.Machine.{sent_id_of, text_value_of, IsLawful, Batch, Revision, Sentence, Machine, revisions, bodies_of}
+use Rattle.tb_core.specs.Machine.{sent_id_of, text_value_of, IsLawful, Batch, Revision, Sentence, Machine, revisions}
+use Rattle.tb_core.specs.Machine.{bodies_of}
 use Rattle.tb_core.specs.Acts.{names_of, ids_of}
 
 -- the sentence is of one of so many batches
@@ -22,7 +23,8 @@ pub record IsFine (x : Sentence) : Type 0 where
   pub lawful : AllByRecursion IsLawful (bodies_of x)
   pub titled : AllByRecursion (λ (b : BlockText). sent_id_of b ≡ x.sent_id) (bodies_of x)
   pub spelled : AllByRecursion (λ (b : BlockText). text_value_of b ≡ text_value_of x.current.body) (bodies_of x)
-  pub new : (before : List Revision) (r q : Revision) (more : List Revision) → revisions x ≡ before ++ r ∷ q ∷ more → q.body ≡ r.body → ⊥
+  pub new : (before : List Revision) (r q : Revision) (more : List Revision)
+      → revisions x ≡ before ++ r ∷ q ∷ more → q.body ≡ r.body → ⊥
 
 pub record IsWell (s : Machine) : Type 0 where
   pub placed : AllByRecursion (IsPlaced (length s.batches)) s.sentences

@@ -15,3 +15,5 @@ pub mod Steps
 pub mod Rows
 pub mod Taking
 pub mod SameRows
+pub mod Found
+pub mod Parts

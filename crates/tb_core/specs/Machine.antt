@@ -1,5 +1,6 @@
 -- The state of a desk as plain data: batches, sentences with all their revisions, and moves.
-use Rattle.std.specs.Prelude.{ℕ, ◌+◌, ◌-◌, zero, suc, List, [], ◌∷◌, ◌++◌, Bool, true, false, cond, map, length, nat_eq, slice_index_or, unwrap_or}
+use Rattle.std.specs.Prelude.{ℕ, ◌+◌, ◌-◌, zero, suc, List, [], ◌∷◌, ◌++◌, Bool, true, false, cond}
+use Rattle.std.specs.Prelude.{map, length, nat_eq, slice_index_or, unwrap_or}
 use Rattle.tb_conllu.specs.Text.{BlockText}
 use Rattle.tb_conllu.specs.Words.{words_of}
 use Rattle.tb_conllu.specs.Shape.{IsShaped}

@@ -1,7 +1,11 @@
 -- The number and the text of each refusal, and the text of each fault.
 use Rattle.std.specs.Prelude.{ℕ, List, ◌++◌, codes, decimal}
 use Rattle.tb_core.specs.declared.refusals.Refusal.{Refusal}
-use Rattle.tb_core.specs.declared.refusals.Refusal.TheVariants.{BadName, NoSuchBatch, NoSuchSentence, WrongState, NotYours, OwnWork, Stale, Read, Rule, Empty, NotOne, SentIdChanged, TextChanged, NothingChanged, NameTaken, SentIdTaken, Full, NoSuchRevision, Query, Pulled, NotPulled, TooManyHits}
+use Rattle.tb_core.specs.declared.refusals.Refusal.TheVariants.{BadName, NoSuchBatch, NoSuchSentence, WrongState}
+use Rattle.tb_core.specs.declared.refusals.Refusal.TheVariants.{NotYours, OwnWork, Stale, Read, Rule, Empty, NotOne}
+use Rattle.tb_core.specs.declared.refusals.Refusal.TheVariants.{SentIdChanged, TextChanged, NothingChanged, NameTaken}
+use Rattle.tb_core.specs.declared.refusals.Refusal.TheVariants.{SentIdTaken, Full, NoSuchRevision, Query, Pulled}
+use Rattle.tb_core.specs.declared.refusals.Refusal.TheVariants.{NotPulled, TooManyHits}
 use Rattle.tb_core.specs.declared.refusals.Fault.{Fault}
 use Rattle.tb_core.specs.declared.refusals.Fault.TheVariants.{Refused, Memory, Device, NotADesk, Output}
 use Rattle.tb_core.specs.Words.{state_word}

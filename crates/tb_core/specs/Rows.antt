@@ -29,7 +29,12 @@ sentence_row x = record { sent_id = x.sent_id; batch = x.batch; rev = rev x; wor
 -- the revisions of the sentence with this number, from this revision on
 abbrev pub revision_rows : ℕ → ℕ → List Revision → List RevisionRow
 revision_rows n k [] = []
-revision_rows n k (r ∷ rs) = record { sent = n; rev = k; who = r.who; body = text_of (r.body ∷ []) } ∷ revision_rows n (k + 1) rs
+revision_rows n k (r ∷ rs) = record {
+  sent = n;
+  rev = k;
+  who = r.who;
+  body = text_of (r.body ∷ []);
+} ∷ revision_rows n (k + 1) rs
 
 abbrev pub revisions_from : ℕ → List Sentence → List RevisionRow
 revisions_from n [] = []
@@ -41,4 +46,10 @@ pulled_from n [] = []
 pulled_from n (x ∷ xs) = cond x.pulled (n ∷ pulled_from (n + 1) xs) (pulled_from (n + 1) xs)
 
 abbrev pub rows_of : Machine → Rows
-rows_of s = record { batches = s.batches; sentences = map sentence_row s.sentences; revisions = revisions_from 1 s.sentences; moves = s.moves; pulled = pulled_from 1 s.sentences }
+rows_of s = record {
+  batches = s.batches;
+  sentences = map sentence_row s.sentences;
+  revisions = revisions_from 1 s.sentences;
+  moves = s.moves;
+  pulled = pulled_from 1 s.sentences;
+}

@@ -5,7 +5,10 @@ use Rattle.tb_core.specs.declared.limits.Limits.{Limits}
 use Rattle.tb_core.specs.Names.{is_name}
 use Rattle.tb_core.specs.Machine.{Machine}
 use Rattle.tb_core.specs.Commands.{Command, import_file, event_on, correct, pull, restore, Answer, Ending, ending}
-use Rattle.tb_core.specs.Tests.{◌otherwise◌, Refuses, IsBadName, IsNoBatch, IsNoSentence, IsEventRefused, IsCorrectRefused, IsPullRefused, IsRestoreRefused, IsNameTaken, IsIdTaken, IsFull, IsUnread, IsBroken, IsEmpty, IsNotOne, IsIdChanged, IsTextChanged, IsNothingChanged, RepeatsImport, RepeatsCorrection, Accepts}
+use Rattle.tb_core.specs.Tests.{◌otherwise◌, Refuses, IsBadName, IsNoBatch, IsNoSentence, IsEventRefused}
+use Rattle.tb_core.specs.Tests.{IsCorrectRefused, IsPullRefused, IsRestoreRefused, IsNameTaken, IsIdTaken, IsFull}
+use Rattle.tb_core.specs.Tests.{IsUnread, IsBroken, IsEmpty, IsNotOne, IsIdChanged, IsTextChanged, IsNothingChanged}
+use Rattle.tb_core.specs.Tests.{RepeatsImport, RepeatsCorrection, Accepts}
 
 abbrev pub ImportEnds : Limits → Machine → List ℕ → List ℕ → List ℕ → Ending → Type 0
 ImportEnds l s name user body =

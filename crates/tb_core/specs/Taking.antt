@@ -2,7 +2,7 @@
 use Rattle.std.specs.Prelude.{◌≡◌, ℕ, ◌<◌, List, [], ◌∷◌, length}
 use Rattle.tb_conllu.specs.Text.{BlockText, text_of}
 use Rattle.tb_conllu.specs.Words.{words_of}
-use Rattle.tb_conllu.specs.Told.{IsFile}
+use Rattle.tb_conllu.specs.Reported.{IsFile}
 use Rattle.tb_conllu.specs.declared.fault.ReadFault.{ReadFault}
 use Rattle.tb_conllu.specs.declared.fault.ReadFault.TheVariants as reading
 use Rattle.tb_rules.specs.File.{IsValid}
@@ -16,12 +16,12 @@ use Rattle.tb_core.specs.declared.refusals.Fault.{Fault}
 use Rattle.tb_core.specs.declared.refusals.Fault.TheVariants.{Refused, Memory, Device, NotADesk, Output}
 
 -- what is kept of a sentence that is taken: its name, how many words it has, and its text
-pub record TakenText : Type 0 where
+pub record NewSentenceText : Type 0 where
   pub sent_id : List ℕ
   pub words : ℕ
   pub text : List ℕ
 
-abbrev pub taken_of : BlockText → TakenText
+abbrev pub taken_of : BlockText → NewSentenceText
 taken_of b = record { sent_id = sent_id_of b; words = words_of b; text = text_of (b ∷ []) }
 
 -- The body is a file of these sentences, of which there is one at least, and they are valid.
@@ -46,7 +46,8 @@ pub record IsCorrection (body : List ℕ) (current b : BlockText) : Type 0 where
 -- What is wrong with a sentence as a correction of the current one, in the order of the tests.
 pub data IsUnfit (b current : BlockText) : Refusal → Type 0 where
   other_name : (sent_id_of b ≡ sent_id_of current → ⊥) → IsUnfit b current SentIdChanged
-  other_text : sent_id_of b ≡ sent_id_of current → (text_value_of b ≡ text_value_of current → ⊥) → IsUnfit b current TextChanged
+  other_text : sent_id_of b ≡ sent_id_of current → (text_value_of b ≡ text_value_of current → ⊥)
+      → IsUnfit b current TextChanged
   nothing_new : b ≡ current → IsUnfit b current NothingChanged
 
 -- The body of a correction is refused as any body; where it has more than one sentence; where the one is unfit.

@@ -1,5 +1,6 @@
 -- Totals of the states, the net of the moves, and totals that are kept from move to move.
-use Rattle.std.specs.Prelude.{◌≡◌, ℕ, ◌+◌, ◌-◌, ◌<◌, ◌≤◌, ◌^◌, List, [], ◌∷◌, Bool, false, Option, Some, None, slice_index}
+use Rattle.std.specs.Prelude.{◌≡◌, ℕ, ◌+◌, ◌-◌, ◌<◌, ◌≤◌, ◌^◌, List, [], ◌∷◌, Bool}
+use Rattle.std.specs.Prelude.{false, Option, Some, None, slice_index}
 use Rattle.tb_core.specs.declared.kinds.State.{State}
 use Rattle.tb_core.specs.declared.sums.Totals.{Totals}
 use Rattle.tb_core.specs.Events.{state_place, is_state}
@@ -32,8 +33,10 @@ into st f m = when (is_state m.to st) (f m)
 
 -- The total of a state is the net of the moves: what is there, with what left it, is what came.
 pub record IsNet (s : Machine) (st : State) : Type 0 where
-  pub sentences : total one s st + sum_moves (out_of st (λ m. m.sentences)) s.moves ≡ sum_moves (into st (λ m. m.sentences)) s.moves
-  pub words : total words s st + sum_moves (out_of st (λ m. m.words_out)) s.moves ≡ sum_moves (into st (λ m. m.words_in)) s.moves
+  pub sentences : total one s st + sum_moves (out_of st (λ m. m.sentences)) s.moves ≡ sum_moves (into st (λ m.
+      m.sentences)) s.moves
+  pub words : total words s st + sum_moves (out_of st (λ m. m.words_out)) s.moves ≡ sum_moves (into st (λ m.
+      m.words_in)) s.moves
 
 -- ---- stored totals
 
@@ -47,7 +50,8 @@ HasEnough sums from leaving = (st : State) → when (is_from from st) leaving �
 
 -- what is there afterwards fits 64 bits
 abbrev pub HasSpace : List ℕ → Option State → State → ℕ → ℕ → Type 0
-HasSpace sums from to leaving coming = (st : State) → at_state sums st - when (is_from from st) leaving + when (is_state to st) coming < 2 ^ 64
+HasSpace sums from to leaving coming = (st : State)
+    → at_state sums st - when (is_from from st) leaving + when (is_state to st) coming < 2 ^ 64
 
 pub record Takes (t : Totals) (m : MoveText) : Type 0 where
   pub sentences_there : HasEnough t.sentences m.from m.sentences
@@ -57,7 +61,8 @@ pub record Takes (t : Totals) (m : MoveText) : Type 0 where
 
 -- each state has lost what left it and has got what came to it, and nothing else changed
 abbrev pub Shifts : List ℕ → List ℕ → Option State → State → ℕ → ℕ → Type 0
-Shifts old new from to leaving coming = (st : State) → at_state new st + when (is_from from st) leaving ≡ at_state old st + when (is_state to st) coming
+Shifts old new from to leaving coming = (st : State) → at_state new st + when (is_from from st) leaving
+    ≡ at_state old st + when (is_state to st) coming
 
 -- The move has been made.
 pub record IsApplied (old new : Totals) (m : MoveText) : Type 0 where
@@ -65,6 +70,6 @@ pub record IsApplied (old new : Totals) (m : MoveText) : Type 0 where
   pub words : Shifts old.words new.words m.from m.to m.words_out m.words_in
 
 -- The stored totals are those of a state of the desk.
-pub record StandFor (t : Totals) (s : Machine) : Type 0 where
+pub record AreTotalsOf (t : Totals) (s : Machine) : Type 0 where
   pub sentences : (st : State) → at_state t.sentences st ≡ total one s st
   pub words : (st : State) → at_state t.words st ≡ total words s st

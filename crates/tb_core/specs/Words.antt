@@ -1,9 +1,11 @@
 -- The words for states, events and kinds of moves.
 use Rattle.std.specs.Prelude.{ℕ, List, codes}
 use Rattle.tb_core.specs.declared.kinds.State.{State}
-use Rattle.tb_core.specs.declared.kinds.State.TheVariants.{Opened, Assigned, Submitted, Adjudicated, Released, Withdrawn}
+use Rattle.tb_core.specs.declared.kinds.State.TheVariants.{Opened, Assigned, Submitted, Adjudicated, Released}
+use Rattle.tb_core.specs.declared.kinds.State.TheVariants.{Withdrawn}
 use Rattle.tb_core.specs.declared.kinds.Event.{Event}
-use Rattle.tb_core.specs.declared.kinds.Event.TheVariants.{Assign, Unassign, Submit, SendBack, Adjudicate, Release, Withdraw, Reopen}
+use Rattle.tb_core.specs.declared.kinds.Event.TheVariants.{Assign, Unassign, Submit, SendBack, Adjudicate, Release}
+use Rattle.tb_core.specs.declared.kinds.Event.TheVariants.{Withdraw, Reopen}
 use Rattle.tb_core.specs.declared.kinds.Kind.{Kind}
 use Rattle.tb_core.specs.declared.kinds.Kind.TheVariants.{Import, Step, Correct, Pull, Restore}
 

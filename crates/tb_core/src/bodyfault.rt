@@ -3,7 +3,7 @@
 ghost use Rattle.std.specs.Prelude.{◌≡◌, ◌⊎◌, List};
 ghost use Rattle.tb_conllu.specs.Fault.{IsFaultAfter};
 ghost use Rattle.tb_conllu.specs.Text.{BlockText};
-ghost use Rattle.tb_conllu.specs.Told.{IsFile};
+ghost use Rattle.tb_conllu.specs.Reported.{IsFile};
 ghost use Rattle.tb_conllu.specs.declared.fault.ReadFault.{ReadFault};
 ghost use Rattle.tb_core.specs.Taking.{fault_of_reading, fault_of_rules};
 
@@ -39,9 +39,10 @@ impl From<FileFault> for Fault {
 }
 
 /// The fault of a body in which a sentence breaks a rule: a line of what is left that cannot be read comes first.
-pub(crate) fn told_first(alloc: Global, unread: &mut Sentences<'_>, broken: FileFault) -> Fault
+pub(crate) fn reported_first(alloc: Global, unread: &mut Sentences<'_>, broken: FileFault) -> Fault
     ensures { ((bs : List BlockText) × IsFile unread.old.rest bs × (result ≡ fault_of_rules broken))
-        ⊎ ((fault : ReadFault) × IsFaultAfter unread.old.line unread.old.rest fault × (result ≡ fault_of_reading fault)) }
+        ⊎ ((fault : ReadFault) × IsFaultAfter unread.old.line unread.old.rest fault
+        × (result ≡ fault_of_reading fault)) }
 {
     match unread.read_rest(alloc) {
         Ok(()) => Fault::from(broken),

@@ -11,8 +11,8 @@ use crate::sameness::same_block;
 use crate::taking::take_file_ref;
 use std::alloc::Global;
 use tb_conllu::{
-    Block, BlockOf, Passage, Sentences, Text, a_file_begins_one_way, a_file_is_read_in_order,
-    one_list_has_a_text, own_block, told_bytes_are_no_file,
+    Block, BlockOf, Sentences, SourcedSentence, Text, a_file_begins_one_way,
+    a_file_is_read_in_order, one_list_has_a_text, own_block, reported_bytes_are_no_file,
 };
 use tb_rules::{faulty_sentences_are_not_valid, sent_id, text};
 
@@ -62,7 +62,7 @@ fn fits<T: Text, U: Text>(block: &BlockOf<T>, current: &BlockOf<U>) -> Result<()
 }
 
 /// The one sentence of a body.
-fn only_sentence<'a>(alloc: Global, body: &'a [u8]) -> Result<Passage<'a>, Fault>
+fn only_sentence<'a>(alloc: Global, body: &'a [u8]) -> Result<SourcedSentence<'a>, Fault>
     ensures taken { IfOk result (λ p. IsBody body.now (p.block ∷ [])) }
     ensures text { IfOk result (λ p. p.text.now ≡ body.now) }
     ensures refused { (current : BlockText) → IfErr result (IsTakingFault (IsCorrectionRefused body.now current)) }
@@ -86,7 +86,7 @@ fn fitting_sentence<'a, T: Text>(
     alloc: Global,
     body: &'a [u8],
     current: &BlockOf<T>,
-) -> Result<Passage<'a>, Fault>
+) -> Result<SourcedSentence<'a>, Fault>
     ensures taken { IfOk result (λ p. IsCorrection body.now current.now p.block) }
     ensures text { IfOk result (λ p. p.text.now ≡ body.now) }
     ensures refused { IfErr result (IsTakingFault (IsCorrectionRefused body.now current.now)) }
@@ -107,15 +107,16 @@ pub fn take_one_ref<'a, T: Text>(
     alloc: Global,
     body: &'a [u8],
     current: &BlockOf<T>,
-) -> Result<Passage<'a>, Fault>
+) -> Result<SourcedSentence<'a>, Fault>
     ensures taken { IfOk result (λ p. IsCorrection body.now current.now p.block) }
     ensures text { IfOk result (λ p. p.text.now ≡ body.now) }
     ensures refused { IfErr result (IsTakingFault (IsCorrectionRefused body.now current.now)) }
-    ensures only { (b : BlockText) → IsCorrection body.now current.now b → MatchResult result (λ p. p.block ≡ b) (λ e. e ≡ Memory) }
+    ensures only { (b : BlockText) → IsCorrection body.now current.now b
+        → MatchResult result (λ p. p.block ≡ b) (λ e. e ≡ Memory) }
 {
     // The laws by which a body is answered one way.
     one_list_has_a_text();
-    told_bytes_are_no_file();
+    reported_bytes_are_no_file();
     faulty_sentences_are_not_valid();
     fitting_sentence(alloc, body, current)
 }
@@ -129,7 +130,8 @@ pub fn take_one_ref<'a, T: Text>(
 pub fn take_one<T: Text>(alloc: Global, body: &[u8], current: &BlockOf<T>) -> Result<Block, Fault>
     ensures taken { IfOk result (IsCorrection body.now current.now) }
     ensures refused { IfErr result (IsTakingFault (IsCorrectionRefused body.now current.now)) }
-    ensures only { (b : BlockText) → IsCorrection body.now current.now b → MatchResult result (λ v. v ≡ b) (λ e. e ≡ Memory) }
+    ensures only { (b : BlockText) → IsCorrection body.now current.now b → MatchResult result (λ v. v ≡ b) (λ e.
+        e ≡ Memory) }
 {
     let passage = take_one_ref(alloc, body, current)?;
     Ok(own_block(alloc, &passage.block)?)

@@ -4,7 +4,8 @@ ghost use Rattle.std.specs.Prelude.{◌≡◌, length, nat_le, ◌&&◌};
 ghost use Rattle.std.specs.List.{list_all};
 ghost use Rattle.tb_core.specs.Names.{is_name_byte, is_name};
 ghost use Rattle.tb_core.specs.Events.{the_worker, not_the_worker, is_state, leads_from};
-ghost use Rattle.tb_core.specs.Deciding.{allowed, event_decision, may_correct, correct_decision, pull_decision, restore_decision};
+ghost use Rattle.tb_core.specs.Deciding.{allowed, event_decision, may_correct, correct_decision, pull_decision};
+ghost use Rattle.tb_core.specs.Deciding.{restore_decision};
 
 use crate::kinds::{Event, State, Worker};
 use crate::refusals::Refusal;

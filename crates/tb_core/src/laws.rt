@@ -3,10 +3,11 @@
 ghost use Rattle.std.specs.Prelude.{◌≡◌, ◌+◌, ◌≤◌, ℕ, List, [], ◌∷◌, length, true};
 ghost use Rattle.std.specs.List.{AllByRecursion};
 ghost use Rattle.tb_conllu.specs.Text.{BlockText, text_of};
-ghost use Rattle.tb_conllu.specs.Told.{IsFile};
+ghost use Rattle.tb_conllu.specs.Reported.{IsFile};
 ghost use Rattle.tb_rules.specs.File.{IsValid};
 ghost use Rattle.tb_core.specs.declared.kinds.State.{State};
-ghost use Rattle.tb_core.specs.declared.kinds.State.TheVariants.{Opened, Assigned, Submitted, Adjudicated, Released, Withdrawn};
+ghost use Rattle.tb_core.specs.declared.kinds.State.TheVariants.{Opened, Assigned, Submitted, Adjudicated, Released};
+ghost use Rattle.tb_core.specs.declared.kinds.State.TheVariants.{Withdrawn};
 ghost use Rattle.tb_core.specs.declared.limits.Limits.{Limits};
 ghost use Rattle.tb_core.specs.declared.sums.Totals.{Totals};
 ghost use Rattle.tb_core.specs.Acts.{Act, IsAllowed, after, move_of};
@@ -17,10 +18,10 @@ ghost use Rattle.tb_core.specs.Commands.{Command, import_file, correct, Reply, A
 ghost use Rattle.tb_core.specs.Steps.{Steps};
 ghost use Rattle.tb_core.specs.Keeping.{IsWell, Extends};
 ghost use Rattle.tb_core.specs.Rows.{rows_of};
-ghost use Rattle.tb_core.specs.Totals.{IsNet, total, Takes, IsApplied, StandFor};
+ghost use Rattle.tb_core.specs.Totals.{IsNet, total, Takes, IsApplied, AreTotalsOf};
 
-use tb_conllu::{one_fault_is_told, one_list_has_a_text};
-use tb_rules::one_sentence_is_told;
+use tb_conllu::{one_fault_is_reported, one_list_has_a_text};
+use tb_rules::one_sentence_is_reported;
 
 /// What every reached state keeps: names and `sent_id`s are each once; each sentence is of one batch; nobody works on an
 /// open or withdrawn batch; each revision of a sentence keeps the rules, with one `sent_id` and one text.
@@ -41,12 +42,15 @@ pub fn totals_are_nets()
 
 /// The sentences of the six states are all sentences.
 pub fn each_sentence_is_in_one_state()
-    ensures { (s : Machine) → total one s Opened + total one s Assigned + total one s Submitted + total one s Adjudicated + total one s Released + total one s Withdrawn ≡ length s.sentences }
+    ensures { (s : Machine)
+        → total one s Opened + total one s Assigned + total one s Submitted + total one s Adjudicated + total one s Released + total one s Withdrawn ≡ length s.sentences }
 {}
 
 /// Each revision of a reached state is a valid sentence, and its text reads back as this sentence and nothing else.
 pub fn revisions_read_back()
-    ensures { (s : Machine) → Reached s → AllByRecursion (λ (x : Sentence). AllByRecursion (λ (b : BlockText). IsValid (b ∷ []) × IsFile (text_of (b ∷ [])) (b ∷ []) × ((bs : List BlockText) → IsFile (text_of (b ∷ [])) bs → bs ≡ b ∷ [])) (bodies_of x)) s.sentences }
+    ensures { (s : Machine) → Reached s → AllByRecursion (λ (x : Sentence). AllByRecursion
+        (λ (b : BlockText). IsValid (b ∷ []) × IsFile (text_of (b ∷ [])) (b ∷ []) × ((bs : List BlockText)
+        → IsFile (text_of (b ∷ [])) bs → bs ≡ b ∷ [])) (bodies_of x)) s.sentences }
 {
     one_list_has_a_text();
 }
@@ -66,42 +70,51 @@ pub fn commands_lead_on()
 /// Under limits of at most 1,000,000 sentences and 1,000,000,000 moves a command leads from a state within the largest
 /// limits to one within them.
 pub fn commands_stay_within_limits()
-    ensures { (l : Limits) (s t : Machine) (c : Command) (a : Answer) → l.sentences ≤ 1000000 → l.moves ≤ 1000000000 → IsReachable s → Steps l s c a t → IsReachable t }
+    ensures { (l : Limits) (s t : Machine) (c : Command) (a : Answer) → l.sentences ≤ 1000000
+        → l.moves ≤ 1000000000 → IsReachable s → Steps l s c a t → IsReachable t }
 {}
 
 /// An import that had a reply, sent again in any later state by anyone with a good name, has this reply again and changes
 /// nothing.
 pub fn imports_repeat()
-    ensures { (l k : Limits) (s t u : Machine) (name user other body : List ℕ) (r : Reply) → Reached s → Steps l s (import_file name user body) (replied r) t → Later t u → is_name other ≡ true → Steps k u (import_file name other body) (replied r) u }
+    ensures { (l k : Limits) (s t u : Machine) (name user other body : List ℕ) (r : Reply) → Reached s
+        → Steps l s (import_file name user body) (replied r) t → Later t u → is_name other ≡ true
+        → Steps k u (import_file name other body) (replied r) u }
 {}
 
 /// A correction that had a reply, sent again by its user while its revision is current, has this reply again and changes
 /// nothing.
 pub fn corrections_repeat()
-    ensures { (l k : Limits) (s t u : Machine) (n base : ℕ) (user body : List ℕ) (r : Reply) (place : ℕ) (y : Sentence) → Steps l s (correct n base user body) (replied r) t → Later t u → HasSentence u n place y → rev y ≡ base + 1 → Steps k u (correct n base user body) (replied r) u }
+    ensures { (l k : Limits) (s t u : Machine) (n base : ℕ) (user body : List ℕ) (r : Reply) (place : ℕ)
+        (y : Sentence) → Steps l s (correct n base user body) (replied r) t → Later t u → HasSentence u n place y
+        → rev y ≡ base + 1 → Steps k u (correct n base user body) (replied r) u }
 {}
 
 /// A command has one answer in a reached state, and leaves one state.
 pub fn each_command_ends_one_way()
-    ensures { (l : Limits) (s t u : Machine) (c : Command) (a b : Answer) → Reached s → Steps l s c a t → Steps l s c b u → (a ≡ b) × (t ≡ u) }
+    ensures { (l : Limits) (s t u : Machine) (c : Command) (a b : Answer) → Reached s → Steps l s c a t
+        → Steps l s c b u → (a ≡ b) × (t ≡ u) }
 {
     one_list_has_a_text();
-    one_fault_is_told();
-    one_sentence_is_told();
+    one_fault_is_reported();
+    one_sentence_is_reported();
 }
 
 /// No command is without an answer, in any state.
 pub fn each_command_ends()
-    ensures { (l : Limits) (s : Machine) (c : Command) → ((a : Answer) (t : Machine) → Steps l s c a t → ⊥) → ⊥ }
+    ensures { (l : Limits) (s : Machine) (c : Command) → ((a : Answer) (t : Machine) → Steps l s c a t
+        → ⊥) → ⊥ }
 {}
 
 /// Stored totals that stand for a state take the move of each accepted command, as long as it stays within the largest
 /// limits.
 pub fn stored_totals_take_moves()
-    ensures { (s : Machine) (a : Act) (t : Totals) → IsReachable s → IsAllowed s a → IsReachable (after s a) → StandFor t s → Takes t (move_of s a) }
+    ensures { (s : Machine) (a : Act) (t : Totals) → IsReachable s → IsAllowed s a → IsReachable (after s a)
+        → AreTotalsOf t s → Takes t (move_of s a) }
 {}
 
 /// Once the move is made they stand for the next state.
-pub fn stored_totals_stand()
-    ensures { (s : Machine) (a : Act) (t u : Totals) → Reached s → IsAllowed s a → StandFor t s → IsApplied t u (move_of s a) → StandFor u (after s a) }
+pub fn stored_totals_hold()
+    ensures { (s : Machine) (a : Act) (t u : Totals) → Reached s → IsAllowed s a → AreTotalsOf t s
+        → IsApplied t u (move_of s a) → AreTotalsOf u (after s a) }
 {}

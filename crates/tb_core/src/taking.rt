@@ -2,22 +2,22 @@
 
 ghost use Rattle.std.specs.Prelude.{◌≡◌, ◌∷◌, [], List, IfOk, IfErr, MatchResult, map};
 ghost use Rattle.tb_conllu.specs.Text.{BlockText, text_of};
-ghost use Rattle.tb_core.specs.Taking.{IsBody, IsBodyRefused, IsTakingFault, TakenText, taken_of};
+ghost use Rattle.tb_core.specs.Taking.{IsBody, IsBodyRefused, IsTakingFault, NewSentenceText, taken_of};
 ghost use Rattle.tb_core.specs.declared.refusals.Fault.TheVariants.{Memory};
 
-use crate::bodyfault::told_first;
+use crate::bodyfault::reported_first;
 use crate::refusals::{Fault, Refusal};
 use std::alloc::Global;
 use std::marker::Model;
 use tb_conllu::{
-    Block, Passage, Sentences, a_file_is_read_in_order, one_list_has_a_text, read,
-    told_bytes_are_no_file, words,
+    Block, Sentences, SourcedSentence, a_file_is_read_in_order, one_list_has_a_text, read,
+    reported_bytes_are_no_file, words,
 };
 use tb_rules::{Checker, a_fault_stays, faulty_sentences_are_not_valid, sent_id_ref};
 
 /// What is kept of a sentence of a body that is taken. It borrows from the body.
 #[derive(Drop)]
-pub struct Taken<'a> {
+pub struct NewSentence<'a> {
     /// Its name.
     pub sent_id: &'a str,
     /// How many words it has.
@@ -26,18 +26,18 @@ pub struct Taken<'a> {
     pub text: &'a str,
 }
 
-impl<'a> Model for Taken<'a> {
-    ghost Value = { TakenText };
+impl<'a> Model for NewSentence<'a> {
+    ghost Value = { NewSentenceText };
 
     ghost view = { λ t. record { sent_id = t.sent_id.now; words = t.words; text = t.text.now } };
 }
 
 /// What is kept of a sentence that was read.
-fn kept<'a>(passage: &Passage<'a>) -> Taken<'a>
+fn kept<'a>(passage: &SourcedSentence<'a>) -> NewSentence<'a>
     requires { passage.now.text.now ≡ text_of (passage.now.block ∷ []) }
     ensures { result ≡ taken_of passage.now.block }
 {
-    Taken {
+    NewSentence {
         sent_id: sent_id_ref(&passage.block).unwrap_or(""),
         words: words(&passage.block) as u64,
         text: passage.text,
@@ -45,7 +45,7 @@ fn kept<'a>(passage: &Passage<'a>) -> Taken<'a>
 }
 
 /// The sentences of a body, as `take_file_ref` gives them.
-fn sentences_of<'a>(alloc: Global, body: &'a [u8]) -> Result<Vec<Taken<'a>>, Fault>
+fn sentences_of<'a>(alloc: Global, body: &'a [u8]) -> Result<Vec<NewSentence<'a>>, Fault>
     ensures taken { IfOk result (λ v. (bs : List BlockText) × IsBody body.now bs × (v.items ≡ map taken_of bs)) }
     ensures refused { IfErr result (IsTakingFault (IsBodyRefused body.now)) }
 {
@@ -54,10 +54,10 @@ fn sentences_of<'a>(alloc: Global, body: &'a [u8]) -> Result<Vec<Taken<'a>>, Fau
     a_fault_stays();
     let mut unread = Sentences::new(body);
     let mut checker = Checker::new(alloc);
-    let mut all: Vec<Taken<'a>> = Vec::new(alloc);
+    let mut all: Vec<NewSentence<'a>> = Vec::new(alloc);
     while let Some(passage) = unread.read_passage(alloc)? {
         if let Err(broken) = checker.take(&passage.block) {
-            return Err(told_first(alloc, &mut unread, broken));
+            return Err(reported_first(alloc, &mut unread, broken));
         }
         all.push(kept(&passage))?;
     }
@@ -74,14 +74,15 @@ fn sentences_of<'a>(alloc: Global, body: &'a [u8]) -> Result<Vec<Taken<'a>>, Fau
 ///
 /// The first that holds: `Read`, the line that nothing can mend, with its least code; `Rule`, of a body that can be read
 /// whole, the first sentence that breaks a rule; `Empty`. Or want of memory.
-pub fn take_file_ref<'a>(alloc: Global, body: &'a [u8]) -> Result<Vec<Taken<'a>>, Fault>
+pub fn take_file_ref<'a>(alloc: Global, body: &'a [u8]) -> Result<Vec<NewSentence<'a>>, Fault>
     ensures taken { IfOk result (λ v. (bs : List BlockText) × IsBody body.now bs × (v.items ≡ map taken_of bs)) }
     ensures refused { IfErr result (IsTakingFault (IsBodyRefused body.now)) }
-    ensures only { (bs : List BlockText) → IsBody body.now bs → MatchResult result (λ v. v.items ≡ map taken_of bs) (λ e. e ≡ Memory) }
+    ensures only { (bs : List BlockText) → IsBody body.now bs
+        → MatchResult result (λ v. v.items ≡ map taken_of bs) (λ e. e ≡ Memory) }
 {
     // The laws by which a body is answered one way.
     one_list_has_a_text();
-    told_bytes_are_no_file();
+    reported_bytes_are_no_file();
     faulty_sentences_are_not_valid();
     sentences_of(alloc, body)
 }
@@ -94,7 +95,8 @@ pub fn take_file_ref<'a>(alloc: Global, body: &'a [u8]) -> Result<Vec<Taken<'a>>
 pub fn take_file(alloc: Global, body: &[u8]) -> Result<Vec<Block>, Fault>
     ensures taken { IfOk result (λ v. IsBody body.now v.items) }
     ensures refused { IfErr result (IsTakingFault (IsBodyRefused body.now)) }
-    ensures only { (bs : List BlockText) → IsBody body.now bs → MatchResult result (λ v. v.items ≡ bs) (λ e. e ≡ Memory) }
+    ensures only { (bs : List BlockText) → IsBody body.now bs → MatchResult result (λ v. v.items ≡ bs) (λ e.
+        e ≡ Memory) }
 {
     // The law by which the sentences that were checked are those that are read.
     one_list_has_a_text();

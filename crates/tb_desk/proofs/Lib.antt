@@ -1,4 +1,0 @@
-pub mod Inputs
-pub mod Counted
-pub mod Asked
-pub mod Replies

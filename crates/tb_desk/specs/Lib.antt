@@ -1,3 +1,0 @@
-pub mod Check
-pub mod Input
-pub mod Words

@@ -1,18 +1,33 @@
-//! The check of a file, over any reader and writer.
+//! The desk: the front door to all that it answers.
+//!
+//! `answer` does what the bytes of one request over HTTP ask, and `answer_all` what a list of requests asks. A `Line` is read
+//! from the words of a command line, and `run_line` does it on a desk. `run_check` checks a file. `run_words` is the whole
+//! program: it does what the words ask on a file or in memory, or serves it over HTTP. `requests_lead_on`,
+//! `requests_in_memory_lead_on` and `the_check_counts_what_is_taken` are laws: proved facts that link these answers.
 #![tactic(auto)]
 
-mod check;
-mod input;
-mod laws;
-mod output;
-mod reply;
+mod callers;
+mod causes;
+mod checking;
+mod diagnostics;
+mod explaining;
+mod files;
+mod looking;
+mod nothing;
+mod patience;
+mod place;
+mod serving;
+mod turns;
+mod waiting;
 mod words;
+mod wrong;
 
-pub use check::{
-    FILE_LIMIT, Survey, check_bytes, check_file, check_within, run_check, survey_file,
+pub use causes::{Cause, FileCause, Form, PortCause, StreamCause};
+pub use diagnostics::{Diagnostic, Outcome, wants_words};
+pub use tb_answer::{
+    Broken, answer, answer_all, requests_in_memory_lead_on, requests_lead_on, run_line,
+    the_check_counts_what_is_taken,
 };
-pub use input::{Input, read_all};
-pub use laws::{one_reply_is_true, valid_sentences_are_counted};
-pub use output::put_reply;
-pub use reply::CheckReply;
-pub use words::is_check;
+pub use tb_check::run_check;
+pub use tb_cli::{Line, LineFault};
+pub use words::{run_words, run_words_reported};

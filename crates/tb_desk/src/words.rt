@@ -1,15 +1,264 @@
 //! The words of a command line.
 
-ghost use Rattle.std.specs.Prelude.{◌≡◌, map, string_bytes};
-ghost use Rattle.tb_desk.specs.Words.{asks_check};
+ghost use Rattle.std.specs.Prelude.{◌≡◌, map, string_bytes, true};
+ghost use Rattle.tb_check.specs.Check.{Answers, IsReplyToRead, file_limit};
+ghost use Rattle.tb_check.specs.Words.{asks_check};
+ghost use Rattle.tb_conllu.specs.declared.fault.WriteFault.{WriteFault};
 
-/// Whether the words are the program's name and `check`, which `--` may end.
-pub fn is_check(words: &[String]) -> bool
-    ensures { result ≡ asks_check (map string_bytes words.now) }
-{
-    match words {
-        [_, word] => word.as_str() == "check",
-        [_, word, end] => word.as_str() == "check" && end.as_str() == "--",
-        _ => false,
+use crate::causes::{Cause, FileCause};
+use crate::checking::check_reported;
+use crate::diagnostics::{Diagnostic, Outcome, wants_words};
+use crate::explaining::run_reported;
+use crate::files::{self, FileDesk};
+use crate::place::Place;
+use crate::serving::serve;
+use crate::wrong::wrong_word;
+use sqlite::Alter;
+use std::io::Write;
+use tb_answer::{put_reply, read_body};
+use tb_check::is_check;
+use tb_cli::{Line, LineFault};
+use tb_conllu::{Sink, Source};
+use tb_http::Reply;
+use tb_store::Desk;
+
+/// Puts the line of a cause that lies in a file, and tells it of the file at this path.
+fn put_file_cause<W: Sink>(rt: &HostRuntime, path: &str, cause: FileCause, out: &mut W) -> Outcome {
+    Outcome {
+        status: put_reply(out, cause.reply()),
+        reported: Some(Diagnostic::at(rt, path, Cause::File(cause))),
     }
+}
+
+/// Tells why words are no line: clap's text, which is help too, or the desk's own.
+fn put_fault<W: Sink>(
+    rt: &HostRuntime,
+    words: &[String],
+    fault: LineFault,
+    out: &mut W,
+) -> Outcome {
+    match fault {
+        LineFault::Clap(error) => match error.to_string(rt.alloc()) {
+            Ok(text) => Outcome::from(tb_check::put_reply(
+                out,
+                text.as_str(),
+                error.exit_code() as u8,
+            )),
+            Err(_) => put_memory(out),
+        },
+        LineFault::Usage => Outcome {
+            status: tb_check::put_reply(out, "refused usage\n", 2),
+            reported: Some(wrong_word(rt, words)),
+        },
+        LineFault::Memory => put_memory(out),
+    }
+}
+
+fn put_memory<W: Sink>(out: &mut W) -> Outcome {
+    Outcome {
+        status: put_reply(out, Reply::Memory),
+        reported: Some(Diagnostic::from(Cause::Memory)),
+    }
+}
+
+/// The file that a line names, where it works on a desk.
+fn file_of(line: &Line) -> Option<&str> {
+    let db = match line {
+        Line::Import { db, .. }
+        | Line::Event { db, .. }
+        | Line::Correct { db, .. }
+        | Line::Pull { db, .. }
+        | Line::Restore { db, .. }
+        | Line::Show { db, .. }
+        | Line::Export { db, .. }
+        | Line::Totals { db }
+        | Line::Moves { db }
+        | Line::Search { db, .. }
+        | Line::Count { db, .. }
+        | Line::Serve { db, .. } => db,
+        Line::Check | Line::New { .. } | Line::Migrate { .. } => return None,
+    };
+    db.as_ref().map(|path| path.as_str())
+}
+
+/// How many pages more than the file has a line on it is to keep in memory.
+fn room_of(line: &Line) -> u64 {
+    match line {
+        Line::Import { .. } | Line::Correct { .. } | Line::Serve { .. } => files::ROOM_TO_GROW,
+        _ => files::ROOM,
+    }
+}
+
+/// Puts a line where a desk was brought into the file at this path, and closes it.
+fn put_opened<W: Sink>(
+    rt: &HostRuntime,
+    path: &str,
+    opened: Result<FileDesk, FileCause>,
+    line: &str,
+    out: &mut W,
+) -> Outcome {
+    match opened {
+        Ok(desk) => {
+            files::close(desk);
+            Outcome::from(tb_check::put_reply(out, line, 0))
+        }
+        Err(cause) => put_file_cause(rt, path, cause, out),
+    }
+}
+
+/// Does a line on the desk of a file, with its body.
+fn run_on_desk<W: Write>(
+    rt: &HostRuntime,
+    path: &str,
+    line: &Line,
+    body: Result<Vec<u8>, Reply>,
+    desk: &mut FileDesk,
+    out: &mut W,
+) -> Outcome {
+    match line {
+        Line::Serve {
+            db: _,
+            port,
+            requests,
+        } => match Place::new(rt, path) {
+            Ok(place) => serve(rt, desk, Some(&place), *port, *requests, out),
+            Err(cause) => put_file_cause(rt, path, cause, out),
+        },
+        _ => run_reported(rt, line, body, desk, out),
+    }
+}
+
+/// The body is read before the file is opened, and so before others are kept from it: in `show | correct` on one file
+/// each command then has its turn. A fault of the file is told before one of the body all the same.
+fn run_on_file<R: Source, W: Write>(
+    rt: &HostRuntime,
+    path: &str,
+    line: &Line,
+    reader: &mut R,
+    out: &mut W,
+) -> Outcome {
+    if let Err(cause) = files::look(rt, path) {
+        return put_file_cause(rt, path, cause, out);
+    }
+    let body = read_body(rt.alloc(), line, reader);
+    match files::open(rt, path, room_of(line)) {
+        Ok(mut desk) => {
+            let outcome = run_on_desk(rt, path, line, body, &mut desk, out);
+            files::close(desk);
+            outcome
+        }
+        Err(cause) => put_file_cause(rt, path, cause, out),
+    }
+}
+
+/// Whether a line changes the desk that it works on, where it is done.
+fn changes_desk(line: &Line) -> bool {
+    matches!(
+        line,
+        Line::Import { .. }
+            | Line::Event { .. }
+            | Line::Correct { .. }
+            | Line::Pull { .. }
+            | Line::Restore { .. }
+    )
+}
+
+/// How a line ended that was done on a desk in memory: nothing is kept of what it changed.
+fn ended_in_memory(line: &Line, outcome: Outcome) -> Outcome {
+    if outcome.status != 0 || !changes_desk(line) {
+        return outcome;
+    }
+    Outcome {
+        status: outcome.status,
+        reported: Some(Diagnostic::from(Cause::NothingKept)),
+    }
+}
+
+/// Serves a desk in memory. Whoever would lose what is sent to it is told before the first request.
+fn serve_in_memory<S: Alter, W: Write>(
+    rt: &HostRuntime,
+    desk: &mut Desk<S>,
+    port: u16,
+    requests: u64,
+    out: &mut W,
+) -> Outcome {
+    if wants_words(rt) {
+        let _reported = eprintln!(rt; "treedesk: {}", Cause::NothingWillBeKept);
+    }
+    serve(rt, desk, None, port, requests, out)
+}
+
+/// Without a file the desk is in memory, for this run.
+fn run_in_memory<R: Source, W: Write>(
+    rt: &HostRuntime,
+    line: &Line,
+    reader: &mut R,
+    out: &mut W,
+) -> Outcome {
+    match Desk::in_memory(rt.alloc(), files::LIMITS) {
+        Ok(mut desk) => match line {
+            Line::Serve {
+                db: _,
+                port,
+                requests,
+            } => serve_in_memory(rt, &mut desk, *port, *requests, out),
+            _ => {
+                let body = read_body(rt.alloc(), line, reader);
+                ended_in_memory(line, run_reported(rt, line, body, &mut desk, out))
+            }
+        },
+        Err(_) => put_memory(out),
+    }
+}
+
+fn run<R: Source, W: Write>(rt: &HostRuntime, line: &Line, reader: &mut R, out: &mut W) -> Outcome {
+    match line {
+        Line::New { db } => {
+            let made = files::make(rt, db.as_str());
+            put_opened(rt, db.as_str(), made, "made\n", out)
+        }
+        Line::Migrate { db } => {
+            let migrated = files::migrate(rt, db.as_str());
+            put_opened(rt, db.as_str(), migrated, "migrated\n", out)
+        }
+        _ => match file_of(line) {
+            Some(path) => run_on_file(rt, path, line, reader, out),
+            None => run_in_memory(rt, line, reader, out),
+        },
+    }
+}
+
+/// Does what the words ask, the program's name first, and gives the exit status and what is told beside it: `check`
+/// checks what the reader gives, and other commands work on a desk in a file, or in memory for this run.
+pub fn run_words_reported<R: Source, W: Write>(
+    rt: &HostRuntime,
+    words: &[String],
+    reader: &mut R,
+    out: &mut W,
+) -> Outcome
+    ensures check { asks_check (map string_bytes words.now) ≡ true
+        → Answers (IsReplyToRead (R.IsFailure reader.new) file_limit (R.left reader.old) (R.left reader.new))
+        (W.contents out.old) (W.contents out.new) (λ (_ : WriteFault). Unit {0}) result.status }
+{
+    if is_check(words) {
+        return check_reported(rt, reader, out);
+    }
+    match Line::read(rt.alloc(), words) {
+        Ok(line) => run(rt, &line, reader, out),
+        Err(fault) => put_fault(rt, words, fault, out),
+    }
+}
+
+/// Does what the words ask, as [`run_words_reported`], and gives the exit status.
+pub fn run_words<R: Source, W: Write>(
+    rt: &HostRuntime,
+    words: &[String],
+    reader: &mut R,
+    out: &mut W,
+) -> u8
+    ensures check { asks_check (map string_bytes words.now) ≡ true
+        → Answers (IsReplyToRead (R.IsFailure reader.new) file_limit (R.left reader.old) (R.left reader.new))
+        (W.contents out.old) (W.contents out.new) (λ (_ : WriteFault). Unit {0}) result }
+{
+    run_words_reported(rt, words, reader, out).status
 }

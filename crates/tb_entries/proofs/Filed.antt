@@ -6,8 +6,8 @@ use Rattle.tb_core.specs.Machine as machine
 use Rattle.tb_core.specs.Machine.{revisions}
 use Rattle.tb_core.specs.Rows.{revision_rows, revisions_from, pulled_from}
 use Rattle.tb_core.proofs.Lists.{head_is, tail_is, map-joined}
-use Rattle.tb_replay.specs.Entries.{EntryRow, entry_of, entries_of}
-use Rattle.tb_standing.specs.Standing.{sentence_record, revision_record}
+use Rattle.tb_replay.specs.Summaries.{SummaryRow, entry_of, entries_of}
+use Rattle.tb_refine.specs.DeskTables.{sentence_record, revision_record}
 use Rattle.tb_tables.specs.Records.{Sentence, Revision}
 use Rattle.tb_entries.specs.Course.{IsReadBack}
 use Rattle.tb_entries.specs.File.{AreReadBack, is_next, after_next}
@@ -106,16 +106,16 @@ and_first n s ss flags rows x xs h g = record {
 -- ---- a turn of the loop
 
 abbrev pub Leads : List Sentence → List ℕ → List Revision → ℕ → List Sentence → List ℕ → List Revision → Type 0
-Leads all flags rows n told left rest = (xs : List machine.Sentence) → AreReadBack 1 all flags rows xs → (ys : List machine.Sentence) × AreReadBack n told left rest ys
+Leads all flags rows n reported left rest = (xs : List machine.Sentence) → AreReadBack 1 all flags rows xs → (ys : List machine.Sentence) × AreReadBack n reported left rest ys
 
-abbrev pub Completes : List Sentence → List ℕ → List Revision → List EntryRow → ℕ → List Sentence → List ℕ → List Revision → Type 0
-Completes all flags rows done n told left rest = (ys : List machine.Sentence) → AreReadBack n told left rest ys → (xs : List machine.Sentence) × AreReadBack 1 all flags rows xs × (entries_of xs ≡ done ++ entries_of ys)
+abbrev pub Completes : List Sentence → List ℕ → List Revision → List SummaryRow → ℕ → List Sentence → List ℕ → List Revision → Type 0
+Completes all flags rows done n reported left rest = (ys : List machine.Sentence) → AreReadBack n reported left rest ys → (xs : List machine.Sentence) × AreReadBack 1 all flags rows xs × (entries_of xs ≡ done ++ entries_of ys)
 
 pub leads_on : (all : List Sentence) (flags : List ℕ) (rows : List Revision) (n : ℕ) (s : Sentence) (ss : List Sentence) (left : List ℕ) (rest : List Revision) → Leads all flags rows n (s ∷ ss) left rest
     → Leads all flags rows (n + 1) ss (after_next n left) (drop s.rev rest)
 leads_on all flags rows n s ss left rest h = λ xs g. let y = h xs g in let f = first_of n s ss left rest y.0 y.1 in (f.1, f.3)
 
-pub completes_on : (all : List Sentence) (flags : List ℕ) (rows : List Revision) (done : List EntryRow) (n : ℕ) (s : Sentence) (ss : List Sentence) (left : List ℕ) (rest : List Revision) (x : machine.Sentence)
+pub completes_on : (all : List Sentence) (flags : List ℕ) (rows : List Revision) (done : List SummaryRow) (n : ℕ) (s : Sentence) (ss : List Sentence) (left : List ℕ) (rest : List Revision) (x : machine.Sentence)
     → IsReadBack n s (is_next n left) (take s.rev rest) x → Completes all flags rows done n (s ∷ ss) left rest → Completes all flags rows (done ++ entry_of x ∷ []) (n + 1) ss (after_next n left) (drop s.rev rest)
 completes_on all flags rows done n s ss left rest x b h = λ ys g.
     let w = h (x ∷ ys) (and_first n s ss left rest x ys b g) in
@@ -142,10 +142,10 @@ no_more f [] (suc i) l = refl
 no_more f (x ∷ xs) zero l = absurd (omega (arith, l))
 no_more f (x ∷ xs) (suc i) l = no_more f xs i (omega (arith, l))
 
-pub turn : (all : List Sentence) (flags : List ℕ) (rows : List Revision) (done done_next : List EntryRow) (n : ℕ) (told : List Sentence) (s : Sentence) (ss : List Sentence) (left left_next : List ℕ) (rest rest_next : List Revision)
-    (x : machine.Sentence) → told ≡ s ∷ ss → left_next ≡ after_next n left → rest_next ≡ drop s.rev rest → done_next ≡ done ++ entry_of x ∷ [] → Leads all flags rows n told left rest × Completes all flags rows done n told left rest
+pub turn : (all : List Sentence) (flags : List ℕ) (rows : List Revision) (done done_next : List SummaryRow) (n : ℕ) (reported : List Sentence) (s : Sentence) (ss : List Sentence) (left left_next : List ℕ) (rest rest_next : List Revision)
+    (x : machine.Sentence) → reported ≡ s ∷ ss → left_next ≡ after_next n left → rest_next ≡ drop s.rev rest → done_next ≡ done ++ entry_of x ∷ [] → Leads all flags rows n reported left rest × Completes all flags rows done n reported left rest
     → IsReadBack n s (is_next n left) (take s.rev rest) x → Leads all flags rows (n + 1) ss left_next rest_next × Completes all flags rows done_next (n + 1) ss left_next rest_next
-turn all flags rows done done_next n told s ss left left_next rest rest_next x e p q d h b = (
+turn all flags rows done done_next n reported s ss left left_next rest rest_next x e p q d h b = (
   subst (λ r. Leads all flags rows (n + 1) ss left_next r) (sym q) (subst (λ l. Leads all flags rows (n + 1) ss l (drop s.rev rest)) (sym p) (leads_on all flags rows n s ss left rest (subst (λ t. Leads all flags rows n t left rest) e h.0))),
   subst (λ z. Completes all flags rows z (n + 1) ss left_next rest_next) (sym d)
       (subst (λ r. Completes all flags rows (done ++ entry_of x ∷ []) (n + 1) ss left_next r) (sym q)
@@ -163,13 +163,13 @@ none_after : {X : Type 0} (f : X → Revision) (rs : List X) → [] ≡ map f rs
 none_after f [] e = refl
 none_after f (r ∷ rs) e = let s = ap length e in absurd (omega (arith, s))
 
-pub nothing_left : {X : Type 0} (f : X → Revision) (n : ℕ) (told : List Sentence) (left : List ℕ) (rest : List X) (ys : List machine.Sentence) → told ≡ [] → AreReadBack n told left (map f rest) ys → (length rest ≡ 0) × (length left ≡ 0)
-nothing_left f n told left rest [] e h = (none_after f rest h.revised, ap length (sym h.pulled))
-nothing_left f n told left rest (y ∷ ys) e h = let s = ap length (h.sentences ∙ e) in absurd (omega (arith, s))
+pub nothing_left : {X : Type 0} (f : X → Revision) (n : ℕ) (reported : List Sentence) (left : List ℕ) (rest : List X) (ys : List machine.Sentence) → reported ≡ [] → AreReadBack n reported left (map f rest) ys → (length rest ≡ 0) × (length left ≡ 0)
+nothing_left f n reported left rest [] e h = (none_after f rest h.revised, ap length (sym h.pulled))
+nothing_left f n reported left rest (y ∷ ys) e h = let s = ap length (h.sentences ∙ e) in absurd (omega (arith, s))
 
 none_of : {X : Type 0} (xs : List X) → length xs ≡ 0 → xs ≡ []
 none_of [] e = refl
 none_of (x ∷ xs) e = absurd (omega (arith, e))
 
-pub all_read : {X : Type 0} (f : X → Revision) (n : ℕ) (told : List Sentence) (left : List ℕ) (rest : List X) → told ≡ [] → length rest ≡ 0 → length left ≡ 0 → AreReadBack n told left (map f rest) []
-all_read f n told left rest e g h = record { sentences = sym e; revised = ap (map f) (sym (none_of rest g)); pulled = sym (none_of left h); fine = tt }
+pub all_read : {X : Type 0} (f : X → Revision) (n : ℕ) (reported : List Sentence) (left : List ℕ) (rest : List X) → reported ≡ [] → length rest ≡ 0 → length left ≡ 0 → AreReadBack n reported left (map f rest) []
+all_read f n reported left rest e g h = record { sentences = sym e; revised = ap (map f) (sym (none_of rest g)); pulled = sym (none_of left h); fine = tt }

@@ -1,7 +1,7 @@
 pub mod Places
-pub mod Untold
+pub mod Unreported
 pub mod Turns
 pub mod Rereading
 pub mod Filed
 pub mod Seen
-pub mod Told
+pub mod Reported

@@ -2,7 +2,7 @@
 use Rattle.std.proofs.Common.{◌≡◌, ℕ, zero, suc, ◌<◌, List, [], ◌∷◌, length, get_or, map, sym, ◌∙◌, ap, arith}
 use Rattle.std.specs.List.{AllByRecursion}
 use Rattle.tb_conllu.specs.Text.{BlockText}
-use Rattle.tb_conllu.specs.Told.{IsFile}
+use Rattle.tb_conllu.specs.Reported.{IsFile}
 use Rattle.tb_core.specs.Machine.{IsLawful}
 use Rattle.tb_core.proofs.Lists.{head_is, tail_is}
 use Rattle.tb_entries.specs.Course.{own_text}

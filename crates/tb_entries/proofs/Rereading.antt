@@ -12,10 +12,10 @@ use Rattle.tb_core.specs.Keeping.{IsFine}
 use Rattle.tb_core.specs.Rows.{revision_rows}
 use Rattle.tb_core.proofs.Lists.{head_is, tail_is, map-joined, get_seam}
 use Rattle.tb_core.proofs.Same.{IsOneList}
-use Rattle.tb_replay.specs.Entries.{RevisionRow, EntryRow, row_of, entry_of}
-use Rattle.tb_standing.specs.Standing.{sentence_record, revision_record}
+use Rattle.tb_replay.specs.Summaries.{RevisionRow, SummaryRow, row_of, entry_of}
+use Rattle.tb_refine.specs.DeskTables.{sentence_record, revision_record}
 use Rattle.tb_tables.specs.Records.{Sentence, Revision}
-use Rattle.tb_entries.specs.Course.{IsReadBack, own_text, is_numbered, are_numbered, are_new, is_titled, is_spelled, ends_as, is_told, is_course, text_in, rows_told}
+use Rattle.tb_entries.specs.Course.{IsReadBack, own_text, is_numbered, are_numbered, are_new, is_titled, is_spelled, ends_as, is_reported, is_course, text_in, rows_reported}
 use Rattle.tb_entries.proofs.Places.{own_file}
 
 abbrev pub body_in : machine.Revision → BlockText
@@ -133,10 +133,10 @@ joined_bodies [] (b ∷ bs) e = let s = ap length e in absurd (omega (arith, s))
 joined_bodies (r ∷ rs) [] e = let s = ap length e in absurd (omega (arith, s))
 joined_bodies (r ∷ rs) (b ∷ bs) e = ap (λ l. b ∷ l) (joined_bodies rs bs (tail_is (own_text b) r.body (map own_text bs) (map text_in rs) e))
 
-pub told_joined : (rs : List Revision) (bs : List BlockText) → rows_told rs bs ≡ map row_of (joined rs bs)
-told_joined [] bs = refl
-told_joined (r ∷ rs) [] = refl
-told_joined (r ∷ rs) (b ∷ bs) = ap (λ l. row_of (record { who = r.who; body = b }) ∷ l) (told_joined rs bs)
+pub reported_joined : (rs : List Revision) (bs : List BlockText) → rows_reported rs bs ≡ map row_of (joined rs bs)
+reported_joined [] bs = refl
+reported_joined (r ∷ rs) [] = refl
+reported_joined (r ∷ rs) (b ∷ bs) = ap (λ l. row_of (record { who = r.who; body = b }) ∷ l) (reported_joined rs bs)
 
 numbered_of : (n k : ℕ) (rs : List machine.Revision) → are_numbered n k (map revision_record (revision_rows n k rs)) ≡ true
 numbered_of n k [] = refl
@@ -152,8 +152,8 @@ texts_of_bodies [] = refl
 texts_of_bodies (r ∷ rs) = ap (λ l. text_under r ∷ l) (texts_of_bodies rs)
 
 -- a sentence that is read back has these texts
-pub texts_back : (n : ℕ) (told : Sentence) (flag : Bool) (rs : List Revision) (x : machine.Sentence) → IsReadBack n told flag rs x → map own_text (bodies_of x) ≡ map text_in rs
-texts_back n told flag rs x h = texts_of_bodies (revisions x) ∙ sym (texts_under n 1 (revisions x)) ∙ ap (map text_in) h.revised
+pub texts_back : (n : ℕ) (reported : Sentence) (flag : Bool) (rs : List Revision) (x : machine.Sentence) → IsReadBack n reported flag rs x → map own_text (bodies_of x) ≡ map text_in rs
+texts_back n reported flag rs x h = texts_of_bodies (revisions x) ∙ sym (texts_under n 1 (revisions x)) ∙ ap (map text_in) h.revised
 
 -- ---- the row
 
@@ -166,8 +166,8 @@ last_body x = subst (λ l. slice_get l (length l - 1) ≡ Some x.current.body) (
 count_bodies : (x : machine.Sentence) → length (bodies_of x) ≡ length x.before + 1
 count_bodies x = length_mapped body_in (revisions x) ∙ length-append x.before (x.current ∷ [])
 
-told_of : (x : machine.Sentence) → IsFine x → is_told (sentence_record x) (bodies_of x) ≡ true
-told_of x f =
+reported_of : (x : machine.Sentence) → IsFine x → is_reported (sentence_record x) (bodies_of x) ≡ true
+reported_of x f =
     let bs = bodies_of x in
     let n = words_of x.current.body in
     let end = both (nat_eq n n) (list_all (is_spelled (text_value_of x.current.body)) bs) ((Decides-eqb n n).1 refl)
@@ -178,14 +178,14 @@ told_of x f =
     (both (nat_eq (length bs) (length x.before + 1)) (ends_as n bs (slice_get bs (length bs - 1))) ((Decides-eqb (length bs) (length x.before + 1)).1 (count_bodies x)) last)
 
 -- the tests hold of the rows of each sentence
-pub course_of : IsOneList → (n : ℕ) (told : Sentence) (flag : Bool) (rs : List Revision) (x : machine.Sentence) → IsReadBack n told flag rs x
-    → (bs : List BlockText) → AllByRecursion IsLawful bs → map own_text bs ≡ map text_in rs → is_course n told rs bs ≡ true
-course_of u n told flag rs x h bs lawful texts =
-    let same = one_course u (bodies_of x) bs h.fine.lawful lawful (texts_back n told flag rs x h ∙ sym texts) in
+pub course_of : IsOneList → (n : ℕ) (reported : Sentence) (flag : Bool) (rs : List Revision) (x : machine.Sentence) → IsReadBack n reported flag rs x
+    → (bs : List BlockText) → AllByRecursion IsLawful bs → map own_text bs ≡ map text_in rs → is_course n reported rs bs ≡ true
+course_of u n reported flag rs x h bs lawful texts =
+    let same = one_course u (bodies_of x) bs h.fine.lawful lawful (texts_back n reported flag rs x h ∙ sym texts) in
     let numbers = subst (λ l. are_numbered n 1 l ≡ true) h.revised (numbered_of n 1 (revisions x)) in
     let new = subst (λ t. are_new t ≡ true) (sym (texts_under n 1 (revisions x)) ∙ ap (map text_in) h.revised) (new_of u (revisions x) h.fine.lawful h.fine.new) in
-    let row = subst (λ s. is_told s bs ≡ true) h.row (subst (λ l. is_told (sentence_record x) l ≡ true) same (told_of x h.fine)) in
-    both (are_numbered n 1 rs) (are_new (map text_in rs) && is_told told bs) numbers (both (are_new (map text_in rs)) (is_told told bs) new row)
+    let row = subst (λ s. is_reported s bs ≡ true) h.row (subst (λ l. is_reported (sentence_record x) l ≡ true) same (reported_of x h.fine)) in
+    both (are_numbered n 1 rs) (are_new (map text_in rs) && is_reported reported bs) numbers (both (are_new (map text_in rs)) (is_reported reported bs) new row)
 
 -- ---- the sentence
 
@@ -198,30 +198,30 @@ row_is s rev words p q =
     ap (λ z. let w : Sentence = record { sent_id = s.sent_id; batch = s.batch; rev = z; words = words } in w) p ∙ ap (λ z. let w : Sentence = record { sent_id = s.sent_id; batch = s.batch; rev = s.rev; words = z } in w) q
 
 abbrev pub sentence_with : Sentence → Bool → List machine.Revision → machine.Revision → machine.Sentence
-sentence_with told flag before current = record { sent_id = told.sent_id; batch = told.batch; pulled = flag; before = before; current = current }
+sentence_with reported flag before current = record { sent_id = reported.sent_id; batch = reported.batch; pulled = flag; before = before; current = current }
 
 -- the sentence of rows of which the tests hold, cut before its last revision
-back_with : (n : ℕ) (told : Sentence) (flag : Bool) (rs : List Revision) (bs : List BlockText) (before : List machine.Revision) (current : machine.Revision) → joined rs bs ≡ before ++ current ∷ []
-    → AllByRecursion IsLawful bs → map own_text bs ≡ map text_in rs → are_numbered n 1 rs ≡ true → are_new (map text_in rs) ≡ true → is_told told bs ≡ true → IsReadBack n told flag rs (sentence_with told flag before current)
-back_with n told flag rs bs before current cut lawful texts numbers new row =
-    let x = sentence_with told flag before current in
+back_with : (n : ℕ) (reported : Sentence) (flag : Bool) (rs : List Revision) (bs : List BlockText) (before : List machine.Revision) (current : machine.Revision) → joined rs bs ≡ before ++ current ∷ []
+    → AllByRecursion IsLawful bs → map own_text bs ≡ map text_in rs → are_numbered n 1 rs ≡ true → are_new (map text_in rs) ≡ true → is_reported reported bs ≡ true → IsReadBack n reported flag rs (sentence_with reported flag before current)
+back_with n reported flag rs bs before current cut lawful texts numbers new row =
+    let x = sentence_with reported flag before current in
     let bodies : bodies_of x ≡ bs = ap (map body_in) (sym cut) ∙ joined_bodies rs bs texts in
-    let rest = second_true (list_all (is_titled told.sent_id) bs) (nat_eq (length bs) told.rev && ends_as told.words bs (slice_get bs (length bs - 1))) row in
-    let titled = first_true (list_all (is_titled told.sent_id) bs) (nat_eq (length bs) told.rev && ends_as told.words bs (slice_get bs (length bs - 1))) row in
-    let count = (Decides-eqb (length bs) told.rev).0 (first_true (nat_eq (length bs) told.rev) (ends_as told.words bs (slice_get bs (length bs - 1))) rest) in
+    let rest = second_true (list_all (is_titled reported.sent_id) bs) (nat_eq (length bs) reported.rev && ends_as reported.words bs (slice_get bs (length bs - 1))) row in
+    let titled = first_true (list_all (is_titled reported.sent_id) bs) (nat_eq (length bs) reported.rev && ends_as reported.words bs (slice_get bs (length bs - 1))) row in
+    let count = (Decides-eqb (length bs) reported.rev).0 (first_true (nat_eq (length bs) reported.rev) (ends_as reported.words bs (slice_get bs (length bs - 1))) rest) in
     let last = subst (λ l. slice_get l (length l - 1) ≡ Some current.body) bodies (last_body x) in
-    let end = subst (λ o. ends_as told.words bs o ≡ true) last (second_true (nat_eq (length bs) told.rev) (ends_as told.words bs (slice_get bs (length bs - 1))) rest) in
-    let many = (Decides-eqb (words_of current.body) told.words).0 (first_true (nat_eq (words_of current.body) told.words) (list_all (is_spelled (text_value_of current.body)) bs) end) in
-    let spelled = second_true (nat_eq (words_of current.body) told.words) (list_all (is_spelled (text_value_of current.body)) bs) end in
+    let end = subst (λ o. ends_as reported.words bs o ≡ true) last (second_true (nat_eq (length bs) reported.rev) (ends_as reported.words bs (slice_get bs (length bs - 1))) rest) in
+    let many = (Decides-eqb (words_of current.body) reported.words).0 (first_true (nat_eq (words_of current.body) reported.words) (list_all (is_spelled (text_value_of current.body)) bs) end) in
+    let spelled = second_true (nat_eq (words_of current.body) reported.words) (list_all (is_spelled (text_value_of current.body)) bs) end in
     let under = sym (texts_of_bodies (revisions x)) ∙ ap (map own_text) bodies ∙ texts in
     record {
-      row = row_is told (length before + 1) (words_of current.body) (sym (count_bodies x) ∙ ap length bodies ∙ count) many;
+      row = row_is reported (length before + 1) (words_of current.body) (sym (count_bodies x) ∙ ap length bodies ∙ count) many;
       pulled = refl;
       revised = ap (λ l. map revision_record (revision_rows n 1 l)) (sym cut) ∙ joined_rows n 1 rs bs texts numbers;
       fine = record {
         lawful = subst (AllByRecursion IsLawful) (sym bodies) lawful;
-        titled = subst (AllByRecursion (λ (b : BlockText). sent_id_of b ≡ told.sent_id)) (sym bodies)
-            (all_from (is_titled told.sent_id) (λ (b : BlockText). sent_id_of b ≡ told.sent_id) (λ b t. (bytes_eq-Decides (sent_id_of b) told.sent_id).0 t) bs titled);
+        titled = subst (AllByRecursion (λ (b : BlockText). sent_id_of b ≡ reported.sent_id)) (sym bodies)
+            (all_from (is_titled reported.sent_id) (λ (b : BlockText). sent_id_of b ≡ reported.sent_id) (λ b t. (bytes_eq-Decides (sent_id_of b) reported.sent_id).0 t) bs titled);
         spelled = subst (AllByRecursion (λ (b : BlockText). text_value_of b ≡ text_value_of current.body)) (sym bodies)
             (all_from (is_spelled (text_value_of current.body)) (λ (b : BlockText). text_value_of b ≡ text_value_of current.body) (λ b t. (bytes_eq-Decides (text_value_of b) (text_value_of current.body)).0 t) bs spelled);
         new = λ front r q more e same.
@@ -230,21 +230,21 @@ back_with n told flag rs bs before current cut lawful texts numbers new row =
       };
     }
 
-pub read_back : (n : ℕ) (told : Sentence) (flag : Bool) (rs : List Revision) (bs : List BlockText) → AllByRecursion IsLawful bs → map own_text bs ≡ map text_in rs → is_course n told rs bs ≡ true
-    → (x : machine.Sentence) × IsReadBack n told flag rs x × (x.batch ≡ told.batch) × (revisions x ≡ joined rs bs)
-read_back n told flag rs bs lawful texts h =
-    let numbers = first_true (are_numbered n 1 rs) (are_new (map text_in rs) && is_told told bs) h in
-    let others = second_true (are_numbered n 1 rs) (are_new (map text_in rs) && is_told told bs) h in
-    let new = first_true (are_new (map text_in rs)) (is_told told bs) others in
-    let row = second_true (are_new (map text_in rs)) (is_told told bs) others in
-    let rest = second_true (list_all (is_titled told.sent_id) bs) (nat_eq (length bs) told.rev && ends_as told.words bs (slice_get bs (length bs - 1))) row in
-    let some = some_end told.words bs (second_true (nat_eq (length bs) told.rev) (ends_as told.words bs (slice_get bs (length bs - 1))) rest) in
+pub read_back : (n : ℕ) (reported : Sentence) (flag : Bool) (rs : List Revision) (bs : List BlockText) → AllByRecursion IsLawful bs → map own_text bs ≡ map text_in rs → is_course n reported rs bs ≡ true
+    → (x : machine.Sentence) × IsReadBack n reported flag rs x × (x.batch ≡ reported.batch) × (revisions x ≡ joined rs bs)
+read_back n reported flag rs bs lawful texts h =
+    let numbers = first_true (are_numbered n 1 rs) (are_new (map text_in rs) && is_reported reported bs) h in
+    let others = second_true (are_numbered n 1 rs) (are_new (map text_in rs) && is_reported reported bs) h in
+    let new = first_true (are_new (map text_in rs)) (is_reported reported bs) others in
+    let row = second_true (are_new (map text_in rs)) (is_reported reported bs) others in
+    let rest = second_true (list_all (is_titled reported.sent_id) bs) (nat_eq (length bs) reported.rev && ends_as reported.words bs (slice_get bs (length bs - 1))) row in
+    let some = some_end reported.words bs (second_true (nat_eq (length bs) reported.rev) (ends_as reported.words bs (slice_get bs (length bs - 1))) rest) in
     let count = sym (length_mapped body_in (joined rs bs)) ∙ ap length (joined_bodies rs bs texts) in
     let cut = last_split (joined rs bs) (omega (arith, some, count)) in
-    (sentence_with told flag cut.0 cut.1, back_with n told flag rs bs cut.0 cut.1 cut.2 lawful texts numbers new row, refl, sym cut.2)
+    (sentence_with reported flag cut.0 cut.1, back_with n reported flag rs bs cut.0 cut.1 cut.2 lawful texts numbers new row, refl, sym cut.2)
 
 pub entry_is : (x : machine.Sentence) (batch : ℕ) (flag : Bool) (rs : List RevisionRow) → x.batch ≡ batch → x.pulled ≡ flag → rs ≡ map row_of (revisions x)
-    → let w : EntryRow = record { batch = batch; pulled = flag; revisions = rs } in w ≡ entry_of x
+    → let w : SummaryRow = record { batch = batch; pulled = flag; revisions = rs } in w ≡ entry_of x
 entry_is x batch flag rs p q r =
-    ap (λ z. let w : EntryRow = record { batch = z; pulled = flag; revisions = rs } in w) (sym p)
-    ∙ (ap (λ z. let w : EntryRow = record { batch = x.batch; pulled = z; revisions = rs } in w) (sym q) ∙ ap (λ z. let w : EntryRow = record { batch = x.batch; pulled = x.pulled; revisions = z } in w) r)
+    ap (λ z. let w : SummaryRow = record { batch = z; pulled = flag; revisions = rs } in w) (sym p)
+    ∙ (ap (λ z. let w : SummaryRow = record { batch = x.batch; pulled = z; revisions = rs } in w) (sym q) ∙ ap (λ z. let w : SummaryRow = record { batch = x.batch; pulled = x.pulled; revisions = z } in w) r)

@@ -12,7 +12,7 @@ use Rattle.tb_core.specs.Machine as machine
 use Rattle.tb_core.specs.Machine.{Machine}
 use Rattle.tb_core.specs.Names.{is_name, Lacks, AreApart}
 use Rattle.tb_replay.specs.Fine.{AreFine}
-use Rattle.tb_standing.specs.Standing.{batch_record, sentence_record}
+use Rattle.tb_refine.specs.DeskTables.{batch_record, sentence_record}
 use Rattle.tb_rules.proofs.Taken.{key_is, key_added, not_false, not_true}
 use Rattle.tb_tables.specs.Records.{Batch, Sentence}
 use Rattle.tb_tables.specs.Values.{batch_of, sentence_of}
@@ -95,11 +95,11 @@ not_apart all old new rest rest_next t false h e a d apart =
 pub all_passed : (all seen rest : List (List ℕ)) → IsPassed all seen rest → rest ≡ [] → AreApart all
 all_passed all seen rest h e = (subst (λ r. IsPassed all seen r) e h).back tt tt
 
-pub told_false : {P : Type 0} → (P → ⊥) → Decides false P
-told_false h = ((λ e. absurd (let d : false ≡ true = e in cc)), (λ p. absurd (h p)))
+pub reported_false : {P : Type 0} → (P → ⊥) → Decides false P
+reported_false h = ((λ e. absurd (let d : false ≡ true = e in cc)), (λ p. absurd (h p)))
 
-pub told_true : {P : Type 0} → P → Decides true P
-told_true p = ((λ e. p), (λ q. refl))
+pub reported_true : {P : Type 0} → P → Decides true P
+reported_true p = ((λ e. p), (λ q. refl))
 
 -- ---- names in rows
 
@@ -117,13 +117,13 @@ good_back : (rs : List BatchRow) → HasGoodNames (map batch_of rs) → list_all
 good_back [] h = refl
 good_back (r ∷ rs) h = both (is_name (string_bytes r.name)) (list_all (λ (r : BatchRow). is_name (string_bytes r.name)) rs) h.0 (good_back rs h.1)
 
-names_told : (rs : List BatchRow) → map (λ (b : Batch). b.name) (map batch_of rs) ≡ map (λ (r : BatchRow). string_bytes r.name) rs
-names_told [] = refl
-names_told (r ∷ rs) = ap (λ l. string_bytes r.name ∷ l) (names_told rs)
+names_reported : (rs : List BatchRow) → map (λ (b : Batch). b.name) (map batch_of rs) ≡ map (λ (r : BatchRow). string_bytes r.name) rs
+names_reported [] = refl
+names_reported (r ∷ rs) = ap (λ l. string_bytes r.name ∷ l) (names_reported rs)
 
-pub ids_told : (rs : List SentenceRow) → map (λ (s : Sentence). s.sent_id) (map sentence_of rs) ≡ map (λ (r : SentenceRow). string_bytes r.sent_id) rs
-ids_told [] = refl
-ids_told (r ∷ rs) = ap (λ l. string_bytes r.sent_id ∷ l) (ids_told rs)
+pub ids_reported : (rs : List SentenceRow) → map (λ (s : Sentence). s.sent_id) (map sentence_of rs) ≡ map (λ (r : SentenceRow). string_bytes r.sent_id) rs
+ids_reported [] = refl
+ids_reported (r ∷ rs) = ap (λ l. string_bytes r.sent_id ∷ l) (ids_reported rs)
 
 -- a name is not good
 pub not_good : (rs : List BatchRow) (good : Bool) → good ≡ list_all (λ (r : BatchRow). is_name (string_bytes r.name)) rs → good ≡ false → AreNamed (map batch_of rs) → ⊥
@@ -132,8 +132,8 @@ not_good rs good e f h = clash good (e ∙ good_back rs h.good) f
 named_if : (rs : List BatchRow) (good apart : Bool) → good ≡ list_all (λ (r : BatchRow). is_name (string_bytes r.name)) rs → good ≡ true → Decides apart (AreApart (map (λ (r : BatchRow). string_bytes r.name) rs))
     → Decides apart (AreNamed (map batch_of rs))
 named_if rs good apart e f d = (
-  λ t. record { good = good_onward rs (sym e ∙ f); apart = subst AreApart (sym (names_told rs)) (d.0 t) },
-  λ (h : AreNamed (map batch_of rs)). d.1 (subst AreApart (names_told rs) h.apart),
+  λ t. record { good = good_onward rs (sym e ∙ f); apart = subst AreApart (sym (names_reported rs)) (d.0 t) },
+  λ (h : AreNamed (map batch_of rs)). d.1 (subst AreApart (names_reported rs) h.apart),
 )
 
 pub all_named_if : {E : Type 0} (rs : List BatchRow) (good : Bool) (r : Result Bool E) → good ≡ list_all (λ (r : BatchRow). is_name (string_bytes r.name)) rs → good ≡ true

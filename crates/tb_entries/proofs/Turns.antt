@@ -4,10 +4,10 @@ use Rattle.std.specs.Prelude.{not, bytes_eq}
 use Rattle.tb_conllu.specs.Text.{BlockText}
 use Rattle.tb_conllu.specs.Words.{words_of}
 use Rattle.tb_core.proofs.Lists.{tail_is}
-use Rattle.tb_replay.specs.Entries as replay
+use Rattle.tb_replay.specs.Summaries as replay
 use Rattle.tb_tables.specs.Values.{revision_of}
 use Rattle.tb_tables.specs.declared.rows.RevisionRow.{RevisionRow}
-use Rattle.tb_entries.specs.Course.{own_text, is_numbered, are_numbered, are_new, text_in, rows_told}
+use Rattle.tb_entries.specs.Course.{own_text, is_numbered, are_numbered, are_new, text_in, rows_reported}
 
 pub numbers_drop : (n k : ℕ) (rs : List RevisionRow) (i : ℕ) (r : RevisionRow) → i < length rs → r ≡ get_or rs i r
     → are_numbered n k (map revision_of (drop i rs)) ≡ (is_numbered n k (revision_of r) && are_numbered n (k + 1) (map revision_of (drop (i + 1) rs)))
@@ -23,8 +23,8 @@ numbers_end n k [] (suc i) l = refl
 numbers_end n k (x ∷ xs) zero l = absurd (omega (arith, l))
 numbers_end n k (x ∷ xs) (suc i) l = numbers_end n k xs i (omega (arith, l))
 
-abbrev text_told : RevisionRow → List ℕ
-text_told r = string_bytes r.body
+abbrev text_reported : RevisionRow → List ℕ
+text_reported r = string_bytes r.body
 
 pub new_drop : (rs : List RevisionRow) (i : ℕ) (r q : RevisionRow) → i + 1 < length rs → r ≡ get_or rs i r → q ≡ get_or rs (i + 1) q
     → are_new (map text_in (map revision_of (drop i rs))) ≡ (not (bytes_eq (string_bytes r.body) (string_bytes q.body)) && are_new (map text_in (map revision_of (drop (i + 1) rs))))
@@ -45,18 +45,18 @@ new_end (x ∷ []) zero l = refl
 new_end (x ∷ y ∷ xs) zero l = absurd (omega (arith, l))
 new_end (x ∷ xs) (suc i) l = new_end xs i (omega (arith, l))
 
-abbrev pub told_row : RevisionRow → BlockText → replay.RevisionRow
-told_row r b = record { who = string_bytes r.who; words = words_of b }
+abbrev pub reported_row : RevisionRow → BlockText → replay.RevisionRow
+reported_row r b = record { who = string_bytes r.who; words = words_of b }
 
-pub told_drop : (rs : List RevisionRow) (bs : List BlockText) (i : ℕ) (r : RevisionRow) (b : BlockText) → i < length rs → i < length bs → r ≡ get_or rs i r → b ≡ get_or bs i b
-    → rows_told (map revision_of (drop i rs)) (drop i bs) ≡ told_row r b ∷ rows_told (map revision_of (drop (i + 1) rs)) (drop (i + 1) bs)
-told_drop [] bs i r b l m h g = absurd (omega (arith, l))
-told_drop (x ∷ xs) [] i r b l m h g = absurd (omega (arith, m))
-told_drop (x ∷ xs) (y ∷ ys) zero r b l m h g =
-    ap (λ (z : RevisionRow). told_row z y ∷ rows_told (map revision_of xs) ys) (sym h) ∙ ap (λ (z : BlockText). told_row r z ∷ rows_told (map revision_of xs) ys) (sym g)
-told_drop (x ∷ xs) (y ∷ ys) (suc i) r b l m h g =
+pub reported_drop : (rs : List RevisionRow) (bs : List BlockText) (i : ℕ) (r : RevisionRow) (b : BlockText) → i < length rs → i < length bs → r ≡ get_or rs i r → b ≡ get_or bs i b
+    → rows_reported (map revision_of (drop i rs)) (drop i bs) ≡ reported_row r b ∷ rows_reported (map revision_of (drop (i + 1) rs)) (drop (i + 1) bs)
+reported_drop [] bs i r b l m h g = absurd (omega (arith, l))
+reported_drop (x ∷ xs) [] i r b l m h g = absurd (omega (arith, m))
+reported_drop (x ∷ xs) (y ∷ ys) zero r b l m h g =
+    ap (λ (z : RevisionRow). reported_row z y ∷ rows_reported (map revision_of xs) ys) (sym h) ∙ ap (λ (z : BlockText). reported_row r z ∷ rows_reported (map revision_of xs) ys) (sym g)
+reported_drop (x ∷ xs) (y ∷ ys) (suc i) r b l m h g =
     let s : suc i + 1 ≡ suc (i + 1) = omega arith in
-    told_drop xs ys i r b (omega (arith, l)) (omega (arith, m)) h g ∙ ap (λ j. told_row r b ∷ rows_told (map revision_of (drop j (x ∷ xs))) (drop j (y ∷ ys))) (sym s)
+    reported_drop xs ys i r b (omega (arith, l)) (omega (arith, m)) h g ∙ ap (λ j. reported_row r b ∷ rows_reported (map revision_of (drop j (x ∷ xs))) (drop j (y ∷ ys))) (sym s)
 
 all_dropped : (xs : List RevisionRow) (i : ℕ) → length xs ≤ i → drop i xs ≡ []
 all_dropped [] zero l = refl
@@ -64,18 +64,18 @@ all_dropped [] (suc i) l = refl
 all_dropped (x ∷ xs) zero l = absurd (omega (arith, l))
 all_dropped (x ∷ xs) (suc i) l = all_dropped xs i (omega (arith, l))
 
-pub told_end : (rs : List RevisionRow) (bs : List BlockText) (i : ℕ) → length rs ≤ i → rows_told (map revision_of (drop i rs)) (drop i bs) ≡ []
-told_end rs bs i l = ap (λ t. rows_told (map revision_of t) (drop i bs)) (all_dropped rs i l)
+pub reported_end : (rs : List RevisionRow) (bs : List BlockText) (i : ℕ) → length rs ≤ i → rows_reported (map revision_of (drop i rs)) (drop i bs) ≡ []
+reported_end rs bs i l = ap (λ t. rows_reported (map revision_of t) (drop i bs)) (all_dropped rs i l)
 
-pub told_more : (done : List replay.RevisionRow) (rs : List RevisionRow) (bs : List BlockText) (i : ℕ) (r : RevisionRow) (b : BlockText) → i < length rs → i < length bs → r ≡ get_or rs i r → b ≡ get_or bs i b
-    → done ++ rows_told (map revision_of (drop i rs)) (drop i bs) ≡ rows_told (map revision_of rs) bs
-    → (done ++ told_row r b ∷ []) ++ rows_told (map revision_of (drop (i + 1) rs)) (drop (i + 1) bs) ≡ rows_told (map revision_of rs) bs
-told_more done rs bs i r b l m h g e =
-    append_assoc done (told_row r b ∷ []) (rows_told (map revision_of (drop (i + 1) rs)) (drop (i + 1) bs)) ∙ ap (λ t. done ++ t) (sym (told_drop rs bs i r b l m h g)) ∙ e
+pub reported_more : (done : List replay.RevisionRow) (rs : List RevisionRow) (bs : List BlockText) (i : ℕ) (r : RevisionRow) (b : BlockText) → i < length rs → i < length bs → r ≡ get_or rs i r → b ≡ get_or bs i b
+    → done ++ rows_reported (map revision_of (drop i rs)) (drop i bs) ≡ rows_reported (map revision_of rs) bs
+    → (done ++ reported_row r b ∷ []) ++ rows_reported (map revision_of (drop (i + 1) rs)) (drop (i + 1) bs) ≡ rows_reported (map revision_of rs) bs
+reported_more done rs bs i r b l m h g e =
+    append_assoc done (reported_row r b ∷ []) (rows_reported (map revision_of (drop (i + 1) rs)) (drop (i + 1) bs)) ∙ ap (λ t. done ++ t) (sym (reported_drop rs bs i r b l m h g)) ∙ e
 
-pub bodies_told : (rs : List RevisionRow) → map text_in (map revision_of rs) ≡ map (λ (r : RevisionRow). string_bytes r.body) rs
-bodies_told [] = refl
-bodies_told (r ∷ rs) = ap (λ l. string_bytes r.body ∷ l) (bodies_told rs)
+pub bodies_reported : (rs : List RevisionRow) → map text_in (map revision_of rs) ≡ map (λ (r : RevisionRow). string_bytes r.body) rs
+bodies_reported [] = refl
+bodies_reported (r ∷ rs) = ap (λ l. string_bytes r.body ∷ l) (bodies_reported rs)
 
 pub same_count : (bs : List BlockText) (rs : List RevisionRow) → map own_text bs ≡ map (λ (r : RevisionRow). string_bytes r.body) rs → length bs ≡ length rs
 same_count [] [] e = refl

@@ -15,5 +15,6 @@ AreTitled ss = AreApart (map (λ (s : Sentence). s.sent_id) ss)
 
 -- a text is added to those seen, or it is one of them
 abbrev pub IsAdded : Bool → List (List ℕ) → List ℕ → List (List ℕ) → Type 0
-IsAdded true old text new = (list_any (bytes_eq text) old ≡ false) × ((q : List ℕ) → list_any (bytes_eq q) new ≡ (bytes_eq text q || list_any (bytes_eq q) old))
+IsAdded true old text new = (list_any (bytes_eq text) old ≡ false)
+    × ((q : List ℕ) → list_any (bytes_eq q) new ≡ (bytes_eq text q || list_any (bytes_eq q) old))
 IsAdded false old text new = list_any (bytes_eq text) old ≡ true

@@ -1,5 +1,6 @@
 -- What the rows of one sentence tell, and when they are those of a sentence.
-use Rattle.std.specs.Prelude.{◌≡◌, ℕ, ◌+◌, ◌-◌, List, [], ◌∷◌, length, map, Bool, true, false, ◌&&◌, not, nat_eq, bytes_eq, Option, Some, None, slice_get}
+use Rattle.std.specs.Prelude.{◌≡◌, ℕ, ◌+◌, ◌-◌, List, [], ◌∷◌, length, map, Bool, true, false}
+use Rattle.std.specs.Prelude.{◌&&◌, not, nat_eq, bytes_eq, Option, Some, None, slice_get}
 use Rattle.std.specs.List.{list_all}
 use Rattle.tb_conllu.specs.Text.{BlockText, text_of}
 use Rattle.tb_conllu.specs.Words.{words_of}
@@ -7,8 +8,8 @@ use Rattle.tb_core.specs.Keeping.{IsFine}
 use Rattle.tb_core.specs.Machine as machine
 use Rattle.tb_core.specs.Machine.{sent_id_of, text_value_of, revisions}
 use Rattle.tb_core.specs.Rows.{revision_rows}
-use Rattle.tb_replay.specs.Entries as replay
-use Rattle.tb_standing.specs.Standing.{sentence_record, revision_record}
+use Rattle.tb_replay.specs.Summaries as replay
+use Rattle.tb_refine.specs.DeskTables.{sentence_record, revision_record}
 use Rattle.tb_tables.specs.Records.{Sentence, Revision}
 
 -- the text of one sentence
@@ -17,8 +18,8 @@ own_text b = text_of (b ∷ [])
 
 -- The sentence with this number has this row and these revisions, and is pulled or not; each revision keeps the rules, with
 -- its `sent_id` and its text, and differs from the one before.
-pub record IsReadBack (number : ℕ) (told : Sentence) (flag : Bool) (rows : List Revision) (x : machine.Sentence) : Type 0 where
-  pub row : sentence_record x ≡ told
+pub record IsReadBack (number : ℕ) (reported : Sentence) (flag : Bool) (rows : List Revision) (x : machine.Sentence) : Type 0 where
+  pub row : sentence_record x ≡ reported
   pub pulled : x.pulled ≡ flag
   pub revised : map revision_record (revision_rows number 1 (revisions x)) ≡ rows
   pub fine : IsFine x
@@ -51,17 +52,18 @@ ends_as n bs None = false
 ends_as n bs (Some b) = nat_eq (words_of b) n && list_all (is_spelled (text_value_of b)) bs
 
 -- the row tells the sentences that its revisions hold
-abbrev pub is_told : Sentence → List BlockText → Bool
-is_told s bs = list_all (is_titled s.sent_id) bs && (nat_eq (length bs) s.rev && ends_as s.words bs (slice_get bs (length bs - 1)))
+abbrev pub is_reported : Sentence → List BlockText → Bool
+is_reported s bs = list_all (is_titled s.sent_id) bs && (nat_eq (length bs) s.rev && ends_as s.words bs
+    (slice_get bs (length bs - 1)))
 
 abbrev pub text_in : Revision → List ℕ
 text_in r = r.body
 
 abbrev pub is_course : ℕ → Sentence → List Revision → List BlockText → Bool
-is_course n s rs bs = are_numbered n 1 rs && (are_new (map text_in rs) && is_told s bs)
+is_course n s rs bs = are_numbered n 1 rs && (are_new (map text_in rs) && is_reported s bs)
 
 -- of each revision its user and the words of its text
-abbrev pub rows_told : List Revision → List BlockText → List replay.RevisionRow
-rows_told [] bs = []
-rows_told (r ∷ rs) [] = []
-rows_told (r ∷ rs) (b ∷ bs) = record { who = r.who; words = words_of b } ∷ rows_told rs bs
+abbrev pub rows_reported : List Revision → List BlockText → List replay.RevisionRow
+rows_reported [] bs = []
+rows_reported (r ∷ rs) [] = []
+rows_reported (r ∷ rs) (b ∷ bs) = record { who = r.who; words = words_of b } ∷ rows_reported rs bs

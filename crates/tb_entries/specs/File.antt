@@ -4,12 +4,12 @@ use Rattle.std.specs.List.{AllByRecursion}
 use Rattle.tb_core.specs.Keeping.{IsFine}
 use Rattle.tb_core.specs.Machine as machine
 use Rattle.tb_core.specs.Rows.{revisions_from, pulled_from}
-use Rattle.tb_standing.specs.Standing.{sentence_record, revision_record}
+use Rattle.tb_refine.specs.DeskTables.{sentence_record, revision_record}
 use Rattle.tb_tables.specs.Records.{Sentence, Revision}
 
 -- The sentences, numbered from this number on, have these rows, and these numbers of pulled ones; each is fine by itself.
-pub record AreReadBack (n : ℕ) (told : List Sentence) (flags : List ℕ) (rows : List Revision) (xs : List machine.Sentence) : Type 0 where
-  pub sentences : map sentence_record xs ≡ told
+pub record AreReadBack (n : ℕ) (reported : List Sentence) (flags : List ℕ) (rows : List Revision) (xs : List machine.Sentence) : Type 0 where
+  pub sentences : map sentence_record xs ≡ reported
   pub revised : map revision_record (revisions_from n xs) ≡ rows
   pub pulled : pulled_from n xs ≡ flags
   pub fine : AllByRecursion IsFine xs

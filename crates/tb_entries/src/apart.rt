@@ -13,7 +13,8 @@ use tb_tables::{BatchRow, SentenceRow};
 
 /// Adds the text to those seen, and answers whether it was none of them.
 fn add(alloc: Global, seen: &mut BTreeSet<String>, text: &str) -> Result<bool, AllocError>
-    ensures { IfOk result (λ added. IsAdded added (map string_bytes seen.old.keys) text.now (map string_bytes seen.new.keys)) }
+    ensures { IfOk result (λ added. IsAdded added (map string_bytes seen.old.keys) text.now
+        (map string_bytes seen.new.keys)) }
 {
     let owned = String::from_str(alloc, text)?;
     let added = seen.insert(owned)?;

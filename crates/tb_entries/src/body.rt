@@ -45,7 +45,8 @@ fn sentence_in<'a>(alloc: Global, body: &'a str) -> Result<BlockRef<'a>, Unfit>
 pub fn sentences_in<'a>(alloc: Global, rows: &'a [RevisionRow]) -> Result<Vec<BlockRef<'a>>, Unfit>
     ensures lawful { IfOk result (λ v. AllByRecursion IsLawful v.items) }
     ensures texts { IfOk result (λ v. map own_text v.items ≡ map (λ r. string_bytes r.body) rows.now) }
-    ensures unfit { result ≡ Err NotADesk → (bs : List BlockText) → AllByRecursion IsLawful bs → map own_text bs ≡ map (λ r. string_bytes r.body) rows.now → ⊥ }
+    ensures unfit { result ≡ Err NotADesk → (bs : List BlockText) → AllByRecursion IsLawful bs
+        → map own_text bs ≡ map (λ r. string_bytes r.body) rows.now → ⊥ }
 {
     let mut blocks: Vec<BlockRef<'a>> = Vec::new(alloc);
     for row in rows {

@@ -1,11 +1,13 @@
 //! Whether the rows of one sentence tell what its revisions hold.
 
-ghost use Rattle.std.specs.Prelude.{◌≡◌, ◌+◌, ◌-◌, ◌&&◌, length, map, nat_eq, bytes_eq, slice_get, string_bytes};
+ghost use Rattle.std.specs.Prelude.{◌≡◌, ◌+◌, ◌-◌, ◌&&◌, length, map, nat_eq, bytes_eq, slice_get};
+ghost use Rattle.std.specs.Prelude.{string_bytes};
 ghost use Rattle.std.specs.List.{list_all};
 ghost use Rattle.tb_conllu.specs.Words.{words_of};
 ghost use Rattle.tb_core.specs.Machine.{sent_id_of, text_value_of};
 ghost use Rattle.tb_tables.specs.Values.{sentence_of, revision_of};
-ghost use Rattle.tb_entries.specs.Course.{is_numbered, are_numbered, are_new, is_titled, is_spelled, ends_as, is_told, is_course, text_in};
+ghost use Rattle.tb_entries.specs.Course.{is_numbered, are_numbered, are_new, is_titled, is_spelled, ends_as};
+ghost use Rattle.tb_entries.specs.Course.{is_reported, is_course, text_in};
 
 use tb_conllu::{BlockRef, words};
 use tb_rules::{sent_id, text};
@@ -54,7 +56,8 @@ fn has_words(block: &BlockRef<'_>, count: u32) -> bool
 }
 
 fn is_end(last: &BlockRef<'_>, count: u32, blocks: &[BlockRef<'_>]) -> bool
-    ensures { result ≡ (nat_eq (words_of last.now) count && list_all (is_spelled (text_value_of last.now)) blocks.now) }
+    ensures { result ≡ (nat_eq (words_of last.now) count && list_all
+        (is_spelled (text_value_of last.now)) blocks.now) }
 {
     has_words(last, count) && are_valued(value_of(last), blocks)
 }
@@ -69,7 +72,7 @@ fn end_right(count: u32, blocks: &[BlockRef<'_>]) -> bool
 }
 
 fn is_row_right(row: &SentenceRow, blocks: &[BlockRef<'_>]) -> bool
-    ensures { result ≡ is_told (sentence_of row.now) blocks.now }
+    ensures { result ≡ is_reported (sentence_of row.now) blocks.now }
 {
     are_named(row.sent_id.as_str(), blocks)
         && blocks.len() as u64 == row.rev as u64

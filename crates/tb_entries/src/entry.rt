@@ -2,9 +2,9 @@
 
 ghost use Rattle.std.specs.Prelude.{◌≡◌, length, IfOk, Err, map};
 ghost use Rattle.tb_core.specs.Machine.{Sentence};
-ghost use Rattle.tb_replay.specs.Entries.{entry_of};
+ghost use Rattle.tb_replay.specs.Summaries.{entry_of};
 ghost use Rattle.tb_tables.specs.Values.{sentence_of, revision_of};
-ghost use Rattle.tb_entries.specs.Course.{IsReadBack, rows_told};
+ghost use Rattle.tb_entries.specs.Course.{IsReadBack, rows_reported};
 ghost use Rattle.tb_entries.specs.declared.unfit.Unfit.TheVariants.{NotADesk};
 
 use crate::body::sentences_in;
@@ -12,17 +12,17 @@ use crate::course::is_course_right;
 use crate::unfit::Unfit;
 use std::alloc::{AllocError, Global};
 use tb_conllu::{BlockRef, one_list_has_a_text, words};
-use tb_replay::{Entry, Revision};
+use tb_replay::{Revision, SentenceSummary};
 use tb_tables::{RevisionRow, SentenceRow};
 
 /// Of each revision its user and its words.
-fn told_revisions<'a>(
+fn reported_revisions<'a>(
     alloc: Global,
     rows: &'a [RevisionRow],
     blocks: &[BlockRef<'a>],
 ) -> Result<Vec<Revision<'a>>, AllocError>
     requires { length blocks.now ≡ length rows.now }
-    ensures { IfOk result (λ v. v.items ≡ rows_told (map revision_of rows.now) blocks.now) }
+    ensures { IfOk result (λ v. v.items ≡ rows_reported (map revision_of rows.now) blocks.now) }
 {
     // Most sentences have one revision, and a list that grows by itself would begin with room for more.
     let mut revisions: Vec<Revision<'a>> = Vec::with_capacity(alloc, rows.len())?;
@@ -47,9 +47,11 @@ pub fn entry_in<'a>(
     row: &SentenceRow,
     pulled: bool,
     revisions: &'a [RevisionRow],
-) -> Result<Entry<'a>, Unfit>
-    ensures fine { IfOk result (λ e. (x : Sentence) × IsReadBack number (sentence_of row.now) pulled (map revision_of revisions.now) x × (e ≡ entry_of x)) }
-    ensures unfit { result ≡ Err NotADesk → (x : Sentence) → IsReadBack number (sentence_of row.now) pulled (map revision_of revisions.now) x → ⊥ }
+) -> Result<SentenceSummary<'a>, Unfit>
+    ensures fine { IfOk result (λ e. (x : Sentence)
+        × IsReadBack number (sentence_of row.now) pulled (map revision_of revisions.now) x × (e ≡ entry_of x)) }
+    ensures unfit { result ≡ Err NotADesk → (x : Sentence)
+        → IsReadBack number (sentence_of row.now) pulled (map revision_of revisions.now) x → ⊥ }
 {
     // The law by which a text is that of one sentence.
     one_list_has_a_text();
@@ -57,10 +59,10 @@ pub fn entry_in<'a>(
     if !is_course_right(number, row, revisions, &blocks) {
         return Err(Unfit::NotADesk);
     }
-    let told = told_revisions(alloc, revisions, &blocks)?;
-    Ok(Entry {
+    let reported = reported_revisions(alloc, revisions, &blocks)?;
+    Ok(SentenceSummary {
         batch: row.batch as u64,
         pulled,
-        revisions: told,
+        revisions: reported,
     })
 }

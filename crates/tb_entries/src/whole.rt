@@ -2,7 +2,7 @@
 
 ghost use Rattle.std.specs.Prelude.{◌≡◌, List, IfOk, Err, map, take, drop};
 ghost use Rattle.tb_core.specs.Machine.{Sentence};
-ghost use Rattle.tb_replay.specs.Entries.{entries_of};
+ghost use Rattle.tb_replay.specs.Summaries.{entries_of};
 ghost use Rattle.tb_tables.specs.Values.{sentence_of, revision_of};
 ghost use Rattle.tb_entries.specs.File.{AreReadBack, is_next, after_next};
 ghost use Rattle.tb_entries.specs.declared.unfit.Unfit.TheVariants.{NotADesk};
@@ -10,7 +10,7 @@ ghost use Rattle.tb_entries.specs.declared.unfit.Unfit.TheVariants.{NotADesk};
 use crate::entry::entry_in;
 use crate::unfit::Unfit;
 use std::alloc::Global;
-use tb_replay::Entry;
+use tb_replay::SentenceSummary;
 use tb_tables::{RevisionRow, SentenceRow};
 
 fn first_rows(rows: &[RevisionRow], count: u32) -> &[RevisionRow]
@@ -63,11 +63,13 @@ pub fn entries_in<'a>(
     sentences: &[SentenceRow],
     pulled: &[u32],
     revisions: &'a [RevisionRow],
-) -> Result<Vec<Entry<'a>>, Unfit>
-    ensures fine { IfOk result (λ v. (xs : List Sentence) × AreReadBack 1 (map sentence_of sentences.now) pulled.now (map revision_of revisions.now) xs × (v.items ≡ entries_of xs)) }
-    ensures unfit { result ≡ Err NotADesk → (xs : List Sentence) → AreReadBack 1 (map sentence_of sentences.now) pulled.now (map revision_of revisions.now) xs → ⊥ }
+) -> Result<Vec<SentenceSummary<'a>>, Unfit>
+    ensures fine { IfOk result (λ v. (xs : List Sentence) × AreReadBack 1 (map sentence_of sentences.now) pulled.now
+        (map revision_of revisions.now) xs × (v.items ≡ entries_of xs)) }
+    ensures unfit { result ≡ Err NotADesk → (xs : List Sentence)
+        → AreReadBack 1 (map sentence_of sentences.now) pulled.now (map revision_of revisions.now) xs → ⊥ }
 {
-    let mut entries: Vec<Entry<'a>> = Vec::new(alloc);
+    let mut entries: Vec<SentenceSummary<'a>> = Vec::new(alloc);
     let mut rest = revisions;
     let mut left = pulled;
     for i in 0..sentences.len() {

@@ -4,7 +4,8 @@
 -- values are ASCII letters and digits and begin with a capital or a digit; names are in order whatever the case of
 -- their letters; several values of a feature are joined by commas. This project asks it of ranges too, and leaves
 -- the order of the values of a feature free.
-use Rattle.std.specs.Prelude.{ℕ, List, [], ◌∷◌, length, map, Bool, true, false, ◌&&◌, ◌||◌, not, nat_lt, nat_le, ◌==◌, bytes_eq}
+use Rattle.std.specs.Prelude.{ℕ, List, [], ◌∷◌, length, map, Bool, true, false, ◌&&◌, ◌||◌, not, nat_lt}
+use Rattle.std.specs.Prelude.{nat_le, ◌==◌, bytes_eq}
 use Rattle.std.specs.Char.{to_ascii_lowercase}
 use Rattle.std.specs.List.{list_any, list_all, before_first, after_first, slice_split}
 use Rattle.tb_chars.specs.Digits.{is_digit}
@@ -48,12 +49,14 @@ is_label (b ∷ bs) = is_capital_or_digit b && list_all is_letter_or_digit bs
 -- what follows the opening bracket of a layer: small letters and digits, and the closing bracket at the end
 abbrev pub is_layer : List ℕ → Bool
 is_layer bs =
-    list_any is_closing bs && nat_lt 0 (length (before_first is_closing bs)) && list_all is_small_or_digit (before_first is_closing bs) &&
+    list_any is_closing bs && nat_lt 0 (length
+    (before_first is_closing bs)) && list_all is_small_or_digit (before_first is_closing bs) &&
     length (after_first is_closing bs) == 0
 
 -- a name, alone or with a layer in brackets
 abbrev pub is_name : List ℕ → Bool
-is_name bs = is_label (before_first is_opening bs) && (not (list_any is_opening bs) || is_layer (after_first is_opening bs))
+is_name bs = is_label (before_first is_opening bs) && (not (list_any is_opening bs) || is_layer
+    (after_first is_opening bs))
 
 -- no text stands twice
 abbrev pub are_distinct : List (List ℕ) → Bool
@@ -65,7 +68,8 @@ abbrev pub are_values : List (List ℕ) → Bool
 are_values vs = list_all is_label vs && are_distinct vs
 
 abbrev pub is_feature : List ℕ → Bool
-is_feature bs = list_any is_equals bs && is_name (before_first is_equals bs) && are_values (slice_split is_comma (after_first is_equals bs))
+is_feature bs = list_any is_equals bs && is_name (before_first is_equals bs) && are_values (slice_split is_comma
+    (after_first is_equals bs))
 
 abbrev pub feature_name : List ℕ → List ℕ
 feature_name bs = before_first is_equals bs
@@ -88,7 +92,8 @@ are_in_order (x ∷ xs) = precedes x xs && are_in_order xs
 
 -- features in the order of their names, no name twice
 abbrev pub are_features : List (List ℕ) → Bool
-are_features items = list_all is_feature items && (are_in_order (map feature_name items) && are_distinct (map feature_name items))
+are_features items = list_all is_feature items && (are_in_order (map feature_name items) && are_distinct
+    (map feature_name items))
 
 abbrev pub is_feature_text : List ℕ → Bool
 is_feature_text bs = is_blank bs || are_features (slice_split is_bar bs)

@@ -37,4 +37,5 @@ universal_part bs = before_first is_colon bs
 
 -- a universal relation, alone or with a subtype after a colon
 abbrev pub is_relation : List ℕ → Bool
-is_relation bs = is_universal_relation (universal_part bs) && (not (list_any is_colon bs) || is_solid (after_first is_colon bs))
+is_relation bs = is_universal_relation (universal_part bs) && (not (list_any is_colon bs) || is_solid
+    (after_first is_colon bs))

@@ -1,5 +1,6 @@
 ghost use Rattle.std.specs.Prelude.{◌≡◌};
-ghost use Rattle.tb_fields.specs.Relations.{is_relation_a_to_c, is_relation_d_to_m, is_relation_n_to_x, is_universal_relation, universal_part, is_relation};
+ghost use Rattle.tb_fields.specs.Relations.{is_relation_a_to_c, is_relation_d_to_m, is_relation_n_to_x};
+ghost use Rattle.tb_fields.specs.Relations.{is_universal_relation, universal_part, is_relation};
 
 use tb_chars::is_solid_text;
 

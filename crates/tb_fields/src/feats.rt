@@ -1,7 +1,9 @@
 ghost use Rattle.std.specs.Prelude.{◌≡◌, ◌&&◌, map, bytes_eq, not, IfOk, ◌||◌, List, ℕ, true};
 ghost use Rattle.tb_fields.specs.Seen.{has_come};
 ghost use Rattle.std.specs.List.{list_any, list_all, slice_split};
-ghost use Rattle.tb_fields.specs.Feats.{is_bar, is_comma, is_capital_or_digit, is_small_or_digit, is_letter_or_digit, is_label, is_layer, is_name, are_values, is_feature, feature_name, is_not_after, precedes, are_features, is_feature_text};
+ghost use Rattle.tb_fields.specs.Feats.{is_bar, is_comma, is_capital_or_digit, is_small_or_digit, is_letter_or_digit};
+ghost use Rattle.tb_fields.specs.Feats.{is_label, is_layer, is_name, are_values, is_feature, feature_name};
+ghost use Rattle.tb_fields.specs.Feats.{is_not_after, precedes, are_features, is_feature_text};
 
 use crate::blank::is_blank_field;
 use crate::repeats::comes_first;
@@ -121,7 +123,8 @@ fn holds_few_values(text: &str) -> bool
 /// Whether the value is well formed and had not come before; then it has, from now on.
 fn is_new_value<'a>(seen: &mut BTreeSet<&'a str>, value: &'a str) -> Result<bool, AllocError>
     ensures new { IfOk result (λ b. b ≡ (is_label value.now && not (has_come seen.old value.now))) }
-    ensures kept { IfOk result (λ b. b ≡ true → (q : List ℕ) → has_come seen.new q ≡ (bytes_eq value.now q || has_come seen.old q)) }
+    ensures kept { IfOk result (λ b. b ≡ true → (q : List ℕ)
+        → has_come seen.new q ≡ (bytes_eq value.now q || has_come seen.old q)) }
 {
     if !is_label_text(value) {
         return Ok(false);
@@ -228,7 +231,9 @@ fn is_before(name: &str, text: &str) -> bool
 
 /// Whether the feature may stand before the others.
 fn feature_is_fine(alloc: Global, item: &str, more: &str) -> Result<bool, AllocError>
-    ensures { IfOk result (λ b. b ≡ (is_feature item.now && (precedes (feature_name item.now) (map feature_name (slice_split is_bar more.now)) && not (list_any (bytes_eq (feature_name item.now)) (map feature_name (slice_split is_bar more.now)))))) }
+    ensures { IfOk result (λ b. b ≡ (is_feature item.now && (precedes (feature_name item.now)
+        (map feature_name (slice_split is_bar more.now)) && not (list_any (bytes_eq (feature_name item.now))
+        (map feature_name (slice_split is_bar more.now)))))) }
 {
     let name = name_of(item);
     Ok(is_feature_item(alloc, item)? && is_before(name, more) && !has_name(name, more))
@@ -255,8 +260,10 @@ fn is_new_feature<'a>(
     item: &'a str,
     more: &str,
 ) -> Result<bool, AllocError>
-    ensures new { IfOk result (λ b. b ≡ ((is_feature item.now && precedes (feature_name item.now) (map feature_name (slice_split is_bar more.now))) && not (has_come seen.old (feature_name item.now)))) }
-    ensures kept { IfOk result (λ b. b ≡ true → (q : List ℕ) → has_come seen.new q ≡ (bytes_eq (feature_name item.now) q || has_come seen.old q)) }
+    ensures new { IfOk result (λ b. b ≡ ((is_feature item.now && precedes (feature_name item.now)
+        (map feature_name (slice_split is_bar more.now))) && not (has_come seen.old (feature_name item.now)))) }
+    ensures kept { IfOk result (λ b. b ≡ true → (q : List ℕ)
+        → has_come seen.new q ≡ (bytes_eq (feature_name item.now) q || has_come seen.old q)) }
 {
     let name = name_of(item);
     if !(is_feature_item(alloc, item)? && is_before(name, more)) {

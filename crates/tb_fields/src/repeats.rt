@@ -12,7 +12,8 @@ pub(crate) fn comes_first<'a>(
     text: &'a str,
 ) -> Result<bool, AllocError>
     ensures new { IfOk result (λ b. b ≡ not (has_come seen.old text.now)) }
-    ensures kept { OnOk result ((q : List ℕ) → has_come seen.new q ≡ (bytes_eq text.now q || has_come seen.old q)) }
+    ensures kept { OnOk result ((q : List ℕ) → has_come seen.new q
+        ≡ (bytes_eq text.now q || has_come seen.old q)) }
 {
     Ok(seen.insert(text)?)
 }

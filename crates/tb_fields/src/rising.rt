@@ -47,7 +47,8 @@ fn plain_name(item: &str) -> Option<&str>
 
 /// The same where the name stands above the last one.
 fn next_name<'a>(last: &str, item: &'a str) -> Option<&'a str>
-    ensures { IfSome result (λ name. (is_feature item.now ≡ true) × (is_below last.now (feature_name item.now) ≡ true) × (name.now ≡ feature_name item.now)) }
+    ensures { IfSome result (λ name. (is_feature item.now ≡ true)
+        × (is_below last.now (feature_name item.now) ≡ true) × (name.now ≡ feature_name item.now)) }
 {
     let name = plain_name(item)?;
     if !is_below(last.as_bytes(), name.as_bytes()) {

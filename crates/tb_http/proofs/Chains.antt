@@ -18,7 +18,7 @@ use Rattle.tb_http.specs.Headers.{Header, user_of, body_length}
 use Rattle.tb_http.specs.Forms.{within}
 use Rattle.tb_http.specs.Stage.{stops, goes}
 use Rattle.tb_http.specs.Faults.{HasCall}
-use Rattle.tb_http.specs.Asks.{Told, refused, Front, headers_of, AsksBody, AsksLong, AsksMethod, AsksPath, AsksLength, Asks}
+use Rattle.tb_http.specs.Asks.{Outcome, refused, Front, headers_of, AsksBody, AsksLong, AsksMethod, AsksPath, AsksLength, Asks}
 use Rattle.tb_http.proofs.Staged.{not_none}
 
 -- the spans are those of this head, and within the limits
@@ -82,14 +82,14 @@ module _ (buf : List ℕ) (headers : List HeaderSpan) (spans : RequestSpans) (h 
     refl,
   )
 
-  pub goes_user : (u : List ℕ) → user_of (pairs buf headers spans) ≡ Some u → (later : List ℕ) (t : Told)
+  pub goes_user : (u : List ℕ) → user_of (pairs buf headers spans) ≡ Some u → (later : List ℕ) (t : Outcome)
       → AsksLength limit (front h u (drop spans.len buf ++ later)) t → Asks limit (buf ++ later) t
   goes_user u e later t x = goes t (front h u (drop spans.len buf ++ later)) (record { begins = begins buf later headers spans h s; named = ap user_of (sym s.whole.fields) ∙ e }) x
 
   pub stop_length : (u rest : List ℕ) → body_length (pairs buf headers spans) ≡ None → AsksLength limit (front h u rest) (refused Length)
   stop_length u rest e = stops _ (ap body_length (sym s.whole.fields) ∙ e, refl)
 
-  pub goes_length : (u rest : List ℕ) (r : Option ℕ) → option_map (within limit) (body_length (pairs buf headers spans)) ≡ Some r → (t : Told)
+  pub goes_length : (u rest : List ℕ) (r : Option ℕ) → option_map (within limit) (body_length (pairs buf headers spans)) ≡ Some r → (t : Outcome)
       → ((n : ℕ) → within limit n ≡ r → AsksPath limit (front h u rest) n t) → AsksLength limit (front h u rest) t
   goes_length u rest r e t next = by_length (body_length (headers_of h)) refl (ap (λ l. option_map (within limit) (body_length l)) (sym s.whole.fields) ∙ e)
     where
@@ -105,7 +105,7 @@ module _ (buf : List ℕ) (headers : List HeaderSpan) (spans : RequestSpans) (h 
       → AsksPath limit (front h u rest) n (refused Path)
   stop_path u rest n word found w p none = stops _ (ap place_of (sym (w ∙ s.whole.path)) ∙ (sym p ∙ ap (option_map place_by) none), refl)
 
-  pub goes_path : (u rest : List ℕ) (n : ℕ) (word : List ℕ) (found : Option Resource) (r : Resource) → word ≡ span_bytes buf spans.path → option_map place_by found ≡ place_of word → found ≡ Some r → (t : Told)
+  pub goes_path : (u rest : List ℕ) (n : ℕ) (word : List ℕ) (found : Option Resource) (r : Resource) → word ≡ span_bytes buf spans.path → option_map place_by found ≡ place_of word → found ≡ Some r → (t : Outcome)
       → AsksMethod limit (front h u rest) n (place_by r) t → AsksPath limit (front h u rest) n t
   goes_path u rest n word found r w p some t x = goes t (place_by r) (ap place_of (sym (w ∙ s.whole.path)) ∙ (sym p ∙ ap (option_map place_by) some)) x
 
@@ -115,13 +115,13 @@ module _ (buf : List ℕ) (headers : List HeaderSpan) (spans : RequestSpans) (h 
       stops _ (ap (act_of place) (sym (w ∙ s.whole.method)) ∙ (sym e ∙ ap (option_map act_by) none), ap (λ x. refused (Method x)) a)
 
   pub goes_method : (u rest : List ℕ) (n : ℕ) (place : Place) (word : List ℕ) (found : Option Action) (action : Action) → word ≡ span_bytes buf spans.method
-      → option_map act_by found ≡ act_of place word → found ≡ Some action → (t : Told)
+      → option_map act_by found ≡ act_of place word → found ≡ Some action → (t : Outcome)
       → AsksLong limit (front h u rest) n (act_by action) t → AsksMethod limit (front h u rest) n place t
   goes_method u rest n place word found action w e some t x = goes t (act_by action) (ap (act_of place) (sym (w ∙ s.whole.method)) ∙ (sym e ∙ ap (option_map act_by) some)) x
 
-  told : (r : Option ℕ) (n : ℕ) → option_map (within limit) (body_length (pairs buf headers spans)) ≡ Some r → r ≡ Some n
+  reported : (r : Option ℕ) (n : ℕ) → option_map (within limit) (body_length (pairs buf headers spans)) ≡ Some r → r ≡ Some n
       → (body_length (headers_of h) ≡ Some n) × (n ≤ limit)
-  told r n e some = by_length (body_length (headers_of h)) refl (ap (λ l. option_map (within limit) (body_length l)) (sym s.whole.fields) ∙ e)
+  reported r n e some = by_length (body_length (headers_of h)) refl (ap (λ l. option_map (within limit) (body_length l)) (sym s.whole.fields) ∙ e)
     where
       value : Option ℕ → Option (Option ℕ) → Option ℕ
       value d None = d
@@ -141,23 +141,23 @@ module _ (buf : List ℕ) (headers : List HeaderSpan) (spans : RequestSpans) (h 
       → option_map act_by chosen ≡ act_of (place_by resource) method → chosen ≡ Some action
       → HasCall limit (buf ++ later) (front h u (drop spans.len buf ++ later)) n
   has_call u later named r n length_is some path found resource p place is_resource method chosen action m act is_action =
-      let length_told = told r n length_is some in
+      let length_reported = reported r n length_is some in
       record {
         begins = record { begins = begins buf later headers spans h s; named = ap user_of (sym s.whole.fields) ∙ named };
-        told = length_told.0;
+        reported = length_reported.0;
         path = (
           place_by resource,
           ap place_of (sym (p ∙ s.whole.path)) ∙ (sym place ∙ ap (option_map place_by) is_resource),
           act_by action,
           ap (act_of (place_by resource)) (sym (m ∙ s.whole.method)) ∙ (sym act ∙ ap (option_map act_by) is_action),
         );
-        within = length_told.1;
+        within = length_reported.1;
       }
 
 pub stop_long : (limit : ℕ) (f : Front) (n : ℕ) (act : Act) → limit < n → AsksLong limit f n act (refused Long)
 stop_long limit f n act h = stops _ (h, refl)
 
-pub goes_long : (limit : ℕ) (f : Front) (n m : ℕ) (act : Act) (t : Told) → (n ≡ m) × (n ≤ limit) → AsksBody f m act t → AsksLong limit f n act t
+pub goes_long : (limit : ℕ) (f : Front) (n m : ℕ) (act : Act) (t : Outcome) → (n ≡ m) × (n ≤ limit) → AsksBody f m act t → AsksLong limit f n act t
 goes_long limit f n m act t h x = goes t _ h.1 (subst (λ k. AsksBody f k act t) (sym h.0) x)
 
 -- the first bytes of what came, and all of it, begin with the same body

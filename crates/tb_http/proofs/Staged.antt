@@ -6,7 +6,7 @@ use Rattle.tb_http.specs.Actions.{Act, Place}
 use Rattle.tb_http.specs.declared.asks.RequestFault.{RequestFault}
 use Rattle.tb_http.specs.Headers.{user_of}
 use Rattle.tb_http.specs.Stage.{Stage, stops, goes, AreOne}
-use Rattle.tb_http.specs.Asks.{Told, Tells, Front, IsFront, headers_of, AsksBody, AsksLong, AsksMethod, AsksPath, AsksLength, AsksOneThing}
+use Rattle.tb_http.specs.Asks.{Outcome, RefusesFor, Front, IsFront, headers_of, AsksBody, AsksLong, AsksMethod, AsksPath, AsksLength, AsksOneThing}
 
 -- a stage has one answer, if it finds one thing and what follows has one answer
 one_stage : (A R : Type 0) (says : R → Type 0) (passes : A → Type 0) (rest : A → R → Type 0)
@@ -18,7 +18,7 @@ one_stage A R says passes rest one apart same next r q (goes v a p x) (stops w y
 one_stage A R says passes rest one apart same next r q (goes v a p x) (goes w b o y) =
     next a v w x (subst (λ z. rest z w) (same b a o p) y)
 
-one_tells : (why : RequestFault) (P : Type 0) → AreOne Told (Tells why P)
+one_tells : (why : RequestFault) (P : Type 0) → AreOne Outcome (RefusesFor why P)
 one_tells why P r q x y = x.1 ∙ sym y.1
 
 is_some : {X : Type 0} (o : Option X) (x y : X) → o ≡ Some x → o ≡ Some y → x ≡ y
@@ -34,19 +34,19 @@ is_some o x y e f = some_injective (sym e ∙ f)
 pub not_none : {X : Type 0} (o : Option X) (x : X) → o ≡ None → o ≡ Some x → ⊥
 not_none o x e f = let g : None ≡ Some x = sym e ∙ f in grind arith
 
-one_body : (f : Front) (n : ℕ) (act : Act) → AreOne Told (AsksBody f n act)
+one_body : (f : Front) (n : ℕ) (act : Act) → AreOne Outcome (AsksBody f n act)
 one_body f n act = one_stage _ _ _ _ _ (one_tells _ _) (λ r a x p. omega (arith, x.0, p.0)) (λ a b p o. p.1 ∙ sym o.1) (λ a r q x y. x ∙ sym y)
 
-one_long : (limit : ℕ) (f : Front) (n : ℕ) (act : Act) → AreOne Told (AsksLong limit f n act)
+one_long : (limit : ℕ) (f : Front) (n : ℕ) (act : Act) → AreOne Outcome (AsksLong limit f n act)
 one_long limit f n act = one_stage _ _ _ _ _ (one_tells _ _) (λ r a x p. omega (arith, x.0, p)) (λ a b p o. refl) (λ a. one_body f n act)
 
-one_method : (limit : ℕ) (f : Front) (n : ℕ) (place : Place) → AreOne Told (AsksMethod limit f n place)
+one_method : (limit : ℕ) (f : Front) (n : ℕ) (place : Place) → AreOne Outcome (AsksMethod limit f n place)
 one_method limit f n place = one_stage _ _ _ _ _ (one_tells _ _) (λ r a x p. not_none _ a x.0 p) (λ a b p o. is_some _ a b p o) (one_long limit f n)
 
-one_path : (limit : ℕ) (f : Front) (n : ℕ) → AreOne Told (AsksPath limit f n)
+one_path : (limit : ℕ) (f : Front) (n : ℕ) → AreOne Outcome (AsksPath limit f n)
 one_path limit f n = one_stage _ _ _ _ _ (one_tells _ _) (λ r a x p. not_none _ a x.0 p) (λ a b p o. is_some _ a b p o) (one_method limit f n)
 
-one_length : (limit : ℕ) (f : Front) → AreOne Told (AsksLength limit f)
+one_length : (limit : ℕ) (f : Front) → AreOne Outcome (AsksLength limit f)
 one_length limit f = one_stage _ _ _ _ _ (one_tells _ _) (λ r a x p. not_none _ a x.0 p) (λ a b p o. is_some _ a b p o) (one_path limit f)
 
 front_of : RequestHead → List ℕ → List ℕ → Front

@@ -63,7 +63,7 @@ begins_more limit taken later h =
           begins = record { reads = ReadsRequest-append taken f.head f.rest later call.begins.begins.reads; short = call.begins.begins.short; few = call.begins.begins.few };
           named = call.begins.named;
         };
-        told = call.told;
+        reported = call.reported;
         path = call.path;
         within = call.within;
       },

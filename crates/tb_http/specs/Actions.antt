@@ -1,5 +1,6 @@
 -- What a target stands for: the actions that GET and POST ask for there.
-use Rattle.std.specs.Prelude.{ℕ, List, codes, Option, Some, None, option_map, option_and_then, bytes_eq, if◌then◌else◌}
+use Rattle.std.specs.Prelude.{ℕ, List, codes, Option, Some, None, option_map, option_and_then, bytes_eq}
+use Rattle.std.specs.Prelude.{if◌then◌else◌}
 use Rattle.tb_core.specs.declared.kinds.Event.{Event}
 use Rattle.tb_match.specs.declared.strategy.Strategy.{Strategy}
 use Rattle.tb_syntax.specs.declared.lexeme.Attr.{Attr}
@@ -11,7 +12,8 @@ use Rattle.tb_http.specs.declared.actions.Resource.{Resource}
 use Rattle.tb_http.specs.declared.actions.Resource.TheVariants as resource
 use Rattle.tb_http.specs.declared.actions.Allow.{Allow}
 use Rattle.tb_http.specs.declared.actions.Allow.TheVariants.{Get, Post, GetAndPost}
-use Rattle.tb_http.specs.Forms.{segment_of, name_of, number_of, base_of, context_of, event_of, strategy_of, attribute_of}
+use Rattle.tb_http.specs.Forms.{segment_of, name_of, number_of, base_of, context_of, event_of, strategy_of}
+use Rattle.tb_http.specs.Forms.{attribute_of}
 use Rattle.tb_http.specs.Routes.{route_of}
 
 -- an action, as plain data
@@ -44,18 +46,24 @@ with_both f None b = None
 
 -- what a target of that route stands for, where its segments have their forms
 abbrev pub place_at : Route → List ℕ → Option Place
-place_at route.Batch target = option_map (λ name. both (export_batch name) (import_batch name)) (name_of (segment_of 2 target))
-place_at route.Step target = with_both (λ name event. posts (step_batch name event)) (name_of (segment_of 2 target)) (event_of (segment_of 3 target))
-place_at route.Correction target = with_both (λ n base. posts (correct n base)) (number_of (segment_of 2 target)) (base_of (segment_of 4 target))
+place_at route.Batch target = option_map (λ name. both (export_batch name) (import_batch name)) (name_of
+    (segment_of 2 target))
+place_at route.Step target = with_both (λ name event. posts (step_batch name event)) (name_of
+    (segment_of 2 target)) (event_of (segment_of 3 target))
+place_at route.Correction target = with_both (λ n base. posts (correct n base)) (number_of
+    (segment_of 2 target)) (base_of (segment_of 4 target))
 place_at route.Sentence target = option_map (λ n. gets (sentence n)) (number_of (segment_of 2 target))
-place_at route.Revision target = with_both (λ n rev. gets (revision n rev)) (number_of (segment_of 2 target)) (number_of (segment_of 3 target))
+place_at route.Revision target = with_both (λ n rev.
+    gets (revision n rev)) (number_of (segment_of 2 target)) (number_of (segment_of 3 target))
 place_at route.Pull target = option_map (λ n. posts (pull n)) (number_of (segment_of 2 target))
 place_at route.Restore target = option_map (λ n. posts (restore n)) (number_of (segment_of 2 target))
 place_at route.Released target = Some (gets export_released)
 place_at route.Totals target = Some (gets totals)
 place_at route.Moves target = Some (gets moves)
-place_at route.Search target = with_both (λ strategy context. posts (search strategy context)) (strategy_of (segment_of 2 target)) (context_of (segment_of 3 target))
-place_at route.Count target = with_both (λ strategy attribute. posts (count strategy attribute)) (strategy_of (segment_of 2 target)) (attribute_of (segment_of 3 target))
+place_at route.Search target = with_both (λ strategy context. posts (search strategy context)) (strategy_of
+    (segment_of 2 target)) (context_of (segment_of 3 target))
+place_at route.Count target = with_both (λ strategy attribute. posts (count strategy attribute)) (strategy_of
+    (segment_of 2 target)) (attribute_of (segment_of 3 target))
 
 -- what a target stands for
 abbrev pub place_of : List ℕ → Option Place

@@ -17,15 +17,15 @@ abbrev pub body_limit : ℕ
 body_limit = 4194304
 
 -- an action, who asks for it, and the body that comes with it
-pub record CallText : Type 0 where
+pub record RequestText : Type 0 where
   pub act : Act
   pub user : List ℕ
   pub body : List ℕ
 
 -- what bytes ask: nothing, for a reason, or a call
-pub data Told : Type 0 where
-  refused : RequestFault → Told
-  called : CallText → Told
+pub data Outcome : Type 0 where
+  refused : RequestFault → Outcome
+  called : RequestText → Outcome
 
 -- the headers of a head
 abbrev pub headers_of : RequestHead → List Header
@@ -43,53 +43,55 @@ pub record IsFront (bytes : List ℕ) (front : Front) : Type 0 where
   pub named : user_of (headers_of front.head) ≡ Some front.user
 
 -- refused for that reason where P holds
-abbrev pub Tells : RequestFault → Type 0 → Told → Type 0
-Tells why P told = P × (told ≡ refused why)
+abbrev pub RefusesFor : RequestFault → Type 0 → Outcome → Type 0
+RefusesFor why P reported = P × (reported ≡ refused why)
 
-abbrev pub call_text : Act → List ℕ → List ℕ → Told
+abbrev pub call_text : Act → List ℕ → List ℕ → Outcome
 call_text act user body = called record { act = act; user = user; body = body }
 
 -- the body: so many bytes follow
-abbrev pub AsksBody : Front → ℕ → Act → Told → Type 0
-AsksBody f n act told = Stage (List ℕ) Told
-    (Tells Body (length f.rest < n)) (λ body. (n ≤ length f.rest) × (body ≡ take n f.rest))
-    (λ body t. t ≡ call_text act f.user body) told
+abbrev pub AsksBody : Front → ℕ → Act → Outcome → Type 0
+AsksBody f n act reported = Stage (List ℕ) Outcome
+    (RefusesFor Body (length f.rest < n)) (λ body. (n ≤ length f.rest) × (body ≡ take n f.rest))
+    (λ body t. t ≡ call_text act f.user body) reported
 
 -- the length is within the limit
-abbrev pub AsksLong : ℕ → Front → ℕ → Act → Told → Type 0
-AsksLong limit f n act told = Stage ⊤ Told
-    (Tells Long (limit < n)) (λ _. n ≤ limit)
-    (λ _. AsksBody f n act) told
+abbrev pub AsksLong : ℕ → Front → ℕ → Act → Outcome → Type 0
+AsksLong limit f n act reported = Stage ⊤ Outcome
+    (RefusesFor Long (limit < n)) (λ _. n ≤ limit)
+    (λ _. AsksBody f n act) reported
 
 -- the method is one of the target's
-abbrev pub AsksMethod : ℕ → Front → ℕ → Place → Told → Type 0
-AsksMethod limit f n place told = Stage Act Told
-    (Tells (Method (allow_of place)) (act_of place f.head.method ≡ None)) (λ act. act_of place f.head.method ≡ Some act)
-    (AsksLong limit f n) told
+abbrev pub AsksMethod : ℕ → Front → ℕ → Place → Outcome → Type 0
+AsksMethod limit f n place reported = Stage Act Outcome
+    (RefusesFor (Method (allow_of place)) (act_of place f.head.method ≡ None)) (λ act. act_of place f.head.method
+    ≡ Some act)
+    (AsksLong limit f n) reported
 
 -- the target stands for something
-abbrev pub AsksPath : ℕ → Front → ℕ → Told → Type 0
-AsksPath limit f n told = Stage Place Told
-    (Tells Path (place_of f.head.target ≡ None)) (λ place. place_of f.head.target ≡ Some place)
-    (AsksMethod limit f n) told
+abbrev pub AsksPath : ℕ → Front → ℕ → Outcome → Type 0
+AsksPath limit f n reported = Stage Place Outcome
+    (RefusesFor Path (place_of f.head.target ≡ None)) (λ place. place_of f.head.target ≡ Some place)
+    (AsksMethod limit f n) reported
 
 -- the headers tell one length
-abbrev pub AsksLength : ℕ → Front → Told → Type 0
-AsksLength limit f told = Stage ℕ Told
-    (Tells Length (body_length (headers_of f.head) ≡ None)) (λ n. body_length (headers_of f.head) ≡ Some n)
-    (AsksPath limit f) told
+abbrev pub AsksLength : ℕ → Front → Outcome → Type 0
+AsksLength limit f reported = Stage ℕ Outcome
+    (RefusesFor Length (body_length (headers_of f.head) ≡ None)) (λ n. body_length (headers_of f.head) ≡ Some n)
+    (AsksPath limit f) reported
 
 -- what the bytes ask, where a body has at most `limit` bytes: a head, its length, path, method, the limit, the body
-abbrev pub Asks : ℕ → List ℕ → Told → Type 0
-Asks limit bytes told = Stage Front Told
-    (Tells Head ((f : Front) → ¬ (IsFront bytes f))) (IsFront bytes)
-    (AsksLength limit) told
+abbrev pub Asks : ℕ → List ℕ → Outcome → Type 0
+Asks limit bytes reported = Stage Front Outcome
+    (RefusesFor Head ((f : Front) → ¬ (IsFront bytes f))) (IsFront bytes)
+    (AsksLength limit) reported
 
 -- bytes ask one thing
 abbrev pub AsksOneThing : Type 0
-AsksOneThing = (limit : ℕ) (bytes : List ℕ) (told other : Told) → Asks limit bytes told → Asks limit bytes other → told ≡ other
+AsksOneThing = (limit : ℕ) (bytes : List ℕ) (reported other : Outcome) → Asks limit bytes reported
+    → Asks limit bytes other → reported ≡ other
 
 -- what an answer of the code tells
-abbrev pub told_by : Ask → Told
-told_by (ask.Refused why) = refused why
-told_by (ask.Call call) = called record { act = act_by call.action; user = call.user.now; body = call.body.items }
+abbrev pub reported_by : Ask → Outcome
+reported_by (ask.Refused why) = refused why
+reported_by (ask.Call call) = called record { act = act_by call.action; user = call.user.now; body = call.body.items }

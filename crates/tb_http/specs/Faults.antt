@@ -1,5 +1,6 @@
 -- When it stays unknown what a request asks: only where a read was owed, or memory for the body.
-use Rattle.std.specs.Prelude.{◌≡◌, ◌<◌, ◌≤◌, ◌⊎◌, ℕ, List, [], ◌++◌, length, Option, Some, IfSome}
+use Rattle.std.specs.Prelude.{◌≡◌, ◌<◌, ◌≤◌, ◌⊎◌, ℕ, List, [], ◌++◌, length, Option, Some}
+use Rattle.std.specs.Prelude.{IfSome}
 use Rattle.std.specs.Io.KnownBytes.{Consumes}
 use Rattle.httparse.specs.Grammar.{HasNoRequest, MayBecomeRequest}
 use Rattle.tb_http.specs.declared.asks.AskFault.{AskFault}
@@ -19,8 +20,9 @@ pub record AwaitsHead (taken : List ℕ) : Type 0 where
 -- the bytes begin with a head that passes each test and tells a body of n bytes
 pub record HasCall (limit : ℕ) (bytes : List ℕ) (front : Front) (n : ℕ) : Type 0 where
   pub begins : IsFront bytes front
-  pub told : body_length (headers_of front.head) ≡ Some n
-  pub path : (place : Place) × (place_of front.head.target ≡ Some place) × (act : Act) × (act_of place front.head.method ≡ Some act)
+  pub reported : body_length (headers_of front.head) ≡ Some n
+  pub path : (place : Place) × (place_of front.head.target ≡ Some place) × (act : Act)
+      × (act_of place front.head.method ≡ Some act)
   pub within : n ≤ limit
 
 -- such a head was taken, and less of its body than it tells
@@ -29,7 +31,8 @@ AwaitsBody limit taken = (front : Front) × (n : ℕ) × HasCall limit taken fro
 
 -- such a head was taken, and the first byte of its body
 abbrev pub BeginsBody : ℕ → List ℕ → Type 0
-BeginsBody limit taken = (front : Front) × (n : ℕ) × HasCall limit taken front n × (0 < n) × (0 < length front.rest)
+BeginsBody limit taken = (front : Front) × (n : ℕ) × HasCall limit taken front n × (0 < n)
+    × (0 < length front.rest)
 
 -- after these bytes a read is owed: for the head, or for the body
 abbrev pub AwaitsMore : ℕ → List ℕ → Type 0
@@ -43,7 +46,8 @@ IsFaultOf limit taken ask.Memory = BeginsBody limit taken
 -- no more bytes than a head may have, or such a head and no more than its body
 abbrev pub IsAtMostOne : ℕ → List ℕ → Type 0
 IsAtMostOne limit taken =
-    (length taken ≤ 8192) ⊎ ((front : Front) × (n : ℕ) × HasCall limit taken front n × (length front.rest ≤ n))
+    (length taken ≤ 8192) ⊎ ((front : Front) × (n : ℕ) × HasCall limit taken front n
+    × (length front.rest ≤ n))
 
 -- where that fault may come, after these of the n bytes of a body came
 abbrev pub IsBodyFaultOf : ℕ → List ℕ → BodyFault → Type 0

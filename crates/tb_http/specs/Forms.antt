@@ -1,10 +1,12 @@
 -- The forms of values in a request's target and on a command line: segments between slashes, numbers, words.
-use Rattle.std.specs.Prelude.{ℕ, zero, suc, List, length, codes, Bool, ◌&&◌, nat_lt, nat_le, ◌==◌, bytes_eq, if◌then◌else◌, Option, Some, None, option_and_then}
+use Rattle.std.specs.Prelude.{ℕ, zero, suc, List, length, codes, Bool, ◌&&◌, nat_lt, nat_le, ◌==◌, bytes_eq}
+use Rattle.std.specs.Prelude.{if◌then◌else◌, Option, Some, None, option_and_then}
 use Rattle.std.specs.List.{list_all, before_first, after_first, slice_index}
 use Rattle.std.specs.Char.{is_ascii_digit}
 use Rattle.std.specs.Str.Parse.{digits_value}
 use Rattle.tb_core.specs.declared.kinds.Event.{Event}
-use Rattle.tb_core.specs.declared.kinds.Event.TheVariants.{Assign, Unassign, Submit, SendBack, Adjudicate, Release, Withdraw, Reopen}
+use Rattle.tb_core.specs.declared.kinds.Event.TheVariants.{Assign, Unassign, Submit, SendBack, Adjudicate, Release}
+use Rattle.tb_core.specs.declared.kinds.Event.TheVariants.{Withdraw, Reopen}
 use Rattle.tb_core.specs.Words.{event_word}
 use Rattle.tb_match.specs.declared.strategy.Strategy.{Strategy}
 use Rattle.tb_match.specs.declared.strategy.Strategy.TheVariants.{Shortest, Longest, Every}
@@ -29,7 +31,8 @@ name_of text = if nat_lt 0 (length text) then Some text else None
 
 -- 1 to 10 digits, the first of them 1 to 9
 abbrev pub is_number : List ℕ → Bool
-is_number text = nat_lt 0 (length text) && (nat_le (length text) 10 && (nat_lt 48 (slice_index text 0) && list_all is_ascii_digit text))
+is_number text = nat_lt 0 (length text) && (nat_le (length text) 10 &&
+    (nat_lt 48 (slice_index text 0) && list_all is_ascii_digit text))
 
 -- the number of a sentence or a revision
 abbrev pub number_of : List ℕ → Option ℕ
@@ -49,7 +52,8 @@ port_of text = option_and_then (within 65535) (base_of text)
 
 -- a number of requests: 1 to 10 digits
 abbrev pub requests_of : List ℕ → Option ℕ
-requests_of text = if nat_lt 0 (length text) && (nat_le (length text) 10 && list_all is_ascii_digit text) then Some (digits_value 10 text) else None
+requests_of text = if nat_lt 0 (length text) && (nat_le
+    (length text) 10 && list_all is_ascii_digit text) then Some (digits_value 10 text) else None
 
 -- the event with that word
 abbrev pub event_of : List ℕ → Option Event

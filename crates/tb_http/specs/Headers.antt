@@ -1,5 +1,6 @@
 -- What the headers of a request say, over a plain list of names and values without the white space around them.
-use Rattle.std.specs.Prelude.{ℕ, List, [], ◌∷◌, length, codes, Bool, ◌&&◌, Option, Some, None, if◌then◌else◌, nat_lt}
+use Rattle.std.specs.Prelude.{ℕ, List, [], ◌∷◌, length, codes, Bool, ◌&&◌, Option, Some, None}
+use Rattle.std.specs.Prelude.{if◌then◌else◌, nat_lt}
 use Rattle.std.specs.List.{filter_map, list_all}
 use Rattle.std.specs.Char.{is_ascii_digit}
 use Rattle.std.specs.Str.{str_eq_ignore_ascii_case, is_utf8}
@@ -38,7 +39,8 @@ length_said (c ∷ cs) lengths = None
 
 -- the length of the body, or nothing where it is refused
 abbrev pub body_length : List Header → Option ℕ
-body_length headers = length_said (values_of (codes "Transfer-Encoding") headers) (values_of (codes "Content-Length") headers)
+body_length headers = length_said (values_of (codes "Transfer-Encoding") headers) (values_of
+    (codes "Content-Length") headers)
 
 -- a value that is text
 abbrev pub text_of : List ℕ → List ℕ

@@ -10,7 +10,9 @@ use Rattle.tb_http.specs.declared.asks.RequestFault.TheVariants as fault
 use Rattle.tb_http.specs.declared.replies.Reply.{Reply}
 use Rattle.tb_http.specs.declared.replies.Reply.TheVariants as reply
 use Rattle.tb_http.specs.declared.status.Status.{Status}
-use Rattle.tb_http.specs.declared.status.Status.TheVariants.{Ok, BadRequest, Forbidden, NotFound, MethodNotAllowed, Conflict, PayloadTooLarge, UnprocessableEntity, ServiceUnavailable, InsufficientStorage}
+use Rattle.tb_http.specs.declared.status.Status.TheVariants.{Ok, BadRequest, Forbidden, NotFound, MethodNotAllowed}
+use Rattle.tb_http.specs.declared.status.Status.TheVariants.{Conflict, PayloadTooLarge, UnprocessableEntity}
+use Rattle.tb_http.specs.declared.status.Status.TheVariants.{ServiceUnavailable, InsufficientStorage}
 
 -- the word that a fault of a request is told by
 abbrev pub fault_word : RequestFault → List ℕ

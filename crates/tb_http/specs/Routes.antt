@@ -6,7 +6,8 @@ use Rattle.matchit.specs.Route.{parse_route, Scan}
 use Rattle.matchit.specs.Order.{placed}
 use Rattle.matchit.specs.Seek.{first}
 use Rattle.tb_http.specs.declared.routes.Route.{Route}
-use Rattle.tb_http.specs.declared.routes.Route.TheVariants.{Batch, Step, Correction, Sentence, Revision, Pull, Restore, Released, Totals, Moves, Search, Count}
+use Rattle.tb_http.specs.declared.routes.Route.TheVariants.{Batch, Step, Correction, Sentence, Revision, Pull, Restore}
+use Rattle.tb_http.specs.declared.routes.Route.TheVariants.{Released, Totals, Moves, Search, Count}
 
 -- the rows after a route that reads well goes in
 abbrev pub with_route : {E : Type 0} → Result Scan E → Route → RowsOf (RouteOf Route) → RowsOf (RouteOf Route)

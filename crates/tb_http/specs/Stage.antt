@@ -1,7 +1,8 @@
 -- Tests one after another: each stops with an answer, or lets pass with what it found.
 use Rattle.std.specs.Prelude.{◌≡◌}
 
-pub data Stage (A R : Type 0) (says : R → Type 0) (passes : A → Type 0) (rest : A → R → Type 0) : R → Type 0 where
+pub data Stage (A R : Type 0) (says : R → Type 0) (passes : A → Type 0) (rest : A → R → Type 0) : R
+    → Type 0 where
   stops : (r : R) → says r → Stage A R says passes rest r
   goes : (r : R) (a : A) → passes a → rest a r → Stage A R says passes rest r
 

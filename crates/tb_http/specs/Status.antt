@@ -2,7 +2,9 @@
 use Rattle.std.specs.Prelude.{ℕ, List, [], unwrap_or}
 use Rattle.http.specs.StatusCode.{reason_phrase}
 use Rattle.tb_http.specs.declared.status.Status.{Status}
-use Rattle.tb_http.specs.declared.status.Status.TheVariants.{Ok, BadRequest, Forbidden, NotFound, MethodNotAllowed, Conflict, PayloadTooLarge, UnprocessableEntity, ServiceUnavailable, InsufficientStorage}
+use Rattle.tb_http.specs.declared.status.Status.TheVariants.{Ok, BadRequest, Forbidden, NotFound, MethodNotAllowed}
+use Rattle.tb_http.specs.declared.status.Status.TheVariants.{Conflict, PayloadTooLarge, UnprocessableEntity}
+use Rattle.tb_http.specs.declared.status.Status.TheVariants.{ServiceUnavailable, InsufficientStorage}
 
 -- the code
 abbrev pub code_of : Status → ℕ

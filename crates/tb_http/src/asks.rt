@@ -1,12 +1,14 @@
 //! What the bytes of a request ask, from any reader.
 
-ghost use Rattle.std.specs.Prelude.{◌≡◌, ◌≢◌, ◌≤◌, ◌+◌, ◌++◌, ℕ, List, [], length, option_map, IfOk, IfErr, IfSome};
+ghost use Rattle.std.specs.Prelude.{◌≡◌, ◌≢◌, ◌≤◌, ◌+◌, ◌++◌, ℕ, List, [], length};
+ghost use Rattle.std.specs.Prelude.{option_map, IfOk, IfErr, IfSome};
 ghost use Rattle.std.specs.Prelude.{Err as ErrOf};
 ghost use Rattle.httparse.specs.Spans.{IsRequestOf, IsRequestWithin};
 ghost use Rattle.tb_conllu.specs.Pieces.{AskedFor};
 ghost use Rattle.tb_http.specs.Actions.{act_by};
-ghost use Rattle.tb_http.specs.Asks.{Asks, AsksOneThing, body_limit, call_text, told_by};
-ghost use Rattle.tb_http.specs.Faults.{AwaitsBody, AwaitsMore, BeginsBody, IsAtMostOne, IsFaultOf, TakenAfter, TakesAtMost};
+ghost use Rattle.tb_http.specs.Asks.{Asks, AsksOneThing, body_limit, call_text, reported_by};
+ghost use Rattle.tb_http.specs.Faults.{AwaitsBody, AwaitsMore, BeginsBody, IsAtMostOne, IsFaultOf, TakenAfter};
+ghost use Rattle.tb_http.specs.Faults.{TakesAtMost};
 ghost use Rattle.tb_http.specs.declared.asks.AskFault.TheVariants.{Broken, Memory};
 
 use crate::actions::{Action, Allow, resource_of};
@@ -70,7 +72,7 @@ pub fn bytes_ask_one_thing()
 
 /// A call whose texts stand in the buffer.
 fn make_call<'b>(action: Action<'b>, user: &'b str, body: Vec<u8>) -> Ask<'b>
-    ensures { told_by result ≡ call_text (act_by action.entry) user.now body.items }
+    ensures { reported_by result ≡ call_text (act_by action.entry) user.now body.items }
 {
     Ask::Call(Call { action, user, body })
 }
@@ -91,7 +93,7 @@ fn ask_after<'b, R: Source>(
     requires inside { IsRequestWithin buf.now headers.now spans }
     requires head { IsRequestOf buf.now headers.now spans }
     ensures asks { IfOk result (λ ask. IfSome (R.left reader.old)
-        (λ later. Asks limit (buf.now ++ later) (told_by ask))) }
+        (λ later. Asks limit (buf.now ++ later) (reported_by ask))) }
     ensures asked { result ≢ ErrOf Broken → (taken : List ℕ)
         × AskedFor (AwaitsBody limit) buf.now (R.pieces reader.old) (R.pieces reader.new) taken }
     ensures why { IfErr result (λ e. e ≡ Broken → (why : R.Failure) × R.IsFailure reader.new why) }
@@ -141,7 +143,7 @@ fn ask_within<'b, R: Source>(
     requires small { limit ≤ 4194304 }
     requires room { length buf.old ≡ 8192 }
     requires headers { length headers.old ≡ 32 }
-    ensures asks { IfOk result (λ ask. IfSome (R.left reader.old) (λ bytes. Asks limit bytes (told_by ask))) }
+    ensures asks { IfOk result (λ ask. IfSome (R.left reader.old) (λ bytes. Asks limit bytes (reported_by ask))) }
     ensures asked { result ≢ ErrOf Broken → (taken : List ℕ)
         × AskedFor (AwaitsMore limit) [] (R.pieces reader.old) (R.pieces reader.new) taken }
     ensures why { IfErr result (λ e. e ≡ Broken → (why : R.Failure) × R.IsFailure reader.new why) }
@@ -178,7 +180,8 @@ pub fn read_ask<'b, R: Source>(
     reader: &mut R,
     buf: &'b mut [u8; HEAD_BYTES],
 ) -> Result<Ask<'b>, AskFault>
-    ensures asks { IfOk result (λ ask. IfSome (R.left reader.old) (λ bytes. Asks body_limit bytes (told_by ask))) }
+    ensures asks { IfOk result (λ ask. IfSome (R.left reader.old) (λ bytes.
+        Asks body_limit bytes (reported_by ask))) }
     ensures asked { result ≢ ErrOf Broken → (taken : List ℕ)
         × AskedFor (AwaitsMore body_limit) [] (R.pieces reader.old) (R.pieces reader.new) taken }
     ensures one { TakenAfter [] (R.left reader.old) (R.left reader.new) (IsAtMostOne body_limit) }

@@ -1,9 +1,11 @@
 //! The forms of values: segments of a target, numbers, and words.
 
-ghost use Rattle.std.specs.Prelude.{◌≡◌, ◌≤◌, ◌&&◌, length, nat_lt, nat_le, bytes_eq, option_map, IfSome};
+ghost use Rattle.std.specs.Prelude.{◌≡◌, ◌≤◌, ◌&&◌, length, nat_lt, nat_le, bytes_eq, option_map};
+ghost use Rattle.std.specs.Prelude.{IfSome};
 ghost use Rattle.std.specs.List.{before_first, after_first, list_all};
 ghost use Rattle.std.specs.Char.{is_ascii_digit};
-ghost use Rattle.tb_http.specs.Forms.{is_slash, segment_of, is_number as is_number_text, name_of, number_of, base_of, context_of, port_of, requests_of, event_of, strategy_of, attribute_of};
+ghost use Rattle.tb_http.specs.Forms.{is_slash, segment_of, is_number as is_number_text, name_of, number_of, base_of};
+ghost use Rattle.tb_http.specs.Forms.{context_of, port_of, requests_of, event_of, strategy_of, attribute_of};
 
 use tb_core::Event;
 use tb_match::Strategy;
@@ -115,7 +117,8 @@ pub fn port_of(text: &str) -> Option<u16>
 
 /// 1 to 10 digits.
 fn is_short_numeral(text: &[u8]) -> bool
-    ensures { result ≡ nat_lt 0 (length text.now) && (nat_le (length text.now) 10 && list_all is_ascii_digit text.now) }
+    ensures { result ≡ nat_lt 0 (length text.now) &&
+        (nat_le (length text.now) 10 && list_all is_ascii_digit text.now) }
 {
     if text.is_empty() || text.len() > 10 {
         return false;

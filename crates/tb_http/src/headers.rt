@@ -1,13 +1,15 @@
 //! What the headers of a request say.
 
-ghost use Rattle.std.specs.Prelude.{◌≡◌, ◌<◌, ◌^◌, length, map, true, codes, Some, None, IfOk, OnErr, MatchResult, All, option_map};
+ghost use Rattle.std.specs.Prelude.{◌≡◌, ◌<◌, ◌^◌, length, map, true, codes, Some, None, IfOk, OnErr};
+ghost use Rattle.std.specs.Prelude.{MatchResult, All, option_map};
 ghost use Rattle.std.specs.Option.{option_copied, option_to_list};
 ghost use Rattle.std.specs.List.{list_all};
 ghost use Rattle.std.specs.Char.{is_ascii_digit};
 ghost use Rattle.std.specs.Str.Parse.{digits_value};
 ghost use Rattle.httparse.specs.Spans.{IsHeaderWithin, header_bytes};
 ghost use Rattle.tb_http.specs.Forms.{within};
-ghost use Rattle.tb_http.specs.Headers.{value_under, values_of, is_numeral as is_numeral_text, body_length as body_length_of, text_of, user_of};
+ghost use Rattle.tb_http.specs.Headers.{value_under, values_of, is_numeral as is_numeral_text};
+ghost use Rattle.tb_http.specs.Headers.{body_length as body_length_of, text_of, user_of};
 
 use crate::forms::all_digits;
 use httparse::spans::HeaderSpan;
@@ -87,7 +89,8 @@ pub fn body_length(
 ) -> Result<Option<usize>, BadLength>
     requires small { limit < 2 ^ 32 }
     requires inside { All (IsHeaderWithin (length buf.now)) headers.now }
-    ensures { MatchResult result (λ n. option_map (within limit) (body_length_of (map (header_bytes buf.now) headers.now)) ≡ Some n)
+    ensures { MatchResult result (λ n. option_map (within limit)
+        (body_length_of (map (header_bytes buf.now) headers.now)) ≡ Some n)
         (λ _. body_length_of (map (header_bytes buf.now) headers.now) ≡ None) }
 {
     let Ok(None) = value_of(buf, headers, b"Transfer-Encoding") else {

@@ -2,7 +2,7 @@
 use Rattle.std.proofs.Common.{◌≡◌, ◌+◌, ◌<◌, ◌≤◌, ◌↔◌, ◌⊎◌, ℕ, zero, suc, List, Option, Some, None, arith, sym, subst, inl, inr, ⊎_elim, refl}
 use Rattle.tb_match.specs.Bits.{InTable}
 use Rattle.tb_match.specs.Stays.{MayStay}
-use Rattle.tb_match.specs.declared.stay.Stay.TheVariants.{Allowed}
+use Rattle.tb_match.specs.declared.step.Step.TheVariants.{Optional}
 use Rattle.std.specs.Int.{bit_at}
 use Rattle.tb_match.specs.Facts.{Facts, Holds}
 use Rattle.tb_match.specs.Hits.{IsWord}
@@ -59,7 +59,7 @@ module _ (T : List ℕ) (w row last : ℕ) (t : Facts) (e : ℕ) (inside : (m j 
 
 -- a pattern M that is a word or nothing, or a run of words, after the places of a row
 module _ (T : List ℕ) (w row n : ℕ) (t : Facts) (e j : ℕ) (M : ℕ → ℕ → Type 0) where
-  pub stepped_match : ((k : ℕ) → M k j ↔ ((j ≡ k) ⊎ IsWord t e k j)) → Stepped T w row (MayStay Allowed) t e (n + 1) j ↔ ((k : ℕ) × (k ≤ n) × InTable T w row k × M k j)
+  pub stepped_match : ((k : ℕ) → M k j ↔ ((j ≡ k) ⊎ IsWord t e k j)) → Stepped T w row (MayStay Optional) t e (n + 1) j ↔ ((k : ℕ) × (k ≤ n) × InTable T w row k × M k j)
   stepped_match same = (
     λ (k, lt, r, s). (k, omega arith, r, (same k).1 (⊎_elim (λ a. inl a.1) (λ b. inr b) s)),
     λ (k, le, r, m). (k, omega arith, r, ⊎_elim (λ a. inl (tt, a)) (λ b. inr b) ((same k).0 m)),

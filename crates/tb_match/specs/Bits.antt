@@ -1,6 +1,7 @@
 -- Rows of bits, kept in words of 64 bits, and tables of such rows. The bit of place j is bit j % 64 of
 -- word j / 64 of its row.
-use Rattle.std.specs.Prelude.{◌≡◌, ℕ, zero, suc, ◌+◌, ◌*◌, ◌/◌, ◌%◌, ◌<◌, ◌≤◌, List, slice_index}
+use Rattle.std.specs.Prelude.{◌≡◌, ℕ, zero, suc, ◌+◌, ◌*◌, ◌/◌, ◌%◌, ◌<◌, ◌≤◌, List}
+use Rattle.std.specs.Prelude.{slice_index}
 use Rattle.std.specs.Int.{bit_at}
 use Rattle.tb_match.specs.Match.{Chain}
 
@@ -34,15 +35,18 @@ Within cells w last t i j = (k : ℕ) × (k ≤ t) × Chain (Link cells w last) 
 
 -- the rows from place `first` on have the row of each of their places
 abbrev pub IsClosed : List ℕ → ℕ → ℕ → ℕ → Type 0
-IsClosed cells w first last = (i k j : ℕ) → first ≤ i → i ≤ last → k ≤ last → j ≤ last → InTable cells w i k → InTable cells w k j → InTable cells w i j
+IsClosed cells w first last = (i k j : ℕ) → first ≤ i → i ≤ last → k ≤ last → j ≤ last
+    → InTable cells w i k → InTable cells w k j → InTable cells w i j
 
 -- each row has the links of each of its places
 abbrev pub HasLinksOf : List ℕ → List ℕ → ℕ → ℕ → Type 0
-HasLinksOf cells links w last = (i k j : ℕ) → i ≤ last → k ≤ last → InTable cells w i k → Link links w last k j → InTable cells w i j
+HasLinksOf cells links w last = (i k j : ℕ) → i ≤ last → k ≤ last → InTable cells w i k
+    → Link links w last k j → InTable cells w i j
 
 -- the row has the row of the table of each of its places
 abbrev pub HasRowsOf : List ℕ → List ℕ → ℕ → ℕ → Type 0
-HasRowsOf row cells w last = (k j : ℕ) → k ≤ last → j ≤ last → InRow row 0 k → InTable cells w k j → InRow row 0 j
+HasRowsOf row cells w last = (k j : ℕ) → k ≤ last → j ≤ last → InRow row 0 k → InTable cells w k j
+    → InRow row 0 j
 
 -- the numbers from 1 to n added up: how many pairs i ≤ j there are of n places
 abbrev pub triangle : ℕ → ℕ

@@ -1,8 +1,8 @@
 -- Steps over one word that may also stay at their place.
-use Rattle.tb_match.specs.declared.stay.Stay.{Stay}
-use Rattle.tb_match.specs.declared.stay.Stay.TheVariants.{Allowed, Barred}
+use Rattle.tb_match.specs.declared.step.Step.{Step}
+use Rattle.tb_match.specs.declared.step.Step.TheVariants.{Optional, Required}
 
 -- a step may stay at its place
-abbrev pub MayStay : Stay → Type 0
-MayStay Allowed = Unit {0}
-MayStay Barred = ⊥
+abbrev pub MayStay : Step → Type 0
+MayStay Optional = Unit {0}
+MayStay Required = ⊥

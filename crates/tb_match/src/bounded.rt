@@ -1,6 +1,7 @@
 //! Chains of at most so many links: from each place, turn by turn, the links of the places that are new.
 
-ghost use Rattle.std.specs.Prelude.{◌≡◌, ◌+◌, ◌-◌, ◌*◌, ◌/◌, ◌<◌, ◌≤◌, ◌^◌, ◌↔◌, ◌⊎◌, ◌≢◌, ℕ, IsTrue, length};
+ghost use Rattle.std.specs.Prelude.{◌≡◌, ◌+◌, ◌-◌, ◌*◌, ◌/◌, ◌<◌, ◌≤◌, ◌^◌};
+ghost use Rattle.std.specs.Prelude.{◌↔◌, ◌⊎◌, ◌≢◌, ℕ, IsTrue, length};
 ghost use Rattle.tb_match.specs.Bits.{InRow, InTable, IsForward, Link, Within, triangle};
 ghost use Rattle.tb_match.specs.Match.{Chain};
 
@@ -28,9 +29,11 @@ fn follow(
     requires order { first ≤ shape.last }
     requires countable { steps.old + (shape.last + 1 - first) < 2 ^ 64 }
     ensures only { (j : ℕ) → j ≤ shape.last → InRow row.new 0 j →
-        (InRow row.old 0 j ⊎ ((k : ℕ) × (k ≤ shape.last) × InRow before.now 0 k × InTable links.now shape.width k j)) }
+        (InRow row.old 0 j ⊎ ((k : ℕ) × (k ≤ shape.last) × InRow before.now 0 k
+        × InTable links.now shape.width k j)) }
     ensures kept { (j : ℕ) → j ≤ shape.last → InRow row.old 0 j → InRow row.new 0 j }
-    ensures followed { (k j : ℕ) → first ≤ k → k ≤ shape.last → j ≤ shape.last → InRow before.now 0 k →
+    ensures followed { (k j : ℕ) → first ≤ k → k ≤ shape.last → j ≤ shape.last
+        → InRow before.now 0 k →
         InTable links.now shape.width k j → (InRow done.now 0 k ⊎ InRow row.new 0 j) }
     ensures more { steps.old ≤ steps.new }
     ensures bound { steps.new ≤ steps.old + (shape.last + 1 - first) }
@@ -61,10 +64,13 @@ fn extend(
     requires order { first ≤ shape.last }
     requires countable { steps.old + (shape.last + 1 - first) < 2 ^ 64 }
     requires from { (k : ℕ) → k ≤ shape.last → InRow row.old 0 k → first ≤ k }
-    requires followed { (k j : ℕ) → k ≤ shape.last → j ≤ shape.last → InRow done.old 0 k → InTable links.now shape.width k j → InRow row.old 0 j }
+    requires followed { (k j : ℕ) → k ≤ shape.last → j ≤ shape.last → InRow done.old 0 k
+        → InTable links.now shape.width k j → InRow row.old 0 j }
     ensures extended { (j : ℕ) → j ≤ shape.last → (InRow row.new 0 j ↔
-        (InRow row.old 0 j ⊎ ((k : ℕ) × (k ≤ shape.last) × InRow row.old 0 k × InTable links.now shape.width k j))) }
-    ensures followed { (k j : ℕ) → k ≤ shape.last → j ≤ shape.last → InRow done.new 0 k → InTable links.now shape.width k j → InRow row.new 0 j }
+        (InRow row.old 0 j ⊎ ((k : ℕ) × (k ≤ shape.last) × InRow row.old 0 k
+        × InTable links.now shape.width k j))) }
+    ensures followed { (k j : ℕ) → k ≤ shape.last → j ≤ shape.last → InRow done.new 0 k
+        → InTable links.now shape.width k j → InRow row.new 0 j }
     ensures more { steps.old ≤ steps.new }
     ensures bound { steps.new ≤ steps.old + (shape.last + 1 - first) }
 {
@@ -101,10 +107,12 @@ fn limit_row(
     requires links { length links.now ≡ (shape.last + 1) * shape.width }
     requires order { place ≤ shape.last }
     requires forward { IsForward links.now shape.width shape.last }
-    requires closed { (j : ℕ) → j ≤ shape.last → (InRow closed.now 0 j ↔ ((k : ℕ) × Chain (Link links.now shape.width shape.last) k place j)) }
+    requires closed { (j : ℕ) → j ≤ shape.last → (InRow closed.now 0 j
+        ↔ ((k : ℕ) × Chain (Link links.now shape.width shape.last) k place j)) }
     requires countable { steps.old + times * (shape.last + 1 - place) < 2 ^ 64 }
-    ensures row { (j : ℕ) → j ≤ shape.last → (InRow row.new 0 j ↔ Within links.now shape.width shape.last times place j) }
-    ensures same { IsTrue result → row.new ≡ closed.now }
+    ensures row { (j : ℕ) → j ≤ shape.last → (InRow row.new 0 j
+        ↔ Within links.now shape.width shape.last times place j) }
+    ensures unchanged { IsTrue result → row.new ≡ closed.now }
     ensures more { steps.old ≤ steps.new }
     ensures bound { steps.new ≤ steps.old + times * (shape.last + 1 - place) }
 {
@@ -139,11 +147,15 @@ fn limit_place(
     requires table { length table.old ≡ (shape.last + 1) * shape.width }
     requires order { place ≤ shape.last }
     requires forward { IsForward links.now shape.width shape.last }
-    requires closed { (j : ℕ) → j ≤ shape.last → (InTable table.old shape.width place j ↔ ((k : ℕ) × Chain (Link links.now shape.width shape.last) k place j)) }
+    requires closed { (j : ℕ) → j ≤ shape.last → (InTable table.old shape.width place j
+        ↔ ((k : ℕ) × Chain (Link links.now shape.width shape.last) k place j)) }
     requires countable { steps.old + times * (shape.last + 1 - place) < 2 ^ 64 }
-    ensures row { (j : ℕ) → j ≤ shape.last → (InTable table.new shape.width place j ↔ Within links.now shape.width shape.last times place j) }
-    ensures same { IsTrue result → (j : ℕ) → j ≤ shape.last → (InTable table.new shape.width place j ↔ InTable table.old shape.width place j) }
-    ensures others { (i j : ℕ) → i ≢ place → j ≤ shape.last → (InTable table.new shape.width i j ↔ InTable table.old shape.width i j) }
+    ensures row { (j : ℕ) → j ≤ shape.last → (InTable table.new shape.width place j
+        ↔ Within links.now shape.width shape.last times place j) }
+    ensures unchanged { IsTrue result → (j : ℕ) → j ≤ shape.last → (InTable table.new shape.width place j
+        ↔ InTable table.old shape.width place j) }
+    ensures others { (i j : ℕ) → i ≢ place → j ≤ shape.last → (InTable table.new shape.width i j
+        ↔ InTable table.old shape.width i j) }
     ensures more { steps.old ≤ steps.new }
     ensures bound { steps.new ≤ steps.old + times * (shape.last + 1 - place) }
 {
@@ -173,10 +185,13 @@ fn limit_places(
     requires links { length links.now ≡ (shape.last + 1) * shape.width }
     requires table { length table.old ≡ (shape.last + 1) * shape.width }
     requires forward { IsForward links.now shape.width shape.last }
-    requires closed { (i j : ℕ) → i ≤ shape.last → j ≤ shape.last → (InTable table.old shape.width i j ↔ ((k : ℕ) × Chain (Link links.now shape.width shape.last) k i j)) }
+    requires closed { (i j : ℕ) → i ≤ shape.last → j ≤ shape.last → (InTable table.old shape.width i j
+        ↔ ((k : ℕ) × Chain (Link links.now shape.width shape.last) k i j)) }
     requires countable { steps.old + times * triangle (shape.last + 1) < 2 ^ 64 }
-    ensures rows { (i j : ℕ) → i ≤ shape.last → j ≤ shape.last → (InTable table.new shape.width i j ↔ Within links.now shape.width shape.last times i j) }
-    ensures same { IsTrue result → (i j : ℕ) → i ≤ shape.last → j ≤ shape.last → (InTable table.new shape.width i j ↔ InTable table.old shape.width i j) }
+    ensures rows { (i j : ℕ) → i ≤ shape.last → j ≤ shape.last → (InTable table.new shape.width i j
+        ↔ Within links.now shape.width shape.last times i j) }
+    ensures unchanged { IsTrue result → (i j : ℕ) → i ≤ shape.last → j ≤ shape.last
+        → (InTable table.new shape.width i j ↔ InTable table.old shape.width i j) }
     ensures more { steps.old ≤ steps.new }
     ensures bound { steps.new ≤ steps.old + times * triangle (shape.last + 1) }
 {
@@ -203,10 +218,13 @@ pub(crate) fn limit(
     requires links { length links.now ≡ (shape.last + 1) * shape.width }
     requires table { length table.old ≡ (shape.last + 1) * shape.width }
     requires forward { IsForward links.now shape.width shape.last }
-    requires closed { (i j : ℕ) → i ≤ shape.last → j ≤ shape.last → (InTable table.old shape.width i j ↔ ((k : ℕ) × Chain (Link links.now shape.width shape.last) k i j)) }
+    requires closed { (i j : ℕ) → i ≤ shape.last → j ≤ shape.last → (InTable table.old shape.width i j
+        ↔ ((k : ℕ) × Chain (Link links.now shape.width shape.last) k i j)) }
     requires countable { steps.old + times * triangle (shape.last + 1) < 2 ^ 64 }
-    ensures rows { (i j : ℕ) → i ≤ shape.last → j ≤ shape.last → (InTable table.new shape.width i j ↔ Within links.now shape.width shape.last times i j) }
-    ensures same { IsTrue result → (i j : ℕ) → i ≤ shape.last → j ≤ shape.last → (InTable table.new shape.width i j ↔ InTable table.old shape.width i j) }
+    ensures rows { (i j : ℕ) → i ≤ shape.last → j ≤ shape.last → (InTable table.new shape.width i j
+        ↔ Within links.now shape.width shape.last times i j) }
+    ensures unchanged { IsTrue result → (i j : ℕ) → i ≤ shape.last → j ≤ shape.last
+        → (InTable table.new shape.width i j ↔ InTable table.old shape.width i j) }
     ensures more { steps.old ≤ steps.new }
     ensures bound { steps.new ≤ steps.old + times * triangle (shape.last + 1) }
 {
@@ -241,7 +259,8 @@ fn leave_place(table: &mut [u64], links: &[u64], shape: Shape, place: usize)
     requires order { place ≤ shape.last }
     ensures row { (j : ℕ) → j ≤ shape.last → (InTable table.new shape.width place j ↔
         (InTable table.old shape.width place j × ((j ≢ place) ⊎ InTable links.now shape.width place place))) }
-    ensures others { (i j : ℕ) → i ≢ place → j ≤ shape.last → (InTable table.new shape.width i j ↔ InTable table.old shape.width i j) }
+    ensures others { (i j : ℕ) → i ≢ place → j ≤ shape.last → (InTable table.new shape.width i j
+        ↔ InTable table.old shape.width i j) }
 {
     if next_place(links, place * shape.width, place, place) > place {
         remove(&mut table[shape.row(place)], place);

@@ -1,7 +1,8 @@
 //! Links put before a table many times, as the least number of a repetition asks: turn by turn, or, where
 //! links are many, by links that lead two, four and more at once.
 
-ghost use Rattle.std.specs.Prelude.{◌≡◌, ◌+◌, ◌-◌, ◌*◌, ◌<◌, ◌≤◌, ◌^◌, ◌↔◌, ◌≢◌, ℕ, IsTrue, length};
+ghost use Rattle.std.specs.Prelude.{◌≡◌, ◌+◌, ◌-◌, ◌*◌, ◌<◌, ◌≤◌, ◌^◌, ◌↔◌};
+ghost use Rattle.std.specs.Prelude.{◌≢◌, ℕ, IsTrue, length};
 ghost use Rattle.tb_match.specs.Bits.{InTable, IsClosed, IsForward, HasLinksOf, Link, Repeated, Through, triangle};
 ghost use Rattle.tb_match.specs.Match.{Chain};
 
@@ -91,7 +92,8 @@ fn take_turn(
     requires forward { IsTrue closed → IsForward table.old shape.width shape.last }
     ensures fewer { result < left }
     ensures rows { (i j : ℕ) → i ≤ shape.last → j ≤ shape.last →
-        (Repeated links.new table.new shape.width shape.last result i j ↔ Repeated links.old table.old shape.width shape.last left i j) }
+        (Repeated links.new table.new shape.width shape.last result i j
+        ↔ Repeated links.old table.old shape.width shape.last left i j) }
     ensures onward { IsForward links.new shape.width shape.last }
     ensures chained { IsTrue double → IsTrue closed → IsClosed links.new shape.width 0 shape.last }
     ensures closed { IsTrue closed → IsClosed table.new shape.width 0 shape.last }
@@ -133,9 +135,11 @@ fn prepare(links: &mut [u64], table: &[u64], shape: Shape, times: usize, closed:
     requires linked { IsTrue closed → HasLinksOf table.now links.old shape.width shape.last }
     requires forward { IsTrue closed → IsForward table.now shape.width shape.last }
     requires chains { IsTrue closed → 1 < times → (i j : ℕ) → i ≤ shape.last → j ≤ shape.last →
-        (InTable table.now shape.width i j ↔ ((k : ℕ) × (1 ≤ k) × Chain (Link links.old shape.width shape.last) k i j)) }
+        (InTable table.now shape.width i j ↔ ((k : ℕ) × (1 ≤ k)
+        × Chain (Link links.old shape.width shape.last) k i j)) }
     ensures rows { (n i j : ℕ) → i ≤ shape.last → j ≤ shape.last →
-        (Repeated links.new table.now shape.width shape.last n i j ↔ Repeated links.old table.now shape.width shape.last n i j) }
+        (Repeated links.new table.now shape.width shape.last n i j
+        ↔ Repeated links.old table.now shape.width shape.last n i j) }
     ensures onward { IsForward links.new shape.width shape.last }
     ensures chained { IsTrue result → IsTrue closed → IsClosed links.new shape.width 0 shape.last }
     ensures linked { IsTrue closed → HasLinksOf table.now links.new shape.width shape.last }
@@ -170,7 +174,8 @@ pub(crate) fn repeat(
     requires linked { IsTrue closed → HasLinksOf table.old links.old shape.width shape.last }
     requires forward { IsTrue closed → IsForward table.old shape.width shape.last }
     requires chains { IsTrue closed → 1 < times → (i j : ℕ) → i ≤ shape.last → j ≤ shape.last →
-        (InTable table.old shape.width i j ↔ ((k : ℕ) × (1 ≤ k) × Chain (Link links.old shape.width shape.last) k i j)) }
+        (InTable table.old shape.width i j ↔ ((k : ℕ) × (1 ≤ k)
+        × Chain (Link links.old shape.width shape.last) k i j)) }
     ensures rows { (i j : ℕ) → i ≤ shape.last → j ≤ shape.last →
         (InTable table.new shape.width i j ↔ Repeated links.old table.old shape.width shape.last times i j) }
     ensures more { steps.old ≤ steps.new }

@@ -11,7 +11,7 @@ mod pattern;
 mod possible;
 mod relation;
 mod shape;
-mod stay;
+mod step;
 mod strategy;
 mod table;
 mod token;

@@ -1,14 +1,15 @@
 //! Rows of one machine word, as sentences of fewer than 64 words have them: all places of a row
 //! step over a word at once, and links are chained in their own table.
 
-ghost use Rattle.std.specs.Prelude.{◌≡◌, ◌+◌, ◌-◌, ◌^◌, ◌<◌, ◌≤◌, ◌≢◌, ◌↔◌, ◌⊎◌, ℕ, length};
+ghost use Rattle.std.specs.Prelude.{◌≡◌, ◌+◌, ◌-◌, ◌^◌, ◌<◌, ◌≤◌, ◌≢◌, ◌↔◌};
+ghost use Rattle.std.specs.Prelude.{◌⊎◌, ℕ, length};
 ghost use Rattle.std.specs.Int.{bit_at};
 ghost use Rattle.tb_match.specs.Bits.{InRow, InTable, Link, triangle};
 ghost use Rattle.tb_match.specs.Facts.{Holds};
 ghost use Rattle.tb_match.specs.Match.{Chain};
 ghost use Rattle.tb_match.specs.Stays.{MayStay};
 
-use crate::stay::Stay;
+use crate::step::Step;
 use crate::truth::Truth;
 use crate::uniting::unite;
 use crate::walk::bits_from;
@@ -40,15 +41,15 @@ pub(crate) fn ends_of(expr: u16, truth: &Truth) -> u64
 /// The places one word further on, where a word may end there; also the row's own where a step
 /// may stay.
 #[inline(always)]
-fn step_word(row: u64, ends: u64, stay: Stay) -> u64
+fn step_word(row: u64, ends: u64, stay: Step) -> u64
     ensures places { (j : ℕ) → j < 64 → ((bit_at result j ≡ 1) ↔ ((MayStay stay × (bit_at row j ≡ 1)) ⊎
         ((k : ℕ) × (j ≡ k + 1) × (bit_at row k ≡ 1) × (bit_at ends j ≡ 1)))) }
     ensures grows { MayStay stay → row ≤ result }
 {
     let next = row << 1 & ends;
     match stay {
-        Stay::Allowed => row | next,
-        Stay::Barred => next,
+        Step::Optional => row | next,
+        Step::Required => next,
     }
 }
 
@@ -59,16 +60,16 @@ fn run_word(row: u64, ends: u64) -> u64
         ((n : ℕ) × Chain (λ a b. (b ≡ a + 1) × (bit_at ends b ≡ 1)) n k j))) }
 {
     let mut all = row;
-    let mut next = step_word(row, ends, Stay::Allowed);
+    let mut next = step_word(row, ends, Step::Optional);
     while next != all {
         all = next;
-        next = step_word(all, ends, Stay::Allowed);
+        next = step_word(all, ends, Step::Optional);
     }
     all
 }
 
 /// Makes each row its places one word further on; and its own too where a step may stay.
-pub(crate) fn step_words(table: &mut [u64], ends: u64, stay: Stay)
+pub(crate) fn step_words(table: &mut [u64], ends: u64, stay: Step)
     ensures rows { (i j : ℕ) → i < length table.old → j < 64 → (InTable table.new 1 i j ↔
         ((MayStay stay × InTable table.old 1 i j) ⊎
         ((k : ℕ) × (j ≡ k + 1) × InTable table.old 1 i k × (bit_at ends j ≡ 1)))) }
@@ -102,7 +103,8 @@ pub(crate) fn without_place(bits: u64, place: usize) -> u64
 /// The bits, without those of the other word.
 #[inline(always)]
 fn without(bits: u64, known: u64) -> u64
-    ensures places { (j : ℕ) → j < 64 → ((bit_at result j ≡ 1) ↔ ((bit_at bits j ≡ 1) × (bit_at known j ≡ 1 → ⊥))) }
+    ensures places { (j : ℕ) → j < 64 → ((bit_at result j ≡ 1) ↔ ((bit_at bits j ≡ 1)
+        × (bit_at known j ≡ 1 → ⊥))) }
     ensures shrinks { result ≤ bits }
 {
     bits & !known
@@ -134,7 +136,8 @@ fn unite_word(row: &mut [u64], table: &[u64], place: usize, steps: &mut u64)
     requires one { length row.old ≡ 1 }
     requires inside { place < length table.now }
     requires countable { steps.old + 1 < 2 ^ 64 }
-    ensures united { (j : ℕ) → j < 64 → (InRow row.new 0 j ↔ (InRow row.old 0 j ⊎ InTable table.now 1 place j)) }
+    ensures united { (j : ℕ) → j < 64 → (InRow row.new 0 j ↔ (InRow row.old 0 j
+        ⊎ InTable table.now 1 place j)) }
     ensures counted { steps.new ≡ steps.old + 1 }
 {
     unite(row, &table[place..place + 1], steps);
@@ -151,7 +154,8 @@ fn chained_word(table: &[u64], place: usize, last: usize, steps: &mut u64) -> u6
     requires countable { steps.old + (last + 1 - place) < 2 ^ 64 }
     requires closed { (i k j : ℕ) → place < i → i ≤ last → k ≤ last → j ≤ last →
         InTable table.now 1 i k → InTable table.now 1 k j → InTable table.now 1 i j }
-    ensures places { (j : ℕ) → j ≤ last → ((bit_at result j ≡ 1) ↔ (((place ≤ j) × InTable table.now 1 place j) ⊎
+    ensures places { (j : ℕ) → j ≤ last → ((bit_at result j ≡ 1)
+        ↔ (((place ≤ j) × InTable table.now 1 place j) ⊎
         ((k : ℕ) × (place < k) × (k ≤ last) × InTable table.now 1 place k × InTable table.now 1 k j))) }
     ensures more { steps.old ≤ steps.new }
     ensures bound { steps.new ≤ steps.old + (last + 1 - place) }

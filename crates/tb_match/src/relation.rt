@@ -1,6 +1,7 @@
 //! The relation of a pattern as a table of bit rows.
 
-ghost use Rattle.std.specs.Prelude.{◌≡◌, ◌+◌, ◌-◌, ◌*◌, ◌<◌, ◌≤◌, ◌^◌, ◌↔◌, ◌⊎◌, ℕ, IfOk, IsTrue, length, None};
+ghost use Rattle.std.specs.Prelude.{◌≡◌, ◌+◌, ◌-◌, ◌*◌, ◌<◌, ◌≤◌, ◌^◌, ◌↔◌};
+ghost use Rattle.std.specs.Prelude.{◌⊎◌, ℕ, IfOk, IsTrue, length, None};
 ghost use Rattle.tb_match.specs.Bits.{InTable, IsForward, Link, triangle};
 ghost use Rattle.tb_match.specs.Match.{AnyOf, Chain, EachInTurn, IsAtMost, Match};
 ghost use Rattle.tb_match.specs.Trees.{tree, trees};
@@ -13,7 +14,7 @@ use crate::doubling::repeat;
 use crate::narrow::chain_words;
 use crate::pattern::Pat;
 use crate::shape::Shape;
-use crate::stay::Stay;
+use crate::step::Step;
 use crate::table::{close, compose, diagonal, empty, mark, merge};
 use crate::token::{
     optional_token_of, optional_token_rows, run_on, short_run_of, step_over, token_of,
@@ -54,7 +55,7 @@ fn token_rows(alloc: Global, expr: u16, truth: &Truth, shape: Shape) -> Result<V
 {
     if shape.width == 1 {
         let places = diagonal(alloc, shape)?;
-        return step_over(alloc, places, expr, truth, shape, Stay::Barred);
+        return step_over(alloc, places, expr, truth, shape, Step::Required);
     }
     marked_rows(alloc, expr, truth, shape)
 }
@@ -81,11 +82,15 @@ fn further(
     requires countable { steps.old + turns bounds.least bounds.most * triangle (shape.last + 1) < 2 ^ 64 }
     ensures whole { IfOk result (λ v. length v.rows.items ≡ (shape.last + 1) * shape.width) }
     ensures rows { IfOk result (λ v. (i j : ℕ) → i ≤ shape.last → j ≤ shape.last →
-        (InTable v.rows.items shape.width i j ↔ ((k : ℕ) × IsAtMost (bounds.least + k) bounds.most × Chain (Link links.now shape.width shape.last) k i j))) }
-    ensures unlimited { IfOk result (λ v. IsTrue v.unlimited → (i j : ℕ) → i ≤ shape.last → j ≤ shape.last →
-        (InTable v.rows.items shape.width i j ↔ ((k : ℕ) × IsAtMost (bounds.least + k) None × Chain (Link links.now shape.width shape.last) k i j))) }
+        (InTable v.rows.items shape.width i j ↔ ((k : ℕ) × IsAtMost (bounds.least + k) bounds.most
+        × Chain (Link links.now shape.width shape.last) k i j))) }
+    ensures unlimited { IfOk result (λ v. IsTrue v.unlimited → (i j : ℕ) → i ≤ shape.last
+        → j ≤ shape.last →
+        (InTable v.rows.items shape.width i j ↔ ((k : ℕ) × IsAtMost (bounds.least + k) None
+        × Chain (Link links.now shape.width shape.last) k i j))) }
     ensures more { steps.old ≤ steps.new }
-    ensures bound { steps.new + bounds.least * triangle (shape.last + 1) ≤ steps.old + turns bounds.least bounds.most * triangle (shape.last + 1) }
+    ensures bound { steps.new + bounds.least * triangle
+        (shape.last + 1) ≤ steps.old + turns bounds.least bounds.most * triangle (shape.last + 1) }
 {
     let mut rows = empty(alloc, shape)?;
     close(links, &mut rows, spare, shape, steps);
@@ -115,11 +120,15 @@ fn begun(
     requires countable { steps.old + turns bounds.least bounds.most * triangle (shape.last + 1) < 2 ^ 64 }
     ensures whole { IfOk result (λ v. length v.rows.items ≡ (shape.last + 1) * shape.width) }
     ensures rows { IfOk result (λ v. (i j : ℕ) → i ≤ shape.last → j ≤ shape.last →
-        (InTable v.rows.items shape.width i j ↔ ((k : ℕ) × (bounds.least ≤ bounds.least - 1 + k) × IsAtMost (bounds.least - 1 + k) bounds.most × Chain (Link links.now shape.width shape.last) k i j))) }
-    ensures unlimited { IfOk result (λ v. IsTrue v.unlimited → (i j : ℕ) → i ≤ shape.last → j ≤ shape.last →
-        (InTable v.rows.items shape.width i j ↔ ((k : ℕ) × (bounds.least ≤ bounds.least - 1 + k) × IsAtMost (bounds.least - 1 + k) None × Chain (Link links.now shape.width shape.last) k i j))) }
+        (InTable v.rows.items shape.width i j ↔ ((k : ℕ) × (bounds.least ≤ bounds.least - 1 + k)
+        × IsAtMost (bounds.least - 1 + k) bounds.most × Chain (Link links.now shape.width shape.last) k i j))) }
+    ensures unlimited { IfOk result (λ v. IsTrue v.unlimited → (i j : ℕ) → i ≤ shape.last
+        → j ≤ shape.last →
+        (InTable v.rows.items shape.width i j ↔ ((k : ℕ) × (bounds.least ≤ bounds.least - 1 + k)
+        × IsAtMost (bounds.least - 1 + k) None × Chain (Link links.now shape.width shape.last) k i j))) }
     ensures more { steps.old ≤ steps.new }
-    ensures bound { steps.new + (bounds.least - 1) * triangle (shape.last + 1) ≤ steps.old + turns bounds.least bounds.most * triangle (shape.last + 1) }
+    ensures bound { steps.new + (bounds.least - 1) * triangle
+        (shape.last + 1) ≤ steps.old + turns bounds.least bounds.most * triangle (shape.last + 1) }
 {
     if bounds.least == 0 {
         return further(alloc, links, bounds, spare, shape, steps);
@@ -151,7 +160,8 @@ fn swept(
     requires countable { steps.old + turns bounds.least bounds.most * triangle (shape.last + 1) < 2 ^ 64 }
     ensures whole { IfOk result (λ v. length v.items ≡ (shape.last + 1) * shape.width) }
     ensures rows { IfOk result (λ v. (i j : ℕ) → i ≤ shape.last → j ≤ shape.last →
-        (InTable v.items shape.width i j ↔ ((k : ℕ) × (bounds.least ≤ k) × IsAtMost k bounds.most × Chain (Link links.old shape.width shape.last) k i j))) }
+        (InTable v.items shape.width i j ↔ ((k : ℕ) × (bounds.least ≤ k) × IsAtMost k bounds.most
+        × Chain (Link links.old shape.width shape.last) k i j))) }
     ensures more { steps.old ≤ steps.new }
     ensures bound { steps.new ≤ steps.old + turns bounds.least bounds.most * triangle (shape.last + 1) }
 {
@@ -182,7 +192,7 @@ fn all_stay(links: &[u64], shape: Shape) -> bool
 fn least_needed(links: &[u64], least: u8, shape: Shape) -> u8
     requires links { length links.now ≡ (shape.last + 1) * shape.width }
     ensures fewer { result ≤ least }
-    ensures same { (result ≡ least) ⊎ ((i : ℕ) → i ≤ shape.last → InTable links.now shape.width i i) }
+    ensures unchanged { (result ≡ least) ⊎ ((i : ℕ) → i ≤ shape.last → InTable links.now shape.width i i) }
 {
     if least > 1 && all_stay(links, shape) {
         0
@@ -214,7 +224,8 @@ fn repetition(
     requires countable { steps.old + turns bounds.least bounds.most * triangle (shape.last + 1) < 2 ^ 64 }
     ensures whole { IfOk result (λ v. length v.items ≡ (shape.last + 1) * shape.width) }
     ensures rows { IfOk result (λ v. (i j : ℕ) → i ≤ shape.last → j ≤ shape.last →
-        (InTable v.items shape.width i j ↔ ((k : ℕ) × (bounds.least ≤ k) × IsAtMost k bounds.most × Chain (Link links.items shape.width shape.last) k i j))) }
+        (InTable v.items shape.width i j ↔ ((k : ℕ) × (bounds.least ≤ k) × IsAtMost k bounds.most
+        × Chain (Link links.items shape.width shape.last) k i j))) }
     ensures more { steps.old ≤ steps.new }
     ensures bound { steps.new ≤ steps.old + turns bounds.least bounds.most * triangle (shape.last + 1) }
 {
@@ -276,20 +287,22 @@ fn followed(
     requires words { shape.last ≡ truth.now.words }
     requires spare { length spare.old ≡ shape.width }
     requires table { length table.items ≡ (truth.now.words + 1) * shape.width }
-    requires forward { (i j : ℕ) → i ≤ truth.now.words → j ≤ truth.now.words → InTable table.items shape.width i j → i ≤ j }
+    requires forward { (i j : ℕ) → i ≤ truth.now.words → j ≤ truth.now.words
+        → InTable table.items shape.width i j → i ≤ j }
     requires countable { steps.old + (weight_of (tree part.now) + 1) * triangle (truth.now.words + 1) < 2 ^ 64 }
     ensures whole { IfOk result (λ v. length v.items ≡ (truth.now.words + 1) * shape.width) }
     ensures rows { IfOk result (λ v. (i j : ℕ) → i ≤ truth.now.words → j ≤ truth.now.words →
         (InTable v.items shape.width i j ↔
-        ((k : ℕ) × (k ≤ truth.now.words) × InTable table.items shape.width i k × Match (Holds truth.now) (tree part.now) k j))) }
+        ((k : ℕ) × (k ≤ truth.now.words) × InTable table.items shape.width i k
+        × Match (Holds truth.now) (tree part.now) k j))) }
     ensures more { steps.old ≤ steps.new }
     ensures bound { steps.new ≤ steps.old + (weight_of (tree part.now) + 1) * triangle (truth.now.words + 1) }
 {
     if let Some(expr) = token_of(part) {
-        return step_over(alloc, table, expr, truth, shape, Stay::Barred);
+        return step_over(alloc, table, expr, truth, shape, Step::Required);
     }
     if let Some(expr) = optional_token_of(part) {
-        return step_over(alloc, table, expr, truth, shape, Stay::Allowed);
+        return step_over(alloc, table, expr, truth, shape, Step::Optional);
     }
     if let Some(expr) = short_run_of(part, truth) {
         run_on(&mut table, expr, truth, shape);

@@ -1,6 +1,7 @@
 //! Tables of bit rows, one after the other in one slice.
 
-ghost use Rattle.std.specs.Prelude.{◌≡◌, ◌+◌, ◌-◌, ◌*◌, ◌/◌, ◌<◌, ◌≤◌, ◌^◌, ◌↔◌, ◌⊎◌, ◌≢◌, ℕ, IsTrue, IfOk, length};
+ghost use Rattle.std.specs.Prelude.{◌≡◌, ◌+◌, ◌-◌, ◌*◌, ◌/◌, ◌<◌, ◌≤◌, ◌^◌};
+ghost use Rattle.std.specs.Prelude.{◌↔◌, ◌⊎◌, ◌≢◌, ℕ, IsTrue, IfOk, length};
 ghost use Rattle.tb_match.specs.Bits.{InRow, InTable, Through, Link, IsClosed, IsForward, HasRowsOf, triangle};
 ghost use Rattle.tb_match.specs.Match.{Chain};
 
@@ -34,7 +35,8 @@ fn gather(
     requires order { first ≤ shape.last }
     requires countable { steps.old + (shape.last + 1 - first) < 2 ^ 64 }
     ensures united { (j : ℕ) → j ≤ shape.last →
-        (InRow spare.new 0 j ↔ (InRow spare.old 0 j ⊎ Through links.now table.now shape.width first (shape.last + 1) j)) }
+        (InRow spare.new 0 j ↔ (InRow spare.old 0 j
+        ⊎ Through links.now table.now shape.width first (shape.last + 1) j)) }
     ensures more { steps.old ≤ steps.new }
     ensures bound { steps.new ≤ steps.old + (shape.last + 1 - first) }
 {
@@ -65,7 +67,8 @@ fn gather_closed(
     requires closed { IsClosed table.now shape.width first shape.last }
     requires whole { HasRowsOf spare.old table.now shape.width shape.last }
     ensures united { (j : ℕ) → j ≤ shape.last →
-        (InRow spare.new 0 j ↔ (InRow spare.old 0 j ⊎ Through links.now table.now shape.width first (shape.last + 1) j)) }
+        (InRow spare.new 0 j ↔ (InRow spare.old 0 j
+        ⊎ Through links.now table.now shape.width first (shape.last + 1) j)) }
     ensures more { steps.old ≤ steps.new }
     ensures bound { steps.new ≤ steps.old + (shape.last + 1 - first) }
 {
@@ -111,7 +114,8 @@ pub(crate) fn mark(table: &mut [u64], shape: Shape, row: usize, place: usize)
 #[inline(always)]
 pub(crate) fn store(table: &mut [u64], row: &[u64], place: usize)
     requires { place * length row.now + length row.now ≤ length table.old }
-    ensures stored { (j : ℕ) → j / 64 < length row.now → (InTable table.new (length row.now) place j ↔ InRow row.now 0 j) }
+    ensures stored { (j : ℕ) → j / 64 < length row.now → (InTable table.new (length row.now) place j
+        ↔ InRow row.now 0 j) }
     ensures others { (i j : ℕ) → i ≢ place → j / 64 < length row.now →
         (InTable table.new (length row.now) i j ↔ InTable table.old (length row.now) i j) }
 {
@@ -212,7 +216,8 @@ fn set_closed_row(
     requires closed { IsClosed table.old shape.width place shape.last }
     requires empty { (j : ℕ) → j ≤ shape.last → InTable table.old shape.width place j → ⊥ }
     ensures row { (j : ℕ) → j ≤ shape.last →
-        (InTable table.new shape.width place j ↔ ((j ≡ place) ⊎ Through links.now table.old shape.width place (shape.last + 1) j)) }
+        (InTable table.new shape.width place j ↔ ((j ≡ place)
+        ⊎ Through links.now table.old shape.width place (shape.last + 1) j)) }
     ensures others { (i j : ℕ) → i ≢ place → j ≤ shape.last →
         (InTable table.new shape.width i j ↔ InTable table.old shape.width i j) }
     ensures more { steps.old ≤ steps.new }
@@ -268,7 +273,8 @@ pub(crate) fn close(
     requires spare { length spare.old ≡ shape.width }
     requires links { length links.now ≡ (shape.last + 1) * shape.width }
     requires table { length table.old ≡ (shape.last + 1) * shape.width }
-    requires empty { (i j : ℕ) → i ≤ shape.last → j ≤ shape.last → InTable table.old shape.width i j → ⊥ }
+    requires empty { (i j : ℕ) → i ≤ shape.last → j ≤ shape.last
+        → InTable table.old shape.width i j → ⊥ }
     requires countable { steps.old + triangle (shape.last + 1) < 2 ^ 64 }
     ensures rows { (i j : ℕ) → i ≤ shape.last → j ≤ shape.last →
         (InTable table.new shape.width i j ↔ ((k : ℕ) × Chain (Link links.now shape.width shape.last) k i j)) }
@@ -286,7 +292,8 @@ pub(crate) fn merge(table: &mut [u64], other: &[u64], shape: Shape, steps: &mut 
     requires table { length table.old ≡ (shape.last + 1) * shape.width }
     requires countable { steps.old + (shape.last + 1) < 2 ^ 64 }
     ensures rows { (i j : ℕ) → i ≤ shape.last → j ≤ shape.last →
-        (InTable table.new shape.width i j ↔ (InTable table.old shape.width i j ⊎ InTable other.now shape.width i j)) }
+        (InTable table.new shape.width i j ↔ (InTable table.old shape.width i j
+        ⊎ InTable other.now shape.width i j)) }
     ensures more { steps.old ≤ steps.new }
     ensures bound { steps.new ≤ steps.old + (shape.last + 1) }
 {
@@ -303,8 +310,10 @@ fn merge_row(table: &mut [u64], other: &[u64], shape: Shape, place: usize, steps
     requires order { place ≤ shape.last }
     requires countable { steps.old + 1 < 2 ^ 64 }
     ensures row { (j : ℕ) → j ≤ shape.last →
-        (InTable table.new shape.width place j ↔ (InTable table.old shape.width place j ⊎ InTable other.now shape.width place j)) }
-    ensures others { (i j : ℕ) → i ≢ place → j ≤ shape.last → (InTable table.new shape.width i j ↔ InTable table.old shape.width i j) }
+        (InTable table.new shape.width place j ↔ (InTable table.old shape.width place j
+        ⊎ InTable other.now shape.width place j)) }
+    ensures others { (i j : ℕ) → i ≢ place → j ≤ shape.last → (InTable table.new shape.width i j
+        ↔ InTable table.old shape.width i j) }
     ensures counted { steps.new ≡ steps.old + 1 }
 {
     unite(
@@ -325,7 +334,8 @@ pub(crate) fn empty(alloc: Global, shape: Shape) -> Result<Vec<u64>, AllocError>
 /// A table in which each row has its own place alone.
 pub(crate) fn diagonal(alloc: Global, shape: Shape) -> Result<Vec<u64>, AllocError>
     ensures whole { IfOk result (λ v. length v.items ≡ (shape.last + 1) * shape.width) }
-    ensures rows { IfOk result (λ v. (i j : ℕ) → i ≤ shape.last → j ≤ shape.last → (InTable v.items shape.width i j ↔ (i ≡ j))) }
+    ensures rows { IfOk result (λ v. (i j : ℕ) → i ≤ shape.last → j ≤ shape.last
+        → (InTable v.items shape.width i j ↔ (i ≡ j))) }
 {
     let mut table = empty(alloc, shape)?;
     for place in 0..shape.last + 1 {

@@ -1,7 +1,8 @@
 //! Parts of a pattern that are one word, an optional word or a run of words: no table of their own
 //! is made for them, the places of a row step over the words.
 
-ghost use Rattle.std.specs.Prelude.{◌≡◌, ◌+◌, ◌*◌, ◌<◌, ◌≤◌, ◌↔◌, ◌⊎◌, ◌≢◌, ℕ, IsTrue, IfOk, length, Some, None};
+ghost use Rattle.std.specs.Prelude.{◌≡◌, ◌+◌, ◌*◌, ◌<◌, ◌≤◌, ◌↔◌, ◌⊎◌, ◌≢◌};
+ghost use Rattle.std.specs.Prelude.{ℕ, IsTrue, IfOk, length, Some, None};
 ghost use Rattle.tb_match.specs.Bits.{InTable};
 ghost use Rattle.tb_match.specs.Facts.{Facts, Holds};
 ghost use Rattle.tb_match.specs.Hits.{IsWord};
@@ -13,7 +14,7 @@ ghost use Rattle.tb_match.specs.Weight.{IsProper};
 use crate::narrow::{ends_of, run_words, step_words};
 use crate::pattern::Pat;
 use crate::shape::Shape;
-use crate::stay::Stay;
+use crate::step::Step;
 use crate::table::{diagonal, empty, mark};
 use crate::truth::Truth;
 use crate::walk::next_place;
@@ -21,7 +22,8 @@ use std::alloc::{AllocError, Global};
 
 /// The expression of a pattern that is one word.
 pub(crate) fn token_of(pat: &Pat) -> Option<u16>
-    ensures word { (e : ℕ) → result ≡ Some e → (t : Facts) (i j : ℕ) → (Match (Holds t) (tree pat.now) i j ↔ IsWord t e i j) }
+    ensures word { (e : ℕ) → result ≡ Some e → (t : Facts) (i j : ℕ) → (Match (Holds t) (tree pat.now) i j
+        ↔ IsWord t e i j) }
     ensures proper { (e n : ℕ) → result ≡ Some e → IsProper n (tree pat.now) → e < n }
 {
     match pat {
@@ -118,7 +120,7 @@ fn mark_step(
     expr: u16,
     truth: &Truth,
     shape: Shape,
-    stay: Stay,
+    stay: Step,
 )
     requires expr { expr < truth.now.exprs }
     requires words { shape.last ≡ truth.now.words }
@@ -130,8 +132,8 @@ fn mark_step(
         ((i ≡ row) × ((MayStay stay × (j ≡ place)) ⊎ IsWord truth.now expr place j)))) }
 {
     match stay {
-        Stay::Allowed => mark(table, shape, row, place),
-        Stay::Barred => {}
+        Step::Optional => mark(table, shape, row, place),
+        Step::Required => {}
     }
     if place < truth.words() && truth.get(expr, place + 1) {
         mark(table, shape, row, place + 1);
@@ -153,11 +155,11 @@ pub(crate) fn optional_token_rows(
 {
     if shape.width == 1 {
         let places = diagonal(alloc, shape)?;
-        return step_over(alloc, places, expr, truth, shape, Stay::Allowed);
+        return step_over(alloc, places, expr, truth, shape, Step::Optional);
     }
     let mut table = empty(alloc, shape)?;
     for place in 0..shape.last + 1 {
-        mark_step(&mut table, place, place, expr, truth, shape, Stay::Allowed);
+        mark_step(&mut table, place, place, expr, truth, shape, Step::Optional);
     }
     Ok(table)
 }
@@ -172,7 +174,7 @@ fn step_row(
     expr: u16,
     truth: &Truth,
     shape: Shape,
-    stay: Stay,
+    stay: Step,
 )
     requires expr { expr < truth.now.exprs }
     requires words { shape.last ≡ truth.now.words }
@@ -200,14 +202,15 @@ fn walk_over(
     expr: u16,
     truth: &Truth,
     shape: Shape,
-    stay: Stay,
+    stay: Step,
 ) -> Result<Vec<u64>, AllocError>
     requires expr { expr < truth.now.exprs }
     requires words { shape.last ≡ truth.now.words }
     requires table { length table.now ≡ (truth.now.words + 1) * shape.width }
     ensures whole { IfOk result (λ v. length v.items ≡ (truth.now.words + 1) * shape.width) }
     ensures rows { IfOk result (λ v. (i j : ℕ) → i ≤ truth.now.words → j ≤ truth.now.words →
-        (InTable v.items shape.width i j ↔ ((k : ℕ) × (k < truth.now.words + 1) × InTable table.now shape.width i k ×
+        (InTable v.items shape.width i j ↔ ((k : ℕ) × (k < truth.now.words + 1)
+        × InTable table.now shape.width i k ×
         ((MayStay stay × (j ≡ k)) ⊎ IsWord truth.now expr k j)))) }
 {
     let mut next = empty(alloc, shape)?;
@@ -225,14 +228,15 @@ pub(crate) fn step_over(
     expr: u16,
     truth: &Truth,
     shape: Shape,
-    stay: Stay,
+    stay: Step,
 ) -> Result<Vec<u64>, AllocError>
     requires expr { expr < truth.now.exprs }
     requires words { shape.last ≡ truth.now.words }
     requires table { length table.items ≡ (truth.now.words + 1) * shape.width }
     ensures whole { IfOk result (λ v. length v.items ≡ (truth.now.words + 1) * shape.width) }
     ensures rows { IfOk result (λ v. (i j : ℕ) → i ≤ truth.now.words → j ≤ truth.now.words →
-        (InTable v.items shape.width i j ↔ ((k : ℕ) × (k < truth.now.words + 1) × InTable table.items shape.width i k ×
+        (InTable v.items shape.width i j ↔ ((k : ℕ) × (k < truth.now.words + 1)
+        × InTable table.items shape.width i k ×
         ((MayStay stay × (j ≡ k)) ⊎ IsWord truth.now expr k j)))) }
 {
     if shape.width == 1 {
@@ -251,13 +255,15 @@ fn run_row(table: &mut [u64], row: usize, expr: u16, truth: &Truth, shape: Shape
     requires table { length table.old ≡ (truth.now.words + 1) * shape.width }
     requires row { row ≤ truth.now.words }
     ensures row { (j : ℕ) → j ≤ truth.now.words → (InTable table.new shape.width row j ↔
-        ((k : ℕ) × (k ≤ truth.now.words) × InTable table.old shape.width row k × ((n : ℕ) × Chain (IsWord truth.now expr) n k j))) }
-    ensures others { (i j : ℕ) → i ≢ row → j ≤ truth.now.words → (InTable table.new shape.width i j ↔ InTable table.old shape.width i j) }
+        ((k : ℕ) × (k ≤ truth.now.words) × InTable table.old shape.width row k
+        × ((n : ℕ) × Chain (IsWord truth.now expr) n k j))) }
+    ensures others { (i j : ℕ) → i ≢ row → j ≤ truth.now.words → (InTable table.new shape.width i j
+        ↔ InTable table.old shape.width i j) }
 {
     let from = row * shape.width;
     let mut place = next_place(table, from, 0, shape.last);
     while place <= shape.last {
-        mark_step(table, row, place, expr, truth, shape, Stay::Barred);
+        mark_step(table, row, place, expr, truth, shape, Step::Required);
         place = next_place(table, from, place + 1, shape.last);
     }
 }
@@ -268,8 +274,10 @@ fn walk_on(table: &mut [u64], expr: u16, truth: &Truth, shape: Shape)
     requires expr { expr < truth.now.exprs }
     requires words { shape.last ≡ truth.now.words }
     requires table { length table.old ≡ (truth.now.words + 1) * shape.width }
-    ensures rows { (i j : ℕ) → i ≤ truth.now.words → j ≤ truth.now.words → (InTable table.new shape.width i j ↔
-        ((k : ℕ) × (k ≤ truth.now.words) × InTable table.old shape.width i k × ((n : ℕ) × Chain (IsWord truth.now expr) n k j))) }
+    ensures rows { (i j : ℕ) → i ≤ truth.now.words → j ≤ truth.now.words
+        → (InTable table.new shape.width i j ↔
+        ((k : ℕ) × (k ≤ truth.now.words) × InTable table.old shape.width i k
+        × ((n : ℕ) × Chain (IsWord truth.now expr) n k j))) }
 {
     for row in 0..shape.last + 1 {
         run_row(table, row, expr, truth, shape);
@@ -282,8 +290,10 @@ pub(crate) fn run_on(table: &mut [u64], expr: u16, truth: &Truth, shape: Shape)
     requires expr { expr < truth.now.exprs }
     requires words { shape.last ≡ truth.now.words }
     requires table { length table.old ≡ (truth.now.words + 1) * shape.width }
-    ensures rows { (i j : ℕ) → i ≤ truth.now.words → j ≤ truth.now.words → (InTable table.new shape.width i j ↔
-        ((k : ℕ) × (k ≤ truth.now.words) × InTable table.old shape.width i k × ((n : ℕ) × Chain (IsWord truth.now expr) n k j))) }
+    ensures rows { (i j : ℕ) → i ≤ truth.now.words → j ≤ truth.now.words
+        → (InTable table.new shape.width i j ↔
+        ((k : ℕ) × (k ≤ truth.now.words) × InTable table.old shape.width i k
+        × ((n : ℕ) × Chain (IsWord truth.now expr) n k j))) }
 {
     if shape.width == 1 {
         run_words(table, ends_of(expr, truth));

@@ -8,7 +8,7 @@ use Rattle.tb_conllu.specs.Text.{RowText, row_line, id_text, head_text}
 use Rattle.tb_syntax.specs.declared.lexeme.Attr.{Attr}
 use Rattle.tb_syntax.specs.declared.lexeme.Attr.TheVariants.{Form, Lemma, Upos, Xpos, Feats, Deprel}
 use Rattle.tb_syntax.specs.Tests.{whole}
-use Rattle.tb_needle.specs.Literals.{PlainLit}
+use Rattle.tb_literal.specs.Literals.{PlainLit}
 use Rattle.tb_query.specs.Meaning.{value_of}
 use Rattle.tb_prefilter.specs.Needed.{IsSubstring, IsPlainText, Requires}
 use Rattle.tb_prefilter.proofs.Substrings.{in_after}

@@ -9,7 +9,7 @@ use Rattle.tb_syntax.specs.declared.expr.Expr.TheVariants.{Whole, Item, Both, ro
 use Rattle.tb_syntax.specs.declared.expr.Expr.TheFolds.{fold-roll-Expr}
 use Rattle.tb_syntax.specs.Exprs.{test, test_step}
 use Rattle.tb_syntax.specs.Tests.{Test, whole, feature, both, tests}
-use Rattle.tb_needle.specs.Literals.{PlainLit}
+use Rattle.tb_literal.specs.Literals.{PlainLit}
 use Rattle.tb_query.specs.Meaning.{holds, all_hold}
 use Rattle.tb_query.specs.Search.{Asked}
 use Rattle.tb_prefilter.specs.Needed.{IsNeeded, Requires, IsPlainText, Entails, IsPartOf}

@@ -10,8 +10,8 @@ use Rattle.tb_conllu.specs.Shape.{IsRowShaped}
 use Rattle.tb_conllu.specs.Text.{RowText, row_line}
 use Rattle.tb_syntax.specs.declared.lexeme.Attr.TheVariants.{Feats}
 use Rattle.tb_syntax.specs.Tests.{feature}
-use Rattle.tb_needle.specs.Items.{is_bar, pieces, meets_item}
-use Rattle.tb_needle.specs.Literals.{PlainLit, meets}
+use Rattle.tb_literal.specs.Items.{is_bar, pieces, meets_item}
+use Rattle.tb_literal.specs.Literals.{PlainLit, meets}
 use Rattle.tb_query.specs.Meaning.{holds}
 use Rattle.tb_prefilter.specs.Needed.{IsSubstring, IsPlainText, Requires}
 use Rattle.tb_prefilter.proofs.Substrings.{in_after, in_before}

@@ -8,7 +8,7 @@ use Rattle.tb_match.specs.declared.strategy.Strategy.{Strategy}
 use Rattle.tb_match.specs.declared.strategy.Strategy.TheVariants.{Shortest, Longest, Every}
 use Rattle.tb_match.specs.Hits.{AreHits, IsHit}
 use Rattle.tb_match.proofs.Parts.{first_link}
-use Rattle.tb_needle.specs.Literals.{PlainLit}
+use Rattle.tb_literal.specs.Literals.{PlainLit}
 use Rattle.tb_syntax.specs.Tests.{Test}
 use Rattle.tb_query.specs.Meaning.{word_rows, HoldsOf, holds}
 use Rattle.tb_query.specs.Search.{Asked}

@@ -3,7 +3,7 @@ use Rattle.std.proofs.Common.{◌≡◌, ◌+◌, ℕ, List, [], ◌∷◌, ◌+
 use Rattle.std.proofs.lemmas.Grind.{common_steps}
 use Rattle.memchr.specs.Find.{OccursAt, FindsNeedle}
 use Rattle.tb_conllu.specs.Text.{BlockText}
-use Rattle.tb_conllu.specs.Told.{IsFile}
+use Rattle.tb_conllu.specs.Reported.{IsFile}
 use Rattle.tb_match.specs.declared.strategy.Strategy.{Strategy}
 use Rattle.tb_query.specs.Search.{Asked, AreHitsIn, Finds}
 use Rattle.tb_prefilter.specs.Needed.{IsSubstring, IsNeeded}

@@ -1,13 +1,14 @@
 -- Bytes that are in the text of each sentence in which a query has a hit: the needles of a prefilter (regex-automata).
-use Rattle.std.specs.Prelude.{◌≡◌, ℕ, zero, suc, List, [], ◌∷◌, ◌++◌, Bool, true, false, nat_eq, if◌then◌else◌}
+use Rattle.std.specs.Prelude.{◌≡◌, ℕ, zero, suc, List, [], ◌∷◌, ◌++◌, Bool, true, false, nat_eq}
+use Rattle.std.specs.Prelude.{if◌then◌else◌}
 use Rattle.std.specs.List.{AllByRecursion, All}
 use Rattle.std.specs.Global.{Global}
 use Rattle.std.specs.declared.vec.Vec.{Vec}
 use Rattle.tb_conllu.specs.Shape.{IsRowShaped}
 use Rattle.tb_conllu.specs.Text.{RowText, BlockText, row_line, text_of}
 use Rattle.tb_match.specs.Trees.{Tree, tok, cat, alt, rep, Forest, no_more, and_more}
-use Rattle.tb_needle.specs.Literals.{PlainLit}
-pub use Rattle.tb_needle.specs.Literals.{IsPlainText}
+use Rattle.tb_literal.specs.Literals.{PlainLit}
+pub use Rattle.tb_literal.specs.Literals.{IsPlainText}
 use Rattle.tb_syntax.specs.Tests.{Test}
 use Rattle.tb_query.specs.Meaning.{holds}
 use Rattle.tb_query.specs.Search.{Asked, Finds}
@@ -54,4 +55,5 @@ AreNeeded q ns = All (λ (n : Vec ℕ Global). IsNeeded q n.items) ns
 
 -- more needles than before, each of which a test requires: they are needed by each query of which the test is a part
 abbrev pub Gathers : Test PlainLit → (old new : List (Vec ℕ Global)) → Type 0
-Gathers u old new = (q : Asked) (t : Test PlainLit) → Entails t u → IsPartOf t q → AreNeeded q old → AreNeeded q new
+Gathers u old new = (q : Asked) (t : Test PlainLit) → Entails t u → IsPartOf t q → AreNeeded q old
+    → AreNeeded q new

@@ -7,10 +7,14 @@ ghost use Rattle.tb_syntax.specs.declared.lexeme.Attr.{Attr as AnyAttr};
 ghost use Rattle.tb_prefilter.specs.Needed.{Gathers};
 
 use std::alloc::{AllocError, Global};
-use tb_query::{Expr, Needle};
+use tb_query::{Expr, LiteralMatcher};
 
 /// Adds the bytes that a column requires whose value is to be the literal: the value between two tabs.
-fn push_column(alloc: Global, needle: &Needle, needles: &mut Vec<Vec<u8>>) -> Result<(), AllocError>
+fn push_column(
+    alloc: Global,
+    needle: &LiteralMatcher,
+    needles: &mut Vec<Vec<u8>>,
+) -> Result<(), AllocError>
     ensures { OnOk result ((a : AnyAttr) → Gathers (whole a needle.now) needles.old.items needles.new.items) }
 {
     let Some(text) = needle.plain_text() else {
@@ -25,7 +29,11 @@ fn push_column(alloc: Global, needle: &Needle, needles: &mut Vec<Vec<u8>>) -> Re
 }
 
 /// Adds the bytes that features require among which the literal is to be.
-fn push_item(alloc: Global, needle: &Needle, needles: &mut Vec<Vec<u8>>) -> Result<(), AllocError>
+fn push_item(
+    alloc: Global,
+    needle: &LiteralMatcher,
+    needles: &mut Vec<Vec<u8>>,
+) -> Result<(), AllocError>
     ensures { OnOk result (Gathers (feature needle.now) needles.old.items needles.new.items) }
 {
     let Some(text) = needle.plain_text() else {

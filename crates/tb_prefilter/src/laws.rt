@@ -5,7 +5,7 @@ ghost use Rattle.std.specs.List.{AllByRecursion, slice_get};
 ghost use Rattle.tb_conllu.specs.Shape.{IsRowShaped};
 ghost use Rattle.tb_conllu.specs.Text.{BlockText, text_of};
 ghost use Rattle.tb_match.specs.declared.strategy.Strategy.{Strategy as AnyStrategy};
-ghost use Rattle.tb_needle.specs.Literals.{PlainLit};
+ghost use Rattle.tb_literal.specs.Literals.{PlainLit};
 ghost use Rattle.tb_syntax.specs.declared.lexeme.Attr.{Attr as AnyAttr};
 ghost use Rattle.tb_syntax.specs.Tests.{Test, whole, feature};
 ghost use Rattle.tb_query.specs.Search.{Asked, AreHitsIn};

@@ -2,7 +2,7 @@
 
 ghost use Rattle.std.specs.Prelude.{◌≡◌, List, [], ◌∷◌, IfOk, false};
 ghost use Rattle.tb_conllu.specs.Text.{BlockText};
-ghost use Rattle.tb_conllu.specs.Told.{IsFile};
+ghost use Rattle.tb_conllu.specs.Reported.{IsFile};
 ghost use Rattle.tb_match.specs.declared.strategy.Strategy.{Strategy as AnyStrategy};
 ghost use Rattle.tb_query.specs.Search.{Asked, AreHitsIn};
 ghost use Rattle.tb_prefilter.specs.Needed.{AreNeeded};

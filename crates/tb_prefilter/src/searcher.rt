@@ -2,7 +2,7 @@
 
 ghost use Rattle.std.specs.Prelude.{◌≡◌, ◌≤◌, ◌+◌, ◌*◌, ◌/◌, List, [], ◌∷◌, IfOk, false};
 ghost use Rattle.tb_conllu.specs.Text.{BlockText};
-ghost use Rattle.tb_conllu.specs.Told.{IsFile};
+ghost use Rattle.tb_conllu.specs.Reported.{IsFile};
 ghost use Rattle.tb_conllu.specs.Words.{words_of};
 ghost use Rattle.tb_match.specs.declared.strategy.Strategy.{Strategy as AnyStrategy};
 ghost use Rattle.tb_query.specs.Search.{AreHitsIn};
@@ -64,7 +64,7 @@ impl<'q> PrefilteredSearcher<'q> {
     ) -> Result<Found, AllocError>
         requires { words_of block.now ≤ 1000 }
         ensures hits { IfOk result (λ f. AreHitsIn strategy self.old block.now f.hits.items) }
-        ensures same { self.new ≡ self.old }
+        ensures unchanged { self.new ≡ self.old }
     {
         self.searcher.hits(alloc, block, strategy)
     }

@@ -11,7 +11,7 @@ use Rattle.tb_syntax.specs.declared.expr.Literal.{Literal}
 use Rattle.tb_syntax.specs.Tests.{Test, literals_of}
 use Rattle.tb_syntax.specs.Reading as syntax
 use Rattle.tb_syntax.specs.Saying.{Says}
-use Rattle.tb_needle.specs.Literals.{PlainLit, IsAccepted}
+use Rattle.tb_literal.specs.Literals.{PlainLit, IsAccepted}
 use Rattle.tb_query.specs.declared.fault.QueryFault.{QueryFault}
 use Rattle.tb_query.specs.declared.fault.QueryFault.TheVariants.{TooLong, Syntax, TooMany, TooDeep, Repeat, Pattern, Memory}
 use Rattle.tb_query.specs.Reading.{with_texts, AreAccepted, IsFirstRefused, IsQuery, IsFault}
@@ -67,8 +67,8 @@ module _ (decided : (flag : Flag) (text : List ℕ) → IsAccepted flag text ⊎
           | inr (k, first) ↦ inr (Pattern k, (λ same. cc (same)), (t, map (with_texts said) es, (es, said, says, refl), first))
         ]
 
-    pub told : (text : List ℕ) →
+    pub reported : (text : List ℕ) →
         ((t : Tree) × (es : List (Test Literal)) × (said : List (List ℕ)) × Says text t es said) ⊎ ((e : Fault) × (e ≡ fault.Memory → ⊥) × syntax.IsFault text e) →
         Asks text ⊎ HasFault text
-    told text (inl (t, es, said, says)) = of_saying text t es said says
-    told text (inr (e, not, x)) = inr (of_language text e not x)
+    reported text (inl (t, es, said, says)) = of_saying text t es said says
+    reported text (inr (e, not, x)) = inr (of_language text e not x)

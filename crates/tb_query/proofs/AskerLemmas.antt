@@ -5,12 +5,12 @@ use Rattle.std.proofs.lemmas.Bool.Decides.{nat_tests}
 use Rattle.std.proofs.Math.ListN.{set, get_or-map}
 use Rattle.std.proofs.Math.Seq.{map-set_same}
 use Rattle.tb_conllu.specs.Text.{RowText}
-use Rattle.tb_query.specs.declared.asker.Asker.{Asker}
-use Rattle.tb_query.specs.declared.asker.Asker.TheVariants.{Denied, Both, Either, rolls-Denied, rolls-Both, rolls-Either}
-use Rattle.tb_query.specs.declared.asker.Asker.TheOpen.{Asker-F}
-use Rattle.tb_query.specs.declared.asker.Asker.TheFolds.{fold-roll-Asker}
-use Rattle.tb_query.specs.Askers.{asked, asked_step}
-use Rattle.tb_needle.specs.Literals.{PlainLit}
+use Rattle.tb_query.specs.declared.prepared.PreparedExpr.{PreparedExpr}
+use Rattle.tb_query.specs.declared.prepared.PreparedExpr.TheVariants.{Denied, Both, Either, rolls-Denied, rolls-Both, rolls-Either}
+use Rattle.tb_query.specs.declared.prepared.PreparedExpr.TheOpen.{PreparedExpr-F}
+use Rattle.tb_query.specs.declared.prepared.PreparedExpr.TheFolds.{fold-roll-PreparedExpr}
+use Rattle.tb_query.specs.PreparedExprs.{asked, asked_step}
+use Rattle.tb_literal.specs.Literals.{PlainLit}
 use Rattle.tb_syntax.specs.Tests.{Test, tests, negated, denied_times, both, either}
 use Rattle.tb_query.specs.Meaning.{is_odd, holds, all_hold, some_hold}
 
@@ -22,9 +22,9 @@ some_at : (ts : List (Test PlainLit)) (i : ℕ) (r : RowText) (d : Test PlainLit
     some_hold (tests (drop i ts)) r ≡ (if holds (get_or ts i d) r then true else some_hold (tests (drop (i + 1) ts)) r)
 some_at ts i r d lt = rw (add-one, drop-cons ts i d lt) refl
 
-module _ (xs : List Asker) (ts : List (Test PlainLit)) (i : ℕ) (d : Asker) (same : map asked xs ≡ ts) where
+module _ (xs : List PreparedExpr) (ts : List (Test PlainLit)) (i : ℕ) (d : PreparedExpr) (same : map asked xs ≡ ts) where
   -- one part was asked, and is asked for what it was
-  pub same_after : (y : Asker) → asked y ≡ asked (get_or xs i d) → map asked (set xs i y) ≡ ts
+  pub same_after : (y : PreparedExpr) → asked y ≡ asked (get_or xs i d) → map asked (set xs i y) ≡ ts
   same_after y e = map-set_same asked xs i y d e ∙ same
 
   test_at : get_or ts i (asked d) ≡ asked (get_or xs i d)
@@ -42,8 +42,8 @@ module _ (xs : List Asker) (ts : List (Test PlainLit)) (i : ℕ) (d : Asker) (sa
       some_at ts i r (asked d) (omega (arith, length-map xs asked, ap length same))
       ∙ ap (λ c. if c then true else some_hold (tests (drop (i + 1) ts)) r) (ap (λ u. holds u r) test_at ∙ sym e)
 
-pub asked-Denied : (n : ℕ) (b : Box Asker Global) → asked (Denied n b) ≡ denied_times n (asked b.value)
-asked-Denied n b = ap asked (sym (rolls-Denied n b)) ∙ fold-roll-Asker (Test PlainLit) asked_step (Asker-F.Denied n b)
+pub asked-Denied : (n : ℕ) (b : Box PreparedExpr Global) → asked (Denied n b) ≡ denied_times n (asked b.value)
+asked-Denied n b = ap asked (sym (rolls-Denied n b)) ∙ fold-roll-PreparedExpr (Test PlainLit) asked_step (PreparedExpr-F.Denied n b)
 
 -- denials, one after the other
 
@@ -71,8 +71,8 @@ turned_is (suc n) b = turned_is n (not b) ∙ turn (is_odd n) b ∙ ap (λ o. if
 pub denied_holds : (n : ℕ) (t : Test PlainLit) (r : RowText) → holds (denied_times n t) r ≡ (if is_odd n then not (holds t r) else holds t r)
 denied_holds n t r = denied_turned n t r ∙ turned_is n (holds t r)
 
-pub asked-Both : (v : Vec Asker Global) → asked (Both v) ≡ both (tests (map asked v.items))
-asked-Both v = ap asked (sym (rolls-Both v)) ∙ fold-roll-Asker (Test PlainLit) asked_step (Asker-F.Both v)
+pub asked-Both : (v : Vec PreparedExpr Global) → asked (Both v) ≡ both (tests (map asked v.items))
+asked-Both v = ap asked (sym (rolls-Both v)) ∙ fold-roll-PreparedExpr (Test PlainLit) asked_step (PreparedExpr-F.Both v)
 
-pub asked-Either : (v : Vec Asker Global) → asked (Either v) ≡ either (tests (map asked v.items))
-asked-Either v = ap asked (sym (rolls-Either v)) ∙ fold-roll-Asker (Test PlainLit) asked_step (Asker-F.Either v)
+pub asked-Either : (v : Vec PreparedExpr Global) → asked (Either v) ≡ either (tests (map asked v.items))
+asked-Either v = ap asked (sym (rolls-Either v)) ∙ fold-roll-PreparedExpr (Test PlainLit) asked_step (PreparedExpr-F.Either v)

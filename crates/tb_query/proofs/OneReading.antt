@@ -5,19 +5,19 @@ use Rattle.tb_syntax.specs.declared.fault.Fault.{Fault}
 use Rattle.tb_syntax.specs.declared.fault.Fault.TheVariants as fault
 use Rattle.tb_syntax.specs.declared.expr.Literal.{Literal}
 use Rattle.tb_syntax.specs.Tests.{Test, literals_of}
-use Rattle.tb_syntax.specs.Reading as told
+use Rattle.tb_syntax.specs.Reading as reported
 use Rattle.tb_syntax.specs.Saying.{Says}
-use Rattle.tb_needle.specs.Literals.{PlainLit, IsAccepted}
+use Rattle.tb_literal.specs.Literals.{PlainLit, IsAccepted}
 use Rattle.tb_query.specs.declared.fault.QueryFault.{QueryFault}
 use Rattle.tb_query.specs.declared.fault.QueryFault.TheVariants.{TooLong, Syntax, TooMany, TooDeep, Repeat, Pattern, Memory}
 use Rattle.tb_query.specs.Reading.{with_texts, Reads, AreAccepted, IsFirstRefused, IsQuery, IsFault}
 use Rattle.tb_query.specs.Search.{Asked}
-use Rattle.tb_query.specs.Told.{query_fault}
+use Rattle.tb_query.specs.Reported.{query_fault}
 
 -- the same pattern, tests and literals are the same tests
-pub same_tests : (es fs : List (Test Literal)) (said told : List (List ℕ)) (ts us : List (Test PlainLit)) → ts ≡ map (with_texts said) es → us ≡ map (with_texts told) fs →
-    es ≡ fs → said ≡ told → ts ≡ us
-same_tests es fs said told ts us e f p q = e ∙ ap (map (with_texts said)) p ∙ ap (λ z. map (with_texts z) fs) q ∙ sym f
+pub same_tests : (es fs : List (Test Literal)) (said reported : List (List ℕ)) (ts us : List (Test PlainLit)) → ts ≡ map (with_texts said) es → us ≡ map (with_texts reported) fs →
+    es ≡ fs → said ≡ reported → ts ≡ us
+same_tests es fs said reported ts us e f p q = e ∙ ap (map (with_texts said)) p ∙ ap (λ z. map (with_texts z) fs) q ∙ sym f
 
 accepted_at : (before after : List PlainLit) (l : PlainLit) → AreAccepted (before ++ l ∷ after) → AreAccepted (l ∷ after)
 accepted_at [] after l h = h
@@ -45,15 +45,15 @@ one_refused ls j k (bs, l, vs, parts, number, those, bad) (cs, m, ws, parts', nu
 -- a fault of the language, and a literal that is refused
 
 abbrev OfLanguage : List ℕ → QueryFault → Type 0
-OfLanguage text e = (f : Fault) × told.IsFault text f × (e ≡ query_fault f)
+OfLanguage text e = (f : Fault) × reported.IsFault text f × (e ≡ query_fault f)
 
 abbrev OfLiteral : List ℕ → QueryFault → Type 0
 OfLiteral text e = (k : ℕ) × (t : Tree) × (ts : List (Test PlainLit)) × Reads text t ts × IsFirstRefused (literals_of ts) k × (e ≡ Pattern k)
 
-module _ (none_told : (text : List ℕ) (t : Tree) (es : List (Test Literal)) (said : List (List ℕ)) (e : Fault) → Says text t es said → told.IsFault text e → e ≡ fault.Memory)
+module _ (none_reported : (text : List ℕ) (t : Tree) (es : List (Test Literal)) (said : List (List ℕ)) (e : Fault) → Says text t es said → reported.IsFault text e → e ≡ fault.Memory)
     (one_list : (text : List ℕ) (t u : Tree) (ts us : List (Test PlainLit)) → Reads text t ts → Reads text u us → ts ≡ us) where
-  no_syntax_fault : (text : List ℕ) (t : Tree) (ts : List (Test PlainLit)) (e : Fault) → Reads text t ts → told.IsFault text e → e ≡ fault.Memory
-  no_syntax_fault text t ts e (es, said, says, tests) h = none_told text t es said e says h
+  no_syntax_fault : (text : List ℕ) (t : Tree) (ts : List (Test PlainLit)) (e : Fault) → Reads text t ts → reported.IsFault text e → e ≡ fault.Memory
+  no_syntax_fault text t ts e (es, said, says, tests) h = none_reported text t es said e says h
 
   -- a fault is one of the language, or a literal is refused
   kind : (text : List ℕ) (e : QueryFault) → IsFault text e → OfLanguage text e ⊎ OfLiteral text e
@@ -72,7 +72,7 @@ module _ (none_told : (text : List ℕ) (t : Tree) (es : List (Test Literal)) (s
       absurd (bad (accepted_at before after l (subst AreAccepted (ap literals_of (one_list text _ t q.tests ts reads again) ∙ parts) good)).0))
       (kind text e h)
 
-  module _ (one_of_language : (text : List ℕ) (e f : Fault) → told.IsFault text e → told.IsFault text f → (e ≡ fault.Memory → ⊥) → (f ≡ fault.Memory → ⊥) → e ≡ f) where
+  module _ (one_of_language : (text : List ℕ) (e f : Fault) → reported.IsFault text e → reported.IsFault text f → (e ≡ fault.Memory → ⊥) → (f ≡ fault.Memory → ⊥) → e ≡ f) where
     other : (e : QueryFault) (f : Fault) → e ≡ query_fault f → (e ≡ Memory → ⊥) → f ≡ fault.Memory → ⊥
     other e f same not is = not (same ∙ ap query_fault is)
 

@@ -4,7 +4,7 @@ use Rattle.tb_match.specs.Trees.{Tree}
 use Rattle.tb_syntax.specs.declared.expr.Expr.{Expr}
 use Rattle.tb_syntax.specs.Exprs.{test}
 use Rattle.tb_syntax.specs.declared.expr.Literal.{Literal}
-use Rattle.tb_needle.specs.Literals.{PlainLit}
+use Rattle.tb_literal.specs.Literals.{PlainLit}
 use Rattle.tb_syntax.specs.Tests.{Test, literals_of}
 use Rattle.tb_syntax.specs.Saying.{Says}
 use Rattle.tb_query.specs.declared.fault.QueryFault.{QueryFault}

@@ -8,9 +8,9 @@ use Rattle.std.proofs.lemmas.Option.{slice_get-map, slice_get-get_or, slice_get_
 use Rattle.std.specs.List.{slice_get}
 use Rattle.tb_conllu.specs.Text.{RowText}
 use Rattle.tb_conllu.specs.Words.{is_word}
-use Rattle.tb_query.specs.declared.asker.Asker.{Asker}
-use Rattle.tb_query.specs.Askers.{asked}
-use Rattle.tb_needle.specs.Literals.{PlainLit}
+use Rattle.tb_query.specs.declared.prepared.PreparedExpr.{PreparedExpr}
+use Rattle.tb_query.specs.PreparedExprs.{asked}
+use Rattle.tb_literal.specs.Literals.{PlainLit}
 use Rattle.tb_syntax.specs.Tests.{Test}
 use Rattle.tb_query.specs.Meaning.{holds, HoldsAtWord, HoldsOf}
 
@@ -93,7 +93,7 @@ row_step u t vs ws r w word E F O N same longer count step before =
         step.1 (inr (e, new.0 ∙ ap (λ n. n + 1) (sym count), ap (λ v. holds v r) same ∙ new.1)))
         ((word_pushed t ws r w).0 h)
 
-pub test_there : (xs : List Asker) (ts : List (Test PlainLit)) (i : ℕ) (d : Asker) → map asked xs ≡ ts → i < length xs → slice_get ts i ≡ Some (asked (get_or xs i d))
+pub test_there : (xs : List PreparedExpr) (ts : List (Test PlainLit)) (i : ℕ) (d : PreparedExpr) → map asked xs ≡ ts → i < length xs → slice_get ts i ≡ Some (asked (get_or xs i d))
 test_there xs ts i d same lt =
     ap (λ us. slice_get us i) (sym same) ∙ slice_get-map asked xs i ∙ ap (option_map asked) (slice_get-get_or xs i d lt)
 
@@ -118,7 +118,7 @@ table_step ts ws e w i t O N there_is step before = (there, back)
         step.1 (inr (same, (r, least, word, ap (λ v. holds v r) (sym one) ∙ held))))
         (cases_lt e i)
 
-pub table_done : (xs : List Asker) (ws : List RowText) (e w i : ℕ) (O : Type 0) → length xs ≤ i →
+pub table_done : (xs : List PreparedExpr) (ws : List RowText) (e w i : ℕ) (O : Type 0) → length xs ≤ i →
     (O ↔ ((e < i) × HoldsOf (map asked xs) ws e w)) → O ↔ HoldsOf (map asked xs) ws e w
 table_done xs ws e w i O all h = (
   λ o. (h.0 o).1,

@@ -9,7 +9,7 @@ use Rattle.tb_syntax.specs.declared.lexeme.Lexeme.TheVariants.{Quote}
 use Rattle.tb_syntax.specs.declared.lexing.Span.{Span}
 use Rattle.tb_syntax.specs.Tests.{Test, literals_of}
 use Rattle.tb_syntax.specs.Saying.{IsSaid, Says}
-use Rattle.tb_needle.specs.Literals.{PlainLit}
+use Rattle.tb_literal.specs.Literals.{PlainLit}
 use Rattle.tb_query.specs.Reading.{text_of, with_text, with_texts}
 use Rattle.tb_query.proofs.Numbering.{IsFrom, quotes, numbers, numbers_of, of_query, lexed_from}
 use Rattle.tb_query.proofs.Refusals.{texts_of_each}

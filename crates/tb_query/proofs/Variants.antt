@@ -5,7 +5,7 @@ use Rattle.tb_syntax.specs.declared.expr.Expr.TheVariants.{Denied, Both, Either,
 use Rattle.tb_syntax.specs.declared.expr.Expr.TheFolds.{fold-roll-Expr}
 use Rattle.tb_syntax.specs.declared.expr.Literal.{Literal}
 use Rattle.tb_syntax.specs.Exprs.{test, test_step}
-use Rattle.tb_needle.specs.Literals.{PlainLit}
+use Rattle.tb_literal.specs.Literals.{PlainLit}
 use Rattle.tb_syntax.specs.Tests.{Test, negated, both, either, tests, denied_times, literals, literals_of}
 use Rattle.tb_query.specs.Reading.{with_text, with_texts}
 use Rattle.tb_query.proofs.Attachments.{parts_literals, parts_with_each}

@@ -7,7 +7,7 @@ use Rattle.tb_match.specs.Trees.{Tree}
 use Rattle.tb_syntax.specs.contracts.lexeme.Attr as attr
 use Rattle.tb_syntax.specs.contracts.lexeme.Flag as flag
 use Rattle.tb_syntax.specs.declared.lexeme.Flag.{Flag}
-use Rattle.tb_needle.specs.Literals.{PlainLit}
+use Rattle.tb_literal.specs.Literals.{PlainLit}
 use Rattle.tb_syntax.specs.Tests.{Test, every, whole, feature, negated, both, either, Tests, no_test, and_test}
 use Rattle.tb_query.specs.Halves.{first, second, IsPair}
 use Rattle.tb_query.specs.Search.{Asked}
@@ -23,7 +23,8 @@ kind (either ts) = 5
 
 abbrev coded_literal : Coded PlainLit
 coded_literal =
-    code_by (List ℕ × Flag) (coded× (coded_list coded_ℕ) flag.the_row.coded) (λ l. (l.text, l.flag)) (λ p. record { text = p.0; flag = p.1 }) (λ _. refl)
+    code_by (List ℕ × Flag) (coded× (coded_list coded_ℕ) flag.the_row.coded) (λ l. (l.text, l.flag)) (λ p.
+    record { text = p.0; flag = p.1 }) (λ _. refl)
 
 abbrev mutual
   code_of : Test PlainLit → Gv
@@ -42,7 +43,8 @@ mutual
   pub code_of-inj : (x y : Test PlainLit) → code_of x ≡ code_of y → x ≡ y
   code_of-inj every every p = refl
   code_of-inj (whole a l) (whole b m) p =
-      λ i. whole (attr.the_row.coded.inj a b (ap (λ g. first (second g)) p) i) (coded_literal.inj l m (ap (λ g. second (second g)) p) i)
+      λ i. whole (attr.the_row.coded.inj a b (ap (λ g. first (second g)) p) i) (coded_literal.inj l m (ap (λ g.
+      second (second g)) p) i)
   code_of-inj (feature l) (feature m) p = ap feature (coded_literal.inj l m (ap second p))
   code_of-inj (negated t) (negated u) p = ap negated (code_of-inj t u (ap second p))
   code_of-inj (both ts) (both us) p = ap both (codes_of-inj ts us (ap second p))
@@ -61,4 +63,5 @@ coded_test = record { code = code_of; inj = code_of-inj }
 
 abbrev pub coded_asked : Coded Asked
 coded_asked =
-    code_by (Tree × List (Test PlainLit)) (coded× coded_tree (coded_list coded_test)) (λ q. (q.pat, q.tests)) (λ p. record { pat = p.0; tests = p.1 }) (λ _. refl)
+    code_by (Tree × List (Test PlainLit)) (coded× coded_tree (coded_list coded_test)) (λ q. (q.pat, q.tests)) (λ p.
+    record { pat = p.0; tests = p.1 }) (λ _. refl)

@@ -3,7 +3,7 @@ pub mod Halves
 pub mod TreeCodes
 pub mod Meaning
 pub mod Search
-pub mod Askers
+pub mod PreparedExprs
 pub mod Reading
 pub mod Refusing
-pub mod Told
+pub mod Reported

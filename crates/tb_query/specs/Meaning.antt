@@ -1,14 +1,15 @@
 -- When a token expression holds of a word (The CQP Query Language Manual, on token expressions): values are compared as they
 -- stand in the file, an underscore too.
-use Rattle.std.specs.Prelude.{◌≡◌, ℕ, nat_eq, ◌%◌, ◌-◌, ◌≤◌, List, Bool, true, false, not, Some, if◌then◌else◌, filter}
+use Rattle.std.specs.Prelude.{◌≡◌, ℕ, nat_eq, ◌%◌, ◌-◌, ◌≤◌, List, Bool, true, false, not, Some}
+use Rattle.std.specs.Prelude.{if◌then◌else◌, filter}
 use Rattle.std.specs.List.{slice_get}
 use Rattle.tb_conllu.specs.Text.{RowText, BlockText}
 use Rattle.tb_conllu.specs.Words.{is_word}
 use Rattle.tb_syntax.specs.declared.lexeme.Attr.{Attr}
 use Rattle.tb_syntax.specs.declared.lexeme.Attr.TheVariants.{Form, Lemma, Upos, Xpos, Feats, Deprel}
-use Rattle.tb_needle.specs.Literals.{meets}
-use Rattle.tb_needle.specs.Items.{meets_item}
-use Rattle.tb_needle.specs.Literals.{PlainLit}
+use Rattle.tb_literal.specs.Literals.{meets}
+use Rattle.tb_literal.specs.Items.{meets_item}
+use Rattle.tb_literal.specs.Literals.{PlainLit}
 use Rattle.tb_syntax.specs.Tests.{Test, every, whole, feature, negated, both, either, Tests, no_test, and_test}
 
 abbrev pub is_odd : ℕ → Bool
@@ -50,4 +51,5 @@ HoldsAtWord t ws w = (r : RowText) × (1 ≤ w) × (slice_get ws (w - 1) ≡ Som
 
 -- test e, counted from 0, holds of word w, counted from 1
 abbrev pub HoldsOf : List (Test PlainLit) → List RowText → ℕ → ℕ → Type 0
-HoldsOf ts ws e w = (t : Test PlainLit) × (r : RowText) × (slice_get ts e ≡ Some t) × (1 ≤ w) × (slice_get ws (w - 1) ≡ Some r) × (holds t r ≡ true)
+HoldsOf ts ws e w = (t : Test PlainLit) × (r : RowText) × (slice_get ts e ≡ Some t) × (1 ≤ w)
+    × (slice_get ws (w - 1) ≡ Some r) × (holds t r ≡ true)

@@ -4,13 +4,14 @@ use Rattle.std.specs.List.{slice_get}
 use Rattle.std.specs.Option.{unwrap_or}
 use Rattle.tb_match.specs.Trees.{Tree}
 use Rattle.tb_syntax.specs.declared.expr.Literal.{Literal}
-use Rattle.tb_syntax.specs.declared.fault.Fault.TheVariants as told
+use Rattle.tb_syntax.specs.declared.fault.Fault.TheVariants as reported
 use Rattle.tb_syntax.specs.Tests.{Test, literals_of, with_each}
 use Rattle.tb_syntax.specs.Reading as syntax
 use Rattle.tb_syntax.specs.Saying.{Says}
-use Rattle.tb_needle.specs.Literals.{PlainLit, IsAccepted}
+use Rattle.tb_literal.specs.Literals.{PlainLit, IsAccepted}
 use Rattle.tb_query.specs.declared.fault.QueryFault.{QueryFault}
-use Rattle.tb_query.specs.declared.fault.QueryFault.TheVariants.{TooLong, Syntax, TooMany, TooDeep, Repeat, Pattern, Memory}
+use Rattle.tb_query.specs.declared.fault.QueryFault.TheVariants.{TooLong, Syntax, TooMany, TooDeep, Repeat, Pattern}
+use Rattle.tb_query.specs.declared.fault.QueryFault.TheVariants.{Memory}
 use Rattle.tb_query.specs.Search.{Asked}
 
 -- what literal k says, counted from 0
@@ -27,7 +28,8 @@ with_texts said = with_each (with_text said)
 
 -- the text is a query within the limits, whose pattern and token expressions are these
 abbrev pub Reads : List ℕ → Tree → List (Test PlainLit) → Type 0
-Reads text t ts = (es : List (Test Literal)) × (said : List (List ℕ)) × Says text t es said × (ts ≡ map (with_texts said) es)
+Reads text t ts = (es : List (Test Literal)) × (said : List (List ℕ)) × Says text t es said
+    × (ts ≡ map (with_texts said) es)
 
 -- each literal is a pattern, but with %l any text is one
 abbrev pub AreAccepted : List PlainLit → Type 0
@@ -37,7 +39,8 @@ AreAccepted (l ∷ ls) = IsAccepted l.flag l.text × AreAccepted ls
 -- literal k, counted from 1, is the first that is none
 abbrev pub IsFirstRefused : List PlainLit → ℕ → Type 0
 IsFirstRefused ls k =
-    (before : List PlainLit) × (l : PlainLit) × (after : List PlainLit) × (ls ≡ before ++ l ∷ after) × (k ≡ length before + 1)
+    (before : List PlainLit) × (l : PlainLit) × (after : List PlainLit) × (ls ≡ before ++ l ∷ after)
+    × (k ≡ length before + 1)
     × AreAccepted before × (IsAccepted l.flag l.text → ⊥)
 
 -- the text asks this
@@ -46,10 +49,11 @@ IsQuery text q = Reads text q.pat q.tests × AreAccepted (literals_of q.tests)
 
 -- What is wrong with a text. The first of these is told that holds.
 abbrev pub IsFault : List ℕ → QueryFault → Type 0
-IsFault text TooLong = syntax.IsFault text told.TooLong
-IsFault text (Syntax b) = syntax.IsFault text (told.Syntax b)
-IsFault text TooMany = syntax.IsFault text told.TooMany
-IsFault text TooDeep = syntax.IsFault text told.TooDeep
-IsFault text Repeat = syntax.IsFault text told.Repeat
-IsFault text (Pattern k) = (t : Tree) × (ts : List (Test PlainLit)) × Reads text t ts × IsFirstRefused (literals_of ts) k
+IsFault text TooLong = syntax.IsFault text reported.TooLong
+IsFault text (Syntax b) = syntax.IsFault text (reported.Syntax b)
+IsFault text TooMany = syntax.IsFault text reported.TooMany
+IsFault text TooDeep = syntax.IsFault text reported.TooDeep
+IsFault text Repeat = syntax.IsFault text reported.Repeat
+IsFault text (Pattern k) = (t : Tree) × (ts : List (Test PlainLit)) × Reads text t ts
+    × IsFirstRefused (literals_of ts) k
 IsFault text Memory = Unit {0}

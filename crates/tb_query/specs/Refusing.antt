@@ -1,7 +1,7 @@
 -- What a refusal of a literal says.
 use Rattle.std.specs.Prelude.{◌≡◌, ℕ, ◌+◌, List, ◌∷◌, ◌++◌, map}
 use Rattle.tb_syntax.specs.declared.expr.Literal.{Literal}
-use Rattle.tb_needle.specs.Literals.{IsAccepted}
+use Rattle.tb_literal.specs.Literals.{IsAccepted}
 use Rattle.tb_query.specs.declared.fault.QueryFault.{QueryFault}
 use Rattle.tb_query.specs.declared.fault.QueryFault.TheVariants.{Pattern, Memory}
 use Rattle.tb_query.specs.Reading.{text_of, with_text, AreAccepted}
@@ -9,7 +9,8 @@ use Rattle.tb_query.specs.Reading.{text_of, with_text, AreAccepted}
 -- the first of the literals that is refused is told by its number, counted from 1
 abbrev pub IsRefusalAmong : List (List ℕ) → List Literal → QueryFault → Type 0
 IsRefusalAmong said ls (Pattern k) =
-    (before : List Literal) × (l : Literal) × (after : List Literal) × (ls ≡ before ++ l ∷ after) × (k ≡ l.number + 1)
+    (before : List Literal) × (l : Literal) × (after : List Literal) × (ls ≡ before ++ l ∷ after)
+    × (k ≡ l.number + 1)
     × AreAccepted (map (with_text said) before) × (IsAccepted l.flag (text_of said l.number) → ⊥)
 IsRefusalAmong said ls Memory = Unit {0}
 IsRefusalAmong said ls _ = ⊥

@@ -8,7 +8,7 @@ use Rattle.tb_match.specs.Hits.{AreHits}
 use Rattle.tb_match.specs.Match.{Match}
 use Rattle.tb_match.specs.Trees.{Tree}
 use Rattle.tb_match.specs.Weight.{Fits}
-use Rattle.tb_needle.specs.Literals.{PlainLit}
+use Rattle.tb_literal.specs.Literals.{PlainLit}
 use Rattle.tb_syntax.specs.Tests.{Test}
 use Rattle.tb_query.specs.Meaning.{word_rows, HoldsOf}
 
@@ -23,7 +23,8 @@ IsSearchable q = Fits (length q.tests) q.pat × (length q.tests ≤ 32)
 
 -- the table tells of each test and each word of the sentence whether the one holds of the other
 abbrev pub IsTruthOf : List (Test PlainLit) → BlockText → Facts → Type 0
-IsTruthOf ts b f = (f.words ≡ words_of b) × (f.exprs ≡ length ts) × ((e w : ℕ) → Holds f e w ↔ HoldsOf ts (word_rows b) e w)
+IsTruthOf ts b f = (f.words ≡ words_of b) × (f.exprs ≡ length ts) × ((e w : ℕ) → Holds f e w
+    ↔ HoldsOf ts (word_rows b) e w)
 
 -- a match that has a word: it covers the words i + 1 to j
 abbrev pub Finds : Asked → BlockText → ℕ → ℕ → Type 0

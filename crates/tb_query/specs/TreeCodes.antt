@@ -32,7 +32,8 @@ mutual
   code_of-inj (cat ps) (cat qs) p = ap cat (codes_of-inj ps qs (ap second p))
   code_of-inj (alt ps) (alt qs) p = ap alt (codes_of-inj ps qs (ap second p))
   code_of-inj (rep t a b) (rep u c d) p =
-      λ i. rep (code_of-inj t u (ap (λ g. first (second g)) p) i) (ap (λ g. num (first (second (second g)))) p i) (coded_limit.inj b d (ap (λ g. second (second (second g))) p) i)
+      λ i. rep (code_of-inj t u (ap (λ g. first (second g)) p) i) (ap (λ g.
+      num (first (second (second g)))) p i) (coded_limit.inj b d (ap (λ g. second (second (second g))) p) i)
   code_of-inj x y p = absurd (true≢false (ap (λ g. nat_eq (kind x) (num (first g))) p))
 
   pub codes_of-inj : (xs ys : Forest) → codes_of xs ≡ codes_of ys → xs ≡ ys

@@ -1,15 +1,16 @@
 //! From token expressions that name their literals by number to those with needles.
 
 ghost use Rattle.std.specs.Prelude.{◌≡◌, ◌+◌, ◌∷◌, [], map, string_bytes, IfOk, IfErr};
-ghost use Rattle.tb_needle.specs.Literals.{IsAccepted};
+ghost use Rattle.tb_literal.specs.Literals.{IsAccepted};
 ghost use Rattle.tb_syntax.specs.Exprs.{test};
-ghost use Rattle.tb_syntax.specs.Tests.{every, whole, feature, denied_times, both, either, tests, literals, literals_of};
+ghost use Rattle.tb_syntax.specs.Tests.{every, whole, feature, denied_times, both, either, tests, literals};
+ghost use Rattle.tb_syntax.specs.Tests.{literals_of};
 ghost use Rattle.tb_query.specs.Refusing.{IsRefusalAmong};
 ghost use Rattle.tb_query.specs.Reading.{text_of, with_text, with_texts, AreAccepted};
 
 use crate::fault::QueryFault;
 use std::alloc::{AllocError, Global};
-use tb_needle::{Needle, PatternFault};
+use tb_literal::{LiteralMatcher, PatternFault};
 use tb_syntax::{Attr, Expr, Literal};
 
 /// How many bytes the patterns of a query may take together, as they are built.
@@ -32,13 +33,17 @@ fn text_of(alloc: Global, texts: &[String], literal: Literal) -> Result<String, 
 
 /// The needle of the literal. Out of line, so that what it builds takes no stack at each level.
 #[inline(never)]
-fn needle_of(alloc: Global, texts: &[String], literal: Literal) -> Result<Needle, QueryFault>
+fn needle_of(
+    alloc: Global,
+    texts: &[String],
+    literal: Literal,
+) -> Result<LiteralMatcher, QueryFault>
     ensures value { IfOk result (λ n. n ≡ with_text (map string_bytes texts.now) literal) }
     ensures accepted { IfOk result (λ n. IsAccepted n.flag n.text) }
     ensures refused { IfErr result (λ e. IsRefusalAmong (map string_bytes texts.now) (literal ∷ []) e) }
 {
     let text = text_of(alloc, texts, literal)?;
-    match Needle::new(alloc, text, literal.flag, pattern_bytes(texts.len())) {
+    match LiteralMatcher::new(alloc, text, literal.flag, pattern_bytes(texts.len())) {
         Ok(needle) => Ok(needle),
         Err(PatternFault::Syntax) => Err(QueryFault::Pattern(u64::from(literal.number) + 1)),
         Err(PatternFault::Memory) => Err(QueryFault::Memory),
@@ -46,42 +51,46 @@ fn needle_of(alloc: Global, texts: &[String], literal: Literal) -> Result<Needle
 }
 
 /// Any word.
-fn any() -> Expr<Needle>
+fn any() -> Expr<LiteralMatcher>
     ensures { test result ≡ every }
 {
     Expr::Any
 }
 
 /// The whole value of a column.
-fn whole(attr: Attr, needle: Needle) -> Expr<Needle>
+fn whole(attr: Attr, needle: LiteralMatcher) -> Expr<LiteralMatcher>
     ensures { test result ≡ whole attr needle }
 {
     Expr::Whole(attr, needle)
 }
 
 /// Some item of the features.
-fn item(needle: Needle) -> Expr<Needle>
+fn item(needle: LiteralMatcher) -> Expr<LiteralMatcher>
     ensures { test result ≡ feature needle }
 {
     Expr::Item(needle)
 }
 
 /// The expression denied so many times.
-fn denied(alloc: Global, times: usize, expr: Expr<Needle>) -> Result<Expr<Needle>, AllocError>
+fn denied(
+    alloc: Global,
+    times: usize,
+    expr: Expr<LiteralMatcher>,
+) -> Result<Expr<LiteralMatcher>, AllocError>
     ensures { IfOk result (λ e. test e ≡ denied_times times (test expr)) }
 {
     Ok(Expr::Denied(times, Box::new(alloc, expr)?))
 }
 
 /// Each of the expressions.
-fn both(exprs: Vec<Expr<Needle>>) -> Expr<Needle>
+fn both(exprs: Vec<Expr<LiteralMatcher>>) -> Expr<LiteralMatcher>
     ensures { test result ≡ both (tests (map test exprs.items)) }
 {
     Expr::Both(exprs)
 }
 
 /// Some of the expressions.
-fn either(exprs: Vec<Expr<Needle>>) -> Expr<Needle>
+fn either(exprs: Vec<Expr<LiteralMatcher>>) -> Expr<LiteralMatcher>
     ensures { test result ≡ either (tests (map test exprs.items)) }
 {
     Expr::Either(exprs)
@@ -89,9 +98,14 @@ fn either(exprs: Vec<Expr<Needle>>) -> Expr<Needle>
 
 /// The expression with the needles of its literals.
 #[cycle(attaching)]
-fn attach(alloc: Global, texts: &[String], expr: &Expr<Literal>) -> Result<Expr<Needle>, QueryFault>
+fn attach(
+    alloc: Global,
+    texts: &[String],
+    expr: &Expr<Literal>,
+) -> Result<Expr<LiteralMatcher>, QueryFault>
     ensures value { IfOk result (λ e. test e ≡ with_texts (map string_bytes texts.now) (test expr.now)) }
-    ensures accepted { IfOk result (λ _. AreAccepted (map (with_text (map string_bytes texts.now)) (literals (test expr.now)))) }
+    ensures accepted { IfOk result (λ _. AreAccepted (map (with_text (map string_bytes texts.now))
+        (literals (test expr.now)))) }
     ensures refused { IfErr result (λ e. IsRefusalAmong (map string_bytes texts.now) (literals (test expr.now)) e) }
 {
     match expr {
@@ -113,10 +127,13 @@ pub(crate) fn attach_all(
     alloc: Global,
     texts: &[String],
     exprs: &[Expr<Literal>],
-) -> Result<Vec<Expr<Needle>>, QueryFault>
-    ensures values { IfOk result (λ v. map test v.items ≡ map (with_texts (map string_bytes texts.now)) (map test exprs.now)) }
-    ensures accepted { IfOk result (λ _. AreAccepted (map (with_text (map string_bytes texts.now)) (literals_of (map test exprs.now)))) }
-    ensures refused { IfErr result (λ e. IsRefusalAmong (map string_bytes texts.now) (literals_of (map test exprs.now)) e) }
+) -> Result<Vec<Expr<LiteralMatcher>>, QueryFault>
+    ensures values { IfOk result (λ v. map test v.items ≡ map (with_texts (map string_bytes texts.now))
+        (map test exprs.now)) }
+    ensures accepted { IfOk result (λ _. AreAccepted (map (with_text (map string_bytes texts.now))
+        (literals_of (map test exprs.now)))) }
+    ensures refused { IfErr result (λ e. IsRefusalAmong (map string_bytes texts.now)
+        (literals_of (map test exprs.now)) e) }
 {
     let mut attached = Vec::new(alloc);
     for expr in exprs {

@@ -2,7 +2,7 @@
 
 ghost use Rattle.std.specs.Prelude.{◌≡◌};
 ghost use Rattle.tb_query.specs.declared.fault.QueryFault.TheVariants.{Memory};
-ghost use Rattle.tb_query.specs.Told.{query_fault};
+ghost use Rattle.tb_query.specs.Reported.{query_fault};
 
 use std::alloc::{AllocError, AllocFailed};
 use std::error::Error;

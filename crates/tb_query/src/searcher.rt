@@ -7,9 +7,9 @@ ghost use Rattle.tb_match.specs.Weight.{weight_of};
 ghost use Rattle.tb_syntax.specs.Exprs.{test};
 ghost use Rattle.tb_query.specs.Search.{Asked, IsSearchable, IsTruthOf, AreHitsIn};
 
-use crate::asker::{Asker, askers_of};
 use crate::expr::Expr;
 use crate::filling::fill;
+use crate::prepared::{PreparedExpr, prepare_exprs};
 use std::alloc::{AllocError, Global};
 use std::marker::Model;
 use tb_conllu::{BlockOf, Text, words};
@@ -20,7 +20,7 @@ use tb_match::{Found, Pat, Strategy, Truth, find};
 #[derive(Drop)]
 pub struct Searcher<'q> {
     pat: &'q Pat,
-    askers: Vec<Asker<'q>>,
+    prepared_exprs: Vec<PreparedExpr<'q>>,
 }
 
 impl<'q> Model for Searcher<'q> {
@@ -34,11 +34,11 @@ impl<'q> Model for Searcher<'q> {
 
     ghost coded = { coded_asked };
 
-    ghost use Rattle.tb_query.specs.Askers.{asked};
+    ghost use Rattle.tb_query.specs.PreparedExprs.{asked};
 
-    ghost view = { λ s. record { pat = tree s.pat.now; tests = map asked s.askers.items } };
+    ghost view = { λ s. record { pat = tree s.pat.now; tests = map asked s.prepared_exprs.items } };
 
-    ghost invariant = { λ s. IsSearchable (record { pat = tree s.pat.now; tests = map asked s.askers.items }) };
+    ghost invariant = { λ s. IsSearchable (record { pat = tree s.pat.now; tests = map asked s.prepared_exprs.items }) };
 }
 
 impl<'q> Searcher<'q> {
@@ -51,19 +51,22 @@ impl<'q> Searcher<'q> {
         requires { IsSearchable (record { pat = tree pat.now; tests = map test exprs.now }) }
         ensures { IfOk result (λ s. s ≡ record { pat = tree pat.now; tests = map test exprs.now }) }
     {
-        let askers = askers_of(alloc, exprs)?;
-        Ok(Searcher { pat, askers })
+        let prepared_exprs = prepare_exprs(alloc, exprs)?;
+        Ok(Searcher {
+            pat,
+            prepared_exprs,
+        })
     }
 
     /// Which expressions hold of which words of the sentence.
     pub fn truth<T: Text>(&mut self, alloc: Global, block: &BlockOf<T>) -> Result<Truth, AllocError>
         requires { words_of block.now ≤ 1000 }
         ensures truth { IfOk result (λ t. IsTruthOf self.old.tests block.now t) }
-        ensures same { self.new ≡ self.old }
+        ensures unchanged { self.new ≡ self.old }
     {
-        let exprs = self.askers.len() as u16;
+        let exprs = self.prepared_exprs.len() as u16;
         let mut truth = Truth::new(alloc, words(block), exprs)?;
-        fill(&mut self.askers, &block.rows, &mut truth);
+        fill(&mut self.prepared_exprs, &block.rows, &mut truth);
         Ok(truth)
     }
 
@@ -79,7 +82,7 @@ impl<'q> Searcher<'q> {
         ensures hits { IfOk result (λ f. AreHitsIn strategy self.old block.now f.hits.items) }
         ensures steps { IfOk result (λ f.
             f.steps ≤ weight_of self.old.pat * (words_of block.now + 1) * (words_of block.now + 2) / 2) }
-        ensures same { self.new ≡ self.old }
+        ensures unchanged { self.new ≡ self.old }
     {
         let truth = self.truth(alloc, block)?;
         find(alloc, self.pat, &truth, strategy)

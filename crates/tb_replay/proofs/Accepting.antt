@@ -6,7 +6,7 @@ use Rattle.std.proofs.lemmas.List.{length-map}
 use Rattle.std.proofs.lemmas.Bool.{eq-eqb}
 use Rattle.std.proofs.lemmas.Bool.Decides.{nat_tests}
 use Rattle.tb_conllu.specs.Text.{BlockText, text_of}
-use Rattle.tb_conllu.specs.Told.{IsFile, IsNoFile, IsTold}
+use Rattle.tb_conllu.specs.Reported.{IsFile, IsNoFile, IsReported}
 use Rattle.tb_rules.specs.File.{IsValid, IsFaultAt}
 use Rattle.tb_core.specs.declared.kinds.Event.{Event}
 use Rattle.tb_core.specs.declared.limits.Limits.{Limits}
@@ -34,13 +34,13 @@ use Rattle.tb_replay.specs.Commanded.{MayBeDone, IsAccepted, Did, IsCommanded, a
 -- what is known of bodies
 pub record Bodies : Type 0 where
   pub one_list : IsOneList
-  pub no_file : (f : List ℕ) (line code : ℕ) → IsTold f line code → IsNoFile f
+  pub no_file : (f : List ℕ) (line code : ℕ) → IsReported f line code → IsNoFile f
   pub sound : (bs : List BlockText) (sentence rule row : ℕ) → IsFaultAt bs sentence rule row → IsValid bs → ⊥
 
 -- ---- tests that tell nothing
 
-none_told : (s : Machine) (test : Refusal → Type 0) → ((r : Refusal) → test r → ⊥) → (d : Ending) → Refuses s test d → ⊥
-none_told s test none d h = none h.0 h.1
+none_reported : (s : Machine) (test : Refusal → Type 0) → ((r : Refusal) → test r → ⊥) → (d : Ending) → Refuses s test d → ⊥
+none_reported s test none d h = none h.0 h.1
 
 not_full : (l : Limits) (s : Machine) (c : Command) (a : Act) → has_room l s a ≡ true → ((b : Act) → Means s c b → b ≡ a) → (r : Refusal) → IsFull l s c r → ⊥
 not_full l s c a room once r h = let no_room : true ≡ false = sym room ∙ (ap (λ b. has_room l s b) (sym (once h.0 h.1)) ∙ h.2) in absurd (cc)
@@ -115,12 +115,12 @@ import_accepted k l s name user bs w may room =
         means,
         passed (not_bad_name s (is_name name && is_name user) (both_true (is_name name) (is_name user) may.named may.by))
             (passed (λ d h. lacks_at s.batches name h.0 h.1 may.new h.2.there (sym h.2.named))
-            (passed (none_told s _ (λ r h. k.no_file body h.0 h.1 h.2 bs may.shaped refl))
-            (passed (none_told s _ (λ r h. k.sound bs h.1 h.2 h.3 (subst (λ cs. IsFaultAt cs h.1 h.2 h.3) (k.one_list body h.0 bs h.4 file) h.5) may.valid))
-            (passed (none_told s _ (λ r h. let e = ap length (k.one_list body [] bs h.0 file) in let some = may.some in absurd (omega (arith, e, some))))
-            (passed (none_told s _ (λ r h. h.0 may.new))
-            (passed (none_told s _ (λ r h. none_taken (ids_of s.sentences) bs h.1 may.free (subst (λ cs. IsFirstTaken (ids_of s.sentences) cs h.1) (k.one_list body h.0 bs h.2 file) h.3)))
-            (passed (none_told s _ (not_full l s c a room (λ b h. means_once k.one_list s c w b a h means)))
+            (passed (none_reported s _ (λ r h. k.no_file body h.0 h.1 h.2 bs may.shaped refl))
+            (passed (none_reported s _ (λ r h. k.sound bs h.1 h.2 h.3 (subst (λ cs. IsFaultAt cs h.1 h.2 h.3) (k.one_list body h.0 bs h.4 file) h.5) may.valid))
+            (passed (none_reported s _ (λ r h. let e = ap length (k.one_list body [] bs h.0 file) in let some = may.some in absurd (omega (arith, e, some))))
+            (passed (none_reported s _ (λ r h. h.0 may.new))
+            (passed (none_reported s _ (λ r h. none_taken (ids_of s.sentences) bs h.1 may.free (subst (λ cs. IsFirstTaken (ids_of s.sentences) cs h.1) (k.one_list body h.0 bs h.2 file) h.3)))
+            (passed (none_reported s _ (not_full l s c a room (λ b h. means_once k.one_list s c w b a h means)))
             (a, means, may, refl)))))))),
       ),
     )
@@ -137,10 +137,10 @@ event_accepted k l s place event user w may room =
       (
         means,
         passed (not_bad_name s (is_name name && is_name user) (both_true (is_name name) (is_name user) (named_at s.batches place may.batch w.named may.there) may.by))
-            (passed (none_told s _ (λ r h. lacks_at s.batches name place may.batch h.0 may.there refl))
-            (passed (none_told s _ (λ r h. no_err (event_decision may.batch.state may.batch.worker event user) (goes_to event, makes_worker event) r may.decided
+            (passed (none_reported s _ (λ r h. lacks_at s.batches name place may.batch h.0 may.there refl))
+            (passed (none_reported s _ (λ r h. no_err (event_decision may.batch.state may.batch.worker event user) (goes_to event, makes_worker event) r may.decided
             (subst (λ (b : Batch). event_decision b.state b.worker event user ≡ Err r) (batch_once s name h.0 place h.1 may.batch w h.2 has) h.3)))
-            (passed (none_told s _ (not_full l s c a room (λ b h. means_once k.one_list s c w b a h means)))
+            (passed (none_reported s _ (not_full l s c a room (λ b h. means_once k.one_list s c w b a h means)))
             (a, means, may, refl)))),
       ),
     )
@@ -166,19 +166,19 @@ correct_accepted k l s place user b w may room =
       (
         means,
         passed (not_bad_name s (is_name user) may.by)
-            (passed (none_told s _ (λ r h. h.0 place x has))
+            (passed (none_reported s _ (λ r h. h.0 place x has))
             (passed (λ d h. let e = ap rev (here h.0 h.1 h.2) in let more = h.4 in absurd (omega (arith, e, more)))
-            (passed (none_told s _ (λ r h. no_err (correct_decision (state_in s.batches x) (batch_with s.batches x.batch).worker user base (rev x)) tt r
+            (passed (none_reported s _ (λ r h. no_err (correct_decision (state_in s.batches x) (batch_with s.batches x.batch).worker user base (rev x)) tt r
             (still_right (may_correct (state_in s.batches x) (batch_with s.batches x.batch).worker user) base may.decided)
             (subst (λ (y : Sentence). correct_decision (state_in s.batches y) (batch_with s.batches y.batch).worker user base (rev y) ≡ Err r) (here h.0 h.1 h.2) h.3)))
-            (passed (none_told s _ (λ r h. k.no_file body h.0 h.1 h.2 (b ∷ []) file.shaped file.text))
-            (passed (none_told s _ (λ r h. k.sound (b ∷ []) h.1 h.2 h.3 (subst (λ cs. IsFaultAt cs h.1 h.2 h.3) (k.one_list body h.0 (b ∷ []) h.4 file) h.5) (valid_alone b may.lawful)))
-            (passed (none_told s _ (λ r h. let e = ap length (k.one_list body [] (b ∷ []) h.0 file) in absurd (omega (arith, e))))
-            (passed (none_told s _ (λ r h. let e = ap length (k.one_list body (h.0 ∷ h.1 ∷ h.2) (b ∷ []) h.3 file) in absurd (omega (arith, e))))
-            (passed (none_told s _ (λ r h. h.0.5 (ap sent_id_of (same h.0.2 h.0.4) ∙ (may.same_id ∙ ap (λ (y : Sentence). y.sent_id) (sym (here h.0.0 h.0.1 h.0.3))))))
-            (passed (none_told s _ (λ r h. h.0.5 (ap text_value_of (same h.0.2 h.0.4) ∙ (may.same_text ∙ ap (λ (y : Sentence). text_value_of y.current.body) (sym (here h.0.0 h.0.1 h.0.3))))))
-            (passed (none_told s _ (λ r h. may.new (sym (same h.0.2 h.0.4) ∙ (h.0.5 ∙ ap (λ (y : Sentence). y.current.body) (here h.0.0 h.0.1 h.0.3)))))
-            (passed (none_told s _ (not_full l s c a room (λ b h. means_once k.one_list s c w b a h means)))
+            (passed (none_reported s _ (λ r h. k.no_file body h.0 h.1 h.2 (b ∷ []) file.shaped file.text))
+            (passed (none_reported s _ (λ r h. k.sound (b ∷ []) h.1 h.2 h.3 (subst (λ cs. IsFaultAt cs h.1 h.2 h.3) (k.one_list body h.0 (b ∷ []) h.4 file) h.5) (valid_alone b may.lawful)))
+            (passed (none_reported s _ (λ r h. let e = ap length (k.one_list body [] (b ∷ []) h.0 file) in absurd (omega (arith, e))))
+            (passed (none_reported s _ (λ r h. let e = ap length (k.one_list body (h.0 ∷ h.1 ∷ h.2) (b ∷ []) h.3 file) in absurd (omega (arith, e))))
+            (passed (none_reported s _ (λ r h. h.0.5 (ap sent_id_of (same h.0.2 h.0.4) ∙ (may.same_id ∙ ap (λ (y : Sentence). y.sent_id) (sym (here h.0.0 h.0.1 h.0.3))))))
+            (passed (none_reported s _ (λ r h. h.0.5 (ap text_value_of (same h.0.2 h.0.4) ∙ (may.same_text ∙ ap (λ (y : Sentence). text_value_of y.current.body) (sym (here h.0.0 h.0.1 h.0.3))))))
+            (passed (none_reported s _ (λ r h. may.new (sym (same h.0.2 h.0.4) ∙ (h.0.5 ∙ ap (λ (y : Sentence). y.current.body) (here h.0.0 h.0.1 h.0.3)))))
+            (passed (none_reported s _ (not_full l s c a room (λ b h. means_once k.one_list s c w b a h means)))
             (a, means, may, refl)))))))))))),
       ),
     )
@@ -195,10 +195,10 @@ pull_accepted k l s place user w may room =
       (
         means,
         passed (not_bad_name s (is_name user) may.by)
-            (passed (none_told s _ (λ r h. h.0 place x has))
-            (passed (none_told s _ (λ r h. no_err (pull_decision (batch_with s.batches x.batch).state x.pulled) tt r may.decided
+            (passed (none_reported s _ (λ r h. h.0 place x has))
+            (passed (none_reported s _ (λ r h. no_err (pull_decision (batch_with s.batches x.batch).state x.pulled) tt r may.decided
             (subst (λ (y : Sentence). pull_decision (batch_with s.batches y.batch).state y.pulled ≡ Err r) (sentence_once s n h.0 place h.1 x h.2 has) h.3)))
-            (passed (none_told s _ (not_full l s c a room (λ b h. means_once k.one_list s c w b a h means)))
+            (passed (none_reported s _ (not_full l s c a room (λ b h. means_once k.one_list s c w b a h means)))
             (a, means, may, refl)))),
       ),
     )
@@ -215,10 +215,10 @@ restore_accepted k l s place user w may room =
       (
         means,
         passed (not_bad_name s (is_name user) may.by)
-            (passed (none_told s _ (λ r h. h.0 place x has))
-            (passed (none_told s _ (λ r h. no_err (restore_decision (batch_with s.batches x.batch).state x.pulled) (batch_with s.batches x.batch).state r may.decided
+            (passed (none_reported s _ (λ r h. h.0 place x has))
+            (passed (none_reported s _ (λ r h. no_err (restore_decision (batch_with s.batches x.batch).state x.pulled) (batch_with s.batches x.batch).state r may.decided
             (subst (λ (y : Sentence). restore_decision (batch_with s.batches y.batch).state y.pulled ≡ Err r) (sentence_once s n h.0 place h.1 x h.2 has) h.3)))
-            (passed (none_told s _ (not_full l s c a room (λ b h. means_once k.one_list s c w b a h means)))
+            (passed (none_reported s _ (not_full l s c a room (λ b h. means_once k.one_list s c w b a h means)))
             (a, means, may, refl)))),
       ),
     )

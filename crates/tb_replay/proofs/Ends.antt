@@ -16,7 +16,7 @@ use Rattle.tb_core.proofs.Lists.{head_is, tail_is, nothing_more, snoc_front, sno
 use Rattle.tb_core.proofs.Keeps.{well_empty, well_after}
 use Rattle.tb_core.proofs.Extending.{continue_count, extends_trans, extends_after}
 use Rattle.tb_replay.specs.Course.{Plays, act_by, act_of}
-use Rattle.tb_replay.specs.Entries.{row_of, entry_of, entries_of}
+use Rattle.tb_replay.specs.Summaries.{row_of, entry_of, entries_of}
 use Rattle.tb_replay.specs.Fine.{AreFine}
 use Rattle.tb_replay.specs.Slots.{slots_from, mark_of, small_of, empty_small}
 use Rattle.tb_replay.specs.Playing.{kind_test, kind_next, are_slots, is_same_flag, is_mark_of, are_marks, plays}

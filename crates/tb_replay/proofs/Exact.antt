@@ -24,7 +24,7 @@ use Rattle.tb_core.proofs.Balance.{unpulled, pull_was, restore_was}
 use Rattle.tb_core.proofs.Extending.{continue_at, continue_count}
 use Rattle.tb_core.proofs.Stored.{few_in, few_words}
 use Rattle.tb_replay.specs.Course.{bodies_in, body_at, no_body, rev_count}
-use Rattle.tb_replay.specs.Entries.{RevisionRow, row_of, entry_of, entries_of}
+use Rattle.tb_replay.specs.Summaries.{RevisionRow, row_of, entry_of, entries_of}
 use Rattle.tb_replay.specs.Fine.{AreFine}
 use Rattle.tb_replay.specs.Slots.{Slot, Mark, Small, slot_for, mark_of, small_of, no_mark, slot_at, mark_at}
 use Rattle.tb_replay.specs.Playing.{no_entry, no_row, slot_under, entry_at, row_next, event_expected, event_fits, event_test, event_next, correct_expected, correct_fits, correct_test, correct_next, pull_expected, pull_fits, pull_test, pull_next, restore_expected, restore_fits, restore_test, restore_next, mark_corrected, mark_flagged, correct_to, pull_to, restore_to, is_expected, fits_word}

@@ -18,7 +18,7 @@ use Rattle.tb_core.proofs.Weights.{all_there}
 use Rattle.tb_core.proofs.Lists.{map-joined}
 use Rattle.tb_core.proofs.Stored.{few_in}
 use Rattle.tb_replay.specs.Course.{bodies_in, firsts}
-use Rattle.tb_replay.specs.Entries.{row_of, entry_of, entries_of}
+use Rattle.tb_replay.specs.Summaries.{row_of, entry_of, entries_of}
 use Rattle.tb_replay.specs.Fine.{AreFine}
 use Rattle.tb_replay.specs.Slots.{Slot, Mark, slots_from, mark_of, small_of}
 use Rattle.tb_replay.specs.Playing.{is_first_by, first_count, is_of_import, first_mark, first_counts, import_rows, import_expected, import_fits, import_test, import_to, import_next, fits_word}

@@ -9,21 +9,21 @@ use Rattle.tb_core.specs.Events.{goes_to, makes_worker}
 use Rattle.tb_core.specs.Machine.{Batch, Machine, change_at}
 use Rattle.tb_core.specs.Acts.{with_worker}
 use Rattle.tb_core.specs.Reaching.{IsReachable}
-use Rattle.tb_replay.specs.Entries.{EntryRow, entry_of, entries_of}
+use Rattle.tb_replay.specs.Summaries.{SummaryRow, entry_of, entries_of}
 use Rattle.tb_replay.specs.Fine.{AreFine}
 use Rattle.tb_replay.specs.Slots.{Slot, Mark, small, empty_small, no_slot, no_mark}
 use Rattle.tb_replay.specs.Playing.{slot_moved, slot_with, with_sums, mark_next, first_count, first_counts, plays, is_slot_of, are_slots, is_mark_of, are_marks}
 use Rattle.tb_replay.proofs.Exact.{small_is}
 use Rattle.tb_replay.proofs.Ends.{rows_exact}
 
-pub counts_drop : (es : List EntryRow) (i : ℕ) (e : EntryRow) → i < length es → e ≡ get_or es i e → first_counts (drop i es) ≡ first_count e.revisions + first_counts (drop (i + 1) es)
+pub counts_drop : (es : List SummaryRow) (i : ℕ) (e : SummaryRow) → i < length es → e ≡ get_or es i e → first_counts (drop i es) ≡ first_count e.revisions + first_counts (drop (i + 1) es)
 counts_drop [] i e l h = absurd (omega arith)
-counts_drop (x ∷ xs) zero e l h = ap (λ (z : EntryRow). first_count z.revisions + first_counts xs) (sym h)
+counts_drop (x ∷ xs) zero e l h = ap (λ (z : SummaryRow). first_count z.revisions + first_counts xs) (sym h)
 counts_drop (x ∷ xs) (suc i) e l h =
     let n : suc i + 1 ≡ suc (i + 1) = omega arith in
     counts_drop xs i e (omega arith) h ∙ ap (λ j. first_count e.revisions + first_counts (drop j (x ∷ xs))) (sym n)
 
-pub counts_end : (es : List EntryRow) (i : ℕ) → length es ≤ i → first_counts (drop i es) ≡ 0
+pub counts_end : (es : List SummaryRow) (i : ℕ) → length es ≤ i → first_counts (drop i es) ≡ 0
 counts_end [] zero l = refl
 counts_end [] (suc i) l = refl
 counts_end (x ∷ xs) zero l = absurd (omega arith)
@@ -75,13 +75,13 @@ slots_apart [] (x ∷ xs) h = refl
 slots_apart (b ∷ bs) [] h = refl
 slots_apart (b ∷ bs) (x ∷ xs) h = and_false (is_slot_of b x) (are_slots bs xs) (slots_apart bs xs (λ e. h (ap suc e)))
 
-pub marks_apart : (es : List EntryRow) (xs : List Mark) → (length es ≡ length xs → ⊥) → false ≡ are_marks es xs
+pub marks_apart : (es : List SummaryRow) (xs : List Mark) → (length es ≡ length xs → ⊥) → false ≡ are_marks es xs
 marks_apart [] [] h = absurd (h refl)
 marks_apart [] (x ∷ xs) h = refl
 marks_apart (e ∷ es) [] h = refl
 marks_apart (e ∷ es) (x ∷ xs) h = and_false (is_mark_of e x) (are_marks es xs) (marks_apart es xs (λ p. h (ap suc p)))
 
-pub finish : {E : Type 0} (r : Result Bool E) (f : Machine) (bs : List Batch) (es : List EntryRow) (ms : List MoveText) → IfOk r (λ b. b ≡ plays bs es empty_small ms) → length es ≤ 1000000 → length ms ≤ 1000000000
+pub finish : {E : Type 0} (r : Result Bool E) (f : Machine) (bs : List Batch) (es : List SummaryRow) (ms : List MoveText) → IfOk r (λ b. b ≡ plays bs es empty_small ms) → length es ≤ 1000000 → length ms ≤ 1000000000
     → bs ≡ f.batches → es ≡ entries_of f.sentences → ms ≡ f.moves → AreFine f → IfOk r (λ b. (b ≡ true) ↔ IsReachable f)
 finish (Err e) f bs es ms h l k p q r fine = tt
 finish (Ok b) f bs es ms h l k p q r fine =

@@ -7,10 +7,10 @@ use Rattle.tb_core.specs.declared.kinds.State.{State}
 use Rattle.tb_core.specs.Events.{is_state}
 use Rattle.tb_core.specs.declared.sums.Totals.{Totals}
 use Rattle.tb_core.specs.Machine.{Batch, Revision, Sentence, Machine, state_in, weigh, when, one, words}
-use Rattle.tb_core.specs.Totals.{in_state, at_state, StandFor}
+use Rattle.tb_core.specs.Totals.{in_state, at_state, AreTotalsOf}
 use Rattle.tb_core.specs.Keeping.{IsFine}
 use Rattle.tb_core.proofs.Stored.{few_words}
-use Rattle.tb_replay.specs.Entries.{RevisionRow, EntryRow, row_of, entry_of, entries_of}
+use Rattle.tb_replay.specs.Summaries.{RevisionRow, SummaryRow, row_of, entry_of, entries_of}
 use Rattle.tb_replay.specs.Fine.{AreFine}
 use Rattle.tb_replay.specs.Sums.{entry_state, last_count, one_each, words_each, entry_total}
 use Rattle.tb_replay.proofs.Parts.{state_self}
@@ -23,7 +23,7 @@ last_is (r ∷ q ∷ rs) c = last_is (q ∷ rs) c
 pub words_there : (x : Sentence) → words_each (entry_of x) ≡ words x
 words_there x = last_is x.before x.current
 
-pub total_is : (w : EntryRow → ℕ) (v : Sentence → ℕ) → ((x : Sentence) → w (entry_of x) ≡ v x) → (bs : List Batch) (st : State) (xs : List Sentence) → entry_total w bs st (entries_of xs) ≡ weigh (in_state bs st v) xs
+pub total_is : (w : SummaryRow → ℕ) (v : Sentence → ℕ) → ((x : Sentence) → w (entry_of x) ≡ v x) → (bs : List Batch) (st : State) (xs : List Sentence) → entry_total w bs st (entries_of xs) ≡ weigh (in_state bs st v) xs
 total_is w v e bs st [] = refl
 total_is w v e bs st (x ∷ xs) =
     let here = ap (λ n. when (is_state (state_in bs x) st) n) (e x) in
@@ -36,7 +36,7 @@ when_below : (t : Bool) (n : ℕ) → when t n ≤ n
 when_below true n = omega arith
 when_below false n = omega arith
 
-pub ones_below : (bs : List Batch) (st : State) (es : List EntryRow) → entry_total one_each bs st es ≤ length es
+pub ones_below : (bs : List Batch) (st : State) (es : List SummaryRow) → entry_total one_each bs st es ≤ length es
 ones_below bs st [] = omega arith
 ones_below bs st (e ∷ es) = let a = when_below (is_state (entry_state bs e) st) 1 in let b = ones_below bs st es in omega (arith, a, b)
 
@@ -49,17 +49,17 @@ words_below bs st (x ∷ xs) h =
     let d = words_there x in
     omega (arith, a, b, c, d)
 
-pub ones_limit : (f : Machine) (bs : List Batch) (st : State) (es : List EntryRow) → es ≡ entries_of f.sentences → length f.sentences ≤ 1000000 → entry_total one_each bs st es ≤ 1000000
+pub ones_limit : (f : Machine) (bs : List Batch) (st : State) (es : List SummaryRow) → es ≡ entries_of f.sentences → length f.sentences ≤ 1000000 → entry_total one_each bs st es ≤ 1000000
 ones_limit f bs st es q few = let a = ones_below bs st es in let n = ap length q in let k = length-map f.sentences entry_of in omega (arith, a, n, k, few)
 
-pub words_limit : (f : Machine) (bs : List Batch) (st : State) (es : List EntryRow) → es ≡ entries_of f.sentences → AreFine f → length f.sentences ≤ 1000000 → entry_total words_each bs st es ≤ 1000000000
+pub words_limit : (f : Machine) (bs : List Batch) (st : State) (es : List SummaryRow) → es ≡ entries_of f.sentences → AreFine f → length f.sentences ≤ 1000000 → entry_total words_each bs st es ≤ 1000000000
 words_limit f bs st es q fine few =
     let a = words_below bs st f.sentences fine.sentences in
     let b = ap (entry_total words_each bs st) q in
     omega (arith, a, b, few)
 
-pub stand : (f : Machine) (bs : List Batch) (es : List EntryRow) (t : Totals) → bs ≡ f.batches → es ≡ entries_of f.sentences
-    → ((st : State) → (at_state t.sentences st ≡ entry_total one_each bs st es) × (at_state t.words st ≡ entry_total words_each bs st es)) → StandFor t f
+pub stand : (f : Machine) (bs : List Batch) (es : List SummaryRow) (t : Totals) → bs ≡ f.batches → es ≡ entries_of f.sentences
+    → ((st : State) → (at_state t.sentences st ≡ entry_total one_each bs st es) × (at_state t.words st ≡ entry_total words_each bs st es)) → AreTotalsOf t f
 stand f bs es t p q h = record {
   sentences = λ st. (h st).0 ∙ (ap (entry_total one_each bs st) q ∙ (ap (λ b. entry_total one_each b st (entries_of f.sentences)) p ∙ total_is one_each one (λ x. refl) f.batches st f.sentences));
   words = λ st. (h st).1 ∙ (ap (entry_total words_each bs st) q ∙ (ap (λ b. entry_total words_each b st (entries_of f.sentences)) p ∙ total_is words_each words words_there f.batches st f.sentences));
@@ -67,18 +67,18 @@ stand f bs es t p q h = record {
 
 -- ---- the loop
 
-total_drop : (w : EntryRow → ℕ) (bs : List Batch) (st : State) (es : List EntryRow) (i : ℕ) (e : EntryRow) → i < length es → e ≡ get_or es i e
+total_drop : (w : SummaryRow → ℕ) (bs : List Batch) (st : State) (es : List SummaryRow) (i : ℕ) (e : SummaryRow) → i < length es → e ≡ get_or es i e
     → entry_total w bs st (drop i es) ≡ when (is_state (entry_state bs e) st) (w e) + entry_total w bs st (drop (i + 1) es)
 total_drop w bs st es i e l h = ap (entry_total w bs st) (drop_more es i e l) ∙ ap (λ z. when (is_state (entry_state bs z) st) (w z) + entry_total w bs st (drop (i + 1) es)) (sym h)
 
-pub total_end : (w : EntryRow → ℕ) (bs : List Batch) (st : State) (es : List EntryRow) (i : ℕ) → length es ≤ i → entry_total w bs st (drop i es) ≡ 0
+pub total_end : (w : SummaryRow → ℕ) (bs : List Batch) (st : State) (es : List SummaryRow) (i : ℕ) → length es ≤ i → entry_total w bs st (drop i es) ≡ 0
 total_end w bs st [] zero l = refl
 total_end w bs st [] (suc i) l = refl
 total_end w bs st (e ∷ es) zero l = absurd (omega arith)
 total_end w bs st (e ∷ es) (suc i) l = total_end w bs st es i (omega arith)
 
 -- an entry added to the sums of those before it
-pub turned : (w : EntryRow → ℕ) (bs : List Batch) (st : State) (es : List EntryRow) (i : ℕ) (e : EntryRow) (own : State) (sum next more : ℕ) → i < length es → e ≡ get_or es i e → own ≡ entry_state bs e → more ≡ w e
+pub turned : (w : SummaryRow → ℕ) (bs : List Batch) (st : State) (es : List SummaryRow) (i : ℕ) (e : SummaryRow) (own : State) (sum next more : ℕ) → i < length es → e ≡ get_or es i e → own ≡ entry_state bs e → more ≡ w e
     → next ≡ sum + when (is_state own st) more → sum + entry_total w bs st (drop i es) ≡ entry_total w bs st es → next + entry_total w bs st (drop (i + 1) es) ≡ entry_total w bs st es
 turned w bs st es i e own sum next more l h p q a k =
     let d = total_drop w bs st es i e l h in
@@ -86,7 +86,7 @@ turned w bs st es i e own sum next more l h p q a k =
     omega (arith, d, here, a, k)
 
 -- what comes to a sum is a part of all
-pub not_past : (w : EntryRow → ℕ) (bs : List Batch) (es : List EntryRow) (i : ℕ) (e : EntryRow) (own : State) (sum more most : ℕ) → i < length es → e ≡ get_or es i e → own ≡ entry_state bs e → more ≡ w e
+pub not_past : (w : SummaryRow → ℕ) (bs : List Batch) (es : List SummaryRow) (i : ℕ) (e : SummaryRow) (own : State) (sum more most : ℕ) → i < length es → e ≡ get_or es i e → own ≡ entry_state bs e → more ≡ w e
     → sum + entry_total w bs own (drop i es) ≡ entry_total w bs own es → entry_total w bs own es ≤ most → sum + more ≤ most
 not_past w bs es i e own sum more most l h p q k few =
     let d = total_drop w bs own es i e l h in

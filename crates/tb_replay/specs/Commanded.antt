@@ -22,7 +22,8 @@ Did l s c answer t a = MayBeDone l s a × Means s c a × (answer ≡ replied (re
 -- commands under these limits, each with some answer, lead from the empty state to this one
 pub data IsCommanded (l : Limits) : Machine → Type 0 where
   at_first : IsCommanded l empty_machine
-  one_more : (s t : Machine) (c : Command) (answer : Answer) → IsCommanded l s → Steps l s c answer t → IsCommanded l t
+  one_more : (s t : Machine) (c : Command) (answer : Answer) → IsCommanded l s → Steps l s c answer t
+      → IsCommanded l t
 
 -- allowed acts reach it, and it is within the limits
 abbrev pub IsReachedWithin : Limits → Machine → Type 0

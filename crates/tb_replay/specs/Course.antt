@@ -6,7 +6,8 @@ use Rattle.tb_core.specs.declared.kinds.Kind.{Kind}
 use Rattle.tb_core.specs.declared.kinds.Kind.TheVariants.{Import, Step, Correct, Pull, Restore}
 use Rattle.tb_core.specs.Moves.{MoveText}
 use Rattle.tb_core.specs.Machine.{Machine, bodies_of}
-use Rattle.tb_core.specs.Acts.{Act, importing, stepping, correcting, pulling, restoring, IsAllowed, after, move_of, names_of}
+use Rattle.tb_core.specs.Acts.{Act, importing, stepping, correcting, pulling, restoring, IsAllowed, after, move_of}
+use Rattle.tb_core.specs.Acts.{names_of}
 
 -- the texts of each sentence, oldest first
 abbrev pub bodies_in : Machine → List (List BlockText)
@@ -31,7 +32,8 @@ rev_count s i = length (slice_index_or (bodies_in s) i [])
 -- The command that a move of this kind names in the state s: an import brings the next name and the first texts of the
 -- next sentences of f, a correction the next text of its sentence.
 abbrev pub act_by : Kind → Machine → Machine → MoveText → Act
-act_by Import f s m = importing (slice_index_or (names_of f.batches) (length s.batches) []) m.who (firsts (bodies_in f) (length s.sentences) m.sentences)
+act_by Import f s m = importing (slice_index_or (names_of f.batches) (length s.batches) []) m.who (firsts (bodies_in f)
+    (length s.sentences) m.sentences)
 act_by (Step event) f s m = stepping (m.batch - 1) event m.who
 act_by Correct f s m = correcting (m.sent - 1) m.who (body_at (bodies_in f) (m.sent - 1) (rev_count s (m.sent - 1)))
 act_by Pull f s m = pulling (m.sent - 1) m.who
@@ -43,4 +45,5 @@ act_of f s m = act_by m.kind f s m
 -- The moves lead from s to f: each is that of the command that it names, which is accepted.
 abbrev pub Plays : Machine → Machine → List MoveText → Type 0
 Plays f s [] = s ≡ f
-Plays f s (m ∷ ms) = IsAllowed s (act_of f s m) × (move_of s (act_of f s m) ≡ m) × Plays f (after s (act_of f s m)) ms
+Plays f s (m ∷ ms) = IsAllowed s (act_of f s m) × (move_of s (act_of f s m) ≡ m)
+    × Plays f (after s (act_of f s m)) ms

@@ -1,5 +1,5 @@
 pub mod Course
-pub mod Entries
+pub mod Summaries
 pub mod Fine
 pub mod Slots
 pub mod Playing

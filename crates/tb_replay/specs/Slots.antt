@@ -28,7 +28,12 @@ empty_small = record { slots = []; marks = []; count = 0 }
 
 -- the slot of the batch with this number
 abbrev pub slot_for : ℕ → Batch → List Sentence → Slot
-slot_for n b xs = record { state = b.state; worker = b.worker; sentences = weigh (at_work n one) xs; words = weigh (at_work n words) xs }
+slot_for n b xs = record {
+  state = b.state;
+  worker = b.worker;
+  sentences = weigh (at_work n one) xs;
+  words = weigh (at_work n words) xs;
+}
 
 -- the slots of batches from this number on
 abbrev pub slots_from : ℕ → List Batch → List Sentence → List Slot
@@ -39,7 +44,11 @@ abbrev pub mark_of : Sentence → Mark
 mark_of x = record { batch = x.batch; pulled = x.pulled; rev = rev x; words = words x }
 
 abbrev pub small_of : Machine → Small
-small_of s = record { slots = slots_from 1 s.batches s.sentences; marks = map mark_of s.sentences; count = length s.moves }
+small_of s = record {
+  slots = slots_from 1 s.batches s.sentences;
+  marks = map mark_of s.sentences;
+  count = length s.moves;
+}
 
 -- ---- what is read where nothing stands
 

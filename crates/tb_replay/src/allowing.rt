@@ -1,15 +1,18 @@
 //! Whether a move may come next, by what the replay keeps.
 
-ghost use Rattle.std.specs.Prelude.{◌≡◌, ◌+◌, ◌^◌, ◌<◌, ◌&&◌, length, nat_lt, cond, is_ok, take, drop, MatchOption, IfSome, true, false};
+ghost use Rattle.std.specs.Prelude.{◌≡◌, ◌+◌, ◌^◌, ◌<◌, ◌&&◌, length, nat_lt, cond, is_ok, take};
+ghost use Rattle.std.specs.Prelude.{drop, MatchOption, IfSome, true, false};
 ghost use Rattle.std.specs.List.{list_all};
 ghost use Rattle.tb_core.specs.declared.kinds.State.TheVariants.{Withdrawn};
 ghost use Rattle.tb_core.specs.Names.{is_name};
 ghost use Rattle.tb_core.specs.Deciding.{event_decision, may_correct, pull_decision, restore_decision};
 ghost use Rattle.tb_replay.specs.Slots.{small};
-ghost use Rattle.tb_replay.specs.Playing.{entry_at, row_next, event_fits, event_test, one_expected, pull_fits, pull_test, restore_fits, fits_word, row_fits, first_counts, import_fits, is_first_by, first_count, is_of_import};
+ghost use Rattle.tb_replay.specs.Playing.{entry_at, row_next, event_fits, event_test, one_expected, pull_fits};
+ghost use Rattle.tb_replay.specs.Playing.{pull_test, restore_fits, fits_word, row_fits, first_counts, import_fits};
+ghost use Rattle.tb_replay.specs.Playing.{is_first_by, first_count, is_of_import};
 
 use crate::kept::{Expected, Mark, Slot, is_as_expected, mark_of, slot_of};
-use crate::rows::{Entry, Revision};
+use crate::rows::{Revision, SentenceSummary};
 use tb_core::{
     Event, Move, State, correctable, decide_event, decide_pull, decide_restore, good_name,
 };
@@ -168,12 +171,14 @@ fn row_passes(
 
 /// The row of the revision that comes next at a place.
 pub fn next_row<'e, 'a>(
-    entries: &'e [Entry<'a>],
+    entries: &'e [SentenceSummary<'a>],
     place: u64,
     mark: Mark,
 ) -> Option<&'e Revision<'a>>
     ensures bounded { IfSome result (λ _. mark.rev + 1 < 2 ^ 64) }
-    ensures row { MatchOption result (nat_lt mark.rev (length (entry_at entries.now place).revisions) ≡ false) (λ row. (nat_lt mark.rev (length (entry_at entries.now place).revisions) ≡ true) × (row.now ≡ row_next mark (entry_at entries.now place))) }
+    ensures row { MatchOption result (nat_lt mark.rev (length (entry_at entries.now place).revisions) ≡ false)
+        (λ row. (nat_lt mark.rev (length (entry_at entries.now place).revisions) ≡ true)
+        × (row.now ≡ row_next mark (entry_at entries.now place))) }
 {
     let Some(entry) = entries.get(place as usize) else {
         return None;
@@ -192,7 +197,8 @@ pub fn correct_passes(
 ) -> bool
     requires counted { count + 1 < 2 ^ 64 }
     requires placed { place + 1 < 2 ^ 64 }
-    ensures { result ≡ (fits_word (slot.now.words + row.now.words) && (is_name change.now.who && row_fits count place mark slot.now row.now change.now)) }
+    ensures { result ≡ (fits_word (slot.now.words + row.now.words) &&
+        (is_name change.now.who && row_fits count place mark slot.now row.now change.now)) }
 {
     fits_together(slot.words, row.words)
         && good_name(change.who.as_str())
@@ -200,7 +206,11 @@ pub fn correct_passes(
 }
 
 /// The entries that an import of so many sentences takes.
-pub fn rows_taken<'e, 'a>(entries: &'e [Entry<'a>], from: usize, count: u64) -> &'e [Entry<'a>]
+pub fn rows_taken<'e, 'a>(
+    entries: &'e [SentenceSummary<'a>],
+    from: usize,
+    count: u64,
+) -> &'e [SentenceSummary<'a>]
     ensures { result.now ≡ take count (drop from entries.now) }
 {
     if from >= entries.len() {
@@ -232,21 +242,22 @@ pub fn first_words_of(revisions: &[Revision<'_>]) -> u64
     }
 }
 
-fn is_imported(entry: &Entry<'_>, number: u64, user: &str) -> bool
+fn is_imported(entry: &SentenceSummary<'_>, number: u64, user: &str) -> bool
     ensures { result ≡ is_of_import number user.now entry.now }
 {
     entry.batch == number && is_first_of(user, &entry.revisions)
 }
 
-fn are_imported(new: &[Entry<'_>], number: u64, user: &str) -> bool
+fn are_imported(new: &[SentenceSummary<'_>], number: u64, user: &str) -> bool
     ensures { result ≡ list_all (is_of_import number user.now) new.now }
 {
     new.iter().all(|entry| is_imported(entry, number, user))
 }
 
 /// The words of first revisions, where they fit a number.
-pub fn count_words(new: &[Entry<'_>]) -> Option<u64>
-    ensures { MatchOption result (fits_word (first_counts new.now) ≡ false) (λ n. (fits_word (first_counts new.now) ≡ true) × (n ≡ first_counts new.now)) }
+pub fn count_words(new: &[SentenceSummary<'_>]) -> Option<u64>
+    ensures { MatchOption result (fits_word (first_counts new.now) ≡ false) (λ n.
+        (fits_word (first_counts new.now) ≡ true) × (n ≡ first_counts new.now)) }
 {
     let mut sum: u64 = 0;
     for entry in new {
@@ -259,7 +270,13 @@ pub fn count_words(new: &[Entry<'_>]) -> Option<u64>
 }
 
 /// Whether an import of these entries, with so many words, may come next.
-pub fn import_passes(count: u64, number: u64, new: &[Entry<'_>], words: u64, change: &Move) -> bool
+pub fn import_passes(
+    count: u64,
+    number: u64,
+    new: &[SentenceSummary<'_>],
+    words: u64,
+    change: &Move,
+) -> bool
     requires counted { count + 1 < 2 ^ 64 }
     requires summed { words ≡ first_counts new.now }
     ensures { result ≡ import_fits count number new.now change.now }

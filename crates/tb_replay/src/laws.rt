@@ -11,7 +11,7 @@ ghost use Rattle.tb_replay.specs.Commanded.{MayBeDone, IsAccepted, Did, IsComman
 ghost use Rattle.tb_replay.specs.Course.{Plays};
 ghost use Rattle.tb_replay.specs.Fine.{AreFine};
 
-use tb_conllu::{one_list_has_a_text, told_bytes_are_no_file};
+use tb_conllu::{one_list_has_a_text, reported_bytes_are_no_file};
 use tb_rules::faulty_sentences_are_not_valid;
 
 /// A state is reached exactly where its own moves, replayed from the empty desk with the texts that it holds, lead to it.
@@ -31,7 +31,7 @@ pub fn acts_are_accepted_commands()
         → MayBeDone l s a ↔ ((c : Command) × IsAccepted l s c a) }
 {
     one_list_has_a_text();
-    told_bytes_are_no_file();
+    reported_bytes_are_no_file();
     faulty_sentences_are_not_valid();
 }
 
@@ -48,6 +48,6 @@ pub fn commands_lead_to_reached_states()
     ensures largest { (s : Machine) → IsCommanded largest s ↔ IsReachable s }
 {
     one_list_has_a_text();
-    told_bytes_are_no_file();
+    reported_bytes_are_no_file();
     faulty_sentences_are_not_valid();
 }

@@ -13,5 +13,5 @@ pub use laws::{
     reached_states_are_fine, replay_is_exact,
 };
 pub use replaying::replays;
-pub use rows::{BatchRow, Entry, Revision};
+pub use rows::{BatchRow, Revision, SentenceSummary};
 pub use totals::totals_of;

@@ -1,20 +1,24 @@
 //! The replay: each move in turn, on what is kept, and the end compared with the rows.
 
-ghost use Rattle.std.specs.Prelude.{◌≡◌, ◌+◌, ◌-◌, ◌^◌, ◌<◌, ◌++◌, ◌↔◌, map, slice_set, slice_index_or, IfOk, OnOk, true};
+ghost use Rattle.std.specs.Prelude.{◌≡◌, ◌+◌, ◌-◌, ◌^◌, ◌<◌, ◌++◌, ◌↔◌, map, slice_set};
+ghost use Rattle.std.specs.Prelude.{slice_index_or, IfOk, OnOk, true};
 ghost use Rattle.tb_core.specs.Acts.{with_worker};
 ghost use Rattle.tb_core.specs.Machine.{Machine, change_at};
 ghost use Rattle.tb_core.specs.Reaching.{IsReachable};
-ghost use Rattle.tb_replay.specs.Entries.{entries_of};
+ghost use Rattle.tb_replay.specs.Summaries.{entries_of};
 ghost use Rattle.tb_replay.specs.Fine.{AreFine};
 ghost use Rattle.tb_replay.specs.Slots.{small, empty_small, no_slot};
-ghost use Rattle.tb_replay.specs.Playing.{with_sums, first_mark, slot_moved, event_test, pull_test, pull_next, restore_test, restore_next, correct_test, correct_next, import_test, import_next, kind_test, kind_next, is_slot_of, are_slots, is_same_flag, is_mark_of, are_marks, plays};
+ghost use Rattle.tb_replay.specs.Playing.{with_sums, first_mark, slot_moved, event_test, pull_test, pull_next};
+ghost use Rattle.tb_replay.specs.Playing.{restore_test, restore_next, correct_test, correct_next, import_test};
+ghost use Rattle.tb_replay.specs.Playing.{import_next, kind_test, kind_next, is_slot_of, are_slots, is_same_flag};
+ghost use Rattle.tb_replay.specs.Playing.{is_mark_of, are_marks, plays};
 
 use crate::allowing::{
     correct_passes, count_words, first_words_of, has_restore_room, import_passes, is_event,
     is_pull, next_row, restore_passes, rows_taken,
 };
 use crate::kept::{Mark, Slot, is_same_state, mark_of, slot_of};
-use crate::rows::{BatchRow, Entry};
+use crate::rows::{BatchRow, SentenceSummary};
 use std::alloc::{AllocError, Global};
 use tb_core::{Event, Kind, Move, State, Worker};
 
@@ -72,7 +76,8 @@ fn put_both<'a>(
     words: u64,
     new: Mark,
 )
-    ensures slots { slots.new ≡ slice_set slots.old (old.batch - 1) (with_sums sentences words (slice_index_or slots.old (old.batch - 1) no_slot)) }
+    ensures slots { slots.new ≡ slice_set slots.old (old.batch - 1) (with_sums sentences words
+        (slice_index_or slots.old (old.batch - 1) no_slot)) }
     ensures marks { marks.new ≡ slice_set marks.old place new }
 {
     let under = old.batch.saturating_sub(1);
@@ -99,7 +104,8 @@ fn step_event<'a>(
 ) -> bool
     requires { count + 1 < 2 ^ 64 }
     ensures answer { result ≡ event_test (small slots.old marks.now count) event change.now }
-    ensures next { result ≡ true → slots.new ≡ change_at (slot_moved event change.now.who) slots.old (change.now.batch - 1) }
+    ensures next { result ≡ true → slots.new ≡ change_at (slot_moved event change.now.who) slots.old
+        (change.now.batch - 1) }
 {
     if !is_event(slots, marks, count, event, change) {
         return false;
@@ -111,7 +117,8 @@ fn step_event<'a>(
 fn step_pull(slots: &mut [Slot<'_>], marks: &mut [Mark], count: u64, change: &Move) -> bool
     requires { count + 1 < 2 ^ 64 }
     ensures answer { result ≡ pull_test (small slots.old marks.old count) change.now }
-    ensures next { result ≡ true → small slots.new marks.new (count + 1) ≡ pull_next (small slots.old marks.old count) change.now }
+    ensures next { result ≡ true → small slots.new marks.new (count + 1)
+        ≡ pull_next (small slots.old marks.old count) change.now }
 {
     if !is_pull(slots, marks, count, change) {
         return false;
@@ -137,7 +144,8 @@ fn step_pull(slots: &mut [Slot<'_>], marks: &mut [Mark], count: u64, change: &Mo
 fn step_restore(slots: &mut [Slot<'_>], marks: &mut [Mark], count: u64, change: &Move) -> bool
     requires { count + 1 < 2 ^ 64 }
     ensures answer { result ≡ restore_test (small slots.old marks.old count) change.now }
-    ensures next { result ≡ true → small slots.new marks.new (count + 1) ≡ restore_next (small slots.old marks.old count) change.now }
+    ensures next { result ≡ true → small slots.new marks.new (count + 1)
+        ≡ restore_next (small slots.old marks.old count) change.now }
 {
     let place = change.sent.saturating_sub(1);
     if place >= marks.len() as u64 {
@@ -171,13 +179,14 @@ fn step_restore(slots: &mut [Slot<'_>], marks: &mut [Mark], count: u64, change: 
 fn step_correct(
     slots: &mut [Slot<'_>],
     marks: &mut [Mark],
-    entries: &[Entry<'_>],
+    entries: &[SentenceSummary<'_>],
     count: u64,
     change: &Move,
 ) -> bool
     requires { count + 1 < 2 ^ 64 }
     ensures answer { result ≡ correct_test entries.now (small slots.old marks.old count) change.now }
-    ensures next { result ≡ true → small slots.new marks.new (count + 1) ≡ correct_next entries.now (small slots.old marks.old count) change.now }
+    ensures next { result ≡ true → small slots.new marks.new (count + 1) ≡ correct_next entries.now
+        (small slots.old marks.old count) change.now }
 {
     let place = change.sent.saturating_sub(1);
     if place >= marks.len() as u64 {
@@ -208,7 +217,7 @@ fn step_correct(
     true
 }
 
-fn push_marks(marks: &mut Vec<Mark>, new: &[Entry<'_>]) -> Result<(), AllocError>
+fn push_marks(marks: &mut Vec<Mark>, new: &[SentenceSummary<'_>]) -> Result<(), AllocError>
     ensures { OnOk result (marks.new.items ≡ marks.old.items ++ map first_mark new.now) }
 {
     for entry in new {
@@ -227,13 +236,15 @@ fn step_import<'a>(
     batches: usize,
     slots: &mut Vec<Slot<'a>>,
     marks: &mut Vec<Mark>,
-    entries: &[Entry<'_>],
+    entries: &[SentenceSummary<'_>],
     count: u64,
     change: &'a Move,
 ) -> Result<bool, AllocError>
     requires { count + 1 < 2 ^ 64 }
-    ensures answer { IfOk result (λ b. b ≡ import_test batches entries.now (small slots.old.items marks.old.items count) change.now) }
-    ensures next { IfOk result (λ b. b ≡ true → small slots.new.items marks.new.items (count + 1) ≡ import_next entries.now (small slots.old.items marks.old.items count) change.now) }
+    ensures answer { IfOk result (λ b. b ≡ import_test batches entries.now
+        (small slots.old.items marks.old.items count) change.now) }
+    ensures next { IfOk result (λ b. b ≡ true → small slots.new.items marks.new.items (count + 1)
+        ≡ import_next entries.now (small slots.old.items marks.old.items count) change.now) }
 {
     if slots.len() >= batches {
         return Ok(false);
@@ -259,13 +270,15 @@ fn step<'a>(
     batches: usize,
     slots: &mut Vec<Slot<'a>>,
     marks: &mut Vec<Mark>,
-    entries: &[Entry<'_>],
+    entries: &[SentenceSummary<'_>],
     count: u64,
     change: &'a Move,
 ) -> Result<bool, AllocError>
     requires { count + 1 < 2 ^ 64 }
-    ensures answer { IfOk result (λ b. b ≡ kind_test change.now.kind batches entries.now (small slots.old.items marks.old.items count) change.now) }
-    ensures next { IfOk result (λ b. b ≡ true → small slots.new.items marks.new.items (count + 1) ≡ kind_next change.now.kind entries.now (small slots.old.items marks.old.items count) change.now) }
+    ensures answer { IfOk result (λ b. b ≡ kind_test change.now.kind batches entries.now
+        (small slots.old.items marks.old.items count) change.now) }
+    ensures next { IfOk result (λ b. b ≡ true → small slots.new.items marks.new.items (count + 1)
+        ≡ kind_next change.now.kind entries.now (small slots.old.items marks.old.items count) change.now) }
 {
     match change.kind {
         Kind::Import => step_import(batches, slots, marks, entries, count, change),
@@ -302,13 +315,13 @@ fn is_flag_same(flag: bool, other: bool) -> bool
     flag == other
 }
 
-fn is_mark_right(entry: &Entry<'_>, mark: Mark) -> bool
+fn is_mark_right(entry: &SentenceSummary<'_>, mark: Mark) -> bool
     ensures { result ≡ is_mark_of entry.now mark }
 {
     is_flag_same(mark.pulled, entry.pulled) && mark.rev == entry.revisions.len() as u64
 }
 
-fn are_marks_right(entries: &[Entry<'_>], marks: &[Mark]) -> bool
+fn are_marks_right(entries: &[SentenceSummary<'_>], marks: &[Mark]) -> bool
     ensures { result ≡ are_marks entries.now marks.now }
 {
     if entries.len() != marks.len() {
@@ -325,7 +338,7 @@ fn are_marks_right(entries: &[Entry<'_>], marks: &[Mark]) -> bool
 fn plays_out(
     alloc: Global,
     batches: &[BatchRow<'_>],
-    entries: &[Entry<'_>],
+    entries: &[SentenceSummary<'_>],
     moves: &[Move],
 ) -> Result<bool, AllocError>
     ensures { IfOk result (λ b. b ≡ plays batches.now entries.now empty_small moves.now) }
@@ -357,10 +370,11 @@ fn plays_out(
 pub fn replays(
     alloc: Global,
     batches: &[BatchRow<'_>],
-    entries: &[Entry<'_>],
+    entries: &[SentenceSummary<'_>],
     moves: &[Move],
 ) -> Result<bool, AllocError>
-    ensures { (f : Machine) → batches.now ≡ f.batches → entries.now ≡ entries_of f.sentences → moves.now ≡ f.moves → AreFine f → IfOk result (λ b. (b ≡ true) ↔ IsReachable f) }
+    ensures { (f : Machine) → batches.now ≡ f.batches → entries.now ≡ entries_of f.sentences
+        → moves.now ≡ f.moves → AreFine f → IfOk result (λ b. (b ≡ true) ↔ IsReachable f) }
 {
     if entries.len() > 1_000_000 || moves.len() > 1_000_000_000 {
         return Ok(false);

@@ -1,7 +1,7 @@
 //! The rows of a desk, with texts that lie elsewhere. Contracts see each text as its bytes.
 
 ghost use Rattle.tb_core.specs.Machine.{Batch};
-ghost use Rattle.tb_replay.specs.Entries.{RevisionRow, EntryRow};
+ghost use Rattle.tb_replay.specs.Summaries.{RevisionRow, SummaryRow};
 
 use std::marker::Model;
 use tb_core::State;
@@ -38,7 +38,7 @@ impl<'a> Model for Revision<'a> {
 
 /// A sentence, without its texts.
 #[derive(Drop)]
-pub struct Entry<'a> {
+pub struct SentenceSummary<'a> {
     /// The number of its batch, from 1.
     pub batch: u64,
     pub pulled: bool,
@@ -46,8 +46,8 @@ pub struct Entry<'a> {
     pub revisions: Vec<Revision<'a>>,
 }
 
-impl<'a> Model for Entry<'a> {
-    ghost Value = { EntryRow };
+impl<'a> Model for SentenceSummary<'a> {
+    ghost Value = { SummaryRow };
 
     ghost view = { λ e. record { batch = e.batch; pulled = e.pulled; revisions = e.revisions.items } };
 }

@@ -1,15 +1,16 @@
 //! Totals of the six states, by the rows of batches and sentences.
 
-ghost use Rattle.std.specs.Prelude.{◌≡◌, ◌↔◌, ◌+◌, ◌<◌, ◌≤◌, ◌^◌, length, IsTrue, IsSome, IfSome};
+ghost use Rattle.std.specs.Prelude.{◌≡◌, ◌↔◌, ◌+◌, ◌<◌, ◌≤◌, ◌^◌, length, IsTrue, IsSome};
+ghost use Rattle.std.specs.Prelude.{IfSome};
 ghost use Rattle.tb_core.specs.declared.kinds.State.{State as AnyState};
 ghost use Rattle.tb_core.specs.Events.{state_place, is_state};
 ghost use Rattle.tb_core.specs.Machine.{Machine, when};
-ghost use Rattle.tb_core.specs.Totals.{at_state, StandFor};
-ghost use Rattle.tb_replay.specs.Entries.{entries_of};
+ghost use Rattle.tb_core.specs.Totals.{at_state, AreTotalsOf};
+ghost use Rattle.tb_replay.specs.Summaries.{entries_of};
 ghost use Rattle.tb_replay.specs.Fine.{AreFine};
 ghost use Rattle.tb_replay.specs.Sums.{entry_state, last_count};
 
-use crate::rows::{BatchRow, Entry, Revision};
+use crate::rows::{BatchRow, Revision, SentenceSummary};
 use tb_core::{State, Totals};
 
 /// The place of a state among the six.
@@ -28,7 +29,7 @@ fn place_of(state: State) -> usize
 }
 
 /// The state of a sentence: withdrawn where it is pulled, else that of its batch.
-fn state_of(batches: &[BatchRow<'_>], entry: &Entry<'_>) -> State
+fn state_of(batches: &[BatchRow<'_>], entry: &SentenceSummary<'_>) -> State
     ensures { result ≡ entry_state batches.now entry.now }
 {
     if entry.pulled {
@@ -54,7 +55,8 @@ fn last_words(revisions: &[Revision<'_>]) -> u64
 /// Adds to the sum of a state. `false` where that passes 64 bits.
 fn add(sums: &mut [u64; 6], state: State, more: u64) -> bool
     ensures fits { IsTrue result ↔ at_state sums.old state + more < 2 ^ 64 }
-    ensures added { IsTrue result → (st : AnyState) → at_state sums.new st ≡ at_state sums.old st + when (is_state state st) more }
+    ensures added { IsTrue result → (st : AnyState) → at_state sums.new st ≡ at_state sums.old st + when
+        (is_state state st) more }
 {
     let place = place_of(state);
     let Some(sum) = sums[place].checked_add(more) else {
@@ -66,9 +68,11 @@ fn add(sums: &mut [u64; 6], state: State, more: u64) -> bool
 
 /// Of each state its sentences and the words of their current revisions, as the rows of a desk have them. `None` where a
 /// sum passes 64 bits, which isn't so where the rows are fine and no more than 1,000,000 sentences. Takes no memory.
-pub fn totals_of(batches: &[BatchRow<'_>], entries: &[Entry<'_>]) -> Option<Totals>
-    ensures sums { (f : Machine) → batches.now ≡ f.batches → entries.now ≡ entries_of f.sentences → IfSome result (λ t. StandFor t f) }
-    ensures told { (f : Machine) → batches.now ≡ f.batches → entries.now ≡ entries_of f.sentences → AreFine f → length f.sentences ≤ 1000000 → IsSome result }
+pub fn totals_of(batches: &[BatchRow<'_>], entries: &[SentenceSummary<'_>]) -> Option<Totals>
+    ensures sums { (f : Machine) → batches.now ≡ f.batches → entries.now ≡ entries_of f.sentences
+        → IfSome result (λ t. AreTotalsOf t f) }
+    ensures reported { (f : Machine) → batches.now ≡ f.batches → entries.now ≡ entries_of f.sentences
+        → AreFine f → length f.sentences ≤ 1000000 → IsSome result }
 {
     let mut totals = Totals {
         sentences: [0; 6],

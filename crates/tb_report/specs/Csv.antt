@@ -6,7 +6,8 @@ use Rattle.std.specs.List.{flat_map}
 use Rattle.csv.specs.Writing.{default_writer, row_text, writer_setup, fields_written, has_written, text_written}
 use Rattle.csv.specs.declared.writer.Writer.{Writer}
 use Rattle.tb_core.specs.declared.kinds.State.{State}
-use Rattle.tb_core.specs.declared.kinds.State.TheVariants.{Opened, Assigned, Submitted, Adjudicated, Released, Withdrawn}
+use Rattle.tb_core.specs.declared.kinds.State.TheVariants.{Opened, Assigned, Submitted, Adjudicated, Released}
+use Rattle.tb_core.specs.declared.kinds.State.TheVariants.{Withdrawn}
 use Rattle.tb_core.specs.declared.sums.Totals.{Totals}
 use Rattle.tb_core.specs.Moves.{MoveText}
 use Rattle.tb_core.specs.Totals.{at_state}
@@ -70,8 +71,10 @@ abbrev pub IsBetweenRows : {W : Type 0} → Writer W → Type 0
 IsBetweenRows w = (writer_setup w ≡ default_writer) × (fields_written w ≡ 0) × (has_written w ≡ false)
 
 -- these rows were written, and no further row is begun
-abbrev pub PutsRows : {W : Type 0} → (W → Option (List ℕ)) → Writer W → Writer W → List (List (List ℕ)) → Type 0
-PutsRows contents old new rows = IsBetweenRows old → IsBetweenRows new × Appends (text_written contents old) (text_written contents new) (csv_of rows)
+abbrev pub PutsRows : {W : Type 0} → (W → Option (List ℕ)) → Writer W → Writer W → List (List (List ℕ))
+    → Type 0
+PutsRows contents old new rows = IsBetweenRows old → IsBetweenRows new
+    × Appends (text_written contents old) (text_written contents new) (csv_of rows)
 
 -- ---- the sink of a whole table
 

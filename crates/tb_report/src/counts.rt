@@ -1,6 +1,7 @@
 //! The counts of a frequency table: a map of short keys and one of long keys.
 
-ghost use Rattle.std.specs.Prelude.{◌≡◌, ℕ, ◌-◌, ◌^◌, ◌<◌, ◌≤◌, length, IsTrue, IsFalse, IsOk, OnOk, OnErr};
+ghost use Rattle.std.specs.Prelude.{◌≡◌, ℕ, ◌-◌, ◌^◌, ◌<◌, ◌≤◌, length, IsTrue, IsFalse};
+ghost use Rattle.std.specs.Prelude.{IsOk, OnOk, OnErr};
 ghost use Rattle.tb_report.specs.Kept.{AddsOne, AreLong, AreShort, counted_in, number_of, rows_of, short_rows};
 ghost use Rattle.tb_report.specs.Tables.{total_of};
 
@@ -45,7 +46,7 @@ pub(crate) fn count_short(
     ensures counted { OnOk result (AddsOne (short_rows counts.old.entries) (short_rows counts.new.entries) key.now) }
     ensures are_short { AreShort counts.new.entries }
     ensures known { 0 < counted_in (short_rows counts.old.entries) key.now → IsOk result }
-    ensures same { OnErr result (counts.new.entries ≡ counts.old.entries) }
+    ensures unchanged { OnErr result (counts.new.entries ≡ counts.old.entries) }
 {
     let number = number_of_key(key);
     if let Some(entry) = counts.get_mut(&number) {
@@ -69,7 +70,7 @@ pub(crate) fn count_long(
     ensures counted { OnOk result (AddsOne (rows_of counts.old.entries) (rows_of counts.new.entries) key.now) }
     ensures are_long { AreLong counts.new.entries }
     ensures known { 0 < counted_in (rows_of counts.old.entries) key.now → IsOk result }
-    ensures same { OnErr result (counts.new.entries ≡ counts.old.entries) }
+    ensures unchanged { OnErr result (counts.new.entries ≡ counts.old.entries) }
 {
     if let Some(count) = counts.get_mut(key) {
         *count += 1;

@@ -42,7 +42,8 @@ fn put_rank<W: Write + Drop>(rows: &mut Writer<W>, rank: &Rank<'_>) -> Result<()
 }
 
 fn put_ranks<W: Write + Drop>(rows: &mut Writer<W>, ranks: &[Rank<'_>]) -> Result<(), ReportFault>
-    ensures { OnOk result (PutsRows W.contents rows.old rows.new (map (λ rank. freq_fields (ranked_row rank)) ranks.now)) }
+    ensures { OnOk result (PutsRows W.contents rows.old rows.new (map (λ rank.
+        freq_fields (ranked_row rank)) ranks.now)) }
 {
     for rank in ranks {
         put_rank(rows, rank)?;

@@ -1,6 +1,7 @@
 //! Frequency tables.
 
-ghost use Rattle.std.specs.Prelude.{◌≡◌, ℕ, ◌+◌, ◌-◌, ◌^◌, ◌<◌, List, [], ◌∷◌, ◌++◌, IfOk, IsOk, OnOk, OnErr, map};
+ghost use Rattle.std.specs.Prelude.{◌≡◌, ℕ, ◌+◌, ◌-◌, ◌^◌, ◌<◌, List, [], ◌∷◌, ◌++◌};
+ghost use Rattle.std.specs.Prelude.{IfOk, IsOk, OnOk, OnErr, map};
 ghost use Rattle.tb_report.specs.Kept.{AreLong, AreShort, ranked_row, rows_of, short_rows, table_of};
 ghost use Rattle.tb_report.specs.Tables.{CountsOneMore, IsRankingOf, IsTable, IsTableOf, count_in, total_of};
 
@@ -90,9 +91,10 @@ impl Freq {
     pub fn add(&mut self, key: &str) -> Result<(), AllocError>
         requires { total_of self.old < 2 ^ 64 - 1 }
         ensures counted { OnOk result (CountsOneMore self.old self.new key.now) }
-        ensures keys { OnOk result ((keys : List (List ℕ)) → IsTableOf keys self.old → IsTableOf (keys ++ key.now ∷ []) self.new) }
+        ensures keys { OnOk result ((keys : List (List ℕ)) → IsTableOf keys self.old
+            → IsTableOf (keys ++ key.now ∷ []) self.new) }
         ensures known { 0 < count_in self.old key.now → IsOk result }
-        ensures same { OnErr result (self.new ≡ self.old) }
+        ensures unchanged { OnErr result (self.new ≡ self.old) }
     {
         count_once(self.alloc, &mut self.short, &mut self.long, key)?;
         self.total += 1;
@@ -118,7 +120,8 @@ fn ranks_of<'a>(
 }
 
 fn push_short<'a>(ranks: &mut Vec<Rank<'a>>, short: &'a ShortCounts) -> Result<(), AllocError>
-    ensures { OnOk result (map ranked_row ranks.new.items ≡ map ranked_row ranks.old.items ++ short_rows short.now.entries) }
+    ensures { OnOk result (map ranked_row ranks.new.items
+        ≡ map ranked_row ranks.old.items ++ short_rows short.now.entries) }
 {
     for (key, count) in short.values() {
         ranks.push((Reverse(*count), key.as_str()))?;
@@ -127,7 +130,8 @@ fn push_short<'a>(ranks: &mut Vec<Rank<'a>>, short: &'a ShortCounts) -> Result<(
 }
 
 fn push_long<'a>(ranks: &mut Vec<Rank<'a>>, long: &'a LongCounts) -> Result<(), AllocError>
-    ensures { OnOk result (map ranked_row ranks.new.items ≡ map ranked_row ranks.old.items ++ rows_of long.now.entries) }
+    ensures { OnOk result (map ranked_row ranks.new.items
+        ≡ map ranked_row ranks.old.items ++ rows_of long.now.entries) }
 {
     for (key, count) in long {
         ranks.push((Reverse(*count), key.as_str()))?;
@@ -157,11 +161,13 @@ fn count_once(
     requires room { total_of (table_of short.old.entries long.old.entries) < 2 ^ 64 - 1 }
     requires are_short { AreShort short.old.entries }
     requires are_long { AreLong long.old.entries }
-    ensures counted { OnOk result (CountsOneMore (table_of short.old.entries long.old.entries) (table_of short.new.entries long.new.entries) key.now) }
+    ensures counted { OnOk result (CountsOneMore (table_of short.old.entries long.old.entries)
+        (table_of short.new.entries long.new.entries) key.now) }
     ensures are_short { AreShort short.new.entries }
     ensures are_long { AreLong long.new.entries }
     ensures known { 0 < count_in (table_of short.old.entries long.old.entries) key.now → IsOk result }
-    ensures same { OnErr result (table_of short.new.entries long.new.entries ≡ table_of short.old.entries long.old.entries) }
+    ensures unchanged { OnErr result (table_of short.new.entries long.new.entries
+        ≡ table_of short.old.entries long.old.entries) }
 {
     if is_short(key) {
         return count_short(alloc, short, key);

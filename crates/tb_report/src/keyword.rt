@@ -1,6 +1,7 @@
 //! Keyword lines and keys of hits.
 
-ghost use Rattle.std.specs.Prelude.{◌≡◌, ℕ, ◌+◌, ◌-◌, ◌<◌, ◌≤◌, ◌∷◌, ◌++◌, [], IfErr, IfOk, List, OnOk, decimal, drop, filter, map, string_bytes, take};
+ghost use Rattle.std.specs.Prelude.{◌≡◌, ℕ, ◌+◌, ◌-◌, ◌<◌, ◌≤◌, ◌∷◌, ◌++◌, []};
+ghost use Rattle.std.specs.Prelude.{IfErr, IfOk, List, OnOk, decimal, drop, filter, map, string_bytes, take};
 ghost use Rattle.std.specs.Io.KnownBytes.{Appends};
 ghost use Rattle.tb_conllu.specs.Words.{is_word, words_of};
 ghost use Rattle.tb_core.specs.Machine.{sent_id_of};
@@ -28,7 +29,8 @@ fn put_words_column<T: Text, S: Sink>(
     words: usize,
     out: &mut S,
 ) -> Result<(), S::Refusal>
-    ensures put { OnOk result (Appends (S.held out.old) (S.held out.new) (joined (take words (map (λ row. row.form) (filter is_word rows.now))) ++ 9 ∷ [])) }
+    ensures put { OnOk result (Appends (S.held out.old) (S.held out.new)
+        (joined (take words (map (λ row. row.form) (filter is_word rows.now))) ++ 9 ∷ [])) }
     ensures refused { IfErr result (S.IsRefusal out.new) }
 {
     put_words(rows, words, out)?;
@@ -38,7 +40,8 @@ fn put_words_column<T: Text, S: Sink>(
 /// The first three columns, each before a tab.
 fn put_place<S: Sink>(name: &str, hit: (u32, u32), out: &mut S) -> Result<(), S::Refusal>
     requires { hit.0 < hit.1 }
-    ensures put { OnOk result (Appends (S.held out.old) (S.held out.new) (name.now ++ 9 ∷ (decimal (hit.0 + 1) ++ 9 ∷ (decimal hit.1 ++ 9 ∷ [])))) }
+    ensures put { OnOk result (Appends (S.held out.old) (S.held out.new)
+        (name.now ++ 9 ∷ (decimal (hit.0 + 1) ++ 9 ∷ (decimal hit.1 ++ 9 ∷ [])))) }
     ensures refused { IfErr result (S.IsRefusal out.new) }
 {
     let (start, end) = hit;
@@ -56,9 +59,11 @@ fn put_forms<T: Text, S: Sink>(
     out: &mut S,
 ) -> Result<(), S::Refusal>
     requires { hit.0 < hit.1 }
-    ensures put { OnOk result ((forms : List (List ℕ)) → (forms ≡ map (λ row. row.form) (filter is_word rows.now))
+    ensures put { OnOk result ((forms : List (List ℕ))
+        → (forms ≡ map (λ row. row.form) (filter is_word rows.now))
         → Appends (S.held out.old) (S.held out.new)
-        (joined (before context hit.0 forms) ++ 9 ∷ (joined (of_hit hit.0 hit.1 forms) ++ 9 ∷ (joined (after context hit.1 forms) ++ 10 ∷ [])))) }
+        (joined (before context hit.0 forms) ++ 9 ∷ (joined (of_hit hit.0 hit.1 forms) ++ 9 ∷
+        (joined (after context hit.1 forms) ++ 10 ∷ [])))) }
     ensures refused { IfErr result (S.IsRefusal out.new) }
 {
     let start = hit.0 as usize;

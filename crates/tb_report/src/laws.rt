@@ -6,17 +6,20 @@ ghost use Rattle.tb_report.specs.Tables.{IsRankingOf, IsTable, IsTableOf, Row, c
 
 /// A list of keys has one table.
 pub fn keys_have_one_table()
-    ensures { (keys : List (List ℕ)) (table other : List Row) → IsTableOf keys table → IsTableOf keys other → table ≡ other }
+    ensures { (keys : List (List ℕ)) (table other : List Row) → IsTableOf keys table → IsTableOf keys other
+        → table ≡ other }
 {}
 
 /// The order of the keys doesn't matter: keys rearranged have the same table.
 pub fn order_of_keys_is_nothing()
-    ensures { (keys moved : List (List ℕ)) (table : List Row) → IsPermutation keys moved → IsTableOf keys table → IsTableOf moved table }
+    ensures { (keys moved : List (List ℕ)) (table : List Row) → IsPermutation keys moved → IsTableOf keys table
+        → IsTableOf moved table }
 {}
 
 /// The table of two lists one after the other is the sum of their tables.
 pub fn tables_add_up()
-    ensures { (keys more : List (List ℕ)) (first second both : List Row) → IsTableOf keys first → IsTableOf more second → IsTableOf (keys ++ more) both
+    ensures { (keys more : List (List ℕ)) (first second both : List Row) → IsTableOf keys first
+        → IsTableOf more second → IsTableOf (keys ++ more) both
         → (key : List ℕ) → count_in both key ≡ count_in first key + count_in second key }
 {}
 
@@ -27,5 +30,6 @@ pub fn counts_sum_to_keys()
 
 /// A table has one ranking.
 pub fn table_has_one_ranking()
-    ensures { (table rows others : List Row) → IsRankingOf table rows → IsRankingOf table others → rows ≡ others }
+    ensures { (table rows others : List Row) → IsRankingOf table rows → IsRankingOf table others
+        → rows ≡ others }
 {}

@@ -1,6 +1,7 @@
 //! Words of a sentence, some after some others, joined by spaces.
 
-ghost use Rattle.std.specs.Prelude.{◌≡◌, ◌∷◌, ◌++◌, [], IfErr, OnOk, Bool, drop, filter, if◌then◌else◌, map, string_bytes, take};
+ghost use Rattle.std.specs.Prelude.{◌≡◌, ◌∷◌, ◌++◌, [], IfErr, OnOk, Bool, drop, filter};
+ghost use Rattle.std.specs.Prelude.{if◌then◌else◌, map, string_bytes, take};
 ghost use Rattle.std.specs.Io.KnownBytes.{Appends};
 ghost use Rattle.tb_conllu.specs.Words.{is_word};
 ghost use Rattle.tb_query.specs.Meaning.{value_of};
@@ -44,7 +45,8 @@ fn value_of<T: Text>(column: Attr, row: &RowOf<T>) -> &str
 
 /// A text, after a space where it isn't the first.
 fn put_next<S: Sink>(is_first: bool, text: &str, out: &mut S) -> Result<(), S::Refusal>
-    ensures put { OnOk result (Appends (S.held out.old) (S.held out.new) (if is_first then text.now else 32 ∷ text.now)) }
+    ensures put { OnOk result (Appends (S.held out.old) (S.held out.new)
+        (if is_first then text.now else 32 ∷ text.now)) }
     ensures refused { IfErr result (S.IsRefusal out.new) }
 {
     if !is_first {
@@ -59,7 +61,8 @@ pub(crate) fn put_words<T: Text, S: Sink>(
     words: usize,
     out: &mut S,
 ) -> Result<(), S::Refusal>
-    ensures put { OnOk result (Appends (S.held out.old) (S.held out.new) (joined (take words (map (λ row. row.form) (filter is_word rows.now))))) }
+    ensures put { OnOk result (Appends (S.held out.old) (S.held out.new)
+        (joined (take words (map (λ row. row.form) (filter is_word rows.now))))) }
     ensures refused { IfErr result (S.IsRefusal out.new) }
 {
     let mut done = 0;
@@ -78,7 +81,8 @@ pub(crate) fn put_words<T: Text, S: Sink>(
 
 /// A text, after a space where it isn't the first.
 fn push_next(is_first: bool, text: &str, key: &mut String) -> Result<(), AllocError>
-    ensures { OnOk result (string_bytes key.new ≡ string_bytes key.old ++ (if is_first then text.now else 32 ∷ text.now)) }
+    ensures { OnOk result (string_bytes key.new ≡ string_bytes key.old ++
+        (if is_first then text.now else 32 ∷ text.now)) }
 {
     if !is_first {
         key.push(' ')?;
@@ -94,7 +98,8 @@ pub(crate) fn push_words<T: Text>(
     key: &mut String,
 ) -> Result<(), AllocError>
     requires { string_bytes key.old ≡ [] }
-    ensures { OnOk result (string_bytes key.new ≡ joined (take words (map (value_of column) (filter is_word rows.now)))) }
+    ensures { OnOk result (string_bytes key.new ≡ joined
+        (take words (map (value_of column) (filter is_word rows.now)))) }
 {
     let mut done = 0;
     for row in rows {

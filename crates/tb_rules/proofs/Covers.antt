@@ -27,7 +27,7 @@ end_more rs i id r l e same = greatest_end-more rs i r l e ∙ ap (λ x. max (gr
 
 -- what has come of the rows: the greatest word, and the greatest first word of a range
 pub record Led (rs : List RowText) (i word start : ℕ) : Type 0 where
-  pub told : (k w : ℕ) (d : RowText) → k < i → (get_or rs k d).id ≡ Word w → (w ≤ word) × (is_covered (take i rs) w ≡ leb w (greatest_end (take k rs)))
+  pub reported : (k w : ℕ) (d : RowText) → k < i → (get_or rs k d).id ≡ Word w → (w ≤ word) × (is_covered (take i rs) w ≡ leb w (greatest_end (take k rs)))
   pub ahead : (w : ℕ) → 0 < w → start ≤ w → is_covered (take i rs) w ≡ leb w (greatest_end (take i rs))
 
 before_or_at : (k i : ℕ) → k < i + 1 → i ≤ k → k ≡ i
@@ -48,8 +48,8 @@ number_same w n e = cc
 -- a word comes
 word_leads : (rs : List RowText) (i word start n : ℕ) (r : RowText) → i < length rs → r ≡ get_or rs i r → r.id ≡ Word n → 0 < n → start ≤ n → Led rs i word start → Led rs (i + 1) (max word n) (max start 0)
 word_leads rs i word start n r l e id some late h = record {
-  told = λ k w d m is. elim (cases_lt k i) [
-    | inl less ↦ (let t = h.told k w d less is in (omega (arith, t.0), covered_same rs i w (Word n) r l e id refl ∙ t.1))
+  reported = λ k w d m is. elim (cases_lt k i) [
+    | inl less ↦ (let t = h.reported k w d less is in (omega (arith, t.0), covered_same rs i w (Word n) r l e id refl ∙ t.1))
     | inr more ↦
         let here : k ≡ i = before_or_at k i m more in
         let row : get_or rs k d ≡ r = ap (λ x. get_or rs x d) here ∙ (get_or_default rs i d r l ∙ sym e) in
@@ -62,8 +62,8 @@ word_leads rs i word start n r l e id some late h = record {
 -- a range comes
 range_leads : (rs : List RowText) (i word start a b : ℕ) (r : RowText) → i < length rs → r ≡ get_or rs i r → r.id ≡ Span a b → word < a → Led rs i word start → Led rs (i + 1) (max word 0) (max start a)
 range_leads rs i word start a b r l e id late h = record {
-  told = λ k w d m is. elim (cases_lt k i) [
-    | inl less ↦ (let t = h.told k w d less is in (omega (arith, t.0), covered_same rs i w (Span a b) r l e id (not_under a w b (omega (arith, t.0))) ∙ t.1))
+  reported = λ k w d m is. elim (cases_lt k i) [
+    | inl less ↦ (let t = h.reported k w d less is in (omega (arith, t.0), covered_same rs i w (Span a b) r l e id (not_under a w b (omega (arith, t.0))) ∙ t.1))
     | inr more ↦
         let here : k ≡ i = before_or_at k i m more in
         let row : get_or rs k d ≡ r = ap (λ x. get_or rs x d) here ∙ (get_or_default rs i d r l ∙ sym e) in
@@ -76,8 +76,8 @@ range_leads rs i word start a b r l e id late h = record {
 -- an empty node comes
 node_leads : (rs : List RowText) (i word start j n : ℕ) (r : RowText) → i < length rs → r ≡ get_or rs i r → r.id ≡ Empty j n → Led rs i word start → Led rs (i + 1) (max word 0) (max start 0)
 node_leads rs i word start j n r l e id h = record {
-  told = λ k w d m is. elim (cases_lt k i) [
-    | inl less ↦ (let t = h.told k w d less is in (omega (arith, t.0), covered_same rs i w (Empty j n) r l e id refl ∙ t.1))
+  reported = λ k w d m is. elim (cases_lt k i) [
+    | inl less ↦ (let t = h.reported k w d less is in (omega (arith, t.0), covered_same rs i w (Empty j n) r l e id refl ∙ t.1))
     | inr more ↦
         let here : k ≡ i = before_or_at k i m more in
         let row : get_or rs k d ≡ r = ap (λ x. get_or rs x d) here ∙ (get_or_default rs i d r l ∙ sym e) in
@@ -93,10 +93,10 @@ row_leads rs i word start (Span a b) r l e id fine h = range_leads rs i word sta
 row_leads rs i word start (Empty j n) r l e id fine h = node_leads rs i word start j n r l e id h
 
 pub all_led : (rs : List RowText) (i word start : ℕ) → length rs ≤ i → Led rs i word start → RangesLead rs
-all_led rs i word start m h k w d l is = ap (λ (xs : List RowText). is_covered xs w) (sym (take_all i rs m)) ∙ (h.told k w d (omega arith) is).1
+all_led rs i word start m h k w d l is = ap (λ (xs : List RowText). is_covered xs w) (sym (take_all i rs m)) ∙ (h.reported k w d (omega arith) is).1
 
 -- what the ends before a row tell of it
-pub told_by_end : (rs : List RowText) (i end : ℕ) (r : RowText) (id : LineId) → RangesLead rs → i < length rs → r ≡ get_or rs i r → end ≡ greatest_end (take i rs) → r.id ≡ id → is_token_id rs id ≡ is_token_after end id
-told_by_end rs i end r (Word w) lead l e last id = ap not (lead i w r l (ap (λ (x : RowText). x.id) (sym e) ∙ id) ∙ ap (leb w) (sym last))
-told_by_end rs i end r (Span a b) lead l e last id = refl
-told_by_end rs i end r (Empty j k) lead l e last id = refl
+pub reported_by_end : (rs : List RowText) (i end : ℕ) (r : RowText) (id : LineId) → RangesLead rs → i < length rs → r ≡ get_or rs i r → end ≡ greatest_end (take i rs) → r.id ≡ id → is_token_id rs id ≡ is_token_after end id
+reported_by_end rs i end r (Word w) lead l e last id = ap not (lead i w r l (ap (λ (x : RowText). x.id) (sym e) ∙ id) ∙ ap (leb w) (sym last))
+reported_by_end rs i end r (Span a b) lead l e last id = refl
+reported_by_end rs i end r (Empty j k) lead l e last id = refl

@@ -41,7 +41,7 @@ not_empty (Span a b) h = refl
 not_empty (Empty j k) h = absurd (h j k refl)
 
 -- the IDs of the first rows
-record Told (rs : List RowText) (m : ℕ) : Type 0 where
+record Reported (rs : List RowText) (m : ℕ) : Type 0 where
   pub word : (n : ℕ) → list_any (λ r. is_word_numbered n r.id) (take m rs) ≡ (ltb 0 n && leb n (count_by is_word (take m rs)))
   pub node : (i k : ℕ) → list_any (λ r. is_node_numbered i k r.id) (take m rs) ≡ (ltb 0 k && leb k (count_by (is_node_after i) (take m rs)))
 
@@ -86,31 +86,31 @@ node_tests rs m i k j n l e next h true here =
 node_tests rs m i k j n l e next h false here =
     same_tests (is_node_numbered i k) (is_node_id_after i) rs m k (Empty j n) l e (ap (λ b. b && eqb n k) here) here h
 
-told_more : (rs : List RowText) (m : ℕ) (id : LineId) → m < length rs → (get_or rs m some_row).id ≡ id → is_next_id (count_by is_word (take m rs)) (λ i. count_by (is_node_after i) (take m rs)) id ≡ true → Told rs m → Told rs (m + 1)
-told_more rs m (Word n) l e next h = record {
+reported_more : (rs : List RowText) (m : ℕ) (id : LineId) → m < length rs → (get_or rs m some_row).id ≡ id → is_next_id (count_by is_word (take m rs)) (λ i. count_by (is_node_after i) (take m rs)) id ≡ true → Reported rs m → Reported rs (m + 1)
+reported_more rs m (Word n) l e next h = record {
   word = λ k. more_tests (is_word_numbered k) is_word_id rs m k n (Word n) l e refl refl (eqb-true n (count_by is_word (take m rs) + 1) next) (h.word k);
   node = λ i k. same_tests (is_node_numbered i k) (is_node_id_after i) rs m k (Word n) l e refl refl (h.node i k);
 }
-told_more rs m (Span a b) l e next h = record {
+reported_more rs m (Span a b) l e next h = record {
   word = λ k. same_tests (is_word_numbered k) is_word_id rs m k (Span a b) l e refl refl (h.word k);
   node = λ i k. same_tests (is_node_numbered i k) (is_node_id_after i) rs m k (Span a b) l e refl refl (h.node i k);
 }
-told_more rs m (Empty j n) l e next h =
+reported_more rs m (Empty j n) l e next h =
     let parts = and_parts (eqb j (count_by is_word (take m rs))) _ next in record {
       word = λ k. same_tests (is_word_numbered k) is_word_id rs m k (Empty j n) l e refl refl (h.word k);
       node = λ i k. node_tests rs m i k j n l e (eqb-true n (count_by (is_node_after j) (take m rs) + 1) parts.1) (h.node i k) (eqb j i) refl;
     }
 
-told : (rs : List RowText) (m : ℕ) → EachRowPasses is_in_place rs → m ≤ length rs → Told rs m
-told rs zero h l = record {
+reported : (rs : List RowText) (m : ℕ) → EachRowPasses is_in_place rs → m ≤ length rs → Reported rs m
+reported rs zero h l = record {
   word = λ n. none_yet n;
   node = λ i k. none_yet k;
 }
-told rs (suc m) h l = subst (Told rs) (add-one m) (told_more rs m (get_or rs m some_row).id (omega arith) refl (h m some_row (omega arith)) (told rs m h (omega arith)))
+reported rs (suc m) h l = subst (Reported rs) (add-one m) (reported_more rs m (get_or rs m some_row).id (omega arith) refl (h m some_row (omega arith)) (reported rs m h (omega arith)))
 
 pub tell_ids : (rs : List RowText) (words : ℕ) (nodes : List ℕ) → EachRowPasses is_in_place rs → words ≡ count_by is_word rs → AreNodeCounts rs nodes → TellIds rs words nodes
 tell_ids rs words nodes h count counts =
-    let t = told rs (length rs) h (omega arith) in
+    let t = reported rs (length rs) h (omega arith) in
     let whole : take (length rs) rs ≡ rs = take_all (length rs) rs (omega arith) in record {
       word = λ n. ap (λ (xs : List RowText). list_any (λ r. is_word_numbered n r.id) xs) (sym whole) ∙ (t.word n ∙ (ap (λ (xs : List RowText). ltb 0 n && leb n (count_by is_word xs)) whole ∙ ap (λ c. ltb 0 n && leb n c) (sym count)));
       node = λ i k. ap (λ (xs : List RowText). list_any (λ r. is_node_numbered i k r.id) xs) (sym whole) ∙ (t.node i k ∙ (ap (λ (xs : List RowText). ltb 0 k && leb k (count_by (is_node_after i) xs)) whole ∙ ap (λ c. ltb 0 k && leb k c) (sym (counts i))));

@@ -123,23 +123,23 @@ taken_next old new before b name h k is none more =
     }
 
 -- the sentence that comes next is at fault
-told_next : (names : List (List ℕ)) (before : List BlockText) (b : BlockText) (n sentence rule row : ℕ) → HasTaken names before → n ≡ length names → sentence ≡ n + 1
+reported_next : (names : List (List ℕ)) (before : List BlockText) (b : BlockText) (n sentence rule row : ℕ) → HasTaken names before → n ≡ length names → sentence ≡ n + 1
     → IsBrokenAfter before b rule row → IsFaultAt (before ++ b ∷ []) sentence rule row
-told_next names before b n sentence rule row h e place f =
+reported_next names before b n sentence rule row h e place f =
     let count = h.counted in
-    record { before = before; told = b; after = []; whole = refl; counted = omega (arith, e, count, place); valid = h.valid; fault = f }
+    record { before = before; reported = b; after = []; whole = refl; counted = omega (arith, e, count, place); valid = h.valid; fault = f }
 
 -- a name that came before
 pub taken_twice : (names : List (List ℕ)) (before : List BlockText) (b : BlockText) (name : List ℕ) (n : ℕ) → HasTaken names before → n ≡ length names → KeepsRules b
     → IsNamed b name → list_any (bytes_eq name) names ≡ true → IsFaultAt (before ++ b ∷ []) (n + 1) 12 0
 taken_twice names before b name n h e k is some =
     let known = sym (h.known name) ∙ some in
-    told_next names before b n (n + 1) 12 0 h e refl (name_twice k (λ new. not_free before name h.valid.rules known (new name is)))
+    reported_next names before b n (n + 1) 12 0 h e refl (name_twice k (λ new. not_free before name h.valid.rules known (new name is)))
 
 -- a fault of the sentence by itself
 pub taken_alone : (names : List (List ℕ)) (before : List BlockText) (b : BlockText) (n : ℕ) (e : FileFault) → HasTaken names before → n ≡ length names
     → IsSentenceFault (n + 1) b e → IsFileFault (before ++ b ∷ []) e
-taken_alone names before b n (At sentence rule row) h e f = told_next names before b n sentence rule row h e f.0 (broken rule row f.1)
+taken_alone names before b n (At sentence rule row) h e f = reported_next names before b n sentence rule row h e f.0 (broken rule row f.1)
 taken_alone names before b n Memory h e f = tt
 
 -- ---- the set of names

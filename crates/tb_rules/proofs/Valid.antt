@@ -88,7 +88,7 @@ broken_not before b _ _ (name_twice h t) k n = t n
 pub fault_not_valid : (bs : List BlockText) (sentence rule row : ℕ) → IsFaultAt bs sentence rule row → IsValid bs → ⊥
 fault_not_valid bs sentence rule row f v =
     let rules = subst (AllByRecursion KeepsRules) f.whole v.rules in
-    broken_not f.before f.told rule row f.fault (all_at KeepsRules f.before f.after f.told rules) (v.names f.before f.told f.after f.whole)
+    broken_not f.before f.reported rule row f.fault (all_at KeepsRules f.before f.after f.reported rules) (v.names f.before f.reported f.after f.whole)
 
 -- ---- one fault
 
@@ -100,31 +100,31 @@ one_broken before b _ _ _ _ (name_twice h t) (broken rule2 row2 k) = absurd (not
 one_broken before b _ _ _ _ (name_twice h t) (name_twice k u) = (refl, refl)
 
 -- a fault before a fault
-fault_before : (before : List BlockText) (told : BlockText) (more : List BlockText) (bs : List BlockText) (rule row : ℕ) → bs ≡ before ++ told ∷ more
-    → IsValid before → IsBrokenAfter before told rule row → IsValid bs → ⊥
-fault_before before told more bs rule row e v h w =
-    fault_not_valid bs (length before + 1) rule row (record { before = before; told = told; after = more; whole = e; counted = refl; valid = v; fault = h }) w
+fault_before : (before : List BlockText) (reported : BlockText) (more : List BlockText) (bs : List BlockText) (rule row : ℕ) → bs ≡ before ++ reported ∷ more
+    → IsValid before → IsBrokenAfter before reported rule row → IsValid bs → ⊥
+fault_before before reported more bs rule row e v h w =
+    fault_not_valid bs (length before + 1) rule row (record { before = before; reported = reported; after = more; whole = e; counted = refl; valid = v; fault = h }) w
 
 pub one_fault : (bs : List BlockText) (sentence rule row sentence2 rule2 row2 : ℕ) → IsFaultAt bs sentence rule row → IsFaultAt bs sentence2 rule2 row2
     → (sentence ≡ sentence2) × (rule ≡ rule2) × (row ≡ row2)
 one_fault bs sentence rule row sentence2 rule2 row2 f g =
-    elim (ordered f.before f.told f.after g.before g.told g.after (sym f.whole ∙ g.whole)) [
+    elim (ordered f.before f.reported f.after g.before g.reported g.after (sym f.whole ∙ g.whole)) [
       | inl same ↦
-          let there : IsBrokenAfter g.before g.told rule row = subst (λ l. IsBrokenAfter l g.told rule row) same.0 (subst (λ d. IsBrokenAfter f.before d rule row) same.1 f.fault) in
-          let both = one_broken g.before g.told rule row rule2 row2 there g.fault in
+          let there : IsBrokenAfter g.before g.reported rule row = subst (λ l. IsBrokenAfter l g.reported rule row) same.0 (subst (λ d. IsBrokenAfter f.before d rule row) same.1 f.fault) in
+          let both = one_broken g.before g.reported rule row rule2 row2 there g.fault in
           (f.counted ∙ ap (λ l. length l + 1) same.0 ∙ sym g.counted, both.0, both.1)
       | inr rest ↦ elim rest [
-        | inl inside ↦ absurd (fault_before g.before g.told inside.0 f.before rule2 row2 inside.1 g.valid g.fault f.valid)
-        | inr inside ↦ absurd (fault_before f.before f.told inside.0 g.before rule row inside.1 f.valid f.fault g.valid)
+        | inl inside ↦ absurd (fault_before g.before g.reported inside.0 f.before rule2 row2 inside.1 g.valid g.fault f.valid)
+        | inr inside ↦ absurd (fault_before f.before f.reported inside.0 g.before rule row inside.1 f.valid f.fault g.valid)
       ]
     ]
 
 pub fault_stays : (bs more : List BlockText) (sentence rule row : ℕ) → IsFaultAt bs sentence rule row → IsFaultAt (bs ++ more) sentence rule row
 fault_stays bs more sentence rule row f = record {
   before = f.before;
-  told = f.told;
+  reported = f.reported;
   after = f.after ++ more;
-  whole = ap (λ l. l ++ more) f.whole ∙ append_assoc f.before (f.told ∷ f.after) more;
+  whole = ap (λ l. l ++ more) f.whole ∙ append_assoc f.before (f.reported ∷ f.after) more;
   counted = f.counted;
   valid = f.valid;
   fault = f.fault;

@@ -2,7 +2,8 @@
 -- CoNLL-U format page, "Sentence Boundaries and Comments": `# sent_id = ...` and `# text = ...` are required.
 -- Where the page leaves it open, this project is lenient: spaces (U+0020) round key and value mean nothing, and
 -- the key ends at the first `=`.
-use Rattle.std.specs.Prelude.{◌≡◌, ℕ, ◌<◌, List, [], ◌∷◌, length, reverse, Option, Some, None, false, ◌&&◌, bytes_eq, ◌==◌, if◌then◌else◌}
+use Rattle.std.specs.Prelude.{◌≡◌, ℕ, ◌<◌, List, [], ◌∷◌, length, reverse, Option, Some, None, false}
+use Rattle.std.specs.Prelude.{◌&&◌, bytes_eq, ◌==◌, if◌then◌else◌}
 use Rattle.std.specs.List.{filter_map, list_any, before_first, after_first}
 use Rattle.tb_chars.specs.Spaces.{has_space}
 use Rattle.tb_fields.specs.Feats.{is_equals}
@@ -20,7 +21,8 @@ trimmed bs = reverse (drop_spaces (reverse (drop_spaces bs)))
 abbrev pub value_under : List ℕ → List ℕ → Option (List ℕ)
 value_under key [] = None
 value_under key (b ∷ bs) =
-    if b == 35 && list_any is_equals bs && bytes_eq (trimmed (before_first is_equals bs)) key then Some (trimmed (after_first is_equals bs)) else None
+    if b == 35 && list_any is_equals bs && bytes_eq (trimmed (before_first is_equals bs)) key then Some (trimmed
+    (after_first is_equals bs)) else None
 
 -- the values that comments give to the key, in order
 abbrev pub values_of : List ℕ → List (List ℕ) → List (List ℕ)

@@ -2,7 +2,8 @@
 -- CoNLL-U format page, "Syntactic Annotation" and UD v2 guidelines, "Enhanced Dependencies": `_`, or pairs
 -- `head:relation` joined by bars, in the order of their heads. A head is 0, or the ID, as it is written, of a word or
 -- an empty node of the sentence; 0 comes before all, and `i.k` after `i`. Pairs of one head may stand in either order.
-use Rattle.std.specs.Prelude.{ℕ, List, [], ◌∷◌, Option, Some, None, Bool, true, false, ◌&&◌, ◌||◌, nat_lt, nat_le, ◌==◌, bytes_eq, codes}
+use Rattle.std.specs.Prelude.{ℕ, List, [], ◌∷◌, Option, Some, None, Bool, true, false, ◌&&◌, ◌||◌}
+use Rattle.std.specs.Prelude.{nat_lt, nat_le, ◌==◌, bytes_eq, codes}
 use Rattle.std.specs.Option.{is_some}
 use Rattle.std.specs.List.{list_any, list_all, find, before_first, after_first, slice_split}
 use Rattle.tb_conllu.specs.declared.id.LineId.{LineId}
@@ -45,7 +46,8 @@ place_node (Span a b) = 0
 place_node (Empty i k) = k
 
 abbrev pub is_place_in_order : LineId → LineId → Bool
-is_place_in_order a b = nat_lt (place_word a) (place_word b) || (place_word a == place_word b && nat_le (place_node a) (place_node b))
+is_place_in_order a b = nat_lt (place_word a) (place_word b) || (place_word a == place_word b && nat_le (place_node a)
+    (place_node b))
 
 -- the rows of two heads: the root, which has none, before all, and the others by their IDs
 abbrev pub are_in_order : Option RowText → Option RowText → Bool

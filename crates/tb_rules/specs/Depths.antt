@@ -10,4 +10,5 @@ pub record IsDepth (heads : List ℕ) (k d : ℕ) : Type 0 where
 -- A table of depths: that of word k + 1 at place k, or 0 where it is not known yet.
 pub record AreDepths (heads depths : List ℕ) : Type 0 where
   pub as_many : length depths ≡ length heads
-  pub exact : (k : ℕ) → k < length depths → slice_index depths k ≢ 0 → IsDepth heads (k + 1) (slice_index depths k)
+  pub exact : (k : ℕ) → k < length depths → slice_index depths k ≢ 0
+      → IsDepth heads (k + 1) (slice_index depths k)

@@ -1,5 +1,6 @@
 -- White space that is folded as characters come, and a text that is compared with them.
-use Rattle.std.specs.Prelude.{◌≡◌, ◌↔◌, ℕ, List, [], ◌∷◌, ◌++◌, length, Bool, true, false, ◌&&◌, not, ◌==◌, if◌then◌else◌, encode_utf8_all}
+use Rattle.std.specs.Prelude.{◌≡◌, ◌↔◌, ℕ, List, [], ◌∷◌, ◌++◌, length, Bool, true, false}
+use Rattle.std.specs.Prelude.{◌&&◌, not, ◌==◌, if◌then◌else◌, encode_utf8_all}
 use Rattle.std.specs.Char.{is_whitespace}
 
 -- What is to come of a folded text. Begun says whether a character came out before these, gap whether white space
@@ -29,4 +30,5 @@ Refuses rest begun gap cs = (next : List ℕ) → ¬ (IsRest rest begun gap (cs 
 
 -- After these characters a shorter rest stands for the same comparison.
 abbrev pub Leaves : List ℕ → Bool → Bool → List ℕ → List ℕ → Bool → Bool → Type 0
-Leaves rest begun gap cs rest' begun' gap' = (next : List ℕ) → IsRest rest' begun' gap' next ↔ IsRest rest begun gap (cs ++ next)
+Leaves rest begun gap cs rest' begun' gap' = (next : List ℕ) → IsRest rest' begun' gap' next
+    ↔ IsRest rest begun gap (cs ++ next)

@@ -24,7 +24,8 @@ HasNewName before b = (name : List ℕ) → IsNamed b name → IsFree before nam
 -- Each sentence keeps rules 1 to 11, and none has the name of one before it.
 pub record IsValid (bs : List BlockText) : Type 0 where
   pub rules : AllByRecursion KeepsRules bs
-  pub names : (before : List BlockText) (b : BlockText) (after : List BlockText) → bs ≡ before ++ b ∷ after → HasNewName before b
+  pub names : (before : List BlockText) (b : BlockText) (after : List BlockText) → bs ≡ before ++ b ∷ after
+      → HasNewName before b
 
 -- The rule that a sentence breaks after these, with its row: of rules 1 to 11 the least one; rule 12 where those hold.
 pub data IsBrokenAfter (before : List BlockText) (b : BlockText) : ℕ → ℕ → Type 0 where
@@ -34,12 +35,12 @@ pub data IsBrokenAfter (before : List BlockText) (b : BlockText) : ℕ → ℕ �
 -- The first sentence at fault, counted from 1: those before it are valid.
 pub record IsFaultAt (bs : List BlockText) (sentence rule row : ℕ) : Type 0 where
   pub before : List BlockText
-  pub told : BlockText
+  pub reported : BlockText
   pub after : List BlockText
-  pub whole : bs ≡ before ++ told ∷ after
+  pub whole : bs ≡ before ++ reported ∷ after
   pub counted : sentence ≡ length before + 1
   pub valid : IsValid before
-  pub fault : IsBrokenAfter before told rule row
+  pub fault : IsBrokenAfter before reported rule row
 
 -- What want of memory leaves to be known: some of the sentences keeps rules 1 to 6, and those before it are valid.
 pub record IsCutShort (bs : List BlockText) : Type 0 where

@@ -1,6 +1,7 @@
 -- What the greatest end of the ranges before a row tells of it: where a range may begin, and, of ranges that stand
 -- before their words, whether a word is in one.
-use Rattle.std.specs.Prelude.{◌≡◌, ℕ, ◌+◌, ◌<◌, max, List, length, take, slice_index_or, Bool, true, false, ◌&&◌, not, nat_lt, nat_le, ◌==◌}
+use Rattle.std.specs.Prelude.{◌≡◌, ℕ, ◌+◌, ◌<◌, max, List, length, take, slice_index_or, Bool, true}
+use Rattle.std.specs.Prelude.{false, ◌&&◌, not, nat_lt, nat_le, ◌==◌}
 use Rattle.std.specs.List.{fold}
 use Rattle.tb_conllu.specs.declared.id.LineId.{LineId}
 use Rattle.tb_conllu.specs.declared.id.LineId.TheVariants.{Word, Span, Empty}
@@ -26,7 +27,8 @@ is_fine_past n words end (Empty i k) r = true
 
 -- a word is in a range where it is at most the greatest end of the ranges before it
 abbrev pub RangesLead : List RowText → Type 0
-RangesLead rs = (k w : ℕ) (d : RowText) → k < length rs → (slice_index_or rs k d).id ≡ Word w → is_covered rs w ≡ nat_le w (greatest_end (take k rs))
+RangesLead rs = (k w : ℕ) (d : RowText) → k < length rs → (slice_index_or rs k d).id ≡ Word w
+    → is_covered rs w ≡ nat_le w (greatest_end (take k rs))
 
 -- a range, or a word after this end
 abbrev pub is_token_after : ℕ → LineId → Bool

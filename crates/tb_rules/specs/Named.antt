@@ -1,7 +1,8 @@
 -- Which IDs the rows of a sentence carry, by counts alone.
 -- CoNLL-U format page, "Words, Tokens and Empty Nodes": words are numbered from 1 on, and the empty nodes after word i
 -- are i.1, i.2, ...
-use Rattle.std.specs.Prelude.{◌≡◌, ℕ, ◌≤◌, List, Bool, true, false, ◌&&◌, nat_lt, nat_le, ◌==◌, slice_index, count_by}
+use Rattle.std.specs.Prelude.{◌≡◌, ℕ, ◌≤◌, List, Bool, true, false, ◌&&◌, nat_lt, nat_le, ◌==◌}
+use Rattle.std.specs.Prelude.{slice_index, count_by}
 use Rattle.std.specs.List.{list_any}
 use Rattle.tb_conllu.specs.declared.id.LineId.{LineId}
 use Rattle.tb_conllu.specs.declared.id.LineId.TheVariants.{Word, Span, Empty}
@@ -38,4 +39,5 @@ AreNodeCounts rs nodes = (i : ℕ) → slice_index nodes i ≡ count_by (is_node
 -- So many words, and so many empty nodes after each, tell which IDs there are.
 pub record TellIds (rs : List RowText) (words : ℕ) (nodes : List ℕ) : Type 0 where
   pub word : (n : ℕ) → list_any (λ r. is_word_numbered n r.id) rs ≡ (nat_lt 0 n && nat_le n words)
-  pub node : (i k : ℕ) → list_any (λ r. is_node_numbered i k r.id) rs ≡ (nat_lt 0 k && nat_le k (slice_index nodes i))
+  pub node : (i k : ℕ) → list_any (λ r. is_node_numbered i k r.id) rs
+      ≡ (nat_lt 0 k && nat_le k (slice_index nodes i))

@@ -1,5 +1,6 @@
 -- Heads as numbers, by which rows in their places are found and compared without a look at any.
-use Rattle.std.specs.Prelude.{ℕ, List, [], ◌∷◌, length, Option, Some, None, Bool, true, false, ◌&&◌, ◌||◌, not, nat_lt, nat_le, ◌==◌, slice_index, if◌then◌else◌}
+use Rattle.std.specs.Prelude.{ℕ, List, [], ◌∷◌, length, Option, Some, None, Bool, true, false, ◌&&◌}
+use Rattle.std.specs.Prelude.{◌||◌, not, nat_lt, nat_le, ◌==◌, slice_index, if◌then◌else◌}
 use Rattle.std.specs.List.{list_any, list_all, before_first, after_first, slice_split}
 use Rattle.std.specs.Str.Parse.{digits_value}
 use Rattle.tb_conllu.specs.declared.id.LineId.{LineId}
@@ -43,10 +44,12 @@ node_place (Some i) (Some k) = if k == 0 then None else Some (i, k)
 
 -- what a head spells: (0, 0) for the root, (n, 0) for word n, and (i, k) for the empty node i.k
 abbrev pub place_of : List ℕ → Option (ℕ × ℕ)
-place_of bs = if list_any is_dot bs then node_place (number_of (before_first is_dot bs)) (number_of (after_first is_dot bs)) else word_place (number_of bs)
+place_of bs = if list_any is_dot bs then node_place (number_of (before_first is_dot bs)) (number_of
+    (after_first is_dot bs)) else word_place (number_of bs)
 
 abbrev pub is_there : List RowText → (ℕ × ℕ) → Bool
-is_there rs p = if p.1 == 0 then p.0 == 0 || list_any (λ r. is_word_numbered p.0 r.id) rs else list_any (λ r. is_node_numbered p.0 p.1 r.id) rs
+is_there rs p = if p.1 == 0 then p.0 == 0 || list_any (λ r. is_word_numbered p.0 r.id) rs else list_any (λ r.
+    is_node_numbered p.0 p.1 r.id) rs
 
 abbrev pub is_place_there : List RowText → Option (ℕ × ℕ) → Bool
 is_place_there rs None = false
@@ -63,7 +66,8 @@ are_places_in_order (Some p) (Some q) = is_up_to p q
 -- ---- pairs of head and relation
 
 abbrev pub is_placed_pair : List RowText → List ℕ → Bool
-is_placed_pair rs bs = list_any is_colon bs && is_place_there rs (place_of (pair_head bs)) && is_solid (after_first is_colon bs)
+is_placed_pair rs bs = list_any is_colon bs && is_place_there rs (place_of
+    (pair_head bs)) && is_solid (after_first is_colon bs)
 
 abbrev pub place_precedes : List ℕ → List (List ℕ) → Bool
 place_precedes x [] = true

@@ -2,7 +2,9 @@
 -- CoNLL-U format page, "Words, Tokens and Empty Nodes" and "Miscellaneous" (SpaceAfter=No): the text is the forms of
 -- the tokens, a range in place of its words, each followed by a space but where SpaceAfter=No says otherwise.
 -- White space is Unicode's White_Space.
-use Rattle.std.specs.Prelude.{◌≡◌, ℕ, List, [], ◌∷◌, ◌++◌, length, filter, Bool, true, false, ◌&&◌, not, nat_lt, nat_le, bytes_eq, if◌then◌else◌, codes, chars, encode_utf8_all}
+use Rattle.std.specs.Prelude.{◌≡◌, ℕ, List, [], ◌∷◌, ◌++◌, length, filter, Bool, true, false}
+use Rattle.std.specs.Prelude.{◌&&◌, not, nat_lt, nat_le, bytes_eq, if◌then◌else◌, codes, chars}
+use Rattle.std.specs.Prelude.{encode_utf8_all}
 use Rattle.std.specs.List.{flat_map, list_any, slice_split, join_with_byte}
 use Rattle.std.specs.Char.{is_whitespace}
 use Rattle.tb_conllu.specs.declared.id.LineId.{LineId}

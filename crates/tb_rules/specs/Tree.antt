@@ -1,7 +1,8 @@
 -- The words of a sentence hang from one root.
 -- UD v2 guidelines, "Syntax: General Principles": one word has the head 0, and all others depend on it, directly
 -- or through other words.
-use Rattle.std.specs.Prelude.{◌≡◌, ℕ, zero, suc, ◌-◌, ◌≤◌, ◌==◌, List, length, map, filter, Option, Some, None, Bool, ◌&&◌, slice_index, if◌then◌else◌, count_by}
+use Rattle.std.specs.Prelude.{◌≡◌, ℕ, zero, suc, ◌-◌, ◌≤◌, ◌==◌, List, length, map, filter}
+use Rattle.std.specs.Prelude.{Option, Some, None, Bool, ◌&&◌, slice_index, if◌then◌else◌, count_by}
 use Rattle.tb_conllu.specs.Text.{RowText, BlockText}
 use Rattle.tb_conllu.specs.Words.{is_word}
 use Rattle.tb_rules.specs.Words.{is_root_head}

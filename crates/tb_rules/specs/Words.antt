@@ -1,7 +1,8 @@
 -- What each word says: its part of speech, its head and its relation to the head.
 -- UD v2 guidelines, "Universal POS tags", "Universal Dependency Relations" and "Syntax: General Principles";
 -- CoNLL-U format page, "Syntactic Annotation" (HEAD 0 and the relation root go together).
-use Rattle.std.specs.Prelude.{ℕ, List, Option, Some, None, Bool, true, false, ◌&&◌, not, nat_le, ◌==◌, bytes_eq, if◌then◌else◌, codes}
+use Rattle.std.specs.Prelude.{ℕ, List, Option, Some, None, Bool, true, false, ◌&&◌, not, nat_le, ◌==◌}
+use Rattle.std.specs.Prelude.{bytes_eq, if◌then◌else◌, codes}
 use Rattle.tb_conllu.specs.declared.id.LineId.{LineId}
 use Rattle.tb_conllu.specs.declared.id.LineId.TheVariants.{Word, Span, Empty}
 use Rattle.tb_conllu.specs.Text.{RowText}
@@ -20,7 +21,8 @@ is_root_head (Some h) = h == 0
 
 -- the relation root goes with head 0, and no other does
 abbrev pub fits_root : Option ℕ → List ℕ → Bool
-fits_root head deprel = if is_root_head head then bytes_eq (universal_part deprel) (codes "root") else not (bytes_eq (universal_part deprel) (codes "root"))
+fits_root head deprel = if is_root_head head then bytes_eq (universal_part deprel) (codes "root") else not (bytes_eq
+    (universal_part deprel) (codes "root"))
 
 -- word m of n
 abbrev pub is_word_row_fine : ℕ → ℕ → RowText → Bool

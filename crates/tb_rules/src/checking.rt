@@ -1,7 +1,8 @@
 //! Rules 1 to 11, one after the other.
 
 ghost use Rattle.std.specs.Prelude.{◌≡◌, OnOk, IfOk, IfErr, MatchOption};
-ghost use Rattle.tb_rules.specs.Rules.{HasWords, HasSpans, HasNodes, HasFeatures, HasDependencies, KeepsTo6, KeepsRules, IsRuleFault};
+ghost use Rattle.tb_rules.specs.Rules.{HasWords, HasSpans, HasNodes, HasFeatures, HasDependencies, KeepsTo6};
+ghost use Rattle.tb_rules.specs.Rules.{KeepsRules, IsRuleFault};
 ghost use Rattle.tb_conllu.specs.Words.{words_of};
 ghost use Rattle.tb_rules.specs.Ids.{HasIds};
 ghost use Rattle.tb_rules.specs.Rows.{IsFirstFault};
@@ -56,7 +57,8 @@ fn feature_row<T: Text>(
 
 fn dependency_row<T: Text>(alloc: Global, block: &BlockOf<T>) -> Result<Option<usize>, AllocError>
     requires { HasIds block.now }
-    ensures { IfOk result (λ r. MatchOption r (HasDependencies block.now) (IsFirstFault (dependency_test block.now.rows) block.now.rows)) }
+    ensures { IfOk result (λ r. MatchOption r (HasDependencies block.now)
+        (IsFirstFault (dependency_test block.now.rows) block.now.rows)) }
 {
     dependency_fault(alloc, &block.rows, words(block))
 }

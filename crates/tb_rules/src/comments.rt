@@ -1,6 +1,7 @@
 ghost use Rattle.std.specs.Prelude.{◌≡◌, ◌↔◌, IsTrue, map, reverse};
 ghost use Rattle.std.specs.Option.{option_copied};
-ghost use Rattle.tb_rules.specs.Comments.{drop_spaces, trimmed, value_under, values_of, only, sent_ids, texts, HasSentId, HasText};
+ghost use Rattle.tb_rules.specs.Comments.{drop_spaces, trimmed, value_under, values_of, only, sent_ids, texts};
+ghost use Rattle.tb_rules.specs.Comments.{HasSentId, HasText};
 
 use crate::matching::strip_text;
 use tb_chars::has_white_space;

@@ -1,4 +1,5 @@
-ghost use Rattle.std.specs.Prelude.{◌≡◌, ◌+◌, ◌<◌, ◌≤◌, ◌^◌, length, ◌&&◌, MatchOption, IfOk};
+ghost use Rattle.std.specs.Prelude.{◌≡◌, ◌+◌, ◌<◌, ◌≤◌, ◌^◌, length, ◌&&◌, MatchOption};
+ghost use Rattle.std.specs.Prelude.{IfOk};
 ghost use Rattle.std.specs.List.{slice_split};
 ghost use Rattle.tb_chars.specs.Spaces.{is_solid};
 ghost use Rattle.tb_rules.specs.Rows.{EachRowPasses, IsFirstFault};
@@ -6,7 +7,9 @@ ghost use Rattle.tb_chars.specs.Digits.{is_digit};
 ghost use Rattle.tb_fields.specs.Feats.{is_bar};
 ghost use Rattle.tb_rules.specs.Named.{AreNumbered};
 ghost use Rattle.tb_rules.specs.Deps.{pair_head, dependency_test};
-ghost use Rattle.tb_rules.specs.Places.{is_plain, value_of, number_of, place_of, word_place, node_place, is_place_there, is_up_to, are_places_in_order, is_placed_pair, place_precedes, are_placed_pairs, is_placed_text, is_placed_dependent, place_test};
+ghost use Rattle.tb_rules.specs.Places.{is_plain, value_of, number_of, place_of, word_place, node_place};
+ghost use Rattle.tb_rules.specs.Places.{is_place_there, is_up_to, are_places_in_order, is_placed_pair, place_precedes};
+ghost use Rattle.tb_rules.specs.Places.{are_placed_pairs, is_placed_text, is_placed_dependent, place_test};
 
 use crate::heads::{Heads, head_stands_in, heads_in};
 use std::alloc::{AllocError, Global};
@@ -136,7 +139,8 @@ fn is_before(pair: &str, text: &str) -> bool
 }
 
 fn pair_is_fine<T: Text>(heads: &Heads<'_, T>, pair: &str, more: &str) -> bool
-    ensures { result ≡ (is_placed_pair heads.now.rows.now pair.now && place_precedes pair.now (slice_split is_bar more.now)) }
+    ensures { result ≡ (is_placed_pair heads.now.rows.now pair.now && place_precedes pair.now
+        (slice_split is_bar more.now)) }
 {
     is_pair_in(heads, pair) && is_before(pair, more)
 }
@@ -170,7 +174,8 @@ fn is_fine<T: Text>(heads: &Heads<'_, T>, row: &RowOf<T>) -> bool
 }
 
 fn first_fault<T: Text>(heads: &Heads<'_, T>) -> Option<usize>
-    ensures { MatchOption result (EachRowPasses (place_test heads.now.rows.now) heads.now.rows.now) (IsFirstFault (place_test heads.now.rows.now) heads.now.rows.now) }
+    ensures { MatchOption result (EachRowPasses (place_test heads.now.rows.now) heads.now.rows.now)
+        (IsFirstFault (place_test heads.now.rows.now) heads.now.rows.now) }
 {
     for (i, row) in heads.rows.iter().enumerate() {
         if !is_fine(heads, row) {
@@ -195,7 +200,8 @@ pub(crate) fn dependency_fault<T: Text>(
     words: usize,
 ) -> Result<Option<usize>, AllocError>
     requires { AreNumbered rows.now words }
-    ensures { IfOk result (λ r. MatchOption r (EachRowPasses (dependency_test rows.now) rows.now) (IsFirstFault (dependency_test rows.now) rows.now)) }
+    ensures { IfOk result (λ r. MatchOption r (EachRowPasses (dependency_test rows.now) rows.now)
+        (IsFirstFault (dependency_test rows.now) rows.now)) }
 {
     rows_are_few(rows);
     let heads = heads_in(alloc, rows, words)?;

@@ -12,7 +12,8 @@ pub(crate) fn feature_fault<T: Text>(
     accepted: &mut Accepted,
     rows: &[RowOf<T>],
 ) -> Result<Option<usize>, AllocError>
-    ensures { IfOk result (λ r. MatchOption r (EachRowPasses feature_test rows.now) (IsFirstFault feature_test rows.now)) }
+    ensures { IfOk result (λ r. MatchOption r (EachRowPasses feature_test rows.now)
+        (IsFirstFault feature_test rows.now)) }
 {
     for (i, row) in rows.iter().enumerate() {
         if !accepted.accept_features(alloc, row.feats.text())? {

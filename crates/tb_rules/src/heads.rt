@@ -2,7 +2,8 @@
 
 ghost use Rattle.std.specs.Prelude.{◌≡◌, ◌+◌, ◌<◌, ◌^◌, IfOk, slice_index, slice_set, vec_len};
 ghost use Rattle.std.specs.List.{list_any};
-ghost use Rattle.tb_rules.specs.Named.{is_word_numbered, is_node_numbered, is_node_id, AreNumbered, AreNodeCounts, TellIds};
+ghost use Rattle.tb_rules.specs.Named.{is_word_numbered, is_node_numbered, is_node_id, AreNumbered, AreNodeCounts};
+ghost use Rattle.tb_rules.specs.Named.{TellIds};
 ghost use Rattle.tb_rules.specs.Places.{is_there, is_place_there};
 
 use std::alloc::{AllocError, Global};
@@ -14,7 +15,7 @@ pub(crate) struct Heads<'a, T: Text> {
     pub(crate) rows: &'a [RowOf<T>],
     words: usize,
     nodes: Vec<usize>,
-    ghost told: { TellIds rows.now words nodes.items },
+    ghost reported: { TellIds rows.now words nodes.items },
 }
 
 fn is_node<T: Text>(row: &RowOf<T>) -> bool

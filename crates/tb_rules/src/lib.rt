@@ -25,8 +25,8 @@ pub use comments::{sent_id, sent_id_ref, text};
 pub use fault::RuleFault;
 pub use filefault::FileFault;
 pub use laws::{
-    a_broken_rule_is_not_kept, a_fault_stays, faulty_sentences_are_not_valid, one_rule_is_told,
-    one_sentence_is_told,
+    a_broken_rule_is_not_kept, a_fault_stays, faulty_sentences_are_not_valid, one_rule_is_reported,
+    one_sentence_is_reported,
 };
 pub use spelling::restored;
 pub use taking::{Checker, check_all};

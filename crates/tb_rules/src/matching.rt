@@ -1,6 +1,7 @@
 //! The text that rows spell, compared with a given one as it comes.
 
-ghost use Rattle.std.specs.Prelude.{◌≡◌, ◌≢◌, ◌↔◌, IsTrue, ◌++◌, ◌∷◌, [], ℕ, List, MatchOption, chars, encode_utf8, encode_utf8_all, true, false};
+ghost use Rattle.std.specs.Prelude.{◌≡◌, ◌≢◌, ◌↔◌, IsTrue, ◌++◌, ◌∷◌, [], ℕ, List};
+ghost use Rattle.std.specs.Prelude.{MatchOption, chars, encode_utf8, encode_utf8_all, true, false};
 ghost use Rattle.tb_chars.specs.Spaces.{is_solid};
 ghost use Rattle.tb_rules.specs.Leading.{RangesLead, is_token_after};
 ghost use Rattle.tb_rules.specs.Expected.{gap_text, Refuses, Leaves};
@@ -34,21 +35,25 @@ fn from_start(text: &str) -> Expected<'_>
 }
 
 fn strip_char(text: &str, c: char) -> Option<&str>
-    ensures { MatchOption result ((rest : List ℕ) → text.now ≢ encode_utf8 c ++ rest) (λ x. text.now ≡ encode_utf8 c ++ x.now) }
+    ensures { MatchOption result ((rest : List ℕ) → text.now ≢ encode_utf8 c ++ rest) (λ x.
+        text.now ≡ encode_utf8 c ++ x.now) }
 {
     text.strip_prefix(c)
 }
 
 /// What follows the front of a text that begins with it.
 pub(crate) fn strip_text<'a>(text: &'a str, front: &str) -> Option<&'a str>
-    ensures { MatchOption result ((rest : List ℕ) → text.now ≢ front.now ++ rest) (λ x. text.now ≡ front.now ++ x.now) }
+    ensures { MatchOption result ((rest : List ℕ) → text.now ≢ front.now ++ rest) (λ x.
+        text.now ≡ front.now ++ x.now) }
 {
     text.strip_prefix(front)
 }
 
 /// The rest behind the one space that stands for white space between two characters.
 fn past_gap(expected: Expected<'_>) -> Option<&str>
-    ensures { MatchOption result ((rest : List ℕ) → expected.entry.rest.now ≢ gap_text expected.entry.begun expected.entry.gap ++ rest) (λ x. expected.entry.rest.now ≡ gap_text expected.entry.begun expected.entry.gap ++ x.now) }
+    ensures { MatchOption result ((rest : List ℕ)
+        → expected.entry.rest.now ≢ gap_text expected.entry.begun expected.entry.gap ++ rest) (λ x.
+        expected.entry.rest.now ≡ gap_text expected.entry.begun expected.entry.gap ++ x.now) }
 {
     if expected.begun && expected.gap {
         strip_char(expected.rest, ' ')
@@ -58,7 +63,9 @@ fn past_gap(expected: Expected<'_>) -> Option<&str>
 }
 
 fn take_char(expected: Expected<'_>, c: char) -> Option<Expected<'_>>
-    ensures { MatchOption result (Refuses expected.entry.rest.now expected.entry.begun expected.entry.gap (c ∷ [])) (λ e. Leaves expected.entry.rest.now expected.entry.begun expected.entry.gap (c ∷ []) e.rest.now e.begun e.gap) }
+    ensures { MatchOption result (Refuses expected.entry.rest.now expected.entry.begun expected.entry.gap (c ∷ []))
+        (λ e. Leaves expected.entry.rest.now expected.entry.begun expected.entry.gap
+        (c ∷ []) e.rest.now e.begun e.gap) }
 {
     if c.is_whitespace() {
         return Some(Expected {
@@ -83,7 +90,9 @@ fn take_char(expected: Expected<'_>, c: char) -> Option<Expected<'_>>
 /// Takes a text without white space at once.
 fn take_solid<'a>(expected: Expected<'a>, text: &str) -> Option<Expected<'a>>
     requires { is_solid text.now ≡ true }
-    ensures { MatchOption result (Refuses expected.entry.rest.now expected.entry.begun expected.entry.gap (chars text.now)) (λ e. Leaves expected.entry.rest.now expected.entry.begun expected.entry.gap (chars text.now) e.rest.now e.begun e.gap) }
+    ensures { MatchOption result (Refuses expected.entry.rest.now expected.entry.begun expected.entry.gap
+        (chars text.now)) (λ e.
+        Leaves expected.entry.rest.now expected.entry.begun expected.entry.gap (chars text.now) e.rest.now e.begun e.gap) }
 {
     let Some(behind) = past_gap(expected) else {
         return None;
@@ -99,7 +108,9 @@ fn take_solid<'a>(expected: Expected<'a>, text: &str) -> Option<Expected<'a>>
 }
 
 fn take_chars<'a>(expected: Expected<'a>, text: &str) -> Option<Expected<'a>>
-    ensures { MatchOption result (Refuses expected.entry.rest.now expected.entry.begun expected.entry.gap (chars text.now)) (λ e. Leaves expected.entry.rest.now expected.entry.begun expected.entry.gap (chars text.now) e.rest.now e.begun e.gap) }
+    ensures { MatchOption result (Refuses expected.entry.rest.now expected.entry.begun expected.entry.gap
+        (chars text.now)) (λ e.
+        Leaves expected.entry.rest.now expected.entry.begun expected.entry.gap (chars text.now) e.rest.now e.begun e.gap) }
 {
     let mut now = expected;
     for c in text.chars() {
@@ -112,7 +123,9 @@ fn take_chars<'a>(expected: Expected<'a>, text: &str) -> Option<Expected<'a>>
 }
 
 fn take_piece<'a>(expected: Expected<'a>, text: &str) -> Option<Expected<'a>>
-    ensures { MatchOption result (Refuses expected.entry.rest.now expected.entry.begun expected.entry.gap (chars text.now)) (λ e. Leaves expected.entry.rest.now expected.entry.begun expected.entry.gap (chars text.now) e.rest.now e.begun e.gap) }
+    ensures { MatchOption result (Refuses expected.entry.rest.now expected.entry.begun expected.entry.gap
+        (chars text.now)) (λ e.
+        Leaves expected.entry.rest.now expected.entry.begun expected.entry.gap (chars text.now) e.rest.now e.begun e.gap) }
 {
     if is_solid_text(text) {
         take_solid(expected, text)
@@ -123,7 +136,9 @@ fn take_piece<'a>(expected: Expected<'a>, text: &str) -> Option<Expected<'a>>
 
 /// Takes what stands between spaces at once.
 fn take_spaced<'a>(expected: Expected<'a>, text: &str) -> Option<Expected<'a>>
-    ensures { MatchOption result (Refuses expected.entry.rest.now expected.entry.begun expected.entry.gap (chars text.now)) (λ e. Leaves expected.entry.rest.now expected.entry.begun expected.entry.gap (chars text.now) e.rest.now e.begun e.gap) }
+    ensures { MatchOption result (Refuses expected.entry.rest.now expected.entry.begun expected.entry.gap
+        (chars text.now)) (λ e.
+        Leaves expected.entry.rest.now expected.entry.begun expected.entry.gap (chars text.now) e.rest.now e.begun e.gap) }
 {
     let mut now = expected;
     let mut left = text;
@@ -141,7 +156,9 @@ fn take_spaced<'a>(expected: Expected<'a>, text: &str) -> Option<Expected<'a>>
 }
 
 fn take_text<'a>(expected: Expected<'a>, text: &str) -> Option<Expected<'a>>
-    ensures { MatchOption result (Refuses expected.entry.rest.now expected.entry.begun expected.entry.gap (chars text.now)) (λ e. Leaves expected.entry.rest.now expected.entry.begun expected.entry.gap (chars text.now) e.rest.now e.begun e.gap) }
+    ensures { MatchOption result (Refuses expected.entry.rest.now expected.entry.begun expected.entry.gap
+        (chars text.now)) (λ e.
+        Leaves expected.entry.rest.now expected.entry.begun expected.entry.gap (chars text.now) e.rest.now e.begun e.gap) }
 {
     if is_solid_text(text) {
         take_solid(expected, text)
@@ -151,7 +168,9 @@ fn take_text<'a>(expected: Expected<'a>, text: &str) -> Option<Expected<'a>>
 }
 
 fn take_row<'a, T: Text>(expected: Expected<'a>, row: &RowOf<T>) -> Option<Expected<'a>>
-    ensures { MatchOption result (Refuses expected.entry.rest.now expected.entry.begun expected.entry.gap (form_and_space row.now)) (λ e. Leaves expected.entry.rest.now expected.entry.begun expected.entry.gap (form_and_space row.now) e.rest.now e.begun e.gap) }
+    ensures { MatchOption result (Refuses expected.entry.rest.now expected.entry.begun expected.entry.gap
+        (form_and_space row.now)) (λ e.
+        Leaves expected.entry.rest.now expected.entry.begun expected.entry.gap (form_and_space row.now) e.rest.now e.begun e.gap) }
 {
     let Some(after) = take_text(expected, row.form.text()) else {
         return None;
@@ -171,7 +190,9 @@ fn take_token<'a, T: Text>(
     end: u32,
 ) -> Option<Expected<'a>>
     requires { lead ≡ true → is_token_id rows.now row.now.id ≡ is_token_after end row.now.id }
-    ensures { MatchOption result (Refuses expected.entry.rest.now expected.entry.begun expected.entry.gap (token_text rows.now row.now)) (λ e. Leaves expected.entry.rest.now expected.entry.begun expected.entry.gap (token_text rows.now row.now) e.rest.now e.begun e.gap) }
+    ensures { MatchOption result (Refuses expected.entry.rest.now expected.entry.begun expected.entry.gap
+        (token_text rows.now row.now)) (λ e.
+        Leaves expected.entry.rest.now expected.entry.begun expected.entry.gap (token_text rows.now row.now) e.rest.now e.begun e.gap) }
 {
     if comes_out(row.id, rows, lead, end) {
         take_row(expected, row)
@@ -186,7 +207,9 @@ fn take_rows<'a, T: Text>(
     lead: bool,
 ) -> Option<Expected<'a>>
     requires { lead ≡ true → RangesLead rows.now }
-    ensures { MatchOption result (Refuses expected.entry.rest.now expected.entry.begun expected.entry.gap (text_of_rows rows.now)) (λ e. Leaves expected.entry.rest.now expected.entry.begun expected.entry.gap (text_of_rows rows.now) e.rest.now e.begun e.gap) }
+    ensures { MatchOption result (Refuses expected.entry.rest.now expected.entry.begun expected.entry.gap
+        (text_of_rows rows.now)) (λ e.
+        Leaves expected.entry.rest.now expected.entry.begun expected.entry.gap (text_of_rows rows.now) e.rest.now e.begun e.gap) }
 {
     let mut now = expected;
     let mut end: u32 = 0;

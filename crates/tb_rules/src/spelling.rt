@@ -1,8 +1,11 @@
-ghost use Rattle.std.specs.Prelude.{◌≡◌, ◌↔◌, IsTrue, ◌++◌, ◌∷◌, ℕ, List, [], IfOk, OnOk, bytes_eq, string_bytes, chars, encode_utf8, encode_utf8_all, length, not, ◌==◌, ◌&&◌, true, false};
+ghost use Rattle.std.specs.Prelude.{◌≡◌, ◌↔◌, IsTrue, ◌++◌, ◌∷◌, ℕ, List, [], IfOk, OnOk};
+ghost use Rattle.std.specs.Prelude.{bytes_eq, string_bytes, chars, encode_utf8, encode_utf8_all, length, not, ◌==◌};
+ghost use Rattle.std.specs.Prelude.{◌&&◌, true, false};
 ghost use Rattle.std.specs.List.{list_any, slice_split};
 ghost use Rattle.tb_fields.specs.Feats.{is_bar};
 ghost use Rattle.tb_rules.specs.Leading.{RangesLead, is_token_after};
-ghost use Rattle.tb_rules.specs.Restored.{is_token_id, has_no_space_after, form_and_space, token_text, text_of_rows, restored_text, folded, folded_text, IsRestored};
+ghost use Rattle.tb_rules.specs.Restored.{is_token_id, has_no_space_after, form_and_space, token_text, text_of_rows};
+ghost use Rattle.tb_rules.specs.Restored.{restored_text, folded, folded_text, IsRestored};
 ghost use Rattle.tb_rules.specs.Expected.{continued};
 
 use crate::comments::text;
@@ -44,7 +47,8 @@ fn needs_space(folding: &Folding) -> bool
 }
 
 fn put(folding: &mut Folding, c: char) -> Result<(), AllocError>
-    ensures { OnOk result ((next : List ℕ) → continued (string_bytes folding.new.text) folding.new.gap next ≡ continued (string_bytes folding.old.text) folding.old.gap (c ∷ next)) }
+    ensures { OnOk result ((next : List ℕ) → continued (string_bytes folding.new.text) folding.new.gap next
+        ≡ continued (string_bytes folding.old.text) folding.old.gap (c ∷ next)) }
 {
     if c.is_whitespace() {
         folding.gap = true;
@@ -61,7 +65,8 @@ fn put(folding: &mut Folding, c: char) -> Result<(), AllocError>
 }
 
 fn put_text(folding: &mut Folding, text: &str) -> Result<(), AllocError>
-    ensures { OnOk result ((next : List ℕ) → continued (string_bytes folding.new.text) folding.new.gap next ≡ continued (string_bytes folding.old.text) folding.old.gap (chars text.now ++ next)) }
+    ensures { OnOk result ((next : List ℕ) → continued (string_bytes folding.new.text) folding.new.gap next
+        ≡ continued (string_bytes folding.old.text) folding.old.gap (chars text.now ++ next)) }
 {
     for c in text.chars() {
         put(folding, c)?;
@@ -105,7 +110,8 @@ pub(crate) fn has_no_space<T: Text>(row: &RowOf<T>) -> bool
 }
 
 fn put_row<T: Text>(folding: &mut Folding, row: &RowOf<T>) -> Result<(), AllocError>
-    ensures { OnOk result ((next : List ℕ) → continued (string_bytes folding.new.text) folding.new.gap next ≡ continued (string_bytes folding.old.text) folding.old.gap (form_and_space row.now ++ next)) }
+    ensures { OnOk result ((next : List ℕ) → continued (string_bytes folding.new.text) folding.new.gap next
+        ≡ continued (string_bytes folding.old.text) folding.old.gap (form_and_space row.now ++ next)) }
 {
     put_text(folding, row.form.text())?;
     if !has_no_space(row) {
@@ -122,7 +128,8 @@ fn put_token<T: Text>(
     end: u32,
 ) -> Result<(), AllocError>
     requires { lead ≡ true → is_token_id rows.now row.now.id ≡ is_token_after end row.now.id }
-    ensures { OnOk result ((next : List ℕ) → continued (string_bytes folding.new.text) folding.new.gap next ≡ continued (string_bytes folding.old.text) folding.old.gap (token_text rows.now row.now ++ next)) }
+    ensures { OnOk result ((next : List ℕ) → continued (string_bytes folding.new.text) folding.new.gap next
+        ≡ continued (string_bytes folding.old.text) folding.old.gap (token_text rows.now row.now ++ next)) }
 {
     if !comes_out(row.id, rows, lead, end) {
         return Ok(());
@@ -132,7 +139,8 @@ fn put_token<T: Text>(
 
 fn put_rows<T: Text>(folding: &mut Folding, rows: &[RowOf<T>], lead: bool) -> Result<(), AllocError>
     requires { lead ≡ true → RangesLead rows.now }
-    ensures { OnOk result ((next : List ℕ) → continued (string_bytes folding.new.text) folding.new.gap next ≡ continued (string_bytes folding.old.text) folding.old.gap (text_of_rows rows.now ++ next)) }
+    ensures { OnOk result ((next : List ℕ) → continued (string_bytes folding.new.text) folding.new.gap next
+        ≡ continued (string_bytes folding.old.text) folding.old.gap (text_of_rows rows.now ++ next)) }
 {
     let mut end: u32 = 0;
     for row in rows {
@@ -165,7 +173,8 @@ pub fn restored<T: Text>(alloc: Global, block: &BlockOf<T>) -> Result<String, Al
 
 /// Whether the rows spell the value, but for white space.
 fn is_spelled<T: Text>(alloc: Global, rows: &[RowOf<T>], value: &str) -> Result<bool, AllocError>
-    ensures { IfOk result (λ b. IsTrue b ↔ (encode_utf8_all (folded (text_of_rows rows.now)) ≡ folded_text value.now)) }
+    ensures { IfOk result (λ b. IsTrue b ↔ (encode_utf8_all (folded (text_of_rows rows.now))
+        ≡ folded_text value.now)) }
 {
     // What rows spell is folded, so a value that they spell is folded too.
     if spell(rows, value) {

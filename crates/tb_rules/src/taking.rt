@@ -1,6 +1,7 @@
 //! The sentences of a file, checked one after another.
 
-ghost use Rattle.std.specs.Prelude.{◌≡◌, ℕ, List, [], ◌∷◌, ◌++◌, OnOk, OnErr, IfErr, map, string_bytes};
+ghost use Rattle.std.specs.Prelude.{◌≡◌, ℕ, List, [], ◌∷◌, ◌++◌, OnOk, OnErr, IfErr, map};
+ghost use Rattle.std.specs.Prelude.{string_bytes};
 ghost use Rattle.tb_conllu.specs.Text.{BlockText};
 ghost use Rattle.tb_rules.specs.File.{IsValid, IsCutShort, IsFileFault, IsSentenceFault, HasTaken};
 ghost use Rattle.tb_rules.specs.Rules.{KeepsTo6, KeepsRules};
@@ -73,9 +74,12 @@ impl Checker {
     /// The sentence's number in the file, with its least broken rule and its row; or want of memory, which comes only
     /// where the sentence keeps rules 1 to 6. The sentence is not taken then, and all is as before.
     pub fn take<T: Text>(&mut self, block: &BlockOf<T>) -> Result<(), FileFault>
-        ensures valid { (before : List BlockText) → HasTaken self.old before → OnOk result (HasTaken self.new (before ++ block.now ∷ [])) }
-        ensures fault { (before : List BlockText) → HasTaken self.old before → IfErr result (IsFileFault (before ++ block.now ∷ [])) }
-        ensures only { (before : List BlockText) → HasTaken self.old before → IsValid (before ++ block.now ∷ []) → IfErr result (λ e. e ≡ Memory) }
+        ensures valid { (before : List BlockText) → HasTaken self.old before
+            → OnOk result (HasTaken self.new (before ++ block.now ∷ [])) }
+        ensures fault { (before : List BlockText) → HasTaken self.old before
+            → IfErr result (IsFileFault (before ++ block.now ∷ [])) }
+        ensures only { (before : List BlockText) → HasTaken self.old before → IsValid (before ++ block.now ∷ [])
+            → IfErr result (λ e. e ≡ Memory) }
         ensures memory { IfErr result (λ e. e ≡ Memory → KeepsTo6 block.now) }
         ensures kept { OnErr result (self.new ≡ self.old) }
     {

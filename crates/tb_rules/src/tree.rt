@@ -1,6 +1,8 @@
-ghost use Rattle.std.specs.Prelude.{◌≡◌, ◌<◌, ◌≤◌, ◌↔◌, IsTrue, IfOk, MatchOption, count_by, length};
+ghost use Rattle.std.specs.Prelude.{◌≡◌, ◌<◌, ◌≤◌, ◌↔◌, IsTrue, IfOk, MatchOption, count_by};
+ghost use Rattle.std.specs.Prelude.{length};
 ghost use Rattle.tb_rules.specs.Words.{is_root_head};
-ghost use Rattle.tb_rules.specs.Tree.{is_root, HasOneRoot, head_number, heads_of, head_at, ReachesRoot, IsTree, HasTree};
+ghost use Rattle.tb_rules.specs.Tree.{is_root, HasOneRoot, head_number, heads_of, head_at, ReachesRoot, IsTree};
+ghost use Rattle.tb_rules.specs.Tree.{HasTree};
 ghost use Rattle.tb_rules.specs.Depths.{IsDepth, AreDepths};
 
 use std::alloc::{AllocError, Global};
@@ -81,7 +83,8 @@ fn known_depth(heads: &[u32], depths: &[usize], at: usize) -> Option<usize>
 /// It walks to the first word whose depth is known.
 fn depth(heads: &[u32], depths: &[usize], word: usize) -> Option<usize>
     requires { AreDepths heads.now depths.now }
-    ensures { MatchOption result (¬ ReachesRoot heads.now word) (λ d. IsDepth heads.now word d × (d ≤ length heads.now)) }
+    ensures { MatchOption result (¬ ReachesRoot heads.now word) (λ d. IsDepth heads.now word d
+        × (d ≤ length heads.now)) }
 {
     let mut at = word;
     for steps in 0..=heads.len() {

@@ -1,7 +1,8 @@
 ghost use Rattle.std.specs.Prelude.{◌≡◌, MatchOption, bytes_eq, codes};
 ghost use Rattle.tb_fields.specs.Relations.{universal_part};
 ghost use Rattle.tb_rules.specs.Rows.{EachRowPasses, IsFirstFault};
-ghost use Rattle.tb_rules.specs.Words.{is_head_of, is_root_head, fits_root, is_word_row_fine, is_fine_as_word, word_test};
+ghost use Rattle.tb_rules.specs.Words.{is_head_of, is_root_head, fits_root, is_word_row_fine, is_fine_as_word};
+ghost use Rattle.tb_rules.specs.Words.{word_test};
 
 use crate::accepted::Accepted;
 use std::alloc::Global;

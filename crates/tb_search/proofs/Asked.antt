@@ -6,8 +6,8 @@ use Rattle.tb_core.specs.Machine as machine
 use Rattle.tb_core.specs.Machine.{Sentence, revisions, rev}
 use Rattle.tb_core.specs.Rows.{RevisionRow, revision_rows, revisions_from}
 use Rattle.tb_tables.specs.Records.{Revision}
-use Rattle.tb_standing.specs.Standing.{revision_record, sentence_record}
-use Rattle.tb_reading.specs.Found.{work_of}
+use Rattle.tb_refine.specs.DeskTables.{revision_record, sentence_record}
+use Rattle.tb_reads.specs.Found.{work_of}
 use Rattle.tb_search.specs.declared.picks.Pick.{Pick}
 use Rattle.tb_search.specs.Picked.{picked, bodies, picks_from, pick_of}
 use Rattle.tb_search.specs.Visited.{texts}

@@ -11,11 +11,11 @@ use Rattle.tb_core.specs.Rows.{pulled_from}
 use Rattle.tb_tables.specs.Records as records
 use Rattle.tb_tables.specs.Values.{batch_of}
 use Rattle.tb_tables.specs.declared.rows.BatchRow.{BatchRow}
-use Rattle.tb_standing.specs.Numbers.{state_number}
-use Rattle.tb_standing.specs.Standing.{batch_record, sentence_record}
-use Rattle.tb_reading.specs.declared.stream.Head.{Head}
-use Rattle.tb_reading.specs.declared.work.Work.{Work}
-use Rattle.tb_reading.specs.Streams.{head_of}
+use Rattle.tb_refine.specs.Numbers.{state_number}
+use Rattle.tb_refine.specs.DeskTables.{batch_record, sentence_record}
+use Rattle.tb_reads.specs.declared.stream.CurrentRev.{CurrentRev}
+use Rattle.tb_reads.specs.declared.work.BatchSentence.{BatchSentence}
+use Rattle.tb_reads.specs.Streams.{head_of}
 use Rattle.tb_search.specs.declared.picks.Pick.{Pick}
 use Rattle.tb_search.specs.Released.{is_released}
 use Rattle.tb_search.specs.Picked.{picks_from, begins, pick_of}
@@ -30,15 +30,15 @@ is_five Adjudicated = refl
 is_five Released = refl
 is_five Withdrawn = refl
 
-pub batch_told : (rows : List BatchRow) (bs : List Batch) (i : ℕ) (row : BatchRow) → map batch_of rows ≡ map batch_record bs → slice_get rows i ≡ Some row → row.state ≡ state_number (slice_index_or bs i no_batch).state
-batch_told [] bs i row e there = absurd cc
-batch_told (r ∷ rows) [] i row e there = absurd cc
-batch_told (r ∷ rows) (b ∷ bs) zero row e there =
+pub batch_reported : (rows : List BatchRow) (bs : List Batch) (i : ℕ) (row : BatchRow) → map batch_of rows ≡ map batch_record bs → slice_get rows i ≡ Some row → row.state ≡ state_number (slice_index_or bs i no_batch).state
+batch_reported [] bs i row e there = absurd cc
+batch_reported (r ∷ rows) [] i row e there = absurd cc
+batch_reported (r ∷ rows) (b ∷ bs) zero row e there =
     let same : Some r ≡ Some row = there in
     let one : r ≡ row = cc in
     let head : batch_of r ≡ batch_record b = cc in
     ap (λ (x : BatchRow). x.state) (sym one) ∙ ap (λ (x : records.Batch). x.state) head
-batch_told (r ∷ rows) (b ∷ bs) (suc i) row e there = batch_told rows bs i row (let tail : map batch_of rows ≡ map batch_record bs = cc in tail) there
+batch_reported (r ∷ rows) (b ∷ bs) (suc i) row e there = batch_reported rows bs i row (let tail : map batch_of rows ≡ map batch_record bs = cc in tail) there
 
 pub batch_lacks : (rows : List BatchRow) (bs : List Batch) (i : ℕ) → map batch_of rows ≡ map batch_record bs → slice_get rows i ≡ None → slice_index_or bs i no_batch ≡ no_batch
 batch_lacks [] [] i e there = refl
@@ -72,7 +72,7 @@ drop_tail [] (suc i) x rest e = absurd cc
 drop_tail (y ∷ xs) zero x rest e = cc
 drop_tail (y ∷ xs) (suc i) x rest e = ap (λ m. drop m (y ∷ xs)) (let same : suc i + 1 ≡ suc (i + 1) = omega arith in same) ∙ drop_tail xs i x rest e
 
-pub mapped_more : (work : List Work) (found : List Pick) (i : ℕ) (none : Work) → i < length work → found ≡ map pick_of (take i work) → found ++ pick_of (get_or work i none) ∷ [] ≡ map pick_of (take (i + 1) work)
+pub mapped_more : (work : List BatchSentence) (found : List Pick) (i : ℕ) (none : BatchSentence) → i < length work → found ≡ map pick_of (take i work) → found ++ pick_of (get_or work i none) ∷ [] ≡ map pick_of (take (i + 1) work)
 mapped_more work found i none low so =
     ap (λ l. l ++ pick_of (get_or work i none) ∷ []) so ∙ sym (map-append pick_of (take i work) (get_or work i none ∷ [])) ∙ ap (map pick_of) (sym (take_more work i none low))
 
@@ -102,16 +102,16 @@ next_pulled n x xs pulled at e = by x.pulled e
 
 -- ---- one turn
 
-module _ (bs : List Batch) (xs : List Sentence) (i : ℕ) (heads : List Head) (h : Head) (pulled : List ℕ) (found : List Pick) (at : ℕ) (low : i < length heads) (got : slice_get heads i ≡ Some h) (all : heads ≡ map head_of (map sentence_record xs))
+module _ (bs : List Batch) (xs : List Sentence) (i : ℕ) (heads : List CurrentRev) (h : CurrentRev) (pulled : List ℕ) (found : List Pick) (at : ℕ) (low : i < length heads) (got : slice_get heads i ≡ Some h) (all : heads ≡ map head_of (map sentence_record xs))
     (so : found ++ picks_from (is_released bs) (i + 1) (drop i xs) ≡ picks_from (is_released bs) 1 xs) (to_come : drop at pulled ≡ pulled_from (i + 1) (drop i xs)) where
   pub here : (x : Sentence) × (drop i xs ≡ x ∷ drop (i + 1) xs) × (slice_get xs i ≡ Some x)
-  here = split_at xs i (let len : length heads ≡ length xs = ap (λ (l : List Head). length l) all ∙ length-map (map sentence_record xs) head_of ∙ length-map xs sentence_record in omega (arith, low, len))
+  here = split_at xs i (let len : length heads ≡ length xs = ap (λ (l : List CurrentRev). length l) all ∙ length-map (map sentence_record xs) head_of ∙ length-map xs sentence_record in omega (arith, low, len))
 
   head_is : h ≡ head_of (sentence_record here.0)
   head_is =
-      let told : slice_get heads i ≡ Some (head_of (sentence_record here.0)) =
+      let reported : slice_get heads i ≡ Some (head_of (sentence_record here.0)) =
       ap (λ l. slice_get l i) all ∙ slice_get-map head_of (map sentence_record xs) i ∙ ap (option_map head_of) (slice_get-map sentence_record xs i ∙ ap (option_map sentence_record) here.2) in
-      let both : Some h ≡ Some (head_of (sentence_record here.0)) = sym got ∙ told in
+      let both : Some h ≡ Some (head_of (sentence_record here.0)) = sym got ∙ reported in
       cc
 
   pub pulled_is : begins (drop at pulled) (i + 1) ≡ here.0.pulled
@@ -125,12 +125,12 @@ module _ (bs : List Batch) (xs : List Sentence) (i : ℕ) (heads : List Head) (h
   then_so wanted is = by (is_released bs here.0) known ∙ ap (λ l. found ++ picks_from (is_released bs) (i + 1) l) (sym here.1) ∙ so
     where
       known : wanted ≡ is_released bs here.0
-      known = is ∙ ap (λ b. is_state (cond b Withdrawn (batch_with bs h.batch).state) Released) pulled_is ∙ ap (λ (k : Head). is_state (cond here.0.pulled Withdrawn (batch_with bs k.batch).state) Released) head_is
+      known = is ∙ ap (λ b. is_state (cond b Withdrawn (batch_with bs h.batch).state) Released) pulled_is ∙ ap (λ (k : CurrentRev). is_state (cond here.0.pulled Withdrawn (batch_with bs k.batch).state) Released) head_is
 
       by : (b : Bool) → wanted ≡ b → (found ++ cond wanted (record { sent = i + 1; rev = h.rev } ∷ []) []) ++ picks_from (is_released bs) (i + 1 + 1) (drop (i + 1) xs)
           ≡ found ++ cond b (record { sent = i + 1; rev = rev here.0 } ∷ picks_from (is_released bs) (i + 1 + 1) (drop (i + 1) xs)) (picks_from (is_released bs) (i + 1 + 1) (drop (i + 1) xs))
       by true e = ap (λ b. (found ++ cond b (record { sent = i + 1; rev = h.rev } ∷ []) []) ++ picks_from (is_released bs) (i + 1 + 1) (drop (i + 1) xs)) e
-          ∙ ap (λ (k : Head). (found ++ record { sent = i + 1; rev = k.rev } ∷ []) ++ picks_from (is_released bs) (i + 1 + 1) (drop (i + 1) xs)) head_is
+          ∙ ap (λ (k : CurrentRev). (found ++ record { sent = i + 1; rev = k.rev } ∷ []) ++ picks_from (is_released bs) (i + 1 + 1) (drop (i + 1) xs)) head_is
           ∙ append_assoc found (record { sent = i + 1; rev = rev here.0 } ∷ []) (picks_from (is_released bs) (i + 1 + 1) (drop (i + 1) xs))
       by false e = ap (λ b. (found ++ cond b (record { sent = i + 1; rev = h.rev } ∷ []) []) ++ picks_from (is_released bs) (i + 1 + 1) (drop (i + 1) xs)) e
           ∙ ap (λ l. l ++ picks_from (is_released bs) (i + 1 + 1) (drop (i + 1) xs)) (append-nil found)

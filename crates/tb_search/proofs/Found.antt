@@ -22,7 +22,7 @@ use Rattle.tb_core.specs.Machine.{Sentence, Revision, bodies_of}
 use Rattle.tb_search.specs.declared.stopped.Stopped.{Stopped}
 use Rattle.tb_search.specs.declared.stopped.Stopped.TheVariants.{Output, Read}
 use Rattle.tb_search.specs.Visited.{Taking, AllTaken, texts}
-use Rattle.tb_search.specs.Searched.{Occurrence, occurrences, AreFound, AreCut, IsBrokenOff, IsTextOf, Meets, keys, lines, total_line}
+use Rattle.tb_search.specs.Searched.{Occurrence, occurrences, AreFound, AreCut, IsSearchBrokenOff, IsValidText, Meets, keys, lines, total_line}
 use Rattle.tb_search.proofs.Copied.{part_first, part_later, no_part}
 
 -- ---- one list of hits
@@ -73,14 +73,14 @@ has_name b block same rules none =
     absurd cc
 
 pub cut_met : (s : Strategy) (q : Asked) (text : List ℕ) (e : Stopped) (o a : Option (List ℕ)) (n : ℕ) (block : BlockText) (hits listed : List (ℕ × ℕ)) → listed ≡ hits → AreHitsIn s q block hits
-    → AreCut e o a n (occurrences block listed) → ((b : BlockText) → IsTextOf b text → block ≡ b) → Meets s q text (λ found. AreCut e o a n found)
-cut_met s q text e o a n block hits listed same are cut is b told =
-    (hits, subst (λ (x : BlockText). AreHitsIn s q x hits) (is b told) are, subst (λ l. AreCut e o a n l) (ap (occurrences block) same ∙ ap (λ (x : BlockText). occurrences x hits) (is b told)) cut)
+    → AreCut e o a n (occurrences block listed) → ((b : BlockText) → IsValidText b text → block ≡ b) → Meets s q text (λ found. AreCut e o a n found)
+cut_met s q text e o a n block hits listed same are cut is b reported =
+    (hits, subst (λ (x : BlockText). AreHitsIn s q x hits) (is b reported) are, subst (λ l. AreCut e o a n l) (ap (occurrences block) same ∙ ap (λ (x : BlockText). occurrences x hits) (is b reported)) cut)
 
 -- ---- sentences that read back
 
 abbrev pub ReadsBack : Sentence → Type 0
-ReadsBack x = IsTextOf x.current.body (text_of (x.current.body ∷ []))
+ReadsBack x = IsValidText x.current.body (text_of (x.current.body ∷ []))
 
 last_has : (P : BlockText → Type 0) (before : List Revision) (r : Revision) → AllByRecursion P (map (λ (q : Revision). q.body) (before ++ r ∷ [])) → P r.body
 last_has P [] r h = h.0
@@ -137,7 +137,7 @@ cut_later (Read error) o a b n xs ys put (first, rest, is, then_) =
     (xs ++ first, rest, ap (λ l. xs ++ l) is ∙ sym (append_assoc xs first rest), subst (Appends o b) (sym (lines_more n xs first)) (Appends-trans o a b (lines n xs) (lines n first) put then_))
 
 -- lines alone are a first part of an answer
-pub broken_off : (e : Stopped) (o a : Option (List ℕ)) (n : ℕ) (found : List Occurrence) → AreCut e o a n found → IsBrokenOff e o a n found
+pub broken_off : (e : Stopped) (o a : Option (List ℕ)) (n : ℕ) (found : List Occurrence) → AreCut e o a n found → IsSearchBrokenOff e o a n found
 broken_off Output o a n found cut = part_first o a (lines n found) (total_line (length found)) cut
 broken_off (Read error) o a n found cut = cut
 

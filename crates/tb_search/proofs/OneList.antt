@@ -8,8 +8,8 @@ use Rattle.sqlite.specs.declared.types.Value.TheVariants.{Int}
 use Rattle.sqlite.specs.Order.{Row, column}
 use Rattle.sqlite_trees.specs.Tree.{IsAscending}
 use Rattle.tb_tables.specs.Records.{Batch, Shows, numbered, batch_shown}
-use Rattle.tb_reading.proofs.Order.{unique}
-use Rattle.tb_reading.proofs.Ordered.{number_of}
+use Rattle.tb_reads.proofs.Order.{unique}
+use Rattle.tb_reads.proofs.Ordered.{number_of}
 
 rises_up : {X : Type 0} (n : X → ℕ) (xs : List X) → IsAscending (λ a b. n a < n b) xs → IsNonDecreasingBy n xs
 rises_up n [] up i j d low within = absurd (omega (arith, within))

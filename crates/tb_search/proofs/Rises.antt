@@ -9,9 +9,9 @@ use Rattle.tb_core.specs.Machine.{Sentence, revisions}
 use Rattle.tb_core.specs.Rows.{RevisionRow, revision_rows, revisions_from, pulled_from}
 use Rattle.tb_tables.specs.Records as records
 use Rattle.tb_tables.specs.Records.{Revision, Batch}
-use Rattle.tb_standing.specs.Standing.{revision_record}
-use Rattle.tb_standing.specs.Fitting.{IsReadableBatch, IsReadableSentence, IsReadableRevision}
-use Rattle.tb_reading.specs.Readable.{IsBatch, IsSentence, IsRevision, ComesBefore}
+use Rattle.tb_refine.specs.DeskTables.{revision_record}
+use Rattle.tb_refine.specs.Fitting.{IsReadableBatch, IsReadableSentence, IsReadableRevision}
+use Rattle.tb_reads.specs.Readable.{IsBatch, IsSentence, IsRevision, ComesBefore}
 
 abbrev IsPast : ℕ → List RevisionRow → Type 0
 IsPast n rows = AllByRecursion (λ (r : Revision). n < r.sent) (map revision_record rows)

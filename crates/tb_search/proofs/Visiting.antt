@@ -12,10 +12,10 @@ use Rattle.tb_core.specs.Machine.{Machine, Sentence}
 use Rattle.tb_core.specs.Rows.{revisions_from}
 use Rattle.tb_tables.specs.Layout.{desk_schema}
 use Rattle.tb_tables.specs.Records.{Revision, Shows, revision_shown, revision_view}
-use Rattle.tb_standing.specs.Standing.{IsDesk, tables_of, revision_record}
-use Rattle.tb_standing.specs.Fitting.{IsReadable}
-use Rattle.tb_reading.specs.Readable.{IsRevision, ComesBefore}
-use Rattle.tb_reading.proofs.Staying.{unchanged_holds}
+use Rattle.tb_refine.specs.DeskTables.{IsDeskOf, tables_of, revision_record}
+use Rattle.tb_refine.specs.Fitting.{IsReadable}
+use Rattle.tb_reads.specs.Readable.{IsRevision, ComesBefore}
+use Rattle.tb_reads.proofs.Staying.{unchanged_holds}
 use Rattle.tb_search.specs.declared.picks.Pick.{Pick}
 use Rattle.tb_search.specs.declared.stopped.Stopped.{Stopped}
 use Rattle.tb_search.specs.Picked.{picked, bodies, picks_from}
@@ -39,7 +39,7 @@ abbrev pub rows_of : Machine → List Revision
 rows_of s = map revision_record (revisions_from 1 s.sentences)
 
 module _ {S : Type 0} (g : Ghosts S) where
-  pub desk_same : (old new : Held S) (s : Machine) → IsDesk g old s → IsUnchanged (state g old) (state g new) → IsDesk g new s
+  pub desk_same : (old new : Held S) (s : Machine) → IsDeskOf g old s → IsUnchanged (state g old) (state g new) → IsDeskOf g new s
   desk_same old new s desk same = record { reachable = desk.reachable; holds = unchanged_holds g old new (tables_of s) desk.holds same }
 
   pub lasts_then : (a b c : Held S) → (HasCleanDisk (state g b) → (state g a).now.schema ≡ desk_schema → IsUnchanged (state g a) (state g b))
@@ -54,20 +54,20 @@ module _ {S : Type 0} (g : Ghosts S) where
       unchanged_then (state g a) (state g b) (state g c) first (two (ap (λ (d : Database). d.schema) first.0.now_is ∙ has))
 
   -- what holds of any revisions that the tables show holds of those of the desk
-  pub of_desk : {P : Type 0} (c : Held S) (s : Machine) → IsDesk g c s → IsReadable (tables_of s) → ((state g c).now.schema ≡ desk_schema → (xs : List Revision) → All IsRevision xs → IsAscending ComesBefore xs → Shows revision_view (map revision_shown xs) ((state g c).now.trees 5) → P) → P
-  of_desk c s desk readable told = told desk.holds.schema (rows_of s) (revisions_fit (rows_of s) readable.revisions) (revisions_rise 1 s.sentences) desk.holds.stands.revisions
+  pub of_desk : {P : Type 0} (c : Held S) (s : Machine) → IsDeskOf g c s → IsReadable (tables_of s) → ((state g c).now.schema ≡ desk_schema → (xs : List Revision) → All IsRevision xs → IsAscending ComesBefore xs → Shows revision_view (map revision_shown xs) ((state g c).now.trees 5) → P) → P
+  of_desk c s desk readable reported = reported desk.holds.schema (rows_of s) (revisions_fit (rows_of s) readable.revisions) (revisions_rise 1 s.sentences) desk.holds.stands.revisions
 
-  module _ {V O : Type 0} (takes : Taking V O) (stops : Stopping V O) (c : Held S) (s : Machine) (wanted : Sentence → Bool) (picks : List Pick) (is : picks ≡ picks_from wanted 1 s.sentences) (desk : IsDesk g c s) (readable : IsReadable (tables_of s)) (v : V) (o : O) where
+  module _ {V O : Type 0} (takes : Taking V O) (stops : Stopping V O) (c : Held S) (s : Machine) (wanted : Sentence → Bool) (picks : List Pick) (is : picks ≡ picks_from wanted 1 s.sentences) (desk : IsDeskOf g c s) (readable : IsReadable (tables_of s)) (v : V) (o : O) where
     asked_are : bodies (picked picks (rows_of s)) ≡ texts (filter wanted s.sentences)
     asked_are = ap (λ ps. bodies (picked ps (rows_of s))) is ∙ currents wanted 1 s.sentences
 
     -- what is visited are the texts of the sentences that are wanted
     pub all_visited : (w : V) (q : O) → ((state g c).now.schema ≡ desk_schema → (xs : List Revision) → All IsRevision xs → IsAscending ComesBefore xs → Shows revision_view (map revision_shown xs) ((state g c).now.trees 5) → AllTaken takes v o (bodies (picked picks xs)) w q)
         → AllTaken takes v o (texts (filter wanted s.sentences)) w q
-    all_visited w q told =
-        subst (λ ts. AllTaken takes v o ts w q) asked_are (told desk.holds.schema (rows_of s) (revisions_fit (rows_of s) readable.revisions) (revisions_rise 1 s.sentences) desk.holds.stands.revisions)
+    all_visited w q reported =
+        subst (λ ts. AllTaken takes v o ts w q) asked_are (reported desk.holds.schema (rows_of s) (revisions_fit (rows_of s) readable.revisions) (revisions_rise 1 s.sentences) desk.holds.stands.revisions)
 
     pub some_visited : (e : Stopped) (q : O) → ((state g c).now.schema ≡ desk_schema → (xs : List Revision) → All IsRevision xs → IsAscending ComesBefore xs → Shows revision_view (map revision_shown xs) ((state g c).now.trees 5) → Halted takes stops v o (bodies (picked picks xs)) e q)
         → Halted takes stops v o (texts (filter wanted s.sentences)) e q
-    some_visited e q told =
-        subst (λ ts. Halted takes stops v o ts e q) asked_are (told desk.holds.schema (rows_of s) (revisions_fit (rows_of s) readable.revisions) (revisions_rise 1 s.sentences) desk.holds.stands.revisions)
+    some_visited e q reported =
+        subst (λ ts. Halted takes stops v o ts e q) asked_are (reported desk.holds.schema (rows_of s) (revisions_fit (rows_of s) readable.revisions) (revisions_rise 1 s.sentences) desk.holds.stands.revisions)

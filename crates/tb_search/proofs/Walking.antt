@@ -5,12 +5,12 @@ use Rattle.std.proofs.lemmas.List.{map-append}
 use Rattle.sqlite.specs.Store.{Ghosts}
 use Rattle.sqlite.specs.Held.{Held}
 use Rattle.tb_tables.specs.Records.{Revision}
-use Rattle.tb_reading.specs.declared.cursor.Body.{Body}
-use Rattle.tb_reading.specs.Streams.{AreToCome, GoesOn}
+use Rattle.tb_reads.specs.declared.cursor.Body.{Body}
+use Rattle.tb_reads.specs.Streams.{AreToCome, GoesOn}
 use Rattle.tb_search.specs.declared.picks.Pick.{Pick}
 use Rattle.sqlite.specs.declared.error.Error.{Error}
-use Rattle.tb_reading.specs.declared.error.ReadError.TheVariants.{Store, Form}
-use Rattle.tb_reading.specs.declared.error.ReadError.{ReadError}
+use Rattle.tb_reads.specs.declared.error.ReadError.TheVariants.{Store, Form}
+use Rattle.tb_reads.specs.declared.error.ReadError.{ReadError}
 use Rattle.tb_search.specs.declared.stopped.Stopped.{Stopped}
 use Rattle.tb_search.specs.declared.stopped.Stopped.TheVariants.{Output, Read}
 use Rattle.tb_search.specs.Picked.{asks, picked, bodies}
@@ -72,7 +72,7 @@ module _ {V O : Type 0} (takes : Taking V O) (stops : Stopping V O) where
           ∙ ap (λ c. it.done ++ cond c (first ∷ picked (drop (next + 1) picks) gone.1) (picked (p ∷ drop (next + 1) picks) gone.1)) at
 
       pub one_more : (n : ℕ) (x : V) (y : O) → MatchBool (asks p body.sent body.rev) ((n ≡ 1) × takes w q body.body.now x y) ((n ≡ 0) × (x ≡ w) × (y ≡ q)) → IsWalked g takes new picks (next + n) v o x y xs
-      one_more n x y told = by (asks p body.sent body.rev) refl told
+      one_more n x y reported = by (asks p body.sent body.rev) refl reported
         where
           by : (t : Bool) → asks p body.sent body.rev ≡ t → MatchBool t ((n ≡ 1) × takes w q body.body.now x y) ((n ≡ 0) × (x ≡ w) × (y ≡ q)) → IsWalked g takes new picks (next + n) v o x y xs
           by true is (one, took) = record {

@@ -8,24 +8,26 @@ use Rattle.tb_core.specs.Machine.{Machine}
 use Rattle.tb_tables.specs.Layout.{desk_schema}
 use Rattle.tb_tables.specs.Leaving.{IsFaultless}
 use Rattle.tb_tables.specs.Records.{Revision, Shows, revision_shown, revision_view}
-use Rattle.tb_reading.specs.Readable.{IsRevision, ComesBefore}
-use Rattle.tb_standing.specs.Standing.{IsDesk}
+use Rattle.tb_reads.specs.Readable.{IsRevision, ComesBefore}
+use Rattle.tb_refine.specs.DeskTables.{IsDeskOf}
 use Rattle.tb_search.specs.declared.stopped.Stopped.{Stopped}
 use Rattle.tb_search.specs.Visited.{IsFault, IsStopFault, IsStopWant}
 
 -- on a desk, not for its rows or its texts
 abbrev pub StopsForFault : {S X : Type 0} → Ghosts S → Held S → Held S → Result X Stopped → Type 0
-StopsForFault g old new result = HasCleanDisk (state g new) → IfErr result (λ e. (s : Machine) → IsDesk g old s → IsFault e)
+StopsForFault g old new result = HasCleanDisk (state g new) → IfErr result (λ e. (s : Machine) → IsDeskOf g old s
+    → IsFault e)
 
 -- and where there is no limit on steps, for none that the database refuses
 abbrev pub StopsForStore : {S X : Type 0} → Ghosts S → Held S → Held S → Result X Stopped → Type 0
-StopsForStore g old new result = HasCleanDisk (state g new) → (state g old).step_limit ≡ None → IfErr result (λ e. (s : Machine) → IsDesk g old s → IsStopFault e)
+StopsForStore g old new result = HasCleanDisk (state g new) → (state g old).step_limit ≡ None
+    → IfErr result (λ e. (s : Machine) → IsDeskOf g old s → IsStopFault e)
 
 -- and where the disk fails at nothing, for want of memory or for its sink alone
 abbrev pub StopsForWant : {S X : Type 0} → Ghosts S → Held S → Held S → Result X Stopped → Type 0
 StopsForWant g old new result =
     IsFaultless g old new → HasCleanDisk (state g new) → (state g old).step_limit ≡ None
-    → IfErr result (λ e. (s : Machine) → IsDesk g old s → IsStopWant e)
+    → IfErr result (λ e. (s : Machine) → IsDeskOf g old s → IsStopWant e)
 
 -- the same of a walk over any revisions in order that the tables show
 abbrev pub WalksUntilWant : {S X : Type 0} → Ghosts S → Held S → Held S → Result X Stopped → Type 0

@@ -2,7 +2,7 @@
 use Rattle.std.specs.Prelude.{ℕ, ◌+◌, List, [], ◌∷◌, map, cond, Bool, false, ◌&&◌, nat_eq}
 use Rattle.tb_core.specs.Machine.{Sentence, rev}
 use Rattle.tb_tables.specs.Records.{Revision}
-use Rattle.tb_reading.specs.declared.work.Work.{Work}
+use Rattle.tb_reads.specs.declared.work.BatchSentence.{BatchSentence}
 use Rattle.tb_search.specs.declared.picks.Pick.{Pick}
 
 abbrev pub asks : Pick → ℕ → ℕ → Bool
@@ -20,12 +20,13 @@ bodies rs = map (λ (r : Revision). r.body) rs
 -- the current revisions of the sentences that are wanted, where the first of the list has this number
 abbrev pub picks_from : (Sentence → Bool) → ℕ → List Sentence → List Pick
 picks_from wanted n [] = []
-picks_from wanted n (x ∷ xs) = cond (wanted x) (record { sent = n; rev = rev x } ∷ picks_from wanted (n + 1) xs) (picks_from wanted (n + 1) xs)
+picks_from wanted n (x ∷ xs) = cond (wanted x) (record { sent = n; rev = rev x } ∷ picks_from wanted
+    (n + 1) xs) (picks_from wanted (n + 1) xs)
 
 -- the list begins with this number
 abbrev pub begins : List ℕ → ℕ → Bool
 begins [] n = false
 begins (m ∷ ms) n = nat_eq m n
 
-abbrev pub pick_of : Work → Pick
+abbrev pub pick_of : BatchSentence → Pick
 pick_of w = record { sent = w.number; rev = w.rev }

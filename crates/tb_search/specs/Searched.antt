@@ -5,7 +5,7 @@ use Rattle.std.specs.List.{flat_map}
 use Rattle.std.specs.Fmt.{decimal}
 use Rattle.std.specs.Io.KnownBytes.{Appends}
 use Rattle.tb_conllu.specs.Text.{BlockText}
-use Rattle.tb_conllu.specs.Told.{IsFile}
+use Rattle.tb_conllu.specs.Reported.{IsFile}
 use Rattle.tb_conllu.specs.Sunk.{AppendsPart}
 use Rattle.tb_rules.specs.Rules.{KeepsRules}
 use Rattle.tb_match.specs.declared.strategy.Strategy.{Strategy}
@@ -27,7 +27,8 @@ occurrences b hits = map (λ (h : ℕ × ℕ). (b, h)) hits
 -- the hits of a query in sentences: sentence by sentence, and in each as the strategy lists them
 abbrev pub AreFound : Strategy → Asked → List BlockText → List Occurrence → Type 0
 AreFound s q [] found = found ≡ []
-AreFound s q (b ∷ bs) found = (hits : List (ℕ × ℕ)) × (rest : List Occurrence) × AreHitsIn s q b hits × AreFound s q bs rest × (found ≡ occurrences b hits ++ rest)
+AreFound s q (b ∷ bs) found = (hits : List (ℕ × ℕ)) × (rest : List Occurrence) × AreHitsIn s q b hits
+    × AreFound s q bs rest × (found ≡ occurrences b hits ++ rest)
 
 -- what is searched: the current revisions of released sentences, by number
 abbrev pub searched : Machine → List BlockText
@@ -53,17 +54,21 @@ answer n found = lines n found ++ total_line (length found)
 -- lines.
 abbrev pub AreCut : Stopped → Option (List ℕ) → Option (List ℕ) → ℕ → List Occurrence → Type 0
 AreCut Output old new n found = AppendsPart old new (lines n found)
-AreCut _ old new n found = (first : List Occurrence) × (rest : List Occurrence) × (found ≡ first ++ rest) × Appends old new (lines n first)
+AreCut _ old new n found = (first : List Occurrence) × (rest : List Occurrence) × (found ≡ first ++ rest)
+    × Appends old new (lines n first)
 
 -- the same of a whole answer
-abbrev pub IsBrokenOff : Stopped → Option (List ℕ) → Option (List ℕ) → ℕ → List Occurrence → Type 0
-IsBrokenOff Output old new n found = AppendsPart old new (answer n found)
-IsBrokenOff _ old new n found = (first : List Occurrence) × (rest : List Occurrence) × (found ≡ first ++ rest) × Appends old new (lines n first)
+abbrev pub IsSearchBrokenOff : Stopped → Option (List ℕ) → Option (List ℕ) → ℕ → List Occurrence
+    → Type 0
+IsSearchBrokenOff Output old new n found = AppendsPart old new (answer n found)
+IsSearchBrokenOff _ old new n found = (first : List Occurrence) × (rest : List Occurrence) × (found ≡ first ++ rest)
+    × Appends old new (lines n first)
 
 -- the text of one sentence alone, which keeps the rules of a sentence
-abbrev pub IsTextOf : BlockText → List ℕ → Type 0
-IsTextOf b text = IsFile text (b ∷ []) × KeepsRules b
+abbrev pub IsValidText : BlockText → List ℕ → Type 0
+IsValidText b text = IsFile text (b ∷ []) × KeepsRules b
 
 -- Where this is the text of a sentence, its hits are found, and this holds of them.
 abbrev pub Meets : Strategy → Asked → List ℕ → (List Occurrence → Type 0) → Type 0
-Meets s q text P = (b : BlockText) → IsTextOf b text → (hits : List (ℕ × ℕ)) × AreHitsIn s q b hits × P (occurrences b hits)
+Meets s q text P = (b : BlockText) → IsValidText b text → (hits : List (ℕ × ℕ)) × AreHitsIn s q b hits
+    × P (occurrences b hits)

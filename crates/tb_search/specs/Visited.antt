@@ -2,8 +2,8 @@
 use Rattle.std.specs.Prelude.{◌≡◌, ◌≢◌, ℕ, List, [], ◌∷◌, ◌⊎◌, map, ⊤}
 use Rattle.tb_conllu.specs.Text.{text_of}
 use Rattle.tb_core.specs.Machine.{Sentence}
-use Rattle.tb_reading.specs.declared.error.ReadError.TheVariants.{Form}
-use Rattle.tb_reading.specs.Failing.{IsReadFault, IsReadWant}
+use Rattle.tb_reads.specs.declared.error.ReadError.TheVariants.{Form}
+use Rattle.tb_reads.specs.Failing.{IsReadFault, IsReadWant}
 use Rattle.tb_search.specs.declared.stopped.Stopped.{Stopped}
 use Rattle.tb_search.specs.declared.stopped.Stopped.TheVariants.{Read, Output}
 
@@ -43,6 +43,8 @@ AllTaken takes v o [] w q = (w ≡ v) × (q ≡ o)
 AllTaken {V} {O} takes v o (t ∷ ts) w q = (u : V) × (p : O) × takes v o t u p × AllTaken takes u p ts w q
 
 -- the walk ended before the first of them, at it, or after it; or after the last
-abbrev pub Halted : {V O : Type 0} → Taking V O → Stopping V O → V → O → List (List ℕ) → Stopped → O → Type 0
+abbrev pub Halted : {V O : Type 0} → Taking V O → Stopping V O → V → O → List (List ℕ) → Stopped → O
+    → Type 0
 Halted takes stops v o [] e q = IsFault e × (q ≡ o)
-Halted {V} {O} takes stops v o (t ∷ ts) e q = (IsFault e × (q ≡ o)) ⊎ stops v o t e q ⊎ ((u : V) × (p : O) × takes v o t u p × Halted takes stops u p ts e q)
+Halted {V} {O} takes stops v o (t ∷ ts) e q = (IsFault e × (q ≡ o)) ⊎ stops v o t e q ⊎ ((u : V) × (p : O)
+    × takes v o t u p × Halted takes stops u p ts e q)

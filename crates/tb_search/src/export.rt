@@ -6,10 +6,10 @@ ghost use Rattle.tb_search.specs.Released.{released, in_batch, current_text, IsC
 ghost use Rattle.tb_search.specs.Visited.{HasReason};
 ghost use Rattle.tb_search.specs.Picked.{picks_from};
 ghost use Rattle.tb_search.specs.Ending.{StopsForFault, StopsForStore, StopsForWant};
-ghost use Rattle.tb_standing.specs.Telling.{Tells, TellsOnErr, TellsOnOk};
+ghost use Rattle.tb_refine.specs.Calls.{Tells, TellsOnErr, TellsOnOk};
 ghost use Rattle.tb_tables.specs.Leaving.{ChangesNothing, CommitsNothing, KeepsRecords};
 
-use crate::copying::Copying;
+use crate::copy_text::CopyText;
 use crate::picks::{Pick, picks_of};
 use crate::released::visit_released;
 use crate::stopped::Stopped;
@@ -17,7 +17,7 @@ use crate::walk::visit_picked;
 use sqlite::{Alter, Connection};
 use std::alloc::Global;
 use tb_conllu::Sink;
-use tb_standing::desk_rows_are_readable;
+use tb_refine::desk_rows_are_readable;
 
 /// The current revisions of the sentences of a batch, by number.
 fn batch_picks<S: Alter>(
@@ -25,18 +25,19 @@ fn batch_picks<S: Alter>(
     conn: &mut Connection<S>,
     batch: u32,
 ) -> Result<Vec<Pick>, Stopped>
-    ensures picked { Tells S.Store conn.old conn.new result (λ s v. v.items ≡ picks_from (λ x. nat_eq x.batch batch) 1 s.sentences) }
-    ensures refused { result ≢ Err Stopped.Output }
+    ensures picked { Tells S.Store conn.old conn.new result (λ s v. v.items ≡ picks_from (λ x.
+        nat_eq x.batch batch) 1 s.sentences) }
+    ensures never_refuses { result ≢ Err Stopped.Output }
     ensures fault { StopsForFault S.Store conn.old conn.new result }
     ensures fails { StopsForStore S.Store conn.old conn.new result }
     ensures cause { StopsForWant S.Store conn.old conn.new result }
-    ensures same { ChangesNothing S.Store conn.old conn.new result }
-    ensures mode { conn.old.in_transaction ≡ false → conn.new.in_transaction ≡ false }
-    ensures kept { KeepsRecords S.Store conn.old conn.new }
-    ensures lasts { CommitsNothing S.Store conn.old conn.new }
+    ensures unchanged { ChangesNothing S.Store conn.old conn.new result }
+    ensures autocommit { conn.old.in_transaction ≡ false → conn.new.in_transaction ≡ false }
+    ensures keeps_records { KeepsRecords S.Store conn.old conn.new }
+    ensures commits_nothing { CommitsNothing S.Store conn.old conn.new }
 {
     desk_rows_are_readable();
-    let work = tb_reading::sentences_of(alloc, conn, batch)?;
+    let work = tb_reads::sentences_of(alloc, conn, batch)?;
     picks_of(alloc, work.as_slice())
 }
 
@@ -51,18 +52,20 @@ pub fn export_released<S: Alter, W: Sink>(
     conn: &mut Connection<S>,
     out: &mut W,
 ) -> Result<(), Stopped>
-    ensures put { TellsOnOk S.Store conn.old conn.new result (λ s. Appends (W.held out.old) (W.held out.new) (current_text (released s))) }
-    ensures part { TellsOnErr S.Store conn.old conn.new result (λ s e. IsCutShort e (W.held out.old) (W.held out.new) (released s)) }
+    ensures put { TellsOnOk S.Store conn.old conn.new result (λ s. Appends (W.held out.old) (W.held out.new)
+        (current_text (released s))) }
+    ensures part { TellsOnErr S.Store conn.old conn.new result (λ s e. IsCutShort e (W.held out.old) (W.held out.new)
+        (released s)) }
     ensures refused { result ≡ Err Stopped.Output → HasReason (W.IsRefusal out.new) }
     ensures fault { StopsForFault S.Store conn.old conn.new result }
     ensures fails { StopsForStore S.Store conn.old conn.new result }
     ensures cause { StopsForWant S.Store conn.old conn.new result }
-    ensures same { ChangesNothing S.Store conn.old conn.new result }
-    ensures mode { conn.old.in_transaction ≡ false → conn.new.in_transaction ≡ false }
-    ensures kept { KeepsRecords S.Store conn.old conn.new }
-    ensures lasts { CommitsNothing S.Store conn.old conn.new }
+    ensures unchanged { ChangesNothing S.Store conn.old conn.new result }
+    ensures autocommit { conn.old.in_transaction ≡ false → conn.new.in_transaction ≡ false }
+    ensures keeps_records { KeepsRecords S.Store conn.old conn.new }
+    ensures commits_nothing { CommitsNothing S.Store conn.old conn.new }
 {
-    visit_released(alloc, conn, &mut Copying, out)
+    visit_released(alloc, conn, &mut CopyText, out)
 }
 
 /// Puts the text of all sentences of the batch with this number, pulled ones too, as `export_released` does.
@@ -76,18 +79,20 @@ pub fn export_numbered<S: Alter, W: Sink>(
     batch: u32,
     out: &mut W,
 ) -> Result<(), Stopped>
-    ensures put { TellsOnOk S.Store conn.old conn.new result (λ s. Appends (W.held out.old) (W.held out.new) (current_text (in_batch s batch))) }
-    ensures part { TellsOnErr S.Store conn.old conn.new result (λ s e. IsCutShort e (W.held out.old) (W.held out.new) (in_batch s batch)) }
+    ensures put { TellsOnOk S.Store conn.old conn.new result (λ s. Appends (W.held out.old) (W.held out.new)
+        (current_text (in_batch s batch))) }
+    ensures part { TellsOnErr S.Store conn.old conn.new result (λ s e. IsCutShort e (W.held out.old) (W.held out.new)
+        (in_batch s batch)) }
     ensures refused { result ≡ Err Stopped.Output → HasReason (W.IsRefusal out.new) }
     ensures fault { StopsForFault S.Store conn.old conn.new result }
     ensures fails { StopsForStore S.Store conn.old conn.new result }
     ensures cause { StopsForWant S.Store conn.old conn.new result }
-    ensures same { ChangesNothing S.Store conn.old conn.new result }
-    ensures mode { conn.old.in_transaction ≡ false → conn.new.in_transaction ≡ false }
-    ensures kept { KeepsRecords S.Store conn.old conn.new }
-    ensures lasts { CommitsNothing S.Store conn.old conn.new }
+    ensures unchanged { ChangesNothing S.Store conn.old conn.new result }
+    ensures autocommit { conn.old.in_transaction ≡ false → conn.new.in_transaction ≡ false }
+    ensures keeps_records { KeepsRecords S.Store conn.old conn.new }
+    ensures commits_nothing { CommitsNothing S.Store conn.old conn.new }
 {
     desk_rows_are_readable();
     let picks = batch_picks(alloc, conn, batch)?;
-    visit_picked(conn, picks.as_slice(), &mut Copying, out)
+    visit_picked(conn, picks.as_slice(), &mut CopyText, out)
 }

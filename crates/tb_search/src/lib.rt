@@ -2,18 +2,18 @@
 //! is in memory.
 #![tactic(auto)]
 
-mod copying;
+mod copy_text;
+mod count_hits;
+mod count_keys;
 mod export;
-mod keying;
-mod listing;
-mod numbering;
 mod picks;
 mod released;
 mod search;
-mod seeker;
+mod searcher;
 mod stopped;
 mod visitor;
 mod walk;
+mod write_kwic;
 
 pub use export::{export_numbered, export_released};
 pub use search::{count_released, number_released, one_list_is_found, search_released};

@@ -1,13 +1,14 @@
 //! Which revisions a walk asks for.
 
-ghost use Rattle.std.specs.Prelude.{◌≡◌, ◌≢◌, Err, ◌+◌, ◌<◌, ◌^◌, ◌++◌, ◌∷◌, [], cond, drop, length, map, List, IsTrue, IfOk, IfErr};
+ghost use Rattle.std.specs.Prelude.{◌≡◌, ◌≢◌, Err, ◌+◌, ◌<◌, ◌^◌, ◌++◌, ◌∷◌, []};
+ghost use Rattle.std.specs.Prelude.{cond, drop, length, map, List, IsTrue, IfOk, IfErr};
 ghost use Rattle.tb_core.specs.declared.kinds.State.{State as AnyState};
 ghost use Rattle.tb_core.specs.Events.{is_state};
 ghost use Rattle.tb_core.specs.Machine.{Batch, Sentence, batch_with};
 ghost use Rattle.tb_core.specs.Rows.{pulled_from};
 ghost use Rattle.tb_tables.specs.Values.{batch_of};
-ghost use Rattle.tb_standing.specs.Standing.{batch_record, sentence_record};
-ghost use Rattle.tb_reading.specs.Streams.{head_of};
+ghost use Rattle.tb_refine.specs.DeskTables.{batch_record, sentence_record};
+ghost use Rattle.tb_reads.specs.Streams.{head_of};
 ghost use Rattle.tb_search.specs.Released.{is_released as is_in_release};
 ghost use Rattle.tb_search.specs.Visited.{IsFault, IsStopFault, IsStopWant};
 ghost use Rattle.tb_search.specs.Picked.{picks_from, begins, pick_of};
@@ -15,8 +16,8 @@ ghost use Rattle.tb_search.specs.Picked.{picks_from, begins, pick_of};
 use crate::stopped::Stopped;
 use std::alloc::Global;
 use tb_core::State;
-use tb_reading::{Head, Work};
-use tb_standing::number_of_state;
+use tb_reads::{BatchSentence, CurrentRev};
+use tb_refine::number_of_state;
 use tb_tables::BatchRow;
 
 /// A revision that is asked for.
@@ -30,7 +31,8 @@ pub(crate) struct Pick {
 
 /// Whether the batch with this number is released.
 fn is_batch_released(batches: &[BatchRow], batch: u32) -> bool
-    ensures { (bs : List Batch) → map batch_of batches.now ≡ map batch_record bs → result ≡ is_state (batch_with bs batch).state AnyState.Released }
+    ensures { (bs : List Batch) → map batch_of batches.now ≡ map batch_record bs
+        → result ≡ is_state (batch_with bs batch).state AnyState.Released }
 {
     match batches.get(batch.saturating_sub(1) as usize) {
         Some(row) => row.state == number_of_state(State::Released),
@@ -40,7 +42,8 @@ fn is_batch_released(batches: &[BatchRow], batch: u32) -> bool
 
 /// Whether a sentence of the batch with this number is released.
 fn is_released(batches: &[BatchRow], batch: u32, is_pulled: bool) -> bool
-    ensures { (bs : List Batch) → map batch_of batches.now ≡ map batch_record bs → result ≡ is_state (cond is_pulled AnyState.Withdrawn (batch_with bs batch).state) AnyState.Released }
+    ensures { (bs : List Batch) → map batch_of batches.now ≡ map batch_record bs
+        → result ≡ is_state (cond is_pulled AnyState.Withdrawn (batch_with bs batch).state) AnyState.Released }
 {
     if is_pulled {
         return false;
@@ -66,7 +69,7 @@ fn stepped(at: usize, is_taken: bool) -> usize
 
 fn push_where(found: &mut Vec<Pick>, wanted: bool, pick: Pick) -> Result<(), Stopped>
     ensures more { IfOk result (λ _. found.new.items ≡ found.old.items ++ cond wanted (pick ∷ []) []) }
-    ensures refused { result ≢ Err Stopped.Output }
+    ensures never_refuses { result ≢ Err Stopped.Output }
     ensures fault { IfErr result IsFault }
     ensures fails { IfErr result IsStopFault }
     ensures cause { IfErr result IsStopWant }
@@ -82,11 +85,13 @@ pub(crate) fn released_of(
     alloc: Global,
     batches: &[BatchRow],
     pulled: &[u32],
-    heads: &[Head],
+    heads: &[CurrentRev],
 ) -> Result<Vec<Pick>, Stopped>
     requires { length heads.now < 2 ^ 32 }
-    ensures picked { IfOk result (λ v. (bs : List Batch) (xs : List Sentence) → map batch_of batches.now ≡ map batch_record bs → pulled.now ≡ pulled_from 1 xs → heads.now ≡ map head_of (map sentence_record xs) → v.items ≡ picks_from (is_in_release bs) 1 xs) }
-    ensures refused { result ≢ Err Stopped.Output }
+    ensures picked { IfOk result (λ v. (bs : List Batch) (xs : List Sentence)
+        → map batch_of batches.now ≡ map batch_record bs → pulled.now ≡ pulled_from 1 xs
+        → heads.now ≡ map head_of (map sentence_record xs) → v.items ≡ picks_from (is_in_release bs) 1 xs) }
+    ensures never_refuses { result ≢ Err Stopped.Output }
     ensures fault { IfErr result IsFault }
     ensures fails { IfErr result IsStopFault }
     ensures cause { IfErr result IsStopWant }
@@ -112,9 +117,9 @@ pub(crate) fn released_of(
 }
 
 /// The current revisions of the sentences of a batch.
-pub(crate) fn picks_of(alloc: Global, work: &[Work]) -> Result<Vec<Pick>, Stopped>
+pub(crate) fn picks_of(alloc: Global, work: &[BatchSentence]) -> Result<Vec<Pick>, Stopped>
     ensures picked { IfOk result (λ v. v.items ≡ map pick_of work.now) }
-    ensures refused { result ≢ Err Stopped.Output }
+    ensures never_refuses { result ≢ Err Stopped.Output }
     ensures fault { IfErr result IsFault }
     ensures fails { IfErr result IsStopFault }
     ensures cause { IfErr result IsStopWant }

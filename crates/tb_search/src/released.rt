@@ -1,61 +1,64 @@
 //! The walk over released text: the current revisions of the sentences that are released, by number.
 
 ghost use Rattle.std.specs.Prelude.{◌≡◌, ◌≢◌, ◌<◌, ◌^◌, length, false, map, Err};
-ghost use Rattle.tb_standing.specs.Standing.{sentence_record};
-ghost use Rattle.tb_reading.specs.Streams.{head_of};
+ghost use Rattle.tb_refine.specs.DeskTables.{sentence_record};
+ghost use Rattle.tb_reads.specs.Streams.{head_of};
 ghost use Rattle.tb_search.specs.Released.{released, is_released as is_in_release};
 ghost use Rattle.tb_search.specs.Picked.{picks_from};
 ghost use Rattle.tb_search.specs.Visited.{AllTaken, Halted, texts};
 ghost use Rattle.tb_search.specs.Ending.{StopsForFault, StopsForStore, StopsForWant};
-ghost use Rattle.tb_standing.specs.Telling.{Tells, TellsOnErr, TellsOnOk};
+ghost use Rattle.tb_refine.specs.Calls.{Tells, TellsOnErr, TellsOnOk};
 ghost use Rattle.tb_tables.specs.Leaving.{ChangesNothing, CommitsNothing, KeepsRecords};
 
 use crate::picks::{Pick, released_of};
 use crate::stopped::Stopped;
-use crate::visitor::Visitor;
+use crate::visitor::BodyVisitor;
 use crate::walk::visit_picked;
 use sqlite::{Alter, Connection};
 use std::alloc::Global;
-use tb_reading::{Head, ReadError};
-use tb_standing::desk_rows_are_readable;
+use tb_reads::{CurrentRev, ReadError};
+use tb_refine::desk_rows_are_readable;
 
 /// The current revisions of released sentences, where batch and current revision of each sentence are at hand.
 fn released_among<S: Alter>(
     alloc: Global,
     conn: &mut Connection<S>,
-    heads: &[Head],
+    heads: &[CurrentRev],
 ) -> Result<Vec<Pick>, Stopped>
     requires { length heads.now < 2 ^ 32 }
-    ensures picked { Tells S.Store conn.old conn.new result (λ s v. heads.now ≡ map head_of (map sentence_record s.sentences) → v.items ≡ picks_from (is_in_release s.batches) 1 s.sentences) }
-    ensures refused { result ≢ Err Stopped.Output }
+    ensures picked { Tells S.Store conn.old conn.new result (λ s v.
+        heads.now ≡ map head_of (map sentence_record s.sentences)
+        → v.items ≡ picks_from (is_in_release s.batches) 1 s.sentences) }
+    ensures never_refuses { result ≢ Err Stopped.Output }
     ensures fault { StopsForFault S.Store conn.old conn.new result }
     ensures fails { StopsForStore S.Store conn.old conn.new result }
     ensures cause { StopsForWant S.Store conn.old conn.new result }
-    ensures same { ChangesNothing S.Store conn.old conn.new result }
-    ensures mode { conn.old.in_transaction ≡ false → conn.new.in_transaction ≡ false }
-    ensures kept { KeepsRecords S.Store conn.old conn.new }
-    ensures lasts { CommitsNothing S.Store conn.old conn.new }
+    ensures unchanged { ChangesNothing S.Store conn.old conn.new result }
+    ensures autocommit { conn.old.in_transaction ≡ false → conn.new.in_transaction ≡ false }
+    ensures keeps_records { KeepsRecords S.Store conn.old conn.new }
+    ensures commits_nothing { CommitsNothing S.Store conn.old conn.new }
 {
     desk_rows_are_readable();
-    let batches = tb_reading::batches(alloc, conn)?;
-    let pulled = tb_reading::pulled(alloc, conn)?;
+    let batches = tb_reads::batches(alloc, conn)?;
+    let pulled = tb_reads::pulled(alloc, conn)?;
     released_of(alloc, batches.as_slice(), pulled.as_slice(), heads)
 }
 
 /// The current revisions of released sentences, by number.
 fn released_picks<S: Alter>(alloc: Global, conn: &mut Connection<S>) -> Result<Vec<Pick>, Stopped>
-    ensures picked { Tells S.Store conn.old conn.new result (λ s v. v.items ≡ picks_from (is_in_release s.batches) 1 s.sentences) }
-    ensures refused { result ≢ Err Stopped.Output }
+    ensures picked { Tells S.Store conn.old conn.new result (λ s v.
+        v.items ≡ picks_from (is_in_release s.batches) 1 s.sentences) }
+    ensures never_refuses { result ≢ Err Stopped.Output }
     ensures fault { StopsForFault S.Store conn.old conn.new result }
     ensures fails { StopsForStore S.Store conn.old conn.new result }
     ensures cause { StopsForWant S.Store conn.old conn.new result }
-    ensures same { ChangesNothing S.Store conn.old conn.new result }
-    ensures mode { conn.old.in_transaction ≡ false → conn.new.in_transaction ≡ false }
-    ensures kept { KeepsRecords S.Store conn.old conn.new }
-    ensures lasts { CommitsNothing S.Store conn.old conn.new }
+    ensures unchanged { ChangesNothing S.Store conn.old conn.new result }
+    ensures autocommit { conn.old.in_transaction ≡ false → conn.new.in_transaction ≡ false }
+    ensures keeps_records { KeepsRecords S.Store conn.old conn.new }
+    ensures commits_nothing { CommitsNothing S.Store conn.old conn.new }
 {
     desk_rows_are_readable();
-    let heads = tb_reading::heads(alloc, conn)?;
+    let heads = tb_reads::heads(alloc, conn)?;
     if heads.len() > u32::MAX as usize {
         return Err(Stopped::Read(ReadError::Form));
     }
@@ -64,21 +67,23 @@ fn released_picks<S: Alter>(alloc: Global, conn: &mut Connection<S>) -> Result<V
 
 /// Visits the texts of all released sentences, by number: the current revision of each. One is in memory at a time, and two
 /// numbers of each sentence. Whatever it answers, the desk stays as it was.
-pub(crate) fn visit_released<S: Alter, O, V: Visitor<O>>(
+pub(crate) fn visit_released<S: Alter, O, V: BodyVisitor<O>>(
     alloc: Global,
     conn: &mut Connection<S>,
     visitor: &mut V,
     filled: &mut O,
 ) -> Result<(), Stopped>
-    ensures taken { TellsOnOk S.Store conn.old conn.new result (λ s. AllTaken V.Takes visitor.old filled.old (texts (released s)) visitor.new filled.new) }
-    ensures halted { TellsOnErr S.Store conn.old conn.new result (λ s e. Halted V.Takes V.Stops visitor.old filled.old (texts (released s)) e filled.new) }
+    ensures taken { TellsOnOk S.Store conn.old conn.new result (λ s. AllTaken V.Takes visitor.old filled.old
+        (texts (released s)) visitor.new filled.new) }
+    ensures halted { TellsOnErr S.Store conn.old conn.new result (λ s e. Halted V.Takes V.Stops visitor.old filled.old
+        (texts (released s)) e filled.new) }
     ensures refused { result ≡ Err Stopped.Output → V.Refused filled.new }
     ensures fails { StopsForStore S.Store conn.old conn.new result }
     ensures cause { StopsForWant S.Store conn.old conn.new result }
-    ensures same { ChangesNothing S.Store conn.old conn.new result }
-    ensures mode { conn.old.in_transaction ≡ false → conn.new.in_transaction ≡ false }
-    ensures kept { KeepsRecords S.Store conn.old conn.new }
-    ensures lasts { CommitsNothing S.Store conn.old conn.new }
+    ensures unchanged { ChangesNothing S.Store conn.old conn.new result }
+    ensures autocommit { conn.old.in_transaction ≡ false → conn.new.in_transaction ≡ false }
+    ensures keeps_records { KeepsRecords S.Store conn.old conn.new }
+    ensures commits_nothing { CommitsNothing S.Store conn.old conn.new }
 {
     desk_rows_are_readable();
     let picks = released_picks(alloc, conn)?;

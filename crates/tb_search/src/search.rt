@@ -7,17 +7,17 @@ ghost use Rattle.tb_match.specs.declared.strategy.Strategy.{Strategy as AnyStrat
 ghost use Rattle.tb_query.specs.Search.{Asked};
 ghost use Rattle.tb_report.specs.Tables.{IsTableOf};
 ghost use Rattle.tb_search.specs.Visited.{HasReason};
-ghost use Rattle.tb_search.specs.Searched.{AreFound, IsBrokenOff, Occurrence, answer, keys, searched};
+ghost use Rattle.tb_search.specs.Searched.{AreFound, IsSearchBrokenOff, Occurrence, answer, keys, searched};
 ghost use Rattle.tb_search.specs.Ending.{StopsForFault, StopsForStore, StopsForWant};
-ghost use Rattle.tb_standing.specs.Telling.{Tells, TellsOnErr};
+ghost use Rattle.tb_refine.specs.Calls.{Tells, TellsOnErr};
 ghost use Rattle.tb_tables.specs.Leaving.{ChangesNothing, CommitsNothing, KeepsRecords};
 
-use crate::keying::Keying;
-use crate::listing::{Listing, put_total};
-use crate::numbering::Numbering;
+use crate::count_hits::CountHits;
+use crate::count_keys::CountKeys;
 use crate::released::visit_released;
-use crate::seeker::Seeker;
+use crate::searcher::SentenceSearcher;
 use crate::stopped::Stopped;
+use crate::write_kwic::{WriteKwic, put_total};
 use sqlite::{Alter, Connection};
 use std::alloc::Global;
 use tb_conllu::Sink;
@@ -38,19 +38,20 @@ pub fn number_released<S: Alter>(
     query: &Query,
     strategy: Strategy,
 ) -> Result<u64, Stopped>
-    ensures answered { Tells S.Store conn.old conn.new result (λ s n. (found : List Occurrence) × AreFound strategy query.now (searched s) found × (n ≡ length found)) }
-    ensures refused { result ≢ Err Stopped.Output }
+    ensures answered { Tells S.Store conn.old conn.new result (λ s n. (found : List Occurrence)
+        × AreFound strategy query.now (searched s) found × (n ≡ length found)) }
+    ensures never_refuses { result ≢ Err Stopped.Output }
     ensures fault { StopsForFault S.Store conn.old conn.new result }
     ensures fails { StopsForStore S.Store conn.old conn.new result }
     ensures cause { StopsForWant S.Store conn.old conn.new result }
-    ensures same { ChangesNothing S.Store conn.old conn.new result }
-    ensures mode { conn.old.in_transaction ≡ false → conn.new.in_transaction ≡ false }
-    ensures kept { KeepsRecords S.Store conn.old conn.new }
-    ensures lasts { CommitsNothing S.Store conn.old conn.new }
+    ensures unchanged { ChangesNothing S.Store conn.old conn.new result }
+    ensures autocommit { conn.old.in_transaction ≡ false → conn.new.in_transaction ≡ false }
+    ensures keeps_records { KeepsRecords S.Store conn.old conn.new }
+    ensures commits_nothing { CommitsNothing S.Store conn.old conn.new }
 {
     revisions_read_back();
-    let seeker = Seeker::new(alloc, query, strategy)?;
-    let mut numbering = Numbering { seeker };
+    let seeker = SentenceSearcher::new(alloc, query, strategy)?;
+    let mut numbering = CountHits { seeker };
     let mut number = 0;
     visit_released(alloc, conn, &mut numbering, &mut number)?;
     Ok(number)
@@ -69,19 +70,20 @@ pub fn count_released<S: Alter>(
     strategy: Strategy,
     column: Attr,
 ) -> Result<Freq, Stopped>
-    ensures answered { Tells S.Store conn.old conn.new result (λ s table. (found : List Occurrence) × AreFound strategy query.now (searched s) found × IsTableOf (keys column found) table) }
-    ensures refused { result ≢ Err Stopped.Output }
+    ensures answered { Tells S.Store conn.old conn.new result (λ s table. (found : List Occurrence)
+        × AreFound strategy query.now (searched s) found × IsTableOf (keys column found) table) }
+    ensures never_refuses { result ≢ Err Stopped.Output }
     ensures fault { StopsForFault S.Store conn.old conn.new result }
     ensures fails { StopsForStore S.Store conn.old conn.new result }
     ensures cause { StopsForWant S.Store conn.old conn.new result }
-    ensures same { ChangesNothing S.Store conn.old conn.new result }
-    ensures mode { conn.old.in_transaction ≡ false → conn.new.in_transaction ≡ false }
-    ensures kept { KeepsRecords S.Store conn.old conn.new }
-    ensures lasts { CommitsNothing S.Store conn.old conn.new }
+    ensures unchanged { ChangesNothing S.Store conn.old conn.new result }
+    ensures autocommit { conn.old.in_transaction ≡ false → conn.new.in_transaction ≡ false }
+    ensures keeps_records { KeepsRecords S.Store conn.old conn.new }
+    ensures commits_nothing { CommitsNothing S.Store conn.old conn.new }
 {
     revisions_read_back();
-    let seeker = Seeker::new(alloc, query, strategy)?;
-    let mut keying = Keying { seeker, column };
+    let seeker = SentenceSearcher::new(alloc, query, strategy)?;
+    let mut keying = CountKeys { seeker, column };
     let mut table = Freq::new(alloc);
     visit_released(alloc, conn, &mut keying, &mut table)?;
     Ok(table)
@@ -104,20 +106,24 @@ pub fn search_released<S: Alter, W: Sink>(
     context: u8,
     out: &mut W,
 ) -> Result<u64, Stopped>
-    ensures answered { Tells S.Store conn.old conn.new result (λ s n. (found : List Occurrence) × AreFound strategy query.now (searched s) found × (n ≡ length found) × Appends (W.held out.old) (W.held out.new) (answer context found)) }
+    ensures answered { Tells S.Store conn.old conn.new result (λ s n. (found : List Occurrence)
+        × AreFound strategy query.now (searched s) found × (n ≡ length found)
+        × Appends (W.held out.old) (W.held out.new) (answer context found)) }
     ensures refused { result ≡ Err Stopped.Output → HasReason (W.IsRefusal out.new) }
     ensures fault { StopsForFault S.Store conn.old conn.new result }
     ensures fails { StopsForStore S.Store conn.old conn.new result }
     ensures cause { StopsForWant S.Store conn.old conn.new result }
-    ensures broken { TellsOnErr S.Store conn.old conn.new result (λ s e. (found : List Occurrence) → AreFound strategy query.now (searched s) found → IsBrokenOff e (W.held out.old) (W.held out.new) context found) }
-    ensures same { ChangesNothing S.Store conn.old conn.new result }
-    ensures mode { conn.old.in_transaction ≡ false → conn.new.in_transaction ≡ false }
-    ensures kept { KeepsRecords S.Store conn.old conn.new }
-    ensures lasts { CommitsNothing S.Store conn.old conn.new }
+    ensures broken { TellsOnErr S.Store conn.old conn.new result (λ s e. (found : List Occurrence)
+        → AreFound strategy query.now (searched s) found
+        → IsSearchBrokenOff e (W.held out.old) (W.held out.new) context found) }
+    ensures unchanged { ChangesNothing S.Store conn.old conn.new result }
+    ensures autocommit { conn.old.in_transaction ≡ false → conn.new.in_transaction ≡ false }
+    ensures keeps_records { KeepsRecords S.Store conn.old conn.new }
+    ensures commits_nothing { CommitsNothing S.Store conn.old conn.new }
 {
     revisions_read_back();
-    let seeker = Seeker::new(alloc, query, strategy)?;
-    let mut listing = Listing {
+    let seeker = SentenceSearcher::new(alloc, query, strategy)?;
+    let mut listing = WriteKwic {
         seeker,
         context,
         found: 0,
@@ -129,5 +135,6 @@ pub fn search_released<S: Alter, W: Sink>(
 
 /// What is found in sentences is one list: an answer is fixed by the query, the strategy and the text.
 pub fn one_list_is_found()
-    ensures { (s : AnyStrategy) (q : Asked) (bs : List BlockText) (found others : List Occurrence) → AreFound s q bs found → AreFound s q bs others → found ≡ others }
+    ensures { (s : AnyStrategy) (q : Asked) (bs : List BlockText) (found others : List Occurrence)
+        → AreFound s q bs found → AreFound s q bs others → found ≡ others }
 {}

@@ -2,7 +2,7 @@
 
 use sqlite::{Error, ErrorCode};
 use std::alloc::{AllocError, AllocFailed};
-use tb_reading::ReadError;
+use tb_reads::ReadError;
 
 /// Why a walk ends early.
 #[derive(Debug, Drop)]
@@ -17,7 +17,7 @@ impl<T: Drop> From<AllocFailed<T>> for Stopped {
     ghost use Rattle.std.specs.Prelude.{◌≡◌};
     ghost use Rattle.sqlite.specs.declared.error.Error.TheVariants.{SqliteFailure};
     ghost use Rattle.sqlite.specs.declared.error.ErrorCode.TheVariants.{OutOfMemory};
-    ghost use Rattle.tb_reading.specs.declared.error.ReadError.TheVariants.{Store};
+    ghost use Rattle.tb_reads.specs.declared.error.ReadError.TheVariants.{Store};
     ghost use Rattle.tb_search.specs.declared.stopped.Stopped.TheVariants.{Read};
 
     ghost from_gives = { λ _ e. e ≡ Read (Store (SqliteFailure OutOfMemory)) };
@@ -31,7 +31,7 @@ impl From<AllocError> for Stopped {
     ghost use Rattle.std.specs.Prelude.{◌≡◌};
     ghost use Rattle.sqlite.specs.declared.error.Error.TheVariants.{SqliteFailure};
     ghost use Rattle.sqlite.specs.declared.error.ErrorCode.TheVariants.{OutOfMemory};
-    ghost use Rattle.tb_reading.specs.declared.error.ReadError.TheVariants.{Store};
+    ghost use Rattle.tb_reads.specs.declared.error.ReadError.TheVariants.{Store};
     ghost use Rattle.tb_search.specs.declared.stopped.Stopped.TheVariants.{Read};
 
     ghost from_gives = { λ _ e. e ≡ Read (Store (SqliteFailure OutOfMemory)) };
@@ -54,7 +54,7 @@ impl From<ReadError> for Stopped {
 
 impl From<Error> for Stopped {
     ghost use Rattle.std.specs.Prelude.{◌≡◌};
-    ghost use Rattle.tb_reading.specs.declared.error.ReadError.TheVariants.{Store};
+    ghost use Rattle.tb_reads.specs.declared.error.ReadError.TheVariants.{Store};
     ghost use Rattle.tb_search.specs.declared.stopped.Stopped.TheVariants.{Read};
 
     ghost from_gives = { λ x e. e ≡ Read (Store x) };

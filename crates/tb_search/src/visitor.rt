@@ -6,7 +6,7 @@ use crate::stopped::Stopped;
 
 /// What is done with the texts of the sentences that a walk is asked for: each is seen once, while no other is in
 /// memory, and something is filled by it.
-pub(crate) trait Visitor<O> {
+pub(crate) trait BodyVisitor<O> {
     ghost use Rattle.std.specs.Prelude.{ℕ, List};
     ghost use Rattle.tb_search.specs.declared.stopped.Stopped.{Stopped};
     ghost use Rattle.tb_search.specs.Visited.{IsStopFault, IsStopWant};

@@ -1,12 +1,13 @@
 //! The walk over the bodies of all revisions, which visits those that are asked for.
 
-ghost use Rattle.std.specs.Prelude.{◌≡◌, ◌≤◌, false, List, map, All, IfOk, IfErr, OnOk, MatchBool, true, None, Err};
+ghost use Rattle.std.specs.Prelude.{◌≡◌, ◌≤◌, false, List, map, All, IfOk, IfErr, OnOk, MatchBool, true};
+ghost use Rattle.std.specs.Prelude.{None, Err};
 ghost use Rattle.sqlite.specs.State.{HasCleanDisk};
 ghost use Rattle.sqlite.specs.Held.{state};
 ghost use Rattle.sqlite_trees.specs.Tree.{IsAscending};
 ghost use Rattle.tb_tables.specs.Layout.{desk_schema};
 ghost use Rattle.tb_tables.specs.Records.{Revision, Shows, revision_shown, revision_view};
-ghost use Rattle.tb_reading.specs.Readable.{IsRevision, ComesBefore};
+ghost use Rattle.tb_reads.specs.Readable.{IsRevision, ComesBefore};
 ghost use Rattle.tb_search.specs.Picked.{asks, picked, bodies as bodies_of};
 ghost use Rattle.tb_search.specs.Visited.{AllTaken, Halted, IsStopFault, IsStopWant};
 ghost use Rattle.tb_search.specs.Ending.{WalksUntilWant};
@@ -14,9 +15,9 @@ ghost use Rattle.tb_tables.specs.Leaving.{ChangesNothing, CommitsNothing, KeepsR
 
 use crate::picks::Pick;
 use crate::stopped::Stopped;
-use crate::visitor::Visitor;
+use crate::visitor::BodyVisitor;
 use sqlite::{Alter, Connection, Error, ErrorCode};
-use tb_reading::{ReadError, bodies, next_body};
+use tb_reads::{ReadError, bodies, next_body};
 
 fn is_asked(pick: &Pick, sent: u32, rev: u32) -> bool
     ensures { result ≡ asks pick.now sent rev }
@@ -25,7 +26,7 @@ fn is_asked(pick: &Pick, sent: u32, rev: u32) -> bool
 }
 
 /// Visits a body where it is that of the revision that is asked for. Answers how many it has visited.
-fn visit_asked<O, V: Visitor<O>>(
+fn visit_asked<O, V: BodyVisitor<O>>(
     pick: &Pick,
     sent: u32,
     rev: u32,
@@ -33,9 +34,12 @@ fn visit_asked<O, V: Visitor<O>>(
     visitor: &mut V,
     filled: &mut O,
 ) -> Result<usize, Stopped>
-    ensures taken { IfOk result (λ n. MatchBool (asks pick.now sent rev) ((n ≡ 1) × V.Takes visitor.old filled.old body.now visitor.new filled.new) ((n ≡ 0) × (visitor.new ≡ visitor.old) × (filled.new ≡ filled.old))) }
+    ensures taken { IfOk result (λ n. MatchBool (asks pick.now sent rev) ((n ≡ 1)
+        × V.Takes visitor.old filled.old body.now visitor.new filled.new) ((n ≡ 0) × (visitor.new ≡ visitor.old)
+        × (filled.new ≡ filled.old))) }
     ensures few { IfOk result (λ n. n ≤ 1) }
-    ensures stopped { IfErr result (λ e. (asks pick.now sent rev ≡ true) × V.Stops visitor.old filled.old body.now e filled.new) }
+    ensures stopped { IfErr result (λ e. (asks pick.now sent rev ≡ true)
+        × V.Stops visitor.old filled.old body.now e filled.new) }
     ensures refused { result ≡ Err Stopped.Output → V.Refused filled.new }
     ensures fails { IfErr result IsStopFault }
     ensures cause { IfErr result IsStopWant }
@@ -48,21 +52,31 @@ fn visit_asked<O, V: Visitor<O>>(
 }
 
 /// Visits the bodies of the revisions that are asked for, by sentence and number. One body is at hand at a time.
-pub(crate) fn visit_picked<S: Alter, O, V: Visitor<O>>(
+pub(crate) fn visit_picked<S: Alter, O, V: BodyVisitor<O>>(
     conn: &mut Connection<S>,
     picks: &[Pick],
     visitor: &mut V,
     filled: &mut O,
 ) -> Result<(), Stopped>
-    ensures taken { HasCleanDisk (state S.Store conn.new) → OnOk result ((state S.Store conn.old).now.schema ≡ desk_schema → (xs : List Revision) → All IsRevision xs → IsAscending ComesBefore xs → Shows revision_view (map revision_shown xs) ((state S.Store conn.old).now.trees 5) → AllTaken V.Takes visitor.old filled.old (bodies_of (picked picks.now xs)) visitor.new filled.new) }
-    ensures halted { HasCleanDisk (state S.Store conn.new) → IfErr result (λ e. (state S.Store conn.old).now.schema ≡ desk_schema → (xs : List Revision) → All IsRevision xs → IsAscending ComesBefore xs → Shows revision_view (map revision_shown xs) ((state S.Store conn.old).now.trees 5) → Halted V.Takes V.Stops visitor.old filled.old (bodies_of (picked picks.now xs)) e filled.new) }
+    ensures taken { HasCleanDisk (state S.Store conn.new)
+        → OnOk result ((state S.Store conn.old).now.schema ≡ desk_schema → (xs : List Revision)
+        → All IsRevision xs → IsAscending ComesBefore xs
+        → Shows revision_view (map revision_shown xs) ((state S.Store conn.old).now.trees 5)
+        → AllTaken V.Takes visitor.old filled.old (bodies_of (picked picks.now xs)) visitor.new filled.new) }
+    ensures halted { HasCleanDisk (state S.Store conn.new) → IfErr result (λ e. (state S.Store conn.old).now.schema
+        ≡ desk_schema → (xs : List Revision) → All IsRevision xs → IsAscending ComesBefore xs
+        → Shows revision_view (map revision_shown xs) ((state S.Store conn.old).now.trees 5)
+        → Halted V.Takes V.Stops visitor.old filled.old (bodies_of (picked picks.now xs)) e filled.new) }
     ensures refused { result ≡ Err Stopped.Output → V.Refused filled.new }
-    ensures fails { HasCleanDisk (state S.Store conn.new) → (state S.Store conn.old).step_limit ≡ None → IfErr result (λ e. (state S.Store conn.old).now.schema ≡ desk_schema → (xs : List Revision) → All IsRevision xs → IsAscending ComesBefore xs → Shows revision_view (map revision_shown xs) ((state S.Store conn.old).now.trees 5) → IsStopFault e) }
+    ensures fails { HasCleanDisk (state S.Store conn.new) → (state S.Store conn.old).step_limit ≡ None
+        → IfErr result (λ e. (state S.Store conn.old).now.schema ≡ desk_schema → (xs : List Revision)
+        → All IsRevision xs → IsAscending ComesBefore xs
+        → Shows revision_view (map revision_shown xs) ((state S.Store conn.old).now.trees 5) → IsStopFault e) }
     ensures cause { WalksUntilWant S.Store conn.old conn.new result }
-    ensures same { ChangesNothing S.Store conn.old conn.new result }
-    ensures mode { conn.old.in_transaction ≡ false → conn.new.in_transaction ≡ false }
-    ensures kept { KeepsRecords S.Store conn.old conn.new }
-    ensures lasts { CommitsNothing S.Store conn.old conn.new }
+    ensures unchanged { ChangesNothing S.Store conn.old conn.new result }
+    ensures autocommit { conn.old.in_transaction ≡ false → conn.new.in_transaction ≡ false }
+    ensures keeps_records { KeepsRecords S.Store conn.old conn.new }
+    ensures commits_nothing { CommitsNothing S.Store conn.old conn.new }
 {
     let mut rows = bodies(conn)?;
     let mut next = 0;

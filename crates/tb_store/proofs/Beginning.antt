@@ -12,7 +12,7 @@ use Rattle.tb_core.specs.Reaching.{begun}
 use Rattle.tb_tables.specs.Changes.{Holds}
 use Rattle.tb_tables.specs.Making.{IsBlank, empty_tables}
 use Rattle.tb_store.specs.Kept.{Kept}
-use Rattle.tb_store.specs.Standing.{StandsFor, unlimited, no_totals}
+use Rattle.tb_store.specs.Represents.{Represents, unlimited, no_totals}
 
 no_sums : (st : DeskState) → at_state (0 ∷ 0 ∷ 0 ∷ 0 ∷ 0 ∷ 0 ∷ []) st ≡ 0
 no_sums Opened = refl
@@ -26,7 +26,7 @@ module _ {S : Type 0} (g : Ghosts S) where
   pub still_blank : (c d : Held S) → d ≡ unlimited c → IsBlank g c → IsBlank g d
   still_blank c d is h = rw is (record { autocommit = h.autocommit; is_open = h.is_open; schema = h.schema; settled = h.settled })
 
-  pub stands_empty : (d : Kept S) (conn : Held S) (l : Limits) → d ≡ record { conn = conn; limits = l; batches = 0; sentences = 0; moves = 0; totals = no_totals } → Holds g conn empty_tables → StandsFor g d empty_machine
+  pub stands_empty : (d : Kept S) (conn : Held S) (l : Limits) → d ≡ record { conn = conn; limits = l; batches = 0; sentences = 0; moves = 0; totals = no_totals } → Holds g conn empty_tables → Represents g d empty_machine
   stands_empty d conn l is h = rw is (record {
     desk = record { reachable = record { reached = begun; sentences = lit≤ tt; moves = lit≤ tt }; holds = h };
     batches = refl;

@@ -1,7 +1,7 @@
 pub mod Beginning
 pub mod Alike
 pub mod SixTotals
-pub mod Standings
+pub mod Represented
 pub mod Adopted
 pub mod Migrated
 pub mod Lasting

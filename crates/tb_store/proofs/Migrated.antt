@@ -6,10 +6,10 @@ use Rattle.sqlite.specs.State.{Survives}
 use Rattle.sqlite.proofs.StateLemmas.{survives_weaker}
 use Rattle.sqlite_trees.specs.Tree.{Trees}
 use Rattle.tb_core.specs.Machine.{Machine}
-use Rattle.tb_tables.specs.Records.{Stands}
-use Rattle.tb_standing.specs.Standing.{tables_of}
-use Rattle.tb_migrating.specs.Desk.{IsFirstDesk}
-use Rattle.tb_store.specs.Standing.{unlimited}
+use Rattle.tb_tables.specs.Records.{AreStored}
+use Rattle.tb_refine.specs.DeskTables.{tables_of}
+use Rattle.tb_migrate.specs.Desk.{IsFirstDesk}
+use Rattle.tb_store.specs.Represents.{unlimited}
 
 module _ {S : Type 0} (g : Ghosts S) where
   -- the limit says nothing of what is held
@@ -33,7 +33,7 @@ module _ {S : Type 0} (g : Ghosts S) where
 
   -- what a crash leaves of a desk of version 1 that becomes one of version 2
   abbrev pub LeavesDesk : Held S → Trees → Type 0
-  LeavesDesk c db = (s : Machine) → IsFirstDesk g c s → Stands (tables_of s) db
+  LeavesDesk c db = (s : Machine) → IsFirstDesk g c s → AreStored (tables_of s) db
 
   pub survives_unlimited : (c d e : Held S) → d ≡ unlimited c → Survives (state g d) (state g e) (LeavesDesk d) → Survives (state g d) (state g e) (LeavesDesk c)
   survives_unlimited c d e is = survives_weaker (state g d) (state g e) _ _ (λ _ db whole s desk. whole s (first_unlimited c d is s desk))

@@ -9,7 +9,7 @@ use Rattle.sqlite.specs.Schema.{Schema}
 use Rattle.sqlite_tied.specs.Compute.{everything}
 use Rattle.tb_tables.proofs.Causes.{failed_wants}
 use Rattle.tb_core.specs.declared.refusals.Fault.TheVariants.{Memory}
-use Rattle.tb_store.specs.Handing.{told_of_error}
+use Rattle.tb_store.specs.Handing.{reported_of_error}
 
 pub not_run : (old new : State) (sql : List ℕ) (e : Error) → IsNotRun old new sql [] e → Fails old new ⊥ e ⊎ IsUnchanged old new
 unfolding IsNotRun
@@ -22,24 +22,24 @@ was_open_before old new e (inr same) opened = same.0.was_open
 
 -- ---- what is told of the store
 
-pub told_once : {E : Type 0} (told : Result Bool E) → told ≡ Ok true → told ≡ Ok false → ⊥
-told_once told is also = absurd cc
+pub reported_once : {E : Type 0} (reported : Result Bool E) → reported ≡ Ok true → reported ≡ Ok false → ⊥
+reported_once reported is also = absurd cc
 
-told_or_not : {E : Type 0} (told : Result Bool E) (b : Bool) (e : E) → told ≡ Ok b → told ≡ Err e → ⊥
-told_or_not told b e is also = absurd cc
+reported_or_not : {E : Type 0} (reported : Result Bool E) (b : Bool) (e : E) → reported ≡ Ok b → reported ≡ Err e → ⊥
+reported_or_not reported b e is also = absurd cc
 
-no_store_opens : (cause : StoreError) → told_of_error (store_error cause) ≡ Ok true → ⊥
-no_store_opens OutOfMemory is = told_or_not _ true Memory is refl
-no_store_opens Io is = told_once _ is refl
-no_store_opens Corrupt is = told_once _ is refl
-no_store_opens Full is = told_once _ is refl
-no_store_opens Broken is = told_once _ is refl
-no_store_opens Unstorable is = told_once _ is refl
+no_store_opens : (cause : StoreError) → reported_of_error (store_error cause) ≡ Ok true → ⊥
+no_store_opens OutOfMemory is = reported_or_not _ true Memory is refl
+no_store_opens Io is = reported_once _ is refl
+no_store_opens Corrupt is = reported_once _ is refl
+no_store_opens Full is = reported_once _ is refl
+no_store_opens Broken is = reported_once _ is refl
+no_store_opens Unstorable is = reported_once _ is refl
 
 -- only a store that is open finds a text at fault
-pub open_where_told : (old new : State) (e : Error) → told_of_error e ≡ Ok true → Fails old new ⊥ e ⊎ IsUnchanged old new → IsTrue new.is_open
-open_where_told old new e is (inl failed) = absurd (no_store_opens failed.0 (ap told_of_error (sym failed.1) ∙ is))
-open_where_told old new e is (inr same) = same.0.is_open
+pub open_where_reported : (old new : State) (e : Error) → reported_of_error e ≡ Ok true → Fails old new ⊥ e ⊎ IsUnchanged old new → IsTrue new.is_open
+open_where_reported old new e is (inl failed) = absurd (no_store_opens failed.0 (ap reported_of_error (sym failed.1) ∙ is))
+open_where_reported old new e is (inr same) = same.0.is_open
 
 -- ---- the text that is no statement
 
@@ -57,11 +57,11 @@ NoFault old new = IsTrue old.is_open × (new.faults ≤ old.faults) × (old.faul
 
 -- where no disk fails, an open store finds the text at fault, or memory is wanting
 pub open_where_asked : (old new : State) (sql : List ℕ) (e : Error) → sql ≡ codes "unknown" → NoFault old new
-    → IsNotRun old new sql [] e → told_of_error e ≡ Ok false → ⊥
+    → IsNotRun old new sql [] e → reported_of_error e ≡ Ok false → ⊥
 unfolding IsNotRun
-open_where_asked old new sql e is good (inl (inl (fault, failed, told), same)) shut = told_once _ (ap told_of_error told) shut
+open_where_asked old new sql e is good (inl (inl (fault, failed, reported), same)) shut = reported_once _ (ap reported_of_error reported) shut
 open_where_asked old new sql e is good (inl (inr (c, made, more), same)) shut =
     subst IsRefused made (subst (λ (text : List ℕ). IsRefused (understood old.now.schema text)) (sym is) (no_statement old.now.schema))
 open_where_asked old new sql e is good (inr failed) shut =
     let want = failed_wants old new good e failed in
-    told_or_not _ false Memory shut (ap told_of_error want)
+    reported_or_not _ false Memory shut (ap reported_of_error want)

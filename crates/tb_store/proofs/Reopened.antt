@@ -17,10 +17,10 @@ use Rattle.sqlite.specs.Start.{FindsIn}
 use Rattle.sqlite.specs.Files.{file_state, over_files, IsOpened}
 use Rattle.sqlite.proofs.Theorems.{next_run}
 use Rattle.tb_tables.specs.Layout.{desk_schema}
-use Rattle.tb_tables.specs.Records.{Tables, Stands}
+use Rattle.tb_tables.specs.Records.{Tables, AreStored}
 use Rattle.tb_tables.specs.Changes.{Holds}
 use Rattle.tb_core.specs.Machine.{Machine}
-use Rattle.tb_standing.specs.Standing.{tables_of, IsDesk}
+use Rattle.tb_refine.specs.DeskTables.{tables_of, IsDeskOf}
 
 -- trees list one schema
 one_schema : (s t : Schema) (a b : Trees) → a ≡ b → IsSound s a → IsSound t b → s ≡ t
@@ -42,15 +42,15 @@ module _ {D : Type 0} {g : Ghosts D} {E : Type 0} {k : Ghosts E} (conn : Held (F
         is_open = start.is_open;
         schema = ap (λ (b : Database). b.schema) start.clean ∙ schema;
         settled = sym start.clean;
-        stands = subst (Stands d) (sym (ap (λ (b : Database). b.trees) start.clean ∙ trees)) holds.stands;
+        stands = subst (AreStored d) (sym (ap (λ (b : Database). b.trees) start.clean ∙ trees)) holds.stands;
       }
 
   pub holds_again : IsTrue (view conn.store).is_numbered → (left : Image) → (store_state conn.store).may_leave left → FindsIn left (file_state next) → ∥ Holds over_files next d ∥₁
   holds_again numbered left may finds = ∥∥₁_map (next_run conn.store numbered sound left may (file_state next) finds) found
 
 -- and so it is the desk of the state
-pub desk_again : {D : Type 0} {g : Ghosts D} {E : Type 0} {k : Ghosts E} (conn : Held (FileStore D g)) (next : Held (FileStore E k)) (s : Machine) → IsDesk over_files conn s → IsLive (file_state conn) → IsOpened next
+pub desk_again : {D : Type 0} {g : Ghosts D} {E : Type 0} {k : Ghosts E} (conn : Held (FileStore D g)) (next : Held (FileStore E k)) (s : Machine) → IsDeskOf over_files conn s → IsLive (file_state conn) → IsOpened next
     → ((db : Trees) → recovers conn.store db → db ≡ (view conn.store).committed) → IsTrue (view conn.store).is_numbered → (left : Image) → (store_state conn.store).may_leave left → FindsIn left (file_state next)
-    → ∥ IsDesk over_files next s ∥₁
+    → ∥ IsDeskOf over_files next s ∥₁
 desk_again conn next s desk live opened settled numbered left may finds =
     ∥∥₁_map (holds_again conn next (tables_of s) desk.holds live opened settled numbered left may finds) (λ holds. record { reachable = desk.reachable; holds = holds })

@@ -10,7 +10,7 @@ use Rattle.tb_core.specs.Machine.{Machine, Sentence, Revision, rev}
 use Rattle.tb_core.specs.Moves.{MoveText}
 use Rattle.tb_core.specs.Totals.{at_state, sum_moves, out_of, into}
 use Rattle.tb_core.specs.Commands.{HasSentence}
-use Rattle.tb_recording.specs.Revisions.{HasRevision}
+use Rattle.tb_refine.specs.Revisions.{HasRevision}
 
 -- These numbers are the net of the moves: what is in a state, with what left it, is what came into it.
 pub record AreNet (t : Totals) (moves : List MoveText) : Type 0 where
@@ -22,13 +22,13 @@ pub record AreNet (t : Totals) (moves : List MoveText) : Type 0 where
       ≡ sum_moves (into st (λ m. m.words_in)) moves
 
 -- the text of this revision of this sentence
-pub record IsTextOf (s : Machine) (sentence revision : ℕ) (text : List ℕ) : Type 0 where
+pub record IsRevisionText (s : Machine) (sentence revision : ℕ) (text : List ℕ) : Type 0 where
   pub place : ℕ
   pub found : Sentence
   pub there : HasSentence s sentence place found
   pub given : Revision
   pub current : HasRevision found revision given
-  pub told : text ≡ text_of (given.body ∷ [])
+  pub reported : text ≡ text_of (given.body ∷ [])
 
 -- the number and the text of the current revision of this sentence
 pub record IsCurrent (s : Machine) (sentence revision : ℕ) (text : List ℕ) : Type 0 where
@@ -36,16 +36,18 @@ pub record IsCurrent (s : Machine) (sentence revision : ℕ) (text : List ℕ) :
   pub found : Sentence
   pub there : HasSentence s sentence place found
   pub current : revision ≡ rev found
-  pub told : text ≡ text_of (found.current.body ∷ [])
+  pub reported : text ≡ text_of (found.current.body ∷ [])
 
 abbrev pub HasNoSentence : Machine → ℕ → Type 0
 HasNoSentence s n = (place : ℕ) (x : Sentence) → HasSentence s n place x → ⊥
 
 -- the sentence stands, and has no such revision
 abbrev pub HasNoRevision : Machine → ℕ → ℕ → Type 0
-HasNoRevision s n k = (place : ℕ) × (x : Sentence) × HasSentence s n place x × ((r : Revision) → HasRevision x k r → ⊥)
+HasNoRevision s n k = (place : ℕ) × (x : Sentence) × HasSentence s n place x
+    × ((r : Revision) → HasRevision x k r → ⊥)
 
 -- of refusals, those that the state gives; any fault of the store may come
 abbrev pub RefusesRevision : Machine → ℕ → ℕ → Fault → Type 0
-RefusesRevision s n k (Refused r) = ((r ≡ NoSuchSentence) × HasNoSentence s n) ⊎ ((r ≡ NoSuchRevision) × HasNoRevision s n k)
+RefusesRevision s n k (Refused r) = ((r ≡ NoSuchSentence) × HasNoSentence s n) ⊎ ((r ≡ NoSuchRevision)
+    × HasNoRevision s n k)
 RefusesRevision s n k _ = ⊤

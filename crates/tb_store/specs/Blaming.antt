@@ -6,8 +6,8 @@ use Rattle.sqlite.specs.State.{HasCleanDisk}
 use Rattle.tb_core.specs.declared.refusals.Fault.{Fault}
 use Rattle.tb_core.specs.Machine.{Machine}
 use Rattle.tb_tables.specs.Leaving.{IsFaultless}
-use Rattle.tb_standing.specs.Standing.{IsDesk}
-use Rattle.tb_recording.specs.Faults.{IsNoDevice}
+use Rattle.tb_refine.specs.DeskTables.{IsDeskOf}
+use Rattle.tb_refine.specs.Faults.{IsNoDevice}
 use Rattle.tb_store.specs.Kept.{Kept}
 use Rattle.tb_store.specs.Calls.{InState}
 
@@ -15,7 +15,7 @@ use Rattle.tb_store.specs.Calls.{InState}
 abbrev pub FailsWithoutDevice : {S X : Type 0} → Ghosts S → Held S → Held S → Result X Fault → Type 0
 FailsWithoutDevice g old new result =
     IsFaultless g old new → HasCleanDisk (state g new) → (state g old).step_limit ≡ None
-    → (s : Machine) → IsDesk g old s → IfErr result IsNoDevice
+    → (s : Machine) → IsDeskOf g old s → IfErr result IsNoDevice
 
 -- of a call on a desk
 abbrev pub BlamesNoDevice : {S X : Type 0} → Ghosts S → Kept S → Kept S → Result X Fault → Type 0

@@ -11,43 +11,51 @@ use Rattle.tb_core.specs.declared.refusals.Refusal.{Refusal}
 use Rattle.tb_core.specs.Machine.{Machine}
 use Rattle.tb_core.specs.Commands.{Command, Answer, Reply, replied, refused}
 use Rattle.tb_core.specs.Steps.{Steps}
-use Rattle.tb_tables.specs.Records.{Stands}
-use Rattle.tb_standing.specs.Standing.{tables_of}
+use Rattle.tb_tables.specs.Records.{AreStored}
+use Rattle.tb_refine.specs.DeskTables.{tables_of}
 use Rattle.tb_store.specs.Kept.{Kept}
-use Rattle.tb_store.specs.Standing.{StandsFor}
+use Rattle.tb_store.specs.Represents.{Represents}
 
 -- what it answers is so in the state for which the desk stands
-abbrev pub Gives : {S X E : Type 0} → Ghosts S → Kept S → Kept S → Result X E → (Machine → X → Type 0) → Type 0
-Gives g old new result IsSo = HasCleanDisk (state g new.conn) → IfOk result (λ x. (s : Machine) → StandsFor g old s → IsSo s x)
+abbrev pub Gives : {S X E : Type 0} → Ghosts S → Kept S → Kept S → Result X E → (Machine → X → Type 0)
+    → Type 0
+Gives g old new result IsSo = HasCleanDisk (state g new.conn) → IfOk result (λ x. (s : Machine)
+    → Represents g old s → IsSo s x)
 
 -- the error with which it ends is so in that state
-abbrev pub GivesOnErr : {S X E : Type 0} → Ghosts S → Kept S → Kept S → Result X E → (Machine → E → Type 0) → Type 0
-GivesOnErr g old new result IsSo = HasCleanDisk (state g new.conn) → IfErr result (λ e. (s : Machine) → StandsFor g old s → IsSo s e)
+abbrev pub GivesOnErr : {S X E : Type 0} → Ghosts S → Kept S → Kept S → Result X E
+    → (Machine → E → Type 0) → Type 0
+GivesOnErr g old new result IsSo = HasCleanDisk (state g new.conn) → IfErr result (λ e. (s : Machine)
+    → Represents g old s → IsSo s e)
 
 -- a desk is never told to be none
 abbrev pub KnowsItself : {S X : Type 0} → Ghosts S → Kept S → Kept S → Result X Fault → Type 0
 KnowsItself g old new result =
-    HasCleanDisk (state g new.conn) → (s : Machine) → StandsFor g old s → result ≢ Err NotADesk
+    HasCleanDisk (state g new.conn) → (s : Machine) → Represents g old s → result ≢ Err NotADesk
 
 -- while the store is open, the desk stands for the state for which it stood
-abbrev pub StandsAsBefore : {S : Type 0} → Ghosts S → Kept S → Kept S → Type 0
-StandsAsBefore g old new = HasCleanDisk (state g new.conn) → IsTrue (state g new.conn).is_open → (s : Machine) → StandsFor g old s → StandsFor g new s
+abbrev pub KeepsState : {S : Type 0} → Ghosts S → Kept S → Kept S → Type 0
+KeepsState g old new = HasCleanDisk (state g new.conn) → IsTrue (state g new.conn).is_open → (s : Machine)
+    → Represents g old s → Represents g new s
 
 -- a crash leaves what it could leave before
 abbrev pub WritesNothing : {S : Type 0} → Ghosts S → Kept S → Kept S → Type 0
-WritesNothing g old new = (s : Machine) → StandsFor g old s → Survives (state g old.conn) (state g new.conn) (λ _. ⊥)
+WritesNothing g old new = (s : Machine) → Represents g old s
+    → Survives (state g old.conn) (state g new.conn) (λ _. ⊥)
 
 -- what holds of the state for which the desk stands, and of what the call leaves
 abbrev pub InState : {S : Type 0} → Ghosts S → Kept S → Kept S → (Machine → Type 0) → Type 0
-InState g old new IsSo = HasCleanDisk (state g new.conn) → (s : Machine) → StandsFor g old s → IsSo s
+InState g old new IsSo = HasCleanDisk (state g new.conn) → (s : Machine) → Represents g old s → IsSo s
 
 -- what a call that succeeds has done is so in that state
 abbrev pub Does : {S X E : Type 0} → Ghosts S → Kept S → Kept S → Result X E → (Machine → Type 0) → Type 0
-Does g old new result IsSo = HasCleanDisk (state g new.conn) → OnOk result ((s : Machine) → StandsFor g old s → IsSo s)
+Does g old new result IsSo = HasCleanDisk (state g new.conn) → OnOk result ((s : Machine) → Represents g old s
+    → IsSo s)
 
 -- the tables of a state in which the command ends
 abbrev pub HoldsAnEnd : {S : Type 0} → Ghosts S → (old : Kept S) → Command → Trees → Type 0
-HoldsAnEnd g old command db = (s : Machine) → StandsFor g old s → (a : Answer) × (t : Machine) × Steps old.limits s command a t × Stands (tables_of t) db
+HoldsAnEnd g old command db = (s : Machine) → Represents g old s → (a : Answer) × (t : Machine)
+    × Steps old.limits s command a t × AreStored (tables_of t) db
 
 -- a crash leaves what it could leave before, or such tables, whole
 abbrev pub CrashesWhole : {S : Type 0} → Ghosts S → Kept S → Kept S → Command → Type 0
@@ -55,16 +63,17 @@ CrashesWhole g old new command = Survives (state g old.conn) (state g new.conn) 
 
 -- a crash at this moment leaves the tables of this state, whole, and nothing else
 abbrev pub LeavesOnly : {S : Type 0} → Ghosts S → Kept S → Machine → Type 0
-LeavesOnly g d s = (db : Trees) → (state g d.conn).may_leave db → Stands (tables_of s) db
+LeavesOnly g d s = (db : Trees) → (state g d.conn).may_leave db → AreStored (tables_of s) db
 
 -- the desk stands for this state, and a crash at this moment leaves its tables
 abbrev pub IsDurable : {S : Type 0} → Ghosts S → Kept S → Machine → Type 0
-IsDurable g d s = StandsFor g d s × LeavesOnly g d s
+IsDurable g d s = Represents g d s × LeavesOnly g d s
 
 -- How a command ends in a state, by what it answers: with the machine's reply, in its next state; with the machine's
 -- refusal, or for want of memory, in the same state; after another fault in the same state, where the store is open.
 -- A desk is never told to be none.
-abbrev pub CommandEnds : {S X : Type 0} → Ghosts S → Kept S → Kept S → Command → (X → Reply) → Machine → Result X Fault
+abbrev pub CommandEnds : {S X : Type 0} → Ghosts S → Kept S → Kept S → Command → (X → Reply) → Machine
+    → Result X Fault
     → Type 0
 CommandEnds g old new command reply s (Ok x) =
     (t : Machine) × Steps old.limits s command (replied (reply x)) t × IsDurable g new t
@@ -74,5 +83,6 @@ CommandEnds g old new command reply s (Err NotADesk) = ⊥
 CommandEnds g old new command reply s (Err _) = IsTrue (state g new.conn).is_open → IsDurable g new s
 
 -- a command ends so in the state for which the desk stands
-abbrev pub EndsAs : {S X : Type 0} → Ghosts S → Kept S → Kept S → Result X Fault → Command → (X → Reply) → Type 0
+abbrev pub EndsAs : {S X : Type 0} → Ghosts S → Kept S → Kept S → Result X Fault → Command → (X → Reply)
+    → Type 0
 EndsAs g old new result command reply = InState g old new (λ s. CommandEnds g old new command reply s result)

@@ -8,18 +8,19 @@ use Rattle.tb_core.specs.Names.{is_name}
 use Rattle.tb_core.specs.Machine.{Machine, Sentence}
 use Rattle.tb_core.specs.Tests.{IsBadName, IsNoBatch}
 use Rattle.tb_search.specs.Released.{in_batch, current_text}
-use Rattle.tb_recording.specs.Finding.{HasNumber}
+use Rattle.tb_refine.specs.Finding.{HasNumber}
 
 -- What a sink has where an export ends early: nothing where it was refused, a first part where the sink failed, and whole
 -- sentences after any other fault.
-abbrev pub IsBrokenOff : Fault → Option (List ℕ) → Option (List ℕ) → List Sentence → Type 0
-IsBrokenOff (Refused r) old new xs = new ≡ old
-IsBrokenOff Output old new xs = AppendsPart old new (current_text xs)
-IsBrokenOff _ old new xs = (k : ℕ) × Appends old new (current_text (take k xs))
+abbrev pub IsExportBrokenOff : Fault → Option (List ℕ) → Option (List ℕ) → List Sentence → Type 0
+IsExportBrokenOff (Refused r) old new xs = new ≡ old
+IsExportBrokenOff Output old new xs = AppendsPart old new (current_text xs)
+IsExportBrokenOff _ old new xs = (k : ℕ) × Appends old new (current_text (take k xs))
 
 -- nothing, or so much of the sentences of the batch with this name
 abbrev pub IsPartOfBatch : Machine → List ℕ → Fault → Option (List ℕ) → Option (List ℕ) → Type 0
-IsPartOfBatch s name e old new = (new ≡ old) ⊎ ((n : ℕ) × HasNumber s name (Some n) × IsBrokenOff e old new (in_batch s n))
+IsPartOfBatch s name e old new = (new ≡ old) ⊎ ((n : ℕ) × HasNumber s name (Some n)
+    × IsExportBrokenOff e old new (in_batch s n))
 
 -- of refusals, those that the state gives, the first that holds; any fault of the store or of the sink may come
 abbrev pub RefusesBatch : Machine → List ℕ → Fault → Type 0

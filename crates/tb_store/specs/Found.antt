@@ -21,15 +21,18 @@ AreReleasedHits s q strategy found = AreFound strategy q (searched s) found
 
 -- the query has so many hits in released text, and they are within the limit
 abbrev pub IsNumber : Machine → Asked → Strategy → (limit number : ℕ) → Type 0
-IsNumber s q strategy limit number = (found : List Occurrence) × AreReleasedHits s q strategy found × (number ≡ length found) × (IsAbove strategy limit number → ⊥)
+IsNumber s q strategy limit number = (found : List Occurrence) × AreReleasedHits s q strategy found
+    × (number ≡ length found) × (IsAbove strategy limit number → ⊥)
 
 -- the query has more hits in released text than the limit allows
 abbrev pub HasTooMany : Machine → Asked → Strategy → (limit : ℕ) → Type 0
-HasTooMany s q strategy limit = (found : List Occurrence) × AreReleasedHits s q strategy found × IsAbove strategy limit (length found)
+HasTooMany s q strategy limit = (found : List Occurrence) × AreReleasedHits s q strategy found
+    × IsAbove strategy limit (length found)
 
 -- What a sink has where a search ends early: nothing where it was refused, a first part of the answer where the sink failed, and
 -- whole keyword lines, those of the first hits, after any other fault.
 abbrev pub IsPartFound : Fault → Option (List ℕ) → Option (List ℕ) → ℕ → List Occurrence → Type 0
 IsPartFound (Refused r) old new n found = new ≡ old
 IsPartFound Output old new n found = AppendsPart old new (answer n found)
-IsPartFound _ old new n found = (first : List Occurrence) × (rest : List Occurrence) × (found ≡ first ++ rest) × Appends old new (lines n first)
+IsPartFound _ old new n found = (first : List Occurrence) × (rest : List Occurrence) × (found ≡ first ++ rest)
+    × Appends old new (lines n first)

@@ -15,26 +15,26 @@ use Rattle.tb_core.specs.Machine.{Machine}
 use Rattle.tb_tables.specs.Leaving.{IsFaultless}
 use Rattle.tb_tables.specs.Making.{IsBlank}
 use Rattle.tb_tables.specs.Leaving.{IsFaultless}
-use Rattle.tb_standing.specs.Standing.{IsDesk}
-use Rattle.tb_recording.specs.Faults.{IsNoDevice}
+use Rattle.tb_refine.specs.DeskTables.{IsDeskOf}
+use Rattle.tb_refine.specs.Faults.{IsNoDevice}
 
 -- what an error tells of the store with which it refuses a text that is no statement
-abbrev pub told_of_code : ErrorCode → Result Bool Fault
-told_of_code OutOfMemory = Err Memory
-told_of_code _ = Ok false
+abbrev pub reported_of_code : ErrorCode → Result Bool Fault
+reported_of_code OutOfMemory = Err Memory
+reported_of_code _ = Ok false
 
-abbrev pub told_of_error : Error → Result Bool Fault
-told_of_error (SqlInputError why) = Ok true
-told_of_error (SqliteFailure code) = told_of_code code
-told_of_error _ = Ok false
+abbrev pub reported_of_error : Error → Result Bool Fault
+reported_of_error (SqlInputError why) = Ok true
+reported_of_error (SqliteFailure code) = reported_of_code code
+reported_of_error _ = Ok false
 
 -- a store that is told to be open is open
 abbrev pub TellsOpen : {S : Type 0} → Ghosts S → (new : Held S) → Result Bool Fault → Type 0
-TellsOpen g new told = HasCleanDisk (state g new) → told ≡ Ok true → IsTrue (state g new).is_open
+TellsOpen g new reported = HasCleanDisk (state g new) → reported ≡ Ok true → IsTrue (state g new).is_open
 
 -- one that is told to be shut was shut, or its disk failed meanwhile
 abbrev pub TellsShut : {S : Type 0} → Ghosts S → (old new : Held S) → Result Bool Fault → Type 0
-TellsShut g old new told = HasCleanDisk (state g new) → told ≡ Ok false → IsFaultless g old new → ⊥
+TellsShut g old new reported = HasCleanDisk (state g new) → reported ≡ Ok false → IsFaultless g old new → ⊥
 
 -- a refusal is the one that was given, and nothing was asked of the connection
 abbrev pub HandsOnRefusal : {S : Type 0} → (old new : Held S) → (given fault : Fault) → Type 0
@@ -60,7 +60,8 @@ SeesTheSame g old new =
 -- while the store is open, it is the desk of each state of which it was
 abbrev pub StaysADesk : {S : Type 0} → Ghosts S → (old new : Held S) → Type 0
 StaysADesk g old new =
-    HasCleanDisk (state g new) → IsTrue (state g new).is_open → (s : Machine) → IsDesk g old s → IsDesk g new s
+    HasCleanDisk (state g new) → IsTrue (state g new).is_open → (s : Machine) → IsDeskOf g old s
+    → IsDeskOf g new s
 
 -- while the store is open, it is as blank as before
 abbrev pub StaysBlank : {S : Type 0} → Ghosts S → (old new : Held S) → Type 0

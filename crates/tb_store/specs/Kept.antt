@@ -6,9 +6,9 @@ use Rattle.tb_core.specs.contracts.limits.Limits as limits
 use Rattle.tb_core.specs.contracts.sums.Totals as totals
 use Rattle.tb_core.specs.declared.limits.Limits.{Limits}
 use Rattle.tb_core.specs.declared.sums.Totals.{Totals}
-use Rattle.tb_recording.specs.declared.counted.Counts.{Counts}
-use Rattle.tb_recording.specs.Counted.{IsWithin}
-use Rattle.tb_importing.specs.declared.known.Known.{Known}
+use Rattle.tb_refine.specs.declared.counters.Counters.{Counters}
+use Rattle.tb_refine.specs.Counted.{IsWithin}
+use Rattle.tb_import.specs.declared.counters.ImportCounters.{ImportCounters}
 
 -- `batches`, `sentences` and `moves` are how many there are
 pub record Kept (S : Type 0) : Type 0 where
@@ -22,9 +22,17 @@ pub record Kept (S : Type 0) : Type 0 where
 abbrev pub kept_code : {S : Type 0} → Coded S → Coded (Kept S)
 kept_code {S} store =
     code_by (Held S × (Limits × (ℕ × (ℕ × (ℕ × Totals)))))
-    (coded× (held_code store) (coded× limits.the_row.coded (coded× coded_ℕ (coded× coded_ℕ (coded× coded_ℕ totals.the_row.coded)))))
+    (coded× (held_code store) (coded× limits.the_row.coded
+    (coded× coded_ℕ (coded× coded_ℕ (coded× coded_ℕ totals.the_row.coded)))))
     (λ d. (d.conn, (d.limits, (d.batches, (d.sentences, (d.moves, d.totals))))))
-    (λ p. record { conn = p.0; limits = p.1.0; batches = p.1.1.0; sentences = p.1.1.1.0; moves = p.1.1.1.1.0; totals = p.1.1.1.1.1 })
+    (λ p. record {
+      conn = p.0;
+      limits = p.1.0;
+      batches = p.1.1.0;
+      sentences = p.1.1.1.0;
+      moves = p.1.1.1.1.0;
+      totals = p.1.1.1.1.1;
+    })
     (λ _. refl)
 
 -- what each call needs of a desk, whatever the store holds: it is in no transaction, there is no limit on the steps
@@ -38,9 +46,9 @@ pub record IsReady {S : Type 0} (d : Kept S) : Type 0 where
   pub moves : d.moves ≤ 1000000000
 
 -- what of it a command needs beside the tables
-abbrev pub counts_of : {S : Type 0} → Kept S → Counts
+abbrev pub counts_of : {S : Type 0} → Kept S → Counters
 counts_of d = record { limits = d.limits; moves = d.moves; totals = d.totals }
 
 -- and what an import needs
-abbrev pub known_of : {S : Type 0} → Kept S → Known
+abbrev pub known_of : {S : Type 0} → Kept S → ImportCounters
 known_of d = record { counts = counts_of d; batches = d.batches; sentences = d.sentences }

@@ -1,5 +1,5 @@
 pub mod Kept
-pub mod Standing
+pub mod Represents
 pub mod Answers
 pub mod Exports
 pub mod Found

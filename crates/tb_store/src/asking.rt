@@ -1,34 +1,35 @@
 //! Reads of a desk's tables, told as facts of the state for which they stand. Whatever a read answers, they stand for it still.
 
-ghost use Rattle.std.specs.Prelude.{◌≡◌, ◌≢◌, ◌-◌, ◌<◌, map, false, [], ◌∷◌, Some, Err, slice_get, string_bytes, IfOk, None, length};
+ghost use Rattle.std.specs.Prelude.{◌≡◌, ◌≢◌, ◌-◌, ◌<◌, map, false, [], ◌∷◌, Some, Err};
+ghost use Rattle.std.specs.Prelude.{slice_get, string_bytes, IfOk, None, length};
 ghost use Rattle.std.specs.Prelude.{IfErr};
 ghost use Rattle.sqlite.specs.State.{HasCleanDisk};
 ghost use Rattle.sqlite.specs.Held.{state};
 ghost use Rattle.tb_conllu.specs.Text.{text_of};
 ghost use Rattle.tb_core.specs.declared.refusals.Refusal.{Refusal as AnyRefusal};
 ghost use Rattle.tb_core.specs.Machine.{Machine, Sentence, Revision, rev as rev_of};
-ghost use Rattle.tb_core.specs.Totals.{StandFor};
-ghost use Rattle.tb_standing.specs.Standing.{IsDesk};
-ghost use Rattle.tb_recording.specs.Revisions.{HasRevision};
-ghost use Rattle.tb_standing.specs.Telling.{KnowsDesk, KnowsDeskWhere, Tells};
+ghost use Rattle.tb_core.specs.Totals.{AreTotalsOf};
+ghost use Rattle.tb_refine.specs.DeskTables.{IsDeskOf};
+ghost use Rattle.tb_refine.specs.Revisions.{HasRevision};
+ghost use Rattle.tb_refine.specs.Calls.{KnowsDesk, KnowsDeskWhere, Tells};
 ghost use Rattle.tb_tables.specs.Leaving.{ChangesNothing, CommitsNothing, FailsOnlyAs, IsFaultless, KeepsRecords};
-ghost use Rattle.tb_recording.specs.Faults.{IsNoDevice};
+ghost use Rattle.tb_refine.specs.Faults.{IsNoDevice};
 
 use crate::answers::Current;
 use sqlite::{Alter, Connection};
 use std::alloc::Global;
-use tb_acting::read_moves;
+use tb_commands::read_moves;
 use tb_core::{Fault, Move, Refusal, Totals};
-use tb_recording::faults;
-use tb_standing::desk_rows_are_readable;
+use tb_refine::{desk_rows_are_readable, faults};
 use tb_tables::TotalRow;
 
 /// The totals of six rows.
 fn six_totals(rows: &[TotalRow]) -> Result<Totals, Fault>
-    ensures rows { IfOk result (λ t. (t.sentences ≡ map (λ r. r.sentences) rows.now) × (t.words ≡ map (λ r. r.words) rows.now)) }
+    ensures rows { IfOk result (λ t. (t.sentences ≡ map (λ r. r.sentences) rows.now)
+        × (t.words ≡ map (λ r. r.words) rows.now)) }
     ensures six { result ≡ Err Fault.NotADesk → length rows.now ≢ 6 }
     ensures cause { IfErr result IsNoDevice }
-    ensures refused { (r : AnyRefusal) → result ≢ Err (Fault.Refused r) }
+    ensures never_refuses { (r : AnyRefusal) → result ≢ Err (Fault.Refused r) }
 {
     match rows {
         [a, b, c, d, e, f] => Ok(Totals {
@@ -55,17 +56,17 @@ fn six_totals(rows: &[TotalRow]) -> Result<Totals, Fault>
 
 /// The totals of the six states.
 pub(crate) fn totals<S: Alter>(alloc: Global, conn: &mut Connection<S>) -> Result<Totals, Fault>
-    ensures answered { Tells S.Store conn.old conn.new result (λ s t. StandFor t s) }
-    ensures refused { (r : AnyRefusal) → result ≢ Err (Fault.Refused r) }
+    ensures answered { Tells S.Store conn.old conn.new result (λ s t. AreTotalsOf t s) }
+    ensures never_refuses { (r : AnyRefusal) → result ≢ Err (Fault.Refused r) }
     ensures fails { KnowsDesk S.Store conn.old conn.new result }
     ensures cause { IsFaultless S.Store conn.old conn.new → FailsOnlyAs IsNoDevice S.Store conn.old conn.new result }
-    ensures same { ChangesNothing S.Store conn.old conn.new result }
-    ensures mode { conn.old.in_transaction ≡ false → conn.new.in_transaction ≡ false }
-    ensures kept { KeepsRecords S.Store conn.old conn.new }
-    ensures lasts { CommitsNothing S.Store conn.old conn.new }
+    ensures unchanged { ChangesNothing S.Store conn.old conn.new result }
+    ensures autocommit { conn.old.in_transaction ≡ false → conn.new.in_transaction ≡ false }
+    ensures keeps_records { KeepsRecords S.Store conn.old conn.new }
+    ensures commits_nothing { CommitsNothing S.Store conn.old conn.new }
 {
     desk_rows_are_readable();
-    match tb_reading::totals(alloc, conn) {
+    match tb_reads::totals(alloc, conn) {
         Ok(rows) => six_totals(rows.as_slice()),
         Err(error) => Err(faults::of_read(error)),
     }
@@ -74,17 +75,19 @@ pub(crate) fn totals<S: Alter>(alloc: Global, conn: &mut Connection<S>) -> Resul
 /// The number of the current revision of the sentence with this number, which stands.
 pub(crate) fn current<S: Alter>(conn: &mut Connection<S>, number: u32) -> Result<u32, Fault>
     requires { 0 < number }
-    ensures answered { Tells S.Store conn.old conn.new result (λ s n. (x : Sentence) → slice_get s.sentences (number - 1) ≡ Some x → n ≡ rev_of x) }
-    ensures refused { (r : AnyRefusal) → result ≢ Err (Fault.Refused r) }
-    ensures fails { KnowsDeskWhere S.Store conn.old conn.new result (λ s so. (x : Sentence) → slice_get s.sentences (number - 1) ≡ Some x → so) }
+    ensures answered { Tells S.Store conn.old conn.new result (λ s n. (x : Sentence)
+        → slice_get s.sentences (number - 1) ≡ Some x → n ≡ rev_of x) }
+    ensures never_refuses { (r : AnyRefusal) → result ≢ Err (Fault.Refused r) }
+    ensures fails { KnowsDeskWhere S.Store conn.old conn.new result (λ s so. (x : Sentence)
+        → slice_get s.sentences (number - 1) ≡ Some x → so) }
     ensures cause { IsFaultless S.Store conn.old conn.new → FailsOnlyAs IsNoDevice S.Store conn.old conn.new result }
-    ensures same { ChangesNothing S.Store conn.old conn.new result }
-    ensures mode { conn.old.in_transaction ≡ false → conn.new.in_transaction ≡ false }
-    ensures kept { KeepsRecords S.Store conn.old conn.new }
-    ensures lasts { CommitsNothing S.Store conn.old conn.new }
+    ensures unchanged { ChangesNothing S.Store conn.old conn.new result }
+    ensures autocommit { conn.old.in_transaction ≡ false → conn.new.in_transaction ≡ false }
+    ensures keeps_records { KeepsRecords S.Store conn.old conn.new }
+    ensures commits_nothing { CommitsNothing S.Store conn.old conn.new }
 {
     desk_rows_are_readable();
-    match tb_reading::sentence(conn, number) {
+    match tb_reads::sentence(conn, number) {
         Ok(Some(row)) => Ok(row.rev),
         Ok(None) => Err(Fault::NotADesk),
         Err(error) => Err(faults::of_read(error)),
@@ -98,18 +101,21 @@ pub(crate) fn text<S: Alter>(
     rev: u32,
 ) -> Result<String, Fault>
     requires { 0 < number }
-    ensures answered { Tells S.Store conn.old conn.new result (λ s t. (x : Sentence) → slice_get s.sentences (number - 1) ≡ Some x → (q : Revision) × HasRevision x rev q × (string_bytes t ≡ text_of (q.body ∷ []))) }
-    ensures refused { (r : AnyRefusal) → result ≢ Err (Fault.Refused r) }
-    ensures fails { KnowsDeskWhere S.Store conn.old conn.new result (λ s so. (x : Sentence) → slice_get s.sentences (number - 1) ≡ Some x
+    ensures answered { Tells S.Store conn.old conn.new result (λ s t. (x : Sentence)
+        → slice_get s.sentences (number - 1) ≡ Some x → (q : Revision) × HasRevision x rev q
+        × (string_bytes t ≡ text_of (q.body ∷ []))) }
+    ensures never_refuses { (r : AnyRefusal) → result ≢ Err (Fault.Refused r) }
+    ensures fails { KnowsDeskWhere S.Store conn.old conn.new result (λ s so. (x : Sentence)
+        → slice_get s.sentences (number - 1) ≡ Some x
         → (q : Revision) → HasRevision x rev q → so) }
     ensures cause { IsFaultless S.Store conn.old conn.new → FailsOnlyAs IsNoDevice S.Store conn.old conn.new result }
-    ensures same { ChangesNothing S.Store conn.old conn.new result }
-    ensures mode { conn.old.in_transaction ≡ false → conn.new.in_transaction ≡ false }
-    ensures kept { KeepsRecords S.Store conn.old conn.new }
-    ensures lasts { CommitsNothing S.Store conn.old conn.new }
+    ensures unchanged { ChangesNothing S.Store conn.old conn.new result }
+    ensures autocommit { conn.old.in_transaction ≡ false → conn.new.in_transaction ≡ false }
+    ensures keeps_records { KeepsRecords S.Store conn.old conn.new }
+    ensures commits_nothing { CommitsNothing S.Store conn.old conn.new }
 {
     desk_rows_are_readable();
-    match tb_reading::revision(conn, number, rev) {
+    match tb_reads::revision(conn, number, rev) {
         Ok(Some(row)) => Ok(row.body),
         Ok(None) => Err(Fault::NotADesk),
         Err(error) => Err(faults::of_read(error)),
@@ -119,14 +125,17 @@ pub(crate) fn text<S: Alter>(
 /// The current revision of the sentence with this number, which stands.
 pub(crate) fn sentence<S: Alter>(conn: &mut Connection<S>, number: u32) -> Result<Current, Fault>
     requires { 0 < number }
-    ensures answered { Tells S.Store conn.old conn.new result (λ s c. (x : Sentence) → slice_get s.sentences (number - 1) ≡ Some x → (c.rev ≡ rev_of x) × (string_bytes c.body ≡ text_of (x.current.body ∷ []))) }
-    ensures refused { (r : AnyRefusal) → result ≢ Err (Fault.Refused r) }
-    ensures fails { KnowsDeskWhere S.Store conn.old conn.new result (λ s so. (x : Sentence) → slice_get s.sentences (number - 1) ≡ Some x → so) }
+    ensures answered { Tells S.Store conn.old conn.new result (λ s c. (x : Sentence)
+        → slice_get s.sentences (number - 1) ≡ Some x → (c.rev ≡ rev_of x)
+        × (string_bytes c.body ≡ text_of (x.current.body ∷ []))) }
+    ensures never_refuses { (r : AnyRefusal) → result ≢ Err (Fault.Refused r) }
+    ensures fails { KnowsDeskWhere S.Store conn.old conn.new result (λ s so. (x : Sentence)
+        → slice_get s.sentences (number - 1) ≡ Some x → so) }
     ensures cause { IsFaultless S.Store conn.old conn.new → FailsOnlyAs IsNoDevice S.Store conn.old conn.new result }
-    ensures same { ChangesNothing S.Store conn.old conn.new result }
-    ensures mode { conn.old.in_transaction ≡ false → conn.new.in_transaction ≡ false }
-    ensures kept { KeepsRecords S.Store conn.old conn.new }
-    ensures lasts { CommitsNothing S.Store conn.old conn.new }
+    ensures unchanged { ChangesNothing S.Store conn.old conn.new result }
+    ensures autocommit { conn.old.in_transaction ≡ false → conn.new.in_transaction ≡ false }
+    ensures keeps_records { KeepsRecords S.Store conn.old conn.new }
+    ensures commits_nothing { CommitsNothing S.Store conn.old conn.new }
 {
     let rev = current(conn, number)?;
     let body = text(conn, number, rev)?;
@@ -147,14 +156,19 @@ pub(crate) fn revision<S: Alter>(
     rev: u64,
 ) -> Result<String, Fault>
     requires { 0 < number }
-    ensures answered { Tells S.Store conn.old conn.new result (λ s t. (x : Sentence) → slice_get s.sentences (number - 1) ≡ Some x → (q : Revision) × HasRevision x rev q × (string_bytes t ≡ text_of (q.body ∷ []))) }
-    ensures refused { HasCleanDisk (state S.Store conn.new) → (r : AnyRefusal) → result ≡ Err (Fault.Refused r) → (r ≡ Refusal.NoSuchRevision) × ((s : Machine) → IsDesk S.Store conn.old s → (x : Sentence) → slice_get s.sentences (number - 1) ≡ Some x → (q : Revision) → HasRevision x rev q → ⊥) }
-    ensures fails { KnowsDeskWhere S.Store conn.old conn.new result (λ s so. (x : Sentence) → slice_get s.sentences (number - 1) ≡ Some x → so) }
+    ensures answered { Tells S.Store conn.old conn.new result (λ s t. (x : Sentence)
+        → slice_get s.sentences (number - 1) ≡ Some x → (q : Revision) × HasRevision x rev q
+        × (string_bytes t ≡ text_of (q.body ∷ []))) }
+    ensures refused { HasCleanDisk (state S.Store conn.new) → (r : AnyRefusal) → result ≡ Err (Fault.Refused r)
+        → (r ≡ Refusal.NoSuchRevision) × ((s : Machine) → IsDeskOf S.Store conn.old s → (x : Sentence)
+        → slice_get s.sentences (number - 1) ≡ Some x → (q : Revision) → HasRevision x rev q → ⊥) }
+    ensures fails { KnowsDeskWhere S.Store conn.old conn.new result (λ s so. (x : Sentence)
+        → slice_get s.sentences (number - 1) ≡ Some x → so) }
     ensures cause { IsFaultless S.Store conn.old conn.new → FailsOnlyAs IsNoDevice S.Store conn.old conn.new result }
-    ensures same { ChangesNothing S.Store conn.old conn.new result }
-    ensures mode { conn.old.in_transaction ≡ false → conn.new.in_transaction ≡ false }
-    ensures kept { KeepsRecords S.Store conn.old conn.new }
-    ensures lasts { CommitsNothing S.Store conn.old conn.new }
+    ensures unchanged { ChangesNothing S.Store conn.old conn.new result }
+    ensures autocommit { conn.old.in_transaction ≡ false → conn.new.in_transaction ≡ false }
+    ensures keeps_records { KeepsRecords S.Store conn.old conn.new }
+    ensures commits_nothing { CommitsNothing S.Store conn.old conn.new }
 {
     let last = current(conn, number)?;
     if rev == 0 || rev > u64::from(last) {
@@ -166,16 +180,16 @@ pub(crate) fn revision<S: Alter>(
 /// The moves, in their order.
 pub(crate) fn moves<S: Alter>(alloc: Global, conn: &mut Connection<S>) -> Result<Vec<Move>, Fault>
     ensures answered { Tells S.Store conn.old conn.new result (λ s v. v.items ≡ s.moves) }
-    ensures refused { (r : AnyRefusal) → result ≢ Err (Fault.Refused r) }
+    ensures never_refuses { (r : AnyRefusal) → result ≢ Err (Fault.Refused r) }
     ensures fails { KnowsDesk S.Store conn.old conn.new result }
     ensures cause { IsFaultless S.Store conn.old conn.new → FailsOnlyAs IsNoDevice S.Store conn.old conn.new result }
-    ensures same { ChangesNothing S.Store conn.old conn.new result }
-    ensures mode { conn.old.in_transaction ≡ false → conn.new.in_transaction ≡ false }
-    ensures kept { KeepsRecords S.Store conn.old conn.new }
-    ensures lasts { CommitsNothing S.Store conn.old conn.new }
+    ensures unchanged { ChangesNothing S.Store conn.old conn.new result }
+    ensures autocommit { conn.old.in_transaction ≡ false → conn.new.in_transaction ≡ false }
+    ensures keeps_records { KeepsRecords S.Store conn.old conn.new }
+    ensures commits_nothing { CommitsNothing S.Store conn.old conn.new }
 {
     desk_rows_are_readable();
-    match tb_reading::moves(alloc, conn) {
+    match tb_reads::moves(alloc, conn) {
         Ok(rows) => read_moves(alloc, rows.as_slice()),
         Err(error) => Err(faults::of_read(error)),
     }

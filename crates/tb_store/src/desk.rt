@@ -1,31 +1,33 @@
-ghost use Rattle.std.specs.Prelude.{◌≡◌, ◌≢◌, ◌↔◌, ◌⊎◌, ◌<◌, ◌≤◌, ℕ, List, length, true, false, None, Some, Err};
+ghost use Rattle.std.specs.Prelude.{◌≡◌, ◌≢◌, ◌↔◌, ◌⊎◌, ◌<◌, ◌≤◌, ℕ, List, length};
+ghost use Rattle.std.specs.Prelude.{true, false, None, Some, Err};
 ghost use Rattle.std.specs.Prelude.{string_bytes, IsTrue, IfOk, IfErr, IfSome};
 ghost use Rattle.std.specs.Io.KnownBytes.{Appends};
 ghost use Rattle.sqlite.specs.State.{HasCleanDisk, IsUnchanged, Survives};
 ghost use Rattle.sqlite.specs.Held.{state};
 ghost use Rattle.sqlite.specs.Steps.{over_memory};
-ghost use Rattle.tb_tables.specs.Records.{Stands};
+ghost use Rattle.tb_tables.specs.Records.{AreStored};
 ghost use Rattle.tb_tables.specs.Making.{no_schema, IsBlank};
 ghost use Rattle.tb_core.specs.declared.refusals.Refusal.{Refusal as AnyRefusal};
 ghost use Rattle.tb_core.specs.Names.{is_name};
 ghost use Rattle.tb_core.specs.Machine.{Machine, empty_machine};
-ghost use Rattle.tb_core.specs.Totals.{StandFor};
-ghost use Rattle.tb_core.specs.Commands.{correct as correct_it, event_on, import_file, imported, pull as pull_it, restore as restore_it, moved_on, corrected_to, pulled_out, restored_to};
+ghost use Rattle.tb_core.specs.Totals.{AreTotalsOf};
+ghost use Rattle.tb_core.specs.Commands.{correct as correct_it, event_on, import_file, imported, pull as pull_it};
+ghost use Rattle.tb_core.specs.Commands.{restore as restore_it, moved_on, corrected_to, pulled_out, restored_to};
 ghost use Rattle.tb_report.specs.Tables.{IsTableOf};
 ghost use Rattle.tb_search.specs.Released.{released, in_batch, current_text};
 ghost use Rattle.tb_search.specs.Searched.{Occurrence, answer, keys};
 ghost use Rattle.tb_search.specs.Visited.{HasReason};
-ghost use Rattle.tb_recording.specs.Finding.{HasNumber};
-ghost use Rattle.tb_recording.specs.Counted.{IsWithin};
-ghost use Rattle.tb_standing.specs.Standing.{tables_of, IsDesk};
+ghost use Rattle.tb_refine.specs.Finding.{HasNumber};
+ghost use Rattle.tb_refine.specs.Counted.{IsWithin};
+ghost use Rattle.tb_refine.specs.DeskTables.{tables_of, IsDeskOf};
 ghost use Rattle.tb_store.specs.Kept.{Kept, counts_of, known_of};
-ghost use Rattle.tb_store.specs.Standing.{StandsFor, StandsForEach, unlimited, no_totals};
-ghost use Rattle.tb_store.specs.Answers.{AreNet, IsCurrent, IsTextOf, HasNoSentence, RefusesRevision};
-ghost use Rattle.tb_store.specs.Exports.{IsBrokenOff, IsPartOfBatch, RefusesBatch};
+ghost use Rattle.tb_store.specs.Represents.{Represents, RepresentsEach, unlimited, no_totals};
+ghost use Rattle.tb_store.specs.Answers.{AreNet, IsCurrent, IsRevisionText, HasNoSentence, RefusesRevision};
+ghost use Rattle.tb_store.specs.Exports.{IsExportBrokenOff, IsPartOfBatch, RefusesBatch};
 ghost use Rattle.tb_store.specs.Found.{AreReleasedHits, HasTooMany, IsNumber, IsPartFound};
 ghost use Rattle.tb_store.specs.Calls.{CrashesWhole, Does, EndsAs, Gives, GivesOnErr, KnowsItself, LeavesOnly};
 ghost use Rattle.tb_store.specs.Blaming.{BlamesNoDevice};
-ghost use Rattle.tb_store.specs.Calls.{StandsAsBefore, WritesNothing};
+ghost use Rattle.tb_store.specs.Calls.{KeepsState, WritesNothing};
 ghost use Rattle.tb_store.specs.Handing.{IsNoDeviceIfFaultless, SeesTheSame, StaysADesk, StaysBlank};
 ghost use Rattle.tb_store.specs.Handing.{TellsOpen, TellsShut};
 ghost use Rattle.tb_tables.specs.Leaving.{CommitsNothing};
@@ -36,18 +38,17 @@ use crate::{asking, exporting, finding, wanting};
 use sqlite::{Alter, Connection, MemStore};
 use std::alloc::Global;
 use std::marker::Model;
-use tb_adopting::{Standing, read_desk};
+use tb_adopt::{DeskSummary, read_desk};
 use tb_conllu::Sink;
 use tb_core::{
     Corrected, Event, Fault, Imported, Limits, Move, Moved, Pulled, Refusal, Restored, Totals,
     totals_are_nets,
 };
-use tb_importing::Known;
+use tb_import::ImportCounters;
 use tb_match::Strategy;
 use tb_query::{Attr, Query};
-use tb_recording::{Counts, faults};
+use tb_refine::{Counters, faults, one_state_for_the_file};
 use tb_report::Freq;
-use tb_standing::one_state_for_the_file;
 
 /// A desk: the connection that holds its tables, its limits, and the counts and totals that it read or wrote last, so
 /// that the next numbers are known without asking the database. It may be let go at any time: what it answered to
@@ -98,17 +99,23 @@ impl<S: Alter> Desk<S> {
     pub fn make(alloc: Global, conn: Connection<S>, limits: Limits) -> Result<Desk<S>, Unmade<S>>
         requires autocommit { conn.in_transaction ≡ false }
         requires within { IsWithin limits }
-        ensures made { IfOk result (λ d. HasCleanDisk (state S.Store d.conn) → IsBlank S.Store conn → StandsFor S.Store d empty_machine) }
+        ensures made { IfOk result (λ d. HasCleanDisk (state S.Store d.conn) → IsBlank S.Store conn
+            → Represents S.Store d empty_machine) }
         ensures limits { IfOk result (λ d. d.limits ≡ limits) }
         ensures no_step_limit { IfOk result (λ d. (state S.Store d.conn).step_limit ≡ None) }
         ensures limit_off { IfErr result (λ u. (state S.Store u.conn).step_limit ≡ None) }
         ensures blank { IfOk result (λ _. (state S.Store conn).now.schema ≡ no_schema) }
-        ensures used { IfErr result (λ u. (u.fault ≡ Fault.NotADesk) ↔ ((state S.Store conn).now.schema ≢ no_schema)) }
-        ensures known { IfErr result (λ u. (u.fault ≡ Fault.NotADesk) ⊎ ((u.fault ≡ Fault.Memory) ⊎ (u.fault ≡ Fault.Device))) }
+        ensures used { IfErr result (λ u. (u.fault ≡ Fault.NotADesk)
+            ↔ ((state S.Store conn).now.schema ≢ no_schema)) }
+        ensures known { IfErr result (λ u. (u.fault ≡ Fault.NotADesk) ⊎ ((u.fault ≡ Fault.Memory)
+            ⊎ (u.fault ≡ Fault.Device))) }
         ensures untouched { IfErr result (λ u. u.fault ≡ Fault.NotADesk → u.conn ≡ unlimited conn) }
         ensures again { IfErr result (λ u. StaysBlank S.Store conn u.conn) }
-        ensures crash { IfOk result (λ d. Survives (state S.Store (unlimited conn)) (state S.Store d.conn) (λ db. IsBlank S.Store conn → Stands (tables_of empty_machine) db)) }
-        ensures crash_on_the_way { IfErr result (λ u. u.fault ≢ Fault.NotADesk → Survives (state S.Store (unlimited conn)) (state S.Store u.conn) (λ db. IsBlank S.Store conn → Stands (tables_of empty_machine) db)) }
+        ensures crash { IfOk result (λ d. Survives (state S.Store (unlimited conn)) (state S.Store d.conn) (λ db.
+            IsBlank S.Store conn → AreStored (tables_of empty_machine) db)) }
+        ensures crash_on_the_way { IfErr result (λ u. u.fault ≢ Fault.NotADesk
+            → Survives (state S.Store (unlimited conn)) (state S.Store u.conn) (λ db. IsBlank S.Store conn
+            → AreStored (tables_of empty_machine) db)) }
     {
         let mut conn = without_limit(conn);
         if !tb_tables::is_blank(&conn) {
@@ -131,7 +138,14 @@ impl<S: Alter> Desk<S> {
         requires autocommit { conn.in_transaction ≡ false }
         requires unlimited { conn.step_limit ≡ None }
         requires within { IsWithin limits }
-        ensures { result ≡ record { conn = conn; limits = limits; batches = 0; sentences = 0; moves = 0; totals = no_totals } }
+        ensures { result ≡ record {
+          conn = conn;
+          limits = limits;
+          batches = 0;
+          sentences = 0;
+          moves = 0;
+          totals = no_totals;
+        } }
     {
         Desk {
             conn,
@@ -174,27 +188,31 @@ impl<S: Alter> Desk<S> {
     /// `NotADesk`, where the store is the desk of no state, or the connection is in a transaction.
     pub fn adopt(alloc: Global, conn: Connection<S>, limits: Limits) -> Result<Desk<S>, Unmade<S>>
         requires within { IsWithin limits }
-        ensures adopted { IfOk result (λ d. HasCleanDisk (state S.Store d.conn) → (s : Machine) × IsDesk S.Store conn s × StandsFor S.Store d s) }
+        ensures adopted { IfOk result (λ d. HasCleanDisk (state S.Store d.conn) → (s : Machine)
+            × IsDeskOf S.Store conn s × Represents S.Store d s) }
         ensures limits { IfOk result (λ d. d.limits ≡ limits) }
-        ensures stands { IfOk result (StandsForEach S.Store conn) }
-        ensures same { IfOk result (λ d. HasCleanDisk (state S.Store d.conn)
+        ensures represents { IfOk result (RepresentsEach S.Store conn) }
+        ensures unchanged { IfOk result (λ d. HasCleanDisk (state S.Store d.conn)
             → IsUnchanged (state S.Store (unlimited conn)) (state S.Store d.conn)) }
         ensures no_step_limit { IfOk result (λ d. (state S.Store d.conn).step_limit ≡ None) }
         ensures limit_off { IfErr result (λ u. (state S.Store u.conn).step_limit ≡ None) }
-        ensures unfit { IfErr result (λ u. HasCleanDisk (state S.Store u.conn) → u.fault ≡ Fault.NotADesk → (s : Machine) → IsDesk S.Store conn s → ⊥) }
+        ensures unfit { IfErr result (λ u. HasCleanDisk (state S.Store u.conn) → u.fault ≡ Fault.NotADesk
+            → (s : Machine) → IsDeskOf S.Store conn s → ⊥) }
         ensures untouched { IfErr result (λ u. HasCleanDisk (state S.Store u.conn) → u.fault ≡ Fault.NotADesk
             → (state S.Store u.conn).now ≡ (state S.Store conn).now) }
-        ensures unchanged { IfErr result (λ u. SeesTheSame S.Store conn u.conn) }
-        ensures refused { IfErr result (λ u. (r : AnyRefusal) → u.fault ≢ Fault.Refused r) }
+        ensures sees_same { IfErr result (λ u. SeesTheSame S.Store conn u.conn) }
+        ensures never_refuses { IfErr result (λ u. (r : AnyRefusal) → u.fault ≢ Fault.Refused r) }
         ensures cause { IfErr result (λ u. IsNoDeviceIfFaultless S.Store conn u.conn u.fault) }
         ensures again { IfErr result (λ u. StaysADesk S.Store conn u.conn) }
-        ensures crash { IfOk result (λ d. Survives (state S.Store (unlimited conn)) (state S.Store d.conn) (λ _. ⊥)) }
-        ensures crash_on_the_way { IfErr result (λ u. Survives (state S.Store (unlimited conn)) (state S.Store u.conn) (λ _. ⊥)) }
+        ensures crash { IfOk result (λ d. Survives (state S.Store (unlimited conn)) (state S.Store d.conn)
+            (λ _. ⊥)) }
+        ensures crash_on_the_way { IfErr result (λ u. Survives (state S.Store (unlimited conn)) (state S.Store u.conn)
+            (λ _. ⊥)) }
     {
         one_state_for_the_file();
         let mut conn = without_limit(conn);
         match read_desk(alloc, &mut conn) {
-            Ok(standing) => Ok(Desk::over(alloc, conn, limits, standing)),
+            Ok(summary) => Ok(Desk::over(alloc, conn, limits, summary)),
             Err(fault) => Err(Unmade { fault, conn }),
         }
     }
@@ -204,29 +222,37 @@ impl<S: Alter> Desk<S> {
         alloc: Global,
         conn: Connection<S>,
         limits: Limits,
-        standing: Standing,
+        summary: DeskSummary,
     ) -> Desk<S>
         requires autocommit { conn.in_transaction ≡ false }
         requires unlimited { conn.step_limit ≡ None }
         requires within { IsWithin limits }
-        requires counts { (standing.batches ≤ standing.moves) × (standing.sentences ≤ 1000000) × (standing.moves ≤ 1000000000) }
-        ensures { result ≡ record { conn = conn; limits = limits; batches = standing.batches; sentences = standing.sentences; moves = standing.moves; totals = standing.totals } }
+        requires counts { (summary.batches ≤ summary.moves) × (summary.sentences ≤ 1000000)
+            × (summary.moves ≤ 1000000000) }
+        ensures { result ≡ record {
+          conn = conn;
+          limits = limits;
+          batches = summary.batches;
+          sentences = summary.sentences;
+          moves = summary.moves;
+          totals = summary.totals;
+        } }
     {
         Desk {
             conn,
             alloc,
             limits,
-            batches: standing.batches,
-            sentences: standing.sentences,
-            moves: standing.moves,
-            totals: standing.totals,
+            batches: summary.batches,
+            sentences: summary.sentences,
+            moves: summary.moves,
+            totals: summary.totals,
         }
     }
 }
 
 impl<S: Alter> Desk<S> {
     /// The number of a sentence that stands.
-    fn standing(&self, number: u64) -> Option<u32>
+    fn summary(&self, number: u64) -> Option<u32>
         ensures stands { IfSome result (λ n. (n ≡ number) × (0 < n) × (n ≤ self.now.sentences)) }
         ensures lacks { result ≡ None → 0 < number → number ≤ self.now.sentences → ⊥ }
     {
@@ -246,7 +272,7 @@ impl<S: Alter> Desk<S> {
         ensures open { TellsOpen S.Store self.new.conn result }
         ensures shut { TellsShut S.Store self.old.conn self.new.conn result }
         ensures known { IfErr result (λ e. e ≡ Fault.Memory) }
-        ensures kept { StandsAsBefore S.Store self.old self.new }
+        ensures keeps_state { KeepsState S.Store self.old self.new }
         ensures crash { Survives (state S.Store self.old.conn) (state S.Store self.new.conn) (λ _. ⊥) }
         ensures limits { self.new.limits ≡ self.old.limits }
     {
@@ -255,15 +281,15 @@ impl<S: Alter> Desk<S> {
 
     /// The totals of the six states: the sums over the sentences in each, and the net of the moves. Nothing is refused.
     pub fn totals(&mut self) -> Result<Totals, Fault>
-        ensures answered { Gives S.Store self.old self.new result (λ s t. StandFor t s) }
+        ensures answered { Gives S.Store self.old self.new result (λ s t. AreTotalsOf t s) }
         ensures net { Gives S.Store self.old self.new result (λ s t. AreNet t s.moves) }
-        ensures refused { (r : AnyRefusal) → result ≢ Err (Fault.Refused r) }
+        ensures never_refuses { (r : AnyRefusal) → result ≢ Err (Fault.Refused r) }
         ensures fails { KnowsItself S.Store self.old self.new result }
         ensures cause { BlamesNoDevice S.Store self.old self.new result }
-        ensures stays { Does S.Store self.old self.new result (λ s. StandsFor S.Store self.new s) }
-        ensures kept { StandsAsBefore S.Store self.old self.new }
+        ensures stays { Does S.Store self.old self.new result (λ s. Represents S.Store self.new s) }
+        ensures keeps_state { KeepsState S.Store self.old self.new }
         ensures crash { WritesNothing S.Store self.old self.new }
-        ensures lasts { CommitsNothing S.Store self.old.conn self.new.conn }
+        ensures commits_nothing { CommitsNothing S.Store self.old.conn self.new.conn }
         ensures limits { self.new.limits ≡ self.old.limits }
     {
         totals_are_nets();
@@ -273,13 +299,13 @@ impl<S: Alter> Desk<S> {
     /// All moves, in their order. Nothing is refused.
     pub fn moves(&mut self) -> Result<Vec<Move>, Fault>
         ensures answered { Gives S.Store self.old self.new result (λ s v. v.items ≡ s.moves) }
-        ensures refused { (r : AnyRefusal) → result ≢ Err (Fault.Refused r) }
+        ensures never_refuses { (r : AnyRefusal) → result ≢ Err (Fault.Refused r) }
         ensures fails { KnowsItself S.Store self.old self.new result }
         ensures cause { BlamesNoDevice S.Store self.old self.new result }
-        ensures stays { Does S.Store self.old self.new result (λ s. StandsFor S.Store self.new s) }
-        ensures kept { StandsAsBefore S.Store self.old self.new }
+        ensures stays { Does S.Store self.old self.new result (λ s. Represents S.Store self.new s) }
+        ensures keeps_state { KeepsState S.Store self.old self.new }
         ensures crash { WritesNothing S.Store self.old self.new }
-        ensures lasts { CommitsNothing S.Store self.old.conn self.new.conn }
+        ensures commits_nothing { CommitsNothing S.Store self.old.conn self.new.conn }
         ensures limits { self.new.limits ≡ self.old.limits }
     {
         asking::moves(self.alloc, &mut self.conn)
@@ -291,18 +317,20 @@ impl<S: Alter> Desk<S> {
     ///
     /// `NoSuchSentence`.
     pub fn sentence(&mut self, number: u64) -> Result<Current, Fault>
-        ensures answered { Gives S.Store self.old self.new result (λ s c. IsCurrent s number c.rev (string_bytes c.body)) }
-        ensures refused { (s : Machine) → StandsFor S.Store self.old s → (result ≡ Err (Fault.Refused Refusal.NoSuchSentence)) ↔ HasNoSentence s number }
+        ensures answered { Gives S.Store self.old self.new result (λ s c.
+            IsCurrent s number c.rev (string_bytes c.body)) }
+        ensures refused { (s : Machine) → Represents S.Store self.old s
+            → (result ≡ Err (Fault.Refused Refusal.NoSuchSentence)) ↔ HasNoSentence s number }
         ensures alone { (r : AnyRefusal) → result ≡ Err (Fault.Refused r) → r ≡ Refusal.NoSuchSentence }
         ensures fails { KnowsItself S.Store self.old self.new result }
         ensures cause { BlamesNoDevice S.Store self.old self.new result }
-        ensures stays { Does S.Store self.old self.new result (λ s. StandsFor S.Store self.new s) }
-        ensures kept { StandsAsBefore S.Store self.old self.new }
+        ensures stays { Does S.Store self.old self.new result (λ s. Represents S.Store self.new s) }
+        ensures keeps_state { KeepsState S.Store self.old self.new }
         ensures crash { WritesNothing S.Store self.old self.new }
-        ensures lasts { CommitsNothing S.Store self.old.conn self.new.conn }
+        ensures commits_nothing { CommitsNothing S.Store self.old.conn self.new.conn }
         ensures limits { self.new.limits ≡ self.old.limits }
     {
-        let Some(number) = self.standing(number) else {
+        let Some(number) = self.summary(number) else {
             return Err(Fault::Refused(Refusal::NoSuchSentence));
         };
         asking::sentence(&mut self.conn, number)
@@ -314,18 +342,20 @@ impl<S: Alter> Desk<S> {
     ///
     /// `NoSuchSentence`, `NoSuchRevision`; the first that holds.
     pub fn revision(&mut self, number: u64, rev: u64) -> Result<String, Fault>
-        ensures answered { Gives S.Store self.old self.new result (λ s t. IsTextOf s number rev (string_bytes t)) }
-        ensures no_sentence { (s : Machine) → StandsFor S.Store self.old s → HasNoSentence s number → result ≡ Err (Fault.Refused Refusal.NoSuchSentence) }
+        ensures answered { Gives S.Store self.old self.new result (λ s t.
+            IsRevisionText s number rev (string_bytes t)) }
+        ensures no_sentence { (s : Machine) → Represents S.Store self.old s → HasNoSentence s number
+            → result ≡ Err (Fault.Refused Refusal.NoSuchSentence) }
         ensures refused { GivesOnErr S.Store self.old self.new result (λ s e. RefusesRevision s number rev e) }
         ensures fails { KnowsItself S.Store self.old self.new result }
         ensures cause { BlamesNoDevice S.Store self.old self.new result }
-        ensures stays { Does S.Store self.old self.new result (λ s. StandsFor S.Store self.new s) }
-        ensures kept { StandsAsBefore S.Store self.old self.new }
+        ensures stays { Does S.Store self.old self.new result (λ s. Represents S.Store self.new s) }
+        ensures keeps_state { KeepsState S.Store self.old self.new }
         ensures crash { WritesNothing S.Store self.old self.new }
-        ensures lasts { CommitsNothing S.Store self.old.conn self.new.conn }
+        ensures commits_nothing { CommitsNothing S.Store self.old.conn self.new.conn }
         ensures limits { self.new.limits ≡ self.old.limits }
     {
-        let Some(number) = self.standing(number) else {
+        let Some(number) = self.summary(number) else {
             return Err(Fault::Refused(Refusal::NoSuchSentence));
         };
         asking::revision(&mut self.conn, number, rev)
@@ -341,16 +371,18 @@ impl<S: Alter> Desk<S> {
     /// `Output`, where the sink refuses a piece: it may then hold a first part of the text. After any other fault it holds whole
     /// sentences.
     pub fn export_released<W: Sink>(&mut self, out: &mut W) -> Result<(), Fault>
-        ensures put { Does S.Store self.old self.new result (λ s. Appends (W.held out.old) (W.held out.new) (current_text (released s))) }
-        ensures part { GivesOnErr S.Store self.old self.new result (λ s e. IsBrokenOff e (W.held out.old) (W.held out.new) (released s)) }
-        ensures refused { (r : AnyRefusal) → result ≢ Err (Fault.Refused r) }
+        ensures put { Does S.Store self.old self.new result (λ s. Appends (W.held out.old) (W.held out.new)
+            (current_text (released s))) }
+        ensures part { GivesOnErr S.Store self.old self.new result (λ s e. IsExportBrokenOff e (W.held out.old)
+            (W.held out.new) (released s)) }
+        ensures never_refuses { (r : AnyRefusal) → result ≢ Err (Fault.Refused r) }
         ensures output { result ≡ Err Fault.Output → HasReason (W.IsRefusal out.new) }
         ensures fails { KnowsItself S.Store self.old self.new result }
         ensures cause { BlamesNoDevice S.Store self.old self.new result }
-        ensures stays { Does S.Store self.old self.new result (λ s. StandsFor S.Store self.new s) }
-        ensures kept { StandsAsBefore S.Store self.old self.new }
+        ensures stays { Does S.Store self.old self.new result (λ s. Represents S.Store self.new s) }
+        ensures keeps_state { KeepsState S.Store self.old self.new }
         ensures crash { WritesNothing S.Store self.old self.new }
-        ensures lasts { CommitsNothing S.Store self.old.conn self.new.conn }
+        ensures commits_nothing { CommitsNothing S.Store self.old.conn self.new.conn }
         ensures limits { self.new.limits ≡ self.old.limits }
     {
         exporting::released(self.alloc, &mut self.conn, out)
@@ -362,18 +394,20 @@ impl<S: Alter> Desk<S> {
     ///
     /// The first of `BadName`, `NoSuchBatch`; `Output`, as in `export_released`.
     pub fn export_batch<W: Sink>(&mut self, name: &str, out: &mut W) -> Result<(), Fault>
-        ensures put { Does S.Store self.old self.new result (λ s. (n : ℕ) × HasNumber s name.now (Some n) × Appends (W.held out.old) (W.held out.new) (current_text (in_batch s n))) }
-        ensures part { GivesOnErr S.Store self.old self.new result (λ s e. IsPartOfBatch s name.now e (W.held out.old) (W.held out.new)) }
+        ensures put { Does S.Store self.old self.new result (λ s. (n : ℕ) × HasNumber s name.now (Some n)
+            × Appends (W.held out.old) (W.held out.new) (current_text (in_batch s n))) }
+        ensures part { GivesOnErr S.Store self.old self.new result (λ s e. IsPartOfBatch s name.now e (W.held out.old)
+            (W.held out.new)) }
         ensures bad_name { is_name name.now ≡ false → result ≡ Err (Fault.Refused Refusal.BadName) }
         ensures refused { GivesOnErr S.Store self.old self.new result (λ s e. RefusesBatch s name.now e) }
         ensures output { result ≡ Err Fault.Output → HasReason (W.IsRefusal out.new) }
         ensures fails { KnowsItself S.Store self.old self.new result }
         ensures cause { BlamesNoDevice S.Store self.old self.new result }
         ensures none { (r : AnyRefusal) → result ≡ Err (Fault.Refused r) → W.held out.new ≡ W.held out.old }
-        ensures stays { Does S.Store self.old self.new result (λ s. StandsFor S.Store self.new s) }
-        ensures kept { StandsAsBefore S.Store self.old self.new }
+        ensures stays { Does S.Store self.old self.new result (λ s. Represents S.Store self.new s) }
+        ensures keeps_state { KeepsState S.Store self.old self.new }
         ensures crash { WritesNothing S.Store self.old self.new }
-        ensures lasts { CommitsNothing S.Store self.old.conn self.new.conn }
+        ensures commits_nothing { CommitsNothing S.Store self.old.conn self.new.conn }
         ensures limits { self.new.limits ≡ self.old.limits }
     {
         exporting::batch(self.alloc, &mut self.conn, name, out)
@@ -388,15 +422,19 @@ impl<S: Alter> Desk<S> {
     ///
     /// `TooManyHits`, where the strategy is `Every` and there are more than `limits.hits`.
     pub fn number(&mut self, query: &Query, strategy: Strategy) -> Result<u64, Fault>
-        ensures answered { Gives S.Store self.old self.new result (λ s n. IsNumber s query.now strategy self.old.limits.hits n) }
-        ensures refused { HasCleanDisk (state S.Store self.new.conn) → (r : AnyRefusal) → result ≡ Err (Fault.Refused r) → (r ≡ Refusal.TooManyHits) × ((s : Machine) → StandsFor S.Store self.old s → HasTooMany s query.now strategy self.old.limits.hits) }
+        ensures answered { Gives S.Store self.old self.new result (λ s n.
+            IsNumber s query.now strategy self.old.limits.hits n) }
+        ensures refused { HasCleanDisk (state S.Store self.new.conn) → (r : AnyRefusal)
+            → result ≡ Err (Fault.Refused r) → (r ≡ Refusal.TooManyHits)
+            × ((s : Machine) → Represents S.Store self.old s
+            → HasTooMany s query.now strategy self.old.limits.hits) }
         ensures output { result ≢ Err Fault.Output }
         ensures fails { KnowsItself S.Store self.old self.new result }
         ensures cause { BlamesNoDevice S.Store self.old self.new result }
-        ensures stays { Does S.Store self.old self.new result (λ s. StandsFor S.Store self.new s) }
-        ensures kept { StandsAsBefore S.Store self.old self.new }
+        ensures stays { Does S.Store self.old self.new result (λ s. Represents S.Store self.new s) }
+        ensures keeps_state { KeepsState S.Store self.old self.new }
         ensures crash { WritesNothing S.Store self.old self.new }
-        ensures lasts { CommitsNothing S.Store self.old.conn self.new.conn }
+        ensures commits_nothing { CommitsNothing S.Store self.old.conn self.new.conn }
         ensures limits { self.new.limits ≡ self.old.limits }
     {
         finding::number(
@@ -424,16 +462,20 @@ impl<S: Alter> Desk<S> {
         context: u8,
         out: &mut W,
     ) -> Result<u64, Fault>
-        ensures answered { Gives S.Store self.old self.new result (λ s n. (found : List Occurrence) × AreReleasedHits s query.now strategy found × (n ≡ length found) × Appends (W.held out.old) (W.held out.new) (answer context found)) }
-        ensures broken { GivesOnErr S.Store self.old self.new result (λ s e. (found : List Occurrence) → AreReleasedHits s query.now strategy found → IsPartFound e (W.held out.old) (W.held out.new) context found) }
-        ensures refused { (r : AnyRefusal) → result ≢ Err (Fault.Refused r) }
+        ensures answered { Gives S.Store self.old self.new result (λ s n. (found : List Occurrence)
+            × AreReleasedHits s query.now strategy found × (n ≡ length found)
+            × Appends (W.held out.old) (W.held out.new) (answer context found)) }
+        ensures broken { GivesOnErr S.Store self.old self.new result (λ s e. (found : List Occurrence)
+            → AreReleasedHits s query.now strategy found
+            → IsPartFound e (W.held out.old) (W.held out.new) context found) }
+        ensures never_refuses { (r : AnyRefusal) → result ≢ Err (Fault.Refused r) }
         ensures output { result ≡ Err Fault.Output → HasReason (W.IsRefusal out.new) }
         ensures fails { KnowsItself S.Store self.old self.new result }
         ensures cause { BlamesNoDevice S.Store self.old self.new result }
-        ensures stays { Does S.Store self.old self.new result (λ s. StandsFor S.Store self.new s) }
-        ensures kept { StandsAsBefore S.Store self.old self.new }
+        ensures stays { Does S.Store self.old self.new result (λ s. Represents S.Store self.new s) }
+        ensures keeps_state { KeepsState S.Store self.old self.new }
         ensures crash { WritesNothing S.Store self.old self.new }
-        ensures lasts { CommitsNothing S.Store self.old.conn self.new.conn }
+        ensures commits_nothing { CommitsNothing S.Store self.old.conn self.new.conn }
         ensures limits { self.new.limits ≡ self.old.limits }
     {
         finding::search(self.alloc, &mut self.conn, query, strategy, context, out)
@@ -442,15 +484,16 @@ impl<S: Alter> Desk<S> {
     /// The frequency table of the hits of the query in released text: of each hit its values in one column. One sentence is in
     /// memory at a time, beside the table. Nothing is refused: whether the hits are within the limit, `number` tells.
     pub fn count(&mut self, query: &Query, strategy: Strategy, column: Attr) -> Result<Freq, Fault>
-        ensures answered { Gives S.Store self.old self.new result (λ s table. (found : List Occurrence) × AreReleasedHits s query.now strategy found × IsTableOf (keys column found) table) }
-        ensures refused { (r : AnyRefusal) → result ≢ Err (Fault.Refused r) }
+        ensures answered { Gives S.Store self.old self.new result (λ s table. (found : List Occurrence)
+            × AreReleasedHits s query.now strategy found × IsTableOf (keys column found) table) }
+        ensures never_refuses { (r : AnyRefusal) → result ≢ Err (Fault.Refused r) }
         ensures output { result ≢ Err Fault.Output }
         ensures fails { KnowsItself S.Store self.old self.new result }
         ensures cause { BlamesNoDevice S.Store self.old self.new result }
-        ensures stays { Does S.Store self.old self.new result (λ s. StandsFor S.Store self.new s) }
-        ensures kept { StandsAsBefore S.Store self.old self.new }
+        ensures stays { Does S.Store self.old self.new result (λ s. Represents S.Store self.new s) }
+        ensures keeps_state { KeepsState S.Store self.old self.new }
         ensures crash { WritesNothing S.Store self.old self.new }
-        ensures lasts { CommitsNothing S.Store self.old.conn self.new.conn }
+        ensures commits_nothing { CommitsNothing S.Store self.old.conn self.new.conn }
         ensures limits { self.new.limits ≡ self.old.limits }
     {
         finding::count(self.alloc, &mut self.conn, query, strategy, column)
@@ -478,10 +521,10 @@ impl<S: Alter> Desk<S> {
         ensures limits { self.new.limits ≡ self.old.limits }
     {
         let counts = self.counts();
-        let Some(at) = self.standing(number) else {
-            return Err(tb_acting::no_correction(number, base, user, body));
+        let Some(at) = self.summary(number) else {
+            return Err(tb_commands::no_correction(number, base, user, body));
         };
-        match tb_acting::correct(self.alloc, &mut self.conn, &counts, at, base, user, body) {
+        match tb_commands::correct(self.alloc, &mut self.conn, &counts, at, base, user, body) {
             Ok((reply, Some(next))) => {
                 self.moves += 1;
                 self.totals = next;
@@ -497,7 +540,7 @@ impl Desk<MemStore> {
     /// A desk in memory. It is refused for want of memory, or because the store fails, which a store in memory is not known to do.
     pub fn in_memory(alloc: Global, limits: Limits) -> Result<Desk<MemStore>, Fault>
         requires { IsWithin limits }
-        ensures stands { IfOk result (λ d. StandsFor over_memory d empty_machine) }
+        ensures represents { IfOk result (λ d. Represents over_memory d empty_machine) }
         ensures known { IfErr result (λ e. (e ≡ Fault.Memory) ⊎ (e ≡ Fault.Device)) }
         ensures no_step_limit { IfOk result (λ d. (state over_memory d.conn).step_limit ≡ None) }
         ensures limits { IfOk result (λ d. d.limits ≡ limits) }
@@ -512,10 +555,10 @@ impl Desk<MemStore> {
 
 impl<S: Alter> Desk<S> {
     /// What the desk knows without asking the database.
-    fn counts(&self) -> Counts
+    fn counts(&self) -> Counters
         ensures { result ≡ counts_of self.now }
     {
-        Counts {
+        Counters {
             limits: self.limits,
             moves: self.moves,
             totals: self.totals,
@@ -533,7 +576,7 @@ impl<S: Alter> Desk<S> {
         ensures limits { self.new.limits ≡ self.old.limits }
     {
         let counts = self.counts();
-        match tb_acting::event(self.alloc, &mut self.conn, &counts, name, event, user) {
+        match tb_commands::event(self.alloc, &mut self.conn, &counts, name, event, user) {
             Ok((reply, sums)) => {
                 self.moves += 1;
                 self.totals = sums;
@@ -554,10 +597,10 @@ impl<S: Alter> Desk<S> {
         ensures limits { self.new.limits ≡ self.old.limits }
     {
         let counts = self.counts();
-        let Some(at) = self.standing(number) else {
-            return Err(tb_acting::no_pull(&counts, number, user));
+        let Some(at) = self.summary(number) else {
+            return Err(tb_commands::no_pull(&counts, number, user));
         };
-        match tb_acting::pull(self.alloc, &mut self.conn, &counts, at, user) {
+        match tb_commands::pull(self.alloc, &mut self.conn, &counts, at, user) {
             Ok((reply, totals)) => {
                 self.moves += 1;
                 self.totals = totals;
@@ -578,10 +621,10 @@ impl<S: Alter> Desk<S> {
         ensures limits { self.new.limits ≡ self.old.limits }
     {
         let counts = self.counts();
-        let Some(at) = self.standing(number) else {
-            return Err(tb_acting::no_restore(&counts, number, user));
+        let Some(at) = self.summary(number) else {
+            return Err(tb_commands::no_restore(&counts, number, user));
         };
-        match tb_acting::restore(self.alloc, &mut self.conn, &counts, at, user) {
+        match tb_commands::restore(self.alloc, &mut self.conn, &counts, at, user) {
             Ok((reply, totals)) => {
                 self.moves += 1;
                 self.totals = totals;
@@ -594,10 +637,10 @@ impl<S: Alter> Desk<S> {
 
 impl<S: Alter> Desk<S> {
     /// What the desk knows without asking the database, as an import needs it.
-    fn known(&self) -> Known
+    fn known(&self) -> ImportCounters
         ensures { result ≡ known_of self.now }
     {
-        Known {
+        ImportCounters {
             counts: self.counts(),
             batches: self.batches,
             sentences: self.sentences,
@@ -617,7 +660,7 @@ impl<S: Alter> Desk<S> {
         ensures limits { self.new.limits ≡ self.old.limits }
     {
         let known = self.known();
-        match tb_importing::import(self.alloc, &mut self.conn, &known, name, user, body) {
+        match tb_import::import(self.alloc, &mut self.conn, &known, name, user, body) {
             Ok((reply, Some(after))) => {
                 self.batches += 1;
                 self.sentences += reply.sentences as u32;
@@ -633,5 +676,5 @@ impl<S: Alter> Desk<S> {
 
 /// Between two calls a crash leaves the whole tables of the desk's state, and nothing else.
 pub fn left_by_a_crash<S: Alter>(_desk: &Desk<S>)
-    ensures { (s : Machine) → StandsFor S.Store _desk.now s → LeavesOnly S.Store _desk.now s }
+    ensures { (s : Machine) → Represents S.Store _desk.now s → LeavesOnly S.Store _desk.now s }
 {}

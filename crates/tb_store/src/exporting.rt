@@ -6,10 +6,10 @@ ghost use Rattle.tb_core.specs.declared.refusals.Refusal.{Refusal as AnyRefusal}
 ghost use Rattle.tb_core.specs.Names.{is_name};
 ghost use Rattle.tb_search.specs.Released.{released as released_in, in_batch, current_text};
 ghost use Rattle.tb_search.specs.Visited.{HasReason};
-ghost use Rattle.tb_recording.specs.Finding.{HasNumber};
-ghost use Rattle.tb_store.specs.Exports.{IsBrokenOff, IsPartOfBatch, RefusesBatch};
+ghost use Rattle.tb_refine.specs.Finding.{HasNumber};
+ghost use Rattle.tb_store.specs.Exports.{IsExportBrokenOff, IsPartOfBatch, RefusesBatch};
 ghost use Rattle.tb_store.specs.Blaming.{FailsWithoutDevice};
-ghost use Rattle.tb_standing.specs.Telling.{KnowsDesk, TellsOnErr, TellsOnOk};
+ghost use Rattle.tb_refine.specs.Calls.{KnowsDesk, TellsOnErr, TellsOnOk};
 ghost use Rattle.tb_tables.specs.Leaving.{ChangesNothing, CommitsNothing, KeepsRecords};
 
 use crate::stopping::fault_of;
@@ -17,7 +17,7 @@ use sqlite::{Alter, Connection};
 use std::alloc::Global;
 use tb_conllu::Sink;
 use tb_core::{Fault, Refusal, good_name};
-use tb_recording::batch_number;
+use tb_refine::batch_number;
 use tb_search::{export_numbered, export_released};
 
 /// Puts the text of all released sentences, by number.
@@ -26,16 +26,18 @@ pub(crate) fn released<S: Alter, W: Sink>(
     conn: &mut Connection<S>,
     out: &mut W,
 ) -> Result<(), Fault>
-    ensures put { TellsOnOk S.Store conn.old conn.new result (λ s. Appends (W.held out.old) (W.held out.new) (current_text (released_in s))) }
-    ensures part { TellsOnErr S.Store conn.old conn.new result (λ s e. IsBrokenOff e (W.held out.old) (W.held out.new) (released_in s)) }
-    ensures refused { (r : AnyRefusal) → result ≢ Err (Fault.Refused r) }
+    ensures put { TellsOnOk S.Store conn.old conn.new result (λ s. Appends (W.held out.old) (W.held out.new)
+        (current_text (released_in s))) }
+    ensures part { TellsOnErr S.Store conn.old conn.new result (λ s e. IsExportBrokenOff e (W.held out.old)
+        (W.held out.new) (released_in s)) }
+    ensures never_refuses { (r : AnyRefusal) → result ≢ Err (Fault.Refused r) }
     ensures output { result ≡ Err Fault.Output → HasReason (W.IsRefusal out.new) }
     ensures fails { KnowsDesk S.Store conn.old conn.new result }
     ensures cause { FailsWithoutDevice S.Store conn.old conn.new result }
-    ensures same { ChangesNothing S.Store conn.old conn.new result }
-    ensures mode { conn.old.in_transaction ≡ false → conn.new.in_transaction ≡ false }
-    ensures kept { KeepsRecords S.Store conn.old conn.new }
-    ensures lasts { CommitsNothing S.Store conn.old conn.new }
+    ensures unchanged { ChangesNothing S.Store conn.old conn.new result }
+    ensures autocommit { conn.old.in_transaction ≡ false → conn.new.in_transaction ≡ false }
+    ensures keeps_records { KeepsRecords S.Store conn.old conn.new }
+    ensures commits_nothing { CommitsNothing S.Store conn.old conn.new }
 {
     match export_released(alloc, conn, out) {
         Ok(()) => Ok(()),
@@ -50,16 +52,18 @@ fn numbered<S: Alter, W: Sink>(
     number: u32,
     out: &mut W,
 ) -> Result<(), Fault>
-    ensures put { TellsOnOk S.Store conn.old conn.new result (λ s. Appends (W.held out.old) (W.held out.new) (current_text (in_batch s number))) }
-    ensures part { TellsOnErr S.Store conn.old conn.new result (λ s e. IsBrokenOff e (W.held out.old) (W.held out.new) (in_batch s number)) }
-    ensures refused { (r : AnyRefusal) → result ≢ Err (Fault.Refused r) }
+    ensures put { TellsOnOk S.Store conn.old conn.new result (λ s. Appends (W.held out.old) (W.held out.new)
+        (current_text (in_batch s number))) }
+    ensures part { TellsOnErr S.Store conn.old conn.new result (λ s e. IsExportBrokenOff e (W.held out.old)
+        (W.held out.new) (in_batch s number)) }
+    ensures never_refuses { (r : AnyRefusal) → result ≢ Err (Fault.Refused r) }
     ensures output { result ≡ Err Fault.Output → HasReason (W.IsRefusal out.new) }
     ensures fails { KnowsDesk S.Store conn.old conn.new result }
     ensures cause { FailsWithoutDevice S.Store conn.old conn.new result }
-    ensures same { ChangesNothing S.Store conn.old conn.new result }
-    ensures mode { conn.old.in_transaction ≡ false → conn.new.in_transaction ≡ false }
-    ensures kept { KeepsRecords S.Store conn.old conn.new }
-    ensures lasts { CommitsNothing S.Store conn.old conn.new }
+    ensures unchanged { ChangesNothing S.Store conn.old conn.new result }
+    ensures autocommit { conn.old.in_transaction ≡ false → conn.new.in_transaction ≡ false }
+    ensures keeps_records { KeepsRecords S.Store conn.old conn.new }
+    ensures commits_nothing { CommitsNothing S.Store conn.old conn.new }
 {
     match export_numbered(alloc, conn, number, out) {
         Ok(()) => Ok(()),
@@ -78,18 +82,20 @@ pub(crate) fn batch<S: Alter, W: Sink>(
     name: &str,
     out: &mut W,
 ) -> Result<(), Fault>
-    ensures put { TellsOnOk S.Store conn.old conn.new result (λ s. (n : ℕ) × HasNumber s name.now (Some n) × Appends (W.held out.old) (W.held out.new) (current_text (in_batch s n))) }
-    ensures part { TellsOnErr S.Store conn.old conn.new result (λ s e. IsPartOfBatch s name.now e (W.held out.old) (W.held out.new)) }
+    ensures put { TellsOnOk S.Store conn.old conn.new result (λ s. (n : ℕ) × HasNumber s name.now (Some n)
+        × Appends (W.held out.old) (W.held out.new) (current_text (in_batch s n))) }
+    ensures part { TellsOnErr S.Store conn.old conn.new result (λ s e. IsPartOfBatch s name.now e (W.held out.old)
+        (W.held out.new)) }
     ensures bad_name { is_name name.now ≡ false → result ≡ Err (Fault.Refused Refusal.BadName) }
     ensures refused { TellsOnErr S.Store conn.old conn.new result (λ s e. RefusesBatch s name.now e) }
     ensures output { result ≡ Err Fault.Output → HasReason (W.IsRefusal out.new) }
     ensures fails { KnowsDesk S.Store conn.old conn.new result }
     ensures cause { FailsWithoutDevice S.Store conn.old conn.new result }
     ensures none { (r : AnyRefusal) → result ≡ Err (Fault.Refused r) → W.held out.new ≡ W.held out.old }
-    ensures same { ChangesNothing S.Store conn.old conn.new result }
-    ensures mode { conn.old.in_transaction ≡ false → conn.new.in_transaction ≡ false }
-    ensures kept { KeepsRecords S.Store conn.old conn.new }
-    ensures lasts { CommitsNothing S.Store conn.old conn.new }
+    ensures unchanged { ChangesNothing S.Store conn.old conn.new result }
+    ensures autocommit { conn.old.in_transaction ≡ false → conn.new.in_transaction ≡ false }
+    ensures keeps_records { KeepsRecords S.Store conn.old conn.new }
+    ensures commits_nothing { CommitsNothing S.Store conn.old conn.new }
 {
     if !good_name(name) {
         return Err(Fault::Refused(Refusal::BadName));

@@ -6,13 +6,13 @@ ghost use Rattle.sqlite.specs.State.{HasCleanDisk};
 ghost use Rattle.sqlite.specs.Held.{state};
 ghost use Rattle.tb_core.specs.declared.refusals.Refusal.{Refusal as AnyRefusal};
 ghost use Rattle.tb_core.specs.Machine.{Machine};
-ghost use Rattle.tb_standing.specs.Standing.{IsDesk};
+ghost use Rattle.tb_refine.specs.DeskTables.{IsDeskOf};
 ghost use Rattle.tb_report.specs.Tables.{IsTableOf};
 ghost use Rattle.tb_search.specs.Searched.{Occurrence, answer, keys};
 ghost use Rattle.tb_search.specs.Visited.{HasReason};
 ghost use Rattle.tb_store.specs.Found.{AreReleasedHits, HasTooMany, IsAbove, IsNumber, IsPartFound};
 ghost use Rattle.tb_store.specs.Blaming.{FailsWithoutDevice};
-ghost use Rattle.tb_standing.specs.Telling.{KnowsDesk, Tells, TellsOnErr};
+ghost use Rattle.tb_refine.specs.Calls.{KnowsDesk, Tells, TellsOnErr};
 ghost use Rattle.tb_tables.specs.Leaving.{ChangesNothing, CommitsNothing, KeepsRecords};
 
 use crate::stopping::fault_of;
@@ -42,15 +42,16 @@ fn whole_number<S: Alter>(
     query: &Query,
     strategy: Strategy,
 ) -> Result<u64, Fault>
-    ensures answered { Tells S.Store conn.old conn.new result (λ s n. (found : List Occurrence) × AreReleasedHits s query.now strategy found × (n ≡ length found)) }
-    ensures refused { (r : AnyRefusal) → result ≢ Err (Fault.Refused r) }
+    ensures answered { Tells S.Store conn.old conn.new result (λ s n. (found : List Occurrence)
+        × AreReleasedHits s query.now strategy found × (n ≡ length found)) }
+    ensures never_refuses { (r : AnyRefusal) → result ≢ Err (Fault.Refused r) }
     ensures output { result ≢ Err Fault.Output }
     ensures fails { KnowsDesk S.Store conn.old conn.new result }
     ensures cause { FailsWithoutDevice S.Store conn.old conn.new result }
-    ensures same { ChangesNothing S.Store conn.old conn.new result }
-    ensures mode { conn.old.in_transaction ≡ false → conn.new.in_transaction ≡ false }
-    ensures kept { KeepsRecords S.Store conn.old conn.new }
-    ensures lasts { CommitsNothing S.Store conn.old conn.new }
+    ensures unchanged { ChangesNothing S.Store conn.old conn.new result }
+    ensures autocommit { conn.old.in_transaction ≡ false → conn.new.in_transaction ≡ false }
+    ensures keeps_records { KeepsRecords S.Store conn.old conn.new }
+    ensures commits_nothing { CommitsNothing S.Store conn.old conn.new }
 {
     match number_released(alloc, conn, query, strategy) {
         Ok(number) => Ok(number),
@@ -71,14 +72,16 @@ pub(crate) fn number<S: Alter>(
     limit: u64,
 ) -> Result<u64, Fault>
     ensures answered { Tells S.Store conn.old conn.new result (λ s n. IsNumber s query.now strategy limit n) }
-    ensures refused { HasCleanDisk (state S.Store conn.new) → (r : AnyRefusal) → result ≡ Err (Fault.Refused r) → (r ≡ Refusal.TooManyHits) × ((s : Machine) → IsDesk S.Store conn.old s → HasTooMany s query.now strategy limit) }
+    ensures refused { HasCleanDisk (state S.Store conn.new) → (r : AnyRefusal) → result ≡ Err (Fault.Refused r)
+        → (r ≡ Refusal.TooManyHits) × ((s : Machine) → IsDeskOf S.Store conn.old s
+        → HasTooMany s query.now strategy limit) }
     ensures output { result ≢ Err Fault.Output }
     ensures fails { KnowsDesk S.Store conn.old conn.new result }
     ensures cause { FailsWithoutDevice S.Store conn.old conn.new result }
-    ensures same { ChangesNothing S.Store conn.old conn.new result }
-    ensures mode { conn.old.in_transaction ≡ false → conn.new.in_transaction ≡ false }
-    ensures kept { KeepsRecords S.Store conn.old conn.new }
-    ensures lasts { CommitsNothing S.Store conn.old conn.new }
+    ensures unchanged { ChangesNothing S.Store conn.old conn.new result }
+    ensures autocommit { conn.old.in_transaction ≡ false → conn.new.in_transaction ≡ false }
+    ensures keeps_records { KeepsRecords S.Store conn.old conn.new }
+    ensures commits_nothing { CommitsNothing S.Store conn.old conn.new }
 {
     let number = whole_number(alloc, conn, query, strategy)?;
     if is_above(strategy, limit, number) {
@@ -96,16 +99,20 @@ pub(crate) fn search<S: Alter, W: Sink>(
     context: u8,
     out: &mut W,
 ) -> Result<u64, Fault>
-    ensures answered { Tells S.Store conn.old conn.new result (λ s n. (found : List Occurrence) × AreReleasedHits s query.now strategy found × (n ≡ length found) × Appends (W.held out.old) (W.held out.new) (answer context found)) }
-    ensures broken { TellsOnErr S.Store conn.old conn.new result (λ s e. (found : List Occurrence) → AreReleasedHits s query.now strategy found → IsPartFound e (W.held out.old) (W.held out.new) context found) }
-    ensures refused { (r : AnyRefusal) → result ≢ Err (Fault.Refused r) }
+    ensures answered { Tells S.Store conn.old conn.new result (λ s n. (found : List Occurrence)
+        × AreReleasedHits s query.now strategy found × (n ≡ length found)
+        × Appends (W.held out.old) (W.held out.new) (answer context found)) }
+    ensures broken { TellsOnErr S.Store conn.old conn.new result (λ s e. (found : List Occurrence)
+        → AreReleasedHits s query.now strategy found
+        → IsPartFound e (W.held out.old) (W.held out.new) context found) }
+    ensures never_refuses { (r : AnyRefusal) → result ≢ Err (Fault.Refused r) }
     ensures output { result ≡ Err Fault.Output → HasReason (W.IsRefusal out.new) }
     ensures fails { KnowsDesk S.Store conn.old conn.new result }
     ensures cause { FailsWithoutDevice S.Store conn.old conn.new result }
-    ensures same { ChangesNothing S.Store conn.old conn.new result }
-    ensures mode { conn.old.in_transaction ≡ false → conn.new.in_transaction ≡ false }
-    ensures kept { KeepsRecords S.Store conn.old conn.new }
-    ensures lasts { CommitsNothing S.Store conn.old conn.new }
+    ensures unchanged { ChangesNothing S.Store conn.old conn.new result }
+    ensures autocommit { conn.old.in_transaction ≡ false → conn.new.in_transaction ≡ false }
+    ensures keeps_records { KeepsRecords S.Store conn.old conn.new }
+    ensures commits_nothing { CommitsNothing S.Store conn.old conn.new }
 {
     match search_released(alloc, conn, query, strategy, context, out) {
         Ok(number) => Ok(number),
@@ -121,15 +128,16 @@ pub(crate) fn count<S: Alter>(
     strategy: Strategy,
     column: Attr,
 ) -> Result<Freq, Fault>
-    ensures answered { Tells S.Store conn.old conn.new result (λ s table. (found : List Occurrence) × AreReleasedHits s query.now strategy found × IsTableOf (keys column found) table) }
-    ensures refused { (r : AnyRefusal) → result ≢ Err (Fault.Refused r) }
+    ensures answered { Tells S.Store conn.old conn.new result (λ s table. (found : List Occurrence)
+        × AreReleasedHits s query.now strategy found × IsTableOf (keys column found) table) }
+    ensures never_refuses { (r : AnyRefusal) → result ≢ Err (Fault.Refused r) }
     ensures output { result ≢ Err Fault.Output }
     ensures fails { KnowsDesk S.Store conn.old conn.new result }
     ensures cause { FailsWithoutDevice S.Store conn.old conn.new result }
-    ensures same { ChangesNothing S.Store conn.old conn.new result }
-    ensures mode { conn.old.in_transaction ≡ false → conn.new.in_transaction ≡ false }
-    ensures kept { KeepsRecords S.Store conn.old conn.new }
-    ensures lasts { CommitsNothing S.Store conn.old conn.new }
+    ensures unchanged { ChangesNothing S.Store conn.old conn.new result }
+    ensures autocommit { conn.old.in_transaction ≡ false → conn.new.in_transaction ≡ false }
+    ensures keeps_records { KeepsRecords S.Store conn.old conn.new }
+    ensures commits_nothing { CommitsNothing S.Store conn.old conn.new }
 {
     match count_released(alloc, conn, query, strategy, column) {
         Ok(table) => Ok(table),

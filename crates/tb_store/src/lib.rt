@@ -1,4 +1,7 @@
 //! The desk over one SQLite connection: its tables are those of a state of the desk machine, before and after each call.
+//!
+//! A [`Desk`](crate::desk::Desk) is made on an empty database, adopted from a file, or made in memory. What a caller of a
+//! desk names is here, whichever crate makes it.
 #![tactic(auto)]
 
 mod answers;
@@ -14,3 +17,11 @@ mod wanting;
 pub use answers::Current;
 pub use desk::{Desk, Unmade, left_by_a_crash};
 pub use reopening::left_to_the_next_run;
+pub use tb_core::{
+    Corrected, Event, Fault, Imported, Kind, Limits, Move, Moved, Pulled, Refusal, Restored, State,
+    Totals, Worker, commands_lead_on, corrections_repeat, each_command_ends,
+    each_command_ends_one_way, each_sentence_is_in_one_state, imports_repeat, later_states_extend,
+    reached_states_are_well, totals_are_nets,
+};
+pub use tb_query::{Attr, Query, QueryFault, Strategy, parse};
+pub use tb_report::Freq;

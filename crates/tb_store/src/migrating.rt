@@ -3,13 +3,13 @@
 ghost use Rattle.std.specs.Prelude.{◌≡◌, ◌≢◌, None, IsTrue, IfOk, IfErr};
 ghost use Rattle.sqlite.specs.State.{HasCleanDisk, Survives};
 ghost use Rattle.sqlite.specs.Held.{state};
-ghost use Rattle.tb_tables.specs.Records.{Stands};
+ghost use Rattle.tb_tables.specs.Records.{AreStored};
 ghost use Rattle.tb_core.specs.declared.refusals.Refusal.{Refusal as AnyRefusal};
 ghost use Rattle.tb_core.specs.Machine.{Machine};
-ghost use Rattle.tb_recording.specs.Counted.{IsWithin};
-ghost use Rattle.tb_standing.specs.Standing.{tables_of};
-ghost use Rattle.tb_migrating.specs.Desk.{IsFirstDesk};
-ghost use Rattle.tb_store.specs.Standing.{StandsFor, unlimited};
+ghost use Rattle.tb_refine.specs.Counted.{IsWithin};
+ghost use Rattle.tb_refine.specs.DeskTables.{tables_of};
+ghost use Rattle.tb_migrate.specs.Desk.{IsFirstDesk};
+ghost use Rattle.tb_store.specs.Represents.{Represents, unlimited};
 ghost use Rattle.tb_store.specs.Handing.{IsNoDeviceIfFaultless};
 
 use crate::desk::{Desk, Unmade, without_limit};
@@ -29,23 +29,31 @@ impl<S: Alter> Desk<S> {
     /// then it is as it was, whatever it is.
     pub fn migrate(alloc: Global, conn: Connection<S>, limits: Limits) -> Result<Desk<S>, Unmade<S>>
         requires within { IsWithin limits }
-        ensures migrated { IfOk result (λ d. HasCleanDisk (state S.Store d.conn) → (s : Machine) × IsFirstDesk S.Store conn s × StandsFor S.Store d s) }
+        ensures migrated { IfOk result (λ d. HasCleanDisk (state S.Store d.conn) → (s : Machine)
+            × IsFirstDesk S.Store conn s × Represents S.Store d s) }
         ensures limits { IfOk result (λ d. d.limits ≡ limits) }
         ensures no_step_limit { IfOk result (λ d. (state S.Store d.conn).step_limit ≡ None) }
         ensures limit_off { IfErr result (λ u. (state S.Store u.conn).step_limit ≡ None) }
-        ensures unfit { IfErr result (λ u. HasCleanDisk (state S.Store u.conn) → u.fault ≡ Fault.NotADesk → (s : Machine) → IsFirstDesk S.Store conn s → ⊥) }
-        ensures untouched { IfErr result (λ u. HasCleanDisk (state S.Store u.conn) → u.fault ≡ Fault.NotADesk → (state S.Store u.conn).now ≡ (state S.Store conn).now) }
-        ensures unwritten { IfErr result (λ u. u.fault ≡ Fault.NotADesk → Survives (state S.Store (unlimited conn)) (state S.Store u.conn) (λ _. ⊥)) }
-        ensures refused { IfErr result (λ u. (r : AnyRefusal) → u.fault ≢ Fault.Refused r) }
+        ensures unfit { IfErr result (λ u. HasCleanDisk (state S.Store u.conn) → u.fault ≡ Fault.NotADesk
+            → (s : Machine) → IsFirstDesk S.Store conn s → ⊥) }
+        ensures untouched { IfErr result (λ u. HasCleanDisk (state S.Store u.conn) → u.fault ≡ Fault.NotADesk
+            → (state S.Store u.conn).now ≡ (state S.Store conn).now) }
+        ensures unwritten { IfErr result (λ u. u.fault ≡ Fault.NotADesk
+            → Survives (state S.Store (unlimited conn)) (state S.Store u.conn) (λ _. ⊥)) }
+        ensures never_refuses { IfErr result (λ u. (r : AnyRefusal) → u.fault ≢ Fault.Refused r) }
         ensures cause { IfErr result (λ u. ((s : Machine) → IsFirstDesk S.Store conn s → ⊥)
             → IsNoDeviceIfFaultless S.Store conn u.conn u.fault) }
-        ensures again { IfErr result (λ u. HasCleanDisk (state S.Store u.conn) → IsTrue (state S.Store u.conn).is_open → (s : Machine) → IsFirstDesk S.Store conn s → IsFirstDesk S.Store u.conn s) }
-        ensures crash { IfOk result (λ d. Survives (state S.Store (unlimited conn)) (state S.Store d.conn) (λ db. (s : Machine) → IsFirstDesk S.Store conn s → Stands (tables_of s) db)) }
-        ensures crash_on_the_way { IfErr result (λ u. Survives (state S.Store (unlimited conn)) (state S.Store u.conn) (λ db. (s : Machine) → IsFirstDesk S.Store conn s → Stands (tables_of s) db)) }
+        ensures again { IfErr result (λ u. HasCleanDisk (state S.Store u.conn)
+            → IsTrue (state S.Store u.conn).is_open → (s : Machine) → IsFirstDesk S.Store conn s
+            → IsFirstDesk S.Store u.conn s) }
+        ensures crash { IfOk result (λ d. Survives (state S.Store (unlimited conn)) (state S.Store d.conn) (λ db.
+            (s : Machine) → IsFirstDesk S.Store conn s → AreStored (tables_of s) db)) }
+        ensures crash_on_the_way { IfErr result (λ u. Survives (state S.Store (unlimited conn)) (state S.Store u.conn)
+            (λ db. (s : Machine) → IsFirstDesk S.Store conn s → AreStored (tables_of s) db)) }
     {
         let mut conn = without_limit(conn);
-        match tb_migrating::migrate(alloc, &mut conn) {
-            Ok(standing) => Ok(Desk::over(alloc, conn, limits, standing)),
+        match tb_migrate::migrate(alloc, &mut conn) {
+            Ok(summary) => Ok(Desk::over(alloc, conn, limits, summary)),
             Err(fault) => Err(Unmade { fault, conn }),
         }
     }

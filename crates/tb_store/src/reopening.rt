@@ -7,8 +7,8 @@ ghost use Rattle.sqlite_trees.specs.View.{IsClean};
 ghost use Rattle.sqlite.specs.Held.{state};
 ghost use Rattle.sqlite.specs.Files.{over_files};
 ghost use Rattle.tb_core.specs.Machine.{Machine};
-ghost use Rattle.tb_standing.specs.Standing.{IsDesk};
-ghost use Rattle.tb_store.specs.Standing.{StandsFor};
+ghost use Rattle.tb_refine.specs.DeskTables.{IsDeskOf};
+ghost use Rattle.tb_store.specs.Represents.{Represents};
 ghost use Rattle.tb_store.specs.Reopened.{MayLeaveFiles, IsOpenedOver};
 
 use crate::desk::Desk;
@@ -29,8 +29,9 @@ pub fn left_to_the_next_run<D: Disk + Drop, E: Disk>(
     desk: Desk<FileStore<D>>,
     _next: &Connection<FileStore<E>>,
 ) -> FileStore<D>
-    ensures { (s : Machine) (left : Image) → StandsFor over_files desk s → IsClean (view result)
-        → MayLeaveFiles desk.conn left → IsOpenedOver left _next.now → ∥ IsDesk over_files _next.now s ∥₁ }
+    ensures { (s : Machine) (left : Image) → Represents over_files desk s → IsClean (view result)
+        → MayLeaveFiles desk.conn left → IsOpenedOver left _next.now
+        → ∥ IsDeskOf over_files _next.now s ∥₁ }
 {
     let conn = desk.into_connection();
     let _schema = conn.schema();

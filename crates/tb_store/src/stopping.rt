@@ -4,22 +4,24 @@ ghost use Rattle.std.specs.Prelude.{◌≡◌, ◌≢◌, ℕ, List, Option};
 ghost use Rattle.tb_core.specs.declared.refusals.Refusal.{Refusal as AnyRefusal};
 ghost use Rattle.tb_core.specs.Machine.{Sentence};
 ghost use Rattle.tb_search.specs.Released.{IsCutShort};
-ghost use Rattle.tb_search.specs.Searched.{Occurrence, IsBrokenOff as IsSearchBrokenOff};
+ghost use Rattle.tb_search.specs.Searched.{Occurrence, IsSearchBrokenOff};
 ghost use Rattle.tb_search.specs.Visited.{IsFault, IsStopFault, IsStopWant};
-ghost use Rattle.tb_recording.specs.Faults.{IsNoDevice};
-ghost use Rattle.tb_store.specs.Exports.{IsBrokenOff};
+ghost use Rattle.tb_refine.specs.Faults.{IsNoDevice};
+ghost use Rattle.tb_store.specs.Exports.{IsExportBrokenOff};
 ghost use Rattle.tb_store.specs.Found.{IsPartFound};
 
 use tb_core::Fault;
-use tb_recording::faults;
+use tb_refine::faults;
 use tb_search::Stopped;
 
 /// Why a walk ended early, as a fault. `NotADesk` is told only where rows or texts are of no desk, or the database answered with
 /// an error that is no fault of the store.
 pub(crate) fn fault_of(stopped: Stopped) -> Fault
-    ensures left { (old new : Option (List ℕ)) (xs : List Sentence) → IsCutShort stopped old new xs → IsBrokenOff result old new xs }
-    ensures found { (old new : Option (List ℕ)) (n : ℕ) (xs : List Occurrence) → IsSearchBrokenOff stopped old new n xs → IsPartFound result old new n xs }
-    ensures refused { (r : AnyRefusal) → result ≢ Fault.Refused r }
+    ensures left { (old new : Option (List ℕ)) (xs : List Sentence) → IsCutShort stopped old new xs
+        → IsExportBrokenOff result old new xs }
+    ensures found { (old new : Option (List ℕ)) (n : ℕ) (xs : List Occurrence)
+        → IsSearchBrokenOff stopped old new n xs → IsPartFound result old new n xs }
+    ensures never_refuses { (r : AnyRefusal) → result ≢ Fault.Refused r }
     ensures output { result ≡ Fault.Output → stopped ≡ Stopped.Output }
     ensures fails { IsFault stopped → IsStopFault stopped → result ≢ Fault.NotADesk }
     ensures cause { IsStopWant stopped → IsNoDevice result }

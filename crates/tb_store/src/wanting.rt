@@ -4,7 +4,8 @@ ghost use Rattle.std.specs.Prelude.{◌≡◌, ◌⊎◌, false, IfErr};
 ghost use Rattle.sqlite.specs.State.{Survives};
 ghost use Rattle.sqlite.specs.Held.{state};
 ghost use Rattle.tb_tables.specs.Leaving.{KeepsRecords};
-ghost use Rattle.tb_store.specs.Handing.{HandsOnRefusal, IsOpenOnMemory, TellsOpen, TellsShut, WasOpen, told_of_error};
+ghost use Rattle.tb_store.specs.Handing.{HandsOnRefusal, IsOpenOnMemory, TellsOpen, TellsShut, WasOpen};
+ghost use Rattle.tb_store.specs.Handing.{reported_of_error};
 
 use sqlite::{Alter, Connection, Error, ErrorCode};
 use tb_core::Fault;
@@ -13,8 +14,8 @@ use tb_core::Fault;
 const NO_STATEMENT: &str = "unknown";
 
 /// What the error tells of the store with which it refuses the text.
-fn told_by(error: Error) -> Result<bool, Fault>
-    ensures { result ≡ told_of_error error }
+fn reported_by(error: Error) -> Result<bool, Fault>
+    ensures { result ≡ reported_of_error error }
 {
     match error {
         Error::SqlInputError(_) => Ok(true),
@@ -33,13 +34,13 @@ pub(crate) fn is_open<S: Alter>(conn: &mut Connection<S>) -> Result<bool, Fault>
     ensures shut { TellsShut S.Store conn.old conn.new result }
     ensures known { IfErr result (λ e. e ≡ Fault.Memory) }
     ensures was_open { WasOpen S.Store conn.old conn.new }
-    ensures kept { KeepsRecords S.Store conn.old conn.new }
-    ensures mode { conn.old.in_transaction ≡ false → conn.new.in_transaction ≡ false }
+    ensures keeps_records { KeepsRecords S.Store conn.old conn.new }
+    ensures autocommit { conn.old.in_transaction ≡ false → conn.new.in_transaction ≡ false }
     ensures crash { Survives (state S.Store conn.old) (state S.Store conn.new) (λ _. ⊥) }
 {
     match conn.prepare(NO_STATEMENT) {
         Ok(_) => Ok(true),
-        Err(error) => told_by(error),
+        Err(error) => reported_by(error),
     }
 }
 
@@ -49,8 +50,8 @@ fn memory_or_device<S: Alter>(conn: &mut Connection<S>) -> Fault
     ensures known { (result ≡ Fault.Memory) ⊎ (result ≡ Fault.Device) }
     ensures open { IsOpenOnMemory S.Store conn.new result }
     ensures was_open { WasOpen S.Store conn.old conn.new }
-    ensures kept { KeepsRecords S.Store conn.old conn.new }
-    ensures mode { conn.old.in_transaction ≡ false → conn.new.in_transaction ≡ false }
+    ensures keeps_records { KeepsRecords S.Store conn.old conn.new }
+    ensures autocommit { conn.old.in_transaction ≡ false → conn.new.in_transaction ≡ false }
     ensures crash { Survives (state S.Store conn.old) (state S.Store conn.new) (λ _. ⊥) }
 {
     match is_open(conn) {
@@ -66,8 +67,8 @@ pub(crate) fn certain<S: Alter>(conn: &mut Connection<S>, fault: Fault) -> Fault
     ensures device { result ≡ Fault.Device → (fault ≡ Fault.Device) ⊎ (fault ≡ Fault.Memory) }
     ensures open { IsOpenOnMemory S.Store conn.new result }
     ensures was_open { WasOpen S.Store conn.old conn.new }
-    ensures kept { KeepsRecords S.Store conn.old conn.new }
-    ensures mode { conn.old.in_transaction ≡ false → conn.new.in_transaction ≡ false }
+    ensures keeps_records { KeepsRecords S.Store conn.old conn.new }
+    ensures autocommit { conn.old.in_transaction ≡ false → conn.new.in_transaction ≡ false }
     ensures crash { Survives (state S.Store conn.old) (state S.Store conn.new) (λ _. ⊥) }
 {
     match fault {

@@ -63,16 +63,16 @@ query_or_wrong ls =
     ]
 
 -- a text says something, or a fault is told of it
-abbrev IsTold : List ℕ → Type 0
-IsTold text = ((t : Tree) × (es : List (Test Literal)) × (said : List (List ℕ)) × Says text t es said) ⊎ ((e : Fault) × (e ≡ Memory → ⊥) × IsFault text e)
+abbrev IsReported : List ℕ → Type 0
+IsReported text = ((t : Tree) × (es : List (Test Literal)) × (said : List (List ℕ)) × Says text t es said) ⊎ ((e : Fault) × (e ≡ Memory → ⊥) × IsFault text e)
 
-within : (text : List ℕ) (ls : List Lexeme) (ss : List Span) (q : Query) → IsWithin text ls ss q → IsTold text
+within : (text : List ℕ) (ls : List Lexeme) (ss : List Span) (q : Query) → IsWithin text ls ss q → IsReported text
 within text ls ss q h =
     let w = says_something text ls ss h.0.1 in
     inl (query_tree q, query_tests q, w.0, (ls, ss, (q, h, refl, refl), w.1))
 
 -- a query is within the limits, or beyond the first of them
-limited : (text : List ℕ) (ls : List Lexeme) (ss : List Span) (q : Query) → IsText text ls ss → query_text q ≡ ls → IsTold text
+limited : (text : List ℕ) (ls : List Lexeme) (ss : List Span) (q : Query) → IsText text ls ss → query_text q ≡ ls → IsReported text
 limited text ls ss q there spells =
     elim (cases_lt 32 (query_count q)) [
       | inl many ↦ inr (TooMany, (λ e. cc (e)), (ls, ss, there, (q, spells, many)))
@@ -85,16 +85,16 @@ limited text ls ss q there spells =
       ]
     ]
 
-short_told : (text : List ℕ) (ls : List Lexeme) (ss : List Span) → IsText text ls ss → IsTold text
-short_told text ls ss there =
+short_reported : (text : List ℕ) (ls : List Lexeme) (ss : List Span) → IsText text ls ss → IsReported text
+short_reported text ls ss there =
     elim (query_or_wrong ls) [
       | inl (q, spells) ↦ limited text ls ss q there spells
       | inr (i, wrong) ↦ inr (Syntax (byte_of ss i (length text)), (λ e. cc (e)), (ls, ss, there, (i, wrong, refl)))
     ]
 
-pub told : (text : List ℕ) → IsTold text
-told text =
+pub reported : (text : List ℕ) → IsReported text
+reported text =
     elim (cases_lt 2000 (length text)) [
       | inl long ↦ inr (TooLong, (λ e. cc (e)), long)
-      | inr short ↦ (let h = has_lexemes text in short_told text h.0 h.1 (short, h.2))
+      | inr short ↦ (let h = has_lexemes text in short_reported text h.0 h.1 (short, h.2))
     ]

@@ -86,8 +86,8 @@ one_more text bytes ls ms ss i k said new d s v r h same lt literal place piece 
     let less : i < length ls = omega (arith, ap length same) in
     let pairs = paired 0 0 text ls ss h in
     let there = quoted_there text s (stands_at text ls ms ss i k d s h same lt literal place) in
-    let told = tells there.0 (subst (λ x. IsQuoted x there.0) (sym piece) there.1) in
-    let quoted = subst (λ x. IsQuoted (bytes_at text s) x) (sym told) there.1 in
+    let reported = tells there.0 (subst (λ x. IsQuoted x there.0) (sym piece) there.1) in
+    let quoted = subst (λ x. IsQuoted (bytes_at text s) x) (sym reported) there.1 in
     one_said text ls ss i k said new d s v r less (omega arith) (ap (λ x. get_or x i d) (sym same) ∙ literal) (subst (λ x. IsQuoted (bytes_at text x) v) place quoted) pushed
 
 -- one lexeme more that is no literal
@@ -104,22 +104,22 @@ pub one_quoted : (bytes s t : List ℕ) → IsQuoted bytes s → IsQuoted bytes 
 one_quoted [] s t (q, quote, parts) y = cc (parts)
 one_quoted (c ∷ rest) s t x y = sym (says_that c rest (said_of c false rest) s refl x) ∙ says_that c rest (said_of c false rest) t refl y
 
-same_said : (text : List ℕ) (ls : List Lexeme) (ss : List Span) (said told : List (List ℕ)) → IsSaid text ls ss said → IsSaid text ls ss told → said ≡ told
-same_said text [] [] said told x y = x ∙ sym y
-same_said text [] (s ∷ ss) said told x y = absurd x
-same_said text (Quote k ∷ ls) [] said told x y = absurd x
-same_said text (Quote k ∷ ls) (s ∷ ss) [] told x y = absurd x
+same_said : (text : List ℕ) (ls : List Lexeme) (ss : List Span) (said reported : List (List ℕ)) → IsSaid text ls ss said → IsSaid text ls ss reported → said ≡ reported
+same_said text [] [] said reported x y = x ∙ sym y
+same_said text [] (s ∷ ss) said reported x y = absurd x
+same_said text (Quote k ∷ ls) [] said reported x y = absurd x
+same_said text (Quote k ∷ ls) (s ∷ ss) [] reported x y = absurd x
 same_said text (Quote k ∷ ls) (s ∷ ss) (w ∷ said) [] x y = absurd y
-same_said text (Quote k ∷ ls) (s ∷ ss) (w ∷ said) (v ∷ told) x y =
+same_said text (Quote k ∷ ls) (s ∷ ss) (w ∷ said) (v ∷ reported) x y =
     let first = one_quoted (bytes_at text s) w v x.0 y.0 in
-    let others = same_said text ls ss said told x.1 y.1 in
+    let others = same_said text ls ss said reported x.1 y.1 in
     cc (first, others)
-same_said text (l ∷ ls) [] said told x y = absurd x
-same_said text (l ∷ ls) (s ∷ ss) said told x y = same_said text ls ss said told x y
+same_said text (l ∷ ls) [] said reported x y = absurd x
+same_said text (l ∷ ls) (s ∷ ss) said reported x y = same_said text ls ss said reported x y
 
-pub one_saying : (text : List ℕ) (t u : Tree) (es fs : List (Test Literal)) (said told : List (List ℕ)) → Says text t es said → Says text u fs told → (t ≡ u) × (es ≡ fs) × (said ≡ told)
-one_saying text t u es fs said told (ls, ss, read, literals) (ms, ts, again, others) =
+pub one_saying : (text : List ℕ) (t u : Tree) (es fs : List (Test Literal)) (said reported : List (List ℕ)) → Says text t es said → Says text u fs reported → (t ≡ u) × (es ≡ fs) × (said ≡ reported)
+one_saying text t u es fs said reported (ls, ss, read, literals) (ms, ts, again, others) =
     let lexed = one_lexing text ls ms ss ts read.1.0.1 again.1.0.1 in
     let same = one_derivation read.0 again.0 (read.1.1 ∙ lexed.0 ∙ sym again.1.1) in
     let here = subst (λ x. IsSaid text ms x said) lexed.1 (subst (λ x. IsSaid text x ss said) lexed.0 literals) in
-    (sym read.2 ∙ ap query_tree same ∙ again.2, sym read.3 ∙ ap query_tests same ∙ again.3, same_said text ms ts said told here others)
+    (sym read.2 ∙ ap query_tree same ∙ again.2, sym read.3 ∙ ap query_tests same ∙ again.3, same_said text ms ts said reported here others)

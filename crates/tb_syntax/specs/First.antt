@@ -1,5 +1,6 @@
 -- The first lexeme of a text, found byte by byte.
-use Rattle.std.specs.Prelude.{ℕ, List, [], ◌∷◌, Bool, true, false, nat_eq, if◌then◌else◌, Option, Some, None, option_map, take, drop}
+use Rattle.std.specs.Prelude.{ℕ, List, [], ◌∷◌, Bool, true, false, nat_eq, if◌then◌else◌, Option, Some}
+use Rattle.std.specs.Prelude.{None, option_map, take, drop}
 use Rattle.std.specs.Char.{is_ascii_alphabetic, is_ascii_digit}
 use Rattle.std.specs.List.{prefix_len}
 use Rattle.tb_syntax.specs.declared.lexeme.Lexeme.{Lexeme}
@@ -27,14 +28,17 @@ first_mark a [] = first_or (single_mark a) [] None
 first_mark a (b ∷ cs) = first_or (double_mark a b) cs (first_or (single_mark a) (b ∷ cs) None)
 
 abbrev pub first_apart : ℕ → ℕ → List ℕ → Option (Lexeme × List ℕ)
-first_apart k c cs = if is_quote c then option_map (λ rest. (Quote k, rest)) (after_literal c false cs) else first_mark c cs
+first_apart k c cs = if is_quote c then option_map (λ rest.
+    (Quote k, rest)) (after_literal c false cs) else first_mark c cs
 
 abbrev pub first_no_word : ℕ → ℕ → List ℕ → Option (Lexeme × List ℕ)
-first_no_word k c cs = if is_ascii_digit c then cut number (prefix_len is_ascii_digit (c ∷ cs)) (c ∷ cs) else first_apart k c cs
+first_no_word k c cs = if is_ascii_digit c then cut number (prefix_len is_ascii_digit
+    (c ∷ cs)) (c ∷ cs) else first_apart k c cs
 
 abbrev pub first_lexeme : ℕ → List ℕ → Option (Lexeme × List ℕ)
 first_lexeme k [] = None
-first_lexeme k (c ∷ cs) = if is_ascii_alphabetic c then cut word (prefix_len is_ascii_alphabetic (c ∷ cs)) (c ∷ cs) else first_no_word k c cs
+first_lexeme k (c ∷ cs) = if is_ascii_alphabetic c then cut word (prefix_len is_ascii_alphabetic
+    (c ∷ cs)) (c ∷ cs) else first_no_word k c cs
 
 -- what was found, with what is left of the text
 abbrev pub found : List ℕ → Option Found → Option (Lexeme × List ℕ)

@@ -1,7 +1,8 @@
 -- What lexemes go on with, and what may follow a part of a query so that the part ends there.
 use Rattle.std.specs.Prelude.{◌≡◌, List, ◌∷◌, Bool, true, false}
 use Rattle.tb_syntax.specs.declared.lexeme.Lexeme.{Lexeme}
-use Rattle.tb_syntax.specs.declared.lexeme.Lexeme.TheVariants.{LeftParen, LeftBracket, LeftBrace, Quest, Star, Plus, Bar, And, Not, PercentC, PercentL, Name, Quote}
+use Rattle.tb_syntax.specs.declared.lexeme.Lexeme.TheVariants.{LeftParen, LeftBracket, LeftBrace, Quest, Star, Plus}
+use Rattle.tb_syntax.specs.declared.lexeme.Lexeme.TheVariants.{Bar, And, Not, PercentC, PercentL, Name, Quote}
 
 abbrev pub begins_flag : List Lexeme → Bool
 begins_flag (PercentC ∷ ls) = true

@@ -6,7 +6,10 @@ use Rattle.tb_syntax.specs.declared.lexeme.Attr.TheVariants.{Feats}
 use Rattle.tb_syntax.specs.declared.lexeme.Flag.{Flag}
 use Rattle.tb_syntax.specs.declared.lexeme.Flag.TheVariants as flag
 use Rattle.tb_syntax.specs.declared.lexeme.Lexeme.{Lexeme}
-use Rattle.tb_syntax.specs.declared.lexeme.Lexeme.TheVariants.{LeftParen, RightParen, LeftBracket, RightBracket, LeftBrace, RightBrace, Comma, Quest, Star, Plus, Bar, And, Not, Equals, Differs, Semicolon, PercentC, PercentL, Name, Contains, Within, Sentence, Number, Quote}
+use Rattle.tb_syntax.specs.declared.lexeme.Lexeme.TheVariants.{LeftParen, RightParen, LeftBracket, RightBracket}
+use Rattle.tb_syntax.specs.declared.lexeme.Lexeme.TheVariants.{LeftBrace, RightBrace, Comma, Quest, Star, Plus, Bar}
+use Rattle.tb_syntax.specs.declared.lexeme.Lexeme.TheVariants.{And, Not, Equals, Differs, Semicolon, PercentC, PercentL}
+use Rattle.tb_syntax.specs.declared.lexeme.Lexeme.TheVariants.{Name, Contains, Within, Sentence, Number, Quote}
 
 -- flag = [ "%c" | "%l" ]
 abbrev pub flag_text : Flag → List Lexeme

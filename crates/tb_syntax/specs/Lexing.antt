@@ -1,5 +1,6 @@
 -- The lexemes of a text, each with its place.
-use Rattle.std.specs.Prelude.{◌≡◌, ℕ, ◌+◌, ◌-◌, take, drop, ◌⊎◌, List, [], ◌∷◌, ◌++◌, length, Bool, true, false, not, ◌||◌, nat_eq}
+use Rattle.std.specs.Prelude.{◌≡◌, ℕ, ◌+◌, ◌-◌, take, drop, ◌⊎◌, List, [], ◌∷◌, ◌++◌}
+use Rattle.std.specs.Prelude.{length, Bool, true, false, not, ◌||◌, nat_eq}
 use Rattle.std.specs.List.{list_all}
 use Rattle.tb_syntax.specs.declared.lexeme.Lexeme.{Lexeme}
 use Rattle.tb_syntax.specs.declared.lexeme.Lexeme.TheVariants.{Quote, Stray}
@@ -27,7 +28,9 @@ bytes_at text s = take (s.end - s.start) (drop s.start text)
 abbrev pub Lexes : ℕ → ℕ → List ℕ → List Lexeme → List Span → Type 0
 Lexes at k text [] [] = list_all is_white text ≡ true
 Lexes at k text (l ∷ ls) (s ∷ ss) =
-    (gap tail : List ℕ) × (text ≡ gap ++ tail) × (list_all is_white gap ≡ true) × (begins_black tail ≡ true) × (s.start ≡ at + length gap) ×
-    (((rest : List ℕ) × Starts k tail l rest × (s.end + length rest ≡ s.start + length tail) × Lexes s.end (literals_after k l) rest ls ss)
+    (gap tail : List ℕ) × (text ≡ gap ++ tail) × (list_all is_white gap ≡ true) × (begins_black tail ≡ true)
+    × (s.start ≡ at + length gap) ×
+    (((rest : List ℕ) × Starts k tail l rest × (s.end + length rest ≡ s.start + length tail)
+    × Lexes s.end (literals_after k l) rest ls ss)
     ⊎ (IsStray k tail × (l ≡ Stray) × (s.end ≡ s.start) × (ls ≡ []) × (ss ≡ [])))
 Lexes at k text _ _ = ⊥

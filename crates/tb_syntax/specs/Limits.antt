@@ -1,10 +1,15 @@
 -- The limits of a query, as its derivation has them.
-use Rattle.std.specs.Prelude.{ℕ, suc, zero, ◌+◌, Bool, true, false, ◌&&◌, nat_le, if◌then◌else◌, Option, Some, None}
+use Rattle.std.specs.Prelude.{ℕ, suc, zero, ◌+◌, Bool, true, false, ◌&&◌, nat_le, if◌then◌else◌, Option}
+use Rattle.std.specs.Prelude.{Some, None}
 use Rattle.tb_syntax.specs.declared.lexeme.Lexeme.{Lexeme}
-use Rattle.tb_syntax.specs.declared.lexeme.Lexeme.TheVariants.{LeftParen, RightParen, LeftBracket, RightBracket, RightBrace, Comma, Number, Quote}
+use Rattle.tb_syntax.specs.declared.lexeme.Lexeme.TheVariants.{LeftParen, RightParen, LeftBracket, RightBracket}
+use Rattle.tb_syntax.specs.declared.lexeme.Lexeme.TheVariants.{RightBrace, Comma, Number, Quote}
 use Rattle.tb_syntax.specs.declared.limits.Bounds.{Bounds}
 use Rattle.tb_syntax.specs.declared.limits.Bounds.TheVariants.{Apart, Least, Ranged}
-use Rattle.tb_syntax.specs.Grammar.{Test', one_conj, or_test, Conj, one_unit, and_conj, Unit', denied, grouped, compares, contains, Repeat, quest, star, plus, exactly, at_least, between, Alt, one_cat, or_alt, Cat, one_item, and_cat, Item, once, repeated, Atom, any, brackets, bare, parens, Query, query}
+use Rattle.tb_syntax.specs.Grammar.{Test', one_conj, or_test, Conj, one_unit, and_conj, Unit', denied, grouped}
+use Rattle.tb_syntax.specs.Grammar.{compares, contains, Repeat, quest, star, plus, exactly, at_least, between, Alt}
+use Rattle.tb_syntax.specs.Grammar.{one_cat, or_alt, Cat, one_item, and_cat, Item, once, repeated, Atom, any, brackets}
+use Rattle.tb_syntax.specs.Grammar.{bare, parens, Query, query}
 use Rattle.tb_syntax.specs.Pattern.{alt_count}
 
 -- at most so many round parentheses are open at one place

@@ -1,10 +1,16 @@
 -- The scan as a machine over lexemes, which holds no tree and no stack but two numbers.
-use Rattle.std.specs.Prelude.{ℕ, suc, zero, ◌+◌, List, [], ◌∷◌, Bool, true, false, if◌then◌else◌, Option, Some, None, option_and_then}
+use Rattle.std.specs.Prelude.{ℕ, suc, zero, ◌+◌, List, [], ◌∷◌, Bool, true, false, if◌then◌else◌}
+use Rattle.std.specs.Prelude.{Option, Some, None, option_and_then}
 use Rattle.tb_syntax.specs.declared.lexeme.Attr.TheVariants.{Feats}
 use Rattle.tb_syntax.specs.declared.lexeme.Lexeme.{Lexeme}
-use Rattle.tb_syntax.specs.declared.lexeme.Lexeme.TheVariants.{LeftParen, RightParen, LeftBracket, RightBracket, LeftBrace, RightBrace, Comma, Quest, Star, Plus, Bar, And, Not, Equals, Differs, Semicolon, PercentC, PercentL, Name, Contains, Within, Sentence, Number, Quote}
+use Rattle.tb_syntax.specs.declared.lexeme.Lexeme.TheVariants.{LeftParen, RightParen, LeftBracket, RightBracket}
+use Rattle.tb_syntax.specs.declared.lexeme.Lexeme.TheVariants.{LeftBrace, RightBrace, Comma, Quest, Star, Plus, Bar}
+use Rattle.tb_syntax.specs.declared.lexeme.Lexeme.TheVariants.{And, Not, Equals, Differs, Semicolon, PercentC, PercentL}
+use Rattle.tb_syntax.specs.declared.lexeme.Lexeme.TheVariants.{Name, Contains, Within, Sentence, Number, Quote}
 use Rattle.tb_syntax.specs.declared.scanning.Mode.{Mode}
-use Rattle.tb_syntax.specs.declared.scanning.Mode.TheVariants.{Wants, Quoted, Has, Repeated, Braced, Lowest, Ranged, Highest, Opened, Asks, Named, Featured, Signed, Tested, Whole, Scoped, Bounded, Stopped}
+use Rattle.tb_syntax.specs.declared.scanning.Mode.TheVariants.{Wants, Quoted, Has, Repeated, Braced, Lowest, Ranged}
+use Rattle.tb_syntax.specs.declared.scanning.Mode.TheVariants.{Highest, Opened, Asks, Named, Featured, Signed, Tested}
+use Rattle.tb_syntax.specs.declared.scanning.Mode.TheVariants.{Whole, Scoped, Bounded, Stopped}
 use Rattle.tb_syntax.specs.declared.scanning.Place.{Place}
 
 abbrev pub inside : Mode → ℕ → ℕ → Place

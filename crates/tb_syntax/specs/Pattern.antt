@@ -5,7 +5,10 @@ use Rattle.tb_syntax.specs.declared.expr.Literal.{Literal}
 use Rattle.tb_syntax.specs.declared.lexeme.Attr.TheVariants.{Form}
 use Rattle.tb_syntax.specs.declared.lexeme.Flag.{Flag}
 use Rattle.tb_syntax.specs.declared.lexeme.Lexeme.{Lexeme}
-use Rattle.tb_syntax.specs.Grammar.{Sign, same, other, Test', one_conj, or_test, Conj, one_unit, and_conj, Unit', denied, grouped, compares, contains, Repeat, quest, star, plus, exactly, at_least, between, Alt, one_cat, or_alt, Cat, one_item, and_cat, Item, once, repeated, Atom, any, brackets, bare, parens, Query, query, query_text}
+use Rattle.tb_syntax.specs.Grammar.{Sign, same, other, Test', one_conj, or_test, Conj, one_unit, and_conj, Unit'}
+use Rattle.tb_syntax.specs.Grammar.{denied, grouped, compares, contains, Repeat, quest, star, plus, exactly, at_least}
+use Rattle.tb_syntax.specs.Grammar.{between, Alt, one_cat, or_alt, Cat, one_item, and_cat, Item, once, repeated, Atom}
+use Rattle.tb_syntax.specs.Grammar.{any, brackets, bare, parens, Query, query, query_text}
 use Rattle.tb_syntax.specs.Tests.{Test, every, whole, feature, negated, both, either, tests}
 
 -- a literal, by its number in the text and its flag

@@ -20,7 +20,8 @@ IsText text ls ss = (length text ≤ 2000) × Lexes 0 0 text ls ss
 
 -- The text is a query within the limits: at most 32 token expressions, 16 round parentheses open at one place, and numbers of repetitions up to 32.
 abbrev pub IsWithin : List ℕ → List Lexeme → List Span → Query → Type 0
-IsWithin text ls ss q = IsText text ls ss × (query_text q ≡ ls) × (query_count q ≤ 32) × (query_nests 16 q ≡ true) × (query_repeats 32 q ≡ true)
+IsWithin text ls ss q = IsText text ls ss × (query_text q ≡ ls) × (query_count q ≤ 32)
+    × (query_nests 16 q ≡ true) × (query_repeats 32 q ≡ true)
 
 abbrev pub IsAccepted : List ℕ → List Lexeme → List Span → Type 0
 IsAccepted text ls ss = (q : Query) × IsWithin text ls ss q
@@ -31,7 +32,8 @@ IsRead text ls ss t es = (q : Query) × IsWithin text ls ss q × (query_tree q �
 
 -- some query begins with the lexemes before this one, but none has this one after them, or none ends there
 abbrev pub IsWrongAt : List Lexeme → ℕ → Type 0
-IsWrongAt ls i = (IsQuery ls → ⊥) × (i ≤ length ls) × IsBeginning (take i ls) × (i < length ls → IsBeginning (take (i + 1) ls) → ⊥)
+IsWrongAt ls i = (IsQuery ls → ⊥) × (i ≤ length ls) × IsBeginning (take i ls)
+    × (i < length ls → IsBeginning (take (i + 1) ls) → ⊥)
 
 -- where the lexeme of this number begins, or the end of a text of n bytes
 abbrev pub byte_of : List Span → ℕ → ℕ → ℕ
@@ -40,11 +42,15 @@ byte_of ss i n = unwrap_or (option_map (λ (s : Span). s.start) (slice_get ss i)
 -- What is wrong with a text. The first of these is told that holds.
 abbrev pub IsFault : List ℕ → Fault → Type 0
 IsFault text TooLong = 2000 < length text
-IsFault text (Syntax b) = (ls : List Lexeme) × (ss : List Span) × IsText text ls ss × ((i : ℕ) × IsWrongAt ls i × (b ≡ byte_of ss i (length text)))
-IsFault text TooMany = (ls : List Lexeme) × (ss : List Span) × IsText text ls ss × ((q : Query) × (query_text q ≡ ls) × (32 < query_count q))
+IsFault text (Syntax b) = (ls : List Lexeme) × (ss : List Span) × IsText text ls ss × ((i : ℕ) × IsWrongAt ls i
+    × (b ≡ byte_of ss i (length text)))
+IsFault text TooMany = (ls : List Lexeme) × (ss : List Span) × IsText text ls ss
+    × ((q : Query) × (query_text q ≡ ls) × (32 < query_count q))
 IsFault text TooDeep =
-    (ls : List Lexeme) × (ss : List Span) × IsText text ls ss × ((q : Query) × (query_text q ≡ ls) × (query_count q ≤ 32) × (query_nests 16 q ≡ false))
+    (ls : List Lexeme) × (ss : List Span) × IsText text ls ss × ((q : Query) × (query_text q ≡ ls)
+    × (query_count q ≤ 32) × (query_nests 16 q ≡ false))
 IsFault text Repeat =
     (ls : List Lexeme) × (ss : List Span) × IsText text ls ss
-    × ((q : Query) × (query_text q ≡ ls) × (query_count q ≤ 32) × (query_nests 16 q ≡ true) × (query_repeats 32 q ≡ false))
+    × ((q : Query) × (query_text q ≡ ls) × (query_count q ≤ 32) × (query_nests 16 q ≡ true)
+    × (query_repeats 32 q ≡ false))
 IsFault text Memory = Unit {0}

@@ -1,12 +1,17 @@
 -- How lexemes are spelled (The CQP Query Language Manual, section 3, cut down). Letters and digits are ASCII.
-use Rattle.std.specs.Prelude.{◌≡◌, ℕ, ◌+◌, ◌*◌, ◌-◌, min, List, [], ◌∷◌, ◌++◌, codes, Bool, true, false, ◌||◌, ◌&&◌, nat_eq, if◌then◌else◌, Option, Some, None, option_map}
+use Rattle.std.specs.Prelude.{◌≡◌, ℕ, ◌+◌, ◌*◌, ◌-◌, min, List, [], ◌∷◌, ◌++◌, codes}
+use Rattle.std.specs.Prelude.{Bool, true, false, ◌||◌, ◌&&◌, nat_eq, if◌then◌else◌, Option, Some, None}
+use Rattle.std.specs.Prelude.{option_map}
 use Rattle.std.specs.Char.{is_ascii_alphabetic, is_ascii_digit}
 use Rattle.std.specs.List.{list_all}
 use Rattle.std.specs.Str.{bytes_eq}
 use Rattle.tb_syntax.specs.declared.lexeme.Attr.{Attr}
 use Rattle.tb_syntax.specs.declared.lexeme.Attr.TheVariants.{Form, Lemma, Upos, Xpos, Feats, Deprel}
 use Rattle.tb_syntax.specs.declared.lexeme.Lexeme.{Lexeme}
-use Rattle.tb_syntax.specs.declared.lexeme.Lexeme.TheVariants.{LeftParen, RightParen, LeftBracket, RightBracket, LeftBrace, RightBrace, Comma, Quest, Star, Plus, Bar, And, Not, Equals, Differs, Semicolon, PercentC, PercentL, Name, Contains, Within, Sentence, Number, Quote}
+use Rattle.tb_syntax.specs.declared.lexeme.Lexeme.TheVariants.{LeftParen, RightParen, LeftBracket, RightBracket}
+use Rattle.tb_syntax.specs.declared.lexeme.Lexeme.TheVariants.{LeftBrace, RightBrace, Comma, Quest, Star, Plus, Bar}
+use Rattle.tb_syntax.specs.declared.lexeme.Lexeme.TheVariants.{And, Not, Equals, Differs, Semicolon, PercentC, PercentL}
+use Rattle.tb_syntax.specs.declared.lexeme.Lexeme.TheVariants.{Name, Contains, Within, Sentence, Number, Quote}
 
 -- the names of the columns
 abbrev pub column : List ℕ → Option Attr
@@ -92,9 +97,11 @@ pub data Starts (k : ℕ) (text : List ℕ) (l : Lexeme) (rest : List ℕ) : Typ
   of_digits : (s : List ℕ) → IsRun is_ascii_digit s text rest → number s ≡ Some l → Starts k text l rest
   of_two_marks : (a b : ℕ) → text ≡ a ∷ b ∷ rest → double_mark a b ≡ Some l → Starts k text l rest
   -- where no lexeme of two marks stands
-  of_one_mark : (a : ℕ) → text ≡ a ∷ rest → single_mark a ≡ Some l → ((b : ℕ) (bs : List ℕ) → rest ≡ b ∷ bs → double_mark a b ≡ None) → Starts k text l rest
+  of_one_mark : (a : ℕ) → text ≡ a ∷ rest → single_mark a ≡ Some l → ((b : ℕ) (bs : List ℕ)
+      → rest ≡ b ∷ bs → double_mark a b ≡ None) → Starts k text l rest
   -- what a literal says stands between two quotes, and each such quote in it is written twice
-  of_quotes : (q : ℕ) (s : List ℕ) → is_quote q ≡ true → text ≡ q ∷ (doubled q s ++ q ∷ rest) → begins (nat_eq q) rest ≡ false → l ≡ Quote k → Starts k text l rest
+  of_quotes : (q : ℕ) (s : List ℕ) → is_quote q ≡ true → text ≡ q ∷ (doubled q s ++ q ∷ rest)
+      → begins (nat_eq q) rest ≡ false → l ≡ Quote k → Starts k text l rest
 
 -- no lexeme stands there
 abbrev pub IsStray : ℕ → List ℕ → Type 0

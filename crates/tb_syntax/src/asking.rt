@@ -31,7 +31,8 @@ fn comparison_at(
 
 /// The number of `!` that stand there, and what is left after them.
 fn denials_at(lexemes: &[Lexeme]) -> (usize, &[Lexeme])
-    ensures exact { (t : Test Literal) (end : List Lexeme) → ReadsUnit result.1.now t end → ReadsUnit lexemes.now (denied_times result.0 t) end }
+    ensures exact { (t : Test Literal) (end : List Lexeme) → ReadsUnit result.1.now t end
+        → ReadsUnit lexemes.now (denied_times result.0 t) end }
     ensures all { head result.1.now ≡ Lexeme.Not → ⊥ }
     ensures shorter { length result.1.now ≤ length lexemes.now }
 {
@@ -50,7 +51,8 @@ fn plain_unit_at(
     alloc: Global,
     lexemes: &[Lexeme],
 ) -> Result<(Expr<Literal>, &[Lexeme]), AllocError>
-    ensures exact { (head lexemes.now ≡ Lexeme.Not → ⊥) → IfOk result (λ x. ReadsUnit lexemes.now (test x.0) x.1.now) }
+    ensures exact { (head lexemes.now ≡ Lexeme.Not → ⊥)
+        → IfOk result (λ x. ReadsUnit lexemes.now (test x.0) x.1.now) }
     ensures shorter { IfOk result (λ x. length x.1.now ≤ length lexemes.now - 1) }
 {
     let rest = tail(lexemes);
@@ -82,7 +84,8 @@ fn units_at<'s>(
     lexemes: &'s [Lexeme],
     parts: &mut Vec<Expr<Literal>>,
 ) -> Result<&'s [Lexeme], AllocError>
-    ensures exact { IfOk result (λ rest. ReadsUnits lexemes.now (map test parts.old.items) (map test parts.new.items) rest.now) }
+    ensures exact { IfOk result (λ rest. ReadsUnits lexemes.now (map test parts.old.items)
+        (map test parts.new.items) rest.now) }
     ensures shorter { IfOk result (λ rest. length rest.now ≤ length lexemes.now - 1) }
 {
     let (unit, rest) = unit_at(alloc, lexemes)?;
@@ -111,7 +114,8 @@ fn conjs_at<'s>(
     lexemes: &'s [Lexeme],
     parts: &mut Vec<Expr<Literal>>,
 ) -> Result<&'s [Lexeme], AllocError>
-    ensures exact { IfOk result (λ rest. ReadsConjs lexemes.now (map test parts.old.items) (map test parts.new.items) rest.now) }
+    ensures exact { IfOk result (λ rest. ReadsConjs lexemes.now (map test parts.old.items)
+        (map test parts.new.items) rest.now) }
     ensures shorter { IfOk result (λ rest. length rest.now ≤ length lexemes.now - 1) }
 {
     let (conj, rest) = conj_at(alloc, lexemes)?;

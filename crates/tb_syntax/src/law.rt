@@ -20,20 +20,26 @@ ghost use Rattle.tb_syntax.specs.Tests.{Test};
 /// Lexemes have one derivation at most, and so say one thing at most.
 pub fn one_reading()
     ensures derivation { (p q : Query) → query_text p ≡ query_text q → p ≡ q }
-    ensures pattern { (ls : List Lexeme) (s t : Tree) (es fs : List (Test Literal)) → Reads ls s es → Reads ls t fs → s ≡ t }
-    ensures tests { (ls : List Lexeme) (s t : Tree) (es fs : List (Test Literal)) → Reads ls s es → Reads ls t fs → es ≡ fs }
+    ensures pattern { (ls : List Lexeme) (s t : Tree) (es fs : List (Test Literal)) → Reads ls s es → Reads ls t fs
+        → s ≡ t }
+    ensures tests { (ls : List Lexeme) (s t : Tree) (es fs : List (Test Literal)) → Reads ls s es → Reads ls t fs
+        → es ≡ fs }
 {}
 
 /// A text has one list of lexemes, and each of them one place.
 pub fn one_lexing()
-    ensures lexemes { (text : List ℕ) (ls ms : List Lexeme) (ss ts : List Span) → Lexes 0 0 text ls ss → Lexes 0 0 text ms ts → ls ≡ ms }
-    ensures places { (text : List ℕ) (ls ms : List Lexeme) (ss ts : List Span) → Lexes 0 0 text ls ss → Lexes 0 0 text ms ts → ss ≡ ts }
+    ensures lexemes { (text : List ℕ) (ls ms : List Lexeme) (ss ts : List Span) → Lexes 0 0 text ls ss
+        → Lexes 0 0 text ms ts → ls ≡ ms }
+    ensures places { (text : List ℕ) (ls ms : List Lexeme) (ss ts : List Span) → Lexes 0 0 text ls ss
+        → Lexes 0 0 text ms ts → ss ≡ ts }
 {}
 
 /// The bytes at the place of a literal are a literal: they say something.
 pub fn literals_are_quoted()
-    ensures { (text : List ℕ) (ls : List Lexeme) (ss : List Span) → Lexes 0 0 text ls ss → (i j : ℕ) (s : Span) →
-        slice_get ls i ≡ Some (Lexeme.Quote j) → slice_get ss i ≡ Some s → (said : List ℕ) × IsQuoted (bytes_at text s) said }
+    ensures { (text : List ℕ) (ls : List Lexeme) (ss : List Span) → Lexes 0 0 text ls ss
+        → (i j : ℕ) (s : Span) →
+        slice_get ls i ≡ Some (Lexeme.Quote j) → slice_get ss i ≡ Some s → (said : List ℕ)
+        × IsQuoted (bytes_at text s) said }
 {}
 
 /// The bytes of a literal say one thing at most.
@@ -43,19 +49,24 @@ pub fn one_unquoting()
 
 /// A text says one thing at most.
 pub fn one_saying()
-    ensures pattern { (text : List ℕ) (t u : Tree) (es fs : List (Test Literal)) (said told : List (List ℕ)) → Says text t es said → Says text u fs told → t ≡ u }
-    ensures tests { (text : List ℕ) (t u : Tree) (es fs : List (Test Literal)) (said told : List (List ℕ)) → Says text t es said → Says text u fs told → es ≡ fs }
-    ensures literals { (text : List ℕ) (t u : Tree) (es fs : List (Test Literal)) (said told : List (List ℕ)) → Says text t es said → Says text u fs told → said ≡ told }
+    ensures pattern { (text : List ℕ) (t u : Tree) (es fs : List (Test Literal)) (said reported : List (List ℕ))
+        → Says text t es said → Says text u fs reported → t ≡ u }
+    ensures tests { (text : List ℕ) (t u : Tree) (es fs : List (Test Literal)) (said reported : List (List ℕ))
+        → Says text t es said → Says text u fs reported → es ≡ fs }
+    ensures literals { (text : List ℕ) (t u : Tree) (es fs : List (Test Literal)) (said reported : List (List ℕ))
+        → Says text t es said → Says text u fs reported → said ≡ reported }
 {}
 
 /// At most one fault is told of a text, want of memory aside.
 pub fn one_fault()
-    ensures { (text : List ℕ) (e f : Fault) → IsFault text e → IsFault text f → (e ≡ Memory → ⊥) → (f ≡ Memory → ⊥) → e ≡ f }
+    ensures { (text : List ℕ) (e f : Fault) → IsFault text e → IsFault text f → (e ≡ Memory → ⊥)
+        → (f ≡ Memory → ⊥) → e ≡ f }
 {}
 
 /// Of a text that says something no fault is told but want of memory.
 pub fn what_says_something_has_no_fault()
-    ensures { (text : List ℕ) (t : Tree) (es : List (Test Literal)) (said : List (List ℕ)) (e : Fault) → Says text t es said → IsFault text e → e ≡ Memory }
+    ensures { (text : List ℕ) (t : Tree) (es : List (Test Literal)) (said : List (List ℕ)) (e : Fault)
+        → Says text t es said → IsFault text e → e ≡ Memory }
 {}
 
 /// A text has lexemes, whatever its bytes.
@@ -69,12 +80,14 @@ pub fn lexemes_are_a_query_or_wrong()
 {}
 
 /// A text says something, or has a fault that is not want of memory.
-pub fn each_text_is_told()
-    ensures { (text : List ℕ) → ((t : Tree) × (es : List (Test Literal)) × (said : List (List ℕ)) × Says text t es said) ⊎ ((e : Fault) × (e ≡ Memory → ⊥) × IsFault text e) }
+pub fn each_text_is_reported()
+    ensures { (text : List ℕ) → ((t : Tree) × (es : List (Test Literal)) × (said : List (List ℕ))
+        × Says text t es said) ⊎ ((e : Fault) × (e ≡ Memory → ⊥) × IsFault text e) }
 {}
 
 /// The pattern that a text says can be searched for over its token expressions.
 pub fn what_is_said_can_be_searched()
-    ensures { (text : List ℕ) (t : Tree) (es : List (Test Literal)) (said : List (List ℕ)) → Says text t es said →
+    ensures { (text : List ℕ) (t : Tree) (es : List (Test Literal)) (said : List (List ℕ))
+        → Says text t es said →
         Fits (length es) t × (length es ≤ 32) }
 {}

@@ -22,9 +22,9 @@ mod unquoting;
 pub use expr::{Expr, Literal};
 pub use fault::Fault;
 pub use law::{
-    each_text_has_lexemes, each_text_is_told, lexemes_are_a_query_or_wrong, literals_are_quoted,
-    one_fault, one_lexing, one_reading, one_saying, one_unquoting, what_is_said_can_be_searched,
-    what_says_something_has_no_fault,
+    each_text_has_lexemes, each_text_is_reported, lexemes_are_a_query_or_wrong,
+    literals_are_quoted, one_fault, one_lexing, one_reading, one_saying, one_unquoting,
+    what_is_said_can_be_searched, what_says_something_has_no_fault,
 };
 pub use lexeme::{Attr, Flag, Lexeme};
 pub use lexing::{Lexed, Span};

@@ -2,7 +2,8 @@
 
 ghost use Rattle.std.specs.Prelude.{◌≡◌, ◌<◌, ◌≤◌, ◌+◌, ◌-◌, ◌^◌, length, IfSome};
 ghost use Rattle.tb_syntax.specs.Grammar.{Query, query_text};
-ghost use Rattle.tb_syntax.specs.Limits.{begins_expression, bounds_after, inside_after, query_count, query_nests, query_repeats, room_after};
+ghost use Rattle.tb_syntax.specs.Limits.{begins_expression, bounds_after, inside_after, query_count, query_nests};
+ghost use Rattle.tb_syntax.specs.Limits.{query_repeats, room_after};
 
 use crate::lexeme::Lexeme;
 

@@ -4,7 +4,8 @@ ghost use Rattle.std.specs.Prelude.{◌≡◌, ◌∷◌, ◌≤◌, ◌-◌, le
 ghost use Rattle.tb_match.specs.Trees.{tree};
 ghost use Rattle.tb_syntax.specs.Exprs.{test};
 ghost use Rattle.tb_syntax.specs.Follow.{begins_atom};
-ghost use Rattle.tb_syntax.specs.Parsing.{ReadsNumbers, ReadsRepeat, ReadsExpr, ReadsAtom, ReadsItem, ReadsItems, ReadsCat, ReadsCats, ReadsAlt, ReadsQuery};
+ghost use Rattle.tb_syntax.specs.Parsing.{ReadsNumbers, ReadsRepeat, ReadsExpr, ReadsAtom, ReadsItem, ReadsItems};
+ghost use Rattle.tb_syntax.specs.Parsing.{ReadsCat, ReadsCats, ReadsAlt, ReadsQuery};
 
 use crate::asking::test_at;
 use crate::cursor::{head, literal_at, tail};
@@ -78,7 +79,8 @@ fn atom_at<'s>(
     lexemes: &'s [Lexeme],
     exprs: &mut Vec<Expr<Literal>>,
 ) -> Result<(Pat, &'s [Lexeme]), AllocError>
-    ensures exact { IfOk result (λ x. ReadsAtom lexemes.now (map test exprs.old.items) (map test exprs.new.items) (tree x.0) x.1.now) }
+    ensures exact { IfOk result (λ x. ReadsAtom lexemes.now (map test exprs.old.items) (map test exprs.new.items)
+        (tree x.0) x.1.now) }
     ensures shorter { IfOk result (λ x. length x.1.now ≤ length lexemes.now - 1) }
 {
     match head(lexemes) {
@@ -102,7 +104,8 @@ fn item_at<'s>(
     lexemes: &'s [Lexeme],
     exprs: &mut Vec<Expr<Literal>>,
 ) -> Result<(Pat, &'s [Lexeme]), AllocError>
-    ensures exact { IfOk result (λ x. ReadsItem lexemes.now (map test exprs.old.items) (map test exprs.new.items) (tree x.0) x.1.now) }
+    ensures exact { IfOk result (λ x. ReadsItem lexemes.now (map test exprs.old.items) (map test exprs.new.items)
+        (tree x.0) x.1.now) }
     ensures shorter { IfOk result (λ x. length x.1.now ≤ length lexemes.now - 1) }
 {
     let (atom, rest) = atom_at(alloc, lexemes, exprs)?;
@@ -131,7 +134,8 @@ fn items_at<'s>(
     parts: &mut Vec<Pat>,
     exprs: &mut Vec<Expr<Literal>>,
 ) -> Result<&'s [Lexeme], AllocError>
-    ensures exact { IfOk result (λ rest. ReadsItems lexemes.now (map test exprs.old.items) (map test exprs.new.items) (map tree parts.old.items) (map tree parts.new.items) rest.now) }
+    ensures exact { IfOk result (λ rest. ReadsItems lexemes.now (map test exprs.old.items) (map test exprs.new.items)
+        (map tree parts.old.items) (map tree parts.new.items) rest.now) }
     ensures shorter { IfOk result (λ rest. length rest.now ≤ length lexemes.now - 1) }
 {
     let (item, rest) = item_at(alloc, lexemes, exprs)?;
@@ -149,7 +153,8 @@ fn cat_at<'s>(
     lexemes: &'s [Lexeme],
     exprs: &mut Vec<Expr<Literal>>,
 ) -> Result<(Pat, &'s [Lexeme]), AllocError>
-    ensures exact { IfOk result (λ x. ReadsCat lexemes.now (map test exprs.old.items) (map test exprs.new.items) (tree x.0) x.1.now) }
+    ensures exact { IfOk result (λ x. ReadsCat lexemes.now (map test exprs.old.items) (map test exprs.new.items)
+        (tree x.0) x.1.now) }
     ensures shorter { IfOk result (λ x. length x.1.now ≤ length lexemes.now - 1) }
 {
     let mut parts = Vec::new(alloc);
@@ -165,7 +170,8 @@ fn cats_at<'s>(
     parts: &mut Vec<Pat>,
     exprs: &mut Vec<Expr<Literal>>,
 ) -> Result<&'s [Lexeme], AllocError>
-    ensures exact { IfOk result (λ rest. ReadsCats lexemes.now (map test exprs.old.items) (map test exprs.new.items) (map tree parts.old.items) (map tree parts.new.items) rest.now) }
+    ensures exact { IfOk result (λ rest. ReadsCats lexemes.now (map test exprs.old.items) (map test exprs.new.items)
+        (map tree parts.old.items) (map tree parts.new.items) rest.now) }
     ensures shorter { IfOk result (λ rest. length rest.now ≤ length lexemes.now - 1) }
 {
     let (cat, rest) = cat_at(alloc, lexemes, exprs)?;
@@ -183,7 +189,8 @@ fn alt_at<'s>(
     lexemes: &'s [Lexeme],
     exprs: &mut Vec<Expr<Literal>>,
 ) -> Result<(Pat, &'s [Lexeme]), AllocError>
-    ensures exact { IfOk result (λ x. ReadsAlt lexemes.now (map test exprs.old.items) (map test exprs.new.items) (tree x.0) x.1.now) }
+    ensures exact { IfOk result (λ x. ReadsAlt lexemes.now (map test exprs.old.items) (map test exprs.new.items)
+        (tree x.0) x.1.now) }
     ensures shorter { IfOk result (λ x. length x.1.now ≤ length lexemes.now - 1) }
 {
     let mut parts = Vec::new(alloc);

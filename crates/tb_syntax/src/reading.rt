@@ -85,7 +85,8 @@ pub struct Query {
 /// Errors: what is wrong with a text that is no query within the limits, or want of memory, which comes
 /// only of texts within the limit of length.
 pub fn parse(alloc: Global, text: &str) -> Result<Query, Fault>
-    ensures query { IfOk result (λ x. Says text.now (tree x.parsed.pat) (map test x.parsed.exprs.items) (map string_bytes x.literals.items)) }
+    ensures query { IfOk result (λ x. Says text.now (tree x.parsed.pat) (map test x.parsed.exprs.items)
+        (map string_bytes x.literals.items)) }
     ensures fits { IfOk result (λ x. Fits (length x.parsed.exprs.items) (tree x.parsed.pat)) }
     ensures few { IfOk result (λ x. length x.parsed.exprs.items ≤ 32) }
     ensures fault { IfErr result (λ e. IsFault text.now e) }

@@ -3,7 +3,8 @@
 //! But for its round parentheses the language is regular, so one mode and two counters decide it,
 //! with no recursion and no memory.
 
-ghost use Rattle.std.specs.Prelude.{◌≡◌, ◌<◌, ◌≤◌, ◌+◌, ◌-◌, ◌^◌, length, take, IfOk, IfErr, IfSome};
+ghost use Rattle.std.specs.Prelude.{◌≡◌, ◌<◌, ◌≤◌, ◌+◌, ◌-◌, ◌^◌, length, take, IfOk};
+ghost use Rattle.std.specs.Prelude.{IfErr, IfSome};
 ghost use Rattle.tb_syntax.specs.Grammar.{IsQuery, IsBeginning};
 ghost use Rattle.tb_syntax.specs.Machine.{step, step_outside, step_inside, is_inside, may_end_at};
 
@@ -190,7 +191,8 @@ pub fn scan(lexemes: &[Lexeme]) -> Result<(), usize>
     ensures outside { IfErr result (λ _. IsQuery lexemes.now → ⊥) }
     ensures within { IfErr result (λ place. place ≤ length lexemes.now) }
     ensures begins { IfErr result (λ place. IsBeginning (take place lexemes.now)) }
-    ensures stray { IfErr result (λ place. place < length lexemes.now → IsBeginning (take (place + 1) lexemes.now) → ⊥) }
+    ensures stray { IfErr result (λ place. place < length lexemes.now → IsBeginning (take (place + 1) lexemes.now)
+        → ⊥) }
 {
     let mut place = Place {
         mode: Mode::Wants,

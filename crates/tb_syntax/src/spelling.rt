@@ -1,10 +1,12 @@
 //! The spelling of each lexeme.
 
-ghost use Rattle.std.specs.Prelude.{◌≡◌, ◌∷◌, ◌<◌, ◌≤◌, ◌+◌, ◌-◌, ◌^◌, ℕ, List, length, min, take, drop, option_map, option_and_then, MatchOption, IfSome, false};
+ghost use Rattle.std.specs.Prelude.{◌≡◌, ◌∷◌, ◌<◌, ◌≤◌, ◌+◌, ◌-◌, ◌^◌, ℕ, List};
+ghost use Rattle.std.specs.Prelude.{length, min, take, drop, option_map, option_and_then, MatchOption, IfSome, false};
 ghost use Rattle.std.specs.Char.{is_ascii_alphabetic, is_ascii_digit};
 ghost use Rattle.std.specs.List.{prefix_len};
 ghost use Rattle.tb_syntax.specs.First.{after_literal, cut, first_mark, first_lexeme, found};
-ghost use Rattle.tb_syntax.specs.Spelling.{column, word, number, decimal_from, double_mark, single_mark, is_quote, Starts, IsStray};
+ghost use Rattle.tb_syntax.specs.Spelling.{column, word, number, decimal_from, double_mark, single_mark, is_quote};
+ghost use Rattle.tb_syntax.specs.Spelling.{Starts, IsStray};
 
 use crate::lexeme::{Attr, Lexeme};
 
@@ -207,7 +209,8 @@ fn mark_at(first: u8, rest: &[u8]) -> Option<Found>
 /// The literal at the beginning of the text, where its opening quote has been read.
 fn literal_at(quote: u8, rest: &[u8], literals: u16) -> Option<Found>
     requires { length rest.now < 2 ^ 64 - 1 }
-    ensures value { found (quote ∷ rest.now) result ≡ option_map (λ left. (Lexeme.Quote literals, left)) (after_literal quote false rest.now) }
+    ensures value { found (quote ∷ rest.now) result ≡ option_map (λ left. (Lexeme.Quote literals, left))
+        (after_literal quote false rest.now) }
     ensures bound { IfSome result (λ f. f.length ≤ length rest.now + 1) }
 {
     let length = literal_length(quote, rest)?;
@@ -237,7 +240,8 @@ fn first_lexeme(text: &[u8], literals: u16) -> Option<Found>
 
 /// The lexeme at the beginning of the text, which `literals` literals stand before, if there is one.
 pub(crate) fn lexeme_at(text: &[u8], literals: u16) -> Option<Found>
-    ensures lexeme { MatchOption result (IsStray literals text.now) (λ f. Starts literals text.now f.lexeme (drop f.length text.now)) }
+    ensures lexeme { MatchOption result (IsStray literals text.now) (λ f.
+        Starts literals text.now f.lexeme (drop f.length text.now)) }
     ensures length { IfSome result (λ f. (1 ≤ f.length) × (f.length ≤ length text.now)) }
 {
     first_lexeme(text, literals)

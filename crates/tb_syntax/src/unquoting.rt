@@ -51,7 +51,8 @@ pub(crate) fn unquote_all(
     lexed: &Lexed,
 ) -> Result<Vec<String>, AllocError>
     requires { Lexes 0 0 text.now lexed.now.lexemes.items lexed.now.spans.items }
-    ensures { IfOk result (λ v. IsSaid text.now lexed.now.lexemes.items lexed.now.spans.items (map string_bytes v.items)) }
+    ensures { IfOk result (λ v. IsSaid text.now lexed.now.lexemes.items lexed.now.spans.items
+        (map string_bytes v.items)) }
 {
     let mut literals = Vec::new(alloc);
     for (i, lexeme) in lexed.lexemes.iter().enumerate() {

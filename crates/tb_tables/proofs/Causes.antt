@@ -46,44 +46,44 @@ use Rattle.tb_tables.specs.Leaving.{IsFaultless}
 -- ---- refusals
 
 -- what stops a part of a statement: a refusal, or nothing that has a name yet
-abbrev Told : Option Error → Type 0
-Told None = Unit {0}
-Told (Some e) = NeedsNoFault e
+abbrev Reported : Option Error → Type 0
+Reported None = Unit {0}
+Reported (Some e) = NeedsNoFault e
 
 of : {e x : Error} → e ≡ x → NeedsNoFault x → NeedsNoFault e
 of is fine = subst NeedsNoFault (sym is) fine
 
 -- the part stops as its own part did
-back : {A : Type 0} {stop s : Option Error} → ◌≡◌ {A = Outcome A} (Err stop) (Err s) → Told s → Told stop
-back is told = subst Told (let same : _ ≡ _ = cc in sym same) told
+back : {A : Type 0} {stop s : Option Error} → ◌≡◌ {A = Outcome A} (Err stop) (Err s) → Reported s → Reported stop
+back is reported = subst Reported (let same : _ ≡ _ = cc in sym same) reported
 
 -- it does not stop where it gives a value
-gave : {A : Type 0} {a : A} {stop : Option Error} → ◌≡◌ {A = Outcome A} (Err stop) (Ok a) → Told stop
+gave : {A : Type 0} {a : A} {stop : Option Error} → ◌≡◌ {A = Outcome A} (Err stop) (Ok a) → Reported stop
 gave is = absurd cc
 
-no_query : {A : Type 0} {stop : Option Error} → ◌≡◌ {A = Outcome A} (Err stop) (Err (Some InvalidQuery)) → Told stop
+no_query : {A : Type 0} {stop : Option Error} → ◌≡◌ {A = Outcome A} (Err stop) (Err (Some InvalidQuery)) → Reported stop
 no_query is = back is tt
 
 by_bool : {X Y R : Type 0} (b : Bool) → (X → R) → (Y → R) → MatchBool b X Y → R
 by_bool true f g h = f h
 by_bool false f g h = g h
 
-refusal_told : (reason : Option Refusal) → Told (option_map edit_error reason)
-refusal_told None = tt
-refusal_told (Some (Violates rule)) = tt
-refusal_told (Some Mismatch) = tt
-refusal_told (Some NoRowid) = tt
-refusal_told (Some BadReference) = tt
-refusal_told (Some TooDeep) = tt
+refusal_reported : (reason : Option Refusal) → Reported (option_map edit_error reason)
+refusal_reported None = tt
+refusal_reported (Some (Violates rule)) = tt
+refusal_reported (Some Mismatch) = tt
+refusal_reported (Some NoRowid) = tt
+refusal_reported (Some BadReference) = tt
+refusal_reported (Some TooDeep) = tt
 
-alter_told : (reason : alter.Refusal) → NeedsNoFault (alter_error reason)
-alter_told (why.Invalid e) = tt
-alter_told why.NameTaken = tt
-alter_told why.BadName = tt
-alter_told why.BadKey = tt
-alter_told why.BadText = tt
-alter_told why.TooBig = tt
-alter_told (why.Violates rule) = tt
+alter_reported : (reason : alter.Refusal) → NeedsNoFault (alter_error reason)
+alter_reported (why.Invalid e) = tt
+alter_reported why.NameTaken = tt
+alter_reported why.BadName = tt
+alter_reported why.BadKey = tt
+alter_reported why.BadText = tt
+alter_reported why.TooBig = tt
+alter_reported (why.Violates rule) = tt
 
 query_refused : (limit : Option ℕ) (db : Database) (q : Program) (params : Row) (e : Error) → RefusesQuery limit db q params e → NeedsNoFault e
 query_refused limit db q params e (inl h) = of h.0 tt
@@ -97,245 +97,245 @@ source_refused limit db params (Query q) e h = query_refused limit db q params e
 
 -- ---- the parts of a statement on rows
 
-queried : (limit : Option ℕ) (db : Database) (q : Program) (params : Row) (stop : Option Error) → Queried limit db q params (Err stop) → Told stop
+queried : (limit : Option ℕ) (db : Database) (q : Program) (params : Row) (stop : Option Error) → Queried limit db q params (Err stop) → Reported stop
 queried limit db q params None h = tt
 queried limit db q params (Some e) h = query_refused limit db q params e h
 
-sourced : (limit : Option ℕ) (db : Database) (params : Row) (from : Source) (stop : Option Error) → Sourced limit db params from (Err stop) → Told stop
+sourced : (limit : Option ℕ) (db : Database) (params : Row) (from : Source) (stop : Option Error) → Sourced limit db params from (Err stop) → Reported stop
 sourced limit db params from None h = tt
 sourced limit db params from (Some e) h = source_refused limit db params from e h
 
-edit_told : (schema : Schema) (keys : Keys) (db : Trees) (edit : Edit) (stop : Option Error) → Edited schema keys db edit (Err stop) → Told stop
-edit_told schema keys db edit stop h = subst Told (sym h.2) (refusal_told h.0)
+edit_reported : (schema : Schema) (keys : Keys) (db : Trees) (edit : Edit) (stop : Option Error) → Edited schema keys db edit (Err stop) → Reported stop
+edit_reported schema keys db edit stop h = subst Reported (sym h.2) (refusal_reported h.0)
 
 module _ (task : Task) where
   abbrev here : Trees → Database
   here db = record { schema = task.schema; trees = db }
 
-  counter_in : (db : Trees) (o : Option Table) (stop : Option Error) → CounterIn task db o (Err stop) → Told stop
+  counter_in : (db : Trees) (o : Option Table) (stop : Option Error) → CounterIn task db o (Err stop) → Reported stop
   counter_in db None stop h = no_query h
   counter_in db (Some counters) stop h = gave h
 
-  counter_told : (db : Trees) (stop : Option Error) → Counter task db (Err stop) → Told stop
-  counter_told db stop h = by_bool task.table.is_counted (counter_in db (sequence task.schema) stop) gave h
+  counter_reported : (db : Trees) (stop : Option Error) → Counter task db (Err stop) → Reported stop
+  counter_reported db stop h = by_bool task.table.is_counted (counter_in db (sequence task.schema) stop) gave h
 
-  counts_in : (db : Trees) (counter : Option Row) (top : ℤ) (o : Option Table) (stop : Option Error) → CountsIn task db counter top o (Err stop) → Told stop
+  counts_in : (db : Trees) (counter : Option Row) (top : ℤ) (o : Option Table) (stop : Option Error) → CountsIn task db counter top o (Err stop) → Reported stop
   counts_in db counter top None stop h = no_query h
-  counts_in db counter top (Some counters) stop h = edit_told _ _ _ _ stop h
+  counts_in db counter top (Some counters) stop h = edit_reported _ _ _ _ stop h
 
-  counts_told : (db : Trees) (counter : Option Row) (top : ℤ) (stop : Option Error) → Counts task db counter top (Err stop) → Told stop
-  counts_told db counter top stop h = by_bool (if task.table.is_counted then is_lt (int_cmp (count_of counter) top) else false) (counts_in db counter top (sequence task.schema) stop) gave h
+  counts_reported : (db : Trees) (counter : Option Row) (top : ℤ) (stop : Option Error) → Counts task db counter top (Err stop) → Reported stop
+  counts_reported db counter top stop h = by_bool (if task.table.is_counted then is_lt (int_cmp (count_of counter) top) else false) (counts_in db counter top (sequence task.schema) stop) gave h
 
-  updates_told : (q : Program) (given : Row) (db : Trees) (stop : Option Error) → Updates task q given db (Err stop) → Told stop
-  updates_told q given db stop (inl h) = back h.2 (queried task.limit (here db) q given h.0 h.1)
-  updates_told q given db stop (inr (rows, is, inl h)) = back h.2 (edit_told _ _ _ _ h.0 h.1)
-  updates_told q given db stop (inr (rows, is, inr (next, done, h))) = gave h
+  updates_reported : (q : Program) (given : Row) (db : Trees) (stop : Option Error) → Updates task q given db (Err stop) → Reported stop
+  updates_reported q given db stop (inl h) = back h.2 (queried task.limit (here db) q given h.0 h.1)
+  updates_reported q given db stop (inr (rows, is, inl h)) = back h.2 (edit_reported _ _ _ _ h.0 h.1)
+  updates_reported q given db stop (inr (rows, is, inr (next, done, h))) = gave h
 
-  deletes_told : (q : Program) (db : Trees) (stop : Option Error) → Deletes task q db (Err stop) → Told stop
-  deletes_told q db stop (inl h) = back h.2 (queried task.limit (here db) q task.params h.0 h.1)
-  deletes_told q db stop (inr (rows, is, inl h)) = back h.2 (edit_told _ _ _ _ h.0 h.1)
-  deletes_told q db stop (inr (rows, is, inr (next, done, h))) = gave h
+  deletes_reported : (q : Program) (db : Trees) (stop : Option Error) → Deletes task q db (Err stop) → Reported stop
+  deletes_reported q db stop (inl h) = back h.2 (queried task.limit (here db) q task.params h.0 h.1)
+  deletes_reported q db stop (inr (rows, is, inl h)) = back h.2 (edit_reported _ _ _ _ h.0 h.1)
+  deletes_reported q db stop (inr (rows, is, inr (next, done, h))) = gave h
 
-  inserts_told : (from : Source) (db : Trees) (stop : Option Error) → Inserts task from db (Err stop) → Told stop
-  inserts_told from db stop (inl h) = back h.2 (sourced task.limit (here db) _ from h.0 h.1)
-  inserts_told from db stop (inr (rows, is, inl h)) = back h.2 (counter_told db h.0 h.1)
-  inserts_told from db stop (inr (rows, is, inr (counter, counted, inl h))) = back h.2 (edit_told _ _ _ _ h.0 h.1)
-  inserts_told from db stop (inr (rows, is, inr (counter, counted, inr (mid, done, inl h)))) = back h.2 (counts_told mid counter _ h.0 h.1)
-  inserts_told from db stop (inr (rows, is, inr (counter, counted, inr (mid, done, inr (next, kept, h))))) = gave h
+  inserts_reported : (from : Source) (db : Trees) (stop : Option Error) → Inserts task from db (Err stop) → Reported stop
+  inserts_reported from db stop (inl h) = back h.2 (sourced task.limit (here db) _ from h.0 h.1)
+  inserts_reported from db stop (inr (rows, is, inl h)) = back h.2 (counter_reported db h.0 h.1)
+  inserts_reported from db stop (inr (rows, is, inr (counter, counted, inl h))) = back h.2 (edit_reported _ _ _ _ h.0 h.1)
+  inserts_reported from db stop (inr (rows, is, inr (counter, counted, inr (mid, done, inl h)))) = back h.2 (counts_reported mid counter _ h.0 h.1)
+  inserts_reported from db stop (inr (rows, is, inr (counter, counted, inr (mid, done, inr (next, kept, h))))) = gave h
 
   -- one row at a time
-  puts_told : (new : Row) (db : Trees) (stop : Option Error) → Puts task new db (Err stop) → Told stop
-  puts_told new db stop (inl h) = back h.2 (edit_told _ _ _ _ h.0 h.1)
-  puts_told new db stop (inr (next, done, h)) = gave h
+  puts_reported : (new : Row) (db : Trees) (stop : Option Error) → Puts task new db (Err stop) → Reported stop
+  puts_reported new db stop (inl h) = back h.2 (edit_reported _ _ _ _ h.0 h.1)
+  puts_reported new db stop (inr (next, done, h)) = gave h
 
-  clears_told : (way : Conflict) (new : Row) (db : Trees) (found : List Row) (stop : Option Error) → Clears task way new db found (Err stop) → Told stop
-  clears_told way new db [] stop h = puts_told new db stop h
-  clears_told Abort new db (x ∷ more) stop h = puts_told new db stop h
-  clears_told Ignore new db (x ∷ more) stop h = gave h
-  clears_told Replace new db (x ∷ more) stop (inl h) = back h.2 (edit_told _ _ _ _ h.0 h.1)
-  clears_told Replace new db (x ∷ more) stop (inr (next, done, h)) = puts_told new next stop h
+  clears_reported : (way : Conflict) (new : Row) (db : Trees) (found : List Row) (stop : Option Error) → Clears task way new db found (Err stop) → Reported stop
+  clears_reported way new db [] stop h = puts_reported new db stop h
+  clears_reported Abort new db (x ∷ more) stop h = puts_reported new db stop h
+  clears_reported Ignore new db (x ∷ more) stop h = gave h
+  clears_reported Replace new db (x ∷ more) stop (inl h) = back h.2 (edit_reported _ _ _ _ h.0 h.1)
+  clears_reported Replace new db (x ∷ more) stop (inr (next, done, h)) = puts_reported new next stop h
 
-  resolves_told : (new : Row) (db : Trees) (there : Row) (update : Option Program) (stop : Option Error) → Resolves task new db there update (Err stop) → Told stop
-  resolves_told new db there None stop h = gave h
-  resolves_told new db there (Some q) stop h = updates_told q _ db stop h
+  resolves_reported : (new : Row) (db : Trees) (there : Row) (update : Option Program) (stop : Option Error) → Resolves task new db there update (Err stop) → Reported stop
+  resolves_reported new db there None stop h = gave h
+  resolves_reported new db there (Some q) stop h = updates_reported q _ db stop h
 
-  meets_told : (Otherwise : Part Written) → ((stop : Option Error) → Otherwise (Err stop) → Told stop) → (new : Row) (db : Trees) (clause : Upsert) (found : List Row) (stop : Option Error) → Meets task Otherwise new db clause found (Err stop) → Told stop
-  meets_told Otherwise other new db clause [] stop h = other stop h
-  meets_told Otherwise other new db clause (there ∷ more) stop h = resolves_told new db there clause.update stop h
+  meets_reported : (Otherwise : Part Written) → ((stop : Option Error) → Otherwise (Err stop) → Reported stop) → (new : Row) (db : Trees) (clause : Upsert) (found : List Row) (stop : Option Error) → Meets task Otherwise new db clause found (Err stop) → Reported stop
+  meets_reported Otherwise other new db clause [] stop h = other stop h
+  meets_reported Otherwise other new db clause (there ∷ more) stop h = resolves_reported new db there clause.update stop h
 
-  upserts_told : (way : Conflict) (new : Row) (db : Trees) (clauses : List Upsert) (stop : Option Error) → Upserts task way new db clauses (Err stop) → Told stop
-  upserts_told way new db [] stop h = clears_told way new db h.0 stop h.2
-  upserts_told way new db (clause ∷ more) stop h = meets_told (Upserts task way new db more) (λ s k. upserts_told way new db more s k) new db clause h.0 stop h.2
+  upserts_reported : (way : Conflict) (new : Row) (db : Trees) (clauses : List Upsert) (stop : Option Error) → Upserts task way new db clauses (Err stop) → Reported stop
+  upserts_reported way new db [] stop h = clears_reported way new db h.0 stop h.2
+  upserts_reported way new db (clause ∷ more) stop h = meets_reported (Upserts task way new db more) (λ s k. upserts_reported way new db more s k) new db clause h.0 stop h.2
 
-  judged_told : (way : Conflict) (clauses : List Upsert) (new : Row) (db : Trees) (verdict : Option Refusal) (stop : Option Error) → Judged task way clauses new db verdict (Err stop) → Told stop
-  judged_told way clauses new db None stop h = upserts_told way new db clauses stop h
-  judged_told way clauses new db (Some reason) stop h = by_bool (passes_over way reason) gave (λ is. back is (refusal_told (Some reason))) h
+  judged_reported : (way : Conflict) (clauses : List Upsert) (new : Row) (db : Trees) (verdict : Option Refusal) (stop : Option Error) → Judged task way clauses new db verdict (Err stop) → Reported stop
+  judged_reported way clauses new db None stop h = upserts_reported way new db clauses stop h
+  judged_reported way clauses new db (Some reason) stop h = by_bool (passes_over way reason) gave (λ is. back is (refusal_reported (Some reason))) h
 
-  tries_told : (way : Conflict) (clauses : List Upsert) (new : Row) (db : Trees) (stop : Option Error) → Tries task way clauses new db (Err stop) → Told stop
-  tries_told way clauses new db stop (inl h) = back h.1 tt
-  tries_told way clauses new db stop (inr h) = judged_told way clauses new db h.0 stop h.2
+  tries_reported : (way : Conflict) (clauses : List Upsert) (new : Row) (db : Trees) (stop : Option Error) → Tries task way clauses new db (Err stop) → Reported stop
+  tries_reported way clauses new db stop (inl h) = back h.1 tt
+  tries_reported way clauses new db stop (inr h) = judged_reported way clauses new db h.0 stop h.2
 
-  tries_each : (way : Conflict) (clauses : List Upsert) (rows : List Row) (top : ℤ) (done : Written) (stop : Option Error) → TriesEach task way clauses rows top done (Err stop) → Told stop
+  tries_each : (way : Conflict) (clauses : List Upsert) (rows : List Row) (top : ℤ) (done : Written) (stop : Option Error) → TriesEach task way clauses rows top done (Err stop) → Reported stop
   tries_each way clauses [] top done stop h = gave h
-  tries_each way clauses (source ∷ more) top done stop (inl h) = back h.2 (tries_told way clauses _ done.trees h.0 h.1)
+  tries_each way clauses (source ∷ more) top done stop (inl h) = back h.2 (tries_reported way clauses _ done.trees h.0 h.1)
   tries_each way clauses (source ∷ more) top done stop (inr (one, is, h)) = tries_each way clauses more _ _ stop h
 
-  inserts_or_told : (way : Conflict) (clauses : List Upsert) (from : Source) (db : Trees) (stop : Option Error) → InsertsOr task way clauses from db (Err stop) → Told stop
-  inserts_or_told way clauses from db stop (inl h) = back h.2 (sourced task.limit (here db) _ from h.0 h.1)
-  inserts_or_told way clauses from db stop (inr (rows, is, inl h)) = back h.2 (counter_told db h.0 h.1)
-  inserts_or_told way clauses from db stop (inr (rows, is, inr (counter, counted, inl h))) = back h.2 (tries_each way clauses rows _ _ h.0 h.1)
-  inserts_or_told way clauses from db stop (inr (rows, is, inr (counter, counted, inr (done, tried, inl h)))) = back h.2 (counts_told done.0.trees counter done.1 h.0 h.1)
-  inserts_or_told way clauses from db stop (inr (rows, is, inr (counter, counted, inr (done, tried, inr (next, kept, h))))) = gave h
+  inserts_or_reported : (way : Conflict) (clauses : List Upsert) (from : Source) (db : Trees) (stop : Option Error) → InsertsOr task way clauses from db (Err stop) → Reported stop
+  inserts_or_reported way clauses from db stop (inl h) = back h.2 (sourced task.limit (here db) _ from h.0 h.1)
+  inserts_or_reported way clauses from db stop (inr (rows, is, inl h)) = back h.2 (counter_reported db h.0 h.1)
+  inserts_or_reported way clauses from db stop (inr (rows, is, inr (counter, counted, inl h))) = back h.2 (tries_each way clauses rows _ _ h.0 h.1)
+  inserts_or_reported way clauses from db stop (inr (rows, is, inr (counter, counted, inr (done, tried, inl h)))) = back h.2 (counts_reported done.0.trees counter done.1 h.0 h.1)
+  inserts_or_reported way clauses from db stop (inr (rows, is, inr (counter, counted, inr (done, tried, inr (next, kept, h))))) = gave h
 
-  writes_told : (db : Trees) (command : Command) (stop : Option Error) → WritesRows task db command (Err stop) → Told stop
-  writes_told db (Insert at from) stop h = inserts_told from db stop h
-  writes_told db (InsertOr at way from clauses) stop h = inserts_or_told way clauses from db stop h
-  writes_told db (Update at q) stop h = updates_told q task.params db stop h
-  writes_told db (Delete at q) stop h = deletes_told q db stop h
-  writes_told db (Select q names) stop h = no_query h
-  writes_told db (Rows values width names) stop h = no_query h
-  writes_told db CreateTable stop h = no_query h
-  writes_told db (CreateIndex at) stop h = no_query h
-  writes_told db CreateView stop h = no_query h
-  writes_told db (DropTable at) stop h = no_query h
-  writes_told db (DropIndex at) stop h = no_query h
-  writes_told db (DropView at) stop h = no_query h
-  writes_told db Begin stop h = no_query h
-  writes_told db Commit stop h = no_query h
-  writes_told db Rollback stop h = no_query h
-  writes_told db (Savepoint name) stop h = no_query h
-  writes_told db (Release name) stop h = no_query h
-  writes_told db (RollbackTo name) stop h = no_query h
-  writes_told db Nothing stop h = no_query h
+  writes_reported : (db : Trees) (command : Command) (stop : Option Error) → WritesRows task db command (Err stop) → Reported stop
+  writes_reported db (Insert at from) stop h = inserts_reported from db stop h
+  writes_reported db (InsertOr at way from clauses) stop h = inserts_or_reported way clauses from db stop h
+  writes_reported db (Update at q) stop h = updates_reported q task.params db stop h
+  writes_reported db (Delete at q) stop h = deletes_reported q db stop h
+  writes_reported db (Select q names) stop h = no_query h
+  writes_reported db (Rows values width names) stop h = no_query h
+  writes_reported db CreateTable stop h = no_query h
+  writes_reported db (CreateIndex at) stop h = no_query h
+  writes_reported db CreateView stop h = no_query h
+  writes_reported db (DropTable at) stop h = no_query h
+  writes_reported db (DropIndex at) stop h = no_query h
+  writes_reported db (DropView at) stop h = no_query h
+  writes_reported db Begin stop h = no_query h
+  writes_reported db Commit stop h = no_query h
+  writes_reported db Rollback stop h = no_query h
+  writes_reported db (Savepoint name) stop h = no_query h
+  writes_reported db (Release name) stop h = no_query h
+  writes_reported db (RollbackTo name) stop h = no_query h
+  writes_reported db Nothing stop h = no_query h
 
   -- ---- what RETURNING shows, and the foreign keys
 
-  shows_told : (what : Returning) (now : Trees) (rows : List Row) (stop : Option Error) → Shows task what now rows (Err stop) → Told stop
-  shows_told what now [] stop h = gave h
-  shows_told what now (row ∷ more) stop (inl h) = back h.2 (sourced task.limit (here now) _ what.row h.0 h.1)
-  shows_told what now (row ∷ more) stop (inr (first, is, inl h)) = back h.2 (shows_told what now more h.0 h.1)
-  shows_told what now (row ∷ more) stop (inr (first, is, inr (others, are, h))) = gave h
+  shows_reported : (what : Returning) (now : Trees) (rows : List Row) (stop : Option Error) → Shows task what now rows (Err stop) → Reported stop
+  shows_reported what now [] stop h = gave h
+  shows_reported what now (row ∷ more) stop (inl h) = back h.2 (sourced task.limit (here now) _ what.row h.0 h.1)
+  shows_reported what now (row ∷ more) stop (inr (first, is, inl h)) = back h.2 (shows_reported what now more h.0 h.1)
+  shows_reported what now (row ∷ more) stop (inr (first, is, inr (others, are, h))) = gave h
 
-  returns_told : (w : Written) (returning : Option Returning) (stop : Option Error) → Returns task w returning (Err stop) → Told stop
-  returns_told w None stop h = gave h
-  returns_told w (Some what) stop (inl h) = back h.2 (shows_told what w.trees w.rows h.0 h.1)
-  returns_told w (Some what) stop (inr (rows, are, inl h)) = back h.2 (subst Told (sym h.1.1) tt)
-  returns_told w (Some what) stop (inr (rows, are, inr (unit, counted, h))) = gave h
+  returns_reported : (w : Written) (returning : Option Returning) (stop : Option Error) → Returns task w returning (Err stop) → Reported stop
+  returns_reported w None stop h = gave h
+  returns_reported w (Some what) stop (inl h) = back h.2 (shows_reported what w.trees w.rows h.0 h.1)
+  returns_reported w (Some what) stop (inr (rows, are, inl h)) = back h.2 (subst Reported (sym h.1.1) tt)
+  returns_reported w (Some what) stop (inr (rows, are, inr (unit, counted, h))) = gave h
 
-  concludes_told : (mode : Mode) (returning : Option Returning) (w : Written) (stop : Option Error) → Concludes task mode returning w (Err stop) → Told stop
-  concludes_told mode returning w stop (inl h) = back h.2 (subst Told (sym h.1.1) tt)
-  concludes_told mode returning w stop (inr (doubt, tested, inl h)) = back h.2 (returns_told w returning h.0 h.1)
-  concludes_told mode returning w stop (inr (doubt, tested, inr (rows, shown, h))) = gave h
+  concludes_reported : (mode : Mode) (returning : Option Returning) (w : Written) (stop : Option Error) → Concludes task mode returning w (Err stop) → Reported stop
+  concludes_reported mode returning w stop (inl h) = back h.2 (subst Reported (sym h.1.1) tt)
+  concludes_reported mode returning w stop (inr (doubt, tested, inl h)) = back h.2 (returns_reported w returning h.0 h.1)
+  concludes_reported mode returning w stop (inr (doubt, tested, inr (rows, shown, h))) = gave h
 
-  on_rows_told : (mode : Mode) (returning : Option Returning) (command : Command) (db : Trees) (stop : Option Error) → OnRows task mode returning command db (Err stop) → Told stop
-  on_rows_told mode returning command db stop (inl h) = back h.2 (writes_told db command h.0 h.1)
-  on_rows_told mode returning command db stop (inr (w, wrote, h)) = concludes_told mode returning w stop h
+  on_rows_reported : (mode : Mode) (returning : Option Returning) (command : Command) (db : Trees) (stop : Option Error) → OnRows task mode returning command db (Err stop) → Reported stop
+  on_rows_reported mode returning command db stop (inl h) = back h.2 (writes_reported db command h.0 h.1)
+  on_rows_reported mode returning command db stop (inr (w, wrote, h)) = concludes_reported mode returning w stop h
 
   -- ---- a table that is dropped
 
-  empties_told : (db : Trees) (stop : Option Error) → Empties task db (Err stop) → Told stop
-  empties_told db stop h = by_bool (is_acted_on task.schema task.keys task.table) (edit_told task.schema task.keys db (edit_of db task.table (ids_of (db task.table.tree)) Given 0 []) stop) (gave {A = Trees} {a = db}) h
+  empties_reported : (db : Trees) (stop : Option Error) → Empties task db (Err stop) → Reported stop
+  empties_reported db stop h = by_bool (is_acted_on task.schema task.keys task.table) (edit_reported task.schema task.keys db (edit_of db task.table (ids_of (db task.table.tree)) Given 0 []) stop) (gave {A = Trees} {a = db}) h
 
-  uncounts_in : (db : Trees) (o : Option Table) (stop : Option Error) → UncountsIn task db o (Err stop) → Told stop
+  uncounts_in : (db : Trees) (o : Option Table) (stop : Option Error) → UncountsIn task db o (Err stop) → Reported stop
   uncounts_in db None stop h = gave h
-  uncounts_in db (Some counters) stop (inl h) = back h.2 (counter_told db h.0 h.1)
-  uncounts_in db (Some counters) stop (inr (counter, counted, h)) = edit_told _ _ _ _ stop h
+  uncounts_in db (Some counters) stop (inl h) = back h.2 (counter_reported db h.0 h.1)
+  uncounts_in db (Some counters) stop (inr (counter, counted, h)) = edit_reported _ _ _ _ stop h
 
-  drops_told : (mode : Mode) (db : Trees) (stop : Option Error) → Drops task mode db (Err stop) → Told stop
-  drops_told mode db stop (inl h) = back h.2 (empties_told db h.0 h.1)
-  drops_told mode db stop (inr (emptied, is, inl h)) = back h.2 (uncounts_in emptied (if task.table.is_counted then sequence task.schema else None) h.0 h.1)
-  drops_told mode db stop (inr (emptied, is, inr (now, done, inl h))) = back h.2 (subst Told (sym h.1.1) tt)
-  drops_told mode db stop (inr (emptied, is, inr (now, done, inr (doubt, tested, inl (None, none, same))))) = back same tt
-  drops_told mode db stop (inr (emptied, is, inr (now, done, inr (doubt, tested, inl (Some e, none, same))))) = absurd none
-  drops_told mode db stop (inr (emptied, is, inr (now, done, inr (doubt, tested, inr (after, left, h))))) = gave h
+  drops_reported : (mode : Mode) (db : Trees) (stop : Option Error) → Drops task mode db (Err stop) → Reported stop
+  drops_reported mode db stop (inl h) = back h.2 (empties_reported db h.0 h.1)
+  drops_reported mode db stop (inr (emptied, is, inl h)) = back h.2 (uncounts_in emptied (if task.table.is_counted then sequence task.schema else None) h.0 h.1)
+  drops_reported mode db stop (inr (emptied, is, inr (now, done, inl h))) = back h.2 (subst Reported (sym h.1.1) tt)
+  drops_reported mode db stop (inr (emptied, is, inr (now, done, inr (doubt, tested, inl (None, none, same))))) = back same tt
+  drops_reported mode db stop (inr (emptied, is, inr (now, done, inr (doubt, tested, inl (Some e, none, same))))) = absurd none
+  drops_reported mode db stop (inr (emptied, is, inr (now, done, inr (doubt, tested, inr (after, left, h))))) = gave h
 
 -- ---- tables, indexes and views
 
-makes_table : (text : List ℕ) (db : Database) (stop : Option Error) → MakesTable text db (Err stop) → Told stop
+makes_table : (text : List ℕ) (db : Database) (stop : Option Error) → MakesTable text db (Err stop) → Reported stop
 makes_table text db None h = tt
 makes_table text db (Some e) (inl h) = of h.1 tt
-makes_table text db (Some e) (inr h) = of h.2 (alter_told h.0)
+makes_table text db (Some e) (inr h) = of h.2 (alter_reported h.0)
 
-makes_sequence : (db : Database) (stop : Option Error) → MakesSequence db (Err stop) → Told stop
+makes_sequence : (db : Database) (stop : Option Error) → MakesSequence db (Err stop) → Reported stop
 makes_sequence db stop h = by_bool (lacks_sequence db.schema) (makes_table sequence_text db stop) gave h
 
-makes_index : (text : List ℕ) (db : Database) (table : Table) (stop : Option Error) → MakesIndex text db table (Err stop) → Told stop
+makes_index : (text : List ℕ) (db : Database) (table : Table) (stop : Option Error) → MakesIndex text db table (Err stop) → Reported stop
 makes_index text db table None h = tt
 makes_index text db table (Some e) (inl h) = of h.1 tt
-makes_index text db table (Some e) (inr h) = of h.2 (alter_told h.0)
+makes_index text db table (Some e) (inr h) = of h.2 (alter_reported h.0)
 
-makes_view : (text : List ℕ) (db : Database) (stop : Option Error) → MakesView text db (Err stop) → Told stop
+makes_view : (text : List ℕ) (db : Database) (stop : Option Error) → MakesView text db (Err stop) → Reported stop
 makes_view text db None h = tt
 makes_view text db (Some e) (inl h) = of h.1 tt
-makes_view text db (Some e) (inr h) = of h.2 (alter_told h.0)
+makes_view text db (Some e) (inr h) = of h.2 (alter_reported h.0)
 
-leaves_told : (schema : Schema) (db : Trees) (Refused : Error → Type 0) → ((e : Error) → Refused e → NeedsNoFault e) → (stop : Option Error) → Leaves schema db Refused (Err stop) → Told stop
-leaves_told schema db Refused fine None h = tt
-leaves_told schema db Refused fine (Some e) h = fine e h
+leaves_reported : (schema : Schema) (db : Trees) (Refused : Error → Type 0) → ((e : Error) → Refused e → NeedsNoFault e) → (stop : Option Error) → Leaves schema db Refused (Err stop) → Reported stop
+leaves_reported schema db Refused fine None h = tt
+leaves_reported schema db Refused fine (Some e) h = fine e h
 
-defines_told : (mode : Mode) (Makes : Part Database) → ((stop : Option Error) → Makes (Err stop) → Told stop) → (stop : Option Error) → Defines mode Makes (Err stop) → Told stop
-defines_told mode Makes fine stop (inl h) = back h.2 (fine h.0 h.1)
-defines_told mode Makes fine stop (inr (after, made, h)) = gave h
+defines_reported : (mode : Mode) (Makes : Part Database) → ((stop : Option Error) → Makes (Err stop) → Reported stop) → (stop : Option Error) → Defines mode Makes (Err stop) → Reported stop
+defines_reported mode Makes fine stop (inl h) = back h.2 (fine h.0 h.1)
+defines_reported mode Makes fine stop (inr (after, made, h)) = gave h
 
-at_place : {X A : Type 0} (P : X → Part A) (o : Option X) → ((x : X) (stop : Option Error) → P x (Err stop) → Told stop) → (stop : Option Error) → AtPlace P o (Err stop) → Told stop
+at_place : {X A : Type 0} (P : X → Part A) (o : Option X) → ((x : X) (stop : Option Error) → P x (Err stop) → Reported stop) → (stop : Option Error) → AtPlace P o (Err stop) → Reported stop
 at_place P None fine stop h = no_query h
 at_place P (Some x) fine stop h = fine x stop h
 
 module _ (limit : Option ℕ) (mode : Mode) (params : Row) (db : Database) where
-  redefines_told : (text : List ℕ) (command : Command) (stop : Option Error) → Redefines limit mode params db text command (Err stop) → Told stop
-  redefines_told text CreateTable stop (inl (s, inl h, same)) = back same (back h.2 (makes_table text db h.0 h.1))
-  redefines_told text CreateTable stop (inl (s, inr (made, is, h), same)) = back same (makes_sequence made s h)
-  redefines_told text CreateTable stop (inr (after, made, h)) = gave h
-  redefines_told text (CreateIndex at) stop h = at_place _ (slice_get db.schema.tables at) (λ table s k. defines_told mode (MakesIndex text db table) (makes_index text db table) s k) stop h
-  redefines_told text CreateView stop h = defines_told mode (MakesView text db) (makes_view text db) stop h
-  redefines_told text (DropTable at) stop h = at_place _ (slice_get db.schema.tables at) (λ table s k. drops_told (record { limit = limit; keys = mode.keys; schema = db.schema; table = table; params = params }) mode db.trees s k) stop h
-  redefines_told text (DropIndex at) stop h =
-      at_place _ (slice_get db.schema.indexes at) (λ index s k. defines_told mode (Leaves _ db.trees _) (λ x l. leaves_told (without_index db.schema index.tree) db.trees _ (λ e r. of r.2 (alter_told r.0)) x l) s k) stop h
-  redefines_told text (DropView at) stop h =
-      at_place _ (slice_get db.schema.views at) (λ view s k. defines_told mode (Leaves _ db.trees (IsKeptAside view)) (λ x l. leaves_told (without_view db.schema view.tree) db.trees (IsKeptAside view) (λ e r. of r.1 tt) x l) s k) stop h
-  redefines_told text (Select q names) stop h = no_query h
-  redefines_told text (Insert at from) stop h = no_query h
-  redefines_told text (InsertOr at way from clauses) stop h = no_query h
-  redefines_told text (Update at q) stop h = no_query h
-  redefines_told text (Delete at q) stop h = no_query h
-  redefines_told text (Rows values width names) stop h = no_query h
-  redefines_told text Begin stop h = no_query h
-  redefines_told text Commit stop h = no_query h
-  redefines_told text Rollback stop h = no_query h
-  redefines_told text (Savepoint name) stop h = no_query h
-  redefines_told text (Release name) stop h = no_query h
-  redefines_told text (RollbackTo name) stop h = no_query h
-  redefines_told text Nothing stop h = no_query h
+  redefines_reported : (text : List ℕ) (command : Command) (stop : Option Error) → Redefines limit mode params db text command (Err stop) → Reported stop
+  redefines_reported text CreateTable stop (inl (s, inl h, same)) = back same (back h.2 (makes_table text db h.0 h.1))
+  redefines_reported text CreateTable stop (inl (s, inr (made, is, h), same)) = back same (makes_sequence made s h)
+  redefines_reported text CreateTable stop (inr (after, made, h)) = gave h
+  redefines_reported text (CreateIndex at) stop h = at_place _ (slice_get db.schema.tables at) (λ table s k. defines_reported mode (MakesIndex text db table) (makes_index text db table) s k) stop h
+  redefines_reported text CreateView stop h = defines_reported mode (MakesView text db) (makes_view text db) stop h
+  redefines_reported text (DropTable at) stop h = at_place _ (slice_get db.schema.tables at) (λ table s k. drops_reported (record { limit = limit; keys = mode.keys; schema = db.schema; table = table; params = params }) mode db.trees s k) stop h
+  redefines_reported text (DropIndex at) stop h =
+      at_place _ (slice_get db.schema.indexes at) (λ index s k. defines_reported mode (Leaves _ db.trees _) (λ x l. leaves_reported (without_index db.schema index.tree) db.trees _ (λ e r. of r.2 (alter_reported r.0)) x l) s k) stop h
+  redefines_reported text (DropView at) stop h =
+      at_place _ (slice_get db.schema.views at) (λ view s k. defines_reported mode (Leaves _ db.trees (IsKeptAside view)) (λ x l. leaves_reported (without_view db.schema view.tree) db.trees (IsKeptAside view) (λ e r. of r.1 tt) x l) s k) stop h
+  redefines_reported text (Select q names) stop h = no_query h
+  redefines_reported text (Insert at from) stop h = no_query h
+  redefines_reported text (InsertOr at way from clauses) stop h = no_query h
+  redefines_reported text (Update at q) stop h = no_query h
+  redefines_reported text (Delete at q) stop h = no_query h
+  redefines_reported text (Rows values width names) stop h = no_query h
+  redefines_reported text Begin stop h = no_query h
+  redefines_reported text Commit stop h = no_query h
+  redefines_reported text Rollback stop h = no_query h
+  redefines_reported text (Savepoint name) stop h = no_query h
+  redefines_reported text (Release name) stop h = no_query h
+  redefines_reported text (RollbackTo name) stop h = no_query h
+  redefines_reported text Nothing stop h = no_query h
 
   -- outside the rows of a table RETURNING has no meaning
   plainly : (text : List ℕ) (returning : Option Returning) (command : Command) (stop : Option Error)
-      → MatchBool (is_some returning) (◌≡◌ {A = Outcome (Tally × Database)} (Err stop) (Err (Some InvalidQuery))) (Redefines limit mode params db text command (Err stop)) → Told stop
-  plainly text returning command stop h = by_bool (is_some returning) no_query (redefines_told text command stop) h
+      → MatchBool (is_some returning) (◌≡◌ {A = Outcome (Tally × Database)} (Err stop) (Err (Some InvalidQuery))) (Redefines limit mode params db text command (Err stop)) → Reported stop
+  plainly text returning command stop h = by_bool (is_some returning) no_query (redefines_reported text command stop) h
 
   on_table : (returning : Option Returning) (at : ℕ) (command : Command) (stop : Option Error)
-      → AtPlace (λ table. OnRows (record { limit = limit; keys = mode.keys; schema = db.schema; table = table; params = params }) mode returning command db.trees) (slice_get db.schema.tables at) (Err stop) → Told stop
-  on_table returning at command stop h = at_place _ (slice_get db.schema.tables at) (λ table s k. on_rows_told (record { limit = limit; keys = mode.keys; schema = db.schema; table = table; params = params }) mode returning command db.trees s k) stop h
+      → AtPlace (λ table. OnRows (record { limit = limit; keys = mode.keys; schema = db.schema; table = table; params = params }) mode returning command db.trees) (slice_get db.schema.tables at) (Err stop) → Reported stop
+  on_table returning at command stop h = at_place _ (slice_get db.schema.tables at) (λ table s k. on_rows_reported (record { limit = limit; keys = mode.keys; schema = db.schema; table = table; params = params }) mode returning command db.trees s k) stop h
 
-  does_told : (text : List ℕ) (returning : Option Returning) (command : Command) (stop : Option Error) → Does limit mode params db text returning command (Err stop) → Told stop
-  does_told text returning (Insert at from) stop h = on_table returning at (Insert at from) stop h
-  does_told text returning (InsertOr at way from clauses) stop h = on_table returning at (InsertOr at way from clauses) stop h
-  does_told text returning (Update at q) stop h = on_table returning at (Update at q) stop h
-  does_told text returning (Delete at q) stop h = on_table returning at (Delete at q) stop h
-  does_told text returning (Select q names) stop h = plainly text returning (Select q names) stop h
-  does_told text returning (Rows values width names) stop h = plainly text returning (Rows values width names) stop h
-  does_told text returning CreateTable stop h = plainly text returning CreateTable stop h
-  does_told text returning (CreateIndex at) stop h = plainly text returning (CreateIndex at) stop h
-  does_told text returning CreateView stop h = plainly text returning CreateView stop h
-  does_told text returning (DropTable at) stop h = plainly text returning (DropTable at) stop h
-  does_told text returning (DropIndex at) stop h = plainly text returning (DropIndex at) stop h
-  does_told text returning (DropView at) stop h = plainly text returning (DropView at) stop h
-  does_told text returning Begin stop h = plainly text returning Begin stop h
-  does_told text returning Commit stop h = plainly text returning Commit stop h
-  does_told text returning Rollback stop h = plainly text returning Rollback stop h
-  does_told text returning (Savepoint name) stop h = plainly text returning (Savepoint name) stop h
-  does_told text returning (Release name) stop h = plainly text returning (Release name) stop h
-  does_told text returning (RollbackTo name) stop h = plainly text returning (RollbackTo name) stop h
-  does_told text returning Nothing stop h = plainly text returning Nothing stop h
+  does_reported : (text : List ℕ) (returning : Option Returning) (command : Command) (stop : Option Error) → Does limit mode params db text returning command (Err stop) → Reported stop
+  does_reported text returning (Insert at from) stop h = on_table returning at (Insert at from) stop h
+  does_reported text returning (InsertOr at way from clauses) stop h = on_table returning at (InsertOr at way from clauses) stop h
+  does_reported text returning (Update at q) stop h = on_table returning at (Update at q) stop h
+  does_reported text returning (Delete at q) stop h = on_table returning at (Delete at q) stop h
+  does_reported text returning (Select q names) stop h = plainly text returning (Select q names) stop h
+  does_reported text returning (Rows values width names) stop h = plainly text returning (Rows values width names) stop h
+  does_reported text returning CreateTable stop h = plainly text returning CreateTable stop h
+  does_reported text returning (CreateIndex at) stop h = plainly text returning (CreateIndex at) stop h
+  does_reported text returning CreateView stop h = plainly text returning CreateView stop h
+  does_reported text returning (DropTable at) stop h = plainly text returning (DropTable at) stop h
+  does_reported text returning (DropIndex at) stop h = plainly text returning (DropIndex at) stop h
+  does_reported text returning (DropView at) stop h = plainly text returning (DropView at) stop h
+  does_reported text returning Begin stop h = plainly text returning Begin stop h
+  does_reported text returning Commit stop h = plainly text returning Commit stop h
+  does_reported text returning Rollback stop h = plainly text returning Rollback stop h
+  does_reported text returning (Savepoint name) stop h = plainly text returning (Savepoint name) stop h
+  does_reported text returning (Release name) stop h = plainly text returning (Release name) stop h
+  does_reported text returning (RollbackTo name) stop h = plainly text returning (RollbackTo name) stop h
+  does_reported text returning Nothing stop h = plainly text returning Nothing stop h
 
 -- ---- failures
 
@@ -356,21 +356,21 @@ faultless_next a b c good kept clean fewer = (
 
 module _ (old new : State) (good : NoFault old new) where
   failed : (big : Type 0) (e : Error) → Fails old new big e → NeedsNoFault e
-  failed big e (OutOfMemory, is, cause, rolled, told) = of is tt
-  failed big e (Io, is, cause, rolled, told) = absurd (omega (arith, cause, good.1, good.2))
-  failed big e (Corrupt, is, cause, rolled, told) = absurd (omega (arith, cause, good.1, good.2))
-  failed big e (Full, is, cause, rolled, told) = absurd (omega (arith, cause, good.1, good.2))
-  failed big e (Broken, is, cause, rolled, told) = absurd (let x = cause in let y = good.0 in cc)
-  failed big e (Unstorable, is, cause, rolled, told) = of is tt
+  failed big e (OutOfMemory, is, cause, rolled, reported) = of is tt
+  failed big e (Io, is, cause, rolled, reported) = absurd (omega (arith, cause, good.1, good.2))
+  failed big e (Corrupt, is, cause, rolled, reported) = absurd (omega (arith, cause, good.1, good.2))
+  failed big e (Full, is, cause, rolled, reported) = absurd (omega (arith, cause, good.1, good.2))
+  failed big e (Broken, is, cause, rolled, reported) = absurd (let x = cause in let y = good.0 in cc)
+  failed big e (Unstorable, is, cause, rolled, reported) = of is tt
 
   -- where no size is too great, only want of memory is left
   pub failed_wants : (e : Error) → Fails old new ⊥ e → IsWant e
-  failed_wants e (OutOfMemory, is, cause, rolled, told) = is
-  failed_wants e (Io, is, cause, rolled, told) = absurd (omega (arith, cause, good.1, good.2))
-  failed_wants e (Corrupt, is, cause, rolled, told) = absurd (omega (arith, cause, good.1, good.2))
-  failed_wants e (Full, is, cause, rolled, told) = absurd (omega (arith, cause, good.1, good.2))
-  failed_wants e (Broken, is, cause, rolled, told) = absurd (let x = cause in let y = good.0 in cc)
-  failed_wants e (Unstorable, is, cause, rolled, told) = absurd cause
+  failed_wants e (OutOfMemory, is, cause, rolled, reported) = is
+  failed_wants e (Io, is, cause, rolled, reported) = absurd (omega (arith, cause, good.1, good.2))
+  failed_wants e (Corrupt, is, cause, rolled, reported) = absurd (omega (arith, cause, good.1, good.2))
+  failed_wants e (Full, is, cause, rolled, reported) = absurd (omega (arith, cause, good.1, good.2))
+  failed_wants e (Broken, is, cause, rolled, reported) = absurd (let x = cause in let y = good.0 in cc)
+  failed_wants e (Unstorable, is, cause, rolled, reported) = absurd cause
 
   no_statement : (sql : List ℕ) (params : Row) (e : Error) → IsNoStatement old sql params e → NeedsNoFault e
   no_statement sql params e (inl h) = of h.2 tt
@@ -390,7 +390,7 @@ module _ (old new : State) (good : NoFault old new) where
   ran : (sql : List ℕ) (c : Compiled) (params : Row) (e : Error) → RunsCommand old new sql c params (Err e) → NeedsNoFault e
   ran sql c params e (inl h) = elim h.0 [
     | inl wrong ↦ misplaced c.command e wrong
-    | inr does ↦ does_told old.step_limit (mode_of old) params old.now (text_of sql c) c.returning c.command (Some e) does.1
+    | inr does ↦ does_reported old.step_limit (mode_of old) params old.now (text_of sql c) c.returning c.command (Some e) does.1
   ]
   ran sql c params e (inr h) = failed _ e h
 
@@ -414,7 +414,7 @@ module _ (old new : State) (good : NoFault old new) where
 
 -- the error of a call is handed on
 pub handed_on : {T E : Type 0} (P : E → Type 0) (r : Result T E) (e : E) → IsErrAnd r (λ x. x ≡ e) → P e → IfErr r P
-handed_on P r e h p = let told = err_from_is_err_and r h in rw told.1 (subst P (sym told.2) p)
+handed_on P r e h p = let reported = err_from_is_err_and r h in rw reported.1 (subst P (sym reported.2) p)
 
 -- as `transaction` begins it
 pub faultless_begun : {S : Type 0} (g : Ghosts S) (old begun new : Held S) → begun ≡ record old { in_transaction = true } → IsFaultless g old new → IsFaultless g begun new
@@ -433,6 +433,6 @@ module _ {S : Type 0} (g : Ghosts S) (old new : Held S) (good : IsFaultless g ol
   commit_needs_none e h = committing (state g old) (state g new) good e h
 
 -- the error that is told where SQLite chose the rowid
-pub chosen_needs_none : (e told : Error) → NeedsNoFault e → ((e ≡ SqliteFailure (code.ConstraintViolation PrimaryKey)) × (told ≡ SqliteFailure code.DatabaseCorrupt)) ⊎ ((told ≡ e) × (e ≢ SqliteFailure (code.ConstraintViolation PrimaryKey))) → NeedsNoFaultOnRevisions told
-chosen_needs_none e told fine (inl corrupt) = inr corrupt.1
-chosen_needs_none e told fine (inr other) = inl (of other.0 fine)
+pub chosen_needs_none : (e reported : Error) → NeedsNoFault e → ((e ≡ SqliteFailure (code.ConstraintViolation PrimaryKey)) × (reported ≡ SqliteFailure code.DatabaseCorrupt)) ⊎ ((reported ≡ e) × (e ≢ SqliteFailure (code.ConstraintViolation PrimaryKey))) → NeedsNoFaultOnRevisions reported
+chosen_needs_none e reported fine (inl corrupt) = inr corrupt.1
+chosen_needs_none e reported fine (inr other) = inl (of other.0 fine)

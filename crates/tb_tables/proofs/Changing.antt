@@ -19,7 +19,7 @@ use Rattle.sqlite_rules.specs.Edit.{without_all}
 use Rattle.sqlite_rules.specs.Calls.{ids_of}
 use Rattle.sqlite_tied.specs.Compute.{everything}
 use Rattle.tb_tables.specs.Layout.{desk_schema, batches, sentences, totals, pulled}
-use Rattle.tb_tables.specs.Records.{Tables, Stands, Shows, Batch, Sentence, Total, numbered, batch_shown, sentence_shown, total_shown, batch_view, sentence_view, total_view}
+use Rattle.tb_tables.specs.Records.{Tables, AreStored, Shows, Batch, Sentence, Total, numbered, batch_shown, sentence_shown, total_shown, batch_view, sentence_view, total_view}
 use Rattle.tb_tables.specs.Failing.{IsShort, IsWhole, AreApart, AreUnique}
 use Rattle.tb_tables.proofs.Texts.{simple, by_number, update_batch, update_batch_is, update_batch_terms, update_sentence, update_sentence_is, update_sentence_terms, update_total, update_total_is, update_total_terms, delete_pulled, delete_pulled_is, delete_pulled_terms}
 use Rattle.tb_tables.proofs.Lists.{cast_int, cast_null, found_one}
@@ -89,7 +89,7 @@ batch_given db n st worker e (inr (inl (is, inl h))) = h
 batch_given db n st worker e (inr (inl (is, inr h))) = h.4
 batch_given db n st worker e (inr (inr h)) = let x = h.1 in absurd cc
 
-module _ (d : Tables) (db : Trees) (stands : Stands d db) (unique : AreUnique d) (n : ℕ) (st : ℕ) (worker : List ℕ) (at : n ≡ 1 + (n - 1)) (fits : n < 2 ^ 63) (rows : List Row)
+module _ (d : Tables) (db : Trees) (stands : AreStored d db) (unique : AreUnique d) (n : ℕ) (st : ℕ) (worker : List ℕ) (at : n ≡ 1 + (n - 1)) (fits : n < 2 ^ 63) (rows : List Row)
     (answers : Answers (record { schema = desk_schema; trees = db }) batch_query (batch_params n st worker) rows) where
   batch_allowed : (found : Option Batch) → slice_get d.batches (n - 1) ≡ found → IsAllowed (IsLongBatch d n worker) db (edit_of db batches (ids_of rows) Given 1 rows)
   batch_allowed None is =
@@ -124,7 +124,7 @@ module _ (d : Tables) (db : Trees) (stands : Stands d db) (unique : AreUnique d)
         big = λ h short named. batch_fits n after (named b is) short h.0 h.1 h.2;
       })
 
-pub batch_fails : (old new : State) (d : Tables) (n : ℕ) (st : ℕ) (worker : List ℕ) (e : Error) → old.now.schema ≡ desk_schema → old.step_limit ≡ None → Stands d old.now.trees → 0 < n → n < 2 ^ 63 → AreUnique d
+pub batch_fails : (old new : State) (d : Tables) (n : ℕ) (st : ℕ) (worker : List ℕ) (e : Error) → old.now.schema ≡ desk_schema → old.step_limit ≡ None → AreStored d old.now.trees → 0 < n → n < 2 ^ 63 → AreUnique d
     → ExecutesInside 0 update_batch (batch_params n st worker) old new (Err e) → Fails old new (IsLongBatch d n worker) e
 batch_fails old new d n st worker e has unlimited stands positive fits unique ran =
     let db = old.now.trees in
@@ -155,7 +155,7 @@ sentence_given db n rev words e (inr (inl (is, inl h))) = h
 sentence_given db n rev words e (inr (inl (is, inr h))) = h.4
 sentence_given db n rev words e (inr (inr h)) = let x = h.1 in absurd cc
 
-module _ (d : Tables) (db : Trees) (stands : Stands d db) (unique : AreUnique d) (n : ℕ) (rev : ℕ) (words : ℕ) (at : n ≡ 1 + (n - 1)) (fits : n < 2 ^ 63) (rows : List Row)
+module _ (d : Tables) (db : Trees) (stands : AreStored d db) (unique : AreUnique d) (n : ℕ) (rev : ℕ) (words : ℕ) (at : n ≡ 1 + (n - 1)) (fits : n < 2 ^ 63) (rows : List Row)
     (answers : Answers (record { schema = desk_schema; trees = db }) sentence_query (sentence_params n rev words) rows) where
   sentence_allowed : (found : Option Sentence) → slice_get d.sentences (n - 1) ≡ found → IsAllowed (IsLongSentence d n) db (edit_of db sentences (ids_of rows) Given 1 rows)
   sentence_allowed None is =
@@ -191,7 +191,7 @@ module _ (d : Tables) (db : Trees) (stands : Stands d db) (unique : AreUnique d)
         big = λ h named. sentence_fits n after (named b is) h.0 h.1 h.2;
       })
 
-pub sentence_fails : (old new : State) (d : Tables) (n : ℕ) (rev : ℕ) (words : ℕ) (e : Error) → old.now.schema ≡ desk_schema → old.step_limit ≡ None → Stands d old.now.trees → 0 < n → n < 2 ^ 63 → AreUnique d
+pub sentence_fails : (old new : State) (d : Tables) (n : ℕ) (rev : ℕ) (words : ℕ) (e : Error) → old.now.schema ≡ desk_schema → old.step_limit ≡ None → AreStored d old.now.trees → 0 < n → n < 2 ^ 63 → AreUnique d
     → ExecutesInside 0 update_sentence (sentence_params n rev words) old new (Err e) → Fails old new (IsLongSentence d n) e
 sentence_fails old new d n rev words e has unlimited stands positive fits unique ran =
     let db = old.now.trees in
@@ -222,7 +222,7 @@ total_given db n count words e (inr (inl (is, inl h))) = h
 total_given db n count words e (inr (inl (is, inr h))) = h.4
 total_given db n count words e (inr (inr h)) = let x = h.1 in absurd cc
 
-module _ (d : Tables) (db : Trees) (stands : Stands d db) (unique : AreUnique d) (n : ℕ) (count : ℕ) (words : ℕ) (at : n ≡ 1 + (n - 1)) (fits : n < 2 ^ 63) (rows : List Row)
+module _ (d : Tables) (db : Trees) (stands : AreStored d db) (unique : AreUnique d) (n : ℕ) (count : ℕ) (words : ℕ) (at : n ≡ 1 + (n - 1)) (fits : n < 2 ^ 63) (rows : List Row)
     (answers : Answers (record { schema = desk_schema; trees = db }) total_query (total_params n count words) rows) where
   total_allowed : (found : Option Total) → slice_get d.totals (n - 1) ≡ found → IsAllowed ⊥ db (edit_of db totals (ids_of rows) Given 1 rows)
   total_allowed None is =
@@ -255,7 +255,7 @@ module _ (d : Tables) (db : Trees) (stands : Stands d db) (unique : AreUnique d)
         big = λ h. total_fits n after h.0 h.1 h.2;
       })
 
-pub total_fails : (old new : State) (d : Tables) (n : ℕ) (count : ℕ) (words : ℕ) (e : Error) → old.now.schema ≡ desk_schema → old.step_limit ≡ None → Stands d old.now.trees → 0 < n → n < 2 ^ 63 → AreUnique d
+pub total_fails : (old new : State) (d : Tables) (n : ℕ) (count : ℕ) (words : ℕ) (e : Error) → old.now.schema ≡ desk_schema → old.step_limit ≡ None → AreStored d old.now.trees → 0 < n → n < 2 ^ 63 → AreUnique d
     → ExecutesInside 0 update_total (total_params n count words) old new (Err e) → Fails old new ⊥ e
 total_fails old new d n count words e has unlimited stands positive fits unique ran =
     let db = old.now.trees in
@@ -287,7 +287,7 @@ or_true : (b : Bool) → (b || true) ≡ true
 or_true true = refl
 or_true false = refl
 
-pub delete_fails : (old new : State) (d : Tables) (n : ℕ) (e : Error) → old.now.schema ≡ desk_schema → old.step_limit ≡ None → Stands d old.now.trees → AreUnique d
+pub delete_fails : (old new : State) (d : Tables) (n : ℕ) (e : Error) → old.now.schema ≡ desk_schema → old.step_limit ≡ None → AreStored d old.now.trees → AreUnique d
     → ExecutesInside 0 delete_pulled (Int (pos n) ∷ []) old new (Err e) → Fails old new ⊥ e
 delete_fails old new d n e has unlimited stands unique ran =
     let db = old.now.trees in

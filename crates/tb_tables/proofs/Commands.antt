@@ -13,7 +13,7 @@ use Rattle.sqlite.specs.State.{State, KeepsCommit, IsRolledBack, Shows}
 use Rattle.sqlite.specs.Steps.{FailsToCommit}
 use Rattle.sqlite.specs.declared.error.Error.{Error}
 use Rattle.std.proofs.Common.{inl, inr}
-use Rattle.tb_tables.specs.Records.{Tables, Stands}
+use Rattle.tb_tables.specs.Records.{Tables, AreStored}
 use Rattle.tb_tables.specs.Changes.{IsInside, Changes, Holds}
 use Rattle.tb_tables.specs.Making.{no_schema, IsBlank, IsBare}
 
@@ -42,7 +42,7 @@ changes_then a b c d e f p q = record { inside = q.inside; committed = q.committ
 
 module _ {S : Type 0} (g : Ghosts S) where
   -- as `transaction` leaves it
-  pub begins_inside : (old begun : Held S) (d : Tables) → begun ≡ record old { in_transaction = true } → Holds g old d → IsInside (state g begun) × Stands d (state g begun).now.trees
+  pub begins_inside : (old begun : Held S) (d : Tables) → begun ≡ record old { in_transaction = true } → Holds g old d → IsInside (state g begun) × AreStored d (state g begun).now.trees
   begins_inside old begun d is h = rw is (record { begun = refl; schema = h.schema }, h.stands)
 
   pub begins_kept : (old begun last : Held S) → begun ≡ record old { in_transaction = true } → KeepsCommit (state g begun) (state g last) → KeepsCommit (state g old) (state g last)
@@ -50,14 +50,14 @@ module _ {S : Type 0} (g : Ghosts S) where
       let k = rw is at h in
       record { was_open = k.was_open; committed = k.committed }
 
-  pub committed_holds : (last end : Held S) (after : Tables) → IsInside (state g last) → Stands after (state g last).now.trees → end.in_transaction ≡ false
+  pub committed_holds : (last end : Held S) (after : Tables) → IsInside (state g last) → AreStored after (state g last).now.trees → end.in_transaction ≡ false
       → Shows (state g last) (state g end) (state g last).now (state g last).now false → Holds g end after
   committed_holds last end after inside stands ended shows = record {
     autocommit = ended;
     is_open = shows.is_open;
     schema = ap (λ (d : Database). d.schema) shows.now_is ∙ inside.schema;
     settled = shows.committed_is ∙ sym shows.now_is;
-    stands = subst (λ (d : Database). Stands after d.trees) (sym shows.now_is) stands;
+    stands = subst (λ (d : Database). AreStored after d.trees) (sym shows.now_is) stands;
   }
 
   pub undone_holds : (old last end : Held S) (d : Tables) → Holds g old d → KeepsCommit (state g old) (state g last) → end.in_transaction ≡ false → IsTrue (state g end).is_open
@@ -70,7 +70,7 @@ module _ {S : Type 0} (g : Ghosts S) where
         is_open = opened;
         schema = ap (λ (b : Database). b.schema) (before.0 ∙ same) ∙ h.schema;
         settled = before.1 ∙ sym before.0;
-        stands = subst (λ (b : Database). Stands d b.trees) (sym (before.0 ∙ same)) h.stands;
+        stands = subst (λ (b : Database). AreStored d b.trees) (sym (before.0 ∙ same)) h.stands;
       }
 
   pub failed_back : (last end : Held S) (e : Error) → IsTrue (state g last).in_transaction → FailsToCommit (state g last) (state g end) e → IsRolledBack (state g last) (state g end)
@@ -83,7 +83,7 @@ module _ {S : Type 0} (g : Ghosts S) where
     is_open = same.0.is_open;
     schema = ap (λ (b : Database). b.schema) same.0.now_is ∙ h.schema;
     settled = same.0.committed_is ∙ h.settled ∙ sym same.0.now_is;
-    stands = subst (λ (b : Database). Stands d b.trees) (sym same.0.now_is) h.stands;
+    stands = subst (λ (b : Database). AreStored d b.trees) (sym same.0.now_is) h.stands;
   }
 
   -- ---- the same of a database that is still blank

@@ -29,7 +29,7 @@ use Rattle.sqlite_sql.specs.Ops.{fits_i64}
 use Rattle.sqlite_trees.specs.declared.error.StoreError.TheVariants.{Corrupt}
 use Rattle.sqlite_tied.specs.Compute.{everything}
 use Rattle.tb_tables.specs.Layout.{desk_schema, batches, sentences, revisions, moves, pulled}
-use Rattle.tb_tables.specs.Records.{Tables, Stands, Shows, Batch, Sentence, Revision, Move, numbered, batch_shown, sentence_shown, revision_shown, move_shown, number_shown, batch_view, sentence_view, revision_view, move_view, number_view}
+use Rattle.tb_tables.specs.Records.{Tables, AreStored, Shows, Batch, Sentence, Revision, Move, numbered, batch_shown, sentence_shown, revision_shown, move_shown, number_shown, batch_view, sentence_view, revision_view, move_view, number_view}
 use Rattle.tb_tables.specs.Changes.{with_batch, with_sentence, with_revision}
 use Rattle.tb_tables.specs.Failing.{IsRoomFault, IsWant, IsShort, HasRowids, IsWhole, Lacks, AreUnique}
 use Rattle.tb_tables.proofs.Texts.{insert_batch, insert_batch_is, insert_batch_terms, insert_sentence, insert_sentence_is, insert_sentence_terms, insert_revision, insert_revision_is, insert_revision_terms, insert_move, insert_move_is, insert_move_terms, insert_pulled, insert_pulled_is, insert_pulled_terms}
@@ -86,7 +86,7 @@ unfolding everything
 batch_given db n b e (inl h) = let x = h.1 in absurd cc
 batch_given db n b e (inr h) = let x = h.1 in absurd cc
 
-pub batch_fails : (old new : State) (d : Tables) (n : ℕ) (b : Batch) (e : Error) → old.now.schema ≡ desk_schema → old.step_limit ≡ None → Stands d old.now.trees → n < 2 ^ 63 → n ≡ 1 + length d.batches → AreUnique (with_batch d b)
+pub batch_fails : (old new : State) (d : Tables) (n : ℕ) (b : Batch) (e : Error) → old.now.schema ≡ desk_schema → old.step_limit ≡ None → AreStored d old.now.trees → n < 2 ^ 63 → n ≡ 1 + length d.batches → AreUnique (with_batch d b)
     → ExecutesInside 0 insert_batch (batch_params n b) old new (Err e) → Fails old new (IsShort b.name → IsShort b.worker → ⊥) e
 batch_fails old new d n b e has unlimited stands fits next unique ran =
     let db = old.now.trees in
@@ -120,7 +120,7 @@ unfolding everything
 sentence_given db n s e (inl h) = let x = h.1 in absurd cc
 sentence_given db n s e (inr h) = let x = h.1 in absurd cc
 
-pub sentence_fails : (old new : State) (d : Tables) (n : ℕ) (s : Sentence) (e : Error) → old.now.schema ≡ desk_schema → old.step_limit ≡ None → Stands d old.now.trees → n < 2 ^ 63 → n ≡ 1 + length d.sentences → AreUnique (with_sentence d s)
+pub sentence_fails : (old new : State) (d : Tables) (n : ℕ) (s : Sentence) (e : Error) → old.now.schema ≡ desk_schema → old.step_limit ≡ None → AreStored d old.now.trees → n < 2 ^ 63 → n ≡ 1 + length d.sentences → AreUnique (with_sentence d s)
     → ExecutesInside 0 insert_sentence (sentence_params n s) old new (Err e) → Fails old new (IsShort s.sent_id → ⊥) e
 sentence_fails old new d n s e has unlimited stands fits next unique ran =
     let db = old.now.trees in
@@ -155,7 +155,7 @@ unfolding everything
 move_given db n m e (inl h) = let x = h.1 in absurd cc
 move_given db n m e (inr h) = let x = h.1 in absurd cc
 
-pub move_fails : (old new : State) (d : Tables) (n : ℕ) (m : Move) (e : Error) → old.now.schema ≡ desk_schema → old.step_limit ≡ None → Stands d old.now.trees → n < 2 ^ 63 → n ≡ 1 + length d.moves → AreUnique d
+pub move_fails : (old new : State) (d : Tables) (n : ℕ) (m : Move) (e : Error) → old.now.schema ≡ desk_schema → old.step_limit ≡ None → AreStored d old.now.trees → n < 2 ^ 63 → n ≡ 1 + length d.moves → AreUnique d
     → ExecutesInside 0 insert_move (move_params n m) old new (Err e) → Fails old new (IsShort m.who → ⊥) e
 move_fails old new d n m e has unlimited stands fits next unique ran =
     let db = old.now.trees in
@@ -189,7 +189,7 @@ unfolding everything
 pulled_given db n e (inl h) = let x = h.1 in absurd cc
 pulled_given db n e (inr h) = let x = h.1 in absurd cc
 
-pub pulled_fails : (old new : State) (d : Tables) (n : ℕ) (e : Error) → old.now.schema ≡ desk_schema → old.step_limit ≡ None → Stands d old.now.trees → n < 2 ^ 63 → Lacks d.pulled n → AreUnique d
+pub pulled_fails : (old new : State) (d : Tables) (n : ℕ) (e : Error) → old.now.schema ≡ desk_schema → old.step_limit ≡ None → AreStored d old.now.trees → n < 2 ^ 63 → Lacks d.pulled n → AreUnique d
     → ExecutesInside 0 insert_pulled (pulled_params n) old new (Err e) → Fails old new ⊥ e
 pulled_fails old new d n e has unlimited stands fits lacks unique ran =
     let db = old.now.trees in
@@ -226,7 +226,7 @@ revision_given db r e (inr h) = let x = h.1 in absurd cc
 abbrev IsLongRevision : Revision → Type 0
 IsLongRevision r = IsShort r.who → IsShort r.body → ⊥
 
-module _ (d : Tables) (db : Trees) (r : Revision) (stands : Stands d db) (unique : AreUnique (with_revision d r)) where
+module _ (d : Tables) (db : Trees) (r : Revision) (stands : AreStored d db) (unique : AreUnique (with_revision d r)) where
   abbrev revision_edit : Edit
   revision_edit = one_row revisions (revision_stored (db 5) r)
 
@@ -264,7 +264,7 @@ module _ (d : Tables) (db : Trees) (r : Revision) (stands : Stands d db) (unique
   revision_edit_is : (rows : List Row) → rows ≡ (Null ∷ revision_shown r) ∷ [] → edit_of db revisions [] Chosen 0 rows ≡ revision_edit
   revision_edit_is rows is = rw (is, cast_null, cast_int (pos r.sent), cast_int (pos r.rev)) refl
 
-pub revision_fails : (old new : State) (d : Tables) (r : Revision) (e : Error) → old.now.schema ≡ desk_schema → old.step_limit ≡ None → Stands d old.now.trees → AreUnique (with_revision d r)
+pub revision_fails : (old new : State) (d : Tables) (r : Revision) (e : Error) → old.now.schema ≡ desk_schema → old.step_limit ≡ None → AreStored d old.now.trees → AreUnique (with_revision d r)
     → ExecutesInside 0 insert_revision (revision_shown r) old new (Err e) → Fails old new (IsLongRevision r) e ⊎ IsIdRefusal e
 revision_fails old new d r e has unlimited stands unique ran =
     let db = old.now.trees in
@@ -274,7 +274,7 @@ revision_fails old new d r e has unlimited stands unique ran =
     (λ rows is stop h. id_stops (IsLongRevision r) db (edit_of db revisions [] Chosen 0 rows) stop (subst (IsRuled (IsLongRevision r) db) (sym (revision_edit_is d db r stands unique rows is.1)) ruled) h)) e ran
 
 -- where a rowid is left for it
-pub revision_only_fails : (old new : State) (d : Tables) (r : Revision) (e : Error) → old.now.schema ≡ desk_schema → old.step_limit ≡ None → Stands d old.now.trees → AreUnique (with_revision d r) → HasRowids 1 (old.now.trees 5)
+pub revision_only_fails : (old new : State) (d : Tables) (r : Revision) (e : Error) → old.now.schema ≡ desk_schema → old.step_limit ≡ None → AreStored d old.now.trees → AreUnique (with_revision d r) → HasRowids 1 (old.now.trees 5)
     → ExecutesInside 0 insert_revision (revision_shown r) old new (Err e) → Fails old new (IsLongRevision r) e
 revision_only_fails old new d r e has unlimited stands unique free ran =
     let db = old.now.trees in
@@ -284,13 +284,13 @@ revision_only_fails old new d r e has unlimited stands unique free ran =
     (λ rows is. subst (IsAllowed (IsLongRevision r) db) (sym (revision_edit_is d db r stands unique rows is.1)) allowed)) e ran
 
 -- the error that is told for it
-pub chosen_fails : {Big : Type 0} (old new : State) (e told : Error) → Fails old new Big e ⊎ IsIdRefusal e
-    → ((e ≡ SqliteFailure (code.ConstraintViolation PrimaryKey)) × (told ≡ SqliteFailure code.DatabaseCorrupt)) ⊎ ((told ≡ e) × (e ≢ SqliteFailure (code.ConstraintViolation PrimaryKey))) → IsRoomFault told
-chosen_fails old new e told why (inl corrupt) = inl (Corrupt, corrupt.1)
-chosen_fails old new e told (inl fault) (inr other) = inl (fault.0, other.0 ∙ fault.1)
-chosen_fails old new e told (inr (inl room)) (inr other) = inr (other.0 ∙ room)
-chosen_fails old new e told (inr (inr taken)) (inr other) = absurd (other.1 taken)
+pub chosen_fails : {Big : Type 0} (old new : State) (e reported : Error) → Fails old new Big e ⊎ IsIdRefusal e
+    → ((e ≡ SqliteFailure (code.ConstraintViolation PrimaryKey)) × (reported ≡ SqliteFailure code.DatabaseCorrupt)) ⊎ ((reported ≡ e) × (e ≢ SqliteFailure (code.ConstraintViolation PrimaryKey))) → IsRoomFault reported
+chosen_fails old new e reported why (inl corrupt) = inl (Corrupt, corrupt.1)
+chosen_fails old new e reported (inl fault) (inr other) = inl (fault.0, other.0 ∙ fault.1)
+chosen_fails old new e reported (inr (inl room)) (inr other) = inr (other.0 ∙ room)
+chosen_fails old new e reported (inr (inr taken)) (inr other) = absurd (other.1 taken)
 
-pub chosen_wants : (e told : Error) → IsWant e → ((e ≡ SqliteFailure (code.ConstraintViolation PrimaryKey)) × (told ≡ SqliteFailure code.DatabaseCorrupt)) ⊎ ((told ≡ e) × (e ≢ SqliteFailure (code.ConstraintViolation PrimaryKey))) → IsWant told
-chosen_wants e told want (inl corrupt) = absurd (let x = corrupt.0 in let y : e ≡ SqliteFailure code.OutOfMemory = want in cc)
-chosen_wants e told want (inr other) = other.0 ∙ want
+pub chosen_wants : (e reported : Error) → IsWant e → ((e ≡ SqliteFailure (code.ConstraintViolation PrimaryKey)) × (reported ≡ SqliteFailure code.DatabaseCorrupt)) ⊎ ((reported ≡ e) × (e ≢ SqliteFailure (code.ConstraintViolation PrimaryKey))) → IsWant reported
+chosen_wants e reported want (inl corrupt) = absurd (let x = corrupt.0 in let y : e ≡ SqliteFailure code.OutOfMemory = want in cc)
+chosen_wants e reported want (inr other) = other.0 ∙ want

@@ -8,7 +8,7 @@ use Rattle.sqlite.specs.Rowids.TheVariants.{Chosen}
 use Rattle.sqlite.specs.State.{State, Executes}
 use Rattle.sqlite.proofs.Callers.{runs_as}
 use Rattle.tb_tables.specs.Layout.{desk_schema, meta, totals}
-use Rattle.tb_tables.specs.Records.{Stands, Shows, meta_view, batch_view, sentence_view, revision_view, move_view, total_view, number_view, number_shown, total_shown, numbered}
+use Rattle.tb_tables.specs.Records.{AreStored, Shows, meta_view, batch_view, sentence_view, revision_view, move_view, total_view, number_view, number_shown, total_shown, numbered}
 use Rattle.tb_tables.specs.Changes.{IsInside}
 use Rattle.tb_tables.specs.Making.{IsBare, IsVersioned, empty_tables}
 use Rattle.tb_tables.proofs.Texts.{insert_version, insert_version_is, insert_version_terms, insert_totals, insert_totals_is, insert_totals_terms}
@@ -53,7 +53,7 @@ six = zeros 1 ∷ zeros 2 ∷ zeros 3 ∷ zeros 4 ∷ zeros 5 ∷ zeros 6 ∷ []
 pub none_shown : (view : Row → Row) (rows : List Row) → rows ≡ [] → Shows view [] rows
 none_shown view rows none = subst (Shows view []) (sym none) (IsPermutation-refl [])
 
-pub filled : (old new : State) (count : ℕ) → IsVersioned old → Executes insert_totals [] old new (Ok count) → IsTrue new.in_transaction → IsInside new × Stands empty_tables new.now.trees
+pub filled : (old new : State) (count : ℕ) → IsVersioned old → Executes insert_totals [] old new (Ok count) → IsTrue new.in_transaction → IsInside new × AreStored empty_tables new.now.trees
 filled old new count start h begun =
     let w = runs_as insert_totals [] old new desk_schema start.inside.schema _ insert_totals_is.0 insert_totals_is.1 count h in
     let e = inserts old new start.inside.schema 5 totals refl insert_totals_terms 4 _ [] count refl w in

@@ -15,3 +15,7 @@ pub mod Failing
 pub mod Changing
 pub mod Creating
 pub mod Causes
+pub mod WriteCommands
+pub mod Numbers
+pub mod Apart
+pub mod WriteFaults

@@ -16,7 +16,7 @@ use Rattle.sqlite.specs.Term.{Term, eval_all}
 use Rattle.sqlite.specs.Query.{Query, inner, end, matches, IsAnswer, output, page, Output}
 use Rattle.sqlite.specs.Program.{overlay}
 use Rattle.tb_tables.specs.Layout.{desk_schema, batches, sentences, revisions, moves, totals, pulled}
-use Rattle.tb_tables.specs.Records.{Revision, Batch, Move, Sentence, Total, Tables, Stands, Shows, numbered, batch_shown, sentence_shown, revision_shown, move_shown, total_shown, number_shown, meta_view, batch_view, sentence_view, revision_view, move_view, total_view, number_view}
+use Rattle.tb_tables.specs.Records.{Revision, Batch, Move, Sentence, Total, Tables, AreStored, Shows, numbered, batch_shown, sentence_shown, revision_shown, move_shown, total_shown, number_shown, meta_view, batch_view, sentence_view, revision_view, move_view, total_view, number_view}
 use Rattle.tb_tables.specs.Changes.{with_batch, with_sentence, with_revision, with_move, with_pulled}
 use Rattle.tb_tables.proofs.Texts.{simple, by_number, insert_batch, insert_batch_is, insert_batch_terms, insert_sentence, insert_sentence_is, insert_sentence_terms, insert_move, insert_move_is, insert_move_terms, insert_pulled, insert_pulled_is, insert_pulled_terms, insert_revision, insert_revision_is, insert_revision_terms, update_batch, update_batch_is, update_sentence, update_sentence_is, update_total, update_total_is, delete_pulled, delete_pulled_is, delete_pulled_terms}
 use Rattle.tb_tables.proofs.Lists.{cast_int, cast_null}
@@ -247,7 +247,7 @@ module _ (old new : State) (tree : ℕ) (rows : List Row) (s : Sets old new tree
   pub same_table : (view : Row → Row) (shown : List Row) (t : ℕ) → t ≢ tree → 2 ≢ t → 4 ≢ t → 6 ≢ t → Shows view shown (old.now.trees t) → Shows view shown (new.now.trees t)
   same_table view shown t apart a b c same = subst (Shows view shown) (sym (s.others t apart (no_index t a b c))) same
 
-pub stands_batch : (old new : State) (d : Tables) (n : ℕ) (b : Batch) → Puts old new 1 (batch_stored n b) → n ≡ 1 + length d.batches → Stands d old.now.trees → Stands (with_batch d b) new.now.trees
+pub stands_batch : (old new : State) (d : Tables) (n : ℕ) (b : Batch) → Puts old new 1 (batch_stored n b) → n ≡ 1 + length d.batches → AreStored d old.now.trees → AreStored (with_batch d b) new.now.trees
 stands_batch old new d n b puts at s = record {
   meta = same_table old new 1 _ puts.sets meta_view _ 0 (λ e. cc) (λ e. cc) (λ e. cc) (λ e. cc) s.meta;
   sentences = same_table old new 1 _ puts.sets sentence_view _ 3 (λ e. cc) (λ e. cc) (λ e. cc) (λ e. cc) s.sentences;
@@ -258,7 +258,7 @@ stands_batch old new d n b puts at s = record {
   batches = subst (Shows batch_view _) (sym puts.sets.rows) (put_numbered batch_view batch_shown n d.batches b (batch_stored n b) (old.now.trees 1) at refl puts.free s.batches);
 }
 
-pub stands_sentence : (old new : State) (d : Tables) (n : ℕ) (x : Sentence) → Puts old new 3 (sentence_stored n x) → n ≡ 1 + length d.sentences → Stands d old.now.trees → Stands (with_sentence d x) new.now.trees
+pub stands_sentence : (old new : State) (d : Tables) (n : ℕ) (x : Sentence) → Puts old new 3 (sentence_stored n x) → n ≡ 1 + length d.sentences → AreStored d old.now.trees → AreStored (with_sentence d x) new.now.trees
 stands_sentence old new d n x puts at s = record {
   meta = same_table old new 3 _ puts.sets meta_view _ 0 (λ e. cc) (λ e. cc) (λ e. cc) (λ e. cc) s.meta;
   batches = same_table old new 3 _ puts.sets batch_view _ 1 (λ e. cc) (λ e. cc) (λ e. cc) (λ e. cc) s.batches;
@@ -269,7 +269,7 @@ stands_sentence old new d n x puts at s = record {
   sentences = subst (Shows sentence_view _) (sym puts.sets.rows) (put_numbered sentence_view sentence_shown n d.sentences x (sentence_stored n x) (old.now.trees 3) at refl puts.free s.sentences);
 }
 
-pub stands_move : (old new : State) (d : Tables) (n : ℕ) (m : Move) → Puts old new 7 (move_stored n m) → n ≡ 1 + length d.moves → Stands d old.now.trees → Stands (with_move d m) new.now.trees
+pub stands_move : (old new : State) (d : Tables) (n : ℕ) (m : Move) → Puts old new 7 (move_stored n m) → n ≡ 1 + length d.moves → AreStored d old.now.trees → AreStored (with_move d m) new.now.trees
 stands_move old new d n m puts at s = record {
   meta = same_table old new 7 _ puts.sets meta_view _ 0 (λ e. cc) (λ e. cc) (λ e. cc) (λ e. cc) s.meta;
   batches = same_table old new 7 _ puts.sets batch_view _ 1 (λ e. cc) (λ e. cc) (λ e. cc) (λ e. cc) s.batches;
@@ -280,7 +280,7 @@ stands_move old new d n m puts at s = record {
   moves = subst (Shows move_view _) (sym puts.sets.rows) (put_numbered move_view move_shown n d.moves m (move_stored n m) (old.now.trees 7) at refl puts.free s.moves);
 }
 
-pub stands_revision : (old new : State) (d : Tables) (r : Revision) → Puts old new 5 (revision_stored (old.now.trees 5) r) → Stands d old.now.trees → Stands (with_revision d r) new.now.trees
+pub stands_revision : (old new : State) (d : Tables) (r : Revision) → Puts old new 5 (revision_stored (old.now.trees 5) r) → AreStored d old.now.trees → AreStored (with_revision d r) new.now.trees
 stands_revision old new d r puts s = record {
   meta = same_table old new 5 _ puts.sets meta_view _ 0 (λ e. cc) (λ e. cc) (λ e. cc) (λ e. cc) s.meta;
   batches = same_table old new 5 _ puts.sets batch_view _ 1 (λ e. cc) (λ e. cc) (λ e. cc) (λ e. cc) s.batches;
@@ -291,7 +291,7 @@ stands_revision old new d r puts s = record {
   revisions = subst (Shows revision_view _) (sym puts.sets.rows) (subst (λ l. Shows revision_view l (put_row (revision_stored (old.now.trees 5) r) (old.now.trees 5))) (sym (map-append revision_shown d.revisions (r ∷ []))) (put_shows revision_view (map revision_shown d.revisions) (revision_stored (old.now.trees 5) r) (old.now.trees 5) puts.free s.revisions));
 }
 
-pub stands_pulled : (old new : State) (d : Tables) (n : ℕ) → Puts old new 9 (pulled_stored n) → Stands d old.now.trees → Stands (with_pulled d n) new.now.trees
+pub stands_pulled : (old new : State) (d : Tables) (n : ℕ) → Puts old new 9 (pulled_stored n) → AreStored d old.now.trees → AreStored (with_pulled d n) new.now.trees
 stands_pulled old new d n puts s = record {
   meta = same_table old new 9 _ puts.sets meta_view _ 0 (λ e. cc) (λ e. cc) (λ e. cc) (λ e. cc) s.meta;
   batches = same_table old new 9 _ puts.sets batch_view _ 1 (λ e. cc) (λ e. cc) (λ e. cc) (λ e. cc) s.batches;
@@ -302,7 +302,7 @@ stands_pulled old new d n puts s = record {
   pulled = subst (Shows number_view _) (sym puts.sets.rows) (subst (λ l. Shows number_view l (put_row (pulled_stored n) (old.now.trees 9))) (sym (map-append number_shown d.pulled (n ∷ []))) (put_shows number_view (map number_shown d.pulled) (pulled_stored n) (old.now.trees 9) puts.free s.pulled));
 }
 
-pub stands_batches : (old new : State) (d : Tables) (xs : List Batch) (rows : List Row) → Sets old new 1 rows → Shows batch_view (numbered batch_shown 1 xs) rows → Stands d old.now.trees → Stands (record d { batches = xs }) new.now.trees
+pub stands_batches : (old new : State) (d : Tables) (xs : List Batch) (rows : List Row) → Sets old new 1 rows → Shows batch_view (numbered batch_shown 1 xs) rows → AreStored d old.now.trees → AreStored (record d { batches = xs }) new.now.trees
 stands_batches old new d xs rows sets shows s = record {
   meta = same_table old new 1 rows sets meta_view _ 0 (λ e. cc) (λ e. cc) (λ e. cc) (λ e. cc) s.meta;
   sentences = same_table old new 1 rows sets sentence_view _ 3 (λ e. cc) (λ e. cc) (λ e. cc) (λ e. cc) s.sentences;
@@ -313,7 +313,7 @@ stands_batches old new d xs rows sets shows s = record {
   batches = subst (Shows batch_view _) (sym sets.rows) shows;
 }
 
-pub stands_sentences : (old new : State) (d : Tables) (xs : List Sentence) (rows : List Row) → Sets old new 3 rows → Shows sentence_view (numbered sentence_shown 1 xs) rows → Stands d old.now.trees → Stands (record d { sentences = xs }) new.now.trees
+pub stands_sentences : (old new : State) (d : Tables) (xs : List Sentence) (rows : List Row) → Sets old new 3 rows → Shows sentence_view (numbered sentence_shown 1 xs) rows → AreStored d old.now.trees → AreStored (record d { sentences = xs }) new.now.trees
 stands_sentences old new d xs rows sets shows s = record {
   meta = same_table old new 3 rows sets meta_view _ 0 (λ e. cc) (λ e. cc) (λ e. cc) (λ e. cc) s.meta;
   batches = same_table old new 3 rows sets batch_view _ 1 (λ e. cc) (λ e. cc) (λ e. cc) (λ e. cc) s.batches;
@@ -324,7 +324,7 @@ stands_sentences old new d xs rows sets shows s = record {
   sentences = subst (Shows sentence_view _) (sym sets.rows) shows;
 }
 
-pub stands_totals : (old new : State) (d : Tables) (xs : List Total) (rows : List Row) → Sets old new 8 rows → Shows total_view (numbered total_shown 1 xs) rows → Stands d old.now.trees → Stands (record d { totals = xs }) new.now.trees
+pub stands_totals : (old new : State) (d : Tables) (xs : List Total) (rows : List Row) → Sets old new 8 rows → Shows total_view (numbered total_shown 1 xs) rows → AreStored d old.now.trees → AreStored (record d { totals = xs }) new.now.trees
 stands_totals old new d xs rows sets shows s = record {
   meta = same_table old new 8 rows sets meta_view _ 0 (λ e. cc) (λ e. cc) (λ e. cc) (λ e. cc) s.meta;
   batches = same_table old new 8 rows sets batch_view _ 1 (λ e. cc) (λ e. cc) (λ e. cc) (λ e. cc) s.batches;
@@ -335,7 +335,7 @@ stands_totals old new d xs rows sets shows s = record {
   totals = subst (Shows total_view _) (sym sets.rows) shows;
 }
 
-pub stands_numbers : (old new : State) (d : Tables) (xs : List ℕ) (rows : List Row) → Sets old new 9 rows → Shows number_view (map number_shown xs) rows → Stands d old.now.trees → Stands (record d { pulled = xs }) new.now.trees
+pub stands_numbers : (old new : State) (d : Tables) (xs : List ℕ) (rows : List Row) → Sets old new 9 rows → Shows number_view (map number_shown xs) rows → AreStored d old.now.trees → AreStored (record d { pulled = xs }) new.now.trees
 stands_numbers old new d xs rows sets shows s = record {
   meta = same_table old new 9 rows sets meta_view _ 0 (λ e. cc) (λ e. cc) (λ e. cc) (λ e. cc) s.meta;
   batches = same_table old new 9 rows sets batch_view _ 1 (λ e. cc) (λ e. cc) (λ e. cc) (λ e. cc) s.batches;

@@ -176,7 +176,7 @@ module _ (db : Trees) (table : Table) (params : Row) where
 
     -- the part stops as its edit did
     back : {A : Type 0} (stop s : Option Error) → ◌≡◌ {A = Outcome A} (Err stop) (Err s) → Stops Big (λ _. ⊥) s → Stops Big (λ _. ⊥) stop
-    back stop s is told = subst (Stops Big (λ _. ⊥)) (let same : s ≡ stop = cc in same) told
+    back stop s is reported = subst (Stops Big (λ _. ⊥)) (let same : s ≡ stop = cc in same) reported
 
     pub updates_stop : ((rows : List Row) → Answers here q params rows → IsAllowed Big db (edit_of db table (ids_of rows) Given 1 rows)) → (stop : Option Error) → Updates task q params db (Err stop) → Stops Big (λ _. ⊥) stop
     updates_stop allowed stop (inl h) = absurd (queried h.0 h.1)
@@ -207,7 +207,7 @@ cause_as f old new Unstorable h = f h
 
 -- what is too big is said in other words
 pub fails_as : {A B : Type 0} → (A → B) → (old new : State) (e : Error) → Fails old new A e → Fails old new B e
-fails_as f old new e (why, is, cause, rolled, told) = (why, is, cause_as f old new why cause, rolled, told)
+fails_as f old new e (why, is, cause, rolled, reported) = (why, is, cause_as f old new why cause, rolled, reported)
 
 pub store_fault : {Big : Type 0} (old new : State) (e : Error) → Fails old new Big e → IsStoreFault e
 store_fault old new e h = (h.0, h.1)

@@ -1,10 +1,11 @@
 -- What a statement makes of the records.
-use Rattle.std.specs.Prelude.{◌≡◌, ◌-◌, ◌==◌, ℕ, length, not, false, [], ◌∷◌, ◌++◌, filter, slice_set, IsTrue}
+use Rattle.std.specs.Prelude.{◌≡◌, ◌-◌, ◌==◌, ℕ, length, not, false, [], ◌∷◌, ◌++◌, filter}
+use Rattle.std.specs.Prelude.{slice_set, IsTrue}
 use Rattle.sqlite.specs.Store.{Ghosts}
 use Rattle.sqlite.specs.Held.{Held, state}
 use Rattle.sqlite.specs.State.{State}
 use Rattle.tb_tables.specs.Layout.{desk_schema, revisions}
-use Rattle.tb_tables.specs.Records.{Tables, Move, Batch, Sentence, Revision, Total, Stands}
+use Rattle.tb_tables.specs.Records.{Tables, Move, Batch, Sentence, Revision, Total, AreStored}
 use Rattle.tb_tables.specs.Failing.{HasRowids}
 
 -- a transaction is open on the seven tables
@@ -20,7 +21,7 @@ HasRevisionRowids s count = HasRowids count (s.now.trees revisions.tree)
 pub record Changes (old new : State) (d after : Tables) : Type 0 where
   pub inside : IsInside new
   pub committed : new.committed ≡ old.committed
-  pub stands : Stands d old.now.trees → Stands after new.now.trees
+  pub stands : AreStored d old.now.trees → AreStored after new.now.trees
   -- where SQLite finds rowids for so many revisions in all, it goes on to do so
   pub rowids : (n : ℕ) → HasRevisionRowids old (n - length d.revisions)
       → HasRevisionRowids new (n - length after.revisions)
@@ -31,7 +32,7 @@ pub record Holds {S : Type 0} (g : Ghosts S) (c : Held S) (d : Tables) : Type 0 
   pub is_open : IsTrue (state g c).is_open
   pub schema : (state g c).now.schema ≡ desk_schema
   pub settled : (state g c).committed ≡ (state g c).now
-  pub stands : Stands d (state g c).now.trees
+  pub stands : AreStored d (state g c).now.trees
 
 abbrev pub with_batch : Tables → Batch → Tables
 with_batch d b = record d { batches = d.batches ++ b ∷ [] }

@@ -11,10 +11,24 @@ use Rattle.sqlite.specs.Kind.TheVariants.{Integer, Text}
 use Rattle.sqlite_value.specs.Keys.{plain}
 
 abbrev pub key_column : List ℕ → Column
-key_column name = record { name = name; kind = Integer; is_strict = true; not_null = false; default = Null; collation = Binary }
+key_column name = record {
+  name = name;
+  kind = Integer;
+  is_strict = true;
+  not_null = false;
+  default = Null;
+  collation = Binary;
+}
 
 abbrev pub column : List ℕ → Kind → Column
-column name kind = record { name = name; kind = kind; is_strict = true; not_null = true; default = Null; collation = Binary }
+column name kind = record {
+  name = name;
+  kind = kind;
+  is_strict = true;
+  not_null = true;
+  default = Null;
+  collation = Binary;
+}
 
 abbrev pub table : List ℕ → ℕ → List Column → Table
 table name tree columns = record {
@@ -39,25 +53,40 @@ abbrev pub meta : Table
 meta = table (codes "meta") 0 (column (codes "version") Integer ∷ [])
 
 abbrev pub batches : Table
-batches = record (keyed (codes "batches") 1 (key_column (codes "no") ∷ column (codes "name") Text ∷ column (codes "state") Integer ∷ column (codes "worker") Text ∷ [])) { uniques = (2 ∷ []) ∷ []; orders = plain ∷ [] }
+batches = record (keyed (codes "batches") 1 (key_column (codes "no") ∷ column (codes "name") Text ∷ column
+    (codes "state") Integer ∷ column (codes "worker") Text ∷ [])) {
+      uniques = (2 ∷ []) ∷ [];
+      orders = plain ∷ [];
+    }
 
 abbrev pub sentences : Table
-sentences = record (keyed (codes "sentences") 3 (key_column (codes "no") ∷ column (codes "sent_id") Text ∷ column (codes "batch") Integer ∷ column (codes "rev") Integer ∷ column (codes "words") Integer ∷ [])) { uniques = (2 ∷ []) ∷ []; orders = plain ∷ [] }
+sentences = record (keyed (codes "sentences") 3 (key_column (codes "no") ∷ column (codes "sent_id") Text ∷ column
+    (codes "batch") Integer ∷ column (codes "rev") Integer ∷ column (codes "words") Integer ∷ [])) { uniques = (2 ∷ []) ∷ []; orders = plain ∷ [] }
 
 abbrev pub revisions : Table
-revisions = record (table (codes "revisions") 5 (column (codes "sent") Integer ∷ column (codes "rev") Integer ∷ column (codes "who") Text ∷ column (codes "body") Text ∷ [])) { primary = 1 ∷ 2 ∷ []; uniques = (1 ∷ 2 ∷ []) ∷ []; orders = plain ∷ [] }
+revisions = record (table (codes "revisions") 5 (column (codes "sent") Integer ∷ column
+    (codes "rev") Integer ∷ column (codes "who") Text ∷ column (codes "body") Text ∷ [])) { primary = 1 ∷ 2 ∷ []; uniques = (1 ∷ 2 ∷ []) ∷ []; orders = plain ∷ [] }
 
 abbrev pub moves : Table
-moves = keyed (codes "moves") 7 (key_column (codes "no") ∷ column (codes "kind") Integer ∷ column (codes "batch") Integer ∷ column (codes "sent") Integer ∷ column (codes "from_state") Integer ∷ column (codes "to_state") Integer ∷ column (codes "sentences") Integer ∷ column (codes "words_out") Integer ∷ column (codes "words_in") Integer ∷ column (codes "who") Text ∷ [])
+moves = keyed (codes "moves") 7 (key_column (codes "no") ∷ column (codes "kind") Integer ∷ column
+    (codes "batch") Integer ∷ column (codes "sent") Integer ∷ column (codes "from_state") Integer ∷ column (codes "to_state") Integer ∷ column (codes "sentences") Integer ∷ column (codes "words_out") Integer ∷ column (codes "words_in") Integer ∷ column (codes "who") Text ∷ [])
 
 abbrev pub totals : Table
-totals = keyed (codes "totals") 8 (key_column (codes "state") ∷ column (codes "sentences") Integer ∷ column (codes "words") Integer ∷ [])
+totals = keyed (codes "totals") 8 (key_column (codes "state") ∷ column (codes "sentences") Integer ∷ column
+    (codes "words") Integer ∷ [])
 
 abbrev pub pulled : Table
 pulled = keyed (codes "pulled") 9 (key_column (codes "sent") ∷ [])
 
 abbrev pub unique_index : List ℕ → ℕ → ℕ → List ℕ → Index
-unique_index name tree table columns = record { name = name; tree = tree; table = table; columns = columns; order = plain; is_unique = true }
+unique_index name tree table columns = record {
+  name = name;
+  tree = tree;
+  table = table;
+  columns = columns;
+  order = plain;
+  is_unique = true;
+}
 
 abbrev pub desk_schema : Schema
 desk_schema = record {

@@ -1,44 +1,55 @@
 -- What a call tells of the tables of a desk, and what it leaves of them. What it says of records is under a disk that kept what
 -- it took (`HasCleanDisk`).
-use Rattle.std.specs.Prelude.{◌≡◌, ◌≢◌, ◌-◌, ◌^◌, ◌<◌, ◌≤◌, Result, IfOk, IfErr, OnOk, OnErr, IsTrue, None}
+use Rattle.std.specs.Prelude.{◌≡◌, ◌≢◌, ◌-◌, ◌^◌, ◌<◌, ◌≤◌, Result, IfOk, IfErr, OnOk}
+use Rattle.std.specs.Prelude.{OnErr, IsTrue, None}
 use Rattle.sqlite.specs.Store.{Ghosts}
 use Rattle.sqlite.specs.Held.{Held, state}
 use Rattle.sqlite.specs.State.{HasCleanDisk, IsUnchanged, KeepsCommit, Survives}
 use Rattle.sqlite.specs.declared.error.Error.{Error}
 use Rattle.sqlite_trees.specs.Tree.{Trees}
 use Rattle.tb_tables.specs.Layout.{desk_schema}
-use Rattle.tb_tables.specs.Records.{Tables, Stands}
+use Rattle.tb_tables.specs.Records.{Tables, AreStored}
 use Rattle.tb_tables.specs.Changes.{IsInside, Changes, Holds}
 use Rattle.tb_tables.specs.Failing.{IsWant}
 
 -- what is read is what the trees show (`IsShown`)
-abbrev pub Reads : {S X E : Type 0} → Ghosts S → Held S → Held S → Result X E → (X → Trees → Type 0) → Type 0
-Reads g old new result IsShown = HasCleanDisk (state g new) → IfOk result (λ x. (state g old).now.schema ≡ desk_schema → IsShown x (state g old).now.trees)
+abbrev pub Reads : {S X E : Type 0} → Ghosts S → Held S → Held S → Result X E → (X → Trees → Type 0)
+    → Type 0
+Reads g old new result IsShown = HasCleanDisk (state g new)
+    → IfOk result (λ x. (state g old).now.schema ≡ desk_schema → IsShown x (state g old).now.trees)
 
 -- an error, where there is no limit on steps, is such a fault
-abbrev pub FailsOnlyAs : {S X E : Type 0} → (E → Type 0) → Ghosts S → Held S → Held S → Result X E → Type 0
-FailsOnlyAs IsFault g old new result = HasCleanDisk (state g new) → (state g old).step_limit ≡ None → (state g old).now.schema ≡ desk_schema → IfErr result IsFault
+abbrev pub FailsOnlyAs : {S X E : Type 0} → (E → Type 0) → Ghosts S → Held S → Held S → Result X E
+    → Type 0
+FailsOnlyAs IsFault g old new result = HasCleanDisk (state g new) → (state g old).step_limit ≡ None
+    → (state g old).now.schema ≡ desk_schema → IfErr result IsFault
 
 -- the store is open, and its disk fails at nothing meanwhile (the count of faults ends at 2 ^ 64 - 1)
 abbrev pub IsFaultless : {S : Type 0} → Ghosts S → Held S → Held S → Type 0
 IsFaultless g old new =
-    IsTrue (state g old).is_open × ((state g new).faults ≤ (state g old).faults) × ((state g old).faults < 2 ^ 64 - 1)
+    IsTrue (state g old).is_open × ((state g new).faults ≤ (state g old).faults)
+    × ((state g old).faults < 2 ^ 64 - 1)
 
 -- where the disk fails at nothing, an error is such a one as needs no fault
-abbrev pub BlamesNoDisk : {S X E : Type 0} → (E → Type 0) → Ghosts S → Held S → Held S → Result X E → Type 0
-BlamesNoDisk NeedsNone g old new result = HasCleanDisk (state g new) → IsFaultless g old new → IfErr result NeedsNone
+abbrev pub BlamesNoDisk : {S X E : Type 0} → (E → Type 0) → Ghosts S → Held S → Held S → Result X E
+    → Type 0
+BlamesNoDisk NeedsNone g old new result = HasCleanDisk (state g new) → IsFaultless g old new
+    → IfErr result NeedsNone
 
 -- a call that succeeds changes nothing
 abbrev pub ChangesNothing : {S X E : Type 0} → Ghosts S → Held S → Held S → Result X E → Type 0
-ChangesNothing g old new result = HasCleanDisk (state g new) → OnOk result ((state g old).now.schema ≡ desk_schema → IsUnchanged (state g old) (state g new))
+ChangesNothing g old new result = HasCleanDisk (state g new) → OnOk result ((state g old).now.schema ≡ desk_schema
+    → IsUnchanged (state g old) (state g new))
 
 -- while the store is open, the tables stand for the records for which they stood
 abbrev pub KeepsRecords : {S : Type 0} → Ghosts S → Held S → Held S → Type 0
-KeepsRecords g old new = HasCleanDisk (state g new) → IsTrue (state g new).is_open → (d : Tables) → Holds g old d → Holds g new d
+KeepsRecords g old new = HasCleanDisk (state g new) → IsTrue (state g new).is_open → (d : Tables) → Holds g old d
+    → Holds g new d
 
 -- the same after an error
 abbrev pub KeepsRecordsOnErr : {S X E : Type 0} → Ghosts S → Held S → Held S → Result X E → Type 0
-KeepsRecordsOnErr g old new result = HasCleanDisk (state g new) → IsTrue (state g new).is_open → OnErr result ((d : Tables) → Holds g old d → Holds g new d)
+KeepsRecordsOnErr g old new result = HasCleanDisk (state g new) → IsTrue (state g new).is_open
+    → OnErr result ((d : Tables) → Holds g old d → Holds g new d)
 
 -- a crash leaves what it could leave before, on other tables than those of a desk aside
 abbrev pub CommitsNothing : {S : Type 0} → Ghosts S → Held S → Held S → Type 0
@@ -46,27 +57,33 @@ CommitsNothing g old new = Survives (state g old) (state g new) (λ _. (state g 
 
 -- the same, said of a desk alone
 abbrev pub CommitsNothingOnDesk : {S : Type 0} → Ghosts S → Held S → Held S → Type 0
-CommitsNothingOnDesk g old new = (state g old).now.schema ≡ desk_schema → Survives (state g old) (state g new) (λ _. ⊥)
+CommitsNothingOnDesk g old new = (state g old).now.schema ≡ desk_schema
+    → Survives (state g old) (state g new) (λ _. ⊥)
 
 -- in a transaction: a statement that succeeds does not end it
 abbrev pub StaysInside : {S X E : Type 0} → Ghosts S → Held S → Held S → Result X E → Type 0
-StaysInside g old new result = HasCleanDisk (state g new) → OnOk result (IsInside (state g old) → IsInside (state g new))
+StaysInside g old new result = HasCleanDisk (state g new) → OnOk result (IsInside (state g old)
+    → IsInside (state g new))
 
 -- in a transaction: what was committed before it is what the store goes back to
 abbrev pub KeepsCommitted : {S : Type 0} → Ghosts S → Held S → Held S → Type 0
 KeepsCommitted g old new = HasCleanDisk (state g new) → KeepsCommit (state g old) (state g new)
 
 -- the tables of the connection stand for these records
-abbrev pub StandsIn : {S : Type 0} → Ghosts S → Held S → Tables → Type 0
-StandsIn g c d = Stands d (state g c).now.trees
+abbrev pub AreStoredIn : {S : Type 0} → Ghosts S → Held S → Tables → Type 0
+AreStoredIn g c d = AreStored d (state g c).now.trees
 
 -- in a transaction: a statement that succeeds turns records d into others (`IsSo d into`: under which premises into which)
-abbrev pub Turns : {S X E : Type 0} → Ghosts S → Held S → Held S → Result X E → (Tables → (Tables → Type 0) → Type 0) → Type 0
-Turns g old new result IsSo = HasCleanDisk (state g new) → OnOk result (IsInside (state g old) → (d : Tables) → IsSo d (Changes (state g old) (state g new) d))
+abbrev pub Turns : {S X E : Type 0} → Ghosts S → Held S → Held S → Result X E
+    → (Tables → (Tables → Type 0) → Type 0) → Type 0
+Turns g old new result IsSo = HasCleanDisk (state g new) → OnOk result (IsInside (state g old) → (d : Tables)
+    → IsSo d (Changes (state g old) (state g new) d))
 
 -- in a transaction: an error, where there is no limit on steps, is such a fault (`IsSo d fails`: under which premises)
-abbrev pub FailsInside : {S X E : Type 0} → (E → Type 0) → Ghosts S → Held S → Held S → Result X E → (Tables → Type 0 → Type 0) → Type 0
-FailsInside IsFault g old new result IsSo = HasCleanDisk (state g new) → (state g old).step_limit ≡ None → IsInside (state g old) → (d : Tables) → IsSo d (IfErr result IsFault)
+abbrev pub FailsInside : {S X E : Type 0} → (E → Type 0) → Ghosts S → Held S → Held S → Result X E
+    → (Tables → Type 0 → Type 0) → Type 0
+FailsInside IsFault g old new result IsSo = HasCleanDisk (state g new) → (state g old).step_limit ≡ None
+    → IsInside (state g old) → (d : Tables) → IsSo d (IfErr result IsFault)
 
 -- in a transaction: an error, where the disk fails at nothing and there is no limit on steps, is want of memory
 -- (`IsSo d wants`: under which premises)
@@ -75,16 +92,22 @@ abbrev pub WantsInside : {S X : Type 0} → Ghosts S → Held S → Held S → R
 WantsInside g old new result IsSo = IsFaultless g old new → FailsInside IsWant g old new result IsSo
 
 -- a call that succeeds on the tables of records d leaves those of others (`IsSo d into`: under which premises which)
-abbrev pub Leads : {S X E : Type 0} → Ghosts S → Held S → Held S → Result X E → (Tables → (Tables → Type 0) → Type 0) → Type 0
-Leads g old new result IsSo = HasCleanDisk (state g new) → OnOk result ((d : Tables) → Holds g old d → IsSo d (Holds g new))
+abbrev pub Leads : {S X E : Type 0} → Ghosts S → Held S → Held S → Result X E
+    → (Tables → (Tables → Type 0) → Type 0) → Type 0
+Leads g old new result IsSo = HasCleanDisk (state g new) → OnOk result ((d : Tables) → Holds g old d
+    → IsSo d (Holds g new))
 
 -- a crash leaves what it could leave before, or the tables of these, whole
-abbrev pub CrashesInto : {S : Type 0} → Ghosts S → Held S → Held S → (Tables → (Tables → Type 0) → Type 0) → Type 0
-CrashesInto g old new IsSo = Survives (state g old) (state g new) (λ db. (d : Tables) → Holds g old d → IsSo d (λ after. Stands after db))
+abbrev pub CrashesInto : {S : Type 0} → Ghosts S → Held S → Held S → (Tables → (Tables → Type 0) → Type 0)
+    → Type 0
+CrashesInto g old new IsSo = Survives (state g old) (state g new) (λ db. (d : Tables) → Holds g old d
+    → IsSo d (λ after. AreStored after db))
 
 -- an error on the tables of records d, where there is no limit on steps, is such a fault (`IsSo d fails`: under which premises)
-abbrev pub FailsOn : {S X E : Type 0} → (E → Type 0) → Ghosts S → Held S → Held S → Result X E → (Tables → Type 0 → Type 0) → Type 0
-FailsOn IsFault g old new result IsSo = HasCleanDisk (state g new) → (state g old).step_limit ≡ None → (d : Tables) → Holds g old d → IsSo d (IfErr result IsFault)
+abbrev pub FailsOn : {S X E : Type 0} → (E → Type 0) → Ghosts S → Held S → Held S → Result X E
+    → (Tables → Type 0 → Type 0) → Type 0
+FailsOn IsFault g old new result IsSo = HasCleanDisk (state g new) → (state g old).step_limit ≡ None
+    → (d : Tables) → Holds g old d → IsSo d (IfErr result IsFault)
 
 -- an error on the tables of records d, where the disk fails at nothing and there is no limit on steps, is want of
 -- memory (`IsSo d wants`: under which premises)

@@ -7,3 +7,4 @@ pub mod Values
 pub mod Commands
 pub mod Failing
 pub mod Leaving
+pub mod Premises

@@ -101,7 +101,7 @@ abbrev pub Shows : (Row → Row) → List Row → List Row → Type 0
 Shows view shown rows = IsPermutation shown (map view rows)
 
 -- each of the seven tables shows its records
-pub record Stands (d : Tables) (trees : Trees) : Type 0 where
+pub record AreStored (d : Tables) (trees : Trees) : Type 0 where
   pub meta : Shows meta_view (number_shown 2 ∷ []) (trees 0)
   pub batches : Shows batch_view (numbered batch_shown 1 d.batches) (trees 1)
   pub sentences : Shows sentence_view (numbered sentence_shown 1 d.sentences) (trees 3)

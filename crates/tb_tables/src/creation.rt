@@ -7,9 +7,10 @@ ghost use Rattle.sqlite.specs.Table.{Table};
 ghost use Rattle.sqlite.specs.Schema.{Schema};
 ghost use Rattle.sqlite.specs.Change.{created};
 ghost use Rattle.tb_tables.specs.Layout.{desk_schema};
-ghost use Rattle.tb_tables.specs.Records.{Stands};
+ghost use Rattle.tb_tables.specs.Records.{AreStored};
 ghost use Rattle.tb_tables.specs.Changes.{IsInside, Holds};
-ghost use Rattle.tb_tables.specs.Making.{no_schema, first_schema, empty_tables, IsBlank, IsBare, IsVersioned, Makes, Takes};
+ghost use Rattle.tb_tables.specs.Making.{no_schema, first_schema, empty_tables, IsBlank, IsBare, IsVersioned, Makes};
+ghost use Rattle.tb_tables.specs.Making.{Takes};
 ghost use Rattle.tb_tables.specs.Failing.{IsStoreFault, NeedsNoFault};
 ghost use Rattle.tb_tables.specs.Leaving.{BlamesNoDisk, KeepsCommitted};
 
@@ -18,10 +19,14 @@ use sqlite::{Alter, Connection, Error, Transaction};
 /// Makes one table.
 fn make<S: Alter>(tx: &mut Transaction<'_, S>, text: &str) -> Result<(), Error>
     ensures same_reference { tx.new.conn.ghost_name ≡ tx.old.conn.ghost_name }
-    ensures ok { HasCleanDisk (state S.Store tx.new.conn.now) → OnOk result ((schema : Schema) (table : Table) → IsBare (state S.Store tx.old.conn.now) schema → Makes schema text.now table → IsBare (state S.Store tx.new.conn.now) (created schema table)) }
-    ensures fails { HasCleanDisk (state S.Store tx.new.conn.now) → (schema : Schema) → (table : Table) → IsBare (state S.Store tx.old.conn.now) schema → Makes schema text.now table → Takes schema text.now → IfErr result IsStoreFault }
+    ensures ok { HasCleanDisk (state S.Store tx.new.conn.now) → OnOk result ((schema : Schema) (table : Table)
+        → IsBare (state S.Store tx.old.conn.now) schema → Makes schema text.now table
+        → IsBare (state S.Store tx.new.conn.now) (created schema table)) }
+    ensures fails { HasCleanDisk (state S.Store tx.new.conn.now) → (schema : Schema) → (table : Table)
+        → IsBare (state S.Store tx.old.conn.now) schema → Makes schema text.now table → Takes schema text.now
+        → IfErr result IsStoreFault }
     ensures cause { BlamesNoDisk NeedsNoFault S.Store tx.old.conn.now tx.new.conn.now result }
-    ensures kept { KeepsCommitted S.Store tx.old.conn.now tx.new.conn.now }
+    ensures keeps_committed { KeepsCommitted S.Store tx.old.conn.now tx.new.conn.now }
     ensures survives { Survives (state S.Store tx.old.conn.now) (state S.Store tx.new.conn.now) (λ _. ⊥) }
 {
     tx.execute(text, &[])?;
@@ -31,10 +36,13 @@ fn make<S: Alter>(tx: &mut Transaction<'_, S>, text: &str) -> Result<(), Error>
 /// The tables of the version, the batches, the sentences and their revisions.
 fn make_first<S: Alter>(tx: &mut Transaction<'_, S>) -> Result<(), Error>
     ensures same_reference { tx.new.conn.ghost_name ≡ tx.old.conn.ghost_name }
-    ensures ok { HasCleanDisk (state S.Store tx.new.conn.now) → OnOk result (IsBare (state S.Store tx.old.conn.now) no_schema → IsBare (state S.Store tx.new.conn.now) first_schema) }
-    ensures fails { HasCleanDisk (state S.Store tx.new.conn.now) → IsBare (state S.Store tx.old.conn.now) no_schema → IfErr result IsStoreFault }
+    ensures ok { HasCleanDisk (state S.Store tx.new.conn.now)
+        → OnOk result (IsBare (state S.Store tx.old.conn.now) no_schema
+        → IsBare (state S.Store tx.new.conn.now) first_schema) }
+    ensures fails { HasCleanDisk (state S.Store tx.new.conn.now) → IsBare (state S.Store tx.old.conn.now) no_schema
+        → IfErr result IsStoreFault }
     ensures cause { BlamesNoDisk NeedsNoFault S.Store tx.old.conn.now tx.new.conn.now result }
-    ensures kept { KeepsCommitted S.Store tx.old.conn.now tx.new.conn.now }
+    ensures keeps_committed { KeepsCommitted S.Store tx.old.conn.now tx.new.conn.now }
     ensures survives { Survives (state S.Store tx.old.conn.now) (state S.Store tx.new.conn.now) (λ _. ⊥) }
 {
     make(tx, "CREATE TABLE meta(version INTEGER NOT NULL) STRICT")?;
@@ -56,10 +64,13 @@ fn make_first<S: Alter>(tx: &mut Transaction<'_, S>) -> Result<(), Error>
 /// The tables of the moves, the totals and the sentences that are pulled.
 fn make_last<S: Alter>(tx: &mut Transaction<'_, S>) -> Result<(), Error>
     ensures same_reference { tx.new.conn.ghost_name ≡ tx.old.conn.ghost_name }
-    ensures ok { HasCleanDisk (state S.Store tx.new.conn.now) → OnOk result (IsBare (state S.Store tx.old.conn.now) first_schema → IsBare (state S.Store tx.new.conn.now) desk_schema) }
-    ensures fails { HasCleanDisk (state S.Store tx.new.conn.now) → IsBare (state S.Store tx.old.conn.now) first_schema → IfErr result IsStoreFault }
+    ensures ok { HasCleanDisk (state S.Store tx.new.conn.now)
+        → OnOk result (IsBare (state S.Store tx.old.conn.now) first_schema
+        → IsBare (state S.Store tx.new.conn.now) desk_schema) }
+    ensures fails { HasCleanDisk (state S.Store tx.new.conn.now) → IsBare (state S.Store tx.old.conn.now) first_schema
+        → IfErr result IsStoreFault }
     ensures cause { BlamesNoDisk NeedsNoFault S.Store tx.old.conn.now tx.new.conn.now result }
-    ensures kept { KeepsCommitted S.Store tx.old.conn.now tx.new.conn.now }
+    ensures keeps_committed { KeepsCommitted S.Store tx.old.conn.now tx.new.conn.now }
     ensures survives { Survives (state S.Store tx.old.conn.now) (state S.Store tx.new.conn.now) (λ _. ⊥) }
 {
     make(
@@ -77,10 +88,13 @@ fn make_last<S: Alter>(tx: &mut Transaction<'_, S>) -> Result<(), Error>
 /// The version of the tables.
 fn insert_version<S: Alter>(tx: &mut Transaction<'_, S>) -> Result<(), Error>
     ensures same_reference { tx.new.conn.ghost_name ≡ tx.old.conn.ghost_name }
-    ensures ok { HasCleanDisk (state S.Store tx.new.conn.now) → OnOk result (IsBare (state S.Store tx.old.conn.now) desk_schema → IsVersioned (state S.Store tx.new.conn.now)) }
-    ensures fails { HasCleanDisk (state S.Store tx.new.conn.now) → (state S.Store tx.old.conn.now).step_limit ≡ None → IsBare (state S.Store tx.old.conn.now) desk_schema → IfErr result IsStoreFault }
+    ensures ok { HasCleanDisk (state S.Store tx.new.conn.now)
+        → OnOk result (IsBare (state S.Store tx.old.conn.now) desk_schema
+        → IsVersioned (state S.Store tx.new.conn.now)) }
+    ensures fails { HasCleanDisk (state S.Store tx.new.conn.now) → (state S.Store tx.old.conn.now).step_limit ≡ None
+        → IsBare (state S.Store tx.old.conn.now) desk_schema → IfErr result IsStoreFault }
     ensures cause { BlamesNoDisk NeedsNoFault S.Store tx.old.conn.now tx.new.conn.now result }
-    ensures kept { KeepsCommitted S.Store tx.old.conn.now tx.new.conn.now }
+    ensures keeps_committed { KeepsCommitted S.Store tx.old.conn.now tx.new.conn.now }
     ensures survives { Survives (state S.Store tx.old.conn.now) (state S.Store tx.new.conn.now) (λ _. ⊥) }
 {
     tx.execute("INSERT INTO meta(version) VALUES (2)", &[])?;
@@ -90,10 +104,13 @@ fn insert_version<S: Alter>(tx: &mut Transaction<'_, S>) -> Result<(), Error>
 /// Zeros for each of the six states.
 fn insert_totals<S: Alter>(tx: &mut Transaction<'_, S>) -> Result<(), Error>
     ensures same_reference { tx.new.conn.ghost_name ≡ tx.old.conn.ghost_name }
-    ensures ok { HasCleanDisk (state S.Store tx.new.conn.now) → OnOk result (IsVersioned (state S.Store tx.old.conn.now) → IsInside (state S.Store tx.new.conn.now) × Stands empty_tables (state S.Store tx.new.conn.now).now.trees) }
-    ensures fails { HasCleanDisk (state S.Store tx.new.conn.now) → (state S.Store tx.old.conn.now).step_limit ≡ None → IsVersioned (state S.Store tx.old.conn.now) → IfErr result IsStoreFault }
+    ensures ok { HasCleanDisk (state S.Store tx.new.conn.now)
+        → OnOk result (IsVersioned (state S.Store tx.old.conn.now) → IsInside (state S.Store tx.new.conn.now)
+        × AreStored empty_tables (state S.Store tx.new.conn.now).now.trees) }
+    ensures fails { HasCleanDisk (state S.Store tx.new.conn.now) → (state S.Store tx.old.conn.now).step_limit ≡ None
+        → IsVersioned (state S.Store tx.old.conn.now) → IfErr result IsStoreFault }
     ensures cause { BlamesNoDisk NeedsNoFault S.Store tx.old.conn.now tx.new.conn.now result }
-    ensures kept { KeepsCommitted S.Store tx.old.conn.now tx.new.conn.now }
+    ensures keeps_committed { KeepsCommitted S.Store tx.old.conn.now tx.new.conn.now }
     ensures survives { Survives (state S.Store tx.old.conn.now) (state S.Store tx.new.conn.now) (λ _. ⊥) }
 {
     tx.execute(
@@ -106,10 +123,13 @@ fn insert_totals<S: Alter>(tx: &mut Transaction<'_, S>) -> Result<(), Error>
 /// All tables with their first rows.
 fn make_all<S: Alter>(tx: &mut Transaction<'_, S>) -> Result<(), Error>
     ensures same_reference { tx.new.conn.ghost_name ≡ tx.old.conn.ghost_name }
-    ensures ok { HasCleanDisk (state S.Store tx.new.conn.now) → OnOk result (IsBare (state S.Store tx.old.conn.now) no_schema → IsInside (state S.Store tx.new.conn.now) × Stands empty_tables (state S.Store tx.new.conn.now).now.trees) }
-    ensures fails { HasCleanDisk (state S.Store tx.new.conn.now) → (state S.Store tx.old.conn.now).step_limit ≡ None → IsBare (state S.Store tx.old.conn.now) no_schema → IfErr result IsStoreFault }
+    ensures ok { HasCleanDisk (state S.Store tx.new.conn.now)
+        → OnOk result (IsBare (state S.Store tx.old.conn.now) no_schema → IsInside (state S.Store tx.new.conn.now)
+        × AreStored empty_tables (state S.Store tx.new.conn.now).now.trees) }
+    ensures fails { HasCleanDisk (state S.Store tx.new.conn.now) → (state S.Store tx.old.conn.now).step_limit ≡ None
+        → IsBare (state S.Store tx.old.conn.now) no_schema → IfErr result IsStoreFault }
     ensures cause { BlamesNoDisk NeedsNoFault S.Store tx.old.conn.now tx.new.conn.now result }
-    ensures kept { KeepsCommitted S.Store tx.old.conn.now tx.new.conn.now }
+    ensures keeps_committed { KeepsCommitted S.Store tx.old.conn.now tx.new.conn.now }
     ensures survives { Survives (state S.Store tx.old.conn.now) (state S.Store tx.new.conn.now) (λ _. ⊥) }
 {
     make_first(tx)?;
@@ -131,12 +151,16 @@ pub fn is_blank<S: Alter>(conn: &Connection<S>) -> bool
 /// does a crash before the commit; one after it leaves the whole tables of the new desk.
 pub fn create<S: Alter>(conn: &mut Connection<S>) -> Result<(), Error>
     requires autocommit { conn.old.in_transaction ≡ false }
-    ensures ok { HasCleanDisk (state S.Store conn.new) → OnOk result (IsBlank S.Store conn.old → Holds S.Store conn.new empty_tables) }
-    ensures err { HasCleanDisk (state S.Store conn.new) → IsTrue (state S.Store conn.new).is_open → OnErr result (IsBlank S.Store conn.old → IsBlank S.Store conn.new) }
-    ensures fails { HasCleanDisk (state S.Store conn.new) → (state S.Store conn.old).step_limit ≡ None → IsBlank S.Store conn.old → IfErr result IsStoreFault }
+    ensures ok { HasCleanDisk (state S.Store conn.new) → OnOk result (IsBlank S.Store conn.old
+        → Holds S.Store conn.new empty_tables) }
+    ensures err { HasCleanDisk (state S.Store conn.new) → IsTrue (state S.Store conn.new).is_open
+        → OnErr result (IsBlank S.Store conn.old → IsBlank S.Store conn.new) }
+    ensures fails { HasCleanDisk (state S.Store conn.new) → (state S.Store conn.old).step_limit ≡ None
+        → IsBlank S.Store conn.old → IfErr result IsStoreFault }
     ensures cause { BlamesNoDisk NeedsNoFault S.Store conn.old conn.new result }
-    ensures mode { conn.new.in_transaction ≡ false }
-    ensures crash { Survives (state S.Store conn.old) (state S.Store conn.new) (λ db. IsBlank S.Store conn.old → Stands empty_tables db) }
+    ensures autocommit { conn.new.in_transaction ≡ false }
+    ensures crash { Survives (state S.Store conn.old) (state S.Store conn.new) (λ db. IsBlank S.Store conn.old
+        → AreStored empty_tables db) }
 {
     let mut tx = conn.transaction();
     make_all(&mut tx)?;
@@ -146,5 +170,6 @@ pub fn create<S: Alter>(conn: &mut Connection<S>) -> Result<(), Error>
 
 /// What a crash may leave of a desk whose connection is open and in no transaction: its records, whole.
 pub fn left_by_a_crash<S: Alter>(_conn: &Connection<S>)
-    ensures { (d : _) → Holds S.Store _conn.now d → (db : _) → (state S.Store _conn.now).may_leave db → Stands d db }
+    ensures { (d : _) → Holds S.Store _conn.now d → (db : _) → (state S.Store _conn.now).may_leave db
+        → AreStored d db }
 {}

@@ -8,7 +8,7 @@ ghost use Rattle.tb_tables.specs.Changes.{HasRevisionRowids};
 ghost use Rattle.tb_tables.specs.Failing.{IsStoreFault, IsRoomFault, Lacks, AreUnique, NeedsNoFault};
 ghost use Rattle.tb_tables.specs.Failing.{IsShort, NeedsNoFaultOnRevisions};
 ghost use Rattle.tb_tables.specs.Values.{move_of};
-ghost use Rattle.tb_tables.specs.Leaving.{BlamesNoDisk, FailsInside, KeepsCommitted, StandsIn, StaysInside, Turns};
+ghost use Rattle.tb_tables.specs.Leaving.{BlamesNoDisk, FailsInside, KeepsCommitted, AreStoredIn, StaysInside, Turns};
 ghost use Rattle.tb_tables.specs.Leaving.{WantsInside};
 
 use crate::rows::MoveRow;
@@ -23,15 +23,18 @@ pub fn insert_batch<S: Alter>(
     worker: &str,
 ) -> Result<(), Error>
     ensures same_reference { tx.new.conn.ghost_name ≡ tx.old.conn.ghost_name }
-    ensures ok { Turns S.Store tx.old.conn.now tx.new.conn.now result (λ d into. no ≡ 1 + length d.batches → into (with_batch d (record { name = name.now; state = in_state; worker = worker.now }))) }
-    ensures fails { FailsInside IsStoreFault S.Store tx.old.conn.now tx.new.conn.now result (λ d fails. StandsIn S.Store tx.old.conn.now d → no ≡ 1 + length d.batches → AreUnique (with_batch d (record { name = name.now; state = in_state; worker = worker.now })) → fails) }
+    ensures ok { Turns S.Store tx.old.conn.now tx.new.conn.now result (λ d into. no ≡ 1 + length d.batches
+        → into (with_batch d (record { name = name.now; state = in_state; worker = worker.now }))) }
+    ensures fails { FailsInside IsStoreFault S.Store tx.old.conn.now tx.new.conn.now result (λ d fails.
+        AreStoredIn S.Store tx.old.conn.now d → no ≡ 1 + length d.batches
+        → AreUnique (with_batch d (record { name = name.now; state = in_state; worker = worker.now })) → fails) }
     ensures wants { WantsInside S.Store tx.old.conn.now tx.new.conn.now result (λ d wants.
-        StandsIn S.Store tx.old.conn.now d → no ≡ 1 + length d.batches
+        AreStoredIn S.Store tx.old.conn.now d → no ≡ 1 + length d.batches
         → AreUnique (with_batch d (record { name = name.now; state = in_state; worker = worker.now }))
         → IsShort name.now → IsShort worker.now → wants) }
     ensures cause { BlamesNoDisk NeedsNoFault S.Store tx.old.conn.now tx.new.conn.now result }
     ensures inside { StaysInside S.Store tx.old.conn.now tx.new.conn.now result }
-    ensures kept { KeepsCommitted S.Store tx.old.conn.now tx.new.conn.now }
+    ensures keeps_committed { KeepsCommitted S.Store tx.old.conn.now tx.new.conn.now }
     ensures survives { Survives (state S.Store tx.old.conn.now) (state S.Store tx.new.conn.now) (λ _. ⊥) }
 {
     tx.execute(
@@ -51,15 +54,19 @@ pub fn insert_sentence<S: Alter>(
     words: u32,
 ) -> Result<(), Error>
     ensures same_reference { tx.new.conn.ghost_name ≡ tx.old.conn.ghost_name }
-    ensures ok { Turns S.Store tx.old.conn.now tx.new.conn.now result (λ d into. no ≡ 1 + length d.sentences → into (with_sentence d (record { sent_id = sent_id.now; batch = batch; rev = rev; words = words }))) }
-    ensures fails { FailsInside IsStoreFault S.Store tx.old.conn.now tx.new.conn.now result (λ d fails. StandsIn S.Store tx.old.conn.now d → no ≡ 1 + length d.sentences → AreUnique (with_sentence d (record { sent_id = sent_id.now; batch = batch; rev = rev; words = words })) → fails) }
+    ensures ok { Turns S.Store tx.old.conn.now tx.new.conn.now result (λ d into. no ≡ 1 + length d.sentences
+        → into (with_sentence d (record { sent_id = sent_id.now; batch = batch; rev = rev; words = words }))) }
+    ensures fails { FailsInside IsStoreFault S.Store tx.old.conn.now tx.new.conn.now result (λ d fails.
+        AreStoredIn S.Store tx.old.conn.now d → no ≡ 1 + length d.sentences
+        → AreUnique (with_sentence d (record { sent_id = sent_id.now; batch = batch; rev = rev; words = words }))
+        → fails) }
     ensures wants { WantsInside S.Store tx.old.conn.now tx.new.conn.now result (λ d wants.
-        StandsIn S.Store tx.old.conn.now d → no ≡ 1 + length d.sentences
+        AreStoredIn S.Store tx.old.conn.now d → no ≡ 1 + length d.sentences
         → AreUnique (with_sentence d (record { sent_id = sent_id.now; batch = batch; rev = rev; words = words }))
         → IsShort sent_id.now → wants) }
     ensures cause { BlamesNoDisk NeedsNoFault S.Store tx.old.conn.now tx.new.conn.now result }
     ensures inside { StaysInside S.Store tx.old.conn.now tx.new.conn.now result }
-    ensures kept { KeepsCommitted S.Store tx.old.conn.now tx.new.conn.now }
+    ensures keeps_committed { KeepsCommitted S.Store tx.old.conn.now tx.new.conn.now }
     ensures survives { Survives (state S.Store tx.old.conn.now) (state S.Store tx.new.conn.now) (λ _. ⊥) }
 {
     tx.execute(
@@ -72,7 +79,9 @@ pub fn insert_sentence<S: Alter>(
 /// The error of a row whose rowid SQLite chose, one above the last row's: that one is taken only where the rows do not
 /// ascend, so the file is corrupt.
 fn of_chosen_rowid(error: Error) -> Error
-    ensures { ((error ≡ Error.SqliteFailure (ErrorCode.ConstraintViolation Constraint.PrimaryKey)) × (result ≡ Error.SqliteFailure ErrorCode.DatabaseCorrupt)) ⊎ ((result ≡ error) × (error ≢ Error.SqliteFailure (ErrorCode.ConstraintViolation Constraint.PrimaryKey))) }
+    ensures { ((error ≡ Error.SqliteFailure (ErrorCode.ConstraintViolation Constraint.PrimaryKey))
+        × (result ≡ Error.SqliteFailure ErrorCode.DatabaseCorrupt)) ⊎ ((result ≡ error)
+        × (error ≢ Error.SqliteFailure (ErrorCode.ConstraintViolation Constraint.PrimaryKey))) }
 {
     match error {
         Error::SqliteFailure(ErrorCode::ConstraintViolation(Constraint::PrimaryKey)) =>
@@ -90,15 +99,22 @@ pub fn insert_revision<S: Alter>(
     body: &str,
 ) -> Result<(), Error>
     ensures same_reference { tx.new.conn.ghost_name ≡ tx.old.conn.ghost_name }
-    ensures ok { Turns S.Store tx.old.conn.now tx.new.conn.now result (λ d into. into (with_revision d (record { sent = sent; rev = rev; who = who.now; body = body.now }))) }
-    ensures fails { FailsInside IsRoomFault S.Store tx.old.conn.now tx.new.conn.now result (λ d fails. StandsIn S.Store tx.old.conn.now d → AreUnique (with_revision d (record { sent = sent; rev = rev; who = who.now; body = body.now })) → fails) }
+    ensures ok { Turns S.Store tx.old.conn.now tx.new.conn.now result (λ d into.
+        into (with_revision d (record { sent = sent; rev = rev; who = who.now; body = body.now }))) }
+    ensures fails { FailsInside IsRoomFault S.Store tx.old.conn.now tx.new.conn.now result (λ d fails.
+        AreStoredIn S.Store tx.old.conn.now d → AreUnique (with_revision d (record {
+          sent = sent;
+          rev = rev;
+          who = who.now;
+          body = body.now;
+        })) → fails) }
     ensures wants { WantsInside S.Store tx.old.conn.now tx.new.conn.now result (λ d wants.
-        StandsIn S.Store tx.old.conn.now d
+        AreStoredIn S.Store tx.old.conn.now d
         → AreUnique (with_revision d (record { sent = sent; rev = rev; who = who.now; body = body.now }))
         → IsShort who.now → IsShort body.now → HasRevisionRowids (state S.Store tx.old.conn.now) 1 → wants) }
     ensures cause { BlamesNoDisk NeedsNoFaultOnRevisions S.Store tx.old.conn.now tx.new.conn.now result }
     ensures inside { StaysInside S.Store tx.old.conn.now tx.new.conn.now result }
-    ensures kept { KeepsCommitted S.Store tx.old.conn.now tx.new.conn.now }
+    ensures keeps_committed { KeepsCommitted S.Store tx.old.conn.now tx.new.conn.now }
     ensures survives { Survives (state S.Store tx.old.conn.now) (state S.Store tx.new.conn.now) (λ _. ⊥) }
 {
     match tx.execute(
@@ -113,14 +129,16 @@ pub fn insert_revision<S: Alter>(
 /// Adds a move under the next number.
 pub fn insert_move<S: Alter>(tx: &mut Transaction<'_, S>, no: u32, m: &MoveRow) -> Result<(), Error>
     ensures same_reference { tx.new.conn.ghost_name ≡ tx.old.conn.ghost_name }
-    ensures ok { Turns S.Store tx.old.conn.now tx.new.conn.now result (λ d into. no ≡ 1 + length d.moves → into (with_move d (move_of m.now))) }
-    ensures fails { FailsInside IsStoreFault S.Store tx.old.conn.now tx.new.conn.now result (λ d fails. StandsIn S.Store tx.old.conn.now d → no ≡ 1 + length d.moves → AreUnique d → fails) }
+    ensures ok { Turns S.Store tx.old.conn.now tx.new.conn.now result (λ d into. no ≡ 1 + length d.moves
+        → into (with_move d (move_of m.now))) }
+    ensures fails { FailsInside IsStoreFault S.Store tx.old.conn.now tx.new.conn.now result (λ d fails.
+        AreStoredIn S.Store tx.old.conn.now d → no ≡ 1 + length d.moves → AreUnique d → fails) }
     ensures wants { WantsInside S.Store tx.old.conn.now tx.new.conn.now result (λ d wants.
-        StandsIn S.Store tx.old.conn.now d → no ≡ 1 + length d.moves
+        AreStoredIn S.Store tx.old.conn.now d → no ≡ 1 + length d.moves
         → AreUnique d → IsShort (move_of m.now).who → wants) }
     ensures cause { BlamesNoDisk NeedsNoFault S.Store tx.old.conn.now tx.new.conn.now result }
     ensures inside { StaysInside S.Store tx.old.conn.now tx.new.conn.now result }
-    ensures kept { KeepsCommitted S.Store tx.old.conn.now tx.new.conn.now }
+    ensures keeps_committed { KeepsCommitted S.Store tx.old.conn.now tx.new.conn.now }
     ensures survives { Survives (state S.Store tx.old.conn.now) (state S.Store tx.new.conn.now) (λ _. ⊥) }
 {
     tx.execute(
@@ -145,12 +163,13 @@ pub fn insert_move<S: Alter>(tx: &mut Transaction<'_, S>, no: u32, m: &MoveRow) 
 pub fn insert_pulled<S: Alter>(tx: &mut Transaction<'_, S>, sent: u32) -> Result<(), Error>
     ensures same_reference { tx.new.conn.ghost_name ≡ tx.old.conn.ghost_name }
     ensures ok { Turns S.Store tx.old.conn.now tx.new.conn.now result (λ d into. into (with_pulled d sent)) }
-    ensures fails { FailsInside IsStoreFault S.Store tx.old.conn.now tx.new.conn.now result (λ d fails. StandsIn S.Store tx.old.conn.now d → Lacks d.pulled sent → AreUnique d → fails) }
+    ensures fails { FailsInside IsStoreFault S.Store tx.old.conn.now tx.new.conn.now result (λ d fails.
+        AreStoredIn S.Store tx.old.conn.now d → Lacks d.pulled sent → AreUnique d → fails) }
     ensures wants { WantsInside S.Store tx.old.conn.now tx.new.conn.now result (λ d wants.
-        StandsIn S.Store tx.old.conn.now d → Lacks d.pulled sent → AreUnique d → wants) }
+        AreStoredIn S.Store tx.old.conn.now d → Lacks d.pulled sent → AreUnique d → wants) }
     ensures cause { BlamesNoDisk NeedsNoFault S.Store tx.old.conn.now tx.new.conn.now result }
     ensures inside { StaysInside S.Store tx.old.conn.now tx.new.conn.now result }
-    ensures kept { KeepsCommitted S.Store tx.old.conn.now tx.new.conn.now }
+    ensures keeps_committed { KeepsCommitted S.Store tx.old.conn.now tx.new.conn.now }
     ensures survives { Survives (state S.Store tx.old.conn.now) (state S.Store tx.new.conn.now) (λ _. ⊥) }
 {
     tx.execute("INSERT INTO pulled(sent) VALUES (?1)", params![sent])?;

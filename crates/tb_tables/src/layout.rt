@@ -1,12 +1,14 @@
 //! Whether a database has exactly the tables and indexes of a desk.
 
-ghost use Rattle.std.specs.Prelude.{◌≡◌, ◌↔◌, true, false, [], ◌∷◌, Some, None, codes, IsTrue, MatchOption, ◌≢◌, List};
+ghost use Rattle.std.specs.Prelude.{◌≡◌, ◌↔◌, true, false, [], ◌∷◌, Some, None, codes, IsTrue};
+ghost use Rattle.std.specs.Prelude.{MatchOption, ◌≢◌, List};
 ghost use Rattle.sqlite.specs.Held.{state};
 ghost use Rattle.sqlite.specs.Collation.TheVariants.{Binary};
 ghost use Rattle.sqlite.specs.declared.types.Value.TheVariants.{Null};
 ghost use Rattle.sqlite_value.specs.Keys.{plain};
 ghost use Rattle.sqlite_schema.specs.declared.schema.Column.{Column as AnyColumn};
-ghost use Rattle.tb_tables.specs.Layout.{key_column, column, unique_index, meta, batches, sentences, revisions, moves, totals, pulled, desk_schema, version_one_schema};
+ghost use Rattle.tb_tables.specs.Layout.{key_column, column, unique_index, meta, batches, sentences, revisions, moves};
+ghost use Rattle.tb_tables.specs.Layout.{totals, pulled, desk_schema, version_one_schema};
 
 use sqlite::{Alter, Connection};
 use sqlite_items::Items;
@@ -50,7 +52,8 @@ fn is_column(c: &Column, name: &[u8], kind: Kind) -> bool
 }
 
 fn has_no_rules(t: &Table) -> bool
-    ensures { IsTrue result ↔ (t.now.checks ≡ []) × (t.now.references ≡ []) × (t.now.computed ≡ []) × (t.now.is_counted ≡ false) }
+    ensures { IsTrue result ↔ (t.now.checks ≡ []) × (t.now.references ≡ []) × (t.now.computed ≡ [])
+        × (t.now.is_counted ≡ false) }
 {
     t.checks.roots.is_empty() && t.references.is_empty() && t.computed.is_empty() && !t.is_counted
 }
@@ -64,7 +67,9 @@ fn has_no_stamps(t: &Table) -> bool
 
 /// A table of this name at this root, with no rules but those of its columns and keys.
 fn is_bare(t: &Table, name: &[u8], tree: u32) -> bool
-    ensures { IsTrue result ↔ (t.now.name ≡ name.now) × (t.now.tree ≡ tree) × (t.now.checks ≡ []) × (t.now.references ≡ []) × (t.now.computed ≡ []) × (t.now.is_counted ≡ false) × (t.now.stamps ≡ record { places = []; terms = []; formats = [] }) }
+    ensures { IsTrue result ↔ (t.now.name ≡ name.now) × (t.now.tree ≡ tree) × (t.now.checks ≡ [])
+        × (t.now.references ≡ []) × (t.now.computed ≡ []) × (t.now.is_counted ≡ false)
+        × (t.now.stamps ≡ record { places = []; terms = []; formats = [] }) }
 {
     t.name.as_slice() == name && t.tree == tree && has_no_rules(t) && has_no_stamps(t)
 }
@@ -201,7 +206,9 @@ fn is_revisions(t: &Table) -> bool
 
 /// What follows two columns of integers, where these begin.
 fn after_two<'c>(columns: &'c [Column], first: &[u8], second: &[u8]) -> Option<&'c [Column]>
-    ensures { MatchOption result ((rest : List AnyColumn) → columns.now ≢ column first.now Kind.Integer ∷ column second.now Kind.Integer ∷ rest) (λ rest. columns.now ≡ column first.now Kind.Integer ∷ column second.now Kind.Integer ∷ rest.now) }
+    ensures { MatchOption result ((rest : List AnyColumn)
+        → columns.now ≢ column first.now Kind.Integer ∷ column second.now Kind.Integer ∷ rest) (λ rest.
+        columns.now ≡ column first.now Kind.Integer ∷ column second.now Kind.Integer ∷ rest.now) }
 {
     match columns {
         [a, b, rest @ ..]

@@ -1,15 +1,30 @@
-//! The seven tables of a desk's SQLite file: their schema, their rows, and the statements that write them, each with its
-//! meaning over lists of records. Which records a desk can have is said elsewhere: here states and kinds are numbers.
+//! The seven tables of a desk's SQLite file: their schema, their rows, the statements that write them, and the commands
+//! of a desk as transactions, each with its meaning over lists of records. Which records a desk can have is said elsewhere:
+//! here states and kinds are numbers.
+//!
+//! Each command writes its records, one move and the totals of the states that the move leaves and reaches, and commits last.
+//! After an error, and after a crash before the commit, the records are those of before. Which commands are allowed, and which
+//! numbers follow, is the caller's to know.
 #![tactic(auto)]
 
+mod correcting;
 mod creation;
+mod importing;
 mod insert;
 mod layout;
+mod pulling;
+mod recording;
 mod rows;
+mod stepping;
 mod update;
 
+pub use correcting::write_correction;
 pub use creation::{create, is_blank, left_by_a_crash};
+pub use importing::{NewSentenceRow, write_import};
 pub use insert::{insert_batch, insert_move, insert_pulled, insert_revision, insert_sentence};
 pub use layout::{has_desk_schema, has_version_one_schema};
+pub use pulling::{write_pull, write_restore};
+pub use recording::MoveWrite;
 pub use rows::{BatchRow, MoveRow, RevisionRow, SentenceRow, TotalRow};
+pub use stepping::write_event;
 pub use update::{delete_pulled, update_batch, update_sentence, update_total};

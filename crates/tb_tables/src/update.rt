@@ -6,7 +6,7 @@ ghost use Rattle.sqlite.specs.Held.{state};
 ghost use Rattle.tb_tables.specs.Records.{Batch, Sentence, Total};
 ghost use Rattle.tb_tables.specs.Changes.{batch_replaced, sentence_replaced, total_replaced, without_pulled};
 ghost use Rattle.tb_tables.specs.Failing.{IsShort, IsStoreFault, AreUnique, NeedsNoFault};
-ghost use Rattle.tb_tables.specs.Leaving.{BlamesNoDisk, FailsInside, KeepsCommitted, StandsIn, StaysInside, Turns};
+ghost use Rattle.tb_tables.specs.Leaving.{BlamesNoDisk, FailsInside, KeepsCommitted, AreStoredIn, StaysInside, Turns};
 ghost use Rattle.tb_tables.specs.Leaving.{WantsInside};
 
 use sqlite::{Alter, Error, Transaction, params};
@@ -20,15 +20,18 @@ pub fn update_batch<S: Alter>(
 ) -> Result<(), Error>
     requires row { 0 < no }
     ensures same_reference { tx.new.conn.ghost_name ≡ tx.old.conn.ghost_name }
-    ensures ok { Turns S.Store tx.old.conn.now tx.new.conn.now result (λ d into. (b : Batch) → slice_get d.batches (no - 1) ≡ Some b → StandsIn S.Store tx.old.conn.now d → into (batch_replaced d no (record b { state = in_state; worker = worker.now }))) }
-    ensures fails { FailsInside IsStoreFault S.Store tx.old.conn.now tx.new.conn.now result (λ d fails. StandsIn S.Store tx.old.conn.now d → AreUnique d → fails) }
+    ensures ok { Turns S.Store tx.old.conn.now tx.new.conn.now result (λ d into. (b : Batch)
+        → slice_get d.batches (no - 1) ≡ Some b → AreStoredIn S.Store tx.old.conn.now d
+        → into (batch_replaced d no (record b { state = in_state; worker = worker.now }))) }
+    ensures fails { FailsInside IsStoreFault S.Store tx.old.conn.now tx.new.conn.now result (λ d fails.
+        AreStoredIn S.Store tx.old.conn.now d → AreUnique d → fails) }
     ensures wants { WantsInside S.Store tx.old.conn.now tx.new.conn.now result (λ d wants.
-        StandsIn S.Store tx.old.conn.now d
+        AreStoredIn S.Store tx.old.conn.now d
         → AreUnique d → IsShort worker.now
         → ((b : Batch) → slice_get d.batches (no - 1) ≡ Some b → IsShort b.name) → wants) }
     ensures cause { BlamesNoDisk NeedsNoFault S.Store tx.old.conn.now tx.new.conn.now result }
     ensures inside { StaysInside S.Store tx.old.conn.now tx.new.conn.now result }
-    ensures kept { KeepsCommitted S.Store tx.old.conn.now tx.new.conn.now }
+    ensures keeps_committed { KeepsCommitted S.Store tx.old.conn.now tx.new.conn.now }
     ensures survives { Survives (state S.Store tx.old.conn.now) (state S.Store tx.new.conn.now) (λ _. ⊥) }
 {
     tx.execute(
@@ -47,15 +50,18 @@ pub fn update_sentence<S: Alter>(
 ) -> Result<(), Error>
     requires row { 0 < no }
     ensures same_reference { tx.new.conn.ghost_name ≡ tx.old.conn.ghost_name }
-    ensures ok { Turns S.Store tx.old.conn.now tx.new.conn.now result (λ d into. (s : Sentence) → slice_get d.sentences (no - 1) ≡ Some s → StandsIn S.Store tx.old.conn.now d → into (sentence_replaced d no (record s { rev = rev; words = words }))) }
-    ensures fails { FailsInside IsStoreFault S.Store tx.old.conn.now tx.new.conn.now result (λ d fails. StandsIn S.Store tx.old.conn.now d → AreUnique d → fails) }
+    ensures ok { Turns S.Store tx.old.conn.now tx.new.conn.now result (λ d into. (s : Sentence)
+        → slice_get d.sentences (no - 1) ≡ Some s → AreStoredIn S.Store tx.old.conn.now d
+        → into (sentence_replaced d no (record s { rev = rev; words = words }))) }
+    ensures fails { FailsInside IsStoreFault S.Store tx.old.conn.now tx.new.conn.now result (λ d fails.
+        AreStoredIn S.Store tx.old.conn.now d → AreUnique d → fails) }
     ensures wants { WantsInside S.Store tx.old.conn.now tx.new.conn.now result (λ d wants.
-        StandsIn S.Store tx.old.conn.now d
+        AreStoredIn S.Store tx.old.conn.now d
         → AreUnique d
         → ((s : Sentence) → slice_get d.sentences (no - 1) ≡ Some s → IsShort s.sent_id) → wants) }
     ensures cause { BlamesNoDisk NeedsNoFault S.Store tx.old.conn.now tx.new.conn.now result }
     ensures inside { StaysInside S.Store tx.old.conn.now tx.new.conn.now result }
-    ensures kept { KeepsCommitted S.Store tx.old.conn.now tx.new.conn.now }
+    ensures keeps_committed { KeepsCommitted S.Store tx.old.conn.now tx.new.conn.now }
     ensures survives { Survives (state S.Store tx.old.conn.now) (state S.Store tx.new.conn.now) (λ _. ⊥) }
 {
     tx.execute(
@@ -74,13 +80,16 @@ pub fn update_total<S: Alter>(
 ) -> Result<(), Error>
     requires row { 0 < number }
     ensures same_reference { tx.new.conn.ghost_name ≡ tx.old.conn.ghost_name }
-    ensures ok { Turns S.Store tx.old.conn.now tx.new.conn.now result (λ d into. (t : Total) → slice_get d.totals (number - 1) ≡ Some t → StandsIn S.Store tx.old.conn.now d → into (total_replaced d number (record { sentences = sentences; words = words }))) }
-    ensures fails { FailsInside IsStoreFault S.Store tx.old.conn.now tx.new.conn.now result (λ d fails. StandsIn S.Store tx.old.conn.now d → AreUnique d → fails) }
+    ensures ok { Turns S.Store tx.old.conn.now tx.new.conn.now result (λ d into. (t : Total)
+        → slice_get d.totals (number - 1) ≡ Some t → AreStoredIn S.Store tx.old.conn.now d
+        → into (total_replaced d number (record { sentences = sentences; words = words }))) }
+    ensures fails { FailsInside IsStoreFault S.Store tx.old.conn.now tx.new.conn.now result (λ d fails.
+        AreStoredIn S.Store tx.old.conn.now d → AreUnique d → fails) }
     ensures wants { WantsInside S.Store tx.old.conn.now tx.new.conn.now result (λ d wants.
-        StandsIn S.Store tx.old.conn.now d → AreUnique d → wants) }
+        AreStoredIn S.Store tx.old.conn.now d → AreUnique d → wants) }
     ensures cause { BlamesNoDisk NeedsNoFault S.Store tx.old.conn.now tx.new.conn.now result }
     ensures inside { StaysInside S.Store tx.old.conn.now tx.new.conn.now result }
-    ensures kept { KeepsCommitted S.Store tx.old.conn.now tx.new.conn.now }
+    ensures keeps_committed { KeepsCommitted S.Store tx.old.conn.now tx.new.conn.now }
     ensures survives { Survives (state S.Store tx.old.conn.now) (state S.Store tx.new.conn.now) (λ _. ⊥) }
 {
     tx.execute(
@@ -93,13 +102,15 @@ pub fn update_total<S: Alter>(
 /// Takes a sentence from those that are pulled. One that is not there changes nothing.
 pub fn delete_pulled<S: Alter>(tx: &mut Transaction<'_, S>, sent: u32) -> Result<(), Error>
     ensures same_reference { tx.new.conn.ghost_name ≡ tx.old.conn.ghost_name }
-    ensures ok { Turns S.Store tx.old.conn.now tx.new.conn.now result (λ d into. StandsIn S.Store tx.old.conn.now d → into (without_pulled d sent)) }
-    ensures fails { FailsInside IsStoreFault S.Store tx.old.conn.now tx.new.conn.now result (λ d fails. StandsIn S.Store tx.old.conn.now d → AreUnique d → fails) }
+    ensures ok { Turns S.Store tx.old.conn.now tx.new.conn.now result (λ d into. AreStoredIn S.Store tx.old.conn.now d
+        → into (without_pulled d sent)) }
+    ensures fails { FailsInside IsStoreFault S.Store tx.old.conn.now tx.new.conn.now result (λ d fails.
+        AreStoredIn S.Store tx.old.conn.now d → AreUnique d → fails) }
     ensures wants { WantsInside S.Store tx.old.conn.now tx.new.conn.now result (λ d wants.
-        StandsIn S.Store tx.old.conn.now d → AreUnique d → wants) }
+        AreStoredIn S.Store tx.old.conn.now d → AreUnique d → wants) }
     ensures cause { BlamesNoDisk NeedsNoFault S.Store tx.old.conn.now tx.new.conn.now result }
     ensures inside { StaysInside S.Store tx.old.conn.now tx.new.conn.now result }
-    ensures kept { KeepsCommitted S.Store tx.old.conn.now tx.new.conn.now }
+    ensures keeps_committed { KeepsCommitted S.Store tx.old.conn.now tx.new.conn.now }
     ensures survives { Survives (state S.Store tx.old.conn.now) (state S.Store tx.new.conn.now) (λ _. ⊥) }
 {
     tx.execute("DELETE FROM pulled WHERE sent = ?1", params![sent])?;

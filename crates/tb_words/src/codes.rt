@@ -2,7 +2,7 @@
 
 use crate::columns::{FORM, HEAD, ID, LEMMA, MISC, field, name};
 use crate::places::{line_at, text_at};
-use crate::sentences as told;
+use crate::sentences as reported;
 use crate::words::{Page, Words, shown};
 use std::alloc::Global;
 use tb_chars::has_white_space;
@@ -20,7 +20,7 @@ const FEW_WORDS: usize = 5;
 
 fn not_utf8(alloc: Global, number: usize, raw: &[u8]) -> Words {
     if number == 1 && (raw.starts_with(LITTLE_UTF16) || raw.starts_with(BIG_UTF16)) {
-        return Words::at(format!(in alloc; "line {number}"), told::UTF16);
+        return Words::at(format!(in alloc; "line {number}"), reported::UTF16);
     }
     let sound = match str::from_utf8(raw) {
         Ok(text) => text.len(),
@@ -30,7 +30,7 @@ fn not_utf8(alloc: Global, number: usize, raw: &[u8]) -> Words {
     let place = sound.saturating_add(1);
     Words::at(
         format!(in alloc; "line {number}, byte {place}, hex {byte:02X}"),
-        told::NOT_UTF8,
+        reported::NOT_UTF8,
     )
 }
 
@@ -43,15 +43,15 @@ fn not_composed(alloc: Global, number: usize, line: &str) -> Words {
         let comment = shown(line);
         return Words::at(
             format!(in alloc; "line {number}, `{comment}`"),
-            told::NOT_NFC,
+            reported::NOT_NFC,
         );
     }
     for (column, value) in line.split('\t').enumerate() {
         if !is_composed(alloc, value) {
-            return in_column(alloc, number, column, value, told::NOT_NFC);
+            return in_column(alloc, number, column, value, reported::NOT_NFC);
         }
     }
-    Words::at(format!(in alloc; "line {number}"), told::NOT_NFC)
+    Words::at(format!(in alloc; "line {number}"), reported::NOT_NFC)
 }
 
 /// What is wrong with a value in a column of a line.
@@ -89,14 +89,17 @@ fn control(alloc: Global, number: usize, line: &str) -> Words {
     let place = before.saturating_add(1);
     let code = c as u32;
     match c {
-        '\r' => Words::at(format!(in alloc; "line {number}"), told::CARRIAGE_RETURN),
+        '\r' => Words::at(
+            format!(in alloc; "line {number}"),
+            reported::CARRIAGE_RETURN,
+        ),
         '\0' => Words::at(
             format!(in alloc; "line {number}, character {place}"),
-            told::NUL,
+            reported::NUL,
         ),
         _ => Words::at(
             format!(in alloc; "line {number}, character {place}, U+{code:04X}"),
-            told::CONTROL,
+            reported::CONTROL,
         ),
     }
 }
@@ -104,20 +107,20 @@ fn control(alloc: Global, number: usize, line: &str) -> Words {
 /// What is wrong with a line in which no tab stands.
 fn without_tab(line: &str) -> &'static str {
     if line.split_whitespace().count() >= FEW_WORDS {
-        told::SPACES_FOR_TABS
+        reported::SPACES_FOR_TABS
     } else {
-        told::NO_TAB
+        reported::NO_TAB
     }
 }
 
 /// What is wrong with a line of more than ten fields.
 fn with_more(line: &str, count: usize) -> &'static str {
     if line.ends_with('\t') && count == 11 {
-        told::TAB_AT_END
+        reported::TAB_AT_END
     } else if line.contains("\t\t") {
-        told::DOUBLE_TAB
+        reported::DOUBLE_TAB
     } else {
-        told::MANY_FIELDS
+        reported::MANY_FIELDS
     }
 }
 
@@ -134,11 +137,11 @@ fn empty_column(line: &str) -> usize {
 /// What is wrong with a line, if it is no word line by what it begins with.
 fn begins_wrong(line: &str) -> Option<&'static str> {
     if line.starts_with(BYTE_ORDER_MARK) {
-        Some(told::BYTE_ORDER_MARK)
+        Some(reported::BYTE_ORDER_MARK)
     } else if line.trim().is_empty() {
-        Some(told::WHITE_LINE)
+        Some(reported::WHITE_LINE)
     } else if line.trim_start().starts_with('#') {
-        Some(told::COMMENT_INDENTED)
+        Some(reported::COMMENT_INDENTED)
     } else {
         None
     }
@@ -153,7 +156,7 @@ fn columns(alloc: Global, number: usize, line: &str) -> Words {
         let name = name(empty_column(line));
         return Words::at(
             format!(in alloc; "line {number}, {name}"),
-            told::EMPTY_FIELD,
+            reported::EMPTY_FIELD,
         );
     }
     if count == 1 {
@@ -164,7 +167,7 @@ fn columns(alloc: Global, number: usize, line: &str) -> Words {
         );
     }
     let sentence = if count < 10 {
-        told::FEW_FIELDS
+        reported::FEW_FIELDS
     } else {
         with_more(line, count)
     };
@@ -180,17 +183,17 @@ fn number_fault(number: &str) -> Option<&'static str> {
         return None;
     }
     if number.starts_with('0') {
-        return Some(told::ID_ZERO);
+        return Some(reported::ID_ZERO);
     }
     if number.len() > 6 {
-        return Some(told::ID_LONG);
+        return Some(reported::ID_LONG);
     }
     None
 }
 
 fn id_fault(value: &str) -> &'static str {
     if value.starts_with(BYTE_ORDER_MARK) {
-        return told::BYTE_ORDER_MARK;
+        return reported::BYTE_ORDER_MARK;
     }
     let (first, second) = match value.split_once('-') {
         Some(both) => both,
@@ -198,7 +201,7 @@ fn id_fault(value: &str) -> &'static str {
     };
     match number_fault(second) {
         Some(sentence) => sentence,
-        None => number_fault(first).unwrap_or(told::ID_FORM),
+        None => number_fault(first).unwrap_or(reported::ID_FORM),
     }
 }
 
@@ -210,10 +213,10 @@ fn id(alloc: Global, number: usize, line: &str) -> Words {
 fn space(alloc: Global, number: usize, line: &str) -> Words {
     for (column, value) in line.split('\t').enumerate() {
         if !matches!(column, FORM | LEMMA | MISC) && has_white_space(value) {
-            return in_column(alloc, number, column, value, told::SPACE);
+            return in_column(alloc, number, column, value, reported::SPACE);
         }
     }
-    Words::at(format!(in alloc; "line {number}"), told::SPACE)
+    Words::at(format!(in alloc; "line {number}"), reported::SPACE)
 }
 
 /// Whether a comment is one with which sentences begin.
@@ -227,9 +230,9 @@ fn begins_sentence(comment: &str) -> bool {
 
 fn comment_place(alloc: Global, number: usize, line: &str) -> Words {
     let sentence = if begins_sentence(line) {
-        told::BLANK_MISSING
+        reported::BLANK_MISSING
     } else {
-        told::COMMENT_PLACE
+        reported::COMMENT_PLACE
     };
     let comment = shown(line);
     Words::at(format!(in alloc; "line {number}, `{comment}`"), sentence)
@@ -237,11 +240,11 @@ fn comment_place(alloc: Global, number: usize, line: &str) -> Words {
 
 fn blank_place(file: &[u8], number: usize) -> &'static str {
     if number <= 1 {
-        told::BLANK_FIRST
+        reported::BLANK_FIRST
     } else if line_at(file, number.saturating_sub(1)).is_empty() {
-        told::BLANK_TWICE
+        reported::BLANK_TWICE
     } else {
-        told::BLANK_AFTER_COMMENTS
+        reported::BLANK_AFTER_COMMENTS
     }
 }
 
@@ -249,13 +252,13 @@ fn blank_place(file: &[u8], number: usize) -> &'static str {
 fn unended(file: &[u8], number: usize) -> &'static str {
     let last = line_at(file, number);
     if last.contains(&b'\r') {
-        told::LONE_RETURNS
+        reported::LONE_RETURNS
     } else if !last.is_empty() {
-        told::NO_LINE_FEED
+        reported::NO_LINE_FEED
     } else if line_at(file, number.saturating_sub(1)).starts_with(b"#".as_slice()) {
-        told::COMMENTS_AT_END
+        reported::COMMENTS_AT_END
     } else {
-        told::NO_BLANK_AT_END
+        reported::NO_BLANK_AT_END
     }
 }
 
@@ -269,7 +272,7 @@ pub(crate) fn words_of_line(alloc: Global, file: &[u8], number: usize, code: u8)
         4 => columns(alloc, number, line),
         5 => id(alloc, number, line),
         6 => space(alloc, number, line),
-        7 => in_column(alloc, number, HEAD, field(line, HEAD), told::HEAD_FORM),
+        7 => in_column(alloc, number, HEAD, field(line, HEAD), reported::HEAD_FORM),
         8 => comment_place(alloc, number, line),
         9 => Words::at(
             format!(in alloc; "line {number}"),

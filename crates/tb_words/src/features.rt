@@ -1,6 +1,6 @@
 //! Which of the features of a row is at fault.
 
-use crate::sentences as told;
+use crate::sentences as reported;
 use std::alloc::{AllocError, Global};
 use tb_fields::is_feature_list;
 
@@ -39,18 +39,18 @@ fn has_wrong_value(alloc: Global, values: &str) -> bool {
 /// What is wrong with one feature, if something is.
 fn item_fault(alloc: Global, item: &str) -> Option<&'static str> {
     let Some((name, values)) = item.split_once('=') else {
-        return Some(told::FEATURE_FORM);
+        return Some(reported::FEATURE_FORM);
     };
     if is_list(alloc, item) {
         return None;
     }
     if !is_made_list(alloc, format!(in alloc; "{name}=X")) {
-        return Some(told::FEATURE_NAME);
+        return Some(reported::FEATURE_NAME);
     }
     if has_wrong_value(alloc, values) {
-        return Some(told::FEATURE_VALUE);
+        return Some(reported::FEATURE_VALUE);
     }
-    Some(told::VALUE_TWICE)
+    Some(reported::VALUE_TWICE)
 }
 
 /// Whether one of the features before, of which there are so many, has the name of this one.
@@ -78,11 +78,11 @@ pub(crate) fn feature_fault(alloc: Global, feats: &str) -> (&str, &'static str) 
             return (item, sentence);
         }
         if is_named_before(feats, before, item) {
-            return (item, told::FEATURE_TWICE);
+            return (item, reported::FEATURE_TWICE);
         }
         if is_out_of_order(alloc, feats, before, item) {
-            return (item, told::FEATURE_ORDER);
+            return (item, reported::FEATURE_ORDER);
         }
     }
-    (feats, told::BROKEN)
+    (feats, reported::BROKEN)
 }

@@ -1,6 +1,6 @@
 //! Which of the pairs in DEPS is at fault.
 
-use crate::sentences as told;
+use crate::sentences as reported;
 use tb_conllu::{LineId, RowRef, id_of};
 
 /// The head that a text names in a sentence, as its word and its node there.
@@ -28,18 +28,18 @@ pub(crate) fn pair_fault<'a>(rows: &[RowRef<'_>], deps: &'a str) -> (&'a str, &'
     let mut before = (0, 0);
     for pair in deps.split('|') {
         let Some((front, relation)) = pair.split_once(':') else {
-            return (pair, told::PAIR_FORM);
+            return (pair, reported::PAIR_FORM);
         };
         let Some(head) = head_in(rows, front) else {
-            return (pair, told::PAIR_HEAD);
+            return (pair, reported::PAIR_HEAD);
         };
         if relation.is_empty() {
-            return (pair, told::PAIR_RELATION);
+            return (pair, reported::PAIR_RELATION);
         }
         if is_before(head, before) {
-            return (pair, told::PAIR_ORDER);
+            return (pair, reported::PAIR_ORDER);
         }
         before = head;
     }
-    (deps, told::PAIR_FORM)
+    (deps, reported::PAIR_FORM)
 }

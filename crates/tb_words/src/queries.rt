@@ -2,7 +2,7 @@
 
 use crate::literals::{Literal, holds, literals, written};
 use crate::pictures::{character, picture};
-use crate::sentences as told;
+use crate::sentences as reported;
 use crate::syntax::Wrong;
 use crate::words::{Page, Words, shown};
 use std::alloc::Global;
@@ -37,14 +37,14 @@ fn numbers_fault(text: &str) -> Option<&'static str> {
     let lower = number(first)?;
     let upper = number(second);
     if lower > 32 || upper.unwrap_or(0) > 32 {
-        return Some(told::REPEAT_ABOVE);
+        return Some(reported::REPEAT_ABOVE);
     }
     let upper = upper?;
     if upper == 0 {
-        return Some(told::REPEAT_ZERO);
+        return Some(reported::REPEAT_ZERO);
     }
     if upper < lower {
-        return Some(told::REPEAT_BACKWARD);
+        return Some(reported::REPEAT_BACKWARD);
     }
     None
 }
@@ -74,11 +74,11 @@ fn pattern_fault(pattern: &str) -> &'static str {
         || pattern.contains("(?<=")
         || pattern.contains("(?<!")
     {
-        told::PATTERN_LOOKING
+        reported::PATTERN_LOOKING
     } else if looks_back(pattern) {
-        told::PATTERN_BACK
+        reported::PATTERN_BACK
     } else {
-        told::PATTERN_OTHER
+        reported::PATTERN_OTHER
     }
 }
 
@@ -94,17 +94,17 @@ pub fn words_of_query(alloc: Global, text: &str, fault: QueryFault) -> Words {
     let found = literals(alloc, text).unwrap_or(Vec::new(alloc));
     let literals = found.as_slice();
     let words = match fault {
-        QueryFault::TooLong => Words::alone(told::TOO_LONG),
+        QueryFault::TooLong => Words::alone(reported::TOO_LONG),
         QueryFault::Syntax(at) => syntax(alloc, text, literals, at as usize),
-        QueryFault::TooMany => Words::alone(told::TOO_MANY),
-        QueryFault::TooDeep => Words::alone(told::TOO_DEEP),
+        QueryFault::TooMany => Words::alone(reported::TOO_MANY),
+        QueryFault::TooDeep => Words::alone(reported::TOO_DEEP),
         QueryFault::Repeat => repetition(alloc, text, literals).unwrap_or(Words::alone(
-            told::REPEAT_ABOVE,
+            reported::REPEAT_ABOVE,
         )),
         QueryFault::Pattern(number) => pattern(alloc, text, literals, number).unwrap_or(
-            Words::alone(told::PATTERN_OTHER),
+            Words::alone(reported::PATTERN_OTHER),
         ),
-        QueryFault::Memory => Words::alone(told::PATTERN_LARGE),
+        QueryFault::Memory => Words::alone(reported::PATTERN_LARGE),
     };
     words.on(Page::Queries)
 }
@@ -112,11 +112,15 @@ pub fn words_of_query(alloc: Global, text: &str, fault: QueryFault) -> Words {
 /// What is told of a query that finds nothing, but as this text finds so much.
 pub fn words_of_hits(alloc: Global, text: &str, hits: u64) -> Words {
     let query = shown(text);
-    Words::at(format!(in alloc; "`{query}` finds {hits}"), told::LITERALLY).on(Page::Queries)
+    Words::at(
+        format!(in alloc; "`{query}` finds {hits}"),
+        reported::LITERALLY,
+    )
+    .on(Page::Queries)
 }
 
 /// What is told of a form that is asked for and stands on a range alone.
 pub fn words_of_range(alloc: Global, form: &str) -> Words {
     let form = shown(form);
-    Words::at(format!(in alloc; "`{form}`"), told::ON_A_RANGE).on(Page::Queries)
+    Words::at(format!(in alloc; "`{form}`"), reported::ON_A_RANGE).on(Page::Queries)
 }

@@ -2,7 +2,7 @@
 
 use crate::codes::words_of_line;
 use crate::rules::words_of_rule;
-use crate::sentences as told;
+use crate::sentences as reported;
 use crate::words::{Page, Words};
 use std::alloc::Global;
 use tb_core::{Refusal, State};
@@ -22,12 +22,12 @@ pub enum Asked {
 /// What may come after this state of a batch.
 fn next_of(state: State) -> &'static str {
     match state {
-        State::Opened => told::OPEN,
-        State::Assigned => told::ASSIGNED,
-        State::Submitted => told::SUBMITTED,
-        State::Adjudicated => told::ADJUDICATED,
-        State::Released => told::RELEASED,
-        State::Withdrawn => told::WITHDRAWN,
+        State::Opened => reported::OPEN,
+        State::Assigned => reported::ASSIGNED,
+        State::Submitted => reported::SUBMITTED,
+        State::Adjudicated => reported::ADJUDICATED,
+        State::Released => reported::RELEASED,
+        State::Withdrawn => reported::WITHDRAWN,
     }
 }
 
@@ -40,27 +40,27 @@ fn words_of_move(alloc: Global, state: State) -> Words {
 /// The sentence of a refusal that is about no place.
 fn sentence_of(refusal: Refusal) -> &'static str {
     match refusal {
-        Refusal::BadName => told::BAD_NAME,
-        Refusal::NoSuchBatch => told::NO_SUCH_BATCH,
-        Refusal::NoSuchSentence => told::NO_SUCH_SENTENCE,
+        Refusal::BadName => reported::BAD_NAME,
+        Refusal::NoSuchBatch => reported::NO_SUCH_BATCH,
+        Refusal::NoSuchSentence => reported::NO_SUCH_SENTENCE,
         Refusal::WrongState(state) => next_of(state),
-        Refusal::NotYours => told::NOT_YOURS,
-        Refusal::OwnWork => told::OWN_WORK,
-        Refusal::Stale(_) => told::STALE,
-        Refusal::Read(_, _) | Refusal::Rule(_, _, _) => told::BROKEN,
-        Refusal::Empty => told::EMPTY,
-        Refusal::NotOne => told::NOT_ONE,
-        Refusal::SentIdChanged => told::SENT_ID_CHANGED,
-        Refusal::TextChanged => told::TEXT_CHANGED,
-        Refusal::NothingChanged => told::NOTHING_CHANGED,
-        Refusal::NameTaken => told::NAME_TAKEN,
-        Refusal::SentIdTaken(_) => told::SENT_ID_TAKEN,
-        Refusal::Full => told::FULL,
-        Refusal::NoSuchRevision => told::NO_SUCH_REVISION,
-        Refusal::Query(_, _) => told::SYNTAX,
-        Refusal::Pulled => told::PULLED,
-        Refusal::NotPulled => told::NOT_PULLED,
-        Refusal::TooManyHits => told::TOO_MANY_HITS,
+        Refusal::NotYours => reported::NOT_YOURS,
+        Refusal::OwnWork => reported::OWN_WORK,
+        Refusal::Stale(_) => reported::STALE,
+        Refusal::Read(_, _) | Refusal::Rule(_, _, _) => reported::BROKEN,
+        Refusal::Empty => reported::EMPTY,
+        Refusal::NotOne => reported::NOT_ONE,
+        Refusal::SentIdChanged => reported::SENT_ID_CHANGED,
+        Refusal::TextChanged => reported::TEXT_CHANGED,
+        Refusal::NothingChanged => reported::NOTHING_CHANGED,
+        Refusal::NameTaken => reported::NAME_TAKEN,
+        Refusal::SentIdTaken(_) => reported::SENT_ID_TAKEN,
+        Refusal::Full => reported::FULL,
+        Refusal::NoSuchRevision => reported::NO_SUCH_REVISION,
+        Refusal::Query(_, _) => reported::SYNTAX,
+        Refusal::Pulled => reported::PULLED,
+        Refusal::NotPulled => reported::NOT_PULLED,
+        Refusal::TooManyHits => reported::TOO_MANY_HITS,
     }
 }
 
@@ -70,9 +70,12 @@ fn wrong_state(alloc: Global, state: State, asked: Asked) -> Words {
     let words = match asked {
         Asked::Correction(_) => Words::at(
             format!(in alloc; "the sentence is {word}"),
-            told::CORRECT_STATE,
+            reported::CORRECT_STATE,
         ),
-        Asked::Pull => Words::at(format!(in alloc; "the batch is {word}"), told::PULL_STATE),
+        Asked::Pull => Words::at(
+            format!(in alloc; "the batch is {word}"),
+            reported::PULL_STATE,
+        ),
         Asked::Event | Asked::Other => words_of_move(alloc, state),
     };
     words.on(Page::Batches)
@@ -85,7 +88,7 @@ fn stale(alloc: Global, current: u64, asked: Asked) -> Words {
     };
     Words::at(
         format!(in alloc; "made on revision {base}, the current one is {current}"),
-        told::STALE,
+        reported::STALE,
     )
 }
 
@@ -95,7 +98,7 @@ fn of_refusal(alloc: Global, refusal: Refusal, asked: Asked) -> Words {
         Refusal::Stale(current) => stale(alloc, current, asked),
         Refusal::SentIdTaken(sentence) => Words::at(
             format!(in alloc; "sentence {sentence} of the input"),
-            told::SENT_ID_TAKEN,
+            reported::SENT_ID_TAKEN,
         ),
         other => Words::alone(sentence_of(other)),
     }
@@ -112,10 +115,10 @@ pub fn words_of_reply(alloc: Global, reply: Reply, body: &[u8], asked: Asked) ->
             Some(words_of_rule(alloc, body, sentence, rule, row))
         }
         Reply::Refused(refusal) => Some(of_refusal(alloc, refusal, asked)),
-        Reply::Faulty(RequestFault::Long) => Some(Words::alone(told::LONG)),
-        Reply::Memory => Some(Words::alone(told::MEMORY)),
-        Reply::Device => Some(Words::alone(told::DEVICE)),
-        Reply::Desk => Some(Words::alone(told::DESK)),
+        Reply::Faulty(RequestFault::Long) => Some(Words::alone(reported::LONG)),
+        Reply::Memory => Some(Words::alone(reported::MEMORY)),
+        Reply::Device => Some(Words::alone(reported::DEVICE)),
+        Reply::Desk => Some(Words::alone(reported::DESK)),
         _ => None,
     }
 }

@@ -5,7 +5,7 @@ use crate::columns::{DEPREL, DEPS, FEATS, HEAD, ID, UPOS, field, filled, name};
 use crate::features::feature_fault;
 use crate::pairs::pair_fault;
 use crate::places::{Placed, Places, sentence_at, text_at};
-use crate::sentences as told;
+use crate::sentences as reported;
 use crate::spelling::difference;
 use crate::words::{Page, Words, named, shown};
 use std::alloc::Global;
@@ -70,9 +70,9 @@ fn name_fault(alloc: Global, placed: &Placed<'_>) -> Option<Words> {
     let line = placed.comment_line(name.at);
     let value = shown(name.value);
     let sentence = if name.value.is_empty() {
-        told::SENT_ID_EMPTY
+        reported::SENT_ID_EMPTY
     } else {
-        told::SENT_ID_SPACE
+        reported::SENT_ID_SPACE
     };
     Some(Words::at(format!(in alloc; "line {line}, `{value}`"), sentence))
 }
@@ -82,8 +82,8 @@ fn sent_id_fault(alloc: Global, placed: &Placed<'_>) -> Option<Words> {
         alloc,
         placed,
         "sent_id",
-        told::SENT_ID_MISSING,
-        told::SENT_ID_TWICE,
+        reported::SENT_ID_MISSING,
+        reported::SENT_ID_TWICE,
     );
     match found {
         Some(words) => Some(words),
@@ -118,7 +118,7 @@ fn order_fault(alloc: Global, placed: &Placed<'_>) -> Option<Words> {
                 node = 0;
                 if number != word {
                     let wanted = LineId::Word(word);
-                    return out_of_order(alloc, line, row.id, wanted, told::WORD_ORDER);
+                    return out_of_order(alloc, line, row.id, wanted, reported::WORD_ORDER);
                 }
             }
             LineId::Span(..) => {}
@@ -126,7 +126,7 @@ fn order_fault(alloc: Global, placed: &Placed<'_>) -> Option<Words> {
                 node = node.saturating_add(1);
                 if after != word || number != node {
                     let wanted = LineId::Empty(word, node);
-                    return out_of_order(alloc, line, row.id, wanted, told::NODE_ORDER);
+                    return out_of_order(alloc, line, row.id, wanted, reported::NODE_ORDER);
                 }
             }
         }
@@ -141,39 +141,39 @@ fn numbering_fault(alloc: Global, placed: &Placed<'_>) -> Option<Words> {
     let line = placed.comment_line(0);
     let count = words(&placed.block);
     let sentence = if count == 0 {
-        told::NO_WORDS
+        reported::NO_WORDS
     } else {
-        told::TOO_MANY_WORDS
+        reported::TOO_MANY_WORDS
     };
     Some(Words::at(format!(in alloc; "line {line}, {count} words"), sentence))
 }
 
 fn head_fault(head: u32, word: u32, count: usize) -> Option<&'static str> {
     if head as usize > count {
-        return Some(told::HEAD_BEYOND);
+        return Some(reported::HEAD_BEYOND);
     }
     if head == word {
-        return Some(told::HEAD_SELF);
+        return Some(reported::HEAD_SELF);
     }
     None
 }
 
 fn relation_fault(relation: &str, head: u32) -> &'static str {
     if !is_relation_text(relation) {
-        told::DEPREL_UNKNOWN
+        reported::DEPREL_UNKNOWN
     } else if head == 0 {
-        told::HEAD_0_NOT_ROOT
+        reported::HEAD_0_NOT_ROOT
     } else {
-        told::ROOT_WITH_HEAD
+        reported::ROOT_WITH_HEAD
     }
 }
 
 fn word_fault(row: &RowRef<'_>, count: usize) -> (usize, &'static str) {
     if !is_tag(row.upos) {
-        return (UPOS, told::UPOS_UNKNOWN);
+        return (UPOS, reported::UPOS_UNKNOWN);
     }
     let Some(head) = row.head else {
-        return (HEAD, told::HEAD_MISSING);
+        return (HEAD, reported::HEAD_MISSING);
     };
     let word = match row.id {
         LineId::Word(word) => word,
@@ -206,29 +206,29 @@ fn range_fault(
     count: usize,
 ) -> (usize, &'static str) {
     let LineId::Span(first, last) = row.id else {
-        return (ID, told::RANGE_PLACE);
+        return (ID, reported::RANGE_PLACE);
     };
     let (end, words) = before(rows, at);
     if last < first {
-        (ID, told::RANGE_BACKWARD)
+        (ID, reported::RANGE_BACKWARD)
     } else if last as usize > count {
-        (ID, told::RANGE_BEYOND)
+        (ID, reported::RANGE_BEYOND)
     } else if first <= end {
-        (ID, told::RANGE_OVERLAP)
+        (ID, reported::RANGE_OVERLAP)
     } else if first as usize != words.saturating_add(1) {
-        (ID, told::RANGE_PLACE)
+        (ID, reported::RANGE_PLACE)
     } else {
-        (filled(row), told::RANGE_FIELD)
+        (filled(row), reported::RANGE_FIELD)
     }
 }
 
 fn node_fault(row: &RowRef<'_>) -> (usize, &'static str) {
     if row.head.is_some() {
-        (HEAD, told::NODE_TREE)
+        (HEAD, reported::NODE_TREE)
     } else if row.deprel != "_" {
-        (DEPREL, told::NODE_TREE)
+        (DEPREL, reported::NODE_TREE)
     } else {
-        (UPOS, told::NODE_UPOS)
+        (UPOS, reported::NODE_UPOS)
     }
 }
 
@@ -299,7 +299,7 @@ fn root_fault(alloc: Global, placed: &Placed<'_>) -> Option<Words> {
     let rows = placed.block.rows.as_slice();
     let Some(first) = root_after(rows, 0) else {
         let line = placed.comment_line(0);
-        return Some(Words::at(format!(in alloc; "line {line}"), told::NO_ROOT));
+        return Some(Words::at(format!(in alloc; "line {line}"), reported::NO_ROOT));
     };
     let second = root_after(rows, first.saturating_add(1))?;
     let one = named(rows.get(first)?.id);
@@ -308,7 +308,7 @@ fn root_fault(alloc: Global, placed: &Placed<'_>) -> Option<Words> {
     let again = placed.row_line(second);
     Some(Words::at(
         format!(in alloc; "line {line}, {one}, and line {again}, {other}"),
-        told::TWO_ROOTS,
+        reported::TWO_ROOTS,
     ))
 }
 
@@ -319,7 +319,7 @@ fn circle_fault(alloc: Global, placed: &Placed<'_>) -> Option<Words> {
     let line = placed.word_line(word);
     Some(Words::at(
         format!(in alloc; "line {line}, words {circle}"),
-        told::CIRCLE,
+        reported::CIRCLE,
     ))
 }
 
@@ -342,7 +342,7 @@ fn name_taken(alloc: Global, file: &[u8], placed: &Placed<'_>, number: u64) -> O
     let value = shown(name.value);
     Some(Words::at(
         format!(in alloc; "line {line}, `{value}`, as in sentence {earlier} from line {first}"),
-        told::SENT_ID_AGAIN,
+        reported::SENT_ID_AGAIN,
     ))
 }
 
@@ -357,7 +357,13 @@ fn fault_of(
 ) -> Option<Words> {
     match rule {
         1 => sent_id_fault(alloc, placed),
-        2 => key_fault(alloc, placed, "text", told::TEXT_MISSING, told::TEXT_TWICE),
+        2 => key_fault(
+            alloc,
+            placed,
+            "text",
+            reported::TEXT_MISSING,
+            reported::TEXT_TWICE,
+        ),
         3 => numbering_fault(alloc, placed),
         4..=8 => in_row(alloc, file, placed, rule, row.checked_sub(1)? as usize),
         9 => root_fault(alloc, placed),
@@ -383,7 +389,7 @@ pub(crate) fn words_of_rule(
     };
     let words = match found {
         Some(words) => words,
-        None => Words::at(format!(in alloc; "sentence {sentence}"), told::BROKEN),
+        None => Words::at(format!(in alloc; "sentence {sentence}"), reported::BROKEN),
     };
     words.on(Page::Rule(rule))
 }

@@ -2,7 +2,7 @@
 
 use crate::places::Placed;
 use crate::rules::keyed;
-use crate::sentences as told;
+use crate::sentences as reported;
 use crate::words::{Words, shown};
 use std::alloc::Global;
 use tb_rules::restored;
@@ -43,11 +43,11 @@ fn word_start(text: &str, at: usize) -> usize {
 
 fn sentence_of(text: &str, forms: &str) -> &'static str {
     if forms.starts_with(' ') {
-        told::FORMS_HAVE_SPACE
+        reported::FORMS_HAVE_SPACE
     } else if text.starts_with(' ') {
-        told::TEXT_HAS_SPACE
+        reported::TEXT_HAS_SPACE
     } else {
-        told::TEXT_DIFFERS
+        reported::TEXT_DIFFERS
     }
 }
 

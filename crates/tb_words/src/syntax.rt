@@ -1,7 +1,7 @@
 //! What most likely is meant where a query has what no query can have.
 
 use crate::literals::{Literal, holds};
-use crate::sentences as told;
+use crate::sentences as reported;
 
 /// Quotes that are not those of a query.
 const CURLY: &[char] = &[
@@ -67,15 +67,16 @@ fn is_column_in_capitals(word: &str) -> bool {
 /// What is wrong with a word that stands for the name of a column.
 fn column_fault(word: &str) -> &'static str {
     if is_column_in_capitals(word) {
-        return told::COLUMN_CASE;
+        return reported::COLUMN_CASE;
     }
     match word {
-        "pos" | "POS" | "tag" | "cpos" | "postag" => told::COLUMN_POS,
-        "form" | "FORM" | "token" | "text" => told::COLUMN_WORD,
-        "morph" | "feat" | "features" | "featscontains" => told::COLUMN_FEATS,
-        "rel" | "dep" | "relation" | "deprels" => told::COLUMN_DEPREL,
-        "id" | "ID" | "head" | "HEAD" | "deps" | "DEPS" | "misc" | "MISC" => told::COLUMN_CLOSED,
-        _ => told::COLUMN_OTHER,
+        "pos" | "POS" | "tag" | "cpos" | "postag" => reported::COLUMN_POS,
+        "form" | "FORM" | "token" | "text" => reported::COLUMN_WORD,
+        "morph" | "feat" | "features" | "featscontains" => reported::COLUMN_FEATS,
+        "rel" | "dep" | "relation" | "deprels" => reported::COLUMN_DEPREL,
+        "id" | "ID" | "head" | "HEAD" | "deps" | "DEPS" | "misc" | "MISC" =>
+            reported::COLUMN_CLOSED,
+        _ => reported::COLUMN_OTHER,
     }
 }
 
@@ -116,38 +117,38 @@ impl<'a> Wrong<'a> {
     /// Where the text ends too early.
     fn end(&self) -> &'static str {
         if self.before.is_empty() {
-            told::EMPTY_QUERY
+            reported::EMPTY_QUERY
         } else if self.brackets > 0 {
-            told::BRACKET_OPEN
+            reported::BRACKET_OPEN
         } else if self.parentheses > 0 {
-            told::PARENTHESIS_OPEN
+            reported::PARENTHESIS_OPEN
         } else if self.before.ends_with(',') || self.before.ends_with('{') {
-            told::BRACE_OPEN
+            reported::BRACE_OPEN
         } else if self.before.ends_with("within") {
-            told::WITHIN
+            reported::WITHIN
         } else if self.before.ends_with('|') {
-            told::ENDS_EARLY
+            reported::ENDS_EARLY
         } else {
-            told::BRACE_OPEN
+            reported::BRACE_OPEN
         }
     }
 
     /// A word within brackets.
     fn word_inside(&self, word: &str) -> &'static str {
         if self.wants_value() {
-            told::VALUE_UNQUOTED
+            reported::VALUE_UNQUOTED
         } else if word == "contains" {
-            told::CONTAINS
+            reported::CONTAINS
         } else if self.follows_column() && (word == "matches" || word == "not") {
-            told::MATCHES
+            reported::MATCHES
         } else if is_connective(word) {
-            told::AND_OR
+            reported::AND_OR
         } else if self.follows_flag() {
-            told::FLAG
+            reported::FLAG
         } else if self.before.ends_with(['[', '(', '&', '|', '!']) {
             column_fault(word)
         } else {
-            told::SYNTAX
+            reported::SYNTAX
         }
     }
 
@@ -155,21 +156,21 @@ impl<'a> Wrong<'a> {
     fn word_outside(&self, word: &str) -> &'static str {
         let after = self.rest.get(word.len()..).unwrap_or("");
         if self.follows_flag() {
-            told::FLAG
+            reported::FLAG
         } else if self.before.ends_with("within") {
-            told::WITHIN
+            reported::WITHIN
         } else if self.before.ends_with("\\\"") || self.before.ends_with("\\'") {
-            told::BACKSLASH_QUOTE
+            reported::BACKSLASH_QUOTE
         } else if after.starts_with(':') {
-            told::LABEL
+            reported::LABEL
         } else if word == "MU" || word == "TAB" {
-            told::MU
+            reported::MU
         } else if is_column(word) || after.trim_start().starts_with('=') {
-            told::BRACKETS
+            reported::BRACKETS
         } else if self.before.ends_with('{') || self.before.ends_with(',') {
-            told::NUMBER_ZERO
+            reported::NUMBER_ZERO
         } else {
-            told::WORD_UNQUOTED
+            reported::WORD_UNQUOTED
         }
     }
 
@@ -185,48 +186,48 @@ impl<'a> Wrong<'a> {
     /// A quote. `is_closed` says whether its literal ends.
     fn quote(&self, is_closed: bool) -> &'static str {
         if !is_closed {
-            told::QUOTE_OPEN
+            reported::QUOTE_OPEN
         } else if self.follows_column() {
-            told::TEST_WANTED
+            reported::TEST_WANTED
         } else {
-            told::SYNTAX
+            reported::SYNTAX
         }
     }
 
     fn repetition(&self) -> &'static str {
         if self.follows_repetition() {
-            told::REPEATED_TWICE
+            reported::REPEATED_TWICE
         } else {
-            told::NOTHING_REPEATED
+            reported::NOTHING_REPEATED
         }
     }
 
     fn closing_bracket(&self) -> &'static str {
         if self.wants_value() {
-            told::VALUE_WANTED
+            reported::VALUE_WANTED
         } else if self.follows_column() {
-            told::TEST_WANTED
+            reported::TEST_WANTED
         } else {
-            told::SYNTAX
+            reported::SYNTAX
         }
     }
 
     /// A sign that is no letter and no digit.
     fn sign(&self, sign: char) -> &'static str {
         match sign {
-            '%' => told::FLAG,
-            '<' => told::TAG,
-            '@' => told::ANCHOR,
-            ':' => told::LABEL,
-            '-' if self.rest.starts_with("->") => told::ARROW,
-            ',' if self.before.ends_with('{') => told::NO_LOWER,
+            '%' => reported::FLAG,
+            '<' => reported::TAG,
+            '@' => reported::ANCHOR,
+            ':' => reported::LABEL,
+            '-' if self.rest.starts_with("->") => reported::ARROW,
+            ',' if self.before.ends_with('{') => reported::NO_LOWER,
             '{' | '?' | '*' | '+' => self.repetition(),
-            '=' if self.before.ends_with('=') => told::EQUALS_TWICE,
-            '!' if self.follows_column() => told::NOT_SPACED,
-            ')' => told::NO_PARENTHESIS,
+            '=' if self.before.ends_with('=') => reported::EQUALS_TWICE,
+            '!' if self.follows_column() => reported::NOT_SPACED,
+            ')' => reported::NO_PARENTHESIS,
             ']' => self.closing_bracket(),
-            _ if self.wants_value() => told::VALUE_WANTED,
-            _ => told::SYNTAX,
+            _ if self.wants_value() => reported::VALUE_WANTED,
+            _ => reported::SYNTAX,
         }
     }
 
@@ -236,7 +237,7 @@ impl<'a> Wrong<'a> {
             return self.end();
         };
         if CURLY.contains(&first) {
-            told::CURLY_QUOTE
+            reported::CURLY_QUOTE
         } else if first == '"' || first == '\'' {
             self.quote(is_closed)
         } else if first.is_alphanumeric() {

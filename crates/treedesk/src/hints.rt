@@ -2,7 +2,7 @@
 //! about, and what became of the streams.
 
 use std::io::{self, ErrorKind, Write};
-use tb_program::{Cause, StreamCause, Told};
+use tb_desk::{Cause, Diagnostic, StreamCause};
 
 /// An output, and why it failed.
 #[derive(Drop)]
@@ -51,7 +51,7 @@ impl<W: Write> Write for Heard<W> {
 #[derive(Drop)]
 pub(crate) struct Ended {
     pub(crate) status: u8,
-    pub(crate) told: Option<Told>,
+    pub(crate) reported: Option<Diagnostic>,
     pub(crate) input: Option<StreamCause>,
     pub(crate) output: Option<StreamCause>,
 }
@@ -66,7 +66,7 @@ impl Ended {
     fn tell_rest(&self, rt: &HostRuntime) -> io::Result<()> {
         match self.input {
             Some(cause) => tell(rt, Cause::Stream(cause)),
-            None if self.status == 3 && self.output.is_none() && self.told.is_none() => tell(
+            None if self.status == 3 && self.output.is_none() && self.reported.is_none() => tell(
                 rt,
                 Cause::BrokenOff,
             ),
@@ -76,9 +76,9 @@ impl Ended {
 
     /// Tells why the answer is what it is. What it says of an input that failed is not told.
     fn tell_cause(&self, rt: &HostRuntime) -> io::Result<()> {
-        match &self.told {
-            Some(told) if self.input.is_none() || !told.is_of_answer() => {
-                eprintln!(rt; "treedesk: {told}")
+        match &self.reported {
+            Some(reported) if self.input.is_none() || !reported.is_of_answer() => {
+                eprintln!(rt; "treedesk: {reported}")
             }
             _ => self.tell_rest(rt),
         }

@@ -9,8 +9,8 @@ use std::fs::File;
 use std::io::{self, BufWriter, ErrorKind, IsTerminal, Read, Write};
 use std::os::fd::AsRawFd;
 use std::process::ExitCode;
-use tb_desk::put_reply;
-use tb_program::{Cause, StreamCause, run_words_told, wants_words};
+use tb_check::put_reply;
+use tb_desk::{Cause, StreamCause, run_words_reported, wants_words};
 
 /// How much of an answer waits to be written at once.
 const BUFFER: usize = 65_536;
@@ -88,7 +88,7 @@ impl Typed<'_> {
 impl Read for Typed<'_> {
     fn read(&mut self, buf: &mut [u8]) -> io::Result<usize> {
         if !self.was_read && self.rt.stdin().is_terminal() {
-            let _told = eprintln!(self.rt; "treedesk: reads standard input; Ctrl-D ends it");
+            let _reported = eprintln!(self.rt; "treedesk: reads standard input; Ctrl-D ends it");
         }
         self.was_read = true;
         match self.rt.stdin().read(buf) {
@@ -113,7 +113,7 @@ fn run(rt: &HostRuntime, held: &Held) -> io::Result<u8> {
         was_read: false,
         failed: None,
     };
-    let outcome = run_words_told(rt, &words, &mut input, &mut out);
+    let outcome = run_words_reported(rt, &words, &mut input, &mut out);
     let status = match out.flush() {
         Ok(()) => outcome.status,
         Err(_) => 3,
@@ -121,11 +121,11 @@ fn run(rt: &HostRuntime, held: &Held) -> io::Result<u8> {
     if wants_words(rt) {
         let ended = Ended {
             status,
-            told: outcome.told,
+            reported: outcome.reported,
             input: input.cause(held),
             output: held.output_cause(out.failed()),
         };
-        let _told = ended.tell(rt);
+        let _reported = ended.tell(rt);
     }
     Ok(status)
 }
@@ -134,7 +134,7 @@ fn run(rt: &HostRuntime, held: &Held) -> io::Result<u8> {
 fn put_and_tell(rt: &HostRuntime, line: &str, status: u8, cause: Cause) -> u8 {
     let status = put_reply(&mut rt.stdout(), line, status);
     if wants_words(rt) {
-        let _told = tell(rt, cause);
+        let _reported = tell(rt, cause);
     }
     status
 }

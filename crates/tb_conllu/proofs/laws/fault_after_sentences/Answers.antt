@@ -1,5 +1,5 @@
-use Rattle.tb_conllu.proofs.Faults.{told_after}
+use Rattle.tb_conllu.proofs.Faults.{reported_after}
 use Rattle.tb_conllu.proofs.laws.fault_after_sentences.Goals as goal
 
 pub returns : goal.returns
-returns c = told_after
+returns c = reported_after

@@ -1,4 +1,4 @@
-use Rattle.tb_conllu.proofs.Told.{dead}
+use Rattle.tb_conllu.proofs.Reported.{dead}
 use Rattle.tb_conllu.proofs.laws.faulty_line_is_dead.Goals as goal
 
 pub returns : goal.returns

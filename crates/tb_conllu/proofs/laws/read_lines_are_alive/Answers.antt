@@ -1,4 +1,4 @@
-use Rattle.tb_conllu.proofs.Told.{alive}
+use Rattle.tb_conllu.proofs.Reported.{alive}
 use Rattle.tb_conllu.proofs.laws.read_lines_are_alive.Goals as goal
 
 pub returns : goal.returns

@@ -4,8 +4,8 @@ use Rattle.std.proofs.lemmas.Result.{err_from_is_err_and}
 use Rattle.tb_conllu.proofs.Files.{some_text}
 use Rattle.tb_conllu.proofs.round.reread.Goals as goal
 
-pub returns-in_err-bytes-clause-told : goal.returns-in_err-bytes-clause-told
-returns-in_err-bytes-clause-told c =
+pub returns-in_err-bytes-clause-reported : goal.returns-in_err-bytes-clause-reported
+returns-in_err-bytes-clause-reported c =
     let p = err_from_is_err_and c.from_residual.result c.from_residual.ensures.1 in
     let none = sym c.is_empty.ensures ∙ c.if-is_empty.false in
     let some : 0 < length c.args.blocks.now = grind (arith, nat_tests) in

@@ -4,7 +4,7 @@ use Rattle.tb_conllu.specs.Begun.{has_rows}
 use Rattle.tb_conllu.specs.Lines.{is_empty}
 use Rattle.tb_conllu.specs.declared.fault.ReadFault.TheVariants.{At}
 use Rattle.tb_conllu.specs.Refusal.{lines_begun}
-use Rattle.tb_conllu.proofs.Reading.{line_read, line_told, blank_refused, end_told}
+use Rattle.tb_conllu.proofs.Reading.{line_read, line_reported, blank_refused, end_reported}
 use Rattle.tb_conllu.proofs.Held.{line_holds, after_holds}
 use Rattle.tb_conllu.proofs.PartedLines.{rows_read, rows_hold}
 use Rattle.tb_conllu.proofs.sentences.read_block.Goals as goal
@@ -15,22 +15,22 @@ line_text-requires c = line_holds c.args.tested c.loop-raw.rest.now c.in-Some.ra
 pub returns-in_err-text-clause-fault : goal.returns-in_err-text-clause-fault
 returns-in_err-text-clause-fault c =
     let p = err_from_is_err_and c.from_residual.result c.from_residual.ensures.1 in
-    rw (p.1, p.2) (line_told c.args.bytes.now c.args.line c.loop-raw.block c.loop-raw.rest.now c.in-Some.raw.now c.in-Some.after.now c.loop-raw.at c.in_err-text.field-0.0 c.loop-raw.invariant.read c.in-Some.ensures.1 c.in-Some.ensures.0 (c.in_err-text.ensures.err (has_rows c.loop-raw.block.rows)))
+    rw (p.1, p.2) (line_reported c.args.bytes.now c.args.line c.loop-raw.block c.loop-raw.rest.now c.in-Some.raw.now c.in-Some.after.now c.loop-raw.at c.in_err-text.field-0.0 c.loop-raw.invariant.read c.in-Some.ensures.1 c.in-Some.ensures.0 (c.in_err-text.ensures.err (has_rows c.loop-raw.block.rows)))
 
 pub returns-then-is_empty_text-clause-fault : goal.returns-then-is_empty_text-clause-fault
 returns-then-is_empty_text-clause-fault c =
     let text = c.in_ok-text.ensures.ok in
     let blank : is_empty c.in-Some.raw.now ≡ true = ap is_empty (sym text.0) ∙ sym c.is_empty_text.ensures ∙ c.if-is_empty_text.true in
-    line_told c.args.bytes.now c.args.line c.loop-raw.block c.loop-raw.rest.now c.in-Some.raw.now c.in-Some.after.now c.loop-raw.at (At (c.loop-raw.at + 1) 9) c.loop-raw.invariant.read c.in-Some.ensures.1 c.in-Some.ensures.0 (blank_refused (c.loop-raw.at + 1) (has_rows c.loop-raw.block.rows) c.in-Some.raw.now text.1 blank (sym c.any_row.ensures ∙ c.if-any_row.false))
+    line_reported c.args.bytes.now c.args.line c.loop-raw.block c.loop-raw.rest.now c.in-Some.raw.now c.in-Some.after.now c.loop-raw.at (At (c.loop-raw.at + 1) 9) c.loop-raw.invariant.read c.in-Some.ensures.1 c.in-Some.ensures.0 (blank_refused (c.loop-raw.at + 1) (has_rows c.loop-raw.block.rows) c.in-Some.raw.now text.1 blank (sym c.any_row.ensures ∙ c.if-any_row.false))
 
 pub returns-in_err-take_line-clause-fault : goal.returns-in_err-take_line-clause-fault
 returns-in_err-take_line-clause-fault c =
     let text = c.in_ok-text.ensures.ok in
     let p = err_from_is_err_and c.from_residual-in_err-take_line.result c.from_residual-in_err-take_line.ensures.1 in
-    rw (p.1, p.2) (line_told c.args.bytes.now c.args.line c.loop-raw.block c.loop-raw.rest.now c.in-Some.raw.now c.in-Some.after.now c.loop-raw.at c.in_err-take_line.field-0.0 c.loop-raw.invariant.read c.in-Some.ensures.1 c.in-Some.ensures.0 (rw (sym text.0) c.in_err-take_line.ensures.err))
+    rw (p.1, p.2) (line_reported c.args.bytes.now c.args.line c.loop-raw.block c.loop-raw.rest.now c.in-Some.raw.now c.in-Some.after.now c.loop-raw.at c.in_err-take_line.field-0.0 c.loop-raw.invariant.read c.in-Some.ensures.1 c.in-Some.ensures.0 (rw (sym text.0) c.in_err-take_line.ensures.err))
 
 pub returns-clause-fault : goal.returns-clause-fault
-returns-clause-fault c = end_told c.args.bytes.now c.args.line c.loop-raw.block c.loop-raw.rest.now c.loop-raw.at c.loop-raw.invariant.read c.in_default.ensures c.requires.filled
+returns-clause-fault c = end_reported c.args.bytes.now c.args.line c.loop-raw.block c.loop-raw.rest.now c.loop-raw.at c.loop-raw.invariant.read c.in_default.ensures c.requires.filled
 
 pub returns-then-any_row-clause-tested : goal.returns-then-any_row-clause-tested
 returns-then-any_row-clause-tested c = after_holds c.args.tested c.loop-raw.rest.now c.in-Some.raw.now c.in-Some.after.now c.loop-raw.invariant.tested c.in-Some.ensures.1

@@ -2,8 +2,8 @@ use Rattle.std.proofs.lemmas.Result.{err_from_is_err_and}
 use Rattle.tb_conllu.proofs.Files.{read_fault, only_memory, read_all, only_these}
 use Rattle.tb_conllu.proofs.whole.read.Goals as goal
 
-pub returns-in_err-block-clause-told : goal.returns-in_err-block-clause-told
-returns-in_err-block-clause-told c =
+pub returns-in_err-block-clause-reported : goal.returns-in_err-block-clause-reported
+returns-in_err-block-clause-reported c =
     let p = err_from_is_err_and c.from_residual.result c.from_residual.ensures.1 in
     rw (p.1, p.2) (read_fault c.args.bytes.now c.loop-all.all.items c.loop-all.left c.in_err-block.field-0.0 c.loop-all.invariant c.in_err-block.ensures.fault.0)
 

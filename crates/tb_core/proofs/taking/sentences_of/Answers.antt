@@ -1,6 +1,6 @@
 use Rattle.std.proofs.Common.{◌∷◌, [], ◌++◌}
 use Rattle.std.proofs.lemmas.Result.{err_from_is_err_and}
-use Rattle.tb_core.proofs.Bodies.{Reading, read_refused, told_refused, kept_more}
+use Rattle.tb_core.proofs.Bodies.{Reading, read_refused, reported_refused, kept_more}
 use Rattle.tb_core.proofs.taking.sentences_of.Goals as goal
 
 pub returns-in_err-passage-clause-refused : goal.returns-in_err-passage-clause-refused
@@ -18,8 +18,8 @@ returns-in-Err-clause-refused c =
       rest = c.a_file_is_read_in_order.ensures.rest;
       fault = c.a_file_is_read_in_order.ensures.fault;
     } in
-    told_refused laws c.a_fault_stays.ensures c.args.body.now bs c.loop-all.unread c.read_passage.new.self c.in-Some.passage.block c.in-Err.broken c.told_first.result c.loop-all.invariant.1 read
-    (c.in-Err.ensures.fault bs c.loop-all.invariant.2) c.told_first.ensures
+    reported_refused laws c.a_fault_stays.ensures c.args.body.now bs c.loop-all.unread c.read_passage.new.self c.in-Some.passage.block c.in-Err.broken c.reported_first.result c.loop-all.invariant.1 read
+    (c.in-Err.ensures.fault bs c.loop-all.invariant.2) c.reported_first.ensures
 
 pub loop-all-preserved : goal.loop-all-preserved
 loop-all-preserved c =

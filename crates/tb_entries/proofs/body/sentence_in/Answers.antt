@@ -3,7 +3,7 @@ use Rattle.std.proofs.lemmas.Result.{err_from_is_err_and}
 use Rattle.tb_core.proofs.Lists.{head_is}
 use Rattle.tb_rules.specs.Rules.{KeepsRules}
 use Rattle.tb_entries.proofs.Places.{own_file}
-use Rattle.tb_entries.proofs.Untold.{no_read_fault, no_rule_fault}
+use Rattle.tb_entries.proofs.Unreported.{no_read_fault, no_rule_fault}
 use Rattle.tb_entries.proofs.body.sentence_in.Goals as goal
 
 pub returns-in_err-blocks-clause-unfit : goal.returns-in_err-blocks-clause-unfit

@@ -4,7 +4,7 @@ use Rattle.tb_core.specs.Machine.{IsLawful}
 use Rattle.tb_tables.specs.declared.rows.RevisionRow.{RevisionRow}
 use Rattle.tb_entries.specs.Course.{own_text}
 use Rattle.tb_entries.proofs.Places.{met_at}
-use Rattle.tb_entries.proofs.Untold.{passed_on_as}
+use Rattle.tb_entries.proofs.Unreported.{passed_on_as}
 use Rattle.tb_entries.proofs.body.sentences_in.Goals as goal
 
 pub returns-in_err-block-clause-unfit : goal.returns-in_err-block-clause-unfit

@@ -1,4 +1,4 @@
-use Rattle.tb_entries.proofs.Told.{one_file}
+use Rattle.tb_entries.proofs.Reported.{one_file}
 use Rattle.tb_entries.proofs.laws.rows_tell_sentences.Goals as goal
 
 pub returns : goal.returns

@@ -4,7 +4,7 @@ use Rattle.std.proofs.lemmas.Result.{err_from_is_err_and}
 use Rattle.tb_tables.specs.Values.{sentence_of, revision_of}
 use Rattle.tb_entries.specs.File.{AreReadBack, is_next}
 use Rattle.tb_entries.proofs.Filed.{first_of, turn, mapped_drop, map_dropped, map_taken, no_more, read_with, nothing_left, all_read}
-use Rattle.tb_entries.proofs.Untold.{passed_on_as}
+use Rattle.tb_entries.proofs.Unreported.{passed_on_as}
 use Rattle.tb_entries.proofs.whole.entries_in.Goals as goal
 
 pub returns-in_err-entry-clause-unfit : goal.returns-in_err-entry-clause-unfit

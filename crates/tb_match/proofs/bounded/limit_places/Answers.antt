@@ -48,7 +48,7 @@ loop-place-preserved c =
           (λ p. r.0 (o.0 p), λ p. o.1 (r.1 p)))
           (λ (ge : place ≤ i).
           let e : i ≡ place = omega arith in
-          let o = done.same both.1 j h in
+          let o = done.unchanged both.1 j h in
           let r = inv.rest place j (omega arith) h in
           subst (λ x. InTable c.limit_place-same.new.table w x j ↔ InTable c.args.table.now w x j) (sym e) (λ p. r.0 (o.0 p), λ p. o.1 (r.1 p)))
           (cases_lt i place);

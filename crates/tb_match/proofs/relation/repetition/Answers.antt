@@ -16,7 +16,7 @@ returns-clause-rows c =
     let v : lent ≡ c.args.links.items = c.deref_mut-2.ensures.value in
     let shown : c.deref.result.now ≡ c.args.links.items = c.deref.ensures.value in
     let stay : (needed ≡ a) ⊎ ((i : ℕ) → i ≤ last → InTable L w i i) =
-    subst (λ xs. (c.least_needed-least.result ≡ c.args.bounds.least) ⊎ ((i : ℕ) → i ≤ c.args.shape.last → InTable xs c.args.shape.width i i)) shown c.least_needed-least.ensures.same in
+    subst (λ xs. (c.least_needed-least.result ≡ c.args.bounds.least) ⊎ ((i : ℕ) → i ≤ c.args.shape.last → InTable xs c.args.shape.width i i)) shown c.least_needed-least.ensures.unchanged in
     IfOk-weaker c.swept.result _ _ (λ r h i j p q.
     let rows = subst (λ xs. InTable r.items c.args.shape.width i j ↔ ((k : ℕ) × (c.least_needed-least.result ≤ k) × IsAtMost k c.args.bounds.most × Chain (Link xs c.args.shape.width c.args.shape.last) k i j)) v (h i j p q) in
     let lower = lower_least L w last a needed c.args.bounds.most i j c.args.bounds.order c.least_needed-least.ensures.fewer p stay in

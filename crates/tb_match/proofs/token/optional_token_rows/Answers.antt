@@ -2,7 +2,7 @@ use Rattle.std.proofs.Common.{◌≡◌, ◌≤◌, ◌↔◌, ℕ, arith, inl, 
 use Rattle.std.proofs.lemmas.Result.{IfOk-weaker}
 use Rattle.tb_match.specs.Bits.{InTable}
 use Rattle.tb_match.specs.Stays.{MayStay}
-use Rattle.tb_match.specs.declared.stay.Stay.TheVariants.{Allowed}
+use Rattle.tb_match.specs.declared.step.Step.TheVariants.{Optional}
 use Rattle.tb_match.proofs.Runs.{from_itself}
 use Rattle.tb_match.proofs.token.optional_token_rows.Goals as goal
 
@@ -14,7 +14,7 @@ returns-then-shape-eq1-clause-rows c =
     let alone : (a b : ℕ) → a ≤ t.words → b ≤ t.words → InTable D c.args.shape.width a b ↔ (a ≡ b) = λ a b p q. c.in_ok-places.ensures.rows a b (omega arith) (omega arith) in
     IfOk-weaker c.step_over.result _ _ (λ v h i j p q.
     let r = h i j p q in
-    let s = from_itself D c.args.shape.width t.words i j t c.args.expr (MayStay Allowed) alone p in (
+    let s = from_itself D c.args.shape.width t.words i j t c.args.expr (MayStay Optional) alone p in (
       λ x. ⊎_elim (λ a. inl a.1) (λ b. inr b) (s.0 (r.0 x)),
       λ x. r.1 (s.1 (⊎_elim (λ a. inl (tt, a)) (λ b. inr b) x)),
     ))

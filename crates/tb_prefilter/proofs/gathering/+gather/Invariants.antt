@@ -1,7 +1,7 @@
 use Rattle.std.proofs.Common.{map}
 use Rattle.tb_syntax.specs.Exprs.{test}
 use Rattle.tb_syntax.specs.Tests.{Test, both, tests}
-use Rattle.tb_needle.specs.Literals.{PlainLit}
+use Rattle.tb_literal.specs.Literals.{PlainLit}
 use Rattle.tb_query.specs.Search.{Asked}
 use Rattle.tb_prefilter.specs.Needed.{AreNeeded, Entails, IsPartOf}
 use Rattle.tb_prefilter.proofs.gathering.+gather.Given as goal

@@ -1,5 +1,5 @@
 use Rattle.std.proofs.Common.{[], ◌+◌, refl, sym, ap, subst}
-use Rattle.tb_needle.specs.Literals.{IsAccepted}
+use Rattle.tb_literal.specs.Literals.{IsAccepted}
 use Rattle.tb_query.proofs.attaching.needle_of.Goals as goal
 
 pub returns-in-Err-Syntax-clause-refused : goal.returns-in-Err-Syntax-clause-refused

@@ -1,6 +1,6 @@
 use Rattle.std.proofs.Common.{◌≡◌, ◌+◌, ◌-◌, get_or, refl, ◌∙◌, ap, arith}
 use Rattle.tb_core.specs.Moves.{MoveText}
-use Rattle.tb_replay.specs.Entries.{RevisionRow}
+use Rattle.tb_replay.specs.Summaries.{RevisionRow}
 use Rattle.tb_replay.specs.Slots.{Mark, Slot, no_mark, no_slot, small}
 use Rattle.tb_replay.specs.Playing.{mark_next, mark_corrected, row_next, entry_at}
 use Rattle.tb_replay.proofs.Loops.{both_written}

@@ -1,6 +1,6 @@
 use Rattle.std.proofs.Common.{length, sym, ◌∙◌, ap}
 use Rattle.std.proofs.lemmas.Bool.{ltb-true}
-use Rattle.tb_replay.specs.Entries.{RevisionRow}
+use Rattle.tb_replay.specs.Summaries.{RevisionRow}
 use Rattle.tb_replay.proofs.Summed.{last_got}
 use Rattle.tb_replay.proofs.totals.last_words.Goals as goal
 

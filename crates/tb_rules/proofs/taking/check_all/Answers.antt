@@ -6,8 +6,8 @@ use Rattle.tb_rules.proofs.taking.check_all.Goals as goal
 
 pub returns-in_err-take-clause-fault : goal.returns-in_err-take-clause-fault
 returns-in_err-take-clause-fault g c =
-    let told = c.in_err-take.ensures.fault (take c.loop-block.block-index c.args.blocks.now) c.loop-block.invariant in
-    let fault = fault_inside c.args.blocks.now c.loop-block.block-index c.block-item.result c.in_err-take.field-0.0 c.loop-block-test.true c.block-item.is told in
+    let reported = c.in_err-take.ensures.fault (take c.loop-block.block-index c.args.blocks.now) c.loop-block.invariant in
+    let fault = fault_inside c.args.blocks.now c.loop-block.block-index c.block-item.result c.in_err-take.field-0.0 c.loop-block-test.true c.block-item.is reported in
     search (rules, fault)
 
 pub returns-in_err-take-clause-only : goal.returns-in_err-take-clause-only

@@ -2,7 +2,7 @@ use Rattle.std.proofs.Common.{◌≡◌, ◌+◌, ◌<◌, ◌++◌, ◌∷◌, 
 use Rattle.tb_core.specs.declared.kinds.State.TheVariants.{Released, Withdrawn}
 use Rattle.tb_core.specs.Events.{is_state}
 use Rattle.tb_core.specs.Machine.{batch_with}
-use Rattle.tb_reading.specs.declared.stream.Head.{Head}
+use Rattle.tb_reads.specs.declared.stream.CurrentRev.{CurrentRev}
 use Rattle.tb_search.specs.Released.{is_released}
 use Rattle.tb_search.specs.Picked.{begins, picks_from}
 use Rattle.tb_search.proofs.Choosing.{read_at, then_come, then_so}
@@ -12,7 +12,7 @@ pub loop-head-preserved : goal.loop-head-preserved
 loop-head-preserved c =
     let i = c.loop-head.head-index in
     let heads = c.args.heads.now in
-    let h : Head = get_or heads i (record { batch = 0; rev = 0 }) in
+    let h : CurrentRev = get_or heads i (record { batch = 0; rev = 0 }) in
     let at = c.loop-head.at in
     let found = c.loop-head.found.items in
     let pulled = c.args.pulled.now in

@@ -2,8 +2,8 @@ use Rattle.std.proofs.Common.{◌≡◌, ◌+◌, ◌++◌, List, map, drop}
 use Rattle.tb_core.specs.Machine.{Batch, Sentence}
 use Rattle.tb_core.specs.Rows.{pulled_from}
 use Rattle.tb_tables.specs.Values.{batch_of}
-use Rattle.tb_standing.specs.Standing.{batch_record, sentence_record}
-use Rattle.tb_reading.specs.Streams.{head_of}
+use Rattle.tb_refine.specs.DeskTables.{batch_record, sentence_record}
+use Rattle.tb_reads.specs.Streams.{head_of}
 use Rattle.tb_search.specs.Released.{is_released}
 use Rattle.tb_search.specs.Picked.{picks_from}
 use Rattle.tb_search.proofs.picks.released_of.Given as goal

@@ -3,7 +3,7 @@ use Rattle.std.proofs.lemmas.Result.{err_from_is_err_and}
 use Rattle.sqlite.specs.Held.{state}
 use Rattle.sqlite.specs.State.{HasCleanDisk}
 use Rattle.tb_tables.proofs.Causes.{faultless_next}
-use Rattle.tb_standing.specs.Standing.{sentence_record}
+use Rattle.tb_refine.specs.DeskTables.{sentence_record}
 use Rattle.tb_search.proofs.Rises.{sentences_fit}
 use Rattle.tb_search.proofs.Visiting.{desk_same, lasts_then, if_err}
 use Rattle.tb_search.proofs.Walking.{err_is, not_form}
@@ -11,39 +11,39 @@ use Rattle.tb_search.proofs.released.released_picks.Goals as goal
 
 pub returns-in_err-heads-clause-fault : goal.returns-in_err-heads-clause-fault
 returns-in_err-heads-clause-fault g c clean =
-    let told = err_from_is_err_and c.from_residual.result c.from_residual.ensures.1 in
-    err_is _ _ _ told.0 told.1 told.2 (λ s desk.
+    let reported = err_from_is_err_and c.from_residual.result c.from_residual.ensures.1 in
+    err_is _ _ _ reported.0 reported.1 reported.2 (λ s desk.
     let readable = c.desk_rows_are_readable.ensures s desk.reachable in
     not_form _ (λ same. c.in_err-heads.ensures.form clean (ap Err same) desk.holds.schema (map sentence_record s.sentences) (sentences_fit (map sentence_record s.sentences) readable.sentences) desk.holds.stands.sentences))
 
 pub returns-clause-fault : goal.returns-clause-fault
-returns-clause-fault g c clean = if_err c.released_among.result (λ e told s desk.
-    let mid : HasCleanDisk (state g.S.Store c.heads.new.conn) = omega (arith, clean, c.released_among.ensures.lasts.clean) in
-    told s (desk_same g.S.Store c.args.conn.now c.heads.new.conn s desk (c.in_ok-heads.ensures.same mid desk.holds.schema))) (c.released_among.ensures.fault clean)
+returns-clause-fault g c clean = if_err c.released_among.result (λ e reported s desk.
+    let mid : HasCleanDisk (state g.S.Store c.heads.new.conn) = omega (arith, clean, c.released_among.ensures.commits_nothing.clean) in
+    reported s (desk_same g.S.Store c.args.conn.now c.heads.new.conn s desk (c.in_ok-heads.ensures.unchanged mid desk.holds.schema))) (c.released_among.ensures.fault clean)
 
-pub returns-clause-lasts : goal.returns-clause-lasts
-returns-clause-lasts g c = lasts_then g.S.Store c.args.conn.now c.heads.new.conn c.released_among.new.conn c.in_ok-heads.ensures.same c.heads.ensures.lasts c.released_among.ensures.lasts
+pub returns-clause-commits_nothing : goal.returns-clause-commits_nothing
+returns-clause-commits_nothing g c = lasts_then g.S.Store c.args.conn.now c.heads.new.conn c.released_among.new.conn c.in_ok-heads.ensures.unchanged c.heads.ensures.commits_nothing c.released_among.ensures.commits_nothing
 
 pub returns-in_err-heads-clause-fails : goal.returns-in_err-heads-clause-fails
 returns-in_err-heads-clause-fails g c clean unlimited =
-    let told = err_from_is_err_and c.from_residual.result c.from_residual.ensures.1 in
-    err_is _ _ _ told.0 told.1 told.2 (λ s desk. c.in_err-heads.ensures.fails clean unlimited desk.holds.schema)
+    let reported = err_from_is_err_and c.from_residual.result c.from_residual.ensures.1 in
+    err_is _ _ _ reported.0 reported.1 reported.2 (λ s desk. c.in_err-heads.ensures.fails clean unlimited desk.holds.schema)
 
 pub returns-clause-fails : goal.returns-clause-fails
-returns-clause-fails g c clean unlimited = if_err c.released_among.result (λ e told s desk.
-    let mid : HasCleanDisk (state g.S.Store c.heads.new.conn) = omega (arith, clean, c.released_among.ensures.lasts.clean) in
-    told s (desk_same g.S.Store c.args.conn.now c.heads.new.conn s desk (c.in_ok-heads.ensures.same mid desk.holds.schema))) (c.released_among.ensures.fails clean (c.heads.ensures.lasts.limit ∙ unlimited))
+returns-clause-fails g c clean unlimited = if_err c.released_among.result (λ e reported s desk.
+    let mid : HasCleanDisk (state g.S.Store c.heads.new.conn) = omega (arith, clean, c.released_among.ensures.commits_nothing.clean) in
+    reported s (desk_same g.S.Store c.args.conn.now c.heads.new.conn s desk (c.in_ok-heads.ensures.unchanged mid desk.holds.schema))) (c.released_among.ensures.fails clean (c.heads.ensures.commits_nothing.limit ∙ unlimited))
 
 pub returns-in_err-heads-clause-cause : goal.returns-in_err-heads-clause-cause
 returns-in_err-heads-clause-cause g c good clean unlimited =
-    let told = err_from_is_err_and c.from_residual.result c.from_residual.ensures.1 in
-    err_is _ _ _ told.0 told.1 told.2 (λ s desk. c.in_err-heads.ensures.cause good clean unlimited desk.holds.schema)
+    let reported = err_from_is_err_and c.from_residual.result c.from_residual.ensures.1 in
+    err_is _ _ _ reported.0 reported.1 reported.2 (λ s desk. c.in_err-heads.ensures.cause good clean unlimited desk.holds.schema)
 
 pub returns-clause-cause : goal.returns-clause-cause
 returns-clause-cause g c good clean unlimited =
-    let heads = c.heads.ensures.lasts in
-    let among = c.released_among.ensures.lasts in
+    let heads = c.heads.ensures.commits_nothing in
+    let among = c.released_among.ensures.commits_nothing in
     let mid : HasCleanDisk (state g.S.Store c.heads.new.conn) = omega (arith, clean, among.clean) in
     let later = faultless_next (state g.S.Store c.args.conn.now) (state g.S.Store c.heads.new.conn) (state g.S.Store c.released_among.new.conn) good heads mid among.counts in
-    if_err c.released_among.result (λ e told s desk.
-    told s (desk_same g.S.Store c.args.conn.now c.heads.new.conn s desk (c.in_ok-heads.ensures.same mid desk.holds.schema))) (c.released_among.ensures.cause later clean (heads.limit ∙ unlimited))
+    if_err c.released_among.result (λ e reported s desk.
+    reported s (desk_same g.S.Store c.args.conn.now c.heads.new.conn s desk (c.in_ok-heads.ensures.unchanged mid desk.holds.schema))) (c.released_among.ensures.cause later clean (heads.limit ∙ unlimited))

@@ -10,54 +10,54 @@ use Rattle.tb_search.proofs.Walking.{halts_here, err_is}
 use Rattle.tb_search.proofs.released.visit_released.Goals as goal
 
 pub returns-clause-taken : goal.returns-clause-taken
-returns-clause-taken g c clean = if_put c.visit_picked.result (λ told s desk.
-    let mid : HasCleanDisk (state g.S.Store c.released_picks.new.conn) = omega (arith, clean, c.visit_picked.ensures.lasts.clean) in
-    let still = desk_same g.S.Store c.args.conn.now c.released_picks.new.conn s desk (c.in_ok-picks.ensures.same mid desk.holds.schema) in
+returns-clause-taken g c clean = if_put c.visit_picked.result (λ reported s desk.
+    let mid : HasCleanDisk (state g.S.Store c.released_picks.new.conn) = omega (arith, clean, c.visit_picked.ensures.commits_nothing.clean) in
+    let still = desk_same g.S.Store c.args.conn.now c.released_picks.new.conn s desk (c.in_ok-picks.ensures.unchanged mid desk.holds.schema) in
     let picks : c.as_slice.result.now ≡ c.in_ok-picks.picks.items = search rules in
-    all_visited g.S.Store g.V.Visitor.Takes g.V.Visitor.Stops c.released_picks.new.conn s (is_released s.batches) c.as_slice.result.now (picks ∙ c.in_ok-picks.ensures.picked mid s desk) still (c.desk_rows_are_readable.ensures s desk.reachable) c.args.visitor.now c.args.filled.now _ c.visit_picked.new.filled told) (c.visit_picked.ensures.taken clean)
+    all_visited g.S.Store g.V.BodyVisitor.Takes g.V.BodyVisitor.Stops c.released_picks.new.conn s (is_released s.batches) c.as_slice.result.now (picks ∙ c.in_ok-picks.ensures.picked mid s desk) still (c.desk_rows_are_readable.ensures s desk.reachable) c.args.visitor.now c.args.filled.now _ c.visit_picked.new.filled reported) (c.visit_picked.ensures.taken clean)
 
 pub returns-clause-halted : goal.returns-clause-halted
-returns-clause-halted g c clean = if_cut c.visit_picked.result (λ e told s desk.
-    let mid : HasCleanDisk (state g.S.Store c.released_picks.new.conn) = omega (arith, clean, c.visit_picked.ensures.lasts.clean) in
-    let still = desk_same g.S.Store c.args.conn.now c.released_picks.new.conn s desk (c.in_ok-picks.ensures.same mid desk.holds.schema) in
+returns-clause-halted g c clean = if_cut c.visit_picked.result (λ e reported s desk.
+    let mid : HasCleanDisk (state g.S.Store c.released_picks.new.conn) = omega (arith, clean, c.visit_picked.ensures.commits_nothing.clean) in
+    let still = desk_same g.S.Store c.args.conn.now c.released_picks.new.conn s desk (c.in_ok-picks.ensures.unchanged mid desk.holds.schema) in
     let picks : c.as_slice.result.now ≡ c.in_ok-picks.picks.items = search rules in
-    some_visited g.S.Store g.V.Visitor.Takes g.V.Visitor.Stops c.released_picks.new.conn s (is_released s.batches) c.as_slice.result.now (picks ∙ c.in_ok-picks.ensures.picked mid s desk) still (c.desk_rows_are_readable.ensures s desk.reachable) c.args.visitor.now c.args.filled.now e c.visit_picked.new.filled told) (c.visit_picked.ensures.halted clean)
+    some_visited g.S.Store g.V.BodyVisitor.Takes g.V.BodyVisitor.Stops c.released_picks.new.conn s (is_released s.batches) c.as_slice.result.now (picks ∙ c.in_ok-picks.ensures.picked mid s desk) still (c.desk_rows_are_readable.ensures s desk.reachable) c.args.visitor.now c.args.filled.now e c.visit_picked.new.filled reported) (c.visit_picked.ensures.halted clean)
 
 pub returns-in_err-picks-clause-halted : goal.returns-in_err-picks-clause-halted
 returns-in_err-picks-clause-halted g c clean =
-    let told = err_from_is_err_and c.from_residual.result c.from_residual.ensures.1 in
-    err_is _ _ _ told.0 told.1 told.2 (λ s desk. halts_here g.V.Visitor.Takes g.V.Visitor.Stops (texts (released s)) c.args.visitor.now c.args.filled.now _ (c.in_err-picks.ensures.fault clean s desk))
+    let reported = err_from_is_err_and c.from_residual.result c.from_residual.ensures.1 in
+    err_is _ _ _ reported.0 reported.1 reported.2 (λ s desk. halts_here g.V.BodyVisitor.Takes g.V.BodyVisitor.Stops (texts (released s)) c.args.visitor.now c.args.filled.now _ (c.in_err-picks.ensures.fault clean s desk))
 
-pub returns-clause-same : goal.returns-clause-same
-returns-clause-same g c clean = if_put c.visit_picked.result (λ told has.
-    let mid : HasCleanDisk (state g.S.Store c.released_picks.new.conn) = omega (arith, clean, c.visit_picked.ensures.lasts.clean) in
-    same_then g.S.Store c.args.conn.now c.released_picks.new.conn c.visit_picked.new.conn (c.in_ok-picks.ensures.same mid) told has) (c.visit_picked.ensures.same clean)
+pub returns-clause-unchanged : goal.returns-clause-unchanged
+returns-clause-unchanged g c clean = if_put c.visit_picked.result (λ reported has.
+    let mid : HasCleanDisk (state g.S.Store c.released_picks.new.conn) = omega (arith, clean, c.visit_picked.ensures.commits_nothing.clean) in
+    same_then g.S.Store c.args.conn.now c.released_picks.new.conn c.visit_picked.new.conn (c.in_ok-picks.ensures.unchanged mid) reported has) (c.visit_picked.ensures.unchanged clean)
 
-pub returns-clause-lasts : goal.returns-clause-lasts
-returns-clause-lasts g c = lasts_then g.S.Store c.args.conn.now c.released_picks.new.conn c.visit_picked.new.conn c.in_ok-picks.ensures.same c.released_picks.ensures.lasts c.visit_picked.ensures.lasts
+pub returns-clause-commits_nothing : goal.returns-clause-commits_nothing
+returns-clause-commits_nothing g c = lasts_then g.S.Store c.args.conn.now c.released_picks.new.conn c.visit_picked.new.conn c.in_ok-picks.ensures.unchanged c.released_picks.ensures.commits_nothing c.visit_picked.ensures.commits_nothing
 
 pub returns-in_err-picks-clause-fails : goal.returns-in_err-picks-clause-fails
 returns-in_err-picks-clause-fails g c clean unlimited =
-    let told = err_from_is_err_and c.from_residual.result c.from_residual.ensures.1 in
-    err_is _ _ _ told.0 told.1 told.2 (λ s desk. c.in_err-picks.ensures.fails clean unlimited s desk)
+    let reported = err_from_is_err_and c.from_residual.result c.from_residual.ensures.1 in
+    err_is _ _ _ reported.0 reported.1 reported.2 (λ s desk. c.in_err-picks.ensures.fails clean unlimited s desk)
 
 pub returns-clause-fails : goal.returns-clause-fails
-returns-clause-fails g c clean unlimited = if_cut c.visit_picked.result (λ e told s desk.
-    let mid : HasCleanDisk (state g.S.Store c.released_picks.new.conn) = omega (arith, clean, c.visit_picked.ensures.lasts.clean) in
-    let still = desk_same g.S.Store c.args.conn.now c.released_picks.new.conn s desk (c.in_ok-picks.ensures.same mid desk.holds.schema) in
-    of_desk g.S.Store c.released_picks.new.conn s still (c.desk_rows_are_readable.ensures s desk.reachable) told) (c.visit_picked.ensures.fails clean (c.released_picks.ensures.lasts.limit ∙ unlimited))
+returns-clause-fails g c clean unlimited = if_cut c.visit_picked.result (λ e reported s desk.
+    let mid : HasCleanDisk (state g.S.Store c.released_picks.new.conn) = omega (arith, clean, c.visit_picked.ensures.commits_nothing.clean) in
+    let still = desk_same g.S.Store c.args.conn.now c.released_picks.new.conn s desk (c.in_ok-picks.ensures.unchanged mid desk.holds.schema) in
+    of_desk g.S.Store c.released_picks.new.conn s still (c.desk_rows_are_readable.ensures s desk.reachable) reported) (c.visit_picked.ensures.fails clean (c.released_picks.ensures.commits_nothing.limit ∙ unlimited))
 
 pub returns-in_err-picks-clause-cause : goal.returns-in_err-picks-clause-cause
 returns-in_err-picks-clause-cause g c good clean unlimited =
-    let told = err_from_is_err_and c.from_residual.result c.from_residual.ensures.1 in
-    err_is _ _ _ told.0 told.1 told.2 (λ s desk. c.in_err-picks.ensures.cause good clean unlimited s desk)
+    let reported = err_from_is_err_and c.from_residual.result c.from_residual.ensures.1 in
+    err_is _ _ _ reported.0 reported.1 reported.2 (λ s desk. c.in_err-picks.ensures.cause good clean unlimited s desk)
 
 pub returns-clause-cause : goal.returns-clause-cause
 returns-clause-cause g c good clean unlimited =
-    let picking = c.released_picks.ensures.lasts in
-    let walking = c.visit_picked.ensures.lasts in
+    let picking = c.released_picks.ensures.commits_nothing in
+    let walking = c.visit_picked.ensures.commits_nothing in
     let mid : HasCleanDisk (state g.S.Store c.released_picks.new.conn) = omega (arith, clean, walking.clean) in
     let later = faultless_next (state g.S.Store c.args.conn.now) (state g.S.Store c.released_picks.new.conn) (state g.S.Store c.visit_picked.new.conn) good picking mid walking.counts in
-    if_cut c.visit_picked.result (λ e told s desk.
-    let still = desk_same g.S.Store c.args.conn.now c.released_picks.new.conn s desk (c.in_ok-picks.ensures.same mid desk.holds.schema) in
-    of_desk g.S.Store c.released_picks.new.conn s still (c.desk_rows_are_readable.ensures s desk.reachable) told) (c.visit_picked.ensures.cause later clean (picking.limit ∙ unlimited))
+    if_cut c.visit_picked.result (λ e reported s desk.
+    let still = desk_same g.S.Store c.args.conn.now c.released_picks.new.conn s desk (c.in_ok-picks.ensures.unchanged mid desk.holds.schema) in
+    of_desk g.S.Store c.released_picks.new.conn s still (c.desk_rows_are_readable.ensures s desk.reachable) reported) (c.visit_picked.ensures.cause later clean (picking.limit ∙ unlimited))

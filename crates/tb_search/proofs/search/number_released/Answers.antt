@@ -2,7 +2,7 @@ use Rattle.std.proofs.Common.{arith}
 use Rattle.std.proofs.lemmas.Result.{err_from_is_err_and}
 use Rattle.tb_conllu.specs.Text.{BlockText}
 use Rattle.tb_search.specs.Released.{released}
-use Rattle.tb_search.specs.Searched.{searched, IsTextOf, Meets}
+use Rattle.tb_search.specs.Searched.{searched, IsValidText, Meets}
 use Rattle.tb_search.specs.Visited.{IsFault}
 use Rattle.tb_search.proofs.Walking.{err_is}
 use Rattle.tb_search.proofs.Seeking.{reads, asked_so, number_found, numbers, sought_fault}
@@ -18,32 +18,32 @@ returns-clause-answered g c clean s desk =
 
 pub returns-in_err-seeker-clause-fault : goal.returns-in_err-seeker-clause-fault
 returns-in_err-seeker-clause-fault g c clean =
-    let told = err_from_is_err_and c.from_residual.result c.from_residual.ensures.1 in
-    err_is _ _ _ told.0 told.1 told.2 (λ s desk. c.in_err-seeker.ensures.fault)
+    let reported = err_from_is_err_and c.from_residual.result c.from_residual.ensures.1 in
+    err_is _ _ _ reported.0 reported.1 reported.2 (λ s desk. c.in_err-seeker.ensures.fault)
 
 pub returns-in_err-visit_released-clause-fault : goal.returns-in_err-visit_released-clause-fault
 returns-in_err-visit_released-clause-fault g c clean =
-    let told = err_from_is_err_and c.from_residual-in_err-visit_released.result c.from_residual-in_err-visit_released.ensures.1 in
-    err_is _ _ _ told.0 told.1 told.2 (λ s desk.
+    let reported = err_from_is_err_and c.from_residual-in_err-visit_released.result c.from_residual-in_err-visit_released.ensures.1 in
+    err_is _ _ _ reported.0 reported.1 reported.2 (λ s desk.
     let read = reads s (c.revisions_read_back.ensures s desk.reachable.reached) in
-    sought_fault (λ v o t w q. Meets v.seeker.strategy v.seeker.searcher t (λ found. numbers v o found w q)) (λ v o t e q. (b : BlockText) → IsTextOf b t → IsFault e) (λ v o t e q stopped. stopped) (released s) read (record { seeker = c.in_ok-seeker.seeker }) 0 _ c.visit_released.new.filled (c.in_err-visit_released.ensures.halted clean s desk))
+    sought_fault (λ v o t w q. Meets v.seeker.strategy v.seeker.searcher t (λ found. numbers v o found w q)) (λ v o t e q. (b : BlockText) → IsValidText b t → IsFault e) (λ v o t e q stopped. stopped) (released s) read (record { seeker = c.in_ok-seeker.seeker }) 0 _ c.visit_released.new.filled (c.in_err-visit_released.ensures.halted clean s desk))
 
 pub returns-in_err-seeker-clause-fails : goal.returns-in_err-seeker-clause-fails
 returns-in_err-seeker-clause-fails g c clean unlimited =
-    let told = err_from_is_err_and c.from_residual.result c.from_residual.ensures.1 in
-    err_is _ _ _ told.0 told.1 told.2 (λ s desk. c.in_err-seeker.ensures.fails)
+    let reported = err_from_is_err_and c.from_residual.result c.from_residual.ensures.1 in
+    err_is _ _ _ reported.0 reported.1 reported.2 (λ s desk. c.in_err-seeker.ensures.fails)
 
 pub returns-in_err-visit_released-clause-fails : goal.returns-in_err-visit_released-clause-fails
 returns-in_err-visit_released-clause-fails g c clean unlimited =
-    let told = err_from_is_err_and c.from_residual-in_err-visit_released.result c.from_residual-in_err-visit_released.ensures.1 in
-    err_is _ _ _ told.0 told.1 told.2 (λ s desk. c.in_err-visit_released.ensures.fails clean unlimited s desk)
+    let reported = err_from_is_err_and c.from_residual-in_err-visit_released.result c.from_residual-in_err-visit_released.ensures.1 in
+    err_is _ _ _ reported.0 reported.1 reported.2 (λ s desk. c.in_err-visit_released.ensures.fails clean unlimited s desk)
 
 pub returns-in_err-seeker-clause-cause : goal.returns-in_err-seeker-clause-cause
 returns-in_err-seeker-clause-cause g c good clean unlimited =
-    let told = err_from_is_err_and c.from_residual.result c.from_residual.ensures.1 in
-    err_is _ _ _ told.0 told.1 told.2 (λ s desk. c.in_err-seeker.ensures.cause)
+    let reported = err_from_is_err_and c.from_residual.result c.from_residual.ensures.1 in
+    err_is _ _ _ reported.0 reported.1 reported.2 (λ s desk. c.in_err-seeker.ensures.cause)
 
 pub returns-in_err-visit_released-clause-cause : goal.returns-in_err-visit_released-clause-cause
 returns-in_err-visit_released-clause-cause g c good clean unlimited =
-    let told = err_from_is_err_and c.from_residual-in_err-visit_released.result c.from_residual-in_err-visit_released.ensures.1 in
-    err_is _ _ _ told.0 told.1 told.2 (λ s desk. c.in_err-visit_released.ensures.cause good clean unlimited s desk)
+    let reported = err_from_is_err_and c.from_residual-in_err-visit_released.result c.from_residual-in_err-visit_released.ensures.1 in
+    err_is _ _ _ reported.0 reported.1 reported.2 (λ s desk. c.in_err-visit_released.ensures.cause good clean unlimited s desk)

@@ -28,16 +28,16 @@ returns-clause-answered g c clean s desk =
 pub returns-in_err-seeker-clause-broken : goal.returns-in_err-seeker-clause-broken
 returns-in_err-seeker-clause-broken g c clean =
     let held = g.W.Sink.held in
-    let told = err_from_is_err_and c.from_residual.result c.from_residual.ensures.1 in
-    err_is _ _ _ told.0 told.1 told.2 (λ s desk found are. broken_off _ (held c.args.out.now) _ c.args.context found (no_lines _ (held c.args.out.now) _ c.args.context found refl))
+    let reported = err_from_is_err_and c.from_residual.result c.from_residual.ensures.1 in
+    err_is _ _ _ reported.0 reported.1 reported.2 (λ s desk found are. broken_off _ (held c.args.out.now) _ c.args.context found (no_lines _ (held c.args.out.now) _ c.args.context found refl))
 
 pub returns-in_err-visit_released-clause-broken : goal.returns-in_err-visit_released-clause-broken
 returns-in_err-visit_released-clause-broken g c clean =
     let held = g.W.Sink.held in
     let n = c.args.context in
     let asked = c.in_ok-seeker.ensures.asked in
-    let told = err_from_is_err_and c.from_residual-in_err-visit_released.result c.from_residual-in_err-visit_released.ensures.1 in
-    err_is _ _ _ told.0 told.1 told.2 (λ s desk found are.
+    let reported = err_from_is_err_and c.from_residual-in_err-visit_released.result c.from_residual-in_err-visit_released.ensures.1 in
+    err_is _ _ _ reported.0 reported.1 reported.2 (λ s desk found are.
     let read = reads s (c.revisions_read_back.ensures s desk.reachable.reached) in
     let halted = (rw c.in_err-visit_released.was at (c.visit_released.ensures.halted clean)) s desk in
     let mine = asked_so _ _ _ _ (searched s) found (sym asked.1) (sym asked.0) are in
@@ -48,9 +48,9 @@ returns-in_err-put_total-clause-broken g c clean =
     let held = g.W.Sink.held in
     let n = c.args.context in
     let asked = c.in_ok-seeker.ensures.asked in
-    let told = err_from_is_err_and c.from_residual-in_err-put_total.result c.from_residual-in_err-put_total.ensures.1 in
+    let reported = err_from_is_err_and c.from_residual-in_err-put_total.result c.from_residual-in_err-put_total.ensures.1 in
     let refused = rw c.in_err-put_total.was at c.put_total.ensures.part in
-    err_is _ _ _ told.0 told.1 told.2 (λ s desk found are.
+    err_is _ _ _ reported.0 reported.1 reported.2 (λ s desk found are.
     let read = reads s (c.revisions_read_back.ensures s desk.reachable.reached) in
     let all = lines_found held (released s) read (record { seeker = c.in_ok-seeker.seeker; context = n; found = 0 }) c.args.out.now c.visit_released.new.visitor c.visit_released.new.filled (c.in_ok-visit_released.ensures.taken clean s desk) in
     let mine = asked_so _ _ _ _ (searched s) found (sym asked.1) (sym asked.0) are in
@@ -60,47 +60,47 @@ returns-in_err-put_total-clause-broken g c clean =
 
 pub returns-in_err-seeker-clause-fault : goal.returns-in_err-seeker-clause-fault
 returns-in_err-seeker-clause-fault g c clean =
-    let told = err_from_is_err_and c.from_residual.result c.from_residual.ensures.1 in
-    err_is _ _ _ told.0 told.1 told.2 (λ s desk. c.in_err-seeker.ensures.fault)
+    let reported = err_from_is_err_and c.from_residual.result c.from_residual.ensures.1 in
+    err_is _ _ _ reported.0 reported.1 reported.2 (λ s desk. c.in_err-seeker.ensures.fault)
 
 pub returns-in_err-visit_released-clause-fault : goal.returns-in_err-visit_released-clause-fault
 returns-in_err-visit_released-clause-fault g c clean =
-    let told = err_from_is_err_and c.from_residual-in_err-visit_released.result c.from_residual-in_err-visit_released.ensures.1 in
-    err_is _ _ _ told.0 told.1 told.2 (λ s desk.
+    let reported = err_from_is_err_and c.from_residual-in_err-visit_released.result c.from_residual-in_err-visit_released.ensures.1 in
+    err_is _ _ _ reported.0 reported.1 reported.2 (λ s desk.
     let read = reads s (c.revisions_read_back.ensures s desk.reachable.reached) in
     sought_fault (lists g.W.Sink.held) (breaks_off g.W.Sink.held) (λ v o t e q stopped. stopped.0) (released s) read (record { seeker = c.in_ok-seeker.seeker; context = c.args.context; found = 0 }) c.args.out.now _ c.visit_released.new.filled (c.in_err-visit_released.ensures.halted clean s desk))
 
 pub returns-in_err-put_total-clause-fault : goal.returns-in_err-put_total-clause-fault
 returns-in_err-put_total-clause-fault g c clean =
-    let told = err_from_is_err_and c.from_residual-in_err-put_total.result c.from_residual-in_err-put_total.ensures.1 in
-    err_is _ _ _ told.0 told.1 told.2 (λ s desk. same_fault _ Output (sym c.in_err-put_total.ensures.part.0) of_sink)
+    let reported = err_from_is_err_and c.from_residual-in_err-put_total.result c.from_residual-in_err-put_total.ensures.1 in
+    err_is _ _ _ reported.0 reported.1 reported.2 (λ s desk. same_fault _ Output (sym c.in_err-put_total.ensures.part.0) of_sink)
 
 pub returns-in_err-seeker-clause-fails : goal.returns-in_err-seeker-clause-fails
 returns-in_err-seeker-clause-fails g c clean unlimited =
-    let told = err_from_is_err_and c.from_residual.result c.from_residual.ensures.1 in
-    err_is _ _ _ told.0 told.1 told.2 (λ s desk. c.in_err-seeker.ensures.fails)
+    let reported = err_from_is_err_and c.from_residual.result c.from_residual.ensures.1 in
+    err_is _ _ _ reported.0 reported.1 reported.2 (λ s desk. c.in_err-seeker.ensures.fails)
 
 pub returns-in_err-visit_released-clause-fails : goal.returns-in_err-visit_released-clause-fails
 returns-in_err-visit_released-clause-fails g c clean unlimited =
-    let told = err_from_is_err_and c.from_residual-in_err-visit_released.result c.from_residual-in_err-visit_released.ensures.1 in
-    err_is _ _ _ told.0 told.1 told.2 (λ s desk. c.in_err-visit_released.ensures.fails clean unlimited s desk)
+    let reported = err_from_is_err_and c.from_residual-in_err-visit_released.result c.from_residual-in_err-visit_released.ensures.1 in
+    err_is _ _ _ reported.0 reported.1 reported.2 (λ s desk. c.in_err-visit_released.ensures.fails clean unlimited s desk)
 
 pub returns-in_err-put_total-clause-fails : goal.returns-in_err-put_total-clause-fails
 returns-in_err-put_total-clause-fails g c clean unlimited =
-    let told = err_from_is_err_and c.from_residual-in_err-put_total.result c.from_residual-in_err-put_total.ensures.1 in
-    err_is _ _ _ told.0 told.1 told.2 (λ s desk. c.in_err-put_total.ensures.fails)
+    let reported = err_from_is_err_and c.from_residual-in_err-put_total.result c.from_residual-in_err-put_total.ensures.1 in
+    err_is _ _ _ reported.0 reported.1 reported.2 (λ s desk. c.in_err-put_total.ensures.fails)
 
 pub returns-in_err-seeker-clause-cause : goal.returns-in_err-seeker-clause-cause
 returns-in_err-seeker-clause-cause g c good clean unlimited =
-    let told = err_from_is_err_and c.from_residual.result c.from_residual.ensures.1 in
-    err_is _ _ _ told.0 told.1 told.2 (λ s desk. c.in_err-seeker.ensures.cause)
+    let reported = err_from_is_err_and c.from_residual.result c.from_residual.ensures.1 in
+    err_is _ _ _ reported.0 reported.1 reported.2 (λ s desk. c.in_err-seeker.ensures.cause)
 
 pub returns-in_err-visit_released-clause-cause : goal.returns-in_err-visit_released-clause-cause
 returns-in_err-visit_released-clause-cause g c good clean unlimited =
-    let told = err_from_is_err_and c.from_residual-in_err-visit_released.result c.from_residual-in_err-visit_released.ensures.1 in
-    err_is _ _ _ told.0 told.1 told.2 (λ s desk. c.in_err-visit_released.ensures.cause good clean unlimited s desk)
+    let reported = err_from_is_err_and c.from_residual-in_err-visit_released.result c.from_residual-in_err-visit_released.ensures.1 in
+    err_is _ _ _ reported.0 reported.1 reported.2 (λ s desk. c.in_err-visit_released.ensures.cause good clean unlimited s desk)
 
 pub returns-in_err-put_total-clause-cause : goal.returns-in_err-put_total-clause-cause
 returns-in_err-put_total-clause-cause g c good clean unlimited =
-    let told = err_from_is_err_and c.from_residual-in_err-put_total.result c.from_residual-in_err-put_total.ensures.1 in
-    err_is _ _ _ told.0 told.1 told.2 (λ s desk. c.in_err-put_total.ensures.cause)
+    let reported = err_from_is_err_and c.from_residual-in_err-put_total.result c.from_residual-in_err-put_total.ensures.1 in
+    err_is _ _ _ reported.0 reported.1 reported.2 (λ s desk. c.in_err-put_total.ensures.cause)

@@ -17,7 +17,7 @@ use Rattle.tb_search.proofs.walk.visit_picked.Goals as goal
 pub rows-init : goal.rows-init
 rows-init g c =
     let made = c.in_ok-rows.ensures in
-    (refl, made.mode, made.lasts, made.same, (λ clean has xs each rises shows. walk_starts g.S.Store g.V.Visitor.Takes _ c.args.picks.now c.args.visitor.now c.args.filled.now xs (made.ok clean has xs each rises shows)))
+    (refl, made.autocommit, made.commits_nothing, made.unchanged, (λ clean has xs each rises shows. walk_starts g.S.Store g.V.BodyVisitor.Takes _ c.args.picks.now c.args.visitor.now c.args.filled.now xs (made.ok clean has xs each rises shows)))
 
 pub rows-preserved : goal.rows-preserved
 rows-preserved g c =
@@ -38,45 +38,45 @@ rows-preserved g c =
       (λ clean has xs each rises shows.
           let was = inv.4 (omega (arith, clean, moved.survives.clean)) has xs each rises shows in
           let gone = (rw (c.in_ok-body.was, c.in-Some.is) at (moved.ok clean)) was.left was.coming in
-          one_more g.V.Visitor.Takes g.V.Visitor.Stops g.S.Store c.rows.rows.conn.now picks c.args.visitor.now c.args.filled.now c.rows.visitor c.rows.filled xs conn next (get_or picks next (record { sent = 0; rev = 0 })) c.in-Some.body was here gone _ c.visit_asked.new.visitor c.visit_asked.new.filled c.in_ok-next.ensures.taken),
+          one_more g.V.BodyVisitor.Takes g.V.BodyVisitor.Stops g.S.Store c.rows.rows.conn.now picks c.args.visitor.now c.args.filled.now c.rows.visitor c.rows.filled xs conn next (get_or picks next (record { sent = 0; rev = 0 })) c.in-Some.body was here gone _ c.visit_asked.new.visitor c.visit_asked.new.filled c.in_ok-next.ensures.taken),
     )
 
 -- ---- what each exit leaves
 
 pub returns-in_err-rows-clause-halted : goal.returns-in_err-rows-clause-halted
 returns-in_err-rows-clause-halted g c clean =
-    let told = err_from_is_err_and c.from_residual.result c.from_residual.ensures.1 in
-    err_is _ _ _ told.0 told.1 told.2 (λ has xs each rises shows. halts_here g.V.Visitor.Takes g.V.Visitor.Stops (bodies (picked c.args.picks.now xs)) c.args.visitor.now c.args.filled.now _ (of_store _))
+    let reported = err_from_is_err_and c.from_residual.result c.from_residual.ensures.1 in
+    err_is _ _ _ reported.0 reported.1 reported.2 (λ has xs each rises shows. halts_here g.V.BodyVisitor.Takes g.V.BodyVisitor.Stops (bodies (picked c.args.picks.now xs)) c.args.visitor.now c.args.filled.now _ (of_store _))
 
-pub returns-then-next-picks-clause-lasts : goal.returns-then-next-picks-clause-lasts
-returns-then-next-picks-clause-lasts g c =
+pub returns-then-next-picks-clause-commits_nothing : goal.returns-then-next-picks-clause-commits_nothing
+returns-then-next-picks-clause-commits_nothing g c =
     let old = state g.S.Store c.args.conn.now in
     let here = c.rows.invariant.2 in
     survives_weaker old _ (λ _. old.now.schema ≢ desk_schema) (λ _. old.now.schema ≢ desk_schema) (λ _ db other. other) (search rules)
 
-pub returns-in_err-body-clause-lasts : goal.returns-in_err-body-clause-lasts
-returns-in_err-body-clause-lasts g c =
+pub returns-in_err-body-clause-commits_nothing : goal.returns-in_err-body-clause-commits_nothing
+returns-in_err-body-clause-commits_nothing g c =
     let old = state g.S.Store c.args.conn.now in
     let mid = state g.S.Store c.rows.rows.conn.now in
     let moved = c.next_body.follows.holds-at-none.survives in
     survives_then old mid _ (λ _. old.now.schema ≢ desk_schema) (λ _. ⊥) (λ _. old.now.schema ≢ desk_schema) (λ _ db other. other) (λ _ db none. absurd none) c.rows.invariant.2 (search rules)
 
-pub returns-in_default-clause-lasts : goal.returns-in_default-clause-lasts
-returns-in_default-clause-lasts g c =
+pub returns-in_default-clause-commits_nothing : goal.returns-in_default-clause-commits_nothing
+returns-in_default-clause-commits_nothing g c =
     let old = state g.S.Store c.args.conn.now in
     let mid = state g.S.Store c.rows.rows.conn.now in
     let moved = c.next_body.follows.holds-at-none.survives in
     survives_then old mid _ (λ _. old.now.schema ≢ desk_schema) (λ _. ⊥) (λ _. old.now.schema ≢ desk_schema) (λ _ db other. other) (λ _ db none. absurd none) c.rows.invariant.2 (search rules)
 
-pub returns-in_err-next-clause-lasts : goal.returns-in_err-next-clause-lasts
-returns-in_err-next-clause-lasts g c =
+pub returns-in_err-next-clause-commits_nothing : goal.returns-in_err-next-clause-commits_nothing
+returns-in_err-next-clause-commits_nothing g c =
     let old = state g.S.Store c.args.conn.now in
     let mid = state g.S.Store c.rows.rows.conn.now in
     let moved = c.next_body.follows.holds-at-none.survives in
     survives_then old mid _ (λ _. old.now.schema ≢ desk_schema) (λ _. ⊥) (λ _. old.now.schema ≢ desk_schema) (λ _ db other. other) (λ _ db none. absurd none) c.rows.invariant.2 (search rules)
 
-pub returns-clause-lasts : goal.returns-clause-lasts
-returns-clause-lasts g c =
+pub returns-clause-commits_nothing : goal.returns-clause-commits_nothing
+returns-clause-commits_nothing g c =
     let old = state g.S.Store c.args.conn.now in
     let here = c.rows.invariant.2 in
     survives_weaker old _ (λ _. old.now.schema ≢ desk_schema) (λ _. old.now.schema ≢ desk_schema) (λ _ db other. other) (search rules)
@@ -87,39 +87,39 @@ returns-in_default-clause-taken g c clean has xs each rises shows =
     let late : HasCleanDisk (state g.S.Store c.next_body.follows.lender-at-none.conn.now) = search rules in
     let was = c.rows.invariant.4 (omega (arith, moved.survives.clean)) has xs each rises shows in
     let ended = (rw (c.in_ok-body.was, c.in_default.is) at (moved.ok late)) was.left was.coming in
-    none_left g.V.Visitor.Takes g.V.Visitor.Stops g.S.Store c.rows.rows.conn.now c.args.picks.now c.args.visitor.now c.args.filled.now c.rows.visitor c.rows.filled xs c.rows.next was ended
+    none_left g.V.BodyVisitor.Takes g.V.BodyVisitor.Stops g.S.Store c.rows.rows.conn.now c.args.picks.now c.args.visitor.now c.args.filled.now c.rows.visitor c.rows.filled xs c.rows.next was ended
 
 pub returns-in_err-body-clause-halted : goal.returns-in_err-body-clause-halted
 returns-in_err-body-clause-halted g c clean =
     let moved = c.next_body.follows.holds-at-none in
     let late : HasCleanDisk (state g.S.Store c.next_body.follows.lender-at-none.conn.now) = search rules in
-    let told = err_from_is_err_and c.from_residual-in_err-body.result c.from_residual-in_err-body.ensures.1 in
-    err_is _ _ _ told.0 told.1 told.2 (λ has xs each rises shows.
+    let reported = err_from_is_err_and c.from_residual-in_err-body.result c.from_residual-in_err-body.ensures.1 in
+    err_is _ _ _ reported.0 reported.1 reported.2 (λ has xs each rises shows.
     let it = c.rows.invariant.4 (omega (arith, moved.survives.clean)) has xs each rises shows in
     let form = rw c.in_err-body.was at (moved.form late) in
-    some_taken g.V.Visitor.Takes g.V.Visitor.Stops g.S.Store c.rows.rows.conn.now c.args.picks.now c.args.visitor.now c.args.filled.now c.rows.visitor c.rows.filled xs c.rows.next _ (not_form _ (λ same. form (ap Err same) it.left it.coming)) it)
+    some_taken g.V.BodyVisitor.Takes g.V.BodyVisitor.Stops g.S.Store c.rows.rows.conn.now c.args.picks.now c.args.visitor.now c.args.filled.now c.rows.visitor c.rows.filled xs c.rows.next _ (not_form _ (λ same. form (ap Err same) it.left it.coming)) it)
 
 pub returns-in_err-next-clause-halted : goal.returns-in_err-next-clause-halted
 returns-in_err-next-clause-halted g c clean =
     let moved = c.next_body.follows.holds-at-none in
     let late : HasCleanDisk (state g.S.Store c.next_body.follows.lender-at-none.conn.now) = search rules in
-    let told = err_from_is_err_and c.from_residual-in_err-next.result c.from_residual-in_err-next.ensures.1 in
+    let reported = err_from_is_err_and c.from_residual-in_err-next.result c.from_residual-in_err-next.ensures.1 in
     let stopped = rw c.in_err-next.was at c.visit_asked.ensures.stopped in
     let picks = c.args.picks.now in
     let low : c.rows.next < length picks = search rules in
     let here = drop_more picks c.rows.next (record { sent = 0; rev = 0 }) low in
-    err_is _ _ _ told.0 told.1 told.2 (λ has xs each rises shows.
+    err_is _ _ _ reported.0 reported.1 reported.2 (λ has xs each rises shows.
     let was = c.rows.invariant.4 (omega (arith, moved.survives.clean)) has xs each rises shows in
     let gone = (rw (c.in_ok-body.was, c.in-Some.is) at (moved.ok late)) was.left was.coming in
-    one_stopped g.V.Visitor.Takes g.V.Visitor.Stops g.S.Store c.rows.rows.conn.now picks c.args.visitor.now c.args.filled.now c.rows.visitor c.rows.filled xs c.next_body.follows.lender-at-none.conn.now c.rows.next (get_or picks c.rows.next (record { sent = 0; rev = 0 })) c.in-Some.body was here gone _ c.visit_asked.new.filled stopped.0 stopped.1)
+    one_stopped g.V.BodyVisitor.Takes g.V.BodyVisitor.Stops g.S.Store c.rows.rows.conn.now picks c.args.visitor.now c.args.filled.now c.rows.visitor c.rows.filled xs c.next_body.follows.lender-at-none.conn.now c.rows.next (get_or picks c.rows.next (record { sent = 0; rev = 0 })) c.in-Some.body was here gone _ c.visit_asked.new.filled stopped.0 stopped.1)
 
 pub returns-clause-halted : goal.returns-clause-halted
 returns-clause-halted g c clean has xs each rises shows =
     let late : HasCleanDisk (state g.S.Store c.rows.rows.conn.now) = search rules in
-    some_taken g.V.Visitor.Takes g.V.Visitor.Stops g.S.Store c.rows.rows.conn.now c.args.picks.now c.args.visitor.now c.args.filled.now c.rows.visitor c.rows.filled xs c.rows.next _ (of_store _) (c.rows.invariant.4 late has xs each rises shows)
+    some_taken g.V.BodyVisitor.Takes g.V.BodyVisitor.Stops g.S.Store c.rows.rows.conn.now c.args.picks.now c.args.visitor.now c.args.filled.now c.rows.visitor c.rows.filled xs c.rows.next _ (of_store _) (c.rows.invariant.4 late has xs each rises shows)
 
-pub returns-in_default-clause-same : goal.returns-in_default-clause-same
-returns-in_default-clause-same g c clean has =
+pub returns-in_default-clause-unchanged : goal.returns-in_default-clause-unchanged
+returns-in_default-clause-unchanged g c clean has =
     let moved = c.next_body.follows.holds-at-none in
     let old = state g.S.Store c.args.conn.now in
     let mid = state g.S.Store c.rows.rows.conn.now in
@@ -127,8 +127,8 @@ returns-in_default-clause-same g c clean has =
     let here = unchanged_then old mid (state g.S.Store c.next_body.follows.lender-at-none.conn.now) (c.rows.invariant.3 (omega (arith, moved.survives.clean)) has) (rw c.in_ok-body.was at (moved.same late)) in
     search rules
 
-pub returns-then-next-picks-clause-same : goal.returns-then-next-picks-clause-same
-returns-then-next-picks-clause-same g c clean has =
+pub returns-then-next-picks-clause-unchanged : goal.returns-then-next-picks-clause-unchanged
+returns-then-next-picks-clause-unchanged g c clean has =
     let late : HasCleanDisk (state g.S.Store c.rows.rows.conn.now) = search rules in
     let here = c.rows.invariant.3 late has in
     search rules
@@ -137,25 +137,25 @@ returns-then-next-picks-clause-same g c clean has =
 
 pub returns-in_err-rows-clause-fails : goal.returns-in_err-rows-clause-fails
 returns-in_err-rows-clause-fails g c clean unlimited =
-    let told = err_from_is_err_and c.from_residual.result c.from_residual.ensures.1 in
+    let reported = err_from_is_err_and c.from_residual.result c.from_residual.ensures.1 in
     let left = rw c.in_err-rows.was at c.bodies.follows.holds-at-none in
-    err_is _ _ _ told.0 told.1 told.2 (λ has xs each rises shows. left.fails clean unlimited has)
+    err_is _ _ _ reported.0 reported.1 reported.2 (λ has xs each rises shows. left.fails clean unlimited has)
 
 pub returns-in_err-body-clause-fails : goal.returns-in_err-body-clause-fails
 returns-in_err-body-clause-fails g c clean unlimited =
     let moved = c.next_body.follows.holds-at-none in
     let late : HasCleanDisk (state g.S.Store c.next_body.follows.lender-at-none.conn.now) = search rules in
-    let told = err_from_is_err_and c.from_residual-in_err-body.result c.from_residual-in_err-body.ensures.1 in
+    let reported = err_from_is_err_and c.from_residual-in_err-body.result c.from_residual-in_err-body.ensures.1 in
     let fault = rw c.in_err-body.was at (moved.fails late (c.rows.invariant.2.limit ∙ unlimited)) in
-    err_is _ _ _ told.0 told.1 told.2 (λ has xs each rises shows.
+    err_is _ _ _ reported.0 reported.1 reported.2 (λ has xs each rises shows.
     let it = c.rows.invariant.4 (omega (arith, moved.survives.clean)) has xs each rises shows in
     fault it.left it.coming)
 
 pub returns-in_err-next-clause-fails : goal.returns-in_err-next-clause-fails
 returns-in_err-next-clause-fails g c clean unlimited =
-    let told = err_from_is_err_and c.from_residual-in_err-next.result c.from_residual-in_err-next.ensures.1 in
+    let reported = err_from_is_err_and c.from_residual-in_err-next.result c.from_residual-in_err-next.ensures.1 in
     let fault = rw c.in_err-next.was at c.visit_asked.ensures.fails in
-    err_is _ _ _ told.0 told.1 told.2 (λ has xs each rises shows. fault)
+    err_is _ _ _ reported.0 reported.1 reported.2 (λ has xs each rises shows. fault)
 
 pub returns-clause-fails : goal.returns-clause-fails
 returns-clause-fails g c clean unlimited has xs each rises shows = (OutOfMemory, refl)
@@ -164,9 +164,9 @@ returns-clause-fails g c clean unlimited has xs each rises shows = (OutOfMemory,
 
 pub returns-in_err-rows-clause-cause : goal.returns-in_err-rows-clause-cause
 returns-in_err-rows-clause-cause g c good clean unlimited =
-    let told = err_from_is_err_and c.from_residual.result c.from_residual.ensures.1 in
+    let reported = err_from_is_err_and c.from_residual.result c.from_residual.ensures.1 in
     let left = rw c.in_err-rows.was at c.bodies.follows.holds-at-none in
-    err_is _ _ _ told.0 told.1 told.2 (λ has xs each rises shows. left.cause good clean unlimited has)
+    err_is _ _ _ reported.0 reported.1 reported.2 (λ has xs each rises shows. left.cause good clean unlimited has)
 
 pub returns-in_err-body-clause-cause : goal.returns-in_err-body-clause-cause
 returns-in_err-body-clause-cause g c good clean unlimited =
@@ -179,17 +179,17 @@ returns-in_err-body-clause-cause g c good clean unlimited =
     let early : HasCleanDisk mid = omega (arith, moved.survives.clean) in
     let more : now.faults ≤ end.faults = search rules in
     let here = faultless_next old mid now (faultless_first old now end good more) c.rows.invariant.2 early moved.survives.counts in
-    let told = err_from_is_err_and c.from_residual-in_err-body.result c.from_residual-in_err-body.ensures.1 in
+    let reported = err_from_is_err_and c.from_residual-in_err-body.result c.from_residual-in_err-body.ensures.1 in
     let want = rw c.in_err-body.was at (moved.cause here late (c.rows.invariant.2.limit ∙ unlimited)) in
-    err_is _ _ _ told.0 told.1 told.2 (λ has xs each rises shows.
+    err_is _ _ _ reported.0 reported.1 reported.2 (λ has xs each rises shows.
     let it = c.rows.invariant.4 early has xs each rises shows in
     want it.left it.coming)
 
 pub returns-in_err-next-clause-cause : goal.returns-in_err-next-clause-cause
 returns-in_err-next-clause-cause g c good clean unlimited =
-    let told = err_from_is_err_and c.from_residual-in_err-next.result c.from_residual-in_err-next.ensures.1 in
+    let reported = err_from_is_err_and c.from_residual-in_err-next.result c.from_residual-in_err-next.ensures.1 in
     let want = rw c.in_err-next.was at c.visit_asked.ensures.cause in
-    err_is _ _ _ told.0 told.1 told.2 (λ has xs each rises shows. want)
+    err_is _ _ _ reported.0 reported.1 reported.2 (λ has xs each rises shows. want)
 
 pub returns-clause-cause : goal.returns-clause-cause
 returns-clause-cause g c good clean unlimited has xs each rises shows = refl

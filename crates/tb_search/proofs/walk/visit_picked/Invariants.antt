@@ -4,7 +4,7 @@ use Rattle.sqlite.specs.Held.{state}
 use Rattle.sqlite_trees.specs.Tree.{IsAscending}
 use Rattle.tb_tables.specs.Layout.{desk_schema}
 use Rattle.tb_tables.specs.Records.{Revision, Shows, revision_shown, revision_view}
-use Rattle.tb_reading.specs.Readable.{IsRevision, ComesBefore}
+use Rattle.tb_reads.specs.Readable.{IsRevision, ComesBefore}
 use Rattle.tb_search.proofs.Walking.{IsWalked}
 use Rattle.tb_search.proofs.walk.visit_picked.Given as goal
 
@@ -15,4 +15,4 @@ invariant-rows g l =
     (l.rows.conn.ghost_name ≡ l.initial.rows.conn.ghost_name) × (l.fn.conn.in_transaction ≡ false → l.rows.conn.now.in_transaction ≡ false) × Survives old now (λ _. old.now.schema ≢ desk_schema)
     × (HasCleanDisk now → old.now.schema ≡ desk_schema → IsUnchanged old now)
     × (HasCleanDisk now → old.now.schema ≡ desk_schema → (xs : List Revision) → All IsRevision xs → IsAscending ComesBefore xs → Shows revision_view (map revision_shown xs) (old.now.trees 5)
-    → IsWalked g.S.Store g.V.Visitor.Takes l.rows.conn.now l.picks l.next l.initial.visitor l.initial.filled l.visitor l.filled xs)
+    → IsWalked g.S.Store g.V.BodyVisitor.Takes l.rows.conn.now l.picks l.next l.initial.visitor l.initial.filled l.visitor l.filled xs)

@@ -3,14 +3,14 @@ use Rattle.sqlite.specs.Held.{state}
 use Rattle.tb_tables.specs.Records.{move_shown, move_view}
 use Rattle.tb_tables.specs.Values.{move_of}
 use Rattle.tb_core.specs.declared.refusals.Fault.TheVariants.{Device, NotADesk}
-use Rattle.tb_reading.specs.Readable.{IsMove}
-use Rattle.tb_standing.specs.Standing.{tables_of}
-use Rattle.tb_standing.specs.Fitting.{IsReadableMove}
+use Rattle.tb_reads.specs.Readable.{IsMove}
+use Rattle.tb_refine.specs.DeskTables.{tables_of}
+use Rattle.tb_refine.specs.Fitting.{IsReadableMove}
 use Rattle.tb_search.proofs.OneList.{one_list}
 use Rattle.tb_store.proofs.Alike.{same_move}
-use Rattle.tb_recording.proofs.Faultless.{read_told, want_told, fit}
-use Rattle.tb_acting.proofs.Numbering.{moves_are_numbered, same_moves}
-use Rattle.tb_recording.proofs.There.{both_ok}
+use Rattle.tb_refine.proofs.Faultless.{read_reported, want_reported, fit}
+use Rattle.tb_commands.proofs.Numbering.{moves_are_numbered, same_moves}
+use Rattle.tb_refine.proofs.There.{both_ok}
 use Rattle.tb_store.proofs.asking.moves.Goals as goal
 
 pub returns-in-Ok-clause-answered : goal.returns-in-Ok-clause-answered
@@ -29,7 +29,7 @@ returns-in-Ok-clause-fails g c clean unlimited s desk bad =
 
 pub returns-in-Err-clause-fails : goal.returns-in-Err-clause-fails
 returns-in-Err-clause-fails g c clean unlimited s desk bad =
-    let told : c.of_read.result ≡ NotADesk = cc in
+    let reported : c.of_read.result ≡ NotADesk = cc in
     let readable = c.desk_rows_are_readable.ensures s desk.reachable in
     let fits = fit IsReadableMove IsMove (λ x h. record {
       kind_fits = h.kind_fits;
@@ -42,9 +42,9 @@ returns-in-Err-clause-fails g c clean unlimited s desk bad =
       words_in_fits = h.words_in_fits;
       who_fits = h.who_fits;
     }) (tables_of s).moves readable.moves in
-    read_told c.in-Err.error (c.in-Err.ensures.fails clean unlimited desk.holds.schema) (λ unfit. c.in-Err.ensures.form clean (ap Err unfit) desk.holds.schema (tables_of s).moves fits desk.holds.stands.moves) (sym c.of_read.ensures.value ∙ told)
+    read_reported c.in-Err.error (c.in-Err.ensures.fails clean unlimited desk.holds.schema) (λ unfit. c.in-Err.ensures.form clean (ap Err unfit) desk.holds.schema (tables_of s).moves fits desk.holds.stands.moves) (sym c.of_read.ensures.value ∙ reported)
 
 pub returns-in-Err-clause-cause : goal.returns-in-Err-clause-cause
 returns-in-Err-clause-cause g c good clean unlimited has bad =
-    let told : c.of_read.result ≡ Device = cc in
-    want_told c.in-Err.error (c.in-Err.ensures.cause good clean unlimited has) (sym c.of_read.ensures.value ∙ told)
+    let reported : c.of_read.result ≡ Device = cc in
+    want_reported c.in-Err.error (c.in-Err.ensures.cause good clean unlimited has) (sym c.of_read.ensures.value ∙ reported)

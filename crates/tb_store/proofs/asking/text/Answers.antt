@@ -1,19 +1,19 @@
 use Rattle.std.proofs.Common.{◌≡◌, Err, sym, ap, ◌∙◌}
 use Rattle.tb_core.specs.declared.refusals.Fault.TheVariants.{Device, NotADesk}
 use Rattle.tb_tables.specs.Values.{revision_of}
-use Rattle.tb_reading.specs.Readable.{IsRevision}
-use Rattle.tb_standing.specs.Standing.{tables_of}
-use Rattle.tb_standing.specs.Fitting.{IsReadableRevision}
-use Rattle.tb_recording.proofs.Telling.{text_told}
-use Rattle.tb_recording.proofs.Faultless.{read_told, want_told, fit}
-use Rattle.tb_recording.proofs.Revised.{revision_found}
+use Rattle.tb_reads.specs.Readable.{IsRevision}
+use Rattle.tb_refine.specs.DeskTables.{tables_of}
+use Rattle.tb_refine.specs.Fitting.{IsReadableRevision}
+use Rattle.tb_refine.proofs.RowsOfState.{text_reported}
+use Rattle.tb_refine.proofs.Faultless.{read_reported, want_reported, fit}
+use Rattle.tb_refine.proofs.Revised.{revision_found}
 use Rattle.tb_store.proofs.asking.text.Goals as goal
 
 pub returns-in-Ok-Some-clause-answered : goal.returns-in-Ok-Some-clause-answered
 returns-in-Ok-Some-clause-answered g c clean s desk x there =
     let read = rw c.in-Ok-Some.field-0-is at c.in-Ok-Some.ensures.ok in
     let found = read clean desk.holds.schema (tables_of s).revisions desk.holds.stands.revisions in
-    text_told s x c.args.number c.args.rev (revision_of c.in-Ok-Some.row) c.requires there found
+    text_reported s x c.args.number c.args.rev (revision_of c.in-Ok-Some.row) c.requires there found
 
 pub returns-in-Ok-None-clause-fails : goal.returns-in-Ok-None-clause-fails
 returns-in-Ok-None-clause-fails g c clean unlimited s desk x there q has bad =
@@ -22,12 +22,12 @@ returns-in-Ok-None-clause-fails g c clean unlimited s desk x there q has bad =
 
 pub returns-in-Err-clause-fails : goal.returns-in-Err-clause-fails
 returns-in-Err-clause-fails g c clean unlimited s desk x there q has bad =
-    let told : c.of_read.result ≡ NotADesk = cc in
+    let reported : c.of_read.result ≡ NotADesk = cc in
     let readable = c.desk_rows_are_readable.ensures s desk.reachable in
     let fits = fit IsReadableRevision IsRevision (λ r h. record { sent_fits = h.sent_fits; rev_fits = h.rev_fits; who_fits = h.who_fits; body_fits = h.body_fits }) (tables_of s).revisions readable.revisions in
-    read_told c.in-Err.error (c.in-Err.ensures.fails clean unlimited desk.holds.schema) (λ unfit. c.in-Err.ensures.form clean (ap Err unfit) desk.holds.schema (tables_of s).revisions fits desk.holds.stands.revisions) (sym c.of_read.ensures.value ∙ told)
+    read_reported c.in-Err.error (c.in-Err.ensures.fails clean unlimited desk.holds.schema) (λ unfit. c.in-Err.ensures.form clean (ap Err unfit) desk.holds.schema (tables_of s).revisions fits desk.holds.stands.revisions) (sym c.of_read.ensures.value ∙ reported)
 
 pub returns-in-Err-clause-cause : goal.returns-in-Err-clause-cause
 returns-in-Err-clause-cause g c good clean unlimited has bad =
-    let told : c.of_read.result ≡ Device = cc in
-    want_told c.in-Err.error (c.in-Err.ensures.cause good clean unlimited has) (sym c.of_read.ensures.value ∙ told)
+    let reported : c.of_read.result ≡ Device = cc in
+    want_reported c.in-Err.error (c.in-Err.ensures.cause good clean unlimited has) (sym c.of_read.ensures.value ∙ reported)

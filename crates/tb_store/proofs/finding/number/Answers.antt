@@ -3,7 +3,7 @@ use Rattle.std.proofs.lemmas.Result.{err_from_is_err_and}
 use Rattle.tb_core.specs.declared.refusals.Refusal.TheVariants.{TooManyHits}
 use Rattle.tb_core.specs.declared.refusals.Fault.TheVariants.{NotADesk}
 use Rattle.tb_tables.proofs.Causes.{handed_on}
-use Rattle.tb_recording.specs.Faults.{IsNoDevice}
+use Rattle.tb_refine.specs.Faults.{IsNoDevice}
 use Rattle.tb_store.specs.Found.{IsAbove}
 use Rattle.tb_store.proofs.finding.number.Goals as goal
 
@@ -23,8 +23,8 @@ returns-clause-answered g c clean s desk =
 
 pub returns-in_err-number-clause-fails : goal.returns-in_err-number-clause-fails
 returns-in_err-number-clause-fails g c clean unlimited s desk bad =
-    let told = err_from_is_err_and c.from_residual.result c.from_residual.ensures.1 in
-    let failed : c.whole_number.result ≡ Err NotADesk = let was = c.in_err-number.was in let one = told.1 in let two = told.2 in cc in
+    let reported = err_from_is_err_and c.from_residual.result c.from_residual.ensures.1 in
+    let failed : c.whole_number.result ≡ Err NotADesk = let was = c.in_err-number.was in let one = reported.1 in let two = reported.2 in cc in
     c.whole_number.ensures.fails clean unlimited s desk failed
 
 pub returns-in_err-number-clause-cause : goal.returns-in_err-number-clause-cause

@@ -34,7 +34,7 @@ returns-in_err-commit-clause-err g c clean is_open = on_err c.from_residual-in_e
     let late : HasCleanDisk (state g.S.Store end) = search rules in
     let opened = subst (λ h. IsTrue (state g.S.Store h).is_open) (sym same) is_open in
     let was : HasCleanDisk (state g.S.Store last) = omega (arith, c.commit.ensures.survives.clean) in
-    let kept = begins_kept g.S.Store old begun last c.transaction-tx.ensures.begun (c.make_all.ensures.kept was) in
+    let kept = begins_kept g.S.Store old begun last c.transaction-tx.ensures.begun (c.make_all.ensures.keeps_committed was) in
     let made = c.in_ok-make_all.ensures.ok was (blank_begins g.S.Store old begun c.transaction-tx.ensures.begun blank) in
     let back = failed_back g.S.Store last end _ made.0.begun (c.in_err-commit.ensures.err late) in
     subst (IsBlank g.S.Store) same (blank_again g.S.Store old last end blank kept c.commit.ensures.ended opened back))
@@ -43,10 +43,10 @@ pub returns-in_err-make_all-clause-fails : goal.returns-in_err-make_all-clause-f
 returns-in_err-make_all-clause-fails g c clean unlimited blank =
     let old = c.args.conn.now in
     let begun = c.transaction-tx.result.conn.now in
-    let told = err_from_is_err_and c.from_residual.result c.from_residual.ensures.1 in
+    let reported = err_from_is_err_and c.from_residual.result c.from_residual.ensures.1 in
     let was : HasCleanDisk (state g.S.Store c.make_all.new.tx.conn.now) = search rules in
     let limit : begun.step_limit ≡ None = rw c.transaction-tx.ensures.begun unlimited in
-    rw told.1 (subst IsStoreFault (sym told.2) (c.in_err-make_all.ensures.fails was limit (blank_begins g.S.Store old begun c.transaction-tx.ensures.begun blank)))
+    rw reported.1 (subst IsStoreFault (sym reported.2) (c.in_err-make_all.ensures.fails was limit (blank_begins g.S.Store old begun c.transaction-tx.ensures.begun blank)))
 
 pub returns-in_err-commit-clause-fails : goal.returns-in_err-commit-clause-fails
 returns-in_err-commit-clause-fails g c clean unlimited blank =
@@ -54,11 +54,11 @@ returns-in_err-commit-clause-fails g c clean unlimited blank =
     let begun = c.transaction-tx.result.conn.now in
     let last = c.make_all.new.tx.conn.now in
     let end = c.commit.new.self.0 in
-    let told = err_from_is_err_and c.from_residual-in_err-commit.result c.from_residual-in_err-commit.ensures.1 in
+    let reported = err_from_is_err_and c.from_residual-in_err-commit.result c.from_residual-in_err-commit.ensures.1 in
     let late : HasCleanDisk (state g.S.Store end) = search rules in
     let was : HasCleanDisk (state g.S.Store last) = omega (arith, c.commit.ensures.survives.clean) in
     let made = c.in_ok-make_all.ensures.ok was (blank_begins g.S.Store old begun c.transaction-tx.ensures.begun blank) in
-    rw told.1 (subst IsStoreFault (sym told.2) (commit_fails (state g.S.Store last) (state g.S.Store end) _ made.0.begun (c.in_err-commit.ensures.err late)))
+    rw reported.1 (subst IsStoreFault (sym reported.2) (commit_fails (state g.S.Store last) (state g.S.Store end) _ made.0.begun (c.in_err-commit.ensures.err late)))
 
 pub returns-in_err-make_all-clause-cause : goal.returns-in_err-make_all-clause-cause
 returns-in_err-make_all-clause-cause g c clean good =

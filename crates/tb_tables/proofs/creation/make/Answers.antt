@@ -16,9 +16,9 @@ pub returns-in_err-execute-clause-fails : goal.returns-in_err-execute-clause-fai
 returns-in_err-execute-clause-fails g c clean schema table bare makes takes =
     let old = state g.S.Store c.args.tx.now.conn.now in
     let new = state g.S.Store c.execute.new.self.conn.now in
-    let told = err_from_is_err_and c.from_residual.result c.from_residual.ensures.1 in
+    let reported = err_from_is_err_and c.from_residual.result c.from_residual.ensures.1 in
     let ran = c.in_err-execute.ensures.runs clean bare.begun in
-    rw told.1 (subst IsStoreFault (sym told.2) (make_fails old new schema c.args.text.now table bare.is makes takes c.in_err-execute.field-0.0 ran))
+    rw reported.1 (subst IsStoreFault (sym reported.2) (make_fails old new schema c.args.text.now table bare.is makes takes c.in_err-execute.field-0.0 ran))
 
 pub returns-in_err-execute-clause-cause : goal.returns-in_err-execute-clause-cause
 returns-in_err-execute-clause-cause g c clean good =

@@ -26,11 +26,11 @@ returns-in-Ok-clause-inside g c clean inside =
     let puts = puts_revision old new x c.in-Ok.field-0 inside.schema (rw (c.params-to_sql.ensures, c.params-to_sql-2.ensures, c.params-to_sql-3.ensures, c.params-to_sql-4.ensures) at ran.0) in
     record { begun = ran.1.mode; schema = puts.sets.schema }
 
-pub returns-in-Ok-clause-kept : goal.returns-in-Ok-clause-kept
-returns-in-Ok-clause-kept g c clean = kept_by g.S.Store _ _ c.args.tx.now.conn.now c.execute.new.self.conn.now c.execute.ensures.ended (c.execute.ensures.runs clean)
+pub returns-in-Ok-clause-keeps_committed : goal.returns-in-Ok-clause-keeps_committed
+returns-in-Ok-clause-keeps_committed g c clean = kept_by g.S.Store _ _ c.args.tx.now.conn.now c.execute.new.self.conn.now c.execute.ensures.ended (c.execute.ensures.runs clean)
 
-pub returns-in-Err-clause-kept : goal.returns-in-Err-clause-kept
-returns-in-Err-clause-kept g c clean = kept_by g.S.Store _ _ c.args.tx.now.conn.now c.execute.new.self.conn.now c.execute.ensures.ended (c.execute.ensures.runs clean)
+pub returns-in-Err-clause-keeps_committed : goal.returns-in-Err-clause-keeps_committed
+returns-in-Err-clause-keeps_committed g c clean = kept_by g.S.Store _ _ c.args.tx.now.conn.now c.execute.new.self.conn.now c.execute.ensures.ended (c.execute.ensures.runs clean)
 
 pub returns-in-Err-clause-fails : goal.returns-in-Err-clause-fails
 returns-in-Err-clause-fails g c clean unlimited inside d stands unique =

@@ -29,27 +29,27 @@ returns-clause-inside g c clean inside =
     let ran = c.in_ok-execute.ensures.runs clean inside.begun in
     record { begun = ran.1.mode; schema = deleted_pulled (state g.S.Store c.args.tx.now.conn.now) (state g.S.Store c.execute.new.self.conn.now) _ c.in_ok-execute.field-0 inside.schema ran.0 }
 
-pub returns-clause-kept : goal.returns-clause-kept
-returns-clause-kept g c clean = kept_by g.S.Store _ _ c.args.tx.now.conn.now c.execute.new.self.conn.now c.execute.ensures.ended (c.execute.ensures.runs clean)
+pub returns-clause-keeps_committed : goal.returns-clause-keeps_committed
+returns-clause-keeps_committed g c clean = kept_by g.S.Store _ _ c.args.tx.now.conn.now c.execute.new.self.conn.now c.execute.ensures.ended (c.execute.ensures.runs clean)
 
-pub returns-in_err-execute-clause-kept : goal.returns-in_err-execute-clause-kept
-returns-in_err-execute-clause-kept g c clean = kept_by g.S.Store _ _ c.args.tx.now.conn.now c.execute.new.self.conn.now c.execute.ensures.ended (c.execute.ensures.runs clean)
+pub returns-in_err-execute-clause-keeps_committed : goal.returns-in_err-execute-clause-keeps_committed
+returns-in_err-execute-clause-keeps_committed g c clean = kept_by g.S.Store _ _ c.args.tx.now.conn.now c.execute.new.self.conn.now c.execute.ensures.ended (c.execute.ensures.runs clean)
 
 pub returns-in_err-execute-clause-fails : goal.returns-in_err-execute-clause-fails
 returns-in_err-execute-clause-fails g c clean unlimited inside d stands unique =
     let old = state g.S.Store c.args.tx.now.conn.now in
     let new = state g.S.Store c.execute.new.self.conn.now in
-    let told = err_from_is_err_and c.from_residual.result c.from_residual.ensures.1 in
+    let reported = err_from_is_err_and c.from_residual.result c.from_residual.ensures.1 in
     let ran = c.in_err-execute.ensures.runs clean inside.begun in
-    rw told.1 (subst IsStoreFault (sym told.2) (store_fault old new c.in_err-execute.field-0.0 (delete_fails old new d c.args.sent c.in_err-execute.field-0.0 inside.schema unlimited stands unique (rw c.params-to_sql.ensures at ran))))
+    rw reported.1 (subst IsStoreFault (sym reported.2) (store_fault old new c.in_err-execute.field-0.0 (delete_fails old new d c.args.sent c.in_err-execute.field-0.0 inside.schema unlimited stands unique (rw c.params-to_sql.ensures at ran))))
 
 pub returns-in_err-execute-clause-wants : goal.returns-in_err-execute-clause-wants
 returns-in_err-execute-clause-wants g c good clean unlimited inside d stands unique =
     let old = state g.S.Store c.args.tx.now.conn.now in
     let new = state g.S.Store c.execute.new.self.conn.now in
-    let told = err_from_is_err_and c.from_residual.result c.from_residual.ensures.1 in
+    let reported = err_from_is_err_and c.from_residual.result c.from_residual.ensures.1 in
     let ran = c.in_err-execute.ensures.runs clean inside.begun in
-    rw told.1 (subst IsWant (sym told.2) (failed_wants old new good c.in_err-execute.field-0.0 (fails_as (λ none. none) old new c.in_err-execute.field-0.0 (delete_fails old new d c.args.sent c.in_err-execute.field-0.0 inside.schema unlimited stands unique (rw c.params-to_sql.ensures at ran)))))
+    rw reported.1 (subst IsWant (sym reported.2) (failed_wants old new good c.in_err-execute.field-0.0 (fails_as (λ none. none) old new c.in_err-execute.field-0.0 (delete_fails old new d c.args.sent c.in_err-execute.field-0.0 inside.schema unlimited stands unique (rw c.params-to_sql.ensures at ran)))))
 
 pub returns-in_err-execute-clause-cause : goal.returns-in_err-execute-clause-cause
 returns-in_err-execute-clause-cause g c clean good =

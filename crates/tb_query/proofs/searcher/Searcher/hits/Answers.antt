@@ -10,7 +10,7 @@ pub returns-clause-hits : goal.returns-clause-hits
 returns-clause-hits g c =
     let truth = c.in_ok-truth.truth in
     let query = c.args.self.now in
-    let pat : tree c.self.inside.pat.now ≡ query.pat = ap (λ (q : Asked). q.pat) (c.self.view_is ∙ c.in_ok-truth.ensures.same) in
+    let pat : tree c.self.inside.pat.now ≡ query.pat = ap (λ (q : Asked). q.pat) (c.self.view_is ∙ c.in_ok-truth.ensures.unchanged) in
     IfOk-weaker c.find.result _ _
     (λ f h. found_there truth query c.args.block.now c.in_ok-truth.ensures.truth c.args.strategy f.hits.items
     (subst (λ (p : Tree). AreHits c.args.strategy (IsFound truth p) f.hits.items) pat h))

@@ -2,10 +2,10 @@ use Rattle.std.proofs.Common.{◌≡◌, None, sym, ap, subst, ◌∙◌}
 use Rattle.sqlite.specs.State.{HasCleanDisk, Survives}
 use Rattle.sqlite.specs.Held.{state}
 use Rattle.sqlite.proofs.StateLemmas.{survives_weaker}
-use Rattle.tb_tables.specs.Records.{Stands}
+use Rattle.tb_tables.specs.Records.{AreStored}
 use Rattle.tb_tables.specs.Making.{IsBlank, empty_tables}
 use Rattle.tb_store.specs.Kept.{Kept}
-use Rattle.tb_store.specs.Standing.{unlimited}
+use Rattle.tb_store.specs.Represents.{unlimited}
 use Rattle.tb_store.proofs.Beginning.{still_blank, stands_empty}
 use Rattle.tb_store.proofs.desk.Desk.make.Goals as goal
 
@@ -19,16 +19,16 @@ returns-in-Ok-clause-made g c clean blank =
 pub returns-in-Ok-clause-crash : goal.returns-in-Ok-clause-crash
 returns-in-Ok-clause-crash g c =
     let same = ap (λ (k : Kept g.row.S.Denot). k.conn) c.empty.ensures in
-    let there = survives_weaker (state g.S.Store c.without_limit-conn.result) (state g.S.Store c.create.new.conn) _ (λ db. IsBlank g.S.Store c.args.conn → Stands empty_tables db)
+    let there = survives_weaker (state g.S.Store c.without_limit-conn.result) (state g.S.Store c.create.new.conn) _ (λ db. IsBlank g.S.Store c.args.conn → AreStored empty_tables db)
     (λ _ db whole blank. whole (still_blank g.S.Store c.args.conn c.without_limit-conn.result c.without_limit-conn.ensures blank)) c.create.ensures.crash in
-    let begun = subst (λ h. Survives (state g.S.Store h) (state g.S.Store c.create.new.conn) (λ db. IsBlank g.S.Store c.args.conn → Stands empty_tables db)) c.without_limit-conn.ensures there in
-    subst (λ h. Survives (state g.S.Store (unlimited c.args.conn)) (state g.S.Store h) (λ db. IsBlank g.S.Store c.args.conn → Stands empty_tables db)) (sym same) begun
+    let begun = subst (λ h. Survives (state g.S.Store h) (state g.S.Store c.create.new.conn) (λ db. IsBlank g.S.Store c.args.conn → AreStored empty_tables db)) c.without_limit-conn.ensures there in
+    subst (λ h. Survives (state g.S.Store (unlimited c.args.conn)) (state g.S.Store h) (λ db. IsBlank g.S.Store c.args.conn → AreStored empty_tables db)) (sym same) begun
 
 pub returns-in-Err-clause-crash_on_the_way : goal.returns-in-Err-clause-crash_on_the_way
 returns-in-Err-clause-crash_on_the_way g c other =
-    let there = survives_weaker (state g.S.Store c.without_limit-conn.result) (state g.S.Store c.create.new.conn) _ (λ db. IsBlank g.S.Store c.args.conn → Stands empty_tables db)
+    let there = survives_weaker (state g.S.Store c.without_limit-conn.result) (state g.S.Store c.create.new.conn) _ (λ db. IsBlank g.S.Store c.args.conn → AreStored empty_tables db)
     (λ _ db whole blank. whole (still_blank g.S.Store c.args.conn c.without_limit-conn.result c.without_limit-conn.ensures blank)) c.create.ensures.crash in
-    subst (λ h. Survives (state g.S.Store h) (state g.S.Store c.create.new.conn) (λ db. IsBlank g.S.Store c.args.conn → Stands empty_tables db)) c.without_limit-conn.ensures there
+    subst (λ h. Survives (state g.S.Store h) (state g.S.Store c.create.new.conn) (λ db. IsBlank g.S.Store c.args.conn → AreStored empty_tables db)) c.without_limit-conn.ensures there
 
 pub returns-in-Ok-clause-no_step_limit : goal.returns-in-Ok-clause-no_step_limit
 returns-in-Ok-clause-no_step_limit g c =

@@ -2,7 +2,7 @@ use Rattle.std.proofs.Common.{◌≡◌, None, Err, sym, ap, subst, ◌∙◌}
 use Rattle.sqlite.specs.State.{HasCleanDisk, Survives}
 use Rattle.sqlite.specs.Held.{state}
 use Rattle.tb_store.specs.Kept.{Kept}
-use Rattle.tb_store.specs.Standing.{unlimited}
+use Rattle.tb_store.specs.Represents.{unlimited}
 use Rattle.tb_store.proofs.Adopted.{faultless_unlimited, stands_over}
 use Rattle.tb_store.proofs.Migrated.{first_unlimited, first_before, LeavesDesk, survives_unlimited}
 use Rattle.tb_store.proofs.desk.Desk.migrate.Goals as goal
@@ -11,10 +11,10 @@ pub returns-in-Ok-clause-migrated : goal.returns-in-Ok-clause-migrated
 returns-in-Ok-clause-migrated g c clean =
     let same = ap (λ (k : Kept g.row.S.Denot). k.conn) c.over.ensures in
     let late = subst (λ h. HasCleanDisk (state g.S.Store h)) same clean in
-    let told = c.in-Ok.ensures.migrated late in (
-      told.0,
-      first_before g.S.Store c.args.conn c.without_limit-conn.result c.without_limit-conn.ensures told.0 told.1,
-      stands_over g.S.Store c.over.result c.migrate.new.conn c.args.limits c.in-Ok.standing c.over.ensures told.0 told.2 told.3,
+    let reported = c.in-Ok.ensures.migrated late in (
+      reported.0,
+      first_before g.S.Store c.args.conn c.without_limit-conn.result c.without_limit-conn.ensures reported.0 reported.1,
+      stands_over g.S.Store c.over.result c.migrate.new.conn c.args.limits c.in-Ok.summary c.over.ensures reported.0 reported.2 reported.3,
     )
 
 pub returns-in-Ok-clause-crash : goal.returns-in-Ok-clause-crash

@@ -1,25 +1,25 @@
 use Rattle.std.proofs.Common.{◌≡◌, ◌∙◌, refl, sym, ap, subst, arith, Err}
 use Rattle.sqlite.specs.Held.{state}
 use Rattle.sqlite.specs.State.{HasCleanDisk}
-use Rattle.tb_standing.specs.Standing.{IsDesk}
+use Rattle.tb_refine.specs.DeskTables.{IsDeskOf}
 use Rattle.sqlite.proofs.StateLemmas.{survives_then, survives_weaker}
 use Rattle.tb_core.specs.declared.refusals.Fault.TheVariants.{NotADesk}
 use Rattle.tb_core.specs.Commands.{pull, replied, refused, pulled_out}
-use Rattle.tb_recording.specs.declared.counted.Counts.{Counts}
+use Rattle.tb_refine.specs.declared.counters.Counters.{Counters}
 use Rattle.tb_store.specs.Kept.{Kept}
-use Rattle.tb_store.specs.Standing.{StandsFor}
-use Rattle.tb_recording.specs.Counted.{IsCounted}
-use Rattle.tb_recording.proofs.Unchanged.{desk_kept}
+use Rattle.tb_store.specs.Represents.{Represents}
+use Rattle.tb_refine.specs.Counted.{IsCounted}
+use Rattle.tb_refine.proofs.Unchanged.{desk_kept}
 use Rattle.tb_store.proofs.Lasting.{durable, fault_ends}
-use Rattle.tb_store.proofs.Standings.{still_stands, sentence_within, same_numbered}
+use Rattle.tb_store.proofs.Represented.{still_stands, sentence_within, same_numbered}
 use Rattle.tb_store.proofs.desk.Desk.pull.Goals as goal
 
 pub returns-in-Ok-clause-ends : goal.returns-in-Ok-clause-ends
 returns-in-Ok-clause-ends g c clean s stands =
-    let here = subst (λ k. StandsFor g.S.Store k s) (sym c.self.view_is) stands in
+    let here = subst (λ k. Represents g.S.Store k s) (sym c.self.view_is) stands in
     let fits = c.in-Some.ensures.stands in
-    let counted : IsCounted c.counts-counts.result s = subst (λ (k : Counts). IsCounted k s) (sym c.counts-counts.ensures) (record { moves = stands.moves; totals = stands.totals }) in
-    let limits = ap (λ (k : Counts). k.limits) c.counts-counts.ensures in
+    let counted : IsCounted c.counts-counts.result s = subst (λ (k : Counters). IsCounted k s) (sym c.counts-counts.ensures) (record { moves = stands.moves; totals = stands.totals }) in
+    let limits = ap (λ (k : Counters). k.limits) c.counts-counts.ensures in
     let made = c.in-Ok.ensures.answered clean s here.desk counted (omega (arith, fits.2, stands.sentences, here.sentences)) in (
       made.next,
       same_numbered (λ n. pull n c.args.user.now) _ _ s _ _ (replied (pulled_out c.in-Ok.reply)) made.next limits fits.0 made.steps,
@@ -36,10 +36,10 @@ pub returns-in-Ok-clause-crash : goal.returns-in-Ok-clause-crash
 returns-in-Ok-clause-crash g c =
     let same = ap (λ (k : Kept _). state g.S.Store k.conn) c.self.view_is in
     rw (sym same) (survives_weaker (state g.S.Store c.self.inside.conn) (state g.S.Store c.pull.new.conn) _ _ (λ _ db whole s stands.
-    let here = subst (λ k. StandsFor g.S.Store k s) (sym c.self.view_is) stands in
+    let here = subst (λ k. Represents g.S.Store k s) (sym c.self.view_is) stands in
     let fits = c.in-Some.ensures.stands in
-    let counted : IsCounted c.counts-counts.result s = subst (λ (k : Counts). IsCounted k s) (sym c.counts-counts.ensures) (record { moves = stands.moves; totals = stands.totals }) in
-    let limits = ap (λ (k : Counts). k.limits) c.counts-counts.ensures in
+    let counted : IsCounted c.counts-counts.result s = subst (λ (k : Counters). IsCounted k s) (sym c.counts-counts.ensures) (record { moves = stands.moves; totals = stands.totals }) in
+    let limits = ap (λ (k : Counters). k.limits) c.counts-counts.ensures in
     let left = whole s here.desk counted (omega (arith, fits.2, stands.sentences, here.sentences)) in
     (left.0, left.1, same_numbered (λ n. pull n c.args.user.now) _ _ s _ _ left.0 left.1 limits fits.0 left.2, left.3)) c.pull.ensures.crash)
 
@@ -47,38 +47,38 @@ pub returns-in-Err-clause-crash : goal.returns-in-Err-clause-crash
 returns-in-Err-clause-crash g c =
     let same = ap (λ (k : Kept _). state g.S.Store k.conn) c.self.view_is in
     rw (sym same) (survives_then (state g.S.Store c.self.inside.conn) (state g.S.Store c.pull.new.conn) (state g.S.Store c.certain.new.conn) _ _ _ (λ _ db whole s stands.
-    let here = subst (λ k. StandsFor g.S.Store k s) (sym c.self.view_is) stands in
+    let here = subst (λ k. Represents g.S.Store k s) (sym c.self.view_is) stands in
     let fits = c.in-Some.ensures.stands in
-    let counted : IsCounted c.counts-counts.result s = subst (λ (k : Counts). IsCounted k s) (sym c.counts-counts.ensures) (record { moves = stands.moves; totals = stands.totals }) in
-    let limits = ap (λ (k : Counts). k.limits) c.counts-counts.ensures in
+    let counted : IsCounted c.counts-counts.result s = subst (λ (k : Counters). IsCounted k s) (sym c.counts-counts.ensures) (record { moves = stands.moves; totals = stands.totals }) in
+    let limits = ap (λ (k : Counters). k.limits) c.counts-counts.ensures in
     let left = whole s here.desk counted (omega (arith, fits.2, stands.sentences, here.sentences)) in
     (left.0, left.1, same_numbered (λ n. pull n c.args.user.now) _ _ s _ _ left.0 left.1 limits fits.0 left.2, left.3)) (λ _ db none. absurd none) c.pull.ensures.crash c.certain.ensures.crash)
 
 pub returns-in-Err-clause-ends : goal.returns-in-Err-clause-ends
 returns-in-Err-clause-ends g c clean s stands =
-    let here = subst (λ k. StandsFor g.S.Store k s) (sym c.self.view_is) stands in
+    let here = subst (λ k. Represents g.S.Store k s) (sym c.self.view_is) stands in
     let before : HasCleanDisk (state g.S.Store c.pull.new.conn) = omega (arith, clean, c.certain.ensures.crash.clean) in
     let fits = c.in-Some.ensures.stands in
-    let counted : IsCounted c.counts-counts.result s = subst (λ (k : Counts). IsCounted k s) (sym c.counts-counts.ensures) (record { moves = stands.moves; totals = stands.totals }) in
-    let limits = ap (λ (k : Counts). k.limits) c.counts-counts.ensures in
+    let counted : IsCounted c.counts-counts.result s = subst (λ (k : Counters). IsCounted k s) (sym c.counts-counts.ensures) (record { moves = stands.moves; totals = stands.totals }) in
+    let limits = ap (λ (k : Counters). k.limits) c.counts-counts.ensures in
     fault_ends g.S.Store g.met.S.Store.settled c.args.self.now _ s (pull c.args.number c.args.user.now) pulled_out c.certain.result
     (λ r is.
-    let told = c.certain.ensures.refused r is in
-    let refusal = c.pull.ensures.refused before r (c.in-Err.is ∙ ap Err told.0) s here.desk counted (omega (arith, fits.2, stands.sentences, here.sentences)) in
-    (same_numbered (λ n. pull n c.args.user.now) _ _ s _ _ (refused r) s limits fits.0 refusal.0, still_stands g.S.Store _ c.certain.new.conn s (subst (λ h. IsDesk g.S.Store h s) (sym told.1) refusal.1) here))
+    let reported = c.certain.ensures.refused r is in
+    let refusal = c.pull.ensures.refused before r (c.in-Err.is ∙ ap Err reported.0) s here.desk counted (omega (arith, fits.2, stands.sentences, here.sentences)) in
+    (same_numbered (λ n. pull n c.args.user.now) _ _ s _ _ (refused r) s limits fits.0 refusal.0, still_stands g.S.Store _ c.certain.new.conn s (subst (λ h. IsDeskOf g.S.Store h s) (sym reported.1) refusal.1) here))
     (c.certain.ensures.open clean)
     (λ opened.
-    let mid = desk_kept g.S.Store c.self.inside.conn c.pull.new.conn (c.in-Err.ensures.kept before (c.certain.ensures.was_open clean opened)) s here.desk in
-    still_stands g.S.Store _ c.certain.new.conn s (desk_kept g.S.Store c.pull.new.conn c.certain.new.conn (c.certain.ensures.kept clean opened) s mid) here)
+    let mid = desk_kept g.S.Store c.self.inside.conn c.pull.new.conn (c.in-Err.ensures.keeps_records before (c.certain.ensures.was_open clean opened)) s here.desk in
+    still_stands g.S.Store _ c.certain.new.conn s (desk_kept g.S.Store c.pull.new.conn c.certain.new.conn (c.certain.ensures.keeps_records clean opened) s mid) here)
     (λ none. c.pull.ensures.fails before c.self.invariant.unlimited s here.desk counted (omega (arith, fits.2, stands.sentences, here.sentences)) (c.in-Err.is ∙ ap Err (c.certain.ensures.desk none)))
 
 pub returns-in_default-clause-ends : goal.returns-in_default-clause-ends
 returns-in_default-clause-ends g c clean s stands =
     fault_ends g.S.Store g.met.S.Store.settled c.args.self.now c.args.self.now s (pull c.args.number c.args.user.now) pulled_out c.no_pull.result
     (λ r is.
-    let here = subst (λ k. StandsFor g.S.Store k s) (sym c.self.view_is) stands in
-    let counted : IsCounted c.counts-counts.result s = subst (λ (k : Counts). IsCounted k s) (sym c.counts-counts.ensures) (record { moves = stands.moves; totals = stands.totals }) in
-    let limits = ap (λ (k : Counts). k.limits) c.counts-counts.ensures in
+    let here = subst (λ k. Represents g.S.Store k s) (sym c.self.view_is) stands in
+    let counted : IsCounted c.counts-counts.result s = subst (λ (k : Counters). IsCounted k s) (sym c.counts-counts.ensures) (record { moves = stands.moves; totals = stands.totals }) in
+    let limits = ap (λ (k : Counters). k.limits) c.counts-counts.ensures in
     let refusal = c.no_pull.ensures.refused r is s (λ place x has.
     let low = sentence_within s c.args.number place x has in
     c.in_default.ensures.lacks refl low.0 (omega (arith, low.1, stands.sentences, here.sentences))) counted.moves in
@@ -86,8 +86,8 @@ returns-in_default-clause-ends g c clean s stands =
     (λ _. stands.desk.holds.is_open)
     (λ _. stands)
     (λ bad.
-    let here = subst (λ k. StandsFor g.S.Store k s) (sym c.self.view_is) stands in
-    let counted : IsCounted c.counts-counts.result s = subst (λ (k : Counts). IsCounted k s) (sym c.counts-counts.ensures) (record { moves = stands.moves; totals = stands.totals }) in
+    let here = subst (λ k. Represents g.S.Store k s) (sym c.self.view_is) stands in
+    let counted : IsCounted c.counts-counts.result s = subst (λ (k : Counters). IsCounted k s) (sym c.counts-counts.ensures) (record { moves = stands.moves; totals = stands.totals }) in
     c.no_pull.ensures.fails s (λ place x has.
     let low = sentence_within s c.args.number place x has in
     c.in_default.ensures.lacks refl low.0 (omega (arith, low.1, stands.sentences, here.sentences))) counted.moves bad)

@@ -1,57 +1,57 @@
 use Rattle.std.proofs.Common.{◌≢◌, ◌∙◌, sym, ap, subst, arith, Err}
-use Rattle.tb_reading.proofs.Shown.{if_ok}
+use Rattle.tb_reads.proofs.Shown.{if_ok}
 use Rattle.sqlite.specs.Held.{state}
 use Rattle.sqlite.specs.State.{Survives}
 use Rattle.tb_tables.specs.Layout.{desk_schema}
 use Rattle.tb_tables.specs.Leaving.{IsFaultless}
 use Rattle.tb_store.specs.Kept.{Kept}
-use Rattle.tb_store.specs.Standing.{StandsFor}
-use Rattle.tb_recording.proofs.Unchanged.{desk_kept, desk_same}
-use Rattle.tb_recording.proofs.There.{sentence_there}
-use Rattle.tb_store.proofs.Standings.{still_stands, on_ok_then, err_is, refuses_revision}
+use Rattle.tb_store.specs.Represents.{Represents}
+use Rattle.tb_refine.proofs.Unchanged.{desk_kept, desk_same}
+use Rattle.tb_refine.proofs.There.{sentence_there}
+use Rattle.tb_store.proofs.Represented.{still_stands, on_ok_then, err_is, refuses_revision}
 use Rattle.tb_store.proofs.desk.Desk.revision.Goals as goal
 
-pub returns-clause-kept : goal.returns-clause-kept
-returns-clause-kept g c clean opened s stands =
-    let here = subst (λ k. StandsFor g.S.Store k s) (sym c.self.view_is) stands in
-    still_stands g.S.Store _ c.revision.new.conn s (desk_kept g.S.Store c.self.inside.conn c.revision.new.conn (c.revision.ensures.kept clean opened) s here.desk) here
+pub returns-clause-keeps_state : goal.returns-clause-keeps_state
+returns-clause-keeps_state g c clean opened s stands =
+    let here = subst (λ k. Represents g.S.Store k s) (sym c.self.view_is) stands in
+    still_stands g.S.Store _ c.revision.new.conn s (desk_kept g.S.Store c.self.inside.conn c.revision.new.conn (c.revision.ensures.keeps_records clean opened) s here.desk) here
 
 pub returns-clause-stays : goal.returns-clause-stays
-returns-clause-stays g c clean = on_ok_then c.revision.result (c.revision.ensures.same clean) (λ same s stands.
-    let here = subst (λ k. StandsFor g.S.Store k s) (sym c.self.view_is) stands in
+returns-clause-stays g c clean = on_ok_then c.revision.result (c.revision.ensures.unchanged clean) (λ same s stands.
+    let here = subst (λ k. Represents g.S.Store k s) (sym c.self.view_is) stands in
     still_stands g.S.Store _ c.revision.new.conn s (desk_same g.S.Store c.self.inside.conn c.revision.new.conn s here.desk (same here.desk.holds.schema)) here)
 
-pub returns-clause-lasts : goal.returns-clause-lasts
-returns-clause-lasts g c =
-    subst (λ (k : Kept _). Survives (state g.S.Store k.conn) (state g.S.Store c.revision.new.conn) (λ _. (state g.S.Store k.conn).now.schema ≢ desk_schema)) c.self.view_is c.revision.ensures.lasts
+pub returns-clause-commits_nothing : goal.returns-clause-commits_nothing
+returns-clause-commits_nothing g c =
+    subst (λ (k : Kept _). Survives (state g.S.Store k.conn) (state g.S.Store c.revision.new.conn) (λ _. (state g.S.Store k.conn).now.schema ≢ desk_schema)) c.self.view_is c.revision.ensures.commits_nothing
 
 pub returns-clause-answered : goal.returns-clause-answered
-returns-clause-answered g c clean = if_ok c.revision.result (c.revision.ensures.answered clean) (λ text told s stands.
-    let here = subst (λ k. StandsFor g.S.Store k s) (sym c.self.view_is) stands in
+returns-clause-answered g c clean = if_ok c.revision.result (c.revision.ensures.answered clean) (λ text reported s stands.
+    let here = subst (λ k. Represents g.S.Store k s) (sym c.self.view_is) stands in
     let fits = c.in-Some.ensures.stands in
     let it = sentence_there s c.args.number c.in-Some.number fits.0 fits.1 (omega (arith, fits.2, stands.sentences, here.sentences)) in
-    let read = told s here.desk it.0 it.1 in
-    record { place = _; found = it.0; there = it.2; given = read.0; current = read.1; told = read.2 })
+    let read = reported s here.desk it.0 it.1 in
+    record { place = _; found = it.0; there = it.2; given = read.0; current = read.1; reported = read.2 })
 
 pub returns-clause-no_sentence : goal.returns-clause-no_sentence
 returns-clause-no_sentence g c s stands lacks =
-    let here = subst (λ k. StandsFor g.S.Store k s) (sym c.self.view_is) stands in
+    let here = subst (λ k. Represents g.S.Store k s) (sym c.self.view_is) stands in
     let fits = c.in-Some.ensures.stands in
     let it = sentence_there s c.args.number c.in-Some.number fits.0 fits.1 (omega (arith, fits.2, stands.sentences, here.sentences)) in
     absurd (lacks _ it.0 it.2)
 
 pub returns-clause-refused : goal.returns-clause-refused
 returns-clause-refused g c clean = err_is c.revision.result (λ e is s stands.
-    let here = subst (λ k. StandsFor g.S.Store k s) (sym c.self.view_is) stands in
+    let here = subst (λ k. Represents g.S.Store k s) (sym c.self.view_is) stands in
     let fits = c.in-Some.ensures.stands in
     let it = sentence_there s c.args.number c.in-Some.number fits.0 fits.1 (omega (arith, fits.2, stands.sentences, here.sentences)) in
     refuses_revision s c.args.number c.args.rev e (λ r same.
-    let told = c.revision.ensures.refused clean r (is ∙ ap Err same) in
-    (told.0, (_, it.0, it.2, told.1 s here.desk it.0 it.1))))
+    let reported = c.revision.ensures.refused clean r (is ∙ ap Err same) in
+    (reported.0, (_, it.0, it.2, reported.1 s here.desk it.0 it.1))))
 
 pub returns-clause-fails : goal.returns-clause-fails
 returns-clause-fails g c clean s stands bad =
-    let here = subst (λ k. StandsFor g.S.Store k s) (sym c.self.view_is) stands in
+    let here = subst (λ k. Represents g.S.Store k s) (sym c.self.view_is) stands in
     let limit = c.self.invariant.unlimited in
     let fits = c.in-Some.ensures.stands in
     let it = sentence_there s c.args.number c.in-Some.number fits.0 fits.1 (omega (arith, fits.2, stands.sentences, here.sentences)) in
@@ -59,6 +59,6 @@ returns-clause-fails g c clean s stands bad =
 
 pub returns-clause-cause : goal.returns-clause-cause
 returns-clause-cause g c clean s stands good =
-    let here = subst (λ k. StandsFor g.S.Store k s) (sym c.self.view_is) stands in
+    let here = subst (λ k. Represents g.S.Store k s) (sym c.self.view_is) stands in
     let calm = subst (λ (k : Kept _). IsFaultless g.S.Store k.conn c.revision.new.conn) (sym c.self.view_is) good in
     c.revision.ensures.cause calm clean c.self.invariant.unlimited here.desk.holds.schema

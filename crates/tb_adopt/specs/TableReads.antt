@@ -1,0 +1,47 @@
+-- A read of tables: what it tells of them, and what it leaves of the connection.
+use Rattle.std.specs.Prelude.{◌≡◌, ◌≢◌, false, Result, Err, IfOk, OnOk, IsTrue}
+use Rattle.sqlite.specs.Store.{Ghosts}
+use Rattle.sqlite.specs.Held.{Held, state}
+use Rattle.sqlite.specs.State.{HasCleanDisk, IsUnchanged, Survives}
+use Rattle.sqlite_trees.specs.Tree.{Trees}
+use Rattle.tb_core.specs.declared.refusals.Fault.{Fault}
+use Rattle.tb_core.specs.declared.refusals.Fault.TheVariants.{Refused, Device, NotADesk}
+use Rattle.tb_core.specs.declared.refusals.Refusal.{Refusal}
+use Rattle.tb_core.specs.Machine.{Machine}
+use Rattle.tb_core.specs.Reaching.{IsReachable}
+use Rattle.tb_tables.specs.Layout.{desk_schema}
+use Rattle.tb_tables.specs.Records.{Tables, AreStored}
+use Rattle.tb_tables.specs.Changes.{Holds}
+use Rattle.tb_tables.specs.Leaving.{IsFaultless, FailsOnlyAs}
+use Rattle.tb_reads.specs.Failing.{SeesAsBefore}
+use Rattle.tb_refine.specs.DeskTables.{tables_of}
+
+-- On the schema of a desk: what is read is shown by the trees (IsShown), and where they stand for a reachable state, it is
+-- what the tables of this state hold (IsHeld); `NotADesk` is answered only where they stand for none, and `Device`, with
+-- no limit on steps, only where the disk failed or the store was shut. Nothing is changed.
+pub record HasReadTable {S X : Type 0} (g : Ghosts S) (old new : Held S) (result : Result X Fault) (IsShown : X
+    → Trees → Type 0) (IsHeld : X → Tables → Type 0) : Type 0 where
+  pub shown : HasCleanDisk (state g new) → IfOk result (λ x. (state g old).now.schema ≡ desk_schema
+      → IsShown x (state g old).now.trees)
+  pub reported : HasCleanDisk (state g new) → IfOk result (λ x. (state g old).now.schema ≡ desk_schema
+      → (s : Machine) → IsReachable s → AreStored (tables_of s) (state g old).now.trees → IsHeld x (tables_of s))
+  pub unfit : HasCleanDisk (state g new) → result ≡ Err NotADesk → (state g old).now.schema ≡ desk_schema
+      → (s : Machine) → IsReachable s → AreStored (tables_of s) (state g old).now.trees → ⊥
+  pub untouched : HasCleanDisk (state g new) → result ≡ Err NotADesk → (state g old).now.schema ≡ desk_schema
+      → IsUnchanged (state g old) (state g new)
+  pub sees : SeesAsBefore g old new
+  pub refused : (r : Refusal) → result ≢ Err (Refused r)
+  pub cause : IsFaultless g old new → FailsOnlyAs (λ (fault : Fault). fault ≢ Device) g old new result
+  pub same : HasCleanDisk (state g new) → OnOk result ((state g old).now.schema ≡ desk_schema
+      → IsUnchanged (state g old) (state g new))
+  pub mode : old.in_transaction ≡ false → new.in_transaction ≡ false
+  pub kept : HasCleanDisk (state g new) → IsTrue (state g new).is_open → (d : Tables) → Holds g old d
+      → Holds g new d
+  pub commits_nothing : Survives (state g old) (state g new) (λ _. (state g old).now.schema ≢ desk_schema)
+
+-- What can be told of a connection to a desk without a read: it is in no transaction, so it sees what the last commit left,
+-- and has the tables.
+pub record LooksLikeDesk {S : Type 0} (g : Ghosts S) (c : Held S) : Type 0 where
+  pub autocommit : c.in_transaction ≡ false
+  pub settled : IsTrue (state g c).is_open → (state g c).now ≡ (state g c).committed
+  pub schema : (state g c).now.schema ≡ desk_schema

@@ -1,0 +1,54 @@
+-- What a command of a user is answered over a connection, as a line, and what it leaves.
+use Rattle.std.specs.Prelude.{◌≡◌, ◌≢◌, ◌⊎◌, IsTrue}
+use Rattle.sqlite.specs.Store.{Ghosts}
+use Rattle.sqlite.specs.Held.{state}
+use Rattle.tb_core.specs.declared.limits.Limits.{Limits}
+use Rattle.tb_core.specs.declared.refusals.Refusal.{Refusal}
+use Rattle.tb_core.specs.declared.refusals.Fault.{Fault}
+use Rattle.tb_core.specs.declared.refusals.Fault.TheVariants.{Refused, Memory, Device, NotADesk, Output}
+use Rattle.tb_core.specs.Machine.{Machine}
+use Rattle.tb_core.specs.Commands.{Command, Answer, replied, refused, imported, moved_on, corrected_to, pulled_out}
+use Rattle.tb_core.specs.Commands.{restored_to}
+use Rattle.tb_core.specs.Steps.{Steps}
+use Rattle.tb_http.specs.declared.replies.Reply.{Reply}
+use Rattle.tb_http.specs.declared.replies.Reply.TheVariants as reply
+use Rattle.tb_store.specs.Kept.{Kept}
+use Rattle.tb_store.specs.Calls.{IsDurable}
+
+-- the reply for an answer of the machine
+abbrev pub reply_for : Answer → Reply
+reply_for (replied (imported r)) = reply.Imported r
+reply_for (replied (moved_on r)) = reply.Moved r
+reply_for (replied (corrected_to r)) = reply.Corrected r
+reply_for (replied (pulled_out r)) = reply.Pulled r
+reply_for (replied (restored_to r)) = reply.Restored r
+reply_for (refused r) = reply.Refused r
+
+-- the reply for a fault of a desk; no call writes any output of its own
+abbrev pub reply_for_fault : Fault → Reply
+reply_for_fault (Refused r) = reply.Refused r
+reply_for_fault Memory = reply.Memory
+reply_for_fault Device = reply.Device
+reply_for_fault NotADesk = reply.Desk
+reply_for_fault Output = reply.Device
+
+-- a fault that tells no refusal of the machine's
+abbrev pub IsNoRefusal : Fault → Type 0
+IsNoRefusal fault = (r : Refusal) → fault ≢ Refused r
+
+-- the replies that say nothing of the state: want of memory, and a failed device
+abbrev pub IsFailure : Reply → Type 0
+IsFailure r = (r ≡ reply.Memory) ⊎ (r ≡ reply.Device)
+
+-- the same over a store that may be no desk's
+abbrev pub IsStoreFailure : Reply → Type 0
+IsStoreFailure r = IsFailure r ⊎ (r ≡ reply.Desk)
+
+-- In this state the command has the machine's answer, and its next state outlasts a crash. Or memory was wanted, and
+-- the state outlasts a crash as it was. Or the device failed, and it does so where the store is open.
+abbrev pub IsAnswered : {S : Type 0} → Ghosts S → Limits → Machine → Command → (new : Kept S) → Reply
+    → Type 0
+IsAnswered g l s c new r =
+    ((a : Answer) × (t : Machine) × Steps l s c a t × IsDurable g new t × (r ≡ reply_for a))
+    ⊎ ((r ≡ reply.Memory) × IsDurable g new s)
+    ⊎ ((r ≡ reply.Device) × (IsTrue (state g new.conn).is_open → IsDurable g new s))

@@ -1,0 +1,47 @@
+-- What an export has in a state: released text where no name is given, else the batch with it.
+use Rattle.std.specs.Prelude.{◌≡◌, ◌⊎◌, ℕ, List, Option, Some, None, Result, Ok, Err}
+use Rattle.tb_core.specs.declared.refusals.Refusal.{Refusal}
+use Rattle.tb_core.specs.declared.refusals.Fault.TheVariants.{Refused}
+use Rattle.tb_core.specs.Machine.{Machine, Sentence}
+use Rattle.tb_search.specs.Released.{released, in_batch, current_text}
+use Rattle.tb_refine.specs.Finding.{HasNumber}
+use Rattle.tb_store.specs.Exports.{RefusesBatch}
+use Rattle.tb_http.specs.declared.replies.Reply.{Reply}
+use Rattle.tb_http.specs.declared.replies.Reply.TheVariants as reply
+use Rattle.tb_http.specs.declared.status.Status.{Status}
+use Rattle.tb_http.specs.declared.status.Status.TheVariants as status
+use Rattle.tb_http.specs.Replies.{reply_text, exit_of, status_of}
+use Rattle.tb_answer.specs.Commanded.{IsFailure}
+use Rattle.tb_answer.specs.Responses.{reply_response, body_response}
+
+-- the sentences of an export, in order
+abbrev pub AreExported : Machine → (name : Option (List ℕ)) → List Sentence → Type 0
+AreExported s None xs = xs ≡ released s
+AreExported s (Some name) xs = (n : ℕ) × HasNumber s name (Some n) × (xs ≡ in_batch s n)
+
+-- the refusal of an export; released text is never refused
+abbrev pub RefusesExport : Machine → (name : Option (List ℕ)) → Refusal → Type 0
+RefusesExport s None r = ⊥
+RefusesExport s (Some name) r = RefusesBatch s name (Refused r)
+
+-- What an export has in a state: the text of its sentences, or the refusal.
+abbrev pub HasExport : Machine → (name : Option (List ℕ)) → Result (List ℕ) Refusal → Type 0
+HasExport s name (Ok text) = (xs : List Sentence) × AreExported s name xs × (text ≡ current_text xs)
+HasExport s name (Err r) = RefusesExport s name r
+
+-- what is told in place of the text: the refusal, or a failure of the call
+abbrev pub IsReportedOfExport : Machine → (name : Option (List ℕ)) → Reply → Type 0
+IsReportedOfExport s name reported = ((r : Refusal) × (reported ≡ reply.Refused r) × HasExport s name (Err r))
+    ⊎ IsFailure reported
+
+-- The text of an export on the command line, and its own exit status.
+abbrev pub IsExportOutput : Machine → (name : Option (List ℕ)) → (text : List ℕ) → (own : ℕ) → Type 0
+IsExportOutput s name text own =
+    (HasExport s name (Ok text) × (own ≡ 0))
+    ⊎ ((r : Reply) × IsReportedOfExport s name r × (text ≡ reply_text r) × (own ≡ exit_of r))
+
+-- The response of an export in a state, and its status: 200 with the text, or that of a reply.
+abbrev pub IsExportResponse : Machine → (name : Option (List ℕ)) → (text : List ℕ) → Status → Type 0
+IsExportResponse s name text code =
+    ((body : List ℕ) × HasExport s name (Ok body) × (text ≡ body_response None body) × (code ≡ status.Ok))
+    ⊎ ((r : Reply) × IsReportedOfExport s name r × (text ≡ reply_response r) × (code ≡ status_of r))

@@ -1,0 +1,38 @@
+-- The body of a line: what it takes from its input.
+use Rattle.std.specs.Prelude.{◌≡◌, ◌≤◌, ◌<◌, ◌+◌, ◌⊎◌, ℕ, List, [], length, Bool, true}
+use Rattle.std.specs.Prelude.{false, Option, Result, Ok, Err}
+use Rattle.std.specs.Io.KnownBytes.{Consumes, IsAtEnd}
+use Rattle.tb_check.specs.Input.{TakenSome, IsBrokenWithin}
+use Rattle.tb_http.specs.declared.asks.RequestFault.TheVariants.{Long}
+use Rattle.tb_http.specs.declared.replies.Reply.{Reply}
+use Rattle.tb_http.specs.declared.replies.Reply.TheVariants as reply
+use Rattle.tb_cli.specs.Lines.{Said, import_batch, correct}
+
+-- only an import and a correction have a body
+abbrev pub has_body : Said → Bool
+has_body (import_batch db user name) = true
+has_body (correct db user n base) = true
+has_body _ = false
+
+-- The body is the input whole, of at most so many bytes. In its place comes that the input is longer, of which one byte
+-- more is taken; want of memory for bytes that came; or that a read failed, which the reader's failure says.
+abbrev pub IsBodyTaken : {Why : Type 0} → (Why → Type 0) → (limit : ℕ) → (old new : Option (List ℕ))
+    → Result (List ℕ) Reply → Type 0
+IsBodyTaken is_failure limit old new (Ok body) = Consumes old new body × IsAtEnd new × (length body ≤ limit)
+IsBodyTaken is_failure limit old new (Err r) =
+    ((r ≡ reply.Faulty Long) × TakenSome old new (λ n. n ≡ limit + 1))
+    ⊎ ((r ≡ reply.Memory) × TakenSome old new (λ n. (0 < n) × (n ≤ limit + 1)))
+    ⊎ ((r ≡ reply.Device) × IsBrokenWithin is_failure limit old new)
+
+module _ {R Why : Type 0} (is_failure : R → Why → Type 0) (left : R
+    → Option (List ℕ)) (limit : ℕ) (said : Said)
+    (old new : R) where
+  -- A line without a body leaves the reader as it was.
+  abbrev pub IsTaken : Result (List ℕ) Reply → Type 0
+  IsTaken taken =
+      ((has_body said ≡ true) × IsBodyTaken (is_failure new) limit (left old) (left new) taken)
+      ⊎ ((has_body said ≡ false) × (new ≡ old) × (taken ≡ Ok []))
+
+  -- P holds of what came of the body
+  abbrev pub WithTaken : (Result (List ℕ) Reply → Type 0) → Type 0
+  WithTaken P = (taken : Result (List ℕ) Reply) × IsTaken taken × P taken

@@ -1,0 +1,99 @@
+//! One request, read, done and answered.
+
+ghost use Rattle.std.specs.Prelude.{◌≡◌, ◌≢◌, ◌+◌, ℕ, List, [], IfErr, Err as ErrOf, map, vec_items};
+ghost use Rattle.tb_conllu.specs.Pieces.{AskedFor};
+ghost use Rattle.tb_http.specs.Asks.{body_limit};
+ghost use Rattle.tb_http.specs.Faults.{AwaitsMore, IsAtMostOne, TakenAfter, TakesAtMost};
+ghost use Rattle.tb_answer.specs.Served.{IsSafeOf, Serves, outcome};
+ghost use Rattle.tb_answer.specs.Turns.{AreServed};
+
+use crate::asks::respond_ask;
+use crate::responses::respond_reply;
+use sqlite::Alter;
+use std::alloc::Global;
+use tb_conllu::{Sink, SliceSource, Source};
+use tb_http::{AskFault, HEAD_BYTES, Reply, Routes, Status, read_ask};
+use tb_store::Desk;
+
+/// Why a request has no whole response.
+#[derive(Clone, Copy, Debug, PartialEq, Eq)]
+pub enum Broken {
+    /// The reader failed. Nothing was done, and nothing was written.
+    Read,
+    /// The sink refused a part of the response. What the request asked is done.
+    Write,
+}
+
+/// What is told of a response that was sent.
+fn outcome(sent: Option<Status>) -> Result<Status, Broken>
+    ensures { result ≡ outcome sent }
+{
+    match sent {
+        Some(status) => Ok(status),
+        None => Err(Broken::Write),
+    }
+}
+
+/// Reads one request, does what it asks, and answers it. Gives the status of a response that was written whole.
+///
+/// Each read is made while a head or a body is still wanting. No more is taken than a head of 8,192 bytes and its body.
+///
+/// # Errors
+///
+/// `Read`, where the reader failed while a head or a body was wanting: the desk and the sink are as before. `Write`,
+/// where the sink refused a part of the response: it holds a part from the front, and a command that was accepted
+/// stays accepted.
+pub fn answer<S: Alter, R: Source, W: Sink>(
+    alloc: Global,
+    routes: &Routes,
+    desk: &mut Desk<S>,
+    reader: &mut R,
+    out: &mut W,
+) -> Result<Status, Broken>
+    ensures answered { result ≢ ErrOf Broken.Read → Serves S.Store (R.left reader.old) desk.old desk.new
+        (W.held out.old) (W.held out.new) (W.IsRefusal out.new) result }
+    ensures broken { result ≡ ErrOf Broken.Read → (desk.new ≡ desk.old) × (W.held out.new ≡ W.held out.old) }
+    ensures cause { result ≡ ErrOf Broken.Read → ((why : R.Failure) × R.IsFailure reader.new why)
+        × TakenAfter [] (R.left reader.old) (R.left reader.new) (AwaitsMore body_limit) }
+    ensures asked { result ≢ ErrOf Broken.Read → (taken : List ℕ)
+        × AskedFor (AwaitsMore body_limit) [] (R.pieces reader.old) (R.pieces reader.new) taken }
+    ensures one { TakenAfter [] (R.left reader.old) (R.left reader.new) (IsAtMostOne body_limit) }
+    ensures most { TakesAtMost (8192 + body_limit) (R.left reader.old) (R.left reader.new) }
+    ensures crash { IsSafeOf S.Store (R.left reader.old) desk.old desk.new }
+    ensures limits { desk.new.limits ≡ desk.old.limits }
+{
+    let mut buf = [0; HEAD_BYTES];
+    match read_ask(alloc, routes, reader, &mut buf) {
+        Ok(ask) => outcome(respond_ask(alloc, desk, ask, out)),
+        Err(AskFault::Memory) => outcome(respond_reply(out, Reply::Memory)),
+        Err(AskFault::Broken) => Err(Broken::Read),
+    }
+}
+
+/// Answers a list of requests in turn, each from its own bytes and on the desk that the one before left, and stops at the first
+/// that has no whole response.
+///
+/// # Errors
+///
+/// `Write`, where the sink refused a part of a response: it holds the responses before and a part of this one from the front. A
+/// command that was accepted stays accepted. It is never `Read`, since a request in memory is read without a failure.
+pub fn answer_all<S: Alter, W: Sink>(
+    alloc: Global,
+    routes: &Routes,
+    desk: &mut Desk<S>,
+    requests: &[Vec<u8>],
+    out: &mut W,
+) -> Result<(), Broken>
+    ensures answered { AreServed W.held W.IsRefusal S.Store
+        (map vec_items requests.now) desk.old desk.new out.old out.new result }
+    ensures write { IfErr result (λ e. e ≡ Broken.Write) }
+    ensures limits { desk.new.limits ≡ desk.old.limits }
+{
+    for request in requests {
+        let mut reader = SliceSource {
+            bytes: request.as_slice(),
+        };
+        answer(alloc, routes, desk, &mut reader, out)?;
+    }
+    Ok(())
+}

@@ -1,0 +1,126 @@
+//! Counts of what is found in released text, as CSV.
+
+ghost use Rattle.std.specs.Prelude.{◌≡◌, ℕ, List, IfOk, IfErr};
+ghost use Rattle.tb_report.specs.Csv.{freq_csv};
+ghost use Rattle.tb_report.specs.Tables.{Row, IsTableOf, IsRankingOf};
+ghost use Rattle.tb_search.specs.Searched.{Occurrence, keys};
+ghost use Rattle.tb_http.specs.declared.status.Status.{Status as AnyStatus};
+ghost use Rattle.tb_store.specs.Found.{AreReleasedHits};
+ghost use Rattle.tb_answer.specs.Commanded.{IsFailure};
+ghost use Rattle.tb_answer.specs.Output.{IsWritten};
+ghost use Rattle.tb_answer.specs.Responses.{IsSent};
+ghost use Rattle.tb_answer.specs.Found.{count_by, IsCounted, IsCountOutput, IsCountResponse, IsReportedOfQuery};
+ghost use Rattle.tb_answer.specs.Calls.{ReadsOnly};
+ghost use Rattle.tb_store.specs.Calls.{Gives, GivesOnErr, InState, KeepsState};
+ghost use Rattle.tb_tables.specs.Leaving.{CommitsNothing};
+
+use crate::commands::reply_for_fault;
+use crate::finding::{Count, accepted};
+use crate::output::{put_body, put_reply};
+use crate::questions::Body;
+use crate::responses::{respond_body, respond_reply};
+use sqlite::Alter;
+use std::alloc::Global;
+use tb_conllu::Sink;
+use tb_http::{Reply, Status};
+use tb_query::Query;
+use tb_report::{Freq, csv_freq};
+use tb_store::Desk;
+
+/// A table as CSV. A text in memory lacks nothing but memory.
+fn table_text(alloc: Global, table: &Freq) -> Result<Vec<u8>, Reply>
+    ensures text { IfOk result (λ v. (rows : List Row) × IsRankingOf table.now rows × (v.items ≡ freq_csv rows)) }
+    ensures failed { IfErr result IsFailure }
+{
+    let mut text = Vec::new(alloc);
+    match csv_freq(table, &mut text) {
+        Ok(()) => Ok(text),
+        Err(_) => Err(Reply::Memory),
+    }
+}
+
+/// The table of the hits of a query, as CSV.
+fn counted<S: Alter>(
+    alloc: Global,
+    desk: &mut Desk<S>,
+    query: &Query,
+    count: Count<'_>,
+) -> Result<Vec<u8>, Reply>
+    ensures counted { Gives S.Store desk.old desk.new result (λ s v. (found : List Occurrence)
+        × AreReleasedHits s query.now count.entry.strategy found × (table : List Row) × (rows : List Row)
+        × IsTableOf (keys count.entry.column found) table × IsRankingOf table rows × (v.items ≡ freq_csv rows)) }
+    ensures failed { GivesOnErr S.Store desk.old desk.new result (λ s r. IsFailure r) }
+    ensures keeps_state { KeepsState S.Store desk.old desk.new }
+    ensures commits_nothing { CommitsNothing S.Store desk.old.conn desk.new.conn }
+    ensures limits { desk.new.limits ≡ desk.old.limits }
+{
+    match desk.count(query, count.strategy, count.column) {
+        Ok(table) => table_text(alloc, &table),
+        Err(fault) => Err(reply_for_fault(fault)),
+    }
+}
+
+/// The text of a count.
+///
+/// # Errors
+///
+/// The refusals of its query, or a failure.
+fn count_text<S: Alter>(
+    alloc: Global,
+    desk: &mut Desk<S>,
+    count: Count<'_>,
+) -> Result<Vec<u8>, Reply>
+    ensures counted { Gives S.Store desk.old desk.new result (λ s v.
+        IsCounted desk.old.limits s (count_by count.entry) v.items) }
+    ensures reported { GivesOnErr S.Store desk.old desk.new result (λ s r.
+        IsReportedOfQuery desk.old.limits s count.entry.query.now count.entry.strategy r) }
+    ensures keeps_state { KeepsState S.Store desk.old desk.new }
+    ensures crash { ReadsOnly S.Store desk.old desk.new }
+    ensures limits { desk.new.limits ≡ desk.old.limits }
+{
+    match accepted(alloc, desk, count.query, count.strategy) {
+        Ok(query) => counted(alloc, desk, &query, count),
+        Err(reply) => Err(reply),
+    }
+}
+
+/// Counts what is found in released text, puts the table, and gives the exit status; or puts the line of a reply.
+pub fn run_count<S: Alter, W: Sink>(
+    alloc: Global,
+    desk: &mut Desk<S>,
+    count: Count<'_>,
+    out: &mut W,
+) -> u8
+    ensures written { InState S.Store desk.old desk.new (λ s. (text : List ℕ) × (own : ℕ)
+        × IsCountOutput desk.old.limits s (count_by count.entry) text own
+        × IsWritten (W.held out.old) (W.held out.new) text own (W.IsRefusal out.new) result) }
+    ensures keeps_state { KeepsState S.Store desk.old desk.new }
+    ensures crash { ReadsOnly S.Store desk.old desk.new }
+    ensures limits { desk.new.limits ≡ desk.old.limits }
+{
+    match count_text(alloc, desk, count) {
+        Ok(text) => put_body(out, text.as_slice()),
+        Err(reply) => put_reply(out, reply),
+    }
+}
+
+/// Counts what is found in released text, and puts the response that has the table, made whole before; or that of a reply.
+/// Gives the status of a response that was written whole.
+pub fn respond_count<S: Alter, W: Sink>(
+    alloc: Global,
+    desk: &mut Desk<S>,
+    count: Count<'_>,
+    out: &mut W,
+) -> Option<Status>
+    ensures written { InState S.Store desk.old desk.new (λ s. (text : List ℕ) × (status : AnyStatus)
+        × IsCountResponse desk.old.limits s (count_by count.entry) text status
+        × IsSent (W.held out.old) (W.held out.new) text status (W.IsRefusal out.new) result) }
+    ensures keeps_state { KeepsState S.Store desk.old desk.new }
+    ensures crash { ReadsOnly S.Store desk.old desk.new }
+    ensures limits { desk.new.limits ≡ desk.old.limits }
+{
+    match count_text(alloc, desk, count) {
+        Ok(text) => respond_body(out, &Body { text, rev: None }),
+        Err(reply) => respond_reply(out, reply),
+    }
+}

@@ -1,0 +1,56 @@
+//! How a search ends.
+
+ghost use Rattle.std.specs.Prelude.{◌≡◌, ℕ, List, [], Option};
+ghost use Rattle.tb_core.specs.Machine.{Machine};
+ghost use Rattle.tb_match.specs.declared.strategy.Strategy.{Strategy as AnyStrategy};
+ghost use Rattle.tb_query.specs.Search.{Asked};
+ghost use Rattle.tb_search.specs.Searched.{Occurrence};
+ghost use Rattle.tb_store.specs.Found.{AreReleasedHits, IsPartFound};
+ghost use Rattle.tb_answer.specs.Found.{IsStreamed, exit_of_ending, reported_of_ending};
+
+use tb_core::Fault;
+use tb_http::Status;
+
+/// How a search ends whose lines are put as they are found.
+#[derive(Clone, Copy, Debug, PartialEq, Eq)]
+pub(crate) enum Ending {
+    /// With its last line.
+    Whole,
+    /// Before its last line, by a fault of the store or of memory.
+    BrokenOff,
+    /// By the sink, which refused a piece.
+    Refused,
+}
+
+/// How a search ends that has this fault.
+pub(crate) fn ending_of(fault: Fault) -> Ending
+    ensures streamed { (s : Machine) (q : Asked) (strategy : AnyStrategy) (n : ℕ) (old new : Option (List ℕ))
+        → ((found : List Occurrence) → AreReleasedHits s q strategy found → IsPartFound fault old new n found)
+        → IsStreamed s q strategy n [] old new result }
+    ensures refused { result ≡ Ending.Refused → fault ≡ Fault.Output }
+{
+    match fault {
+        Fault::Output => Ending::Refused,
+        Fault::Refused(_) | Fault::Memory | Fault::Device | Fault::NotADesk => Ending::BrokenOff,
+    }
+}
+
+/// The exit status of a search.
+pub(crate) fn exit_of(ending: Ending) -> u8
+    ensures { result ≡ exit_of_ending ending }
+{
+    match ending {
+        Ending::Whole => 0,
+        Ending::BrokenOff | Ending::Refused => 3,
+    }
+}
+
+/// The status of a search over HTTP, nothing where the sink refused a piece.
+pub(crate) fn reported_of(ending: Ending) -> Option<Status>
+    ensures { result ≡ reported_of_ending ending }
+{
+    match ending {
+        Ending::Whole | Ending::BrokenOff => Some(Status::Ok),
+        Ending::Refused => None,
+    }
+}

@@ -1,0 +1,127 @@
+//! Exports, whole before their first byte: with an exit status, or as responses over HTTP.
+
+ghost use Rattle.std.specs.Prelude.{◌≡◌, ◌≢◌, ℕ, List, None, Ok as OkOf, Err as ErrOf, IfOk, option_map};
+ghost use Rattle.std.specs.Io.KnownBytes.{Appends};
+ghost use Rattle.sqlite.specs.State.{HasCleanDisk};
+ghost use Rattle.sqlite.specs.Held.{state};
+ghost use Rattle.tb_core.specs.declared.refusals.Refusal.{Refusal as AnyRefusal};
+ghost use Rattle.tb_core.specs.Machine.{Machine};
+ghost use Rattle.tb_http.specs.declared.status.Status.{Status as AnyStatus};
+ghost use Rattle.tb_store.specs.Represents.{Represents};
+ghost use Rattle.tb_answer.specs.Commanded.{IsFailure, IsNoRefusal};
+ghost use Rattle.tb_answer.specs.Output.{IsWritten};
+ghost use Rattle.tb_answer.specs.Responses.{IsSent};
+ghost use Rattle.tb_answer.specs.Exported.{HasExport, RefusesExport, IsExportOutput, IsReportedOfExport};
+ghost use Rattle.tb_answer.specs.Exported.{IsExportResponse};
+ghost use Rattle.tb_answer.specs.Calls.{ReadsOnly};
+ghost use Rattle.tb_store.specs.Calls.{Does, Gives, GivesOnErr, InState, KnowsItself, KeepsState};
+
+use crate::bodies::body_of;
+use crate::commands::reply_for_fault;
+use crate::output::{put_body, put_reply};
+use crate::questions::Body;
+use crate::responses::{respond_body, respond_reply};
+use sqlite::Alter;
+use std::alloc::Global;
+use tb_conllu::Sink;
+use tb_core::Fault;
+use tb_http::{Reply, Status};
+use tb_store::Desk;
+
+/// Puts the text of an export: of the batch with this name, or of all released sentences.
+fn export<S: Alter, W: Sink>(
+    desk: &mut Desk<S>,
+    name: Option<&str>,
+    out: &mut W,
+) -> Result<(), Fault>
+    ensures put { Does S.Store desk.old desk.new result (λ s. (text : List ℕ)
+        × HasExport s (option_map (λ n. n.now) name.entry) (OkOf text)
+        × Appends (W.held out.old) (W.held out.new) text) }
+    ensures refused { HasCleanDisk (state S.Store desk.new.conn) → (r : AnyRefusal)
+        → result ≡ ErrOf (Fault.Refused r) → (s : Machine) → Represents S.Store desk.old s
+        → RefusesExport s (option_map (λ n. n.now) name.entry) r }
+    ensures fails { KnowsItself S.Store desk.old desk.new result }
+    ensures keeps_state { KeepsState S.Store desk.old desk.new }
+    ensures crash { ReadsOnly S.Store desk.old desk.new }
+    ensures limits { desk.new.limits ≡ desk.old.limits }
+{
+    match name {
+        Some(name) => desk.export_batch(name, out),
+        None => desk.export_released(out),
+    }
+}
+
+/// The reply for a fault of an export into memory, whose sink lacks nothing but memory.
+fn reply_for_export(fault: Fault) -> Reply
+    ensures refused { (r : AnyRefusal) → fault ≡ Fault.Refused r → result ≡ Reply.Refused r }
+    ensures failed { IsNoRefusal fault → fault ≢ Fault.NotADesk → IsFailure result }
+{
+    match fault {
+        Fault::Output => Reply::Memory,
+        fault => reply_for_fault(fault),
+    }
+}
+
+/// The text of an export, whole in memory.
+fn export_body<S: Alter>(
+    alloc: Global,
+    desk: &mut Desk<S>,
+    name: Option<&str>,
+) -> Result<Body, Reply>
+    ensures answered { Gives S.Store desk.old desk.new result (λ s b. HasExport s (option_map (λ n. n.now) name.entry)
+        (OkOf b.text.items)) }
+    ensures plain { IfOk result (λ b. b.rev ≡ None) }
+    ensures reported { GivesOnErr S.Store desk.old desk.new result (λ s r. IsReportedOfExport s (option_map (λ n.
+        n.now) name.entry) r) }
+    ensures keeps_state { KeepsState S.Store desk.old desk.new }
+    ensures crash { ReadsOnly S.Store desk.old desk.new }
+    ensures limits { desk.new.limits ≡ desk.old.limits }
+{
+    let mut text = Vec::new(alloc);
+    match export(desk, name, &mut text) {
+        Ok(()) => Ok(body_of(text)),
+        Err(fault) => Err(reply_for_export(fault)),
+    }
+}
+
+/// Puts the text of an export, and gives the exit status; or puts the line of a reply. The text is whole in memory
+/// before its first byte is put, so that a sink has all of it or none.
+pub fn run_export<S: Alter, W: Sink>(
+    alloc: Global,
+    desk: &mut Desk<S>,
+    name: Option<&str>,
+    out: &mut W,
+) -> u8
+    ensures written { InState S.Store desk.old desk.new (λ s. (text : List ℕ) × (own : ℕ)
+        × IsExportOutput s (option_map (λ n. n.now) name.entry) text own
+        × IsWritten (W.held out.old) (W.held out.new) text own (W.IsRefusal out.new) result) }
+    ensures keeps_state { KeepsState S.Store desk.old desk.new }
+    ensures crash { ReadsOnly S.Store desk.old desk.new }
+    ensures limits { desk.new.limits ≡ desk.old.limits }
+{
+    match export_body(alloc, desk, name) {
+        Ok(body) => put_body(out, body.text.as_slice()),
+        Err(reply) => put_reply(out, reply),
+    }
+}
+
+/// Puts the response of an export to the sink, and gives the status of a response that was written whole. The text is made
+/// whole in memory before, so that its head tells its length.
+pub fn respond_export<S: Alter, W: Sink>(
+    alloc: Global,
+    desk: &mut Desk<S>,
+    name: Option<&str>,
+    out: &mut W,
+) -> Option<Status>
+    ensures written { InState S.Store desk.old desk.new (λ s. (text : List ℕ) × (status : AnyStatus)
+        × IsExportResponse s (option_map (λ n. n.now) name.entry) text status
+        × IsSent (W.held out.old) (W.held out.new) text status (W.IsRefusal out.new) result) }
+    ensures keeps_state { KeepsState S.Store desk.old desk.new }
+    ensures crash { ReadsOnly S.Store desk.old desk.new }
+    ensures limits { desk.new.limits ≡ desk.old.limits }
+{
+    match export_body(alloc, desk, name) {
+        Ok(body) => respond_body(out, &body),
+        Err(reply) => respond_reply(out, reply),
+    }
+}

@@ -1,0 +1,136 @@
+//! What is asked of released text: searches and counts, and whether their queries are accepted.
+
+ghost use Rattle.std.specs.Prelude.{◌≡◌, IfOk, IfErr};
+ghost use Rattle.sqlite.specs.State.{HasCleanDisk};
+ghost use Rattle.sqlite.specs.Held.{state};
+ghost use Rattle.tb_core.specs.Machine.{Machine};
+ghost use Rattle.tb_query.specs.Reading.{IsQuery};
+ghost use Rattle.tb_store.specs.Represents.{Represents};
+ghost use Rattle.tb_answer.specs.Found.{query_reply, IsAskedQuery, IsAllowed, IsLimitReply, IsQueryReply};
+ghost use Rattle.tb_answer.specs.Found.{IsReportedOfQuery};
+ghost use Rattle.tb_store.specs.Calls.{Does, Gives, GivesOnErr, KeepsState};
+ghost use Rattle.tb_tables.specs.Leaving.{CommitsNothing};
+
+use crate::commands::reply_for_fault;
+use sqlite::Alter;
+use std::alloc::Global;
+use tb_core::Refusal;
+use tb_http::Reply;
+use tb_match::Strategy;
+use tb_query::{Attr, Query, QueryFault, parse};
+use tb_search::one_list_is_found;
+use tb_store::Desk;
+
+/// A search of released text.
+#[derive(Clone, Copy, Debug)]
+pub struct Search<'a> {
+    /// The text of the query.
+    pub query: &'a str,
+    pub strategy: Strategy,
+    /// How many words of context are told on each side of a hit.
+    pub context: u8,
+}
+
+/// A count of what is found in released text, by the values of a column.
+#[derive(Clone, Copy, Debug)]
+pub struct Count<'a> {
+    /// The text of the query.
+    pub query: &'a str,
+    pub strategy: Strategy,
+    pub column: Attr,
+}
+
+/// The line of a fault of a query.
+fn reply_for_query(fault: QueryFault) -> Reply
+    ensures { result ≡ query_reply fault }
+{
+    match fault {
+        QueryFault::TooLong => Reply::Refused(Refusal::Query(1, 0)),
+        QueryFault::Syntax(byte) => Reply::Refused(Refusal::Query(2, byte)),
+        QueryFault::TooMany => Reply::Refused(Refusal::Query(3, 0)),
+        QueryFault::TooDeep => Reply::Refused(Refusal::Query(4, 0)),
+        QueryFault::Repeat => Reply::Refused(Refusal::Query(5, 0)),
+        QueryFault::Pattern(literal) => Reply::Refused(Refusal::Query(6, literal)),
+        QueryFault::Memory => Reply::Memory,
+    }
+}
+
+/// The query that a text asks.
+fn read_query(alloc: Global, text: &str) -> Result<Query, Reply>
+    ensures query { IfOk result (λ q. IsQuery text.now q) }
+    ensures reported { IfErr result (λ r. IsQueryReply text.now r) }
+{
+    match parse(alloc, text) {
+        Ok(query) => Ok(query),
+        Err(fault) => Err(reply_for_query(fault)),
+    }
+}
+
+/// Hands a query on whose hits are counted, and within the limit of the desk.
+fn counted_within<S: Alter>(
+    desk: &mut Desk<S>,
+    query: Query,
+    strategy: Strategy,
+) -> Result<Query, Reply>
+    ensures allowed { HasCleanDisk (state S.Store desk.new.conn) → IfOk result (λ q. (q ≡ query)
+        × ((s : Machine) → Represents S.Store desk.old s → IsAllowed desk.old.limits s query strategy)) }
+    ensures reported { GivesOnErr S.Store desk.old desk.new result (λ s r.
+        IsLimitReply desk.old.limits s query strategy r) }
+    ensures stays { Does S.Store desk.old desk.new result (λ s. Represents S.Store desk.new s) }
+    ensures keeps_state { KeepsState S.Store desk.old desk.new }
+    ensures commits_nothing { CommitsNothing S.Store desk.old.conn desk.new.conn }
+    ensures limits { desk.new.limits ≡ desk.old.limits }
+{
+    one_list_is_found();
+    match desk.number(&query, strategy) {
+        Ok(_) => Ok(query),
+        Err(fault) => Err(reply_for_fault(fault)),
+    }
+}
+
+/// Hands a query on whose hits are within the limit of the desk. Only where all matches are hits does it count them.
+fn within_limit<S: Alter>(
+    desk: &mut Desk<S>,
+    query: Query,
+    strategy: Strategy,
+) -> Result<Query, Reply>
+    ensures allowed { HasCleanDisk (state S.Store desk.new.conn) → IfOk result (λ q. (q ≡ query)
+        × ((s : Machine) → Represents S.Store desk.old s → IsAllowed desk.old.limits s query strategy)) }
+    ensures reported { GivesOnErr S.Store desk.old desk.new result (λ s r.
+        IsLimitReply desk.old.limits s query strategy r) }
+    ensures stays { Does S.Store desk.old desk.new result (λ s. Represents S.Store desk.new s) }
+    ensures keeps_state { KeepsState S.Store desk.old desk.new }
+    ensures commits_nothing { CommitsNothing S.Store desk.old.conn desk.new.conn }
+    ensures limits { desk.new.limits ≡ desk.old.limits }
+{
+    match strategy {
+        Strategy::Every => counted_within(desk, query, strategy),
+        Strategy::Shortest | Strategy::Longest => Ok(query),
+    }
+}
+
+/// The query that a text asks, whose hits are within the limit of the desk.
+///
+/// # Errors
+///
+/// `Query`, where the text is none; `TooManyHits`; or a failure. The first that holds.
+pub(crate) fn accepted<S: Alter>(
+    alloc: Global,
+    desk: &mut Desk<S>,
+    text: &str,
+    strategy: Strategy,
+) -> Result<Query, Reply>
+    ensures accepted { Gives S.Store desk.old desk.new result (λ s q.
+        IsAskedQuery desk.old.limits s text.now strategy q) }
+    ensures reported { GivesOnErr S.Store desk.old desk.new result (λ s r.
+        IsReportedOfQuery desk.old.limits s text.now strategy r) }
+    ensures stays { Does S.Store desk.old desk.new result (λ s. Represents S.Store desk.new s) }
+    ensures keeps_state { KeepsState S.Store desk.old desk.new }
+    ensures commits_nothing { CommitsNothing S.Store desk.old.conn desk.new.conn }
+    ensures limits { desk.new.limits ≡ desk.old.limits }
+{
+    match read_query(alloc, text) {
+        Ok(query) => within_limit(desk, query, strategy),
+        Err(reply) => Err(reply),
+    }
+}

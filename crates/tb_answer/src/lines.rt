@@ -1,0 +1,202 @@
+//! A line of words, done on a desk.
+
+ghost use Rattle.std.specs.Prelude.{◌≡◌, MatchResult, Ok as Taken, Err as Untaken, option_map, string_bytes};
+ghost use Rattle.tb_check.specs.Check.{file_limit};
+ghost use Rattle.tb_cli.specs.Lines.{said_by};
+ghost use Rattle.tb_answer.specs.Taken.{IsTaken, WithTaken, has_body};
+ghost use Rattle.tb_answer.specs.Calls.{call_by, call_in, ReadsOnly};
+ghost use Rattle.tb_answer.specs.Ran.{reading_by, reading_in, IsReadingRun, IsCalled, IsDone, IsRan, IsCallSafe};
+ghost use Rattle.tb_answer.specs.Ran.{IsDoneSafe, IsLineSafe};
+ghost use Rattle.tb_store.specs.Calls.{InState, KeepsState};
+
+use crate::calls::DeskCall;
+use crate::counts::run_count;
+use crate::exports::run_export;
+use crate::finding::{Count, Search};
+use crate::output::put_reply;
+use crate::running::run_call;
+use crate::searches::run_search;
+use sqlite::Alter;
+use std::alloc::Global;
+use tb_check::{FILE_LIMIT, Input, read_all};
+use tb_cli::Line;
+use tb_conllu::{Sink, Source};
+use tb_http::{Reply, RequestFault};
+use tb_store::Desk;
+
+/// Whether a line has a body on its input.
+fn has_body(line: &Line) -> bool
+    ensures { result ≡ has_body (said_by line.now) }
+{
+    matches!(line, Line::Import { .. } | Line::Correct { .. })
+}
+
+/// The body of a line: all that the reader gives, up to 4,194,304 bytes, where the line is an import or a correction,
+/// and nothing for other lines, which leave the reader as it was. In its place comes the reply that says why it did
+/// not come: a failed device only where the reader failed.
+pub fn read_body<R: Source>(alloc: Global, line: &Line, reader: &mut R) -> Result<Vec<u8>, Reply>
+    ensures { MatchResult result
+        (λ v. IsTaken R.IsFailure R.left file_limit (said_by line.now) reader.old reader.new (Taken v.items))
+        (λ r. IsTaken R.IsFailure R.left file_limit (said_by line.now) reader.old reader.new (Untaken r)) }
+{
+    if !has_body(line) {
+        return Ok(Vec::new(alloc));
+    }
+    match read_all(alloc, reader, FILE_LIMIT) {
+        Input::Whole(body) => Ok(body),
+        Input::TooLong => Err(Reply::Faulty(RequestFault::Long)),
+        Input::Memory => Err(Reply::Memory),
+        Input::Broken => Err(Reply::Device),
+    }
+}
+
+/// What a line asks to be read off a desk.
+#[derive(Clone, Copy, Debug)]
+enum Reading<'a> {
+    /// A batch, or all released text.
+    Export(Option<&'a str>),
+    Search(Search<'a>),
+    Count(Count<'a>),
+}
+
+/// The name that is given, if one is.
+fn given(name: &Option<String>) -> Option<&str>
+    ensures { option_map (λ n. n.now) result ≡ option_map string_bytes name.now }
+{
+    match name {
+        Some(name) => Some(name.as_str()),
+        None => None,
+    }
+}
+
+/// The reading that a line asks for, if it asks for one.
+fn reading_of(line: &Line) -> Option<Reading<'_>>
+    ensures { option_map reading_by result ≡ reading_in (said_by line.now) }
+{
+    match line {
+        Line::Export { db: _, name } => Some(Reading::Export(given(name))),
+        Line::Search {
+            db: _,
+            strategy,
+            context,
+            query,
+        } => Some(Reading::Search(Search {
+            query: query.as_str(),
+            strategy: *strategy,
+            context: *context,
+        })),
+        Line::Count {
+            db: _,
+            strategy,
+            attribute,
+            query,
+        } => Some(Reading::Count(Count {
+            query: query.as_str(),
+            strategy: *strategy,
+            column: *attribute,
+        })),
+        _ => None,
+    }
+}
+
+/// Puts what is read off a desk, and gives the exit status.
+fn run_reading<S: Alter, W: Sink>(
+    alloc: Global,
+    reading: Reading<'_>,
+    desk: &mut Desk<S>,
+    out: &mut W,
+) -> u8
+    ensures read { InState S.Store desk.old desk.new (λ s. IsReadingRun desk.old.limits s (reading_by reading.entry)
+        (W.held out.old) (W.held out.new) (W.IsRefusal out.new) result) }
+    ensures keeps_state { KeepsState S.Store desk.old desk.new }
+    ensures crash { ReadsOnly S.Store desk.old desk.new }
+    ensures limits { desk.new.limits ≡ desk.old.limits }
+{
+    match reading {
+        Reading::Export(name) => run_export(alloc, desk, name, out),
+        Reading::Search(search) => run_search(alloc, desk, search, out),
+        Reading::Count(count) => run_count(alloc, desk, count, out),
+    }
+}
+
+/// Makes the call of a line, if it makes one, and gives the exit status.
+fn run_called<S: Alter, W: Sink>(
+    alloc: Global,
+    call: Option<DeskCall<'_>>,
+    desk: &mut Desk<S>,
+    out: &mut W,
+) -> u8
+    ensures called { InState S.Store desk.old desk.new (λ s. IsCalled S.Store desk.old.limits s
+        (option_map call_by call.entry) desk.new (W.held out.old) (W.held out.new) (W.IsRefusal out.new) result) }
+    ensures crash { IsCallSafe S.Store (option_map call_by call.entry) desk.old desk.new }
+    ensures limits { desk.new.limits ≡ desk.old.limits }
+{
+    match call {
+        Some(call) => run_call(alloc, call, desk, out),
+        None => tb_check::put_reply(out, "refused usage\n", 2),
+    }
+}
+
+/// Does a line with its body on a desk, puts its answer, and gives the exit status.
+fn do_line<S: Alter, W: Sink>(
+    alloc: Global,
+    line: &Line,
+    body: &[u8],
+    desk: &mut Desk<S>,
+    out: &mut W,
+) -> u8
+    ensures done { InState S.Store desk.old desk.new (λ s.
+        IsDone S.Store desk.old.limits s (reading_in (said_by line.now)) (call_in
+        (said_by line.now) body.now) desk.new (W.held out.old) (W.held out.new) (W.IsRefusal out.new) result) }
+    ensures crash { IsDoneSafe S.Store (reading_in (said_by line.now))
+        (call_in (said_by line.now) body.now) desk.old desk.new }
+    ensures limits { desk.new.limits ≡ desk.old.limits }
+{
+    match reading_of(line) {
+        Some(reading) => run_reading(alloc, reading, desk, out),
+        None => run_called(alloc, DeskCall::of_line(line, body), desk, out),
+    }
+}
+
+/// Does a line on a desk where its body came, else tells why it did not. Puts the answer, and gives the exit status: 0 done,
+/// 1 refused, 2 where the line is one that is not for a desk (`check`, `new`, `migrate`, `serve`), 3 where memory, the device
+/// or the sink failed.
+pub fn run_line<S: Alter, W: Sink>(
+    alloc: Global,
+    line: &Line,
+    body: Result<Vec<u8>, Reply>,
+    desk: &mut Desk<S>,
+    out: &mut W,
+) -> u8
+    ensures ran { InState S.Store desk.old desk.new (λ s. MatchResult body (λ v.
+        IsRan S.Store desk.old.limits s (said_by line.now) (Taken v.items) desk.new (W.held out.old) (W.held out.new) (W.IsRefusal out.new) result) (λ r. IsRan S.Store desk.old.limits s (said_by line.now) (Untaken r) desk.new (W.held out.old) (W.held out.new) (W.IsRefusal out.new) result)) }
+    ensures crash { MatchResult body (λ v. IsLineSafe S.Store (said_by line.now) (Taken v.items) desk.old desk.new)
+        (λ r. IsLineSafe S.Store (said_by line.now) (Untaken r) desk.old desk.new) }
+    ensures limits { desk.new.limits ≡ desk.old.limits }
+{
+    match body {
+        Ok(body) => do_line(alloc, line, body.as_slice(), desk, out),
+        Err(reply) => put_reply(out, reply),
+    }
+}
+
+/// Takes the body of a line from a reader, and does the line with it on a desk: [`read_body`], and then [`run_line`]. Gives the
+/// exit status.
+pub fn run_line_from<S: Alter, R: Source, W: Sink>(
+    alloc: Global,
+    line: &Line,
+    reader: &mut R,
+    desk: &mut Desk<S>,
+    out: &mut W,
+) -> u8
+    ensures ran { InState S.Store desk.old desk.new (λ s.
+        WithTaken R.IsFailure R.left file_limit (said_by line.now) reader.old reader.new (λ taken.
+        IsRan S.Store desk.old.limits s (said_by line.now) taken desk.new
+        (W.held out.old) (W.held out.new) (W.IsRefusal out.new) result)) }
+    ensures crash { WithTaken R.IsFailure R.left file_limit (said_by line.now) reader.old reader.new (λ taken.
+        IsLineSafe S.Store (said_by line.now) taken desk.old desk.new) }
+    ensures limits { desk.new.limits ≡ desk.old.limits }
+{
+    let body = read_body(alloc, line, reader);
+    run_line(alloc, line, body, desk, out)
+}

@@ -1,0 +1,88 @@
+//! Responses over HTTP, put to any sink.
+
+ghost use Rattle.std.specs.Prelude.{◌≡◌, ◌++◌, true, false};
+ghost use Rattle.std.specs.Io.KnownBytes.{Appends};
+ghost use Rattle.tb_conllu.specs.Sunk.{AppendsPart};
+ghost use Rattle.tb_http.specs.Replies.{status_of};
+ghost use Rattle.tb_search.specs.Visited.{HasReason};
+ghost use Rattle.tb_answer.specs.Responses.{reply_response, extra_of_revision, body_head, body_response, IsSent};
+
+use crate::questions::Body;
+use arrayvec::ArrayString;
+use tb_conllu::Sink;
+use tb_http::{Extra, Reply, Status, head_of_reply, response_head};
+
+/// Puts one piece, and tells whether the sink took it.
+pub(crate) fn put_piece<W: Sink>(out: &mut W, bytes: &[u8]) -> bool
+    ensures taken { result ≡ true → Appends (W.held out.old) (W.held out.new) bytes.now }
+    ensures refused { result ≡ false → AppendsPart (W.held out.old) (W.held out.new) bytes.now
+        × HasReason (W.IsRefusal out.new) }
+{
+    match out.put(bytes) {
+        Ok(()) => true,
+        Err(_) => false,
+    }
+}
+
+/// Puts a head and a body, and gives the status, or nothing where the sink refused a part of them.
+fn put_response<W: Sink>(out: &mut W, head: &[u8], body: &[u8], status: Status) -> Option<Status>
+    ensures { IsSent (W.held out.old) (W.held out.new) (head.now ++ body.now) status (W.IsRefusal out.new) result }
+{
+    if !put_piece(out, head) {
+        return None;
+    }
+    if !put_piece(out, body) {
+        return None;
+    }
+    Some(status)
+}
+
+/// Puts the response whose body is the line of a reply, and gives its status.
+pub fn respond_reply<W: Sink>(out: &mut W, reply: Reply) -> Option<Status>
+    ensures { IsSent (W.held out.old) (W.held out.new) (reply_response reply) (status_of reply)
+        (W.IsRefusal out.new) result }
+{
+    let head = head_of_reply(reply);
+    let line = reply.line();
+    put_response(
+        out,
+        head.as_str().as_bytes(),
+        line.as_str().as_bytes(),
+        reply.status(),
+    )
+}
+
+/// The header that tells the number of a current revision.
+fn extra_of_revision(rev: Option<u64>) -> Extra
+    ensures { result ≡ extra_of_revision rev }
+{
+    match rev {
+        None => Extra::Nothing,
+        Some(rev) => Extra::Revision(rev),
+    }
+}
+
+/// The head of a response that has a text.
+fn body_head(body: &Body) -> ArrayString<256>
+    ensures { result.bytes ≡ body_head body.now.rev body.now.text.items }
+{
+    response_head(
+        Status::Ok,
+        Some(body.text.len() as u64),
+        extra_of_revision(body.rev),
+    )
+}
+
+/// Puts the response that has a text, and gives its status, 200.
+pub fn respond_body<W: Sink>(out: &mut W, body: &Body) -> Option<Status>
+    ensures { IsSent (W.held out.old) (W.held out.new) (body_response body.now.rev body.now.text.items) Status.Ok
+        (W.IsRefusal out.new) result }
+{
+    let head = body_head(body);
+    put_response(
+        out,
+        head.as_str().as_bytes(),
+        body.text.as_slice(),
+        Status::Ok,
+    )
+}

@@ -1,0 +1,59 @@
+//! Calls of a desk, done, answered and put to a sink.
+
+ghost use Rattle.std.specs.Prelude.{◌≡◌, ℕ, List};
+ghost use Rattle.tb_answer.specs.Commanded.{IsAnswered};
+ghost use Rattle.tb_answer.specs.Output.{IsWritten};
+ghost use Rattle.tb_answer.specs.Calls.{command_by, call_by, IsOutput, IsSafe};
+ghost use Rattle.tb_store.specs.Calls.{CrashesWhole, InState};
+
+use crate::calls::{DeskCall, DeskCommand};
+use crate::output::{put_body, put_reply};
+use crate::{bodies, commands};
+use sqlite::Alter;
+use std::alloc::Global;
+use tb_conllu::Sink;
+use tb_http::Reply;
+use tb_store::Desk;
+
+/// Does a command, and gives its reply.
+pub fn obey<S: Alter>(desk: &mut Desk<S>, command: DeskCommand<'_>) -> Reply
+    ensures answered { InState S.Store desk.old desk.new (λ s. IsAnswered S.Store desk.old.limits s
+        (command_by command.entry) desk.new result) }
+    ensures crash { CrashesWhole S.Store desk.old desk.new (command_by command.entry) }
+    ensures limits { desk.new.limits ≡ desk.old.limits }
+{
+    match command {
+        DeskCommand::Import { name, user, body } => commands::import(desk, name, user, body),
+        DeskCommand::Event { name, event, user } => commands::event(desk, name, event, user),
+        DeskCommand::Correct {
+            number,
+            base,
+            user,
+            body,
+        } => commands::correct(desk, number, base, user, body),
+        DeskCommand::Pull { number, user } => commands::pull(desk, number, user),
+        DeskCommand::Restore { number, user } => commands::restore(desk, number, user),
+    }
+}
+
+/// Does a call, puts what answers it to the sink, and gives the exit status.
+pub fn run_call<S: Alter, W: Sink>(
+    alloc: Global,
+    call: DeskCall<'_>,
+    desk: &mut Desk<S>,
+    out: &mut W,
+) -> u8
+    ensures written { InState S.Store desk.old desk.new (λ s. (text : List ℕ) × (own : ℕ)
+        × IsOutput S.Store desk.old.limits s (call_by call.entry) desk.new text own
+        × IsWritten (W.held out.old) (W.held out.new) text own (W.IsRefusal out.new) result) }
+    ensures crash { IsSafe S.Store (call_by call.entry) desk.old desk.new }
+    ensures limits { desk.new.limits ≡ desk.old.limits }
+{
+    match call {
+        DeskCall::Command(command) => put_reply(out, obey(desk, command)),
+        DeskCall::Question(question) => match bodies::ask(alloc, desk, question) {
+            Ok(body) => put_body(out, body.text.as_slice()),
+            Err(reply) => put_reply(out, reply),
+        },
+    }
+}

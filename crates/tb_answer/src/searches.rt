@@ -1,0 +1,109 @@
+//! Searches of released text, whose keyword lines are put as they are found.
+
+ghost use Rattle.std.specs.Prelude.{◌≡◌, []};
+ghost use Rattle.tb_search.specs.Visited.{HasReason};
+ghost use Rattle.tb_answer.specs.Found.{search_by, search_head, IsSearchResponse, IsSearchRun, IsStreamed};
+ghost use Rattle.tb_answer.specs.Calls.{ReadsOnly};
+ghost use Rattle.tb_store.specs.Calls.{InState, KeepsState};
+ghost use Rattle.tb_tables.specs.Leaving.{CommitsNothing};
+
+use crate::ending::{Ending, ending_of, exit_of, reported_of};
+use crate::finding::{Search, accepted};
+use crate::output::put_reply;
+use crate::responses::{put_piece, respond_reply};
+use arrayvec::ArrayString;
+use sqlite::Alter;
+use std::alloc::Global;
+use tb_conllu::Sink;
+use tb_http::{Extra, Status, response_head};
+use tb_query::Query;
+use tb_store::Desk;
+
+/// Puts what a query finds.
+fn put_found<S: Alter, W: Sink>(
+    desk: &mut Desk<S>,
+    query: &Query,
+    search: Search<'_>,
+    out: &mut W,
+) -> Ending
+    ensures put { InState S.Store desk.old desk.new (λ s.
+        IsStreamed s query.now search.entry.strategy search.entry.context [] (W.held out.old) (W.held out.new) result) }
+    ensures reason { result ≡ Ending.Refused → HasReason (W.IsRefusal out.new) }
+    ensures keeps_state { KeepsState S.Store desk.old desk.new }
+    ensures commits_nothing { CommitsNothing S.Store desk.old.conn desk.new.conn }
+    ensures limits { desk.new.limits ≡ desk.old.limits }
+{
+    match desk.search(query, search.strategy, search.context, out) {
+        Ok(_) => Ending::Whole,
+        Err(fault) => ending_of(fault),
+    }
+}
+
+/// Searches released text, puts the keyword lines, and gives the exit status: 0 with the last line, 3 where the search breaks
+/// off, after which nothing more is put; or that of a reply, whose line is put alone.
+pub fn run_search<S: Alter, W: Sink>(
+    alloc: Global,
+    desk: &mut Desk<S>,
+    search: Search<'_>,
+    out: &mut W,
+) -> u8
+    ensures written { InState S.Store desk.old desk.new (λ s. IsSearchRun desk.old.limits s (search_by search.entry)
+        (W.held out.old) (W.held out.new) (W.IsRefusal out.new) result) }
+    ensures keeps_state { KeepsState S.Store desk.old desk.new }
+    ensures crash { ReadsOnly S.Store desk.old desk.new }
+    ensures limits { desk.new.limits ≡ desk.old.limits }
+{
+    match accepted(alloc, desk, search.query, search.strategy) {
+        Ok(query) => exit_of(put_found(desk, &query, search, out)),
+        Err(reply) => put_reply(out, reply),
+    }
+}
+
+/// The head of a search, whose length is not known.
+fn search_head() -> ArrayString<256>
+    ensures { result.bytes ≡ search_head }
+{
+    response_head(Status::Ok, None, Extra::Nothing)
+}
+
+/// Puts the head of a search, and after it what the query finds.
+fn send_found<S: Alter, W: Sink>(
+    desk: &mut Desk<S>,
+    query: &Query,
+    search: Search<'_>,
+    out: &mut W,
+) -> Ending
+    ensures put { InState S.Store desk.old desk.new (λ s.
+        IsStreamed s query.now search.entry.strategy search.entry.context search_head (W.held out.old) (W.held out.new) result) }
+    ensures reason { result ≡ Ending.Refused → HasReason (W.IsRefusal out.new) }
+    ensures keeps_state { KeepsState S.Store desk.old desk.new }
+    ensures commits_nothing { CommitsNothing S.Store desk.old.conn desk.new.conn }
+    ensures limits { desk.new.limits ≡ desk.old.limits }
+{
+    let head = search_head();
+    if !put_piece(out, head.as_str().as_bytes()) {
+        return Ending::Refused;
+    }
+    put_found(desk, query, search, out)
+}
+
+/// Searches released text, and puts the response: a head without a length, once the query is accepted, and the keyword lines
+/// as they are found; or the response of a reply. Gives the status that was told, or nothing where the sink refused a piece. A
+/// search that breaks off lacks its last line.
+pub fn respond_search<S: Alter, W: Sink>(
+    alloc: Global,
+    desk: &mut Desk<S>,
+    search: Search<'_>,
+    out: &mut W,
+) -> Option<Status>
+    ensures written { InState S.Store desk.old desk.new (λ s. IsSearchResponse desk.old.limits s
+        (search_by search.entry) (W.held out.old) (W.held out.new) (W.IsRefusal out.new) result) }
+    ensures keeps_state { KeepsState S.Store desk.old desk.new }
+    ensures crash { ReadsOnly S.Store desk.old desk.new }
+    ensures limits { desk.new.limits ≡ desk.old.limits }
+{
+    match accepted(alloc, desk, search.query, search.strategy) {
+        Ok(query) => reported_of(send_found(desk, &query, search, out)),
+        Err(reply) => respond_reply(out, reply),
+    }
+}

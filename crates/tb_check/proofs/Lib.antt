@@ -1,0 +1,4 @@
+pub mod Inputs
+pub mod Counted
+pub mod Asked
+pub mod Replies

@@ -1,0 +1,101 @@
+-- What the check of a file answers: the reply, its line and the exit status.
+use Rattle.std.specs.Prelude.{◌≡◌, ◌≤◌, ◌<◌, ◌⊎◌, ℕ, List, ◌++◌, length, codes, decimal}
+use Rattle.std.specs.Prelude.{Bool, true, false, Option, IfSome, MatchOption}
+use Rattle.std.specs.List.{sum_by}
+use Rattle.std.specs.Io.KnownBytes.{Appends}
+use Rattle.tb_conllu.specs.Sunk.{AppendsPart}
+use Rattle.tb_conllu.specs.Text.{BlockText}
+use Rattle.tb_conllu.specs.Reported.{IsFile, IsReported}
+use Rattle.tb_conllu.specs.Words.{words_of}
+use Rattle.tb_rules.specs.File.{IsValid, IsFaultAt, IsCutShort, HasTaken}
+use Rattle.tb_rules.specs.declared.filefault.FileFault.{FileFault}
+use Rattle.tb_rules.specs.declared.filefault.FileFault.TheVariants.{At}
+use Rattle.tb_rules.specs.declared.filefault.FileFault.TheVariants as rules
+use Rattle.tb_check.specs.Input.{IsBrokenWithin}
+use Rattle.tb_check.specs.declared.check.Survey.{Survey}
+use Rattle.tb_check.specs.declared.reply.CheckReply.{CheckReply}
+use Rattle.tb_check.specs.declared.reply.CheckReply.TheVariants.{Counts, Read, Rule, Long, Memory, Device}
+
+-- the words of all sentences
+abbrev pub words_in : List BlockText → ℕ
+words_in bs = sum_by words_of bs
+
+-- The fault that is told of sentences: the first that breaks a rule; want of memory is told only at a sentence that keeps
+-- rules 1 to 6, after valid ones.
+abbrev pub IsReportedFault : List BlockText → FileFault → Type 0
+IsReportedFault bs (At sentence rule row) = IsFaultAt bs sentence rule row
+IsReportedFault bs rules.Memory = IsCutShort bs
+
+-- How far the rules have been asked of these sentences: all of them are taken, or their fault was told.
+abbrev pub IsAsked : List (List ℕ) → Option FileFault → List BlockText → Type 0
+IsAsked names reported bs = MatchOption reported (HasTaken names bs) (IsReportedFault bs)
+
+-- What a survey of these sentences tells: how many they are, their words, and the fault of the first that breaks a rule.
+abbrev pub IsSurvey : List BlockText → Survey → Type 0
+IsSurvey bs s = (s.sentences ≡ length bs) × (s.words ≡ words_in bs)
+    × MatchOption s.fault (IsValid bs) (IsReportedFault bs)
+
+-- the greatest size of a file, in bytes
+abbrev pub file_limit : ℕ
+file_limit = 4194304
+
+-- The reply that is true of an input of at most `limit` bytes, or of a longer one. Want of memory may come in place
+-- of any other reply, where there is a byte to hold. A failed device is true of no input. A rule is told only of a
+-- file that can be read whole.
+abbrev pub IsReplyTo : ℕ → List ℕ → CheckReply → Type 0
+IsReplyTo limit input (Counts sentences words) = (length input ≤ limit) × ((bs : List BlockText) × IsFile input bs
+    × IsValid bs × (sentences ≡ length bs) × (words ≡ words_in bs))
+IsReplyTo limit input (Read line code) = (length input ≤ limit) × IsReported input line code
+IsReplyTo limit input (Rule sentence rule row) = (length input ≤ limit) × ((bs : List BlockText) × IsFile input bs
+    × IsFaultAt bs sentence rule row)
+IsReplyTo limit input Long = limit < length input
+IsReplyTo limit input Memory = 0 < length input
+IsReplyTo limit input Device = ⊥
+
+-- whether a reply tells of the input; want of memory and a failed device don't
+abbrev pub tells_of_input : CheckReply → Bool
+tells_of_input (Counts sentences words) = true
+tells_of_input (Read line code) = true
+tells_of_input (Rule sentence rule row) = true
+tells_of_input Long = true
+tells_of_input Memory = false
+tells_of_input Device = false
+
+-- a reply's line
+abbrev pub reply_text : CheckReply → List ℕ
+reply_text (Counts sentences words) = codes "sentences " ++ decimal sentences ++ codes " words " ++ decimal words ++ codes "\n"
+reply_text (Read line code) = codes "refused 8 Read " ++ decimal line ++ codes " " ++ decimal code ++ codes "\n"
+reply_text (Rule sentence rule row) = codes "refused 9 Rule " ++ decimal sentence ++ codes " " ++ decimal rule ++ codes " " ++ decimal row ++ codes "\n"
+reply_text Long = codes "refused long\n"
+reply_text Memory = codes "refused memory\n"
+reply_text Device = codes "refused device\n"
+
+-- 0 done, 1 refused, 3 memory or device
+abbrev pub status_of : CheckReply → ℕ
+status_of (Counts sentences words) = 0
+status_of (Read line code) = 1
+status_of (Rule sentence rule row) = 1
+status_of Long = 1
+status_of Memory = 3
+status_of Device = 3
+
+-- The text was written whole and the status is its own; or the sink refused it, for one of its reasons, holds a part
+-- of it from the front, and the status is 3.
+abbrev pub IsWritten : {Reason : Type 0} → Option (List ℕ) → Option (List ℕ) → List ℕ → ℕ
+    → (Reason → Type 0) → ℕ → Type 0
+IsWritten {Reason} old new text own is_refusal status =
+    (Appends old new text × (status ≡ own)) ⊎ (AppendsPart old new text × ((reason : Reason) × is_refusal reason)
+    × (status ≡ 3))
+
+-- What is written and answered, where this is known of the reply.
+abbrev pub Answers : {Reason : Type 0} → (CheckReply → Type 0) → Option (List ℕ) → Option (List ℕ)
+    → (Reason → Type 0) → ℕ → Type 0
+Answers known old new is_refusal status = (reply : CheckReply) × known reply
+    × IsWritten old new (reply_text reply) (status_of reply) is_refusal status
+
+-- The reply is true of the input, where the source says what it will give. The reply is a failed device only where the
+-- source failed.
+abbrev pub IsReplyToRead : {Why : Type 0} → (Why → Type 0) → ℕ → Option (List ℕ) → Option (List ℕ)
+    → CheckReply → Type 0
+IsReplyToRead is_failure limit old new Device = IsBrokenWithin is_failure limit old new
+IsReplyToRead is_failure limit old new reply = IfSome old (λ bytes. IsReplyTo limit bytes reply)

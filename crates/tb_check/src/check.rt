@@ -1,0 +1,167 @@
+//! The check of a file.
+
+ghost use Rattle.std.specs.Prelude.{◌<◌, ◌≤◌, ◌^◌, ℕ, List, [], ◌∷◌, ◌++◌, length, IfOk};
+ghost use Rattle.std.specs.Prelude.{IfErr};
+ghost use Rattle.tb_conllu.specs.Fault.{IsReadFault};
+ghost use Rattle.tb_conllu.specs.Text.{BlockText};
+ghost use Rattle.tb_conllu.specs.Reported.{IsFile};
+ghost use Rattle.tb_check.specs.Check.{Answers, IsAsked, IsReplyTo, IsReplyToRead, IsSurvey, file_limit};
+
+use crate::input::{Input, read_all};
+use crate::output::put_reply;
+use crate::reply::CheckReply;
+use std::alloc::Global;
+use tb_conllu::{
+    BlockOf, ReadFault, Sentences, Sink, SliceSource, Source, Text, fault_after_sentences, words,
+};
+use tb_rules::{Checker, FileFault, a_fault_stays};
+
+/// The greatest size of a file, in bytes.
+pub const FILE_LIMIT: u64 = 4_194_304;
+
+/// What is found in a file of sentences.
+#[derive(Clone, Copy, Debug, PartialEq, Eq)]
+pub struct Survey {
+    pub sentences: u64,
+    pub words: u64,
+    /// The first sentence that breaks a rule, with its least rule and row; or that memory ran out over the rules.
+    pub fault: Option<FileFault>,
+}
+
+impl Survey {
+    ghost use Rattle.std.specs.Prelude.{◌≤◌, ℕ, List, length};
+    ghost use Rattle.tb_conllu.specs.Text.{BlockText};
+    ghost use Rattle.tb_conllu.specs.Reported.{IsFile};
+    ghost use Rattle.tb_check.specs.Check.{IsReplyTo, IsSurvey};
+
+    /// What the check answers of the file.
+    fn reply(self) -> CheckReply
+        ensures reply { (limit : ℕ) (input : List ℕ) (bs : List BlockText) → length input ≤ limit
+            → IsFile input bs → IsSurvey bs self → IsReplyTo limit input result }
+    {
+        match self.fault {
+            None => CheckReply::Counts {
+                sentences: self.sentences,
+                words: self.words,
+            },
+            Some(
+                FileFault::At {
+                    sentence,
+                    rule,
+                    row,
+                },
+            ) => CheckReply::Rule {
+                sentence: sentence as u64,
+                rule,
+                row: row as u64,
+            },
+            Some(FileFault::Memory) => CheckReply::Memory,
+        }
+    }
+}
+
+/// Asks the rules of the next sentence, unless a fault was told before.
+fn ask<T: Text>(
+    checker: &mut Checker,
+    block: &BlockOf<T>,
+    reported: Option<FileFault>,
+) -> Option<FileFault>
+    ensures { (before : List BlockText) → IsAsked checker.old reported before
+        → IsAsked checker.new result (before ++ block.now ∷ []) }
+{
+    // The law by which a fault of the first sentences is the file's.
+    a_fault_stays();
+    if reported.is_some() {
+        return reported;
+    }
+    checker.take(block).err()
+}
+
+/// Surveys a file, of which one sentence at a time is kept, and the names of all. It is read to its end, also where a
+/// sentence breaks a rule.
+///
+/// # Errors
+///
+/// Where the bytes are no file, the line that nothing can mend, with its least code, whatever rules the sentences before
+/// it break; or want of memory.
+pub fn survey_file(alloc: Global, file: &[u8]) -> Result<Survey, ReadFault>
+    ensures found { IfOk result (λ s. (bs : List BlockText) × IsFile file.now bs × IsSurvey bs s) }
+    ensures fault { IfErr result (IsReadFault file.now) }
+{
+    // The law by which a fault of what is left is the file's.
+    fault_after_sentences();
+    let mut unread = Sentences::new(file);
+    let mut checker = Checker::new(alloc);
+    let mut found = Survey {
+        sentences: 0,
+        words: 0,
+        fault: None,
+    };
+    while let Some(block) = unread.read_next(alloc)? {
+        found.sentences += 1;
+        found.words += words(&block) as u64;
+        found.fault = ask(&mut checker, &block, found.fault);
+    }
+    Ok(found)
+}
+
+/// What the check of a file answers. No device is in it.
+pub fn check_file(alloc: Global, file: &[u8], limit: u64) -> CheckReply
+    requires { length file.now ≤ limit }
+    ensures reply { IsReplyTo limit file.now result }
+{
+    match survey_file(alloc, file) {
+        Ok(found) => found.reply(),
+        Err(ReadFault::At { line, code }) => CheckReply::Read {
+            line: line as u64,
+            code,
+        },
+        Err(ReadFault::Memory) => CheckReply::Memory,
+    }
+}
+
+/// What the check of a source answers.
+fn check_source<R: Source>(alloc: Global, source: &mut R, limit: u64) -> CheckReply
+    requires { limit < 2 ^ 32 }
+    ensures { IsReplyToRead (R.IsFailure source.new) limit (R.left source.old) (R.left source.new) result }
+{
+    match read_all(alloc, source, limit) {
+        Input::Whole(file) => check_file(alloc, &file, limit),
+        Input::TooLong => CheckReply::Long,
+        Input::Memory => CheckReply::Memory,
+        Input::Broken => CheckReply::Device,
+    }
+}
+
+/// Checks at most so many bytes, writes the reply, and gives the exit status.
+///
+/// Whatever the source, one of the replies is written whole, with its own status, or the sink refused it. The reply
+/// is a failed device only where the source failed. Where the source says what it will give, the reply is true of it.
+pub fn check_within<R: Source, S: Sink>(
+    alloc: Global,
+    source: &mut R,
+    out: &mut S,
+    limit: u64,
+) -> u8
+    requires { limit < 2 ^ 32 }
+    ensures { Answers (IsReplyToRead (R.IsFailure source.new) limit (R.left source.old) (R.left source.new))
+        (S.held out.old) (S.held out.new) (S.IsRefusal out.new) result }
+{
+    let reply = check_source(alloc, source, limit);
+    put_reply(out, reply.line().as_str(), reply.status())
+}
+
+/// Checks what the source gives, up to 4,194,304 bytes, writes the reply, and gives the exit status, as `check_within`.
+pub fn run_check<R: Source, S: Sink>(alloc: Global, source: &mut R, out: &mut S) -> u8
+    ensures { Answers (IsReplyToRead (R.IsFailure source.new) file_limit (R.left source.old) (R.left source.new))
+        (S.held out.old) (S.held out.new) (S.IsRefusal out.new) result }
+{
+    check_within(alloc, source, out, FILE_LIMIT)
+}
+
+/// Checks bytes in memory, as `run_check`. No device fails, and memory is wanted only where there is a byte.
+pub fn check_bytes<S: Sink>(alloc: Global, bytes: &[u8], out: &mut S) -> u8
+    ensures { Answers (IsReplyTo file_limit bytes.now) (S.held out.old) (S.held out.new) (S.IsRefusal out.new) result }
+{
+    run_check(alloc, &mut SliceSource { bytes }, out)
+}

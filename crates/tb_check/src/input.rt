@@ -1,0 +1,44 @@
+//! An input taken whole, up to a limit.
+
+ghost use Rattle.std.specs.Prelude.{◌<◌, ◌^◌};
+ghost use Rattle.tb_check.specs.Input.{IsInput};
+
+use std::alloc::Global;
+use tb_conllu::Source;
+
+/// What an input was.
+#[derive(Drop)]
+pub enum Input {
+    /// All its bytes.
+    Whole(Vec<u8>),
+    /// It has more bytes than the limit.
+    TooLong,
+    /// Memory was refused.
+    Memory,
+    /// The source failed.
+    Broken,
+}
+
+/// Reads all there is, or one byte more than the limit.
+pub fn read_all<R: Source>(alloc: Global, source: &mut R, limit: u64) -> Input
+    requires { limit < 2 ^ 32 }
+    ensures { IsInput (R.IsFailure source.new) limit (R.left source.old) (R.left source.new) result }
+{
+    let mut all = Vec::new(alloc);
+    let most = limit as usize + 1;
+    let mut chunk = [0u8; 4096];
+    'reads: while all.len() < most {
+        let room = (most - all.len()).min(4096);
+        let part = &mut chunk[..room];
+        let Ok(count) = source.pull(part) else {
+            return Input::Broken;
+        };
+        if count == 0 {
+            return Input::Whole(all);
+        }
+        if all.extend_from_slice(&part[..count]).is_err() {
+            return Input::Memory;
+        }
+    }
+    Input::TooLong
+}

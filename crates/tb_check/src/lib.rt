@@ -1,0 +1,18 @@
+//! The check of a file, over any reader and writer.
+#![tactic(auto)]
+
+mod check;
+mod input;
+mod laws;
+mod output;
+mod reply;
+mod words;
+
+pub use check::{
+    FILE_LIMIT, Survey, check_bytes, check_file, check_within, run_check, survey_file,
+};
+pub use input::{Input, read_all};
+pub use laws::{one_reply_is_true, valid_sentences_are_counted};
+pub use output::put_reply;
+pub use reply::CheckReply;
+pub use words::is_check;

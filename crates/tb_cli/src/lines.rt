@@ -1,0 +1,98 @@
+//! A command with its values, and why words are none.
+
+use std::alloc::AllocError;
+use tb_core::Event;
+use tb_match::Strategy;
+use tb_syntax::Attr;
+
+/// A command with its values. Where `db` is none, the desk is one in memory.
+#[derive(Debug, Drop)]
+pub enum Line {
+    Check,
+    New {
+        db: String,
+    },
+    Migrate {
+        db: String,
+    },
+    Import {
+        db: Option<String>,
+        user: String,
+        name: String,
+    },
+    Event {
+        db: Option<String>,
+        user: String,
+        name: String,
+        event: Event,
+    },
+    Correct {
+        db: Option<String>,
+        user: String,
+        no: u64,
+        base: u64,
+    },
+    Pull {
+        db: Option<String>,
+        user: String,
+        no: u64,
+    },
+    Restore {
+        db: Option<String>,
+        user: String,
+        no: u64,
+    },
+    Show {
+        db: Option<String>,
+        no: u64,
+        rev: Option<u64>,
+    },
+    Export {
+        db: Option<String>,
+        name: Option<String>,
+    },
+    Totals {
+        db: Option<String>,
+    },
+    Moves {
+        db: Option<String>,
+    },
+    Search {
+        db: Option<String>,
+        strategy: Strategy,
+        context: u8,
+        query: String,
+    },
+    Count {
+        db: Option<String>,
+        strategy: Strategy,
+        attribute: Attr,
+        query: String,
+    },
+    Serve {
+        db: Option<String>,
+        port: u16,
+        requests: u64,
+    },
+}
+
+/// Why words are no line.
+#[derive(Debug, Drop)]
+pub enum LineFault {
+    /// Words that clap does not take: unknown, missing, doubled or surplus ones; or help or the version was asked for.
+    Clap(clap::Error),
+    /// No command, or a value that is not of its form.
+    Usage,
+    /// Memory was refused.
+    Memory,
+}
+
+impl From<AllocError> for LineFault {
+    ghost use Rattle.tb_cli.specs.Fault.{IsMemory};
+
+    ghost from_gives = { λ _ e. IsMemory e };
+
+    fn from(_error: AllocError) -> LineFault {
+        LineFault::Memory
+    }
+}

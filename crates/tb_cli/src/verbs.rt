@@ -1,0 +1,88 @@
+//! The commands by their words.
+
+ghost use Rattle.std.specs.Prelude.{◌≡◌, bytes_eq};
+ghost use Rattle.tb_cli.specs.Lines.{verb_of};
+
+/// A command.
+#[derive(Clone, Copy)]
+pub enum Verb {
+    Check,
+    New,
+    Migrate,
+    Import,
+    Event,
+    Correct,
+    Pull,
+    Restore,
+    Show,
+    Export,
+    Totals,
+    Moves,
+    Search,
+    Count,
+    Serve,
+}
+
+/// The commands in the order of help.
+pub const VERBS: [Verb; 15] = [
+    Verb::Check,
+    Verb::New,
+    Verb::Migrate,
+    Verb::Import,
+    Verb::Event,
+    Verb::Correct,
+    Verb::Pull,
+    Verb::Restore,
+    Verb::Show,
+    Verb::Export,
+    Verb::Totals,
+    Verb::Moves,
+    Verb::Search,
+    Verb::Count,
+    Verb::Serve,
+];
+
+fn is_word(text: &str, word: &str) -> bool
+    ensures { result ≡ bytes_eq text.now word.now }
+{
+    text == word
+}
+
+/// The command with that word.
+pub fn verb_of(name: &str) -> Option<Verb>
+    ensures { result ≡ verb_of name.now }
+{
+    if is_word(name, "check") {
+        Some(Verb::Check)
+    } else if is_word(name, "new") {
+        Some(Verb::New)
+    } else if is_word(name, "migrate") {
+        Some(Verb::Migrate)
+    } else if is_word(name, "import") {
+        Some(Verb::Import)
+    } else if is_word(name, "event") {
+        Some(Verb::Event)
+    } else if is_word(name, "correct") {
+        Some(Verb::Correct)
+    } else if is_word(name, "pull") {
+        Some(Verb::Pull)
+    } else if is_word(name, "restore") {
+        Some(Verb::Restore)
+    } else if is_word(name, "show") {
+        Some(Verb::Show)
+    } else if is_word(name, "export") {
+        Some(Verb::Export)
+    } else if is_word(name, "totals") {
+        Some(Verb::Totals)
+    } else if is_word(name, "moves") {
+        Some(Verb::Moves)
+    } else if is_word(name, "search") {
+        Some(Verb::Search)
+    } else if is_word(name, "count") {
+        Some(Verb::Count)
+    } else if is_word(name, "serve") {
+        Some(Verb::Serve)
+    } else {
+        None
+    }
+}

@@ -1,0 +1,68 @@
+use Rattle.tb_commands.proofs.Revised.{unique_revised}
+use Rattle.tb_refine.proofs.Unique.{unique_tables}
+use Rattle.tb_refine.proofs.Faultless.{room_reported, memory_reported}
+use Rattle.tb_tables.specs.Records.{Revision}
+use Rattle.tb_core.specs.declared.refusals.Fault.TheVariants.{Device, NotADesk}
+use Rattle.std.proofs.Common.{◌-◌, ◌∙◌, ap, option_map, ◌≡◌, refl, sym, subst}
+use Rattle.std.proofs.lemmas.Option.{slice_get-map}
+use Rattle.sqlite.specs.Held.{state}
+use Rattle.sqlite.proofs.StateLemmas.{survives_weaker}
+use Rattle.tb_core.specs.Acts.{correcting}
+use Rattle.tb_refine.specs.DeskTables.{tables_of, sentence_record}
+use Rattle.tb_refine.proofs.Written.{follows}
+use Rattle.tb_commands.proofs.Committed.{correction_stands}
+use Rattle.tb_core.specs.Machine.{Sentence}
+use Rattle.tb_tables.specs.Failing.{IsShort}
+use Rattle.tb_commands.proofs.Short.{short_id, short_name, short_mover}
+use Rattle.tb_commands.proofs.committing.correct.Goals as goal
+
+pub returns-in-Ok-clause-made : goal.returns-in-Ok-clause-made
+returns-in-Ok-clause-made g c clean s body x desk is allowed reachable written =
+    let well = c.reached_states_are_well.ensures s desk.reachable.reached in
+    let holds = c.in-Ok.ensures.ok clean (tables_of s) desk.holds (sentence_record x) (slice_get-map sentence_record s.sentences (c.args.number - 1) ∙ ap (option_map sentence_record) is.there) (follows s (correcting (c.args.number - 1) c.args.who.now body) c.args.change.now written) in
+    record {
+      reachable = reachable;
+      holds = record {
+        autocommit = holds.autocommit;
+        is_open = holds.is_open;
+        schema = holds.schema;
+        settled = holds.settled;
+        stands = correction_stands s c.args.number c.args.who.now body x c.args.rev c.args.words c.args.text.now c.args.change.now c.requires.row desk.reachable.reached well is allowed written (state g.S.Store c.write_correction.new.conn).now.trees holds.stands;
+      };
+    }
+
+pub returns-in-Ok-clause-crash : goal.returns-in-Ok-clause-crash
+returns-in-Ok-clause-crash g c = survives_weaker (state g.S.Store c.args.conn.now) (state g.S.Store c.write_correction.new.conn) _ _ (λ _ db whole s body x desk is allowed written.
+    let well = c.reached_states_are_well.ensures s desk.reachable.reached in
+    correction_stands s c.args.number c.args.who.now body x c.args.rev c.args.words c.args.text.now c.args.change.now c.requires.row desk.reachable.reached well is allowed written db
+    (whole (tables_of s) desk.holds (sentence_record x) (slice_get-map sentence_record s.sentences (c.args.number - 1) ∙ ap (option_map sentence_record) is.there) (follows s (correcting (c.args.number - 1) c.args.who.now body) c.args.change.now written))) c.write_correction.ensures.crash
+
+pub returns-in-Err-clause-crash : goal.returns-in-Err-clause-crash
+returns-in-Err-clause-crash g c = survives_weaker (state g.S.Store c.args.conn.now) (state g.S.Store c.write_correction.new.conn) _ _ (λ _ db whole s body x desk is allowed written.
+    let well = c.reached_states_are_well.ensures s desk.reachable.reached in
+    correction_stands s c.args.number c.args.who.now body x c.args.rev c.args.words c.args.text.now c.args.change.now c.requires.row desk.reachable.reached well is allowed written db
+    (whole (tables_of s) desk.holds (sentence_record x) (slice_get-map sentence_record s.sentences (c.args.number - 1) ∙ ap (option_map sentence_record) is.there) (follows s (correcting (c.args.number - 1) c.args.who.now body) c.args.change.now written))) c.write_correction.ensures.crash
+
+pub returns-in-Err-clause-fails : goal.returns-in-Err-clause-fails
+returns-in-Err-clause-fails g c clean unlimited s body x desk is allowed written bad =
+    let reported : c.of_error.result ≡ NotADesk = cc in
+    let well = c.reached_states_are_well.ensures s desk.reachable.reached in
+    let row = slice_get-map sentence_record s.sentences (c.args.number - 1) ∙ ap (option_map sentence_record) is.there in
+    let next : Revision = record { sent = c.args.number; rev = c.args.rev; who = c.args.who.now; body = c.args.text.now } in
+    let apart = unique_revised s c.args.number x next (unique_tables s well) c.requires.row is.there refl is.next in
+    let fault = c.in-Err.ensures.fails clean unlimited (tables_of s) desk.holds (sentence_record x) row (follows s (correcting (c.args.number - 1) c.args.who.now body) c.args.change.now written) apart in
+    room_reported c.in-Err.error fault (sym c.of_error.ensures.value ∙ reported)
+
+pub returns-in-Err-clause-cause : goal.returns-in-Err-clause-cause
+returns-in-Err-clause-cause g c good clean unlimited s desk body x is allowed written short free bad =
+    let reported : c.of_error.result ≡ Device = cc in
+    let well = c.reached_states_are_well.ensures s desk.reachable.reached in
+    let a = correcting (c.args.number - 1) c.args.who.now body in
+    let row = slice_get-map sentence_record s.sentences (c.args.number - 1) ∙ ap (option_map sentence_record) is.there in
+    let next : Revision = record { sent = c.args.number; rev = c.args.rev; who = c.args.who.now; body = c.args.text.now } in
+    let apart = unique_revised s c.args.number x next (unique_tables s well) c.requires.row is.there refl is.next in
+    let same : allowed.sentence ≡ x = (let here = allowed.there in let there = is.there in cc) in
+    let id : IsShort x.sent_id = subst IsShort (allowed.same_id ∙ ap (λ (y : Sentence). y.sent_id) same) (short_id body (subst IsShort is.reported short)) in
+    let want = c.in-Err.ensures.wants good clean unlimited (tables_of s) desk.holds (sentence_record x) row (follows s a c.args.change.now written) apart
+    id (short_name c.args.who.now allowed.by) short (short_mover s a c.args.change.now written allowed.by) free in
+    memory_reported c.in-Err.error want (sym c.of_error.ensures.value ∙ reported)

@@ -1,0 +1,31 @@
+use Rattle.std.proofs.Common.{◌≡◌, Err, refl}
+use Rattle.std.proofs.lemmas.Result.{err_from_is_err_and}
+use Rattle.tb_core.specs.declared.refusals.Fault.TheVariants.{NotADesk}
+use Rattle.tb_reads.proofs.Shown.{if_ok}
+use Rattle.tb_refine.proofs.There.{sentence_there}
+use Rattle.tb_refine.proofs.Unchanged.{desk_same}
+use Rattle.tb_commands.proofs.pulling.restore_planned.Goals as goal
+
+pub returns-clause-answered : goal.returns-clause-answered
+returns-clause-answered g c clean = if_ok c.decide_restore.result c.decide_restore.ensures.answered (λ r reported s desk counted within.
+    let it = sentence_there s c.args.number c.args.number refl c.requires within in
+    reported s it.0 desk.reachable.reached counted it.1 (c.in_ok-read.ensures.answered clean s desk it.0 it.1))
+
+pub returns-clause-refused : goal.returns-clause-refused
+returns-clause-refused g c clean r is s desk counted within =
+    let it = sentence_there s c.args.number c.args.number refl c.requires within in (
+      c.decide_restore.ensures.refused r is s it.0 desk.reachable.reached counted it.1 (c.in_ok-read.ensures.answered clean s desk it.0 it.1),
+      desk_same g.S.Store c.args.conn.now c.find_sentence.new.conn s desk (c.in_ok-read.ensures.unchanged clean desk.holds.schema),
+    )
+
+pub returns-in_err-read-clause-fails : goal.returns-in_err-read-clause-fails
+returns-in_err-read-clause-fails g c clean unlimited s desk counted limited within bad =
+    let reported = err_from_is_err_and c.from_residual.result c.from_residual.ensures.1 in
+    let failed : c.find_sentence.result ≡ Err NotADesk = let was = c.in_err-read.was in let one = reported.1 in let two = reported.2 in cc in
+    let it = sentence_there s c.args.number c.args.number refl c.requires within in
+    c.find_sentence.ensures.fails clean unlimited s desk it.0 it.1 failed
+
+pub returns-clause-fails : goal.returns-clause-fails
+returns-clause-fails g c clean unlimited s desk counted limited within bad =
+    let it = sentence_there s c.args.number c.args.number refl c.requires within in
+    c.decide_restore.ensures.fails s it.0 desk.reachable counted limited it.1 (c.in_ok-read.ensures.answered clean s desk it.0 it.1) bad

@@ -1,0 +1,13 @@
+-- What was read of a sentence.
+use Rattle.std.specs.Prelude.{◌≡◌, string_bytes}
+use Rattle.tb_core.specs.Machine.{Machine, Sentence, batch_with, rev, words}
+use Rattle.tb_commands.specs.declared.finding.SentenceRead.{SentenceRead}
+
+-- the number, the state and the worker of its batch, whether it is pulled, and its current revision
+pub record IsSentenceRead (s : Machine) (x : Sentence) (f : SentenceRead) : Type 0 where
+  pub batch : f.batch ≡ x.batch
+  pub state : f.state ≡ (batch_with s.batches x.batch).state
+  pub worker : string_bytes f.worker ≡ (batch_with s.batches x.batch).worker
+  pub pulled : f.pulled ≡ x.pulled
+  pub rev : f.rev ≡ rev x
+  pub words : f.words ≡ words x

@@ -1,0 +1,44 @@
+-- What an accepted event is answered, and what it writes.
+use Rattle.std.specs.Prelude.{◌≡◌, ℕ, ◌+◌, List, Some, string_bytes}
+use Rattle.tb_core.specs.declared.kinds.Event.{Event}
+use Rattle.tb_core.specs.declared.kinds.Kind.TheVariants.{Step}
+use Rattle.tb_core.specs.Events.{goes_to, makes_worker}
+use Rattle.tb_core.specs.Moves.{MoveText}
+use Rattle.tb_core.specs.Machine.{Machine, Batch}
+use Rattle.tb_core.specs.Acts.{stepping, with_worker}
+use Rattle.tb_core.specs.Commands.{moved_on, reply_to}
+use Rattle.std.specs.Prelude.{slice_get}
+use Rattle.tb_refine.specs.Numbers.{state_number}
+use Rattle.tb_core.specs.Found.{BatchSeen}
+use Rattle.tb_commands.specs.declared.finding.BatchRead.{BatchRead}
+use Rattle.tb_commands.specs.declared.working.Sums.{Sums}
+use Rattle.tb_commands.specs.declared.stepping.EventPlan.{EventPlan}
+use Rattle.tb_refine.specs.Counted.{IsPrepared}
+
+abbrev pub seen_of : BatchRead → BatchSeen
+seen_of f = record { number = f.number; state = f.state; worker = string_bytes f.worker }
+
+-- the move of an event on a batch that was read so, where these of its sentences are not pulled
+abbrev pub event_move : ℕ → Event → BatchRead → Sums → List ℕ → MoveText
+event_move number event found sums user = record {
+  no = number;
+  kind = Step event;
+  batch = found.number;
+  sent = 0;
+  from = Some found.state;
+  to = goes_to event;
+  sentences = sums.sentences;
+  words_out = sums.words;
+  words_in = sums.words;
+  who = user;
+}
+
+-- the event at this place
+pub record IsPlanned (s : Machine) (place : ℕ) (event : Event) (user : List ℕ) (p : EventPlan) : Type 0 where
+  pub batch : Batch
+  pub there : slice_get s.batches place ≡ Some batch
+  pub number : p.number ≡ place + 1
+  pub in_state : p.in_state ≡ state_number (goes_to event)
+  pub worker : string_bytes p.worker ≡ with_worker (makes_worker event) user batch.worker
+  pub prepared : IsPrepared s (stepping place event user) p.prepared
+  pub reply : moved_on p.reply ≡ reply_to s (stepping place event user)

@@ -1,0 +1,39 @@
+-- What a command leaves of a desk, and what of a batch its events move.
+use Rattle.std.specs.Prelude.{◌≡◌, ℕ, ◌+◌, List, length, cond, Bool, false, ◌||◌, [], ◌∷◌, nat_eq}
+use Rattle.sqlite.specs.Store.{Ghosts}
+use Rattle.sqlite.specs.Held.{Held}
+use Rattle.tb_core.specs.declared.sums.Totals.{Totals}
+use Rattle.tb_core.specs.declared.limits.Limits.{Limits}
+use Rattle.tb_core.specs.Machine.{Machine}
+use Rattle.tb_core.specs.Commands.{Command, Reply, replied}
+use Rattle.tb_core.specs.Steps.{Steps}
+use Rattle.tb_core.specs.Totals.{AreTotalsOf}
+use Rattle.tb_refine.specs.DeskTables.{IsDeskOf}
+use Rattle.tb_reads.specs.declared.work.BatchSentence.{BatchSentence}
+
+-- The command is answered so, the desk stands for the state after it, and these are the totals; batches and sentences are
+-- as many as before.
+pub record IsDone {S : Type 0} (g : Ghosts S) (l : Limits) (s : Machine) (c : Command) (r : Reply) (new : Held S) (t : Totals) : Type 0 where
+  pub next : Machine
+  pub steps : Steps l s c (replied r) next
+  pub desk : IsDeskOf g new next
+  pub totals : AreTotalsOf t next
+  pub batches : length next.batches ≡ length s.batches
+  pub sentences : length next.sentences ≡ length s.sentences
+  pub moves : length next.moves ≡ length s.moves + 1
+
+-- ---- what of a batch is not pulled
+
+abbrev pub is_listed : ℕ → List ℕ → Bool
+is_listed n [] = false
+is_listed n (m ∷ ms) = nat_eq m n || is_listed n ms
+
+-- the weight of a sentence, none where it is pulled
+abbrev pub unless_pulled : List ℕ → (BatchSentence → ℕ) → BatchSentence → ℕ
+unless_pulled pulled w item = cond (is_listed item.number pulled) 0 (w item)
+
+abbrev pub each_one : BatchSentence → ℕ
+each_one item = 1
+
+abbrev pub its_words : BatchSentence → ℕ
+its_words item = item.words

@@ -1,0 +1,130 @@
+//! The writes of accepted acts: each is one transaction, after which the tables stand for the state that the act leads to.
+
+ghost use Rattle.std.specs.Prelude.{◌≡◌, ◌≢◌, ◌-◌, ◌<◌, ℕ, List, Err, None, false, OnOk};
+ghost use Rattle.sqlite.specs.State.{HasCleanDisk, Survives};
+ghost use Rattle.sqlite.specs.Held.{state};
+ghost use Rattle.tb_tables.specs.Records.{AreStored};
+ghost use Rattle.tb_core.specs.declared.refusals.Refusal.{Refusal as AnyRefusal};
+ghost use Rattle.tb_core.specs.Machine.{Machine, Sentence};
+ghost use Rattle.tb_conllu.specs.Text.{BlockText};
+ghost use Rattle.tb_core.specs.Acts.{IsAllowed, correcting, pulling, restoring, after};
+ghost use Rattle.tb_core.specs.Reaching.{IsReachable};
+ghost use Rattle.tb_refine.specs.DeskTables.{tables_of, IsDeskOf};
+ghost use Rattle.tb_refine.specs.Recorded.{IsWritten};
+ghost use Rattle.tb_commands.specs.Correcting.{IsMadeRevision};
+ghost use Rattle.tb_tables.specs.Changes.{HasRevisionRowids};
+ghost use Rattle.tb_tables.specs.Failing.{IsShort};
+ghost use Rattle.tb_tables.specs.Leaving.{KeepsRecordsOnErr};
+ghost use Rattle.tb_refine.specs.Calls.{BlamesNoDevice};
+
+use sqlite::{Alter, Connection};
+use tb_core::{Fault, reached_states_are_well};
+use tb_refine::faults;
+use tb_tables::{MoveWrite, write_correction, write_pull, write_restore};
+
+/// A correction of the sentence with this number, from 1: its new current revision, with so many words, by this user.
+pub(crate) fn correct<S: Alter>(
+    conn: &mut Connection<S>,
+    number: u32,
+    rev: u32,
+    words: u32,
+    who: &str,
+    text: &str,
+    change: &MoveWrite,
+) -> Result<(), Fault>
+    requires autocommit { conn.old.in_transaction ≡ false }
+    requires row { 0 < number }
+    ensures made { HasCleanDisk (state S.Store conn.new)
+        → OnOk result ((s : Machine) (body : BlockText) (x : Sentence) → IsDeskOf S.Store conn.old s
+        → IsMadeRevision s number body x rev words text.now → IsAllowed s (correcting (number - 1) who.now body)
+        → IsReachable (after s (correcting (number - 1) who.now body))
+        → IsWritten s (correcting (number - 1) who.now body) change.now
+        → IsDeskOf S.Store conn.new (after s (correcting (number - 1) who.now body))) }
+    ensures never_refuses { (r : AnyRefusal) → result ≢ Err (Fault.Refused r) }
+    ensures fails { HasCleanDisk (state S.Store conn.new) → (state S.Store conn.old).step_limit ≡ None
+        → (s : Machine) (body : BlockText) (x : Sentence) → IsDeskOf S.Store conn.old s
+        → IsMadeRevision s number body x rev words text.now → IsAllowed s (correcting (number - 1) who.now body)
+        → IsWritten s (correcting (number - 1) who.now body) change.now → result ≢ Err Fault.NotADesk }
+    ensures cause { BlamesNoDevice S.Store conn.old conn.new result (λ s so. (body : BlockText) (x : Sentence)
+        → IsMadeRevision s number body x rev words text.now → IsAllowed s (correcting (number - 1) who.now body)
+        → IsWritten s (correcting (number - 1) who.now body) change.now → IsShort text.now
+        → HasRevisionRowids (state S.Store conn.old) 1 → so) }
+    ensures keeps_records { KeepsRecordsOnErr S.Store conn.old conn.new result }
+    ensures crash { Survives (state S.Store conn.old) (state S.Store conn.new) (λ db.
+        (s : Machine) (body : BlockText) (x : Sentence) → IsDeskOf S.Store conn.old s
+        → IsMadeRevision s number body x rev words text.now → IsAllowed s (correcting (number - 1) who.now body)
+        → IsWritten s (correcting (number - 1) who.now body) change.now
+        → AreStored (tables_of (after s (correcting (number - 1) who.now body))) db) }
+    ensures autocommit { conn.new.in_transaction ≡ false }
+{
+    reached_states_are_well();
+    match write_correction(conn, number, rev, words, who, text, change) {
+        Ok(()) => Ok(()),
+        Err(error) => Err(faults::of_error(error)),
+    }
+}
+
+/// A pull of the sentence with this number, from 1.
+pub(crate) fn pull<S: Alter>(
+    conn: &mut Connection<S>,
+    number: u32,
+    change: &MoveWrite,
+) -> Result<(), Fault>
+    requires autocommit { conn.old.in_transaction ≡ false }
+    requires row { 0 < number }
+    ensures made { HasCleanDisk (state S.Store conn.new) → OnOk result ((s : Machine) (user : List ℕ)
+        → IsDeskOf S.Store conn.old s → IsAllowed s (pulling (number - 1) user)
+        → IsReachable (after s (pulling (number - 1) user)) → IsWritten s (pulling (number - 1) user) change.now
+        → IsDeskOf S.Store conn.new (after s (pulling (number - 1) user))) }
+    ensures never_refuses { (r : AnyRefusal) → result ≢ Err (Fault.Refused r) }
+    ensures fails { HasCleanDisk (state S.Store conn.new) → (state S.Store conn.old).step_limit ≡ None
+        → (s : Machine) (user : List ℕ) → IsDeskOf S.Store conn.old s → IsAllowed s (pulling (number - 1) user)
+        → IsWritten s (pulling (number - 1) user) change.now → result ≢ Err Fault.NotADesk }
+    ensures cause { BlamesNoDevice S.Store conn.old conn.new result (λ s so. (user : List ℕ)
+        → IsAllowed s (pulling (number - 1) user) → IsWritten s (pulling (number - 1) user) change.now → so) }
+    ensures keeps_records { KeepsRecordsOnErr S.Store conn.old conn.new result }
+    ensures crash { Survives (state S.Store conn.old) (state S.Store conn.new) (λ db. (s : Machine) (user : List ℕ)
+        → IsDeskOf S.Store conn.old s → IsAllowed s (pulling (number - 1) user)
+        → IsWritten s (pulling (number - 1) user) change.now
+        → AreStored (tables_of (after s (pulling (number - 1) user))) db) }
+    ensures autocommit { conn.new.in_transaction ≡ false }
+{
+    reached_states_are_well();
+    match write_pull(conn, number, change) {
+        Ok(()) => Ok(()),
+        Err(error) => Err(faults::of_error(error)),
+    }
+}
+
+/// The way back of a pulled sentence with this number, from 1.
+pub(crate) fn restore<S: Alter>(
+    conn: &mut Connection<S>,
+    number: u32,
+    change: &MoveWrite,
+) -> Result<(), Fault>
+    requires autocommit { conn.old.in_transaction ≡ false }
+    requires row { 0 < number }
+    ensures made { HasCleanDisk (state S.Store conn.new) → OnOk result ((s : Machine) (user : List ℕ)
+        → IsDeskOf S.Store conn.old s → IsAllowed s (restoring (number - 1) user)
+        → IsReachable (after s (restoring (number - 1) user)) → IsWritten s (restoring (number - 1) user) change.now
+        → IsDeskOf S.Store conn.new (after s (restoring (number - 1) user))) }
+    ensures never_refuses { (r : AnyRefusal) → result ≢ Err (Fault.Refused r) }
+    ensures fails { HasCleanDisk (state S.Store conn.new) → (state S.Store conn.old).step_limit ≡ None
+        → (s : Machine) (user : List ℕ) → IsDeskOf S.Store conn.old s
+        → IsAllowed s (restoring (number - 1) user) → IsWritten s (restoring (number - 1) user) change.now
+        → result ≢ Err Fault.NotADesk }
+    ensures cause { BlamesNoDevice S.Store conn.old conn.new result (λ s so. (user : List ℕ)
+        → IsAllowed s (restoring (number - 1) user) → IsWritten s (restoring (number - 1) user) change.now → so) }
+    ensures keeps_records { KeepsRecordsOnErr S.Store conn.old conn.new result }
+    ensures crash { Survives (state S.Store conn.old) (state S.Store conn.new) (λ db. (s : Machine) (user : List ℕ)
+        → IsDeskOf S.Store conn.old s → IsAllowed s (restoring (number - 1) user)
+        → IsWritten s (restoring (number - 1) user) change.now
+        → AreStored (tables_of (after s (restoring (number - 1) user))) db) }
+    ensures autocommit { conn.new.in_transaction ≡ false }
+{
+    reached_states_are_well();
+    match write_restore(conn, number, change) {
+        Ok(()) => Ok(()),
+        Err(error) => Err(faults::of_error(error)),
+    }
+}

@@ -1,0 +1,443 @@
+//! A correction of a sentence.
+
+ghost use Rattle.std.specs.Prelude.{◌≡◌, ◌≢◌, ℕ, ◌+◌, ◌-◌, ◌^◌, ◌<◌, ◌≤◌, List, []};
+ghost use Rattle.std.specs.Prelude.{◌∷◌, length, None, Some, Err};
+ghost use Rattle.std.specs.Prelude.{slice_get, string_bytes, false, IfOk, IfSome, IfErr};
+ghost use Rattle.sqlite.specs.State.{HasCleanDisk};
+ghost use Rattle.sqlite.specs.Held.{state};
+ghost use Rattle.tb_conllu.specs.Text.{text_of};
+ghost use Rattle.tb_tables.specs.Records.{AreStored};
+ghost use Rattle.tb_core.specs.declared.limits.Limits.{Limits as AnyLimits};
+ghost use Rattle.tb_core.specs.declared.refusals.Refusal.{Refusal as AnyRefusal};
+ghost use Rattle.tb_core.specs.Machine.{Machine, Sentence, rev as rev_of};
+ghost use Rattle.tb_core.specs.Acts.{correcting, IsAllowed, after};
+ghost use Rattle.tb_core.specs.Reaching.{Reached, IsReachable};
+ghost use Rattle.tb_core.specs.Commands.{Answer, correct as correct_it, replied, refused as refused_by, reply_to};
+ghost use Rattle.tb_core.specs.Steps.{Steps};
+ghost use Rattle.tb_refine.specs.DeskTables.{tables_of, IsDeskOf};
+ghost use Rattle.tb_core.specs.Found.{LacksSentence};
+ghost use Rattle.tb_core.specs.Parts.{IsNamedCorrection};
+ghost use Rattle.tb_refine.specs.Counted.{IsWithin, IsCounted};
+ghost use Rattle.tb_commands.specs.Correcting.{PlanText, IsCurrentRead, IsPlannedCorrection, Decides, Corrects};
+ghost use Rattle.tb_commands.specs.Correcting.{current_seen, correction_move};
+ghost use Rattle.tb_refine.specs.Calls.{CrashesTo, KnowsDeskWhere, RefusesAs, Tells};
+ghost use Rattle.tb_refine.specs.Calls.{BlamesNoDevice};
+ghost use Rattle.tb_tables.specs.Changes.{HasRevisionRowids};
+ghost use Rattle.tb_tables.specs.Failing.{IsShort};
+ghost use Rattle.tb_tables.specs.Leaving.{ChangesNothing, CommitsNothing, KeepsRecords, KeepsRecordsOnErr};
+ghost use Rattle.tb_tables.specs.Leaving.{IsFaultless, FailsOnlyAs};
+ghost use Rattle.tb_refine.specs.Faults.{IsNoDevice};
+
+use crate::committing;
+use crate::finding::{SentenceRead, find_sentence};
+use sqlite::{Alter, Connection};
+use std::alloc::Global;
+use std::marker::Model;
+use tb_conllu::{ReadFault, SourcedSentence, read_ref, words};
+use tb_core::{
+    Corrected, CurrentFound, Fault, Judged, Kind, Move, Totals, commands_stay_within_limits,
+    judge_correction_before, judge_correction_body, revisions_read_back,
+};
+use tb_refine::{Counters, desk_rows_are_readable, faults, narrow, next_move, prepare};
+use tb_tables::{MoveWrite, RevisionRow};
+
+/// A sentence and its current revision, as they were read.
+#[derive(Debug, Drop)]
+pub(crate) struct CurrentRead {
+    pub sentence: SentenceRead,
+    /// Who gave the current revision.
+    pub who: String,
+    /// Its text.
+    pub body: String,
+}
+
+/// What an accepted correction writes. It borrows from the body.
+#[derive(Drop)]
+pub(crate) struct CorrectionPlan<'a> {
+    /// The number of the new revision, and its words and its text.
+    pub rev: u32,
+    pub words: u32,
+    pub text: &'a str,
+    pub change: MoveWrite,
+    /// The totals after it.
+    pub totals: Totals,
+}
+
+impl<'a> Model for CorrectionPlan<'a> {
+    ghost Value = { PlanText };
+
+    ghost view = { λ p. record {
+      rev = p.rev;
+      words = p.words;
+      text = p.text.now;
+      change = p.change;
+      totals = p.totals;
+    } };
+}
+
+/// The current revision of the sentence with this number, from 1, which stands.
+fn current_row<S: Alter>(
+    conn: &mut Connection<S>,
+    number: u32,
+    rev: u32,
+) -> Result<RevisionRow, Fault>
+    requires { 0 < number }
+    ensures answered { Tells S.Store conn.old conn.new result (λ s f. (x : Sentence)
+        → slice_get s.sentences (number - 1) ≡ Some x → rev ≡ rev_of x
+        → (string_bytes f.who ≡ x.current.who) × (string_bytes f.body ≡ text_of (x.current.body ∷ []))) }
+    ensures never_refuses { (r : AnyRefusal) → result ≢ Err (Fault.Refused r) }
+    ensures fails { KnowsDeskWhere S.Store conn.old conn.new result (λ s so. (x : Sentence)
+        → slice_get s.sentences (number - 1) ≡ Some x → rev ≡ rev_of x → so) }
+    ensures cause { IsFaultless S.Store conn.old conn.new → FailsOnlyAs IsNoDevice S.Store conn.old conn.new result }
+    ensures unchanged { ChangesNothing S.Store conn.old conn.new result }
+    ensures autocommit { conn.old.in_transaction ≡ false → conn.new.in_transaction ≡ false }
+    ensures keeps_records { KeepsRecords S.Store conn.old conn.new }
+    ensures commits_nothing { CommitsNothing S.Store conn.old conn.new }
+{
+    desk_rows_are_readable();
+    match tb_reads::revision(conn, number, rev) {
+        Ok(Some(row)) => Ok(row),
+        Ok(None) => Err(Fault::NotADesk),
+        Err(error) => Err(faults::of_read(error)),
+    }
+}
+
+/// The sentence with this number, from 1, which stands, and its current revision.
+fn find_current<S: Alter>(conn: &mut Connection<S>, number: u32) -> Result<CurrentRead, Fault>
+    requires { 0 < number }
+    ensures answered { Tells S.Store conn.old conn.new result (λ s f. (x : Sentence)
+        → slice_get s.sentences (number - 1) ≡ Some x → IsCurrentRead s x f) }
+    ensures never_refuses { (r : AnyRefusal) → result ≢ Err (Fault.Refused r) }
+    ensures fails { KnowsDeskWhere S.Store conn.old conn.new result (λ s so. (x : Sentence)
+        → slice_get s.sentences (number - 1) ≡ Some x → so) }
+    ensures cause { IsFaultless S.Store conn.old conn.new → FailsOnlyAs IsNoDevice S.Store conn.old conn.new result }
+    ensures unchanged { ChangesNothing S.Store conn.old conn.new result }
+    ensures autocommit { conn.old.in_transaction ≡ false → conn.new.in_transaction ≡ false }
+    ensures keeps_records { KeepsRecords S.Store conn.old conn.new }
+    ensures commits_nothing { CommitsNothing S.Store conn.old conn.new }
+{
+    let sentence = find_sentence(conn, number)?;
+    let row = current_row(conn, number, sentence.rev)?;
+    Ok(CurrentRead {
+        sentence,
+        who: row.who,
+        body: row.body,
+    })
+}
+
+/// What was read, as it is judged.
+fn found_of(read: &CurrentRead) -> CurrentFound<'_>
+    ensures { result ≡ current_seen read.now }
+{
+    CurrentFound {
+        state: read.sentence.state,
+        worker: read.sentence.worker.as_str(),
+        pulled: read.sentence.pulled,
+        rev: u64::from(read.sentence.rev),
+        who: read.who.as_str(),
+        body: read.body.as_bytes(),
+        words: u64::from(read.sentence.words),
+    }
+}
+
+/// A stored text that cannot be read is not a desk's.
+fn fault_of_text(fault: ReadFault) -> Fault
+    ensures never_refuses { (r : AnyRefusal) → result ≢ Fault.Refused r }
+    ensures fails { fault ≡ ReadFault.Memory → result ≢ Fault.NotADesk }
+    ensures cause { IsNoDevice result }
+{
+    match fault {
+        ReadFault::Memory => Fault::Memory,
+        ReadFault::At { line: _, code: _ } => Fault::NotADesk,
+    }
+}
+
+/// The sentence of a body, which corrects the one of this text.
+fn take<'a>(
+    alloc: Global,
+    counts: &Counters,
+    text: &str,
+    body: &'a [u8],
+) -> Result<SourcedSentence<'a>, Fault>
+    ensures text { IfOk result (λ p. p.text.now ≡ body.now) }
+    ensures refused { (r : AnyRefusal) → result ≡ Err (Fault.Refused r)
+        → (s : Machine) (n base : ℕ) (user : List ℕ) (place : ℕ) (x : Sentence) → Reached s
+        → IsNamedCorrection s n base user body.now place x
+        → text.now ≡ text_of (x.current.body ∷ []) → counts.now.moves ≡ length s.moves
+        → Steps counts.now.limits s (correct_it n base user body.now) (refused_by r) s }
+    ensures accepted { IfOk result (λ p. (s : Machine) (n base : ℕ) (user : List ℕ) (place : ℕ) (x : Sentence)
+        → Reached s → IsNamedCorrection s n base user body.now place x
+        → text.now ≡ text_of (x.current.body ∷ []) → counts.now.moves ≡ length s.moves
+        → let act = correcting place user p.block in
+        IsAllowed s act × Steps counts.now.limits s (correct_it n base user body.now) (replied
+        (reply_to s act)) (after s act) × (p.text.now ≡ text_of (p.block ∷ []))) }
+    ensures fails { (s : Machine) (n base : ℕ) (user : List ℕ) (place : ℕ) (x : Sentence) → Reached s
+        → IsNamedCorrection s n base user body.now place x
+        → text.now ≡ text_of (x.current.body ∷ []) → result ≢ Err Fault.NotADesk }
+    ensures cause { IfErr result IsNoDevice }
+{
+    revisions_read_back();
+    let blocks = match read_ref(alloc, text.as_bytes()) {
+        Ok(blocks) => blocks,
+        Err(fault) => return Err(fault_of_text(fault)),
+    };
+    let Some(current) = blocks.first() else {
+        return Err(Fault::NotADesk);
+    };
+    judge_correction_body(
+        alloc,
+        &counts.limits,
+        body,
+        current,
+        u64::from(counts.moves),
+    )
+}
+
+/// The number of the next revision.
+fn next_revision(rev: u32) -> Result<u32, Fault>
+    ensures next { IfOk result (λ n. n ≡ rev + 1) }
+    ensures never_refuses { (r : AnyRefusal) → result ≢ Err (Fault.Refused r) }
+    ensures fails { rev + 1 < 2 ^ 32 → result ≢ Err Fault.NotADesk }
+    ensures cause { IfErr result IsNoDevice }
+{
+    match rev.checked_add(1) {
+        Some(next) => Ok(next),
+        None => Err(Fault::NotADesk),
+    }
+}
+
+/// The move of a correction of this sentence.
+fn move_by(who: String, no: u32, number: u32, read: &CurrentRead, new_words: u32) -> Move
+    ensures { result ≡ correction_move no number read.now new_words (string_bytes who) }
+{
+    Move {
+        no: u64::from(no),
+        kind: Kind::Correct,
+        batch: u64::from(read.sentence.batch),
+        sent: u64::from(number),
+        from: Some(read.sentence.state),
+        to: read.sentence.state,
+        sentences: 1,
+        words_out: u64::from(read.sentence.words),
+        words_in: u64::from(new_words),
+        who,
+    }
+}
+
+/// What a correction writes.
+fn plan<'a>(
+    alloc: Global,
+    counts: &Counters,
+    number: u32,
+    user: &str,
+    read: &CurrentRead,
+    passage: &SourcedSentence<'a>,
+) -> Result<CorrectionPlan<'a>, Fault>
+    requires { 0 < number }
+    ensures planned { IfOk result (λ p. (s : Machine) (x : Sentence) → Reached s
+        → IsAllowed s (correcting (number - 1) user.now passage.now.block) → IsCounted counts.now s
+        → slice_get s.sentences (number - 1) ≡ Some x → IsCurrentRead s x read.now
+        → passage.now.text.now ≡ text_of (passage.now.block ∷ [])
+        → IsPlannedCorrection s number user.now passage.now.block p) }
+    ensures room { IfOk result (λ _. counts.now.moves + 1 ≤ 1000000000) }
+    ensures text { IfOk result (λ p. p.text ≡ passage.now.text.now) }
+    ensures never_refuses { (r : AnyRefusal) → result ≢ Err (Fault.Refused r) }
+    ensures fails { (s : Machine) (x : Sentence) → IsReachable s
+        → IsAllowed s (correcting (number - 1) user.now passage.now.block)
+        → IsReachable (after s (correcting (number - 1) user.now passage.now.block)) → IsCounted counts.now s
+        → slice_get s.sentences (number - 1) ≡ Some x → IsCurrentRead s x read.now
+        → result ≢ Err Fault.NotADesk }
+    ensures cause { IfErr result IsNoDevice }
+{
+    let rev = next_revision(read.sentence.rev)?;
+    let new_words = narrow(words(&passage.block) as u64)?;
+    let no = next_move(counts)?;
+    let who = String::from_str(alloc, user)?;
+    let prepared = prepare(counts, move_by(who, no, number, read, new_words))?;
+    Ok(CorrectionPlan {
+        rev,
+        words: new_words,
+        text: passage.text,
+        change: prepared.change,
+        totals: prepared.totals,
+    })
+}
+
+/// The reply to a correction that is written.
+fn reply_of(number: u32, plan: &CorrectionPlan<'_>) -> Corrected
+    ensures { result ≡ record { sentence = number; rev = plan.now.rev; words = plan.now.words } }
+{
+    Corrected {
+        sentence: u64::from(number),
+        rev: u64::from(plan.rev),
+        words: u64::from(plan.words),
+    }
+}
+
+/// The correction of a sentence that was judged by all but its body: its reply, and what it writes.
+fn plan_body<'a>(
+    alloc: Global,
+    counts: &Counters,
+    number: u32,
+    user: &str,
+    body: &'a [u8],
+    read: &CurrentRead,
+) -> Result<(Corrected, CorrectionPlan<'a>), Fault>
+    requires { 0 < number }
+    ensures answered { IfOk result (λ r. (s : Machine) (base : ℕ) (x : Sentence) → Reached s
+        → IsCounted counts.now s → IsCurrentRead s x read.now
+        → IsNamedCorrection s number base user.now body.now (number - 1) x
+        → Decides counts.now.limits s number base user.now body.now r.0 (Some r.1)) }
+    ensures text { IfOk result (λ r. r.1.text ≡ body.now) }
+    ensures refused { (r : AnyRefusal) → result ≡ Err (Fault.Refused r)
+        → (s : Machine) (base : ℕ) (x : Sentence) → Reached s → IsCounted counts.now s
+        → IsCurrentRead s x read.now → IsNamedCorrection s number base user.now body.now (number - 1) x
+        → Steps counts.now.limits s (correct_it number base user.now body.now) (refused_by r) s }
+    ensures fails { IsWithin counts.now.limits → (s : Machine) (base : ℕ) (x : Sentence) → IsReachable s
+        → IsCounted counts.now s → IsCurrentRead s x read.now
+        → IsNamedCorrection s number base user.now body.now (number - 1) x → result ≢ Err Fault.NotADesk }
+    ensures cause { IfErr result IsNoDevice }
+    ensures room { IfOk result (λ _. counts.now.moves + 1 ≤ 1000000000) }
+{
+    commands_stay_within_limits();
+    let passage = take(alloc, counts, read.body.as_str(), body)?;
+    let plan = plan(alloc, counts, number, user, read, &passage)?;
+    Ok((reply_of(number, &plan), plan))
+}
+
+/// The reply to a correction that is not refused, and what it writes, nothing where it is a repeat.
+fn decide<'a>(
+    alloc: Global,
+    counts: &Counters,
+    number: u32,
+    base: u64,
+    user: &str,
+    body: &'a [u8],
+    read: &CurrentRead,
+) -> Result<(Corrected, Option<CorrectionPlan<'a>>), Fault>
+    requires { 0 < number }
+    ensures answered { IfOk result (λ r. (s : Machine) (x : Sentence) → Reached s → IsCounted counts.now s
+        → slice_get s.sentences (number - 1) ≡ Some x → IsCurrentRead s x read.now
+        → Decides counts.now.limits s number base user.now body.now r.0 r.1) }
+    ensures text { IfOk result (λ r. IfSome r.1 (λ p. p.text ≡ body.now)) }
+    ensures refused { (r : AnyRefusal) → result ≡ Err (Fault.Refused r) → (s : Machine) (x : Sentence)
+        → Reached s → IsCounted counts.now s → slice_get s.sentences (number - 1) ≡ Some x
+        → IsCurrentRead s x read.now
+        → Steps counts.now.limits s (correct_it number base user.now body.now) (refused_by r) s }
+    ensures fails { IsWithin counts.now.limits → (s : Machine) (x : Sentence) → IsReachable s
+        → IsCounted counts.now s → slice_get s.sentences (number - 1) ≡ Some x → IsCurrentRead s x read.now
+        → result ≢ Err Fault.NotADesk }
+    ensures cause { IfErr result IsNoDevice }
+    ensures room { IfOk result (λ r. IfSome r.1 (λ _. counts.now.moves + 1 ≤ 1000000000)) }
+{
+    let found = found_of(read);
+    match judge_correction_before(u64::from(number), base, user, body, Some(&found))? {
+        Judged::Repeat(reply) => Ok((reply, None)),
+        Judged::Continue => {
+            let (reply, plan) = plan_body(alloc, counts, number, user, body, read)?;
+            Ok((reply, Some(plan)))
+        }
+    }
+}
+
+/// Reads the sentence of a correction, which stands, and judges the correction.
+fn planned<'a, S: Alter>(
+    alloc: Global,
+    conn: &mut Connection<S>,
+    counts: &Counters,
+    number: u32,
+    base: u64,
+    user: &str,
+    body: &'a [u8],
+) -> Result<(Corrected, Option<CorrectionPlan<'a>>), Fault>
+    requires { 0 < number }
+    ensures answered { Tells S.Store conn.old conn.new result (λ s r. IsCounted counts.now s
+        → number ≤ length s.sentences
+        → Decides counts.now.limits s number base user.now body.now r.0 r.1) }
+    ensures text { IfOk result (λ r. IfSome r.1 (λ p. p.text ≡ body.now)) }
+    ensures refused { RefusesAs S.Store conn.old conn.new result (λ s r. IsCounted counts.now s
+        → number ≤ length s.sentences
+        → Steps counts.now.limits s (correct_it number base user.now body.now) (refused_by r) s
+        × IsDeskOf S.Store conn.new s) }
+    ensures fails { HasCleanDisk (state S.Store conn.new) → (state S.Store conn.old).step_limit ≡ None
+        → IsWithin counts.now.limits → (s : Machine) → IsDeskOf S.Store conn.old s → IsCounted counts.now s
+        → number ≤ length s.sentences → result ≢ Err Fault.NotADesk }
+    ensures cause { IsFaultless S.Store conn.old conn.new → FailsOnlyAs IsNoDevice S.Store conn.old conn.new result }
+    ensures room { IfOk result (λ r. IfSome r.1 (λ _. counts.now.moves + 1 ≤ 1000000000)) }
+    ensures unchanged { ChangesNothing S.Store conn.old conn.new result }
+    ensures autocommit { conn.old.in_transaction ≡ false → conn.new.in_transaction ≡ false }
+    ensures keeps_records { KeepsRecords S.Store conn.old conn.new }
+    ensures commits_nothing { CommitsNothing S.Store conn.old conn.new }
+{
+    let read = find_current(conn, number)?;
+    decide(alloc, counts, number, base, user, body, &read)
+}
+
+/// Corrects the sentence with this number, from 1, which stands; with the reply, the totals after it, none where it is a
+/// repeat and nothing is written. `base` is the number of the revision that was corrected, from 1.
+///
+/// # Errors
+///
+/// `BadName`; of one that is no repeat `WrongState`, `NotYours`, `OwnWork`, `Stale`; `Read`, `Rule`, `Empty`, `NotOne`;
+/// `SentIdChanged`, `TextChanged`, `NothingChanged`; `Full`. The first that holds.
+pub fn correct<S: Alter>(
+    alloc: Global,
+    conn: &mut Connection<S>,
+    counts: &Counters,
+    number: u32,
+    base: u64,
+    user: &str,
+    body: &[u8],
+) -> Result<(Corrected, Option<Totals>), Fault>
+    requires autocommit { conn.old.in_transaction ≡ false }
+    requires row { 0 < number }
+    requires within { IsWithin counts.now.limits }
+    ensures answered { Tells S.Store conn.old conn.new result (λ s r. IsCounted counts.now s
+        → number ≤ length s.sentences
+        → Corrects S.Store counts.now.limits s number base user.now body.now conn.new r.0 r.1) }
+    ensures refused { RefusesAs S.Store conn.old conn.new result (λ s r. IsCounted counts.now s
+        → number ≤ length s.sentences
+        → Steps counts.now.limits s (correct_it number base user.now body.now) (refused_by r) s
+        × IsDeskOf S.Store conn.new s) }
+    ensures fails { KnowsDeskWhere S.Store conn.old conn.new result (λ s so. IsCounted counts.now s
+        → number ≤ length s.sentences → so) }
+    ensures cause { BlamesNoDevice S.Store conn.old conn.new result (λ s so. IsCounted counts.now s
+        → number ≤ length s.sentences
+        → IsShort body.now → HasRevisionRowids (state S.Store conn.old) 1 → so) }
+    ensures room { IfOk result (λ r. IfSome r.1 (λ _. counts.now.moves + 1 ≤ 1000000000)) }
+    ensures keeps_records { KeepsRecordsOnErr S.Store conn.old conn.new result }
+    ensures crash { CrashesTo S.Store conn.old conn.new (λ s db. IsCounted counts.now s
+        → number ≤ length s.sentences
+        → (a : Answer) × (t : Machine) × Steps counts.now.limits s (correct_it number base user.now body.now) a t
+        × AreStored (tables_of t) db) }
+    ensures autocommit { conn.new.in_transaction ≡ false }
+{
+    commands_stay_within_limits();
+    let (reply, plan) = planned(alloc, conn, counts, number, base, user, body)?;
+    let Some(plan) = plan else {
+        return Ok((reply, None));
+    };
+    committing::correct(
+        conn,
+        number,
+        plan.rev,
+        plan.words,
+        user,
+        plan.text,
+        &plan.change,
+    )?;
+    Ok((reply, Some(plan.totals)))
+}
+
+/// The refusal of a correction of a sentence that does not stand.
+pub fn no_correction(number: u64, base: u64, user: &str, body: &[u8]) -> Fault
+    ensures refused { (r : AnyRefusal) → result ≡ Fault.Refused r → (l : AnyLimits) (s : Machine)
+        → LacksSentence s number → Steps l s (correct_it number base user.now body.now) (refused_by r) s }
+    ensures fails { result ≢ Fault.NotADesk }
+    ensures cause { IsNoDevice result }
+{
+    match judge_correction_before(number, base, user, body, None) {
+        Err(refusal) => Fault::from(refusal),
+        Ok(_) => Fault::NotADesk,
+    }
+}

@@ -1,0 +1,180 @@
+//! What a command reads of a desk before it is judged.
+
+ghost use Rattle.std.specs.Prelude.{◌≡◌, ◌≢◌, ◌-◌, ◌<◌, Some, None, Err, slice_get, option_map};
+ghost use Rattle.std.specs.Prelude.{string_bytes, IfOk};
+ghost use Rattle.std.specs.Prelude.{false, IfErr};
+ghost use Rattle.sqlite.specs.Held.{state};
+ghost use Rattle.tb_core.specs.declared.refusals.Refusal.{Refusal as AnyRefusal};
+ghost use Rattle.tb_core.specs.declared.kinds.State.{State as AnyState};
+ghost use Rattle.tb_core.specs.Machine.{Batch, Sentence};
+ghost use Rattle.tb_tables.specs.Values.{sentence_of};
+ghost use Rattle.tb_refine.specs.Numbers.{state_number};
+ghost use Rattle.tb_refine.specs.DeskTables.{sentence_record};
+ghost use Rattle.tb_core.specs.Found.{FindsBatch};
+ghost use Rattle.tb_commands.specs.ReadOf.{IsSentenceRead};
+ghost use Rattle.tb_refine.specs.Calls.{KnowsDesk, KnowsDeskWhere, Tells};
+ghost use Rattle.tb_tables.specs.Leaving.{ChangesNothing, CommitsNothing, KeepsRecords, IsFaultless, FailsOnlyAs};
+ghost use Rattle.tb_refine.specs.Faults.{IsNoDevice};
+
+use sqlite::{Alter, Connection};
+use tb_core::{Fault, State, reached_states_are_well};
+use tb_refine::{batch_number, desk_rows_are_readable, faults, state_numbered};
+use tb_tables::{BatchRow, SentenceRow};
+
+/// A batch, as it was read.
+#[derive(Debug, Drop)]
+pub struct BatchRead {
+    /// Its number, from 1.
+    pub number: u32,
+    pub state: State,
+    /// Who works on it, empty for nobody.
+    pub worker: String,
+}
+
+/// A row as a batch.
+fn read_batch(row: BatchRow, number: u32) -> Result<BatchRead, Fault>
+    ensures batch { IfOk result (λ f. (st : AnyState) → row.state ≡ state_number st → (f.number ≡ number)
+        × (f.state ≡ st) × (f.worker ≡ row.worker)) }
+    ensures never_refuses { (r : AnyRefusal) → result ≢ Err (Fault.Refused r) }
+    ensures fails { (st : AnyState) → row.state ≡ state_number st → result ≢ Err Fault.NotADesk }
+    ensures cause { IfErr result IsNoDevice }
+{
+    let Some(state) = state_numbered(row.state) else {
+        return Err(Fault::NotADesk);
+    };
+    Ok(BatchRead {
+        number,
+        state,
+        worker: row.worker,
+    })
+}
+
+/// The batch with this number, from 1, which stands.
+fn batch<S: Alter>(conn: &mut Connection<S>, number: u32) -> Result<BatchRead, Fault>
+    ensures answered { Tells S.Store conn.old conn.new result (λ s f. (b : Batch) → slice_get s.batches (number - 1)
+        ≡ Some b → (f.number ≡ number) × (f.state ≡ b.state) × (string_bytes f.worker ≡ b.worker)) }
+    ensures never_refuses { (r : AnyRefusal) → result ≢ Err (Fault.Refused r) }
+    ensures fails { KnowsDeskWhere S.Store conn.old conn.new result (λ s so. 0 < number → (b : Batch)
+        → slice_get s.batches (number - 1) ≡ Some b → so) }
+    ensures cause { IsFaultless S.Store conn.old conn.new → FailsOnlyAs IsNoDevice S.Store conn.old conn.new result }
+    ensures unchanged { ChangesNothing S.Store conn.old conn.new result }
+    ensures autocommit { conn.old.in_transaction ≡ false → conn.new.in_transaction ≡ false }
+    ensures keeps_records { KeepsRecords S.Store conn.old conn.new }
+    ensures commits_nothing { CommitsNothing S.Store conn.old conn.new }
+{
+    desk_rows_are_readable();
+    if number == 0 {
+        return Err(Fault::NotADesk);
+    }
+    match tb_reads::batch(conn, number) {
+        Ok(Some(row)) => read_batch(row, number),
+        Ok(None) => Err(Fault::NotADesk),
+        Err(error) => Err(faults::of_read(error)),
+    }
+}
+
+/// The batch with this name, or none where no batch has it. Nothing is refused.
+pub fn find_batch<S: Alter>(
+    conn: &mut Connection<S>,
+    name: &str,
+) -> Result<Option<BatchRead>, Fault>
+    ensures answered { Tells S.Store conn.old conn.new result (λ s found. FindsBatch s name.now (option_map (λ f.
+        record { number = f.number; state = f.state; worker = string_bytes f.worker }) found)) }
+    ensures never_refuses { (r : AnyRefusal) → result ≢ Err (Fault.Refused r) }
+    ensures fails { KnowsDesk S.Store conn.old conn.new result }
+    ensures cause { IsFaultless S.Store conn.old conn.new → FailsOnlyAs IsNoDevice S.Store conn.old conn.new result }
+    ensures unchanged { ChangesNothing S.Store conn.old conn.new result }
+    ensures autocommit { conn.old.in_transaction ≡ false → conn.new.in_transaction ≡ false }
+    ensures keeps_records { KeepsRecords S.Store conn.old conn.new }
+    ensures commits_nothing { CommitsNothing S.Store conn.old conn.new }
+{
+    let Some(number) = batch_number(conn, name)? else {
+        return Ok(None);
+    };
+    let found = batch(conn, number)?;
+    Ok(Some(found))
+}
+
+/// A sentence, as it was read.
+#[derive(Debug, Drop)]
+pub struct SentenceRead {
+    /// The number of its batch, from 1.
+    pub batch: u32,
+    /// The state of that batch.
+    pub state: State,
+    /// Who works on it, empty for nobody.
+    pub worker: String,
+    pub pulled: bool,
+    /// The number of its current revision, and the words of that.
+    pub rev: u32,
+    pub words: u32,
+}
+
+/// The row of the sentence with this number, from 1, which stands.
+fn sentence_row<S: Alter>(conn: &mut Connection<S>, number: u32) -> Result<SentenceRow, Fault>
+    requires { 0 < number }
+    ensures answered { Tells S.Store conn.old conn.new result (λ s f. (x : Sentence)
+        → slice_get s.sentences (number - 1) ≡ Some x → sentence_of f ≡ sentence_record x) }
+    ensures never_refuses { (r : AnyRefusal) → result ≢ Err (Fault.Refused r) }
+    ensures fails { KnowsDeskWhere S.Store conn.old conn.new result (λ s so. (x : Sentence)
+        → slice_get s.sentences (number - 1) ≡ Some x → so) }
+    ensures cause { IsFaultless S.Store conn.old conn.new → FailsOnlyAs IsNoDevice S.Store conn.old conn.new result }
+    ensures unchanged { ChangesNothing S.Store conn.old conn.new result }
+    ensures autocommit { conn.old.in_transaction ≡ false → conn.new.in_transaction ≡ false }
+    ensures keeps_records { KeepsRecords S.Store conn.old conn.new }
+    ensures commits_nothing { CommitsNothing S.Store conn.old conn.new }
+{
+    desk_rows_are_readable();
+    match tb_reads::sentence(conn, number) {
+        Ok(Some(row)) => Ok(row),
+        Ok(None) => Err(Fault::NotADesk),
+        Err(error) => Err(faults::of_read(error)),
+    }
+}
+
+/// Whether the sentence with this number, from 1, which stands, is pulled.
+fn is_pulled<S: Alter>(conn: &mut Connection<S>, number: u32) -> Result<bool, Fault>
+    requires { 0 < number }
+    ensures answered { Tells S.Store conn.old conn.new result (λ s pulled. (x : Sentence)
+        → slice_get s.sentences (number - 1) ≡ Some x → pulled ≡ x.pulled) }
+    ensures never_refuses { (r : AnyRefusal) → result ≢ Err (Fault.Refused r) }
+    ensures fails { KnowsDesk S.Store conn.old conn.new result }
+    ensures cause { IsFaultless S.Store conn.old conn.new → FailsOnlyAs IsNoDevice S.Store conn.old conn.new result }
+    ensures unchanged { ChangesNothing S.Store conn.old conn.new result }
+    ensures autocommit { conn.old.in_transaction ≡ false → conn.new.in_transaction ≡ false }
+    ensures keeps_records { KeepsRecords S.Store conn.old conn.new }
+    ensures commits_nothing { CommitsNothing S.Store conn.old conn.new }
+{
+    match tb_reads::is_pulled(conn, number) {
+        Ok(pulled) => Ok(pulled),
+        Err(error) => Err(faults::of_read(error)),
+    }
+}
+
+/// The sentence with this number, from 1, which stands, with what stands of its batch. Nothing is refused.
+pub fn find_sentence<S: Alter>(conn: &mut Connection<S>, number: u32) -> Result<SentenceRead, Fault>
+    requires { 0 < number }
+    ensures answered { Tells S.Store conn.old conn.new result (λ s f. (x : Sentence)
+        → slice_get s.sentences (number - 1) ≡ Some x → IsSentenceRead s x f) }
+    ensures never_refuses { (r : AnyRefusal) → result ≢ Err (Fault.Refused r) }
+    ensures fails { KnowsDeskWhere S.Store conn.old conn.new result (λ s so. (x : Sentence)
+        → slice_get s.sentences (number - 1) ≡ Some x → so) }
+    ensures cause { IsFaultless S.Store conn.old conn.new → FailsOnlyAs IsNoDevice S.Store conn.old conn.new result }
+    ensures unchanged { ChangesNothing S.Store conn.old conn.new result }
+    ensures autocommit { conn.old.in_transaction ≡ false → conn.new.in_transaction ≡ false }
+    ensures keeps_records { KeepsRecords S.Store conn.old conn.new }
+    ensures commits_nothing { CommitsNothing S.Store conn.old conn.new }
+{
+    reached_states_are_well();
+    let row = sentence_row(conn, number)?;
+    let of = batch(conn, row.batch)?;
+    let pulled = is_pulled(conn, number)?;
+    Ok(SentenceRead {
+        batch: row.batch,
+        state: of.state,
+        worker: of.worker,
+        pulled,
+        rev: row.rev,
+        words: row.words,
+    })
+}

@@ -1,0 +1,68 @@
+//! Rows of moves as moves of the machine.
+
+ghost use Rattle.std.specs.Prelude.{◌≡◌, ◌≢◌, List, map, Err, IfOk, IfErr};
+ghost use Rattle.tb_core.specs.declared.refusals.Refusal.{Refusal as AnyRefusal};
+ghost use Rattle.tb_core.specs.Moves.{MoveText};
+ghost use Rattle.tb_tables.specs.Values.{move_of};
+ghost use Rattle.tb_refine.specs.DeskTables.{move_record};
+ghost use Rattle.tb_commands.specs.Numbered.{AreNumbered};
+ghost use Rattle.tb_refine.specs.Faults.{IsNoDevice};
+
+use std::alloc::Global;
+use tb_core::{Fault, Move};
+use tb_refine::{kind_numbered, state_before, state_numbered};
+use tb_tables::MoveRow;
+
+/// The move of a row, with its number.
+fn read_move(alloc: Global, row: &MoveRow, no: u64) -> Result<Move, Fault>
+    ensures record { IfOk result (λ m. move_record m ≡ move_of row.now) }
+    ensures number { IfOk result (λ m. m.no ≡ no) }
+    ensures known { result ≡ Err Fault.NotADesk → (m : MoveText) → move_of row.now ≢ move_record m }
+    ensures cause { IfErr result IsNoDevice }
+    ensures never_refuses { (r : AnyRefusal) → result ≢ Err (Fault.Refused r) }
+{
+    let Some(kind) = kind_numbered(row.kind) else {
+        return Err(Fault::NotADesk);
+    };
+    let Some(from) = state_before(row.from) else {
+        return Err(Fault::NotADesk);
+    };
+    let Some(to) = state_numbered(row.to) else {
+        return Err(Fault::NotADesk);
+    };
+    let who = String::from_str(alloc, &row.who)?;
+    Ok(Move {
+        no,
+        kind,
+        batch: u64::from(row.batch),
+        sent: u64::from(row.sent),
+        from,
+        to,
+        sentences: u64::from(row.sentences),
+        words_out: u64::from(row.words_out),
+        words_in: u64::from(row.words_in),
+        who,
+    })
+}
+
+/// The moves of rows that are numbered from 1, as they stand.
+///
+/// # Errors
+///
+/// `NotADesk` where a row names a kind or a state by a number that stands for none; want of memory.
+pub fn read_moves(alloc: Global, rows: &[MoveRow]) -> Result<Vec<Move>, Fault>
+    ensures records { IfOk result (λ v. map move_record v.items ≡ map move_of rows.now) }
+    ensures numbers { IfOk result (λ v. AreNumbered 1 v.items) }
+    ensures known { result ≡ Err Fault.NotADesk → (ms : List MoveText)
+        → map move_of rows.now ≢ map move_record ms }
+    ensures cause { IfErr result IsNoDevice }
+    ensures never_refuses { (r : AnyRefusal) → result ≢ Err (Fault.Refused r) }
+{
+    let mut moves = Vec::new(alloc);
+    let mut no = 0u64;
+    for row in rows {
+        no += 1;
+        moves.push(read_move(alloc, row, no)?)?;
+    }
+    Ok(moves)
+}

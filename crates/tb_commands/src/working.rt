@@ -1,0 +1,154 @@
+//! What of a batch its events move: its sentences that are not pulled.
+
+ghost use Rattle.std.specs.Prelude.{◌≡◌, ◌≢◌, ◌<◌, ◌≤◌, ◌+◌, ◌^◌, length, Err, sum_by};
+ghost use Rattle.std.specs.Prelude.{map, IfOk, false, IfErr};
+ghost use Rattle.sqlite_trees.specs.Tree.{IsAscending};
+ghost use Rattle.tb_core.specs.declared.refusals.Refusal.{Refusal as AnyRefusal};
+ghost use Rattle.tb_core.specs.Machine.{weigh, at_work, one, words};
+ghost use Rattle.tb_core.specs.Rows.{pulled_from};
+ghost use Rattle.tb_refine.specs.DeskTables.{sentence_record};
+ghost use Rattle.tb_reads.specs.Found.{work_of};
+ghost use Rattle.tb_commands.specs.Working.{is_listed, unless_pulled, each_one, its_words};
+ghost use Rattle.tb_refine.specs.Calls.{KnowsDesk, Tells};
+ghost use Rattle.tb_tables.specs.Leaving.{ChangesNothing, CommitsNothing, KeepsRecords, IsFaultless, FailsOnlyAs};
+ghost use Rattle.tb_refine.specs.Faults.{IsNoDevice};
+
+use sqlite::{Alter, Connection};
+use std::alloc::Global;
+use tb_core::{Fault, reached_states_are_well};
+use tb_reads::BatchSentence;
+use tb_refine::{desk_rows_are_readable, desk_rows_fit, faults};
+
+/// Sentences, and the words of their current revisions.
+#[derive(Clone, Copy, Debug)]
+pub(crate) struct Sums {
+    pub sentences: u32,
+    pub words: u32,
+}
+
+/// Whether a number is among others, which ascend.
+fn is_among(number: u32, numbers: &[u32]) -> bool
+    ensures { IsAscending (λ a b. a < b) numbers.now → result ≡ is_listed number numbers.now }
+{
+    numbers.binary_search(&number).is_ok()
+}
+
+/// One more sentence, with its words.
+fn with_one(sums: Sums, item: &BatchSentence) -> Result<Sums, Fault>
+    ensures value { IfOk result (λ r. (r.sentences ≡ sums.sentences + 1)
+        × (r.words ≡ sums.words + item.now.words)) }
+    ensures never_refuses { (r : AnyRefusal) → result ≢ Err (Fault.Refused r) }
+    ensures fails { sums.sentences + 1 < 2 ^ 32 → sums.words + item.now.words < 2 ^ 32
+        → result ≢ Err Fault.NotADesk }
+    ensures cause { IfErr result IsNoDevice }
+{
+    let (Some(sentences), Some(words)) = (
+        sums.sentences.checked_add(1),
+        sums.words.checked_add(item.words),
+    ) else {
+        return Err(Fault::NotADesk);
+    };
+    Ok(Sums { sentences, words })
+}
+
+/// The sentence, with its words, unless it is pulled.
+fn with_work(sums: Sums, item: &BatchSentence, pulled: &[u32]) -> Result<Sums, Fault>
+    ensures value { IfOk result (λ r. IsAscending (λ a b. a < b) pulled.now
+        → (r.sentences ≡ sums.sentences + unless_pulled pulled.now each_one item.now)
+        × (r.words ≡ sums.words + unless_pulled pulled.now its_words item.now)) }
+    ensures bound { IfOk result (λ r. (r.sentences ≤ sums.sentences + 1)
+        × (r.words ≤ sums.words + item.now.words)) }
+    ensures never_refuses { (r : AnyRefusal) → result ≢ Err (Fault.Refused r) }
+    ensures fails { sums.sentences + 1 < 2 ^ 32 → sums.words + item.now.words < 2 ^ 32
+        → result ≢ Err Fault.NotADesk }
+    ensures cause { IfErr result IsNoDevice }
+{
+    if is_among(item.number, pulled) {
+        return Ok(sums);
+    }
+    with_one(sums, item)
+}
+
+/// The sums of those that are not pulled.
+fn sums_of(work: &[BatchSentence], pulled: &[u32]) -> Result<Sums, Fault>
+    ensures value { IfOk result (λ r. IsAscending (λ a b. a < b) pulled.now
+        → (r.sentences ≡ sum_by (unless_pulled pulled.now each_one) work.now)
+        × (r.words ≡ sum_by (unless_pulled pulled.now its_words) work.now)) }
+    ensures never_refuses { (r : AnyRefusal) → result ≢ Err (Fault.Refused r) }
+    ensures fails { length work.now < 2 ^ 32 → sum_by its_words work.now < 2 ^ 32 → result ≢ Err Fault.NotADesk }
+    ensures cause { IfErr result IsNoDevice }
+{
+    let mut sums = Sums {
+        sentences: 0,
+        words: 0,
+    };
+    for item in work {
+        sums = with_work(sums, item, pulled)?;
+    }
+    Ok(sums)
+}
+
+/// The sentences of the batch with this number.
+fn read_work<S: Alter>(
+    alloc: Global,
+    conn: &mut Connection<S>,
+    number: u32,
+) -> Result<Vec<BatchSentence>, Fault>
+    ensures answered { Tells S.Store conn.old conn.new result (λ s v.
+        v.items ≡ work_of number 1 (map sentence_record s.sentences)) }
+    ensures never_refuses { (r : AnyRefusal) → result ≢ Err (Fault.Refused r) }
+    ensures fails { KnowsDesk S.Store conn.old conn.new result }
+    ensures cause { IsFaultless S.Store conn.old conn.new → FailsOnlyAs IsNoDevice S.Store conn.old conn.new result }
+    ensures unchanged { ChangesNothing S.Store conn.old conn.new result }
+    ensures autocommit { conn.old.in_transaction ≡ false → conn.new.in_transaction ≡ false }
+    ensures keeps_records { KeepsRecords S.Store conn.old conn.new }
+    ensures commits_nothing { CommitsNothing S.Store conn.old conn.new }
+{
+    desk_rows_fit();
+    desk_rows_are_readable();
+    match tb_reads::sentences_of(alloc, conn, number) {
+        Ok(work) => Ok(work),
+        Err(error) => Err(faults::of_read(error)),
+    }
+}
+
+/// The numbers of all pulled sentences, ascending.
+fn read_pulled<S: Alter>(alloc: Global, conn: &mut Connection<S>) -> Result<Vec<u32>, Fault>
+    ensures answered { Tells S.Store conn.old conn.new result (λ s v. v.items ≡ pulled_from 1 s.sentences) }
+    ensures never_refuses { (r : AnyRefusal) → result ≢ Err (Fault.Refused r) }
+    ensures fails { KnowsDesk S.Store conn.old conn.new result }
+    ensures cause { IsFaultless S.Store conn.old conn.new → FailsOnlyAs IsNoDevice S.Store conn.old conn.new result }
+    ensures unchanged { ChangesNothing S.Store conn.old conn.new result }
+    ensures autocommit { conn.old.in_transaction ≡ false → conn.new.in_transaction ≡ false }
+    ensures keeps_records { KeepsRecords S.Store conn.old conn.new }
+    ensures commits_nothing { CommitsNothing S.Store conn.old conn.new }
+{
+    desk_rows_are_readable();
+    match tb_reads::pulled(alloc, conn) {
+        Ok(numbers) => Ok(numbers),
+        Err(error) => Err(faults::of_read(error)),
+    }
+}
+
+/// The sentences of the batch with this number, from 1, that are not pulled, and their words.
+pub(crate) fn find_work<S: Alter>(
+    alloc: Global,
+    conn: &mut Connection<S>,
+    number: u32,
+) -> Result<Sums, Fault>
+    ensures answered { Tells S.Store conn.old conn.new result (λ s r.
+        (r.sentences ≡ weigh (at_work number one) s.sentences)
+        × (r.words ≡ weigh (at_work number words) s.sentences)) }
+    ensures never_refuses { (r : AnyRefusal) → result ≢ Err (Fault.Refused r) }
+    ensures fails { KnowsDesk S.Store conn.old conn.new result }
+    ensures cause { IsFaultless S.Store conn.old conn.new → FailsOnlyAs IsNoDevice S.Store conn.old conn.new result }
+    ensures unchanged { ChangesNothing S.Store conn.old conn.new result }
+    ensures autocommit { conn.old.in_transaction ≡ false → conn.new.in_transaction ≡ false }
+    ensures keeps_records { KeepsRecords S.Store conn.old conn.new }
+    ensures commits_nothing { CommitsNothing S.Store conn.old conn.new }
+{
+    reached_states_are_well();
+    let work = read_work(alloc, conn, number)?;
+    let pulled = read_pulled(alloc, conn)?;
+    sums_of(work.as_slice(), pulled.as_slice())
+}

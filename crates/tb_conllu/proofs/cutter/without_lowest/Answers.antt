@@ -1,5 +1,0 @@
-use Rattle.tb_conllu.proofs.MarkBits.{without}
-use Rattle.tb_conllu.proofs.cutter.without_lowest.Goals as goal
-
-pub returns : goal.returns
-returns c low k set below = without low c.args.marks k set below

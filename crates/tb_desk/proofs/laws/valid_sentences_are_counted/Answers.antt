@@ -1,5 +1,0 @@
-use Rattle.tb_desk.proofs.Replies.{counted_whole}
-use Rattle.tb_desk.proofs.laws.valid_sentences_are_counted.Goals as goal
-
-pub returns : goal.returns
-returns c = counted_whole c.one_reply_is_true.ensures

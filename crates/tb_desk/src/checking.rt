@@ -1,0 +1,81 @@
+//! The check of a file, with what is told of it while the file is at hand.
+
+ghost use Rattle.std.specs.Prelude.{◌≡◌};
+ghost use Rattle.tb_check.specs.Check.{Answers, IsReplyToRead, file_limit};
+
+use crate::diagnostics::{Diagnostic, Outcome};
+use crate::explaining::reported_of_reply;
+use std::alloc::Global;
+use tb_check::{CheckReply, FILE_LIMIT, Input, check_file, put_reply, read_all};
+use tb_conllu::{Sink, Source};
+use tb_core::Refusal;
+use tb_http::{Reply, RequestFault};
+use tb_words::Asked;
+
+/// What the check of a source answers, and the file, where it came whole.
+#[derive(Drop)]
+struct Checked {
+    reply: CheckReply,
+    file: Option<Vec<u8>>,
+}
+
+fn without_file(reply: CheckReply) -> Checked
+    ensures { result.reply ≡ reply }
+{
+    Checked { reply, file: None }
+}
+
+fn check_source<R: Source>(alloc: Global, source: &mut R) -> Checked
+    ensures { IsReplyToRead (R.IsFailure source.new) file_limit (R.left source.old) (R.left source.new) result.reply }
+{
+    match read_all(alloc, source, FILE_LIMIT) {
+        Input::Whole(file) => Checked {
+            reply: check_file(alloc, &file, FILE_LIMIT),
+            file: Some(file),
+        },
+        Input::TooLong => without_file(CheckReply::Long),
+        Input::Memory => without_file(CheckReply::Memory),
+        Input::Broken => without_file(CheckReply::Device),
+    }
+}
+
+/// The reply of a desk that says the same. Of counts nothing is told, and of an input that fails whoever reads it does.
+fn reply_for(reply: CheckReply) -> Option<Reply> {
+    match reply {
+        CheckReply::Counts { .. } | CheckReply::Device => None,
+        CheckReply::Read { line, code } => Some(Reply::Refused(Refusal::Read(line, code))),
+        CheckReply::Rule {
+            sentence,
+            rule,
+            row,
+        } => Some(Reply::Refused(Refusal::Rule(sentence, rule, row))),
+        CheckReply::Long => Some(Reply::Faulty(RequestFault::Long)),
+        CheckReply::Memory => Some(Reply::Memory),
+    }
+}
+
+fn reported_of_check(rt: &HostRuntime, checked: &Checked) -> Option<Diagnostic> {
+    let reply = reply_for(checked.reply)?;
+    match &checked.file {
+        Some(file) => reported_of_reply(rt, reply, file.as_slice(), Asked::Other),
+        None => reported_of_reply(rt, reply, &[], Asked::Other),
+    }
+}
+
+/// Checks what the source gives, up to 4,194,304 bytes, as `run_check`, and tells of a refusal.
+pub(crate) fn check_reported<R: Source, S: Sink>(
+    rt: &HostRuntime,
+    source: &mut R,
+    out: &mut S,
+) -> Outcome
+    ensures { Answers (IsReplyToRead (R.IsFailure source.new) file_limit (R.left source.old) (R.left source.new))
+        (S.held out.old) (S.held out.new) (S.IsRefusal out.new) result.status }
+{
+    let checked = check_source(rt.alloc(), source);
+    let reply = checked.reply;
+    let status = put_reply(out, reply.line().as_str(), reply.status());
+    Outcome {
+        status,
+        reported: reported_of_check(rt, &checked),
+    }
+}

@@ -1,0 +1,204 @@
+//! Lines of words done on a desk, and what is told of their answers. It is made from the value that was refused, while
+//! the input that it is about is at hand.
+
+use crate::causes::Cause;
+use crate::diagnostics::{Diagnostic, Outcome, wants_words};
+use crate::nothing::words_of_nothing;
+use sqlite::Alter;
+use std::io::{self, Write};
+use tb_answer::{DeskCall, Question, ask, obey, put_body, put_reply, reply_for_fault, run_line};
+use tb_cli::Line;
+use tb_http::Reply;
+use tb_match::Strategy;
+use tb_query::parse;
+use tb_store::Desk;
+use tb_words::{Asked, Words, words_of_query, words_of_reply};
+
+/// What is told of a reply, where words are wanted.
+pub(crate) fn reported_of_reply(
+    rt: &HostRuntime,
+    reply: Reply,
+    body: &[u8],
+    asked: Asked,
+) -> Option<Diagnostic> {
+    if !wants_words(rt) {
+        return None;
+    }
+    reported_of(words_of_reply(rt.alloc(), reply, body, asked))
+}
+
+fn reported_of(words: Option<Words>) -> Option<Diagnostic> {
+    match words {
+        Some(words) => Some(Diagnostic::from(Cause::Words(words))),
+        None => None,
+    }
+}
+
+/// Puts a reply and tells of it.
+fn put_reported<W: Write>(
+    rt: &HostRuntime,
+    reply: Reply,
+    body: &[u8],
+    asked: Asked,
+    out: &mut W,
+) -> Outcome {
+    Outcome {
+        status: put_reply(out, reply),
+        reported: reported_of_reply(rt, reply, body, asked),
+    }
+}
+
+fn asked_of(line: &Line) -> Asked {
+    match line {
+        Line::Event { .. } => Asked::Event,
+        Line::Correct { base, .. } => Asked::Correction(*base),
+        Line::Pull { .. } | Line::Restore { .. } => Asked::Pull,
+        _ => Asked::Other,
+    }
+}
+
+fn answer_question<S: Alter, W: Write>(
+    rt: &HostRuntime,
+    question: Question,
+    desk: &mut Desk<S>,
+    out: &mut W,
+) -> Outcome {
+    match ask(rt.alloc(), desk, question) {
+        Ok(body) => Outcome::from(put_body(out, body.text.as_slice())),
+        Err(reply) => put_reported(rt, reply, &[], Asked::Other, out),
+    }
+}
+
+/// An output of which is known whether it has taken more than one line.
+#[derive(Drop)]
+struct Counted<W> {
+    out: W,
+    lines: u8,
+}
+
+impl<W: Write> Write for Counted<W> {
+    fn write(&mut self, buf: &[u8]) -> io::Result<usize> {
+        let taken = self.out.write(buf)?;
+        for byte in buf.iter().take(taken) {
+            if self.lines > 1 {
+                break;
+            }
+            if *byte == b'\n' {
+                self.lines = self.lines.saturating_add(1);
+            }
+        }
+        Ok(taken)
+    }
+
+    fn flush(&mut self) -> io::Result<()> {
+        self.out.flush()
+    }
+}
+
+/// The query of a line and its strategy.
+fn query_of(line: &Line) -> Option<(&str, Strategy)> {
+    match line {
+        Line::Search {
+            query,
+            strategy,
+            ..
+        }
+        | Line::Count {
+            query,
+            strategy,
+            ..
+        } => Some((query.as_str(), *strategy)),
+        _ => None,
+    }
+}
+
+/// What a refused export is told. A desk that refuses stays as it was, so it is asked again.
+fn words_of_export<S: Alter>(rt: &HostRuntime, desk: &mut Desk<S>, line: &Line) -> Option<Words> {
+    let Line::Export {
+        name: Some(name),
+        ..
+    } = line
+    else {
+        return None;
+    };
+    let mut text = Vec::new(rt.alloc());
+    match desk.export_batch(name.as_str(), &mut text) {
+        Ok(()) => None,
+        Err(fault) => words_of_reply(rt.alloc(), reply_for_fault(fault), &[], Asked::Other),
+    }
+}
+
+/// What a refused query is told.
+fn words_of_asked<S: Alter>(
+    rt: &HostRuntime,
+    desk: &mut Desk<S>,
+    text: &str,
+    strategy: Strategy,
+) -> Option<Words> {
+    let query = match parse(rt.alloc(), text) {
+        Ok(query) => query,
+        Err(fault) => return Some(words_of_query(rt.alloc(), text, fault)),
+    };
+    match desk.number(&query, strategy) {
+        Ok(_) => None,
+        Err(fault) => words_of_reply(rt.alloc(), reply_for_fault(fault), &[], Asked::Other),
+    }
+}
+
+/// What is told of what was read off a desk: why it was refused, or why a query finds nothing.
+fn words_of_reading<S: Alter>(
+    rt: &HostRuntime,
+    desk: &mut Desk<S>,
+    line: &Line,
+    status: u8,
+    lines: u8,
+) -> Option<Words> {
+    match query_of(line) {
+        Some((text, strategy)) if status == 0 && lines == 1 => {
+            words_of_nothing(rt, desk, text, strategy)
+        }
+        Some((text, strategy)) if status != 0 => words_of_asked(rt, desk, text, strategy),
+        None if status == 1 => words_of_export(rt, desk, line),
+        _ => None,
+    }
+}
+
+fn read_off<S: Alter, W: Write>(
+    rt: &HostRuntime,
+    line: &Line,
+    desk: &mut Desk<S>,
+    out: &mut W,
+) -> Outcome {
+    let mut counted = Counted { out, lines: 0 };
+    let nothing = Ok(Vec::new(rt.alloc()));
+    let status = run_line(rt.alloc(), line, nothing, desk, &mut counted);
+    if !wants_words(rt) {
+        return Outcome::from(status);
+    }
+    Outcome {
+        status,
+        reported: reported_of(words_of_reading(rt, desk, line, status, counted.lines)),
+    }
+}
+
+/// Does a line on a desk where its body came, else tells why it did not; puts the answer, and tells of it.
+pub(crate) fn run_reported<S: Alter, W: Write>(
+    rt: &HostRuntime,
+    line: &Line,
+    body: Result<Vec<u8>, Reply>,
+    desk: &mut Desk<S>,
+    out: &mut W,
+) -> Outcome {
+    let body = match body {
+        Ok(body) => body,
+        Err(reply) => return put_reported(rt, reply, &[], Asked::Other, out),
+    };
+    match DeskCall::of_line(line, body.as_slice()) {
+        Some(DeskCall::Command(command)) => {
+            let reply = obey(desk, command);
+            put_reported(rt, reply, body.as_slice(), asked_of(line), out)
+        }
+        Some(DeskCall::Question(question)) => answer_question(rt, question, desk, out),
+        None => read_off(rt, line, desk, out),
+    }
+}

@@ -1,0 +1,175 @@
+//! The desk over HTTP on loopback: one connection after another, and on each one request.
+
+use crate::callers::Caller;
+use crate::causes::{Cause, PortCause};
+use crate::diagnostics::{Diagnostic, Outcome};
+use crate::patience::{Answer, Patient, has_changed};
+use crate::place::Place;
+use crate::waiting::Waiting;
+use sqlite::Alter;
+use std::alloc::Global;
+use std::io::{self, BufWriter, Read, Write};
+use std::net::{Ipv4Addr, Shutdown, TcpListener, TcpStream};
+use tb_answer::{Broken, answer, put_reply, respond_reply};
+use tb_http::{BODY_BYTES, Reply, Routes, Status};
+use tb_store::Desk;
+
+/// How many seconds a client may take to see its answer, between two pieces that it still sends, and in all.
+const FAREWELL: u64 = 1;
+
+const WHOLE_FAREWELL: u64 = 2;
+
+const BUFFER: usize = 65_536;
+
+/// Takes what a client still sends after its answer: were the connection closed at once, what is on its way would
+/// have the system take the answer back.
+fn take_rest<'a>(rt: &'a HostRuntime, stream: &'a TcpStream) -> io::Result<()> {
+    stream.shutdown(Shutdown::Write)?;
+    let mut rest = [0; 4096];
+    let patient = Patient::new(rt, stream, None, FAREWELL, WHOLE_FAREWELL)?;
+    let mut reader = patient.take(BODY_BYTES as u64 * 2);
+    for _ in 0..u64::MAX {
+        if reader.read(&mut rest)? == 0 {
+            return Ok(());
+        }
+    }
+    Ok(())
+}
+
+/// Parts from a client that has its answer. A connection that fails meanwhile has ended.
+fn part<'a>(rt: &'a HostRuntime, stream: &'a TcpStream) {
+    let _ = take_rest(rt, stream);
+}
+
+/// Tells a client that its request is not done, which takes no memory.
+fn refuse<'a>(rt: &'a HostRuntime, stream: &'a TcpStream, reply: Reply) {
+    let mut out = Answer::new(rt, stream);
+    let _ = respond_reply(&mut out, reply);
+    part(rt, stream);
+}
+
+/// Reads one request of a connection and answers it. Gives the cause for which the desk can be served no further. Where
+/// its files are no longer where they were, nothing is done. A connection that fails has been served.
+fn serve_one<'a, S: Alter>(
+    rt: &'a HostRuntime,
+    routes: &Routes,
+    desk: &mut Desk<S>,
+    place: Option<&'a Place>,
+    caller: &'a Caller,
+) -> Option<Cause> {
+    let stream = caller.stream();
+    if has_changed(rt, place) {
+        refuse(rt, stream, Reply::Device);
+        return Some(Cause::FilesMoved);
+    }
+    let Ok(mut reader) = caller.request(rt, place) else {
+        return None;
+    };
+    let Ok(mut out) = BufWriter::with_capacity(rt.alloc(), BUFFER, Answer::new(rt, stream)) else {
+        refuse(rt, stream, Reply::Memory);
+        return None;
+    };
+    let answered = answer(rt.alloc(), routes, desk, &mut reader, &mut out);
+    let _ = out.flush();
+    match answered {
+        Err(Broken::Read) if has_changed(rt, place) => {
+            refuse(rt, stream, Reply::Device);
+            Some(Cause::FilesMoved)
+        }
+        Err(_) => None,
+        Ok(status) => {
+            part(rt, stream);
+            if status == Status::ServiceUnavailable && matches!(desk.is_open(), Ok(false)) {
+                Some(Cause::FileShut)
+            } else {
+                None
+            }
+        }
+    }
+}
+
+/// Prints the port at once, for whoever waits to connect to it.
+fn announce<W: Write>(alloc: Global, port: u16, out: &mut W) -> Result<(), Reply> {
+    let Ok(line) = format!(in alloc; "listening {port}\n") else {
+        return Err(Reply::Memory);
+    };
+    match out.write_all(line.as_bytes()).and_then(|()| out.flush()) {
+        Ok(()) => Ok(()),
+        Err(_) => Err(Reply::Device),
+    }
+}
+
+/// Listens on this port of loopback, or on one that the system chooses where it is 0, and tells which it is.
+fn listen(rt: &HostRuntime, port: u16) -> Result<(TcpListener, u16), PortCause> {
+    match TcpListener::bind(rt, (Ipv4Addr::LOCALHOST, port)) {
+        Ok(listener) => match listener.local_addr() {
+            Ok(address) => Ok((listener, address.port())),
+            Err(error) => Err(PortCause::of_system(error)),
+        },
+        Err(error) => Err(PortCause::of_system(error)),
+    }
+}
+
+fn serve_all<S: Alter>(
+    rt: &HostRuntime,
+    routes: Routes,
+    desk: &mut Desk<S>,
+    place: Option<&Place>,
+    mut waiting: Waiting,
+    listener: TcpListener,
+    requests: u64,
+) -> Result<(), Cause> {
+    for _ in 0..requests {
+        let Ok(next) = waiting.next(rt, &listener) else {
+            return Err(Cause::NoConnections);
+        };
+        let Some(caller) = next else { continue };
+        if let Some(cause) = serve_one(rt, &routes, desk, place, &caller) {
+            return Err(cause);
+        }
+    }
+    Ok(())
+}
+
+/// Tells that a port cannot be listened on.
+fn put_port_cause<W: Write>(rt: &HostRuntime, port: u16, cause: PortCause, out: &mut W) -> Outcome {
+    Outcome {
+        status: put_reply(out, Reply::Device),
+        reported: Some(Diagnostic {
+            place: format!(in rt.alloc(); "port {port}").ok(),
+            cause: Cause::Port(cause),
+        }),
+    }
+}
+
+/// Serves so many connections on this port of loopback, or on one that the system chooses where it is 0, and gives the
+/// exit status. It ends where the desk's files are no longer where they were, and where a fault has shut the store.
+pub(crate) fn serve<S: Alter, W: Write>(
+    rt: &HostRuntime,
+    desk: &mut Desk<S>,
+    place: Option<&Place>,
+    port: u16,
+    requests: u64,
+    out: &mut W,
+) -> Outcome {
+    let Ok(routes) = Routes::new(rt.alloc()) else {
+        return Outcome::from(put_reply(out, Reply::Memory));
+    };
+    let Ok(waiting) = Waiting::new(rt.alloc()) else {
+        return Outcome::from(put_reply(out, Reply::Memory));
+    };
+    let (listener, chosen) = match listen(rt, port) {
+        Ok(both) => both,
+        Err(cause) => return put_port_cause(rt, port, cause, out),
+    };
+    if let Err(reply) = announce(rt.alloc(), chosen, out) {
+        return Outcome::from(put_reply(out, reply));
+    }
+    match serve_all(rt, routes, desk, place, waiting, listener, requests) {
+        Ok(()) => Outcome::from(0),
+        Err(cause) => Outcome {
+            status: put_reply(out, Reply::Device),
+            reported: Some(Diagnostic::from(cause)),
+        },
+    }
+}

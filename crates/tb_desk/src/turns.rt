@@ -1,0 +1,88 @@
+//! Waiting for a file that another command has.
+
+use crate::causes::FileCause;
+use crate::diagnostics::wants_words;
+use std::thread;
+use std::time::{Duration, Instant};
+
+/// For how many seconds a file is asked for, from the first time on.
+const PATIENCE: u64 = 10;
+
+/// After how many milliseconds it is asked for again at first.
+const PAUSE: u64 = 20;
+
+/// After how many milliseconds a command asks more often, so that it comes before those that have just begun.
+const EAGER: u64 = 1_000;
+
+const EAGER_PAUSE: u64 = 2;
+
+/// After how many milliseconds whoever waits is told.
+const QUIET: u64 = 500;
+
+/// A command that waits for the file at a path.
+#[derive(Drop)]
+pub(crate) struct Turn<'a> {
+    rt: &'a HostRuntime,
+    path: &'a str,
+    since: Instant,
+    is_reported: bool,
+}
+
+impl<'a> Turn<'a> {
+    /// The wait begins now.
+    pub(crate) fn new(rt: &'a HostRuntime, path: &'a str) -> Result<Turn<'a>, FileCause> {
+        match Instant::now(rt) {
+            Ok(since) => Ok(Turn {
+                rt,
+                path,
+                since,
+                is_reported: false,
+            }),
+            Err(error) => Err(FileCause::of_system(error)),
+        }
+    }
+
+    /// How long it has waited.
+    fn waited(&self) -> Result<Duration, FileCause> {
+        match self.since.elapsed(self.rt) {
+            Ok(waited) => Ok(waited),
+            Err(error) => Err(FileCause::of_system(error)),
+        }
+    }
+
+    /// Tells once that the command waits. Where that cannot be told, nothing is lost.
+    fn tell(&mut self) {
+        if self.is_reported {
+            return;
+        }
+        self.is_reported = true;
+        if wants_words(self.rt) {
+            let _reported = eprintln!(self.rt;
+                "treedesk: {}: another command has it; waits for up to ten seconds",
+                self.path
+            );
+        }
+    }
+
+    /// Waits a little, before the file is asked for once more.
+    ///
+    /// # Errors
+    ///
+    /// It has waited long enough.
+    pub(crate) fn wait(&mut self) -> Result<(), FileCause> {
+        let waited = self.waited()?;
+        if waited >= Duration::from_secs(PATIENCE) {
+            return Err(FileCause::Busy);
+        }
+        if waited >= Duration::from_millis(QUIET) {
+            self.tell();
+        }
+        let pause = if waited < Duration::from_millis(EAGER) {
+            PAUSE
+        } else {
+            EAGER_PAUSE
+        };
+        thread::sleep(self.rt, Duration::from_millis(pause));
+        Ok(())
+    }
+}

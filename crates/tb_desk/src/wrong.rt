@@ -1,0 +1,125 @@
+//! Which word of a line is not of its form: of words that clap takes, and of which the line makes no command.
+
+use crate::causes::{Cause, Form};
+use crate::diagnostics::Diagnostic;
+
+/// A value on the command line, under the name that help has for it.
+#[derive(Clone, Copy)]
+struct Given<'a> {
+    name: &'a str,
+    form: Option<Form>,
+    value: &'a str,
+}
+
+/// The values of a command, one after the other.
+#[derive(Drop)]
+struct Values<'a> {
+    command: &'a str,
+    words: &'a [String],
+    /// How many values without an option stand before.
+    before: usize,
+    /// Whether a word may still be an option.
+    has_options: bool,
+}
+
+/// What the value of an option is to be. A path and a user may be any text.
+fn form_of_option(name: &str) -> Option<Form> {
+    match name {
+        "--strategy" => Some(Form::Strategy),
+        "--context" => Some(Form::Context),
+        "--rev" => Some(Form::Number),
+        "--port" => Some(Form::Port),
+        "--requests" => Some(Form::Requests),
+        _ => None,
+    }
+}
+
+/// What a value without an option is called and is to be, after so many others. A query may be any text.
+fn place_of(command: &str, before: usize) -> (&'static str, Option<Form>) {
+    match (command, before) {
+        ("import" | "event" | "export", 0) => ("<name>", Some(Form::Batch)),
+        ("event", 1) => ("<event>", Some(Form::Event)),
+        ("correct" | "pull" | "restore" | "show", 0) => ("<no>", Some(Form::Number)),
+        ("correct", 1) => ("<base>", Some(Form::Base)),
+        ("count", 0) => ("<attribute>", Some(Form::Attribute)),
+        _ => ("<query>", None),
+    }
+}
+
+impl<'a> Values<'a> {
+    fn new(command: &'a str, words: &'a [String]) -> Values<'a> {
+        Values {
+            command,
+            words,
+            before: 0,
+            has_options: true,
+        }
+    }
+
+    /// The next word.
+    fn word(&mut self) -> Option<&'a str> {
+        let (first, rest) = self.words.split_first()?;
+        self.words = rest;
+        Some(first.as_str())
+    }
+
+    /// A value that stands by itself.
+    fn without_option(&mut self, value: &'a str) -> Given<'a> {
+        let (name, form) = place_of(self.command, self.before);
+        self.before = self.before.saturating_add(1);
+        Given { name, form, value }
+    }
+
+    /// The value of an option, in the same word or in the next one.
+    fn of_option(&mut self, word: &'a str) -> Given<'a> {
+        let (name, value) = match word.split_once('=') {
+            Some(both) => both,
+            None => (word, self.word().unwrap_or("")),
+        };
+        Given {
+            name,
+            form: form_of_option(name),
+            value,
+        }
+    }
+
+    fn next(&mut self) -> Option<Given<'a>> {
+        let word = self.word()?;
+        if !self.has_options || !word.starts_with("--") {
+            return Some(self.without_option(word));
+        }
+        if word == "--" {
+            self.has_options = false;
+            let word = self.word()?;
+            return Some(self.without_option(word));
+        }
+        Some(self.of_option(word))
+    }
+}
+
+/// The first value that is not of its form.
+fn first_wrong<'a>(command: &'a str, words: &'a [String]) -> Option<(Given<'a>, Form)> {
+    let mut values = Values::new(command, words);
+    for _ in 0..words.len() {
+        let given = values.next()?;
+        match given.form {
+            Some(form) if !form.takes(given.value) => return Some((given, form)),
+            _ => {}
+        }
+    }
+    None
+}
+
+/// What is wrong with words that clap takes: a value is not of its form, or no command is there.
+pub(crate) fn wrong_word(rt: &HostRuntime, words: &[String]) -> Diagnostic {
+    let [_, command, rest @ ..] = words else {
+        return Diagnostic::from(Cause::NoCommand);
+    };
+    match first_wrong(command.as_str(), rest) {
+        Some((given, form)) => Diagnostic {
+            place: format!(in rt.alloc(); "{} {}", given.name, given.value).ok(),
+            cause: Cause::Value(form),
+        },
+        None => Diagnostic::from(Cause::NoCommand),
+    }
+}

@@ -1,0 +1,27 @@
+use Rattle.tb_import.proofs.Bounds.{firsts_small}
+use Rattle.tb_core.specs.declared.refusals.Fault.TheVariants.{NotADesk}
+use Rattle.std.proofs.lemmas.Result.{err_from_is_err_and}
+use Rattle.std.proofs.Common.{List, subst, sym, ◌≡◌, Err}
+use Rattle.tb_core.specs.Tests.{first_bodies}
+use Rattle.tb_reads.specs.declared.work.BatchSentence.{BatchSentence}
+use Rattle.tb_reads.proofs.Shown.{if_ok}
+use Rattle.tb_import.specs.Firsts.{AreFirsts}
+use Rattle.tb_import.proofs.Firstly.{firsts_stand}
+use Rattle.tb_import.proofs.naming.repeat.Goals as goal
+
+pub returns-clause-answered : goal.returns-clause-answered
+returns-clause-answered g c clean = if_ok c.reply_again.result c.reply_again.ensures.answered (λ r reported s desk read.
+    let bs = first_bodies c.args.number s.sentences in
+    let firsts = subst (λ (l : List BatchSentence). AreFirsts s l bs) (sym read) (firsts_stand s c.args.number) in
+    reported s desk.reachable.reached read (c.in_ok-words.ensures.answered clean s bs desk firsts))
+
+pub returns-in_err-words-clause-fails : goal.returns-in_err-words-clause-fails
+returns-in_err-words-clause-fails g c clean unlimited s desk above within read bad =
+    let reported = err_from_is_err_and c.from_residual.result c.from_residual.ensures.1 in
+    let failed : c.words_again.result ≡ Err NotADesk = let was = c.in_err-words.was in let one = reported.1 in let two = reported.2 in cc in
+    let bs = first_bodies c.args.number s.sentences in
+    let firsts = subst (λ (l : List BatchSentence). AreFirsts s l bs) (sym read) (firsts_stand s c.args.number) in
+    c.words_again.ensures.fails clean unlimited s bs desk firsts (firsts_small s c.args.number desk.reachable) failed
+
+pub returns-clause-fails : goal.returns-clause-fails
+returns-clause-fails g c clean unlimited s desk above within read bad = c.reply_again.ensures.fails s desk.reachable.reached above within read bad

@@ -1,0 +1,81 @@
+use Rattle.tb_core.specs.declared.refusals.Fault.TheVariants.{NotADesk}
+use Rattle.std.proofs.lemmas.Result.{err_from_is_err_and}
+use Rattle.std.proofs.Common.{◌≡◌, ◌+◌, ◌<◌, ◌≤◌, length, ap, subst, arith, ℕ, List, Err, ◌∙◌}
+use Rattle.sqlite.specs.Held.{state}
+use Rattle.sqlite.specs.State.{HasCleanDisk}
+use Rattle.tb_core.specs.Names.{Lacks}
+use Rattle.tb_core.specs.Acts.{ids_of}
+use Rattle.tb_core.specs.Taking.{NewSentenceText}
+use Rattle.tb_core.specs.Tests.{IsFirstTaken}
+use Rattle.tb_import.proofs.Left.{left_from, stays_from, left_then, stays_then, desk_stays, left_clear}
+use Rattle.tb_import.proofs.Takes.{one_free, first_of, all_free}
+use Rattle.tb_import.proofs.new_sentences.first_taken.Goals as goal
+
+pub returns-in_err-is_taken-clause-left : goal.returns-in_err-is_taken-clause-left
+returns-in_err-is_taken-clause-left g c =
+    let read = c.is_taken.ensures in
+    left_then g.S.Store c.args.conn.now c.loop-one.conn c.is_taken.new.conn c.loop-one.invariant.1 c.loop-one.invariant.2 (left_from g.S.Store c.loop-one.conn c.is_taken.new.conn read.autocommit read.keeps_records read.commits_nothing)
+
+pub returns-then-branch-clause-left : goal.returns-then-branch-clause-left
+returns-then-branch-clause-left g c =
+    let read = c.is_taken.ensures in
+    left_then g.S.Store c.args.conn.now c.loop-one.conn c.is_taken.new.conn c.loop-one.invariant.1 c.loop-one.invariant.2 (left_from g.S.Store c.loop-one.conn c.is_taken.new.conn read.autocommit read.keeps_records read.commits_nothing)
+
+pub returns-then-branch-clause-answered : goal.returns-then-branch-clause-answered
+returns-then-branch-clause-answered g c clean s bs desk is =
+    let inv = c.loop-one.invariant in
+    let i = c.loop-one.one-index in
+    let mid : HasCleanDisk (state g.S.Store c.loop-one.conn) = omega (arith, clean, c.is_taken.ensures.commits_nothing.clean) in
+    let here = desk_stays g.S.Store c.args.conn.now c.loop-one.conn inv.2 mid s desk in
+    let reported = rw c.if-branch.true at (c.in_ok-is_taken.ensures.answered clean s here) in
+    let named = ap (λ (t : NewSentenceText). t.sent_id) c.one.view_is in
+    let low : i < length c.args.taken.now = omega (arith, c.loop-one-test.true) in
+    let at : i + 1 ≡ c.loop-one.number + 1 = (let same = inv.0 in omega (arith, same)) in
+    subst (λ k. IsFirstTaken (ids_of s.sentences) bs k) at
+    (first_of (ids_of s.sentences) bs c.args.taken.now i c.one-item.result low c.one-item.is is (inv.3 mid s desk) (subst (λ (n : List ℕ). Lacks (ids_of s.sentences) n → ⊥) named reported))
+
+pub loop-one-preserved : goal.loop-one-preserved
+loop-one-preserved g c =
+    let inv = c.loop-one.invariant in
+    let i = c.loop-one.one-index in
+    let read = c.is_taken.ensures in
+    let left = left_from g.S.Store c.loop-one.conn c.is_taken.new.conn read.autocommit read.keeps_records read.commits_nothing in
+    let stays = stays_from g.S.Store c.loop-one.conn c.is_taken.new.conn c.in_ok-is_taken.ensures.unchanged in
+    let low : i < length c.args.taken.now = omega (arith, c.loop-one-test.true) in (
+      (let same = inv.0 in omega (arith, same)),
+      left_then g.S.Store c.args.conn.now c.loop-one.conn c.is_taken.new.conn inv.1 inv.2 left,
+      stays_then g.S.Store c.args.conn.now c.loop-one.conn c.is_taken.new.conn inv.2 left stays,
+      λ clean s desk.
+          let mid : HasCleanDisk (state g.S.Store c.loop-one.conn) = omega (arith, clean, read.commits_nothing.clean) in
+          let here = desk_stays g.S.Store c.args.conn.now c.loop-one.conn inv.2 mid s desk in
+          let reported = rw c.if-branch.false at (c.in_ok-is_taken.ensures.answered clean s here) in
+          let named = ap (λ (t : NewSentenceText). t.sent_id) c.one.view_is in
+          one_free (ids_of s.sentences) c.args.taken.now i c.one-item.result low c.one-item.is (inv.3 mid s desk) (subst (Lacks (ids_of s.sentences)) named reported),
+    )
+
+pub returns-clause-answered : goal.returns-clause-answered
+returns-clause-answered g c clean s bs desk is =
+    let past : length c.args.taken.now ≤ c.loop-one.one-index = omega (arith, c.loop-one-test.false) in
+    all_free (ids_of s.sentences) bs c.args.taken.now c.loop-one.one-index past is (c.loop-one.invariant.3 clean s desk)
+
+pub returns-in_err-is_taken-clause-fails : goal.returns-in_err-is_taken-clause-fails
+returns-in_err-is_taken-clause-fails g c clean unlimited s desk bad =
+    let reported = err_from_is_err_and c.from_residual.result c.from_residual.ensures.1 in
+    let failed : c.is_taken.result ≡ Err NotADesk = let was = c.in_err-is_taken.was in let one = reported.1 in let two = reported.2 in cc in
+    let inv = c.loop-one.invariant in
+    let mid : HasCleanDisk (state g.S.Store c.loop-one.conn) = omega (arith, clean, c.is_taken.ensures.commits_nothing.clean) in
+    let here = desk_stays g.S.Store c.args.conn.now c.loop-one.conn inv.2 mid s desk in
+    c.is_taken.ensures.fails clean (inv.1.commits_nothing.limit ∙ unlimited) s here failed
+
+pub returns-then-branch-clause-stays : goal.returns-then-branch-clause-stays
+returns-then-branch-clause-stays g c =
+    let read = c.is_taken.ensures in
+    stays_then g.S.Store c.args.conn.now c.loop-one.conn c.is_taken.new.conn c.loop-one.invariant.2
+    (left_from g.S.Store c.loop-one.conn c.is_taken.new.conn read.autocommit read.keeps_records read.commits_nothing) (stays_from g.S.Store c.loop-one.conn c.is_taken.new.conn c.in_ok-is_taken.ensures.unchanged)
+
+pub returns-in_err-is_taken-clause-cause : goal.returns-in_err-is_taken-clause-cause
+returns-in_err-is_taken-clause-cause g c =
+    let inv = c.loop-one.invariant in
+    let read = c.is_taken.ensures in
+    left_clear g.S.Store c.args.conn.now c.loop-one.conn c.is_taken.new.conn c.from_residual.result c.in_err-is_taken.field-0.0 c.from_residual.ensures.1
+    inv.1 inv.2 (left_from g.S.Store c.loop-one.conn c.is_taken.new.conn read.autocommit read.keeps_records read.commits_nothing) c.in_err-is_taken.ensures.cause

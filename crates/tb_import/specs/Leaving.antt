@@ -1,0 +1,24 @@
+-- What calls that only read leave of a connection.
+use Rattle.std.specs.Prelude.{◌≡◌, false, IsTrue}
+use Rattle.sqlite.specs.Store.{Ghosts}
+use Rattle.sqlite.specs.Held.{Held, state}
+use Rattle.sqlite.specs.State.{HasCleanDisk, Survives}
+use Rattle.tb_tables.specs.Layout.{desk_schema}
+use Rattle.tb_tables.specs.Records.{Tables}
+use Rattle.tb_tables.specs.Changes.{Holds}
+
+-- Whatever was answered: no transaction is begun, records that stood still stand where the store is open, and a crash
+-- leaves what it would have left before.
+pub record IsLeft {S : Type 0} (g : Ghosts S) (old new : Held S) : Type 0 where
+  pub mode : old.in_transaction ≡ false → new.in_transaction ≡ false
+  pub kept : HasCleanDisk (state g new) → IsTrue (state g new).is_open
+      → (d : Tables) → Holds g old d → Holds g new d
+  pub commits_nothing : Survives (state g old) (state g new) (λ _. (d : Tables) → Holds g old d → ⊥)
+
+-- The tables are still those of a desk; records that stood still stand, and the connection sees what it saw.
+pub record Stays {S : Type 0} (g : Ghosts S) (old new : Held S) : Type 0 where
+  pub schema : HasCleanDisk (state g new) → (state g old).now.schema ≡ desk_schema
+      → (state g new).now.schema ≡ desk_schema
+  pub holds : HasCleanDisk (state g new) → (d : Tables) → Holds g old d → Holds g new d
+  pub sees : HasCleanDisk (state g new) → (state g old).now.schema ≡ desk_schema
+      → (state g new).now ≡ (state g old).now

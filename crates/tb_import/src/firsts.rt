@@ -1,0 +1,75 @@
+//! Whether a text is that of the first revisions of sentences that stand.
+
+ghost use Rattle.std.specs.Prelude.{◌≡◌, ◌≢◌, ◌++◌, ◌∷◌, [], ℕ, List, None, Err, IfOk, OnOk};
+ghost use Rattle.std.specs.Prelude.{MatchOption};
+ghost use Rattle.sqlite.specs.State.{HasCleanDisk};
+ghost use Rattle.sqlite.specs.Held.{state};
+ghost use Rattle.tb_conllu.specs.Text.{BlockText, text_of};
+ghost use Rattle.tb_core.specs.declared.refusals.Refusal.{Refusal as AnyRefusal};
+ghost use Rattle.tb_core.specs.Machine.{Machine};
+ghost use Rattle.tb_refine.specs.DeskTables.{IsDeskOf};
+ghost use Rattle.tb_tables.specs.Leaving.{IsFaultless, FailsOnlyAs};
+ghost use Rattle.tb_refine.specs.Faults.{IsNoDevice};
+ghost use Rattle.tb_import.specs.Leaving.{IsLeft, Stays};
+ghost use Rattle.tb_import.specs.Firsts.{IsFirst, AreFirsts, DecidesSame};
+
+use sqlite::{Alter, Connection};
+use tb_core::Fault;
+use tb_reads::BatchSentence;
+use tb_refine::{desk_rows_are_readable, faults, records_determine_the_state};
+
+/// What of a text follows that of the first revision of the sentence with this number, which stands; nothing where the text
+/// does not begin with it.
+fn after_first<'a, S: Alter>(
+    conn: &mut Connection<S>,
+    number: u32,
+    text: &'a [u8],
+) -> Result<Option<&'a [u8]>, Fault>
+    ensures answered { HasCleanDisk (state S.Store conn.new) → IfOk result (λ found. (s : Machine) (b : BlockText)
+        → IsDeskOf S.Store conn.old s → IsFirst s number b
+        → MatchOption found ((more : List ℕ) → text.now ≢ text_of (b ∷ []) ++ more) (λ more.
+        text.now ≡ text_of (b ∷ []) ++ more.now)) }
+    ensures never_refuses { (r : AnyRefusal) → result ≢ Err (Fault.Refused r) }
+    ensures fails { HasCleanDisk (state S.Store conn.new) → (state S.Store conn.old).step_limit ≡ None
+        → (s : Machine) (b : BlockText) → IsDeskOf S.Store conn.old s → IsFirst s number b
+        → result ≢ Err Fault.NotADesk }
+    ensures cause { IsFaultless S.Store conn.old conn.new → FailsOnlyAs IsNoDevice S.Store conn.old conn.new result }
+    ensures stays { OnOk result (Stays S.Store conn.old conn.new) }
+    ensures left { IsLeft S.Store conn.old conn.new }
+{
+    records_determine_the_state();
+    desk_rows_are_readable();
+    match tb_reads::revision(conn, number, 1) {
+        Ok(Some(row)) => Ok(text.strip_prefix(row.body.as_bytes())),
+        Ok(None) => Err(Fault::NotADesk),
+        Err(error) => Err(faults::of_read(error)),
+    }
+}
+
+/// Whether a text is that of the first revisions of these sentences, which stand. Of each the text is compared where it lies in
+/// the whole one, and no sentence is read after the first that differs.
+pub(crate) fn are_firsts<S: Alter>(
+    conn: &mut Connection<S>,
+    work: &[BatchSentence],
+    text: &[u8],
+) -> Result<bool, Fault>
+    ensures answered { HasCleanDisk (state S.Store conn.new)
+        → IfOk result (λ same. (s : Machine) (bs : List BlockText) → IsDeskOf S.Store conn.old s
+        → AreFirsts s work.now bs → DecidesSame same text.now bs) }
+    ensures never_refuses { (r : AnyRefusal) → result ≢ Err (Fault.Refused r) }
+    ensures fails { HasCleanDisk (state S.Store conn.new) → (state S.Store conn.old).step_limit ≡ None
+        → (s : Machine) (bs : List BlockText) → IsDeskOf S.Store conn.old s → AreFirsts s work.now bs
+        → result ≢ Err Fault.NotADesk }
+    ensures cause { IsFaultless S.Store conn.old conn.new → FailsOnlyAs IsNoDevice S.Store conn.old conn.new result }
+    ensures stays { OnOk result (Stays S.Store conn.old conn.new) }
+    ensures left { IsLeft S.Store conn.old conn.new }
+{
+    let mut rest = text;
+    for one in work {
+        let Some(more) = after_first(conn, one.number, rest)? else {
+            return Ok(false);
+        };
+        rest = more;
+    }
+    Ok(rest.is_empty())
+}

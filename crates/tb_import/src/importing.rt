@@ -1,0 +1,212 @@
+//! An import, from its name to its commit.
+
+ghost use Rattle.std.specs.Prelude.{◌≡◌, ◌≢◌, ◌+◌, ◌≤◌, ℕ, List, length, map, None, Err, false};
+ghost use Rattle.std.specs.Prelude.{IfOk, IfSome, OnOk};
+ghost use Rattle.sqlite.specs.State.{HasCleanDisk, Survives};
+ghost use Rattle.sqlite.specs.Held.{state};
+ghost use Rattle.tb_conllu.specs.Text.{BlockText, text_of};
+ghost use Rattle.tb_tables.specs.Records.{AreStored};
+ghost use Rattle.tb_core.specs.declared.refusals.Refusal.{Refusal as AnyRefusal};
+ghost use Rattle.tb_core.specs.Machine.{Machine};
+ghost use Rattle.tb_core.specs.Acts.{importing, IsAllowed, after};
+ghost use Rattle.tb_core.specs.Reaching.{IsReachable};
+ghost use Rattle.tb_core.specs.Commands.{Answer, import_file, imported, replied, refused as refused_by, reply_to};
+ghost use Rattle.tb_core.specs.Steps.{Steps};
+ghost use Rattle.tb_core.specs.Taking.{taken_of};
+ghost use Rattle.tb_core.specs.Totals.{AreTotalsOf};
+ghost use Rattle.tb_refine.specs.DeskTables.{tables_of, IsDeskOf};
+ghost use Rattle.tb_core.specs.Found.{FindsName};
+ghost use Rattle.tb_core.specs.Parts.{IsNamedImport, IsTakenImport};
+ghost use Rattle.tb_refine.specs.Counted.{IsWithin};
+ghost use Rattle.tb_refine.specs.Faults.{IsNoDevice};
+ghost use Rattle.tb_refine.specs.Calls.{BlamesNoDevice};
+ghost use Rattle.tb_tables.specs.Changes.{HasRevisionRowids};
+ghost use Rattle.tb_tables.specs.Failing.{IsShort};
+ghost use Rattle.tb_import.specs.Leaving.{IsLeft, Stays};
+ghost use Rattle.tb_import.specs.Planned.{IsKnown, HasImported, Imports};
+ghost use Rattle.tb_refine.specs.Calls.{CrashesTo, KnowsDesk, KnowsDeskWhere, RefusesAs, Tells};
+ghost use Rattle.tb_tables.specs.Leaving.{KeepsRecordsOnErr, IsFaultless, FailsOnlyAs};
+
+use crate::committing::commit_import;
+use crate::counters::ImportCounters;
+use crate::naming::find_name;
+use crate::new_sentences::first_taken;
+use crate::planning::{items_of, plan};
+use sqlite::{Alter, Connection};
+use std::alloc::Global;
+use tb_core::{
+    Fault, Imported, Judged, NameFound, NewSentence, Totals, commands_stay_within_limits,
+    judge_import_after, judge_import_before, judge_import_body,
+};
+
+/// The last tests of an import, of its sentences against those that stand.
+fn admit<S: Alter>(
+    conn: &mut Connection<S>,
+    known: &ImportCounters,
+    taken: &[NewSentence<'_>],
+) -> Result<(), Fault>
+    ensures refused { HasCleanDisk (state S.Store conn.new) → (r : AnyRefusal) → result ≡ Err (Fault.Refused r)
+        → (s : Machine) (name user body : List ℕ) (bs : List BlockText) → IsDeskOf S.Store conn.old s
+        → IsKnown known.now s
+        → IsTakenImport s name user body bs → taken.now ≡ map taken_of bs
+        → Steps known.now.counts.limits s (import_file name user body) (refused_by r) s
+        × IsDeskOf S.Store conn.new s }
+    ensures fails { KnowsDesk S.Store conn.old conn.new result }
+    ensures cause { IsFaultless S.Store conn.old conn.new → FailsOnlyAs IsNoDevice S.Store conn.old conn.new result }
+    ensures accepted { HasCleanDisk (state S.Store conn.new)
+        → OnOk result ((s : Machine) (name user body : List ℕ) (bs : List BlockText) → IsDeskOf S.Store conn.old s
+        → IsKnown known.now s
+        → IsTakenImport s name user body bs → taken.now ≡ map taken_of bs
+        → let act = importing name user bs in
+        IsAllowed s act × Steps known.now.counts.limits s (import_file name user body) (replied
+        (reply_to s act)) (after s act)) }
+    ensures stays { OnOk result (Stays S.Store conn.old conn.new) }
+    ensures left { IsLeft S.Store conn.old conn.new }
+{
+    let standing = first_taken(conn, taken)?;
+    judge_import_after(
+        &known.counts.limits,
+        taken.len() as u64,
+        standing,
+        u64::from(known.sentences),
+        u64::from(known.counts.moves),
+    )?;
+    Ok(())
+}
+
+/// Writes an import that is allowed, of these sentences; with its reply, the totals after it.
+fn write<S: Alter>(
+    alloc: Global,
+    conn: &mut Connection<S>,
+    known: &ImportCounters,
+    name: &str,
+    user: &str,
+    taken: &[NewSentence<'_>],
+) -> Result<(Imported, Totals), Fault>
+    requires autocommit { conn.old.in_transaction ≡ false }
+    ensures answered { HasCleanDisk (state S.Store conn.new) → IfOk result (λ r. (s : Machine) (bs : List BlockText)
+        → IsDeskOf S.Store conn.old s → IsKnown known.now s → taken.now ≡ map taken_of bs
+        → let act = importing name.now user.now bs in
+        IsAllowed s act → IsReachable (after s act) → IsDeskOf S.Store conn.new (after s act)
+        × AreTotalsOf r.1 (after s act) × (imported r.0 ≡ reply_to s act)) }
+    ensures never_refuses { (r : AnyRefusal) → result ≢ Err (Fault.Refused r) }
+    ensures fails { HasCleanDisk (state S.Store conn.new) → (state S.Store conn.old).step_limit ≡ None
+        → (s : Machine) (bs : List BlockText) → IsDeskOf S.Store conn.old s → IsKnown known.now s
+        → taken.now ≡ map taken_of bs
+        → IsAllowed s (importing name.now user.now bs) → IsReachable (after s (importing name.now user.now bs))
+        → result ≢ Err Fault.NotADesk }
+    ensures cause { BlamesNoDevice S.Store conn.old conn.new result (λ s so. (bs : List BlockText)
+        → IsKnown known.now s → taken.now ≡ map taken_of bs → IsAllowed s (importing name.now user.now bs)
+        → IsReachable (after s (importing name.now user.now bs)) → IsShort (text_of bs)
+        → HasRevisionRowids (state S.Store conn.old) (length bs) → so) }
+    ensures room { IfOk result (λ r. (known.now.counts.moves + 1 ≤ 1000000000)
+        × (known.now.sentences + r.0.sentences ≤ 1000000)) }
+    ensures keeps_records { KeepsRecordsOnErr S.Store conn.old conn.new result }
+    ensures crash { Survives (state S.Store conn.old) (state S.Store conn.new) (λ db.
+        (s : Machine) (bs : List BlockText) → IsDeskOf S.Store conn.old s → IsKnown known.now s
+        → taken.now ≡ map taken_of bs
+        → IsAllowed s (importing name.now user.now bs)
+        → AreStored (tables_of (after s (importing name.now user.now bs))) db) }
+    ensures autocommit { conn.new.in_transaction ≡ false }
+{
+    let items = items_of(alloc, taken)?;
+    let plan = plan(alloc, known, user, taken)?;
+    commit_import(
+        conn,
+        plan.number,
+        plan.first,
+        name,
+        user,
+        items.as_slice(),
+        &plan.prepared.change,
+    )?;
+    Ok((plan.reply, plan.prepared.totals))
+}
+
+/// An import that is no repeat, where its name is this to the batches that stand; with its reply, the totals after it.
+fn import_new<S: Alter>(
+    alloc: Global,
+    conn: &mut Connection<S>,
+    known: &ImportCounters,
+    name: &str,
+    user: &str,
+    body: &[u8],
+    found: NameFound,
+) -> Result<(Imported, Totals), Fault>
+    requires autocommit { conn.old.in_transaction ≡ false }
+    requires within { IsWithin known.now.counts.limits }
+    ensures answered { Tells S.Store conn.old conn.new result (λ s r. IsKnown known.now s
+        → IsNamedImport s name.now user.now body.now
+        → FindsName s name.now body.now found
+        → HasImported S.Store known.now.counts.limits s name.now user.now body.now conn.new r.0 r.1) }
+    ensures refused { RefusesAs S.Store conn.old conn.new result (λ s r. IsKnown known.now s
+        → IsNamedImport s name.now user.now body.now
+        → FindsName s name.now body.now found
+        → Steps known.now.counts.limits s (import_file name.now user.now body.now) (refused_by r) s
+        × IsDeskOf S.Store conn.new s) }
+    ensures fails { KnowsDeskWhere S.Store conn.old conn.new result (λ s so. IsKnown known.now s
+        → IsNamedImport s name.now user.now body.now
+        → FindsName s name.now body.now found → so) }
+    ensures cause { BlamesNoDevice S.Store conn.old conn.new result (λ s so. IsKnown known.now s
+        → IsNamedImport s name.now user.now body.now → FindsName s name.now body.now found → IsShort body.now
+        → HasRevisionRowids (state S.Store conn.old) (length body.now) → so) }
+    ensures room { IfOk result (λ r. (known.now.counts.moves + 1 ≤ 1000000000)
+        × (known.now.sentences + r.0.sentences ≤ 1000000)) }
+    ensures keeps_records { KeepsRecordsOnErr S.Store conn.old conn.new result }
+    ensures crash { CrashesTo S.Store conn.old conn.new (λ s db. IsKnown known.now s
+        → IsNamedImport s name.now user.now body.now
+        → FindsName s name.now body.now found
+        → (a : Answer) × (t : Machine)
+        × Steps known.now.counts.limits s (import_file name.now user.now body.now) a t × AreStored (tables_of t) db) }
+    ensures autocommit { conn.new.in_transaction ≡ false }
+{
+    commands_stay_within_limits();
+    let taken = judge_import_body(alloc, body, found)?;
+    admit(conn, known, taken.as_slice())?;
+    write(alloc, conn, known, name, user, taken.as_slice())
+}
+
+/// Imports a file as a new batch with this name; with the reply, the totals after it, none where the import is a repeat and
+/// nothing is written. The body is a file of valid CoNLL-U sentences, and `known` is what is known of the desk. The import that
+/// made the batch, sent again by anyone at any later time, has the same reply: it is known by the first revisions of the batch's
+/// sentences, byte for byte.
+///
+/// # Errors
+///
+/// `BadName`, of the batch's name or the user's; of an import that is no repeat `Read`, `Rule`, `Empty`; `NameTaken`;
+/// `SentIdTaken`, with the place in the file, from 1, of the first such sentence; `Full`. The first that holds.
+pub fn import<S: Alter>(
+    alloc: Global,
+    conn: &mut Connection<S>,
+    known: &ImportCounters,
+    name: &str,
+    user: &str,
+    body: &[u8],
+) -> Result<(Imported, Option<Totals>), Fault>
+    requires autocommit { conn.old.in_transaction ≡ false }
+    requires within { IsWithin known.now.counts.limits }
+    ensures answered { Tells S.Store conn.old conn.new result (λ s r. IsKnown known.now s
+        → Imports S.Store known.now.counts.limits s name.now user.now body.now conn.new r.0 r.1) }
+    ensures refused { RefusesAs S.Store conn.old conn.new result (λ s r. IsKnown known.now s
+        → Steps known.now.counts.limits s (import_file name.now user.now body.now) (refused_by r) s
+        × IsDeskOf S.Store conn.new s) }
+    ensures fails { KnowsDeskWhere S.Store conn.old conn.new result (λ s so. IsKnown known.now s → so) }
+    ensures cause { BlamesNoDevice S.Store conn.old conn.new result (λ s so. IsKnown known.now s
+        → IsShort body.now → HasRevisionRowids (state S.Store conn.old) (length body.now) → so) }
+    ensures room { IfOk result (λ r. IfSome r.1 (λ _. (known.now.counts.moves + 1 ≤ 1000000000)
+        × (known.now.sentences + r.0.sentences ≤ 1000000))) }
+    ensures keeps_records { KeepsRecordsOnErr S.Store conn.old conn.new result }
+    ensures crash { CrashesTo S.Store conn.old conn.new (λ s db. IsKnown known.now s
+        → (a : Answer) × (t : Machine)
+        × Steps known.now.counts.limits s (import_file name.now user.now body.now) a t × AreStored (tables_of t) db) }
+    ensures autocommit { conn.new.in_transaction ≡ false }
+{
+    let found = find_name(alloc, conn, name, body)?;
+    match judge_import_before(name, user, found)? {
+        Judged::Repeat(reply) => Ok((reply, None)),
+        Judged::Continue => {
+            let (reply, totals) = import_new(alloc, conn, known, name, user, body, found)?;
+            Ok((reply, Some(totals)))
+        }
+    }
+}

@@ -1,0 +1,140 @@
+//! What the name of an import is to the batches that stand.
+
+ghost use Rattle.std.specs.Prelude.{◌≡◌, ◌≢◌, ◌<◌, ◌≤◌, ◌+◌, ℕ, List, map, length, sum_by};
+ghost use Rattle.std.specs.Prelude.{None, Err, IfOk, OnOk};
+ghost use Rattle.std.specs.Prelude.{IfErr};
+ghost use Rattle.sqlite.specs.State.{HasCleanDisk};
+ghost use Rattle.sqlite.specs.Held.{state};
+ghost use Rattle.tb_conllu.specs.Words.{words_of};
+ghost use Rattle.tb_core.specs.declared.refusals.Refusal.{Refusal as AnyRefusal};
+ghost use Rattle.tb_core.specs.Machine.{Machine, Batch};
+ghost use Rattle.tb_core.specs.Reaching.{Reached};
+ghost use Rattle.tb_core.specs.Commands.{imported, HasBatch};
+ghost use Rattle.tb_core.specs.Tests.{first_bodies, import_reply};
+ghost use Rattle.tb_refine.specs.DeskTables.{IsDeskOf, sentence_record};
+ghost use Rattle.tb_reads.specs.Found.{work_of};
+ghost use Rattle.tb_core.specs.Found.{FindsName};
+ghost use Rattle.tb_tables.specs.Leaving.{IsFaultless, FailsOnlyAs};
+ghost use Rattle.tb_refine.specs.Faults.{IsNoDevice};
+ghost use Rattle.tb_import.specs.Leaving.{IsLeft, Stays};
+ghost use Rattle.tb_refine.specs.Calls.{KnowsDesk, KnowsDeskWhere, Tells};
+
+use crate::again::words_again;
+use crate::firsts::are_firsts;
+use sqlite::{Alter, Connection};
+use std::alloc::Global;
+use tb_core::{Fault, Imported, NameFound, reached_states_are_well};
+use tb_reads::BatchSentence;
+use tb_refine::{batch_number, desk_rows_are_readable, faults};
+
+/// The sentences of the batch with this number, pulled ones too.
+fn read_work<S: Alter>(
+    alloc: Global,
+    conn: &mut Connection<S>,
+    number: u32,
+) -> Result<Vec<BatchSentence>, Fault>
+    ensures answered { Tells S.Store conn.old conn.new result (λ s v.
+        v.items ≡ work_of number 1 (map sentence_record s.sentences)) }
+    ensures never_refuses { (r : AnyRefusal) → result ≢ Err (Fault.Refused r) }
+    ensures fails { KnowsDesk S.Store conn.old conn.new result }
+    ensures cause { IsFaultless S.Store conn.old conn.new → FailsOnlyAs IsNoDevice S.Store conn.old conn.new result }
+    ensures stays { OnOk result (Stays S.Store conn.old conn.new) }
+    ensures left { IsLeft S.Store conn.old conn.new }
+{
+    desk_rows_are_readable();
+    match tb_reads::sentences_of(alloc, conn, number) {
+        Ok(work) => Ok(work),
+        Err(error) => Err(faults::of_read(error)),
+    }
+}
+
+/// The reply to the import that made the batch with this number. These are its sentences, and so many words their first
+/// revisions have.
+fn reply_again(number: u32, work: &[BatchSentence], words: u64) -> Result<Imported, Fault>
+    ensures answered { IfOk result (λ r. (s : Machine) → Reached s
+        → work.now ≡ work_of number 1 (map sentence_record s.sentences)
+        → words ≡ sum_by words_of (first_bodies number s.sentences) → imported r ≡ import_reply s number) }
+    ensures never_refuses { (r : AnyRefusal) → result ≢ Err (Fault.Refused r) }
+    ensures fails { (s : Machine) → Reached s → 0 < number → number ≤ length s.batches
+        → work.now ≡ work_of number 1 (map sentence_record s.sentences) → result ≢ Err Fault.NotADesk }
+    ensures cause { IfErr result IsNoDevice }
+{
+    // The law by which sentences stand in the order of their batches.
+    reached_states_are_well();
+    let Some(first) = work.first() else {
+        return Err(Fault::NotADesk);
+    };
+    Ok(Imported {
+        batch: u64::from(number),
+        first: u64::from(first.number),
+        sentences: work.len() as u64,
+        words,
+    })
+}
+
+/// The same, where the words are still to be counted.
+fn repeat<S: Alter>(
+    alloc: Global,
+    conn: &mut Connection<S>,
+    number: u32,
+    work: &[BatchSentence],
+) -> Result<Imported, Fault>
+    ensures answered { Tells S.Store conn.old conn.new result (λ s r.
+        work.now ≡ work_of number 1 (map sentence_record s.sentences) → imported r ≡ import_reply s number) }
+    ensures never_refuses { (r : AnyRefusal) → result ≢ Err (Fault.Refused r) }
+    ensures fails { KnowsDeskWhere S.Store conn.old conn.new result (λ s so. 0 < number → number ≤ length s.batches
+        → work.now ≡ work_of number 1 (map sentence_record s.sentences) → so) }
+    ensures cause { IsFaultless S.Store conn.old conn.new → FailsOnlyAs IsNoDevice S.Store conn.old conn.new result }
+    ensures stays { OnOk result (Stays S.Store conn.old conn.new) }
+    ensures left { IsLeft S.Store conn.old conn.new }
+{
+    let words = words_again(alloc, conn, work)?;
+    reply_again(number, work, words)
+}
+
+/// What a body is to the batch with this number, which has the name of its import.
+fn compare<S: Alter>(
+    alloc: Global,
+    conn: &mut Connection<S>,
+    number: u32,
+    body: &[u8],
+) -> Result<NameFound, Fault>
+    ensures answered { HasCleanDisk (state S.Store conn.new)
+        → IfOk result (λ found. (s : Machine) (name : List ℕ) (place : ℕ) (b : Batch)
+        → IsDeskOf S.Store conn.old s → HasBatch s name place b → number ≡ place + 1
+        → FindsName s name body.now found) }
+    ensures never_refuses { (r : AnyRefusal) → result ≢ Err (Fault.Refused r) }
+    ensures fails { HasCleanDisk (state S.Store conn.new) → (state S.Store conn.old).step_limit ≡ None
+        → (s : Machine) (name : List ℕ) (place : ℕ) (b : Batch) → IsDeskOf S.Store conn.old s
+        → HasBatch s name place b → number ≡ place + 1 → result ≢ Err Fault.NotADesk }
+    ensures cause { IsFaultless S.Store conn.old conn.new → FailsOnlyAs IsNoDevice S.Store conn.old conn.new result }
+    ensures stays { OnOk result (Stays S.Store conn.old conn.new) }
+    ensures left { IsLeft S.Store conn.old conn.new }
+{
+    let work = read_work(alloc, conn, number)?;
+    if !are_firsts(conn, work.as_slice(), body)? {
+        return Ok(NameFound::Taken);
+    }
+    let reply = repeat(alloc, conn, number, work.as_slice())?;
+    Ok(NameFound::Same(reply))
+}
+
+/// What the name of an import with this body is to the batches that stand.
+pub(crate) fn find_name<S: Alter>(
+    alloc: Global,
+    conn: &mut Connection<S>,
+    name: &str,
+    body: &[u8],
+) -> Result<NameFound, Fault>
+    ensures answered { Tells S.Store conn.old conn.new result (λ s found. FindsName s name.now body.now found) }
+    ensures never_refuses { (r : AnyRefusal) → result ≢ Err (Fault.Refused r) }
+    ensures fails { KnowsDesk S.Store conn.old conn.new result }
+    ensures cause { IsFaultless S.Store conn.old conn.new → FailsOnlyAs IsNoDevice S.Store conn.old conn.new result }
+    ensures stays { OnOk result (Stays S.Store conn.old conn.new) }
+    ensures left { IsLeft S.Store conn.old conn.new }
+{
+    let Some(number) = batch_number(conn, name)? else {
+        return Ok(NameFound::Free);
+    };
+    compare(alloc, conn, number, body)
+}

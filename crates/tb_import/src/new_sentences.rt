@@ -1,0 +1,43 @@
+//! Which sentence of a file has a `sent_id` that stands.
+
+ghost use Rattle.std.specs.Prelude.{◌≡◌, ◌≢◌, List, map, None, Err, IfOk, OnOk};
+ghost use Rattle.sqlite.specs.State.{HasCleanDisk};
+ghost use Rattle.sqlite.specs.Held.{state};
+ghost use Rattle.tb_conllu.specs.Text.{BlockText};
+ghost use Rattle.tb_core.specs.declared.refusals.Refusal.{Refusal as AnyRefusal};
+ghost use Rattle.tb_core.specs.Machine.{Machine};
+ghost use Rattle.tb_core.specs.Taking.{taken_of};
+ghost use Rattle.tb_refine.specs.DeskTables.{IsDeskOf};
+ghost use Rattle.tb_core.specs.Found.{FindsId};
+ghost use Rattle.tb_tables.specs.Leaving.{IsFaultless, FailsOnlyAs};
+ghost use Rattle.tb_refine.specs.Faults.{IsNoDevice};
+ghost use Rattle.tb_import.specs.Leaving.{IsLeft, Stays};
+ghost use Rattle.tb_refine.specs.Calls.{KnowsDesk};
+
+use sqlite::{Alter, Connection};
+use tb_core::{Fault, NewSentence};
+use tb_refine::is_taken;
+
+/// The first of these sentences, counted from 1, whose `sent_id` stands. No sentence after it is asked for.
+pub(crate) fn first_taken<S: Alter>(
+    conn: &mut Connection<S>,
+    taken: &[NewSentence<'_>],
+) -> Result<Option<u64>, Fault>
+    ensures answered { HasCleanDisk (state S.Store conn.new)
+        → IfOk result (λ found. (s : Machine) (bs : List BlockText) → IsDeskOf S.Store conn.old s
+        → taken.now ≡ map taken_of bs → FindsId s bs found) }
+    ensures never_refuses { (r : AnyRefusal) → result ≢ Err (Fault.Refused r) }
+    ensures fails { KnowsDesk S.Store conn.old conn.new result }
+    ensures cause { IsFaultless S.Store conn.old conn.new → FailsOnlyAs IsNoDevice S.Store conn.old conn.new result }
+    ensures stays { OnOk result (Stays S.Store conn.old conn.new) }
+    ensures left { IsLeft S.Store conn.old conn.new }
+{
+    let mut number = 0;
+    for one in taken {
+        number += 1;
+        if is_taken(conn, one.sent_id)? {
+            return Ok(Some(number));
+        }
+    }
+    Ok(None)
+}

@@ -1,0 +1,10 @@
+//! A law of literals.
+
+ghost use Rattle.std.specs.Prelude.{◌⊎◌, ℕ, List};
+ghost use Rattle.tb_syntax.specs.declared.lexeme.Flag.{Flag};
+ghost use Rattle.tb_literal.specs.Literals.{IsAccepted};
+
+/// A text is a literal under a flag, or is none.
+pub fn a_literal_is_accepted_or_refused()
+    ensures { (flag : Flag) (text : List ℕ) → IsAccepted flag text ⊎ (IsAccepted flag text → ⊥) }
+{}

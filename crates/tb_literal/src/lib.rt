@@ -1,0 +1,14 @@
+//! One literal of a query, and the values that it fits.
+//!
+//! A literal is a pattern in the syntax of Rust's `regex` crate that has to match the whole value,
+//! as in the query language of the Corpus Query Processor (CQP), or the value's own text.
+#![tactic(auto)]
+
+mod cutting;
+mod law;
+mod matcher;
+mod pattern;
+
+pub use law::a_literal_is_accepted_or_refused;
+pub use matcher::{LiteralCache, LiteralMatcher};
+pub use pattern::PatternFault;

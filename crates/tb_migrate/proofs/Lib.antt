@@ -1,0 +1,9 @@
+mod Upgraded
+mod Begun
+mod Texts
+mod Unrefused
+mod Answered
+mod Read
+mod NoPulls
+mod Version1Summary
+mod Whole

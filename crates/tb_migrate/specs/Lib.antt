@@ -1,0 +1,4 @@
+pub mod Version1
+pub mod Desk
+pub mod Selected
+pub mod Version1Reads

@@ -1,4 +1,0 @@
-pub mod First
-pub mod Desk
-pub mod Selected
-pub mod Reads

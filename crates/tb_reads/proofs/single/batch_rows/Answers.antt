@@ -1,0 +1,53 @@
+use Rattle.std.proofs.Common.{rules, refl, [], ◌∷◌, pos, ◌-◌, arith}
+use Rattle.sqlite.specs.declared.types.Value.TheVariants.{Null, Int}
+use Rattle.sqlite.specs.Order.{Row}
+use Rattle.sqlite.specs.Held.{state}
+use Rattle.sqlite.specs.Program.{overlay}
+use Rattle.sqlite.proofs.Callers.{reads_as}
+use Rattle.tb_tables.specs.Layout.{desk_schema}
+use Rattle.tb_tables.specs.Records.{batch_view, batch_shown, numbered}
+use Rattle.tb_reads.specs.Found.{has_number}
+use Rattle.tb_reads.proofs.Queries.{select_batch, select_batch_is, select_batch_terms}
+use Rattle.tb_reads.proofs.Picked.{picked, found_numbered}
+use Rattle.tb_reads.proofs.Staying.{either_way, shown_stays, failed_stays, nothing_committed}
+use Rattle.tb_reads.proofs.Shown.{if_ok, when_ok, shown_same, commits_nothing, shown_at}
+use Rattle.tb_reads.proofs.Failing.{if_err, fault_of, batch_fails}
+use Rattle.tb_tables.proofs.Causes.{failed_wants}
+use Rattle.tb_reads.proofs.single.batch_rows.Goals as goal
+
+pub returns-clause-unchanged : goal.returns-clause-unchanged
+returns-clause-unchanged g c clean = when_ok c.query_all.result (c.query_all.ensures.ok clean) (λ rows shown has.
+    shown_same select_batch _ (state g.S.Store c.args.conn.now) (state g.S.Store c.query_all.new.self) desk_schema rows.items select_batch_is.1 has shown)
+
+pub returns-clause-survives : goal.returns-clause-survives
+returns-clause-survives g c has =
+    commits_nothing select_batch _ (state g.S.Store c.args.conn.now) (state g.S.Store c.query_all.new.self) desk_schema select_batch_is.1 has c.query_all.ensures.survives
+
+pub returns-clause-found : goal.returns-clause-found
+returns-clause-found g c clean = if_ok c.query_all.result (c.query_all.ensures.ok clean) (λ rows shown has xs holds.
+    let old = state g.S.Store c.args.conn.now in
+    let new = state g.S.Store c.query_all.new.self in
+    let params = Int (pos c.args.number) ∷ [] in
+    let given = shown_at select_batch old new rows.items params _ shown (search rules) in
+    let answer = (reads_as select_batch params old new desk_schema has _ select_batch_is.0 select_batch_is.1 select_batch_is.2 rows.items given).answer Null in
+    let same = picked 1 _ select_batch_terms (overlay old.now.trees []) params rows.items answer batch_view (has_number c.args.number) (λ (r : Row). r) refl (λ _. refl) (numbered batch_shown 1 xs) holds in
+    found_numbered batch_shown (λ _ _. refl) c.args.number (c.args.number - 1) xs rows.items (omega (arith, c.requires)) same)
+
+pub returns-clause-keeps_records : goal.returns-clause-keeps_records
+returns-clause-keeps_records g c clean opened d holds =
+    let old = c.args.conn.now in
+    let new = c.query_all.new.self in
+    either_way c.query_all.result (c.query_all.ensures.ok clean) (c.query_all.ensures.err clean)
+    (λ rows shown. shown_stays g.S.Store select_batch _ old new d rows.items select_batch_is.1 holds shown)
+    (λ e failed. failed_stays g.S.Store select_batch _ old new d e select_batch_is.1 holds opened failed)
+
+pub returns-clause-commits_nothing : goal.returns-clause-commits_nothing
+returns-clause-commits_nothing g c = nothing_committed select_batch _ (state g.S.Store c.args.conn.now) (state g.S.Store c.query_all.new.self) select_batch_is.1 c.query_all.ensures.survives
+
+pub returns-clause-fails : goal.returns-clause-fails
+returns-clause-fails g c clean unlimited has =
+    if_err c.query_all.result (c.query_all.ensures.err clean) (λ e failed. fault_of (batch_fails c.args.number (state g.S.Store c.args.conn.now) (state g.S.Store c.query_all.new.self) _ e failed (search rules) has unlimited))
+
+pub returns-clause-cause : goal.returns-clause-cause
+returns-clause-cause g c good clean unlimited has =
+    if_err c.query_all.result (c.query_all.ensures.err clean) (λ e failed. failed_wants (state g.S.Store c.args.conn.now) (state g.S.Store c.query_all.new.self) good e (batch_fails c.args.number (state g.S.Store c.args.conn.now) (state g.S.Store c.query_all.new.self) _ e failed (search rules) has unlimited))

@@ -1,0 +1,42 @@
+-- How a read of the tables of a desk fails.
+use Rattle.std.specs.Prelude.{◌≡◌, ⊤, Result, Err, IsTrue}
+use Rattle.sqlite.specs.Store.{Ghosts}
+use Rattle.sqlite.specs.Held.{Held, state}
+use Rattle.sqlite.specs.State.{HasCleanDisk, IsUnchanged}
+use Rattle.sqlite_trees.specs.Tree.{Trees}
+use Rattle.tb_tables.specs.Layout.{desk_schema}
+use Rattle.tb_tables.specs.Failing.{IsStoreFault, IsWant}
+use Rattle.tb_reads.specs.declared.error.ReadError.{ReadError}
+use Rattle.tb_reads.specs.declared.error.ReadError.TheVariants.{Store, Form}
+
+-- where the database answered with an error, it is a fault of the store
+abbrev pub IsReadFault : ReadError → Type 0
+IsReadFault (Store e) = IsStoreFault e
+IsReadFault Form = ⊤
+
+-- where the database answered with an error, it is want of memory
+abbrev pub IsReadWant : ReadError → Type 0
+IsReadWant (Store e) = IsWant e
+IsReadWant Form = ⊤
+
+-- `Form` is told of tables of a desk only where the trees show nothing that could be read (`IsNone`)
+abbrev pub HasNoForm : {S X : Type 0} → Ghosts S → Held S → Held S → Result X ReadError → (Trees → Type 0)
+    → Type 0
+HasNoForm g old new result IsNone = HasCleanDisk (state g new) → result ≡ Err Form
+    → (state g old).now.schema ≡ desk_schema → IsNone (state g old).now.trees
+
+-- and only by a read that changed nothing
+abbrev pub IsUnchangedOnForm : {S X : Type 0} → Ghosts S → Held S → Held S → Result X ReadError → Type 0
+IsUnchangedOnForm g old new result =
+    HasCleanDisk (state g new) → result ≡ Err Form → (state g old).now.schema ≡ desk_schema
+    → IsUnchanged (state g old) (state g new)
+
+-- the connection has written nothing since the last commit
+abbrev pub IsSettled : {S : Type 0} → Ghosts S → Held S → Type 0
+IsSettled g c = IsTrue (state g c).is_open → (state g c).now ≡ (state g c).committed
+
+-- whatever a read answers, the connection sees what it saw, while the store is open
+abbrev pub SeesAsBefore : {S : Type 0} → Ghosts S → Held S → Held S → Type 0
+SeesAsBefore g old new =
+    HasCleanDisk (state g new) → IsTrue (state g new).is_open → (state g old).now.schema ≡ desk_schema
+    → IsSettled g old → (state g new).now ≡ (state g old).now

@@ -1,0 +1,65 @@
+//! Rows one at a time, while the connection is lent: what a walk over the whole treebank reads.
+
+ghost use Rattle.std.specs.Prelude.{◌≡◌, ◌≢◌, map, false, List, All, Err, IfOk, IfErr};
+ghost use Rattle.tb_tables.specs.Records.{Sentence, Shows, numbered, sentence_shown, sentence_view};
+ghost use Rattle.tb_reads.specs.Readable.{IsSentence, IsHead};
+ghost use Rattle.tb_reads.specs.Failing.{HasNoForm, IsReadFault, IsReadWant};
+ghost use Rattle.tb_reads.specs.Streams.{head_of, head_shown};
+ghost use Rattle.tb_tables.specs.Leaving.{ChangesNothing, CommitsNothing, FailsOnlyAs, KeepsRecords, Reads};
+ghost use Rattle.tb_tables.specs.Leaving.{IsFaultless};
+
+use crate::error::ReadError;
+use crate::records::number_at;
+use sqlite::{Alter, Connection, Error, ErrorCode, Row};
+use std::alloc::Global;
+
+/// The batch of a sentence and the number of its current revision.
+#[derive(Clone, Copy, Debug, PartialEq, Eq)]
+pub struct CurrentRev {
+    /// The number of the batch.
+    pub batch: u32,
+    /// The number of the current revision.
+    pub rev: u32,
+}
+
+fn head_in(row: &Row) -> Result<CurrentRev, ReadError>
+    ensures ok { IfOk result (λ x. row.now ≡ head_shown x) }
+    ensures form { result ≡ Err ReadError.Form → (x : CurrentRev) → IsHead x → row.now ≢ head_shown x }
+    ensures fails { IfErr result IsReadFault }
+    ensures cause { IfErr result IsReadWant }
+{
+    if row.column_count() != 2 {
+        return Err(ReadError::Form);
+    }
+    let batch = number_at(row, 0)?;
+    let rev = number_at(row, 1)?;
+    Ok(CurrentRev { batch, rev })
+}
+
+/// Batch and current revision of each sentence, by number. One row is at hand at a time. `Form` is answered only where
+/// the rows are those of no such list.
+pub fn heads<S: Alter>(
+    alloc: Global,
+    conn: &mut Connection<S>,
+) -> Result<Vec<CurrentRev>, ReadError>
+    ensures ok { Reads S.Store conn.old conn.new result (λ v trees. (xs : List Sentence)
+        → Shows sentence_view (numbered sentence_shown 1 xs) (trees 3) → v.items ≡ map head_of xs) }
+    ensures form { HasNoForm S.Store conn.old conn.new result (λ trees. (xs : List Sentence) → All IsSentence xs
+        → ¬ Shows sentence_view (numbered sentence_shown 1 xs) (trees 3)) }
+    ensures fails { FailsOnlyAs IsReadFault S.Store conn.old conn.new result }
+    ensures cause { IsFaultless S.Store conn.old conn.new → FailsOnlyAs IsReadWant S.Store conn.old conn.new result }
+    ensures unchanged { ChangesNothing S.Store conn.old conn.new result }
+    ensures keeps_records { KeepsRecords S.Store conn.old conn.new }
+    ensures autocommit { conn.old.in_transaction ≡ false → conn.new.in_transaction ≡ false }
+    ensures commits_nothing { CommitsNothing S.Store conn.old conn.new }
+{
+    let mut found = Vec::new(alloc);
+    let mut rows = conn.query("SELECT batch, rev FROM sentences ORDER BY no", &[])?;
+    'rows: for _ in 0..u64::MAX {
+        let Some(row) = rows.next()? else {
+            return Ok(found);
+        };
+        found.push(head_in(row)?)?;
+    }
+    Err(ReadError::Store(Error::SqliteFailure(ErrorCode::OutOfMemory)))
+}

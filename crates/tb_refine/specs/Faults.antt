@@ -1,0 +1,44 @@
+-- What an error of the database, or of a read, is to a caller.
+use Rattle.std.specs.Prelude.{◌≢◌}
+use Rattle.sqlite.specs.declared.error.Error.{Error}
+use Rattle.sqlite.specs.declared.error.Error.TheVariants.{SqliteFailure}
+use Rattle.sqlite.specs.declared.error.ErrorCode.{ErrorCode}
+use Rattle.sqlite.specs.declared.error.ErrorCode.TheVariants.{OutOfMemory, SystemIoFailure, DatabaseCorrupt, DiskFull}
+use Rattle.sqlite.specs.declared.error.ErrorCode.TheVariants.{NoRowid, Closed, TooBig}
+use Rattle.tb_reads.specs.declared.error.ReadError.{ReadError}
+use Rattle.tb_reads.specs.declared.error.ReadError.TheVariants.{Store, Form}
+use Rattle.tb_core.specs.declared.refusals.Fault.{Fault}
+use Rattle.tb_core.specs.declared.refusals.Fault.TheVariants.{Memory, Device, NotADesk}
+
+-- a fault of the store, of its size or of its room is the device's
+abbrev pub fault_of_code : ErrorCode → Fault
+fault_of_code OutOfMemory = Memory
+fault_of_code SystemIoFailure = Device
+fault_of_code DatabaseCorrupt = Device
+fault_of_code DiskFull = Device
+fault_of_code NoRowid = Device
+fault_of_code Closed = Device
+fault_of_code TooBig = Device
+fault_of_code _ = NotADesk
+
+abbrev pub fault_of_error : Error → Fault
+fault_of_error (SqliteFailure code) = fault_of_code code
+fault_of_error _ = NotADesk
+
+-- rows that are those of no records are not a desk's
+abbrev pub fault_of_read : ReadError → Fault
+fault_of_read (Store error) = fault_of_error error
+fault_of_read Form = NotADesk
+
+-- while the tables are made, what is no want of memory is the device's
+abbrev pub making_fault_of_code : ErrorCode → Fault
+making_fault_of_code OutOfMemory = Memory
+making_fault_of_code _ = Device
+
+abbrev pub fault_of_making : Error → Fault
+fault_of_making (SqliteFailure code) = making_fault_of_code code
+fault_of_making _ = Device
+
+-- the fault is not the device's
+abbrev pub IsNoDevice : Fault → Type 0
+IsNoDevice fault = fault ≢ Device

@@ -1,0 +1,11 @@
+pub mod Faults
+pub mod Revisions
+pub mod Finding
+pub mod Recorded
+pub mod Counted
+pub mod Numbers
+pub mod DeskTables
+pub mod Written
+pub mod Fitting
+pub mod Found
+pub mod Calls

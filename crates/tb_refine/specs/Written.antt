@@ -1,0 +1,57 @@
+-- The tables as each accepted command of the machine writes them over those of the state before it.
+use Rattle.std.specs.Prelude.{ℕ, ◌+◌, List, [], ◌∷◌, map}
+use Rattle.tb_conllu.specs.Text.{BlockText, text_of}
+use Rattle.tb_conllu.specs.Words.{words_of}
+use Rattle.tb_core.specs.declared.kinds.Event.{Event}
+use Rattle.tb_core.specs.declared.kinds.State.{State}
+use Rattle.tb_core.specs.declared.kinds.State.TheVariants.{Opened, Withdrawn}
+use Rattle.tb_core.specs.Events.{goes_to, makes_worker}
+use Rattle.tb_core.specs.Machine.{sent_id_of, Machine}
+use Rattle.tb_core.specs.Acts.{Act, importing, stepping, correcting, pulling, restoring, with_worker, after, move_of}
+use Rattle.tb_tables.specs.Records.{Tables, Batch, Sentence, Total}
+use Rattle.tb_tables.specs.Commands.{NewSentenceRecord, after_import, after_event, after_correction, after_pull}
+use Rattle.tb_tables.specs.Commands.{after_restore}
+use Rattle.tb_refine.specs.Numbers.{state_number}
+use Rattle.tb_refine.specs.DeskTables.{tables_of, move_record, total_record}
+
+-- a sentence of an imported file
+abbrev pub item_of : BlockText → NewSentenceRecord
+item_of b = record { sent_id = sent_id_of b; words = words_of b; body = text_of (b ∷ []) }
+
+-- an import leaves no state, so the first of its totals is not used
+abbrev pub import_written : Machine → List ℕ → List ℕ → List BlockText → Total → Tables
+import_written s name user bodies unused =
+    let a : Act = importing name user bodies in
+    after_import (tables_of s) name user (map item_of bodies) (move_record (move_of s a)) unused (total_record
+    (after s a) Opened)
+
+-- the batch at the place, which was in this state
+abbrev pub event_written : Machine → ℕ → Event → List ℕ → Batch → State → Tables
+event_written s place event user b from =
+    let a : Act = stepping place event user in
+    after_event (tables_of s) (place + 1) b (state_number (goes_to event)) (with_worker
+    (makes_worker event) user b.worker) (move_record (move_of s a)) (total_record (after s a) from) (total_record (after s a) (goes_to event))
+
+-- the sentence at the place, whose batch is in this state
+abbrev pub correction_written : Machine → ℕ → List ℕ → BlockText → Sentence → State → Tables
+correction_written s place user body x st =
+    let a : Act = correcting place user body in
+    after_correction (tables_of s) (place + 1) x (record {
+      sent = place + 1;
+      rev = x.rev + 1;
+      who = user;
+      body = text_of (body ∷ []);
+    }) (words_of body) (move_record (move_of s a)) (total_record (after s a) st) (total_record (after s a) st)
+
+-- the sentence at the place, whose batch is in this state
+abbrev pub pull_written : Machine → ℕ → List ℕ → State → Tables
+pull_written s place user st =
+    let a : Act = pulling place user in
+    after_pull (tables_of s) (place + 1) (move_record (move_of s a)) (total_record (after s a) st) (total_record
+    (after s a) Withdrawn)
+
+abbrev pub restore_written : Machine → ℕ → List ℕ → State → Tables
+restore_written s place user st =
+    let a : Act = restoring place user in
+    after_restore (tables_of s) (place + 1) (move_record (move_of s a)) (total_record
+    (after s a) Withdrawn) (total_record (after s a) st)

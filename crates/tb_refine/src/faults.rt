@@ -1,0 +1,63 @@
+//! What an error of the database, or of a read, is to a caller.
+
+ghost use Rattle.std.specs.Prelude.{◌≡◌, ◌≢◌, ◌⊎◌};
+ghost use Rattle.tb_core.specs.declared.refusals.Refusal.{Refusal};
+ghost use Rattle.tb_refine.specs.Faults.{fault_of_code, fault_of_error, fault_of_read, fault_of_making};
+
+use sqlite::{Error, ErrorCode};
+use tb_core::Fault;
+use tb_reads::ReadError;
+
+fn of_code(code: ErrorCode) -> Fault
+    ensures value { result ≡ fault_of_code code }
+    ensures never_refuses { (r : Refusal) → result ≢ Fault.Refused r }
+    ensures output { result ≢ Fault.Output }
+{
+    match code {
+        ErrorCode::OutOfMemory => Fault::Memory,
+        ErrorCode::SystemIoFailure => Fault::Device,
+        ErrorCode::DatabaseCorrupt => Fault::Device,
+        ErrorCode::DiskFull => Fault::Device,
+        // a store that has no number left for a row is full
+        ErrorCode::NoRowid => Fault::Device,
+        ErrorCode::Closed => Fault::Device,
+        ErrorCode::TooBig => Fault::Device,
+        _ => Fault::NotADesk,
+    }
+}
+
+/// Want of memory is `Memory`, a store that fails or is full is `Device`. On the tables of a desk the database refuses nothing that a
+/// desk asks of it: whatever else it answers, they are not those of a desk.
+pub fn of_error(error: Error) -> Fault
+    ensures value { result ≡ fault_of_error error }
+    ensures never_refuses { (r : Refusal) → result ≢ Fault.Refused r }
+    ensures output { result ≢ Fault.Output }
+{
+    match error {
+        Error::SqliteFailure(code) => of_code(code),
+        _ => Fault::NotADesk,
+    }
+}
+
+/// The same of a read; rows that are those of no records are not a desk's.
+pub fn of_read(error: ReadError) -> Fault
+    ensures value { result ≡ fault_of_read error }
+    ensures never_refuses { (r : Refusal) → result ≢ Fault.Refused r }
+    ensures output { result ≢ Fault.Output }
+{
+    match error {
+        ReadError::Store(error) => of_error(error),
+        ReadError::Form => Fault::NotADesk,
+    }
+}
+
+/// The same while the tables are made: a blank database that refuses them is a store that fails.
+pub fn of_making(error: Error) -> Fault
+    ensures value { result ≡ fault_of_making error }
+    ensures known { (result ≡ Fault.Memory) ⊎ (result ≡ Fault.Device) }
+{
+    match error {
+        Error::SqliteFailure(ErrorCode::OutOfMemory) => Fault::Memory,
+        _ => Fault::Device,
+    }
+}

@@ -1,0 +1,117 @@
+//! Laws of the records: each function only states a fact about the definitions, and runs nothing.
+//!
+//! Where the tables stand for a reached state, and an accepted command writes what it writes, they stand for the next
+//! state.
+
+ghost use Rattle.std.specs.Prelude.{◌≡◌, ◌↔◌, ◌+◌, ◌-◌, ℕ, List, Some, true, slice_get, Contains};
+ghost use Rattle.sqlite.specs.Tree.{Trees};
+ghost use Rattle.tb_conllu.specs.Text.{BlockText};
+ghost use Rattle.tb_core.specs.declared.kinds.Event.{Event};
+ghost use Rattle.tb_core.specs.declared.kinds.State.{State};
+ghost use Rattle.tb_core.specs.Acts.{IsAllowed, importing, stepping, correcting, pulling, restoring, after};
+ghost use Rattle.tb_core.specs.Machine.{Machine, rev, Batch as StandingBatch, Sentence as StandingSentence};
+ghost use Rattle.tb_core.specs.Reaching.{Reached, IsReachable};
+ghost use Rattle.tb_tables.specs.Records.{Tables, Batch, Sentence, Revision, Total, AreStored};
+ghost use Rattle.tb_refine.specs.Fitting.{IsFitting, IsReadable};
+ghost use Rattle.tb_refine.specs.Numbers.{state_number};
+ghost use Rattle.tb_refine.specs.DeskTables.{tables_of, batch_record, sentence_record, total_record};
+ghost use Rattle.tb_refine.specs.Found.{IsSame, IsRevisionOf, revision_shown_as};
+ghost use Rattle.tb_refine.specs.Written.{import_written, event_written, correction_written, pull_written};
+ghost use Rattle.tb_refine.specs.Written.{restore_written};
+
+use tb_core::rows_tell_the_state;
+
+/// An event: the row of its batch tells the state that is left.
+pub fn events_are_stored()
+    ensures { (s : Machine) (place : ℕ) (event : Event) (user : List ℕ) → Reached s
+        → IsAllowed s (stepping place event user) → (b : Batch) → slice_get (tables_of s).batches place ≡ Some b
+        → (from : State) → b.state ≡ state_number from → (trees : Trees)
+        → AreStored (event_written s place event user b from) trees
+        → AreStored (tables_of (after s (stepping place event user))) trees }
+{}
+
+/// An import leaves no state, so the total of the state that is left may be any.
+pub fn imports_are_stored()
+    ensures { (s : Machine) (name user : List ℕ) (bodies : List BlockText) → Reached s
+        → IsAllowed s (importing name user bodies) → (unused : Total) (trees : Trees)
+        → AreStored (import_written s name user bodies unused) trees
+        → AreStored (tables_of (after s (importing name user bodies))) trees }
+{}
+
+/// A correction: the row of the sentence tells its revision, and that of its batch the state.
+pub fn corrections_are_stored()
+    ensures { (s : Machine) (place : ℕ) (user : List ℕ) (body : BlockText) → Reached s
+        → IsAllowed s (correcting place user body) → (x : Sentence) → slice_get (tables_of s).sentences place
+        ≡ Some x → (b : Batch) → slice_get (tables_of s).batches (x.batch - 1) ≡ Some b → (st : State)
+        → b.state ≡ state_number st → (trees : Trees)
+        → AreStored (correction_written s place user body x st) trees
+        → AreStored (tables_of (after s (correcting place user body))) trees }
+{}
+
+/// A pull: the row of the sentence tells its batch, whose row tells the state that is left.
+pub fn pulls_are_stored()
+    ensures { (s : Machine) (place : ℕ) (user : List ℕ) → Reached s → IsAllowed s (pulling place user)
+        → (x : Sentence) → slice_get (tables_of s).sentences place ≡ Some x → (b : Batch)
+        → slice_get (tables_of s).batches (x.batch - 1) ≡ Some b → (st : State) → b.state ≡ state_number st
+        → (trees : Trees) → AreStored (pull_written s place user st) trees
+        → AreStored (tables_of (after s (pulling place user))) trees }
+{}
+
+/// A restore: the row of the sentence tells its batch, whose row tells the state that is reached.
+pub fn restores_are_stored()
+    ensures { (s : Machine) (place : ℕ) (user : List ℕ) → Reached s → IsAllowed s (restoring place user)
+        → (x : Sentence) → slice_get (tables_of s).sentences place ≡ Some x → (b : Batch)
+        → slice_get (tables_of s).batches (x.batch - 1) ≡ Some b → (st : State) → b.state ≡ state_number st
+        → (trees : Trees) → AreStored (restore_written s place user st) trees
+        → AreStored (tables_of (after s (restoring place user))) trees }
+{}
+
+/// The records of a desk within the largest limits can be numbered by 31 bits, there are six totals, and each number of a
+/// state, of a kind or of a sentence's batch stands for one.
+pub fn desk_rows_fit()
+    ensures { (s : Machine) → IsReachable s → IsFitting (tables_of s) }
+{}
+
+/// Each of its records can be read back: names, users, `sent_id`s and texts of sentences are UTF-8, and each number has 32
+/// bits at most.
+pub fn desk_rows_are_readable()
+    ensures { (s : Machine) → IsReachable s → IsReadable (tables_of s) }
+{}
+
+/// The tables stand for one reached state at most.
+pub fn one_state_for_the_rows()
+    ensures { (s t : Machine) → Reached s → Reached t → tables_of s ≡ tables_of t → s ≡ t }
+{
+    rows_tell_the_state();
+}
+
+/// A file stands for one reachable state at most, whatever the order of its rows.
+pub fn one_state_for_the_file()
+    ensures { (s t : Machine) (trees : Trees) → IsReachable s → IsReachable t → AreStored (tables_of s) trees
+        → AreStored (tables_of t) trees → s ≡ t }
+{
+    rows_tell_the_state();
+}
+
+/// The rows of a file show one list of batches, of sentences, of moves and of totals, and the same revisions and pulled
+/// numbers in some order.
+pub fn one_list_for_the_rows()
+    ensures { (d e : Tables) (trees : Trees) → AreStored d trees → AreStored e trees → IsSame d e }
+{}
+
+/// What the records of a state tell of it: which batch or sentence each is of, whether a sentence is pulled, which
+/// revision stands where, and the total of a state.
+pub fn records_determine_the_state()
+    ensures batches { (s : Machine) (place : ℕ) (b : Batch) → slice_get (tables_of s).batches place ≡ Some b
+        → (y : StandingBatch) × (slice_get s.batches place ≡ Some y) × (b ≡ batch_record y) }
+    ensures sentences { (s : Machine) (place : ℕ) (x : Sentence) → slice_get (tables_of s).sentences place
+        ≡ Some x → (y : StandingSentence) × (slice_get s.sentences place ≡ Some y) × (x ≡ sentence_record y) }
+    ensures pulled { (s : Machine) (place : ℕ) (y : StandingSentence) → slice_get s.sentences place ≡ Some y
+        → (y.pulled ≡ true) ↔ Contains (tables_of s).pulled (place + 1) }
+    ensures revisions { (s : Machine) (r : Revision) → Contains (tables_of s).revisions r ↔ IsRevisionOf s r }
+    ensures current { (s : Machine) (place : ℕ) (y : StandingSentence) (r : Revision)
+        → slice_get s.sentences place ≡ Some y → Contains (tables_of s).revisions r → r.sent ≡ place + 1
+        → r.rev ≡ rev y → r ≡ revision_shown_as (place + 1) (rev y) y.current }
+    ensures totals { (s : Machine) (st : State) → slice_get (tables_of s).totals (state_number st - 1)
+        ≡ Some (total_record s st) }
+{}

@@ -1,0 +1,24 @@
+//! The refinement: which records of the tables represent a state of the desk machine, what each command makes of them, and
+//! what all commands share, as what the desk knows beside its tables, what an error is to a caller, and what has a name.
+#![tactic(auto)]
+
+mod counters;
+pub mod faults;
+mod laws;
+mod naming;
+mod numbers;
+mod preparing;
+mod recording;
+
+pub use counters::{Counters, next_move};
+pub use laws::{
+    corrections_are_stored, desk_rows_are_readable, desk_rows_fit, events_are_stored,
+    imports_are_stored, one_list_for_the_rows, one_state_for_the_file, one_state_for_the_rows,
+    pulls_are_stored, records_determine_the_state, restores_are_stored,
+};
+pub use naming::{batch_number, is_taken};
+pub use numbers::{
+    kind_numbered, number_before, number_of_kind, number_of_state, state_before, state_numbered,
+};
+pub use preparing::{PreparedMove, prepare};
+pub use recording::{narrow, record};

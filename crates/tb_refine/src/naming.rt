@@ -1,0 +1,53 @@
+//! What has a name that a command gives.
+
+ghost use Rattle.std.specs.Prelude.{◌≡◌, ◌≢◌, Err, MatchBool, false};
+ghost use Rattle.tb_core.specs.declared.refusals.Refusal.{Refusal as AnyRefusal};
+ghost use Rattle.tb_core.specs.Names.{Lacks};
+ghost use Rattle.tb_core.specs.Acts.{ids_of};
+ghost use Rattle.tb_refine.specs.Finding.{HasNumber};
+ghost use Rattle.tb_refine.specs.Calls.{KnowsDesk, Tells};
+ghost use Rattle.tb_tables.specs.Leaving.{ChangesNothing, CommitsNothing, KeepsRecords, IsFaultless, FailsOnlyAs};
+ghost use Rattle.tb_refine.specs.Faults.{IsNoDevice};
+
+use crate::{desk_rows_fit, faults};
+use sqlite::{Alter, Connection};
+use tb_core::Fault;
+
+/// The number of the batch with this name, from 1, or none where no batch has it. Nothing is refused.
+pub fn batch_number<S: Alter>(conn: &mut Connection<S>, name: &str) -> Result<Option<u32>, Fault>
+    ensures answered { Tells S.Store conn.old conn.new result (λ s found. HasNumber s name.now found) }
+    ensures never_refuses { (r : AnyRefusal) → result ≢ Err (Fault.Refused r) }
+    ensures output { result ≢ Err Fault.Output }
+    ensures fails { KnowsDesk S.Store conn.old conn.new result }
+    ensures cause { IsFaultless S.Store conn.old conn.new → FailsOnlyAs IsNoDevice S.Store conn.old conn.new result }
+    ensures unchanged { ChangesNothing S.Store conn.old conn.new result }
+    ensures autocommit { conn.old.in_transaction ≡ false → conn.new.in_transaction ≡ false }
+    ensures keeps_records { KeepsRecords S.Store conn.old conn.new }
+    ensures commits_nothing { CommitsNothing S.Store conn.old conn.new }
+{
+    desk_rows_fit();
+    match tb_reads::batch_named(conn, name) {
+        Ok(found) => Ok(found),
+        Err(error) => Err(faults::of_read(error)),
+    }
+}
+
+/// Whether a sentence has this `sent_id`, pulled or not. Nothing is refused.
+pub fn is_taken<S: Alter>(conn: &mut Connection<S>, sent_id: &str) -> Result<bool, Fault>
+    ensures answered { Tells S.Store conn.old conn.new result (λ s taken.
+        MatchBool taken (Lacks (ids_of s.sentences) sent_id.now → ⊥) (Lacks (ids_of s.sentences) sent_id.now)) }
+    ensures never_refuses { (r : AnyRefusal) → result ≢ Err (Fault.Refused r) }
+    ensures fails { KnowsDesk S.Store conn.old conn.new result }
+    ensures cause { IsFaultless S.Store conn.old conn.new → FailsOnlyAs IsNoDevice S.Store conn.old conn.new result }
+    ensures unchanged { ChangesNothing S.Store conn.old conn.new result }
+    ensures autocommit { conn.old.in_transaction ≡ false → conn.new.in_transaction ≡ false }
+    ensures keeps_records { KeepsRecords S.Store conn.old conn.new }
+    ensures commits_nothing { CommitsNothing S.Store conn.old conn.new }
+{
+    desk_rows_fit();
+    match tb_reads::sentence_named(conn, sent_id) {
+        Ok(Some(_)) => Ok(true),
+        Ok(None) => Ok(false),
+        Err(error) => Err(faults::of_read(error)),
+    }
+}

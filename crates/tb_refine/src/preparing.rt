@@ -1,0 +1,44 @@
+//! What is written with every accepted command, and the totals after it.
+
+ghost use Rattle.std.specs.Prelude.{◌≡◌, ◌≢◌, Err, IfOk, IfErr};
+ghost use Rattle.tb_core.specs.declared.refusals.Refusal.{Refusal as AnyRefusal};
+ghost use Rattle.tb_core.specs.Machine.{Machine};
+ghost use Rattle.tb_core.specs.Acts.{Act, IsAllowed, after};
+ghost use Rattle.tb_core.specs.Acts.{move_of as move_made};
+ghost use Rattle.tb_core.specs.Reaching.{Reached, IsReachable};
+ghost use Rattle.tb_refine.specs.Counted.{IsCounted, IsPrepared};
+ghost use Rattle.tb_refine.specs.Faults.{IsNoDevice};
+
+use crate::counters::Counters;
+use crate::desk_rows_are_readable;
+use crate::recording::record;
+use tb_core::{Fault, Move, Totals, stored_totals_hold, stored_totals_take_moves};
+use tb_tables::MoveWrite;
+
+/// The rows that are written with a command, and the totals after it.
+#[derive(Debug, Drop)]
+pub struct PreparedMove {
+    pub change: MoveWrite,
+    pub totals: Totals,
+}
+
+/// What is written with a command of this move.
+///
+/// # Errors
+///
+/// Nothing is refused; `NotADesk` where the totals do not take the move, as those of a desk do.
+pub fn prepare(counts: &Counters, step: Move) -> Result<PreparedMove, Fault>
+    ensures prepared { IfOk result (λ p. (s : Machine) (a : Act) → Reached s → IsAllowed s a
+        → IsCounted counts.now s → step ≡ move_made s a → IsPrepared s a p) }
+    ensures never_refuses { (r : AnyRefusal) → result ≢ Err (Fault.Refused r) }
+    ensures fails { (s : Machine) (a : Act) → IsReachable s → IsAllowed s a → IsReachable (after s a)
+        → IsCounted counts.now s → step ≡ move_made s a → result ≢ Err Fault.NotADesk }
+    ensures cause { IfErr result IsNoDevice }
+{
+    stored_totals_take_moves();
+    stored_totals_hold();
+    desk_rows_are_readable();
+    let mut totals = counts.totals;
+    let change = record(&mut totals, step)?;
+    Ok(PreparedMove { change, totals })
+}

@@ -1,5 +1,0 @@
-use Rattle.tb_rules.proofs.Valid.{one_fault}
-use Rattle.tb_rules.proofs.laws.one_sentence_is_told.Goals as goal
-
-pub returns : goal.returns
-returns c = one_fault

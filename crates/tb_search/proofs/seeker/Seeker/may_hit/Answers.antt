@@ -1,4 +1,0 @@
-use Rattle.tb_search.proofs.seeker.Seeker.may_hit.Goals as goal
-
-pub returns : goal.returns
-returns c = λ none. c.may_hit.ensures none c.args.self.now.strategy

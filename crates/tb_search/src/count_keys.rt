@@ -1,0 +1,96 @@
+//! Keys of hits that are counted.
+
+ghost use Rattle.std.specs.Prelude.{◌≡◌, ◌≢◌, ◌<◌, ◌≤◌, ◌++◌, ◌∷◌, [], ℕ, All, List};
+ghost use Rattle.std.specs.Prelude.{Err, IfErr, OnOk, map};
+ghost use Rattle.tb_conllu.specs.Words.{words_of};
+ghost use Rattle.tb_report.specs.Keywords.{key_of};
+ghost use Rattle.tb_report.specs.Tables.{IsTableOf};
+ghost use Rattle.tb_search.specs.Visited.{IsFault, IsStopFault, IsStopWant};
+
+use crate::searcher::{SentenceSearcher, sentence_in};
+use crate::stopped::Stopped;
+use crate::visitor::BodyVisitor;
+use sqlite::{Error, ErrorCode};
+use std::alloc::Global;
+use tb_conllu::BlockRef;
+use tb_query::Attr;
+use tb_reads::ReadError;
+use tb_report::{Freq, key};
+
+/// Counts the key of one hit.
+fn count_hit(
+    alloc: Global,
+    block: &BlockRef<'_>,
+    hit: (u32, u32),
+    column: Attr,
+    table: &mut Freq,
+) -> Result<(), Stopped>
+    requires first { hit.0 < hit.1 }
+    requires last { hit.1 ≤ words_of block.now }
+    ensures counted { OnOk result ((keys : List (List ℕ)) → IsTableOf keys table.old
+        → IsTableOf (keys ++ key_of column block.now hit ∷ []) table.new) }
+    ensures never_refuses { result ≢ Err Stopped.Output }
+    ensures fault { IfErr result IsFault }
+    ensures fails { IfErr result IsStopFault }
+    ensures cause { IfErr result IsStopWant }
+{
+    if table.total() == u64::MAX {
+        return Err(Stopped::Read(ReadError::Store(Error::SqliteFailure(ErrorCode::OutOfMemory))));
+    }
+    let key = key(alloc, block, hit, column)?;
+    table.add(key.as_str())?;
+    Ok(())
+}
+
+/// Counts the keys of the hits of a sentence.
+fn count_hits(
+    alloc: Global,
+    block: &BlockRef<'_>,
+    hits: &[(u32, u32)],
+    column: Attr,
+    table: &mut Freq,
+) -> Result<(), Stopped>
+    requires { All (λ h. (h.0 < h.1) × (h.1 ≤ words_of block.now)) hits.now }
+    ensures counted { OnOk result ((keys : List (List ℕ)) → IsTableOf keys table.old
+        → IsTableOf (keys ++ map (key_of column block.now) hits.now) table.new) }
+    ensures never_refuses { result ≢ Err Stopped.Output }
+    ensures fault { IfErr result IsFault }
+    ensures fails { IfErr result IsStopFault }
+    ensures cause { IfErr result IsStopWant }
+{
+    for hit in hits {
+        count_hit(alloc, block, *hit, column, table)?;
+    }
+    Ok(())
+}
+
+/// Counts the keys of the hits of a query.
+#[derive(Drop)]
+pub(crate) struct CountKeys<'q> {
+    pub seeker: SentenceSearcher<'q>,
+    pub column: Attr,
+}
+
+impl<'q> BodyVisitor<Freq> for CountKeys<'q> {
+    ghost use Rattle.std.specs.Prelude.{◌≡◌, ◌++◌, ℕ, List};
+    ghost use Rattle.tb_report.specs.Tables.{IsTableOf};
+    ghost use Rattle.tb_conllu.specs.Text.{BlockText};
+    ghost use Rattle.tb_search.specs.Visited.{IsFault};
+    ghost use Rattle.tb_search.specs.Searched.{IsValidText, Meets, keys as keys_of};
+
+    ghost Takes = { λ v o body w p. Meets v.seeker.strategy v.seeker.searcher body (λ found. (w ≡ v) × ((keys : List (List ℕ)) → IsTableOf keys o → IsTableOf (keys ++ keys_of v.column found) p)) };
+
+    ghost Stops = { λ _ _ body e _. (b : BlockText) → IsValidText b body → IsFault e };
+
+    ghost Refused = { λ _. ⊥ };
+
+    fn visit(&mut self, body: &[u8], filled: &mut Freq) -> Result<(), Stopped> {
+        if !self.seeker.may_hit(body) {
+            return Ok(());
+        }
+        let alloc = self.seeker.alloc;
+        let block = sentence_in(alloc, body)?;
+        let hits = self.seeker.hits(&block)?;
+        count_hits(alloc, &block, hits.as_slice(), self.column, filled)
+    }
+}

@@ -1,0 +1,101 @@
+//! Sentences, read back from their texts, and what is found in them.
+
+ghost use Rattle.std.specs.Prelude.{◌≡◌, ◌≢◌, ◌<◌, ◌≤◌, ◌+◌, false, All, Err, IfErr, IfOk};
+ghost use Rattle.std.specs.Prelude.{[], ◌∷◌};
+ghost use Rattle.tb_conllu.specs.Text.{BlockText};
+ghost use Rattle.tb_conllu.specs.Reported.{IsFile};
+ghost use Rattle.tb_conllu.specs.Words.{words_of};
+ghost use Rattle.tb_query.specs.Search.{AreHitsIn};
+ghost use Rattle.tb_search.specs.Visited.{IsFault, IsStopFault, IsStopWant};
+
+use crate::stopped::Stopped;
+use sqlite::{Error, ErrorCode};
+use std::alloc::Global;
+use tb_conllu::{BlockRef, known_block, words};
+use tb_match::{Found, Strategy};
+use tb_prefilter::PrefilteredSearcher;
+use tb_query::Query;
+use tb_reads::ReadError;
+
+/// The sentence of which this is the text. It borrows from the text, which is cut, and tested for no more than UTF-8.
+pub(crate) fn sentence_in<'a>(alloc: Global, body: &'a [u8]) -> Result<BlockRef<'a>, Stopped>
+    ensures read { IfOk result (λ b. (x : BlockText) → IsFile body.now (x ∷ []) → b ≡ x) }
+    ensures never_refuses { result ≢ Err Stopped.Output }
+    ensures fault { IfErr result (λ e. (x : BlockText) → IsFile body.now (x ∷ []) → IsFault e) }
+    ensures fails { IfErr result IsStopFault }
+    ensures cause { IfErr result IsStopWant }
+{
+    let Some(block) = known_block(alloc, body)? else {
+        return Err(Stopped::Read(ReadError::Form));
+    };
+    Ok(block)
+}
+
+/// A count and some more. No memory holds what a `u64` does not count.
+pub(crate) fn raised(count: u64, more: usize) -> Result<u64, Stopped>
+    ensures sum { IfOk result (λ n. n ≡ count + more) }
+    ensures never_refuses { result ≢ Err Stopped.Output }
+    ensures fault { IfErr result IsFault }
+    ensures fails { IfErr result IsStopFault }
+    ensures cause { IfErr result IsStopWant }
+{
+    match count.checked_add(more as u64) {
+        Some(sum) => Ok(sum),
+        None => Err(Stopped::Read(ReadError::Store(Error::SqliteFailure(ErrorCode::OutOfMemory)))),
+    }
+}
+
+/// A query that is looked for in one sentence after the other.
+#[derive(Drop)]
+pub(crate) struct SentenceSearcher<'q> {
+    pub alloc: Global,
+    pub searcher: PrefilteredSearcher<'q>,
+    pub strategy: Strategy,
+}
+
+impl<'q> SentenceSearcher<'q> {
+    /// Makes a query ready.
+    pub(crate) fn new(
+        alloc: Global,
+        query: &'q Query,
+        strategy: Strategy,
+    ) -> Result<SentenceSearcher<'q>, Stopped>
+        ensures asked { IfOk result (λ s. (s.searcher ≡ query.now) × (s.strategy ≡ strategy)) }
+        ensures never_refuses { result ≢ Err Stopped.Output }
+        ensures fault { IfErr result IsFault }
+        ensures fails { IfErr result IsStopFault }
+        ensures cause { IfErr result IsStopWant }
+    {
+        let searcher = PrefilteredSearcher::new(alloc, query)?;
+        Ok(SentenceSearcher {
+            alloc,
+            searcher,
+            strategy,
+        })
+    }
+
+    /// Whether the text may be that of a sentence with a hit. Where it is not, it is not cut into rows.
+    pub(crate) fn may_hit(&self, body: &[u8]) -> bool
+        ensures { result ≡ false → (b : BlockText) → IsFile body.now (b ∷ [])
+            → AreHitsIn self.now.strategy self.now.searcher b [] }
+    {
+        self.searcher.may_hit(body)
+    }
+
+    /// Its hits in a sentence.
+    pub(crate) fn hits(&mut self, block: &BlockRef<'_>) -> Result<Vec<(u32, u32)>, Stopped>
+        ensures hits { IfOk result (λ v. AreHitsIn self.old.strategy self.old.searcher block.now v.items) }
+        ensures lie { IfOk result (λ v. All (λ h. (h.0 < h.1) × (h.1 ≤ words_of block.now)) v.items) }
+        ensures never_refuses { result ≢ Err Stopped.Output }
+        ensures fault { IfErr result (λ e. words_of block.now ≤ 1000 → IsFault e) }
+        ensures fails { IfErr result IsStopFault }
+        ensures cause { IfErr result IsStopWant }
+        ensures unchanged { self.new ≡ self.old }
+    {
+        if words(block) > 1000 {
+            return Err(Stopped::Read(ReadError::Form));
+        }
+        let Found { hits, .. } = self.searcher.hits(self.alloc, block, self.strategy)?;
+        Ok(hits)
+    }
+}

@@ -1,0 +1,162 @@
+//! Keyword lines of hits.
+
+ghost use Rattle.std.specs.Prelude.{◌≡◌, ◌<◌, ◌≤◌, ◌∷◌, [], All, Err, IfErr, OnOk};
+ghost use Rattle.std.specs.Io.KnownBytes.{Appends};
+ghost use Rattle.tb_conllu.specs.Words.{words_of};
+ghost use Rattle.tb_conllu.specs.Sunk.{AppendsPart};
+ghost use Rattle.tb_core.specs.Machine.{sent_id_of};
+ghost use Rattle.tb_report.specs.Keywords.{keyword_line};
+ghost use Rattle.tb_search.specs.Visited.{HasReason, IsFault, IsStopFault, IsStopWant};
+ghost use Rattle.tb_search.specs.Searched.{AreCut, lines, occurrences, total_line};
+
+use crate::searcher::{SentenceSearcher, raised, sentence_in};
+use crate::stopped::Stopped;
+use crate::visitor::BodyVisitor;
+use itoa::Buffer;
+use std::alloc::{AllocError, Global};
+use tb_conllu::{BlockRef, Sink};
+use tb_reads::ReadError;
+use tb_report::kwic_named;
+use tb_rules::sent_id;
+
+/// A line in memory, which takes bytes while memory is left.
+#[derive(Drop)]
+struct Line {
+    bytes: Vec<u8>,
+}
+
+impl Sink for Line {
+    type Refusal = AllocError;
+
+    ghost use Rattle.std.specs.Prelude.{Some};
+
+    ghost held = { λ s. Some s.bytes.items };
+
+    ghost IsRefusal = { λ _ _. Unit {0} };
+
+    fn put(&mut self, bytes: &[u8]) -> Result<(), AllocError> {
+        self.bytes.extend_from_slice(bytes)
+    }
+}
+
+/// Puts the bytes, or answers that they are refused.
+fn put_piece<W: Sink>(bytes: &[u8], out: &mut W) -> Result<(), Stopped>
+    ensures put { OnOk result (Appends (W.held out.old) (W.held out.new) bytes.now) }
+    ensures part { IfErr result (λ e. (e ≡ Stopped.Output)
+        × AppendsPart (W.held out.old) (W.held out.new) bytes.now) }
+    ensures refused { result ≡ Err Stopped.Output → HasReason (W.IsRefusal out.new) }
+    ensures fails { IfErr result IsStopFault }
+    ensures cause { IfErr result IsStopWant }
+{
+    match out.put(bytes) {
+        Ok(()) => Ok(()),
+        Err(_) => Err(Stopped::Output),
+    }
+}
+
+/// Puts the line of one hit, in one piece: it is made in memory first, in place of the line before.
+fn put_hit<W: Sink>(
+    line: &mut Line,
+    name: &str,
+    block: &BlockRef<'_>,
+    hit: (u32, u32),
+    context: u8,
+    out: &mut W,
+) -> Result<(), Stopped>
+    requires named { name.now ≡ sent_id_of block.now }
+    requires first { hit.0 < hit.1 }
+    requires last { hit.1 ≤ words_of block.now }
+    ensures put { OnOk result (Appends (W.held out.old) (W.held out.new) (keyword_line block.now hit context)) }
+    ensures cut { IfErr result (λ e. AreCut e (W.held out.old) (W.held out.new) context (occurrences block.now
+        (hit ∷ []))) }
+    ensures refused { result ≡ Err Stopped.Output → HasReason (W.IsRefusal out.new) }
+    ensures fault { IfErr result IsFault }
+    ensures fails { IfErr result IsStopFault }
+    ensures cause { IfErr result IsStopWant }
+{
+    line.bytes.clear();
+    kwic_named(name, block, hit, context, line)?;
+    put_piece(line.bytes.as_slice(), out)
+}
+
+/// Puts the lines of the hits of a sentence.
+fn put_hits<W: Sink>(
+    alloc: Global,
+    name: &str,
+    block: &BlockRef<'_>,
+    hits: &[(u32, u32)],
+    context: u8,
+    out: &mut W,
+) -> Result<(), Stopped>
+    requires named { name.now ≡ sent_id_of block.now }
+    requires lie { All (λ h. (h.0 < h.1) × (h.1 ≤ words_of block.now)) hits.now }
+    ensures put { OnOk result (Appends (W.held out.old) (W.held out.new)
+        (lines context (occurrences block.now hits.now))) }
+    ensures cut { IfErr result (λ e. AreCut e (W.held out.old) (W.held out.new) context
+        (occurrences block.now hits.now)) }
+    ensures refused { result ≡ Err Stopped.Output → HasReason (W.IsRefusal out.new) }
+    ensures fault { IfErr result IsFault }
+    ensures fails { IfErr result IsStopFault }
+    ensures cause { IfErr result IsStopWant }
+{
+    let mut line = Line {
+        bytes: Vec::new(alloc),
+    };
+    for hit in hits {
+        put_hit(&mut line, name, block, *hit, context, out)?;
+    }
+    Ok(())
+}
+
+/// Puts the keyword lines of the hits of a query, and counts them.
+#[derive(Drop)]
+pub(crate) struct WriteKwic<'q> {
+    pub seeker: SentenceSearcher<'q>,
+    pub context: u8,
+    pub found: u64,
+}
+
+impl<'q, W: Sink> BodyVisitor<W> for WriteKwic<'q> {
+    ghost use Rattle.std.specs.Prelude.{◌≡◌, ◌⊎◌, ◌+◌, length};
+    ghost use Rattle.std.specs.Io.KnownBytes.{Appends};
+    ghost use Rattle.tb_conllu.specs.Text.{BlockText};
+    ghost use Rattle.tb_search.specs.Visited.{HasReason, IsFault};
+    ghost use Rattle.tb_search.specs.Searched.{AreCut, IsValidText, Meets, lines};
+
+    ghost Takes = { λ v o body w p. Meets v.seeker.strategy v.seeker.searcher body (λ found. (w.seeker ≡ v.seeker) × (w.context ≡ v.context) × (w.found ≡ v.found + length found) × Appends (W.held o) (W.held p) (lines v.context found)) };
+
+    ghost Stops = { λ v o body e p. ((b : BlockText) → IsValidText b body → IsFault e) × ((p ≡ o) ⊎ Meets v.seeker.strategy v.seeker.searcher body (λ found. AreCut e (W.held o) (W.held p) v.context found)) };
+
+    ghost Refused = { λ p. HasReason (W.IsRefusal p) };
+
+    fn visit(&mut self, body: &[u8], filled: &mut W) -> Result<(), Stopped> {
+        if !self.seeker.may_hit(body) {
+            return Ok(());
+        }
+        let alloc = self.seeker.alloc;
+        let block = sentence_in(alloc, body)?;
+        let hits = self.seeker.hits(&block)?;
+        let found = raised(self.found, hits.len())?;
+        let Some(name) = sent_id(&block) else {
+            return Err(Stopped::Read(ReadError::Form));
+        };
+        put_hits(alloc, name, &block, hits.as_slice(), self.context, filled)?;
+        self.found = found;
+        Ok(())
+    }
+}
+
+/// Puts the last line of an answer: how many hits there are.
+pub(crate) fn put_total<W: Sink>(found: u64, out: &mut W) -> Result<(), Stopped>
+    ensures put { OnOk result (Appends (W.held out.old) (W.held out.new) (total_line found)) }
+    ensures part { IfErr result (λ e. (e ≡ Stopped.Output)
+        × AppendsPart (W.held out.old) (W.held out.new) (total_line found)) }
+    ensures refused { result ≡ Err Stopped.Output → HasReason (W.IsRefusal out.new) }
+    ensures fails { IfErr result IsStopFault }
+    ensures cause { IfErr result IsStopWant }
+{
+    let mut digits = Buffer::new();
+    put_piece(b"hits ".as_slice(), out)?;
+    put_piece(digits.format(found).as_bytes(), out)?;
+    put_piece(b"\n".as_slice(), out)
+}

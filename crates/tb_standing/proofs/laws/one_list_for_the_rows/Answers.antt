@@ -1,5 +1,0 @@
-use Rattle.tb_standing.proofs.Alone.{same_records}
-use Rattle.tb_standing.proofs.laws.one_list_for_the_rows.Goals as goal
-
-pub returns : goal.returns
-returns c = same_records

@@ -1,0 +1,116 @@
+//! A correction of a sentence.
+
+ghost use Rattle.std.specs.Prelude.{◌≡◌, ◌<◌, ◌-◌, Some, slice_get, false};
+ghost use Rattle.sqlite.specs.State.{Survives};
+ghost use Rattle.sqlite.specs.Held.{state};
+ghost use Rattle.tb_tables.specs.Records.{Sentence};
+ghost use Rattle.tb_tables.specs.Changes.{with_revision, HasRevisionRowids};
+ghost use Rattle.tb_tables.specs.Values.{move_of, total_of};
+ghost use Rattle.tb_tables.specs.Commands.{after_correction};
+ghost use Rattle.tb_tables.specs.Failing.{IsRoomFault, AreUnique, NeedsNoFaultOnRevisions};
+ghost use Rattle.tb_tables.specs.Failing.{IsShort};
+ghost use Rattle.tb_tables.specs.Premises.{Follows};
+ghost use Rattle.tb_tables.specs.Leaving.{CrashesInto, FailsInside, FailsOn, KeepsCommitted, KeepsRecordsOnErr};
+ghost use Rattle.tb_tables.specs.Leaving.{Leads, AreStoredIn, StaysInside, Turns, BlamesNoDisk};
+ghost use Rattle.tb_tables.specs.Leaving.{WantsInside, WantsOn};
+
+use crate::recording::{MoveWrite, record};
+use crate::{insert_revision, update_sentence};
+use sqlite::{Alter, Connection, Error, Transaction};
+
+/// Adds the revision, makes it the sentence's current one, and writes the move.
+fn correct<S: Alter>(
+    tx: &mut Transaction<'_, S>,
+    number: u32,
+    rev: u32,
+    words: u32,
+    who: &str,
+    body: &str,
+    change: &MoveWrite,
+) -> Result<(), Error>
+    requires row { 0 < number }
+    ensures same_reference { tx.new.conn.ghost_name ≡ tx.old.conn.ghost_name }
+    ensures ok { Turns S.Store tx.old.conn.now tx.new.conn.now result (λ d into. (s : Sentence)
+        → slice_get d.sentences (number - 1) ≡ Some s → Follows d change.now
+        → AreStoredIn S.Store tx.old.conn.now d → into (after_correction d number s (record {
+          sent = number;
+          rev = rev;
+          who = who.now;
+          body = body.now;
+        }) words (move_of change.now.row) (total_of change.now.left) (total_of change.now.reached))) }
+    ensures fails { FailsInside IsRoomFault S.Store tx.old.conn.now tx.new.conn.now result (λ d fails. (s : Sentence)
+        → slice_get d.sentences (number - 1) ≡ Some s → Follows d change.now
+        → AreStoredIn S.Store tx.old.conn.now d → AreUnique (with_revision d (record {
+          sent = number;
+          rev = rev;
+          who = who.now;
+          body = body.now;
+        })) → fails) }
+    ensures wants { WantsInside S.Store tx.old.conn.now tx.new.conn.now result (λ d wants.
+        (s : Sentence) → slice_get d.sentences (number - 1) ≡ Some s → Follows d change.now
+        → AreStoredIn S.Store tx.old.conn.now d
+        → AreUnique (with_revision d (record { sent = number; rev = rev; who = who.now; body = body.now }))
+        → IsShort s.sent_id → IsShort who.now → IsShort body.now → IsShort (move_of change.now.row).who
+        → HasRevisionRowids (state S.Store tx.old.conn.now) 1 → wants) }
+    ensures cause { BlamesNoDisk NeedsNoFaultOnRevisions S.Store tx.old.conn.now tx.new.conn.now result }
+    ensures inside { StaysInside S.Store tx.old.conn.now tx.new.conn.now result }
+    ensures keeps_committed { KeepsCommitted S.Store tx.old.conn.now tx.new.conn.now }
+    ensures survives { Survives (state S.Store tx.old.conn.now) (state S.Store tx.new.conn.now) (λ _. ⊥) }
+{
+    insert_revision(tx, number, rev, who, body)?;
+    update_sentence(tx, number, rev, words)?;
+    record(tx, change)?;
+    Ok(())
+}
+
+/// Gives the sentence with this number, from 1, a revision under `rev`, which is then its current one: its words, the user
+/// who wrote it and its text. All with the move, in one transaction.
+///
+/// # Errors
+///
+/// What the database answers. The records are then those of before.
+pub fn write_correction<S: Alter>(
+    conn: &mut Connection<S>,
+    number: u32,
+    rev: u32,
+    words: u32,
+    who: &str,
+    body: &str,
+    change: &MoveWrite,
+) -> Result<(), Error>
+    requires autocommit { conn.old.in_transaction ≡ false }
+    requires row { 0 < number }
+    ensures ok { Leads S.Store conn.old conn.new result (λ d into. (s : Sentence)
+        → slice_get d.sentences (number - 1) ≡ Some s → Follows d change.now
+        → into (after_correction d number s (record {
+          sent = number;
+          rev = rev;
+          who = who.now;
+          body = body.now;
+        }) words (move_of change.now.row) (total_of change.now.left) (total_of change.now.reached))) }
+    ensures fails { FailsOn IsRoomFault S.Store conn.old conn.new result (λ d fails. (s : Sentence)
+        → slice_get d.sentences (number - 1) ≡ Some s → Follows d change.now
+        → AreUnique (with_revision d (record { sent = number; rev = rev; who = who.now; body = body.now }))
+        → fails) }
+    ensures wants { WantsOn S.Store conn.old conn.new result (λ d wants.
+        (s : Sentence) → slice_get d.sentences (number - 1) ≡ Some s → Follows d change.now
+        → AreUnique (with_revision d (record { sent = number; rev = rev; who = who.now; body = body.now }))
+        → IsShort s.sent_id → IsShort who.now → IsShort body.now → IsShort (move_of change.now.row).who
+        → HasRevisionRowids (state S.Store conn.old) 1 → wants) }
+    ensures cause { BlamesNoDisk NeedsNoFaultOnRevisions S.Store conn.old conn.new result }
+    ensures err { KeepsRecordsOnErr S.Store conn.old conn.new result }
+    ensures crash { CrashesInto S.Store conn.old conn.new (λ d into. (s : Sentence)
+        → slice_get d.sentences (number - 1) ≡ Some s → Follows d change.now
+        → into (after_correction d number s (record {
+          sent = number;
+          rev = rev;
+          who = who.now;
+          body = body.now;
+        }) words (move_of change.now.row) (total_of change.now.left) (total_of change.now.reached))) }
+    ensures autocommit { conn.new.in_transaction ≡ false }
+{
+    let mut tx = conn.transaction();
+    correct(&mut tx, number, rev, words, who, body, change)?;
+    tx.commit()?;
+    Ok(())
+}

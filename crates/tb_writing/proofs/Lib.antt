@@ -1,4 +1,0 @@
-pub mod Commands
-pub mod Numbers
-pub mod Apart
-pub mod Failing

@@ -1,0 +1,140 @@
+//! What the words of the command line say.
+
+use crate::cases::{Question, assert_answers};
+use std::alloc::Global;
+use std::test::Fail;
+use tb_cli::{Line, LineFault};
+
+/// What words say, the program's name left out. They are cut at spaces; `␣` stands for a space in a word, and `∅` for an
+/// empty word.
+struct Words;
+
+impl Question for Words {
+    fn answer(&self, alloc: Global, asked: &str) -> Result<String, Fail> {
+        let mut words: Vec<String> = Vec::new(alloc);
+        words.push(String::from_str(alloc, "treedesk")?)?;
+        for word in asked.split_whitespace() {
+            words.push(word.replace(alloc, '␣', " ")?.replace(alloc, '∅', "")?)?;
+        }
+        match Line::read(alloc, &words) {
+            Ok(line) => Ok(format!(in alloc; "{line:?}")?),
+            Err(LineFault::Clap(error)) => {
+                let kind = error.kind();
+                let status = error.exit_code();
+                Ok(format!(in alloc; "{kind:?} {status}")?)
+            }
+            Err(LineFault::Usage) => Ok(String::from_str(alloc, "usage")?),
+            Err(LineFault::Memory) => Ok(String::from_str(alloc, "memory")?),
+        }
+    }
+}
+
+/// Each command; values of the wrong form; words that clap refuses; help and the version; no word at all.
+const LINES: &str = "\
+    check => Check\n\
+    new --db F => New { db: \"F\" }\n\
+    migrate --db=F => Migrate { db: \"F\" }\n\
+    import --user ann b1 => Import { db: None, user: \"ann\", name: \"b1\" }\n\
+    import b1 --user ann --db F => Import { db: Some(\"F\"), user: \"ann\", name: \"b1\" }\n\
+    import --user ∅ c => Import { db: None, user: \"\", name: \"c\" }\n\
+    import --user a␣b c␣d => Import { db: None, user: \"a b\", name: \"c d\" }\n\
+    import --user ann ∅ => usage\n\
+    import --user ann c/d => usage\n\
+    event --user ann c/ assign => usage\n\
+    export ∅ => usage\n\
+    export /c => usage\n\
+    event --user ann b1 assign => Event { db: None, user: \"ann\", name: \"b1\", event: Assign }\n\
+    event --db F --user ann b1 send-back => Event { db: Some(\"F\"), user: \"ann\", name: \"b1\", event: SendBack }\n\
+    correct --user ann 17 0 => Correct { db: None, user: \"ann\", no: 17, base: 0 }\n\
+    correct --user ann 9999999999 1 => Correct { db: None, user: \"ann\", no: 9999999999, base: 1 }\n\
+    pull --user dan 2 => Pull { db: None, user: \"dan\", no: 2 }\n\
+    restore --user dan 2 --db F => Restore { db: Some(\"F\"), user: \"dan\", no: 2 }\n\
+    show 7 => Show { db: None, no: 7, rev: None }\n\
+    show --db F 7 --rev 2 => Show { db: Some(\"F\"), no: 7, rev: Some(2) }\n\
+    export => Export { db: None, name: None }\n\
+    export b1 --db F => Export { db: Some(\"F\"), name: Some(\"b1\") }\n\
+    totals => Totals { db: None }\n\
+    totals --db F => Totals { db: Some(\"F\") }\n\
+    moves --db F => Moves { db: Some(\"F\") }\n\
+    search [] => Search { db: None, strategy: Longest, context: 5, query: \"[]\" }\n\
+    search --strategy every --context 0 []␣[] => Search { db: None, strategy: Every, context: 0, query: \"[] []\" }\n\
+    search [] --context=20 --strategy=shortest --db F => Search { db: Some(\"F\"), strategy: Shortest, context: 20, query: \"[]\" }\n\
+    count lemma [] => Count { db: None, strategy: Longest, attribute: Lemma, query: \"[]\" }\n\
+    count --strategy shortest word [] => Count { db: None, strategy: Shortest, attribute: Form, query: \"[]\" }\n\
+    serve --port 0 => Serve { db: None, port: 0, requests: 1000000000 }\n\
+    serve --db F --port 65535 --requests 007 => Serve { db: Some(\"F\"), port: 65535, requests: 7 }\n\
+    event --user ann b1 opened => usage\n\
+    event --user ann b1 Assign => usage\n\
+    correct --user ann 0 1 => usage\n\
+    correct --user ann 017 1 => usage\n\
+    correct --user ann +17 1 => usage\n\
+    correct --user ann 17 01 => usage\n\
+    correct --user ann 17 10000000000 => usage\n\
+    pull --user dan 0 => usage\n\
+    restore --user dan x => usage\n\
+    show 07 => usage\n\
+    show ∅ => usage\n\
+    show 7 --rev 0 => usage\n\
+    show 7 --rev 02 => usage\n\
+    search --context 21 [] => usage\n\
+    search --context 05 [] => usage\n\
+    search --context ∅ [] => usage\n\
+    search --strategy standard [] => usage\n\
+    count --strategy traditional lemma [] => usage\n\
+    count form [] => usage\n\
+    serve --port 65536 => usage\n\
+    serve --port 08080 => usage\n\
+    serve --port 80 --requests 12345678901 => usage\n\
+    serve --port 80 --requests ∅ => usage\n\
+    serve --port 80 --requests +1 => usage\n\
+    bad => InvalidSubcommand 2\n\
+    --bad => UnknownArgument 2\n\
+    --db F totals => UnknownArgument 2\n\
+    check F => UnknownArgument 2\n\
+    check --db F => UnknownArgument 2\n\
+    new => MissingRequiredArgument 2\n\
+    new --db F --db G => ArgumentConflict 2\n\
+    migrate => MissingRequiredArgument 2\n\
+    import b1 => MissingRequiredArgument 2\n\
+    import --user ann => MissingRequiredArgument 2\n\
+    import --user ann b1 b2 => UnknownArgument 2\n\
+    import --user ann --user ben b1 => ArgumentConflict 2\n\
+    import --user ann b1 --db F --db F => ArgumentConflict 2\n\
+    import b1 --user => InvalidValue 2\n\
+    event --user ann b1 => MissingRequiredArgument 2\n\
+    event b1 assign => MissingRequiredArgument 2\n\
+    event --user ann b1 assign b2 => UnknownArgument 2\n\
+    correct --user ann 17 => MissingRequiredArgument 2\n\
+    correct 17 1 => MissingRequiredArgument 2\n\
+    pull 2 => MissingRequiredArgument 2\n\
+    pull --user dan => MissingRequiredArgument 2\n\
+    restore 2 => MissingRequiredArgument 2\n\
+    show => MissingRequiredArgument 2\n\
+    show 7 --rev => InvalidValue 2\n\
+    show 7 --rev 1 --rev 1 => ArgumentConflict 2\n\
+    show 7 --user ann => UnknownArgument 2\n\
+    show -7 => UnknownArgument 2\n\
+    export b1 b2 => UnknownArgument 2\n\
+    totals b1 => UnknownArgument 2\n\
+    moves --rev 1 => UnknownArgument 2\n\
+    search => MissingRequiredArgument 2\n\
+    search --context 1 --context 2 [] => ArgumentConflict 2\n\
+    search --context 21 [] --strategy => InvalidValue 2\n\
+    search [] [] => UnknownArgument 2\n\
+    count lemma => MissingRequiredArgument 2\n\
+    count --context 5 lemma [] => UnknownArgument 2\n\
+    serve => MissingRequiredArgument 2\n\
+    serve --port 80 --port 81 => ArgumentConflict 2\n\
+    serve --port 80 90 => UnknownArgument 2\n\
+    --help => DisplayHelp 0\n\
+    -h => DisplayHelp 0\n\
+    help => DisplayHelp 0\n\
+    help search => DisplayHelp 0\n\
+    search --help => DisplayHelp 0\n\
+    --version => DisplayVersion 0\n\
+    \x20=> usage\n";
+
+#[test]
+fn words_are_read(rt: HostRuntime) -> Result<(), Fail> {
+    assert_answers(&rt, rt.alloc(), &Words, LINES, 102)
+}

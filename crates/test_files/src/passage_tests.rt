@@ -1,0 +1,79 @@
+//! Sentences with their slices of a file, of unknown texts and of known ones, and a sink that never refuses.
+
+ghost use Rattle.std.specs.Prelude.{None, IsOk};
+
+use crate::files::{DOGS_BARK, file_of};
+use crate::read_tests::{FIELDS, reported};
+use std::test::Fail;
+use tb_check::run_check;
+use tb_conllu::{BlockRef, Sentences, Sink, known_block, put_blocks, put_number, read_ref};
+
+/// A sentence comes with the text that spells it, and of a known text is read what the reader that tests everything reads.
+#[test]
+fn sentences_come_with_their_text(rt: HostRuntime) -> Result<(), Fail> {
+    let alloc = rt.alloc();
+    let file = file_of(alloc, "V C D arabic chinese english hindi russian")?;
+    let mut unread = Sentences::new(file.as_bytes());
+    let mut texts = String::new(alloc);
+    let mut fields = String::new(alloc);
+    for _ in 0..13 {
+        let passage = unread.read_passage(alloc)?.ok_or("a sentence")?;
+        let known = known_block(alloc, passage.text.as_bytes())?.ok_or("a sentence")?;
+        let known = reported(alloc, &[known])?;
+        texts.push_str(passage.text)?;
+        fields.push_str(known.as_str())?;
+        assert_eq!(rt; known.as_str(), reported(alloc, &[passage.block])?.as_str());
+    }
+    assert!(rt; unread.read_passage(alloc)?.is_none());
+    assert_eq!(rt; texts.as_str(), file.as_str());
+    assert!(rt; fields.as_str().starts_with(FIELDS));
+    assert!(rt; known_block(alloc, &[0xC3, 0x0A])?.is_none());
+    Ok(())
+}
+
+/// Counts the bytes that it is given, and never refuses any.
+#[derive(Drop)]
+struct Counting {
+    count: u64,
+}
+
+/// Why bytes are refused: they never are.
+#[derive(Drop)]
+struct Never;
+
+impl Sink for Counting {
+    type Refusal = Never;
+
+    ghost held = { λ _. None };
+
+    ghost IsRefusal = { λ _ _. ⊥ };
+
+    fn put(&mut self, bytes: &[u8]) -> Result<(), Never> {
+        self.count = self.count.saturating_add(bytes.len() as u64);
+        Ok(())
+    }
+}
+
+/// Over a sink that never refuses, writing is proved to succeed.
+fn written(blocks: &[BlockRef<'_>], out: &mut Counting) -> Result<(), Never>
+    ensures { IsOk result }
+{
+    put_blocks(blocks, out)
+}
+
+#[test]
+fn writing_fails_only_where_the_sink_refuses(rt: HostRuntime) -> Result<(), Fail> {
+    let alloc = rt.alloc();
+    let file = file_of(alloc, "V C D")?;
+    let blocks = read_ref(alloc, file.as_bytes())?;
+    let mut out = Counting { count: 0 };
+    assert!(rt; written(&blocks, &mut out).is_ok());
+    assert_eq!(rt; out.count, file.len() as u64);
+    assert!(rt; put_number(1_000, &mut out).is_ok());
+    assert_eq!(rt; out.count, file.len() as u64 + 4);
+    let mut reader = DOGS_BARK.as_bytes();
+    let mut reply = Counting { count: 0 };
+    assert_eq!(rt; run_check(alloc, &mut reader, &mut reply), 0);
+    assert_eq!(rt; reply.count, "sentences 1 words 3\n".len() as u64);
+    Ok(())
+}

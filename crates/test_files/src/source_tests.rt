@@ -1,0 +1,126 @@
+//! What is asked of a source, and what is answered where it fails: sources that count their pieces, and that are cut
+//! off.
+
+ghost use Rattle.std.specs.Prelude.{◌≡◌, ◌≤◌, [], length, map, vec_items, None, Some};
+ghost use Rattle.tb_check.specs.Check.{Answers, file_limit};
+ghost use Rattle.tb_check.specs.declared.reply.CheckReply.TheVariants.{Device};
+
+use crate::files::DOGS_BARK;
+use std::alloc::Global;
+use std::test::Fail;
+use tb_check::{check_bytes, check_within, run_check};
+use tb_conllu::{Sink, Source, SourceFault};
+
+/// Bytes in memory, and a failure in place of their end.
+#[derive(Drop)]
+struct Cut<'a> {
+    bytes: &'a [u8],
+}
+
+impl<'a> Source for Cut<'a> {
+    type Failure = SourceFault;
+
+    ghost left = { λ s. Some s.bytes.now };
+
+    ghost pieces = { λ _. None };
+
+    ghost IsFailure = { λ s _. s.bytes.now ≡ [] };
+
+    fn pull(&mut self, buf: &mut [u8]) -> Result<usize, SourceFault> {
+        if self.bytes.is_empty() {
+            return Err(SourceFault);
+        }
+        let all = self.bytes;
+        let n = all.len().min(buf.len());
+        buf[..n].copy_from_slice(&all[..n]);
+        self.bytes = &all[n..];
+        Ok(n)
+    }
+}
+
+/// Bytes in memory, one at a time. It keeps each piece that it gave, and fails where it has no room for one.
+#[derive(Drop)]
+struct Counted<'a> {
+    alloc: Global,
+    bytes: &'a [u8],
+    given: Vec<Vec<u8>>,
+}
+
+impl<'a> Source for Counted<'a> {
+    type Failure = SourceFault;
+
+    ghost left = { λ s. Some s.bytes.now };
+
+    ghost pieces = { λ s. Some (map vec_items s.given.items) };
+
+    ghost IsFailure = { λ _ _. Unit {0} };
+
+    fn pull(&mut self, buf: &mut [u8]) -> Result<usize, SourceFault> {
+        let all = self.bytes;
+        let n = all.len().min(buf.len()).min(1);
+        let mut piece = Vec::new(self.alloc);
+        if piece.extend_from_slice(&all[..n]).is_err() || self.given.push(piece).is_err() {
+            return Err(SourceFault);
+        }
+        buf[..n].copy_from_slice(&all[..n]);
+        self.bytes = &all[n..];
+        Ok(n)
+    }
+}
+
+/// Over bytes that are cut off a device fails only where no byte is left, and so only of a file within the limit.
+fn check_cut<S: Sink>(alloc: Global, bytes: &[u8], out: &mut S) -> u8
+    ensures { Answers (λ reply. reply ≡ Device → length bytes.now ≤ file_limit)
+        (S.held out.old) (S.held out.new) (S.IsRefusal out.new) result }
+{
+    run_check(alloc, &mut Cut { bytes }, out)
+}
+
+/// The status, and the line that was printed.
+fn reported(alloc: Global, status: u8, out: &[u8]) -> Result<String, Fail> {
+    let line = str::from_utf8(out)?.strip_suffix('\n').ok_or("a line")?;
+    Ok(format!(in alloc; "{status} {line}")?)
+}
+
+/// A file that is cut off is a failed device, unless it is above the limit all the same.
+#[test]
+fn a_source_that_is_cut_off(rt: HostRuntime) -> Result<(), Fail> {
+    let alloc = rt.alloc();
+    let file = DOGS_BARK.as_bytes();
+    let mut out = Vec::new(alloc);
+    let status = check_cut(alloc, file, &mut out);
+    assert_eq!(rt; reported(alloc, status, &out)?.as_str(), "3 refused device");
+    let mut out = Vec::new(alloc);
+    let status = check_within(alloc, &mut Cut { bytes: file }, &mut out, 149);
+    assert_eq!(rt; reported(alloc, status, &out)?.as_str(), "1 refused long");
+    let mut out = Vec::new(alloc);
+    let status = check_bytes(alloc, file, &mut out);
+    assert_eq!(rt;
+        reported(alloc, status, &out)?.as_str(),
+        "0 sentences 1 words 3"
+    );
+    Ok(())
+}
+
+/// A file is asked for up to its end, and one above the limit up to the first byte above it.
+#[test]
+fn a_source_that_counts_its_pieces(rt: HostRuntime) -> Result<(), Fail> {
+    let alloc = rt.alloc();
+    for (limit, wanted, pieces) in [
+        (151, "0 sentences 1 words 3", 151),
+        (150, "0 sentences 1 words 3", 151),
+        (149, "1 refused long", 150),
+        (0, "1 refused long", 1),
+    ] {
+        let mut source = Counted {
+            alloc,
+            bytes: DOGS_BARK.as_bytes(),
+            given: Vec::new(alloc),
+        };
+        let mut out = Vec::new(alloc);
+        let status = check_within(alloc, &mut source, &mut out, limit);
+        assert_eq!(rt; reported(alloc, status, &out)?.as_str(), wanted);
+        assert_eq!(rt; source.given.len(), pieces);
+    }
+    Ok(())
+}

@@ -1,0 +1,73 @@
+//! Cases as lines of text, `TEXT => ANSWER` each: the prover takes one long text more easily than many values.
+
+use crate::questions::{Question, answer};
+use crate::writing::assert_reported;
+use std::alloc::{AllocError, Global};
+use std::process::Abort;
+use std::test::Fail;
+use tb_match::Strategy;
+
+/// What stands before the sign, and after it.
+pub(crate) fn cut<'a>(rt: &impl Abort, text: &'a str, sign: &str) -> (&'a str, &'a str) {
+    match text.split_once(sign) {
+        Some(parts) => parts,
+        None => panic!(rt; "the sign is missing"),
+    }
+}
+
+/// The strategy of this name.
+pub(crate) fn strategy(rt: &impl Abort, name: &str) -> Strategy {
+    match name {
+        "shortest" => Strategy::Shortest,
+        "longest" => Strategy::Longest,
+        "every" => Strategy::Every,
+        _ => panic!(rt; "no strategy has the name"),
+    }
+}
+
+/// The text so many times, with a space for each `␣` and a line feed for each `␤`.
+fn push_times(all: &mut String, text: &str, times: u32) -> Result<(), AllocError> {
+    for _ in 0..times {
+        for sign in text.chars() {
+            match sign {
+                '␣' => all.push(' ')?,
+                '␤' => all.push('\n')?,
+                _ => all.push(sign)?,
+            }
+        }
+    }
+    Ok(())
+}
+
+/// The pieces of a text of `16×( [] 16×)`, which is an expression in sixteen parentheses, put together. Any other text
+/// is itself.
+fn spelled(alloc: Global, text: &str) -> Result<String, AllocError> {
+    let mut all = String::new(alloc);
+    if !text.contains('×') {
+        all.push_str(text)?;
+        return Ok(all);
+    }
+    for token in text.split(' ') {
+        match token.split_once('×') {
+            Some((times, piece)) => push_times(&mut all, piece, times.parse().unwrap_or(0))?,
+            None => push_times(&mut all, token, 1)?,
+        }
+    }
+    Ok(all)
+}
+
+/// Asserts what each text of the cases is answered with.
+pub(crate) fn assert_cases(
+    rt: &impl Abort,
+    alloc: Global,
+    question: Question,
+    cases: &str,
+) -> Result<(), Fail> {
+    for case in cases.lines() {
+        let (text, wanted) = cut(rt, case, " => ");
+        let whole = spelled(alloc, text)?;
+        let reported = answer(rt, alloc, question, whole.as_str())?;
+        assert_reported(rt, reported.as_str(), wanted, case);
+    }
+    Ok(())
+}

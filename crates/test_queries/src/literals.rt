@@ -1,0 +1,45 @@
+//! What a literal fits, as text.
+
+use crate::cases::cut;
+use std::alloc::{AllocError, Global};
+use std::process::Abort;
+use std::test::Fail;
+use tb_literal::{LiteralCache, LiteralMatcher, PatternFault};
+use tb_syntax::Flag;
+
+/// The literal of a text, of at most ten mebibytes.
+pub(crate) fn needle(
+    alloc: Global,
+    text: &str,
+    flag: Flag,
+) -> Result<LiteralMatcher, PatternFault> {
+    LiteralMatcher::new(alloc, String::from_str(alloc, text)?, flag, 10 << 20)
+}
+
+/// Whether the tester's literal fits the value, or some item of it.
+pub(crate) fn fits(tester: &mut LiteralCache<'_>, value: &str, by_items: bool) -> bool {
+    if by_items {
+        tester.meets_item(value)
+    } else {
+        tester.meets(value)
+    }
+}
+
+/// Whether the literal before `at` fits the value after it, or some item of it.
+pub(crate) fn fit(
+    rt: &impl Abort,
+    alloc: Global,
+    text: &str,
+    flag: Flag,
+    by_items: bool,
+) -> Result<String, Fail> {
+    let (literal, value) = cut(rt, text, " at ");
+    let needle = needle(alloc, literal, flag)?;
+    let mut tester = needle.tester(alloc)?;
+    let reported = if fits(&mut tester, value, by_items) {
+        "yes"
+    } else {
+        "no"
+    };
+    Ok(String::from_str(alloc, reported)?)
+}

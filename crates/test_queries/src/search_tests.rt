@@ -1,0 +1,113 @@
+//! What a user of tb_query sees: hits, tables, the expressions of a query, and what is said of a text that is none. What is
+//! expected was worked out by hand; tools/queries asks the program for many queries more.
+
+use crate::cases::cut;
+use crate::match_tests::search;
+use crate::reading::{query_of, sentences_of};
+use crate::writing::{assert_reported, shown};
+use std::alloc::{AllocError, Global};
+use std::process::Abort;
+use std::test::Fail;
+use tb_conllu::{BlockOf, BlockRef, Text, own_block, words};
+use tb_match::Strategy;
+use tb_query::{Attr, Expr, Flag, Query, QueryFault, Searcher, parse};
+
+/// "the old big sea the boat".
+pub(crate) const BOAT: &str = "\
+    1\tthe\t_\tDET\t_\t_\t_\t_\t_\t_\n\
+    2\told\t_\tADJ\t_\t_\t_\t_\t_\t_\n\
+    3\tbig\t_\tADJ\t_\t_\t_\t_\t_\t_\n\
+    4\tsea\t_\tNOUN\t_\t_\t_\t_\t_\t_\n\
+    5\tthe\t_\tDET\t_\t_\t_\t_\t_\t_\n\
+    6\tboat\t_\tNOUN\t_\t_\t_\t_\t_\t_\n\
+    \n";
+
+/// Asserts the hits of a query in a sentence, asked of the query and of its searcher, and found by the matcher in the
+/// tables that both make. A pattern of weight 6 takes at most 168 unions on six words.
+fn assert_finds<T: Text>(
+    rt: &impl Abort,
+    alloc: Global,
+    query: &Query,
+    searcher: &mut Searcher<'_>,
+    sentence: &BlockOf<T>,
+    strategy: Strategy,
+    hits: &[(u32, u32)],
+) -> Result<(), Fail> {
+    let few = words(sentence) <= 1000;
+    assert!(rt; few, "the sentence is searched");
+    let found = query.hits(alloc, sentence, strategy)?;
+    assert!(rt; found.hits.as_slice() == hits && found.steps <= 168);
+    let found = searcher.hits(alloc, sentence, strategy)?;
+    assert!(rt; found.hits.as_slice() == hits && found.steps <= 168);
+    let table = query.truth(alloc, sentence)?;
+    let found = search(rt, alloc, query.pat(), &table, strategy)?;
+    assert!(rt; found.hits.as_slice() == hits);
+    let table = searcher.truth(alloc, sentence)?;
+    let found = search(rt, alloc, query.pat(), &table, strategy)?;
+    assert!(rt; found.hits.as_slice() == hits);
+    Ok(())
+}
+
+/// Adjectives and a noun, by one searcher in a sentence that is lent, in an owned copy, and in a sentence without words.
+#[test]
+fn sentences_are_searched(rt: HostRuntime) -> Result<(), Fail> {
+    let alloc = rt.alloc();
+    let query = query_of(alloc, r#"[upos="ADJ"]* [upos="NOUN"]"#)?;
+    let mut searcher = query.searcher(alloc)?;
+    let boats = sentences_of(&rt, alloc, BOAT)?;
+    assert!(rt; boats.len() == 1);
+    let empty = BlockRef {
+        comments: Vec::new(alloc),
+        rows: Vec::new(alloc),
+    };
+    for (strategy, hits) in [
+        (Strategy::Shortest, [(3, 4), (5, 6)].as_slice()),
+        (Strategy::Longest, [(1, 4), (5, 6)].as_slice()),
+        (Strategy::Every, [(1, 4), (2, 4), (3, 4), (5, 6)].as_slice()),
+    ] {
+        for boat in &boats {
+            let owned = own_block(alloc, boat)?;
+            assert_finds(&rt, alloc, &query, &mut searcher, boat, strategy, hits)?;
+            assert_finds(&rt, alloc, &query, &mut searcher, &owned, strategy, hits)?;
+        }
+        assert_finds(&rt, alloc, &query, &mut searcher, &empty, strategy, &[])?;
+    }
+    Ok(())
+}
+
+#[test]
+fn expressions_are_handed_out(rt: HostRuntime) -> Result<(), Fail> {
+    let query = query_of(rt.alloc(), r#"[lemma="dog"%l]"#)?;
+    let pattern = shown(rt.alloc(), query.pat())?;
+    assert_reported(&rt, pattern.as_str(), "Tok(0)", "the pattern");
+    assert!(rt; query.exprs().len() == 1);
+    for expr in query.exprs() {
+        let Expr::Whole(attr, needle) = expr else {
+            panic!(rt; "no column is asked");
+        };
+        assert!(rt; *attr == Attr::Lemma && needle.flag() == Flag::Literal);
+        assert!(rt; needle.text() == "dog");
+    }
+    Ok(())
+}
+
+/// What is said of a fault.
+fn message(alloc: Global, fault: &QueryFault) -> Result<String, AllocError> {
+    format!(in alloc; "{fault}")
+}
+
+const MESSAGES: &str = r#"[upos=] => outside the grammar at byte 6
+"a" "[" => literal 2 is no pattern"#;
+
+#[test]
+fn faults_are_said(rt: HostRuntime) -> Result<(), Fail> {
+    let alloc = rt.alloc();
+    for case in MESSAGES.lines() {
+        let (text, wanted) = cut(&rt, case, " => ");
+        let Err(fault) = parse(alloc, text) else {
+            panic!(rt; "the text is a query");
+        };
+        assert_reported(&rt, message(alloc, &fault)?.as_str(), wanted, case);
+    }
+    Ok(())
+}

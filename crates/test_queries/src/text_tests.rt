@@ -1,0 +1,150 @@
+//! Queries as lists of lexemes and as texts. The expected answers were worked out by hand from the grammar, the limits and the
+//! documentation of Rust's regex crate. tools/queries asks the program for the faults of many texts more.
+
+use crate::cases::assert_cases;
+use crate::lexemes::lexemes;
+use crate::questions::Question;
+use std::test::Fail;
+use tb_query::{
+    a_query_has_no_fault, a_text_asks_one_thing, a_text_has_one_fault, a_text_has_one_reading,
+    literals_are_in_order,
+};
+use tb_syntax::{
+    Flag, Lexeme, count_expressions, literals_are_quoted, nests_within, one_fault, one_lexing,
+    one_reading, one_saying, one_unquoting, scan,
+};
+
+/// Nothing ends too early; a parenthesis may be opened, but not shut, at first; two queries of every production; then
+/// `[upos=]`, `"a"{x`, `[word contains "a"]`, `"a" "b")`, `"a" within s within` and `[(upos="a"]`, and parentheses that
+/// take no stack.
+const SCANS: &str = r#" => Some(0)
+( => Some(1)
+) => Some(0)
+[]*|("c"{1}"{1,}"l{1,2})+[]?WS; => None
+[!(w="c|m~")&fC"&f="l]; => None
+[u=] => Some(3)
+"{x => Some(2)
+[wC"] => Some(2)
+"") => Some(2)
+"WSW => Some(3)
+[(u="] => Some(5)
+2000×( => Some(2000)"#;
+
+/// `"a"{n}`, `"a"{n,}`, `"a"{n,m}`
+const REPEATS: &str = r#""{1} => true
+"{T} => true
+"{U} => false
+"{0} => false
+"{0,} => true
+"{T,} => true
+"{U,} => false
+"{0,T} => true
+"{T,T} => true
+"{3,2} => false
+"{0,0} => false
+"{0,U} => false"#;
+
+/// Each fault, whatever the literals say; many signs, which take no stack.
+const FAULTS: &str = r#"[word="go"%c & !feats contains "X"] => None
+"(" => None
+[ 1989×! word="a"] => None
+[] 1999×␣ => Some(TooLong)
+2000×( => Some(Syntax(2000))
+"a" 'b => Some(Syntax(4))
+33×[] => Some(TooMany)
+17×( [] 17×) => Some(TooDeep)
+"a"{3,2} => Some(Repeat)"#;
+
+/// A sequence binds before a choice; each repetition; each kind of test; each column.
+const TREES: &str =
+    r#""a" "b"|"c" => Alt([Cat([Tok(0), Tok(1)]), Tok(2)]) [Whole(Form, Literal { number: 0, flag: Plain }), Whole(Form, Literal { number: 1, flag: Plain }), Whole(Form, Literal { number: 2, flag: Plain })] fits
+[]? => Rep(Tok(0), 0, Some(1)) [Any] fits
+[]* => Rep(Tok(0), 0, None) [Any] fits
+[]+ => Rep(Tok(0), 1, None) [Any] fits
+[]{2} => Rep(Tok(0), 2, Some(2)) [Any] fits
+[]{2,} => Rep(Tok(0), 2, None) [Any] fits
+([]){2,3} => Rep(Tok(0), 2, Some(3)) [Any] fits
+[!(word='x'%c | lemma!="y") & feats contains "z"%l] => Tok(0) [Both([Denied(1, Either([Whole(Form, Literal { number: 0, flag: NoCase }), Denied(1, Whole(Lemma, Literal { number: 1, flag: Plain }))])), Item(Literal { number: 2, flag: Literal })])] fits
+[word="a"] => Tok(0) [Whole(Form, Literal { number: 0, flag: Plain })] fits
+[lemma="a"] => Tok(0) [Whole(Lemma, Literal { number: 0, flag: Plain })] fits
+[upos="a"] => Tok(0) [Whole(Upos, Literal { number: 0, flag: Plain })] fits
+[xpos="a"] => Tok(0) [Whole(Xpos, Literal { number: 0, flag: Plain })] fits
+[feats="a"] => Tok(0) [Whole(Feats, Literal { number: 0, flag: Plain })] fits
+[deprel="a"] => Tok(0) [Whole(Deprel, Literal { number: 0, flag: Plain })] fits"#;
+
+const PLACES: &str =
+    r#" "a""b" 'c'{12} => [Quote(0), Quote(1), LeftBrace, Number(12), RightBrace] [Span { start: 1, end: 7 }, Span { start: 8, end: 11 }, Span { start: 11, end: 12 }, Span { start: 12, end: 14 }, Span { start: 14, end: 15 }]"#;
+
+/// What each literal of a query says, in the order of the text.
+const LITERALS: &str = r#""a""b" => <a"b>
+'it''s' => <it's>
+"it's" => <it's>
+"it''s" => <it''s>
+"\\" => <\\>
+"" => <>
+"""" => <">
+'''''' => <''>
+"""a""" => <"a">
+"Straße" => <Straße>
+"Stra""ße" => <Stra"ße>
+'ß''ß' => <ß'ß>
+"हि""न्दी" => <हि"न्दी>
+'🙂''''🙂' => <🙂''🙂>
+'d' [lemma="c"%c | feats contains 'b|''x'%l] ([] """a"""%l)* 'ß'%c => <d><c><b|'x><"a"><ß>
+[]+ => "#;
+
+/// The same of a query, whose literals have to be patterns: the first that is none, and one that is too large, which is a
+/// want of memory.
+const QUERY_FAULTS: &str = r#"[word="go"%c & !feats contains "X"] => None
+"("%l => None
+[] 1999×␣ => Some(TooLong)
+[upos=] => Some(Syntax(6))
+33×[] => Some(TooMany)
+17×( [] 17×) => Some(TooDeep)
+"("{0} => Some(Repeat)
+"("%l "["%c => Some(Pattern(2))
+"(a{1000}){1000}" => Some(Memory)"#;
+
+#[test]
+fn texts_are_read(rt: HostRuntime) -> Result<(), Fail> {
+    let alloc = rt.alloc();
+    assert!(rt; tb_syntax::parse(alloc, "\t\"a\"\r\n+ ;").is_ok());
+    for (question, cases) in [
+        (Question::Scan, SCANS),
+        (Question::Repeats, REPEATS),
+        (Question::Fault, FAULTS),
+        (Question::Tree, TREES),
+        (Question::Places, PLACES),
+        (Question::Literals, LITERALS),
+        (Question::QueryFault, QUERY_FAULTS),
+    ] {
+        assert_cases(&rt, alloc, question, cases)?;
+    }
+    Ok(())
+}
+
+/// In `([(word="a")])` two parentheses are open round the test. In `[word="a"] "b" ([])` the literal of the test is no
+/// token expression.
+#[test]
+fn lexemes_are_counted(rt: HostRuntime) -> Result<(), Fail> {
+    one_reading();
+    one_lexing();
+    literals_are_quoted();
+    one_unquoting();
+    one_saying();
+    one_fault();
+    a_text_has_one_reading();
+    a_text_asks_one_thing();
+    a_text_has_one_fault();
+    a_query_has_no_fault();
+    literals_are_in_order();
+    assert!(rt; Flag::Plain != Flag::Literal);
+    assert!(rt; scan(&[]) == Err(0));
+    let grouped = lexemes(rt.alloc(), r#"([(w=")])"#)?;
+    assert!(rt; grouped.len() == 9);
+    assert!(rt; nests_within(&grouped, 2) && !nests_within(&grouped, 1));
+    let three = lexemes(rt.alloc(), r#"[w="]"([])"#)?;
+    assert!(rt; three.len() == 10 && count_expressions(&three) == 3);
+    assert!(rt; count_expressions(&[Lexeme::LeftBracket, Lexeme::RightBracket]) == 1);
+    Ok(())
+}

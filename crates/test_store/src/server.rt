@@ -1,0 +1,58 @@
+//! A desk in memory that is asked over HTTP. What is proved of its calls is not read again at each place that makes
+//! them, which keeps a test cheap to prove: it asserts what comes while it runs.
+
+use sqlite::MemStore;
+use std::alloc::Global;
+use std::test::Fail;
+use tb_answer::{Broken, answer, answer_all};
+use tb_conllu::{Sink, Source};
+use tb_core::Limits;
+use tb_http::{Routes, Status};
+use tb_store::Desk;
+
+/// The largest limits that a desk may have.
+const LIMITS: Limits = Limits {
+    sentences: 1_000_000,
+    moves: 1_000_000_000,
+    hits: 1_000_000,
+};
+
+#[derive(Drop)]
+pub(crate) struct Server {
+    alloc: Global,
+    routes: Routes,
+    desk: Desk<MemStore>,
+}
+
+impl Server {
+    pub(crate) fn new(alloc: Global) -> Result<Server, Fail> {
+        Ok(Server {
+            alloc,
+            routes: Routes::new(alloc).ok().ok_or("routes")?,
+            desk: Desk::in_memory(alloc, LIMITS)?,
+        })
+    }
+
+    /// Answers one request.
+    pub(crate) fn answer<R: Source, W: Sink>(
+        &mut self,
+        reader: &mut R,
+        out: &mut W,
+    ) -> Result<Status, Broken> {
+        answer(self.alloc, &self.routes, &mut self.desk, reader, out)
+    }
+
+    /// Answers requests in turn.
+    pub(crate) fn answer_all<W: Sink>(
+        &mut self,
+        requests: &[Vec<u8>],
+        out: &mut W,
+    ) -> Result<(), Broken> {
+        answer_all(self.alloc, &self.routes, &mut self.desk, requests, out)
+    }
+
+    /// How many commands the desk has accepted.
+    pub(crate) fn moves(&mut self) -> Result<usize, Fail> {
+        Ok(self.desk.moves()?.len())
+    }
+}
