@@ -126,7 +126,11 @@ fn has_journal(rt: &HostRuntime, path: &str) -> Result<bool, FileCause> {
 /// does not have yet.
 fn listed_now(rt: &HostRuntime, path: &str) -> Result<Version, FileCause> {
     let head = beginning(rt, path, LOOKED_AT)?;
-    if !head.is_empty() && !head.starts_with(HEADER) {
+    // (the library takes no log for an empty file: it would cut the log, and make a database in the file)
+    if head.is_empty() {
+        return Err(FileCause::Empty);
+    }
+    if !head.starts_with(HEADER) {
         return Err(FileCause::NotSqlite);
     }
     let in_file = listed_in(&head);
@@ -141,7 +145,6 @@ fn listed_now(rt: &HostRuntime, path: &str) -> Result<Version, FileCause> {
     match (listed_in(&log), in_file) {
         (Some(Version::Two), _) => Ok(Version::Two),
         (Some(Version::One), _) | (None, Some(Version::One)) => Ok(Version::One),
-        _ if head.is_empty() => Err(FileCause::Empty),
         _ => Err(FileCause::OtherDatabase),
     }
 }
