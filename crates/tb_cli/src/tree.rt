@@ -14,8 +14,36 @@ use clap::{Arg, Command};
 use std::alloc::{AllocError, Global};
 
 /// What help says after the list of commands.
-const EXIT: &str =
-    "Exit status: 0 done (also for this help), 1 refused, 2 wrong words, 3 no memory or no device.\n\nEvery command but check, new and migrate works on a desk in memory unless --db FILE names one.";
+const ENDING: &str = "\
+Examples:
+  treedesk check < news.conllu
+  treedesk new --db desk.db
+  treedesk import --db desk.db --user ann news-1 < news.conllu
+  treedesk search --db desk.db '[upos=\"ADJ\"] [lemma=\"book\"]'
+
+Every command but check, new and migrate works on a desk in memory unless --db names a file.
+`treedesk help COMMAND` shows what a command takes and prints, with an example.
+
+Exit status:
+  0  done; help and the version too
+  1  refused; nothing was changed
+  2  wrong words on the command line
+  3  out of memory, or an I/O error
+
+Environment:
+  TREEDESK_EXPLAIN=1  explain each refusal on standard error, also where that is no terminal";
+
+/// What the help of a command ends with: what to know of it, an example, and the exit statuses.
+macro_rules! ending {
+    ($notes:literal, $example:literal) => {
+        concat!(
+            $notes,
+            "\n\nExample: treedesk ",
+            $example,
+            "\n\nExit status: 0 done, 1 refused, 2 wrong words, 3 out of memory or an I/O error."
+        )
+    };
+}
 
 /// An option that takes a value.
 fn option<'a>(alloc: Global, name: &'a str, help: &'a str) -> Arg<'a>
@@ -60,12 +88,12 @@ fn optional<'a>(alloc: Global, name: &'a str, help: &'a str) -> Arg<'a>
     Arg::new(alloc, name).help(help)
 }
 
-/// A command with what it does and an example.
-fn command<'a>(alloc: Global, name: &'a str, about: &'a str, example: &'a str) -> Command<'a>
+/// A command with what it does, and what its help ends with.
+fn command<'a>(alloc: Global, name: &'a str, about: &'a str, ending: &'a str) -> Command<'a>
     ensures app { app_of result ≡ new_app name.entry.now }
     ensures local { (out-Command result).has_globals ≡ false }
 {
-    Command::new(alloc, name).about(about).after_help(example)
+    Command::new(alloc, name).about(about).after_help(ending)
 }
 
 /// The command with one more argument.
@@ -135,7 +163,11 @@ fn check<'a>(alloc: Global) -> Command<'a>
         alloc,
         "check",
         "Check the CoNLL-U file on standard input, and count its sentences and words",
-        "Example: treedesk check < news.conllu",
+        ending!(
+            "Prints `sentences S words W`, or the first fault: `refused 8 Read LINE CODE`, or\n\
+             `refused 9 Rule SENTENCE RULE ROW`.",
+            "check < news.conllu"
+        ),
     )
 }
 
@@ -147,7 +179,10 @@ fn new_desk<'a>(alloc: Global) -> Result<Command<'a>, AllocError>
         alloc,
         "new",
         "Make an empty desk in a file",
-        "Example: treedesk new --db desk.db",
+        ending!(
+            "The file may be missing, empty or a database without a table. Any other file is refused.",
+            "new --db desk.db"
+        ),
     );
     with(command, needed(alloc, "db", "The file of the desk"))
 }
@@ -160,7 +195,10 @@ fn migrate<'a>(alloc: Global) -> Result<Command<'a>, AllocError>
         alloc,
         "migrate",
         "Bring a desk of version 1 to version 2",
-        "Example: treedesk migrate --db desk.db",
+        ending!(
+            "Other commands refuse a desk of version 1.",
+            "migrate --db desk.db"
+        ),
     );
     with(command, needed(alloc, "db", "The file of the desk"))
 }
@@ -173,7 +211,11 @@ fn import<'a>(alloc: Global) -> Result<Command<'a>, AllocError>
         alloc,
         "import",
         "Import the CoNLL-U file on standard input as a batch",
-        "Example: treedesk import --db desk.db --user ann news-1 < news.conllu",
+        ending!(
+            "A name is 1 to 32 letters, digits, dots, underscores and hyphens; a file has at most 4,194,304\n\
+             bytes. The same import again has the same answer, and changes nothing.",
+            "import --db desk.db --user ann news-1 < news.conllu"
+        ),
     );
     let command = and_db_and_user(alloc, command)?;
     with(command, word(alloc, "name", "The name of the new batch"))
@@ -187,7 +229,16 @@ fn event<'a>(alloc: Global) -> Result<Command<'a>, AllocError>
         alloc,
         "event",
         "Move a batch one step: assign, unassign, submit, send-back, adjudicate, release, withdraw, reopen",
-        "Example: treedesk event --db desk.db --user ann news-1 assign",
+        ending!(
+            "The steps from each state:\n  \
+             open         assign, withdraw\n  \
+             assigned     unassign, submit, withdraw\n  \
+             submitted    send-back, adjudicate, withdraw\n  \
+             adjudicated  release, withdraw\n  \
+             released     withdraw\n  \
+             withdrawn    reopen",
+            "event --db desk.db --user ann news-1 assign"
+        ),
     );
     let command = and_db_and_user(alloc, command)?;
     let command = with(command, word(alloc, "name", "The name of the batch"))?;
@@ -202,7 +253,11 @@ fn correct<'a>(alloc: Global) -> Result<Command<'a>, AllocError>
         alloc,
         "correct",
         "Replace a sentence by the one on standard input",
-        "Example: treedesk correct --db desk.db --user ann 17 1 < sentence.conllu",
+        ending!(
+            "The sentence keeps its sent_id and its text. Where another correction came first, the answer is\n\
+             `refused 7 Stale REV`, with the current revision.",
+            "correct --db desk.db --user ann 17 1 < sentence.conllu"
+        ),
     );
     let command = and_db_and_user(alloc, command)?;
     let command = with(command, word(alloc, "no", "The number of the sentence"))?;
@@ -224,7 +279,11 @@ fn pull<'a>(alloc: Global) -> Result<Command<'a>, AllocError>
         alloc,
         "pull",
         "Take one sentence out of the work on its batch",
-        "Example: treedesk pull --db desk.db --user ann 17",
+        ending!(
+            "The sentence is withdrawn until `restore` brings it back: it is not searched, counted or exported\n\
+             with the released text.",
+            "pull --db desk.db --user ann 17"
+        ),
     );
     let command = and_db_and_user(alloc, command)?;
     with(command, word(alloc, "no", "The number of the sentence"))
@@ -238,7 +297,10 @@ fn restore<'a>(alloc: Global) -> Result<Command<'a>, AllocError>
         alloc,
         "restore",
         "Bring a pulled sentence back",
-        "Example: treedesk restore --db desk.db --user ann 17",
+        ending!(
+            "The sentence is in the state of its batch again.",
+            "restore --db desk.db --user ann 17"
+        ),
     );
     let command = and_db_and_user(alloc, command)?;
     with(command, word(alloc, "no", "The number of the sentence"))
@@ -252,7 +314,10 @@ fn show<'a>(alloc: Global) -> Result<Command<'a>, AllocError>
         alloc,
         "show",
         "Print a sentence, or one of its revisions, as CoNLL-U",
-        "Example: treedesk show --db desk.db 17 --rev 1",
+        ending!(
+            "Revision 1 is the sentence as it was imported.",
+            "show --db desk.db 17 --rev 1"
+        ),
     );
     let command = and_db(alloc, command)?;
     let command = with(
@@ -274,7 +339,10 @@ fn export<'a>(alloc: Global) -> Result<Command<'a>, AllocError>
         alloc,
         "export",
         "Print a batch, or all released sentences, as CoNLL-U",
-        "Example: treedesk export --db desk.db news-1",
+        ending!(
+            "The export of a batch has its pulled sentences too; the released text has none of them.",
+            "export --db desk.db news-1"
+        ),
     );
     let command = and_db(alloc, command)?;
     with(
@@ -295,7 +363,7 @@ fn totals<'a>(alloc: Global) -> Result<Command<'a>, AllocError>
         alloc,
         "totals",
         "Count sentences and words in each state, as CSV",
-        "Example: treedesk totals --db desk.db",
+        ending!("Columns: state, sentences, words.", "totals --db desk.db"),
     );
     and_db(alloc, command)
 }
@@ -308,7 +376,10 @@ fn moves<'a>(alloc: Global) -> Result<Command<'a>, AllocError>
         alloc,
         "moves",
         "List every accepted command, as CSV",
-        "Example: treedesk moves --db desk.db",
+        ending!(
+            "Columns: no, kind, batch, sentence, from, to, sentences, words_out, words_in, who.",
+            "moves --db desk.db"
+        ),
     );
     and_db(alloc, command)
 }
@@ -321,7 +392,11 @@ fn search<'a>(alloc: Global) -> Result<Command<'a>, AllocError>
         alloc,
         "search",
         "Find a query in the released sentences, as keyword lines",
-        "Example: treedesk search --db desk.db --context 3 '[upos=\"ADJ\"] [lemma=\"book\"]'",
+        ending!(
+            "Each hit is a line with tabs: sent_id, first word, last word, words before, match, words after.\n\
+             The last line is `hits N`; an answer without it broke off.",
+            "search --db desk.db --context 3 '[upos=\"ADJ\"] [lemma=\"book\"]'"
+        ),
     );
     let command = with(
         and_db_and_strategy(alloc, command)?,
@@ -332,7 +407,14 @@ fn search<'a>(alloc: Global) -> Result<Command<'a>, AllocError>
             "Words on each side of a match, 0 to 20",
         ),
     )?;
-    with(command, word(alloc, "query", "The query"))
+    with(
+        command,
+        word(
+            alloc,
+            "query",
+            "The query, in the part of CQP that docs/guide/QUERIES.md describes",
+        ),
+    )
 }
 
 fn count<'a>(alloc: Global) -> Result<Command<'a>, AllocError>
@@ -343,7 +425,10 @@ fn count<'a>(alloc: Global) -> Result<Command<'a>, AllocError>
         alloc,
         "count",
         "Count what a query finds in the released sentences, as CSV",
-        "Example: treedesk count --db desk.db lemma '[upos=\"ADJ\"]'",
+        ending!(
+            "Columns: key, count. The key of a hit is the value of its words; the largest count comes first.",
+            "count --db desk.db lemma '[upos=\"ADJ\"]'"
+        ),
     );
     let command = with(
         and_db_and_strategy(alloc, command)?,
@@ -353,7 +438,14 @@ fn count<'a>(alloc: Global) -> Result<Command<'a>, AllocError>
             "What is counted: word, lemma, upos, xpos, feats or deprel",
         ),
     )?;
-    with(command, word(alloc, "query", "The query"))
+    with(
+        command,
+        word(
+            alloc,
+            "query",
+            "The query, in the part of CQP that docs/guide/QUERIES.md describes",
+        ),
+    )
 }
 
 fn serve<'a>(alloc: Global) -> Result<Command<'a>, AllocError>
@@ -364,7 +456,11 @@ fn serve<'a>(alloc: Global) -> Result<Command<'a>, AllocError>
         alloc,
         "serve",
         "Answer HTTP requests on this machine",
-        "Example: treedesk serve --db desk.db --port 8080",
+        ending!(
+            "Prints `listening PORT`, and serves 127.0.0.1 only. There is no password: every user of\n\
+             this machine may use the desk.",
+            "serve --db desk.db --port 8080"
+        ),
     );
     let command = and_db(alloc, command)?;
     let command = with(
@@ -377,7 +473,7 @@ fn serve<'a>(alloc: Global) -> Result<Command<'a>, AllocError>
             alloc,
             "requests",
             "1000000000",
-            "How many connections are served",
+            "How many connections are answered before it ends",
         ),
     )
 }
@@ -416,7 +512,7 @@ fn top<'a>(alloc: Global) -> Command<'a>
         .about(
             "A treebank desk for CoNLL-U files: check, import, correct, release, search and count",
         )
-        .after_help(EXIT)
+        .after_help(ENDING)
 }
 
 /// The whole command: its subcommands stand in the order of help.
