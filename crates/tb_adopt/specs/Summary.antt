@@ -1,3 +1,4 @@
+-- Between crates: no contract of a front door cites a definition of this module.
 -- What rows tell of a state.
 use Rattle.std.specs.Prelude.{◌≡◌, List, length, map}
 use Rattle.tb_core.specs.declared.kinds.State.{State}

@@ -1,3 +1,4 @@
+-- Inner: no contract beyond this crate cites a definition of this module.
 -- A read of tables: what it tells of them, and what it leaves of the connection.
 use Rattle.std.specs.Prelude.{◌≡◌, ◌≢◌, false, Result, Err, IfOk, OnOk, IsTrue}
 use Rattle.sqlite.specs.Store.{Ghosts}
@@ -24,7 +25,8 @@ pub record HasReadTable {S X : Type 0} (g : Ghosts S) (old new : Held S) (result
   pub shown : HasCleanDisk (state g new) → IfOk result (λ x. (state g old).now.schema ≡ desk_schema
       → IsShown x (state g old).now.trees)
   pub reported : HasCleanDisk (state g new) → IfOk result (λ x. (state g old).now.schema ≡ desk_schema
-      → (s : Machine) → IsReachable s → AreStored (tables_of s) (state g old).now.trees → IsHeld x (tables_of s))
+      → (s : Machine) → IsReachable s → AreStored (tables_of s) (state g old).now.trees
+      → IsHeld x (tables_of s))
   pub unfit : HasCleanDisk (state g new) → result ≡ Err NotADesk → (state g old).now.schema ≡ desk_schema
       → (s : Machine) → IsReachable s → AreStored (tables_of s) (state g old).now.trees → ⊥
   pub untouched : HasCleanDisk (state g new) → result ≡ Err NotADesk → (state g old).now.schema ≡ desk_schema

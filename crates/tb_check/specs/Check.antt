@@ -63,9 +63,11 @@ tells_of_input Device = false
 
 -- a reply's line
 abbrev pub reply_text : CheckReply → List ℕ
-reply_text (Counts sentences words) = codes "sentences " ++ decimal sentences ++ codes " words " ++ decimal words ++ codes "\n"
+reply_text (Counts sentences words) = codes "sentences " ++ decimal sentences ++ codes " words " ++ decimal words
+    ++ codes "\n"
 reply_text (Read line code) = codes "refused 8 Read " ++ decimal line ++ codes " " ++ decimal code ++ codes "\n"
-reply_text (Rule sentence rule row) = codes "refused 9 Rule " ++ decimal sentence ++ codes " " ++ decimal rule ++ codes " " ++ decimal row ++ codes "\n"
+reply_text (Rule sentence rule row) = codes "refused 9 Rule " ++ decimal sentence ++ codes " " ++ decimal rule
+    ++ codes " " ++ decimal row ++ codes "\n"
 reply_text Long = codes "refused long\n"
 reply_text Memory = codes "refused memory\n"
 reply_text Device = codes "refused device\n"

@@ -93,7 +93,8 @@ fn read_line(number: u64, code: u8) -> ArrayString<80>
 
 fn rule_line(sentence: u64, rule: u8, row: u64) -> ArrayString<80>
     ensures { result.bytes
-        ≡ codes "refused 9 Rule " ++ decimal sentence ++ codes " " ++ decimal rule ++ codes " " ++ decimal row ++ codes "\n" }
+        ≡ codes "refused 9 Rule " ++ decimal sentence ++ codes " " ++ decimal rule ++ codes " " ++ decimal row
+        ++ codes "\n" }
 {
     let mut line = ArrayString::new();
     line.push_str("refused 9 Rule ");

@@ -110,7 +110,8 @@ app_by verb.Serve = serve_app
 -- the commands in the order of help
 unfoldable pub verbs : List Verb
 verbs =
-    verb.Check ∷ verb.New ∷ verb.Migrate ∷ verb.Import ∷ verb.Event ∷ verb.Correct ∷ verb.Pull ∷ verb.Restore ∷ verb.Show ∷ verb.Export ∷ verb.Totals
+    verb.Check ∷ verb.New ∷ verb.Migrate ∷ verb.Import ∷ verb.Event ∷ verb.Correct ∷ verb.Pull
+    ∷ verb.Restore ∷ verb.Show ∷ verb.Export ∷ verb.Totals
     ∷ verb.Moves ∷ verb.Search ∷ verb.Count ∷ verb.Serve ∷ []
 
 abbrev pub with_verb : App → Verb → App

@@ -1,3 +1,4 @@
+-- Inner: no contract beyond this crate cites a definition of this module.
 -- What accepted pulls and restores are answered, and what they write.
 use Rattle.std.specs.Prelude.{ℕ, List, Some}
 use Rattle.tb_core.specs.declared.limits.Limits.{Limits}

@@ -1,3 +1,4 @@
+-- Inner: no contract beyond this crate cites a definition of this module.
 -- What an accepted event is answered, and what it writes.
 use Rattle.std.specs.Prelude.{◌≡◌, ℕ, ◌+◌, List, Some, string_bytes}
 use Rattle.tb_core.specs.declared.kinds.Event.{Event}

@@ -1,3 +1,4 @@
+-- Between crates: no contract of a front door cites a definition of this module.
 -- What a command leaves of a desk, and what of a batch its events move.
 use Rattle.std.specs.Prelude.{◌≡◌, ℕ, ◌+◌, List, length, cond, Bool, false, ◌||◌, [], ◌∷◌, nat_eq}
 use Rattle.sqlite.specs.Store.{Ghosts}

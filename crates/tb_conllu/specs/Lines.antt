@@ -62,7 +62,8 @@ is_head ds = bytes_eq ds (95 ∷ []) || is_number ds
 
 -- a field other than FORM, LEMMA and MISC holds white space; ID, where it does, is at fault before
 abbrev pub has_spaced_field : List ℕ → Bool
-has_spaced_field line = has_space (field 3 line) || has_space (field 4 line) || has_space (field 5 line) || has_space (field 6 line) || has_space (field 7 line) || has_space (field 8 line)
+has_spaced_field line = has_space (field 3 line) || has_space (field 4 line) || has_space (field 5 line)
+    || has_space (field 6 line) || has_space (field 7 line) || has_space (field 8 line)
 
 -- ---- the codes
 

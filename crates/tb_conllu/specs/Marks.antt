@@ -1,3 +1,4 @@
+-- Inner: no contract beyond this crate cites a definition of this module.
 -- Where a text of rows is cut: at tabs and line feeds.
 -- CoNLL-U format page, "CoNLL-U Format": single tabs separate the fields of a word line, and a line feed ends it.
 use Rattle.std.specs.Prelude.{◌≡◌, ◌↔◌, ℕ, ◌+◌, ◌<◌, ◌≤◌, List, length, Bool, true, false}

@@ -1,3 +1,4 @@
+-- Between crates: no contract of a front door cites a definition of this module.
 -- What may be wrong with a line, in nine conditions, each by itself.
 -- CoNLL-U format page (https://universaldependencies.org/format.html): a file is UTF-8 and NFC; a blank line ends a
 -- sentence; a line that begins with a hash is a comment, and stands before the word lines; every other line is a word

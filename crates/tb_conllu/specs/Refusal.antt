@@ -1,3 +1,4 @@
+-- Inner: no contract beyond this crate cites a definition of this module.
 -- A line that is refused, and a sentence of which some lines have come.
 use Rattle.std.specs.Prelude.{◌≡◌, ℕ, ◌<◌, List, [], ◌++◌, map, Bool}
 use Rattle.tb_conllu.specs.declared.fault.ReadFault.{ReadFault}

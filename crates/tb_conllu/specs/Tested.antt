@@ -1,3 +1,4 @@
+-- Between crates: no contract of a front door cites a definition of this module.
 -- What one look at all bytes tells of each of their lines.
 use Rattle.std.specs.Prelude.{◌≡◌, ℕ, List, IsTrue, false}
 use Rattle.std.specs.List.{list_any}

@@ -38,7 +38,8 @@ head_text (Some n) = decimal n
 
 -- the ten fields of a row, in order
 abbrev pub fields_of : RowText → List (List ℕ)
-fields_of r = id_text r.id ∷ r.form ∷ r.lemma ∷ r.upos ∷ r.xpos ∷ r.feats ∷ head_text r.head ∷ r.deprel ∷ r.deps ∷ r.misc ∷ []
+fields_of r = id_text r.id ∷ r.form ∷ r.lemma ∷ r.upos ∷ r.xpos ∷ r.feats ∷ head_text r.head ∷ r.deprel
+    ∷ r.deps ∷ r.misc ∷ []
 
 -- a row's line, without its line feed
 abbrev pub row_line : RowText → List ℕ

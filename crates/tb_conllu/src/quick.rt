@@ -83,7 +83,8 @@ fn any_spaced_next(unread: &str, line: &str, p: TenFields<'_>) -> bool
     requires cut { IsLine line.now }
     requires fields { fields line.now ≡ list_of p }
     ensures { result ≡
-        (has_space p.entry.upos.now || has_space p.entry.xpos.now || has_space p.entry.feats.now || has_space p.entry.head.now || has_space p.entry.deprel.now || has_space p.entry.deps.now) }
+        (has_space p.entry.upos.now || has_space p.entry.xpos.now || has_space p.entry.feats.now
+        || has_space p.entry.head.now || has_space p.entry.deprel.now || has_space p.entry.deps.now) }
 {
     any_wide_near(unread.as_bytes(), line.len()) && any_field_spaced(p)
 }

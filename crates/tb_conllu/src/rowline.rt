@@ -16,7 +16,8 @@ use tb_chars::has_white_space;
 
 pub fn any_field_spaced(p: TenFields<'_>) -> bool
     ensures { result ≡
-        (has_space p.entry.upos.now || has_space p.entry.xpos.now || has_space p.entry.feats.now || has_space p.entry.head.now || has_space p.entry.deprel.now || has_space p.entry.deps.now) }
+        (has_space p.entry.upos.now || has_space p.entry.xpos.now || has_space p.entry.feats.now
+        || has_space p.entry.head.now || has_space p.entry.deprel.now || has_space p.entry.deps.now) }
 {
     has_white_space(p.upos)
         || has_white_space(p.xpos)
@@ -30,7 +31,8 @@ pub fn any_field_spaced(p: TenFields<'_>) -> bool
 fn any_spaced(line: &str, p: TenFields<'_>) -> bool
     requires { fields line.now ≡ list_of p }
     ensures { result ≡
-        (has_space p.entry.upos.now || has_space p.entry.xpos.now || has_space p.entry.feats.now || has_space p.entry.head.now || has_space p.entry.deprel.now || has_space p.entry.deps.now) }
+        (has_space p.entry.upos.now || has_space p.entry.xpos.now || has_space p.entry.feats.now
+        || has_space p.entry.head.now || has_space p.entry.deprel.now || has_space p.entry.deps.now) }
 {
     any_loose(line.as_bytes()) && any_field_spaced(p)
 }

@@ -4,7 +4,8 @@ use Rattle.std.specs.List.{AllByRecursion, list_all}
 
 -- an ASCII letter or digit, a full stop, an underscore or a hyphen
 abbrev pub is_name_byte : ℕ → Bool
-is_name_byte c = (nat_le 65 c && nat_le c 90) || (nat_le 97 c && nat_le c 122) || (nat_le 48 c && nat_le c 57) || c == 46 || c == 95 || c == 45
+is_name_byte c = (nat_le 65 c && nat_le c 90) || (nat_le 97 c && nat_le c 122) || (nat_le 48 c && nat_le c 57)
+    || c == 46 || c == 95 || c == 45
 
 -- a name: 1 to 32 of these
 abbrev pub is_name : List ℕ → Bool

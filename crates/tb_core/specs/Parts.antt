@@ -1,3 +1,4 @@
+-- Between crates: no contract of a front door cites a definition of this module.
 -- What is known of a command once the first part of its tests told nothing.
 use Rattle.std.specs.Prelude.{◌≡◌, ℕ, ◌+◌, ◌≤◌, List, ◌&&◌, true, Ok}
 use Rattle.tb_conllu.specs.Text.{BlockText}

@@ -17,7 +17,8 @@ pub data Later (s : Machine) : Machine → Type 0 where
 
 -- Whether one more command has room: an import adds sentences, and each command adds a move.
 abbrev pub has_room : Limits → Machine → Act → Bool
-has_room l s (importing name user bodies) = nat_le (length s.sentences + length bodies) l.sentences && nat_le (length s.moves + 1) l.moves
+has_room l s (importing name user bodies) = nat_le (length s.sentences + length bodies) l.sentences
+    && nat_le (length s.moves + 1) l.moves
 has_room l s (stepping place event user) = nat_le (length s.moves + 1) l.moves
 has_room l s (correcting place user body) = nat_le (length s.moves + 1) l.moves
 has_room l s (pulling place user) = nat_le (length s.moves + 1) l.moves

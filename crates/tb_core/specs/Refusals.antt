@@ -43,7 +43,8 @@ refusal_text NotYours = codes "refused 5 NotYours"
 refusal_text OwnWork = codes "refused 6 OwnWork"
 refusal_text (Stale current) = codes "refused 7 Stale " ++ decimal current
 refusal_text (Read line code) = codes "refused 8 Read " ++ decimal line ++ codes " " ++ decimal code
-refusal_text (Rule sentence rule row) = codes "refused 9 Rule " ++ decimal sentence ++ codes " " ++ decimal rule ++ codes " " ++ decimal row
+refusal_text (Rule sentence rule row) = codes "refused 9 Rule " ++ decimal sentence ++ codes " " ++ decimal rule
+    ++ codes " " ++ decimal row
 refusal_text Empty = codes "refused 10 Empty"
 refusal_text NotOne = codes "refused 11 NotOne"
 refusal_text SentIdChanged = codes "refused 12 SentIdChanged"

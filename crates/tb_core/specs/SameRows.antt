@@ -1,3 +1,4 @@
+-- Inner: no contract beyond this crate cites a definition of this module.
 -- Rows that have fields in common.
 use Rattle.std.specs.Prelude.{◌≡◌}
 use Rattle.tb_conllu.specs.Text.{RowText}

@@ -43,7 +43,8 @@ pub fn totals_are_nets()
 /// The sentences of the six states are all sentences.
 pub fn each_sentence_is_in_one_state()
     ensures { (s : Machine)
-        → total one s Opened + total one s Assigned + total one s Submitted + total one s Adjudicated + total one s Released + total one s Withdrawn ≡ length s.sentences }
+        → total one s Opened + total one s Assigned + total one s Submitted + total one s Adjudicated
+        + total one s Released + total one s Withdrawn ≡ length s.sentences }
 {}
 
 /// Each revision of a reached state is a valid sentence, and its text reads back as this sentence and nothing else.

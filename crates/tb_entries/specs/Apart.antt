@@ -1,3 +1,4 @@
+-- Between crates: no contract of a front door cites a definition of this module.
 -- Names, each its own.
 use Rattle.std.specs.Prelude.{◌≡◌, ℕ, List, map, Bool, true, false, ◌||◌, bytes_eq}
 use Rattle.std.specs.List.{AllByRecursion, list_any}

@@ -1,3 +1,4 @@
+-- Between crates: no contract of a front door cites a definition of this module.
 -- What the rows of one sentence tell, and when they are those of a sentence.
 use Rattle.std.specs.Prelude.{◌≡◌, ℕ, ◌+◌, ◌-◌, List, [], ◌∷◌, length, map, Bool, true, false}
 use Rattle.std.specs.Prelude.{◌&&◌, not, nat_eq, bytes_eq, Option, Some, None, slice_get}

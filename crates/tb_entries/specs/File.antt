@@ -1,3 +1,4 @@
+-- Between crates: no contract of a front door cites a definition of this module.
 -- The rows of a whole file, and the sentences that have them.
 use Rattle.std.specs.Prelude.{◌≡◌, ℕ, List, [], ◌∷◌, map, Bool, false, cond, nat_eq, drop}
 use Rattle.std.specs.List.{AllByRecursion}

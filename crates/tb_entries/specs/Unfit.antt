@@ -1,3 +1,4 @@
+-- Between crates: no contract of a front door cites a definition of this module.
 -- What is unfit of a text that cannot be read, or breaks a rule: want of memory says nothing of it.
 use Rattle.tb_conllu.specs.declared.fault.ReadFault.{ReadFault}
 use Rattle.tb_conllu.specs.declared.fault.ReadFault.TheVariants as reading

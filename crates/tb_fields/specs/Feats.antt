@@ -79,7 +79,8 @@ abbrev pub is_not_after : List ℕ → List ℕ → Bool
 is_not_after [] ys = true
 is_not_after (x ∷ xs) [] = false
 is_not_after (x ∷ xs) (y ∷ ys) =
-    nat_lt (to_ascii_lowercase x) (to_ascii_lowercase y) || (to_ascii_lowercase x == to_ascii_lowercase y && is_not_after xs ys)
+    nat_lt (to_ascii_lowercase x) (to_ascii_lowercase y) || (to_ascii_lowercase x == to_ascii_lowercase y
+    && is_not_after xs ys)
 
 -- it is not after the first of the others
 abbrev pub precedes : List ℕ → List (List ℕ) → Bool

@@ -1,3 +1,4 @@
+-- Inner: no contract beyond this crate cites a definition of this module.
 -- Features whose names rise strictly, which nearly all lists of features are: then no name can come twice.
 use Rattle.std.specs.Prelude.{ℕ, List, [], ◌∷◌, Bool, true, false, ◌&&◌, ◌||◌, nat_lt, ◌==◌}
 use Rattle.std.specs.Char.{to_ascii_lowercase}
@@ -9,7 +10,8 @@ is_below [] [] = false
 is_below [] (y ∷ ys) = true
 is_below (x ∷ xs) [] = false
 is_below (x ∷ xs) (y ∷ ys) =
-    nat_lt (to_ascii_lowercase x) (to_ascii_lowercase y) || (to_ascii_lowercase x == to_ascii_lowercase y && is_below xs ys)
+    nat_lt (to_ascii_lowercase x) (to_ascii_lowercase y) || (to_ascii_lowercase x == to_ascii_lowercase y
+    && is_below xs ys)
 
 -- features, each with a name above the one before
 abbrev pub are_rising : List ℕ → List (List ℕ) → Bool

@@ -1,3 +1,4 @@
+-- Inner: no contract beyond this crate cites a definition of this module.
 -- Texts that have come.
 use Rattle.std.specs.Prelude.{ℕ, List, Bool, bytes_eq}
 use Rattle.std.specs.List.{list_any}

@@ -64,10 +64,13 @@ reply_text (reply.Moved r) =
     codes "moved batch=" ++ decimal r.batch ++ codes " state=" ++ state_word r.state
     ++ codes " sentences=" ++ decimal r.sentences ++ codes " words=" ++ decimal r.words ++ codes "\n"
 reply_text (reply.Corrected r) =
-    codes "corrected sentence=" ++ decimal r.sentence ++ codes " rev=" ++ decimal r.rev ++ codes " words=" ++ decimal r.words ++ codes "\n"
-reply_text (reply.Pulled r) = codes "pulled sentence=" ++ decimal r.sentence ++ codes " words=" ++ decimal r.words ++ codes "\n"
+    codes "corrected sentence=" ++ decimal r.sentence ++ codes " rev=" ++ decimal r.rev ++ codes " words="
+    ++ decimal r.words ++ codes "\n"
+reply_text (reply.Pulled r) = codes "pulled sentence=" ++ decimal r.sentence ++ codes " words=" ++ decimal r.words
+    ++ codes "\n"
 reply_text (reply.Restored r) =
-    codes "restored sentence=" ++ decimal r.sentence ++ codes " state=" ++ state_word r.state ++ codes " words=" ++ decimal r.words ++ codes "\n"
+    codes "restored sentence=" ++ decimal r.sentence ++ codes " state=" ++ state_word r.state ++ codes " words="
+    ++ decimal r.words ++ codes "\n"
 reply_text (reply.Refused refusal) = refusal_text refusal ++ codes "\n"
 reply_text (reply.Faulty fault) = codes "refused " ++ fault_word fault ++ codes "\n"
 reply_text reply.Memory = codes "refused memory\n"

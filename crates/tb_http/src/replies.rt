@@ -164,7 +164,8 @@ fn two_numbers(text: &str, a: u64, b: u64) -> ArrayString<128>
 
 fn rule_line(sentence: u64, rule: u8, row: u64) -> ArrayString<128>
     ensures { result.bytes
-        ≡ codes "refused 9 Rule " ++ decimal sentence ++ codes " " ++ decimal rule ++ codes " " ++ decimal row ++ codes "\n" }
+        ≡ codes "refused 9 Rule " ++ decimal sentence ++ codes " " ++ decimal rule ++ codes " " ++ decimal row
+        ++ codes "\n" }
 {
     let mut line = ArrayString::new();
     line.push_str("refused 9 Rule ");

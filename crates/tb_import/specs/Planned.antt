@@ -1,3 +1,4 @@
+-- Between crates: no contract of a front door cites a definition of this module.
 -- What an accepted import writes and answers, and what an import leaves.
 use Rattle.std.specs.Prelude.{◌≡◌, ℕ, ◌+◌, List, Option, Some, None, length, map}
 use Rattle.sqlite.specs.Store.{Ghosts}

@@ -1,3 +1,4 @@
+-- Inner: no contract beyond this crate cites a definition of this module.
 -- How what is built for a literal stands for it.
 use Rattle.std.specs.Prelude.{◌≡◌, ◌<◌, ℕ, List, Option, None, Some, false, true, is_some, option_map}
 use Rattle.std.specs.Prelude.{slice_index, IsUtf8}

@@ -1,3 +1,4 @@
+-- Inner: no contract beyond this crate cites a definition of this module.
 -- A read of the tables of version 1: what it tells of them, and what it leaves of the connection.
 use Rattle.std.specs.Prelude.{◌≡◌, ◌≢◌, false, List, [], map, Result, Err, IfOk, OnOk, IsTrue}
 use Rattle.sqlite.specs.Store.{Ghosts}

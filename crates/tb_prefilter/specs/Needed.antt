@@ -1,3 +1,4 @@
+-- Between crates: no contract of a front door cites a definition of this module.
 -- Bytes that are in the text of each sentence in which a query has a hit: the needles of a prefilter (regex-automata).
 use Rattle.std.specs.Prelude.{◌≡◌, ℕ, zero, suc, List, [], ◌∷◌, ◌++◌, Bool, true, false, nat_eq}
 use Rattle.std.specs.Prelude.{if◌then◌else◌}

@@ -1,3 +1,4 @@
+-- Inner: no contract beyond this crate cites a definition of this module.
 -- Codes for tests and for what is asked, by which a proof tells them apart.
 use Rattle.std.specs.Prelude.{◌≡◌, ℕ, List, nat_eq, refl}
 use Rattle.std.proofs.Common.{sym, ap, subst, true≢false}

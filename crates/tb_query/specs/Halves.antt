@@ -1,3 +1,4 @@
+-- Inner: no contract beyond this crate cites a definition of this module.
 -- The two halves of a code that is a pair.
 use base.Stored.{Gv, gnil, gnum, gcons}
 

@@ -1,3 +1,4 @@
+-- Inner: no contract beyond this crate cites a definition of this module.
 -- Codes for patterns, by which a proof tells them apart.
 use Rattle.std.specs.Prelude.{◌≡◌, ℕ, nat_eq, refl, Option}
 use Rattle.std.proofs.Common.{sym, ap, subst, true≢false}

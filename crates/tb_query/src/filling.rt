@@ -26,7 +26,8 @@ fn fill_cell<T: Text>(
     ensures words { truth.new.words ≡ truth.old.words }
     ensures exprs { truth.new.exprs ≡ truth.old.exprs }
     ensures held { (e w : ℕ) → (Holds truth.new e w
-        ↔ (Holds truth.old e w ⊎ ((e ≡ expr) × (w ≡ word) × (holds (asked prepared_expr.old) row.now ≡ true)))) }
+        ↔ (Holds truth.old e w ⊎ ((e ≡ expr) × (w ≡ word)
+        × (holds (asked prepared_expr.old) row.now ≡ true)))) }
 {
     if asks(prepared_expr, row) {
         truth.set(expr, word);
@@ -46,7 +47,8 @@ fn fill_row<T: Text>(
     ensures words { truth.new.words ≡ truth.old.words }
     ensures exprs { truth.new.exprs ≡ truth.old.exprs }
     ensures held { (e w : ℕ) → (Holds truth.new e w
-        ↔ (Holds truth.old e w ⊎ ((e ≡ expr) × HoldsAtWord (asked prepared_expr.old) (filter is_word rows.now) w))) }
+        ↔ (Holds truth.old e w ⊎ ((e ≡ expr) × HoldsAtWord (asked prepared_expr.old)
+        (filter is_word rows.now) w))) }
 {
     let mut word = 0;
     for row in rows {

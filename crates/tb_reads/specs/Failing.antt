@@ -1,3 +1,4 @@
+-- Between crates: no contract of a front door cites a definition of this module.
 -- How a read of the tables of a desk fails.
 use Rattle.std.specs.Prelude.{◌≡◌, ⊤, Result, Err, IsTrue}
 use Rattle.sqlite.specs.Store.{Ghosts}

@@ -1,3 +1,4 @@
+-- Between crates: no contract of a front door cites a definition of this module.
 -- Records that columns can be read back as: texts in UTF-8, numbers of 32 bits.
 use Rattle.std.specs.Prelude.{◌≡◌, ◌⊎◌, ◌<◌, ◌^◌, IsUtf8}
 use Rattle.tb_tables.specs.Records.{Batch, Sentence, Revision, Move, Total}

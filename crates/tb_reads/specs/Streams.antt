@@ -1,3 +1,4 @@
+-- Between crates: no contract of a front door cites a definition of this module.
 -- Rows that are read one at a time.
 use Rattle.std.specs.Prelude.{◌≡◌, ◌≢◌, ℕ, pos, codes, List, [], ◌∷◌, ◌++◌, map, All, Option}
 use Rattle.std.specs.Prelude.{Some, None, false, Result, Err, IfOk, IfErr, OnOk, IsTrue}

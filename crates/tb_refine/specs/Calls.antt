@@ -1,3 +1,4 @@
+-- Between crates: no contract of a front door cites a definition of this module.
 -- What a call on a connection tells of the state of the machine for which its tables stand.
 use Rattle.std.specs.Prelude.{◌≡◌, ◌≢◌, Result, Err, IfOk, IfErr, OnOk, None}
 use Rattle.sqlite.specs.Store.{Ghosts}

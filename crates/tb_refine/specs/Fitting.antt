@@ -1,3 +1,4 @@
+-- Between crates: no contract of a front door cites a definition of this module.
 -- What the records of a desk keep to: texts in UTF-8, numbers of 32 bits that stand for something, and how many they are.
 use Rattle.std.specs.Prelude.{◌≡◌, ◌≤◌, ◌<◌, ◌^◌, ℕ, length, Option, IsUtf8}
 use Rattle.std.specs.List.{All}

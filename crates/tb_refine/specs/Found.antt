@@ -1,3 +1,4 @@
+-- Between crates: no contract of a front door cites a definition of this module.
 -- What records tell of the state that they stand for.
 use Rattle.std.specs.Prelude.{◌≡◌, ◌+◌, ℕ, [], ◌∷◌, Some, slice_get, IsPermutation}
 use Rattle.tb_conllu.specs.Text.{text_of}

@@ -1,3 +1,4 @@
+-- Between crates: no contract of a front door cites a definition of this module.
 -- What a move changes in the tables.
 use Rattle.std.specs.Prelude.{◌≡◌, ◌^◌, ◌<◌, Some}
 use Rattle.tb_core.specs.declared.kinds.State.{State}

@@ -1,3 +1,4 @@
+-- Between crates: no contract of a front door cites a definition of this module.
 -- The tables as each accepted command of the machine writes them over those of the state before it.
 use Rattle.std.specs.Prelude.{ℕ, ◌+◌, List, [], ◌∷◌, map}
 use Rattle.tb_conllu.specs.Text.{BlockText, text_of}

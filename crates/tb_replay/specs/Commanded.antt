@@ -1,3 +1,4 @@
+-- Between crates: no contract of a front door cites a definition of this module.
 -- Acts and reached states by commands: each command ends as the table of its tests says.
 use Rattle.std.specs.Prelude.{◌≡◌, ◌≤◌, length, true}
 use Rattle.tb_core.specs.declared.limits.Limits.{Limits}

@@ -1,3 +1,4 @@
+-- Between crates: no contract of a front door cites a definition of this module.
 -- The replay of a desk: the command that each move names, with the texts that the desk holds, done one after the other.
 use Rattle.std.specs.Prelude.{◌≡◌, ℕ, ◌-◌, List, [], ◌∷◌, map, length, take, drop, slice_index_or}
 use Rattle.std.specs.List.{flat_map}

@@ -1,3 +1,4 @@
+-- Inner: no contract beyond this crate cites a definition of this module.
 -- Which moves a replay takes, by what it keeps of a state and by the rows of sentences, and what it keeps then.
 use Rattle.std.specs.Prelude.{ℕ, ◌+◌, ◌-◌, ◌^◌, List, [], ◌∷◌, ◌++◌, Bool, true, false, cond}
 use Rattle.std.specs.Prelude.{◌&&◌, map, length, take, drop, nat_eq, nat_lt, bytes_eq, Option, Some, None, is_ok}

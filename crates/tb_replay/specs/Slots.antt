@@ -1,3 +1,4 @@
+-- Inner: no contract beyond this crate cites a definition of this module.
 -- What a replay keeps of a state: of each batch its state, its worker and the sums that its events move; of each sentence
 -- where it is, and the number and the words of its current revision.
 use Rattle.std.specs.Prelude.{ℕ, ◌+◌, List, [], ◌∷◌, false, map, length, slice_index_or}

@@ -39,7 +39,8 @@ abbrev pub all_states : List State
 all_states = Opened ∷ Assigned ∷ Submitted ∷ Adjudicated ∷ Released ∷ Withdrawn ∷ []
 
 abbrev pub totals_fields : Totals → State → List (List ℕ)
-totals_fields t state = state_word state ∷ decimal (at_state t.sentences state) ∷ decimal (at_state t.words state) ∷ []
+totals_fields t state = state_word state ∷ decimal (at_state t.sentences state)
+    ∷ decimal (at_state t.words state) ∷ []
 
 -- a line for each state
 abbrev pub totals_csv : Totals → List ℕ
@@ -49,7 +50,8 @@ totals_csv t = csv_of (totals_head ∷ map (totals_fields t) all_states)
 
 abbrev pub moves_head : List (List ℕ)
 moves_head =
-    codes "no" ∷ codes "kind" ∷ codes "batch" ∷ codes "sentence" ∷ codes "from" ∷ codes "to" ∷ codes "sentences" ∷ codes "words_out" ∷ codes "words_in" ∷ codes "who" ∷ []
+    codes "no" ∷ codes "kind" ∷ codes "batch" ∷ codes "sentence" ∷ codes "from" ∷ codes "to"
+    ∷ codes "sentences" ∷ codes "words_out" ∷ codes "words_in" ∷ codes "who" ∷ []
 
 -- a state that may be missing
 abbrev pub from_word : Option State → List ℕ
@@ -58,7 +60,8 @@ from_word (Some state) = state_word state
 
 abbrev pub move_fields : MoveText → List (List ℕ)
 move_fields m =
-    decimal m.no ∷ kind_word m.kind ∷ decimal m.batch ∷ decimal m.sent ∷ from_word m.from ∷ state_word m.to ∷ decimal m.sentences ∷ decimal m.words_out ∷ decimal m.words_in ∷ m.who ∷ []
+    decimal m.no ∷ kind_word m.kind ∷ decimal m.batch ∷ decimal m.sent ∷ from_word m.from ∷ state_word m.to
+    ∷ decimal m.sentences ∷ decimal m.words_out ∷ decimal m.words_in ∷ m.who ∷ []
 
 -- a line for each move
 abbrev pub moves_csv : List MoveText → List ℕ

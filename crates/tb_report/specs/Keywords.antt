@@ -37,7 +37,8 @@ key_of column b hit = joined (of_hit hit.0 hit.1 (values column b))
 -- six columns, of a name, of the first word's number and the last one's, and of the forms
 abbrev pub columns : List ℕ → ℕ × ℕ → ℕ → List (List ℕ) → List (List ℕ)
 columns name hit n forms =
-    name ∷ decimal (hit.0 + 1) ∷ decimal hit.1 ∷ joined (before n hit.0 forms) ∷ joined (of_hit hit.0 hit.1 forms) ∷ joined (after n hit.1 forms) ∷ []
+    name ∷ decimal (hit.0 + 1) ∷ decimal hit.1 ∷ joined (before n hit.0 forms)
+    ∷ joined (of_hit hit.0 hit.1 forms) ∷ joined (after n hit.1 forms) ∷ []
 
 -- the line of a hit with n words of context: its columns with a tab between each two, and a line feed
 abbrev pub keyword_line : BlockText → ℕ × ℕ → ℕ → List ℕ

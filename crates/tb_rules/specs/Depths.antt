@@ -1,3 +1,4 @@
+-- Inner: no contract beyond this crate cites a definition of this module.
 -- How far the words of a sentence hang below the root: the number of steps along the heads, which the heads fix.
 use Rattle.std.specs.Prelude.{◌≡◌, ℕ, ◌+◌, ◌<◌, ◌≢◌, List, length, slice_index}
 use Rattle.tb_rules.specs.Tree.{walk}

@@ -1,3 +1,4 @@
+-- Inner: no contract beyond this crate cites a definition of this module.
 -- What the greatest end of the ranges before a row tells of it: where a range may begin, and, of ranges that stand
 -- before their words, whether a word is in one.
 use Rattle.std.specs.Prelude.{◌≡◌, ℕ, ◌+◌, ◌<◌, max, List, length, take, slice_index_or, Bool, true}

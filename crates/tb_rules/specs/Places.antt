@@ -1,3 +1,4 @@
+-- Inner: no contract beyond this crate cites a definition of this module.
 -- Heads as numbers, by which rows in their places are found and compared without a look at any.
 use Rattle.std.specs.Prelude.{ℕ, List, [], ◌∷◌, length, Option, Some, None, Bool, true, false, ◌&&◌}
 use Rattle.std.specs.Prelude.{◌||◌, not, nat_lt, nat_le, ◌==◌, slice_index, if◌then◌else◌}

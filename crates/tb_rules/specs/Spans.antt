@@ -12,7 +12,8 @@ use Rattle.tb_rules.specs.Rows.{RowTest}
 
 -- LEMMA, UPOS, XPOS, HEAD, DEPREL and DEPS are `_`
 abbrev pub is_bare : RowText → Bool
-is_bare r = is_blank r.lemma && is_blank r.upos && is_blank r.xpos && is_none r.head && is_blank r.deprel && is_blank r.deps
+is_bare r = is_blank r.lemma && is_blank r.upos && is_blank r.xpos && is_none r.head && is_blank r.deprel
+    && is_blank r.deps
 
 -- a range that ends before word m; other rows are no ranges
 abbrev pub ends_before : ℕ → LineId → Bool

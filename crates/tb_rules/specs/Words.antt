@@ -26,7 +26,8 @@ fits_root head deprel = if is_root_head head then bytes_eq (universal_part depre
 
 -- word m of n
 abbrev pub is_word_row_fine : ℕ → ℕ → RowText → Bool
-is_word_row_fine n m r = is_universal_tag r.upos && is_head_of n m r.head && is_relation r.deprel && fits_root r.head r.deprel
+is_word_row_fine n m r = is_universal_tag r.upos && is_head_of n m r.head && is_relation r.deprel
+    && fits_root r.head r.deprel
 
 abbrev pub is_fine_as_word : ℕ → LineId → RowText → Bool
 is_fine_as_word n (Word m) r = is_word_row_fine n m r

@@ -1,3 +1,4 @@
+-- Between crates: no contract of a front door cites a definition of this module.
 -- How a walk over the text of a desk ends early.
 use Rattle.std.specs.Prelude.{◌≡◌, List, All, map, Result, IfErr, None}
 use Rattle.sqlite.specs.Store.{Ghosts}

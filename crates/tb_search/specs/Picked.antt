@@ -1,3 +1,4 @@
+-- Inner: no contract beyond this crate cites a definition of this module.
 -- Revisions that are asked for by sentence and number.
 use Rattle.std.specs.Prelude.{ℕ, ◌+◌, List, [], ◌∷◌, map, cond, Bool, false, ◌&&◌, nat_eq}
 use Rattle.tb_core.specs.Machine.{Sentence, rev}

@@ -1,3 +1,4 @@
+-- Inner: no contract beyond this crate cites a definition of this module.
 -- The first lexeme of a text, found byte by byte.
 use Rattle.std.specs.Prelude.{ℕ, List, [], ◌∷◌, Bool, true, false, nat_eq, if◌then◌else◌, Option, Some}
 use Rattle.std.specs.Prelude.{None, option_map, take, drop}

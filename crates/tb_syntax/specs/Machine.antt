@@ -1,3 +1,4 @@
+-- Inner: no contract beyond this crate cites a definition of this module.
 -- The scan as a machine over lexemes, which holds no tree and no stack but two numbers.
 use Rattle.std.specs.Prelude.{ℕ, suc, zero, ◌+◌, List, [], ◌∷◌, Bool, true, false, if◌then◌else◌}
 use Rattle.std.specs.Prelude.{Option, Some, None, option_and_then}

@@ -1,3 +1,4 @@
+-- Between crates: no contract of a front door cites a definition of this module.
 -- What each command of a desk makes of the tables.
 use Rattle.std.specs.Prelude.{ℕ, ◌+◌, zero, suc, List, [], ◌∷◌, length}
 use Rattle.tb_tables.specs.Records.{Tables, Batch, Sentence, Revision, Move, Total}

@@ -61,15 +61,26 @@ batches = record (keyed (codes "batches") 1 (key_column (codes "no") ∷ column 
 
 abbrev pub sentences : Table
 sentences = record (keyed (codes "sentences") 3 (key_column (codes "no") ∷ column (codes "sent_id") Text ∷ column
-    (codes "batch") Integer ∷ column (codes "rev") Integer ∷ column (codes "words") Integer ∷ [])) { uniques = (2 ∷ []) ∷ []; orders = plain ∷ [] }
+    (codes "batch") Integer ∷ column (codes "rev") Integer ∷ column (codes "words") Integer ∷ [])) {
+      uniques = (2
+          ∷ []) ∷ [];
+      orders = plain ∷ [];
+    }
 
 abbrev pub revisions : Table
 revisions = record (table (codes "revisions") 5 (column (codes "sent") Integer ∷ column
-    (codes "rev") Integer ∷ column (codes "who") Text ∷ column (codes "body") Text ∷ [])) { primary = 1 ∷ 2 ∷ []; uniques = (1 ∷ 2 ∷ []) ∷ []; orders = plain ∷ [] }
+    (codes "rev") Integer ∷ column (codes "who") Text ∷ column (codes "body") Text ∷ [])) {
+      primary = 1 ∷ 2
+          ∷ [];
+      uniques = (1 ∷ 2 ∷ []) ∷ [];
+      orders = plain ∷ [];
+    }
 
 abbrev pub moves : Table
 moves = keyed (codes "moves") 7 (key_column (codes "no") ∷ column (codes "kind") Integer ∷ column
-    (codes "batch") Integer ∷ column (codes "sent") Integer ∷ column (codes "from_state") Integer ∷ column (codes "to_state") Integer ∷ column (codes "sentences") Integer ∷ column (codes "words_out") Integer ∷ column (codes "words_in") Integer ∷ column (codes "who") Text ∷ [])
+    (codes "batch") Integer ∷ column (codes "sent") Integer ∷ column (codes "from_state") Integer
+    ∷ column (codes "to_state") Integer ∷ column (codes "sentences") Integer
+    ∷ column (codes "words_out") Integer ∷ column (codes "words_in") Integer ∷ column (codes "who") Text ∷ [])
 
 abbrev pub totals : Table
 totals = keyed (codes "totals") 8 (key_column (codes "state") ∷ column (codes "sentences") Integer ∷ column
@@ -91,10 +102,15 @@ unique_index name tree table columns = record {
 abbrev pub desk_schema : Schema
 desk_schema = record {
   tables = meta ∷ batches ∷ sentences ∷ revisions ∷ moves ∷ totals ∷ pulled ∷ [];
-  indexes = unique_index (codes "sqlite_autoindex_batches_1") 2 1 (2 ∷ []) ∷ unique_index (codes "sqlite_autoindex_sentences_1") 4 3 (2 ∷ []) ∷ unique_index (codes "sqlite_autoindex_revisions_1") 6 5 (1 ∷ 2 ∷ []) ∷ [];
+  indexes = unique_index (codes "sqlite_autoindex_batches_1") 2 1 (2 ∷ [])
+      ∷ unique_index (codes "sqlite_autoindex_sentences_1") 4 3 (2 ∷ [])
+      ∷ unique_index (codes "sqlite_autoindex_revisions_1") 6 5 (1 ∷ 2 ∷ []) ∷ [];
   views = [];
 }
 
 -- that of version 1, in which no sentence could be pulled
 abbrev pub version_one_schema : Schema
-version_one_schema = record desk_schema { tables = meta ∷ batches ∷ sentences ∷ revisions ∷ moves ∷ totals ∷ [] }
+version_one_schema = record desk_schema {
+  tables = meta ∷ batches ∷ sentences ∷ revisions ∷ moves ∷ totals
+      ∷ [];
+}

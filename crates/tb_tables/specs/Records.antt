@@ -53,14 +53,16 @@ abbrev pub batch_shown : ℕ → Batch → Row
 batch_shown n b = Int (pos n) ∷ Text b.name ∷ Int (pos b.state) ∷ Text b.worker ∷ []
 
 abbrev pub sentence_shown : ℕ → Sentence → Row
-sentence_shown n s = Int (pos n) ∷ Text s.sent_id ∷ Int (pos s.batch) ∷ Int (pos s.rev) ∷ Int (pos s.words) ∷ []
+sentence_shown n s = Int (pos n) ∷ Text s.sent_id ∷ Int (pos s.batch) ∷ Int (pos s.rev)
+    ∷ Int (pos s.words) ∷ []
 
 abbrev pub revision_shown : Revision → Row
 revision_shown r = Int (pos r.sent) ∷ Int (pos r.rev) ∷ Text r.who ∷ Text r.body ∷ []
 
 abbrev pub move_shown : ℕ → Move → Row
 move_shown n m =
-    Int (pos n) ∷ Int (pos m.kind) ∷ Int (pos m.batch) ∷ Int (pos m.sent) ∷ Int (pos m.from) ∷ Int (pos m.to) ∷ Int (pos m.sentences) ∷ Int (pos m.words_out) ∷ Int (pos m.words_in) ∷ Text m.who ∷ []
+    Int (pos n) ∷ Int (pos m.kind) ∷ Int (pos m.batch) ∷ Int (pos m.sent) ∷ Int (pos m.from) ∷ Int (pos m.to)
+    ∷ Int (pos m.sentences) ∷ Int (pos m.words_out) ∷ Int (pos m.words_in) ∷ Text m.who ∷ []
 
 abbrev pub total_shown : ℕ → Total → Row
 total_shown n t = Int (pos n) ∷ Int (pos t.sentences) ∷ Int (pos t.words) ∷ []
@@ -88,7 +90,8 @@ abbrev pub revision_view : Row → Row
 revision_view r = column r 1 ∷ column r 2 ∷ column r 3 ∷ column r 4 ∷ []
 
 abbrev pub move_view : Row → Row
-move_view r = column r 0 ∷ column r 2 ∷ column r 3 ∷ column r 4 ∷ column r 5 ∷ column r 6 ∷ column r 7 ∷ column r 8 ∷ column r 9 ∷ column r 10 ∷ []
+move_view r = column r 0 ∷ column r 2 ∷ column r 3 ∷ column r 4 ∷ column r 5 ∷ column r 6 ∷ column r 7
+    ∷ column r 8 ∷ column r 9 ∷ column r 10 ∷ []
 
 abbrev pub total_view : Row → Row
 total_view r = column r 0 ∷ column r 2 ∷ column r 3 ∷ []

@@ -1,3 +1,4 @@
+-- Inner: no contract beyond this crate cites a definition of this module.
 -- The seven texts that make the tables.
 use Rattle.std.specs.Prelude.{ℕ, List, codes}
 

@@ -1,3 +1,4 @@
+-- Between crates: no contract of a front door cites a definition of this module.
 -- A row of the code, as a record.
 use Rattle.std.specs.Prelude.{string_bytes}
 use Rattle.tb_tables.specs.Records.{Batch, Sentence, Revision, Move, Total}

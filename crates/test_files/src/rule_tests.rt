@@ -106,7 +106,12 @@ fn goes_on_after_a_fault(rt: HostRuntime) -> Result<(), Fail> {
 const GO: &str = "# text = Go\n1\tGo\t_\tVERB\t_\tMood=Imp|VerbForm=Fin\t0\troot\t_\t_\n\n";
 
 /// What is told of a sentence with this name, after a change.
-fn reported_of(alloc: Global, checker: &mut Checker, name: u32, change: &str) -> Result<String, Fail> {
+fn reported_of(
+    alloc: Global,
+    checker: &mut Checker,
+    name: u32,
+    change: &str,
+) -> Result<String, Fail> {
     let file = format!(in alloc; "# sent_id = {name}\n{GO}")?;
     let file = changed(alloc, file.as_str(), change)?;
     let reported = checker.take(&sentence_of(alloc, file.as_str())?);
