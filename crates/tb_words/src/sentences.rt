@@ -9,15 +9,15 @@ pub(crate) const UTF16: &str =
     "the file is in UTF-16; `iconv -f utf-16 -t utf-8` makes UTF-8 of it";
 
 pub(crate) const NOT_NFC: &str =
-    "it is not in normalization form C, as where an accent stands apart from its letter; `uconv -x any-nfc` composes it";
+    "it is not in normalization form C, as where an accent is apart from its letter; `uconv -x any-nfc` composes it";
 
 pub(crate) const CARRIAGE_RETURN: &str =
     "the line ends with CR and LF; `tr -d '\\r'` takes the CR away";
 
 pub(crate) const NUL: &str =
-    "the character U+0000 stands here; the file is damaged, or in UTF-16 without a mark";
+    "the character U+0000 is here; the file is damaged, or in UTF-16 without a mark";
 
-pub(crate) const CONTROL: &str = "a control character stands here; take it away";
+pub(crate) const CONTROL: &str = "a control character is here; take it away";
 
 pub(crate) const BYTE_ORDER_MARK: &str =
     "a byte order mark (EF BB BF) begins the line; `tail -c +4` takes that of a file away";
@@ -25,11 +25,10 @@ pub(crate) const BYTE_ORDER_MARK: &str =
 pub(crate) const WHITE_LINE: &str =
     "the line looks blank but holds white space; a blank line is empty";
 
-pub(crate) const COMMENT_INDENTED: &str =
-    "white space stands before the # of a comment; take it away";
+pub(crate) const COMMENT_INDENTED: &str = "white space is before the # of a comment; take it away";
 
 pub(crate) const SPACES_FOR_TABS: &str =
-    "spaces stand where tabs have to; put one tab between two columns";
+    "spaces are where tabs have to be; put one tab between two columns";
 
 pub(crate) const NO_TAB: &str =
     "the line has no tab; a comment begins with #, and a word line has ten columns with one tab between two of them";
@@ -38,12 +37,12 @@ pub(crate) const FEW_FIELDS: &str =
     "a word line has ten columns; put one tab between two of them, and _ where there is nothing";
 
 pub(crate) const MANY_FIELDS: &str =
-    "a word line has ten columns, and a tab stands only between two of them";
+    "a word line has ten columns, and a tab is only between two of them";
 
-pub(crate) const TAB_AT_END: &str = "a tab stands after the tenth column; take it away";
+pub(crate) const TAB_AT_END: &str = "a tab is after the tenth column; take it away";
 
 pub(crate) const DOUBLE_TAB: &str =
-    "two tabs stand side by side; put _ between them where the column is empty, else take one away";
+    "two tabs are side by side; put _ between them where the column is empty, else take one away";
 
 pub(crate) const EMPTY_FIELD: &str = "the column is empty; write _ where there is nothing";
 
@@ -55,16 +54,16 @@ pub(crate) const ID_ZERO: &str =
 pub(crate) const ID_FORM: &str =
     "an ID is that of a word as 3, of a range as 3-4, or of an empty node as 3.1";
 
-pub(crate) const SPACE: &str = "white space stands in it; only FORM, LEMMA and MISC may hold some";
+pub(crate) const SPACE: &str = "white space is in it; only FORM, LEMMA and MISC may hold some";
 
 pub(crate) const HEAD_FORM: &str =
     "HEAD is 0, a number of one to six digits that begins with 1 to 9, or _";
 
 pub(crate) const BLANK_MISSING: &str =
-    "a comment stands after a word; if a new sentence begins here, put a blank line before it";
+    "a comment is after a word; if a new sentence begins here, put a blank line before it";
 
 pub(crate) const COMMENT_PLACE: &str =
-    "a comment stands after a word; move it before the first word of its sentence";
+    "a comment is after a word; move it before the first word of its sentence";
 
 pub(crate) const BLANK_FIRST: &str = "the file begins with a blank line; take it away";
 
@@ -131,16 +130,15 @@ pub(crate) const RANGE_BACKWARD: &str = "the range ends before it begins";
 pub(crate) const RANGE_BEYOND: &str = "the range ends after the last word of the sentence";
 
 pub(crate) const RANGE_OVERLAP: &str =
-    "the range begins within an earlier one or before it; ranges do not overlap, and stand in order";
+    "the range begins within an earlier one or before it; ranges do not overlap, and are in order";
 
-pub(crate) const RANGE_PLACE: &str =
-    "the range does not stand just before its first word; move it there";
+pub(crate) const RANGE_PLACE: &str = "the range is not just before its first word; move it there";
 
 pub(crate) const RANGE_FIELD: &str =
     "LEMMA, UPOS, XPOS, HEAD, DEPREL and DEPS of a range are _; write them on its words";
 
 pub(crate) const NODE_TREE: &str =
-    "HEAD and DEPREL of an empty node are _; its relations stand in DEPS";
+    "HEAD and DEPREL of an empty node are _; its relations are in DEPS";
 
 pub(crate) const NODE_UPOS: &str = "UPOS of an empty node is _ or one of the 17 parts of speech";
 
@@ -155,7 +153,7 @@ pub(crate) const FEATURE_VALUE: &str =
 pub(crate) const VALUE_TWICE: &str = "the feature has a value twice; keep one";
 
 pub(crate) const FEATURE_ORDER: &str =
-    "features stand in the order of their names, whatever the case of letters; move it forward";
+    "features are in the order of their names, whatever the case of letters; move it forward";
 
 pub(crate) const FEATURE_TWICE: &str =
     "an earlier feature has the same name; keep one, and join its values by commas";
@@ -165,9 +163,9 @@ pub(crate) const PAIR_FORM: &str = "DEPS is _, or pairs head:relation that bars 
 pub(crate) const PAIR_HEAD: &str =
     "the head of a pair is 0, or the ID of a word or an empty node of the sentence";
 
-pub(crate) const PAIR_RELATION: &str = "a relation has to stand after the colon";
+pub(crate) const PAIR_RELATION: &str = "a relation has to be after the colon";
 
-pub(crate) const PAIR_ORDER: &str = "pairs stand in the order of their heads; move it forward";
+pub(crate) const PAIR_ORDER: &str = "pairs are in the order of their heads; move it forward";
 
 pub(crate) const NO_ROOT: &str = "no word has HEAD 0; give it to one, with the relation root";
 
@@ -228,7 +226,7 @@ pub(crate) const BACKSLASH_QUOTE: &str =
     "a backslash before a quote does not keep the literal open; write the quote twice";
 
 pub(crate) const FLAG: &str =
-    "after a literal stands one flag, %c or %l, without a space in it; %d and two flags are not in this subset";
+    "after a literal is one flag, %c or %l, without a space in it; %d and two flags are not in this subset";
 
 pub(crate) const TAG: &str =
     "tags as `<s>` are not in this subset of CQP; each hit lies in one sentence, so leave them out";
@@ -251,19 +249,19 @@ pub(crate) const NO_LOWER: &str = "a repetition has a lower number; write {0,m}"
 pub(crate) const NUMBER_ZERO: &str = "a number has no leading zero";
 
 pub(crate) const REPEATED_TWICE: &str =
-    "a repetition stands after a repetition; put parentheses round the first";
+    "a repetition is after a repetition; put parentheses round the first";
 
 pub(crate) const NOTHING_REPEATED: &str =
-    "a repetition stands after a token, a literal or a parenthesis";
+    "a repetition is after a token, a literal or a parenthesis";
 
 pub(crate) const EQUALS_TWICE: &str = "an equality is written with one =";
 
 pub(crate) const NOT_SPACED: &str = "!= is written without a space";
 
-pub(crate) const NO_PARENTHESIS: &str = "no parenthesis is open here, or nothing stands in it";
+pub(crate) const NO_PARENTHESIS: &str = "no parenthesis is open here, or nothing is in it";
 
 pub(crate) const VALUE_WANTED: &str =
-    "a value between quotes has to stand here, as in [upos=\"NOUN\"]";
+    "a value between quotes has to be here, as in [upos=\"NOUN\"]";
 
 pub(crate) const VALUE_UNQUOTED: &str = "put quotes round the value, as in [upos=\"NOUN\"]";
 
@@ -282,7 +280,7 @@ pub(crate) const COLUMN_CASE: &str = "the names of columns are written in small 
 pub(crate) const COLUMN_WORD: &str = "no column is called so; word is FORM";
 
 pub(crate) const COLUMN_FEATS: &str =
-    "no column is called so; feats is FEATS, and a space stands before contains";
+    "no column is called so; feats is FEATS, and a space is before contains";
 
 pub(crate) const COLUMN_DEPREL: &str = "no column is called so; deprel is DEPREL";
 
@@ -311,10 +309,10 @@ pub(crate) const ENDS_EARLY: &str = "the query ends where a token or a literal h
 pub(crate) const SYNTAX: &str = "no query has this here";
 
 pub(crate) const LITERALLY: &str =
-    "nothing is found by this pattern, but with %l after the literal, which takes all signs as they stand, something is";
+    "nothing is found by this pattern, but with %l after the literal, which takes all signs as they are, something is";
 
 pub(crate) const ON_A_RANGE: &str =
-    "this form stands on a range alone, and ranges are no words; ask for its words, as \"do\" \"n't\" for don't";
+    "this form is on a range alone, and ranges are no words; ask for its words, as \"do\" \"n't\" for don't";
 
 // Of a command.
 
@@ -348,7 +346,7 @@ pub(crate) const SENT_ID_CHANGED: &str = "a correction keeps the sent_id";
 
 pub(crate) const TEXT_CHANGED: &str = "a correction keeps the text";
 
-pub(crate) const NOTHING_CHANGED: &str = "this is the sentence as it stands";
+pub(crate) const NOTHING_CHANGED: &str = "this is the sentence as it is";
 
 pub(crate) const NAME_TAKEN: &str =
     "another batch has this name, with other sentences; choose another name";
