@@ -435,6 +435,7 @@ pub fn no_correction(number: u64, base: u64, user: &str, body: &[u8]) -> Fault
         → LacksSentence s number → Steps l s (correct_it number base user.now body.now) (refused_by r) s }
     ensures fails { result ≢ Fault.NotADesk }
     ensures cause { IsNoDevice result }
+    ensures output { result ≢ Fault.Output }
 {
     match judge_correction_before(number, base, user, body, None) {
         Err(refusal) => Fault::from(refusal),

@@ -19,6 +19,7 @@ fn read_move(alloc: Global, row: &MoveRow, no: u64) -> Result<Move, Fault>
     ensures number { IfOk result (λ m. m.no ≡ no) }
     ensures known { result ≡ Err Fault.NotADesk → (m : MoveText) → move_of row.now ≢ move_record m }
     ensures cause { IfErr result IsNoDevice }
+    ensures output { result ≢ Err Fault.Output }
     ensures never_refuses { (r : AnyRefusal) → result ≢ Err (Fault.Refused r) }
 {
     let Some(kind) = kind_numbered(row.kind) else {
@@ -56,6 +57,7 @@ pub fn read_moves(alloc: Global, rows: &[MoveRow]) -> Result<Vec<Move>, Fault>
     ensures known { result ≡ Err Fault.NotADesk → (ms : List MoveText)
         → map move_of rows.now ≢ map move_record ms }
     ensures cause { IfErr result IsNoDevice }
+    ensures output { result ≢ Err Fault.Output }
     ensures never_refuses { (r : AnyRefusal) → result ≢ Err (Fault.Refused r) }
 {
     let mut moves = Vec::new(alloc);

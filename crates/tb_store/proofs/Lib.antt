@@ -5,6 +5,7 @@ pub mod Represented
 pub mod Adopted
 pub mod Migrated
 pub mod Lasting
+pub mod Blamed
 pub mod Preparing
 pub mod Netted
 mod Reopened

@@ -9,7 +9,7 @@ use Rattle.sqlite.specs.Schema.{Schema}
 use Rattle.sqlite_tied.specs.Compute.{everything}
 use Rattle.tb_tables.proofs.Causes.{failed_wants}
 use Rattle.tb_core.specs.declared.refusals.Fault.TheVariants.{Memory}
-use Rattle.tb_store.specs.Handing.{reported_of_error}
+use Rattle.tb_store.specs.Handing.{reported_of_error, WantsToTell}
 
 pub not_run : (old new : State) (sql : List ℕ) (e : Error) → IsNotRun old new sql [] e → Fails old new ⊥ e ⊎ IsUnchanged old new
 unfolding IsNotRun
@@ -25,7 +25,7 @@ was_open_before old new e (inr same) opened = same.0.was_open
 pub reported_once : {E : Type 0} (reported : Result Bool E) → reported ≡ Ok true → reported ≡ Ok false → ⊥
 reported_once reported is also = absurd cc
 
-reported_or_not : {E : Type 0} (reported : Result Bool E) (b : Bool) (e : E) → reported ≡ Ok b → reported ≡ Err e → ⊥
+pub reported_or_not : {E : Type 0} (reported : Result Bool E) (b : Bool) (e : E) → reported ≡ Ok b → reported ≡ Err e → ⊥
 reported_or_not reported b e is also = absurd cc
 
 no_store_opens : (cause : StoreError) → reported_of_error (store_error cause) ≡ Ok true → ⊥
@@ -65,3 +65,23 @@ open_where_asked old new sql e is good (inl (inr (c, made, more), same)) shut =
 open_where_asked old new sql e is good (inr failed) shut =
     let want = failed_wants old new good e failed in
     reported_or_not _ false Memory shut (ap reported_of_error want)
+
+no_store_wants : (cause : StoreError) → reported_of_error (store_error cause) ≡ Err Memory → cause ≡ OutOfMemory
+no_store_wants OutOfMemory is = refl
+no_store_wants Io is = absurd (reported_or_not _ false Memory refl is)
+no_store_wants Corrupt is = absurd (reported_or_not _ false Memory refl is)
+no_store_wants Full is = absurd (reported_or_not _ false Memory refl is)
+no_store_wants Broken is = absurd (reported_or_not _ false Memory refl is)
+no_store_wants Unstorable is = absurd (reported_or_not _ false Memory refl is)
+
+-- want of memory is told of no other error than that
+pub wants_where_asked : (old new : State) (sql : List ℕ) (e : Error) → sql ≡ codes "unknown"
+    → IsNotRun old new sql [] e → reported_of_error e ≡ Err Memory → WantsToTell old new
+unfolding IsNotRun
+wants_where_asked old new sql e is (inl (inl (fault, failed, reported), same)) want =
+    absurd (reported_or_not _ true Memory (ap reported_of_error reported) want)
+wants_where_asked old new sql e is (inl (inr (c, made, more), same)) want =
+    absurd (subst IsRefused made (subst (λ (text : List ℕ). IsRefused (understood old.now.schema text)) (sym is) (no_statement old.now.schema)))
+wants_where_asked old new sql e is (inr failed) want =
+    let named = failed.1 ∙ ap store_error (no_store_wants failed.0 (ap reported_of_error (sym failed.1) ∙ want)) in
+    inr (subst (λ x. Fails old new ⊥ x) named failed)

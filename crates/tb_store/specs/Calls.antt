@@ -6,7 +6,7 @@ use Rattle.sqlite.specs.Held.{state}
 use Rattle.sqlite.specs.State.{HasCleanDisk, Survives}
 use Rattle.sqlite.specs.Tree.{Trees}
 use Rattle.tb_core.specs.declared.refusals.Fault.{Fault}
-use Rattle.tb_core.specs.declared.refusals.Fault.TheVariants.{Memory, NotADesk, Refused}
+use Rattle.tb_core.specs.declared.refusals.Fault.TheVariants.{Memory, NotADesk, Output, Refused}
 use Rattle.tb_core.specs.declared.refusals.Refusal.{Refusal}
 use Rattle.tb_core.specs.Machine.{Machine}
 use Rattle.tb_core.specs.Commands.{Command, Answer, Reply, replied, refused}
@@ -71,7 +71,7 @@ IsDurable g d s = Represents g d s × LeavesOnly g d s
 
 -- How a command ends in a state, by what it answers: with the machine's reply, in its next state; with the machine's
 -- refusal, or for want of memory, in the same state; after another fault in the same state, where the store is open.
--- A desk is never told to be none.
+-- A desk is never told to be none, and no sink is blamed.
 abbrev pub CommandEnds : {S X : Type 0} → Ghosts S → Kept S → Kept S → Command → (X → Reply) → Machine
     → Result X Fault
     → Type 0
@@ -80,6 +80,7 @@ CommandEnds g old new command reply s (Ok x) =
 CommandEnds g old new command reply s (Err (Refused r)) = Steps old.limits s command (refused r) s × IsDurable g new s
 CommandEnds g old new command reply s (Err Memory) = IsDurable g new s
 CommandEnds g old new command reply s (Err NotADesk) = ⊥
+CommandEnds g old new command reply s (Err Output) = ⊥
 CommandEnds g old new command reply s (Err _) = IsTrue (state g new.conn).is_open → IsDurable g new s
 
 -- a command ends so in the state for which the desk stands

@@ -1,16 +1,16 @@
 -- What a call leaves of a connection that it was given. What is said of tables is under a disk that kept what it took
 -- (`HasCleanDisk`).
-use Rattle.std.specs.Prelude.{◌≡◌, Bool, true, false, Result, Ok, Err, IsTrue}
+use Rattle.std.specs.Prelude.{◌≡◌, Bool, true, false, [], Result, Ok, Err, IsTrue, codes}
 use Rattle.sqlite.specs.declared.error.Error.{Error}
 use Rattle.sqlite.specs.declared.error.Error.TheVariants.{SqlInputError, SqliteFailure}
 use Rattle.sqlite.specs.declared.error.ErrorCode.{ErrorCode}
 use Rattle.sqlite.specs.declared.error.ErrorCode.TheVariants.{OutOfMemory}
 use Rattle.sqlite.specs.Store.{Ghosts}
 use Rattle.sqlite.specs.Held.{Held, state}
-use Rattle.sqlite.specs.State.{HasCleanDisk}
+use Rattle.sqlite.specs.State.{State, HasCleanDisk, IsNotRun}
 use Rattle.tb_core.specs.declared.refusals.Refusal.{Refusal}
 use Rattle.tb_core.specs.declared.refusals.Fault.{Fault}
-use Rattle.tb_core.specs.declared.refusals.Fault.TheVariants.{Memory, Refused}
+use Rattle.tb_core.specs.declared.refusals.Fault.TheVariants.{Memory, Device, Refused}
 use Rattle.tb_core.specs.Machine.{Machine}
 use Rattle.tb_tables.specs.Leaving.{IsFaultless}
 use Rattle.tb_tables.specs.Making.{IsBlank}
@@ -35,6 +35,21 @@ TellsOpen g new reported = HasCleanDisk (state g new) → reported ≡ Ok true �
 -- one that is told to be shut was shut, or its disk failed meanwhile
 abbrev pub TellsShut : {S : Type 0} → Ghosts S → (old new : Held S) → Result Bool Fault → Type 0
 TellsShut g old new reported = HasCleanDisk (state g new) → reported ≡ Ok false → IsFaultless g old new → ⊥
+
+-- the store was asked a text that is no statement, and memory was wanting for its answer
+abbrev pub WantsToTell : State → State → Type 0
+WantsToTell old new = IsNotRun old new (codes "unknown") [] (SqliteFailure OutOfMemory)
+
+-- want of memory is told only where it was wanting at the question
+abbrev pub TellsWant : {S : Type 0} → Ghosts S → (old new : Held S) → Result Bool Fault → Type 0
+TellsWant g old new reported =
+    HasCleanDisk (state g new) → reported ≡ Err Memory → WantsToTell (state g old) (state g new)
+
+-- where the store was open and its disk failed at nothing meanwhile, the device is blamed only where memory was wanting
+-- at the question whether the store is open
+abbrev pub BlamesForWant : {S : Type 0} → Ghosts S → (old new : Held S) → Fault → Type 0
+BlamesForWant g old new fault = HasCleanDisk (state g new) → IsFaultless g old new
+    → fault ≡ Device → WantsToTell (state g old) (state g new)
 
 -- a refusal is the one that was given, and nothing was asked of the connection
 abbrev pub HandsOnRefusal : {S : Type 0} → (old new : Held S) → (given fault : Fault) → Type 0

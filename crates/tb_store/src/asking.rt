@@ -29,6 +29,7 @@ fn six_totals(rows: &[TotalRow]) -> Result<Totals, Fault>
         × (t.words ≡ map (λ r. r.words) rows.now)) }
     ensures six { result ≡ Err Fault.NotADesk → length rows.now ≢ 6 }
     ensures cause { IfErr result IsNoDevice }
+    ensures output { result ≢ Err Fault.Output }
     ensures never_refuses { (r : AnyRefusal) → result ≢ Err (Fault.Refused r) }
 {
     match rows {
@@ -60,6 +61,7 @@ pub(crate) fn totals<S: Alter>(alloc: Global, conn: &mut Connection<S>) -> Resul
     ensures never_refuses { (r : AnyRefusal) → result ≢ Err (Fault.Refused r) }
     ensures fails { KnowsDesk S.Store conn.old conn.new result }
     ensures cause { IsFaultless S.Store conn.old conn.new → FailsOnlyAs IsNoDevice S.Store conn.old conn.new result }
+    ensures output { result ≢ Err Fault.Output }
     ensures unchanged { ChangesNothing S.Store conn.old conn.new result }
     ensures autocommit { conn.old.in_transaction ≡ false → conn.new.in_transaction ≡ false }
     ensures keeps_records { KeepsRecords S.Store conn.old conn.new }
@@ -81,6 +83,7 @@ pub(crate) fn current<S: Alter>(conn: &mut Connection<S>, number: u32) -> Result
     ensures fails { KnowsDeskWhere S.Store conn.old conn.new result (λ s so. (x : Sentence)
         → slice_get s.sentences (number - 1) ≡ Some x → so) }
     ensures cause { IsFaultless S.Store conn.old conn.new → FailsOnlyAs IsNoDevice S.Store conn.old conn.new result }
+    ensures output { result ≢ Err Fault.Output }
     ensures unchanged { ChangesNothing S.Store conn.old conn.new result }
     ensures autocommit { conn.old.in_transaction ≡ false → conn.new.in_transaction ≡ false }
     ensures keeps_records { KeepsRecords S.Store conn.old conn.new }
@@ -109,6 +112,7 @@ pub(crate) fn text<S: Alter>(
         → slice_get s.sentences (number - 1) ≡ Some x
         → (q : Revision) → HasRevision x rev q → so) }
     ensures cause { IsFaultless S.Store conn.old conn.new → FailsOnlyAs IsNoDevice S.Store conn.old conn.new result }
+    ensures output { result ≢ Err Fault.Output }
     ensures unchanged { ChangesNothing S.Store conn.old conn.new result }
     ensures autocommit { conn.old.in_transaction ≡ false → conn.new.in_transaction ≡ false }
     ensures keeps_records { KeepsRecords S.Store conn.old conn.new }
@@ -132,6 +136,7 @@ pub(crate) fn sentence<S: Alter>(conn: &mut Connection<S>, number: u32) -> Resul
     ensures fails { KnowsDeskWhere S.Store conn.old conn.new result (λ s so. (x : Sentence)
         → slice_get s.sentences (number - 1) ≡ Some x → so) }
     ensures cause { IsFaultless S.Store conn.old conn.new → FailsOnlyAs IsNoDevice S.Store conn.old conn.new result }
+    ensures output { result ≢ Err Fault.Output }
     ensures unchanged { ChangesNothing S.Store conn.old conn.new result }
     ensures autocommit { conn.old.in_transaction ≡ false → conn.new.in_transaction ≡ false }
     ensures keeps_records { KeepsRecords S.Store conn.old conn.new }
@@ -165,6 +170,7 @@ pub(crate) fn revision<S: Alter>(
     ensures fails { KnowsDeskWhere S.Store conn.old conn.new result (λ s so. (x : Sentence)
         → slice_get s.sentences (number - 1) ≡ Some x → so) }
     ensures cause { IsFaultless S.Store conn.old conn.new → FailsOnlyAs IsNoDevice S.Store conn.old conn.new result }
+    ensures output { result ≢ Err Fault.Output }
     ensures unchanged { ChangesNothing S.Store conn.old conn.new result }
     ensures autocommit { conn.old.in_transaction ≡ false → conn.new.in_transaction ≡ false }
     ensures keeps_records { KeepsRecords S.Store conn.old conn.new }
@@ -183,6 +189,7 @@ pub(crate) fn moves<S: Alter>(alloc: Global, conn: &mut Connection<S>) -> Result
     ensures never_refuses { (r : AnyRefusal) → result ≢ Err (Fault.Refused r) }
     ensures fails { KnowsDesk S.Store conn.old conn.new result }
     ensures cause { IsFaultless S.Store conn.old conn.new → FailsOnlyAs IsNoDevice S.Store conn.old conn.new result }
+    ensures output { result ≢ Err Fault.Output }
     ensures unchanged { ChangesNothing S.Store conn.old conn.new result }
     ensures autocommit { conn.old.in_transaction ≡ false → conn.new.in_transaction ≡ false }
     ensures keeps_records { KeepsRecords S.Store conn.old conn.new }

@@ -20,16 +20,19 @@ ghost use Rattle.tb_search.specs.Visited.{HasReason};
 ghost use Rattle.tb_refine.specs.Finding.{HasNumber};
 ghost use Rattle.tb_refine.specs.Counted.{IsWithin};
 ghost use Rattle.tb_refine.specs.DeskTables.{tables_of, IsDeskOf};
+ghost use Rattle.tb_import.specs.Planned.{HasRoomIfWritten};
 ghost use Rattle.tb_store.specs.Kept.{Kept, counts_of, known_of};
 ghost use Rattle.tb_store.specs.Represents.{Represents, RepresentsEach, unlimited, no_totals};
 ghost use Rattle.tb_store.specs.Answers.{AreNet, IsCurrent, IsRevisionText, HasNoSentence, RefusesRevision};
 ghost use Rattle.tb_store.specs.Exports.{IsExportBrokenOff, IsPartOfBatch, RefusesBatch};
 ghost use Rattle.tb_store.specs.Found.{AreReleasedHits, HasTooMany, IsNumber, IsPartFound};
 ghost use Rattle.tb_store.specs.Calls.{CrashesWhole, Does, EndsAs, Gives, GivesOnErr, KnowsItself, LeavesOnly};
-ghost use Rattle.tb_store.specs.Blaming.{BlamesNoDevice};
+ghost use Rattle.tb_store.specs.Blaming.{BlamesForWantAlone, BlamesNoDevice};
 ghost use Rattle.tb_store.specs.Calls.{KeepsState, WritesNothing};
 ghost use Rattle.tb_store.specs.Handing.{IsNoDeviceIfFaultless, SeesTheSame, StaysADesk, StaysBlank};
-ghost use Rattle.tb_store.specs.Handing.{TellsOpen, TellsShut};
+ghost use Rattle.tb_store.specs.Handing.{TellsOpen, TellsShut, TellsWant};
+ghost use Rattle.tb_tables.specs.Changes.{HasRevisionRowids};
+ghost use Rattle.tb_tables.specs.Failing.{IsShort};
 ghost use Rattle.tb_tables.specs.Leaving.{CommitsNothing};
 
 use crate::answers::Current;
@@ -272,6 +275,7 @@ impl<S: Alter> Desk<S> {
         ensures open { TellsOpen S.Store self.new.conn result }
         ensures shut { TellsShut S.Store self.old.conn self.new.conn result }
         ensures known { IfErr result (λ e. e ≡ Fault.Memory) }
+        ensures wants { TellsWant S.Store self.old.conn self.new.conn result }
         ensures keeps_state { KeepsState S.Store self.old self.new }
         ensures crash { Survives (state S.Store self.old.conn) (state S.Store self.new.conn) (λ _. ⊥) }
         ensures limits { self.new.limits ≡ self.old.limits }
@@ -284,6 +288,7 @@ impl<S: Alter> Desk<S> {
         ensures answered { Gives S.Store self.old self.new result (λ s t. AreTotalsOf t s) }
         ensures net { Gives S.Store self.old self.new result (λ s t. AreNet t s.moves) }
         ensures never_refuses { (r : AnyRefusal) → result ≢ Err (Fault.Refused r) }
+        ensures output { result ≢ Err Fault.Output }
         ensures fails { KnowsItself S.Store self.old self.new result }
         ensures cause { BlamesNoDevice S.Store self.old self.new result }
         ensures stays { Does S.Store self.old self.new result (λ s. Represents S.Store self.new s) }
@@ -300,6 +305,7 @@ impl<S: Alter> Desk<S> {
     pub fn moves(&mut self) -> Result<Vec<Move>, Fault>
         ensures answered { Gives S.Store self.old self.new result (λ s v. v.items ≡ s.moves) }
         ensures never_refuses { (r : AnyRefusal) → result ≢ Err (Fault.Refused r) }
+        ensures output { result ≢ Err Fault.Output }
         ensures fails { KnowsItself S.Store self.old self.new result }
         ensures cause { BlamesNoDevice S.Store self.old self.new result }
         ensures stays { Does S.Store self.old self.new result (λ s. Represents S.Store self.new s) }
@@ -322,6 +328,7 @@ impl<S: Alter> Desk<S> {
         ensures refused { (s : Machine) → Represents S.Store self.old s
             → (result ≡ Err (Fault.Refused Refusal.NoSuchSentence)) ↔ HasNoSentence s number }
         ensures alone { (r : AnyRefusal) → result ≡ Err (Fault.Refused r) → r ≡ Refusal.NoSuchSentence }
+        ensures output { result ≢ Err Fault.Output }
         ensures fails { KnowsItself S.Store self.old self.new result }
         ensures cause { BlamesNoDevice S.Store self.old self.new result }
         ensures stays { Does S.Store self.old self.new result (λ s. Represents S.Store self.new s) }
@@ -347,6 +354,7 @@ impl<S: Alter> Desk<S> {
         ensures no_sentence { (s : Machine) → Represents S.Store self.old s → HasNoSentence s number
             → result ≡ Err (Fault.Refused Refusal.NoSuchSentence) }
         ensures refused { GivesOnErr S.Store self.old self.new result (λ s e. RefusesRevision s number rev e) }
+        ensures output { result ≢ Err Fault.Output }
         ensures fails { KnowsItself S.Store self.old self.new result }
         ensures cause { BlamesNoDevice S.Store self.old self.new result }
         ensures stays { Does S.Store self.old self.new result (λ s. Represents S.Store self.new s) }
@@ -517,6 +525,8 @@ impl<S: Alter> Desk<S> {
         body: &[u8],
     ) -> Result<Corrected, Fault>
         ensures ends { EndsAs S.Store self.old self.new result (correct_it number base user.now body.now) corrected_to }
+        ensures cause { BlamesForWantAlone S.Store self.old self.new result (λ s so. IsShort body.now
+            → HasRevisionRowids (state S.Store self.old.conn) 1 → so) }
         ensures crash { CrashesWhole S.Store self.old self.new (correct_it number base user.now body.now) }
         ensures limits { self.new.limits ≡ self.old.limits }
     {
@@ -572,6 +582,7 @@ impl<S: Alter> Desk<S> {
     /// The first of `BadName`, `NoSuchBatch`; `WrongState`, `NotYours`, `OwnWork`; `Full`.
     pub fn event(&mut self, name: &str, event: Event, user: &str) -> Result<Moved, Fault>
         ensures ends { EndsAs S.Store self.old self.new result (event_on name.now event user.now) moved_on }
+        ensures cause { BlamesForWantAlone S.Store self.old self.new result (λ s so. so) }
         ensures crash { CrashesWhole S.Store self.old self.new (event_on name.now event user.now) }
         ensures limits { self.new.limits ≡ self.old.limits }
     {
@@ -593,6 +604,7 @@ impl<S: Alter> Desk<S> {
     /// The first of `BadName`, `NoSuchSentence`; `WrongState`, `Pulled`; `Full`.
     pub fn pull(&mut self, number: u64, user: &str) -> Result<Pulled, Fault>
         ensures ends { EndsAs S.Store self.old self.new result (pull_it number user.now) pulled_out }
+        ensures cause { BlamesForWantAlone S.Store self.old self.new result (λ s so. so) }
         ensures crash { CrashesWhole S.Store self.old self.new (pull_it number user.now) }
         ensures limits { self.new.limits ≡ self.old.limits }
     {
@@ -617,6 +629,7 @@ impl<S: Alter> Desk<S> {
     /// The first of `BadName`, `NoSuchSentence`; `WrongState`, `NotPulled`; `Full`.
     pub fn restore(&mut self, number: u64, user: &str) -> Result<Restored, Fault>
         ensures ends { EndsAs S.Store self.old self.new result (restore_it number user.now) restored_to }
+        ensures cause { BlamesForWantAlone S.Store self.old self.new result (λ s so. so) }
         ensures crash { CrashesWhole S.Store self.old self.new (restore_it number user.now) }
         ensures limits { self.new.limits ≡ self.old.limits }
     {
@@ -656,6 +669,8 @@ impl<S: Alter> Desk<S> {
     /// `SentIdTaken`, with the place in the file, from 1, of the first such sentence; `Full`. The first that holds.
     pub fn import(&mut self, name: &str, user: &str, body: &[u8]) -> Result<Imported, Fault>
         ensures ends { EndsAs S.Store self.old self.new result (import_file name.now user.now body.now) imported }
+        ensures cause { BlamesForWantAlone S.Store self.old self.new result (λ s so.
+            HasRoomIfWritten self.old.limits s name.now user.now body.now (state S.Store self.old.conn) → so) }
         ensures crash { CrashesWhole S.Store self.old self.new (import_file name.now user.now body.now) }
         ensures limits { self.new.limits ≡ self.old.limits }
     {

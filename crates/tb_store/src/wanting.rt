@@ -1,11 +1,11 @@
 //! Whether the store is open: a command ends for want of memory only there.
 
-ghost use Rattle.std.specs.Prelude.{◌≡◌, ◌⊎◌, false, IfErr};
+ghost use Rattle.std.specs.Prelude.{◌≡◌, ◌≢◌, ◌⊎◌, false, IfErr};
 ghost use Rattle.sqlite.specs.State.{Survives};
 ghost use Rattle.sqlite.specs.Held.{state};
 ghost use Rattle.tb_tables.specs.Leaving.{KeepsRecords};
-ghost use Rattle.tb_store.specs.Handing.{HandsOnRefusal, IsOpenOnMemory, TellsOpen, TellsShut, WasOpen};
-ghost use Rattle.tb_store.specs.Handing.{reported_of_error};
+ghost use Rattle.tb_store.specs.Handing.{BlamesForWant, HandsOnRefusal, IsOpenOnMemory};
+ghost use Rattle.tb_store.specs.Handing.{TellsOpen, TellsShut, TellsWant, WasOpen, reported_of_error};
 
 use sqlite::{Alter, Connection, Error, ErrorCode};
 use tb_core::Fault;
@@ -33,6 +33,7 @@ pub(crate) fn is_open<S: Alter>(conn: &mut Connection<S>) -> Result<bool, Fault>
     ensures open { TellsOpen S.Store conn.new result }
     ensures shut { TellsShut S.Store conn.old conn.new result }
     ensures known { IfErr result (λ e. e ≡ Fault.Memory) }
+    ensures wants { TellsWant S.Store conn.old conn.new result }
     ensures was_open { WasOpen S.Store conn.old conn.new }
     ensures keeps_records { KeepsRecords S.Store conn.old conn.new }
     ensures autocommit { conn.old.in_transaction ≡ false → conn.new.in_transaction ≡ false }
@@ -49,6 +50,7 @@ pub(crate) fn is_open<S: Alter>(conn: &mut Connection<S>) -> Result<bool, Fault>
 fn memory_or_device<S: Alter>(conn: &mut Connection<S>) -> Fault
     ensures known { (result ≡ Fault.Memory) ⊎ (result ≡ Fault.Device) }
     ensures open { IsOpenOnMemory S.Store conn.new result }
+    ensures cause { BlamesForWant S.Store conn.old conn.new result }
     ensures was_open { WasOpen S.Store conn.old conn.new }
     ensures keeps_records { KeepsRecords S.Store conn.old conn.new }
     ensures autocommit { conn.old.in_transaction ≡ false → conn.new.in_transaction ≡ false }
@@ -60,11 +62,14 @@ fn memory_or_device<S: Alter>(conn: &mut Connection<S>) -> Fault
     }
 }
 
-/// The fault of a command. It is want of memory only where the store is open.
+/// The fault of a command. It is want of memory only where the store is open, and never a sink's.
 pub(crate) fn certain<S: Alter>(conn: &mut Connection<S>, fault: Fault) -> Fault
     ensures refused { HandsOnRefusal conn.old conn.new fault result }
     ensures desk { result ≡ Fault.NotADesk → fault ≡ Fault.NotADesk }
-    ensures device { result ≡ Fault.Device → (fault ≡ Fault.Device) ⊎ (fault ≡ Fault.Memory) }
+    ensures device { result ≡ Fault.Device → (fault ≡ Fault.Device) ⊎ ((fault ≡ Fault.Memory)
+        ⊎ (fault ≡ Fault.Output)) }
+    ensures output { result ≢ Fault.Output }
+    ensures cause { fault ≢ Fault.Device → BlamesForWant S.Store conn.old conn.new result }
     ensures open { IsOpenOnMemory S.Store conn.new result }
     ensures was_open { WasOpen S.Store conn.old conn.new }
     ensures keeps_records { KeepsRecords S.Store conn.old conn.new }
@@ -72,10 +77,10 @@ pub(crate) fn certain<S: Alter>(conn: &mut Connection<S>, fault: Fault) -> Fault
     ensures crash { Survives (state S.Store conn.old) (state S.Store conn.new) (λ _. ⊥) }
 {
     match fault {
-        Fault::Memory => memory_or_device(conn),
+        // no command has a sink that could refuse a piece
+        Fault::Memory | Fault::Output => memory_or_device(conn),
         Fault::Refused(refusal) => Fault::Refused(refusal),
         Fault::Device => Fault::Device,
         Fault::NotADesk => Fault::NotADesk,
-        Fault::Output => Fault::Output,
     }
 }

@@ -1,4 +1,3 @@
--- Between crates: no contract of a front door cites a definition of this module.
 -- How a statement on the tables of a desk fails, and which records SQLite takes.
 use Rattle.std.specs.Prelude.{◌≡◌, ◌≢◌, ◌⊎◌, ℕ, pos, ◌+ℤ◌, List, [], ◌∷◌, ◌<◌}
 use Rattle.std.specs.Prelude.{◌≤◌, map, length}

@@ -13,6 +13,7 @@ use Rattle.tb_tables.proofs.Causes.{handed_on, faultless_next}
 use Rattle.tb_refine.proofs.Short.{never_reported}
 use Rattle.tb_refine.specs.DeskTables.{tables_of}
 use Rattle.tb_refine.specs.Faults.{IsNoDevice}
+use Rattle.tb_import.specs.Planned.{HasRoomIfWritten}
 use Rattle.tb_import.proofs.Left.{desk_stays}
 use Rattle.tb_import.proofs.importing.import.Goals as goal
 
@@ -112,18 +113,18 @@ returns-in_err-reply-in-Continue-clause-fails g c clean unlimited s desk known b
 -- ---- and of no device
 
 pub returns-in_err-found-clause-cause : goal.returns-in_err-found-clause-cause
-returns-in_err-found-clause-cause g c good clean unlimited s desk known short free bad =
+returns-in_err-found-clause-cause g c good clean unlimited s desk known room bad =
     never_reported c.from_residual.result bad (handed_on IsNoDevice c.from_residual.result c.in_err-found.field-0.0 c.from_residual.ensures.1 (c.in_err-found.ensures.cause good clean unlimited desk.holds.schema))
 
 pub returns-in_err-reply-clause-cause : goal.returns-in_err-reply-clause-cause
-returns-in_err-reply-clause-cause g c good clean unlimited s desk known short free bad =
+returns-in_err-reply-clause-cause g c good clean unlimited s desk known room bad =
     let reported = err_from_is_err_and c.from_residual-in_err-reply.result c.from_residual-in_err-reply.ensures.1 in
     let one = reported.1 in
     let two = reported.2 in
     absurd cc
 
 pub returns-in_err-reply-in-Continue-clause-cause : goal.returns-in_err-reply-in-Continue-clause-cause
-returns-in_err-reply-in-Continue-clause-cause g c good clean unlimited s desk known short free bad =
+returns-in_err-reply-in-Continue-clause-cause g c good clean unlimited s desk known room bad =
     let reported = err_from_is_err_and c.from_residual-in_err-reply-in-Continue.result c.from_residual-in_err-reply-in-Continue.ensures.1 in
     let failed : c.import_new.result ≡ Err Device = let was = c.in_err-reply-in-Continue.was in let one = reported.1 in let two = reported.2 in cc in
     let mid : HasCleanDisk (state g.S.Store c.find_name.new.conn) = omega (arith, clean, c.import_new.ensures.crash.clean) in
@@ -133,5 +134,7 @@ returns-in_err-reply-in-Continue-clause-cause g c good clean unlimited s desk kn
     let found = c.in_ok-found.ensures.answered mid s desk in
     let goes = rw c.in-Continue.is at c.in_ok-reply.ensures.goes in
     let sees = c.in_ok-found.ensures.stays.sees mid desk.holds.schema in
-    let rows = subst (λ (d : Database). HasRowids (length c.args.body.now) (d.trees 5)) (sym sees) free in
-    c.import_new.ensures.cause still clean (left.limit ∙ unlimited) s here known (goes s c.args.body.now desk.reachable.reached found) found short rows failed
+    let there : HasRoomIfWritten c.args.known.now.counts.limits s c.args.name.now c.args.user.now c.args.body.now (state g.S.Store c.find_name.new.conn) = λ reply t steps more.
+    let has = room reply t steps more in
+    (has.0, subst (λ (d : Database). HasRowids (length c.args.body.now) (d.trees 5)) (sym sees) has.1) in
+    c.import_new.ensures.cause still clean (left.limit ∙ unlimited) s here known (goes s c.args.body.now desk.reachable.reached found) found there failed

@@ -1,4 +1,4 @@
-use Rattle.std.proofs.Common.{List, ℕ, ◌≡◌, ◌+◌, [], ◌∷◌, length, length-append, map, ap, sym, subst, ◌∙◌, arith, Err}
+use Rattle.std.proofs.Common.{List, ℕ, ◌≡◌, ◌+◌, ◌<◌, [], ◌∷◌, length, length-append, map, ap, sym, subst, ◌∙◌, arith, Err}
 use Rattle.std.proofs.lemmas.Result.{err_from_is_err_and}
 use Rattle.std.proofs.lemmas.List.{length-map}
 use Rattle.sqlite.specs.Held.{state}
@@ -124,17 +124,17 @@ returns-clause-fails g c clean unlimited s desk known named found bad =
 -- ---- and of no device
 
 pub returns-in_err-taken-clause-cause : goal.returns-in_err-taken-clause-cause
-returns-in_err-taken-clause-cause g c good clean unlimited s desk known named found short free bad =
+returns-in_err-taken-clause-cause g c good clean unlimited s desk known named found room bad =
     let clear = taking_clear (λ q. (l : Limits) (t : Machine) (name by : List ℕ) → IsNamedImport t name by c.args.body.now → FindsName t name c.args.body.now c.args.found → Steps l t (import_file name by c.args.body.now) (refused q) t)
     c.in_err-taken.field-0.0 c.in_err-taken.ensures.refused in
     never_reported c.from_residual.result bad (handed_on IsNoDevice c.from_residual.result c.in_err-taken.field-0.0 c.from_residual.ensures.1 clear)
 
 pub returns-in_err-admit-clause-cause : goal.returns-in_err-admit-clause-cause
-returns-in_err-admit-clause-cause g c good clean unlimited s desk known named found short free bad =
+returns-in_err-admit-clause-cause g c good clean unlimited s desk known named found room bad =
     never_reported c.from_residual-in_err-admit.result bad (handed_on IsNoDevice c.from_residual-in_err-admit.result c.in_err-admit.field-0.0 c.from_residual-in_err-admit.ensures.1 (c.in_err-admit.ensures.cause good clean unlimited desk.holds.schema))
 
 pub returns-clause-cause : goal.returns-clause-cause
-returns-clause-cause g c good clean unlimited s desk known named found short free bad =
+returns-clause-cause g c good clean unlimited s desk known named found room bad =
     let mid : HasCleanDisk (state g.S.Store c.admit.new.conn) = omega (arith, clean, c.write.ensures.crash.clean) in
     let left = c.admit.ensures.left.commits_nothing in
     let still = faultless_next (state g.S.Store c.args.conn.now) (state g.S.Store c.admit.new.conn) (state g.S.Store c.write.new.conn) good left mid c.write.ensures.crash.counts in
@@ -148,9 +148,11 @@ returns-clause-cause g c good clean unlimited s desk known named found short fre
     let a = importing name user bs in
     let limits = c.requires.within in
     let reachable = c.commands_stay_within_limits.ensures c.args.known.now.counts.limits s (after s a) (import_file name user c.args.body.now) (replied (reply_to s a)) limits.sentences limits.moves desk.reachable allowed.1 in
+    let longer = length-append s.moves (move_of s a ∷ []) in
+    let has = room (reply_to s a) (after s a) allowed.1 (subst (λ k. length s.moves < k) (sym longer) (omega arith)) in
     let text : c.args.body.now ≡ text_of bs = taken.1.file.text in
     let size = ap length text in
     let sees = c.in_ok-admit.ensures.stays.sees mid desk.holds.schema in
-    let rows = subst (λ (d : Database). HasRowids (length c.args.body.now) (d.trees 5)) (sym sees) free in
+    let rows = subst (λ (d : Database). HasRowids (length c.args.body.now) (d.trees 5)) (sym sees) has.1 in
     let rowids = fewer_rowids (length c.args.body.now) (length bs) _ (omega (arith, size, few bs)) rows in
-    c.write.ensures.cause still clean (left.limit ∙ unlimited) s here bs known (c.as_slice-2.ensures.value ∙ taken.2) allowed.0 reachable (subst IsShort text short) rowids bad
+    c.write.ensures.cause still clean (left.limit ∙ unlimited) s here bs known (c.as_slice-2.ensures.value ∙ taken.2) allowed.0 reachable (subst IsShort text has.0) rowids bad

@@ -1,7 +1,8 @@
-use Rattle.std.proofs.Common.{[], refl, sym, ◌∙◌}
+use Rattle.std.proofs.Common.{[], true, refl, sym, ◌∙◌}
 use Rattle.sqlite.specs.Held.{state}
+use Rattle.tb_core.specs.declared.refusals.Fault.TheVariants.{Memory}
 use Rattle.tb_reads.proofs.Staying.{either_way, unchanged_holds, stopped_stays}
-use Rattle.tb_store.proofs.Preparing.{not_run, was_open_before, open_where_reported, open_where_asked, reported_once}
+use Rattle.tb_store.proofs.Preparing.{not_run, was_open_before, open_where_reported, open_where_asked, reported_once, reported_or_not, wants_where_asked}
 use Rattle.tb_store.proofs.wanting.is_open.Goals.{in-Ok, in-Err}
 use Rattle.tb_store.proofs.wanting.is_open.Goals as goal
 
@@ -15,6 +16,12 @@ pub returns-clause-shut : goal.returns-clause-shut
 returns-clause-shut g c clean is good = elim c.match-prepare.branch [
   | in-Ok w ↦ reported_once _ w.result-is is
   | in-Err w ↦ open_where_asked (state g.S.Store c.args.conn.now) (state g.S.Store c.prepare.new.self) _ w.in-Err.error refl good (w.in-Err.ensures.err clean []) (sym (w.result-is ∙ w.reported_by.ensures) ∙ is)
+]
+
+pub returns-clause-wants : goal.returns-clause-wants
+returns-clause-wants g c clean is = elim c.match-prepare.branch [
+  | in-Ok w ↦ absurd (reported_or_not _ true Memory w.result-is is)
+  | in-Err w ↦ wants_where_asked (state g.S.Store c.args.conn.now) (state g.S.Store c.prepare.new.self) _ w.in-Err.error refl (w.in-Err.ensures.err clean []) (sym (w.result-is ∙ w.reported_by.ensures) ∙ is)
 ]
 
 pub returns-clause-was_open : goal.returns-clause-was_open

@@ -10,6 +10,9 @@ use Rattle.tb_store.specs.Kept.{Kept}
 use Rattle.tb_store.specs.Represents.{Represents}
 use Rattle.tb_refine.specs.Counted.{IsCounted}
 use Rattle.tb_refine.proofs.Unchanged.{desk_kept}
+use Rattle.tb_tables.specs.Changes.{HasRevisionRowids}
+use Rattle.tb_tables.specs.Leaving.{IsFaultless}
+use Rattle.tb_store.proofs.Blamed.{command_calm, stays_open, wants_twice, as_before}
 use Rattle.tb_store.proofs.Lasting.{durable, fault_ends}
 use Rattle.tb_store.proofs.Represented.{still_stands, sentence_within, same_numbered}
 use Rattle.tb_store.proofs.desk.Desk.correct.Goals as goal
@@ -81,6 +84,7 @@ returns-in-Err-clause-ends g c clean s stands =
     let mid = desk_kept g.S.Store c.self.inside.conn c.correct.new.conn (c.in-Err.ensures.keeps_records before (c.certain.ensures.was_open clean opened)) s here.desk in
     still_stands g.S.Store _ c.certain.new.conn s (desk_kept g.S.Store c.correct.new.conn c.certain.new.conn (c.certain.ensures.keeps_records clean opened) s mid) here)
     (λ none. c.correct.ensures.fails before c.self.invariant.unlimited s here.desk counted (omega (arith, fits.2, stands.sentences, here.sentences)) (c.in-Err.is ∙ ap Err (c.certain.ensures.desk none)))
+    c.certain.ensures.output
 
 pub returns-in_default-clause-ends : goal.returns-in_default-clause-ends
 returns-in_default-clause-ends g c clean s stands =
@@ -96,3 +100,22 @@ returns-in_default-clause-ends g c clean s stands =
     (λ _. stands)
     (λ bad.
     c.no_correction.ensures.fails bad)
+    c.no_correction.ensures.output
+
+pub returns-in-Err-clause-cause : goal.returns-in-Err-clause-cause
+returns-in-Err-clause-cause g c clean s stands good short rooms is =
+    let here = subst (λ k. Represents g.S.Store k s) (sym c.self.view_is) stands in
+    let before : HasCleanDisk (state g.S.Store c.correct.new.conn) = omega (arith, clean, c.certain.ensures.crash.clean) in
+    let calm = subst (λ (k : Kept _). IsFaultless g.S.Store k.conn c.certain.new.conn) (sym c.self.view_is) good in
+    let fits = c.in-Some.ensures.stands in
+    let counted : IsCounted c.counts-counts.result s = subst (λ (k : Counters). IsCounted k s) (sym c.counts-counts.ensures) (record { moves = stands.moves; totals = stands.totals }) in
+    let room = subst (λ (k : Kept _). HasRevisionRowids (state g.S.Store k.conn) 1) (sym c.self.view_is) rooms in
+    let one = c.correct.ensures.crash in
+    let two = c.certain.ensures.crash in
+    let fine = c.correct.ensures.cause (command_calm g.S.Store c.self.inside.conn c.correct.new.conn c.certain.new.conn one two calm clean) before c.self.invariant.unlimited s here.desk counted (omega (arith, fits.2, stands.sentences, here.sentences)) short room in (
+      wants_twice g.S.Store c.self.inside.conn c.correct.new.conn c.certain.new.conn one two calm clean c.correct.result _ c.certain.result c.in-Err.is fine c.certain.ensures.cause is,
+      as_before g.S.Store c.args.self.now _ (correct c.args.number c.args.base c.args.user.now c.args.body.now) corrected_to s c.certain.result (returns-in-Err-clause-ends g c clean s stands) is (stays_open g.S.Store c.self.inside.conn c.correct.new.conn c.certain.new.conn one two calm clean),
+    )
+
+pub returns-in_default-clause-cause : goal.returns-in_default-clause-cause
+returns-in_default-clause-cause g c clean s stands good short rooms is = absurd (c.no_correction.ensures.cause is)

@@ -12,6 +12,8 @@ use Rattle.tb_store.specs.Kept.{Kept, counts_of}
 use Rattle.tb_store.specs.Represents.{Represents}
 use Rattle.tb_refine.specs.Counted.{IsCounted}
 use Rattle.tb_refine.proofs.Unchanged.{desk_kept}
+use Rattle.tb_tables.specs.Leaving.{IsFaultless}
+use Rattle.tb_store.proofs.Blamed.{command_calm, stays_open, wants_twice, as_before}
 use Rattle.tb_store.proofs.Lasting.{durable, fault_ends}
 use Rattle.tb_store.proofs.Represented.{still_stands}
 use Rattle.tb_store.proofs.desk.Desk.event.Goals as goal
@@ -73,3 +75,18 @@ returns-in-Err-clause-ends g c clean s stands =
     let mid = desk_kept g.S.Store c.self.inside.conn c.event.new.conn (c.in-Err.ensures.keeps_records before (c.certain.ensures.was_open clean opened)) s here.desk in
     still_stands g.S.Store _ c.certain.new.conn s (desk_kept g.S.Store c.event.new.conn c.certain.new.conn (c.certain.ensures.keeps_records clean opened) s mid) here)
     (λ none. c.event.ensures.fails before c.self.invariant.unlimited s here.desk counted (c.in-Err.is ∙ ap Err (c.certain.ensures.desk none)))
+    c.certain.ensures.output
+
+pub returns-in-Err-clause-cause : goal.returns-in-Err-clause-cause
+returns-in-Err-clause-cause g c clean s stands good is =
+    let here = subst (λ k. Represents g.S.Store k s) (sym c.self.view_is) stands in
+    let before : HasCleanDisk (state g.S.Store c.event.new.conn) = omega (arith, clean, c.certain.ensures.crash.clean) in
+    let calm = subst (λ (k : Kept _). IsFaultless g.S.Store k.conn c.certain.new.conn) (sym c.self.view_is) good in
+    let counts_is : c.counts-counts.result ≡ counts_of c.args.self.now = search rules in
+    let counted = subst (λ (k : Counters). IsCounted k s) (sym counts_is) (record { moves = stands.moves; totals = stands.totals }) in
+    let one = c.event.ensures.crash in
+    let two = c.certain.ensures.crash in
+    let fine = c.event.ensures.cause (command_calm g.S.Store c.self.inside.conn c.event.new.conn c.certain.new.conn one two calm clean) before c.self.invariant.unlimited s here.desk counted in (
+      wants_twice g.S.Store c.self.inside.conn c.event.new.conn c.certain.new.conn one two calm clean c.event.result _ c.certain.result c.in-Err.is fine c.certain.ensures.cause is,
+      as_before g.S.Store c.args.self.now _ (event_on c.args.name.now c.args.event c.args.user.now) moved_on s c.certain.result (returns-in-Err-clause-ends g c clean s stands) is (stays_open g.S.Store c.self.inside.conn c.event.new.conn c.certain.new.conn one two calm clean),
+    )

@@ -10,6 +10,8 @@ use Rattle.tb_store.specs.Kept.{Kept}
 use Rattle.tb_store.specs.Represents.{Represents}
 use Rattle.tb_refine.specs.Counted.{IsCounted}
 use Rattle.tb_refine.proofs.Unchanged.{desk_kept}
+use Rattle.tb_tables.specs.Leaving.{IsFaultless}
+use Rattle.tb_store.proofs.Blamed.{command_calm, stays_open, wants_twice, as_before}
 use Rattle.tb_store.proofs.Lasting.{durable, fault_ends}
 use Rattle.tb_store.proofs.Represented.{still_stands, sentence_within, same_numbered}
 use Rattle.tb_store.proofs.desk.Desk.restore.Goals as goal
@@ -71,6 +73,7 @@ returns-in-Err-clause-ends g c clean s stands =
     let mid = desk_kept g.S.Store c.self.inside.conn c.restore.new.conn (c.in-Err.ensures.keeps_records before (c.certain.ensures.was_open clean opened)) s here.desk in
     still_stands g.S.Store _ c.certain.new.conn s (desk_kept g.S.Store c.restore.new.conn c.certain.new.conn (c.certain.ensures.keeps_records clean opened) s mid) here)
     (λ none. c.restore.ensures.fails before c.self.invariant.unlimited s here.desk counted (omega (arith, fits.2, stands.sentences, here.sentences)) (c.in-Err.is ∙ ap Err (c.certain.ensures.desk none)))
+    c.certain.ensures.output
 
 pub returns-in_default-clause-ends : goal.returns-in_default-clause-ends
 returns-in_default-clause-ends g c clean s stands =
@@ -91,3 +94,21 @@ returns-in_default-clause-ends g c clean s stands =
     c.no_restore.ensures.fails s (λ place x has.
     let low = sentence_within s c.args.number place x has in
     c.in_default.ensures.lacks refl low.0 (omega (arith, low.1, stands.sentences, here.sentences))) counted.moves bad)
+    c.no_restore.ensures.output
+
+pub returns-in-Err-clause-cause : goal.returns-in-Err-clause-cause
+returns-in-Err-clause-cause g c clean s stands good is =
+    let here = subst (λ k. Represents g.S.Store k s) (sym c.self.view_is) stands in
+    let before : HasCleanDisk (state g.S.Store c.restore.new.conn) = omega (arith, clean, c.certain.ensures.crash.clean) in
+    let calm = subst (λ (k : Kept _). IsFaultless g.S.Store k.conn c.certain.new.conn) (sym c.self.view_is) good in
+    let fits = c.in-Some.ensures.stands in
+    let counted : IsCounted c.counts-counts.result s = subst (λ (k : Counters). IsCounted k s) (sym c.counts-counts.ensures) (record { moves = stands.moves; totals = stands.totals }) in
+    let one = c.restore.ensures.crash in
+    let two = c.certain.ensures.crash in
+    let fine = c.restore.ensures.cause (command_calm g.S.Store c.self.inside.conn c.restore.new.conn c.certain.new.conn one two calm clean) before c.self.invariant.unlimited s here.desk counted (omega (arith, fits.2, stands.sentences, here.sentences)) in (
+      wants_twice g.S.Store c.self.inside.conn c.restore.new.conn c.certain.new.conn one two calm clean c.restore.result _ c.certain.result c.in-Err.is fine c.certain.ensures.cause is,
+      as_before g.S.Store c.args.self.now _ (restore c.args.number c.args.user.now) restored_to s c.certain.result (returns-in-Err-clause-ends g c clean s stands) is (stays_open g.S.Store c.self.inside.conn c.restore.new.conn c.certain.new.conn one two calm clean),
+    )
+
+pub returns-in_default-clause-cause : goal.returns-in_default-clause-cause
+returns-in_default-clause-cause g c clean s stands good is = absurd (c.no_restore.ensures.cause is)
