@@ -62,7 +62,7 @@ module _ {S : Type 0} (g : Ghosts S) where
         let others = all_forget bs m e w v later result rest in
         let mid : HasCleanDisk (state g m.conn) = omega (arith, clean, others.0) in
         let sound = stays_sound b d m u w (Ok code) turn mid (le_trans others.1 few.0, few.1) s stands in
-        let next = after_request g d.limits s m sound.1 (held u) (held w) (is_refusal w) b d (Ok code) stands (turn.answered sound.0 s stands) in
+        let next = after_request g d.limits s d m sound.1 (held u) (held w) (is_refusal w) b (Ok code) stands (turn.answered sound.0 s stands) in
         subst (AllByRecursion (IsSound g)) (sym are) (sound, all_sound bs m e w v later result rest clean (le_trans few.0 first.1, lt_of_le_of_lt (le_trans others.1 few.0) few.1) next.0 next.1)
     all_sound (b ∷ bs) d e u v desks result (inr (turn, are, is)) clean few s stands =
         subst (AllByRecursion (IsSound g)) (sym are) (stays_sound b d e u v (Err Write) turn clean few s stands, tt)

@@ -3,6 +3,7 @@ pub mod Texts
 pub mod Parts
 pub mod Exporting
 pub mod SearchTexts
+mod Causeless
 mod Chained
 mod Surviving
 mod Rounds

@@ -34,13 +34,14 @@ use Rattle.tb_answer.proofs.Parts.{part_of_first, part_of_second}
 abbrev pub OneList : Type 0
 OneList = (s : Strategy) (q : Asked) (bs : List BlockText) (found others : List Occurrence) → AreFound s q bs found → AreFound s q bs others → found ≡ others
 
-pub limit_reported : (l : Limits) (s : Machine) (q : Asked) (strategy : Strategy) (e : Fault)
-    → ((r : Refusal) → e ≡ fault.Refused r → (r ≡ TooManyHits) × HasTooMany s q strategy l.hits) → (e ≡ fault.NotADesk → ⊥) → IsLimitReply l s q strategy (reply_for_fault e)
-limit_reported l s q strategy (fault.Refused r) h k = let it = h r refl in inl (it.1, ap reply.Refused it.0)
-limit_reported l s q strategy fault.Memory h k = inr (inl refl)
-limit_reported l s q strategy fault.Device h k = inr (inr refl)
-limit_reported l s q strategy fault.NotADesk h k = absurd (k refl)
-limit_reported l s q strategy fault.Output h k = inr (inr refl)
+pub limit_reported : {cause : Type 0} (l : Limits) (s : Machine) (q : Asked) (strategy : Strategy) (e : Fault)
+    → ((r : Refusal) → e ≡ fault.Refused r → (r ≡ TooManyHits) × HasTooMany s q strategy l.hits) → (e ≡ fault.NotADesk → ⊥) → (e ≡ fault.Device → cause)
+    → (e ≡ fault.Output → ⊥) → IsLimitReply cause l s q strategy (reply_for_fault e)
+limit_reported l s q strategy (fault.Refused r) h k why quiet = let it = h r refl in inl (it.1, ap reply.Refused it.0)
+limit_reported l s q strategy fault.Memory h k why quiet = inr (inl refl)
+limit_reported l s q strategy fault.Device h k why quiet = inr (inr (refl, why refl))
+limit_reported l s q strategy fault.NotADesk h k why quiet = absurd (k refl)
+limit_reported l s q strategy fault.Output h k why quiet = absurd (quiet refl)
 
 pub allowed : OneList → (l : Limits) (s : Machine) (q : Asked) (strategy : Strategy) (n : ℕ) → IsNumber s q strategy l.hits n → IsAllowed l s q strategy
 allowed one l s q strategy n (mine, are, is, within) found finds above =

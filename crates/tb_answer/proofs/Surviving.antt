@@ -98,7 +98,7 @@ module _ {W Reason : Type 0} (held : W → Option (List ℕ)) (is_refusal : W �
       let well = subst (AllButLast (IsSound g)) are sound in
       let mid = well.0 (more_follow x later) in
       let served = subst (λ k. IsServed g k s (Some b) d m (held u) (held w) (is_refusal w) (Ok code)) same (turn.answered mid.0 s stands) in
-      let next = after_request g l s m mid.1 (held u) (held w) (is_refusal w) b d (Ok code) stands served in
+      let next = after_request g l s d m mid.1 (held u) (held w) (is_refusal w) b (Ok code) stands served in
       let ends = request_ends l s next.0 b (held u) (held w) (is_refusal w) (Ok code) next.2 in
       survives_then (state g d.conn) (state g m.conn) (state g e.conn) (HoldsAnEndOf l (b ∷ bs) s) (HoldsAnEndOf l bs next.0) (HoldsAnEndOf l (b ∷ bs) s)
       (λ clean db holds. holds) (λ clean db holds. (next.0, ends, inr holds))

@@ -44,6 +44,7 @@ AsksForNone s (question.Revision n k) = HasNoSentence s n
 AsksForNone s question.Totals = ⊥
 AsksForNone s question.Moves = ⊥
 
--- What is told in place of a text: the refusal, or a failure of the call.
-abbrev pub IsReportedOf : Machine → Question → Reply → Type 0
-IsReportedOf s q reported = ((r : Refusal) × (reported ≡ reply.Refused r) × Refuses s q r) ⊎ IsFailure reported
+-- What is told in place of a text: the refusal, or a failure of the call, for this cause.
+abbrev pub IsReportedOf : (cause : Type 0) → Machine → Question → Reply → Type 0
+IsReportedOf cause s q reported = ((r : Refusal) × (reported ≡ reply.Refused r) × Refuses s q r)
+    ⊎ IsFailure cause reported

@@ -22,7 +22,7 @@ use Rattle.tb_answer.specs.declared.calls.DeskCall.{DeskCall}
 use Rattle.tb_answer.specs.declared.calls.DeskCall.TheVariants as call
 use Rattle.tb_answer.specs.declared.questions.Question.{Question}
 use Rattle.tb_answer.specs.declared.questions.Question.TheVariants as question
-use Rattle.tb_answer.specs.Commanded.{IsAnswered}
+use Rattle.tb_answer.specs.Commanded.{HasFailed, IsAnswered}
 use Rattle.tb_answer.specs.Asked.{IsBody, IsReportedOf}
 
 -- a call of a desk, as plain data
@@ -73,14 +73,14 @@ call_asked act.moves user body = Some (asks question.Moves)
 call_asked _ user body = None
 
 -- The text of a call in a state, and its own exit status: a reply with its status, or the body of a question with 0.
-abbrev pub IsOutput : {S : Type 0} → Ghosts S → Limits → Machine → CallText → (new : Kept S)
+abbrev pub IsOutput : {S : Type 0} → Ghosts S → Limits → Machine → CallText → (old new : Kept S)
     → (text : List ℕ) → (own : ℕ) → Type 0
-IsOutput g l s (commands c) new text own = (r : Reply) × IsAnswered g l s c new r × (text ≡ reply_text r)
-    × (own ≡ exit_of r)
-IsOutput g l s (asks q) new text own =
+IsOutput g l s (commands c) old new text own = (r : Reply) × IsAnswered g l s c old new r
+    × (text ≡ reply_text r) × (own ≡ exit_of r)
+IsOutput g l s (asks q) old new text own =
     (IsTrue (state g new.conn).is_open → Represents g new s)
-    × (((rev : Option ℕ) × IsBody s q rev text × (own ≡ 0)) ⊎ ((r : Reply) × IsReportedOf s q r
-    × (text ≡ reply_text r) × (own ≡ exit_of r)))
+    × (((rev : Option ℕ) × IsBody s q rev text × (own ≡ 0)) ⊎ ((r : Reply)
+    × IsReportedOf (HasFailed g old new) s q r × (text ≡ reply_text r) × (own ≡ exit_of r)))
 
 -- no doubt of the disk, and no fault of it, is forgotten
 abbrev pub ForgetsNothing : {S : Type 0} → Ghosts S → (old new : Kept S) → Type 0

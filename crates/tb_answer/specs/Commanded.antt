@@ -1,5 +1,5 @@
 -- What a command of a user is answered over a connection, as a line, and what it leaves.
-use Rattle.std.specs.Prelude.{◌≡◌, ◌≢◌, ◌⊎◌, IsTrue}
+use Rattle.std.specs.Prelude.{◌≡◌, ◌≢◌, ◌⊎◌, IsTrue, ⊤}
 use Rattle.sqlite.specs.Store.{Ghosts}
 use Rattle.sqlite.specs.Held.{state}
 use Rattle.tb_core.specs.declared.limits.Limits.{Limits}
@@ -8,11 +8,17 @@ use Rattle.tb_core.specs.declared.refusals.Fault.{Fault}
 use Rattle.tb_core.specs.declared.refusals.Fault.TheVariants.{Refused, Memory, Device, NotADesk, Output}
 use Rattle.tb_core.specs.Machine.{Machine}
 use Rattle.tb_core.specs.Commands.{Command, Answer, replied, refused, imported, moved_on, corrected_to, pulled_out}
+use Rattle.tb_core.specs.Commands.{import_file, correct}
 use Rattle.tb_core.specs.Commands.{restored_to}
 use Rattle.tb_core.specs.Steps.{Steps}
 use Rattle.tb_http.specs.declared.replies.Reply.{Reply}
 use Rattle.tb_http.specs.declared.replies.Reply.TheVariants as reply
+use Rattle.tb_tables.specs.Changes.{HasRevisionRowids}
+use Rattle.tb_tables.specs.Failing.{IsShort}
+use Rattle.tb_tables.specs.Leaving.{IsFaultless}
+use Rattle.tb_import.specs.Planned.{HasRoomIfWritten}
 use Rattle.tb_store.specs.Kept.{Kept}
+use Rattle.tb_store.specs.Blaming.{WantsTwice}
 use Rattle.tb_store.specs.Calls.{IsDurable}
 
 -- the reply for an answer of the machine
@@ -36,19 +42,35 @@ reply_for_fault Output = reply.Device
 abbrev pub IsNoRefusal : Fault → Type 0
 IsNoRefusal fault = (r : Refusal) → fault ≢ Refused r
 
--- the replies that say nothing of the state: want of memory, and a failed device
-abbrev pub IsFailure : Reply → Type 0
-IsFailure r = (r ≡ reply.Memory) ⊎ (r ≡ reply.Device)
+-- a call found the store shut, or its disk failed meanwhile
+abbrev pub HasFailed : {S : Type 0} → Ghosts S → (old new : Kept S) → Type 0
+HasFailed g old new = IsFaultless g old.conn new.conn → ⊥
+
+-- the replies that say nothing of the state: want of memory, and a failed device, which has this cause
+abbrev pub IsFailure : (cause : Type 0) → Reply → Type 0
+IsFailure cause r = (r ≡ reply.Memory) ⊎ ((r ≡ reply.Device) × cause)
 
 -- the same over a store that may be no desk's
 abbrev pub IsStoreFailure : Reply → Type 0
-IsStoreFailure r = IsFailure r ⊎ (r ≡ reply.Desk)
+IsStoreFailure r = IsFailure ⊤ r ⊎ (r ≡ reply.Desk)
+
+-- No size keeps SQLite from writing what the command says: its body is short, and rowids are left for its revisions. An
+-- import that writes nothing needs neither.
+abbrev pub HasRoom : {S : Type 0} → Ghosts S → Limits → Machine → Command → (old : Kept S) → Type 0
+HasRoom g l s (import_file name user body) old = HasRoomIfWritten l s name user body (state g old.conn)
+HasRoom g l s (correct n base user body) old = IsShort body × HasRevisionRowids (state g old.conn) 1
+HasRoom g l s _ old = ⊤
+
+-- Why a command blames the device: the store was shut, its disk failed, or room was wanting; or memory was wanting
+-- twice.
+abbrev pub BlamesFor : {S : Type 0} → Ghosts S → Limits → Machine → Command → (old new : Kept S) → Type 0
+BlamesFor g l s c old new = HasRoom g l s c old → IsFaultless g old.conn new.conn → WantsTwice g new.conn
 
 -- In this state the command has the machine's answer, and its next state outlasts a crash. Or memory was wanted, and
--- the state outlasts a crash as it was. Or the device failed, and it does so where the store is open.
-abbrev pub IsAnswered : {S : Type 0} → Ghosts S → Limits → Machine → Command → (new : Kept S) → Reply
+-- the state outlasts a crash as it was. Or the device failed, for a cause, and it does so where the store is open.
+abbrev pub IsAnswered : {S : Type 0} → Ghosts S → Limits → Machine → Command → (old new : Kept S) → Reply
     → Type 0
-IsAnswered g l s c new r =
+IsAnswered g l s c old new r =
     ((a : Answer) × (t : Machine) × Steps l s c a t × IsDurable g new t × (r ≡ reply_for a))
     ⊎ ((r ≡ reply.Memory) × IsDurable g new s)
-    ⊎ ((r ≡ reply.Device) × (IsTrue (state g new.conn).is_open → IsDurable g new s))
+    ⊎ ((r ≡ reply.Device) × (IsTrue (state g new.conn).is_open → IsDurable g new s) × BlamesFor g l s c old new)

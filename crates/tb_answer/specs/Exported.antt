@@ -29,19 +29,23 @@ abbrev pub HasExport : Machine → (name : Option (List ℕ)) → Result (List �
 HasExport s name (Ok text) = (xs : List Sentence) × AreExported s name xs × (text ≡ current_text xs)
 HasExport s name (Err r) = RefusesExport s name r
 
--- what is told in place of the text: the refusal, or a failure of the call
-abbrev pub IsReportedOfExport : Machine → (name : Option (List ℕ)) → Reply → Type 0
-IsReportedOfExport s name reported = ((r : Refusal) × (reported ≡ reply.Refused r) × HasExport s name (Err r))
-    ⊎ IsFailure reported
+-- what is told in place of the text: the refusal, or a failure of the call, for this cause
+abbrev pub IsReportedOfExport : (cause : Type 0) → Machine → (name : Option (List ℕ)) → Reply → Type 0
+IsReportedOfExport cause s name reported = ((r : Refusal) × (reported ≡ reply.Refused r) × HasExport s name (Err r))
+    ⊎ IsFailure cause reported
 
 -- The text of an export on the command line, and its own exit status.
-abbrev pub IsExportOutput : Machine → (name : Option (List ℕ)) → (text : List ℕ) → (own : ℕ) → Type 0
-IsExportOutput s name text own =
+abbrev pub IsExportOutput : (cause : Type 0) → Machine → (name : Option (List ℕ)) → (text : List ℕ)
+    → (own : ℕ)
+    → Type 0
+IsExportOutput cause s name text own =
     (HasExport s name (Ok text) × (own ≡ 0))
-    ⊎ ((r : Reply) × IsReportedOfExport s name r × (text ≡ reply_text r) × (own ≡ exit_of r))
+    ⊎ ((r : Reply) × IsReportedOfExport cause s name r × (text ≡ reply_text r) × (own ≡ exit_of r))
 
 -- The response of an export in a state, and its status: 200 with the text, or that of a reply.
-abbrev pub IsExportResponse : Machine → (name : Option (List ℕ)) → (text : List ℕ) → Status → Type 0
-IsExportResponse s name text code =
+abbrev pub IsExportResponse : (cause : Type 0) → Machine → (name : Option (List ℕ)) → (text : List ℕ)
+    → Status
+    → Type 0
+IsExportResponse cause s name text code =
     ((body : List ℕ) × HasExport s name (Ok body) × (text ≡ body_response None body) × (code ≡ status.Ok))
-    ⊎ ((r : Reply) × IsReportedOfExport s name r × (text ≡ reply_response r) × (code ≡ status_of r))
+    ⊎ ((r : Reply) × IsReportedOfExport cause s name r × (text ≡ reply_response r) × (code ≡ status_of r))

@@ -66,15 +66,15 @@ query_reply fault.Memory = reply.Memory
 abbrev pub IsQueryReply : List ℕ → Reply → Type 0
 IsQueryReply text reported = (e : QueryFault) × IsFault text e × (reported ≡ query_reply e)
 
--- the reply tells that there are too many hits, or a failure of the call
-abbrev pub IsLimitReply : Limits → Machine → Asked → Strategy → Reply → Type 0
-IsLimitReply l s q strategy reported = (HasTooMany s q strategy l.hits
-    × (reported ≡ reply.Refused refusal.TooManyHits)) ⊎ IsFailure reported
+-- the reply tells that there are too many hits, or a failure of the call, for this cause
+abbrev pub IsLimitReply : (cause : Type 0) → Limits → Machine → Asked → Strategy → Reply → Type 0
+IsLimitReply cause l s q strategy reported = (HasTooMany s q strategy l.hits
+    × (reported ≡ reply.Refused refusal.TooManyHits)) ⊎ IsFailure cause reported
 
 -- What is told of a text in place of what it finds in a state: its fault, or that it finds too many hits, or a failure.
-abbrev pub IsReportedOfQuery : Limits → Machine → List ℕ → Strategy → Reply → Type 0
-IsReportedOfQuery l s text strategy reported = IsQueryReply text reported ⊎ ((q : Asked) × IsQuery text q
-    × IsLimitReply l s q strategy reported)
+abbrev pub IsReportedOfQuery : (cause : Type 0) → Limits → Machine → List ℕ → Strategy → Reply → Type 0
+IsReportedOfQuery cause l s text strategy reported = IsQueryReply text reported ⊎ ((q : Asked) × IsQuery text q
+    × IsLimitReply cause l s q strategy reported)
 
 -- the hits of the query in a state are within the limit
 abbrev pub IsAllowed : Limits → Machine → Asked → Strategy → Type 0
@@ -118,11 +118,11 @@ reported_of_ending BrokenOff = Some Ok
 reported_of_ending Refused = None
 
 -- A search on the command line: what is found, and the status of its ending; or the line of a reply, and its own status.
-abbrev pub IsSearchRun : {Reason : Type 0} → Limits → Machine → SearchText → (old new : Option (List ℕ))
-    → (Reason → Type 0) → (status : ℕ) → Type 0
-IsSearchRun l s x old new is_refusal status =
+abbrev pub IsSearchRun : {Reason : Type 0} → (cause : Type 0) → Limits → Machine → SearchText
+    → (old new : Option (List ℕ)) → (Reason → Type 0) → (status : ℕ) → Type 0
+IsSearchRun cause l s x old new is_refusal status =
     ((e : Ending) × IsFound l s x [] old new is_refusal e × (status ≡ exit_of_ending e))
-    ⊎ ((r : Reply) × IsReportedOfQuery l s x.query x.strategy r
+    ⊎ ((r : Reply) × IsReportedOfQuery cause l s x.query x.strategy r
     × IsWritten old new (reply_text r) (exit_of r) is_refusal status)
 
 -- the head of a search over HTTP: no length is told, since none is known
@@ -130,11 +130,11 @@ abbrev pub search_head : List ℕ
 search_head = head_text Ok None extra.Nothing
 
 -- A search over HTTP: what is found after its head; or the response of a reply.
-abbrev pub IsSearchResponse : {Reason : Type 0} → Limits → Machine → SearchText → (old new : Option (List ℕ))
-    → (Reason → Type 0) → (reported : Option Status) → Type 0
-IsSearchResponse l s x old new is_refusal reported =
+abbrev pub IsSearchResponse : {Reason : Type 0} → (cause : Type 0) → Limits → Machine → SearchText
+    → (old new : Option (List ℕ)) → (Reason → Type 0) → (reported : Option Status) → Type 0
+IsSearchResponse cause l s x old new is_refusal reported =
     ((e : Ending) × IsFound l s x search_head old new is_refusal e × (reported ≡ reported_of_ending e))
-    ⊎ ((r : Reply) × IsReportedOfQuery l s x.query x.strategy r
+    ⊎ ((r : Reply) × IsReportedOfQuery cause l s x.query x.strategy r
     × IsSent old new (reply_response r) (status_of r) is_refusal reported)
 
 -- ---- a count, whose table is made whole
@@ -148,14 +148,17 @@ IsCounted l s x text =
     × (text ≡ freq_csv rows)
 
 -- The text of a count on the command line, and its own exit status.
-abbrev pub IsCountOutput : Limits → Machine → CountText → (text : List ℕ) → (own : ℕ) → Type 0
-IsCountOutput l s x text own =
+abbrev pub IsCountOutput : (cause : Type 0) → Limits → Machine → CountText → (text : List ℕ) → (own : ℕ)
+    → Type 0
+IsCountOutput cause l s x text own =
     (IsCounted l s x text × (own ≡ 0))
-    ⊎ ((r : Reply) × IsReportedOfQuery l s x.query x.strategy r × (text ≡ reply_text r) × (own ≡ exit_of r))
+    ⊎ ((r : Reply) × IsReportedOfQuery cause l s x.query x.strategy r × (text ≡ reply_text r)
+    × (own ≡ exit_of r))
 
 -- The response of a count over HTTP, and its status.
-abbrev pub IsCountResponse : Limits → Machine → CountText → (text : List ℕ) → Status → Type 0
-IsCountResponse l s x text status =
+abbrev pub IsCountResponse : (cause : Type 0) → Limits → Machine → CountText → (text : List ℕ) → Status
+    → Type 0
+IsCountResponse cause l s x text status =
     ((body : List ℕ) × IsCounted l s x body × (text ≡ body_response None body) × (status ≡ Ok))
-    ⊎ ((r : Reply) × IsReportedOfQuery l s x.query x.strategy r × (text ≡ reply_response r)
+    ⊎ ((r : Reply) × IsReportedOfQuery cause l s x.query x.strategy r × (text ≡ reply_response r)
     × (status ≡ status_of r))

@@ -10,6 +10,7 @@ use Rattle.tb_cli.specs.Lines.{Said, export, search, count}
 use Rattle.tb_store.specs.Kept.{Kept}
 use Rattle.tb_store.specs.Represents.{Represents}
 use Rattle.tb_answer.specs.Calls.{CallText, call_in, IsOutput, IsSafe, ReadsOnly}
+use Rattle.tb_answer.specs.Commanded.{HasFailed}
 use Rattle.tb_answer.specs.Exported.{IsExportOutput}
 use Rattle.tb_answer.specs.Found.{SearchText, CountText, search_by, count_by, IsSearchRun, IsCountOutput}
 use Rattle.tb_answer.specs.Output.{IsWritten}
@@ -22,11 +23,11 @@ Stays g s new = IsTrue (state g new.conn).is_open → Represents g new s
 
 -- A call is answered by the machine, as a line or as the state's own part; no call is made where the line is one that is not
 -- for a desk.
-abbrev pub IsCalled : {S Reason : Type 0} → Ghosts S → Limits → Machine → Option CallText → (new : Kept S)
+abbrev pub IsCalled : {S Reason : Type 0} → Ghosts S → Limits → Machine → Option CallText → (old new : Kept S)
     → (held holds : Option (List ℕ)) → (Reason → Type 0) → (status : ℕ) → Type 0
-IsCalled g l s (Some call) new held holds is_refusal status = (text : List ℕ) × (own : ℕ)
-    × IsOutput g l s call new text own × IsWritten held holds text own is_refusal status
-IsCalled g l s None new held holds is_refusal status = Stays g s new
+IsCalled g l s (Some call) old new held holds is_refusal status = (text : List ℕ) × (own : ℕ)
+    × IsOutput g l s call old new text own × IsWritten held holds text own is_refusal status
+IsCalled g l s None old new held holds is_refusal status = Stays g s new
     × IsWritten held holds (codes "refused usage\n") 2 is_refusal status
 
 -- What is read off a state: an export, a search, a count.
@@ -57,28 +58,29 @@ reading_in (count db strategy column query) = Some (counted record {
 reading_in _ = None
 
 -- what a sink holds of a reading in a state, and the exit status
-abbrev pub IsReadingRun : {Reason : Type 0} → Limits → Machine → ReadingText → (held holds : Option (List ℕ))
-    → (Reason → Type 0) → (status : ℕ) → Type 0
-IsReadingRun l s (exported name) held holds is_refusal status =
-    (text : List ℕ) × (own : ℕ) × IsExportOutput s name text own
+abbrev pub IsReadingRun : {Reason : Type 0} → (cause : Type 0) → Limits → Machine → ReadingText
+    → (held holds : Option (List ℕ)) → (Reason → Type 0) → (status : ℕ) → Type 0
+IsReadingRun cause l s (exported name) held holds is_refusal status =
+    (text : List ℕ) × (own : ℕ) × IsExportOutput cause s name text own
     × IsWritten held holds text own is_refusal status
-IsReadingRun l s (searched x) held holds is_refusal status = IsSearchRun l s x held holds is_refusal status
-IsReadingRun l s (counted x) held holds is_refusal status = (text : List ℕ) × (own : ℕ)
-    × IsCountOutput l s x text own × IsWritten held holds text own is_refusal status
+IsReadingRun cause l s (searched x) held holds is_refusal status = IsSearchRun cause l s x held holds is_refusal status
+IsReadingRun cause l s (counted x) held holds is_refusal status = (text : List ℕ) × (own : ℕ)
+    × IsCountOutput cause l s x text own × IsWritten held holds text own is_refusal status
 
 -- What a line with this body ends with: its reading, after which the desk stands for the state still; else its call.
 abbrev pub IsDone : {S Reason : Type 0} → Ghosts S → Limits → Machine → Option ReadingText → Option CallText
-    → (new : Kept S) → (held holds : Option (List ℕ)) → (Reason → Type 0) → (status : ℕ) → Type 0
-IsDone g l s (Some x) call new held holds is_refusal status = Stays g s new
-    × IsReadingRun l s x held holds is_refusal status
-IsDone g l s None call new held holds is_refusal status = IsCalled g l s call new held holds is_refusal status
+    → (old new : Kept S) → (held holds : Option (List ℕ)) → (Reason → Type 0) → (status : ℕ) → Type 0
+IsDone g l s (Some x) call old new held holds is_refusal status = Stays g s new
+    × IsReadingRun (HasFailed g old new) l s x held holds is_refusal status
+IsDone g l s None call old new held holds is_refusal status = IsCalled g l s call old new held holds is_refusal status
 
 -- The same where its body may not have come: what is told of that then is a reply.
 abbrev pub IsRan : {S Reason : Type 0} → Ghosts S → Limits → Machine → Said
-    → (taken : Result (List ℕ) Reply) → (new : Kept S) → (held holds : Option (List ℕ))
+    → (taken : Result (List ℕ) Reply) → (old new : Kept S) → (held holds : Option (List ℕ))
     → (Reason → Type 0) → (status : ℕ) → Type 0
-IsRan g l s said (Ok body) new held holds is_refusal status = IsDone g l s (reading_in said) (call_in said body) new held holds is_refusal status
-IsRan g l s said (Err r) new held holds is_refusal status = Stays g s new
+IsRan g l s said (Ok body) old new held holds is_refusal status =
+    IsDone g l s (reading_in said) (call_in said body) old new held holds is_refusal status
+IsRan g l s said (Err r) old new held holds is_refusal status = Stays g s new
     × IsWritten held holds (reply_text r) (exit_of r) is_refusal status
 
 abbrev pub IsCallSafe : {S : Type 0} → Ghosts S → Option CallText → (old new : Kept S) → Type 0

@@ -15,7 +15,7 @@ use Rattle.tb_http.specs.Heads.{head_text, reply_head}
 use Rattle.tb_http.specs.Replies.{reply_text, status_of}
 use Rattle.tb_store.specs.Kept.{Kept}
 use Rattle.tb_store.specs.Represents.{Represents}
-use Rattle.tb_answer.specs.Commanded.{IsAnswered}
+use Rattle.tb_answer.specs.Commanded.{HasFailed, IsAnswered}
 use Rattle.tb_answer.specs.Asked.{IsBody, IsReportedOf}
 use Rattle.tb_answer.specs.Calls.{CallText, commands, asks}
 use Rattle.tb_search.specs.Visited.{HasReason}
@@ -37,15 +37,16 @@ abbrev pub body_response : (rev : Option ℕ) → (body : List ℕ) → List ℕ
 body_response rev body = body_head rev body ++ body
 
 -- The response of a call in a state, and its status: that of a reply, or 200 with the body of a question.
-abbrev pub IsResponse : {S : Type 0} → Ghosts S → Limits → Machine → CallText → (new : Kept S)
+abbrev pub IsResponse : {S : Type 0} → Ghosts S → Limits → Machine → CallText → (old new : Kept S)
     → (text : List ℕ) → Status → Type 0
-IsResponse g l s (commands c) new text status = (r : Reply) × IsAnswered g l s c new r × (text ≡ reply_response r)
-    × (status ≡ status_of r)
-IsResponse g l s (asks q) new text status =
+IsResponse g l s (commands c) old new text status = (r : Reply) × IsAnswered g l s c old new r
+    × (text ≡ reply_response r) × (status ≡ status_of r)
+IsResponse g l s (asks q) old new text status =
     (IsTrue (state g new.conn).is_open → Represents g new s)
     × (((rev : Option ℕ) × (body : List ℕ) × IsBody s q rev body × (text ≡ body_response rev body)
     × (status ≡ Ok))
-    ⊎ ((r : Reply) × IsReportedOf s q r × (text ≡ reply_response r) × (status ≡ status_of r)))
+    ⊎ ((r : Reply) × IsReportedOf (HasFailed g old new) s q r × (text ≡ reply_response r)
+    × (status ≡ status_of r)))
 
 -- The text was written whole, and its status is told; or the sink refused it, for one of its reasons, and holds a part of it from
 -- the front.

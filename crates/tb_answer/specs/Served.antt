@@ -18,6 +18,7 @@ use Rattle.tb_store.specs.Represents.{Represents}
 use Rattle.tb_store.specs.Calls.{InState}
 use Rattle.tb_answer.specs.Calls.{CallText, call_asked, IsSafe, ReadsOnly}
 use Rattle.tb_answer.specs.Responses.{reply_response, IsResponse, IsSent}
+use Rattle.tb_answer.specs.Commanded.{HasFailed}
 use Rattle.tb_answer.specs.Exported.{IsExportResponse}
 use Rattle.tb_answer.specs.Found.{IsSearchResponse, IsCountResponse}
 use Rattle.tb_answer.specs.declared.answering.Broken.{Broken}
@@ -55,32 +56,33 @@ module _ {Reason : Type 0} (before after : Option (List ℕ)) (is_refusal : Reas
   ForText body P = ((¬ (IsUtf8 body)) × IsReplySent (Faulty Body)) ⊎ (IsUtf8 body × P)
 
   -- the response of an export, a search or a count in a state
-  abbrev pub IsTextSent : Limits → Machine → Act → (body : List ℕ) → Type 0
-  IsTextSent l s (export_batch name) body = IsSentAs (IsExportResponse s (Some name))
-  IsTextSent l s export_released body = IsSentAs (IsExportResponse s None)
-  IsTextSent l s (search strategy context) body = ForText body (IsSearchResponse l s (record {
+  abbrev pub IsTextSent : (cause : Type 0) → Limits → Machine → Act → (body : List ℕ) → Type 0
+  IsTextSent cause l s (export_batch name) body = IsSentAs (IsExportResponse cause s (Some name))
+  IsTextSent cause l s export_released body = IsSentAs (IsExportResponse cause s None)
+  IsTextSent cause l s (search strategy context) body = ForText body (IsSearchResponse cause l s (record {
     query = body;
     strategy = strategy;
     context = context;
   }) before after is_refusal sent)
-  IsTextSent l s (count strategy column) body = ForText body (IsSentAs (IsCountResponse l s (record {
+  IsTextSent cause l s (count strategy column) body = ForText body (IsSentAs (IsCountResponse cause l s (record {
     query = body;
     strategy = strategy;
     column = column;
   })))
-  IsTextSent l s _ body = ⊥
+  IsTextSent cause l s _ body = ⊥
 
   -- the response of a command or a question in a state; else that of a text, after which the desk stands for the state still
   abbrev pub IsCallSent : {S : Type 0} → Ghosts S → Limits → Machine → Option CallText → Act
-      → (body : List ℕ) → (new : Kept S) → Type 0
-  IsCallSent g l s (Some call) act body new = IsSentAs (IsResponse g l s call new)
-  IsCallSent g l s None act body new = (IsTrue (state g new.conn).is_open → Represents g new s)
-      × IsTextSent l s act body
+      → (body : List ℕ) → (old new : Kept S) → Type 0
+  IsCallSent g l s (Some call) act body old new = IsSentAs (IsResponse g l s call old new)
+  IsCallSent g l s None act body old new = (IsTrue (state g new.conn).is_open → Represents g new s)
+      × IsTextSent (HasFailed g old new) l s act body
 
   -- The response to what a request tells, in a state: that of its call; or the line of its fault, and the desk is untouched.
   abbrev pub IsReplied : {S : Type 0} → Ghosts S → Limits → Machine → Outcome → (old new : Kept S) → Type 0
   IsReplied g l s (refused why) old new = (new ≡ old) × IsReplySent (Faulty why)
-  IsReplied g l s (called c) old new = IsCallSent g l s (call_asked c.act c.user c.body) c.act c.body new
+  IsReplied g l s (called c) old new = IsCallSent g l s (call_asked c.act c.user c.body) c.act c.body
+      old new
 
   -- The response to the bytes of a request, in a state: to what they ask. Or memory is wanting for a body that they
   -- begin, before anything is done.

@@ -35,7 +35,7 @@ use Rattle.tb_answer.specs.Served.{IsSentAs, IsReplySent, IsTextSent, IsSafeOf, 
 module _ (l : Limits) (s t : Machine) where
   -- a command made in s ends so, and t is the state after it; or it failed, and t is s
   abbrev pub EndsWith : Command → Reply → Type 0
-  EndsWith c r = ((a : Answer) × Steps l s c a t × (r ≡ reply_for a)) ⊎ (IsFailure r × (t ≡ s))
+  EndsWith c r = ((a : Answer) × Steps l s c a t × (r ≡ reply_for a)) ⊎ (IsFailure ⊤ r × (t ≡ s))
 
   -- the response of a call made in s, and its status; t is the state after it
   abbrev pub IsResponseTo : CallText → (text : List ℕ) → Status → Type 0
@@ -45,14 +45,14 @@ module _ (l : Limits) (s t : Machine) where
       (t ≡ s)
       × (((rev : Option ℕ) × (body : List ℕ) × IsBody s q rev body × (text ≡ body_response rev body)
       × (code ≡ status.Ok))
-      ⊎ ((r : Reply) × IsReportedOf s q r × (text ≡ reply_response r) × (code ≡ status_of r)))
+      ⊎ ((r : Reply) × IsReportedOf ⊤ s q r × (text ≡ reply_response r) × (code ≡ status_of r)))
 
   module _ {Reason : Type 0} (before after : Option (List ℕ)) (is_refusal : Reason
       → Type 0) (sent : Option Status) where
     -- a sink has the response of a command or a question; else of an export, a search or a count
     abbrev pub HasResponse : Option CallText → Act → (body : List ℕ) → Type 0
     HasResponse (Some call) act body = IsSentAs before after is_refusal sent (IsResponseTo call)
-    HasResponse None act body = (t ≡ s) × IsTextSent before after is_refusal sent l s act body
+    HasResponse None act body = (t ≡ s) × IsTextSent before after is_refusal sent ⊤ l s act body
 
     -- that of what a request tells
     abbrev pub HasAnswer : Outcome → Type 0

@@ -3,6 +3,7 @@
 ghost use Rattle.std.specs.Prelude.{◌≡◌};
 ghost use Rattle.tb_http.specs.Actions.{act_by};
 ghost use Rattle.tb_http.specs.Asks.{reported_by};
+ghost use Rattle.tb_answer.specs.Commanded.{HasFailed};
 ghost use Rattle.tb_answer.specs.Calls.{call_asked, ReadsOnly};
 ghost use Rattle.tb_answer.specs.Found.{IsSearchResponse, IsCountResponse};
 ghost use Rattle.tb_answer.specs.Served.{AsksText, ForText, IsReplySent, IsSentAs, IsTextSent, IsCallSent, IsReplied};
@@ -43,7 +44,8 @@ fn respond_to_search<S: Alter, W: Sink>(
     out: &mut W,
 ) -> Option<Status>
     ensures written { InState S.Store desk.old desk.new (λ s. ForText (W.held out.old) (W.held out.new)
-        (W.IsRefusal out.new) result body.now (IsSearchResponse desk.old.limits s (record {
+        (W.IsRefusal out.new) result body.now (IsSearchResponse (HasFailed S.Store desk.old desk.new)
+        desk.old.limits s (record {
           query = body.now;
           strategy = strategy;
           context = context;
@@ -74,7 +76,8 @@ fn respond_to_count<S: Alter, W: Sink>(
 ) -> Option<Status>
     ensures written { InState S.Store desk.old desk.new (λ s. ForText (W.held out.old) (W.held out.new)
         (W.IsRefusal out.new) result body.now (IsSentAs (W.held out.old) (W.held out.new) (W.IsRefusal out.new) result
-        (IsCountResponse desk.old.limits s (record { query = body.now; strategy = strategy; column = column })))) }
+        (IsCountResponse (HasFailed S.Store desk.old desk.new) desk.old.limits s
+        (record { query = body.now; strategy = strategy; column = column })))) }
     ensures keeps_state { KeepsState S.Store desk.old desk.new }
     ensures crash { ReadsOnly S.Store desk.old desk.new }
     ensures limits { desk.new.limits ≡ desk.old.limits }
@@ -100,7 +103,8 @@ fn respond_text<S: Alter, W: Sink>(
 ) -> Option<Status>
     requires { AsksText (act_by action) }
     ensures written { InState S.Store desk.old desk.new (λ s. IsTextSent (W.held out.old) (W.held out.new)
-        (W.IsRefusal out.new) result desk.old.limits s (act_by action.entry) body.now) }
+        (W.IsRefusal out.new) result (HasFailed S.Store desk.old desk.new) desk.old.limits s
+        (act_by action.entry) body.now) }
     ensures keeps_state { KeepsState S.Store desk.old desk.new }
     ensures crash { ReadsOnly S.Store desk.old desk.new }
     ensures limits { desk.new.limits ≡ desk.old.limits }
@@ -130,7 +134,7 @@ fn respond_asked<S: Alter, W: Sink>(
 ) -> Option<Status>
     ensures written { InState S.Store desk.old desk.new (λ s. IsCallSent (W.held out.old) (W.held out.new)
         (W.IsRefusal out.new) result S.Store desk.old.limits s (call_asked
-        (act_by action.entry) user.now body.now) (act_by action.entry) body.now desk.new) }
+        (act_by action.entry) user.now body.now) (act_by action.entry) body.now desk.old desk.new) }
     ensures crash { IsSafeCall S.Store (call_asked (act_by action.entry) user.now body.now) desk.old desk.new }
     ensures limits { desk.new.limits ≡ desk.old.limits }
 {

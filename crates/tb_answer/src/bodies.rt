@@ -5,7 +5,7 @@ ghost use Rattle.tb_core.specs.Machine.{Machine};
 ghost use Rattle.tb_report.specs.Csv.{totals_csv, moves_csv};
 ghost use Rattle.tb_store.specs.Represents.{Represents};
 ghost use Rattle.tb_store.specs.Answers.{IsCurrent, IsRevisionText, HasNoSentence};
-ghost use Rattle.tb_answer.specs.Commanded.{IsFailure, IsStoreFailure};
+ghost use Rattle.tb_answer.specs.Commanded.{HasFailed, IsFailure, IsStoreFailure};
 ghost use Rattle.tb_answer.specs.Asked.{totals_text, AsksForNone, IsBody, IsReportedOf};
 ghost use Rattle.tb_answer.specs.Calls.{ReadsOnly};
 ghost use Rattle.tb_store.specs.Calls.{Gives, GivesOnErr, KeepsState};
@@ -22,7 +22,7 @@ use tb_store::{Current, Desk};
 /// Totals as CSV. A text in memory lacks nothing but memory.
 fn totals_text(alloc: Global, totals: &Totals) -> Result<Vec<u8>, Reply>
     ensures text { IfOk result (λ v. v.items ≡ totals_csv totals.now) }
-    ensures failed { IfErr result IsFailure }
+    ensures failed { IfErr result (λ r. r ≡ Reply.Memory) }
 {
     let mut text = Vec::new(alloc);
     match csv_totals(alloc, totals, &mut text) {
@@ -34,7 +34,7 @@ fn totals_text(alloc: Global, totals: &Totals) -> Result<Vec<u8>, Reply>
 /// Moves as CSV.
 fn moves_text(alloc: Global, moves: &[Move]) -> Result<Vec<u8>, Reply>
     ensures text { IfOk result (λ v. v.items ≡ moves_csv moves.now) }
-    ensures failed { IfErr result IsFailure }
+    ensures failed { IfErr result (λ r. r ≡ Reply.Memory) }
 {
     let mut text = Vec::new(alloc);
     match csv_moves(alloc, moves, &mut text) {
@@ -46,7 +46,8 @@ fn moves_text(alloc: Global, moves: &[Move]) -> Result<Vec<u8>, Reply>
 /// Sentences and words of the six states, as CSV. Nothing is refused.
 pub fn totals<S: Alter>(alloc: Global, desk: &mut Desk<S>) -> Result<Vec<u8>, Reply>
     ensures answered { Gives S.Store desk.old desk.new result (λ s v. v.items ≡ totals_text s) }
-    ensures failed { GivesOnErr S.Store desk.old desk.new result (λ s r. IsFailure r) }
+    ensures failed { GivesOnErr S.Store desk.old desk.new result (λ s r.
+        IsFailure (HasFailed S.Store desk.old desk.new) r) }
     ensures unrefused { IfErr result IsStoreFailure }
     ensures keeps_state { KeepsState S.Store desk.old desk.new }
     ensures crash { ReadsOnly S.Store desk.old desk.new }
@@ -61,7 +62,8 @@ pub fn totals<S: Alter>(alloc: Global, desk: &mut Desk<S>) -> Result<Vec<u8>, Re
 /// All moves in their order, as CSV. Nothing is refused.
 pub fn moves<S: Alter>(alloc: Global, desk: &mut Desk<S>) -> Result<Vec<u8>, Reply>
     ensures answered { Gives S.Store desk.old desk.new result (λ s v. v.items ≡ moves_csv s.moves) }
-    ensures failed { GivesOnErr S.Store desk.old desk.new result (λ s r. IsFailure r) }
+    ensures failed { GivesOnErr S.Store desk.old desk.new result (λ s r.
+        IsFailure (HasFailed S.Store desk.old desk.new) r) }
     ensures unrefused { IfErr result IsStoreFailure }
     ensures keeps_state { KeepsState S.Store desk.old desk.new }
     ensures crash { ReadsOnly S.Store desk.old desk.new }
@@ -83,7 +85,7 @@ pub fn sentence<S: Alter>(desk: &mut Desk<S>, number: u64) -> Result<Current, Re
     ensures missing { (s : Machine) → Represents S.Store desk.old s → HasNoSentence s number
         → result ≡ Err (Reply.Refused Refusal.NoSuchSentence) }
     ensures reported { GivesOnErr S.Store desk.old desk.new result (λ s r.
-        IsReportedOf s (Question.Sentence number) r) }
+        IsReportedOf (HasFailed S.Store desk.old desk.new) s (Question.Sentence number) r) }
     ensures keeps_state { KeepsState S.Store desk.old desk.new }
     ensures crash { ReadsOnly S.Store desk.old desk.new }
     ensures limits { desk.new.limits ≡ desk.old.limits }
@@ -104,7 +106,7 @@ pub fn revision<S: Alter>(desk: &mut Desk<S>, number: u64, rev: u64) -> Result<S
     ensures missing { (s : Machine) → Represents S.Store desk.old s → HasNoSentence s number
         → result ≡ Err (Reply.Refused Refusal.NoSuchSentence) }
     ensures reported { GivesOnErr S.Store desk.old desk.new result (λ s r.
-        IsReportedOf s (Question.Revision number rev) r) }
+        IsReportedOf (HasFailed S.Store desk.old desk.new) s (Question.Revision number rev) r) }
     ensures keeps_state { KeepsState S.Store desk.old desk.new }
     ensures crash { ReadsOnly S.Store desk.old desk.new }
     ensures limits { desk.new.limits ≡ desk.old.limits }
@@ -144,7 +146,8 @@ pub fn ask<S: Alter>(alloc: Global, desk: &mut Desk<S>, question: Question) -> R
     ensures answered { Gives S.Store desk.old desk.new result (λ s b. IsBody s question b.rev b.text.items) }
     ensures missing { (s : Machine) → Represents S.Store desk.old s → AsksForNone s question
         → result ≡ Err (Reply.Refused Refusal.NoSuchSentence) }
-    ensures reported { GivesOnErr S.Store desk.old desk.new result (λ s r. IsReportedOf s question r) }
+    ensures reported { GivesOnErr S.Store desk.old desk.new result (λ s r.
+        IsReportedOf (HasFailed S.Store desk.old desk.new) s question r) }
     ensures keeps_state { KeepsState S.Store desk.old desk.new }
     ensures crash { ReadsOnly S.Store desk.old desk.new }
     ensures limits { desk.new.limits ≡ desk.old.limits }

@@ -26,7 +26,7 @@ pub fn reply_for_fault(fault: Fault) -> Reply
 /// The answer of an import: the sentences of the body as a batch of this name.
 pub fn import<S: Alter>(desk: &mut Desk<S>, name: &str, user: &str, body: &[u8]) -> Reply
     ensures answered { InState S.Store desk.old desk.new (λ s. IsAnswered S.Store desk.old.limits s
-        (import_file name.now user.now body.now) desk.new result) }
+        (import_file name.now user.now body.now) desk.old desk.new result) }
     ensures crash { CrashesWhole S.Store desk.old desk.new (import_file name.now user.now body.now) }
     ensures limits { desk.new.limits ≡ desk.old.limits }
 {
@@ -39,7 +39,7 @@ pub fn import<S: Alter>(desk: &mut Desk<S>, name: &str, user: &str, body: &[u8])
 /// The answer of an event on the batch with this name.
 pub fn event<S: Alter>(desk: &mut Desk<S>, name: &str, event: Event, user: &str) -> Reply
     ensures answered { InState S.Store desk.old desk.new (λ s. IsAnswered S.Store desk.old.limits s
-        (event_on name.now event user.now) desk.new result) }
+        (event_on name.now event user.now) desk.old desk.new result) }
     ensures crash { CrashesWhole S.Store desk.old desk.new (event_on name.now event user.now) }
     ensures limits { desk.new.limits ≡ desk.old.limits }
 {
@@ -58,7 +58,7 @@ pub fn correct<S: Alter>(
     body: &[u8],
 ) -> Reply
     ensures answered { InState S.Store desk.old desk.new (λ s. IsAnswered S.Store desk.old.limits s
-        (correct_it number base user.now body.now) desk.new result) }
+        (correct_it number base user.now body.now) desk.old desk.new result) }
     ensures crash { CrashesWhole S.Store desk.old desk.new (correct_it number base user.now body.now) }
     ensures limits { desk.new.limits ≡ desk.old.limits }
 {
@@ -71,7 +71,7 @@ pub fn correct<S: Alter>(
 /// The answer of a pull of the sentence with this number.
 pub fn pull<S: Alter>(desk: &mut Desk<S>, number: u64, user: &str) -> Reply
     ensures answered { InState S.Store desk.old desk.new (λ s. IsAnswered S.Store desk.old.limits s
-        (pull_it number user.now) desk.new result) }
+        (pull_it number user.now) desk.old desk.new result) }
     ensures crash { CrashesWhole S.Store desk.old desk.new (pull_it number user.now) }
     ensures limits { desk.new.limits ≡ desk.old.limits }
 {
@@ -84,7 +84,7 @@ pub fn pull<S: Alter>(desk: &mut Desk<S>, number: u64, user: &str) -> Reply
 /// The answer of a restore of the sentence with this number.
 pub fn restore<S: Alter>(desk: &mut Desk<S>, number: u64, user: &str) -> Reply
     ensures answered { InState S.Store desk.old desk.new (λ s. IsAnswered S.Store desk.old.limits s
-        (restore_it number user.now) desk.new result) }
+        (restore_it number user.now) desk.old desk.new result) }
     ensures crash { CrashesWhole S.Store desk.old desk.new (restore_it number user.now) }
     ensures limits { desk.new.limits ≡ desk.old.limits }
 {

@@ -6,7 +6,7 @@ ghost use Rattle.tb_report.specs.Tables.{Row, IsTableOf, IsRankingOf};
 ghost use Rattle.tb_search.specs.Searched.{Occurrence, keys};
 ghost use Rattle.tb_http.specs.declared.status.Status.{Status as AnyStatus};
 ghost use Rattle.tb_store.specs.Found.{AreReleasedHits};
-ghost use Rattle.tb_answer.specs.Commanded.{IsFailure};
+ghost use Rattle.tb_answer.specs.Commanded.{HasFailed, IsFailure};
 ghost use Rattle.tb_answer.specs.Output.{IsWritten};
 ghost use Rattle.tb_answer.specs.Responses.{IsSent};
 ghost use Rattle.tb_answer.specs.Found.{count_by, IsCounted, IsCountOutput, IsCountResponse, IsReportedOfQuery};
@@ -30,7 +30,7 @@ use tb_store::Desk;
 /// A table as CSV. A text in memory lacks nothing but memory.
 fn table_text(alloc: Global, table: &Freq) -> Result<Vec<u8>, Reply>
     ensures text { IfOk result (λ v. (rows : List Row) × IsRankingOf table.now rows × (v.items ≡ freq_csv rows)) }
-    ensures failed { IfErr result IsFailure }
+    ensures failed { IfErr result (λ r. r ≡ Reply.Memory) }
 {
     let mut text = Vec::new(alloc);
     match csv_freq(table, &mut text) {
@@ -49,7 +49,8 @@ fn counted<S: Alter>(
     ensures counted { Gives S.Store desk.old desk.new result (λ s v. (found : List Occurrence)
         × AreReleasedHits s query.now count.entry.strategy found × (table : List Row) × (rows : List Row)
         × IsTableOf (keys count.entry.column found) table × IsRankingOf table rows × (v.items ≡ freq_csv rows)) }
-    ensures failed { GivesOnErr S.Store desk.old desk.new result (λ s r. IsFailure r) }
+    ensures failed { GivesOnErr S.Store desk.old desk.new result (λ s r.
+        IsFailure (HasFailed S.Store desk.old desk.new) r) }
     ensures keeps_state { KeepsState S.Store desk.old desk.new }
     ensures commits_nothing { CommitsNothing S.Store desk.old.conn desk.new.conn }
     ensures limits { desk.new.limits ≡ desk.old.limits }
@@ -73,7 +74,8 @@ fn count_text<S: Alter>(
     ensures counted { Gives S.Store desk.old desk.new result (λ s v.
         IsCounted desk.old.limits s (count_by count.entry) v.items) }
     ensures reported { GivesOnErr S.Store desk.old desk.new result (λ s r.
-        IsReportedOfQuery desk.old.limits s count.entry.query.now count.entry.strategy r) }
+        IsReportedOfQuery (HasFailed S.Store desk.old desk.new) desk.old.limits s count.entry.query.now
+        count.entry.strategy r) }
     ensures keeps_state { KeepsState S.Store desk.old desk.new }
     ensures crash { ReadsOnly S.Store desk.old desk.new }
     ensures limits { desk.new.limits ≡ desk.old.limits }
@@ -92,7 +94,7 @@ pub fn run_count<S: Alter, W: Sink>(
     out: &mut W,
 ) -> u8
     ensures written { InState S.Store desk.old desk.new (λ s. (text : List ℕ) × (own : ℕ)
-        × IsCountOutput desk.old.limits s (count_by count.entry) text own
+        × IsCountOutput (HasFailed S.Store desk.old desk.new) desk.old.limits s (count_by count.entry) text own
         × IsWritten (W.held out.old) (W.held out.new) text own (W.IsRefusal out.new) result) }
     ensures keeps_state { KeepsState S.Store desk.old desk.new }
     ensures crash { ReadsOnly S.Store desk.old desk.new }
@@ -113,7 +115,7 @@ pub fn respond_count<S: Alter, W: Sink>(
     out: &mut W,
 ) -> Option<Status>
     ensures written { InState S.Store desk.old desk.new (λ s. (text : List ℕ) × (status : AnyStatus)
-        × IsCountResponse desk.old.limits s (count_by count.entry) text status
+        × IsCountResponse (HasFailed S.Store desk.old desk.new) desk.old.limits s (count_by count.entry) text status
         × IsSent (W.held out.old) (W.held out.new) text status (W.IsRefusal out.new) result) }
     ensures keeps_state { KeepsState S.Store desk.old desk.new }
     ensures crash { ReadsOnly S.Store desk.old desk.new }

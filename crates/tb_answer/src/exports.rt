@@ -8,12 +8,13 @@ ghost use Rattle.tb_core.specs.declared.refusals.Refusal.{Refusal as AnyRefusal}
 ghost use Rattle.tb_core.specs.Machine.{Machine};
 ghost use Rattle.tb_http.specs.declared.status.Status.{Status as AnyStatus};
 ghost use Rattle.tb_store.specs.Represents.{Represents};
-ghost use Rattle.tb_answer.specs.Commanded.{IsFailure, IsNoRefusal};
+ghost use Rattle.tb_answer.specs.Commanded.{HasFailed, IsFailure, IsNoRefusal};
 ghost use Rattle.tb_answer.specs.Output.{IsWritten};
 ghost use Rattle.tb_answer.specs.Responses.{IsSent};
 ghost use Rattle.tb_answer.specs.Exported.{HasExport, RefusesExport, IsExportOutput, IsReportedOfExport};
 ghost use Rattle.tb_answer.specs.Exported.{IsExportResponse};
 ghost use Rattle.tb_answer.specs.Calls.{ReadsOnly};
+ghost use Rattle.tb_store.specs.Blaming.{BlamesNoDevice};
 ghost use Rattle.tb_store.specs.Calls.{Does, Gives, GivesOnErr, InState, KnowsItself, KeepsState};
 
 use crate::bodies::body_of;
@@ -41,6 +42,7 @@ fn export<S: Alter, W: Sink>(
         → result ≡ ErrOf (Fault.Refused r) → (s : Machine) → Represents S.Store desk.old s
         → RefusesExport s (option_map (λ n. n.now) name.entry) r }
     ensures fails { KnowsItself S.Store desk.old desk.new result }
+    ensures cause { BlamesNoDevice S.Store desk.old desk.new result }
     ensures keeps_state { KeepsState S.Store desk.old desk.new }
     ensures crash { ReadsOnly S.Store desk.old desk.new }
     ensures limits { desk.new.limits ≡ desk.old.limits }
@@ -54,11 +56,13 @@ fn export<S: Alter, W: Sink>(
 /// The reply for a fault of an export into memory, whose sink lacks nothing but memory.
 fn reply_for_export(fault: Fault) -> Reply
     ensures refused { (r : AnyRefusal) → fault ≡ Fault.Refused r → result ≡ Reply.Refused r }
-    ensures failed { IsNoRefusal fault → fault ≢ Fault.NotADesk → IsFailure result }
+    ensures failed { IsNoRefusal fault → fault ≢ Fault.NotADesk → IsFailure (fault ≡ Fault.Device) result }
 {
     match fault {
         Fault::Output => Reply::Memory,
-        fault => reply_for_fault(fault),
+        Fault::Refused(_) | Fault::Memory | Fault::Device | Fault::NotADesk => {
+            reply_for_fault(fault)
+        }
     }
 }
 
@@ -71,8 +75,8 @@ fn export_body<S: Alter>(
     ensures answered { Gives S.Store desk.old desk.new result (λ s b. HasExport s (option_map (λ n. n.now) name.entry)
         (OkOf b.text.items)) }
     ensures plain { IfOk result (λ b. b.rev ≡ None) }
-    ensures reported { GivesOnErr S.Store desk.old desk.new result (λ s r. IsReportedOfExport s (option_map (λ n.
-        n.now) name.entry) r) }
+    ensures reported { GivesOnErr S.Store desk.old desk.new result (λ s r.
+        IsReportedOfExport (HasFailed S.Store desk.old desk.new) s (option_map (λ n. n.now) name.entry) r) }
     ensures keeps_state { KeepsState S.Store desk.old desk.new }
     ensures crash { ReadsOnly S.Store desk.old desk.new }
     ensures limits { desk.new.limits ≡ desk.old.limits }
@@ -93,7 +97,7 @@ pub fn run_export<S: Alter, W: Sink>(
     out: &mut W,
 ) -> u8
     ensures written { InState S.Store desk.old desk.new (λ s. (text : List ℕ) × (own : ℕ)
-        × IsExportOutput s (option_map (λ n. n.now) name.entry) text own
+        × IsExportOutput (HasFailed S.Store desk.old desk.new) s (option_map (λ n. n.now) name.entry) text own
         × IsWritten (W.held out.old) (W.held out.new) text own (W.IsRefusal out.new) result) }
     ensures keeps_state { KeepsState S.Store desk.old desk.new }
     ensures crash { ReadsOnly S.Store desk.old desk.new }
@@ -114,7 +118,7 @@ pub fn respond_export<S: Alter, W: Sink>(
     out: &mut W,
 ) -> Option<Status>
     ensures written { InState S.Store desk.old desk.new (λ s. (text : List ℕ) × (status : AnyStatus)
-        × IsExportResponse s (option_map (λ n. n.now) name.entry) text status
+        × IsExportResponse (HasFailed S.Store desk.old desk.new) s (option_map (λ n. n.now) name.entry) text status
         × IsSent (W.held out.old) (W.held out.new) text status (W.IsRefusal out.new) result) }
     ensures keeps_state { KeepsState S.Store desk.old desk.new }
     ensures crash { ReadsOnly S.Store desk.old desk.new }

@@ -6,6 +6,7 @@ ghost use Rattle.sqlite.specs.Held.{state};
 ghost use Rattle.tb_core.specs.Machine.{Machine};
 ghost use Rattle.tb_query.specs.Reading.{IsQuery};
 ghost use Rattle.tb_store.specs.Represents.{Represents};
+ghost use Rattle.tb_answer.specs.Commanded.{HasFailed};
 ghost use Rattle.tb_answer.specs.Found.{query_reply, IsAskedQuery, IsAllowed, IsLimitReply, IsQueryReply};
 ghost use Rattle.tb_answer.specs.Found.{IsReportedOfQuery};
 ghost use Rattle.tb_store.specs.Calls.{Does, Gives, GivesOnErr, KeepsState};
@@ -75,7 +76,7 @@ fn counted_within<S: Alter>(
     ensures allowed { HasCleanDisk (state S.Store desk.new.conn) → IfOk result (λ q. (q ≡ query)
         × ((s : Machine) → Represents S.Store desk.old s → IsAllowed desk.old.limits s query strategy)) }
     ensures reported { GivesOnErr S.Store desk.old desk.new result (λ s r.
-        IsLimitReply desk.old.limits s query strategy r) }
+        IsLimitReply (HasFailed S.Store desk.old desk.new) desk.old.limits s query strategy r) }
     ensures stays { Does S.Store desk.old desk.new result (λ s. Represents S.Store desk.new s) }
     ensures keeps_state { KeepsState S.Store desk.old desk.new }
     ensures commits_nothing { CommitsNothing S.Store desk.old.conn desk.new.conn }
@@ -97,7 +98,7 @@ fn within_limit<S: Alter>(
     ensures allowed { HasCleanDisk (state S.Store desk.new.conn) → IfOk result (λ q. (q ≡ query)
         × ((s : Machine) → Represents S.Store desk.old s → IsAllowed desk.old.limits s query strategy)) }
     ensures reported { GivesOnErr S.Store desk.old desk.new result (λ s r.
-        IsLimitReply desk.old.limits s query strategy r) }
+        IsLimitReply (HasFailed S.Store desk.old desk.new) desk.old.limits s query strategy r) }
     ensures stays { Does S.Store desk.old desk.new result (λ s. Represents S.Store desk.new s) }
     ensures keeps_state { KeepsState S.Store desk.old desk.new }
     ensures commits_nothing { CommitsNothing S.Store desk.old.conn desk.new.conn }
@@ -123,7 +124,7 @@ pub(crate) fn accepted<S: Alter>(
     ensures accepted { Gives S.Store desk.old desk.new result (λ s q.
         IsAskedQuery desk.old.limits s text.now strategy q) }
     ensures reported { GivesOnErr S.Store desk.old desk.new result (λ s r.
-        IsReportedOfQuery desk.old.limits s text.now strategy r) }
+        IsReportedOfQuery (HasFailed S.Store desk.old desk.new) desk.old.limits s text.now strategy r) }
     ensures stays { Does S.Store desk.old desk.new result (λ s. Represents S.Store desk.new s) }
     ensures keeps_state { KeepsState S.Store desk.old desk.new }
     ensures commits_nothing { CommitsNothing S.Store desk.old.conn desk.new.conn }

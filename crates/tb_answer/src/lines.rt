@@ -3,6 +3,7 @@
 ghost use Rattle.std.specs.Prelude.{◌≡◌, MatchResult, Ok as Taken, Err as Untaken, option_map, string_bytes};
 ghost use Rattle.tb_check.specs.Check.{file_limit};
 ghost use Rattle.tb_cli.specs.Lines.{said_by};
+ghost use Rattle.tb_answer.specs.Commanded.{HasFailed};
 ghost use Rattle.tb_answer.specs.Taken.{IsTaken, WithTaken, has_body};
 ghost use Rattle.tb_answer.specs.Calls.{call_by, call_in, ReadsOnly};
 ghost use Rattle.tb_answer.specs.Ran.{reading_by, reading_in, IsReadingRun, IsCalled, IsDone, IsRan, IsCallSafe};
@@ -106,8 +107,8 @@ fn run_reading<S: Alter, W: Sink>(
     desk: &mut Desk<S>,
     out: &mut W,
 ) -> u8
-    ensures read { InState S.Store desk.old desk.new (λ s. IsReadingRun desk.old.limits s (reading_by reading.entry)
-        (W.held out.old) (W.held out.new) (W.IsRefusal out.new) result) }
+    ensures read { InState S.Store desk.old desk.new (λ s. IsReadingRun (HasFailed S.Store desk.old desk.new)
+        desk.old.limits s (reading_by reading.entry) (W.held out.old) (W.held out.new) (W.IsRefusal out.new) result) }
     ensures keeps_state { KeepsState S.Store desk.old desk.new }
     ensures crash { ReadsOnly S.Store desk.old desk.new }
     ensures limits { desk.new.limits ≡ desk.old.limits }
@@ -127,7 +128,8 @@ fn run_called<S: Alter, W: Sink>(
     out: &mut W,
 ) -> u8
     ensures called { InState S.Store desk.old desk.new (λ s. IsCalled S.Store desk.old.limits s
-        (option_map call_by call.entry) desk.new (W.held out.old) (W.held out.new) (W.IsRefusal out.new) result) }
+        (option_map call_by call.entry) desk.old desk.new
+        (W.held out.old) (W.held out.new) (W.IsRefusal out.new) result) }
     ensures crash { IsCallSafe S.Store (option_map call_by call.entry) desk.old desk.new }
     ensures limits { desk.new.limits ≡ desk.old.limits }
 {
@@ -147,7 +149,7 @@ fn do_line<S: Alter, W: Sink>(
 ) -> u8
     ensures done { InState S.Store desk.old desk.new (λ s.
         IsDone S.Store desk.old.limits s (reading_in (said_by line.now)) (call_in
-        (said_by line.now) body.now) desk.new (W.held out.old) (W.held out.new) (W.IsRefusal out.new) result) }
+        (said_by line.now) body.now) desk.old desk.new (W.held out.old) (W.held out.new) (W.IsRefusal out.new) result) }
     ensures crash { IsDoneSafe S.Store (reading_in (said_by line.now))
         (call_in (said_by line.now) body.now) desk.old desk.new }
     ensures limits { desk.new.limits ≡ desk.old.limits }
@@ -169,7 +171,10 @@ pub fn run_line<S: Alter, W: Sink>(
     out: &mut W,
 ) -> u8
     ensures ran { InState S.Store desk.old desk.new (λ s. MatchResult body (λ v.
-        IsRan S.Store desk.old.limits s (said_by line.now) (Taken v.items) desk.new (W.held out.old) (W.held out.new) (W.IsRefusal out.new) result) (λ r. IsRan S.Store desk.old.limits s (said_by line.now) (Untaken r) desk.new (W.held out.old) (W.held out.new) (W.IsRefusal out.new) result)) }
+        IsRan S.Store desk.old.limits s (said_by line.now) (Taken v.items) desk.old desk.new
+        (W.held out.old) (W.held out.new) (W.IsRefusal out.new) result) (λ r.
+        IsRan S.Store desk.old.limits s (said_by line.now) (Untaken r) desk.old desk.new (W.held out.old)
+        (W.held out.new) (W.IsRefusal out.new) result)) }
     ensures crash { MatchResult body (λ v. IsLineSafe S.Store (said_by line.now) (Taken v.items) desk.old desk.new)
         (λ r. IsLineSafe S.Store (said_by line.now) (Untaken r) desk.old desk.new) }
     ensures limits { desk.new.limits ≡ desk.old.limits }
@@ -191,7 +196,7 @@ pub fn run_line_from<S: Alter, R: Source, W: Sink>(
 ) -> u8
     ensures ran { InState S.Store desk.old desk.new (λ s.
         WithTaken R.IsFailure R.left file_limit (said_by line.now) reader.old reader.new (λ taken.
-        IsRan S.Store desk.old.limits s (said_by line.now) taken desk.new
+        IsRan S.Store desk.old.limits s (said_by line.now) taken desk.old desk.new
         (W.held out.old) (W.held out.new) (W.IsRefusal out.new) result)) }
     ensures crash { WithTaken R.IsFailure R.left file_limit (said_by line.now) reader.old reader.new (λ taken.
         IsLineSafe S.Store (said_by line.now) taken desk.old desk.new) }

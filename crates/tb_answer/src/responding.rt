@@ -24,7 +24,7 @@ pub fn respond_call<S: Alter, W: Sink>(
     out: &mut W,
 ) -> Option<Status>
     ensures written { InState S.Store desk.old desk.new (λ s. (text : List ℕ) × (status : AnyStatus)
-        × IsResponse S.Store desk.old.limits s (call_by call.entry) desk.new text status
+        × IsResponse S.Store desk.old.limits s (call_by call.entry) desk.old desk.new text status
         × IsSent (W.held out.old) (W.held out.new) text status (W.IsRefusal out.new) result) }
     ensures crash { IsSafe S.Store (call_by call.entry) desk.old desk.new }
     ensures limits { desk.new.limits ≡ desk.old.limits }

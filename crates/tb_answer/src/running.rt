@@ -18,7 +18,7 @@ use tb_store::Desk;
 /// Does a command, and gives its reply.
 pub fn obey<S: Alter>(desk: &mut Desk<S>, command: DeskCommand<'_>) -> Reply
     ensures answered { InState S.Store desk.old desk.new (λ s. IsAnswered S.Store desk.old.limits s
-        (command_by command.entry) desk.new result) }
+        (command_by command.entry) desk.old desk.new result) }
     ensures crash { CrashesWhole S.Store desk.old desk.new (command_by command.entry) }
     ensures limits { desk.new.limits ≡ desk.old.limits }
 {
@@ -44,7 +44,7 @@ pub fn run_call<S: Alter, W: Sink>(
     out: &mut W,
 ) -> u8
     ensures written { InState S.Store desk.old desk.new (λ s. (text : List ℕ) × (own : ℕ)
-        × IsOutput S.Store desk.old.limits s (call_by call.entry) desk.new text own
+        × IsOutput S.Store desk.old.limits s (call_by call.entry) desk.old desk.new text own
         × IsWritten (W.held out.old) (W.held out.new) text own (W.IsRefusal out.new) result) }
     ensures crash { IsSafe S.Store (call_by call.entry) desk.old desk.new }
     ensures limits { desk.new.limits ≡ desk.old.limits }

@@ -2,6 +2,7 @@
 
 ghost use Rattle.std.specs.Prelude.{◌≡◌, []};
 ghost use Rattle.tb_search.specs.Visited.{HasReason};
+ghost use Rattle.tb_answer.specs.Commanded.{HasFailed};
 ghost use Rattle.tb_answer.specs.Found.{search_by, search_head, IsSearchResponse, IsSearchRun, IsStreamed};
 ghost use Rattle.tb_answer.specs.Calls.{ReadsOnly};
 ghost use Rattle.tb_store.specs.Calls.{InState, KeepsState};
@@ -47,8 +48,8 @@ pub fn run_search<S: Alter, W: Sink>(
     search: Search<'_>,
     out: &mut W,
 ) -> u8
-    ensures written { InState S.Store desk.old desk.new (λ s. IsSearchRun desk.old.limits s (search_by search.entry)
-        (W.held out.old) (W.held out.new) (W.IsRefusal out.new) result) }
+    ensures written { InState S.Store desk.old desk.new (λ s. IsSearchRun (HasFailed S.Store desk.old desk.new)
+        desk.old.limits s (search_by search.entry) (W.held out.old) (W.held out.new) (W.IsRefusal out.new) result) }
     ensures keeps_state { KeepsState S.Store desk.old desk.new }
     ensures crash { ReadsOnly S.Store desk.old desk.new }
     ensures limits { desk.new.limits ≡ desk.old.limits }
@@ -74,7 +75,8 @@ fn send_found<S: Alter, W: Sink>(
     out: &mut W,
 ) -> Ending
     ensures put { InState S.Store desk.old desk.new (λ s.
-        IsStreamed s query.now search.entry.strategy search.entry.context search_head (W.held out.old) (W.held out.new) result) }
+        IsStreamed s query.now search.entry.strategy search.entry.context search_head (W.held out.old)
+        (W.held out.new) result) }
     ensures reason { result ≡ Ending.Refused → HasReason (W.IsRefusal out.new) }
     ensures keeps_state { KeepsState S.Store desk.old desk.new }
     ensures commits_nothing { CommitsNothing S.Store desk.old.conn desk.new.conn }
@@ -96,8 +98,8 @@ pub fn respond_search<S: Alter, W: Sink>(
     search: Search<'_>,
     out: &mut W,
 ) -> Option<Status>
-    ensures written { InState S.Store desk.old desk.new (λ s. IsSearchResponse desk.old.limits s
-        (search_by search.entry) (W.held out.old) (W.held out.new) (W.IsRefusal out.new) result) }
+    ensures written { InState S.Store desk.old desk.new (λ s. IsSearchResponse (HasFailed S.Store desk.old desk.new)
+        desk.old.limits s (search_by search.entry) (W.held out.old) (W.held out.new) (W.IsRefusal out.new) result) }
     ensures keeps_state { KeepsState S.Store desk.old desk.new }
     ensures crash { ReadsOnly S.Store desk.old desk.new }
     ensures limits { desk.new.limits ≡ desk.old.limits }

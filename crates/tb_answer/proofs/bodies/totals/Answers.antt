@@ -1,8 +1,20 @@
-use Rattle.std.proofs.Common.{◌∙◌}
-use Rattle.tb_answer.proofs.Failing.{if_ok}
+use Rattle.std.proofs.Common.{◌∙◌, Err, ap, inl, subst, sym}
+use Rattle.tb_answer.specs.Commanded.{IsFailure}
+use Rattle.tb_answer.proofs.Failing.{if_err, if_ok, is_failure}
 use Rattle.tb_answer.proofs.Texts.{totals_are}
 use Rattle.tb_answer.proofs.bodies.totals.Goals as goal
 
 pub returns-in-Ok-clause-answered : goal.returns-in-Ok-clause-answered
 returns-in-Ok-clause-answered g c clean = if_ok c.totals_text.result c.totals_text.ensures.text (λ text same s stands.
     same ∙ totals_are c.in-Ok.totals s (c.in-Ok.ensures.answered clean s stands))
+
+pub returns-in-Ok-clause-failed : goal.returns-in-Ok-clause-failed
+returns-in-Ok-clause-failed g c clean = if_err c.totals_text.result c.totals_text.ensures.failed (λ r is s stands. inl is)
+
+pub returns-in-Ok-clause-unrefused : goal.returns-in-Ok-clause-unrefused
+returns-in-Ok-clause-unrefused g c = if_err c.totals_text.result c.totals_text.ensures.failed (λ r is. inl (inl is))
+
+pub returns-in-Err-clause-failed : goal.returns-in-Err-clause-failed
+returns-in-Err-clause-failed g c clean s stands =
+    subst (IsFailure _) (sym c.reply_for_fault.ensures) (is_failure c.in-Err.fault (λ r is. c.in-Err.ensures.never_refuses r (ap Err is)) (λ is. c.in-Err.ensures.fails clean s stands (ap Err is))
+    (λ is good. c.in-Err.ensures.cause clean s stands good is) (λ is. c.in-Err.ensures.output (ap Err is)))

@@ -12,5 +12,6 @@ returns-in-Ok-clause-answered g c clean s stands =
 pub returns-in-Err-clause-answered : goal.returns-in-Err-clause-answered
 returns-in-Err-clause-answered g c clean s stands =
     let act = pull c.args.number c.args.user.now in
-    subst (IsAnswered g.S.Store c.args.desk.now.limits s act c.pull.new.self) (sym c.reply_for_fault.ensures)
-    (answered_by_fault g.S.Store c.args.desk.now c.pull.new.self act pulled_out s c.in-Err.fault (c.in-Err.ensures.ends clean s stands))
+    subst (IsAnswered g.S.Store c.args.desk.now.limits s act c.args.desk.now c.pull.new.self) (sym c.reply_for_fault.ensures)
+    (answered_by_fault g.S.Store c.args.desk.now c.pull.new.self act pulled_out s c.in-Err.fault (c.in-Err.ensures.ends clean s stands)
+    (λ is room good. (c.in-Err.ensures.cause clean s stands good is).0))

@@ -1,7 +1,9 @@
 use Rattle.std.proofs.Common.{inr, arith}
 use Rattle.sqlite.specs.Held.{state}
 use Rattle.sqlite.specs.State.{HasCleanDisk}
-use Rattle.tb_answer.proofs.Failing.{if_ok, if_err}
+use Rattle.tb_tables.proofs.Causes.{faultless_next}
+use Rattle.tb_answer.specs.Commanded.{HasFailed}
+use Rattle.tb_answer.proofs.Failing.{fails_for, if_ok, if_err}
 use Rattle.tb_answer.proofs.SearchTexts.{read_here, read_then}
 use Rattle.tb_answer.proofs.counts.count_text.Goals as goal
 
@@ -15,7 +17,10 @@ pub returns-in-Ok-clause-reported : goal.returns-in-Ok-clause-reported
 returns-in-Ok-clause-reported g c clean = if_err c.counted.result (c.counted.ensures.failed clean) (λ r failed s stands.
     let mid : HasCleanDisk (state g.S.Store c.accepted.new.desk.conn) = omega (arith, clean, c.counted.ensures.commits_nothing.clean) in
     let asks = c.in-Ok.ensures.accepted mid s stands in
-    inr (c.in-Ok.query, asks.0, inr (failed s (c.in-Ok.ensures.stays mid s stands))))
+    let one = c.accepted.ensures.commits_nothing in
+    let two = c.counted.ensures.commits_nothing in
+    let later : HasFailed g.S.Store c.accepted.new.desk c.counted.new.desk → HasFailed g.S.Store c.args.desk.now c.counted.new.desk = λ bad good. bad (faultless_next (state g.S.Store c.args.desk.now.conn) (state g.S.Store c.accepted.new.desk.conn) (state g.S.Store c.counted.new.desk.conn) good one mid two.counts) in
+    inr (c.in-Ok.query, asks.0, inr (fails_for r later (failed s (c.in-Ok.ensures.stays mid s stands)))))
 
 pub returns-in-Ok-clause-keeps_state : goal.returns-in-Ok-clause-keeps_state
 returns-in-Ok-clause-keeps_state g c clean opened s stands =

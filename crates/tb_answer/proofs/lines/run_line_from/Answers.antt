@@ -11,7 +11,7 @@ pub returns-clause-ran : goal.returns-clause-ran
 returns-clause-ran g c clean s stands =
     let said = said_by c.args.line.now in
     let taken : Result (List ℕ) Reply → Type 0 = λ t. IsTaken g.R.Source.IsFailure g.R.Source.left file_limit said c.args.reader.now c.read_body-body.new.reader t in
-    let ran : Result (List ℕ) Reply → Type 0 = λ t. IsRan g.S.Store c.args.desk.now.limits s said t c.run_line.new.desk (g.W.Sink.held c.args.out.now) (g.W.Sink.held c.run_line.new.out) (g.W.Sink.IsRefusal c.run_line.new.out) c.run_line.result in
+    let ran : Result (List ℕ) Reply → Type 0 = λ t. IsRan g.S.Store c.args.desk.now.limits s said t c.args.desk.now c.run_line.new.desk (g.W.Sink.held c.args.out.now) (g.W.Sink.held c.run_line.new.out) (g.W.Sink.IsRefusal c.run_line.new.out) c.run_line.result in
     joined (λ v. v.items) c.read_body-body.result taken ran c.read_body-body.ensures (c.run_line.ensures.ran clean s stands)
 
 pub returns-clause-crash : goal.returns-clause-crash
