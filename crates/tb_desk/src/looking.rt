@@ -126,11 +126,7 @@ fn has_journal(rt: &HostRuntime, path: &str) -> Result<bool, FileCause> {
 /// does not have yet.
 fn listed_now(rt: &HostRuntime, path: &str) -> Result<Version, FileCause> {
     let head = beginning(rt, path, LOOKED_AT)?;
-    // (the library takes no log for an empty file: it would cut the log, and make a database in the file)
-    if head.is_empty() {
-        return Err(FileCause::Empty);
-    }
-    if !head.starts_with(HEADER) {
+    if !head.is_empty() && !head.starts_with(HEADER) {
         return Err(FileCause::NotSqlite);
     }
     let in_file = listed_in(&head);
@@ -140,6 +136,10 @@ fn listed_now(rt: &HostRuntime, path: &str) -> Result<Version, FileCause> {
     let log_path = beside(rt, path, "-wal")?;
     if is_odd(rt, log_path.as_str())? {
         return in_file.ok_or(FileCause::OddLog);
+    }
+    // (the library takes no log for an empty file: it would cut the log, and make a database in the file)
+    if head.is_empty() {
+        return Err(FileCause::Empty);
     }
     let log = beginning(rt, log_path.as_str(), LOG_LOOKED_AT)?;
     match (listed_in(&log), in_file) {
