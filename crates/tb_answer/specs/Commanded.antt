@@ -61,8 +61,8 @@ HasRoom g l s (import_file name user body) old = HasRoomIfWritten l s name user 
 HasRoom g l s (correct n base user body) old = IsShort body × HasRevisionRowids (state g old.conn) 1
 HasRoom g l s _ old = ⊤
 
--- Why a command blames the device: the store was shut, its disk failed, or room was wanting; or memory was wanting
--- twice.
+-- Why a command blames the device: the store was shut, its disk failed, or room was wanting; or, where none is so, what
+-- little `WantsTwice` says.
 abbrev pub BlamesFor : {S : Type 0} → Ghosts S → Limits → Machine → Command → (old new : Kept S) → Type 0
 BlamesFor g l s c old new = HasRoom g l s c old → IsFaultless g old.conn new.conn → WantsTwice g new.conn
 

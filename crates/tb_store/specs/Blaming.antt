@@ -23,12 +23,13 @@ FailsWithoutDevice g old new result =
 abbrev pub BlamesNoDevice : {S X : Type 0} → Ghosts S → Kept S → Kept S → Result X Fault → Type 0
 BlamesNoDevice g old new result = InState g old new (λ s. IsFaultless g old.conn new.conn → IfErr result IsNoDevice)
 
--- Memory was wanting in a command, and wanting again when the store was asked whether it is open.
+-- In some state the store was asked whether it is open, and memory was wanting for the answer. No clause can name that
+-- state, so this excludes little.
 abbrev pub WantsTwice : {S : Type 0} → Ghosts S → (new : Held S) → Type 0
 WantsTwice {S} g new = (mid : Held S) × WantsToTell (state g mid) (state g new)
 
--- Of a command on a desk: where it blames the device, memory was wanting twice; and then the store is open, and the desk
--- is as before (`IsSo s so`: under which premises).
+-- Of a command on a desk: where it blames the device, the store was asked so, and the desk is as before (`IsSo s so`:
+-- under which premises).
 abbrev pub BlamesForWantAlone : {S X : Type 0} → Ghosts S → Kept S → Kept S → Result X Fault
     → (Machine → Type 0 → Type 0)
     → Type 0
