@@ -254,8 +254,8 @@ impl<S: Alter> Desk<S> {
 }
 
 impl<S: Alter> Desk<S> {
-    /// The number of a sentence that stands.
-    fn summary(&self, number: u64) -> Option<u32>
+    /// The number, where a sentence has it.
+    fn sentence_number(&self, number: u64) -> Option<u32>
         ensures stands { IfSome result (λ n. (n ≡ number) × (0 < n) × (n ≤ self.now.sentences)) }
         ensures lacks { result ≡ None → 0 < number → number ≤ self.now.sentences → ⊥ }
     {
@@ -337,7 +337,7 @@ impl<S: Alter> Desk<S> {
         ensures commits_nothing { CommitsNothing S.Store self.old.conn self.new.conn }
         ensures limits { self.new.limits ≡ self.old.limits }
     {
-        let Some(number) = self.summary(number) else {
+        let Some(number) = self.sentence_number(number) else {
             return Err(Fault::Refused(Refusal::NoSuchSentence));
         };
         asking::sentence(&mut self.conn, number)
@@ -363,7 +363,7 @@ impl<S: Alter> Desk<S> {
         ensures commits_nothing { CommitsNothing S.Store self.old.conn self.new.conn }
         ensures limits { self.new.limits ≡ self.old.limits }
     {
-        let Some(number) = self.summary(number) else {
+        let Some(number) = self.sentence_number(number) else {
             return Err(Fault::Refused(Refusal::NoSuchSentence));
         };
         asking::revision(&mut self.conn, number, rev)
@@ -531,7 +531,7 @@ impl<S: Alter> Desk<S> {
         ensures limits { self.new.limits ≡ self.old.limits }
     {
         let counts = self.counts();
-        let Some(at) = self.summary(number) else {
+        let Some(at) = self.sentence_number(number) else {
             return Err(tb_commands::no_correction(number, base, user, body));
         };
         match tb_commands::correct(self.alloc, &mut self.conn, &counts, at, base, user, body) {
@@ -609,7 +609,7 @@ impl<S: Alter> Desk<S> {
         ensures limits { self.new.limits ≡ self.old.limits }
     {
         let counts = self.counts();
-        let Some(at) = self.summary(number) else {
+        let Some(at) = self.sentence_number(number) else {
             return Err(tb_commands::no_pull(&counts, number, user));
         };
         match tb_commands::pull(self.alloc, &mut self.conn, &counts, at, user) {
@@ -634,7 +634,7 @@ impl<S: Alter> Desk<S> {
         ensures limits { self.new.limits ≡ self.old.limits }
     {
         let counts = self.counts();
-        let Some(at) = self.summary(number) else {
+        let Some(at) = self.sentence_number(number) else {
             return Err(tb_commands::no_restore(&counts, number, user));
         };
         match tb_commands::restore(self.alloc, &mut self.conn, &counts, at, user) {
