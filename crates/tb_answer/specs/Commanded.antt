@@ -1,5 +1,5 @@
 -- What a command of a user is answered over a connection, as a line, and what it leaves.
-use Rattle.std.specs.Prelude.{◌≡◌, ◌≢◌, ◌⊎◌, IsTrue, ⊤}
+use Rattle.std.specs.Prelude.{◌≡◌, ◌≢◌, ◌⊎◌, IsTrue, ⊤, length}
 use Rattle.sqlite.specs.Store.{Ghosts}
 use Rattle.sqlite.specs.Held.{state}
 use Rattle.tb_core.specs.declared.limits.Limits.{Limits}
@@ -13,12 +13,9 @@ use Rattle.tb_core.specs.Commands.{restored_to}
 use Rattle.tb_core.specs.Steps.{Steps}
 use Rattle.tb_http.specs.declared.replies.Reply.{Reply}
 use Rattle.tb_http.specs.declared.replies.Reply.TheVariants as reply
-use Rattle.tb_tables.specs.Changes.{HasRevisionRowids}
-use Rattle.tb_tables.specs.Failing.{IsShort}
 use Rattle.tb_tables.specs.Leaving.{IsFaultless}
-use Rattle.tb_import.specs.Planned.{HasRoomIfWritten}
+use Rattle.tb_refine.specs.Room.{HasRoomIfWritten}
 use Rattle.tb_store.specs.Kept.{Kept}
-use Rattle.tb_store.specs.Blaming.{WantsTwice}
 use Rattle.tb_store.specs.Calls.{IsDurable}
 
 -- the reply for an answer of the machine
@@ -54,17 +51,19 @@ IsFailure cause r = (r ≡ reply.Memory) ⊎ ((r ≡ reply.Device) × cause)
 abbrev pub IsStoreFailure : Reply → Type 0
 IsStoreFailure r = IsFailure ⊤ r ⊎ (r ≡ reply.Desk)
 
--- No size keeps SQLite from writing what the command says: its body is short, and rowids are left for its revisions. An
--- import that writes nothing needs neither.
+-- No size keeps SQLite from writing what the command says: where it writes, its body is short, and a rowid is left for
+-- its revision, or for each byte of a file.
 abbrev pub HasRoom : {S : Type 0} → Ghosts S → Limits → Machine → Command → (old : Kept S) → Type 0
-HasRoom g l s (import_file name user body) old = HasRoomIfWritten l s name user body (state g old.conn)
-HasRoom g l s (correct n base user body) old = IsShort body × HasRevisionRowids (state g old.conn) 1
+HasRoom g l s (import_file name user body) old = HasRoomIfWritten l s (import_file name user body) body
+    (length body) (state g old.conn)
+HasRoom g l s (correct n base user body) old = HasRoomIfWritten l s (correct n base user body) body 1
+    (state g old.conn)
 HasRoom g l s _ old = ⊤
 
--- Why a command blames the device: the store was shut, its disk failed, or room was wanting; or, where none is so, what
--- little `WantsTwice` says.
+-- Why a command blames the device: the store was shut, its disk failed, or room was wanting. Where none is so, the desk
+-- is in doubt: memory was refused twice.
 abbrev pub BlamesFor : {S : Type 0} → Ghosts S → Limits → Machine → Command → (old new : Kept S) → Type 0
-BlamesFor g l s c old new = HasRoom g l s c old → IsFaultless g old.conn new.conn → WantsTwice g new.conn
+BlamesFor g l s c old new = HasRoom g l s c old → IsFaultless g old.conn new.conn → IsTrue new.in_doubt
 
 -- In this state the command has the machine's answer, and its next state outlasts a crash. Or memory was wanted, and
 -- the state outlasts a crash as it was. Or the device failed, for a cause, and it does so where the store is open.

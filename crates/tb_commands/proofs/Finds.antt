@@ -8,7 +8,6 @@ use Rattle.tb_core.specs.Acts.{state_at}
 use Rattle.tb_core.specs.Keeping.{IsPlaced}
 use Rattle.tb_core.specs.Rows.{pulled_from}
 use Rattle.tb_core.proofs.Weights.{weight_there}
-use Rattle.tb_tables.specs.Records.{Batch, Sentence}
 use Rattle.tb_reads.proofs.Order.{contains_cases, contains_later}
 
 -- ---- what stands is found

@@ -1,28 +1,17 @@
 -- The texts that an accepted command writes are short enough to be stored.
-use Rattle.std.proofs.Common.{◌≡◌, ◌≤◌, ◌+◌, ℕ, zero, suc, Bool, true, false, if◌then◌else◌, ◌==◌, ◌&&◌, List, [], ◌∷◌, ◌++◌, append-nil, map, refl, length, length-append, length-drop, drop, reverse, bytes_eq, nat_le, Option, Some, None, Result, Err, IfErr, slice_get, unwrap_or, sym, subst, ap, ◌∙◌, arith}
-use Rattle.std.specs.List.{AllByRecursion, cons_option, filter_map, flat_map, list_any, before_first, after_first, position_or_len}
-use Rattle.std.proofs.lemmas.List.{length-reverse}
-use Rattle.std.proofs.lemmas.Bool.{and_parts}
-use Rattle.std.proofs.lemmas.Bool.Decides.{nat_tests}
-use Rattle.tb_conllu.specs.Text.{BlockText, text_of, ended, row_line}
+use Rattle.std.proofs.Common.{◌≡◌, ℕ, true, List, [], ◌∷◌, Some, slice_get, arith}
+use Rattle.std.specs.List.{AllByRecursion}
 use Rattle.tb_core.specs.declared.kinds.Event.{Event}
 use Rattle.tb_core.specs.declared.kinds.Worker.{Worker}
 use Rattle.tb_core.specs.declared.kinds.Worker.TheVariants.{Keep, Caller, Cleared}
 use Rattle.tb_core.specs.Names.{is_name}
 use Rattle.tb_core.specs.Events.{makes_worker}
-use Rattle.tb_core.specs.Machine.{Machine, Batch, sent_id_of}
-use Rattle.tb_core.specs.Acts.{Act, importing, stepping, correcting, pulling, restoring, new_batch, moved, with_worker, user_of}
+use Rattle.tb_core.specs.Machine.{Machine, Batch}
+use Rattle.tb_core.specs.Acts.{importing, stepping, correcting, pulling, restoring, new_batch, moved, with_worker}
 use Rattle.tb_core.specs.Reaching.{Reached, begun, further}
 use Rattle.tb_core.specs.Keeping.{IsWell}
-use Rattle.tb_core.proofs.Weights.{all_append, all_changed, all_mapped, all_there}
+use Rattle.tb_core.proofs.Weights.{all_append, all_changed, all_there}
 use Rattle.tb_tables.specs.Failing.{IsShort}
-use Rattle.tb_tables.specs.Values.{move_of}
-use Rattle.tb_tables.specs.Records.{Move}
-use Rattle.tb_tables.specs.declared.recording.MoveWrite.{MoveWrite}
-use Rattle.tb_core.specs.declared.refusals.Fault.{Fault}
-use Rattle.tb_core.specs.declared.refusals.Fault.TheVariants.{Device}
-use Rattle.tb_refine.specs.Recorded.{IsWritten}
-use Rattle.tb_refine.specs.Faults.{IsNoDevice}
 pub use Rattle.tb_refine.proofs.Short.{short_name, short_mover, short_id, never_reported}
 
 -- ---- workers

@@ -9,7 +9,6 @@ use Rattle.tb_core.specs.Machine.{Machine, batch_with}
 use Rattle.tb_core.specs.Acts.{IsAllowed, pulling}
 use Rattle.tb_core.specs.Rows.{pulled_from}
 use Rattle.tb_core.proofs.Balance.{pull_was}
-use Rattle.tb_tables.specs.Records.{Sentence}
 use Rattle.tb_tables.specs.Failing.{Lacks}
 
 below : (m n : ℕ) (xs : List machine.Sentence) → m < n → Lacks (pulled_from n xs) m

@@ -22,8 +22,7 @@ ghost use Rattle.tb_commands.specs.Correcting.{PlanText, IsCurrentRead, IsPlanne
 ghost use Rattle.tb_commands.specs.Correcting.{current_seen, correction_move};
 ghost use Rattle.tb_refine.specs.Calls.{CrashesTo, KnowsDeskWhere, RefusesAs, Tells};
 ghost use Rattle.tb_refine.specs.Calls.{BlamesNoDevice};
-ghost use Rattle.tb_tables.specs.Changes.{HasRevisionRowids};
-ghost use Rattle.tb_tables.specs.Failing.{IsShort};
+ghost use Rattle.tb_refine.specs.Room.{HasRoomIfWritten};
 ghost use Rattle.tb_tables.specs.Leaving.{ChangesNothing, CommitsNothing, KeepsRecords, KeepsRecordsOnErr};
 ghost use Rattle.tb_tables.specs.Leaving.{IsFaultless, FailsOnlyAs};
 ghost use Rattle.tb_refine.specs.Faults.{IsNoDevice};
@@ -403,7 +402,8 @@ pub fn correct<S: Alter>(
         → number ≤ length s.sentences → so) }
     ensures cause { BlamesNoDevice S.Store conn.old conn.new result (λ s so. IsCounted counts.now s
         → number ≤ length s.sentences
-        → IsShort body.now → HasRevisionRowids (state S.Store conn.old) 1 → so) }
+        → HasRoomIfWritten counts.now.limits s (correct_it number base user.now body.now) body.now 1
+        (state S.Store conn.old) → so) }
     ensures room { IfOk result (λ r. IfSome r.1 (λ _. counts.now.moves + 1 ≤ 1000000000)) }
     ensures keeps_records { KeepsRecordsOnErr S.Store conn.old conn.new result }
     ensures crash { CrashesTo S.Store conn.old conn.new (λ s db. IsCounted counts.now s
@@ -435,6 +435,7 @@ pub fn no_correction(number: u64, base: u64, user: &str, body: &[u8]) -> Fault
         → LacksSentence s number → Steps l s (correct_it number base user.now body.now) (refused_by r) s }
     ensures fails { result ≢ Fault.NotADesk }
     ensures cause { IsNoDevice result }
+    ensures memory { result ≢ Fault.Memory }
     ensures output { result ≢ Fault.Output }
 {
     match judge_correction_before(number, base, user, body, None) {

@@ -203,6 +203,7 @@ pub fn no_pull(counts: &Counters, number: u64, user: &str) -> Fault
     ensures fails { (s : Machine) → LacksSentence s number → counts.now.moves ≡ length s.moves
         → result ≢ Fault.NotADesk }
     ensures cause { IsNoDevice result }
+    ensures memory { result ≢ Fault.Memory }
     ensures output { result ≢ Fault.Output }
 {
     match judge_pull(&counts.limits, number, user, None, u64::from(counts.moves)) {
@@ -381,6 +382,7 @@ pub fn no_restore(counts: &Counters, number: u64, user: &str) -> Fault
     ensures fails { (s : Machine) → LacksSentence s number → counts.now.moves ≡ length s.moves
         → result ≢ Fault.NotADesk }
     ensures cause { IsNoDevice result }
+    ensures memory { result ≢ Fault.Memory }
     ensures output { result ≢ Fault.Output }
 {
     match judge_restore(&counts.limits, number, user, None, u64::from(counts.moves)) {

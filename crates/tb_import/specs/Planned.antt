@@ -1,8 +1,8 @@
+-- Between crates: no contract of a front door cites a definition of this module.
 -- What an accepted import writes and answers, and what an import leaves.
-use Rattle.std.specs.Prelude.{◌≡◌, ℕ, ◌+◌, ◌<◌, List, Option, Some, None, length, map}
+use Rattle.std.specs.Prelude.{◌≡◌, ℕ, ◌+◌, List, Option, Some, None, length, map}
 use Rattle.sqlite.specs.Store.{Ghosts}
 use Rattle.sqlite.specs.Held.{Held}
-use Rattle.sqlite.specs.State.{State}
 use Rattle.tb_conllu.specs.Text.{BlockText}
 use Rattle.tb_core.specs.declared.limits.Limits.{Limits}
 use Rattle.tb_core.specs.declared.kinds.Kind.TheVariants.{Import}
@@ -12,13 +12,11 @@ use Rattle.tb_core.specs.declared.sums.Totals.{Totals}
 use Rattle.tb_core.specs.Moves.{MoveText}
 use Rattle.tb_core.specs.Machine.{Machine}
 use Rattle.tb_core.specs.Acts.{importing}
-use Rattle.tb_core.specs.Commands.{Reply, import_file, imported, replied, reply_to}
+use Rattle.tb_core.specs.Commands.{import_file, imported, replied, reply_to}
 use Rattle.tb_core.specs.Steps.{Steps}
 use Rattle.tb_core.specs.Taking.{NewSentenceText}
 use Rattle.tb_core.specs.Totals.{AreTotalsOf}
-use Rattle.tb_tables.specs.Changes.{HasRevisionRowids}
 use Rattle.tb_tables.specs.Commands.{NewSentenceRecord}
-use Rattle.tb_tables.specs.Failing.{IsShort}
 use Rattle.tb_refine.specs.DeskTables.{IsDeskOf}
 use Rattle.tb_refine.specs.Written.{item_of}
 use Rattle.tb_refine.specs.Counted.{IsCounted, IsPrepared}
@@ -80,9 +78,3 @@ abbrev pub Imports : {S : Type 0} → Ghosts S → Limits → Machine → (name 
 Imports g l s name user body new reply None = Steps l s (import_file name user body) (replied (imported reply)) s
     × IsDeskOf g new s
 Imports g l s name user body new reply (Some t) = HasImported g l s name user body new reply t
-
--- An import that writes anything has room: its body is short, and SQLite has a rowid left for each of its bytes.
-abbrev pub HasRoomIfWritten : Limits → Machine → (name user body : List ℕ) → State → Type 0
-HasRoomIfWritten l s name user body store =
-    (reply : Reply) (t : Machine) → Steps l s (import_file name user body) (replied reply) t
-    → length s.moves < length t.moves → IsShort body × HasRevisionRowids store (length body)

@@ -23,7 +23,8 @@ ghost use Rattle.tb_refine.specs.Calls.{BlamesNoDevice};
 ghost use Rattle.tb_tables.specs.Changes.{HasRevisionRowids};
 ghost use Rattle.tb_tables.specs.Failing.{IsShort};
 ghost use Rattle.tb_import.specs.Leaving.{IsLeft, Stays};
-ghost use Rattle.tb_import.specs.Planned.{IsKnown, HasImported, HasRoomIfWritten, Imports};
+ghost use Rattle.tb_import.specs.Planned.{IsKnown, HasImported, Imports};
+ghost use Rattle.tb_refine.specs.Room.{HasRoomIfWritten};
 ghost use Rattle.tb_refine.specs.Calls.{CrashesTo, KnowsDesk, KnowsDeskWhere, RefusesAs, Tells};
 ghost use Rattle.tb_tables.specs.Leaving.{KeepsRecordsOnErr, IsFaultless, FailsOnlyAs};
 
@@ -149,7 +150,8 @@ fn import_new<S: Alter>(
         → FindsName s name.now body.now found → so) }
     ensures cause { BlamesNoDevice S.Store conn.old conn.new result (λ s so. IsKnown known.now s
         → IsNamedImport s name.now user.now body.now → FindsName s name.now body.now found
-        → HasRoomIfWritten known.now.counts.limits s name.now user.now body.now (state S.Store conn.old) → so) }
+        → HasRoomIfWritten known.now.counts.limits s (import_file name.now user.now body.now) body.now
+        (length body.now) (state S.Store conn.old) → so) }
     ensures room { IfOk result (λ r. (known.now.counts.moves + 1 ≤ 1000000000)
         × (known.now.sentences + r.0.sentences ≤ 1000000)) }
     ensures keeps_records { KeepsRecordsOnErr S.Store conn.old conn.new result }
@@ -192,7 +194,8 @@ pub fn import<S: Alter>(
         × IsDeskOf S.Store conn.new s) }
     ensures fails { KnowsDeskWhere S.Store conn.old conn.new result (λ s so. IsKnown known.now s → so) }
     ensures cause { BlamesNoDevice S.Store conn.old conn.new result (λ s so. IsKnown known.now s
-        → HasRoomIfWritten known.now.counts.limits s name.now user.now body.now (state S.Store conn.old) → so) }
+        → HasRoomIfWritten known.now.counts.limits s (import_file name.now user.now body.now) body.now
+        (length body.now) (state S.Store conn.old) → so) }
     ensures room { IfOk result (λ r. IfSome r.1 (λ _. (known.now.counts.moves + 1 ≤ 1000000000)
         × (known.now.sentences + r.0.sentences ≤ 1000000))) }
     ensures keeps_records { KeepsRecordsOnErr S.Store conn.old conn.new result }

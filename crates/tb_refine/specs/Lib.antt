@@ -3,6 +3,7 @@ pub mod Revisions
 pub mod Finding
 pub mod Recorded
 pub mod Counted
+pub mod Room
 pub mod Numbers
 pub mod DeskTables
 pub mod Written

@@ -1,5 +1,5 @@
 -- The desk of a store that was read, and the connection without a step limit.
-use Rattle.std.proofs.Common.{◌≡◌, subst}
+use Rattle.std.proofs.Common.{◌≡◌, false, subst}
 use Rattle.sqlite.specs.Store.{Ghosts}
 use Rattle.sqlite.specs.Held.{Held}
 use Rattle.sqlite_trees.specs.Tree.{Trees}
@@ -35,7 +35,7 @@ module _ {S : Type 0} (g : Ghosts S) where
   pub faultless_unlimited : (c d new : Held S) → d ≡ unlimited c → IsFaultless g c new → IsFaultless g d new
   faultless_unlimited c d new is good = rw is good
 
-  pub stands_over : (k : Kept S) (conn : Held S) (l : Limits) (x : DeskSummary) → k ≡ record { conn = conn; limits = l; batches = x.batches; sentences = x.sentences; moves = x.moves; totals = x.totals } → (s : Machine) → IsDeskOf g conn s → IsSummaryOf x s → Represents g k s
+  pub stands_over : (k : Kept S) (conn : Held S) (l : Limits) (x : DeskSummary) → k ≡ record { conn = conn; limits = l; batches = x.batches; sentences = x.sentences; moves = x.moves; totals = x.totals; in_doubt = false } → (s : Machine) → IsDeskOf g conn s → IsSummaryOf x s → Represents g k s
   stands_over k conn l x is s desk h = rw is (record { desk = desk; batches = h.batches; sentences = h.sentences; moves = h.moves; totals = h.totals })
 
   -- the state for which it stands is the one of which the connection is the desk

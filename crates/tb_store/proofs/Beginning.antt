@@ -1,5 +1,5 @@
 -- The desk without a batch stands for the empty machine.
-use Rattle.std.proofs.Common.{◌≡◌, [], ◌∷◌, refl, sym, lit≤}
+use Rattle.std.proofs.Common.{◌≡◌, [], ◌∷◌, false, refl, sym, lit≤}
 use Rattle.sqlite.specs.Store.{Ghosts}
 use Rattle.sqlite.specs.Held.{Held, state}
 use Rattle.sqlite.specs.Steps.{IsEmpty}
@@ -26,7 +26,7 @@ module _ {S : Type 0} (g : Ghosts S) where
   pub still_blank : (c d : Held S) → d ≡ unlimited c → IsBlank g c → IsBlank g d
   still_blank c d is h = rw is (record { autocommit = h.autocommit; is_open = h.is_open; schema = h.schema; settled = h.settled })
 
-  pub stands_empty : (d : Kept S) (conn : Held S) (l : Limits) → d ≡ record { conn = conn; limits = l; batches = 0; sentences = 0; moves = 0; totals = no_totals } → Holds g conn empty_tables → Represents g d empty_machine
+  pub stands_empty : (d : Kept S) (conn : Held S) (l : Limits) → d ≡ record { conn = conn; limits = l; batches = 0; sentences = 0; moves = 0; totals = no_totals; in_doubt = false } → Holds g conn empty_tables → Represents g d empty_machine
   stands_empty d conn l is h = rw is (record {
     desk = record { reachable = record { reached = begun; sentences = lit≤ tt; moves = lit≤ tt }; holds = h };
     batches = refl;

@@ -1,5 +1,5 @@
 -- What a desk that stands for a state knows, and what a read leaves of it.
-use Rattle.std.proofs.Common.{◌≡◌, ℕ, ◌<◌, ◌≤◌, length, refl, sym, subst, arith, inr, Result, Ok, Err, IfErr, OnOk}
+use Rattle.std.proofs.Common.{◌≡◌, ℕ, Bool, ◌<◌, ◌≤◌, length, refl, sym, subst, arith, inr, Result, Ok, Err, IfErr, OnOk}
 use Rattle.std.proofs.lemmas.Option.{slice_get_within}
 use Rattle.sqlite.specs.Store.{Ghosts}
 use Rattle.sqlite.specs.Held.{Held}
@@ -21,6 +21,11 @@ use Rattle.tb_store.specs.Answers.{HasNoRevision, RefusesRevision}
 module _ {S : Type 0} (g : Ghosts S) where
   pub still_stands : (d : Kept S) (conn : Held S) (s : Machine) → IsDeskOf g conn s → Represents g d s → Represents g (record d { conn = conn }) s
   still_stands d conn s desk stands = record { desk = desk; batches = stands.batches; sentences = stands.sentences; moves = stands.moves; totals = stands.totals }
+
+  -- and in doubt or not, it is the same desk
+  pub stands_in_doubt : (d : Kept S) (conn : Held S) (doubt : Bool) (s : Machine) → IsDeskOf g conn s → Represents g d s
+      → Represents g (record d { conn = conn; in_doubt = doubt }) s
+  stands_in_doubt d conn doubt s desk stands = record { desk = desk; batches = stands.batches; sentences = stands.sentences; moves = stands.moves; totals = stands.totals }
 
 pub sentence_within : (s : Machine) (number place : ℕ) (x : Sentence) → HasSentence s number place x → (0 < number) × (number ≤ length s.sentences)
 sentence_within s number place x has =

@@ -1,5 +1,5 @@
 -- When a fault is the device's. The store is open, and its disk fails at nothing meanwhile (`IsFaultless`): then none is.
-use Rattle.std.specs.Prelude.{◌≡◌, Result, IfErr, None}
+use Rattle.std.specs.Prelude.{◌≡◌, ◌⊎◌, Result, Err, IfErr, IsTrue, None}
 use Rattle.sqlite.specs.Store.{Ghosts}
 use Rattle.sqlite.specs.Held.{Held, state}
 use Rattle.sqlite.specs.State.{HasCleanDisk}
@@ -11,7 +11,6 @@ use Rattle.tb_refine.specs.DeskTables.{IsDeskOf}
 use Rattle.tb_refine.specs.Faults.{IsNoDevice}
 use Rattle.tb_store.specs.Kept.{Kept}
 use Rattle.tb_store.specs.Calls.{InState, IsDurable}
-use Rattle.tb_store.specs.Handing.{WantsToTell}
 
 -- of a call on the connection of a desk, where there is no limit on steps
 abbrev pub FailsWithoutDevice : {S X : Type 0} → Ghosts S → Held S → Held S → Result X Fault → Type 0
@@ -23,15 +22,14 @@ FailsWithoutDevice g old new result =
 abbrev pub BlamesNoDevice : {S X : Type 0} → Ghosts S → Kept S → Kept S → Result X Fault → Type 0
 BlamesNoDevice g old new result = InState g old new (λ s. IsFaultless g old.conn new.conn → IfErr result IsNoDevice)
 
--- In some state the store was asked whether it is open, and memory was wanting for the answer. No clause can name that
--- state, so this excludes little.
-abbrev pub WantsTwice : {S : Type 0} → Ghosts S → (new : Held S) → Type 0
-WantsTwice {S} g new = (mid : Held S) × WantsToTell (state g mid) (state g new)
-
--- Of a command on a desk: where it blames the device, the store was asked so, and the desk is as before (`IsSo s so`:
--- under which premises).
-abbrev pub BlamesForWantAlone : {S X : Type 0} → Ghosts S → Kept S → Kept S → Result X Fault
+-- Of a command on a desk: where it blames the device, the desk is in doubt, and it is as before (`IsSo s so`: under
+-- which premises).
+abbrev pub BlamesInDoubtAlone : {S X : Type 0} → Ghosts S → Kept S → Kept S → Result X Fault
     → (Machine → Type 0 → Type 0)
     → Type 0
-BlamesForWantAlone g old new result IsSo = InState g old new (λ s. IsFaultless g old.conn new.conn
-    → IsSo s (IfErr result (λ e. e ≡ Device → WantsTwice g new.conn × IsDurable g new s)))
+BlamesInDoubtAlone g old new result IsSo = InState g old new (λ s. IsFaultless g old.conn new.conn
+    → IsSo s (IfErr result (λ e. e ≡ Device → IsTrue new.in_doubt × IsDurable g new s)))
+
+-- a command puts the desk in doubt only where it blames the device
+abbrev pub DoubtsOnDevice : {S X : Type 0} → (old new : Kept S) → Result X Fault → Type 0
+DoubtsOnDevice old new result = IsTrue new.in_doubt → IsTrue old.in_doubt ⊎ (result ≡ Err Device)

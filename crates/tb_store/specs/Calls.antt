@@ -1,6 +1,6 @@
 -- What a call on a desk answers, and what it leaves of the desk, whatever it answers. What is said of tables is under a disk that
 -- kept what it took (`HasCleanDisk`).
-use Rattle.std.specs.Prelude.{◌≡◌, ◌≢◌, Result, Ok, Err, IfOk, IfErr, OnOk, IsTrue}
+use Rattle.std.specs.Prelude.{◌≡◌, ◌≢◌, ℕ, Result, Ok, Err, IfOk, IfErr, OnOk, IsTrue}
 use Rattle.sqlite.specs.Store.{Ghosts}
 use Rattle.sqlite.specs.Held.{state}
 use Rattle.sqlite.specs.State.{HasCleanDisk, Survives}
@@ -15,6 +15,7 @@ use Rattle.tb_tables.specs.Records.{AreStored}
 use Rattle.tb_refine.specs.DeskTables.{tables_of}
 use Rattle.tb_store.specs.Kept.{Kept}
 use Rattle.tb_store.specs.Represents.{Represents}
+use Rattle.tb_store.specs.Answers.{HasNoSentence}
 
 -- what it answers is so in the state for which the desk stands
 abbrev pub Gives : {S X E : Type 0} → Ghosts S → Kept S → Kept S → Result X E → (Machine → X → Type 0)
@@ -82,6 +83,11 @@ CommandEnds g old new command reply s (Err Memory) = IsDurable g new s
 CommandEnds g old new command reply s (Err NotADesk) = ⊥
 CommandEnds g old new command reply s (Err Output) = ⊥
 CommandEnds g old new command reply s (Err _) = IsTrue (state g new.conn).is_open → IsDurable g new s
+
+-- where no sentence of the state has the number, the command is refused: it is told no failure
+abbrev pub RefusesMissing : {S X : Type 0} → Ghosts S → (old : Kept S) → (number : ℕ) → Result X Fault → Type 0
+RefusesMissing g old number result =
+    (s : Machine) → Represents g old s → HasNoSentence s number → (r : Refusal) × (result ≡ Err (Refused r))
 
 -- a command ends so in the state for which the desk stands
 abbrev pub EndsAs : {S X : Type 0} → Ghosts S → Kept S → Kept S → Result X Fault → Command → (X → Reply)

@@ -1,6 +1,6 @@
 -- What a call leaves of a connection that it was given. What is said of tables is under a disk that kept what it took
 -- (`HasCleanDisk`).
-use Rattle.std.specs.Prelude.{◌≡◌, Bool, true, false, [], Result, Ok, Err, IsTrue, codes}
+use Rattle.std.specs.Prelude.{◌≡◌, ◌⊎◌, Bool, true, false, [], Result, Ok, Err, IsTrue, codes}
 use Rattle.sqlite.specs.declared.error.Error.{Error}
 use Rattle.sqlite.specs.declared.error.Error.TheVariants.{SqlInputError, SqliteFailure}
 use Rattle.sqlite.specs.declared.error.ErrorCode.{ErrorCode}
@@ -45,11 +45,16 @@ abbrev pub TellsWant : {S : Type 0} → Ghosts S → (old new : Held S) → Resu
 TellsWant g old new reported =
     HasCleanDisk (state g new) → reported ≡ Err Memory → WantsToTell (state g old) (state g new)
 
--- where the store was open and its disk failed at nothing meanwhile, the device is blamed only where memory was wanting
--- at the question whether the store is open
-abbrev pub BlamesForWant : {S : Type 0} → Ghosts S → (old new : Held S) → Fault → Type 0
-BlamesForWant g old new fault = HasCleanDisk (state g new) → IsFaultless g old new
-    → fault ≡ Device → WantsToTell (state g old) (state g new)
+-- Where the store was open and its disk failed at nothing meanwhile, the device is blamed only where memory was wanting
+-- at the question whether the store is open. Then the desk is in doubt.
+abbrev pub BlamesForWant : {S : Type 0} → Ghosts S → (old new : Held S) → (in_doubt : Bool) → Fault → Type 0
+BlamesForWant g old new in_doubt fault = HasCleanDisk (state g new) → IsFaultless g old new
+    → fault ≡ Device → IsTrue in_doubt × WantsToTell (state g old) (state g new)
+
+-- the desk is put in doubt only where the device is blamed, and memory was wanting at that question
+abbrev pub PutsInDoubt : {S : Type 0} → Ghosts S → (old new : Held S) → (before after : Bool) → Fault → Type 0
+PutsInDoubt g old new before after fault = IsTrue after → IsTrue before
+    ⊎ ((fault ≡ Device) × (HasCleanDisk (state g new) → WantsToTell (state g old) (state g new)))
 
 -- a refusal is the one that was given, and nothing was asked of the connection
 abbrev pub HandsOnRefusal : {S : Type 0} → (old new : Held S) → (given fault : Fault) → Type 0

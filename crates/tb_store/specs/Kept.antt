@@ -1,6 +1,6 @@
 -- What a desk keeps: its connection, its limits, and what it read or wrote last of counts and totals.
-use Rattle.std.specs.Prelude.{◌≡◌, ◌≤◌, ℕ, false, None, refl}
-use Rattle.std.specs.Coded.{Coded, code_by, coded×, coded_ℕ}
+use Rattle.std.specs.Prelude.{◌≡◌, ◌≤◌, ℕ, Bool, false, None, refl}
+use Rattle.std.specs.Coded.{Coded, code_by, coded×, coded_ℕ, coded_bool}
 use Rattle.sqlite.specs.Held.{Held, held_code}
 use Rattle.tb_core.specs.contracts.limits.Limits as limits
 use Rattle.tb_core.specs.contracts.sums.Totals as totals
@@ -10,7 +10,8 @@ use Rattle.tb_refine.specs.declared.counters.Counters.{Counters}
 use Rattle.tb_refine.specs.Counted.{IsWithin}
 use Rattle.tb_import.specs.declared.counters.ImportCounters.{ImportCounters}
 
--- `batches`, `sentences` and `moves` are how many there are
+-- `batches`, `sentences` and `moves` are how many there are. It is in doubt after a command that failed where memory was
+-- refused for the question whether the store is open.
 pub record Kept (S : Type 0) : Type 0 where
   pub conn : Held S
   pub limits : Limits
@@ -18,20 +19,22 @@ pub record Kept (S : Type 0) : Type 0 where
   pub sentences : ℕ
   pub moves : ℕ
   pub totals : Totals
+  pub in_doubt : Bool
 
 abbrev pub kept_code : {S : Type 0} → Coded S → Coded (Kept S)
 kept_code {S} store =
-    code_by (Held S × (Limits × (ℕ × (ℕ × (ℕ × Totals)))))
+    code_by (Held S × (Limits × (ℕ × (ℕ × (ℕ × (Totals × Bool))))))
     (coded× (held_code store) (coded× limits.the_row.coded
-    (coded× coded_ℕ (coded× coded_ℕ (coded× coded_ℕ totals.the_row.coded)))))
-    (λ d. (d.conn, (d.limits, (d.batches, (d.sentences, (d.moves, d.totals))))))
+    (coded× coded_ℕ (coded× coded_ℕ (coded× coded_ℕ (coded× totals.the_row.coded coded_bool))))))
+    (λ d. (d.conn, (d.limits, (d.batches, (d.sentences, (d.moves, (d.totals, d.in_doubt)))))))
     (λ p. record {
       conn = p.0;
       limits = p.1.0;
       batches = p.1.1.0;
       sentences = p.1.1.1.0;
       moves = p.1.1.1.1.0;
-      totals = p.1.1.1.1.1;
+      totals = p.1.1.1.1.1.0;
+      in_doubt = p.1.1.1.1.1.1;
     })
     (λ _. refl)
 

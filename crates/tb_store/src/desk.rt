@@ -20,19 +20,17 @@ ghost use Rattle.tb_search.specs.Visited.{HasReason};
 ghost use Rattle.tb_refine.specs.Finding.{HasNumber};
 ghost use Rattle.tb_refine.specs.Counted.{IsWithin};
 ghost use Rattle.tb_refine.specs.DeskTables.{tables_of, IsDeskOf};
-ghost use Rattle.tb_import.specs.Planned.{HasRoomIfWritten};
+ghost use Rattle.tb_refine.specs.Room.{HasRoomIfWritten};
 ghost use Rattle.tb_store.specs.Kept.{Kept, counts_of, known_of};
 ghost use Rattle.tb_store.specs.Represents.{Represents, RepresentsEach, unlimited, no_totals};
 ghost use Rattle.tb_store.specs.Answers.{AreNet, IsCurrent, IsRevisionText, HasNoSentence, RefusesRevision};
 ghost use Rattle.tb_store.specs.Exports.{IsExportBrokenOff, IsPartOfBatch, RefusesBatch};
 ghost use Rattle.tb_store.specs.Found.{AreReleasedHits, HasTooMany, IsNumber, IsPartFound};
 ghost use Rattle.tb_store.specs.Calls.{CrashesWhole, Does, EndsAs, Gives, GivesOnErr, KnowsItself, LeavesOnly};
-ghost use Rattle.tb_store.specs.Blaming.{BlamesForWantAlone, BlamesNoDevice};
-ghost use Rattle.tb_store.specs.Calls.{KeepsState, WritesNothing};
+ghost use Rattle.tb_store.specs.Blaming.{BlamesInDoubtAlone, BlamesNoDevice, DoubtsOnDevice};
+ghost use Rattle.tb_store.specs.Calls.{KeepsState, RefusesMissing, WritesNothing};
 ghost use Rattle.tb_store.specs.Handing.{IsNoDeviceIfFaultless, SeesTheSame, StaysADesk, StaysBlank};
 ghost use Rattle.tb_store.specs.Handing.{TellsOpen, TellsShut, TellsWant};
-ghost use Rattle.tb_tables.specs.Changes.{HasRevisionRowids};
-ghost use Rattle.tb_tables.specs.Failing.{IsShort};
 ghost use Rattle.tb_tables.specs.Leaving.{CommitsNothing};
 
 use crate::answers::Current;
@@ -65,6 +63,9 @@ pub struct Desk<S: Alter> {
     sentences: u32,
     moves: u32,
     totals: Totals,
+    /// A command failed, and memory was refused for the question whether the store is open: it may be shut, and the
+    /// command committed.
+    in_doubt: bool,
 }
 
 impl<S: Alter> Model for Desk<S> {
@@ -74,9 +75,9 @@ impl<S: Alter> Model for Desk<S> {
 
     ghost coded = { kept_code S.code };
 
-    ghost view = { λ d. record { conn = d.conn; limits = d.limits; batches = d.batches; sentences = d.sentences; moves = d.moves; totals = d.totals } };
+    ghost view = { λ d. record { conn = d.conn; limits = d.limits; batches = d.batches; sentences = d.sentences; moves = d.moves; totals = d.totals; in_doubt = d.in_doubt } };
 
-    ghost invariant = { λ d. IsReady (record { conn = d.conn; limits = d.limits; batches = d.batches; sentences = d.sentences; moves = d.moves; totals = d.totals }) };
+    ghost invariant = { λ d. IsReady (record { conn = d.conn; limits = d.limits; batches = d.batches; sentences = d.sentences; moves = d.moves; totals = d.totals; in_doubt = d.in_doubt }) };
 }
 
 /// Why no desk was made, and the connection that was given for it.
@@ -148,6 +149,7 @@ impl<S: Alter> Desk<S> {
           sentences = 0;
           moves = 0;
           totals = no_totals;
+          in_doubt = false;
         } }
     {
         Desk {
@@ -161,6 +163,7 @@ impl<S: Alter> Desk<S> {
                 sentences: [0; 6],
                 words: [0; 6],
             },
+            in_doubt: false,
         }
     }
 
@@ -176,6 +179,7 @@ impl<S: Alter> Desk<S> {
             sentences: _,
             moves: _,
             totals: _,
+            in_doubt: _,
         } = self;
         conn
     }
@@ -239,6 +243,7 @@ impl<S: Alter> Desk<S> {
           sentences = summary.sentences;
           moves = summary.moves;
           totals = summary.totals;
+          in_doubt = false;
         } }
     {
         Desk {
@@ -249,6 +254,7 @@ impl<S: Alter> Desk<S> {
             sentences: summary.sentences,
             moves: summary.moves,
             totals: summary.totals,
+            in_doubt: false,
         }
     }
 }
@@ -276,11 +282,27 @@ impl<S: Alter> Desk<S> {
         ensures shut { TellsShut S.Store self.old.conn self.new.conn result }
         ensures known { IfErr result (λ e. e ≡ Fault.Memory) }
         ensures wants { TellsWant S.Store self.old.conn self.new.conn result }
+        ensures settles { IfOk result (λ _. self.new.in_doubt ≡ false) }
+        ensures doubt { IfErr result (λ _. self.new.in_doubt ≡ self.old.in_doubt) }
         ensures keeps_state { KeepsState S.Store self.old self.new }
         ensures crash { Survives (state S.Store self.old.conn) (state S.Store self.new.conn) (λ _. ⊥) }
         ensures limits { self.new.limits ≡ self.old.limits }
     {
-        wanting::is_open(&mut self.conn)
+        match wanting::is_open(&mut self.conn) {
+            Ok(open) => {
+                self.in_doubt = false;
+                Ok(open)
+            }
+            Err(fault) => Err(fault),
+        }
+    }
+
+    /// Whether a command failed and memory was refused for the question whether the store is open. Such a command is
+    /// answered `Device`: the store may be shut, and the command committed. `is_open` settles it.
+    pub fn is_in_doubt(&self) -> bool
+        ensures { result ≡ self.now.in_doubt }
+    {
+        self.in_doubt
     }
 
     /// The totals of the six states: the sums over the sentences in each, and the net of the moves. Nothing is refused.
@@ -525,8 +547,11 @@ impl<S: Alter> Desk<S> {
         body: &[u8],
     ) -> Result<Corrected, Fault>
         ensures ends { EndsAs S.Store self.old self.new result (correct_it number base user.now body.now) corrected_to }
-        ensures cause { BlamesForWantAlone S.Store self.old self.new result (λ s so. IsShort body.now
-            → HasRevisionRowids (state S.Store self.old.conn) 1 → so) }
+        ensures cause { BlamesInDoubtAlone S.Store self.old self.new result (λ s so.
+            HasRoomIfWritten self.old.limits s (correct_it number base user.now body.now) body.now 1
+            (state S.Store self.old.conn) → so) }
+        ensures doubt { DoubtsOnDevice self.old self.new result }
+        ensures missing { RefusesMissing S.Store self.old number result }
         ensures crash { CrashesWhole S.Store self.old self.new (correct_it number base user.now body.now) }
         ensures limits { self.new.limits ≡ self.old.limits }
     {
@@ -541,7 +566,7 @@ impl<S: Alter> Desk<S> {
                 Ok(reply)
             }
             Ok((reply, None)) => Ok(reply),
-            Err(fault) => Err(certain(&mut self.conn, fault)),
+            Err(fault) => Err(certain(&mut self.conn, &mut self.in_doubt, fault)),
         }
     }
 }
@@ -582,7 +607,8 @@ impl<S: Alter> Desk<S> {
     /// The first of `BadName`, `NoSuchBatch`; `WrongState`, `NotYours`, `OwnWork`; `Full`.
     pub fn event(&mut self, name: &str, event: Event, user: &str) -> Result<Moved, Fault>
         ensures ends { EndsAs S.Store self.old self.new result (event_on name.now event user.now) moved_on }
-        ensures cause { BlamesForWantAlone S.Store self.old self.new result (λ s so. so) }
+        ensures cause { BlamesInDoubtAlone S.Store self.old self.new result (λ s so. so) }
+        ensures doubt { DoubtsOnDevice self.old self.new result }
         ensures crash { CrashesWhole S.Store self.old self.new (event_on name.now event user.now) }
         ensures limits { self.new.limits ≡ self.old.limits }
     {
@@ -593,7 +619,7 @@ impl<S: Alter> Desk<S> {
                 self.totals = sums;
                 Ok(reply)
             }
-            Err(fault) => Err(certain(&mut self.conn, fault)),
+            Err(fault) => Err(certain(&mut self.conn, &mut self.in_doubt, fault)),
         }
     }
 
@@ -604,7 +630,9 @@ impl<S: Alter> Desk<S> {
     /// The first of `BadName`, `NoSuchSentence`; `WrongState`, `Pulled`; `Full`.
     pub fn pull(&mut self, number: u64, user: &str) -> Result<Pulled, Fault>
         ensures ends { EndsAs S.Store self.old self.new result (pull_it number user.now) pulled_out }
-        ensures cause { BlamesForWantAlone S.Store self.old self.new result (λ s so. so) }
+        ensures cause { BlamesInDoubtAlone S.Store self.old self.new result (λ s so. so) }
+        ensures doubt { DoubtsOnDevice self.old self.new result }
+        ensures missing { RefusesMissing S.Store self.old number result }
         ensures crash { CrashesWhole S.Store self.old self.new (pull_it number user.now) }
         ensures limits { self.new.limits ≡ self.old.limits }
     {
@@ -618,7 +646,7 @@ impl<S: Alter> Desk<S> {
                 self.totals = totals;
                 Ok(reply)
             }
-            Err(fault) => Err(certain(&mut self.conn, fault)),
+            Err(fault) => Err(certain(&mut self.conn, &mut self.in_doubt, fault)),
         }
     }
 
@@ -629,7 +657,9 @@ impl<S: Alter> Desk<S> {
     /// The first of `BadName`, `NoSuchSentence`; `WrongState`, `NotPulled`; `Full`.
     pub fn restore(&mut self, number: u64, user: &str) -> Result<Restored, Fault>
         ensures ends { EndsAs S.Store self.old self.new result (restore_it number user.now) restored_to }
-        ensures cause { BlamesForWantAlone S.Store self.old self.new result (λ s so. so) }
+        ensures cause { BlamesInDoubtAlone S.Store self.old self.new result (λ s so. so) }
+        ensures doubt { DoubtsOnDevice self.old self.new result }
+        ensures missing { RefusesMissing S.Store self.old number result }
         ensures crash { CrashesWhole S.Store self.old self.new (restore_it number user.now) }
         ensures limits { self.new.limits ≡ self.old.limits }
     {
@@ -643,7 +673,7 @@ impl<S: Alter> Desk<S> {
                 self.totals = totals;
                 Ok(reply)
             }
-            Err(fault) => Err(certain(&mut self.conn, fault)),
+            Err(fault) => Err(certain(&mut self.conn, &mut self.in_doubt, fault)),
         }
     }
 }
@@ -669,8 +699,10 @@ impl<S: Alter> Desk<S> {
     /// `SentIdTaken`, with the place in the file, from 1, of the first such sentence; `Full`. The first that holds.
     pub fn import(&mut self, name: &str, user: &str, body: &[u8]) -> Result<Imported, Fault>
         ensures ends { EndsAs S.Store self.old self.new result (import_file name.now user.now body.now) imported }
-        ensures cause { BlamesForWantAlone S.Store self.old self.new result (λ s so.
-            HasRoomIfWritten self.old.limits s name.now user.now body.now (state S.Store self.old.conn) → so) }
+        ensures cause { BlamesInDoubtAlone S.Store self.old self.new result (λ s so.
+            HasRoomIfWritten self.old.limits s (import_file name.now user.now body.now) body.now
+            (length body.now) (state S.Store self.old.conn) → so) }
+        ensures doubt { DoubtsOnDevice self.old self.new result }
         ensures crash { CrashesWhole S.Store self.old self.new (import_file name.now user.now body.now) }
         ensures limits { self.new.limits ≡ self.old.limits }
     {
@@ -684,7 +716,7 @@ impl<S: Alter> Desk<S> {
                 Ok(reply)
             }
             Ok((reply, None)) => Ok(reply),
-            Err(why) => Err(certain(&mut self.conn, why)),
+            Err(why) => Err(certain(&mut self.conn, &mut self.in_doubt, why)),
         }
     }
 }

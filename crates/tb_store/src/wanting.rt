@@ -4,7 +4,7 @@ ghost use Rattle.std.specs.Prelude.{◌≡◌, ◌≢◌, ◌⊎◌, false, IfEr
 ghost use Rattle.sqlite.specs.State.{Survives};
 ghost use Rattle.sqlite.specs.Held.{state};
 ghost use Rattle.tb_tables.specs.Leaving.{KeepsRecords};
-ghost use Rattle.tb_store.specs.Handing.{BlamesForWant, HandsOnRefusal, IsOpenOnMemory};
+ghost use Rattle.tb_store.specs.Handing.{BlamesForWant, HandsOnRefusal, IsOpenOnMemory, PutsInDoubt};
 ghost use Rattle.tb_store.specs.Handing.{TellsOpen, TellsShut, TellsWant, WasOpen, reported_of_error};
 
 use sqlite::{Alter, Connection, Error, ErrorCode};
@@ -46,11 +46,12 @@ pub(crate) fn is_open<S: Alter>(conn: &mut Connection<S>) -> Result<bool, Fault>
 }
 
 /// The fault of a command for which memory was refused. It is want of memory where the store says that it is open: then
-/// the command committed nothing. Else the store failed, or it could not be asked.
-fn memory_or_device<S: Alter>(conn: &mut Connection<S>) -> Fault
+/// the command committed nothing. Else the store failed; or it could not be asked, and then the desk is in doubt.
+fn memory_or_device<S: Alter>(conn: &mut Connection<S>, in_doubt: &mut bool) -> Fault
     ensures known { (result ≡ Fault.Memory) ⊎ (result ≡ Fault.Device) }
     ensures open { IsOpenOnMemory S.Store conn.new result }
-    ensures cause { BlamesForWant S.Store conn.old conn.new result }
+    ensures cause { BlamesForWant S.Store conn.old conn.new in_doubt.new result }
+    ensures doubt { PutsInDoubt S.Store conn.old conn.new in_doubt.old in_doubt.new result }
     ensures was_open { WasOpen S.Store conn.old conn.new }
     ensures keeps_records { KeepsRecords S.Store conn.old conn.new }
     ensures autocommit { conn.old.in_transaction ≡ false → conn.new.in_transaction ≡ false }
@@ -58,18 +59,28 @@ fn memory_or_device<S: Alter>(conn: &mut Connection<S>) -> Fault
 {
     match is_open(conn) {
         Ok(true) => Fault::Memory,
-        _ => Fault::Device,
+        Ok(false) => Fault::Device,
+        Err(_) => {
+            *in_doubt = true;
+            Fault::Device
+        }
     }
 }
 
-/// The fault of a command. It is want of memory only where the store is open, and never a sink's.
-pub(crate) fn certain<S: Alter>(conn: &mut Connection<S>, fault: Fault) -> Fault
+/// The fault of a command. It is want of memory only where the store is open, and never a sink's. The desk is in doubt
+/// where the store could not be asked.
+pub(crate) fn certain<S: Alter>(
+    conn: &mut Connection<S>,
+    in_doubt: &mut bool,
+    fault: Fault,
+) -> Fault
     ensures refused { HandsOnRefusal conn.old conn.new fault result }
     ensures desk { result ≡ Fault.NotADesk → fault ≡ Fault.NotADesk }
     ensures device { result ≡ Fault.Device → (fault ≡ Fault.Device) ⊎ ((fault ≡ Fault.Memory)
         ⊎ (fault ≡ Fault.Output)) }
     ensures output { result ≢ Fault.Output }
-    ensures cause { fault ≢ Fault.Device → BlamesForWant S.Store conn.old conn.new result }
+    ensures cause { fault ≢ Fault.Device → BlamesForWant S.Store conn.old conn.new in_doubt.new result }
+    ensures doubt { PutsInDoubt S.Store conn.old conn.new in_doubt.old in_doubt.new result }
     ensures open { IsOpenOnMemory S.Store conn.new result }
     ensures was_open { WasOpen S.Store conn.old conn.new }
     ensures keeps_records { KeepsRecords S.Store conn.old conn.new }
@@ -78,7 +89,7 @@ pub(crate) fn certain<S: Alter>(conn: &mut Connection<S>, fault: Fault) -> Fault
 {
     match fault {
         // no command has a sink that could refuse a piece
-        Fault::Memory | Fault::Output => memory_or_device(conn),
+        Fault::Memory | Fault::Output => memory_or_device(conn, in_doubt),
         Fault::Refused(refusal) => Fault::Refused(refusal),
         Fault::Device => Fault::Device,
         Fault::NotADesk => Fault::NotADesk,

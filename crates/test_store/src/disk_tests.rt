@@ -106,6 +106,7 @@ fn a_desk_is_left_and_adopted(rt: HostRuntime) -> Result<(), Fail> {
     let db = one_batch(&rt, alloc)?;
     let mut desk = adopt(alloc, db)?.ok().ok_or("a desk")?;
     assert!(rt; matches!(desk.is_open(), Ok(true)));
+    assert!(rt; !desk.is_in_doubt());
     let reported = obeyed(alloc, &mut desk, "standing")?;
     assert_reported(&rt, reported.as_str(), STANDING, "a desk that was left");
     Ok(())

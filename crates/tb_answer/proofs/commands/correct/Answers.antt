@@ -14,4 +14,4 @@ returns-in-Err-clause-answered g c clean s stands =
     let act = correct c.args.number c.args.base c.args.user.now c.args.body.now in
     subst (IsAnswered g.S.Store c.args.desk.now.limits s act c.args.desk.now c.correct.new.self) (sym c.reply_for_fault.ensures)
     (answered_by_fault g.S.Store c.args.desk.now c.correct.new.self act corrected_to s c.in-Err.fault (c.in-Err.ensures.ends clean s stands)
-    (λ is room good. (c.in-Err.ensures.cause clean s stands good room.0 room.1 is).0))
+    (λ is room good. (c.in-Err.ensures.cause clean s stands good room is).0))

@@ -1,4 +1,4 @@
-use Rattle.std.proofs.Common.{◌≡◌, ◌-◌, refl, sym, subst, arith, Err, length-append, [], ◌∷◌, ◌∙◌}
+use Rattle.std.proofs.Common.{◌≡◌, ◌+◌, ◌-◌, length, refl, sym, subst, arith, Err, length-append, [], ◌∷◌, ◌∙◌}
 use Rattle.std.proofs.lemmas.Result.{err_from_is_err_and}
 use Rattle.sqlite.specs.Held.{state}
 use Rattle.sqlite.specs.State.{HasCleanDisk}
@@ -97,13 +97,13 @@ returns-in_err-correct-clause-fails g c clean unlimited s desk counted within ba
     c.correct.ensures.fails clean (c.planned.ensures.commits_nothing.limit ∙ unlimited) s plan.0 held.sentence first held.made plan.2 held.change failed
 
 pub returns-in_err-reply-clause-cause : goal.returns-in_err-reply-clause-cause
-returns-in_err-reply-clause-cause g c good clean unlimited s desk counted within short free bad =
+returns-in_err-reply-clause-cause g c good clean unlimited s desk counted within room bad =
     let reported = err_from_is_err_and c.from_residual.result c.from_residual.ensures.1 in
     let failed : c.planned.result ≡ Err Device = let was = c.in_err-reply.was in let one = reported.1 in let two = reported.2 in cc in
     never_reported c.planned.result failed (c.planned.ensures.cause good clean unlimited desk.holds.schema)
 
 pub returns-in_err-correct-clause-cause : goal.returns-in_err-correct-clause-cause
-returns-in_err-correct-clause-cause g c good clean unlimited s desk counted within short free bad =
+returns-in_err-correct-clause-cause g c good clean unlimited s desk counted within room bad =
     let reported = err_from_is_err_and c.from_residual-in_err-correct.result c.from_residual-in_err-correct.ensures.1 in
     let failed : c.correct.result ≡ Err Device = let was = c.in_err-correct.was in let one = reported.1 in let two = reported.2 in cc in
     let mid : HasCleanDisk (state g.S.Store c.planned.new.conn) = omega (arith, clean, c.correct.ensures.crash.clean) in
@@ -115,5 +115,8 @@ returns-in_err-correct-clause-cause g c good clean unlimited s desk counted with
     let held = subst (λ (p : PlanText). IsPlannedCorrection s c.args.number c.args.user.now plan.0 p) (sym c.plan.view_is) plan.1 in
     let text = rw c.in-Some.is at c.in_ok-reply.ensures.text in
     let spelled = subst (λ (p : PlanText). p.text ≡ c.args.body.now) (sym c.plan.view_is) text in
-    let left = subst (λ (d : Database). HasRowids 1 (d.trees 5)) (sym same.0.now_is) free in
-    c.correct.ensures.cause here clean (c.planned.ensures.commits_nothing.limit ∙ unlimited) s first plan.0 held.sentence held.made plan.2 held.change (subst IsShort (sym spelled) short) left failed
+    let a = correcting (c.args.number - 1) c.args.user.now plan.0 in
+    let longer : length (after s a).moves ≡ length s.moves + 1 = length-append s.moves (move_of s a ∷ []) in
+    let has = room (corrected_to c.in_ok-reply.reply) (after s a) plan.3 (omega (arith, longer)) in
+    let left = subst (λ (d : Database). HasRowids 1 (d.trees 5)) (sym same.0.now_is) has.1 in
+    c.correct.ensures.cause here clean (c.planned.ensures.commits_nothing.limit ∙ unlimited) s first plan.0 held.sentence held.made plan.2 held.change (subst IsShort (sym spelled) has.0) left failed

@@ -13,7 +13,7 @@ use Rattle.tb_tables.proofs.Causes.{handed_on, faultless_next}
 use Rattle.tb_refine.proofs.Short.{never_reported}
 use Rattle.tb_refine.specs.DeskTables.{tables_of}
 use Rattle.tb_refine.specs.Faults.{IsNoDevice}
-use Rattle.tb_import.specs.Planned.{HasRoomIfWritten}
+use Rattle.tb_refine.specs.Room.{HasRoomIfWritten}
 use Rattle.tb_import.proofs.Left.{desk_stays}
 use Rattle.tb_import.proofs.importing.import.Goals as goal
 
@@ -134,7 +134,7 @@ returns-in_err-reply-in-Continue-clause-cause g c good clean unlimited s desk kn
     let found = c.in_ok-found.ensures.answered mid s desk in
     let goes = rw c.in-Continue.is at c.in_ok-reply.ensures.goes in
     let sees = c.in_ok-found.ensures.stays.sees mid desk.holds.schema in
-    let there : HasRoomIfWritten c.args.known.now.counts.limits s c.args.name.now c.args.user.now c.args.body.now (state g.S.Store c.find_name.new.conn) = λ reply t steps more.
+    let there : HasRoomIfWritten c.args.known.now.counts.limits s (import_file c.args.name.now c.args.user.now c.args.body.now) c.args.body.now (length c.args.body.now) (state g.S.Store c.find_name.new.conn) = λ reply t steps more.
     let has = room reply t steps more in
     (has.0, subst (λ (d : Database). HasRowids (length c.args.body.now) (d.trees 5)) (sym sees) has.1) in
     c.import_new.ensures.cause still clean (left.limit ∙ unlimited) s here known (goes s c.args.body.now desk.reachable.reached found) found there failed

@@ -1,20 +1,21 @@
-use Rattle.std.proofs.Common.{◌≡◌, ◌∙◌, refl, sym, ap, subst, arith, Err}
+use Rattle.std.proofs.Common.{◌∙◌, refl, sym, ap, subst, arith, IsTrue, inl, inr, Err}
 use Rattle.sqlite.specs.Held.{state}
 use Rattle.sqlite.specs.State.{HasCleanDisk}
 use Rattle.tb_refine.specs.DeskTables.{IsDeskOf}
 use Rattle.sqlite.proofs.StateLemmas.{survives_then, survives_weaker}
-use Rattle.tb_core.specs.declared.refusals.Fault.TheVariants.{NotADesk}
 use Rattle.tb_core.specs.Commands.{replied, refused, correct, corrected_to}
 use Rattle.tb_refine.specs.declared.counters.Counters.{Counters}
 use Rattle.tb_store.specs.Kept.{Kept}
 use Rattle.tb_store.specs.Represents.{Represents}
 use Rattle.tb_refine.specs.Counted.{IsCounted}
+use Rattle.tb_refine.proofs.There.{sentence_there}
 use Rattle.tb_refine.proofs.Unchanged.{desk_kept}
+use Rattle.tb_refine.specs.Room.{HasRoomIfWritten}
 use Rattle.tb_tables.specs.Changes.{HasRevisionRowids}
 use Rattle.tb_tables.specs.Leaving.{IsFaultless}
-use Rattle.tb_store.proofs.Blamed.{command_calm, stays_open, wants_twice, as_before}
+use Rattle.tb_store.proofs.Blamed.{command_calm, stays_open, doubted, as_before, only_refused}
 use Rattle.tb_store.proofs.Lasting.{durable, fault_ends}
-use Rattle.tb_store.proofs.Represented.{still_stands, sentence_within, same_numbered}
+use Rattle.tb_store.proofs.Represented.{still_stands, stands_in_doubt, sentence_within, same_numbered}
 use Rattle.tb_store.proofs.desk.Desk.correct.Goals as goal
 
 pub returns-in-Ok-default-Some-clause-ends : goal.returns-in-Ok-default-Some-clause-ends
@@ -78,11 +79,11 @@ returns-in-Err-clause-ends g c clean s stands =
     (λ r is.
     let reported = c.certain.ensures.refused r is in
     let refusal = c.correct.ensures.refused before r (c.in-Err.is ∙ ap Err reported.0) s here.desk counted (omega (arith, fits.2, stands.sentences, here.sentences)) in
-    (same_numbered (λ n. correct n c.args.base c.args.user.now c.args.body.now) _ _ s _ _ (refused r) s limits fits.0 refusal.0, still_stands g.S.Store _ c.certain.new.conn s (subst (λ h. IsDeskOf g.S.Store h s) (sym reported.1) refusal.1) here))
+    (same_numbered (λ n. correct n c.args.base c.args.user.now c.args.body.now) _ _ s _ _ (refused r) s limits fits.0 refusal.0, stands_in_doubt g.S.Store _ c.certain.new.conn c.certain.new.in_doubt s (subst (λ h. IsDeskOf g.S.Store h s) (sym reported.1) refusal.1) here))
     (c.certain.ensures.open clean)
     (λ opened.
     let mid = desk_kept g.S.Store c.self.inside.conn c.correct.new.conn (c.in-Err.ensures.keeps_records before (c.certain.ensures.was_open clean opened)) s here.desk in
-    still_stands g.S.Store _ c.certain.new.conn s (desk_kept g.S.Store c.correct.new.conn c.certain.new.conn (c.certain.ensures.keeps_records clean opened) s mid) here)
+    stands_in_doubt g.S.Store _ c.certain.new.conn c.certain.new.in_doubt s (desk_kept g.S.Store c.correct.new.conn c.certain.new.conn (c.certain.ensures.keeps_records clean opened) s mid) here)
     (λ none. c.correct.ensures.fails before c.self.invariant.unlimited s here.desk counted (omega (arith, fits.2, stands.sentences, here.sentences)) (c.in-Err.is ∙ ap Err (c.certain.ensures.desk none)))
     c.certain.ensures.output
 
@@ -103,19 +104,51 @@ returns-in_default-clause-ends g c clean s stands =
     c.no_correction.ensures.output
 
 pub returns-in-Err-clause-cause : goal.returns-in-Err-clause-cause
-returns-in-Err-clause-cause g c clean s stands good short rooms is =
+returns-in-Err-clause-cause g c clean s stands good room is =
     let here = subst (λ k. Represents g.S.Store k s) (sym c.self.view_is) stands in
     let before : HasCleanDisk (state g.S.Store c.correct.new.conn) = omega (arith, clean, c.certain.ensures.crash.clean) in
     let calm = subst (λ (k : Kept _). IsFaultless g.S.Store k.conn c.certain.new.conn) (sym c.self.view_is) good in
     let fits = c.in-Some.ensures.stands in
     let counted : IsCounted c.counts-counts.result s = subst (λ (k : Counters). IsCounted k s) (sym c.counts-counts.ensures) (record { moves = stands.moves; totals = stands.totals }) in
-    let room = subst (λ (k : Kept _). HasRevisionRowids (state g.S.Store k.conn) 1) (sym c.self.view_is) rooms in
+    let limits = ap (λ (k : Counters). k.limits) c.counts-counts.ensures in
+    let there : HasRoomIfWritten c.counts-counts.result.limits s (correct c.in-Some.at c.args.base c.args.user.now c.args.body.now) c.args.body.now 1 (state g.S.Store c.self.inside.conn) = λ reply t steps more.
+    let has = room reply t (same_numbered (λ n. correct n c.args.base c.args.user.now c.args.body.now) _ _ s _ _ (replied reply) t limits fits.0 steps) more in
+    (has.0, subst (λ (k : Kept _). HasRevisionRowids (state g.S.Store k.conn) 1) (sym c.self.view_is) has.1) in
     let one = c.correct.ensures.crash in
     let two = c.certain.ensures.crash in
-    let fine = c.correct.ensures.cause (command_calm g.S.Store c.self.inside.conn c.correct.new.conn c.certain.new.conn one two calm clean) before c.self.invariant.unlimited s here.desk counted (omega (arith, fits.2, stands.sentences, here.sentences)) short room in (
-      wants_twice g.S.Store c.self.inside.conn c.correct.new.conn c.certain.new.conn one two calm clean c.correct.result _ c.certain.result c.in-Err.is fine c.certain.ensures.cause is,
+    let fine = c.correct.ensures.cause (command_calm g.S.Store c.self.inside.conn c.correct.new.conn c.certain.new.conn one two calm clean) before c.self.invariant.unlimited s here.desk counted (omega (arith, fits.2, stands.sentences, here.sentences)) there in (
+      doubted g.S.Store c.self.inside.conn c.correct.new.conn c.certain.new.conn one two calm clean c.correct.result _ c.certain.result c.certain.new.in_doubt c.in-Err.is fine c.certain.ensures.cause is,
       as_before g.S.Store c.args.self.now _ (correct c.args.number c.args.base c.args.user.now c.args.body.now) corrected_to s c.certain.result (returns-in-Err-clause-ends g c clean s stands) is (stays_open g.S.Store c.self.inside.conn c.correct.new.conn c.certain.new.conn one two calm clean),
     )
 
 pub returns-in_default-clause-cause : goal.returns-in_default-clause-cause
-returns-in_default-clause-cause g c clean s stands good short rooms is = absurd (c.no_correction.ensures.cause is)
+returns-in_default-clause-cause g c clean s stands good room is = absurd (c.no_correction.ensures.cause is)
+
+pub returns-in-Ok-default-Some-clause-missing : goal.returns-in-Ok-default-Some-clause-missing
+returns-in-Ok-default-Some-clause-missing g c s stands none =
+    let at = c.in-Some.ensures.stands in
+    let here = subst (λ k. Represents g.S.Store k s) (sym c.self.view_is) stands in
+    let it = sentence_there s c.args.number c.in-Some.at at.0 at.1 (omega (arith, at.2, stands.sentences, here.sentences)) in
+    absurd (none _ it.0 it.2)
+
+pub returns-in-Ok-default-None-clause-missing : goal.returns-in-Ok-default-None-clause-missing
+returns-in-Ok-default-None-clause-missing g c s stands none =
+    let at = c.in-Some.ensures.stands in
+    let here = subst (λ k. Represents g.S.Store k s) (sym c.self.view_is) stands in
+    let it = sentence_there s c.args.number c.in-Some.at at.0 at.1 (omega (arith, at.2, stands.sentences, here.sentences)) in
+    absurd (none _ it.0 it.2)
+
+pub returns-in-Err-clause-missing : goal.returns-in-Err-clause-missing
+returns-in-Err-clause-missing g c s stands none =
+    let at = c.in-Some.ensures.stands in
+    let here = subst (λ k. Represents g.S.Store k s) (sym c.self.view_is) stands in
+    let it = sentence_there s c.args.number c.in-Some.at at.0 at.1 (omega (arith, at.2, stands.sentences, here.sentences)) in
+    absurd (none _ it.0 it.2)
+
+pub returns-in_default-clause-missing : goal.returns-in_default-clause-missing
+returns-in_default-clause-missing g c s stands none =
+    let it = only_refused c.no_correction.result c.no_correction.ensures.memory c.no_correction.ensures.cause c.no_correction.ensures.fails c.no_correction.ensures.output in
+    (it.0, ap Err it.1)
+
+pub returns-in-Err-clause-doubt : goal.returns-in-Err-clause-doubt
+returns-in-Err-clause-doubt g c so = elim (c.certain.ensures.doubt so) [ inl was ↦ inl (subst (λ (k : Kept _). IsTrue k.in_doubt) c.self.view_is was) | inr it ↦ inr (ap Err it.0) ]

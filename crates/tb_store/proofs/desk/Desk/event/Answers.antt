@@ -1,4 +1,4 @@
-use Rattle.std.proofs.Common.{◌≡◌, ◌+◌, arith, sym, ap, subst, ◌∙◌, Err, rules}
+use Rattle.std.proofs.Common.{◌≡◌, ◌+◌, arith, sym, ap, subst, ◌∙◌, IsTrue, inl, inr, Err, rules}
 use Rattle.sqlite.specs.Held.{Held, state}
 use Rattle.sqlite.specs.State.{HasCleanDisk, Survives}
 use Rattle.sqlite.proofs.StateLemmas.{survives_then, survives_weaker}
@@ -13,9 +13,9 @@ use Rattle.tb_store.specs.Represents.{Represents}
 use Rattle.tb_refine.specs.Counted.{IsCounted}
 use Rattle.tb_refine.proofs.Unchanged.{desk_kept}
 use Rattle.tb_tables.specs.Leaving.{IsFaultless}
-use Rattle.tb_store.proofs.Blamed.{command_calm, stays_open, wants_twice, as_before}
+use Rattle.tb_store.proofs.Blamed.{command_calm, stays_open, doubted, as_before}
 use Rattle.tb_store.proofs.Lasting.{durable, fault_ends}
-use Rattle.tb_store.proofs.Represented.{still_stands}
+use Rattle.tb_store.proofs.Represented.{stands_in_doubt}
 use Rattle.tb_store.proofs.desk.Desk.event.Goals as goal
 
 pub returns-in-Ok-clause-ends : goal.returns-in-Ok-clause-ends
@@ -68,12 +68,12 @@ returns-in-Err-clause-ends g c clean s stands =
     let reported = c.certain.ensures.refused r is in
     let both = c.event.ensures.refused before r (c.in-Err.is ∙ ap Err reported.0) s here.desk counted in (
       subst (λ (k : Counters). Steps k.limits s (event_on c.args.name.now c.args.event c.args.user.now) (refused r) s) counts_is both.0,
-      still_stands g.S.Store _ c.certain.new.conn s (subst (λ h. IsDeskOf g.S.Store h s) (sym reported.1) both.1) here,
+      stands_in_doubt g.S.Store _ c.certain.new.conn c.certain.new.in_doubt s (subst (λ h. IsDeskOf g.S.Store h s) (sym reported.1) both.1) here,
     ))
     (c.certain.ensures.open clean)
     (λ opened.
     let mid = desk_kept g.S.Store c.self.inside.conn c.event.new.conn (c.in-Err.ensures.keeps_records before (c.certain.ensures.was_open clean opened)) s here.desk in
-    still_stands g.S.Store _ c.certain.new.conn s (desk_kept g.S.Store c.event.new.conn c.certain.new.conn (c.certain.ensures.keeps_records clean opened) s mid) here)
+    stands_in_doubt g.S.Store _ c.certain.new.conn c.certain.new.in_doubt s (desk_kept g.S.Store c.event.new.conn c.certain.new.conn (c.certain.ensures.keeps_records clean opened) s mid) here)
     (λ none. c.event.ensures.fails before c.self.invariant.unlimited s here.desk counted (c.in-Err.is ∙ ap Err (c.certain.ensures.desk none)))
     c.certain.ensures.output
 
@@ -87,6 +87,9 @@ returns-in-Err-clause-cause g c clean s stands good is =
     let one = c.event.ensures.crash in
     let two = c.certain.ensures.crash in
     let fine = c.event.ensures.cause (command_calm g.S.Store c.self.inside.conn c.event.new.conn c.certain.new.conn one two calm clean) before c.self.invariant.unlimited s here.desk counted in (
-      wants_twice g.S.Store c.self.inside.conn c.event.new.conn c.certain.new.conn one two calm clean c.event.result _ c.certain.result c.in-Err.is fine c.certain.ensures.cause is,
+      doubted g.S.Store c.self.inside.conn c.event.new.conn c.certain.new.conn one two calm clean c.event.result _ c.certain.result c.certain.new.in_doubt c.in-Err.is fine c.certain.ensures.cause is,
       as_before g.S.Store c.args.self.now _ (event_on c.args.name.now c.args.event c.args.user.now) moved_on s c.certain.result (returns-in-Err-clause-ends g c clean s stands) is (stays_open g.S.Store c.self.inside.conn c.event.new.conn c.certain.new.conn one two calm clean),
     )
+
+pub returns-in-Err-clause-doubt : goal.returns-in-Err-clause-doubt
+returns-in-Err-clause-doubt g c so = elim (c.certain.ensures.doubt so) [ inl was ↦ inl (subst (λ (k : Kept _). IsTrue k.in_doubt) c.self.view_is was) | inr it ↦ inr (ap Err it.0) ]

@@ -1,4 +1,4 @@
-use Rattle.std.proofs.Common.{◌≡◌, ◌∙◌, length, sym, ap, subst, Err, rules, arith}
+use Rattle.std.proofs.Common.{◌≡◌, ◌∙◌, length, sym, ap, subst, IsTrue, inl, inr, Err, rules, arith}
 use Rattle.sqlite.specs.Held.{state}
 use Rattle.sqlite.specs.State.{HasCleanDisk}
 use Rattle.tb_refine.specs.DeskTables.{IsDeskOf}
@@ -6,15 +6,15 @@ use Rattle.sqlite.proofs.StateLemmas.{survives_then, survives_weaker}
 use Rattle.tb_core.specs.Commands.{import_file, replied, refused, imported}
 use Rattle.tb_core.specs.Steps.{Steps}
 use Rattle.tb_import.specs.declared.counters.ImportCounters.{ImportCounters}
-use Rattle.tb_import.specs.Planned.{HasRoomIfWritten}
+use Rattle.tb_refine.specs.Room.{HasRoomIfWritten}
 use Rattle.tb_store.specs.Kept.{Kept, known_of}
 use Rattle.tb_store.specs.Represents.{Represents}
 use Rattle.tb_refine.proofs.Unchanged.{desk_kept}
 use Rattle.tb_tables.specs.Changes.{HasRevisionRowids}
 use Rattle.tb_tables.specs.Leaving.{IsFaultless}
-use Rattle.tb_store.proofs.Blamed.{command_calm, stays_open, wants_twice, as_before}
+use Rattle.tb_store.proofs.Blamed.{command_calm, stays_open, doubted, as_before}
 use Rattle.tb_store.proofs.Lasting.{durable, fault_ends}
-use Rattle.tb_store.proofs.Represented.{still_stands, is_known}
+use Rattle.tb_store.proofs.Represented.{still_stands, stands_in_doubt, is_known}
 use Rattle.tb_store.proofs.desk.Desk.import.Goals as goal
 
 pub returns-in-Ok-default-Some-clause-ends : goal.returns-in-Ok-default-Some-clause-ends
@@ -74,12 +74,12 @@ returns-in-Err-clause-ends g c clean s stands =
     let reported = c.certain.ensures.refused r is in
     let both = c.import.ensures.refused before r (c.in-Err.is ∙ ap Err reported.0) s here.desk known in (
       subst (λ (k : ImportCounters). Steps k.counts.limits s (import_file c.args.name.now c.args.user.now c.args.body.now) (refused r) s) known_is both.0,
-      still_stands g.S.Store _ c.certain.new.conn s (subst (λ h. IsDeskOf g.S.Store h s) (sym reported.1) both.1) here,
+      stands_in_doubt g.S.Store _ c.certain.new.conn c.certain.new.in_doubt s (subst (λ h. IsDeskOf g.S.Store h s) (sym reported.1) both.1) here,
     ))
     (c.certain.ensures.open clean)
     (λ opened.
     let mid = desk_kept g.S.Store c.self.inside.conn c.import.new.conn (c.in-Err.ensures.keeps_records before (c.certain.ensures.was_open clean opened)) s here.desk in
-    still_stands g.S.Store _ c.certain.new.conn s (desk_kept g.S.Store c.import.new.conn c.certain.new.conn (c.certain.ensures.keeps_records clean opened) s mid) here)
+    stands_in_doubt g.S.Store _ c.certain.new.conn c.certain.new.in_doubt s (desk_kept g.S.Store c.import.new.conn c.certain.new.conn (c.certain.ensures.keeps_records clean opened) s mid) here)
     (λ none. c.import.ensures.fails before c.self.invariant.unlimited s here.desk known (c.in-Err.is ∙ ap Err (c.certain.ensures.desk none)))
     c.certain.ensures.output
 
@@ -90,12 +90,15 @@ returns-in-Err-clause-cause g c clean s stands good room is =
     let calm = subst (λ (k : Kept _). IsFaultless g.S.Store k.conn c.certain.new.conn) (sym c.self.view_is) good in
     let known_is : c.known-known.result ≡ known_of c.args.self.now = search rules in
     let known = is_known g.S.Store c.args.self.now c.known-known.result s known_is stands in
-    let there : HasRoomIfWritten c.known-known.result.counts.limits s c.args.name.now c.args.user.now c.args.body.now (state g.S.Store c.self.inside.conn) = λ reply t steps more.
+    let there : HasRoomIfWritten c.known-known.result.counts.limits s (import_file c.args.name.now c.args.user.now c.args.body.now) c.args.body.now (length c.args.body.now) (state g.S.Store c.self.inside.conn) = λ reply t steps more.
     let has = room reply t (subst (λ (k : ImportCounters). Steps k.counts.limits s (import_file c.args.name.now c.args.user.now c.args.body.now) (replied reply) t) known_is steps) more in
     (has.0, subst (λ (k : Kept _). HasRevisionRowids (state g.S.Store k.conn) (length c.args.body.now)) (sym c.self.view_is) has.1) in
     let one = c.import.ensures.crash in
     let two = c.certain.ensures.crash in
     let fine = c.import.ensures.cause (command_calm g.S.Store c.self.inside.conn c.import.new.conn c.certain.new.conn one two calm clean) before c.self.invariant.unlimited s here.desk known there in (
-      wants_twice g.S.Store c.self.inside.conn c.import.new.conn c.certain.new.conn one two calm clean c.import.result _ c.certain.result c.in-Err.is fine c.certain.ensures.cause is,
+      doubted g.S.Store c.self.inside.conn c.import.new.conn c.certain.new.conn one two calm clean c.import.result _ c.certain.result c.certain.new.in_doubt c.in-Err.is fine c.certain.ensures.cause is,
       as_before g.S.Store c.args.self.now _ (import_file c.args.name.now c.args.user.now c.args.body.now) imported s c.certain.result (returns-in-Err-clause-ends g c clean s stands) is (stays_open g.S.Store c.self.inside.conn c.import.new.conn c.certain.new.conn one two calm clean),
     )
+
+pub returns-in-Err-clause-doubt : goal.returns-in-Err-clause-doubt
+returns-in-Err-clause-doubt g c so = elim (c.certain.ensures.doubt so) [ inl was ↦ inl (subst (λ (k : Kept _). IsTrue k.in_doubt) c.self.view_is was) | inr it ↦ inr (ap Err it.0) ]
