@@ -9,8 +9,8 @@ use Rattle.tb_core.specs.Reaching.{IsReachable}
 use Rattle.tb_tables.specs.Records.{AreStored}
 use Rattle.tb_tables.specs.Leaving.{IsFaultless}
 use Rattle.tb_refine.specs.DeskTables.{tables_of, IsDeskOf}
-use Rattle.tb_adopt.specs.declared.summary.DeskSummary.{DeskSummary}
-use Rattle.tb_adopt.specs.Summary.{IsSummaryOf}
+use Rattle.tb_verify.specs.declared.summary.DeskSummary.{DeskSummary}
+use Rattle.tb_verify.specs.Summary.{IsSummaryOf}
 use Rattle.tb_store.specs.Kept.{Kept}
 use Rattle.tb_store.specs.Represents.{Represents, unlimited}
 

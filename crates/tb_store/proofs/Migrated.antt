@@ -8,7 +8,7 @@ use Rattle.sqlite_trees.specs.Tree.{Trees}
 use Rattle.tb_core.specs.Machine.{Machine}
 use Rattle.tb_tables.specs.Records.{AreStored}
 use Rattle.tb_refine.specs.DeskTables.{tables_of}
-use Rattle.tb_migrate.specs.Desk.{IsFirstDesk}
+use Rattle.tb_verify.specs.Version1Desk.{IsFirstDesk}
 use Rattle.tb_store.specs.Represents.{unlimited}
 
 module _ {S : Type 0} (g : Ghosts S) where

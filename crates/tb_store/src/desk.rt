@@ -39,7 +39,6 @@ use crate::{asking, exporting, finding, wanting};
 use sqlite::{Alter, Connection, MemStore};
 use std::alloc::Global;
 use std::marker::Model;
-use tb_adopt::{DeskSummary, read_desk};
 use tb_conllu::Sink;
 use tb_core::{
     Corrected, Event, Fault, Imported, Limits, Move, Moved, Pulled, Refusal, Restored, Totals,
@@ -50,6 +49,7 @@ use tb_match::Strategy;
 use tb_query::{Attr, Query};
 use tb_refine::{Counters, faults, one_state_for_the_file};
 use tb_report::Freq;
+use tb_verify::{DeskSummary, read_desk};
 
 /// A desk: the connection that holds its tables, its limits, and the counts and totals that it read or wrote last, so
 /// that the next numbers are known without asking the database. It may be let go at any time: what it answered to

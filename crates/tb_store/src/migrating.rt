@@ -8,7 +8,7 @@ ghost use Rattle.tb_core.specs.declared.refusals.Refusal.{Refusal as AnyRefusal}
 ghost use Rattle.tb_core.specs.Machine.{Machine};
 ghost use Rattle.tb_refine.specs.Counted.{IsWithin};
 ghost use Rattle.tb_refine.specs.DeskTables.{tables_of};
-ghost use Rattle.tb_migrate.specs.Desk.{IsFirstDesk};
+ghost use Rattle.tb_verify.specs.Version1Desk.{IsFirstDesk};
 ghost use Rattle.tb_store.specs.Represents.{Represents, unlimited};
 ghost use Rattle.tb_store.specs.Handing.{IsNoDeviceIfFaultless};
 
@@ -52,7 +52,7 @@ impl<S: Alter> Desk<S> {
             (λ db. (s : Machine) → IsFirstDesk S.Store conn s → AreStored (tables_of s) db)) }
     {
         let mut conn = without_limit(conn);
-        match tb_migrate::migrate(alloc, &mut conn) {
+        match tb_verify::migrate(alloc, &mut conn) {
             Ok(summary) => Ok(Desk::over(alloc, conn, limits, summary)),
             Err(fault) => Err(Unmade { fault, conn }),
         }

@@ -1,7 +1,0 @@
-pub mod Places
-pub mod Unreported
-pub mod Turns
-pub mod Rereading
-pub mod Filed
-pub mod Seen
-pub mod Reported

@@ -1,6 +1,0 @@
-use Rattle.std.proofs.Common.{◌-◌, sym, ◌∙◌, arith}
-use Rattle.tb_entries.proofs.Turns.{new_end}
-use Rattle.tb_entries.proofs.course.are_all_new.Goals as goal
-
-pub returns : goal.returns
-returns c = sym (new_end c.args.rows.now (c.loop-i.i - 1) (omega (arith, c.loop-i-test.false, c.loop-i.auto.i))) ∙ c.loop-i.invariant

@@ -1,4 +1,0 @@
-pub mod Unfit
-pub mod Course
-pub mod File
-pub mod Apart

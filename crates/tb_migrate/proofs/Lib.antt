@@ -1,9 +1,0 @@
-mod Upgraded
-mod Begun
-mod Texts
-mod Unrefused
-mod Answered
-mod Read
-mod NoPulls
-mod Version1Summary
-mod Whole

@@ -1,4 +1,0 @@
-pub mod Version1
-pub mod Desk
-pub mod Selected
-pub mod Version1Reads

@@ -1,0 +1,114 @@
+-- What one read tells, and several in a row.
+use Rattle.std.proofs.Common.{◌≡◌, ◌≢◌, None, List, Result, Ok, Err, OnOk, IfOk, IsPermutation, map, sym, ap, subst, ◌∙◌, arith}
+use Rattle.std.proofs.lemmas.List.Sorted.{IsPermutation-sym}
+use Rattle.sqlite.specs.declared.error.Error.{Error}
+use Rattle.sqlite.specs.Order.{Row}
+use Rattle.sqlite.specs.Store.{Ghosts}
+use Rattle.sqlite.specs.Effect.{Database}
+use Rattle.sqlite.specs.Held.{Held, state}
+use Rattle.sqlite.specs.State.{HasCleanDisk, IsUnchanged}
+use Rattle.sqlite.proofs.StateLemmas.{survives_then}
+use Rattle.sqlite.proofs.Callers.{unchanged_then}
+use Rattle.sqlite_trees.specs.Tree.{Trees}
+use Rattle.tb_core.specs.declared.refusals.Fault.{Fault}
+use Rattle.tb_core.specs.declared.refusals.Fault.TheVariants.{Refused, Device, NotADesk}
+use Rattle.tb_core.specs.declared.refusals.Refusal.{Refusal}
+use Rattle.tb_tables.specs.Layout.{version_one_schema}
+use Rattle.tb_tables.specs.Records.{Shows}
+use Rattle.tb_tables.specs.Leaving.{IsFaultless}
+use Rattle.tb_tables.proofs.Causes.{faultless_next}
+use Rattle.tb_verify.specs.Version1Selected.{HasSelected}
+use Rattle.tb_verify.specs.Version1Reads.{HasReadVersion1, AreOfNoState}
+use Rattle.tb_verify.proofs.Begun.{first_unchanged}
+use Rattle.tb_verify.proofs.Results.{ok_is_no_err, err_is, both_shown, if_ok_under, on_ok_under}
+
+pub shows_read : (view : Row → Row) (wanted rows slice table : List Row) → slice ≡ rows → slice ≡ wanted → IsPermutation (map view table) rows → Shows view wanted table
+shows_read view wanted rows slice table same is all = IsPermutation-sym (map view table) wanted (subst (IsPermutation (map view table)) (sym same ∙ is) all)
+
+-- ---- one read
+
+module _ {S R : Type 0} (g : Ghosts S) (old new : Held S) (selection : Result R Error) (Shown : R → Trees → Type 0) (h : HasSelected g old new selection Shown) where
+  pub read_well : {X : Type 0} (x : X) (Are : X → Trees → Type 0) → (HasCleanDisk (state g new) → (state g old).now.schema ≡ version_one_schema → Are x (state g old).now.trees)
+      → (HasCleanDisk (state g new) → (state g old).now.schema ≡ version_one_schema → IsUnchanged (state g old) (state g new)) → HasReadVersion1 g old new (Ok x) Are
+  read_well x Are are same = record {
+    are = are;
+    unfit = λ clean q. ok_is_no_err x NotADesk q;
+    refused = λ r q. ok_is_no_err x (Refused r) q;
+    cause = λ good clean unlimited has. tt;
+    same = same;
+    mode = h.mode;
+    kept = h.kept;
+    commits_nothing = h.commits_nothing;
+  }
+
+  pub read_badly : {X : Type 0} (e : Fault) (Are : X → Trees → Type 0)
+      → (HasCleanDisk (state g new) → e ≡ NotADesk → (state g old).now.schema ≡ version_one_schema → AreOfNoState (state g old).now.trees × IsUnchanged (state g old) (state g new)) → ((r : Refusal) → e ≢ Refused r)
+      → (IsFaultless g old new → HasCleanDisk (state g new) → (state g old).step_limit ≡ None → (state g old).now.schema ≡ version_one_schema → e ≢ Device) → HasReadVersion1 g old new (Err e) Are
+  read_badly {X = X} e Are unfit refused cause = record {
+    are = λ clean. tt;
+    unfit = λ clean q. unfit clean (err_is X e NotADesk q);
+    refused = λ r q. refused r (err_is X e (Refused r) q);
+    cause = cause;
+    same = λ clean. tt;
+    mode = h.mode;
+    kept = h.kept;
+    commits_nothing = h.commits_nothing;
+  }
+
+-- ---- a read after another
+
+module _ {S X Y : Type 0} (g : Ghosts S) (a b c : Held S) (x : X) (P : X → Trees → Type 0) (one : HasReadVersion1 g a b (Ok x) P) (r : Result Y Fault) (Q : Y → Trees → Type 0) (two : HasReadVersion1 g b c r Q) where
+  middle : HasCleanDisk (state g c) → HasCleanDisk (state g b)
+  middle clean = let n = two.commits_nothing.clean in omega (arith, clean, n)
+
+  unmoved : HasCleanDisk (state g c) → (state g a).now.schema ≡ version_one_schema → (state g b).now ≡ (state g a).now
+  unmoved clean has = (one.same (middle clean) has).0.now_is
+
+  schema_stays : HasCleanDisk (state g c) → (state g a).now.schema ≡ version_one_schema → (state g b).now.schema ≡ version_one_schema
+  schema_stays clean has = ap (λ (d : Database). d.schema) (unmoved clean has) ∙ has
+
+  trees_stay : HasCleanDisk (state g c) → (state g a).now.schema ≡ version_one_schema → (state g b).now.trees ≡ (state g a).now.trees
+  trees_stay clean has = ap (λ (d : Database). d.trees) (unmoved clean has)
+
+  pub read_both : HasReadVersion1 g a c r (λ y trees. P x trees × Q y trees)
+  read_both = record {
+    are = λ clean. if_ok_under (λ y. P x (state g a).now.trees × Q y (state g a).now.trees) r (λ has. both_shown r (schema_stays clean has) (two.are clean) (λ y q. (one.are (middle clean) has, subst (Q y) (trees_stay clean has) q)));
+    unfit = λ clean q has. let no = two.unfit clean q (schema_stays clean has) in (subst AreOfNoState (trees_stay clean has) no.0, unchanged_then (state g a) (state g b) (state g c) (one.same (middle clean) has) no.1);
+    refused = two.refused;
+    cause = λ good clean unlimited has. two.cause (faultless_next (state g a) (state g b) (state g c) good one.commits_nothing (middle clean) two.commits_nothing.counts) clean (one.commits_nothing.limit ∙ unlimited) (schema_stays clean has);
+    same = λ clean. on_ok_under r (two.same clean) (λ more has. unchanged_then (state g a) (state g b) (state g c) (one.same (middle clean) has) (more (schema_stays clean has)));
+    mode = λ m. two.mode (one.mode m);
+    kept = λ clean is_open d holds. two.kept clean is_open d (first_unchanged g a b d holds (one.same (middle clean) holds.schema));
+    commits_nothing = survives_then (state g a) (state g b) (state g c) _ _ _ (λ _ _ other. other) (λ clean _ other has. other (schema_stays clean has)) one.commits_nothing two.commits_nothing;
+  }
+
+-- ---- what is made of it
+
+-- a fault is passed on
+pub read_failed : {S X Y : Type 0} (g : Ghosts S) (a b : Held S) (e f : Fault) (r : Result Y Fault) (P : X → Trees → Type 0) (Q : Y → Trees → Type 0) → r ≡ Err f → f ≡ e → HasReadVersion1 g a b (Err e) P → HasReadVersion1 g a b r Q
+read_failed {X = X} {Y = Y} g a b e f r P Q made is h = subst (λ w. HasReadVersion1 g a b w Q) (sym made) (record {
+  are = λ clean. tt;
+  unfit = λ clean q. h.unfit clean (back NotADesk q);
+  refused = λ r q. h.refused r (back (Refused r) q);
+  cause = λ good clean unlimited has q. h.cause good clean unlimited has (sym is ∙ q);
+  same = λ clean. tt;
+  mode = h.mode;
+  kept = h.kept;
+  commits_nothing = h.commits_nothing;
+})
+  where
+    back : (k : Fault) → (let w : Result Y Fault = Err f in w ≡ Err k) → let w : Result X Fault = Err e in w ≡ Err k
+    back k q = ap (λ (j : Fault). let w : Result X Fault = Err j in w) (sym is ∙ err_is Y f k q)
+
+-- another value is made
+pub read_as : {S X Y : Type 0} (g : Ghosts S) (a b : Held S) (x : X) (y : Y) (P : X → Trees → Type 0) (Q : Y → Trees → Type 0) → ((t : Trees) → P x t → Q y t) → HasReadVersion1 g a b (Ok x) P → HasReadVersion1 g a b (Ok y) Q
+read_as g a b x y P Q reported h = record {
+  are = λ clean has. reported (state g a).now.trees (h.are clean has);
+  unfit = λ clean q. ok_is_no_err y NotADesk q;
+  refused = λ r q. ok_is_no_err y (Refused r) q;
+  cause = λ good clean unlimited has. tt;
+  same = λ clean has. h.same clean has;
+  mode = h.mode;
+  kept = h.kept;
+  commits_nothing = h.commits_nothing;
+}

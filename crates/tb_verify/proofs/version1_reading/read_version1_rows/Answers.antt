@@ -1,0 +1,72 @@
+use Rattle.std.proofs.Common.{◌≡◌, [], rules}
+use Rattle.std.proofs.lemmas.Result.{err_from_is_err_and}
+use Rattle.tb_verify.specs.Summary.{tables_in}
+use Rattle.tb_verify.specs.declared.summary.TableRows.{TableRows}
+use Rattle.tb_verify.specs.Version1.{AreStoredInVersion1}
+use Rattle.tb_verify.proofs.Version1Reads.{read_both, read_failed, read_as}
+use Rattle.tb_verify.proofs.Version1Summary.{rows_are}
+use Rattle.tb_verify.proofs.version1_reading.read_version1_rows.Goals as goal
+
+pub returns-in_err-batches : goal.returns-in_err-batches
+returns-in_err-batches g c =
+    let p = err_from_is_err_and c.from_residual-in_err-batches.result c.from_residual-in_err-batches.ensures.1 in
+    read_failed g.S.Store c.args.conn.now c.read_version1_batches.new.conn c.in_err-batches.field-0.0 p.0 c.from_residual-in_err-batches.result _ _ p.1 p.2
+    (read_both g.S.Store c.args.conn.now c.read_version1.new.conn c.read_version1_batches.new.conn tt _ c.in_ok-read_version1.ensures _ _ c.in_err-batches.ensures)
+
+pub returns-in_err-sentences : goal.returns-in_err-sentences
+returns-in_err-sentences g c =
+    let p = err_from_is_err_and c.from_residual-in_err-sentences.result c.from_residual-in_err-sentences.ensures.1 in
+    let batches = read_both g.S.Store c.args.conn.now c.read_version1.new.conn c.read_version1_batches.new.conn tt _ c.in_ok-read_version1.ensures _ _ c.in_ok-batches.ensures in
+    read_failed g.S.Store c.args.conn.now c.read_version1_sentences.new.conn c.in_err-sentences.field-0.0 p.0 c.from_residual-in_err-sentences.result _ _ p.1 p.2
+    (read_both g.S.Store c.args.conn.now c.read_version1_batches.new.conn c.read_version1_sentences.new.conn c.in_ok-batches.batches _ batches _ _ c.in_err-sentences.ensures)
+
+pub returns-in_err-revisions : goal.returns-in_err-revisions
+returns-in_err-revisions g c =
+    let p = err_from_is_err_and c.from_residual-in_err-revisions.result c.from_residual-in_err-revisions.ensures.1 in
+    let batches = read_both g.S.Store c.args.conn.now c.read_version1.new.conn c.read_version1_batches.new.conn tt _ c.in_ok-read_version1.ensures _ _ c.in_ok-batches.ensures in
+    let sentences = read_both g.S.Store c.args.conn.now c.read_version1_batches.new.conn c.read_version1_sentences.new.conn c.in_ok-batches.batches _ batches _ _ c.in_ok-sentences.ensures in
+    read_failed g.S.Store c.args.conn.now c.read_version1_revisions.new.conn c.in_err-revisions.field-0.0 p.0 c.from_residual-in_err-revisions.result _ _ p.1 p.2
+    (read_both g.S.Store c.args.conn.now c.read_version1_sentences.new.conn c.read_version1_revisions.new.conn c.in_ok-sentences.sentences _ sentences _ _ c.in_err-revisions.ensures)
+
+pub returns-in_err-moves : goal.returns-in_err-moves
+returns-in_err-moves g c =
+    let p = err_from_is_err_and c.from_residual-in_err-moves.result c.from_residual-in_err-moves.ensures.1 in
+    let batches = read_both g.S.Store c.args.conn.now c.read_version1.new.conn c.read_version1_batches.new.conn tt _ c.in_ok-read_version1.ensures _ _ c.in_ok-batches.ensures in
+    let sentences = read_both g.S.Store c.args.conn.now c.read_version1_batches.new.conn c.read_version1_sentences.new.conn c.in_ok-batches.batches _ batches _ _ c.in_ok-sentences.ensures in
+    let revisions = read_both g.S.Store c.args.conn.now c.read_version1_sentences.new.conn c.read_version1_revisions.new.conn c.in_ok-sentences.sentences _ sentences _ _ c.in_ok-revisions.ensures in
+    read_failed g.S.Store c.args.conn.now c.read_version1_moves.new.conn c.in_err-moves.field-0.0 p.0 c.from_residual-in_err-moves.result _ _ p.1 p.2
+    (read_both g.S.Store c.args.conn.now c.read_version1_revisions.new.conn c.read_version1_moves.new.conn c.in_ok-revisions.revisions _ revisions _ _ c.in_err-moves.ensures)
+
+pub returns-in_err-totals : goal.returns-in_err-totals
+returns-in_err-totals g c =
+    let p = err_from_is_err_and c.from_residual-in_err-totals.result c.from_residual-in_err-totals.ensures.1 in
+    let batches = read_both g.S.Store c.args.conn.now c.read_version1.new.conn c.read_version1_batches.new.conn tt _ c.in_ok-read_version1.ensures _ _ c.in_ok-batches.ensures in
+    let sentences = read_both g.S.Store c.args.conn.now c.read_version1_batches.new.conn c.read_version1_sentences.new.conn c.in_ok-batches.batches _ batches _ _ c.in_ok-sentences.ensures in
+    let revisions = read_both g.S.Store c.args.conn.now c.read_version1_sentences.new.conn c.read_version1_revisions.new.conn c.in_ok-sentences.sentences _ sentences _ _ c.in_ok-revisions.ensures in
+    let moves = read_both g.S.Store c.args.conn.now c.read_version1_revisions.new.conn c.read_version1_moves.new.conn c.in_ok-revisions.revisions _ revisions _ _ c.in_ok-moves.ensures in
+    read_failed g.S.Store c.args.conn.now c.read_version1_totals.new.conn c.in_err-totals.field-0.0 p.0 c.from_residual-in_err-totals.result _ _ p.1 p.2
+    (read_both g.S.Store c.args.conn.now c.read_version1_moves.new.conn c.read_version1_totals.new.conn c.in_ok-moves.moves _ moves _ _ c.in_err-totals.ensures)
+
+pub returns : goal.returns
+returns g c =
+    let batches = read_both g.S.Store c.args.conn.now c.read_version1.new.conn c.read_version1_batches.new.conn tt _ c.in_ok-read_version1.ensures _ _ c.in_ok-batches.ensures in
+    let sentences = read_both g.S.Store c.args.conn.now c.read_version1_batches.new.conn c.read_version1_sentences.new.conn c.in_ok-batches.batches _ batches _ _ c.in_ok-sentences.ensures in
+    let revisions = read_both g.S.Store c.args.conn.now c.read_version1_sentences.new.conn c.read_version1_revisions.new.conn c.in_ok-sentences.sentences _ sentences _ _ c.in_ok-revisions.ensures in
+    let moves = read_both g.S.Store c.args.conn.now c.read_version1_revisions.new.conn c.read_version1_moves.new.conn c.in_ok-revisions.revisions _ revisions _ _ c.in_ok-moves.ensures in
+    let totals = read_both g.S.Store c.args.conn.now c.read_version1_moves.new.conn c.read_version1_totals.new.conn c.in_ok-moves.moves _ moves _ _ c.in_ok-totals.ensures in
+    let empty : c.new.result.items ≡ [] = search rules in
+    let rows : TableRows = record {
+      batches = c.in_ok-batches.batches;
+      sentences = c.in_ok-sentences.sentences;
+      revisions = c.in_ok-revisions.revisions;
+      moves = c.in_ok-moves.moves;
+      totals = c.in_ok-totals.totals;
+      pulled = c.new.result;
+    } in
+    read_as g.S.Store c.args.conn.now c.read_version1_totals.new.conn c.in_ok-totals.totals rows _ _ (λ t h.
+    let stands : AreStoredInVersion1 (tables_in rows) t = record { meta = h.0.0.0.0.0; batches = h.0.0.0.0.1; sentences = h.0.0.0.1; revisions = h.0.0.1.0; moves = h.0.1; totals = h.1 } in record {
+      stands = stands;
+      unpulled = empty;
+      whole = λ s reach none others. rows_are c.one_list_for_the_rows.ensures rows s t empty stands none others (h.0.0.1.1 s reach others.revisions);
+    })
+    totals

@@ -1,0 +1,16 @@
+use Rattle.std.proofs.Common.{refl, [], ◌∷◌}
+use Rattle.sqlite.specs.Held.{state}
+use Rattle.tb_tables.specs.Records.{move_view, move_shown}
+use Rattle.tb_reads.proofs.Queries.{rising, select_moves, select_moves_terms}
+use Rattle.tb_verify.proofs.Version1Texts.{selects_moves}
+use Rattle.tb_verify.proofs.Version1Unrefused.{select_fails}
+use Rattle.tb_verify.proofs.Version1Answered.{selected, numbered_are}
+use Rattle.tb_verify.proofs.version1_selecting.move_rows.Goals as goal
+
+pub returns : goal.returns
+returns g c =
+    let old = c.args.conn.now in
+    let new = c.query_all.new.self in
+    selected g.S.Store select_moves _ selects_moves.plain old new (λ v. v.items) c.query_all.result _ c.query_all.ensures.ok c.query_all.ensures.err c.query_all.ensures.mode c.query_all.ensures.survives
+    (λ v has shown. numbered_are select_moves 7 select_moves_terms _ (state g.S.Store old) (state g.S.Store new) v.items has refl selects_moves shown move_view (λ _. refl) (λ _. refl) move_shown (λ _ _. refl))
+    (select_fails select_moves 7 select_moves_terms (rising 0 ∷ []) _ selects_moves (state g.S.Store old) (state g.S.Store new))

@@ -1,0 +1,11 @@
+pub mod Unfit
+pub mod Course
+pub mod File
+pub mod Apart
+pub mod Numbered
+pub mod Summary
+pub mod TableReads
+pub mod Version1
+pub mod Version1Desk
+pub mod Version1Selected
+pub mod Version1Reads

@@ -1,0 +1,16 @@
+-- Between crates: no contract of a front door cites a definition of this module.
+-- What is unfit of a text that cannot be read, or breaks a rule: want of memory says nothing of it.
+use Rattle.tb_conllu.specs.declared.fault.ReadFault.{ReadFault}
+use Rattle.tb_conllu.specs.declared.fault.ReadFault.TheVariants as reading
+use Rattle.tb_rules.specs.declared.fault.RuleFault.{RuleFault}
+use Rattle.tb_rules.specs.declared.fault.RuleFault.TheVariants as rules
+use Rattle.tb_verify.specs.declared.unfit.Unfit.{Unfit}
+use Rattle.tb_verify.specs.declared.unfit.Unfit.TheVariants.{NotADesk, Memory}
+
+abbrev pub unfit_of_reading : ReadFault → Unfit
+unfit_of_reading (reading.At line code) = NotADesk
+unfit_of_reading reading.Memory = Memory
+
+abbrev pub unfit_of_rules : RuleFault → Unfit
+unfit_of_rules (rules.At rule row) = NotADesk
+unfit_of_rules rules.Memory = Memory

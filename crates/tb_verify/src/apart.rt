@@ -1,0 +1,78 @@
+//! Whether names of batches are good, and each its own; and names of sentences, each its own.
+
+ghost use Rattle.std.specs.Prelude.{◌≡◌, IfOk, Decides, map, string_bytes};
+ghost use Rattle.std.specs.List.{list_all};
+ghost use Rattle.tb_core.specs.Names.{is_name, AreApart};
+ghost use Rattle.tb_tables.specs.Values.{batch_of, sentence_of};
+ghost use Rattle.tb_verify.specs.Apart.{AreNamed, AreTitled, IsAdded};
+
+use std::alloc::{AllocError, Global};
+use std::collections::BTreeSet;
+use tb_core::good_name;
+use tb_tables::{BatchRow, SentenceRow};
+
+/// Adds the text to those seen, and answers whether it was none of them.
+fn add(alloc: Global, seen: &mut BTreeSet<String>, text: &str) -> Result<bool, AllocError>
+    ensures { IfOk result (λ added. IsAdded added (map string_bytes seen.old.keys) text.now
+        (map string_bytes seen.new.keys)) }
+{
+    let owned = String::from_str(alloc, text)?;
+    let added = seen.insert(owned)?;
+    Ok(added)
+}
+
+fn is_good(row: &BatchRow) -> bool
+    ensures { result ≡ is_name (string_bytes row.now.name) }
+{
+    good_name(row.name.as_str())
+}
+
+fn are_good(rows: &[BatchRow]) -> bool
+    ensures { result ≡ list_all (λ r. is_name (string_bytes r.name)) rows.now }
+{
+    rows.iter().all(|row| is_good(row))
+}
+
+fn names_apart(alloc: Global, rows: &[BatchRow]) -> Result<bool, AllocError>
+    ensures { IfOk result (λ apart. Decides apart (AreApart (map (λ r. string_bytes r.name) rows.now))) }
+{
+    // In order, not hashed: no file can make its names collide.
+    let mut seen: BTreeSet<String> = BTreeSet::new(alloc);
+    for row in rows {
+        if !add(alloc, &mut seen, row.name.as_str())? {
+            return Ok(false);
+        }
+    }
+    Ok(true)
+}
+
+/// Whether batches have good names, each its own.
+///
+/// # Errors
+///
+/// Want of memory.
+pub(crate) fn are_batches_apart(alloc: Global, rows: &[BatchRow]) -> Result<bool, AllocError>
+    ensures { IfOk result (λ named. Decides named (AreNamed (map batch_of rows.now))) }
+{
+    if !are_good(rows) {
+        return Ok(false);
+    }
+    names_apart(alloc, rows)
+}
+
+/// Whether sentences have each its own `sent_id`.
+///
+/// # Errors
+///
+/// Want of memory.
+pub(crate) fn are_sentences_apart(alloc: Global, rows: &[SentenceRow]) -> Result<bool, AllocError>
+    ensures { IfOk result (λ apart. Decides apart (AreTitled (map sentence_of rows.now))) }
+{
+    let mut seen: BTreeSet<String> = BTreeSet::new(alloc);
+    for row in rows {
+        if !add(alloc, &mut seen, row.sent_id.as_str())? {
+            return Ok(false);
+        }
+    }
+    Ok(true)
+}

@@ -1,0 +1,60 @@
+//! The text of a revision, read back.
+
+ghost use Rattle.std.specs.Prelude.{◌≡◌, ◌∷◌, [], List, length, IfOk, Err, MatchOption, map, string_bytes};
+ghost use Rattle.std.specs.List.{AllByRecursion};
+ghost use Rattle.tb_conllu.specs.Text.{BlockText};
+ghost use Rattle.tb_core.specs.Machine.{IsLawful};
+ghost use Rattle.tb_tables.specs.Records.{Revision};
+ghost use Rattle.tb_tables.specs.Values.{revision_of};
+ghost use Rattle.tb_verify.specs.Course.{own_text};
+ghost use Rattle.tb_verify.specs.declared.unfit.Unfit.TheVariants.{NotADesk};
+
+use crate::unfit::Unfit;
+use std::alloc::Global;
+use tb_conllu::{BlockRef, read_ref};
+use tb_rules::check;
+use tb_tables::RevisionRow;
+
+/// The sentence, where there is one alone.
+fn only_of<'a>(mut blocks: Vec<BlockRef<'a>>) -> Option<BlockRef<'a>>
+    ensures { MatchOption result (length blocks.entry.items ≡ 1 → ⊥) (λ b. blocks.entry.items ≡ b ∷ []) }
+{
+    let Some(last) = blocks.pop() else {
+        return None;
+    };
+    if !blocks.is_empty() {
+        return None;
+    }
+    Some(last)
+}
+
+/// The sentence that keeps rules 1 to 11, of which this is the text.
+fn sentence_in<'a>(alloc: Global, body: &'a str) -> Result<BlockRef<'a>, Unfit>
+    ensures fine { IfOk result (λ b. IsLawful b × (own_text b ≡ body.now)) }
+    ensures unfit { result ≡ Err NotADesk → (b : BlockText) → IsLawful b → own_text b ≡ body.now → ⊥ }
+{
+    let blocks = read_ref(alloc, body.as_bytes())?;
+    let Some(block) = only_of(blocks) else {
+        return Err(Unfit::NotADesk);
+    };
+    check(alloc, &block)?;
+    Ok(block)
+}
+
+/// The sentences of which these revisions are the texts, in order.
+pub(crate) fn sentences_in<'a>(
+    alloc: Global,
+    rows: &'a [RevisionRow],
+) -> Result<Vec<BlockRef<'a>>, Unfit>
+    ensures lawful { IfOk result (λ v. AllByRecursion IsLawful v.items) }
+    ensures texts { IfOk result (λ v. map own_text v.items ≡ map (λ r. string_bytes r.body) rows.now) }
+    ensures unfit { result ≡ Err NotADesk → (bs : List BlockText) → AllByRecursion IsLawful bs
+        → map own_text bs ≡ map (λ r. string_bytes r.body) rows.now → ⊥ }
+{
+    let mut blocks: Vec<BlockRef<'a>> = Vec::new(alloc);
+    for row in rows {
+        let block = sentence_in(alloc, row.body.as_str())?;
+        blocks.push(block)?;
+    }
+    Ok(blocks)
+}

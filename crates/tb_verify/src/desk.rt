@@ -1,0 +1,74 @@
+//! Whether a store is a desk.
+//!
+//! A store is the desk of a state where four things hold: the connection is open and in no transaction; what it sees is
+//! what the last commit left; the schema is exactly that of the seven tables; and their rows are those of a state that
+//! accepted commands reach within the largest limits. The second follows from the first. The first is known of an open
+//! connection once a read has answered, so all four are found out here, and `NotADesk` is told exactly: it comes where the
+//! connection is in a transaction, the schema is another, or the rows are those of no such state. A read that the store
+//! cuts short, for whatever reason, is the device's.
+
+ghost use Rattle.std.specs.Prelude.{◌≡◌, ◌≢◌, ◌≤◌, false, None, Err, IsTrue, IfOk, OnOk};
+ghost use Rattle.sqlite.specs.State.{HasCleanDisk, IsUnchanged, Survives};
+ghost use Rattle.sqlite.specs.Held.{state};
+ghost use Rattle.tb_core.specs.declared.refusals.Refusal.{Refusal as AnyRefusal};
+ghost use Rattle.tb_core.specs.declared.refusals.Fault.{Fault as AnyFault};
+ghost use Rattle.tb_core.specs.Machine.{Machine};
+ghost use Rattle.tb_refine.specs.DeskTables.{IsDeskOf};
+ghost use Rattle.tb_verify.specs.Summary.{IsSummaryOf};
+ghost use Rattle.tb_verify.specs.TableReads.{LooksLikeDesk};
+ghost use Rattle.tb_tables.specs.Leaving.{KeepsRecords, BlamesNoDisk};
+
+use crate::faults::of_unfit;
+use crate::reading::read_rows;
+use crate::summary::{DeskSummary, summary_of_rows};
+use sqlite::{Alter, Connection};
+use std::alloc::Global;
+use tb_core::Fault;
+use tb_tables::has_desk_schema;
+
+/// Whether the connection is in no transaction, and its database has exactly the tables of a desk.
+fn may_be_desk<S: Alter>(conn: &Connection<S>) -> bool
+    ensures looks { IsTrue result → LooksLikeDesk S.Store conn.now }
+    ensures differs { result ≡ false → (s : Machine) → IsDeskOf S.Store conn.now s → ⊥ }
+{
+    conn.is_autocommit() && has_desk_schema(conn)
+}
+
+/// Reads all tables of a store, and tests whether it is a desk: what a desk keeps of the state for which they stand. The
+/// rows of all tables are in memory at a time, with the texts of all revisions; the sentence of each text is parsed once.
+/// Nothing is changed, whatever it answers.
+///
+/// # Errors
+///
+/// `NotADesk`, where the store is the desk of no state; want of memory; or the store's, only where the disk failed or the
+/// store was shut.
+pub fn read_desk<S: Alter>(alloc: Global, conn: &mut Connection<S>) -> Result<DeskSummary, Fault>
+    ensures answered { HasCleanDisk (state S.Store conn.new) → IfOk result (λ x. (s : Machine)
+        × IsDeskOf S.Store conn.old s × IsDeskOf S.Store conn.new s × IsSummaryOf x s) }
+    ensures in_autocommit { OnOk result (conn.new.in_transaction ≡ false) }
+    ensures counts { IfOk result (λ x. (x.batches ≤ x.moves) × (x.sentences ≤ 1000000)
+        × (x.moves ≤ 1000000000)) }
+    ensures unfit { HasCleanDisk (state S.Store conn.new) → result ≡ Err Fault.NotADesk → (s : Machine)
+        → IsDeskOf S.Store conn.old s → ⊥ }
+    ensures untouched { HasCleanDisk (state S.Store conn.new) → result ≡ Err Fault.NotADesk
+        → (state S.Store conn.new).now ≡ (state S.Store conn.old).now }
+    ensures sees { HasCleanDisk (state S.Store conn.new) → IsTrue (state S.Store conn.new).is_open
+        → (state S.Store conn.new).now ≡ (state S.Store conn.old).now }
+    ensures never_refuses { (r : AnyRefusal) → result ≢ Err (Fault.Refused r) }
+    ensures cause { (state S.Store conn.old).step_limit ≡ None
+        → BlamesNoDisk (λ (fault : AnyFault). fault ≢ Fault.Device) S.Store conn.old conn.new result }
+    ensures unchanged { HasCleanDisk (state S.Store conn.new)
+        → OnOk result (IsUnchanged (state S.Store conn.old) (state S.Store conn.new)) }
+    ensures autocommit { conn.old.in_transaction ≡ false → conn.new.in_transaction ≡ false }
+    ensures keeps_records { KeepsRecords S.Store conn.old conn.new }
+    ensures survives { Survives (state S.Store conn.old) (state S.Store conn.new) (λ _. ⊥) }
+{
+    if !may_be_desk(conn) {
+        return Err(Fault::NotADesk);
+    }
+    let rows = read_rows(alloc, conn)?;
+    match summary_of_rows(alloc, &rows) {
+        Ok(summary) => Ok(summary),
+        Err(unfit) => Err(of_unfit(unfit)),
+    }
+}

@@ -1,0 +1,91 @@
+//! The sentences of a file, read back one after the other.
+
+ghost use Rattle.std.specs.Prelude.{◌≡◌, List, IfOk, Err, map, take, drop};
+ghost use Rattle.tb_core.specs.Machine.{Sentence};
+ghost use Rattle.tb_replay.specs.Summaries.{entries_of};
+ghost use Rattle.tb_tables.specs.Values.{sentence_of, revision_of};
+ghost use Rattle.tb_verify.specs.File.{AreReadBack, is_next, after_next};
+ghost use Rattle.tb_verify.specs.declared.unfit.Unfit.TheVariants.{NotADesk};
+
+use crate::entry::entry_in;
+use crate::unfit::Unfit;
+use std::alloc::Global;
+use tb_replay::SentenceSummary;
+use tb_tables::{RevisionRow, SentenceRow};
+
+fn first_rows(rows: &[RevisionRow], count: u32) -> &[RevisionRow]
+    ensures { result.now ≡ take count rows.now }
+{
+    if count as usize >= rows.len() {
+        return rows;
+    }
+    &rows[..count as usize]
+}
+
+fn later_rows(rows: &[RevisionRow], count: u32) -> &[RevisionRow]
+    ensures { result.now ≡ drop count rows.now }
+{
+    if count as usize >= rows.len() {
+        return &rows[rows.len()..];
+    }
+    &rows[count as usize..]
+}
+
+fn is_pulled_next(number: u64, pulled: &[u32]) -> bool
+    ensures { result ≡ is_next number pulled.now }
+{
+    match pulled.first() {
+        None => false,
+        Some(first) => *first as u64 == number,
+    }
+}
+
+fn later_pulled(number: u64, pulled: &[u32]) -> &[u32]
+    ensures { result.now ≡ after_next number pulled.now }
+{
+    if pulled.is_empty() {
+        return pulled;
+    }
+    if is_pulled_next(number, pulled) {
+        return &pulled[1..];
+    }
+    pulled
+}
+
+/// The sentences of a file, read back from their rows, of which those of revisions come in the order of their keys; the
+/// numbers of pulled sentences ascend. They borrow the names of users.
+///
+/// # Errors
+///
+/// `NotADesk` where no sentences have these rows, each of them fine by itself; or want of memory.
+pub fn entries_in<'a>(
+    alloc: Global,
+    sentences: &[SentenceRow],
+    pulled: &[u32],
+    revisions: &'a [RevisionRow],
+) -> Result<Vec<SentenceSummary<'a>>, Unfit>
+    ensures fine { IfOk result (λ v. (xs : List Sentence) × AreReadBack 1 (map sentence_of sentences.now) pulled.now
+        (map revision_of revisions.now) xs × (v.items ≡ entries_of xs)) }
+    ensures unfit { result ≡ Err NotADesk → (xs : List Sentence)
+        → AreReadBack 1 (map sentence_of sentences.now) pulled.now (map revision_of revisions.now) xs → ⊥ }
+{
+    let mut entries: Vec<SentenceSummary<'a>> = Vec::new(alloc);
+    let mut rest = revisions;
+    let mut left = pulled;
+    for i in 0..sentences.len() {
+        let number = i as u64 + 1;
+        let row = &sentences[i];
+        let own = first_rows(rest, row.rev);
+        let entry = entry_in(alloc, number, row, is_pulled_next(number, left), own)?;
+        entries.push(entry)?;
+        rest = later_rows(rest, row.rev);
+        left = later_pulled(number, left);
+    }
+    if !rest.is_empty() {
+        return Err(Unfit::NotADesk);
+    }
+    if !left.is_empty() {
+        return Err(Unfit::NotADesk);
+    }
+    Ok(entries)
+}

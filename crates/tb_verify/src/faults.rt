@@ -1,0 +1,48 @@
+//! What an error of the database or of a read, or the test of rows, is to a caller.
+
+ghost use Rattle.std.specs.Prelude.{◌≡◌, ◌≢◌};
+ghost use Rattle.tb_core.specs.declared.refusals.Refusal.{Refusal};
+ghost use Rattle.tb_tables.specs.Failing.{IsWant};
+ghost use Rattle.tb_reads.specs.Failing.{IsReadWant};
+
+use crate::unfit::Unfit;
+use sqlite::{Error, ErrorCode};
+use tb_core::Fault;
+use tb_reads::ReadError;
+
+/// Want of memory is `Memory`, and whatever else the database answers is the store's.
+pub(crate) fn of_error(error: Error) -> Fault
+    ensures no_form { result ≢ Fault.NotADesk }
+    ensures cause { IsWant error → result ≢ Fault.Device }
+    ensures never_refuses { (r : Refusal) → result ≢ Fault.Refused r }
+{
+    match error {
+        Error::SqliteFailure(ErrorCode::OutOfMemory) => Fault::Memory,
+        _ => Fault::Device,
+    }
+}
+
+/// The same of a read; rows that are those of no records are not a desk's. So `NotADesk` never comes of a read that was cut
+/// short.
+pub(crate) fn of_read(error: ReadError) -> Fault
+    ensures form { result ≡ Fault.NotADesk → error ≡ ReadError.Form }
+    ensures cause { IsReadWant error → result ≢ Fault.Device }
+    ensures never_refuses { (r : Refusal) → result ≢ Fault.Refused r }
+{
+    match error {
+        ReadError::Store(error) => of_error(error),
+        ReadError::Form => Fault::NotADesk,
+    }
+}
+
+/// The same of rows that were tested.
+pub(crate) fn of_unfit(unfit: Unfit) -> Fault
+    ensures form { result ≡ Fault.NotADesk → unfit ≡ Unfit.NotADesk }
+    ensures cause { result ≢ Fault.Device }
+    ensures never_refuses { (r : Refusal) → result ≢ Fault.Refused r }
+{
+    match unfit {
+        Unfit::NotADesk => Fault::NotADesk,
+        Unfit::Memory => Fault::Memory,
+    }
+}

@@ -1,0 +1,33 @@
+//! What rows tell of sentences and states.
+
+ghost use Rattle.std.specs.Prelude.{◌≡◌, ℕ, List, map};
+ghost use Rattle.std.specs.List.{AllByRecursion};
+ghost use Rattle.tb_core.specs.Keeping.{IsFine};
+ghost use Rattle.tb_core.specs.Machine.{Machine, Sentence as AnySentence};
+ghost use Rattle.tb_replay.specs.Fine.{AreFine};
+ghost use Rattle.tb_refine.specs.DeskTables.{batch_record, sentence_record};
+ghost use Rattle.tb_tables.specs.Records.{Batch, Sentence, Revision};
+ghost use Rattle.tb_verify.specs.Apart.{AreNamed, AreTitled};
+ghost use Rattle.tb_verify.specs.File.{AreReadBack};
+
+use tb_conllu::one_list_has_a_text;
+
+/// At most one list of sentences has these rows.
+pub(crate) fn rows_tell_sentences()
+    ensures { (n : ℕ) (reported : List Sentence) (flags : List ℕ) (rows : List Revision) (xs ys : List AnySentence)
+        → AreReadBack n reported flags rows xs → AreReadBack n reported flags rows ys → xs ≡ ys }
+{
+    // The law by which a text is that of one sentence.
+    one_list_has_a_text();
+}
+
+/// A state is fine where its sentences are, each by itself, and its rows of batches and sentences tell names apart; else it
+/// is not.
+pub(crate) fn rows_tell_names_apart()
+    ensures fine { (f : Machine) (bs : List Batch) (ss : List Sentence) → map batch_record f.batches ≡ bs
+        → map sentence_record f.sentences ≡ ss → AreNamed bs → AreTitled ss
+        → AllByRecursion IsFine f.sentences → AreFine f }
+    ensures unfit { (f : Machine) (bs : List Batch) (ss : List Sentence) → map batch_record f.batches ≡ bs
+        → map sentence_record f.sentences ≡ ss → AreFine f → AreNamed bs × AreTitled ss
+        × AllByRecursion IsFine f.sentences }
+{}

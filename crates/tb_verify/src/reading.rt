@@ -1,0 +1,151 @@
+//! The rows of all tables of a desk, read one table after the other. Whatever a read answers, nothing is changed.
+
+ghost use Rattle.std.specs.Prelude.{◌≡◌, ◌↔◌, [], ◌∷◌, map, IsTrue};
+ghost use Rattle.tb_tables.specs.Records.{AreStored, Shows, numbered, batch_shown, sentence_shown, revision_shown};
+ghost use Rattle.tb_tables.specs.Records.{move_shown, total_shown, number_shown, meta_view, batch_view, sentence_view};
+ghost use Rattle.tb_tables.specs.Records.{revision_view, move_view, total_view, number_view};
+ghost use Rattle.tb_tables.specs.Values.{batch_of, sentence_of, revision_of, move_of, total_of};
+ghost use Rattle.tb_verify.specs.Summary.{tables_in};
+ghost use Rattle.tb_verify.specs.TableReads.{HasReadTable};
+
+use crate::faults::of_read;
+use crate::summary::TableRows;
+use sqlite::{Alter, Connection};
+use std::alloc::Global;
+use tb_core::Fault;
+use tb_refine::{desk_rows_are_readable, one_list_for_the_rows};
+use tb_tables::{BatchRow, MoveRow, RevisionRow, SentenceRow, TotalRow};
+
+fn is_second(versions: &[u32]) -> bool
+    ensures { IsTrue result ↔ versions.now ≡ 2 ∷ [] }
+{
+    match versions {
+        [version] => *version == 2,
+        _ => false,
+    }
+}
+
+/// That the file tells one version, 2.
+fn read_version<S: Alter>(alloc: Global, conn: &mut Connection<S>) -> Result<(), Fault>
+    ensures { HasReadTable S.Store conn.old conn.new result (λ _ trees. Shows meta_view (number_shown 2 ∷ [])
+        (trees 0)) (λ _ _. Unit {0}) }
+{
+    match tb_reads::versions(alloc, conn) {
+        Ok(versions) => {
+            if !is_second(versions.as_slice()) {
+                return Err(Fault::NotADesk);
+            }
+            Ok(())
+        }
+        Err(error) => Err(of_read(error)),
+    }
+}
+
+/// The rows of batches, by number.
+fn read_batches<S: Alter>(alloc: Global, conn: &mut Connection<S>) -> Result<Vec<BatchRow>, Fault>
+    ensures { HasReadTable S.Store conn.old conn.new result (λ v trees.
+        Shows batch_view (numbered batch_shown 1 (map batch_of v.items)) (trees 1)) (λ v d. Unit {0}) }
+{
+    desk_rows_are_readable();
+    match tb_reads::batches(alloc, conn) {
+        Ok(rows) => Ok(rows),
+        Err(error) => Err(of_read(error)),
+    }
+}
+
+/// The rows of sentences, by number.
+fn read_sentences<S: Alter>(
+    alloc: Global,
+    conn: &mut Connection<S>,
+) -> Result<Vec<SentenceRow>, Fault>
+    ensures { HasReadTable S.Store conn.old conn.new result (λ v trees.
+        Shows sentence_view (numbered sentence_shown 1 (map sentence_of v.items)) (trees 3)) (λ v d. Unit {0}) }
+{
+    desk_rows_are_readable();
+    match tb_reads::sentences(alloc, conn) {
+        Ok(rows) => Ok(rows),
+        Err(error) => Err(of_read(error)),
+    }
+}
+
+/// The rows of revisions, by sentence and number.
+fn read_revisions<S: Alter>(
+    alloc: Global,
+    conn: &mut Connection<S>,
+) -> Result<Vec<RevisionRow>, Fault>
+    ensures { HasReadTable S.Store conn.old conn.new result (λ v trees.
+        Shows revision_view (map revision_shown (map revision_of v.items)) (trees 5)) (λ v d. map revision_of v.items
+        ≡ d.revisions) }
+{
+    desk_rows_are_readable();
+    match tb_reads::revisions(alloc, conn) {
+        Ok(rows) => Ok(rows),
+        Err(error) => Err(of_read(error)),
+    }
+}
+
+/// The rows of moves, by number.
+fn read_moves<S: Alter>(alloc: Global, conn: &mut Connection<S>) -> Result<Vec<MoveRow>, Fault>
+    ensures { HasReadTable S.Store conn.old conn.new result (λ v trees.
+        Shows move_view (numbered move_shown 1 (map move_of v.items)) (trees 7)) (λ v d. Unit {0}) }
+{
+    desk_rows_are_readable();
+    match tb_reads::moves(alloc, conn) {
+        Ok(rows) => Ok(rows),
+        Err(error) => Err(of_read(error)),
+    }
+}
+
+/// The rows of totals, by the number of the state.
+fn read_totals<S: Alter>(alloc: Global, conn: &mut Connection<S>) -> Result<Vec<TotalRow>, Fault>
+    ensures { HasReadTable S.Store conn.old conn.new result (λ v trees.
+        Shows total_view (numbered total_shown 1 (map total_of v.items)) (trees 8)) (λ v d. Unit {0}) }
+{
+    desk_rows_are_readable();
+    match tb_reads::totals(alloc, conn) {
+        Ok(rows) => Ok(rows),
+        Err(error) => Err(of_read(error)),
+    }
+}
+
+/// The numbers of pulled sentences, ascending.
+fn read_pulled<S: Alter>(alloc: Global, conn: &mut Connection<S>) -> Result<Vec<u32>, Fault>
+    ensures { HasReadTable S.Store conn.old conn.new result (λ v trees. Shows number_view (map number_shown v.items)
+        (trees 9)) (λ v d. v.items ≡ d.pulled) }
+{
+    desk_rows_are_readable();
+    match tb_reads::pulled(alloc, conn) {
+        Ok(rows) => Ok(rows),
+        Err(error) => Err(of_read(error)),
+    }
+}
+
+/// The rows of all tables.
+///
+/// # Errors
+///
+/// `NotADesk`, where they are those of no records, or the version is not 2; want of memory; or the store's.
+pub(crate) fn read_rows<S: Alter>(
+    alloc: Global,
+    conn: &mut Connection<S>,
+) -> Result<TableRows, Fault>
+    ensures { HasReadTable S.Store conn.old conn.new result (λ r trees. AreStored (tables_in r) trees) (λ r d.
+        tables_in r ≡ d) }
+{
+    one_list_for_the_rows();
+    read_version(alloc, conn)?;
+    let batches = read_batches(alloc, conn)?;
+    let sentences = read_sentences(alloc, conn)?;
+    let revisions = read_revisions(alloc, conn)?;
+    let moves = read_moves(alloc, conn)?;
+    let totals = read_totals(alloc, conn)?;
+    let pulled = read_pulled(alloc, conn)?;
+    Ok(TableRows {
+        batches,
+        sentences,
+        revisions,
+        moves,
+        totals,
+        pulled,
+    })
+}

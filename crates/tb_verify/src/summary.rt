@@ -1,0 +1,132 @@
+//! Whether the rows of all tables are those of a state that accepted commands reach. No database is in it.
+
+ghost use Rattle.std.specs.Prelude.{◌≡◌, ◌≤◌, map, Err, Decides, IfOk};
+ghost use Rattle.tb_core.specs.Machine.{Machine};
+ghost use Rattle.tb_core.specs.Reaching.{IsReachable};
+ghost use Rattle.tb_core.specs.Totals.{AreTotalsOf};
+ghost use Rattle.tb_tables.specs.Values.{batch_of, sentence_of, total_of};
+ghost use Rattle.tb_refine.specs.DeskTables.{tables_of, total_record, six_states};
+ghost use Rattle.tb_verify.specs.Apart.{AreNamed, AreTitled};
+ghost use Rattle.tb_verify.specs.declared.unfit.Unfit.TheVariants.{NotADesk};
+ghost use Rattle.tb_verify.specs.Summary.{IsShownBy, IsSummaryOf, tables_in};
+
+use crate::apart::{are_batches_apart, are_sentences_apart};
+use crate::entries::entries_in;
+use crate::laws::{rows_tell_names_apart, rows_tell_sentences};
+use crate::machine::{batches_in, moves_in};
+use crate::totals::totals_in;
+use crate::unfit::Unfit;
+use std::alloc::{AllocError, Global};
+use tb_core::{Move, Totals};
+use tb_replay::{SentenceSummary, reached_states_are_fine, replays};
+use tb_tables::{BatchRow, MoveRow, RevisionRow, SentenceRow, TotalRow};
+
+/// The rows of a file's tables, in the order of their keys. All are in memory at a time, the texts of all revisions too.
+#[derive(Debug, Drop)]
+pub(crate) struct TableRows {
+    pub batches: Vec<BatchRow>,
+    pub sentences: Vec<SentenceRow>,
+    pub revisions: Vec<RevisionRow>,
+    pub moves: Vec<MoveRow>,
+    pub totals: Vec<TotalRow>,
+    /// The numbers of pulled sentences.
+    pub pulled: Vec<u32>,
+}
+
+/// What a desk keeps of the state for which its tables stand: how many batches, sentences and moves there are, and the
+/// totals.
+#[derive(Clone, Copy, Debug, PartialEq, Eq)]
+pub struct DeskSummary {
+    pub batches: u32,
+    pub sentences: u32,
+    pub moves: u32,
+    pub totals: Totals,
+}
+
+/// Whether names of batches are good and each its own, and names of sentences each its own.
+fn are_apart(
+    alloc: Global,
+    batches: &[BatchRow],
+    sentences: &[SentenceRow],
+) -> Result<bool, AllocError>
+    ensures { IfOk result (λ apart. Decides apart (AreNamed (map batch_of batches.now)
+        × AreTitled (map sentence_of sentences.now))) }
+{
+    if !are_batches_apart(alloc, batches)? {
+        return Ok(false);
+    }
+    are_sentences_apart(alloc, sentences)
+}
+
+/// The totals of a state that accepted commands reach, where these are its rows.
+fn reached_totals(
+    alloc: Global,
+    batches: &[tb_replay::BatchRow<'_>],
+    entries: &[SentenceSummary<'_>],
+    moves: &[Move],
+    totals: &[TotalRow],
+) -> Result<Totals, Unfit>
+    ensures reached { IfOk result (λ t. (f : Machine) → IsShownBy batches.now entries.now moves.now f
+        → IsReachable f × AreTotalsOf t f × (map total_of totals.now ≡ map (total_record f) six_states)) }
+    ensures unfit { result ≡ Err NotADesk → (f : Machine) → IsShownBy batches.now entries.now moves.now f
+        → IsReachable f → map total_of totals.now ≡ map (total_record f) six_states → ⊥ }
+{
+    if !replays(alloc, batches, entries, moves)? {
+        return Err(Unfit::NotADesk);
+    }
+    totals_in(batches, entries, totals)
+}
+
+/// The counts, where no state within the largest limits has more.
+fn counted(
+    batches: usize,
+    sentences: usize,
+    moves: usize,
+    totals: Totals,
+) -> Result<DeskSummary, Unfit>
+    ensures batches { IfOk result (λ x. (x.batches ≡ batches) × (batches ≤ moves)) }
+    ensures sentences { IfOk result (λ x. (x.sentences ≡ sentences) × (sentences ≤ 1000000)) }
+    ensures moves { IfOk result (λ x. (x.moves ≡ moves) × (moves ≤ 1000000000)) }
+    ensures totals { IfOk result (λ x. x.totals ≡ totals) }
+    ensures unfit { result ≡ Err NotADesk → batches ≤ moves → sentences ≤ 1000000
+        → moves ≤ 1000000000 → ⊥ }
+{
+    if batches > moves || sentences > 1_000_000 || moves > 1_000_000_000 {
+        return Err(Unfit::NotADesk);
+    }
+    Ok(DeskSummary {
+        batches: batches as u32,
+        sentences: sentences as u32,
+        moves: moves as u32,
+        totals,
+    })
+}
+
+/// What a desk keeps of the state that has these rows, one that accepted commands reach within the largest limits.
+///
+/// # Errors
+///
+/// `NotADesk`, where no such state has these rows; or want of memory.
+pub(crate) fn summary_of_rows(alloc: Global, rows: &TableRows) -> Result<DeskSummary, Unfit>
+    ensures summary { IfOk result (λ x. (s : Machine) × IsReachable s × (tables_in rows.now ≡ tables_of s)
+        × IsSummaryOf x s) }
+    ensures counts { IfOk result (λ x. (x.batches ≤ x.moves) × (x.sentences ≤ 1000000)
+        × (x.moves ≤ 1000000000)) }
+    ensures unfit { result ≡ Err NotADesk → (s : Machine) → IsReachable s
+        → tables_in rows.now ≡ tables_of s → ⊥ }
+{
+    reached_states_are_fine();
+    rows_tell_names_apart();
+    rows_tell_sentences();
+    let names = rows.batches.as_slice();
+    let sentences = rows.sentences.as_slice();
+    if !are_apart(alloc, names, sentences)? {
+        return Err(Unfit::NotADesk);
+    }
+    let batches = batches_in(alloc, names)?;
+    let revisions = rows.revisions.as_slice();
+    let entries = entries_in(alloc, sentences, rows.pulled.as_slice(), revisions)?;
+    let moves = moves_in(alloc, rows.moves.as_slice())?;
+    let totals = reached_totals(alloc, &batches, &entries, &moves, rows.totals.as_slice())?;
+    counted(batches.len(), entries.len(), moves.len(), totals)
+}

@@ -1,0 +1,87 @@
+//! Whether stored totals are the sums that rows have.
+
+ghost use Rattle.std.specs.Prelude.{◌≡◌, ◌↔◌, ◌≤◌, length, map, None, Err, IsTrue, IfOk, IfSome};
+ghost use Rattle.tb_core.specs.Machine.{Machine};
+ghost use Rattle.tb_core.specs.Totals.{AreTotalsOf};
+ghost use Rattle.tb_replay.specs.Summaries.{entries_of};
+ghost use Rattle.tb_replay.specs.Fine.{AreFine};
+ghost use Rattle.tb_tables.specs.Values.{total_of};
+ghost use Rattle.tb_refine.specs.DeskTables.{total_record, six_states};
+ghost use Rattle.tb_verify.specs.declared.unfit.Unfit.TheVariants.{NotADesk};
+ghost use Rattle.tb_verify.specs.Summary.{six_totals};
+
+use crate::unfit::Unfit;
+use tb_core::Totals;
+use tb_replay::{SentenceSummary, totals_of};
+use tb_tables::TotalRow;
+
+/// The totals that six rows tell.
+fn stored_in(rows: &[TotalRow]) -> Option<Totals>
+    ensures six { IfSome result (λ t. (length rows.now ≡ 6) × (t.sentences ≡ map (λ r. r.sentences) rows.now)
+        × (t.words ≡ map (λ r. r.words) rows.now)) }
+    ensures lacks { result ≡ None → length rows.now ≡ 6 → ⊥ }
+{
+    match rows {
+        [a, b, c, d, e, f] => Some(Totals {
+            sentences: [
+                u64::from(a.sentences),
+                u64::from(b.sentences),
+                u64::from(c.sentences),
+                u64::from(d.sentences),
+                u64::from(e.sentences),
+                u64::from(f.sentences),
+            ],
+            words: [
+                u64::from(a.words),
+                u64::from(b.words),
+                u64::from(c.words),
+                u64::from(d.words),
+                u64::from(e.words),
+                u64::from(f.words),
+            ],
+        }),
+        _ => None,
+    }
+}
+
+fn are_same(a: &[u64], b: &[u64]) -> bool
+    ensures { IsTrue result ↔ a.now ≡ b.now }
+{
+    a == b
+}
+
+/// Whether these are the rows of the totals.
+fn are_sums(rows: &[TotalRow], totals: &Totals) -> bool
+    ensures { IsTrue result ↔ map total_of rows.now ≡ six_totals totals.now }
+{
+    let Some(stored) = stored_in(rows) else {
+        return false;
+    };
+    are_same(&stored.sentences, &totals.sentences) && are_same(&stored.words, &totals.words)
+}
+
+/// The totals of batches and sentences, where these are their rows.
+///
+/// # Errors
+///
+/// `NotADesk`, where they are not.
+pub(crate) fn totals_in(
+    batches: &[tb_replay::BatchRow<'_>],
+    entries: &[SentenceSummary<'_>],
+    rows: &[TotalRow],
+) -> Result<Totals, Unfit>
+    ensures stand { IfOk result (λ t. (f : Machine) → batches.now ≡ f.batches
+        → entries.now ≡ entries_of f.sentences → AreTotalsOf t f
+        × (map total_of rows.now ≡ map (total_record f) six_states)) }
+    ensures unfit { result ≡ Err NotADesk → (f : Machine) → batches.now ≡ f.batches
+        → entries.now ≡ entries_of f.sentences → AreFine f → length f.sentences ≤ 1000000
+        → map total_of rows.now ≡ map (total_record f) six_states → ⊥ }
+{
+    let Some(totals) = totals_of(batches, entries) else {
+        return Err(Unfit::NotADesk);
+    };
+    if !are_sums(rows, &totals) {
+        return Err(Unfit::NotADesk);
+    }
+    Ok(totals)
+}

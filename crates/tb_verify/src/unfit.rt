@@ -1,0 +1,56 @@
+//! Why rows are not read back.
+
+ghost use Rattle.std.specs.Prelude.{◌≡◌};
+ghost use Rattle.tb_verify.specs.Unfit.{unfit_of_reading, unfit_of_rules};
+ghost use Rattle.tb_verify.specs.declared.unfit.Unfit.TheVariants.{Memory};
+
+use std::alloc::{AllocError, AllocFailed};
+use tb_conllu::ReadFault;
+use tb_rules::RuleFault;
+
+/// Why rows are not read back.
+#[derive(Clone, Copy, Debug, PartialEq, Eq)]
+pub enum Unfit {
+    /// The rows are not those of a desk.
+    NotADesk,
+    /// Memory was refused.
+    Memory,
+}
+
+impl From<ReadFault> for Unfit {
+    ghost from_gives = { λ fault e. e ≡ unfit_of_reading fault };
+
+    fn from(fault: ReadFault) -> Self {
+        match fault {
+            ReadFault::At { .. } => Unfit::NotADesk,
+            ReadFault::Memory => Unfit::Memory,
+        }
+    }
+}
+
+impl From<RuleFault> for Unfit {
+    ghost from_gives = { λ fault e. e ≡ unfit_of_rules fault };
+
+    fn from(fault: RuleFault) -> Self {
+        match fault {
+            RuleFault::At { .. } => Unfit::NotADesk,
+            RuleFault::Memory => Unfit::Memory,
+        }
+    }
+}
+
+impl From<AllocError> for Unfit {
+    ghost from_gives = { λ _ e. e ≡ Memory };
+
+    fn from(_: AllocError) -> Self {
+        Unfit::Memory
+    }
+}
+
+impl<T: Drop> From<AllocFailed<T>> for Unfit {
+    ghost from_gives = { λ _ e. e ≡ Memory };
+
+    fn from(_: AllocFailed<T>) -> Self {
+        Unfit::Memory
+    }
+}

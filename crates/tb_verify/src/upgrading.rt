@@ -1,0 +1,77 @@
+//! The tables of version 1 become those of a desk.
+
+ghost use Rattle.std.specs.Prelude.{◌≡◌, [], false, IsTrue, OnOk, OnErr};
+ghost use Rattle.sqlite.specs.State.{HasCleanDisk, Survives};
+ghost use Rattle.sqlite.specs.Held.{state};
+ghost use Rattle.tb_tables.specs.Records.{Tables, AreStored};
+ghost use Rattle.tb_tables.specs.Changes.{IsInside, Holds};
+ghost use Rattle.tb_verify.specs.Version1.{AreStoredInVersion1, IsInsideFirst, HoldsFirst};
+ghost use Rattle.tb_tables.specs.Failing.{NeedsNoFault};
+ghost use Rattle.tb_tables.specs.Leaving.{KeepsCommitted, BlamesNoDisk};
+
+use sqlite::{Alter, Connection, Error, Transaction};
+
+/// The table of the sentences that are pulled, without a row.
+fn make_pulled<S: Alter>(tx: &mut Transaction<'_, S>) -> Result<(), Error>
+    ensures same_reference { tx.new.conn.ghost_name ≡ tx.old.conn.ghost_name }
+    ensures ok { HasCleanDisk (state S.Store tx.new.conn.now)
+        → OnOk result (IsInsideFirst (state S.Store tx.old.conn.now) → IsInside (state S.Store tx.new.conn.now)
+        × ((state S.Store tx.new.conn.now).now.trees 9 ≡ [])
+        × ((d : Tables) → AreStoredInVersion1 d (state S.Store tx.old.conn.now).now.trees
+        → AreStoredInVersion1 d (state S.Store tx.new.conn.now).now.trees)) }
+    ensures cause { BlamesNoDisk NeedsNoFault S.Store tx.old.conn.now tx.new.conn.now result }
+    ensures keeps_committed { KeepsCommitted S.Store tx.old.conn.now tx.new.conn.now }
+    ensures survives { Survives (state S.Store tx.old.conn.now) (state S.Store tx.new.conn.now) (λ _. ⊥) }
+{
+    tx.execute("CREATE TABLE pulled(sent INTEGER PRIMARY KEY) STRICT", &[])?;
+    Ok(())
+}
+
+/// The version becomes 2.
+fn update_version<S: Alter>(tx: &mut Transaction<'_, S>) -> Result<(), Error>
+    ensures same_reference { tx.new.conn.ghost_name ≡ tx.old.conn.ghost_name }
+    ensures ok { HasCleanDisk (state S.Store tx.new.conn.now) → OnOk result (IsInside (state S.Store tx.old.conn.now)
+        → (state S.Store tx.old.conn.now).now.trees 9 ≡ [] → IsInside (state S.Store tx.new.conn.now)
+        × ((d : Tables) → d.pulled ≡ [] → AreStoredInVersion1 d (state S.Store tx.old.conn.now).now.trees
+        → AreStored d (state S.Store tx.new.conn.now).now.trees)) }
+    ensures cause { BlamesNoDisk NeedsNoFault S.Store tx.old.conn.now tx.new.conn.now result }
+    ensures keeps_committed { KeepsCommitted S.Store tx.old.conn.now tx.new.conn.now }
+    ensures survives { Survives (state S.Store tx.old.conn.now) (state S.Store tx.new.conn.now) (λ _. ⊥) }
+{
+    tx.execute("UPDATE meta SET version = 2", &[])?;
+    Ok(())
+}
+
+fn change_tables<S: Alter>(tx: &mut Transaction<'_, S>) -> Result<(), Error>
+    ensures same_reference { tx.new.conn.ghost_name ≡ tx.old.conn.ghost_name }
+    ensures ok { HasCleanDisk (state S.Store tx.new.conn.now)
+        → OnOk result (IsInsideFirst (state S.Store tx.old.conn.now) → IsInside (state S.Store tx.new.conn.now)
+        × ((d : Tables) → d.pulled ≡ [] → AreStoredInVersion1 d (state S.Store tx.old.conn.now).now.trees
+        → AreStored d (state S.Store tx.new.conn.now).now.trees)) }
+    ensures cause { BlamesNoDisk NeedsNoFault S.Store tx.old.conn.now tx.new.conn.now result }
+    ensures keeps_committed { KeepsCommitted S.Store tx.old.conn.now tx.new.conn.now }
+    ensures survives { Survives (state S.Store tx.old.conn.now) (state S.Store tx.new.conn.now) (λ _. ⊥) }
+{
+    make_pulled(tx)?;
+    update_version(tx)?;
+    Ok(())
+}
+
+/// Makes the tables of a desk of those of version 1, in one transaction: the same records, and none of them pulled. An error
+/// leaves the tables of version 1, and so does a crash before the commit; one after it leaves the whole tables of the desk.
+pub fn upgrade<S: Alter>(conn: &mut Connection<S>) -> Result<(), Error>
+    requires autocommit { conn.old.in_transaction ≡ false }
+    ensures ok { HasCleanDisk (state S.Store conn.new) → OnOk result ((d : Tables) → d.pulled ≡ []
+        → HoldsFirst S.Store conn.old d → Holds S.Store conn.new d) }
+    ensures err { HasCleanDisk (state S.Store conn.new) → IsTrue (state S.Store conn.new).is_open
+        → OnErr result ((d : Tables) → HoldsFirst S.Store conn.old d → HoldsFirst S.Store conn.new d) }
+    ensures cause { BlamesNoDisk NeedsNoFault S.Store conn.old conn.new result }
+    ensures autocommit { conn.new.in_transaction ≡ false }
+    ensures crash { Survives (state S.Store conn.old) (state S.Store conn.new) (λ db. (d : Tables) → d.pulled ≡ []
+        → HoldsFirst S.Store conn.old d → AreStored d db) }
+{
+    let mut tx = conn.transaction();
+    change_tables(&mut tx)?;
+    tx.commit()?;
+    Ok(())
+}

@@ -1,0 +1,101 @@
+//! Whether a store is a desk of version 1, and the change of one into a desk.
+
+ghost use Rattle.std.specs.Prelude.{◌≡◌, ◌≢◌, ◌≤◌, false, None, Err, IsTrue, IfOk, OnOk, OnErr};
+ghost use Rattle.sqlite.specs.State.{HasCleanDisk, IsUnchanged, Survives};
+ghost use Rattle.sqlite.specs.Held.{state};
+ghost use Rattle.tb_core.specs.declared.refusals.Refusal.{Refusal as AnyRefusal};
+ghost use Rattle.tb_core.specs.declared.refusals.Fault.{Fault as AnyFault};
+ghost use Rattle.tb_core.specs.Machine.{Machine};
+ghost use Rattle.tb_tables.specs.Records.{Tables, AreStored};
+ghost use Rattle.tb_tables.specs.Leaving.{BlamesNoDisk};
+ghost use Rattle.tb_refine.specs.DeskTables.{tables_of, IsDeskOf};
+ghost use Rattle.tb_verify.specs.Summary.{IsSummaryOf};
+ghost use Rattle.tb_verify.specs.Version1.{HoldsFirst, AreStoredInVersion1};
+ghost use Rattle.tb_verify.specs.Version1Desk.{IsFirstDesk, LooksFirst};
+
+use crate::faults::of_error;
+use crate::summary::DeskSummary;
+use crate::upgrading::upgrade;
+use crate::version1_reading::read_version1_rows;
+use crate::version1_summary::summary_without_pulls;
+use sqlite::{Alter, Connection};
+use std::alloc::Global;
+use tb_core::Fault;
+use tb_tables::has_version_one_schema;
+
+/// Whether the connection is in no transaction, and its database has exactly the tables of version 1.
+fn may_be_first_desk<S: Alter>(conn: &Connection<S>) -> bool
+    ensures looks { IsTrue result → LooksFirst S.Store conn.now }
+    ensures differs { result ≡ false → (s : Machine) → IsFirstDesk S.Store conn.now s → ⊥ }
+{
+    conn.is_autocommit() && has_version_one_schema(conn)
+}
+
+/// Reads all tables of a store, and tests whether it is a desk of version 1: what a desk keeps of the state for which they
+/// stand. Nothing is changed, whatever it answers.
+fn read_first_desk<S: Alter>(alloc: Global, conn: &mut Connection<S>) -> Result<DeskSummary, Fault>
+    ensures answered { HasCleanDisk (state S.Store conn.new) → IfOk result (λ x. (s : Machine)
+        × IsFirstDesk S.Store conn.old s × IsSummaryOf x s) }
+    ensures in_autocommit { OnOk result (conn.new.in_transaction ≡ false) }
+    ensures counts { IfOk result (λ x. (x.batches ≤ x.moves) × (x.sentences ≤ 1000000)
+        × (x.moves ≤ 1000000000)) }
+    ensures unfit { HasCleanDisk (state S.Store conn.new) → result ≡ Err Fault.NotADesk → (s : Machine)
+        → IsFirstDesk S.Store conn.old s → ⊥ }
+    ensures untouched { HasCleanDisk (state S.Store conn.new) → result ≡ Err Fault.NotADesk
+        → (state S.Store conn.new).now ≡ (state S.Store conn.old).now }
+    ensures never_refuses { (r : AnyRefusal) → result ≢ Err (Fault.Refused r) }
+    ensures cause { (state S.Store conn.old).step_limit ≡ None
+        → BlamesNoDisk (λ (fault : AnyFault). fault ≢ Fault.Device) S.Store conn.old conn.new result }
+    ensures unchanged { HasCleanDisk (state S.Store conn.new)
+        → OnOk result (IsUnchanged (state S.Store conn.old) (state S.Store conn.new)) }
+    ensures kept { HasCleanDisk (state S.Store conn.new) → IsTrue (state S.Store conn.new).is_open → (d : Tables)
+        → HoldsFirst S.Store conn.old d → HoldsFirst S.Store conn.new d }
+    ensures survives { Survives (state S.Store conn.old) (state S.Store conn.new) (λ _. ⊥) }
+{
+    if !may_be_first_desk(conn) {
+        return Err(Fault::NotADesk);
+    }
+    let rows = read_version1_rows(alloc, conn)?;
+    summary_without_pulls(alloc, &rows)
+}
+
+/// Makes a desk of a store that is one of version 1 without pulls: what the desk keeps of the state for which its tables
+/// stand. All rows are read and tested first, and are in memory at a time; then the tables are changed in one transaction.
+///
+/// # Errors
+///
+/// `NotADesk`, where the store is the desk of version 1 of no such state, and it is as it was; want of memory; or the
+/// store's. Each leaves a desk of version 1 what it was.
+pub fn migrate<S: Alter>(alloc: Global, conn: &mut Connection<S>) -> Result<DeskSummary, Fault>
+    ensures migrated { HasCleanDisk (state S.Store conn.new) → IfOk result (λ x. (s : Machine)
+        × IsFirstDesk S.Store conn.old s × IsDeskOf S.Store conn.new s × IsSummaryOf x s) }
+    ensures in_autocommit { OnOk result (conn.new.in_transaction ≡ false) }
+    ensures counts { IfOk result (λ x. (x.batches ≤ x.moves) × (x.sentences ≤ 1000000)
+        × (x.moves ≤ 1000000000)) }
+    ensures unfit { HasCleanDisk (state S.Store conn.new) → result ≡ Err Fault.NotADesk → (s : Machine)
+        → IsFirstDesk S.Store conn.old s → ⊥ }
+    ensures untouched { HasCleanDisk (state S.Store conn.new) → result ≡ Err Fault.NotADesk
+        → (state S.Store conn.new).now ≡ (state S.Store conn.old).now }
+    ensures unwritten { result ≡ Err Fault.NotADesk → Survives (state S.Store conn.old) (state S.Store conn.new)
+        (λ _. ⊥) }
+    ensures never_refuses { (r : AnyRefusal) → result ≢ Err (Fault.Refused r) }
+    ensures cause { ((s : Machine) → IsFirstDesk S.Store conn.old s → ⊥)
+        → (state S.Store conn.old).step_limit ≡ None
+        → BlamesNoDisk (λ (fault : AnyFault). fault ≢ Fault.Device) S.Store conn.old conn.new result }
+    ensures again { HasCleanDisk (state S.Store conn.new) → IsTrue (state S.Store conn.new).is_open
+        → OnErr result ((s : Machine) → IsFirstDesk S.Store conn.old s → IsFirstDesk S.Store conn.new s) }
+    ensures crash { Survives (state S.Store conn.old) (state S.Store conn.new) (λ db. (s : Machine)
+        → IsFirstDesk S.Store conn.old s → AreStored (tables_of s) db) }
+{
+    let summary = read_first_desk(alloc, conn)?;
+    match upgrade(conn) {
+        Ok(()) => Ok(summary),
+        Err(error) => Err(of_error(error)),
+    }
+}
+
+/// What a crash may leave of a desk of version 1 whose connection is open and in no transaction: its tables, whole.
+pub fn left_by_a_crash<S: Alter>(_conn: &Connection<S>)
+    ensures { (s : Machine) → IsFirstDesk S.Store _conn.now s → (db : _) → (state S.Store _conn.now).may_leave db
+        → AreStoredInVersion1 (tables_of s) db }
+{}

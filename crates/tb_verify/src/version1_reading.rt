@@ -1,0 +1,178 @@
+//! The rows of the six tables of version 1, read one table after the other. Whatever a read answers, nothing is changed.
+
+ghost use Rattle.std.specs.Prelude.{◌≡◌, ◌≢◌, ℤ, false, pos, [], ◌∷◌, map, List, All, IsTrue};
+ghost use Rattle.sqlite.specs.declared.types.Value.TheVariants.{Int};
+ghost use Rattle.tb_tables.specs.Records.{Shows, numbered, batch_shown, sentence_shown, move_shown, total_shown};
+ghost use Rattle.tb_tables.specs.Records.{batch_view, sentence_view, move_view, total_view};
+ghost use Rattle.tb_tables.specs.Values.{batch_of, sentence_of, move_of, total_of};
+ghost use Rattle.tb_verify.specs.Version1.{TellsFirst};
+ghost use Rattle.tb_verify.specs.Version1Reads.{HasReadVersion1, AreTheRevisions, AreTheRows};
+
+use crate::faults::{of_error, of_read};
+use crate::summary::TableRows;
+use crate::version1_selecting::{
+    batch_rows, move_rows, revision_rows, sentence_rows, total_rows, version_rows,
+};
+use sqlite::types::ValueRef;
+use sqlite::{Alter, Connection, Row};
+use std::alloc::Global;
+use tb_core::Fault;
+use tb_reads::{batches_in, moves_in, revisions_in, sentences_in, totals_in};
+use tb_refine::{desk_rows_are_readable, one_list_for_the_rows};
+use tb_tables::{BatchRow, MoveRow, RevisionRow, SentenceRow, TotalRow};
+
+/// Whether a row has two integers, the second 1.
+fn is_first(row: &Row) -> bool
+    ensures tells { IsTrue result → (n : ℤ) × (row.now ≡ Int n ∷ Int (pos 1) ∷ []) }
+    ensures differs { result ≡ false → (n : ℤ) → row.now ≢ Int n ∷ Int (pos 1) ∷ [] }
+{
+    if row.column_count() != 2 {
+        return false;
+    }
+    match (row.get_ref(0), row.get_ref(1)) {
+        (Ok(ValueRef::Int(_)), Ok(ValueRef::Int(version))) => version == 1,
+        _ => false,
+    }
+}
+
+fn is_first_version(rows: &[Row]) -> bool
+    ensures tells { IsTrue result → (n : ℤ) × (rows.now ≡ (Int n ∷ Int (pos 1) ∷ []) ∷ []) }
+    ensures differs { result ≡ false → (n : ℤ) → rows.now ≢ (Int n ∷ Int (pos 1) ∷ []) ∷ [] }
+{
+    match rows {
+        [row] => is_first(row),
+        _ => false,
+    }
+}
+
+/// That the file tells one version, 1.
+fn read_version1<S: Alter>(conn: &mut Connection<S>) -> Result<(), Fault>
+    ensures { HasReadVersion1 S.Store conn.old conn.new result (λ _ trees. TellsFirst trees) }
+{
+    match version_rows(conn) {
+        Ok(rows) => {
+            if !is_first_version(rows.as_slice()) {
+                return Err(Fault::NotADesk);
+            }
+            Ok(())
+        }
+        Err(error) => Err(of_error(error)),
+    }
+}
+
+/// The rows of batches, by number.
+fn read_version1_batches<S: Alter>(
+    alloc: Global,
+    conn: &mut Connection<S>,
+) -> Result<Vec<BatchRow>, Fault>
+    ensures { HasReadVersion1 S.Store conn.old conn.new result (λ v trees.
+        Shows batch_view (numbered batch_shown 1 (map batch_of v.items)) (trees 1)) }
+{
+    desk_rows_are_readable();
+    match batch_rows(conn) {
+        Ok(rows) => match batches_in(alloc, rows.as_slice()) {
+            Ok(batches) => Ok(batches),
+            Err(error) => Err(of_read(error)),
+        },
+        Err(error) => Err(of_error(error)),
+    }
+}
+
+/// The rows of sentences, by number.
+fn read_version1_sentences<S: Alter>(
+    alloc: Global,
+    conn: &mut Connection<S>,
+) -> Result<Vec<SentenceRow>, Fault>
+    ensures { HasReadVersion1 S.Store conn.old conn.new result (λ v trees.
+        Shows sentence_view (numbered sentence_shown 1 (map sentence_of v.items)) (trees 3)) }
+{
+    desk_rows_are_readable();
+    match sentence_rows(conn) {
+        Ok(rows) => match sentences_in(alloc, rows.as_slice()) {
+            Ok(sentences) => Ok(sentences),
+            Err(error) => Err(of_read(error)),
+        },
+        Err(error) => Err(of_error(error)),
+    }
+}
+
+/// The rows of revisions, by sentence and number.
+fn read_version1_revisions<S: Alter>(
+    alloc: Global,
+    conn: &mut Connection<S>,
+) -> Result<Vec<RevisionRow>, Fault>
+    ensures { HasReadVersion1 S.Store conn.old conn.new result (λ v trees. AreTheRevisions v.items trees) }
+{
+    desk_rows_are_readable();
+    match revision_rows(conn) {
+        Ok(rows) => match revisions_in(alloc, rows.as_slice()) {
+            Ok(revisions) => Ok(revisions),
+            Err(error) => Err(of_read(error)),
+        },
+        Err(error) => Err(of_error(error)),
+    }
+}
+
+/// The rows of moves, by number.
+fn read_version1_moves<S: Alter>(
+    alloc: Global,
+    conn: &mut Connection<S>,
+) -> Result<Vec<MoveRow>, Fault>
+    ensures { HasReadVersion1 S.Store conn.old conn.new result (λ v trees.
+        Shows move_view (numbered move_shown 1 (map move_of v.items)) (trees 7)) }
+{
+    desk_rows_are_readable();
+    match move_rows(conn) {
+        Ok(rows) => match moves_in(alloc, rows.as_slice()) {
+            Ok(moves) => Ok(moves),
+            Err(error) => Err(of_read(error)),
+        },
+        Err(error) => Err(of_error(error)),
+    }
+}
+
+/// The rows of totals, by the number of the state.
+fn read_version1_totals<S: Alter>(
+    alloc: Global,
+    conn: &mut Connection<S>,
+) -> Result<Vec<TotalRow>, Fault>
+    ensures { HasReadVersion1 S.Store conn.old conn.new result (λ v trees.
+        Shows total_view (numbered total_shown 1 (map total_of v.items)) (trees 8)) }
+{
+    desk_rows_are_readable();
+    match total_rows(conn) {
+        Ok(rows) => match totals_in(alloc, rows.as_slice()) {
+            Ok(totals) => Ok(totals),
+            Err(error) => Err(of_read(error)),
+        },
+        Err(error) => Err(of_error(error)),
+    }
+}
+
+/// The rows of all tables of version 1, and no pulled sentence.
+///
+/// # Errors
+///
+/// `NotADesk`, where they are those of no records, or the version is not 1; want of memory; or the store's.
+pub(crate) fn read_version1_rows<S: Alter>(
+    alloc: Global,
+    conn: &mut Connection<S>,
+) -> Result<TableRows, Fault>
+    ensures { HasReadVersion1 S.Store conn.old conn.new result (λ r trees. AreTheRows r trees) }
+{
+    one_list_for_the_rows();
+    read_version1(conn)?;
+    let batches = read_version1_batches(alloc, conn)?;
+    let sentences = read_version1_sentences(alloc, conn)?;
+    let revisions = read_version1_revisions(alloc, conn)?;
+    let moves = read_version1_moves(alloc, conn)?;
+    let totals = read_version1_totals(alloc, conn)?;
+    Ok(TableRows {
+        batches,
+        sentences,
+        revisions,
+        moves,
+        totals,
+        pulled: Vec::new(alloc),
+    })
+}

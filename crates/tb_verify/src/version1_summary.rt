@@ -1,0 +1,55 @@
+//! Whether rows are those of a state without pulls. No database is in it.
+
+ghost use Rattle.std.specs.Prelude.{◌≡◌, ◌≢◌, ◌≤◌, ◌↔◌, All, Err, IsTrue, IfOk, IfErr};
+ghost use Rattle.tb_core.specs.declared.refusals.Refusal.{Refusal as AnyRefusal};
+ghost use Rattle.tb_core.specs.declared.refusals.Fault.{Fault as AnyFault};
+ghost use Rattle.tb_core.specs.Machine.{Machine};
+ghost use Rattle.tb_core.specs.Reaching.{IsReachable};
+ghost use Rattle.tb_tables.specs.declared.rows.MoveRow.{MoveRow as AnyMoveRow};
+ghost use Rattle.tb_refine.specs.DeskTables.{tables_of};
+ghost use Rattle.tb_verify.specs.Summary.{IsSummaryOf, tables_in};
+ghost use Rattle.tb_verify.specs.Version1Desk.{HasNoPull};
+
+use crate::faults::of_unfit;
+use crate::summary::{DeskSummary, TableRows, summary_of_rows};
+use std::alloc::Global;
+use tb_core::Fault;
+use tb_tables::MoveRow;
+
+/// Whether a move is no pull and no restore.
+fn is_no_pull(row: &MoveRow) -> bool
+    ensures { IsTrue result ↔ (row.now.kind ≢ 11) × (row.now.kind ≢ 12) }
+{
+    row.kind != 11 && row.kind != 12
+}
+
+fn has_no_pull(moves: &[MoveRow]) -> bool
+    ensures { IsTrue result ↔ All (λ (m : AnyMoveRow). (m.kind ≢ 11) × (m.kind ≢ 12)) moves.now }
+{
+    moves.iter().all(|row| is_no_pull(row))
+}
+
+/// What a desk keeps of the state that has these rows, one that accepted commands reach within the largest limits, none of
+/// them a pull or a restore.
+///
+/// # Errors
+///
+/// `NotADesk`, where no such state has these rows; or want of memory.
+pub(crate) fn summary_without_pulls(alloc: Global, rows: &TableRows) -> Result<DeskSummary, Fault>
+    ensures summary { IfOk result (λ x. (s : Machine) × IsReachable s × HasNoPull s
+        × (tables_in rows.now ≡ tables_of s) × IsSummaryOf x s) }
+    ensures counts { IfOk result (λ x. (x.batches ≤ x.moves) × (x.sentences ≤ 1000000)
+        × (x.moves ≤ 1000000000)) }
+    ensures unfit { result ≡ Err Fault.NotADesk → (s : Machine) → IsReachable s → HasNoPull s
+        → tables_in rows.now ≡ tables_of s → ⊥ }
+    ensures never_refuses { (r : AnyRefusal) → result ≢ Err (Fault.Refused r) }
+    ensures cause { IfErr result (λ (fault : AnyFault). fault ≢ Fault.Device) }
+{
+    if !has_no_pull(rows.moves.as_slice()) {
+        return Err(Fault::NotADesk);
+    }
+    match summary_of_rows(alloc, rows) {
+        Ok(summary) => Ok(summary),
+        Err(unfit) => Err(of_unfit(unfit)),
+    }
+}
