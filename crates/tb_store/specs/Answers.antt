@@ -1,4 +1,4 @@
--- What the state of a desk answers.
+-- What a desk answers from its state.
 use Rattle.std.specs.Prelude.{◌≡◌, ◌⊎◌, ◌+◌, ℕ, List, [], ◌∷◌, ⊤}
 use Rattle.tb_conllu.specs.Text.{text_of}
 use Rattle.tb_core.specs.declared.refusals.Refusal.TheVariants.{NoSuchSentence, NoSuchRevision}
@@ -12,7 +12,7 @@ use Rattle.tb_core.specs.Totals.{at_state, sum_moves, out_of, into}
 use Rattle.tb_core.specs.Commands.{HasSentence}
 use Rattle.tb_refine.specs.Revisions.{HasRevision}
 
--- These numbers are the net of the moves: what is in a state, with what left it, is what came into it.
+-- The totals are the net of the moves: in each state, what is there and what left make up what came in.
 pub record AreNet (t : Totals) (moves : List MoveText) : Type 0 where
   pub sentences : (st : State)
       → at_state t.sentences st + sum_moves (out_of st (λ m. m.sentences)) moves
@@ -41,12 +41,12 @@ pub record IsCurrent (s : Machine) (sentence revision : ℕ) (text : List ℕ) :
 abbrev pub HasNoSentence : Machine → ℕ → Type 0
 HasNoSentence s n = (place : ℕ) (x : Sentence) → HasSentence s n place x → ⊥
 
--- the sentence stands, and has no such revision
+-- the sentence exists, and has no such revision
 abbrev pub HasNoRevision : Machine → ℕ → ℕ → Type 0
 HasNoRevision s n k = (place : ℕ) × (x : Sentence) × HasSentence s n place x
     × ((r : Revision) → HasRevision x k r → ⊥)
 
--- of refusals, those that the state gives; any fault of the store may come
+-- a refusal is one that the state gives; any fault of the store is possible
 abbrev pub RefusesRevision : Machine → ℕ → ℕ → Fault → Type 0
 RefusesRevision s n k (Refused r) = ((r ≡ NoSuchSentence) × HasNoSentence s n) ⊎ ((r ≡ NoSuchRevision)
     × HasNoRevision s n k)

@@ -12,13 +12,13 @@ use Rattle.tb_refine.specs.Faults.{IsNoDevice}
 use Rattle.tb_store.specs.Kept.{Kept}
 use Rattle.tb_store.specs.Calls.{InState, IsDurable}
 
--- of a call on the connection of a desk, where there is no limit on steps
+-- for a call on the connection of a desk, without a step limit
 abbrev pub FailsWithoutDevice : {S X : Type 0} → Ghosts S → Held S → Held S → Result X Fault → Type 0
 FailsWithoutDevice g old new result =
     IsFaultless g old new → HasCleanDisk (state g new) → (state g old).step_limit ≡ None
     → (s : Machine) → IsDeskOf g old s → IfErr result IsNoDevice
 
--- of a call on a desk
+-- for a call on a desk
 abbrev pub BlamesNoDevice : {S X : Type 0} → Ghosts S → Kept S → Kept S → Result X Fault → Type 0
 BlamesNoDevice g old new result = InState g old new (λ s. IsFaultless g old.conn new.conn → IfErr result IsNoDevice)
 

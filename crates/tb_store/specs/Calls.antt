@@ -1,4 +1,4 @@
--- What a call on a desk answers, and what it leaves of the desk, whatever it answers. What is said of tables is under a disk that
+-- What a call on a desk answers, and what it leaves of the desk after any answer. Facts of tables assume a disk that
 -- kept what it took (`HasCleanDisk`).
 use Rattle.std.specs.Prelude.{◌≡◌, ◌≢◌, ℕ, Result, Ok, Err, IfOk, IfErr, OnOk, IsTrue}
 use Rattle.sqlite.specs.Store.{Ghosts}
@@ -17,24 +17,24 @@ use Rattle.tb_store.specs.Kept.{Kept}
 use Rattle.tb_store.specs.Represents.{Represents}
 use Rattle.tb_store.specs.Answers.{HasNoSentence}
 
--- what it answers is so in the state for which the desk stands
+-- the answer is so in the state that the desk represents
 abbrev pub Gives : {S X E : Type 0} → Ghosts S → Kept S → Kept S → Result X E → (Machine → X → Type 0)
     → Type 0
 Gives g old new result IsSo = HasCleanDisk (state g new.conn) → IfOk result (λ x. (s : Machine)
     → Represents g old s → IsSo s x)
 
--- the error with which it ends is so in that state
+-- the error is so in that state
 abbrev pub GivesOnErr : {S X E : Type 0} → Ghosts S → Kept S → Kept S → Result X E
     → (Machine → E → Type 0) → Type 0
 GivesOnErr g old new result IsSo = HasCleanDisk (state g new.conn) → IfErr result (λ e. (s : Machine)
     → Represents g old s → IsSo s e)
 
--- a desk is never told to be none
+-- a desk is never called no desk
 abbrev pub KnowsItself : {S X : Type 0} → Ghosts S → Kept S → Kept S → Result X Fault → Type 0
 KnowsItself g old new result =
     HasCleanDisk (state g new.conn) → (s : Machine) → Represents g old s → result ≢ Err NotADesk
 
--- while the store is open, the desk stands for the state for which it stood
+-- while the store is open, the desk represents the same state
 abbrev pub KeepsState : {S : Type 0} → Ghosts S → Kept S → Kept S → Type 0
 KeepsState g old new = HasCleanDisk (state g new.conn) → IsTrue (state g new.conn).is_open → (s : Machine)
     → Represents g old s → Represents g new s
@@ -44,11 +44,11 @@ abbrev pub WritesNothing : {S : Type 0} → Ghosts S → Kept S → Kept S → T
 WritesNothing g old new = (s : Machine) → Represents g old s
     → Survives (state g old.conn) (state g new.conn) (λ _. ⊥)
 
--- what holds of the state for which the desk stands, and of what the call leaves
+-- what holds of the state that the desk represents, and of what the call leaves
 abbrev pub InState : {S : Type 0} → Ghosts S → Kept S → Kept S → (Machine → Type 0) → Type 0
 InState g old new IsSo = HasCleanDisk (state g new.conn) → (s : Machine) → Represents g old s → IsSo s
 
--- what a call that succeeds has done is so in that state
+-- what a successful call did is so in that state
 abbrev pub Does : {S X E : Type 0} → Ghosts S → Kept S → Kept S → Result X E → (Machine → Type 0) → Type 0
 Does g old new result IsSo = HasCleanDisk (state g new.conn) → OnOk result ((s : Machine) → Represents g old s
     → IsSo s)
@@ -58,21 +58,21 @@ abbrev pub HoldsAnEnd : {S : Type 0} → Ghosts S → (old : Kept S) → Command
 HoldsAnEnd g old command db = (s : Machine) → Represents g old s → (a : Answer) × (t : Machine)
     × Steps old.limits s command a t × AreStored (tables_of t) db
 
--- a crash leaves what it could leave before, or such tables, whole
+-- a crash leaves what it could leave before, or the whole of such tables
 abbrev pub CrashesWhole : {S : Type 0} → Ghosts S → Kept S → Kept S → Command → Type 0
 CrashesWhole g old new command = Survives (state g old.conn) (state g new.conn) (HoldsAnEnd g old command)
 
--- a crash at this moment leaves the tables of this state, whole, and nothing else
+-- a crash at this moment leaves all tables of this state, and nothing else
 abbrev pub LeavesOnly : {S : Type 0} → Ghosts S → Kept S → Machine → Type 0
 LeavesOnly g d s = (db : Trees) → (state g d.conn).may_leave db → AreStored (tables_of s) db
 
--- the desk stands for this state, and a crash at this moment leaves its tables
+-- the desk represents this state, and a crash at this moment leaves its tables
 abbrev pub IsDurable : {S : Type 0} → Ghosts S → Kept S → Machine → Type 0
 IsDurable g d s = Represents g d s × LeavesOnly g d s
 
--- How a command ends in a state, by what it answers: with the machine's reply, in its next state; with the machine's
--- refusal, or for want of memory, in the same state; after another fault in the same state, where the store is open.
--- A desk is never told to be none, and no sink is blamed.
+-- How a command ends, by its answer. After the machine's reply the desk durably represents the next state. After a
+-- refusal, or out of memory, it durably represents the same state. After another fault it does so while the store is
+-- open. A desk is never called no desk, and no sink is blamed.
 abbrev pub CommandEnds : {S X : Type 0} → Ghosts S → Kept S → Kept S → Command → (X → Reply) → Machine
     → Result X Fault
     → Type 0

@@ -10,19 +10,19 @@ use Rattle.tb_core.specs.Tests.{IsBadName, IsNoBatch}
 use Rattle.tb_search.specs.Released.{in_batch, current_text}
 use Rattle.tb_refine.specs.Finding.{HasNumber}
 
--- What a sink has where an export ends early: nothing where it was refused, a first part where the sink failed, and whole
--- sentences after any other fault.
+-- What a sink has when an export ends early. After a refusal it has nothing new, and where it failed itself a first
+-- part. After any other fault it has whole sentences.
 abbrev pub IsExportBrokenOff : Fault → Option (List ℕ) → Option (List ℕ) → List Sentence → Type 0
 IsExportBrokenOff (Refused r) old new xs = new ≡ old
 IsExportBrokenOff Output old new xs = AppendsPart old new (current_text xs)
 IsExportBrokenOff _ old new xs = (k : ℕ) × Appends old new (current_text (take k xs))
 
--- nothing, or so much of the sentences of the batch with this name
+-- nothing new, or such a part of the sentences of the batch with this name
 abbrev pub IsPartOfBatch : Machine → List ℕ → Fault → Option (List ℕ) → Option (List ℕ) → Type 0
 IsPartOfBatch s name e old new = (new ≡ old) ⊎ ((n : ℕ) × HasNumber s name (Some n)
     × IsExportBrokenOff e old new (in_batch s n))
 
--- of refusals, those that the state gives, the first that holds; any fault of the store or of the sink may come
+-- a refusal is the first that the state gives; any fault of the store or of the sink is possible
 abbrev pub RefusesBatch : Machine → List ℕ → Fault → Type 0
 RefusesBatch s name (Refused r) = IsBadName (is_name name) r ⊎ ((is_name name ≡ true) × IsNoBatch s name r)
 RefusesBatch s name _ = ⊤

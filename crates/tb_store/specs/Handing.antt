@@ -1,4 +1,4 @@
--- What a call leaves of a connection that it was given. What is said of tables is under a disk that kept what it took
+-- What a call leaves of a connection that it was given. Facts of tables assume a disk that kept what it took
 -- (`HasCleanDisk`).
 use Rattle.std.specs.Prelude.{◌≡◌, ◌⊎◌, Bool, true, false, [], Result, Ok, Err, IsTrue, codes}
 use Rattle.sqlite.specs.declared.error.Error.{Error}
@@ -18,7 +18,7 @@ use Rattle.tb_tables.specs.Leaving.{IsFaultless}
 use Rattle.tb_refine.specs.DeskTables.{IsDeskOf}
 use Rattle.tb_refine.specs.Faults.{IsNoDevice}
 
--- what an error tells of the store with which it refuses a text that is no statement
+-- what an error says of a store that was asked to run a text that is no statement
 abbrev pub reported_of_code : ErrorCode → Result Bool Fault
 reported_of_code OutOfMemory = Err Memory
 reported_of_code _ = Ok false
@@ -28,19 +28,19 @@ reported_of_error (SqlInputError why) = Ok true
 reported_of_error (SqliteFailure code) = reported_of_code code
 reported_of_error _ = Ok false
 
--- a store that is told to be open is open
+-- a store that is reported open is open
 abbrev pub TellsOpen : {S : Type 0} → Ghosts S → (new : Held S) → Result Bool Fault → Type 0
 TellsOpen g new reported = HasCleanDisk (state g new) → reported ≡ Ok true → IsTrue (state g new).is_open
 
--- one that is told to be shut was shut, or its disk failed meanwhile
+-- a store that is reported shut was shut, or its disk failed meanwhile
 abbrev pub TellsShut : {S : Type 0} → Ghosts S → (old new : Held S) → Result Bool Fault → Type 0
 TellsShut g old new reported = HasCleanDisk (state g new) → reported ≡ Ok false → IsFaultless g old new → ⊥
 
--- the store was asked a text that is no statement, and memory was wanting for its answer
+-- the store was asked to run a text that is no statement, and the answer ran out of memory
 abbrev pub WantsToTell : State → State → Type 0
 WantsToTell old new = IsNotRun old new (codes "unknown") [] (SqliteFailure OutOfMemory)
 
--- want of memory is told only where it was wanting at the question
+-- want of memory is reported only where that question ran out of memory
 abbrev pub TellsWant : {S : Type 0} → Ghosts S → (old new : Held S) → Result Bool Fault → Type 0
 TellsWant g old new reported =
     HasCleanDisk (state g new) → reported ≡ Err Memory → WantsToTell (state g old) (state g new)
@@ -56,7 +56,7 @@ abbrev pub PutsInDoubt : {S : Type 0} → Ghosts S → (old new : Held S) → (b
 PutsInDoubt g old new before after fault = IsTrue after → IsTrue before
     ⊎ ((fault ≡ Device) × (HasCleanDisk (state g new) → WantsToTell (state g old) (state g new)))
 
--- a refusal is the one that was given, and nothing was asked of the connection
+-- a refusal is the given one, and the connection is unchanged
 abbrev pub HandsOnRefusal : {S : Type 0} → (old new : Held S) → (given fault : Fault) → Type 0
 HandsOnRefusal old new given fault = (r : Refusal) → fault ≡ Refused r → (given ≡ Refused r) × (new ≡ old)
 
@@ -64,7 +64,7 @@ HandsOnRefusal old new given fault = (r : Refusal) → fault ≡ Refused r → (
 abbrev pub IsNoDeviceIfFaultless : {S : Type 0} → Ghosts S → (old new : Held S) → Fault → Type 0
 IsNoDeviceIfFaultless g old new fault = HasCleanDisk (state g new) → IsFaultless g old new → IsNoDevice fault
 
--- want of memory is told only where the store is open
+-- want of memory is reported only where the store is open
 abbrev pub IsOpenOnMemory : {S : Type 0} → Ghosts S → Held S → Fault → Type 0
 IsOpenOnMemory g new fault = HasCleanDisk (state g new) → fault ≡ Memory → IsTrue (state g new).is_open
 
@@ -72,12 +72,12 @@ IsOpenOnMemory g new fault = HasCleanDisk (state g new) → fault ≡ Memory →
 abbrev pub WasOpen : {S : Type 0} → Ghosts S → (old new : Held S) → Type 0
 WasOpen g old new = HasCleanDisk (state g new) → IsTrue (state g new).is_open → IsTrue (state g old).is_open
 
--- while the store is open, the connection sees what it saw
+-- while the store is open, the connection sees the same database
 abbrev pub SeesTheSame : {S : Type 0} → Ghosts S → (old new : Held S) → Type 0
 SeesTheSame g old new =
     HasCleanDisk (state g new) → IsTrue (state g new).is_open → (state g new).now ≡ (state g old).now
 
--- while the store is open, it is the desk of each state of which it was
+-- while the store is open, the connection stays the desk of the same states
 abbrev pub StaysADesk : {S : Type 0} → Ghosts S → (old new : Held S) → Type 0
 StaysADesk g old new =
     HasCleanDisk (state g new) → IsTrue (state g new).is_open → (s : Machine) → IsDeskOf g old s

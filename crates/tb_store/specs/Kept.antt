@@ -38,8 +38,8 @@ kept_code {S} store =
     })
     (λ _. refl)
 
--- what each call needs of a desk, whatever the store holds: it is in no transaction, there is no limit on the steps
--- of a statement, and there is room for one more of each
+-- What each call needs of a desk, independent of the tables: no open transaction and no step limit. There is room for
+-- one more batch, sentence and move.
 pub record IsReady {S : Type 0} (d : Kept S) : Type 0 where
   pub autocommit : d.conn.in_transaction ≡ false
   pub unlimited : d.conn.step_limit ≡ None
@@ -48,7 +48,7 @@ pub record IsReady {S : Type 0} (d : Kept S) : Type 0 where
   pub sentences : d.sentences ≤ 1000000
   pub moves : d.moves ≤ 1000000000
 
--- what of it a command needs beside the tables
+-- what a command needs of it beside the tables
 abbrev pub counts_of : {S : Type 0} → Kept S → Counters
 counts_of d = record { limits = d.limits; moves = d.moves; totals = d.totals }
 

@@ -1,4 +1,4 @@
--- When a desk stands for a state of the machine.
+-- When a desk represents a state of the machine.
 use Rattle.std.specs.Prelude.{◌≡◌, length, [], ◌∷◌, None}
 use Rattle.sqlite.specs.Store.{Ghosts}
 use Rattle.sqlite.specs.State.{HasCleanDisk}
@@ -9,7 +9,7 @@ use Rattle.tb_core.specs.Totals.{AreTotalsOf}
 use Rattle.tb_refine.specs.DeskTables.{IsDeskOf}
 use Rattle.tb_store.specs.Kept.{Kept}
 
--- Its connection holds the tables of this state, and what it keeps of counts and totals is the state's.
+-- Its connection holds the tables of this state, and the counts and totals that it keeps are the state's.
 pub record Represents {S : Type 0} (g : Ghosts S) (d : Kept S) (s : Machine) : Type 0 where
   pub desk : IsDeskOf g d.conn s
   pub batches : d.batches ≡ length s.batches
@@ -17,7 +17,7 @@ pub record Represents {S : Type 0} (g : Ghosts S) (d : Kept S) (s : Machine) : T
   pub moves : d.moves ≡ length s.moves
   pub totals : AreTotalsOf d.totals s
 
--- over a disk that kept what it took, it stands for each state of which the connection was the desk
+-- over a disk that kept what it took, the desk represents each state that the connection was the desk of
 abbrev pub RepresentsEach : {S : Type 0} → Ghosts S → Held S → Kept S → Type 0
 RepresentsEach g conn d = HasCleanDisk (state g d.conn) → (s : Machine) → IsDeskOf g conn s → Represents g d s
 

@@ -1,4 +1,4 @@
-//! What a desk is asked and answers.
+//! The answer of a desk for a sentence.
 
 /// The current revision of a sentence.
 #[derive(Debug, Drop)]

@@ -1,4 +1,4 @@
-//! Reads of a desk's tables, told as facts of the state for which they stand. Whatever a read answers, they stand for it still.
+//! Reads of a desk's tables, stated as facts of the state that the desk represents. A read leaves the desk as it is.
 
 ghost use Rattle.std.specs.Prelude.{◌≡◌, ◌≢◌, ◌-◌, ◌<◌, map, false, [], ◌∷◌, Some, Err};
 ghost use Rattle.std.specs.Prelude.{slice_get, string_bytes, IfOk, None, length};
@@ -74,7 +74,7 @@ pub(crate) fn totals<S: Alter>(alloc: Global, conn: &mut Connection<S>) -> Resul
     }
 }
 
-/// The number of the current revision of the sentence with this number, which stands.
+/// The number of the current revision of the sentence with this number, which exists.
 pub(crate) fn current<S: Alter>(conn: &mut Connection<S>, number: u32) -> Result<u32, Fault>
     requires { 0 < number }
     ensures answered { Tells S.Store conn.old conn.new result (λ s n. (x : Sentence)
@@ -97,7 +97,7 @@ pub(crate) fn current<S: Alter>(conn: &mut Connection<S>, number: u32) -> Result
     }
 }
 
-/// The text of a revision of the sentence with this number, both of which stand.
+/// The text of a revision of the sentence with this number. Both exist.
 pub(crate) fn text<S: Alter>(
     conn: &mut Connection<S>,
     number: u32,
@@ -126,7 +126,7 @@ pub(crate) fn text<S: Alter>(
     }
 }
 
-/// The current revision of the sentence with this number, which stands.
+/// The current revision of the sentence with this number, which exists.
 pub(crate) fn sentence<S: Alter>(conn: &mut Connection<S>, number: u32) -> Result<Current, Fault>
     requires { 0 < number }
     ensures answered { Tells S.Store conn.old conn.new result (λ s c. (x : Sentence)
@@ -150,7 +150,7 @@ pub(crate) fn sentence<S: Alter>(conn: &mut Connection<S>, number: u32) -> Resul
     })
 }
 
-/// The text of a revision of the sentence with this number, which stands.
+/// The text of a revision of the sentence with this number, which exists.
 ///
 /// # Errors
 ///

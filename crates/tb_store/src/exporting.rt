@@ -1,4 +1,4 @@
-//! The texts of many sentences, put to a sink one sentence at a time.
+//! Writes the texts of many sentences to a sink, one sentence at a time.
 
 ghost use Rattle.std.specs.Prelude.{◌≡◌, ◌≢◌, ℕ, Some, Err, false};
 ghost use Rattle.std.specs.Io.KnownBytes.{Appends};
@@ -20,7 +20,7 @@ use tb_core::{Fault, Refusal, good_name};
 use tb_refine::batch_number;
 use tb_search::{export_numbered, export_released};
 
-/// Puts the text of all released sentences, by number.
+/// Writes the text of all released sentences, in the order of their numbers.
 pub(crate) fn released<S: Alter, W: Sink>(
     alloc: Global,
     conn: &mut Connection<S>,
@@ -45,7 +45,7 @@ pub(crate) fn released<S: Alter, W: Sink>(
     }
 }
 
-/// Puts the text of all sentences of the batch with this number, pulled ones too, by number.
+/// Writes the text of all sentences of the batch with this number, pulled ones too, in the order of their numbers.
 fn numbered<S: Alter, W: Sink>(
     alloc: Global,
     conn: &mut Connection<S>,
@@ -71,7 +71,7 @@ fn numbered<S: Alter, W: Sink>(
     }
 }
 
-/// Puts the text of all sentences of the batch with this name, pulled ones too, by number.
+/// Writes the text of all sentences of the batch with this name, pulled ones too, in the order of their numbers.
 ///
 /// # Errors
 ///

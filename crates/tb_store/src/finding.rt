@@ -25,7 +25,7 @@ use tb_query::{Attr, Query};
 use tb_report::Freq;
 use tb_search::{count_released, number_released, search_released};
 
-/// Whether so many hits are above the limit of an answer.
+/// Whether this number of hits is above the limit. Only `Every` has one.
 fn is_above(strategy: Strategy, limit: u64, number: u64) -> bool
     ensures { IsTrue result ↔ IsAbove strategy limit number }
 {
@@ -90,7 +90,7 @@ pub(crate) fn number<S: Alter>(
     Ok(number)
 }
 
-/// Puts a keyword line for each hit of the query in released text, and the line with their number.
+/// Writes a keyword line for each hit of the query in released text, then the line with their number.
 pub(crate) fn search<S: Alter, W: Sink>(
     alloc: Global,
     conn: &mut Connection<S>,

@@ -21,10 +21,11 @@ fn leaves_the_last_commit<S: Alter>(_conn: &Connection<S>)
         → db ≡ (state S.Store _conn.now).committed.trees }
 {}
 
-/// A crash leaves the desk to the next run. Whatever files `left` a crash may leave of a desk in a file that stands
-/// for a state, a connection that the next run opens over them is the desk of this state, tables and schema:
-/// `Desk::adopt` then gives a desk that stands for it. The desk is given up without a close, and its store is given
-/// back.
+/// A crash leaves the desk to the next run.
+///
+/// `desk` is in a file and represents a state, and `left` is any files that a crash may leave of it. A connection that
+/// the next run opens over `left` has the tables and the schema of this state. `Desk::adopt` then gives a desk that
+/// represents it. The desk is given up without a close, and the store is returned.
 pub fn left_to_the_next_run<D: Disk + Drop, E: Disk>(
     desk: Desk<FileStore<D>>,
     _next: &Connection<FileStore<E>>,

@@ -14,8 +14,9 @@ use tb_core::Fault;
 use tb_refine::faults;
 use tb_search::Stopped;
 
-/// Why a walk ended early, as a fault. `NotADesk` is told only where rows or texts are of no desk, or the database answered with
-/// an error that is no fault of the store.
+/// Why a walk ended early, as a fault.
+///
+/// It is `NotADesk` only where rows or texts are not those of a desk, or for an error that is no fault of the store.
 pub(crate) fn fault_of(stopped: Stopped) -> Fault
     ensures left { (old new : Option (List ℕ)) (xs : List Sentence) → IsCutShort stopped old new xs
         → IsExportBrokenOff result old new xs }
