@@ -1,4 +1,4 @@
--- What is asked of a desk without changing it: its text in each state, or why there is none.
+-- What a question has as its answer in each state: a text, or why there is none.
 use Rattle.std.specs.Prelude.{◌≡◌, ◌⊎◌, ℕ, List, [], ◌∷◌, map, Option, Some, None, decimal}
 use Rattle.tb_core.specs.declared.kinds.State.{State}
 use Rattle.tb_core.specs.declared.refusals.Refusal.{Refusal}
@@ -22,7 +22,7 @@ total_row s st = state_word st ∷ decimal (total one s st) ∷ decimal (total w
 abbrev pub totals_text : Machine → List ℕ
 totals_text s = csv_of (totals_head ∷ map (total_row s) all_states)
 
--- The text that a question has in a state; with that of a current revision comes its number.
+-- The text that answers a question in a state. With the current revision comes its number.
 abbrev pub IsBody : Machine → Question → Option ℕ → List ℕ → Type 0
 IsBody s (question.Sentence n) rev text = (k : ℕ) × (rev ≡ Some k) × IsCurrent s n k text
 IsBody s (question.Revision n k) rev text = (rev ≡ None) × IsRevisionText s n k text
@@ -37,14 +37,14 @@ Refuses s (question.Revision n k) r = ((r ≡ NoSuchSentence) × HasNoSentence s
 Refuses s question.Totals r = ⊥
 Refuses s question.Moves r = ⊥
 
--- the question is of a sentence that does not stand
+-- the question is for a sentence that does not exist
 abbrev pub AsksForNone : Machine → Question → Type 0
 AsksForNone s (question.Sentence n) = HasNoSentence s n
 AsksForNone s (question.Revision n k) = HasNoSentence s n
 AsksForNone s question.Totals = ⊥
 AsksForNone s question.Moves = ⊥
 
--- What is told in place of a text: the refusal, or a failure of the call, for this cause.
+-- The answer in place of a text: the refusal, or a failure of the call with this cause.
 abbrev pub IsReportedOf : (cause : Type 0) → Machine → Question → Reply → Type 0
 IsReportedOf cause s q reported = ((r : Refusal) × (reported ≡ reply.Refused r) × Refuses s q r)
     ⊎ IsFailure cause reported

@@ -1,4 +1,4 @@
--- The calls of a desk, as a line of words makes them, and what each writes and leaves.
+-- The calls of a desk that a line of words makes, and what each writes and leaves.
 use Rattle.std.specs.Prelude.{◌≡◌, ◌≤◌, ◌<◌, ◌-◌, ◌^◌, ◌⊎◌, ℕ, List, Option, Some, None}
 use Rattle.std.specs.Prelude.{IsTrue}
 use Rattle.sqlite.specs.Store.{Ghosts}
@@ -42,12 +42,13 @@ abbrev pub call_by : DeskCall → CallText
 call_by (call.Command c) = commands (command_by c)
 call_by (call.Question q) = asks q
 
--- what is asked where a sentence is to be shown
+-- the question of a line that shows a sentence
 abbrev pub question_of : ℕ → Option ℕ → Question
 question_of n None = question.Sentence n
 question_of n (Some rev) = question.Revision n rev
 
--- the call that a line makes, with this body for an import or a correction; check, new, migrate, export, search, count and serve make none
+-- the call of a line, with this body for an import or a correction; check, new, migrate, export, search, count and
+-- serve have none
 abbrev pub call_in : Said → (body : List ℕ) → Option CallText
 call_in (import_batch db user name) body = Some (commands (import_file name user body))
 call_in (step_batch db user name event) body = Some (commands (event_on name event user))
@@ -59,7 +60,7 @@ call_in (totals db) body = Some (asks question.Totals)
 call_in (moves db) body = Some (asks question.Moves)
 call_in _ body = None
 
--- the call that an action of a request asks for; export, released text, search and count are none of these
+-- the call of an action of a request; export, released text, search and count have none
 abbrev pub call_asked : Act → (user body : List ℕ) → Option CallText
 call_asked (act.import_batch name) user body = Some (commands (import_file name user body))
 call_asked (act.step_batch name event) user body = Some (commands (event_on name event user))
@@ -72,7 +73,8 @@ call_asked act.totals user body = Some (asks question.Totals)
 call_asked act.moves user body = Some (asks question.Moves)
 call_asked _ user body = None
 
--- The text of a call in a state, and its own exit status: a reply with its status, or the body of a question with 0.
+-- The text that answers a call in a state, and its own exit status: a reply with its status, or the text of a question
+-- with 0.
 abbrev pub IsOutput : {S : Type 0} → Ghosts S → Limits → Machine → CallText → (old new : Kept S)
     → (text : List ℕ) → (own : ℕ) → Type 0
 IsOutput g l s (commands c) old new text own = (r : Reply) × IsAnswered g l s c old new r
@@ -82,22 +84,22 @@ IsOutput g l s (asks q) old new text own =
     × (((rev : Option ℕ) × IsBody s q rev text × (own ≡ 0)) ⊎ ((r : Reply)
     × IsReportedOf (HasFailed g old new) s q r × (text ≡ reply_text r) × (own ≡ exit_of r)))
 
--- no doubt of the disk, and no fault of it, is forgotten
+-- the disk stays doubted where it was, and its count of faults does not fall
 abbrev pub ForgetsNothing : {S : Type 0} → Ghosts S → (old new : Kept S) → Type 0
 ForgetsNothing g old new =
     (doubt (state g old.conn).is_clean ≤ doubt (state g new.conn).is_clean)
     × ((state g old.conn).faults ≤ (state g new.conn).faults)
 
--- no fault of the disk came: the count of faults, which ends at 2 ^ 64 - 1, did not grow
+-- no new fault of the disk: the count of faults, which saturates at 2 ^ 64 - 1, did not grow
 abbrev pub HasNoNewFault : {S : Type 0} → Ghosts S → (old new : Kept S) → Type 0
 HasNoNewFault g old new =
     ((state g new.conn).faults ≤ (state g old.conn).faults) × ((state g old.conn).faults < 2 ^ 64 - 1)
 
--- nothing is written to the store of a desk that a crash could leave
+-- the call writes nothing that a crash could leave
 abbrev pub ReadsOnly : {S : Type 0} → Ghosts S → (old new : Kept S) → Type 0
 ReadsOnly g old new = ForgetsNothing g old new × WritesNothing g old new
 
--- A crash of a command leaves the tables of a state in which it ends; one of a question writes nothing.
+-- A crash of a command leaves the tables of a state in which it ends. A question writes nothing.
 abbrev pub IsSafe : {S : Type 0} → Ghosts S → CallText → (old new : Kept S) → Type 0
 IsSafe g (commands c) old new = CrashesWhole g old new c
 IsSafe g (asks q) old new = ReadsOnly g old new

@@ -27,7 +27,7 @@ reply_for (replied (pulled_out r)) = reply.Pulled r
 reply_for (replied (restored_to r)) = reply.Restored r
 reply_for (refused r) = reply.Refused r
 
--- the reply for a fault of a desk; no call writes any output of its own
+-- the reply for a fault of a desk; `Output` becomes `Device`, since no call writes output of its own
 abbrev pub reply_for_fault : Fault → Reply
 reply_for_fault (Refused r) = reply.Refused r
 reply_for_fault Memory = reply.Memory
@@ -35,7 +35,7 @@ reply_for_fault Device = reply.Device
 reply_for_fault NotADesk = reply.Desk
 reply_for_fault Output = reply.Device
 
--- a fault that tells no refusal of the machine's
+-- a fault that is no refusal
 abbrev pub IsNoRefusal : Fault → Type 0
 IsNoRefusal fault = (r : Refusal) → fault ≢ Refused r
 
@@ -43,11 +43,11 @@ IsNoRefusal fault = (r : Refusal) → fault ≢ Refused r
 abbrev pub HasFailed : {S : Type 0} → Ghosts S → (old new : Kept S) → Type 0
 HasFailed g old new = IsFaultless g old.conn new.conn → ⊥
 
--- the replies that say nothing of the state: want of memory, and a failed device, which has this cause
+-- the replies that say nothing of the state: want of memory, and a failed device for this cause
 abbrev pub IsFailure : (cause : Type 0) → Reply → Type 0
 IsFailure cause r = (r ≡ reply.Memory) ⊎ ((r ≡ reply.Device) × cause)
 
--- the same over a store that may be no desk's
+-- the same for a store that may not be a desk
 abbrev pub IsStoreFailure : Reply → Type 0
 IsStoreFailure r = IsFailure ⊤ r ⊎ (r ≡ reply.Desk)
 
@@ -65,8 +65,8 @@ HasRoom g l s _ old = ⊤
 abbrev pub BlamesFor : {S : Type 0} → Ghosts S → Limits → Machine → Command → (old new : Kept S) → Type 0
 BlamesFor g l s c old new = HasRoom g l s c old → IsFaultless g old.conn new.conn → IsTrue new.in_doubt
 
--- In this state the command has the machine's answer, and its next state outlasts a crash. Or memory was wanted, and
--- the state outlasts a crash as it was. Or the device failed, for a cause, and it does so where the store is open.
+-- In this state the command has the machine's answer, and its next state outlasts a crash. Or memory ran out, and the
+-- state outlasts a crash unchanged. Or the device failed, for a cause; then the same holds while the store is open.
 abbrev pub IsAnswered : {S : Type 0} → Ghosts S → Limits → Machine → Command → (old new : Kept S) → Reply
     → Type 0
 IsAnswered g l s c old new r =

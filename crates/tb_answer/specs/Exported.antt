@@ -1,4 +1,4 @@
--- What an export has in a state: released text where no name is given, else the batch with it.
+-- What an export has in a state: the batch with the given name, or released text where there is no name.
 use Rattle.std.specs.Prelude.{◌≡◌, ◌⊎◌, ℕ, List, Option, Some, None, Result, Ok, Err}
 use Rattle.tb_core.specs.declared.refusals.Refusal.{Refusal}
 use Rattle.tb_core.specs.declared.refusals.Fault.TheVariants.{Refused}
@@ -29,7 +29,7 @@ abbrev pub HasExport : Machine → (name : Option (List ℕ)) → Result (List �
 HasExport s name (Ok text) = (xs : List Sentence) × AreExported s name xs × (text ≡ current_text xs)
 HasExport s name (Err r) = RefusesExport s name r
 
--- what is told in place of the text: the refusal, or a failure of the call, for this cause
+-- the answer in place of the text: the refusal, or a failure of the call with this cause
 abbrev pub IsReportedOfExport : (cause : Type 0) → Machine → (name : Option (List ℕ)) → Reply → Type 0
 IsReportedOfExport cause s name reported = ((r : Refusal) × (reported ≡ reply.Refused r) × HasExport s name (Err r))
     ⊎ IsFailure cause reported

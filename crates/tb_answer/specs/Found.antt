@@ -1,4 +1,4 @@
--- What a search and a count of released text are answered, on the command line and over HTTP.
+-- The answers of a search and of a count of released text, on the command line and over HTTP.
 use Rattle.std.specs.Prelude.{◌≡◌, ◌⊎◌, ◌++◌, ℕ, List, [], length, Option, Some, None}
 use Rattle.std.specs.Io.KnownBytes.{Appends}
 use Rattle.tb_conllu.specs.Sunk.{AppendsPart}
@@ -31,7 +31,7 @@ use Rattle.tb_answer.specs.Commanded.{IsFailure}
 use Rattle.tb_answer.specs.Output.{IsWritten}
 use Rattle.tb_answer.specs.Responses.{reply_response, body_response, IsSent}
 
--- ---- what is asked
+-- ---- the query
 
 -- a search and a count, as plain data
 pub record SearchText : Type 0 where
@@ -52,7 +52,7 @@ count_by x = record { query = x.query.now; strategy = x.strategy; column = x.col
 
 -- ---- why nothing is found
 
--- the reply for the fault of a text that is no query: its code, and the byte or the literal that it tells, else 0
+-- the reply for the fault of a text that is no query: its code, and its byte or its literal, else 0
 abbrev pub query_reply : QueryFault → Reply
 query_reply fault.TooLong = reply.Refused (refusal.Query 1 0)
 query_reply (fault.Syntax byte) = reply.Refused (refusal.Query 2 byte)
@@ -62,16 +62,16 @@ query_reply fault.Repeat = reply.Refused (refusal.Query 5 0)
 query_reply (fault.Pattern literal) = reply.Refused (refusal.Query 6 literal)
 query_reply fault.Memory = reply.Memory
 
--- the reply tells a fault of the text
+-- the reply names a fault of the text
 abbrev pub IsQueryReply : List ℕ → Reply → Type 0
 IsQueryReply text reported = (e : QueryFault) × IsFault text e × (reported ≡ query_reply e)
 
--- the reply tells that there are too many hits, or a failure of the call, for this cause
+-- the reply says that there are too many hits, or is a failure of the call with this cause
 abbrev pub IsLimitReply : (cause : Type 0) → Limits → Machine → Asked → Strategy → Reply → Type 0
 IsLimitReply cause l s q strategy reported = (HasTooMany s q strategy l.hits
     × (reported ≡ reply.Refused refusal.TooManyHits)) ⊎ IsFailure cause reported
 
--- What is told of a text in place of what it finds in a state: its fault, or that it finds too many hits, or a failure.
+-- The answer in place of what a query finds: the fault of its text, too many hits, or a failure.
 abbrev pub IsReportedOfQuery : (cause : Type 0) → Limits → Machine → List ℕ → Strategy → Reply → Type 0
 IsReportedOfQuery cause l s text strategy reported = IsQueryReply text reported ⊎ ((q : Asked) × IsQuery text q
     × IsLimitReply cause l s q strategy reported)
@@ -85,10 +85,10 @@ IsAllowed l s q strategy = (found : List Occurrence) → AreReleasedHits s q str
 abbrev pub IsAskedQuery : Limits → Machine → List ℕ → Strategy → Asked → Type 0
 IsAskedQuery l s text strategy q = IsQuery text q × IsAllowed l s q strategy
 
--- ---- a search, whose lines are put as they are found
+-- ---- a search, whose lines are written as they are found
 
--- What a sink has, after a head, where a search ended so: the whole answer; or whole keyword lines, those of the first hits,
--- and never the last line; or, where the sink refused a piece, a first part of the answer.
+-- What a sink has after a head, by the ending of the search. `Whole` has the whole answer. `BrokenOff` has the whole
+-- keyword lines of the first hits, without the last line. `Refused` has a first part of the answer.
 abbrev pub IsStreamed : Machine → Asked → Strategy → ℕ → (head : List ℕ) → (old new : Option (List ℕ))
     → Ending → Type 0
 IsStreamed s q strategy n head old new Whole = (found : List Occurrence) × AreReleasedHits s q strategy found
@@ -99,7 +99,8 @@ IsStreamed s q strategy n head old new BrokenOff =
 IsStreamed s q strategy n head old new Refused = (found : List Occurrence) → AreReleasedHits s q strategy found
     → AppendsPart old new (head ++ answer n found)
 
--- the text asks a query, and what it finds was put after a head, but for what the sink refused, for one of its reasons
+-- the text is a query, and what it finds was written after a head, as this ending says; the sink refused for one of its
+-- reasons
 abbrev pub IsFound : {Reason : Type 0} → Limits → Machine → SearchText → (head : List ℕ)
     → (old new : Option (List ℕ)) → (Reason → Type 0) → Ending → Type 0
 IsFound l s x head old new is_refusal e =
@@ -111,13 +112,14 @@ exit_of_ending Whole = 0
 exit_of_ending BrokenOff = 3
 exit_of_ending Refused = 3
 
--- over HTTP the status was told before a search could break off
+-- over HTTP the status is sent before a search can break off
 abbrev pub reported_of_ending : Ending → Option Status
 reported_of_ending Whole = Some Ok
 reported_of_ending BrokenOff = Some Ok
 reported_of_ending Refused = None
 
--- A search on the command line: what is found, and the status of its ending; or the line of a reply, and its own status.
+-- A search on the command line: what is found, with the status of the ending; or the line of a reply, with its own
+-- status.
 abbrev pub IsSearchRun : {Reason : Type 0} → (cause : Type 0) → Limits → Machine → SearchText
     → (old new : Option (List ℕ)) → (Reason → Type 0) → (status : ℕ) → Type 0
 IsSearchRun cause l s x old new is_refusal status =
@@ -125,11 +127,11 @@ IsSearchRun cause l s x old new is_refusal status =
     ⊎ ((r : Reply) × IsReportedOfQuery cause l s x.query x.strategy r
     × IsWritten old new (reply_text r) (exit_of r) is_refusal status)
 
--- the head of a search over HTTP: no length is told, since none is known
+-- the head of a search over HTTP, without a length, since none is known
 abbrev pub search_head : List ℕ
 search_head = head_text Ok None extra.Nothing
 
--- A search over HTTP: what is found after its head; or the response of a reply.
+-- A search over HTTP: the head and what is found; or the response of a reply.
 abbrev pub IsSearchResponse : {Reason : Type 0} → (cause : Type 0) → Limits → Machine → SearchText
     → (old new : Option (List ℕ)) → (Reason → Type 0) → (reported : Option Status) → Type 0
 IsSearchResponse cause l s x old new is_refusal reported =
@@ -139,7 +141,7 @@ IsSearchResponse cause l s x old new is_refusal reported =
 
 -- ---- a count, whose table is made whole
 
--- the text asks a query, and this is the table of the keys of its hits, as CSV
+-- the text is a query, and this is the table of the keys of its hits, as CSV
 abbrev pub IsCounted : Limits → Machine → CountText → (text : List ℕ) → Type 0
 IsCounted l s x text =
     (q : Asked) × IsAskedQuery l s x.query x.strategy q × (found : List Occurrence)

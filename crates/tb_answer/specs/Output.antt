@@ -4,8 +4,8 @@ use Rattle.std.specs.Io.KnownBytes.{Appends}
 use Rattle.tb_conllu.specs.Sunk.{AppendsPart}
 use Rattle.tb_search.specs.Visited.{HasReason}
 
--- The text was written whole and the status is its own; or the sink refused it, for one of its reasons, holds a part of it from
--- the front, and the status is 3.
+-- The text was written whole, and the status is its own. Or the sink refused it for one of its reasons: then it holds a
+-- first part of it, and the status is 3.
 abbrev pub IsWritten : {Reason : Type 0} → (old new : Option (List ℕ)) → (text : List ℕ) → (own : ℕ)
     → (Reason → Type 0) → (status : ℕ) → Type 0
 IsWritten old new text own is_refusal status =

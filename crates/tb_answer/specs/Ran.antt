@@ -1,4 +1,4 @@
--- What a line of words has a desk do in a state, what a sink holds of the answer, and the exit status.
+-- What a line of words does on a desk in a state, what a sink holds of the answer, and the exit status.
 use Rattle.std.specs.Prelude.{ℕ, List, codes, Option, Some, None, Result, Ok, Err, IsTrue, option_map}
 use Rattle.sqlite.specs.Store.{Ghosts}
 use Rattle.sqlite.specs.Held.{state}
@@ -17,12 +17,11 @@ use Rattle.tb_answer.specs.Output.{IsWritten}
 use Rattle.tb_answer.specs.declared.lines.Reading.{Reading}
 use Rattle.tb_answer.specs.declared.lines.Reading.TheVariants as reading
 
--- the desk stands for this state still, where its store is open
+-- the desk still represents this state, where its store is open
 abbrev pub Stays : {S : Type 0} → Ghosts S → Machine → (new : Kept S) → Type 0
 Stays g s new = IsTrue (state g new.conn).is_open → Represents g new s
 
--- A call is answered by the machine, as a line or as the state's own part; no call is made where the line is one that is not
--- for a desk.
+-- A call has the machine's answer, as a line or as a text of the state. A line that is not for a desk makes no call.
 abbrev pub IsCalled : {S Reason : Type 0} → Ghosts S → Limits → Machine → Option CallText → (old new : Kept S)
     → (held holds : Option (List ℕ)) → (Reason → Type 0) → (status : ℕ) → Type 0
 IsCalled g l s (Some call) old new held holds is_refusal status = (text : List ℕ) × (own : ℕ)
@@ -30,7 +29,7 @@ IsCalled g l s (Some call) old new held holds is_refusal status = (text : List �
 IsCalled g l s None old new held holds is_refusal status = Stays g s new
     × IsWritten held holds (codes "refused usage\n") 2 is_refusal status
 
--- What is read off a state: an export, a search, a count.
+-- What a line reads from a state: an export, a search, a count.
 pub data ReadingText : Type 0 where
   exported : Option (List ℕ) → ReadingText
   searched : SearchText → ReadingText
@@ -42,7 +41,7 @@ reading_by (reading.Export name) = exported (option_map (λ n. n.now) name)
 reading_by (reading.Search x) = searched (search_by x)
 reading_by (reading.Count x) = counted (count_by x)
 
--- the reading that a line asks for
+-- what a line reads, if it reads
 abbrev pub reading_in : Said → Option ReadingText
 reading_in (export db name) = Some (exported name)
 reading_in (search db strategy context query) = Some (searched record {
@@ -67,14 +66,14 @@ IsReadingRun cause l s (searched x) held holds is_refusal status = IsSearchRun c
 IsReadingRun cause l s (counted x) held holds is_refusal status = (text : List ℕ) × (own : ℕ)
     × IsCountOutput cause l s x text own × IsWritten held holds text own is_refusal status
 
--- What a line with this body ends with: its reading, after which the desk stands for the state still; else its call.
+-- How a line with this body ends: by what it reads, after which the desk still represents the state; else by its call.
 abbrev pub IsDone : {S Reason : Type 0} → Ghosts S → Limits → Machine → Option ReadingText → Option CallText
     → (old new : Kept S) → (held holds : Option (List ℕ)) → (Reason → Type 0) → (status : ℕ) → Type 0
 IsDone g l s (Some x) call old new held holds is_refusal status = Stays g s new
     × IsReadingRun (HasFailed g old new) l s x held holds is_refusal status
 IsDone g l s None call old new held holds is_refusal status = IsCalled g l s call old new held holds is_refusal status
 
--- The same where its body may not have come: what is told of that then is a reply.
+-- The same where the body may not have come. Then a reply says why.
 abbrev pub IsRan : {S Reason : Type 0} → Ghosts S → Limits → Machine → Said
     → (taken : Result (List ℕ) Reply) → (old new : Kept S) → (held holds : Option (List ℕ))
     → (Reason → Type 0) → (status : ℕ) → Type 0
@@ -92,7 +91,7 @@ abbrev pub IsDoneSafe : {S : Type 0} → Ghosts S → Option ReadingText → Opt
 IsDoneSafe g (Some x) call old new = ReadsOnly g old new
 IsDoneSafe g None call old new = IsCallSafe g call old new
 
--- What a crash leaves of a line: of a command the tables of a state in which it ends; any other writes nothing.
+-- What a crash leaves of a line: after a command the tables of a state in which it ends. Any other line writes nothing.
 abbrev pub IsLineSafe : {S : Type 0} → Ghosts S → Said → (taken : Result (List ℕ) Reply) → (old new : Kept S)
     → Type 0
 IsLineSafe g said (Ok body) old new = IsDoneSafe g (reading_in said) (call_in said body) old new

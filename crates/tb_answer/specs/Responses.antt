@@ -1,4 +1,4 @@
--- The response of a call over HTTP: its head and its body, and what a sink holds of it.
+-- The response of a call over HTTP, its head and its body, and what a sink holds of it.
 use Rattle.std.specs.Prelude.{◌≡◌, ◌⊎◌, ℕ, List, ◌++◌, length, Option, Some, None, IsTrue}
 use Rattle.std.specs.Io.KnownBytes.{Appends}
 use Rattle.sqlite.specs.Store.{Ghosts}
@@ -24,19 +24,19 @@ use Rattle.tb_search.specs.Visited.{HasReason}
 abbrev pub reply_response : Reply → List ℕ
 reply_response r = reply_head r ++ reply_text r
 
--- the header that tells the number of a current revision
+-- the header with the number of a current revision
 abbrev pub extra_of_revision : Option ℕ → Extra
 extra_of_revision None = extra.Nothing
 extra_of_revision (Some rev) = extra.Revision rev
 
--- the response that has a text, and its head
+-- the response whose body is a text, and its head
 abbrev pub body_head : (rev : Option ℕ) → (body : List ℕ) → List ℕ
 body_head rev body = head_text Ok (Some (length body)) (extra_of_revision rev)
 
 abbrev pub body_response : (rev : Option ℕ) → (body : List ℕ) → List ℕ
 body_response rev body = body_head rev body ++ body
 
--- The response of a call in a state, and its status: that of a reply, or 200 with the body of a question.
+-- The response of a call in a state, and its status: that of a reply, or 200 with the text of a question.
 abbrev pub IsResponse : {S : Type 0} → Ghosts S → Limits → Machine → CallText → (old new : Kept S)
     → (text : List ℕ) → Status → Type 0
 IsResponse g l s (commands c) old new text status = (r : Reply) × IsAnswered g l s c old new r
@@ -48,8 +48,8 @@ IsResponse g l s (asks q) old new text status =
     ⊎ ((r : Reply) × IsReportedOf (HasFailed g old new) s q r × (text ≡ reply_response r)
     × (status ≡ status_of r)))
 
--- The text was written whole, and its status is told; or the sink refused it, for one of its reasons, and holds a part of it from
--- the front.
+-- The text was written whole, and its status is reported. Or the sink refused it for one of its reasons, and holds a
+-- first part of it.
 abbrev pub IsSent : {Reason : Type 0} → (old new : Option (List ℕ)) → (text : List ℕ) → Status
     → (Reason → Type 0) → (reported : Option Status) → Type 0
 IsSent old new text status is_refusal reported =

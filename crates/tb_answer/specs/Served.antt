@@ -1,4 +1,4 @@
--- What a request is answered over HTTP, and what it leaves of the desk.
+-- How a request is answered over HTTP, and what it leaves of the desk.
 use Rattle.std.specs.Prelude.{◌≡◌, ◌⊎◌, ℕ, List, Option, Some, None, Result, Ok, Err, IsTrue, IfSome, ⊤}
 use Rattle.std.specs.Str.{IsUtf8}
 use Rattle.sqlite.specs.Store.{Ghosts}
@@ -26,7 +26,7 @@ use Rattle.tb_answer.specs.declared.answering.Broken.TheVariants.{Write}
 
 -- ---- what a request asks
 
--- what the bytes of a reader ask, where it tells them
+-- what the bytes of a reader ask, where its contract names them
 abbrev pub AsksKnown : Option (List ℕ) → Outcome → Type 0
 AsksKnown bytes reported = IfSome bytes (λ b. Asks body_limit b reported)
 
@@ -71,21 +71,22 @@ module _ {Reason : Type 0} (before after : Option (List ℕ)) (is_refusal : Reas
   })))
   IsTextSent cause l s _ body = ⊥
 
-  -- the response of a command or a question in a state; else that of a text, after which the desk stands for the state still
+  -- the response of a command or a question in a state; else that of a text, and the desk still represents the state
   abbrev pub IsCallSent : {S : Type 0} → Ghosts S → Limits → Machine → Option CallText → Act
       → (body : List ℕ) → (old new : Kept S) → Type 0
   IsCallSent g l s (Some call) act body old new = IsSentAs (IsResponse g l s call old new)
   IsCallSent g l s None act body old new = (IsTrue (state g new.conn).is_open → Represents g new s)
       × IsTextSent (HasFailed g old new) l s act body
 
-  -- The response to what a request tells, in a state: that of its call; or the line of its fault, and the desk is untouched.
+  -- The response to what a request says, in a state: that of its call; or the line of its fault, and the desk is
+  -- unchanged.
   abbrev pub IsReplied : {S : Type 0} → Ghosts S → Limits → Machine → Outcome → (old new : Kept S) → Type 0
   IsReplied g l s (refused why) old new = (new ≡ old) × IsReplySent (Faulty why)
   IsReplied g l s (called c) old new = IsCallSent g l s (call_asked c.act c.user c.body) c.act c.body
       old new
 
-  -- The response to the bytes of a request, in a state: to what they ask. Or memory is wanting for a body that they
-  -- begin, before anything is done.
+  -- The response to the bytes of a request, in a state: to what they ask. Or memory ran out for a body that they begin,
+  -- before anything was done.
   abbrev pub IsAnswerTo : {S : Type 0} → Ghosts S → Limits → Machine → (bytes : Option (List ℕ))
       → (old new : Kept S) → Type 0
   IsAnswerTo g l s bytes old new =
@@ -103,26 +104,26 @@ abbrev pub IsSafeFor : {S : Type 0} → Ghosts S → Outcome → (old new : Kept
 IsSafeFor g (refused why) old new = new ≡ old
 IsSafeFor g (called c) old new = IsSafeCall g (call_asked c.act c.user c.body) old new
 
--- the desk is untouched, or a crash leaves what it may leave of that which the bytes ask
+-- the desk is unchanged, or a crash leaves what a crash of the asked call may leave
 abbrev pub IsSafeOf : {S : Type 0} → Ghosts S → (bytes : Option (List ℕ)) → (old new : Kept S) → Type 0
 IsSafeOf g bytes old new = (new ≡ old) ⊎ ((reported : Outcome) × AsksKnown bytes reported
     × IsSafeFor g reported old new)
 
--- ---- what is told to the caller
+-- ---- the result for the caller
 
--- the status of a response that was written whole, or that the sink refused a part of it
+-- the status of a response that was written whole, or that the sink refused a part
 abbrev pub outcome : Option Status → Result Status Broken
 outcome (Some status) = Ok status
 outcome None = Err Write
 
--- The response to the bytes of a request in a state, and what is told of it.
+-- The response to the bytes of a request in a state, and the result for the caller.
 abbrev pub IsServed : {S Reason : Type 0} → Ghosts S → Limits → Machine → (bytes : Option (List ℕ))
     → (old new : Kept S)
     → (before after : Option (List ℕ)) → (Reason → Type 0) → Result Status Broken → Type 0
 IsServed g l s bytes old new before after is_refusal result =
     (sent : Option Status) × IsAnswerTo before after is_refusal sent g l s bytes old new × (result ≡ outcome sent)
 
--- The same in the state for which the desk stands.
+-- The same in the state that the desk represents.
 abbrev pub Serves : {S Reason : Type 0} → Ghosts S → (bytes : Option (List ℕ)) → (old new : Kept S)
     → (before after : Option (List ℕ)) → (Reason → Type 0) → Result Status Broken → Type 0
 Serves g bytes old new before after is_refusal result =

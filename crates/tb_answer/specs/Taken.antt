@@ -15,8 +15,8 @@ has_body (import_batch db user name) = true
 has_body (correct db user n base) = true
 has_body _ = false
 
--- The body is the input whole, of at most so many bytes. In its place comes that the input is longer, of which one byte
--- more is taken; want of memory for bytes that came; or that a read failed, which the reader's failure says.
+-- The body is the whole input, of at most `limit` bytes. Or the input is longer, and one byte more is taken. Or memory
+-- ran out for bytes that came. Or a read failed, as the reader's failure says.
 abbrev pub IsBodyTaken : {Why : Type 0} → (Why → Type 0) → (limit : ℕ) → (old new : Option (List ℕ))
     → Result (List ℕ) Reply → Type 0
 IsBodyTaken is_failure limit old new (Ok body) = Consumes old new body × IsAtEnd new × (length body ≤ limit)
@@ -28,12 +28,12 @@ IsBodyTaken is_failure limit old new (Err r) =
 module _ {R Why : Type 0} (is_failure : R → Why → Type 0) (left : R
     → Option (List ℕ)) (limit : ℕ) (said : Said)
     (old new : R) where
-  -- A line without a body leaves the reader as it was.
+  -- A line without a body leaves the reader unchanged.
   abbrev pub IsTaken : Result (List ℕ) Reply → Type 0
   IsTaken taken =
       ((has_body said ≡ true) × IsBodyTaken (is_failure new) limit (left old) (left new) taken)
       ⊎ ((has_body said ≡ false) × (new ≡ old) × (taken ≡ Ok []))
 
-  -- P holds of what came of the body
+  -- P holds of the body, or of what came in its place
   abbrev pub WithTaken : (Result (List ℕ) Reply → Type 0) → Type 0
   WithTaken P = (taken : Result (List ℕ) Reply) × IsTaken taken × P taken

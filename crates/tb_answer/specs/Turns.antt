@@ -33,7 +33,7 @@ use Rattle.tb_answer.specs.Served.{IsSentAs, IsReplySent, IsTextSent, IsSafeOf, 
 -- ---- one request, in terms of states alone
 
 module _ (l : Limits) (s t : Machine) where
-  -- a command made in s ends so, and t is the state after it; or it failed, and t is s
+  -- a command made in s has this reply, and t is the state after it; or it failed, and t is s
   abbrev pub EndsWith : Command → Reply → Type 0
   EndsWith c r = ((a : Answer) × Steps l s c a t × (r ≡ reply_for a)) ⊎ (IsFailure ⊤ r × (t ≡ s))
 
@@ -54,19 +54,19 @@ module _ (l : Limits) (s t : Machine) where
     HasResponse (Some call) act body = IsSentAs before after is_refusal sent (IsResponseTo call)
     HasResponse None act body = (t ≡ s) × IsTextSent before after is_refusal sent ⊤ l s act body
 
-    -- that of what a request tells
+    -- the answer to what a request says
     abbrev pub HasAnswer : Outcome → Type 0
     HasAnswer (refused why) = (t ≡ s) × IsReplySent before after is_refusal sent (Faulty why)
     HasAnswer (called c) = HasResponse (call_asked c.act c.user c.body) c.act c.body
 
-    -- That of the bytes of a request: of what they ask. Or memory was wanting for a body that they begin, before
+    -- The answer to the bytes of a request: to what they ask. Or memory ran out for a body that they begin, before
     -- anything was done.
     abbrev pub HasAnswerTo : (bytes : List ℕ) → Type 0
     HasAnswerTo bytes =
         ((reported : Outcome) × Asks body_limit bytes reported × HasAnswer reported)
         ⊎ ((t ≡ s) × BeginsBody body_limit bytes × IsReplySent before after is_refusal sent Memory)
 
-  -- The bytes of a request lead from s to t: what they ask was done and responded to.
+  -- The bytes of a request lead from s to t: what they ask was done and answered.
   abbrev pub LeadsBy : {Reason : Type 0} → (bytes : List ℕ) → (before after : Option (List ℕ))
       → (Reason → Type 0)
       → Result Status Broken → Type 0
@@ -89,27 +89,27 @@ abbrev pub Ends : Limits → (s t : Machine) → (bytes : List ℕ) → Type 0
 Ends l s t bytes = (reported : Outcome) × Asks body_limit bytes reported × (c : Command)
     × (command_of reported ≡ Some c) × (a : Answer) × Steps l s c a t
 
--- The tables of a state that some of the requests, from the first on, lead to: each to a state in which its command ends, or
--- to the same one.
+-- The tables of a state to which a first part of the requests leads. Each leads to a state in which its command ends,
+-- or to the same one.
 abbrev pub HoldsAnEndOf : Limits → List (List ℕ) → Machine → Trees → Type 0
 HoldsAnEndOf l [] s db = ⊥
 HoldsAnEndOf l (b ∷ bs) s db = (t : Machine) × ((t ≡ s) ⊎ Ends l s t b) × (AreStored (tables_of t) db
     ⊎ HoldsAnEndOf l bs t db)
 
--- it holds of each of them but the last
+-- P holds of each of them but the last
 abbrev pub AllButLast : {X : Type 0} → (X → Type 0) → List X → Type 0
 AllButLast P [] = ⊤
 AllButLast P (x ∷ xs) = (xs ≢ [] → P x) × AllButLast P xs
 
 -- ---- requests in turn, over sinks of one kind
 
--- the disk has returned what was written, and the store is open
+-- the disk kept what it took, and the store is open
 abbrev pub IsSound : {S : Type 0} → Ghosts S → Kept S → Type 0
 IsSound g d = HasCleanDisk (state g d.conn) × IsTrue (state g d.conn).is_open
 
 module _ {W Reason : Type 0} (held : W → Option (List ℕ)) (is_refusal : W → Reason → Type 0) where
-  -- Requests lead from s to t: each is responded to in the state that the one before left, and the sink has the responses in
-  -- order; or the sink refused a part of a response, and that request is the last that leads anywhere.
+  -- Requests lead from s to t. Each is answered in the state that the one before left, and the sink has the responses
+  -- in order. Where the sink refused a part of a response, that request is the last.
   abbrev pub Lead : Limits → List (List ℕ) → (s t : Machine) → (before after : W) → Result (Unit {0}) Broken
       → Type 0
   Lead l [] s t u v result = (t ≡ s) × (v ≡ u) × (result ≡ Ok tt)
@@ -119,25 +119,25 @@ module _ {W Reason : Type 0} (held : W → Option (List ℕ)) (is_refusal : W �
       ⊎ (LeadsBy l s t b (held u) (held v) (is_refusal v) (Err Write) × (result ≡ Err Write))
 
   module _ {S : Type 0} (g : Ghosts S) where
-    -- they lead on from each state for which the desk stood to one for which it stands
+    -- they lead from each state that the desk represented to one that it represents
     abbrev pub LeadOn : List (List ℕ) → (old new : Kept S) → (before after : W) → Result (Unit {0}) Broken
         → Type 0
     LeadOn bs d e u v result =
         (s : Machine) → Represents g d s → (t : Machine) × Represents g e t × Lead d.limits bs s t u v result
 
-    -- a crash leaves the tables that it left before, or those of a state that some of the requests lead to
+    -- a crash leaves the tables that it left before, or those of a state to which some of the requests lead
     abbrev pub CrashesToAnEnd : List (List ℕ) → (old new : Kept S) → Type 0
     CrashesToAnEnd bs d e =
         (s : Machine) → Represents g d s → Survives (state g d.conn) (state g e.conn) (HoldsAnEndOf d.limits bs s)
 
-    -- one request in memory, answered on a desk: all that is said of it, whatever the disk did
+    -- one request in memory, answered on a desk: all facts of it, on any disk
     pub record IsAnswered (bytes : List ℕ) (old new : Kept S) (before after : W) (reported : Result Status Broken) : Type 0 where
       pub answered : Serves g (Some bytes) old new (held before) (held after) (is_refusal after) reported
       pub crash : IsSafeOf g (Some bytes) old new
       pub limits : new.limits ≡ old.limits
 
-    -- Requests answered in turn, each on the desk and into the sink that the one before left, up to the first that has no whole
-    -- response. `desks` are the desk after each of them.
+    -- Requests answered in turn, up to the first without a whole response. Each uses the desk and the sink that the one
+    -- before left. `desks` are the desk after each of them.
     abbrev pub AreAnswered : List (List ℕ) → (old new : Kept S) → (before after : W) → (desks : List (Kept S))
         → Result (Unit {0}) Broken → Type 0
     AreAnswered [] d e u v desks result = (e ≡ d) × (v ≡ u) × (desks ≡ []) × (result ≡ Ok tt)
@@ -146,9 +146,9 @@ module _ {W Reason : Type 0} (held : W → Option (List ℕ)) (is_refusal : W �
         × (desks ≡ m ∷ later) × AreAnswered bs m e w v later result)
         ⊎ (IsAnswered b d e u v (Err Write) × (desks ≡ e ∷ []) × (result ≡ Err Write))
 
-    -- The requests are answered in turn; where the desk stood for a state and was sound after each of them, they lead to a state
-    -- for which it stands; and where it was sound after each but the last, a crash leaves the tables that it left before, or those
-    -- of a state that some of the requests lead to.
+    -- The requests are answered in turn. Where the desk is sound after each of them, they lead from the state that it
+    -- represented to one that it represents. Where it is sound after each but the last, a crash leaves the tables that
+    -- it left before, or those of a state to which some of the requests lead.
     abbrev pub AreServed : List (List ℕ) → (old new : Kept S) → (before after : W) → Result (Unit {0}) Broken
         → Type 0
     AreServed bs d e u v result =

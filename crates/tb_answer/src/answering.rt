@@ -1,4 +1,4 @@
-//! One request, read, done and answered.
+//! Serving one request: reads it, does what it asks, and writes the response.
 
 ghost use Rattle.std.specs.Prelude.{◌≡◌, ◌≢◌, ◌+◌, ℕ, List, [], IfErr, Err as ErrOf, map, vec_items};
 ghost use Rattle.tb_conllu.specs.Pieces.{AskedFor};
@@ -18,13 +18,13 @@ use tb_store::Desk;
 /// Why a request has no whole response.
 #[derive(Clone, Copy, Debug, PartialEq, Eq)]
 pub enum Broken {
-    /// The reader failed. Nothing was done, and nothing was written.
+    /// The reader failed. Nothing was done or written.
     Read,
     /// The sink refused a part of the response. What the request asked is done.
     Write,
 }
 
-/// What is told of a response that was sent.
+/// The result for a response: its status, or `Write` where the sink refused a part.
 fn outcome(sent: Option<Status>) -> Result<Status, Broken>
     ensures { result ≡ outcome sent }
 {
@@ -34,15 +34,14 @@ fn outcome(sent: Option<Status>) -> Result<Status, Broken>
     }
 }
 
-/// Reads one request, does what it asks, and answers it. Gives the status of a response that was written whole.
+/// Reads one request, does what it asks, and answers it. Returns the status of a response that was written whole.
 ///
-/// Each read is made while a head or a body is still wanting. No more is taken than a head of 8,192 bytes and its body.
+/// It reads only while a part of the request is missing, and takes at most a head of 8,192 bytes and its body.
 ///
 /// # Errors
 ///
-/// `Read`, where the reader failed while a head or a body was wanting: the desk and the sink are as before. `Write`,
-/// where the sink refused a part of the response: it holds a part from the front, and a command that was accepted
-/// stays accepted.
+/// - `Read`: the reader failed before the request was complete. The desk and the sink are unchanged.
+/// - `Write`: the sink refused a part of the response, and has a first part of it. An accepted command stays accepted.
 pub fn answer<S: Alter, R: Source, W: Sink>(
     alloc: Global,
     routes: &Routes,
@@ -70,13 +69,14 @@ pub fn answer<S: Alter, R: Source, W: Sink>(
     }
 }
 
-/// Answers a list of requests in turn, each from its own bytes and on the desk that the one before left, and stops at the first
-/// that has no whole response.
+/// Answers a list of requests in turn, and stops at the first without a whole response.
+///
+/// Each request is read from its own bytes and uses the desk that the one before left.
 ///
 /// # Errors
 ///
-/// `Write`, where the sink refused a part of a response: it holds the responses before and a part of this one from the front. A
-/// command that was accepted stays accepted. It is never `Read`, since a request in memory is read without a failure.
+/// `Write`: the sink refused a part of a response. It has the earlier responses and a first part of this one. An
+/// accepted command stays accepted. `Read` never comes, since a reader in memory does not fail.
 pub fn answer_all<S: Alter, W: Sink>(
     alloc: Global,
     routes: &Routes,

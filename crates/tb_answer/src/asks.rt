@@ -1,4 +1,4 @@
-//! What a request asks, done and answered.
+//! Does what a request asks, and answers it.
 
 ghost use Rattle.std.specs.Prelude.{◌≡◌};
 ghost use Rattle.tb_http.specs.Actions.{act_by};
@@ -26,7 +26,7 @@ use tb_match::Strategy;
 use tb_store::Desk;
 use tb_syntax::Attr;
 
-/// Tells that the body is no text.
+/// Answers that the body is not UTF-8.
 fn respond_no_text<W: Sink>(out: &mut W) -> Option<Status>
     ensures { IsReplySent (W.held out.old) (W.held out.new) (W.IsRefusal out.new) result
         (Reply.Faulty RequestFault.Body) }

@@ -1,4 +1,4 @@
-//! What a desk is asked, answered by texts.
+//! The texts that answer what a desk is asked.
 
 ghost use Rattle.std.specs.Prelude.{◌≡◌, Some, None, Err, string_bytes, IfOk, IfErr};
 ghost use Rattle.tb_core.specs.Machine.{Machine};
@@ -19,7 +19,7 @@ use tb_http::Reply;
 use tb_report::{csv_moves, csv_totals};
 use tb_store::{Current, Desk};
 
-/// Totals as CSV. A text in memory lacks nothing but memory.
+/// Totals as CSV. A sink in memory fails only for want of memory.
 fn totals_text(alloc: Global, totals: &Totals) -> Result<Vec<u8>, Reply>
     ensures text { IfOk result (λ v. v.items ≡ totals_csv totals.now) }
     ensures failed { IfErr result (λ r. r ≡ Reply.Memory) }
@@ -43,7 +43,7 @@ fn moves_text(alloc: Global, moves: &[Move]) -> Result<Vec<u8>, Reply>
     }
 }
 
-/// Sentences and words of the six states, as CSV. Nothing is refused.
+/// Sentences and words of the six states, as CSV. It is never refused.
 pub fn totals<S: Alter>(alloc: Global, desk: &mut Desk<S>) -> Result<Vec<u8>, Reply>
     ensures answered { Gives S.Store desk.old desk.new result (λ s v. v.items ≡ totals_text s) }
     ensures failed { GivesOnErr S.Store desk.old desk.new result (λ s r.
@@ -59,7 +59,7 @@ pub fn totals<S: Alter>(alloc: Global, desk: &mut Desk<S>) -> Result<Vec<u8>, Re
     }
 }
 
-/// All moves in their order, as CSV. Nothing is refused.
+/// All moves in their order, as CSV. It is never refused.
 pub fn moves<S: Alter>(alloc: Global, desk: &mut Desk<S>) -> Result<Vec<u8>, Reply>
     ensures answered { Gives S.Store desk.old desk.new result (λ s v. v.items ≡ moves_csv s.moves) }
     ensures failed { GivesOnErr S.Store desk.old desk.new result (λ s r.
@@ -96,11 +96,11 @@ pub fn sentence<S: Alter>(desk: &mut Desk<S>, number: u64) -> Result<Current, Re
     }
 }
 
-/// The text of a revision of a sentence, both counted from 1.
+/// The text of a revision of a sentence. Both numbers count from 1.
 ///
 /// # Errors
 ///
-/// `NoSuchSentence`, `NoSuchRevision`, the first that holds; or a failure.
+/// The first of `NoSuchSentence` and `NoSuchRevision` that holds, or a failure.
 pub fn revision<S: Alter>(desk: &mut Desk<S>, number: u64, rev: u64) -> Result<String, Reply>
     ensures answered { Gives S.Store desk.old desk.new result (λ s t. IsRevisionText s number rev (string_bytes t)) }
     ensures missing { (s : Machine) → Represents S.Store desk.old s → HasNoSentence s number
@@ -117,7 +117,7 @@ pub fn revision<S: Alter>(desk: &mut Desk<S>, number: u64, rev: u64) -> Result<S
     }
 }
 
-/// A text alone.
+/// A text without a revision number.
 pub(crate) fn body_of(text: Vec<u8>) -> Body
     ensures text { result.text.items ≡ text.items }
     ensures rev { result.rev ≡ None }
@@ -137,7 +137,7 @@ fn body_of_current(current: Current) -> Body
     }
 }
 
-/// The text that a question has.
+/// The text that answers a question.
 ///
 /// # Errors
 ///

@@ -11,7 +11,7 @@ use tb_core::{Event, Fault};
 use tb_http::Reply;
 use tb_store::Desk;
 
-/// The line of a fault. A desk writes no output of its own.
+/// The reply for a fault. `Output` becomes `Device`: a desk writes no output of its own.
 pub fn reply_for_fault(fault: Fault) -> Reply
     ensures { result ≡ reply_for_fault fault }
 {

@@ -27,7 +27,7 @@ use tb_query::Query;
 use tb_report::{Freq, csv_freq};
 use tb_store::Desk;
 
-/// A table as CSV. A text in memory lacks nothing but memory.
+/// A table as CSV. A sink in memory fails only for want of memory.
 fn table_text(alloc: Global, table: &Freq) -> Result<Vec<u8>, Reply>
     ensures text { IfOk result (λ v. (rows : List Row) × IsRankingOf table.now rows × (v.items ≡ freq_csv rows)) }
     ensures failed { IfErr result (λ r. r ≡ Reply.Memory) }
@@ -86,7 +86,7 @@ fn count_text<S: Alter>(
     }
 }
 
-/// Counts what is found in released text, puts the table, and gives the exit status; or puts the line of a reply.
+/// Counts what a query finds in released text. Writes the table, or the line of a reply, and returns the exit status.
 pub fn run_count<S: Alter, W: Sink>(
     alloc: Global,
     desk: &mut Desk<S>,
@@ -106,8 +106,9 @@ pub fn run_count<S: Alter, W: Sink>(
     }
 }
 
-/// Counts what is found in released text, and puts the response that has the table, made whole before; or that of a reply.
-/// Gives the status of a response that was written whole.
+/// Counts what a query finds in released text, and writes the response. Returns its status if it was written whole.
+///
+/// The body is the table, which is made whole before the first byte is written, or the line of a reply.
 pub fn respond_count<S: Alter, W: Sink>(
     alloc: Global,
     desk: &mut Desk<S>,

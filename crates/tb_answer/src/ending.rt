@@ -11,18 +11,18 @@ ghost use Rattle.tb_answer.specs.Found.{IsStreamed, exit_of_ending, reported_of_
 use tb_core::Fault;
 use tb_http::Status;
 
-/// How a search ends whose lines are put as they are found.
+/// How a search ends that writes its lines as they are found.
 #[derive(Clone, Copy, Debug, PartialEq, Eq)]
 pub(crate) enum Ending {
-    /// With its last line.
+    /// It wrote its last line.
     Whole,
-    /// Before its last line, by a fault of the store or of memory.
+    /// The store or memory failed before the last line.
     BrokenOff,
-    /// By the sink, which refused a piece.
+    /// The sink refused a piece.
     Refused,
 }
 
-/// How a search ends that has this fault.
+/// How a search with this fault ends.
 pub(crate) fn ending_of(fault: Fault) -> Ending
     ensures streamed { (s : Machine) (q : Asked) (strategy : AnyStrategy) (n : ℕ) (old new : Option (List ℕ))
         → ((found : List Occurrence) → AreReleasedHits s q strategy found → IsPartFound fault old new n found)
@@ -45,7 +45,7 @@ pub(crate) fn exit_of(ending: Ending) -> u8
     }
 }
 
-/// The status of a search over HTTP, nothing where the sink refused a piece.
+/// The status of a search over HTTP, or none where the sink refused a piece.
 pub(crate) fn reported_of(ending: Ending) -> Option<Status>
     ensures { result ≡ reported_of_ending ending }
 {

@@ -1,4 +1,4 @@
-//! Exports, whole before their first byte: with an exit status, or as responses over HTTP.
+//! Exports, made whole in memory before their first byte is written: with an exit status, or as responses over HTTP.
 
 ghost use Rattle.std.specs.Prelude.{◌≡◌, ◌≢◌, ℕ, List, None, Ok as OkOf, Err as ErrOf, IfOk, option_map};
 ghost use Rattle.std.specs.Io.KnownBytes.{Appends};
@@ -29,7 +29,7 @@ use tb_core::Fault;
 use tb_http::{Reply, Status};
 use tb_store::Desk;
 
-/// Puts the text of an export: of the batch with this name, or of all released sentences.
+/// Writes the text of an export: of the batch with this name, or of all released sentences.
 fn export<S: Alter, W: Sink>(
     desk: &mut Desk<S>,
     name: Option<&str>,
@@ -53,7 +53,7 @@ fn export<S: Alter, W: Sink>(
     }
 }
 
-/// The reply for a fault of an export into memory, whose sink lacks nothing but memory.
+/// The reply for a fault of an export into memory, whose sink fails only for want of memory.
 fn reply_for_export(fault: Fault) -> Reply
     ensures refused { (r : AnyRefusal) → fault ≡ Fault.Refused r → result ≡ Reply.Refused r }
     ensures failed { IsNoRefusal fault → fault ≢ Fault.NotADesk → IsFailure (fault ≡ Fault.Device) result }
@@ -66,7 +66,7 @@ fn reply_for_export(fault: Fault) -> Reply
     }
 }
 
-/// The text of an export, whole in memory.
+/// The text of an export, made whole in memory.
 fn export_body<S: Alter>(
     alloc: Global,
     desk: &mut Desk<S>,
@@ -88,8 +88,9 @@ fn export_body<S: Alter>(
     }
 }
 
-/// Puts the text of an export, and gives the exit status; or puts the line of a reply. The text is whole in memory
-/// before its first byte is put, so that a sink has all of it or none.
+/// Writes the text of an export, or the line of a reply, and returns the exit status.
+///
+/// The text is made whole in memory first, so that a failure of the store leaves no part of it in the sink.
 pub fn run_export<S: Alter, W: Sink>(
     alloc: Global,
     desk: &mut Desk<S>,
@@ -109,8 +110,9 @@ pub fn run_export<S: Alter, W: Sink>(
     }
 }
 
-/// Puts the response of an export to the sink, and gives the status of a response that was written whole. The text is made
-/// whole in memory before, so that its head tells its length.
+/// Writes the response of an export. Returns its status if it was written whole.
+///
+/// The text is made whole in memory first, so that the head has its length.
 pub fn respond_export<S: Alter, W: Sink>(
     alloc: Global,
     desk: &mut Desk<S>,

@@ -1,4 +1,4 @@
-//! What is asked of released text: searches and counts, and whether their queries are accepted.
+//! Searches and counts of released text, and whether their queries are accepted.
 
 ghost use Rattle.std.specs.Prelude.{◌≡◌, IfOk, IfErr};
 ghost use Rattle.sqlite.specs.State.{HasCleanDisk};
@@ -28,7 +28,7 @@ pub struct Search<'a> {
     /// The text of the query.
     pub query: &'a str,
     pub strategy: Strategy,
-    /// How many words of context are told on each side of a hit.
+    /// How many words of context to show on each side of a hit.
     pub context: u8,
 }
 
@@ -41,7 +41,7 @@ pub struct Count<'a> {
     pub column: Attr,
 }
 
-/// The line of a fault of a query.
+/// The reply for a fault of a query.
 fn reply_for_query(fault: QueryFault) -> Reply
     ensures { result ≡ query_reply fault }
 {
@@ -56,7 +56,7 @@ fn reply_for_query(fault: QueryFault) -> Reply
     }
 }
 
-/// The query that a text asks.
+/// Parses a query, or returns the reply that names its fault.
 fn read_query(alloc: Global, text: &str) -> Result<Query, Reply>
     ensures query { IfOk result (λ q. IsQuery text.now q) }
     ensures reported { IfErr result (λ r. IsQueryReply text.now r) }
@@ -67,7 +67,7 @@ fn read_query(alloc: Global, text: &str) -> Result<Query, Reply>
     }
 }
 
-/// Hands a query on whose hits are counted, and within the limit of the desk.
+/// Returns the query if the number of its hits, which it counts, is within the limit of the desk.
 fn counted_within<S: Alter>(
     desk: &mut Desk<S>,
     query: Query,
@@ -89,7 +89,8 @@ fn counted_within<S: Alter>(
     }
 }
 
-/// Hands a query on whose hits are within the limit of the desk. Only where all matches are hits does it count them.
+/// Returns the query if its hits are within the limit of the desk. It counts them for `Every` alone: only there is a
+/// limit.
 fn within_limit<S: Alter>(
     desk: &mut Desk<S>,
     query: Query,
@@ -110,11 +111,11 @@ fn within_limit<S: Alter>(
     }
 }
 
-/// The query that a text asks, whose hits are within the limit of the desk.
+/// Parses a query whose hits are within the limit of the desk.
 ///
 /// # Errors
 ///
-/// `Query`, where the text is none; `TooManyHits`; or a failure. The first that holds.
+/// The first that holds: `Query`, where the text is no query; `TooManyHits`; or a failure.
 pub(crate) fn accepted<S: Alter>(
     alloc: Global,
     desk: &mut Desk<S>,

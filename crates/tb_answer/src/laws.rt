@@ -1,4 +1,4 @@
-//! Laws of lists of requests, and of the check: each function states a fact about the definitions, and runs nothing.
+//! Laws of lists of requests and of the check. Each function states a fact about the definitions, and runs nothing.
 
 ghost use Rattle.std.specs.Prelude.{◌≡◌, ◌≤◌, ◌⊎◌, List, ℕ, length};
 ghost use Rattle.sqlite_trees.specs.declared.memory.MemStore.{MemStore};
@@ -18,8 +18,9 @@ use sqlite::Alter;
 use tb_check::valid_sentences_are_counted;
 use tb_conllu::Sink;
 
-/// Requests that are answered in turn lead on from the state for which the desk stood to one for which it stands,
-/// whatever they are, where at their end the disk is clean and no fault came since their begin.
+/// Requests that are answered in turn lead from the state that the desk represented to one that it represents.
+///
+/// The disk has to be clean at their end, without a fault since their begin.
 pub fn requests_lead_on<S: Alter, W: Sink>()
     ensures { (bs : List (List ℕ)) (d e : Kept S) (u v : _) (result : _)
         → AreServed W.held W.IsRefusal S.Store bs d e u v result
@@ -27,16 +28,16 @@ pub fn requests_lead_on<S: Alter, W: Sink>()
         → LeadOn W.held W.IsRefusal S.Store bs d e u v result }
 {}
 
-/// On a desk in memory that stands for a state, requests that are answered in turn lead to a state for which the desk then
-/// stands, whatever they are.
+/// On a desk in memory, requests that are answered in turn lead from the state that it represented to one that it
+/// represents.
 pub fn requests_in_memory_lead_on<W: Sink>()
     ensures { (bs : List (List ℕ)) (d e : Kept MemStore) (u v : _) (result : _)
         → AreServed W.held W.IsRefusal over_memory bs d e u v result
         → LeadOn W.held W.IsRefusal over_memory bs d e u v result }
 {}
 
-/// Of a body within the limit that is taken, the check counts the sentences that are taken, and their words; or memory
-/// is wanting.
+/// For a body within the limit that an import takes, the check counts its sentences and their words, or runs out of
+/// memory.
 pub fn the_check_counts_what_is_taken()
     ensures { (limit : ℕ) (body : List ℕ) (bs : List BlockText) (reply : CheckReply)
         → length body ≤ limit → IsBody body bs → IsReplyTo limit body reply

@@ -1,4 +1,4 @@
-//! A line of words, done on a desk.
+//! Runs a line of words on a desk.
 
 ghost use Rattle.std.specs.Prelude.{◌≡◌, MatchResult, Ok as Taken, Err as Untaken, option_map, string_bytes};
 ghost use Rattle.tb_check.specs.Check.{file_limit};
@@ -32,9 +32,13 @@ fn has_body(line: &Line) -> bool
     matches!(line, Line::Import { .. } | Line::Correct { .. })
 }
 
-/// The body of a line: all that the reader gives, up to 4,194,304 bytes, where the line is an import or a correction,
-/// and nothing for other lines, which leave the reader as it was. In its place comes the reply that says why it did
-/// not come: a failed device only where the reader failed.
+/// The body of a line: all that the reader gives, up to 4,194,304 bytes.
+///
+/// Only an import and a correction have a body. For other lines it is empty, and the reader is unchanged.
+///
+/// # Errors
+///
+/// The reply that says why there is no body: it is longer, memory runs out, or the reader failed (`Device`).
 pub fn read_body<R: Source>(alloc: Global, line: &Line, reader: &mut R) -> Result<Vec<u8>, Reply>
     ensures { MatchResult result
         (λ v. IsTaken R.IsFailure R.left file_limit (said_by line.now) reader.old reader.new (Taken v.items))
@@ -51,7 +55,7 @@ pub fn read_body<R: Source>(alloc: Global, line: &Line, reader: &mut R) -> Resul
     }
 }
 
-/// What a line asks to be read off a desk.
+/// What a line reads from a desk.
 #[derive(Clone, Copy, Debug)]
 enum Reading<'a> {
     /// A batch, or all released text.
@@ -60,7 +64,7 @@ enum Reading<'a> {
     Count(Count<'a>),
 }
 
-/// The name that is given, if one is.
+/// The name, if one is given.
 fn given(name: &Option<String>) -> Option<&str>
     ensures { option_map (λ n. n.now) result ≡ option_map string_bytes name.now }
 {
@@ -70,7 +74,7 @@ fn given(name: &Option<String>) -> Option<&str>
     }
 }
 
-/// The reading that a line asks for, if it asks for one.
+/// What a line reads from a desk, if it reads.
 fn reading_of(line: &Line) -> Option<Reading<'_>>
     ensures { option_map reading_by result ≡ reading_in (said_by line.now) }
 {
@@ -100,7 +104,7 @@ fn reading_of(line: &Line) -> Option<Reading<'_>>
     }
 }
 
-/// Puts what is read off a desk, and gives the exit status.
+/// Writes what a line reads from a desk, and returns the exit status.
 fn run_reading<S: Alter, W: Sink>(
     alloc: Global,
     reading: Reading<'_>,
@@ -120,7 +124,7 @@ fn run_reading<S: Alter, W: Sink>(
     }
 }
 
-/// Makes the call of a line, if it makes one, and gives the exit status.
+/// Makes the call of a line, if it makes one, and returns the exit status.
 fn run_called<S: Alter, W: Sink>(
     alloc: Global,
     call: Option<DeskCall<'_>>,
@@ -139,7 +143,7 @@ fn run_called<S: Alter, W: Sink>(
     }
 }
 
-/// Does a line with its body on a desk, puts its answer, and gives the exit status.
+/// Runs a line with its body on a desk, writes the answer, and returns the exit status.
 fn do_line<S: Alter, W: Sink>(
     alloc: Global,
     line: &Line,
@@ -160,9 +164,11 @@ fn do_line<S: Alter, W: Sink>(
     }
 }
 
-/// Does a line on a desk where its body came, else tells why it did not. Puts the answer, and gives the exit status: 0 done,
-/// 1 refused, 2 where the line is one that is not for a desk (`check`, `new`, `migrate`, `serve`), 3 where memory, the device
-/// or the sink failed.
+/// Runs a line on a desk with its body, or reports why there is no body. Writes the answer, and returns the exit
+/// status.
+///
+/// The status is 0 for done, 1 for refused, and 3 where memory, the device or the sink failed. It is 2 for a line that
+/// is not for a desk (`check`, `new`, `migrate`, `serve`).
 pub fn run_line<S: Alter, W: Sink>(
     alloc: Global,
     line: &Line,
@@ -185,8 +191,7 @@ pub fn run_line<S: Alter, W: Sink>(
     }
 }
 
-/// Takes the body of a line from a reader, and does the line with it on a desk: [`read_body`], and then [`run_line`]. Gives the
-/// exit status.
+/// Reads the body of a line, and runs the line on a desk: [`read_body`], then [`run_line`]. Returns the exit status.
 pub fn run_line_from<S: Alter, R: Source, W: Sink>(
     alloc: Global,
     line: &Line,

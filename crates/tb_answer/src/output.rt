@@ -1,4 +1,4 @@
-//! Answers put to any sink.
+//! Writes answers to any sink.
 
 ghost use Rattle.tb_http.specs.Replies.{reply_text, exit_of};
 ghost use Rattle.tb_answer.specs.Output.{IsWritten};
@@ -6,7 +6,7 @@ ghost use Rattle.tb_answer.specs.Output.{IsWritten};
 use tb_conllu::Sink;
 use tb_http::Reply;
 
-/// Puts a text, and gives its status, or 3 where the sink refused it.
+/// Writes a text. Returns its status, or 3 where the sink refused a part of it.
 fn put_text<W: Sink>(out: &mut W, text: &[u8], status: u8) -> u8
     ensures { IsWritten (W.held out.old) (W.held out.new) text.now status (W.IsRefusal out.new) result }
 {
@@ -16,7 +16,7 @@ fn put_text<W: Sink>(out: &mut W, text: &[u8], status: u8) -> u8
     }
 }
 
-/// Puts the line of a reply, and gives its exit status, or 3 where the sink refused it.
+/// Writes the line of a reply. Returns its exit status, or 3 where the sink refused a part of it.
 pub fn put_reply<W: Sink>(out: &mut W, reply: Reply) -> u8
     ensures { IsWritten (W.held out.old) (W.held out.new) (reply_text reply) (exit_of reply)
         (W.IsRefusal out.new) result }
@@ -25,7 +25,7 @@ pub fn put_reply<W: Sink>(out: &mut W, reply: Reply) -> u8
     put_text(out, line.as_str().as_bytes(), reply.exit())
 }
 
-/// Puts a body, and gives 0, or 3 where the sink refused it.
+/// Writes a body. Returns 0, or 3 where the sink refused a part of it.
 pub fn put_body<W: Sink>(out: &mut W, text: &[u8]) -> u8
     ensures { IsWritten (W.held out.old) (W.held out.new) text.now 0 (W.IsRefusal out.new) result }
 {

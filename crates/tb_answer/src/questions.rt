@@ -1,4 +1,4 @@
-//! What is asked of a desk without changing it.
+//! Questions, which change nothing of a desk.
 
 /// A question.
 #[derive(Clone, Copy, Debug, PartialEq, Eq)]
@@ -13,10 +13,10 @@ pub enum Question {
     Moves,
 }
 
-/// The text that a question has.
+/// The text that answers a question.
 #[derive(Debug, Drop)]
 pub struct Body {
     pub text: Vec<u8>,
-    /// The number of the revision, where the current one was asked for.
+    /// The number of the revision, where the question was for the current one.
     pub rev: Option<u64>,
 }

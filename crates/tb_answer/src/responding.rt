@@ -1,4 +1,4 @@
-//! Calls of a desk, done and answered over HTTP.
+//! Runs calls of a desk, and answers them over HTTP.
 
 ghost use Rattle.std.specs.Prelude.{◌≡◌, ℕ, List};
 ghost use Rattle.tb_http.specs.declared.status.Status.{Status as AnyStatus};
@@ -16,7 +16,7 @@ use tb_conllu::Sink;
 use tb_http::Status;
 use tb_store::Desk;
 
-/// Does a call, puts its response to the sink, and gives the status of a response that was written whole.
+/// Makes a call and writes its response. Returns its status if it was written whole.
 pub fn respond_call<S: Alter, W: Sink>(
     alloc: Global,
     call: DeskCall<'_>,

@@ -1,4 +1,4 @@
-//! Responses over HTTP, put to any sink.
+//! Writes responses over HTTP to any sink.
 
 ghost use Rattle.std.specs.Prelude.{◌≡◌, ◌++◌, true, false};
 ghost use Rattle.std.specs.Io.KnownBytes.{Appends};
@@ -12,7 +12,7 @@ use arrayvec::ArrayString;
 use tb_conllu::Sink;
 use tb_http::{Extra, Reply, Status, head_of_reply, response_head};
 
-/// Puts one piece, and tells whether the sink took it.
+/// Writes one piece, and returns whether the sink took it.
 pub(crate) fn put_piece<W: Sink>(out: &mut W, bytes: &[u8]) -> bool
     ensures taken { result ≡ true → Appends (W.held out.old) (W.held out.new) bytes.now }
     ensures refused { result ≡ false → AppendsPart (W.held out.old) (W.held out.new) bytes.now
@@ -24,7 +24,7 @@ pub(crate) fn put_piece<W: Sink>(out: &mut W, bytes: &[u8]) -> bool
     }
 }
 
-/// Puts a head and a body, and gives the status, or nothing where the sink refused a part of them.
+/// Writes a head and a body. Returns the status, or none where the sink refused a part of them.
 fn put_response<W: Sink>(out: &mut W, head: &[u8], body: &[u8], status: Status) -> Option<Status>
     ensures { IsSent (W.held out.old) (W.held out.new) (head.now ++ body.now) status (W.IsRefusal out.new) result }
 {
@@ -37,7 +37,7 @@ fn put_response<W: Sink>(out: &mut W, head: &[u8], body: &[u8], status: Status) 
     Some(status)
 }
 
-/// Puts the response whose body is the line of a reply, and gives its status.
+/// Writes the response whose body is the line of a reply. Returns its status, or none where the sink refused a part.
 pub fn respond_reply<W: Sink>(out: &mut W, reply: Reply) -> Option<Status>
     ensures { IsSent (W.held out.old) (W.held out.new) (reply_response reply) (status_of reply)
         (W.IsRefusal out.new) result }
@@ -52,7 +52,7 @@ pub fn respond_reply<W: Sink>(out: &mut W, reply: Reply) -> Option<Status>
     )
 }
 
-/// The header that tells the number of a current revision.
+/// The header with the number of a current revision.
 fn extra_of_revision(rev: Option<u64>) -> Extra
     ensures { result ≡ extra_of_revision rev }
 {
@@ -62,7 +62,7 @@ fn extra_of_revision(rev: Option<u64>) -> Extra
     }
 }
 
-/// The head of a response that has a text.
+/// The head of a response whose body is a text.
 fn body_head(body: &Body) -> ArrayString<256>
     ensures { result.bytes ≡ body_head body.now.rev body.now.text.items }
 {
@@ -73,7 +73,7 @@ fn body_head(body: &Body) -> ArrayString<256>
     )
 }
 
-/// Puts the response that has a text, and gives its status, 200.
+/// Writes the response whose body is a text. Returns its status, 200, or none where the sink refused a part.
 pub fn respond_body<W: Sink>(out: &mut W, body: &Body) -> Option<Status>
     ensures { IsSent (W.held out.old) (W.held out.new) (body_response body.now.rev body.now.text.items) Status.Ok
         (W.IsRefusal out.new) result }

@@ -1,4 +1,4 @@
-//! Calls of a desk, done, answered and put to a sink.
+//! Runs calls of a desk, and writes their answers to a sink.
 
 ghost use Rattle.std.specs.Prelude.{◌≡◌, ℕ, List};
 ghost use Rattle.tb_answer.specs.Commanded.{IsAnswered};
@@ -15,7 +15,7 @@ use tb_conllu::Sink;
 use tb_http::Reply;
 use tb_store::Desk;
 
-/// Does a command, and gives its reply.
+/// Runs a command, and returns its reply.
 pub fn obey<S: Alter>(desk: &mut Desk<S>, command: DeskCommand<'_>) -> Reply
     ensures answered { InState S.Store desk.old desk.new (λ s. IsAnswered S.Store desk.old.limits s
         (command_by command.entry) desk.old desk.new result) }
@@ -36,7 +36,7 @@ pub fn obey<S: Alter>(desk: &mut Desk<S>, command: DeskCommand<'_>) -> Reply
     }
 }
 
-/// Does a call, puts what answers it to the sink, and gives the exit status.
+/// Makes a call, writes its answer to the sink, and returns the exit status.
 pub fn run_call<S: Alter, W: Sink>(
     alloc: Global,
     call: DeskCall<'_>,

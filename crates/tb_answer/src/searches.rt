@@ -1,4 +1,4 @@
-//! Searches of released text, whose keyword lines are put as they are found.
+//! Searches of released text, whose keyword lines are written as they are found.
 
 ghost use Rattle.std.specs.Prelude.{◌≡◌, []};
 ghost use Rattle.tb_search.specs.Visited.{HasReason};
@@ -20,7 +20,7 @@ use tb_http::{Extra, Status, response_head};
 use tb_query::Query;
 use tb_store::Desk;
 
-/// Puts what a query finds.
+/// Writes what a query finds.
 fn put_found<S: Alter, W: Sink>(
     desk: &mut Desk<S>,
     query: &Query,
@@ -40,8 +40,9 @@ fn put_found<S: Alter, W: Sink>(
     }
 }
 
-/// Searches released text, puts the keyword lines, and gives the exit status: 0 with the last line, 3 where the search breaks
-/// off, after which nothing more is put; or that of a reply, whose line is put alone.
+/// Searches released text, writes the keyword lines or the line of a reply, and returns the exit status.
+///
+/// A search that ends with its last line has status 0. One that breaks off has 3, and nothing more is written.
 pub fn run_search<S: Alter, W: Sink>(
     alloc: Global,
     desk: &mut Desk<S>,
@@ -60,14 +61,14 @@ pub fn run_search<S: Alter, W: Sink>(
     }
 }
 
-/// The head of a search, whose length is not known.
+/// The head of a search, whose length is unknown.
 fn search_head() -> ArrayString<256>
     ensures { result.bytes ≡ search_head }
 {
     response_head(Status::Ok, None, Extra::Nothing)
 }
 
-/// Puts the head of a search, and after it what the query finds.
+/// Writes the head of a search, then what the query finds.
 fn send_found<S: Alter, W: Sink>(
     desk: &mut Desk<S>,
     query: &Query,
@@ -89,9 +90,10 @@ fn send_found<S: Alter, W: Sink>(
     put_found(desk, query, search, out)
 }
 
-/// Searches released text, and puts the response: a head without a length, once the query is accepted, and the keyword lines
-/// as they are found; or the response of a reply. Gives the status that was told, or nothing where the sink refused a piece. A
-/// search that breaks off lacks its last line.
+/// Searches released text, and writes the response. Returns its status, or none where the sink refused a piece.
+///
+/// Once the query is accepted, a head without a length is written, and then each keyword line as it is found. A search
+/// that breaks off lacks its last line. If the query is not accepted, the response is that of a reply.
 pub fn respond_search<S: Alter, W: Sink>(
     alloc: Global,
     desk: &mut Desk<S>,
