@@ -1,4 +1,4 @@
--- What a target stands for: the actions that GET and POST ask for there.
+-- What a target names: the actions that GET and POST ask for.
 use Rattle.std.specs.Prelude.{ℕ, List, codes, Option, Some, None, option_map, option_and_then, bytes_eq}
 use Rattle.std.specs.Prelude.{if◌then◌else◌}
 use Rattle.tb_core.specs.declared.kinds.Event.{Event}
@@ -44,7 +44,7 @@ with_both f (Some a) (Some b) = Some (f a b)
 with_both f (Some a) None = None
 with_both f None b = None
 
--- what a target of that route stands for, where its segments have their forms
+-- what a target of this route names, where its segments have their forms
 abbrev pub place_at : Route → List ℕ → Option Place
 place_at route.Batch target = option_map (λ name. both (export_batch name) (import_batch name)) (name_of
     (segment_of 2 target))
@@ -65,7 +65,7 @@ place_at route.Search target = with_both (λ strategy context. posts (search str
 place_at route.Count target = with_both (λ strategy attribute. posts (count strategy attribute)) (strategy_of
     (segment_of 2 target)) (attribute_of (segment_of 3 target))
 
--- what a target stands for
+-- what a target names
 abbrev pub place_of : List ℕ → Option Place
 place_of target = option_and_then (λ r. place_at r target) (route_of target)
 
@@ -79,11 +79,11 @@ post_of (gets a) = None
 post_of (posts a) = Some a
 post_of (both a b) = Some b
 
--- the action that a method asks for there
+-- the action that a method asks for
 abbrev pub act_of : Place → List ℕ → Option Act
 act_of place method = if bytes_eq method (codes "GET") then get_of place else if bytes_eq method (codes "POST") then post_of place else None
 
--- the methods of a place
+-- the methods of a target
 abbrev pub allow_of : Place → Allow
 allow_of (gets a) = Get
 allow_of (posts a) = Post

@@ -1,4 +1,4 @@
--- When it stays unknown what a request asks: only where a read was owed, or memory for the body.
+-- When what a request asks stays unknown: only where a read was needed, or memory for the body.
 use Rattle.std.specs.Prelude.{◌≡◌, ◌<◌, ◌≤◌, ◌⊎◌, ℕ, List, [], ◌++◌, length, Option, Some}
 use Rattle.std.specs.Prelude.{IfSome}
 use Rattle.std.specs.Io.KnownBytes.{Consumes}
@@ -11,13 +11,13 @@ use Rattle.tb_http.specs.Actions.{Act, Place, place_of, act_of}
 use Rattle.tb_http.specs.Asks.{Front, IsFront, headers_of}
 use Rattle.tb_http.specs.Headers.{body_length}
 
--- what was taken is no whole head yet, and may become one within the limit
+-- the taken bytes hold no complete head, and may become one within the limit
 pub record AwaitsHead (taken : List ℕ) : Type 0 where
   pub none : HasNoRequest taken
   pub becoming : MayBecomeRequest taken
   pub room : length taken < 8192
 
--- the bytes begin with a head that passes each test and tells a body of n bytes
+-- the bytes begin with a head that passes each test and gives a body of n bytes
 pub record HasCall (limit : ℕ) (bytes : List ℕ) (front : Front) (n : ℕ) : Type 0 where
   pub begins : IsFront bytes front
   pub reported : body_length (headers_of front.head) ≡ Some n
@@ -25,7 +25,7 @@ pub record HasCall (limit : ℕ) (bytes : List ℕ) (front : Front) (n : ℕ) : 
       × (act_of place front.head.method ≡ Some act)
   pub within : n ≤ limit
 
--- such a head was taken, and less of its body than it tells
+-- such a head was taken, and less of its body than it gives
 abbrev pub AwaitsBody : ℕ → List ℕ → Type 0
 AwaitsBody limit taken = (front : Front) × (n : ℕ) × HasCall limit taken front n × (length front.rest < n)
 
@@ -34,34 +34,34 @@ abbrev pub BeginsBody : ℕ → List ℕ → Type 0
 BeginsBody limit taken = (front : Front) × (n : ℕ) × HasCall limit taken front n × (0 < n)
     × (0 < length front.rest)
 
--- after these bytes a read is owed: for the head, or for the body
+-- after these bytes a read is needed, for the head or for the body
 abbrev pub AwaitsMore : ℕ → List ℕ → Type 0
 AwaitsMore limit taken = AwaitsHead taken ⊎ AwaitsBody limit taken
 
--- where that fault may come, after these bytes were taken
+-- this fault is possible after these bytes were taken
 abbrev pub IsFaultOf : ℕ → List ℕ → AskFault → Type 0
 IsFaultOf limit taken ask.Broken = AwaitsMore limit taken
 IsFaultOf limit taken ask.Memory = BeginsBody limit taken
 
--- no more bytes than a head may have, or such a head and no more than its body
+-- at most as many bytes as a head may have, or such a head and at most its body
 abbrev pub IsAtMostOne : ℕ → List ℕ → Type 0
 IsAtMostOne limit taken =
     (length taken ≤ 8192) ⊎ ((front : Front) × (n : ℕ) × HasCall limit taken front n
     × (length front.rest ≤ n))
 
--- where that fault may come, after these of the n bytes of a body came
+-- this fault is possible after these of the n bytes of a body came
 abbrev pub IsBodyFaultOf : ℕ → List ℕ → BodyFault → Type 0
 IsBodyFaultOf n came body.Read = length came < n
 IsBodyFaultOf n came body.Memory = (0 < length came) × (length came ≤ n)
 
--- what was taken of a reader's bytes, after some others, has P
+-- P holds of `before` and then the bytes that were taken from a reader
 abbrev pub TakenAfter : List ℕ → Option (List ℕ) → Option (List ℕ) → (List ℕ → Type 0) → Type 0
 TakenAfter before old new P = (taken : List ℕ) × Consumes old new taken × P (before ++ taken)
 
--- no more than that many bytes were taken of a reader's
+-- at most this many bytes were taken from a reader
 abbrev pub TakesAtMost : ℕ → Option (List ℕ) → Option (List ℕ) → Type 0
 TakesAtMost most old new = TakenAfter [] old new (λ taken. length taken ≤ most)
 
--- the first bytes, and all that a reader has, are fewer than n
+-- `start` and all that a reader has are fewer than n bytes
 abbrev pub AreTooFew : ℕ → List ℕ → Option (List ℕ) → Type 0
 AreTooFew n start left = IfSome left (λ rest. length (start ++ rest) < n)

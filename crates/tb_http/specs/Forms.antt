@@ -16,12 +16,12 @@ use Rattle.tb_syntax.specs.Spelling.{column}
 abbrev pub is_slash : ℕ → Bool
 is_slash b = b == 47
 
--- what stands after n slashes and before the next
+-- the text after n slashes and before the next
 abbrev pub segment_of : ℕ → List ℕ → List ℕ
 segment_of zero text = before_first is_slash text
 segment_of (suc n) text = segment_of n (after_first is_slash text)
 
--- the number, where it is within the limit
+-- the number, if it is within the limit
 abbrev pub within : ℕ → ℕ → Option ℕ
 within limit n = if nat_le n limit then Some n else None
 
@@ -42,7 +42,7 @@ number_of text = if is_number text then Some (digits_value 10 text) else None
 abbrev pub base_of : List ℕ → Option ℕ
 base_of text = if bytes_eq text (codes "0") then Some 0 else number_of text
 
--- how many words stand on each side of a match in a keyword line: 0 to 20, without leading zeros
+-- how many words of context a keyword line has on each side of a match: 0 to 20, without leading zeros
 abbrev pub context_of : List ℕ → Option ℕ
 context_of text = option_and_then (within 20) (base_of text)
 
@@ -55,7 +55,7 @@ abbrev pub requests_of : List ℕ → Option ℕ
 requests_of text = if nat_lt 0 (length text) && (nat_le
     (length text) 10 && list_all is_ascii_digit text) then Some (digits_value 10 text) else None
 
--- the event with that word
+-- the event with this word
 abbrev pub event_of : List ℕ → Option Event
 event_of text =
     if bytes_eq text (event_word Assign) then Some Assign
@@ -68,7 +68,7 @@ event_of text =
     else if bytes_eq text (event_word Reopen) then Some Reopen
     else None
 
--- the strategy with that word
+-- the strategy with this word
 abbrev pub strategy_of : List ℕ → Option Strategy
 strategy_of text =
     if bytes_eq text (codes "shortest") then Some Shortest
@@ -76,6 +76,6 @@ strategy_of text =
     else if bytes_eq text (codes "every") then Some Every
     else None
 
--- the attribute with that name, as queries name it
+-- the attribute with this name, as queries write it
 abbrev pub attribute_of : List ℕ → Option Attr
 attribute_of text = column text

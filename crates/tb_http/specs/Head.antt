@@ -8,6 +8,6 @@ pub record BeginsWithHead (bytes : List ℕ) (head : RequestHead) (rest : List �
   pub short : length (print_request head) ≤ 8192
   pub few : length head.fields ≤ 32
 
--- no prefix of the bytes is such a head
+-- the bytes begin with no such head
 abbrev pub HasNoHead : List ℕ → Type 0
 HasNoHead bytes = (head : RequestHead) (rest : List ℕ) → ¬ (BeginsWithHead bytes head rest)

@@ -10,31 +10,31 @@ use Rattle.tb_http.specs.declared.status.Status.{Status}
 use Rattle.tb_http.specs.Replies.{reply_text, status_of, allow_in}
 use Rattle.tb_http.specs.Status.{code_of, phrase_of}
 
--- the methods, as Allow names them
+-- the methods, as the header Allow lists them
 abbrev pub allow_text : Allow → List ℕ
 allow_text Get = codes "GET"
 allow_text Post = codes "POST"
 allow_text GetAndPost = codes "GET, POST"
 
--- the length of the body, where it is told
+-- the length of the body, if it is known
 abbrev pub length_text : Option ℕ → List ℕ
 length_text (Some n) = codes "Content-Length: " ++ decimal n ++ codes "\r\n"
 length_text None = []
 
--- the header of the desk's own
+-- the header that the desk adds
 abbrev pub extra_text : Extra → List ℕ
 extra_text extra.Nothing = []
 extra_text (extra.Revision r) = codes "Desk-Revision: " ++ decimal r ++ codes "\r\n"
 extra_text (extra.Allowed allow) = codes "Allow: " ++ allow_text allow ++ codes "\r\n"
 
--- the head of a response: its status, the length of its body, and the desk's own header
+-- the head of a response: its status, the length of its body, and the header that the desk adds
 abbrev pub head_text : Status → Option ℕ → Extra → List ℕ
 head_text status length more =
     codes "HTTP/1.1 " ++ code_digits (code_of status) ++ codes " " ++ phrase_of status
     ++ codes "\r\nContent-Type: text/plain; charset=utf-8\r\n" ++ length_text length
     ++ codes "Connection: close\r\n" ++ extra_text more ++ codes "\r\n"
 
--- the header that comes with a reply
+-- the header of a reply
 abbrev pub extra_for : Option Allow → Extra
 extra_for (Some allow) = extra.Allowed allow
 extra_for None = extra.Nothing

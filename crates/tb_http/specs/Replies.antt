@@ -14,7 +14,7 @@ use Rattle.tb_http.specs.declared.status.Status.TheVariants.{Ok, BadRequest, For
 use Rattle.tb_http.specs.declared.status.Status.TheVariants.{Conflict, PayloadTooLarge, UnprocessableEntity}
 use Rattle.tb_http.specs.declared.status.Status.TheVariants.{ServiceUnavailable, InsufficientStorage}
 
--- the word that a fault of a request is told by
+-- the word for a fault of a request
 abbrev pub fault_word : RequestFault → List ℕ
 fault_word fault.Head = codes "head"
 fault_word fault.Length = codes "length"
@@ -103,7 +103,7 @@ exit_of reply.Memory = 3
 exit_of reply.Device = 3
 exit_of reply.Desk = 1
 
--- the methods that are told with a reply
+-- the methods that a reply lists
 abbrev pub allow_in : Reply → Option Allow
 allow_in (reply.Faulty (fault.Method allow)) = Some allow
 allow_in _ = None

@@ -1,4 +1,4 @@
--- The desk's routes, as matchit places and seeks them.
+-- The desk's routes, as the library matchit stores and finds them.
 use Rattle.std.specs.Prelude.{ℕ, List, [], codes, Option, Result, Ok, Err, option_map}
 use Rattle.matchit.specs.Rows.{RowsOf}
 use Rattle.matchit.specs.Router.{RouteOf, route_from}
@@ -9,12 +9,12 @@ use Rattle.tb_http.specs.declared.routes.Route.{Route}
 use Rattle.tb_http.specs.declared.routes.Route.TheVariants.{Batch, Step, Correction, Sentence, Revision, Pull, Restore}
 use Rattle.tb_http.specs.declared.routes.Route.TheVariants.{Released, Totals, Moves, Search, Count}
 
--- the rows after a route that reads well goes in
+-- the rows with one more route, if it can be parsed
 abbrev pub with_route : {E : Type 0} → Result Scan E → Route → RowsOf (RouteOf Route) → RowsOf (RouteOf Route)
 with_route (Ok s) value rows = placed (s.pattern, route_from s value) rows
 with_route (Err e) value rows = rows
 
--- the rows after a route's text goes in
+-- the rows with the route of this text
 unfoldable pub with_text : List ℕ → Route → RowsOf (RouteOf Route) → RowsOf (RouteOf Route)
 with_text text value rows = with_route (parse_route text) value rows
 
@@ -34,6 +34,6 @@ route_rows =
     (with_text (codes "/batches/{name}/{event}") Step
     (with_text (codes "/batches/{name}") Batch [])))))))))))
 
--- the route that a target takes
+-- the route of a target
 abbrev pub route_of : List ℕ → Option Route
 route_of target = option_map (λ route. route.value) (first route_rows target)

@@ -1,4 +1,4 @@
--- The statuses that are answered (RFC 9110, section 15), with their phrases as `http` has them.
+-- The statuses of responses (RFC 9110, section 15), with their phrases as the library `http` has them.
 use Rattle.std.specs.Prelude.{ℕ, List, [], unwrap_or}
 use Rattle.http.specs.StatusCode.{reason_phrase}
 use Rattle.tb_http.specs.declared.status.Status.{Status}

@@ -1,4 +1,4 @@
-//! What a target stands for: the actions that its methods ask for.
+//! The actions that the methods of a target ask for.
 
 ghost use Rattle.std.specs.Prelude.{◌≡◌, option_map, bytes_eq};
 ghost use Rattle.tb_http.specs.Actions.{place_at, place_by, place_of};
@@ -27,9 +27,9 @@ pub enum Action<'b> {
     Sentence { no: u64 },
     /// One of the sentence's revisions.
     Revision { no: u64, rev: u64 },
-    /// The sentence is taken out of the work on its batch.
+    /// The sentence is withdrawn by itself, until it is restored.
     Pull { no: u64 },
-    /// The sentence comes back into the work on its batch.
+    /// The sentence is in the state of its batch again.
     Restore { no: u64 },
     /// The released sentences, as CoNLL-U.
     Released,
@@ -51,7 +51,7 @@ pub enum Allow {
     GetAndPost,
 }
 
-/// What a target stands for: the action of each of its methods.
+/// What a target names: the action of each of its methods.
 #[derive(Clone, Copy, Debug)]
 pub enum Resource<'b> {
     Get(Action<'b>),
@@ -59,7 +59,7 @@ pub enum Resource<'b> {
     GetAndPost { get: Action<'b>, post: Action<'b> },
 }
 
-/// Whether the bytes are that word.
+/// Whether the bytes are this word.
 fn is_word(bytes: &[u8], word: &[u8]) -> bool
     ensures { result ≡ bytes_eq bytes.now word.now }
 {
@@ -88,7 +88,7 @@ impl<'b> Resource<'b> {
         }
     }
 
-    /// The action that a method asks for, if it is one of the target's.
+    /// The action that a method asks for, if the target has this method.
     pub fn action(self, method: &[u8]) -> Option<Action<'b>>
         ensures { option_map act_by result ≡ act_of (place_by self.entry) method.now }
     {
@@ -215,7 +215,7 @@ fn count(target: &str) -> Option<Resource<'_>>
     }))
 }
 
-/// What a target of that route stands for, where its segments have their forms.
+/// What a target of this route names, where its segments have their forms.
 fn resource_at(route: Route, target: &str) -> Option<Resource<'_>>
     ensures { option_map place_by result ≡ place_at route target.now }
 {
@@ -235,7 +235,7 @@ fn resource_at(route: Route, target: &str) -> Option<Resource<'_>>
     }
 }
 
-/// What a target stands for.
+/// What a target names.
 pub fn resource_of<'b>(routes: &Routes, target: &'b str) -> Option<Resource<'b>>
     ensures { option_map place_by result ≡ place_of target.now }
 {

@@ -23,20 +23,20 @@ use tb_conllu::Source;
 /// The most bytes of a body.
 pub const BODY_BYTES: usize = 4_194_304;
 
-/// Why a request asks nothing. Of several reasons the first in this order is told.
+/// Why a request asks nothing. Of several reasons the first in this order is reported.
 #[derive(Clone, Copy, Debug, PartialEq, Eq)]
 pub enum RequestFault {
-    /// The bytes begin with no request head of at most 8,192 bytes and 32 headers, or Desk-User stands in it twice.
+    /// The bytes begin with no request head of at most 8,192 bytes and 32 headers, or `Desk-User` comes twice.
     Head,
-    /// There is a Transfer-Encoding, more than one Content-Length, or one that is no number.
+    /// There is a `Transfer-Encoding`, more than one `Content-Length`, or one that is no number.
     Length,
-    /// The target is no path of the desk.
+    /// The target is none of the desk's paths.
     Path,
-    /// The method is none of the path's, which are these.
+    /// The path does not have this method. It has those that are listed.
     Method(Allow),
     /// The body has more than 4,194,304 bytes.
     Long,
-    /// Fewer bytes follow than Content-Length tells.
+    /// The body has fewer bytes than `Content-Length` says.
     Body,
 }
 
@@ -44,7 +44,7 @@ pub enum RequestFault {
 #[derive(Debug, Drop)]
 pub struct Call<'b> {
     pub action: Action<'b>,
-    /// The value of Desk-User, empty where there is none or it is no UTF-8.
+    /// The value of `Desk-User`; empty where there is none, or where it is not UTF-8.
     pub user: &'b str,
     pub body: Vec<u8>,
 }
@@ -56,7 +56,7 @@ pub enum Ask<'b> {
     Call(Call<'b>),
 }
 
-/// Why it isn't known what a request asks.
+/// Why what a request asks is unknown.
 #[derive(Clone, Copy, Debug, PartialEq, Eq)]
 pub enum AskFault {
     /// The reader failed.
@@ -65,19 +65,19 @@ pub enum AskFault {
     Memory,
 }
 
-/// Bytes ask one thing.
+/// A law: bytes ask exactly one thing.
 pub fn bytes_ask_one_thing()
     ensures { AsksOneThing }
 {}
 
-/// A call whose texts stand in the buffer.
+/// A call whose texts are in the buffer.
 fn make_call<'b>(action: Action<'b>, user: &'b str, body: Vec<u8>) -> Ask<'b>
     ensures { reported_by result ≡ call_text (act_by action.entry) user.now body.items }
 {
     Ask::Call(Call { action, user, body })
 }
 
-/// What is asked by the head in the buffer and by the bytes after it, of which some stand there already.
+/// What is asked by the head in the buffer and by the bytes after it, of which some are in the buffer already.
 fn ask_after<'b, R: Source>(
     alloc: Global,
     routes: &Routes,
@@ -131,7 +131,7 @@ fn ask_after<'b, R: Source>(
     }
 }
 
-/// What the bytes of the reader ask, where a body has at most `limit` bytes.
+/// What the bytes of the reader ask, where a body may have `limit` bytes.
 fn ask_within<'b, R: Source>(
     alloc: Global,
     routes: &Routes,
@@ -166,14 +166,15 @@ fn ask_within<'b, R: Source>(
     }
 }
 
-/// What the bytes of the reader ask. The head is read into `buf`, and the texts of the call lie there.
+/// What the bytes of the reader ask. The head is read into `buf`, which the texts of the call borrow from.
 ///
-/// Each read is made while a head or a body is still wanting, so nothing is read after the body. No more is taken
-/// than a head of 8,192 bytes and its body.
+/// It reads only while a part of the head or the body is missing, so nothing is read after the body. It takes at most a
+/// head of 8,192 bytes and its body.
 ///
 /// # Errors
 ///
-/// The reader failed, or memory was refused for the body.
+/// - `Broken`: the reader failed.
+/// - `Memory`: memory was refused for the body.
 pub fn read_ask<'b, R: Source>(
     alloc: Global,
     routes: &Routes,

@@ -29,7 +29,7 @@ fn after_slash(text: &str) -> &str
     }
 }
 
-/// What stands after n slashes and before the next.
+/// The text after n slashes and before the next.
 pub fn segment(text: &str, n: usize) -> &str
     ensures { result.now ≡ segment_of n text.now }
 {
@@ -60,7 +60,7 @@ fn is_number(text: &[u8]) -> bool
     all_digits(text)
 }
 
-/// Whether the text is that word.
+/// Whether the text is this word.
 fn is_word(text: &str, word: &str) -> bool
     ensures { result ≡ bytes_eq text.now word.now }
 {
@@ -94,7 +94,7 @@ pub fn base_of(text: &str) -> Option<u64>
     number_of(text)
 }
 
-/// How many words stand on each side of a match: 0 to 20, without leading zeros.
+/// How many words of context to show on each side of a match: 0 to 20, without leading zeros.
 pub fn context_of(text: &str) -> Option<u8>
     ensures value { result ≡ context_of text.now }
     ensures small { IfSome result (λ n. n ≤ 20) }
@@ -136,7 +136,7 @@ pub fn requests_of(text: &str) -> Option<u64>
     text.parse::<u64>().ok()
 }
 
-/// The event with that word.
+/// The event with this word.
 pub fn event_of(text: &str) -> Option<Event>
     ensures { result ≡ event_of text.now }
 {
@@ -161,7 +161,7 @@ pub fn event_of(text: &str) -> Option<Event>
     }
 }
 
-/// The strategy with that word.
+/// The strategy with this word.
 pub fn strategy_of(text: &str) -> Option<Strategy>
     ensures { result ≡ strategy_of text.now }
 {
@@ -176,7 +176,7 @@ pub fn strategy_of(text: &str) -> Option<Strategy>
     }
 }
 
-/// The attribute with that name, as queries name it.
+/// The attribute with this name, as queries write it.
 pub fn attribute_of(text: &str) -> Option<Attr>
     ensures { result ≡ attribute_of text.now }
 {

@@ -1,4 +1,4 @@
-//! The head of a request, and then its body, from any reader.
+//! Reads the head of a request, and then its body, from any reader.
 
 ghost use Rattle.std.specs.Prelude.{◌≡◌, ◌≢◌, ◌≤◌, ◌<◌, ◌++◌, ℕ, List, [], length, take};
 ghost use Rattle.std.specs.Prelude.{IfOk, IfErr, IfSome, IfNone};
@@ -29,11 +29,11 @@ pub struct BrokenRead;
 #[derive(Clone, Copy)]
 pub struct Head {
     pub spans: RequestSpans,
-    /// How many bytes of the buffer came.
+    /// How many bytes of the buffer are filled.
     pub filled: usize,
 }
 
-/// Reads until a head is whole, or until none can come.
+/// Reads until a head is complete, or until the bytes cannot become one.
 pub fn read_head<R: Source>(
     reader: &mut R,
     buf: &mut [u8],
@@ -76,14 +76,14 @@ pub fn read_head<R: Source>(
     }
 }
 
-/// Why a body didn't come.
+/// Why a body did not come.
 #[derive(Clone, Copy)]
 pub enum BodyFault {
     Read,
     Memory,
 }
 
-/// Reads the rest of a body of n bytes, of which the first stand in `start`, and nothing after it.
+/// Reads the rest of a body of `n` bytes, and nothing after it. `start` has its first bytes.
 pub fn read_body<R: Source>(
     alloc: Global,
     reader: &mut R,

@@ -15,7 +15,7 @@ use crate::forms::all_digits;
 use httparse::spans::HeaderSpan;
 use std::str::from_utf8;
 
-/// The value of the header, where it has that name without regard to ASCII case.
+/// The value of the header, if it has this name. ASCII case does not matter.
 fn value_under<'b>(buf: &'b [u8], header: &HeaderSpan, name: &[u8]) -> Option<&'b [u8]>
     requires { IsHeaderWithin (length buf.now) header.now }
     ensures { option_copied result ≡ value_under name.now (header_bytes buf.now header.now) }
@@ -27,11 +27,11 @@ fn value_under<'b>(buf: &'b [u8], header: &HeaderSpan, name: &[u8]) -> Option<&'
     }
 }
 
-/// A header stands there more than once.
+/// A header comes more than once.
 #[derive(Clone, Copy)]
 pub struct Repeated;
 
-/// The value of the one header with that name, if there is one.
+/// The value of the header with this name, if there is one.
 pub fn value_of<'b>(
     buf: &'b [u8],
     headers: &[HeaderSpan],
@@ -61,7 +61,7 @@ fn is_numeral(text: &[u8]) -> bool
     !text.is_empty() && all_digits(text)
 }
 
-/// The number of a numeral of any length, where it is within the limit.
+/// The value of a numeral of any length, if it is within the limit.
 fn number_within(digits: &[u8], limit: usize) -> Option<usize>
     requires small { limit < 2 ^ 32 }
     requires digits { list_all is_ascii_digit digits.now ≡ true }
@@ -77,11 +77,11 @@ fn number_within(digits: &[u8], limit: usize) -> Option<usize>
     Some(number)
 }
 
-/// The length of a body is told by another header, twice, or not by a number.
+/// `Transfer-Encoding` is present, `Content-Length` comes twice, or it is no number.
 #[derive(Clone, Copy)]
 pub struct BadLength;
 
-/// The length of the body, where it is within the limit.
+/// The length of the body, or `None` where it is above the limit.
 pub fn body_length(
     buf: &[u8],
     headers: &[HeaderSpan],
@@ -109,7 +109,7 @@ pub fn body_length(
     }
 }
 
-/// A value that is text, and else the empty text.
+/// The value if it is UTF-8, else the empty text.
 fn text_of(value: &[u8]) -> &str
     ensures { result.now ≡ text_of value.now }
 {
@@ -119,7 +119,7 @@ fn text_of(value: &[u8]) -> &str
     }
 }
 
-/// The user, who is empty where none is named or the name is no text.
+/// The value of `Desk-User`; empty where there is none, or where it is not UTF-8.
 pub fn user_of<'b>(buf: &'b [u8], headers: &[HeaderSpan]) -> Result<&'b str, Repeated>
     requires { All (IsHeaderWithin (length buf.now)) headers.now }
     ensures { MatchResult result (λ user. user_of (map (header_bytes buf.now) headers.now) ≡ Some user.now)

@@ -11,7 +11,7 @@ use crate::replies::{Reply, push_number};
 use crate::status::Status;
 use arrayvec::ArrayString;
 
-/// A header of the desk's own.
+/// A header that the desk adds.
 #[derive(Clone, Copy)]
 pub enum Extra {
     Nothing,
@@ -21,7 +21,7 @@ pub enum Extra {
     Allowed(Allow),
 }
 
-/// The methods, as Allow names them.
+/// The methods, as the header `Allow` lists them.
 fn methods(allow: Allow) -> &'static str
     ensures value { result.now ≡ allow_text allow }
     ensures short { length result.now ≤ 9 }
@@ -65,7 +65,7 @@ fn push_extra(head: &mut ArrayString<256>, more: Extra)
     }
 }
 
-/// The head of a response of this status: the length of its body, if it is known, and a header of the desk's own.
+/// The head of a response: its status, the length of its body, if it is known, and a header that the desk adds.
 pub fn response_head(status: Status, length: Option<u64>, more: Extra) -> ArrayString<256>
     ensures { result.bytes ≡ head_text status length more }
 {
@@ -82,7 +82,7 @@ pub fn response_head(status: Status, length: Option<u64>, more: Extra) -> ArrayS
     head
 }
 
-/// The header that comes with a reply.
+/// The header of a reply.
 fn extra_of(reply: Reply) -> Extra
     ensures { result ≡ extra_for (allow_in reply) }
 {

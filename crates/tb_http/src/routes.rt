@@ -1,4 +1,4 @@
-//! The desk's routes, by matchit.
+//! The desk's routes, matched by the library matchit.
 
 ghost use Rattle.std.specs.Prelude.{◌≡◌, IfOk, OnOk};
 ghost use Rattle.tb_http.specs.Routes.{with_text, route_rows, route_of};
@@ -63,7 +63,7 @@ fn router(alloc: Global) -> Result<Router<Route>, InsertError>
     Ok(router)
 }
 
-/// The desk's routes, made once for many requests.
+/// The desk's routes, built once for many requests.
 #[derive(Drop)]
 pub struct Routes {
     router: Router<Route>,
@@ -71,17 +71,17 @@ pub struct Routes {
 }
 
 impl Routes {
-    /// Makes the routes.
+    /// Builds the routes.
     ///
     /// # Errors
     ///
-    /// Want of memory.
+    /// Memory was refused.
     pub fn new(alloc: Global) -> Result<Routes, InsertError> {
         let router = router(alloc)?;
         Ok(Routes { router })
     }
 
-    /// The route that a target takes, whatever stands in its segments.
+    /// The route of a target. The forms of its segments are not tested.
     pub fn route(&self, target: &str) -> Option<Route>
         ensures { result ≡ route_of target.now }
     {

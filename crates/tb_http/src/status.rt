@@ -1,4 +1,4 @@
-//! The statuses that are answered, as `http` has them.
+//! The statuses of responses, with the codes of the library `http`.
 
 use http::StatusCode;
 
@@ -39,7 +39,7 @@ impl Status {
         }
     }
 
-    /// The phrase that `http` gives to the code.
+    /// The phrase that `http` has for the code.
     pub fn phrase(self) -> &'static str
         ensures value { result.now ≡ phrase_of self }
         ensures short { length result.now ≤ 40 }
