@@ -38,7 +38,7 @@ ids_in bs = map sent_id_of bs
 
 -- ---- when
 
--- a file of one or more sentences, valid by itself, under a new name, and no `sent_id` of it stands yet
+-- a file of one or more sentences, valid by itself, under a new name; no sentence of the desk has one of its `sent_id`s
 pub record MayImport (s : Machine) (name user : List ℕ) (bodies : List BlockText) : Type 0 where
   pub named : is_name name ≡ true
   pub by : is_name user ≡ true
@@ -54,7 +54,7 @@ pub record MayStep (s : Machine) (place : ℕ) (event : Event) (user : List ℕ)
   pub there : slice_get s.batches place ≡ Some batch
   pub decided : event_decision batch.state batch.worker event user ≡ Ok (goes_to event, makes_worker event)
 
--- a sentence that keeps the rules, with the `sent_id` and the `text` that stand, and something new
+-- a sentence that keeps the rules, with the same `sent_id` and `text`, and something new
 pub record MayCorrect (s : Machine) (place : ℕ) (user : List ℕ) (body : BlockText) : Type 0 where
   pub by : is_name user ≡ true
   pub sentence : Sentence
@@ -138,7 +138,7 @@ sentences_after s (restoring place user) = change_at (flagged false) s.sentences
 
 -- ---- the move
 
--- what leaves a state and what enters one, by a weight
+-- how much leaves a state and how much enters one, by a weight
 abbrev pub leaves : (Sentence → ℕ) → Machine → Act → ℕ
 leaves w s (importing name user bodies) = 0
 leaves w s (stepping place event user) = weigh (at_work (place + 1) w) s.sentences
@@ -178,7 +178,7 @@ batch_number s (correcting place user body) = batch_at s.sentences place
 batch_number s (pulling place user) = batch_at s.sentences place
 batch_number s (restoring place user) = batch_at s.sentences place
 
--- the number of the sentence, 0 where the act is on a whole batch
+-- the number of the sentence, 0 where a whole batch moves
 abbrev pub sent_number : Act → ℕ
 sent_number (importing name user bodies) = 0
 sent_number (stepping place event user) = 0

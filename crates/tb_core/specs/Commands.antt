@@ -1,4 +1,4 @@
--- What users ask of a desk, and what they are answered.
+-- The commands of users, and their answers.
 use Rattle.std.specs.Prelude.{◌≡◌, ℕ, ◌+◌, List, [], ◌∷◌, length, Some, slice_get}
 use Rattle.tb_conllu.specs.Text.{BlockText}
 use Rattle.tb_conllu.specs.Words.{words_of}
@@ -32,7 +32,7 @@ pub data Answer : Type 0 where
   replied : Reply → Answer
   refused : Refusal → Answer
 
--- How a command ends: what is answered, and the state after it.
+-- How a command ends: its answer, and the state after it.
 pub record Ending : Type 0 where
   pub answer : Answer
   pub state : Machine
@@ -40,7 +40,7 @@ pub record Ending : Type 0 where
 abbrev pub ending : Answer → Machine → Ending
 ending answer state = record { answer = answer; state = state }
 
--- ---- what stands
+-- ---- what is there
 
 pub record HasBatch (s : Machine) (name : List ℕ) (place : ℕ) (b : Batch) : Type 0 where
   pub there : slice_get s.batches place ≡ Some b
@@ -51,7 +51,7 @@ pub record HasSentence (s : Machine) (n place : ℕ) (x : Sentence) : Type 0 whe
   pub counted : n ≡ place + 1
   pub there : slice_get s.sentences place ≡ Some x
 
--- ---- the act that a command comes to where nothing refuses it, and its reply
+-- ---- the act of a command that is not refused, and its reply
 
 abbrev pub Means : Machine → Command → Act → Type 0
 Means s (import_file name user body) a = (bs : List BlockText) × IsFile body bs × (a ≡ importing name user bs)

@@ -1,4 +1,4 @@
--- What is decided from the state of a batch, its worker and the user, with the refusals in their order.
+-- Decisions from the state of a batch, its worker and the user, with the refusals in their order.
 use Rattle.std.specs.Prelude.{ℕ, List, Bool, cond, bytes_eq, nat_eq, Result, Ok, Err}
 use Rattle.tb_core.specs.declared.kinds.State.{State}
 use Rattle.tb_core.specs.declared.kinds.State.TheVariants.{Opened, Assigned, Submitted, Adjudicated, Released}
@@ -40,7 +40,7 @@ abbrev pub then_current : Result (Unit {0}) Refusal → ℕ → ℕ → Result (
 then_current (Ok u) base current = current_only base current
 then_current (Err e) base current = Err e
 
--- a correction of a sentence in this state, made on this revision, where that one is current
+-- the user may correct a sentence in this state, made on this revision, which has to be current
 abbrev pub correct_decision : State → List ℕ → List ℕ → ℕ → ℕ → Result (Unit {0}) Refusal
 correct_decision s worker user base current = then_current (may_correct s worker user) base current
 
@@ -48,6 +48,6 @@ correct_decision s worker user base current = then_current (may_correct s worker
 abbrev pub pull_decision : State → Bool → Result (Unit {0}) Refusal
 pull_decision s pulled = cond (is_state s Withdrawn) (Err (WrongState s)) (cond pulled (Err Pulled) (Ok tt))
 
--- a restore, by the state of the batch, which is that of the sentence again
+-- a restore, by the state of the batch, in which the sentence then is
 abbrev pub restore_decision : State → Bool → Result State Refusal
 restore_decision s pulled = cond (is_state s Withdrawn) (Err (WrongState s)) (cond pulled (Ok s) (Err NotPulled))

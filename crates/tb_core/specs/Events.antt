@@ -21,7 +21,7 @@ state_place Withdrawn = 5
 abbrev pub is_state : State → State → Bool
 is_state a b = nat_eq (state_place a) (state_place b)
 
--- whom an event is open to
+-- who may ask for an event
 pub data Asker : Type 0 where
   anyone : Asker
   the_worker : Asker
@@ -43,7 +43,7 @@ only_from a s = is_state s a
 abbrev pub any_but : State → State → Bool
 any_but a s = not (is_state s a)
 
--- in each row: from, to, what becomes of the worker, who may ask
+-- each row: from, to, what becomes of the worker, who may ask
 abbrev pub event_row : Event → Row
 event_row Assign = row (only_from Opened) Assigned Caller anyone
 event_row Unassign = row (only_from Assigned) Opened Cleared the_worker

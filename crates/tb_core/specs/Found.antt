@@ -1,5 +1,5 @@
 -- Between crates: no contract of a front door cites a definition of this module.
--- What was read of a desk for one command, and what it says of the state of the machine.
+-- What was read from a desk for one command, and what it says of the state of the machine.
 use Rattle.std.specs.Prelude.{◌≡◌, ℕ, ◌+◌, ◌-◌, List, [], ◌∷◌, Bool, true, false, Option, None}
 use Rattle.std.specs.Prelude.{Some}
 use Rattle.std.specs.List.{AllByRecursion}
@@ -22,7 +22,7 @@ pub record BatchSeen : Type 0 where
   pub state : State
   pub worker : List ℕ
 
--- the batch with this name; nothing is found where no batch has it
+-- the batch with this name, or none where no batch has it
 abbrev pub FindsBatch : Machine → List ℕ → Option BatchSeen → Type 0
 FindsBatch s name None = Lacks (names_of s.batches) name
 FindsBatch s name (Some f) = (place : ℕ) × (b : Batch) × HasBatch s name place b × (f.number ≡ place + 1)
@@ -38,15 +38,15 @@ place_of (Some f) = f.number - 1
 abbrev pub LacksSentence : Machine → ℕ → Type 0
 LacksSentence s n = (place : ℕ) (x : Sentence) → HasSentence s n place x → ⊥
 
--- the state of the batch of the sentence with this number, and whether it is pulled; nothing is found where no sentence
--- has the number
+-- the state of the batch of the sentence with this number, and whether it is pulled; none where no sentence has the
+-- number
 abbrev pub FindsSentence : Machine → ℕ → Option SentenceFound → Type 0
 FindsSentence s n None = LacksSentence s n
 FindsSentence s n (Some f) = (place : ℕ) × (x : Sentence) × HasSentence s n place x
     × (f.state ≡ (batch_with s.batches x.batch).state) × (f.pulled ≡ x.pulled)
 
--- of the sentence: the state and the worker of its batch, whether it is pulled; of its current revision: its number, who
--- gave it, its text, and how many words it has
+-- the sentence: the state and the worker of its batch, and whether it is pulled; its current revision: number, user,
+-- text, and number of words
 pub record CurrentSeen : Type 0 where
   pub state : State
   pub worker : List ℕ
@@ -56,7 +56,7 @@ pub record CurrentSeen : Type 0 where
   pub body : List ℕ
   pub words : ℕ
 
--- what is read of a sentence
+-- what is read from a sentence
 pub record IsSeen (s : Machine) (x : Sentence) (f : CurrentSeen) : Type 0 where
   pub state : f.state ≡ (batch_with s.batches x.batch).state
   pub worker : f.worker ≡ (batch_with s.batches x.batch).worker
@@ -73,8 +73,8 @@ FindsCurrent s n (Some f) = (place : ℕ) × (x : Sentence) × HasSentence s n p
 
 -- ---- the name and the sentences of an import
 
--- Free: no batch has the name. Taken: a batch has it, whose first revisions are not this body. Same: they are, and the
--- reply is that of the import that made the batch.
+-- `Free`: no batch has the name. `Taken`: a batch has it, whose first revisions are not this body. `Same`: they are
+-- this body, and the reply is that of the import that made the batch.
 abbrev pub FindsName : Machine → List ℕ → List ℕ → NameFound → Type 0
 FindsName s name body Free = Lacks (names_of s.batches) name
 FindsName s name body Taken = (place : ℕ) × (b : Batch) × HasBatch s name place b
@@ -87,7 +87,7 @@ is_free Free = true
 is_free Taken = false
 is_free (Same reply) = false
 
--- the first sentence of the file, counted from 1, whose `sent_id` stands already; nothing is found where none does
+-- the first sentence of the file, counted from 1, whose `sent_id` a sentence of the desk has, or none
 abbrev pub FindsId : Machine → List BlockText → Option ℕ → Type 0
 FindsId s bs None = AllByRecursion (Lacks (ids_of s.sentences)) (ids_in bs)
 FindsId s bs (Some k) = IsFirstTaken (ids_of s.sentences) bs k

@@ -1,4 +1,4 @@
--- What every reached state keeps, and what later states keep of it.
+-- What every reached state keeps, and what later states keep from earlier ones.
 use Rattle.std.specs.Prelude.{◌≡◌, ℕ, ◌≤◌, List, [], ◌∷◌, ◌++◌, length, true}
 use Rattle.std.specs.List.{AllByRecursion}
 use Rattle.tb_conllu.specs.Text.{BlockText}
@@ -9,7 +9,7 @@ use Rattle.tb_core.specs.Machine.{sent_id_of, text_value_of, IsLawful, Batch, Re
 use Rattle.tb_core.specs.Machine.{bodies_of}
 use Rattle.tb_core.specs.Acts.{names_of, ids_of}
 
--- the sentence is of one of so many batches
+-- the sentence is in one of n batches
 abbrev pub IsPlaced : ℕ → Sentence → Type 0
 IsPlaced n x = (1 ≤ x.batch) × (x.batch ≤ n)
 
@@ -18,7 +18,7 @@ pub record IsIdle (b : Batch) : Type 0 where
   pub opened : b.state ≡ Opened → b.worker ≡ []
   pub withdrawn : b.state ≡ Withdrawn → b.worker ≡ []
 
--- Each revision of a sentence keeps the rules, with the name of the sentence and one text; it differs from the one before.
+-- Each revision of a sentence keeps the rules, with the same `sent_id` and `text`, and differs from the one before.
 pub record IsFine (x : Sentence) : Type 0 where
   pub lawful : AllByRecursion IsLawful (bodies_of x)
   pub titled : AllByRecursion (λ (b : BlockText). sent_id_of b ≡ x.sent_id) (bodies_of x)
@@ -36,14 +36,14 @@ pub record IsWell (s : Machine) : Type 0 where
 
 -- ---- what is never lost
 
--- the second is the first later on: its name and its batch, and all its revisions, maybe with more after them
+-- y is x in a later state: the same name and batch, and all its revisions, perhaps with more after them
 pub record Continues (x y : Sentence) : Type 0 where
   pub sent_id : x.sent_id ≡ y.sent_id
   pub batch : x.batch ≡ y.batch
   pub more : List Revision
   pub revised : revisions y ≡ revisions x ++ more
 
--- each of these sentences, later on, at its place
+-- each of these sentences in a later state, at its place
 abbrev pub Continue : List Sentence → List Sentence → Type 0
 Continue [] ys = Unit {0}
 Continue (x ∷ xs) [] = ⊥

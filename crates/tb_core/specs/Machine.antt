@@ -12,11 +12,11 @@ use Rattle.tb_core.specs.Moves.{MoveText}
 
 -- ---- what a sentence of a file says
 
--- the value of its one comment with key `sent_id`; a sentence that keeps the rules has it
+-- the value of its only comment with the key `sent_id`; a sentence that keeps the rules has one
 abbrev pub sent_id_of : BlockText → List ℕ
 sent_id_of b = unwrap_or (only (sent_ids b)) []
 
--- the value of its one comment with key `text`
+-- the value of its only comment with the key `text`
 abbrev pub text_value_of : BlockText → List ℕ
 text_value_of b = unwrap_or (only (texts b)) []
 
@@ -25,21 +25,20 @@ pub record IsLawful (b : BlockText) : Type 0 where
   pub shaped : IsShaped b
   pub rules : KeepsRules b
 
--- ---- what stands
+-- ---- what a desk holds
 
--- where it stands, and who works on it: nobody where the name is empty
+-- its name, its state, and who works on it: nobody where the name is empty
 pub record Batch : Type 0 where
   pub name : List ℕ
   pub state : State
   pub worker : List ℕ
 
--- one text of a sentence, and the user who gave it
+-- one text of a sentence, and the user who wrote it
 pub record Revision : Type 0 where
   pub who : List ℕ
   pub body : BlockText
 
--- A sentence has the revisions before its current one, oldest first, and the current one. Its batch is told by its
--- number, from 1.
+-- A sentence has its batch's number, from 1, its current revision, and the revisions before it, oldest first.
 pub record Sentence : Type 0 where
   pub sent_id : List ℕ
   pub batch : ℕ
@@ -47,7 +46,7 @@ pub record Sentence : Type 0 where
   pub before : List Revision
   pub current : Revision
 
--- batches, sentences and moves are numbered from 1 as they stand
+-- batches, sentences and moves are numbered from 1, in the order of the lists
 pub record Machine : Type 0 where
   pub batches : List Batch
   pub sentences : List Sentence
@@ -70,7 +69,7 @@ rev x = length x.before + 1
 abbrev pub words : Sentence → ℕ
 words x = words_of x.current.body
 
--- what is read where nothing stands
+-- the batch for a number that no batch has
 abbrev pub no_batch : Batch
 no_batch = record { name = []; state = Withdrawn; worker = [] }
 

@@ -3,8 +3,8 @@ use Rattle.std.specs.Prelude.{ℕ, List, Option}
 use Rattle.tb_core.specs.declared.kinds.State.{State}
 use Rattle.tb_core.specs.declared.kinds.Kind.{Kind}
 
--- Numbers count from 1; `sent` is 0 where the move is of a whole batch. `from` is the state that so many sentences left,
--- with `words_out` words, and `to` the state that they came to, with `words_in`; an import has no state before it.
+-- Numbers count from 1; `sent` is 0 where a whole batch moves. `sentences` sentences left the state `from` with
+-- `words_out` words, and came to the state `to` with `words_in`. An import has no state before it.
 pub record MoveText : Type 0 where
   pub no : ℕ
   pub kind : Kind

@@ -1,5 +1,5 @@
 -- Between crates: no contract of a front door cites a definition of this module.
--- What is known of a command once the first part of its tests told nothing.
+-- What is known of a command after the first part of its tests refused nothing.
 use Rattle.std.specs.Prelude.{◌≡◌, ℕ, ◌+◌, ◌≤◌, List, ◌&&◌, true, Ok}
 use Rattle.tb_conllu.specs.Text.{BlockText}
 use Rattle.tb_core.specs.Names.{is_name, Lacks}
@@ -13,9 +13,9 @@ use Rattle.tb_core.specs.declared.judged.Judged.{Judged}
 use Rattle.tb_core.specs.declared.judged.Judged.TheVariants.{Repeat, Continue}
 use Rattle.tb_core.specs.Found.{CurrentSeen}
 
--- ---- what the first part told
+-- ---- the outcome of the first part
 
--- of a repeat, and of what goes on
+-- for a repeat, and for a command that goes on
 abbrev pub IfRepeat : {R : Type 0} → (R → Type 0) → Judged R → Type 0
 IfRepeat says (Repeat reply) = says reply
 IfRepeat says Continue = Unit {0}
@@ -46,7 +46,7 @@ pub record IsResent (f : CurrentSeen) (base : ℕ) (user body : List ℕ) : Type
   pub who : f.who ≡ user
   pub same : f.body ≡ body
 
--- the name is good, the sentence stands at this place, it is no repeat, and this user may correct this revision
+-- the name is good, the sentence is at this place, it is no repeat, and this user may correct this revision
 pub record IsNamedCorrection (s : Machine) (n base : ℕ) (user body : List ℕ) (place : ℕ) (x : Sentence) : Type 0 where
   pub by : is_name user ≡ true
   pub has : HasSentence s n place x

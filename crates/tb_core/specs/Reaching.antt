@@ -15,7 +15,7 @@ pub data Later (s : Machine) : Machine → Type 0 where
 
 -- ---- limits
 
--- Whether one more command has room: an import adds sentences, and each command adds a move.
+-- Whether the limits have room for one more command: an import adds sentences, and each command adds a move.
 abbrev pub has_room : Limits → Machine → Act → Bool
 has_room l s (importing name user bodies) = nat_le (length s.sentences + length bodies) l.sentences
     && nat_le (length s.moves + 1) l.moves

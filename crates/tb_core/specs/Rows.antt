@@ -1,4 +1,4 @@
--- The rows of a desk's tables that stand for a state; the totals aside, which are sums of these.
+-- The rows that store a state in the tables, without the totals, which are sums of these.
 use Rattle.std.specs.Prelude.{ℕ, ◌+◌, List, [], ◌∷◌, ◌++◌, cond, map}
 use Rattle.tb_conllu.specs.Text.{text_of}
 use Rattle.tb_core.specs.Moves.{MoveText}
@@ -26,7 +26,7 @@ pub record Rows : Type 0 where
 abbrev pub sentence_row : Sentence → SentenceRow
 sentence_row x = record { sent_id = x.sent_id; batch = x.batch; rev = rev x; words = words x }
 
--- the revisions of the sentence with this number, from this revision on
+-- the rows of the revisions of the sentence with this number, from revision k on
 abbrev pub revision_rows : ℕ → ℕ → List Revision → List RevisionRow
 revision_rows n k [] = []
 revision_rows n k (r ∷ rs) = record {

@@ -1,5 +1,5 @@
 -- Inner: no contract beyond this crate cites a definition of this module.
--- Rows that have fields in common.
+-- Rows that agree in some fields.
 use Rattle.std.specs.Prelude.{◌≡◌}
 use Rattle.tb_conllu.specs.Text.{RowText}
 

@@ -1,4 +1,4 @@
--- How each command ends: its tests in their order, of which the first that tells an ending decides.
+-- How each command ends: the first of its tests that gives an ending decides.
 use Rattle.std.specs.Prelude.{ℕ, List, ◌&&◌}
 use Rattle.tb_core.specs.declared.kinds.Event.{Event}
 use Rattle.tb_core.specs.declared.limits.Limits.{Limits}
@@ -69,6 +69,6 @@ Ends l s (correct n base user body) = CorrectEnds l s n base user body
 Ends l s (pull n user) = PullEnds l s n user
 Ends l s (restore n user) = RestoreEnds l s n user
 
--- The command is answered so, and the state after it is this one.
+-- The command has this answer, and this is the state after it.
 abbrev pub Steps : Limits → Machine → Command → Answer → Machine → Type 0
 Steps l s c answer t = Ends l s c (ending answer t)

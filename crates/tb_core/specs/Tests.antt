@@ -1,4 +1,4 @@
--- The tests of commands. Each tells how a command ends, or tells nothing.
+-- The tests of commands. Each gives the ending of a command, or none.
 use Rattle.std.specs.Prelude.{◌≡◌, ℕ, ◌+◌, ◌≤◌, List, [], ◌∷◌, ◌++◌, Bool, false, cond}
 use Rattle.std.specs.Prelude.{length, Err, nat_eq, nat_lt}
 use Rattle.std.specs.List.{AllByRecursion, flat_map}
@@ -22,7 +22,7 @@ use Rattle.tb_core.specs.Commands.{Command, Reply, imported, corrected_to, repli
 use Rattle.tb_core.specs.Commands.{HasSentence, Means, reply_to}
 
 infixr 5 ◌otherwise◌
--- The first test where it tells an ending, else the second one.
+-- The first test where it gives an ending, else the second one.
 pub data ◌otherwise◌ (first second : Ending → Type 0) (e : Ending) : Type 0 where
   reported : first e → ◌otherwise◌ first second e
   passed : ((d : Ending) → first d → ⊥) → second e → ◌otherwise◌ first second e
@@ -47,7 +47,7 @@ abbrev pub IsEventRefused : Machine → List ℕ → Event → List ℕ → Refu
 IsEventRefused s name event user r = (place : ℕ) × (b : Batch) × HasBatch s name place b
     × (event_decision b.state b.worker event user ≡ Err r)
 
--- WrongState, NotYours, OwnWork, Stale: a sentence is judged by its own state, so a pulled one as withdrawn
+-- WrongState, NotYours, OwnWork, Stale: a sentence is judged by its own state, and a pulled one is withdrawn
 abbrev pub IsCorrectRefused : Machine → ℕ → ℕ → List ℕ → Refusal → Type 0
 IsCorrectRefused s n base user r =
     (place : ℕ) × (x : Sentence) × HasSentence s n place x
@@ -66,7 +66,7 @@ IsRestoreRefused s n r = (place : ℕ) × (x : Sentence) × HasSentence s n plac
 abbrev pub IsNameTaken : Machine → List ℕ → Refusal → Type 0
 IsNameTaken s name r = (Lacks (names_of s.batches) name → ⊥) × (r ≡ NameTaken)
 
--- the first sentence of the file, counted from 1, whose `sent_id` stands already
+-- the first sentence of the file, counted from 1, whose `sent_id` a sentence of the desk has
 pub record IsFirstTaken (ids : List (List ℕ)) (bs : List BlockText) (k : ℕ) : Type 0 where
   pub before : List BlockText
   pub body : BlockText
@@ -99,7 +99,7 @@ abbrev pub IsNotOne : List ℕ → Refusal → Type 0
 IsNotOne body r = (a : BlockText) × (b : BlockText) × (more : List BlockText) × IsFile body (a ∷ b ∷ more)
     × (r ≡ NotOne)
 
--- what the body of a correction is to the sentence that it corrects
+-- the relation of a correction's body to the sentence that it corrects
 abbrev pub Corrects : Machine → ℕ → List ℕ → (Sentence → BlockText → Type 0) → Type 0
 Corrects s n body relation = (place : ℕ) × (x : Sentence) × (b : BlockText) × HasSentence s n place x
     × IsFile body (b ∷ []) × relation x b
@@ -114,7 +114,7 @@ IsTextChanged s n body r = Corrects s n body (λ x b. text_value_of b ≡ text_v
 abbrev pub IsNothingChanged : Machine → ℕ → List ℕ → Refusal → Type 0
 IsNothingChanged s n body r = Corrects s n body (λ x b. b ≡ x.current.body) × (r ≡ NothingChanged)
 
--- ---- repeats: answered as before, and nothing changes
+-- ---- repeats: the same reply, and nothing changes
 
 -- the first revision of a sentence
 abbrev pub first_in : List Revision → Revision → BlockText
@@ -131,7 +131,7 @@ first_of n x = cond (nat_eq x.batch n) (first_body x ∷ []) []
 abbrev pub first_bodies : ℕ → List Sentence → List BlockText
 first_bodies n xs = flat_map (first_of n) xs
 
--- of a batch: the words of first revisions, the number of sentences, and that of the sentences before
+-- of a batch: the words of its first revisions, the number of its sentences, and the number of sentences before it
 abbrev pub first_words : ℕ → Sentence → ℕ
 first_words n x = when (nat_eq x.batch n) (words_of (first_body x))
 
@@ -141,7 +141,7 @@ of_batch n x = when (nat_eq x.batch n) 1
 abbrev pub before_batch : ℕ → Sentence → ℕ
 before_batch n x = when (nat_lt x.batch n) 1
 
--- the reply to the import that made a batch, which first revisions alone tell
+-- the reply to the import that made a batch, from first revisions alone
 abbrev pub import_reply : Machine → ℕ → Reply
 import_reply s n = imported (record {
   batch = n;
@@ -150,7 +150,7 @@ import_reply s n = imported (record {
   words = weigh (first_words n) s.sentences;
 })
 
--- a batch has the name, and its first revisions are the body, byte for byte, whoever sends it
+-- a batch has the name, and its first revisions are the body, byte for byte; the user does not matter
 abbrev pub RepeatsImport : Machine → List ℕ → List ℕ → Ending → Type 0
 RepeatsImport s name body e = (place : ℕ) × (b : Batch) × HasBatch s name place b
     × (body ≡ text_of (first_bodies (place + 1) s.sentences))

@@ -1,4 +1,4 @@
--- Totals of the states, the net of the moves, and totals that are kept from move to move.
+-- Totals of the states, the net of the moves, and totals that are updated with each move.
 use Rattle.std.specs.Prelude.{◌≡◌, ℕ, ◌+◌, ◌-◌, ◌<◌, ◌≤◌, ◌^◌, List, [], ◌∷◌, Bool}
 use Rattle.std.specs.Prelude.{false, Option, Some, None, slice_index}
 use Rattle.tb_core.specs.declared.kinds.State.{State}
@@ -31,7 +31,7 @@ out_of st f m = when (is_from m.from st) (f m)
 abbrev pub into : State → (MoveText → ℕ) → MoveText → ℕ
 into st f m = when (is_state m.to st) (f m)
 
--- The total of a state is the net of the moves: what is there, with what left it, is what came.
+-- The total of a state is the net of the moves: what is there and what left make up what came.
 pub record IsNet (s : Machine) (st : State) : Type 0 where
   pub sentences : total one s st + sum_moves (out_of st (λ m. m.sentences)) s.moves ≡ sum_moves (into st (λ m.
       m.sentences)) s.moves
@@ -44,7 +44,7 @@ pub record IsNet (s : Machine) (st : State) : Type 0 where
 abbrev pub at_state : List ℕ → State → ℕ
 at_state sums st = slice_index sums (state_place st)
 
--- each state has what leaves it
+-- each state has as much as leaves it
 abbrev pub HasEnough : List ℕ → Option State → ℕ → Type 0
 HasEnough sums from leaving = (st : State) → when (is_from from st) leaving ≤ at_state sums st
 
@@ -59,17 +59,17 @@ pub record Takes (t : Totals) (m : MoveText) : Type 0 where
   pub words_there : HasEnough t.words m.from m.words_out
   pub words_fit : HasSpace t.words m.from m.to m.words_out m.words_in
 
--- each state has lost what left it and has got what came to it, and nothing else changed
+-- each state lost what left it and gained what came to it, and no other state changed
 abbrev pub Shifts : List ℕ → List ℕ → Option State → State → ℕ → ℕ → Type 0
 Shifts old new from to leaving coming = (st : State) → at_state new st + when (is_from from st) leaving
     ≡ at_state old st + when (is_state to st) coming
 
--- The move has been made.
+-- The move was made.
 pub record IsApplied (old new : Totals) (m : MoveText) : Type 0 where
   pub sentences : Shifts old.sentences new.sentences m.from m.to m.sentences m.sentences
   pub words : Shifts old.words new.words m.from m.to m.words_out m.words_in
 
--- The stored totals are those of a state of the desk.
+-- The stored totals are those of a state.
 pub record AreTotalsOf (t : Totals) (s : Machine) : Type 0 where
   pub sentences : (st : State) → at_state t.sentences st ≡ total one s st
   pub words : (st : State) → at_state t.words st ≡ total words s st

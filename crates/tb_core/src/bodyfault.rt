@@ -1,4 +1,4 @@
-//! Faults of bodies, as a desk tells them.
+//! Faults of bodies, as a desk reports them.
 
 ghost use Rattle.std.specs.Prelude.{◌≡◌, ◌⊎◌, List};
 ghost use Rattle.tb_conllu.specs.Fault.{IsFaultAfter};
@@ -38,7 +38,7 @@ impl From<FileFault> for Fault {
     }
 }
 
-/// The fault of a body in which a sentence breaks a rule: a line of what is left that cannot be read comes first.
+/// The fault of a body in which a sentence breaks a rule. A line further on that cannot be read comes first.
 pub(crate) fn reported_first(alloc: Global, unread: &mut Sentences<'_>, broken: FileFault) -> Fault
     ensures { ((bs : List BlockText) × IsFile unread.old.rest bs × (result ≡ fault_of_rules broken))
         ⊎ ((fault : ReadFault) × IsFaultAfter unread.old.line unread.old.rest fault

@@ -1,4 +1,4 @@
-//! A correction, in two parts: what stands of the sentence, and the body.
+//! A correction, judged in two parts: by the sentence that is there, and by the body.
 
 ghost use Rattle.std.specs.Prelude.{◌≡◌, ◌≢◌, ◌↔◌, ◌+◌, ◌≤◌, ℕ, List, IsTrue, cond};
 ghost use Rattle.std.specs.Prelude.{length, None, option_map, IfOk, IfErr};
@@ -21,7 +21,7 @@ use std::marker::Model;
 use tb_conllu::{BlockOf, SourcedSentence, Text, one_list_has_a_text, reported_bytes_are_no_file};
 use tb_rules::faulty_sentences_are_not_valid;
 
-/// A sentence and its current revision, as they stand.
+/// A sentence and its current revision.
 #[derive(Drop)]
 pub struct CurrentFound<'a> {
     /// The state of the sentence's batch.
@@ -66,14 +66,14 @@ fn same_bytes(one: &[u8], other: &[u8]) -> bool
     one == other
 }
 
-/// Whether the current revision is what this user made of the base by this body.
+/// Whether this user made the current revision from the base with this body.
 fn is_resent(current: &CurrentFound<'_>, base: u64, user: &str, body: &[u8]) -> bool
     ensures { IsTrue result ↔ IsResent current.now base user.now body.now }
 {
     follows(base, current.rev) && *current.who == *user && same_bytes(current.body, body)
 }
 
-/// The state of the sentence: a pulled one is withdrawn.
+/// The state of the sentence. A pulled one is withdrawn.
 fn standing(current: &CurrentFound<'_>) -> State
     ensures { result ≡ cond current.now.pulled Withdrawn current.now.state }
 {
@@ -84,13 +84,15 @@ fn standing(current: &CurrentFound<'_>) -> State
     }
 }
 
-/// The first part of the tests of a correction, which want nothing of the body but its bytes: whether it is a repeat, with
-/// the reply that it had, or goes on. `number` is the sentence's, from 1, and `base` that of the revision on which the
-/// correction was made; `found` is this sentence, `None` where none has the number.
+/// The first part of the tests of a correction, which needs only the bytes of the body. Says whether the command is a
+/// repeat, with the reply that it had, or goes on.
+///
+/// `number` is the sentence's, from 1. `base` is the number of the revision that was corrected. `found` is this
+/// sentence, `None` where none has the number.
 ///
 /// # Errors
 ///
-/// The first of `BadName`, `NoSuchSentence`; where it is no repeat `WrongState`, `NotYours`, `OwnWork`, `Stale`.
+/// The first of `BadName`, `NoSuchSentence`; if it is no repeat, then `WrongState`, `NotYours`, `OwnWork`, `Stale`.
 pub fn judge_correction_before(
     number: u64,
     base: u64,
@@ -126,8 +128,9 @@ pub fn judge_correction_before(
     Ok(Judged::Continue)
 }
 
-/// The second part of the tests of a correction: the sentence of its body, which corrects the current one. `moves` is how
-/// many moves stand.
+/// The second part of the tests of a correction: the sentence of its body, which corrects the current one.
+///
+/// `moves` is the number of moves so far.
 ///
 /// # Errors
 ///
@@ -150,7 +153,7 @@ pub fn judge_correction_body<'a, T: Text>(
         IsAllowed s act × Steps limits.now s (correct n base user body.now) (replied (reply_to s act)) (after s act)) }
     ensures text { IfOk result (λ p. p.text.now ≡ body.now) }
 {
-    // The laws by which a body is answered one way.
+    // laws: a body has exactly one answer
     one_list_has_a_text();
     reported_bytes_are_no_file();
     faulty_sentences_are_not_valid();

@@ -1,4 +1,4 @@
-//! The body of a correction, taken.
+//! Reads the body of a correction.
 
 ghost use Rattle.std.specs.Prelude.{◌≡◌, ◌↔◌, ◌∷◌, [], IsTrue, IfOk, IfErr, MatchResult, OnOk};
 ghost use Rattle.tb_conllu.specs.Text.{BlockText};
@@ -16,7 +16,7 @@ use tb_conllu::{
 };
 use tb_rules::{faulty_sentences_are_not_valid, sent_id, text};
 
-/// The name of the sentence, empty where it has none.
+/// The `sent_id` of the sentence, empty where it has none.
 fn name_of<T: Text>(block: &BlockOf<T>) -> &str
     ensures { result.now ≡ sent_id_of block.now }
 {
@@ -67,7 +67,7 @@ fn only_sentence<'a>(alloc: Global, body: &'a [u8]) -> Result<SourcedSentence<'a
     ensures text { IfOk result (λ p. p.text.now ≡ body.now) }
     ensures refused { (current : BlockText) → IfErr result (IsTakingFault (IsCorrectionRefused body.now current)) }
 {
-    // The laws by which the first sentence that is read is the one that was checked.
+    // laws: the first sentence that is read is the one that was checked
     a_file_is_read_in_order();
     a_file_begins_one_way();
     let checked = take_file_ref(alloc, body)?;
@@ -81,7 +81,7 @@ fn only_sentence<'a>(alloc: Global, body: &'a [u8]) -> Result<SourcedSentence<'a
     }
 }
 
-/// The one sentence of a body that corrects the current one, as `take_one_ref` gives it.
+/// The one sentence of a body that corrects the current one, without the law that `take_one_ref` adds.
 fn fitting_sentence<'a, T: Text>(
     alloc: Global,
     body: &'a [u8],
@@ -96,13 +96,14 @@ fn fitting_sentence<'a, T: Text>(
     Ok(passage)
 }
 
-/// The one sentence of a body that corrects the current one: it has its name and its text, and differs. It borrows from
-/// the body, which is its text.
+/// The one sentence of a body, which corrects the current one: it has the same `sent_id` and `text`, and differs.
+///
+/// It borrows from the body, which is its text.
 ///
 /// # Errors
 ///
-/// The first that holds: those of `take_file_ref`; `NotOne`, `SentIdChanged`, `TextChanged`, `NothingChanged`. Or want
-/// of memory.
+/// The first that holds: those of `take_file_ref`; `NotOne`, `SentIdChanged`, `TextChanged`, `NothingChanged`. Or
+/// memory was refused.
 pub fn take_one_ref<'a, T: Text>(
     alloc: Global,
     body: &'a [u8],
@@ -114,15 +115,14 @@ pub fn take_one_ref<'a, T: Text>(
     ensures only { (b : BlockText) → IsCorrection body.now current.now b
         → MatchResult result (λ p. p.block ≡ b) (λ e. e ≡ Memory) }
 {
-    // The laws by which a body is answered one way.
+    // laws: a body has exactly one answer
     one_list_has_a_text();
     reported_bytes_are_no_file();
     faulty_sentences_are_not_valid();
     fitting_sentence(alloc, body, current)
 }
 
-/// The one sentence of a body that corrects the current one, which holds its texts; or the refusal, as `take_one_ref`
-/// tells it.
+/// The same as `take_one_ref`, but the sentence owns its texts.
 ///
 /// # Errors
 ///

@@ -74,11 +74,12 @@ fn by_others<X: Drop>(worker: &str, user: &str, value: X) -> Result<X, Refusal>
     }
 }
 
-/// Where an event takes a batch that is in this state, and what becomes of its worker.
+/// The state to which an event takes a batch that is in this state, and what becomes of its worker.
 ///
 /// # Errors
 ///
-/// The first of `WrongState`, with the state; `NotYours`, where only the worker may ask; `OwnWork`, where only others may.
+/// The first of `WrongState`, with the state; `NotYours`, where only the worker may ask; `OwnWork`, where only others
+/// may.
 pub fn decide_event(
     state: State,
     worker: &str,
@@ -98,7 +99,7 @@ pub fn decide_event(
     }
 }
 
-/// Whether the user may correct a sentence that is in this state, whatever its current revision.
+/// Whether the user may correct a sentence that is in this state. Its revision is not looked at.
 ///
 /// # Errors
 ///
@@ -115,13 +116,14 @@ pub fn correctable(state: State, worker: &str, user: &str) -> Result<(), Refusal
     }
 }
 
-/// Whether the user may correct a sentence that is in this state, on this base, where `current` is the number of its
-/// current revision. A pulled sentence is withdrawn.
+/// Whether the user may correct a sentence that is in this state, on this base. A pulled sentence is withdrawn.
+///
+/// `current` is the number of its current revision.
 ///
 /// # Errors
 ///
-/// The first of `WrongState`, with the state; `NotYours` in assigned, `OwnWork` in submitted; `Stale`, exactly where the
-/// base is not the current number.
+/// The first of `WrongState`, with the state; `NotYours` in assigned, `OwnWork` in submitted; `Stale`, exactly where
+/// the base is not the current number.
 pub fn decide_correct(
     state: State,
     worker: &str,
@@ -139,7 +141,7 @@ pub fn decide_correct(
     }
 }
 
-/// Whether a sentence may be pulled, of a batch in this state.
+/// Whether a sentence of a batch in this state may be pulled.
 ///
 /// # Errors
 ///
@@ -153,7 +155,7 @@ pub fn decide_pull(state: State, pulled: bool) -> Result<(), Refusal>
     if pulled { Err(Refusal::Pulled) } else { Ok(()) }
 }
 
-/// Whether a sentence may be restored, of a batch in this state, which it is in again then.
+/// Whether a sentence of a batch in this state may be restored. Returns this state, in which the sentence then is.
 ///
 /// # Errors
 ///

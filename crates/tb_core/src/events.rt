@@ -13,7 +13,7 @@ use crate::room::{good_names, has_room};
 use crate::{Event, Limits, Refusal, State, Worker, decide_event};
 use std::marker::Model;
 
-/// The batch of an event, as it stands.
+/// The batch of an event.
 #[derive(Drop)]
 pub struct BatchFound<'a> {
     /// Its number, from 1.
@@ -29,8 +29,9 @@ impl<'a> Model for BatchFound<'a> {
     ghost view = { λ f. record { number = f.number; state = f.state; worker = f.worker.now } };
 }
 
-/// The state to which the event takes the batch with this name, and what becomes of its worker. `found` is this batch,
-/// `None` where no batch has the name; `moves` is how many moves stand.
+/// The state to which the event takes the batch with this name, and what becomes of its worker.
+///
+/// `found` is this batch, `None` where no batch has the name. `moves` is the number of moves so far.
 ///
 /// # Errors
 ///

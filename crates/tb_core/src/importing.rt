@@ -1,4 +1,4 @@
-//! An import, in three parts: its name, its body, and the sentences that stand.
+//! An import, judged in three parts: by its name, by its body, and by the sentences that are there.
 
 ghost use Rattle.std.specs.Prelude.{◌≡◌, ◌+◌, ◌&&◌, List, ℕ, length, map, nat_le, IfOk, IfErr, OnOk};
 ghost use Rattle.tb_conllu.specs.Text.{BlockText};
@@ -19,7 +19,7 @@ use std::alloc::Global;
 use tb_conllu::{one_list_has_a_text, reported_bytes_are_no_file};
 use tb_rules::faulty_sentences_are_not_valid;
 
-/// What the name of an import is to the batches that stand.
+/// Whether a batch has the name of an import, and whether the import made it.
 #[derive(Clone, Copy, PartialEq, Eq, Debug)]
 pub enum NameFound {
     /// No batch has it.
@@ -39,7 +39,7 @@ fn no_batch_has(found: NameFound) -> bool
     }
 }
 
-/// Whether so many new sentences have room, and one more move.
+/// Whether the limits have room for this number of new sentences, and for one more move.
 fn has_import_room(limits: &Limits, new: u64, sentences: u64, moves: u64) -> bool
     ensures { result ≡ (nat_le (sentences + new) limits.now.sentences && nat_le (moves + 1) limits.now.moves) }
 {
@@ -52,12 +52,12 @@ fn has_sentence_room(limits: &Limits, new: u64, sentences: u64) -> bool
     sentences <= limits.sentences && new <= limits.sentences - sentences
 }
 
-/// The first part of the tests of an import, which want nothing of the body but its bytes: whether it is a repeat, with the
-/// reply that it had, or goes on. `found` is what the name is to the batches that stand.
+/// The first part of the tests of an import, which needs only the bytes of the body. Says whether the command is a
+/// repeat, with the reply that it had, or goes on. `found` says whether a batch has the name.
 ///
 /// # Errors
 ///
-/// `BadName`, of the batch's name or the user's.
+/// `BadName`, for the batch's name or the user's.
 pub fn judge_import_before(
     name: &str,
     user: &str,
@@ -80,8 +80,7 @@ pub fn judge_import_before(
     }
 }
 
-/// The second part of the tests of an import: the sentences of its body, for a name that no batch has. `found` is what the
-/// name is to the batches that stand.
+/// The second part of the tests of an import: the sentences of its body. `found` says whether a batch has the name.
 ///
 /// # Errors
 ///
@@ -99,7 +98,7 @@ pub fn judge_import_body<'a>(
         → IsNamedImport s name user body.now → FindsName s name body.now found → IsBody body.now bs
         → IsTakenImport s name user body.now bs) }
 {
-    // The laws by which a body is answered one way.
+    // laws: a body has exactly one answer
     one_list_has_a_text();
     reported_bytes_are_no_file();
     faulty_sentences_are_not_valid();
@@ -110,9 +109,10 @@ pub fn judge_import_body<'a>(
     Ok(taken)
 }
 
-/// The last part of the tests of an import of so many sentences. `standing` is the first of them, counted from 1, whose
-/// `sent_id` stands, `None` where none does; `sentences` and `moves` are how many stand.
+/// The last part of the tests of an import.
 ///
+/// `standing` is the first of the new sentences, from 1, whose `sent_id` a sentence of the desk has, `None` where there
+/// is none. `sentences` and `moves` are the numbers of sentences and of moves so far.
 /// # Errors
 ///
 /// The first of `SentIdTaken`, `Full`.
@@ -133,7 +133,7 @@ pub fn judge_import_after(
         → let act = importing name user bs in
         IsAllowed s act × Steps limits.now s (import_file name user body) (replied (reply_to s act)) (after s act)) }
 {
-    // The laws by which a body is answered one way.
+    // laws: a body has exactly one answer
     one_list_has_a_text();
     reported_bytes_are_no_file();
     faulty_sentences_are_not_valid();

@@ -1,6 +1,6 @@
-//! States of a batch, events, and kinds of moves, with the words that stand for them in texts.
+//! States of a batch, events and kinds of moves, with their words in texts.
 
-/// Where a batch stands, and with it each of its sentences that is not pulled.
+/// The state of a batch, and of each of its sentences that is not pulled.
 #[derive(Clone, Copy, PartialEq, Eq, Debug)]
 pub enum State {
     Opened,
@@ -104,7 +104,7 @@ impl Kind {
     ghost use Rattle.std.specs.Prelude.{◌≡◌};
     ghost use Rattle.tb_core.specs.Words.{kind_word};
 
-    /// The word for the kind; of an event, the event's. Takes no memory.
+    /// The word for the kind; for an event, the event's. Takes no memory.
     pub fn word(self) -> &'static str
         ensures { result.now ≡ kind_word self }
     {

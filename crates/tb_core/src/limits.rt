@@ -1,4 +1,4 @@
-/// How much a desk takes: sentences, moves, and hits of one answer.
+/// How much a desk holds: sentences, moves, and hits in one answer.
 #[derive(Clone, Copy, PartialEq, Eq, Debug)]
 pub struct Limits {
     pub sentences: u64,
@@ -7,7 +7,7 @@ pub struct Limits {
 }
 
 impl Limits {
-    /// The largest limits, which no desk passes.
+    /// The largest limits of any desk.
     pub const LARGEST: Limits = Limits {
         sentences: 1_000_000,
         moves: 1_000_000_000,

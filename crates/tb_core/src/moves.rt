@@ -12,9 +12,9 @@ pub struct Move {
     pub kind: Kind,
     /// The number of the batch, from 1.
     pub batch: u64,
-    /// The number of the sentence, from 1; 0 where the move is of a whole batch.
+    /// The number of the sentence, from 1; 0 where a whole batch moved.
     pub sent: u64,
-    /// The state that sentences left; an import has none.
+    /// The state that the sentences left; an import has none.
     pub from: Option<State>,
     /// The state that they came to.
     pub to: State,

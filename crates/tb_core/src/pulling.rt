@@ -1,4 +1,4 @@
-//! A pull of a sentence, and its way back.
+//! The pull of a sentence, and its restore.
 
 ghost use Rattle.std.specs.Prelude.{◌≡◌, ◌-◌, length, option_map, IfOk, IfErr, OnOk};
 ghost use Rattle.tb_core.specs.Machine.{Machine};
@@ -10,7 +10,7 @@ ghost use Rattle.tb_core.specs.Found.{FindsSentence};
 use crate::room::has_room;
 use crate::{Limits, Refusal, State, decide_pull, decide_restore, good_name};
 
-/// A sentence, as it stands.
+/// The sentence of a pull or a restore.
 #[derive(Clone, Copy, PartialEq, Eq, Debug)]
 pub struct SentenceFound {
     /// The state of its batch.
@@ -18,8 +18,9 @@ pub struct SentenceFound {
     pub pulled: bool,
 }
 
-/// Whether the sentence with this number, from 1, is pulled now. `found` is this sentence, `None` where none has the
-/// number; `moves` is how many moves stand.
+/// Whether the sentence with this number, from 1, may be pulled.
+///
+/// `found` is this sentence, `None` where none has the number. `moves` is the number of moves so far.
 ///
 /// # Errors
 ///
@@ -50,8 +51,9 @@ pub fn judge_pull(
     Ok(())
 }
 
-/// The state in which the sentence with this number, from 1, is again. `found` is this sentence, `None` where none has the
-/// number; `moves` is how many moves stand.
+/// The state that the sentence with this number, from 1, is in after its restore.
+///
+/// `found` is this sentence, `None` where none has the number. `moves` is the number of moves so far.
 ///
 /// # Errors
 ///

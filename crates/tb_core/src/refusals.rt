@@ -5,10 +5,11 @@ use std::alloc::{AllocError, AllocFailed};
 use std::error::Error;
 use std::fmt;
 
-/// Why a command or a question is refused. Where several hold, the first of a command's own order is told.
+/// Why a command or a question is refused. Where several reasons hold, the first in the command's own order is
+/// reported.
 #[derive(Clone, Copy, PartialEq, Eq, Debug)]
 pub enum Refusal {
-    /// The name of a batch or of a user is no name.
+    /// The name of a batch or of a user does not have the form of a name.
     BadName,
     NoSuchBatch,
     NoSuchSentence,
@@ -18,12 +19,13 @@ pub enum Refusal {
     NotYours,
     /// Anyone but the worker may do it.
     OwnWork,
-    /// The number of the current revision, from 1.
+    /// The base is not the current revision, which has this number, from 1.
     Stale(u64),
-    /// The body is no file: the line that nothing can mend, from 1, and its least code.
+    /// The body is not CoNLL-U: the first line, from 1, after which no continuation is a file, and its least code.
     Read(u64, u8),
-    /// A sentence of the body breaks a rule: its number, from 1, the least broken rule, and for rules 4 to 8 its first
-    /// row at fault, from 1, else 0.
+    /// A sentence of the body breaks a rule: its number, from 1, the least broken rule, and its row at fault.
+    ///
+    /// For rules 4 to 8 the row is the first at fault, from 1; for the others it is 0.
     Rule(u64, u8, u64),
     /// The body holds no sentence.
     Empty,
@@ -34,12 +36,12 @@ pub enum Refusal {
     NothingChanged,
     /// A batch has this name.
     NameTaken,
-    /// The place in the body, from 1, of the first sentence whose `sent_id` stands in the desk.
+    /// The place in the body, from 1, of the first sentence whose `sent_id` a sentence of the desk has.
     SentIdTaken(u64),
-    /// A limit of the desk would be passed.
+    /// The command would pass a limit of the desk.
     Full,
     NoSuchRevision,
-    /// The text is no query: the code of its first fault, and the byte or the literal that it tells, else 0.
+    /// The text is no query: the code of its first fault, and the fault's byte or literal, else 0.
     Query(u8, u64),
     Pulled,
     NotPulled,

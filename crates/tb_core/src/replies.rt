@@ -1,9 +1,9 @@
-//! What accepted commands are answered.
+//! The replies to accepted commands.
 
 use crate::kinds::State;
 
-/// An import: the number of the batch and of its first sentence, from 1, how many sentences it has, and their words in
-/// first revisions.
+/// The reply to an import. It has the numbers of the batch and of its first sentence, from 1, how many sentences there
+/// are, and the words of their first revisions.
 #[derive(Clone, Copy, PartialEq, Eq, Debug)]
 pub struct Imported {
     pub batch: u64,
@@ -12,7 +12,8 @@ pub struct Imported {
     pub words: u64,
 }
 
-/// An event: the number of the batch, its state after it, and how many of its sentences are not pulled, with their words.
+/// The reply to an event: the number of the batch, its new state, how many of its sentences are not pulled, and their
+/// words.
 #[derive(Clone, Copy, PartialEq, Eq, Debug)]
 pub struct Moved {
     pub batch: u64,
@@ -21,7 +22,7 @@ pub struct Moved {
     pub words: u64,
 }
 
-/// A correction: the number of the sentence, of its new revision, and the words of that.
+/// The reply to a correction: the numbers of the sentence and of its new revision, and the words of that.
 #[derive(Clone, Copy, PartialEq, Eq, Debug)]
 pub struct Corrected {
     pub sentence: u64,
@@ -29,14 +30,14 @@ pub struct Corrected {
     pub words: u64,
 }
 
-/// A pull: the number of the sentence, and its words.
+/// The reply to a pull: the number of the sentence, and its words.
 #[derive(Clone, Copy, PartialEq, Eq, Debug)]
 pub struct Pulled {
     pub sentence: u64,
     pub words: u64,
 }
 
-/// A restore: the number of the sentence, the state that it is in again, and its words.
+/// The reply to a restore: the number of the sentence, the state that it is in again, and its words.
 #[derive(Clone, Copy, PartialEq, Eq, Debug)]
 pub struct Restored {
     pub sentence: u64,

@@ -12,7 +12,7 @@ pub(crate) fn good_names(name: &str, user: &str) -> bool
     good_name(name) && good_name(user)
 }
 
-/// Whether one more move has room.
+/// Whether the limits have room for one more move.
 pub(crate) fn has_room(limits: &Limits, moves: u64) -> bool
     ensures { result ≡ nat_le (moves + 1) limits.now.moves }
 {

@@ -1,4 +1,4 @@
-//! Whether two sentences are the same, whoever holds their texts.
+//! Whether two sentences are equal, in any types of texts.
 
 ghost use Rattle.std.specs.Prelude.{◌≡◌, ◌↔◌, IsTrue, map};
 ghost use Rattle.tb_core.specs.SameRows.{SameFront, SameBack};

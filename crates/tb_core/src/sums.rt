@@ -1,4 +1,4 @@
-//! Totals of the six states, kept from move to move. Nothing here takes memory.
+//! Totals of the six states, updated with each move. Nothing here takes memory.
 
 ghost use Rattle.std.specs.Prelude.{◌≡◌, ◌↔◌, ◌<◌, ◌+◌, ◌-◌, ◌^◌, IsTrue};
 ghost use Rattle.tb_core.specs.Events.{state_place, is_state};
@@ -9,7 +9,7 @@ ghost use Rattle.tb_core.specs.declared.kinds.State.{State as AnyState};
 use crate::kinds::State;
 use crate::moves::Move;
 
-/// Of each of the six states, in the order of `State`: its sentences, and the words of their current revisions.
+/// For each of the six states, in the order of `State`: its sentences, and the words of their current revisions.
 #[derive(Clone, Copy, PartialEq, Eq, Debug)]
 pub struct Totals {
     pub sentences: [u64; 6],
@@ -19,7 +19,7 @@ pub struct Totals {
 impl Totals {
     ghost use Rattle.tb_core.specs.Totals.{Takes, IsApplied};
 
-    /// Whether the move can be made: the state that sentences leave has what leaves it, and no sum passes `u64::MAX`.
+    /// Whether the move can be made: the state that is left has enough, and no sum passes `u64::MAX`.
     pub fn takes(&self, change: &Move) -> bool
         ensures { IsTrue result ↔ Takes self.now change.now }
     {
@@ -36,8 +36,7 @@ impl Totals {
             )
     }
 
-    /// Makes the move: what leaves a state is taken from it, what comes to a state is added there, and no other state
-    /// changes.
+    /// Makes the move: subtracts what leaves a state, and adds what comes to a state. No other state changes.
     pub fn apply(&mut self, change: &Move)
         requires { Takes self.old change.now }
         ensures { IsApplied self.old self.new change.now }
@@ -54,7 +53,7 @@ impl Totals {
     }
 }
 
-/// The place of a state among the six.
+/// The place of a state among the six, from 0.
 fn place_of(state: State) -> usize
     ensures place { result ≡ state_place state }
     ensures bound { result < 6 }
@@ -69,7 +68,7 @@ fn place_of(state: State) -> usize
     }
 }
 
-/// Whether the state that is left has what leaves it.
+/// Whether the state that is left has as much as leaves it.
 fn has_enough(sums: &[u64; 6], from: Option<State>, leaving: u64) -> bool
     ensures { IsTrue result ↔ HasEnough sums.now from leaving }
 {
@@ -79,7 +78,7 @@ fn has_enough(sums: &[u64; 6], from: Option<State>, leaving: u64) -> bool
     }
 }
 
-/// What leaves this state.
+/// How much leaves this state.
 fn leaving_it(from: Option<State>, state: State, leaving: u64) -> u64
     ensures { result ≡ when (is_from from state) leaving }
 {
@@ -89,7 +88,7 @@ fn leaving_it(from: Option<State>, state: State, leaving: u64) -> u64
     }
 }
 
-/// Whether what comes to a state fits there, once what leaves it is gone.
+/// Whether the sum of the state that is reached fits 64 bits, once what leaves it is subtracted.
 fn has_space(sums: &[u64; 6], from: Option<State>, to: State, leaving: u64, coming: u64) -> bool
     requires { HasEnough sums.now from leaving }
     ensures { IsTrue result ↔ HasSpace sums.now from to leaving coming }

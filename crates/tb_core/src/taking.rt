@@ -1,4 +1,4 @@
-//! The bodies of imports and corrections, taken.
+//! Reads the bodies of imports and corrections.
 
 ghost use Rattle.std.specs.Prelude.{◌≡◌, ◌∷◌, [], List, IfOk, IfErr, MatchResult, map};
 ghost use Rattle.tb_conllu.specs.Text.{BlockText, text_of};
@@ -15,14 +15,14 @@ use tb_conllu::{
 };
 use tb_rules::{Checker, a_fault_stays, faulty_sentences_are_not_valid, sent_id_ref};
 
-/// What is kept of a sentence of a body that is taken. It borrows from the body.
+/// What is kept of a new sentence. It borrows from the body.
 #[derive(Drop)]
 pub struct NewSentence<'a> {
-    /// Its name.
+    /// Its `sent_id`.
     pub sent_id: &'a str,
     /// How many words it has.
     pub words: u64,
-    /// Its text, with the blank line: the slice of the body that it was read of.
+    /// Its text, with the blank line: a slice of the body.
     pub text: &'a str,
 }
 
@@ -44,12 +44,12 @@ fn kept<'a>(passage: &SourcedSentence<'a>) -> NewSentence<'a>
     }
 }
 
-/// The sentences of a body, as `take_file_ref` gives them.
+/// The sentences of a body, without the law that `take_file_ref` adds.
 fn sentences_of<'a>(alloc: Global, body: &'a [u8]) -> Result<Vec<NewSentence<'a>>, Fault>
     ensures taken { IfOk result (λ v. (bs : List BlockText) × IsBody body.now bs × (v.items ≡ map taken_of bs)) }
     ensures refused { IfErr result (IsTakingFault (IsBodyRefused body.now)) }
 {
-    // The laws by which what was read, and what is left, tell of the body.
+    // laws: what was read, and what is left, make up the body
     a_file_is_read_in_order();
     a_fault_stays();
     let mut unread = Sentences::new(body);
@@ -67,27 +67,30 @@ fn sentences_of<'a>(alloc: Global, body: &'a [u8]) -> Result<Vec<NewSentence<'a>
     Ok(all)
 }
 
-/// The sentences of a body that is a file of valid sentences, of which one at least is there. Their texts, one after the
-/// other, are the body.
+/// The sentences of a body that is a file of one or more valid sentences. Their texts, one after the other, are the
+/// body.
 ///
 /// # Errors
 ///
-/// The first that holds: `Read`, the line that nothing can mend, with its least code; `Rule`, of a body that can be read
-/// whole, the first sentence that breaks a rule; `Empty`. Or want of memory.
+/// The first that holds, or memory was refused:
+///
+/// - `Read`: the first line after which no continuation is a file, with its least code.
+/// - `Rule`: in a body that can be read to its end, the first sentence that breaks a rule.
+/// - `Empty`: the body has no sentence.
 pub fn take_file_ref<'a>(alloc: Global, body: &'a [u8]) -> Result<Vec<NewSentence<'a>>, Fault>
     ensures taken { IfOk result (λ v. (bs : List BlockText) × IsBody body.now bs × (v.items ≡ map taken_of bs)) }
     ensures refused { IfErr result (IsTakingFault (IsBodyRefused body.now)) }
     ensures only { (bs : List BlockText) → IsBody body.now bs
         → MatchResult result (λ v. v.items ≡ map taken_of bs) (λ e. e ≡ Memory) }
 {
-    // The laws by which a body is answered one way.
+    // laws: a body has exactly one answer
     one_list_has_a_text();
     reported_bytes_are_no_file();
     faulty_sentences_are_not_valid();
     sentences_of(alloc, body)
 }
 
-/// The sentences of a body, which hold their texts; or its refusal, as `take_file_ref` tells it.
+/// The same as `take_file_ref`, but the sentences own their texts.
 ///
 /// # Errors
 ///
@@ -98,7 +101,7 @@ pub fn take_file(alloc: Global, body: &[u8]) -> Result<Vec<Block>, Fault>
     ensures only { (bs : List BlockText) → IsBody body.now bs → MatchResult result (λ v. v.items ≡ bs) (λ e.
         e ≡ Memory) }
 {
-    // The law by which the sentences that were checked are those that are read.
+    // law: the sentences that were checked are those that are read
     one_list_has_a_text();
     let checked = take_file_ref(alloc, body)?;
     drop(checked);
