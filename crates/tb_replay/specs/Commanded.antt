@@ -1,5 +1,5 @@
 -- Between crates: no contract of a front door cites a definition of this module.
--- Acts and reached states by commands: each command ends as the table of its tests says.
+-- Acts and reached states, stated by commands: each command ends as the table of its tests says.
 use Rattle.std.specs.Prelude.{◌≡◌, ◌≤◌, length, true}
 use Rattle.tb_core.specs.declared.limits.Limits.{Limits}
 use Rattle.tb_core.specs.Machine.{Machine, empty_machine}
@@ -12,7 +12,8 @@ use Rattle.tb_core.specs.Steps.{Steps}
 abbrev pub MayBeDone : Limits → Machine → Act → Type 0
 MayBeDone l s a = IsAllowed s a × (has_room l s a ≡ true)
 
--- The command means this act and is accepted: its answer is the act's reply, and it leaves the state after the act.
+-- The command means this act and is accepted: its answer is the act's reply, and the state after it is that after the
+-- act.
 abbrev pub IsAccepted : Limits → Machine → Command → Act → Type 0
 IsAccepted l s c a = Means s c a × Steps l s c (replied (reply_to s a)) (after s a)
 

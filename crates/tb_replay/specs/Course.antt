@@ -1,5 +1,5 @@
 -- Between crates: no contract of a front door cites a definition of this module.
--- The replay of a desk: the command that each move names, with the texts that the desk holds, done one after the other.
+-- The replay of a desk: the commands that its moves name, with the texts that it holds, one after another.
 use Rattle.std.specs.Prelude.{◌≡◌, ℕ, ◌-◌, List, [], ◌∷◌, map, length, take, drop, slice_index_or}
 use Rattle.std.specs.List.{flat_map}
 use Rattle.tb_conllu.specs.Text.{BlockText}
@@ -14,7 +14,7 @@ use Rattle.tb_core.specs.Acts.{names_of}
 abbrev pub bodies_in : Machine → List (List BlockText)
 bodies_in s = map bodies_of s.sentences
 
--- what is read where no text stands
+-- the text at a place that has none
 abbrev pub no_body : BlockText
 no_body = record { comments = []; rows = [] }
 
@@ -22,7 +22,7 @@ no_body = record { comments = []; rows = [] }
 abbrev pub firsts : List (List BlockText) → ℕ → ℕ → List BlockText
 firsts f n k = flat_map (λ (bs : List BlockText). take 1 bs) (take k (drop n f))
 
--- the text with this place of the sentence with this place
+-- text r of sentence i, both from 0
 abbrev pub body_at : List (List BlockText) → ℕ → ℕ → BlockText
 body_at f i r = slice_index_or (slice_index_or f i []) r no_body
 
@@ -30,8 +30,8 @@ body_at f i r = slice_index_or (slice_index_or f i []) r no_body
 abbrev pub rev_count : Machine → ℕ → ℕ
 rev_count s i = length (slice_index_or (bodies_in s) i [])
 
--- The command that a move of this kind names in the state s: an import brings the next name and the first texts of the
--- next sentences of f, a correction the next text of its sentence.
+-- The command that a move of this kind names in the state s. An import brings the next name and the first texts of the
+-- next sentences of f; a correction brings the next text of its sentence.
 abbrev pub act_by : Kind → Machine → Machine → MoveText → Act
 act_by Import f s m = importing (slice_index_or (names_of f.batches) (length s.batches) []) m.who (firsts (bodies_in f)
     (length s.sentences) m.sentences)
@@ -43,7 +43,7 @@ act_by Restore f s m = restoring (m.sent - 1) m.who
 abbrev pub act_of : Machine → Machine → MoveText → Act
 act_of f s m = act_by m.kind f s m
 
--- The moves lead from s to f: each is that of the command that it names, which is accepted.
+-- The moves lead from s to f: each names a command that is accepted, and is the move of that command.
 abbrev pub Plays : Machine → Machine → List MoveText → Type 0
 Plays f s [] = s ≡ f
 Plays f s (m ∷ ms) = IsAllowed s (act_of f s m) × (move_of s (act_of f s m) ≡ m)

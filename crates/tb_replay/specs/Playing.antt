@@ -1,5 +1,5 @@
 -- Inner: no contract beyond this crate cites a definition of this module.
--- Which moves a replay takes, by what it keeps of a state and by the rows of sentences, and what it keeps then.
+-- Which moves a replay accepts, by what it keeps of a state and by the rows of sentences, and what it keeps next.
 use Rattle.std.specs.Prelude.{ℕ, ◌+◌, ◌-◌, ◌^◌, List, [], ◌∷◌, ◌++◌, Bool, true, false, cond}
 use Rattle.std.specs.Prelude.{◌&&◌, map, length, take, drop, nat_eq, nat_lt, bytes_eq, Option, Some, None, is_ok}
 use Rattle.std.specs.Prelude.{slice_index_or}
@@ -25,7 +25,7 @@ no_entry = record { batch = 0; pulled = false; revisions = [] }
 abbrev pub no_row : RevisionRow
 no_row = record { who = []; words = 0 }
 
--- ---- a move that is as it should be (its kind and user aside)
+-- ---- a move as it should be (without its kind and user)
 
 abbrev pub is_from_state : Option State → Option State → Bool
 is_from_state None None = true
@@ -38,11 +38,11 @@ is_expected m e = nat_eq m.no e.no && (nat_eq m.batch e.batch && (nat_eq m.sent 
     (is_from_state m.from e.from && (is_state m.to e.to && (nat_eq m.sentences e.sentences &&
     (nat_eq m.words_out e.words_out && nat_eq m.words_in e.words_in))))))
 
--- the number fits a machine word (it always does where bodies are fine and sentences are at most 1,000,000)
+-- the number fits 64 bits (it always does where bodies are fine and there are at most 1,000,000 sentences)
 abbrev pub fits_word : ℕ → Bool
 fits_word n = nat_lt n (2 ^ 64)
 
--- ---- the tests of each kind, and what is kept then
+-- ---- the tests of each kind, and what is kept next
 
 -- the slot of a sentence's batch
 abbrev pub slot_under : Small → Mark → Slot
@@ -90,7 +90,7 @@ row_next x e = slice_index_or e.revisions x.rev no_row
 abbrev pub entry_at : List SummaryRow → ℕ → SummaryRow
 entry_at es place = slice_index_or es place no_entry
 
--- a move of one sentence, from one state to another, with the words that come
+-- a move of one sentence, from one state to another; `coming` are the words that come
 abbrev pub one_expected : ℕ → ℕ → Mark → State → State → ℕ → Expected
 one_expected count place x old new coming = record {
   no = count + 1;
@@ -287,7 +287,7 @@ are_marks [] (x ∷ xs) = false
 are_marks (e ∷ es) [] = false
 are_marks (e ∷ es) (x ∷ xs) = is_mark_of e x && are_marks es xs
 
--- the rows, replayed: the moves one after another from what is kept
+-- the rows, replayed: the moves one after another, from what is kept
 abbrev pub plays : List Batch → List SummaryRow → Small → List MoveText → Bool
 plays bs es k [] = are_slots bs k.slots && are_marks es k.marks
 plays bs es k (m ∷ ms) = kind_test m.kind (length bs) es k m && plays bs es (kind_next m.kind es k m) ms

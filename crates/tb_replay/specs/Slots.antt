@@ -1,13 +1,13 @@
 -- Inner: no contract beyond this crate cites a definition of this module.
--- What a replay keeps of a state: of each batch its state, its worker and the sums that its events move; of each sentence
--- where it is, and the number and the words of its current revision.
+-- What a replay keeps of a state. For each batch: its state, its worker and the sums that its events move. For each
+-- sentence: its batch, whether it is pulled, and the number and the words of its current revision.
 use Rattle.std.specs.Prelude.{ℕ, ◌+◌, List, [], ◌∷◌, false, map, length, slice_index_or}
 pub use Rattle.tb_replay.specs.declared.kept.Mark.{Mark}
 use Rattle.tb_core.specs.declared.kinds.State.{State}
 use Rattle.tb_core.specs.declared.kinds.State.TheVariants.{Withdrawn}
 use Rattle.tb_core.specs.Machine.{Batch, Sentence, Machine, rev, weigh, one, words, at_work}
 
--- of a batch: how many of its sentences are not pulled, and their words
+-- for a batch: how many of its sentences are not pulled, and their words
 pub record Slot : Type 0 where
   pub state : State
   pub worker : List ℕ
@@ -25,7 +25,7 @@ small slots marks count = record { slots = slots; marks = marks; count = count }
 abbrev pub empty_small : Small
 empty_small = record { slots = []; marks = []; count = 0 }
 
--- ---- of a state
+-- ---- the slots and marks of a state
 
 -- the slot of the batch with this number
 abbrev pub slot_for : ℕ → Batch → List Sentence → Slot
@@ -51,7 +51,7 @@ small_of s = record {
   count = length s.moves;
 }
 
--- ---- what is read where nothing stands
+-- ---- the slot and the mark at a place that has none
 
 abbrev pub no_mark : Mark
 no_mark = record { batch = 0; pulled = false; rev = 1; words = 0 }

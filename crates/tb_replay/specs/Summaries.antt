@@ -1,5 +1,5 @@
 -- Between crates: no contract of a front door cites a definition of this module.
--- Sentences without their texts: of each revision its user and the number of its words.
+-- Sentences without their texts: for each revision its user and the number of its words.
 use Rattle.std.specs.Prelude.{ℕ, List, Bool, map}
 use Rattle.tb_conllu.specs.Words.{words_of}
 use Rattle.tb_core.specs.Machine.{Revision, Sentence, revisions}

@@ -1,5 +1,5 @@
 -- Inner: no contract beyond this crate cites a definition of this module.
--- The totals of the states, by the rows of batches and sentences.
+-- The totals of the states, from the rows of batches and sentences.
 use Rattle.std.specs.Prelude.{ℕ, ◌+◌, List, [], ◌∷◌, cond}
 use Rattle.tb_core.specs.declared.kinds.State.{State}
 use Rattle.tb_core.specs.declared.kinds.State.TheVariants.{Withdrawn}

@@ -1,4 +1,4 @@
-//! Whether a move may come next, by what the replay keeps.
+//! Whether a move may come next, by the slots and marks that a replay keeps.
 
 ghost use Rattle.std.specs.Prelude.{◌≡◌, ◌+◌, ◌^◌, ◌<◌, ◌&&◌, length, nat_lt, cond, is_ok, take};
 ghost use Rattle.std.specs.Prelude.{drop, MatchOption, IfSome, true, false};
@@ -70,7 +70,7 @@ fn event_passes(count: u64, place: u64, event: Event, slot: &Slot<'_>, change: &
         )
 }
 
-/// Whether a move of an event may come next, after so many moves.
+/// Whether a move of an event may come next, after `count` moves.
 pub fn is_event(slots: &[Slot<'_>], marks: &[Mark], count: u64, event: Event, change: &Move) -> bool
     requires { count + 1 < 2 ^ 64 }
     ensures { result ≡ event_test (small slots.now marks.now count) event change.now }
@@ -83,7 +83,7 @@ pub fn is_event(slots: &[Slot<'_>], marks: &[Mark], count: u64, event: Event, ch
     event_passes(count, place, event, &slot, change)
 }
 
-/// What a move of one sentence is to say.
+/// What a move of one sentence has to say.
 fn of_one(count: u64, place: u64, mark: Mark, old: State, new: State, coming: u64) -> Expected
     requires counted { count + 1 < 2 ^ 64 }
     requires placed { place + 1 < 2 ^ 64 }
@@ -114,7 +114,7 @@ fn pull_passes(count: u64, place: u64, mark: Mark, slot: &Slot<'_>, change: &Mov
         )
 }
 
-/// Whether a pull may come next.
+/// Whether a pull may come next, after `count` moves.
 pub fn is_pull(slots: &[Slot<'_>], marks: &[Mark], count: u64, change: &Move) -> bool
     requires { count + 1 < 2 ^ 64 }
     ensures { result ≡ pull_test (small slots.now marks.now count) change.now }
@@ -142,7 +142,7 @@ pub fn restore_passes(count: u64, place: u64, mark: Mark, slot: &Slot<'_>, chang
         )
 }
 
-/// Whether the sums of the batch stay below 2^64. They always do where rows are fine; so nothing has to be known of them.
+/// Whether the sums of the batch stay below 2^64. Where rows are fine they always do, so no fact of them is needed.
 pub fn has_restore_room(mark: Mark, slot: &Slot<'_>) -> bool
     ensures { result ≡ (fits_word (slot.now.sentences + 1) && fits_word (slot.now.words + mark.words)) }
 {
@@ -205,7 +205,7 @@ pub fn correct_passes(
         && row_passes(count, place, mark, slot, row, change)
 }
 
-/// The entries that an import of so many sentences takes.
+/// The entries of the sentences of an import.
 pub fn rows_taken<'e, 'a>(
     entries: &'e [SentenceSummary<'a>],
     from: usize,
@@ -254,7 +254,7 @@ fn are_imported(new: &[SentenceSummary<'_>], number: u64, user: &str) -> bool
     new.iter().all(|entry| is_imported(entry, number, user))
 }
 
-/// The words of first revisions, where they fit a number.
+/// The words of first revisions, or none where they do not fit 64 bits.
 pub fn count_words(new: &[SentenceSummary<'_>]) -> Option<u64>
     ensures { MatchOption result (fits_word (first_counts new.now) ≡ false) (λ n.
         (fits_word (first_counts new.now) ≡ true) × (n ≡ first_counts new.now)) }
@@ -269,7 +269,7 @@ pub fn count_words(new: &[SentenceSummary<'_>]) -> Option<u64>
     Some(sum)
 }
 
-/// Whether an import of these entries, with so many words, may come next.
+/// Whether an import of these entries, with `words` words, may come next.
 pub fn import_passes(
     count: u64,
     number: u64,

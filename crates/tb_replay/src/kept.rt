@@ -1,4 +1,4 @@
-//! What a replay keeps of a state: small numbers, and borrowed names of workers.
+//! What a replay keeps of a state: numbers, and borrowed names of workers.
 
 ghost use Rattle.std.specs.Prelude.{◌≡◌, slice_index_or};
 ghost use Rattle.tb_core.specs.Events.{is_state};
@@ -8,7 +8,7 @@ ghost use Rattle.tb_replay.specs.Playing.{is_from_state, is_expected};
 use std::marker::Model;
 use tb_core::{Move, State};
 
-/// Of a batch: where it is, who works on it, and how many of its sentences take part, with their words.
+/// For a batch: its state, who works on it, how many of its sentences are not pulled, and their words.
 #[derive(Drop)]
 pub struct Slot<'a> {
     pub state: State,
@@ -23,7 +23,7 @@ impl<'a> Model for Slot<'a> {
     ghost view = { λ x. record { state = x.state; worker = x.worker.now; sentences = x.sentences; words = x.words } };
 }
 
-/// Of a sentence: its batch, whether it is pulled, how many revisions came, and the words of the last.
+/// For a sentence: its batch, whether it is pulled, the number of its current revision, and the words of that.
 #[derive(Clone, Copy, Drop)]
 pub struct Mark {
     pub batch: u64,
@@ -32,7 +32,7 @@ pub struct Mark {
     pub words: u64,
 }
 
-/// What a move is to say, its kind and user aside.
+/// What a move has to say, without its kind and user.
 #[derive(Clone, Copy, Drop)]
 pub struct Expected {
     pub no: u64,
@@ -75,7 +75,7 @@ pub fn is_as_expected(change: &Move, expected: Expected) -> bool
         && change.words_in == expected.words_in
 }
 
-/// The slot of the batch at a place, from 0. Past the end it is that of an empty withdrawn batch.
+/// The slot of the batch at a place, from 0; past the end, that of an empty withdrawn batch.
 pub fn slot_of<'a>(slots: &[Slot<'a>], place: u64) -> Slot<'a>
     ensures { result ≡ slice_index_or slots.now place no_slot }
 {
@@ -95,7 +95,7 @@ pub fn slot_of<'a>(slots: &[Slot<'a>], place: u64) -> Slot<'a>
     }
 }
 
-/// The mark of the sentence at a place, from 0. Past the end it is of no batch.
+/// The mark of the sentence at a place, from 0; past the end, one of no batch.
 pub fn mark_of(marks: &[Mark], place: u64) -> Mark
     ensures { result ≡ slice_index_or marks.now place no_mark }
 {

@@ -1,4 +1,4 @@
-//! The replay: each move in turn, on what is kept, and the end compared with the rows.
+//! The replay: makes each move on the slots and marks, and compares the end with the rows.
 
 ghost use Rattle.std.specs.Prelude.{◌≡◌, ◌+◌, ◌-◌, ◌^◌, ◌<◌, ◌++◌, ◌↔◌, map, slice_set};
 ghost use Rattle.std.specs.Prelude.{slice_index_or, IfOk, OnOk, true};
@@ -48,7 +48,7 @@ fn put_mark(marks: &mut [Mark], place: u64, mark: Mark)
     }
 }
 
-// An event moves the batch, and leaves its sums and its sentences alone.
+// An event changes the state and the worker of a batch, not its sums or its sentences.
 fn write_event<'a>(slots: &mut [Slot<'a>], event: Event, change: &'a Move)
     ensures { slots.new ≡ change_at (slot_moved event change.now.who) slots.old (change.now.batch - 1) }
 {
@@ -66,7 +66,7 @@ fn write_event<'a>(slots: &mut [Slot<'a>], event: Event, change: &'a Move)
     );
 }
 
-// Writes what comes of a sentence's mark and of the sums of its batch.
+// Writes the new mark of a sentence and the new sums of its batch.
 fn put_both<'a>(
     slots: &mut [Slot<'a>],
     marks: &mut [Mark],
@@ -231,7 +231,7 @@ fn push_marks(marks: &mut Vec<Mark>, new: &[SentenceSummary<'_>]) -> Result<(), 
     Ok(())
 }
 
-// The slot of a new batch and the marks of its sentences come last, as the rows do.
+// The slot of a new batch and the marks of its sentences are appended, in the order of the rows.
 fn step_import<'a>(
     batches: usize,
     slots: &mut Vec<Slot<'a>>,
@@ -361,12 +361,14 @@ fn plays_out(
     Ok(are_slots_right(batches, &slots) && are_marks_right(entries, &marks))
 }
 
-/// Whether the rows of a desk are those of a state that accepted commands reach, within the largest limits. Each row is
-/// to be fine by itself; texts aren't looked at. It takes memory by the batches and the sentences, and time by all rows.
+/// Whether the rows of a desk are those of a state that accepted commands reach, within the largest limits.
+///
+/// Each row has to be fine by itself; texts are not looked at. It takes memory for each batch and each sentence, and
+/// time for each row.
 ///
 /// # Errors
 ///
-/// Want of memory.
+/// Memory was refused.
 pub fn replays(
     alloc: Global,
     batches: &[BatchRow<'_>],

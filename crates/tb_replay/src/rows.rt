@@ -1,4 +1,4 @@
-//! The rows of a desk, with texts that lie elsewhere. Contracts see each text as its bytes.
+//! The rows of a desk, which borrow their texts. Contracts see each text as its bytes.
 
 ghost use Rattle.tb_core.specs.Machine.{Batch};
 ghost use Rattle.tb_replay.specs.Summaries.{RevisionRow, SummaryRow};
@@ -11,7 +11,7 @@ use tb_core::State;
 pub struct BatchRow<'a> {
     pub name: &'a str,
     pub state: State,
-    /// Whoever works on it, or the empty text.
+    /// Who works on it, or the empty text.
     pub worker: &'a str,
 }
 

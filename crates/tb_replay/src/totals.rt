@@ -13,7 +13,7 @@ ghost use Rattle.tb_replay.specs.Sums.{entry_state, last_count};
 use crate::rows::{BatchRow, Revision, SentenceSummary};
 use tb_core::{State, Totals};
 
-/// The place of a state among the six.
+/// The place of a state among the six, from 0.
 fn place_of(state: State) -> usize
     ensures place { result ≡ state_place state }
     ensures bound { result < 6 }
@@ -52,7 +52,7 @@ fn last_words(revisions: &[Revision<'_>]) -> u64
     }
 }
 
-/// Adds to the sum of a state. `false` where that passes 64 bits.
+/// Adds to the sum of a state. Returns `false` where the sum does not fit 64 bits.
 fn add(sums: &mut [u64; 6], state: State, more: u64) -> bool
     ensures fits { IsTrue result ↔ at_state sums.old state + more < 2 ^ 64 }
     ensures added { IsTrue result → (st : AnyState) → at_state sums.new st ≡ at_state sums.old st + when
@@ -66,8 +66,10 @@ fn add(sums: &mut [u64; 6], state: State, more: u64) -> bool
     true
 }
 
-/// Of each state its sentences and the words of their current revisions, as the rows of a desk have them. `None` where a
-/// sum passes 64 bits, which isn't so where the rows are fine and no more than 1,000,000 sentences. Takes no memory.
+/// For each state its sentences and the words of their current revisions, from the rows of a desk.
+///
+/// `None` where a sum does not fit 64 bits. That never happens where the rows are fine and have at most 1,000,000
+/// sentences. Takes no memory.
 pub fn totals_of(batches: &[BatchRow<'_>], entries: &[SentenceSummary<'_>]) -> Option<Totals>
     ensures sums { (f : Machine) → batches.now ≡ f.batches → entries.now ≡ entries_of f.sentences
         → IfSome result (λ t. AreTotalsOf t f) }
