@@ -1,4 +1,4 @@
--- What a command knows of a desk beside its tables, and what is written with it.
+-- What a desk keeps for its commands beside the tables, and what a command writes.
 use Rattle.std.specs.Prelude.{◌≡◌, ◌≤◌, length}
 use Rattle.tb_core.specs.declared.limits.Limits.{Limits}
 use Rattle.tb_core.specs.Machine.{Machine}
@@ -20,7 +20,7 @@ pub record IsCounted (k : Counters) (s : Machine) : Type 0 where
   pub moves : k.moves ≡ length s.moves
   pub totals : AreTotalsOf k.totals s
 
--- what is written with an accepted command, and the totals after it
+-- what an accepted command writes, and the totals after it
 pub record IsPrepared (s : Machine) (a : Act) (p : PreparedMove) : Type 0 where
   pub stand : AreTotalsOf p.totals (after s a)
   pub change : IsChangeOf p.totals (move_made s a) p.change

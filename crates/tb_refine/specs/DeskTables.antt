@@ -1,4 +1,4 @@
--- The records that stand in the tables for a state of the desk machine.
+-- The records that store a state of the desk machine in the tables.
 use Rattle.std.specs.Prelude.{List, [], ◌∷◌, map}
 use Rattle.sqlite.specs.Store.{Ghosts}
 use Rattle.sqlite.specs.Held.{Held}
@@ -54,8 +54,8 @@ tables_of s = record {
   pulled = pulled_from 1 s.sentences;
 }
 
--- A connection in no transaction, whose tables stand for this state, now and after each crash; the state is one that
--- accepted commands reach.
+-- A connection in no transaction, whose tables store this state, now and after each crash. Accepted commands reach the
+-- state.
 pub record IsDeskOf {S : Type 0} (g : Ghosts S) (c : Held S) (s : Machine) : Type 0 where
   pub reachable : IsReachable s
   pub holds : Holds g c (tables_of s)

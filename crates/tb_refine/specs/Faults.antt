@@ -1,4 +1,4 @@
--- What an error of the database, or of a read, is to a caller.
+-- The faults that callers see for errors of the database and of reads.
 use Rattle.std.specs.Prelude.{◌≢◌}
 use Rattle.sqlite.specs.declared.error.Error.{Error}
 use Rattle.sqlite.specs.declared.error.Error.TheVariants.{SqliteFailure}
@@ -25,12 +25,12 @@ abbrev pub fault_of_error : Error → Fault
 fault_of_error (SqliteFailure code) = fault_of_code code
 fault_of_error _ = NotADesk
 
--- rows that are those of no records are not a desk's
+-- rows that cannot be read as records are not a desk's
 abbrev pub fault_of_read : ReadError → Fault
 fault_of_read (Store error) = fault_of_error error
 fault_of_read Form = NotADesk
 
--- while the tables are made, what is no want of memory is the device's
+-- while the tables are made, any error but want of memory is the device's
 abbrev pub making_fault_of_code : ErrorCode → Fault
 making_fault_of_code OutOfMemory = Memory
 making_fault_of_code _ = Device

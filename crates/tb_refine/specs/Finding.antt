@@ -1,4 +1,4 @@
--- What is read of a desk before a command.
+-- What is read from a desk before a command.
 use Rattle.std.specs.Prelude.{◌≡◌, ℕ, ◌-◌, ◌<◌, List, Option, None, Some, slice_get}
 use Rattle.tb_core.specs.Names.{Lacks}
 use Rattle.tb_core.specs.Machine.{Machine, Batch}

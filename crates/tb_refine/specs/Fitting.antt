@@ -1,5 +1,6 @@
 -- Between crates: no contract of a front door cites a definition of this module.
--- What the records of a desk keep to: texts in UTF-8, numbers of 32 bits that stand for something, and how many they are.
+-- Bounds that the records of a desk keep: texts in UTF-8, numbers of 32 bits that mean something, and how many they
+-- are.
 use Rattle.std.specs.Prelude.{◌≡◌, ◌≤◌, ◌<◌, ◌^◌, ℕ, length, Option, IsUtf8}
 use Rattle.std.specs.List.{All}
 use Rattle.tb_core.specs.declared.kinds.State.{State}
@@ -50,26 +51,26 @@ pub record IsReadable (d : Tables) : Type 0 where
   pub totals : All IsReadableTotal d.totals
   pub pulled : All (λ n. n < 2 ^ 32) d.pulled
 
--- ---- how many records there are, and what their numbers stand for
+-- ---- how many records there are, and what their numbers mean
 
 -- the number of a state
 abbrev pub IsStateNumber : ℕ → Type 0
 IsStateNumber n = (st : State) × (n ≡ state_number st)
 
--- the sentence is of one of so many batches, and has a revision
+-- the sentence is in one of n batches, and has a revision
 pub record IsPlacedSentence (n : ℕ) (x : Sentence) : Type 0 where
   pub least : 1 ≤ x.batch
   pub most : x.batch ≤ n
   pub revised : 1 ≤ x.rev
 
--- the kind and the states of a move are some
+-- the kind and the states of a move exist
 pub record IsKnownMove (x : Move) : Type 0 where
   pub kind : (k : Kind) × (x.kind ≡ kind_number k)
   pub from : (f : Option State) × (x.from ≡ from_number f)
   pub to : IsStateNumber x.to
 
--- Batches, sentences and moves can be numbered by 31 bits, there are six totals, and numbers of batches, states and kinds
--- stand for some.
+-- Batches, sentences and moves can be numbered by 31 bits, there are six totals, and the numbers of batches, states and
+-- kinds mean one.
 pub record IsFitting (d : Tables) : Type 0 where
   pub batches_few : length d.batches < 2 ^ 31
   pub sentences_few : length d.sentences < 2 ^ 31

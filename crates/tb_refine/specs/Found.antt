@@ -1,12 +1,12 @@
 -- Between crates: no contract of a front door cites a definition of this module.
--- What records tell of the state that they stand for.
+-- What records say of the state that they store.
 use Rattle.std.specs.Prelude.{◌≡◌, ◌+◌, ℕ, [], ◌∷◌, Some, slice_get, IsPermutation}
 use Rattle.tb_conllu.specs.Text.{text_of}
 use Rattle.tb_core.specs.Machine as machine
 use Rattle.tb_core.specs.Machine.{Machine, revisions}
 use Rattle.tb_tables.specs.Records.{Tables, Revision}
 
--- the same records, where the order of revisions and of pulled numbers is left open
+-- the same records, with revisions and pulled numbers in any order
 pub record IsSame (d e : Tables) : Type 0 where
   pub batches : d.batches ≡ e.batches
   pub sentences : d.sentences ≡ e.sentences
@@ -15,7 +15,7 @@ pub record IsSame (d e : Tables) : Type 0 where
   pub totals : d.totals ≡ e.totals
   pub pulled : IsPermutation d.pulled e.pulled
 
--- the record of a revision with these numbers, each from 1
+-- the record of revision `rev` of sentence `sent`, both from 1
 abbrev pub revision_shown_as : ℕ → ℕ → machine.Revision → Revision
 revision_shown_as sent rev q = record { sent = sent; rev = rev; who = q.who; body = text_of (q.body ∷ []) }
 

@@ -1,4 +1,4 @@
--- The numbers that stand in the tables for states and kinds of moves.
+-- The numbers that the tables store for states and kinds of moves.
 use Rattle.std.specs.Prelude.{ℕ, Option, Some, None}
 use Rattle.tb_core.specs.declared.kinds.State.{State}
 use Rattle.tb_core.specs.declared.kinds.State.TheVariants.{Opened, Assigned, Submitted, Adjudicated, Released}

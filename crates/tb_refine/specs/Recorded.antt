@@ -13,16 +13,16 @@ use Rattle.tb_tables.specs.Values.{move_of}
 use Rattle.tb_refine.specs.DeskTables.{move_record}
 use Rattle.tb_tables.specs.declared.recording.MoveWrite.{MoveWrite}
 
--- the row tells the totals of the state
+-- the row has the totals of the state
 pub record IsTotalOf (t : Totals) (st : State) (row : TotalRow) : Type 0 where
   pub sentences : row.sentences ≡ at_state t.sentences st
   pub words : row.words ≡ at_state t.words st
 
--- no total needs more than 32 bits
+-- each total fits 32 bits
 abbrev pub AreNarrow : Totals → Type 0
 AreNarrow t = (st : State) → (at_state t.sentences st < 2 ^ 32) × (at_state t.words st < 2 ^ 32)
 
--- nor does a number of the move
+-- so does each number of the move
 pub record IsNarrowMove (m : MoveText) : Type 0 where
   pub no : m.no < 2 ^ 32
   pub batch : m.batch < 2 ^ 32
@@ -38,7 +38,7 @@ pub record IsChangeOf (t : Totals) (m : MoveText) (c : MoveWrite) : Type 0 where
   pub left : (st : State) → m.from ≡ Some st → IsTotalOf t st c.left
   pub reached : IsTotalOf t m.to c.reached
 
--- The change is that of this act: its move, over totals that stand for the state after it.
+-- The change is that of this act: its move, with the totals of the state after it.
 pub record IsWritten (s : Machine) (a : Act) (c : MoveWrite) : Type 0 where
   pub totals : Totals
   pub stand : AreTotalsOf totals (after s a)

@@ -1,5 +1,5 @@
 -- Between crates: no contract of a front door cites a definition of this module.
--- The tables as each accepted command of the machine writes them over those of the state before it.
+-- The tables that each accepted command of the machine writes, from those of the state before it.
 use Rattle.std.specs.Prelude.{ℕ, ◌+◌, List, [], ◌∷◌, map}
 use Rattle.tb_conllu.specs.Text.{BlockText, text_of}
 use Rattle.tb_conllu.specs.Words.{words_of}
@@ -26,14 +26,14 @@ import_written s name user bodies unused =
     after_import (tables_of s) name user (map item_of bodies) (move_record (move_of s a)) unused (total_record
     (after s a) Opened)
 
--- the batch at the place, which was in this state
+-- `b` is the batch at the place, which was in the state `from`
 abbrev pub event_written : Machine → ℕ → Event → List ℕ → Batch → State → Tables
 event_written s place event user b from =
     let a : Act = stepping place event user in
     after_event (tables_of s) (place + 1) b (state_number (goes_to event)) (with_worker
     (makes_worker event) user b.worker) (move_record (move_of s a)) (total_record (after s a) from) (total_record (after s a) (goes_to event))
 
--- the sentence at the place, whose batch is in this state
+-- `x` is the sentence at the place, whose batch is in the state `st`
 abbrev pub correction_written : Machine → ℕ → List ℕ → BlockText → Sentence → State → Tables
 correction_written s place user body x st =
     let a : Act = correcting place user body in
@@ -44,7 +44,7 @@ correction_written s place user body x st =
       body = text_of (body ∷ []);
     }) (words_of body) (move_record (move_of s a)) (total_record (after s a) st) (total_record (after s a) st)
 
--- the sentence at the place, whose batch is in this state
+-- the batch of the sentence at the place is in the state `st`
 abbrev pub pull_written : Machine → ℕ → List ℕ → State → Tables
 pull_written s place user st =
     let a : Act = pulling place user in

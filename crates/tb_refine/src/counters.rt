@@ -1,4 +1,4 @@
-//! What a desk knows beside its tables.
+//! What a desk keeps beside its tables.
 
 ghost use Rattle.std.specs.Prelude.{◌≡◌, ◌≢◌, ◌+◌, ◌<◌, ◌≤◌, Err, IfOk, IfErr};
 ghost use Rattle.tb_core.specs.declared.refusals.Refusal.{Refusal as AnyRefusal};
@@ -6,11 +6,11 @@ ghost use Rattle.tb_refine.specs.Faults.{IsNoDevice};
 
 use tb_core::{Fault, Limits, Totals};
 
-/// What a desk knows without asking the database, as its commands need it.
+/// What a command needs of a desk beside the tables, kept without asking the database.
 #[derive(Clone, Copy, Debug)]
 pub struct Counters {
     pub limits: Limits,
-    /// How many moves stand.
+    /// The number of moves so far.
     pub moves: u32,
     pub totals: Totals,
 }
@@ -19,7 +19,7 @@ pub struct Counters {
 ///
 /// # Errors
 ///
-/// `NotADesk` at 1,000,000,000 moves: a desk at its limit never comes here, since its commands are refused as `Full`.
+/// `NotADesk` at 1,000,000,000 moves. A desk at this limit never comes here, since its commands are refused as `Full`.
 pub fn next_move(counts: &Counters) -> Result<u32, Fault>
     ensures next { IfOk result (λ n. (n ≡ counts.now.moves + 1) × (n ≤ 1000000000)) }
     ensures never_refuses { (r : AnyRefusal) → result ≢ Err (Fault.Refused r) }

@@ -1,4 +1,4 @@
-//! What an error of the database, or of a read, is to a caller.
+//! The faults that callers see for errors of the database and of reads.
 
 ghost use Rattle.std.specs.Prelude.{◌≡◌, ◌≢◌, ◌⊎◌};
 ghost use Rattle.tb_core.specs.declared.refusals.Refusal.{Refusal};
@@ -26,8 +26,10 @@ fn of_code(code: ErrorCode) -> Fault
     }
 }
 
-/// Want of memory is `Memory`, a store that fails or is full is `Device`. On the tables of a desk the database refuses nothing that a
-/// desk asks of it: whatever else it answers, they are not those of a desk.
+/// The fault for an error of the database: `Memory` for want of memory, `Device` for a store that fails or is full,
+/// else `NotADesk`.
+///
+/// On the tables of a desk, the database refuses nothing that a desk asks. So any other error means other tables.
 pub fn of_error(error: Error) -> Fault
     ensures value { result ≡ fault_of_error error }
     ensures never_refuses { (r : Refusal) → result ≢ Fault.Refused r }
@@ -39,7 +41,7 @@ pub fn of_error(error: Error) -> Fault
     }
 }
 
-/// The same of a read; rows that are those of no records are not a desk's.
+/// The fault for an error of a read. Rows that cannot be read as records are not a desk's.
 pub fn of_read(error: ReadError) -> Fault
     ensures value { result ≡ fault_of_read error }
     ensures never_refuses { (r : Refusal) → result ≢ Fault.Refused r }
@@ -51,7 +53,7 @@ pub fn of_read(error: ReadError) -> Fault
     }
 }
 
-/// The same while the tables are made: a blank database that refuses them is a store that fails.
+/// The fault for an error while the tables are made. A blank database that refuses them is a store that fails.
 pub fn of_making(error: Error) -> Fault
     ensures value { result ≡ fault_of_making error }
     ensures known { (result ≡ Fault.Memory) ⊎ (result ≡ Fault.Device) }

@@ -1,7 +1,6 @@
-//! Laws of the records: each function only states a fact about the definitions, and runs nothing.
+//! Laws of the records. Each function states a fact about the definitions, and runs nothing.
 //!
-//! Where the tables stand for a reached state, and an accepted command writes what it writes, they stand for the next
-//! state.
+//! Where the tables store a reached state, they store the next state after an accepted command wrote its changes.
 
 ghost use Rattle.std.specs.Prelude.{◌≡◌, ◌↔◌, ◌+◌, ◌-◌, ℕ, List, Some, true, slice_get, Contains};
 ghost use Rattle.sqlite.specs.Tree.{Trees};
@@ -21,7 +20,7 @@ ghost use Rattle.tb_refine.specs.Written.{restore_written};
 
 use tb_core::rows_tell_the_state;
 
-/// An event: the row of its batch tells the state that is left.
+/// An event: the row of its batch has the state that is left.
 pub fn events_are_stored()
     ensures { (s : Machine) (place : ℕ) (event : Event) (user : List ℕ) → Reached s
         → IsAllowed s (stepping place event user) → (b : Batch) → slice_get (tables_of s).batches place ≡ Some b
@@ -30,7 +29,7 @@ pub fn events_are_stored()
         → AreStored (tables_of (after s (stepping place event user))) trees }
 {}
 
-/// An import leaves no state, so the total of the state that is left may be any.
+/// An import: it leaves no state, so the total for the state that is left may be any.
 pub fn imports_are_stored()
     ensures { (s : Machine) (name user : List ℕ) (bodies : List BlockText) → Reached s
         → IsAllowed s (importing name user bodies) → (unused : Total) (trees : Trees)
@@ -38,7 +37,7 @@ pub fn imports_are_stored()
         → AreStored (tables_of (after s (importing name user bodies))) trees }
 {}
 
-/// A correction: the row of the sentence tells its revision, and that of its batch the state.
+/// A correction: the row of the sentence has its revision, and that of its batch has the state.
 pub fn corrections_are_stored()
     ensures { (s : Machine) (place : ℕ) (user : List ℕ) (body : BlockText) → Reached s
         → IsAllowed s (correcting place user body) → (x : Sentence) → slice_get (tables_of s).sentences place
@@ -48,7 +47,7 @@ pub fn corrections_are_stored()
         → AreStored (tables_of (after s (correcting place user body))) trees }
 {}
 
-/// A pull: the row of the sentence tells its batch, whose row tells the state that is left.
+/// A pull: the row of the sentence has its batch, whose row has the state that is left.
 pub fn pulls_are_stored()
     ensures { (s : Machine) (place : ℕ) (user : List ℕ) → Reached s → IsAllowed s (pulling place user)
         → (x : Sentence) → slice_get (tables_of s).sentences place ≡ Some x → (b : Batch)
@@ -57,7 +56,7 @@ pub fn pulls_are_stored()
         → AreStored (tables_of (after s (pulling place user))) trees }
 {}
 
-/// A restore: the row of the sentence tells its batch, whose row tells the state that is reached.
+/// A restore: the row of the sentence has its batch, whose row has the state that is reached.
 pub fn restores_are_stored()
     ensures { (s : Machine) (place : ℕ) (user : List ℕ) → Reached s → IsAllowed s (restoring place user)
         → (x : Sentence) → slice_get (tables_of s).sentences place ≡ Some x → (b : Batch)
@@ -66,26 +65,26 @@ pub fn restores_are_stored()
         → AreStored (tables_of (after s (restoring place user))) trees }
 {}
 
-/// The records of a desk within the largest limits can be numbered by 31 bits, there are six totals, and each number of a
-/// state, of a kind or of a sentence's batch stands for one.
+/// The records of a desk within the largest limits can be numbered by 31 bits. There are six totals, and each number of
+/// a state, of a kind or of a sentence's batch means one.
 pub fn desk_rows_fit()
     ensures { (s : Machine) → IsReachable s → IsFitting (tables_of s) }
 {}
 
-/// Each of its records can be read back: names, users, `sent_id`s and texts of sentences are UTF-8, and each number has 32
-/// bits at most.
+/// Each of its records can be read back: names, users, `sent_id`s and texts of sentences are UTF-8, and numbers have at
+/// most 32 bits.
 pub fn desk_rows_are_readable()
     ensures { (s : Machine) → IsReachable s → IsReadable (tables_of s) }
 {}
 
-/// The tables stand for one reached state at most.
+/// The tables store at most one reached state.
 pub fn one_state_for_the_rows()
     ensures { (s t : Machine) → Reached s → Reached t → tables_of s ≡ tables_of t → s ≡ t }
 {
     rows_tell_the_state();
 }
 
-/// A file stands for one reachable state at most, whatever the order of its rows.
+/// A file stores at most one reachable state. The order of its rows does not matter.
 pub fn one_state_for_the_file()
     ensures { (s t : Machine) (trees : Trees) → IsReachable s → IsReachable t → AreStored (tables_of s) trees
         → AreStored (tables_of t) trees → s ≡ t }
@@ -93,14 +92,14 @@ pub fn one_state_for_the_file()
     rows_tell_the_state();
 }
 
-/// The rows of a file show one list of batches, of sentences, of moves and of totals, and the same revisions and pulled
-/// numbers in some order.
+/// The rows of a file show one list each of batches, sentences, moves and totals. They show the same revisions and
+/// pulled numbers, in some order.
 pub fn one_list_for_the_rows()
     ensures { (d e : Tables) (trees : Trees) → AreStored d trees → AreStored e trees → IsSame d e }
 {}
 
-/// What the records of a state tell of it: which batch or sentence each is of, whether a sentence is pulled, which
-/// revision stands where, and the total of a state.
+/// What the records of a state say: which batch or sentence each is, and whether a sentence is pulled. Also which
+/// revision is at which place, and the total of a state.
 pub fn records_determine_the_state()
     ensures batches { (s : Machine) (place : ℕ) (b : Batch) → slice_get (tables_of s).batches place ≡ Some b
         → (y : StandingBatch) × (slice_get s.batches place ≡ Some y) × (b ≡ batch_record y) }

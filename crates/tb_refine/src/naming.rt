@@ -1,4 +1,4 @@
-//! What has a name that a command gives.
+//! Finds what has a name that a command gives.
 
 ghost use Rattle.std.specs.Prelude.{◌≡◌, ◌≢◌, Err, MatchBool, false};
 ghost use Rattle.tb_core.specs.declared.refusals.Refusal.{Refusal as AnyRefusal};
@@ -13,7 +13,7 @@ use crate::{desk_rows_fit, faults};
 use sqlite::{Alter, Connection};
 use tb_core::Fault;
 
-/// The number of the batch with this name, from 1, or none where no batch has it. Nothing is refused.
+/// The number of the batch with this name, from 1, or none where no batch has it. It is never refused.
 pub fn batch_number<S: Alter>(conn: &mut Connection<S>, name: &str) -> Result<Option<u32>, Fault>
     ensures answered { Tells S.Store conn.old conn.new result (λ s found. HasNumber s name.now found) }
     ensures never_refuses { (r : AnyRefusal) → result ≢ Err (Fault.Refused r) }
@@ -32,7 +32,7 @@ pub fn batch_number<S: Alter>(conn: &mut Connection<S>, name: &str) -> Result<Op
     }
 }
 
-/// Whether a sentence has this `sent_id`, pulled or not. Nothing is refused.
+/// Whether a sentence, pulled or not, has this `sent_id`. It is never refused.
 pub fn is_taken<S: Alter>(conn: &mut Connection<S>, sent_id: &str) -> Result<bool, Fault>
     ensures answered { Tells S.Store conn.old conn.new result (λ s taken.
         MatchBool taken (Lacks (ids_of s.sentences) sent_id.now → ⊥) (Lacks (ids_of s.sentences) sent_id.now)) }

@@ -1,4 +1,4 @@
-//! States and kinds of moves as the numbers that stand in the tables. Nothing here takes memory.
+//! The numbers that the tables store for states and kinds of moves. Nothing here takes memory.
 
 ghost use Rattle.std.specs.Prelude.{◌≡◌, ◌↔◌, Option as AnyOption, Some as some_of};
 ghost use Rattle.tb_core.specs.declared.kinds.State.{State as AnyState};
@@ -46,7 +46,7 @@ pub fn number_before(from: Option<State>) -> u32
     }
 }
 
-/// The state before a move by its number, or none where the number stands for nothing.
+/// The state before a move by its number, or none where the number means nothing.
 pub fn state_before(number: u32) -> Option<Option<State>>
     ensures { (from : AnyOption AnyState) → (result ≡ some_of from) ↔ (number ≡ from_number from) }
 {

@@ -1,4 +1,4 @@
-//! What is written with every accepted command, and the totals after it.
+//! The rows that every accepted command writes, and the totals after it.
 
 ghost use Rattle.std.specs.Prelude.{◌≡◌, ◌≢◌, Err, IfOk, IfErr};
 ghost use Rattle.tb_core.specs.declared.refusals.Refusal.{Refusal as AnyRefusal};
@@ -15,18 +15,18 @@ use crate::recording::record;
 use tb_core::{Fault, Move, Totals, stored_totals_hold, stored_totals_take_moves};
 use tb_tables::MoveWrite;
 
-/// The rows that are written with a command, and the totals after it.
+/// The rows that a command writes, and the totals after it.
 #[derive(Debug, Drop)]
 pub struct PreparedMove {
     pub change: MoveWrite,
     pub totals: Totals,
 }
 
-/// What is written with a command of this move.
+/// What a command with this move writes.
 ///
 /// # Errors
 ///
-/// Nothing is refused; `NotADesk` where the totals do not take the move, as those of a desk do.
+/// `NotADesk` where the totals do not take the move, which never happens on a desk. It is never refused.
 pub fn prepare(counts: &Counters, step: Move) -> Result<PreparedMove, Fault>
     ensures prepared { IfOk result (λ p. (s : Machine) (a : Act) → Reached s → IsAllowed s a
         → IsCounted counts.now s → step ≡ move_made s a → IsPrepared s a p) }

@@ -1,4 +1,4 @@
-//! What every accepted act writes last: its move, and what the move makes of the totals.
+//! The last writes of every accepted act: its move, and the totals that the move changes.
 
 ghost use Rattle.std.specs.Prelude.{◌≡◌, ◌≢◌, ◌<◌, ◌^◌, Some, Err, slice_index, IfOk, IfErr};
 ghost use Rattle.tb_core.specs.declared.kinds.State.{State as AnyState};
@@ -14,7 +14,7 @@ use crate::{number_before, number_of_kind, number_of_state};
 use tb_core::{Fault, Move, State, Totals};
 use tb_tables::{MoveRow, MoveWrite, TotalRow};
 
-/// A number of a desk, none of which needs more than 32 bits.
+/// A number of a desk, as 32 bits. No number of a desk needs more.
 ///
 /// # Errors
 ///
@@ -62,7 +62,7 @@ fn total_row(totals: &Totals, state: State) -> Result<TotalRow, Fault>
     }
 }
 
-/// The same of the state that a move leaves; zeros where it leaves none.
+/// The row of the totals of the state that a move leaves; zeros where it leaves none.
 fn left_row(totals: &Totals, from: Option<State>) -> Result<TotalRow, Fault>
     ensures row { IfOk result (λ t. (st : AnyState) → from ≡ Some st → IsTotalOf totals.now st t) }
     ensures never_refuses { (r : AnyRefusal) → result ≢ Err (Fault.Refused r) }
@@ -103,7 +103,7 @@ fn move_row(moved: Move) -> Result<MoveRow, Fault>
     })
 }
 
-/// The change of the tables that a move is, where these are the totals after it.
+/// What a move changes in the tables, where `totals` are those after it.
 fn change_of(totals: &Totals, moved: Move) -> Result<MoveWrite, Fault>
     ensures change { IfOk result (λ c. IsChangeOf totals.now moved c) }
     ensures never_refuses { (r : AnyRefusal) → result ≢ Err (Fault.Refused r) }
@@ -122,11 +122,11 @@ fn change_of(totals: &Totals, moved: Move) -> Result<MoveWrite, Fault>
     })
 }
 
-/// Makes the move over the totals, and tells what it changes in the tables.
+/// Makes the move on the totals, and returns what it changes in the tables.
 ///
 /// # Errors
 ///
-/// Nothing is refused; `NotADesk` where the totals do not take the move, as those of a desk do.
+/// `NotADesk` where the totals do not take the move, which never happens on a desk. It is never refused.
 pub fn record(totals: &mut Totals, moved: Move) -> Result<MoveWrite, Fault>
     ensures applied { IfOk result (λ _. IsApplied totals.old totals.new moved) }
     ensures change { IfOk result (λ c. IsChangeOf totals.new moved c) }
