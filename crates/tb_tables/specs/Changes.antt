@@ -1,4 +1,4 @@
--- What a statement makes of the records.
+-- What a statement changes in the records.
 use Rattle.std.specs.Prelude.{◌≡◌, ◌-◌, ◌==◌, ℕ, length, not, false, [], ◌∷◌, ◌++◌, filter}
 use Rattle.std.specs.Prelude.{slice_set, IsTrue}
 use Rattle.sqlite.specs.Store.{Ghosts}
@@ -13,20 +13,20 @@ pub record IsInside (s : State) : Type 0 where
   pub begun : IsTrue s.in_transaction
   pub schema : s.now.schema ≡ desk_schema
 
--- SQLite finds rowids for so many more revisions
+-- SQLite finds rowids for `count` more revisions
 abbrev pub HasRevisionRowids : State → ℕ → Type 0
 HasRevisionRowids s count = HasRowids count (s.now.trees revisions.tree)
 
--- the transaction goes on, nothing is committed, and where the tables stood for the old records, they stand for the new ones
+-- the transaction goes on, nothing is committed, and where the tables stored the old records, they store the new ones
 pub record Changes (old new : State) (d after : Tables) : Type 0 where
   pub inside : IsInside new
   pub committed : new.committed ≡ old.committed
   pub stands : AreStored d old.now.trees → AreStored after new.now.trees
-  -- where SQLite finds rowids for so many revisions in all, it goes on to do so
+  -- where SQLite finds rowids for n revisions in all, it still does
   pub rowids : (n : ℕ) → HasRevisionRowids old (n - length d.revisions)
       → HasRevisionRowids new (n - length after.revisions)
 
--- a connection in no transaction, whose tables stand for these records, now and after each crash
+-- a connection in no transaction, whose tables store these records, now and after each crash
 pub record Holds {S : Type 0} (g : Ghosts S) (c : Held S) (d : Tables) : Type 0 where
   pub autocommit : c.in_transaction ≡ false
   pub is_open : IsTrue (state g c).is_open

@@ -1,5 +1,5 @@
 -- Between crates: no contract of a front door cites a definition of this module.
--- What each command of a desk makes of the tables.
+-- What each command of a desk changes in the tables.
 use Rattle.std.specs.Prelude.{ℕ, ◌+◌, zero, suc, List, [], ◌∷◌, length}
 use Rattle.tb_tables.specs.Records.{Tables, Batch, Sentence, Revision, Move, Total}
 use Rattle.tb_tables.specs.Changes.{with_batch, with_sentence, with_revision, with_move, with_pulled, without_pulled}

@@ -1,4 +1,4 @@
--- How a statement on the tables of a desk fails, and which records SQLite takes.
+-- How a statement on the tables of a desk fails, and which records SQLite accepts.
 use Rattle.std.specs.Prelude.{◌≡◌, ◌≢◌, ◌⊎◌, ℕ, pos, ◌+ℤ◌, List, [], ◌∷◌, ◌<◌}
 use Rattle.std.specs.Prelude.{◌≤◌, map, length}
 use Rattle.std.specs.Prelude.{true, IsTrue, Result, Ok, Err, ⊤}
@@ -22,7 +22,7 @@ use Rattle.tb_tables.specs.Records.{Tables, Batch, Sentence, Revision}
 abbrev pub IsStoreFault : Error → Type 0
 IsStoreFault e = (cause : StoreError) × (e ≡ store_error cause)
 
--- a fault of the store, or no rowid is left for a further row
+-- a fault of the store, or no rowid is left for one more row
 abbrev pub IsRoomFault : Error → Type 0
 IsRoomFault e = IsStoreFault e ⊎ (e ≡ SqliteFailure NoRowid)
 
@@ -30,8 +30,7 @@ IsRoomFault e = IsStoreFault e ⊎ (e ≡ SqliteFailure NoRowid)
 abbrev pub IsWant : Error → Type 0
 IsWant e = e ≡ SqliteFailure OutOfMemory
 
--- No disk that failed and no store that was shut is behind the error: it is a refusal, want of memory, or a size that
--- cannot be stored.
+-- The error needs no failed disk and no shut store: it is a refusal, want of memory, or a size that cannot be stored.
 abbrev pub NeedsNoFault : Error → Type 0
 NeedsNoFault (SqliteFailure SystemIoFailure) = ⊥
 NeedsNoFault (SqliteFailure DatabaseCorrupt) = ⊥
@@ -39,7 +38,7 @@ NeedsNoFault (SqliteFailure DiskFull) = ⊥
 NeedsNoFault (SqliteFailure Closed) = ⊥
 NeedsNoFault _ = ⊤
 
--- the same, or the rowid that SQLite chose for a revision is taken, which is told as a corrupt file
+-- the same, or the rowid that SQLite chose for a revision is taken, which is reported as a corrupt file
 abbrev pub NeedsNoFaultOnRevisions : Error → Type 0
 NeedsNoFaultOnRevisions e = NeedsNoFault e ⊎ (e ≡ SqliteFailure DatabaseCorrupt)
 
@@ -50,18 +49,18 @@ longest_text = 400000000
 abbrev pub IsShort : List ℕ → Type 0
 IsShort text = length text ≤ longest_text
 
--- SQLite finds rowids for so many more rows: the rows ascend by rowid, and the numbers above the last one have 64 bits.
+-- SQLite finds rowids for `count` more rows: the rows ascend by rowid, and the numbers above the last one fit 64 bits.
 pub record HasRowids (count : ℕ) (rows : List Row) : Type 0 where
   pub ascend : IsTable rows
   pub keyed : AllByRecursion (λ r. IsTrue (is_int (rowid r))) rows
   pub room : (i : ℕ) → i < count → fits_i64 (next_rowid rows +ℤ pos i) ≡ true
 
--- a text of this length is one statement, with so many parameters
+-- a text of n bytes is one statement, with k parameters
 abbrev pub IsWhole : ℕ → ℕ → Result Compiled CompileError → Type 0
 IsWhole n k (Ok c) = (n ≤ c.tail) × (k ≡ length c.names)
 IsWhole n k (Err e) = ⊥
 
--- none of these is that one
+-- x is not in the list
 abbrev pub Lacks : {X : Type 0} → List X → X → Type 0
 Lacks xs x = AllByRecursion (λ y. x ≢ y) xs
 
@@ -70,7 +69,7 @@ abbrev pub AreApart : {X : Type 0} → List X → Type 0
 AreApart [] = Unit {0}
 AreApart (x ∷ xs) = Lacks xs x × AreApart xs
 
--- what UNIQUE and the primary key of the revisions ask of the records
+-- what the UNIQUE constraints and the primary key of the revisions require of the records
 pub record AreUnique (d : Tables) : Type 0 where
   pub batches : AreApart (map (λ (b : Batch). b.name) d.batches)
   pub sentences : AreApart (map (λ (s : Sentence). s.sent_id) d.sentences)

@@ -1,4 +1,5 @@
--- The seven tables of a desk, as SQLite sees them once they are made in this order; and the first six, which version 1 had.
+-- The seven tables of a desk, as SQLite sees them once they are made in this order. The first six are those of version
+-- 1.
 use Rattle.sqlite.specs.Collation.TheVariants.{Binary}
 use Rattle.std.specs.Prelude.{true, false, [], ◌∷◌, Some, None, codes, List, ℕ}
 use Rattle.sqlite.specs.declared.types.Value.TheVariants.{Null}
@@ -108,7 +109,7 @@ desk_schema = record {
   views = [];
 }
 
--- that of version 1, in which no sentence could be pulled
+-- the schema of version 1, in which no sentence could be pulled
 abbrev pub version_one_schema : Schema
 version_one_schema = record desk_schema {
   tables = meta ∷ batches ∷ sentences ∷ revisions ∷ moves ∷ totals

@@ -56,7 +56,7 @@ pub record IsBare (s : State) (schema : Schema) : Type 0 where
   pub is : s.now.schema ≡ schema
   pub empty : AllByRecursion (λ (t : Table). s.now.trees t.tree ≡ []) schema.tables
 
--- the version is told, and the other tables have no rows
+-- the version is stored, and the other tables have no rows
 pub record IsVersioned (s : State) : Type 0 where
   pub inside : IsInside s
   pub meta : Shows meta_view (number_shown 2 ∷ []) (s.now.trees 0)
@@ -72,7 +72,7 @@ abbrev pub statement_of : List ℕ → Result Compiled CompileError → List ℕ
 statement_of sql (Ok c) = text_of sql c
 statement_of sql (Err e) = []
 
--- the text makes this table under the schema
+-- the text makes this table in the schema
 pub record Makes (schema : Schema) (text : List ℕ) (table : Table) : Type 0 where
   pub command : command_of (understood schema text) ≡ CreateTable
   pub whole : statement_of text (understood schema text) ≡ text
@@ -80,7 +80,7 @@ pub record Makes (schema : Schema) (text : List ℕ) (table : Table) : Type 0 wh
   pub defined : table_defined_by text ≡ Ok table
   pub uncounted : lacks_sequence (created schema table) ≡ false
 
--- CREATE TABLE takes the text under the schema: it is one statement without parameters, and refused for no reason
+-- CREATE TABLE accepts the text in the schema: it is one statement without parameters, and nothing refuses it
 pub record Takes (schema : Schema) (text : List ℕ) : Type 0 where
   pub utf8 : IsUtf8 text
   pub whole : IsWhole (length text) 0 (understood schema text)

@@ -6,13 +6,13 @@ use Rattle.tb_tables.specs.Commands.{NewSentenceRecord}
 use Rattle.tb_tables.specs.Failing.{IsShort}
 use Rattle.tb_tables.specs.declared.recording.MoveWrite.{MoveWrite}
 
--- its move has the next number, and there are totals of the state that it leaves and of the one that it reaches
+-- its move has the next number, and the states that it leaves and reaches have totals
 pub record Follows (d : Tables) (change : MoveWrite) : Type 0 where
   pub number : change.number ≡ 1 + length d.moves
   pub left : change.row.from ≤ length d.totals
   pub reached : change.row.to ≤ length d.totals
 
--- no text of a sentence is longer than SQLite stores
+-- SQLite can store each text of the sentence
 pub record IsShortItem (item : NewSentenceRecord) : Type 0 where
   pub sent_id : IsShort item.sent_id
   pub body : IsShort item.body

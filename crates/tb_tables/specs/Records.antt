@@ -1,4 +1,4 @@
--- What the tables hold, as lists of typed records, and when the rows of a file stand for them.
+-- What the tables hold, as lists of typed records, and when the rows of a file store them.
 use Rattle.std.specs.Prelude.{ℕ, suc, pos, List, [], ◌∷◌, map, IsPermutation}
 use Rattle.sqlite.specs.declared.types.Value.TheVariants.{Int, Text}
 use Rattle.sqlite.specs.Order.{Row, column}
@@ -70,12 +70,12 @@ total_shown n t = Int (pos n) ∷ Int (pos t.sentences) ∷ Int (pos t.words) �
 abbrev pub number_shown : ℕ → Row
 number_shown n = Int (pos n) ∷ []
 
--- the records, numbered from a number on
+-- the records, numbered from n on
 abbrev pub numbered : {X : Type 0} → (ℕ → X → Row) → ℕ → List X → List Row
 numbered row n [] = []
 numbered row n (x ∷ xs) = row n x ∷ numbered row (suc n) xs
 
--- ---- what it shows of a stored row: the rowid is at place 0, column k of the text at place k + 1, and an INTEGER PRIMARY KEY is the rowid
+-- ---- what SELECT shows of a stored row: place 0 is the rowid, and an INTEGER PRIMARY KEY too; place k + 1 is column k
 
 abbrev pub meta_view : Row → Row
 meta_view r = column r 1 ∷ []
@@ -99,7 +99,7 @@ total_view r = column r 0 ∷ column r 2 ∷ column r 3 ∷ []
 abbrev pub number_view : Row → Row
 number_view r = column r 0 ∷ []
 
--- the rows, in whatever order, show these records and nothing else
+-- the rows, in any order, show these records and nothing else
 abbrev pub Shows : (Row → Row) → List Row → List Row → Type 0
 Shows view shown rows = IsPermutation shown (map view rows)
 

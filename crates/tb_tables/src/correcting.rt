@@ -63,12 +63,14 @@ fn correct<S: Alter>(
     Ok(())
 }
 
-/// Gives the sentence with this number, from 1, a revision under `rev`, which is then its current one: its words, the user
-/// who wrote it and its text. All with the move, in one transaction.
+/// Gives the sentence with this number, from 1, a new current revision with the number `rev`, in one transaction with
+/// the move.
+///
+/// The revision has a user who wrote it, a text, and the number of its words.
 ///
 /// # Errors
 ///
-/// What the database answers. The records are then those of before.
+/// The error of the database. The records are then unchanged.
 pub fn write_correction<S: Alter>(
     conn: &mut Connection<S>,
     number: u32,

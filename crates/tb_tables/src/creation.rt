@@ -33,7 +33,7 @@ fn make<S: Alter>(tx: &mut Transaction<'_, S>, text: &str) -> Result<(), Error>
     Ok(())
 }
 
-/// The tables of the version, the batches, the sentences and their revisions.
+/// Makes the tables of the version, the batches, the sentences and their revisions.
 fn make_first<S: Alter>(tx: &mut Transaction<'_, S>) -> Result<(), Error>
     ensures same_reference { tx.new.conn.ghost_name ≡ tx.old.conn.ghost_name }
     ensures ok { HasCleanDisk (state S.Store tx.new.conn.now)
@@ -61,7 +61,7 @@ fn make_first<S: Alter>(tx: &mut Transaction<'_, S>) -> Result<(), Error>
     Ok(())
 }
 
-/// The tables of the moves, the totals and the sentences that are pulled.
+/// Makes the tables of the moves, the totals and the pulled sentences.
 fn make_last<S: Alter>(tx: &mut Transaction<'_, S>) -> Result<(), Error>
     ensures same_reference { tx.new.conn.ghost_name ≡ tx.old.conn.ghost_name }
     ensures ok { HasCleanDisk (state S.Store tx.new.conn.now)
@@ -85,7 +85,7 @@ fn make_last<S: Alter>(tx: &mut Transaction<'_, S>) -> Result<(), Error>
     Ok(())
 }
 
-/// The version of the tables.
+/// Inserts the version of the tables.
 fn insert_version<S: Alter>(tx: &mut Transaction<'_, S>) -> Result<(), Error>
     ensures same_reference { tx.new.conn.ghost_name ≡ tx.old.conn.ghost_name }
     ensures ok { HasCleanDisk (state S.Store tx.new.conn.now)
@@ -101,7 +101,7 @@ fn insert_version<S: Alter>(tx: &mut Transaction<'_, S>) -> Result<(), Error>
     Ok(())
 }
 
-/// Zeros for each of the six states.
+/// Inserts zeros for each of the six states.
 fn insert_totals<S: Alter>(tx: &mut Transaction<'_, S>) -> Result<(), Error>
     ensures same_reference { tx.new.conn.ghost_name ≡ tx.old.conn.ghost_name }
     ensures ok { HasCleanDisk (state S.Store tx.new.conn.now)
@@ -120,7 +120,7 @@ fn insert_totals<S: Alter>(tx: &mut Transaction<'_, S>) -> Result<(), Error>
     Ok(())
 }
 
-/// All tables with their first rows.
+/// Makes all tables with their first rows.
 fn make_all<S: Alter>(tx: &mut Transaction<'_, S>) -> Result<(), Error>
     ensures same_reference { tx.new.conn.ghost_name ≡ tx.old.conn.ghost_name }
     ensures ok { HasCleanDisk (state S.Store tx.new.conn.now)
@@ -147,8 +147,10 @@ pub fn is_blank<S: Alter>(conn: &Connection<S>) -> bool
     schema.tables.is_empty() && schema.indexes.is_empty() && schema.views.is_empty()
 }
 
-/// Makes the tables of a new desk in a blank database, in one transaction. An error leaves the database blank, and so
-/// does a crash before the commit; one after it leaves the whole tables of the new desk.
+/// Makes the tables of a new desk in a blank database, in one transaction.
+///
+/// After an error, or a crash before the commit, the database is blank. After the commit, a crash leaves all tables of
+/// the new desk.
 pub fn create<S: Alter>(conn: &mut Connection<S>) -> Result<(), Error>
     requires autocommit { conn.old.in_transaction ≡ false }
     ensures ok { HasCleanDisk (state S.Store conn.new) → OnOk result (IsBlank S.Store conn.old
@@ -168,7 +170,7 @@ pub fn create<S: Alter>(conn: &mut Connection<S>) -> Result<(), Error>
     Ok(())
 }
 
-/// What a crash may leave of a desk whose connection is open and in no transaction: its records, whole.
+/// What a crash may leave of a desk whose connection is open and in no transaction: all its records.
 pub fn left_by_a_crash<S: Alter>(_conn: &Connection<S>)
     ensures { (d : _) → Holds S.Store _conn.now d → (db : _) → (state S.Store _conn.now).may_leave db
         → AreStored d db }

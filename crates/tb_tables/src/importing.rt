@@ -62,7 +62,7 @@ fn insert_item<S: Alter>(
     Ok(())
 }
 
-/// Adds all of them in order, from this number on.
+/// Adds all of them in order, numbered from `first` on.
 fn insert_items<S: Alter>(
     tx: &mut Transaction<'_, S>,
     first: u32,
@@ -168,12 +168,13 @@ fn import<S: Alter>(
     Ok(())
 }
 
-/// Adds a batch under this number, open and without a worker, with its sentences numbered from `first` on, each in its
-/// first revision, by this user. All with the move, in one transaction.
+/// Adds a batch with this number, open and without a worker, and its sentences, in one transaction with the move.
+///
+/// The sentences are numbered from `first` on. Each has a first revision by this user.
 ///
 /// # Errors
 ///
-/// What the database answers. The records are then those of before.
+/// The error of the database. The records are then unchanged.
 pub fn write_import<S: Alter>(
     conn: &mut Connection<S>,
     number: u32,

@@ -1,4 +1,4 @@
-//! New rows. Each takes the number that follows the rows that are there.
+//! Inserts rows. Each takes the number after those that are there.
 
 ghost use Rattle.std.specs.Prelude.{◌≡◌, ◌≢◌, ◌⊎◌, ◌+◌, ◌<◌, ◌^◌, length, string_bytes};
 ghost use Rattle.sqlite.specs.State.{Survives};
@@ -76,8 +76,8 @@ pub fn insert_sentence<S: Alter>(
     Ok(())
 }
 
-/// The error of a row whose rowid SQLite chose, one above the last row's: that one is taken only where the rows do not
-/// ascend, so the file is corrupt.
+/// The error of an insert whose rowid SQLite chose, one above the last row's. Where that rowid is taken, the rows do
+/// not ascend, so the file is corrupt.
 fn of_chosen_rowid(error: Error) -> Error
     ensures { ((error ≡ Error.SqliteFailure (ErrorCode.ConstraintViolation Constraint.PrimaryKey))
         × (result ≡ Error.SqliteFailure ErrorCode.DatabaseCorrupt)) ⊎ ((result ≡ error)

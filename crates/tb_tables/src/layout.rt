@@ -65,7 +65,7 @@ fn has_no_stamps(t: &Table) -> bool
     stamps.places.is_empty() && stamps.terms.roots.is_empty() && stamps.formats.is_empty()
 }
 
-/// A table of this name at this root, with no rules but those of its columns and keys.
+/// A table with this name and root, without rules beside those of its columns and keys.
 fn is_bare(t: &Table, name: &[u8], tree: u32) -> bool
     ensures { IsTrue result ↔ (t.now.name ≡ name.now) × (t.now.tree ≡ tree) × (t.now.checks ≡ [])
         × (t.now.references ≡ []) × (t.now.computed ≡ []) × (t.now.is_counted ≡ false)
@@ -204,7 +204,7 @@ fn is_revisions(t: &Table) -> bool
         && are_revision_columns(t)
 }
 
-/// What follows two columns of integers, where these begin.
+/// The columns after the first two, where these are integers with these names.
 fn after_two<'c>(columns: &'c [Column], first: &[u8], second: &[u8]) -> Option<&'c [Column]>
     ensures { MatchOption result ((rest : List AnyColumn)
         → columns.now ≢ column first.now Kind.Integer ∷ column second.now Kind.Integer ∷ rest) (λ rest.
@@ -316,7 +316,7 @@ fn are_tables(tables: &[Table]) -> bool
     }
 }
 
-/// The index that SQLite makes for what is unique in a table.
+/// The index that SQLite makes for a UNIQUE constraint of a table.
 fn is_unique_index(index: &Index, name: &[u8], tree: u32, table: u32, places: &[usize]) -> bool
     ensures { IsTrue result ↔ index.now ≡ unique_index name.now tree table places.now }
 {
@@ -353,8 +353,8 @@ fn are_indexes(indexes: &[Index]) -> bool
     }
 }
 
-/// Whether a database has exactly the seven tables of a desk: these columns of these kinds, these keys, made in this order,
-/// and no other table, index or view.
+/// Whether a database has exactly the seven tables of a desk, made in this order, and no other table, index or view.
+/// They have these columns, kinds and keys.
 pub fn has_desk_schema<S: Alter>(conn: &Connection<S>) -> bool
     ensures { IsTrue result ↔ (state S.Store conn.now).now.schema ≡ desk_schema }
 {
@@ -380,8 +380,8 @@ fn are_version_one_tables(tables: &[Table]) -> bool
     }
 }
 
-/// Whether a database has exactly the six tables of a desk of version 1: those of a desk but that of the pulled sentences,
-/// and no other table, index or view.
+/// Whether a database has exactly the six tables of a desk of version 1, and no other table, index or view. These are
+/// those of a desk without the pulled sentences.
 pub fn has_version_one_schema<S: Alter>(conn: &Connection<S>) -> bool
     ensures { IsTrue result ↔ (state S.Store conn.now).now.schema ≡ version_one_schema }
 {

@@ -1,4 +1,4 @@
-//! Sentences that are pulled from those released, and restored.
+//! Pulled sentences: pulls one from those released, and restores it.
 
 ghost use Rattle.std.specs.Prelude.{◌≡◌, false};
 ghost use Rattle.sqlite.specs.State.{Survives};
@@ -42,7 +42,7 @@ fn pull<S: Alter>(tx: &mut Transaction<'_, S>, number: u32, change: &MoveWrite) 
 ///
 /// # Errors
 ///
-/// What the database answers. The records are then those of before.
+/// The error of the database. The records are then unchanged.
 pub fn write_pull<S: Alter>(
     conn: &mut Connection<S>,
     number: u32,
@@ -70,7 +70,7 @@ pub fn write_pull<S: Alter>(
     Ok(())
 }
 
-/// Takes a sentence from those that are pulled, with the move.
+/// Removes a sentence from those that are pulled, with the move.
 fn restore<S: Alter>(
     tx: &mut Transaction<'_, S>,
     number: u32,
@@ -95,11 +95,11 @@ fn restore<S: Alter>(
     Ok(())
 }
 
-/// Takes the sentence with this number from those that are pulled, with the move, in one transaction.
+/// Removes the sentence with this number from those that are pulled, with the move, in one transaction.
 ///
 /// # Errors
 ///
-/// What the database answers. The records are then those of before.
+/// The error of the database. The records are then unchanged.
 pub fn write_restore<S: Alter>(
     conn: &mut Connection<S>,
     number: u32,

@@ -1,4 +1,4 @@
-//! A change of the totals with its move: what every command writes last.
+//! The last writes of every command: a move, and the totals that it changes.
 
 ghost use Rattle.std.specs.Prelude.{◌≡◌, ◌≤◌, length};
 ghost use Rattle.sqlite.specs.State.{Survives};
@@ -14,19 +14,19 @@ ghost use Rattle.tb_tables.specs.Leaving.{WantsInside};
 use crate::{MoveRow, TotalRow, insert_move, update_total};
 use sqlite::{Alter, Error, Transaction};
 
-/// A move, and what it makes of the totals.
+/// A move, and the totals that it changes.
 #[derive(Debug, Drop)]
 pub struct MoveWrite {
     /// The number of the move, from 1.
     pub number: u32,
     pub row: MoveRow,
-    /// The totals, after the move, of the state that it leaves; of no meaning where it leaves none.
+    /// The totals, after the move, of the state that it leaves; ignored where it leaves none.
     pub left: TotalRow,
     /// The totals, after the move, of the state that it reaches.
     pub reached: TotalRow,
 }
 
-/// Gives the totals of a state their numbers. State 0 is none, and nothing is written for it.
+/// Writes the totals of a state. State 0 is none, and nothing is written for it.
 fn write_total<S: Alter>(
     tx: &mut Transaction<'_, S>,
     in_state: u32,
@@ -51,7 +51,7 @@ fn write_total<S: Alter>(
     Ok(())
 }
 
-/// Writes a move and its totals. A move that leaves a state for the same one leaves it with the totals as reached.
+/// Writes a move and its totals. Where it leaves and reaches the same state, the totals `reached` are the last.
 pub(crate) fn record<S: Alter>(tx: &mut Transaction<'_, S>, change: &MoveWrite) -> Result<(), Error>
     ensures same_reference { tx.new.conn.ghost_name ≡ tx.old.conn.ghost_name }
     ensures ok { Turns S.Store tx.old.conn.now tx.new.conn.now result (λ d into. Follows d change.now

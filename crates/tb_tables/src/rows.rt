@@ -5,7 +5,7 @@
 pub struct BatchRow {
     pub name: String,
     pub state: u32,
-    /// Whoever is at work on the batch, or the empty text.
+    /// Who works on the batch, or the empty text.
     pub worker: String,
 }
 

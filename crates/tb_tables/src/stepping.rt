@@ -48,12 +48,12 @@ fn step<S: Alter>(
     Ok(())
 }
 
-/// Gives the batch with this number, from 1, a state and a worker (the empty text for none), with the move of this step,
-/// in one transaction.
+/// Gives the batch with this number, from 1, a state and a worker (the empty text for none), in one transaction with
+/// the move.
 ///
 /// # Errors
 ///
-/// What the database answers. The records are then those of before.
+/// The error of the database. The records are then unchanged.
 pub fn write_event<S: Alter>(
     conn: &mut Connection<S>,
     number: u32,

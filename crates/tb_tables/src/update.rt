@@ -1,4 +1,4 @@
-//! Rows that change.
+//! Updates and deletes rows.
 
 ghost use Rattle.std.specs.Prelude.{◌≡◌, ◌<◌, ◌-◌, Some, slice_get};
 ghost use Rattle.sqlite.specs.State.{Survives};
@@ -11,7 +11,7 @@ ghost use Rattle.tb_tables.specs.Leaving.{WantsInside};
 
 use sqlite::{Alter, Error, Transaction, params};
 
-/// Gives a batch its state and worker. Its name stays.
+/// Writes the state and the worker of a batch. Its name stays.
 pub fn update_batch<S: Alter>(
     tx: &mut Transaction<'_, S>,
     no: u32,
@@ -41,7 +41,7 @@ pub fn update_batch<S: Alter>(
     Ok(())
 }
 
-/// Gives a sentence its current revision and that revision's words. Its name and its batch stay.
+/// Writes the number and the words of a sentence's current revision. Its name and its batch stay.
 pub fn update_sentence<S: Alter>(
     tx: &mut Transaction<'_, S>,
     no: u32,
@@ -71,7 +71,7 @@ pub fn update_sentence<S: Alter>(
     Ok(())
 }
 
-/// Gives the totals of a state their numbers.
+/// Writes the totals of a state.
 pub fn update_total<S: Alter>(
     tx: &mut Transaction<'_, S>,
     number: u32,
@@ -99,7 +99,7 @@ pub fn update_total<S: Alter>(
     Ok(())
 }
 
-/// Takes a sentence from those that are pulled. One that is not there changes nothing.
+/// Removes a sentence from those that are pulled. Nothing changes where it is not one of them.
 pub fn delete_pulled<S: Alter>(tx: &mut Transaction<'_, S>, sent: u32) -> Result<(), Error>
     ensures same_reference { tx.new.conn.ghost_name ≡ tx.old.conn.ghost_name }
     ensures ok { Turns S.Store tx.old.conn.now tx.new.conn.now result (λ d into. AreStoredIn S.Store tx.old.conn.now d
