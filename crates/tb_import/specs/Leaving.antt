@@ -8,15 +8,15 @@ use Rattle.tb_tables.specs.Layout.{desk_schema}
 use Rattle.tb_tables.specs.Records.{Tables}
 use Rattle.tb_tables.specs.Changes.{Holds}
 
--- Whatever was answered: no transaction is begun, records that stood still stand where the store is open, and a crash
--- leaves what it would have left before.
+-- After any answer: no transaction is begun, the tables hold the same records where the store is open, and a crash
+-- leaves what it could leave before.
 pub record IsLeft {S : Type 0} (g : Ghosts S) (old new : Held S) : Type 0 where
   pub mode : old.in_transaction ≡ false → new.in_transaction ≡ false
   pub kept : HasCleanDisk (state g new) → IsTrue (state g new).is_open
       → (d : Tables) → Holds g old d → Holds g new d
   pub commits_nothing : Survives (state g old) (state g new) (λ _. (d : Tables) → Holds g old d → ⊥)
 
--- The tables are still those of a desk; records that stood still stand, and the connection sees what it saw.
+-- The tables are still those of a desk and hold the same records, and the connection sees the same database.
 pub record Stays {S : Type 0} (g : Ghosts S) (old new : Held S) : Type 0 where
   pub schema : HasCleanDisk (state g new) → (state g old).now.schema ≡ desk_schema
       → (state g new).now.schema ≡ desk_schema

@@ -23,17 +23,17 @@ use Rattle.tb_refine.specs.Counted.{IsCounted, IsPrepared}
 use Rattle.tb_import.specs.declared.counters.ImportCounters.{ImportCounters}
 use Rattle.tb_import.specs.declared.planning.ImportPlan.{ImportPlan}
 
--- what a desk knows is so in this state
+-- what a desk keeps beside the tables is that of this state
 pub record IsKnown (k : ImportCounters) (s : Machine) : Type 0 where
   pub counted : IsCounted k.counts s
   pub batches : k.batches ≡ length s.batches
   pub sentences : k.sentences ≡ length s.sentences
 
--- a sentence that is taken, as it is written
+-- a new sentence, in the form in which it is written
 abbrev pub item_reported : NewSentenceText → NewSentenceRecord
 item_reported t = record { sent_id = t.sent_id; words = t.words; body = t.text }
 
--- the move of an import of so many sentences and words
+-- the move of an import with these numbers of sentences and words
 abbrev pub import_move : (counted number sentences words : ℕ) → (user : List ℕ) → MoveText
 import_move counted number sentences words user = record {
   no = counted;
@@ -54,15 +54,15 @@ pub record IsMadeBatch (s : Machine) (number first : ℕ) (bodies : List BlockTe
   pub first_next : first ≡ 1 + length s.sentences
   pub reported : items ≡ map item_of bodies
 
--- the import of these sentences
+-- the plan is that of the import of these sentences
 pub record IsPlannedImport (s : Machine) (name user : List ℕ) (bs : List BlockText) (p : ImportPlan) : Type 0 where
   pub number : p.number ≡ 1 + length s.batches
   pub first : p.first ≡ 1 + length s.sentences
   pub prepared : IsPrepared s (importing name user bs) p.prepared
   pub reply : imported p.reply ≡ reply_to s (importing name user bs)
 
--- The import is answered so, the desk stands for the state after it, and these are the totals: it has one batch and one move
--- more, and the sentences of the reply.
+-- The import has this reply, the desk represents the next state, and these are its totals. The next state has one batch
+-- and one move more, and the sentences of the reply.
 pub record HasImported {S : Type 0} (g : Ghosts S) (l : Limits) (s : Machine) (name user body : List ℕ) (new : Held S) (reply : Imported) (t : Totals) : Type 0 where
   pub next : Machine
   pub steps : Steps l s (import_file name user body) (replied (imported reply)) next
@@ -72,7 +72,7 @@ pub record HasImported {S : Type 0} (g : Ghosts S) (l : Limits) (s : Machine) (n
   pub sentences : length next.sentences ≡ length s.sentences + reply.sentences
   pub moves : length next.moves ≡ length s.moves + 1
 
--- An import with a reply: a repeat leaves the desk as it was.
+-- An import with a reply. A repeat leaves the desk unchanged.
 abbrev pub Imports : {S : Type 0} → Ghosts S → Limits → Machine → (name user body : List ℕ) → Held S
     → Imported → Option Totals → Type 0
 Imports g l s name user body new reply None = Steps l s (import_file name user body) (replied (imported reply)) s

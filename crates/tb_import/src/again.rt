@@ -1,4 +1,4 @@
-//! How many words the first revisions of sentences have.
+//! Counts the words of first revisions.
 
 ghost use Rattle.std.specs.Prelude.{◌≡◌, ◌≢◌, ◌<◌, ◌^◌, List, sum_by, None, Err, IfOk, OnOk};
 ghost use Rattle.sqlite.specs.State.{HasCleanDisk};
@@ -21,7 +21,7 @@ use tb_core::{Fault, reached_states_are_well, revisions_read_back};
 use tb_reads::BatchSentence;
 use tb_refine::{desk_rows_are_readable, faults, records_determine_the_state};
 
-/// The words of the first revision of the sentence with this number, which stands: its text is read.
+/// The words of the first revision of the sentence with this number, which exists. Reads the text.
 fn read_words<S: Alter>(alloc: Global, conn: &mut Connection<S>, number: u32) -> Result<u64, Fault>
     ensures answered { HasCleanDisk (state S.Store conn.new) → IfOk result (λ n. (s : Machine) (b : BlockText)
         → IsDeskOf S.Store conn.old s → IsFirst s number b → n ≡ words_of b) }
@@ -45,7 +45,8 @@ fn read_words<S: Alter>(alloc: Global, conn: &mut Connection<S>, number: u32) ->
     }
 }
 
-/// The words of the first revision of this sentence, which stands. Only where it has another one is its text read.
+/// The words of the first revision of this sentence, which exists. Reads the text only where a later revision is
+/// current.
 fn first_words<S: Alter>(
     alloc: Global,
     conn: &mut Connection<S>,
@@ -67,7 +68,7 @@ fn first_words<S: Alter>(
     read_words(alloc, conn, one.number)
 }
 
-/// The words of the first revisions of these sentences, which stand.
+/// The words of the first revisions of these sentences, which exist.
 pub(crate) fn words_again<S: Alter>(
     alloc: Global,
     conn: &mut Connection<S>,

@@ -1,4 +1,4 @@
-//! The write of an accepted import: one transaction, after which the tables stand for the state that it leads to.
+//! Writes an accepted import in one transaction, after which the tables store the next state.
 
 ghost use Rattle.std.specs.Prelude.{◌≡◌, ◌≢◌, ◌+◌, ◌^◌, ◌<◌, List, length, Err, None, false};
 ghost use Rattle.std.specs.Prelude.{OnOk};
@@ -23,12 +23,12 @@ use tb_core::{Fault, reached_states_are_well};
 use tb_refine::faults;
 use tb_tables::{MoveWrite, NewSentenceRow, write_import};
 
-/// Writes an import in one transaction: the batch under this number, and its sentences from the number `first` on, both
-/// counted from 1.
+/// Writes an import in one transaction: the batch with this number, and its sentences from the number `first` on. Both
+/// count from 1.
 ///
 /// # Errors
 ///
-/// Only what the store fails at; the tables are then as before where the store is still open.
+/// Only errors of the store. The tables are then unchanged where the store is still open.
 pub(crate) fn commit_import<S: Alter>(
     conn: &mut Connection<S>,
     number: u32,

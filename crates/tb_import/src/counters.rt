@@ -1,7 +1,7 @@
 use tb_refine::Counters;
 
-/// What a desk knows without asking the database, as an import needs it: beside what every command needs, how many batches
-/// and sentences stand.
+/// What an import needs of a desk beside the tables: what every command needs, and how many batches and sentences there
+/// are.
 #[derive(Clone, Copy, Debug)]
 pub struct ImportCounters {
     pub counts: Counters,

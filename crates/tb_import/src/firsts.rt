@@ -1,4 +1,4 @@
-//! Whether a text is that of the first revisions of sentences that stand.
+//! Compares a text with the first revisions of sentences.
 
 ghost use Rattle.std.specs.Prelude.{◌≡◌, ◌≢◌, ◌++◌, ◌∷◌, [], ℕ, List, None, Err, IfOk, OnOk};
 ghost use Rattle.std.specs.Prelude.{MatchOption};
@@ -18,8 +18,8 @@ use tb_core::Fault;
 use tb_reads::BatchSentence;
 use tb_refine::{desk_rows_are_readable, faults, records_determine_the_state};
 
-/// What of a text follows that of the first revision of the sentence with this number, which stands; nothing where the text
-/// does not begin with it.
+/// The rest of a text after the first revision of the sentence with this number, which exists; none where the text does
+/// not begin with it.
 fn after_first<'a, S: Alter>(
     conn: &mut Connection<S>,
     number: u32,
@@ -46,8 +46,9 @@ fn after_first<'a, S: Alter>(
     }
 }
 
-/// Whether a text is that of the first revisions of these sentences, which stand. Of each the text is compared where it lies in
-/// the whole one, and no sentence is read after the first that differs.
+/// Whether a text is that of the first revisions of these sentences, which exist.
+///
+/// Each revision is compared with its place in the text. No sentence is read after the first that differs.
 pub(crate) fn are_firsts<S: Alter>(
     conn: &mut Connection<S>,
     work: &[BatchSentence],

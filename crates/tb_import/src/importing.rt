@@ -40,7 +40,7 @@ use tb_core::{
     judge_import_after, judge_import_before, judge_import_body,
 };
 
-/// The last tests of an import, of its sentences against those that stand.
+/// The last tests of an import: its sentences against those of the desk, and the limits.
 fn admit<S: Alter>(
     conn: &mut Connection<S>,
     known: &ImportCounters,
@@ -75,7 +75,7 @@ fn admit<S: Alter>(
     Ok(())
 }
 
-/// Writes an import that is allowed, of these sentences; with its reply, the totals after it.
+/// Writes an allowed import of these sentences. Returns its reply, and the totals after it.
 fn write<S: Alter>(
     alloc: Global,
     conn: &mut Connection<S>,
@@ -124,7 +124,7 @@ fn write<S: Alter>(
     Ok((plan.reply, plan.prepared.totals))
 }
 
-/// An import that is no repeat, where its name is this to the batches that stand; with its reply, the totals after it.
+/// Runs an import that is no repeat. Returns its reply, and the totals after it.
 fn import_new<S: Alter>(
     alloc: Global,
     conn: &mut Connection<S>,
@@ -168,15 +168,20 @@ fn import_new<S: Alter>(
     write(alloc, conn, known, name, user, taken.as_slice())
 }
 
-/// Imports a file as a new batch with this name; with the reply, the totals after it, none where the import is a repeat and
-/// nothing is written. The body is a file of valid CoNLL-U sentences, and `known` is what is known of the desk. The import that
-/// made the batch, sent again by anyone at any later time, has the same reply: it is known by the first revisions of the batch's
-/// sentences, byte for byte.
+/// Imports a file of valid CoNLL-U sentences as a new batch with this name. Returns the reply and the totals after it.
+///
+/// `known` is what the desk keeps beside the tables. A repeat writes nothing and has no totals. It is the import that
+/// made the batch, sent again at any later time by anyone, and has the same reply. The first revisions of the batch's
+/// sentences show it, byte for byte.
 ///
 /// # Errors
 ///
-/// `BadName`, of the batch's name or the user's; of an import that is no repeat `Read`, `Rule`, `Empty`; `NameTaken`;
-/// `SentIdTaken`, with the place in the file, from 1, of the first such sentence; `Full`. The first that holds.
+/// The first that holds:
+///
+/// - `BadName`, for the batch's name or the user's;
+/// - if it is no repeat, `Read`, `Rule` and `Empty`, then `NameTaken`;
+/// - `SentIdTaken`, with the place in the file, from 1, of the first such sentence;
+/// - `Full`.
 pub fn import<S: Alter>(
     alloc: Global,
     conn: &mut Connection<S>,

@@ -1,4 +1,4 @@
-//! What the name of an import is to the batches that stand.
+//! Whether a batch has the name of an import, and whether the import made it.
 
 ghost use Rattle.std.specs.Prelude.{◌≡◌, ◌≢◌, ◌<◌, ◌≤◌, ◌+◌, ℕ, List, map, length, sum_by};
 ghost use Rattle.std.specs.Prelude.{None, Err, IfOk, OnOk};
@@ -48,8 +48,8 @@ fn read_work<S: Alter>(
     }
 }
 
-/// The reply to the import that made the batch with this number. These are its sentences, and so many words their first
-/// revisions have.
+/// The reply to the import that made the batch with this number. `work` are its sentences, and `words` the number of
+/// words in their first revisions.
 fn reply_again(number: u32, work: &[BatchSentence], words: u64) -> Result<Imported, Fault>
     ensures answered { IfOk result (λ r. (s : Machine) → Reached s
         → work.now ≡ work_of number 1 (map sentence_record s.sentences)
@@ -59,7 +59,7 @@ fn reply_again(number: u32, work: &[BatchSentence], words: u64) -> Result<Import
         → work.now ≡ work_of number 1 (map sentence_record s.sentences) → result ≢ Err Fault.NotADesk }
     ensures cause { IfErr result IsNoDevice }
 {
-    // The law by which sentences stand in the order of their batches.
+    // law: sentences are in the order of their batches
     reached_states_are_well();
     let Some(first) = work.first() else {
         return Err(Fault::NotADesk);
@@ -72,7 +72,7 @@ fn reply_again(number: u32, work: &[BatchSentence], words: u64) -> Result<Import
     })
 }
 
-/// The same, where the words are still to be counted.
+/// The same, and counts the words first.
 fn repeat<S: Alter>(
     alloc: Global,
     conn: &mut Connection<S>,
@@ -92,7 +92,7 @@ fn repeat<S: Alter>(
     reply_again(number, work, words)
 }
 
-/// What a body is to the batch with this number, which has the name of its import.
+/// Whether the import of this body made the batch with this number, which has its name.
 fn compare<S: Alter>(
     alloc: Global,
     conn: &mut Connection<S>,
@@ -119,7 +119,7 @@ fn compare<S: Alter>(
     Ok(NameFound::Same(reply))
 }
 
-/// What the name of an import with this body is to the batches that stand.
+/// Whether a batch has the name of an import, and whether the import with this body made it.
 pub(crate) fn find_name<S: Alter>(
     alloc: Global,
     conn: &mut Connection<S>,

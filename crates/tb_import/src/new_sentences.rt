@@ -1,4 +1,4 @@
-//! Which sentence of a file has a `sent_id` that stands.
+//! Finds the sentence of a file whose `sent_id` is taken.
 
 ghost use Rattle.std.specs.Prelude.{◌≡◌, ◌≢◌, List, map, None, Err, IfOk, OnOk};
 ghost use Rattle.sqlite.specs.State.{HasCleanDisk};
@@ -18,7 +18,7 @@ use sqlite::{Alter, Connection};
 use tb_core::{Fault, NewSentence};
 use tb_refine::is_taken;
 
-/// The first of these sentences, counted from 1, whose `sent_id` stands. No sentence after it is asked for.
+/// The first of these sentences, counted from 1, whose `sent_id` a sentence of the desk has. Looks at none after it.
 pub(crate) fn first_taken<S: Alter>(
     conn: &mut Connection<S>,
     taken: &[NewSentence<'_>],

@@ -21,7 +21,7 @@ use tb_core::{Fault, Imported, Kind, Move, NewSentence, State};
 use tb_refine::{PreparedMove, narrow, next_move, prepare};
 use tb_tables::NewSentenceRow;
 
-/// The numbers, the reply, and what is written beside the sentences.
+/// The numbers, the reply, and what an import writes beside the sentences.
 #[derive(Debug, Drop)]
 pub(crate) struct ImportPlan {
     /// The numbers of the batch and of the first of its sentences.
@@ -31,7 +31,7 @@ pub(crate) struct ImportPlan {
     pub prepared: PreparedMove,
 }
 
-/// A sentence that is taken, as it is written.
+/// A new sentence, in the form in which it is written.
 fn item<'a>(one: &NewSentence<'a>) -> Result<NewSentenceRow<'a>, Fault>
     ensures reported { IfOk result (λ i. i ≡ item_reported one.now) }
     ensures never_refuses { (r : AnyRefusal) → result ≢ Err (Fault.Refused r) }
@@ -46,7 +46,7 @@ fn item<'a>(one: &NewSentence<'a>) -> Result<NewSentenceRow<'a>, Fault>
     })
 }
 
-/// The sentences that are taken, as they are written.
+/// The new sentences, in the form in which they are written.
 pub(crate) fn items_of<'a>(
     alloc: Global,
     taken: &[NewSentence<'a>],
@@ -77,8 +77,7 @@ fn next_batch(batches: u32) -> Result<u32, Fault>
     }
 }
 
-/// The number of the first of so many new sentences. A desk without room for them never comes here: the import is refused as
-/// `Full`.
+/// The number of the first new sentence. A desk without room never comes here: the import is refused as `Full`.
 fn next_sentence(sentences: u32, new: usize) -> Result<u32, Fault>
     ensures next { IfOk result (λ n. (n ≡ 1 + sentences) × (sentences + new ≤ 1000000)) }
     ensures never_refuses { (r : AnyRefusal) → result ≢ Err (Fault.Refused r) }
@@ -91,7 +90,7 @@ fn next_sentence(sentences: u32, new: usize) -> Result<u32, Fault>
     Ok(sentences + 1)
 }
 
-/// The move of an import of so many sentences and words.
+/// The move of an import with these numbers of sentences and words.
 fn move_by(who: String, no: u32, number: u32, sentences: u64, words: u64) -> Move
     ensures { result ≡ import_move no number sentences words (string_bytes who) }
 {
@@ -109,7 +108,7 @@ fn move_by(who: String, no: u32, number: u32, sentences: u64, words: u64) -> Mov
     }
 }
 
-/// The change of the tables with an import of these sentences and words by this user.
+/// What an import of these sentences and words by this user changes in the tables.
 fn change_by(
     alloc: Global,
     known: &ImportCounters,

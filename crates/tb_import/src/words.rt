@@ -1,4 +1,4 @@
-//! How many words sentences have.
+//! Counts the words of sentences.
 
 ghost use Rattle.std.specs.Prelude.{◌≡◌, ◌≢◌, ◌<◌, ◌^◌, List, sum_by, Err, IfOk, IfErr};
 ghost use Rattle.tb_conllu.specs.Text.{BlockText};
