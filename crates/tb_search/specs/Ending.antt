@@ -14,23 +14,23 @@ use Rattle.tb_refine.specs.DeskTables.{IsDeskOf}
 use Rattle.tb_search.specs.declared.stopped.Stopped.{Stopped}
 use Rattle.tb_search.specs.Visited.{IsFault, IsStopFault, IsStopWant}
 
--- on a desk, not for its rows or its texts
+-- on a desk, its rows and its texts are not the cause
 abbrev pub StopsForFault : {S X : Type 0} → Ghosts S → Held S → Held S → Result X Stopped → Type 0
 StopsForFault g old new result = HasCleanDisk (state g new) → IfErr result (λ e. (s : Machine) → IsDeskOf g old s
     → IsFault e)
 
--- and where there is no limit on steps, for none that the database refuses
+-- and without a step limit, the database refuses nothing
 abbrev pub StopsForStore : {S X : Type 0} → Ghosts S → Held S → Held S → Result X Stopped → Type 0
 StopsForStore g old new result = HasCleanDisk (state g new) → (state g old).step_limit ≡ None
     → IfErr result (λ e. (s : Machine) → IsDeskOf g old s → IsStopFault e)
 
--- and where the disk fails at nothing, for want of memory or for its sink alone
+-- and where the disk fails at nothing, the cause is want of memory or the sink
 abbrev pub StopsForWant : {S X : Type 0} → Ghosts S → Held S → Held S → Result X Stopped → Type 0
 StopsForWant g old new result =
     IsFaultless g old new → HasCleanDisk (state g new) → (state g old).step_limit ≡ None
     → IfErr result (λ e. (s : Machine) → IsDeskOf g old s → IsStopWant e)
 
--- the same of a walk over any revisions in order that the tables show
+-- the same for a walk over any revisions, in order, that the tables show
 abbrev pub WalksUntilWant : {S X : Type 0} → Ghosts S → Held S → Held S → Result X Stopped → Type 0
 WalksUntilWant g old new result =
     IsFaultless g old new → HasCleanDisk (state g new) → (state g old).step_limit ≡ None

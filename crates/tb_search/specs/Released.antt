@@ -1,4 +1,4 @@
--- What of a desk is released, what a batch holds, and what a sink has of it.
+-- Which sentences of a desk are released, which a batch has, and what a sink has of them.
 use Rattle.std.specs.Prelude.{ℕ, List, map, take, filter, Bool, nat_eq, Option}
 use Rattle.std.specs.Io.KnownBytes.{Appends}
 use Rattle.tb_conllu.specs.Text.{text_of}
@@ -12,7 +12,7 @@ use Rattle.tb_search.specs.declared.stopped.Stopped.TheVariants.{Output}
 abbrev pub is_released : List Batch → Sentence → Bool
 is_released bs x = is_state (state_in bs x) Released
 
--- the sentences that are released, in the order of their numbers; a pulled one is withdrawn
+-- the released sentences, in the order of their numbers; a pulled sentence is withdrawn
 abbrev pub released : Machine → List Sentence
 released s = filter (is_released s.batches) s.sentences
 
@@ -24,7 +24,7 @@ in_batch s n = filter (λ (x : Sentence). nat_eq x.batch n) s.sentences
 abbrev pub current_text : List Sentence → List ℕ
 current_text xs = text_of (map (λ (x : Sentence). x.current.body) xs)
 
--- What a sink has where a call ends early: a first part, and where it was not the sink that refused, whole sentences.
+-- What a sink has when a call ends early: a first part where the sink refused, else whole sentences.
 abbrev pub IsCutShort : Stopped → Option (List ℕ) → Option (List ℕ) → List Sentence → Type 0
 IsCutShort Output old new xs = AppendsPart old new (current_text xs)
 IsCutShort _ old new xs = (k : ℕ) × Appends old new (current_text (take k xs))

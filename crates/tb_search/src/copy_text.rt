@@ -1,4 +1,4 @@
-//! Texts that are put as they are stored.
+//! Writes texts as they are stored.
 
 ghost use Rattle.std.specs.Prelude.{◌≡◌, Err, OnErr, OnOk};
 ghost use Rattle.std.specs.Io.KnownBytes.{Appends};
@@ -8,7 +8,7 @@ use crate::stopped::Stopped;
 use crate::visitor::BodyVisitor;
 use tb_conllu::Sink;
 
-/// Puts each text into a sink.
+/// Writes each text to a sink.
 #[derive(Drop)]
 pub(crate) struct CopyText;
 

@@ -1,4 +1,4 @@
-//! Hits that are counted.
+//! Counts hits.
 
 ghost use Rattle.std.specs.Prelude.{◌≡◌};
 

@@ -1,4 +1,4 @@
-//! Keys of hits that are counted.
+//! Counts the keys of hits.
 
 ghost use Rattle.std.specs.Prelude.{◌≡◌, ◌≢◌, ◌<◌, ◌≤◌, ◌++◌, ◌∷◌, [], ℕ, All, List};
 ghost use Rattle.std.specs.Prelude.{Err, IfErr, OnOk, map};

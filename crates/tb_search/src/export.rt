@@ -1,4 +1,4 @@
-//! The text of released sentences, and that of a batch.
+//! Exports the text of released sentences, and that of a batch.
 
 ghost use Rattle.std.specs.Prelude.{◌≡◌, ◌≢◌, false, nat_eq, Err};
 ghost use Rattle.std.specs.Io.KnownBytes.{Appends};
@@ -19,7 +19,7 @@ use std::alloc::Global;
 use tb_conllu::Sink;
 use tb_refine::desk_rows_are_readable;
 
-/// The current revisions of the sentences of a batch, by number.
+/// The current revisions of the sentences of a batch, in the order of the sentences' numbers.
 fn batch_picks<S: Alter>(
     alloc: Global,
     conn: &mut Connection<S>,
@@ -41,12 +41,15 @@ fn batch_picks<S: Alter>(
     picks_of(alloc, work.as_slice())
 }
 
-/// Puts the text of all released sentences, by number: the current revision of each, as it is stored. The text of one
-/// sentence is in memory at a time, and two numbers of each. Whatever it answers, the desk stays as it was.
+/// Writes the text of all released sentences, in the order of their numbers: the current revision of each, as it is
+/// stored.
+///
+/// In memory are the text of one sentence at a time, and two numbers for each sentence. The desk is unchanged.
 ///
 /// # Errors
 ///
-/// `Output`, where the sink refuses a piece: it may hold a first part of the text then. After any other it holds whole sentences.
+/// `Output`, where the sink refuses a piece; it may hold a first part of the text. After any other error it holds whole
+/// sentences.
 pub fn export_released<S: Alter, W: Sink>(
     alloc: Global,
     conn: &mut Connection<S>,
@@ -68,7 +71,7 @@ pub fn export_released<S: Alter, W: Sink>(
     visit_released(alloc, conn, &mut CopyText, out)
 }
 
-/// Puts the text of all sentences of the batch with this number, pulled ones too, as `export_released` does.
+/// Writes the text of all sentences of the batch with this number, pulled ones too, in the same way.
 ///
 /// # Errors
 ///

@@ -1,4 +1,4 @@
-//! Which revisions a walk asks for.
+//! The revisions that a walk visits.
 
 ghost use Rattle.std.specs.Prelude.{◌≡◌, ◌≢◌, Err, ◌+◌, ◌<◌, ◌^◌, ◌++◌, ◌∷◌, []};
 ghost use Rattle.std.specs.Prelude.{cond, drop, length, map, List, IsTrue, IfOk, IfErr};
@@ -20,7 +20,7 @@ use tb_reads::{BatchSentence, CurrentRev};
 use tb_refine::number_of_state;
 use tb_tables::BatchRow;
 
-/// A revision that is asked for.
+/// A revision to visit.
 #[derive(Clone, Copy, Debug)]
 pub(crate) struct Pick {
     /// The number of the sentence, from 1.
@@ -51,7 +51,7 @@ fn is_released(batches: &[BatchRow], batch: u32, is_pulled: bool) -> bool
     is_batch_released(batches, batch)
 }
 
-/// Whether the number stands at this place.
+/// Whether the number at this place is this one.
 fn stands_at(numbers: &[u32], at: usize, number: u32) -> bool
     ensures value { result ≡ begins (drop at numbers.now) number }
     ensures within { IsTrue result → at < length numbers.now }
@@ -59,7 +59,7 @@ fn stands_at(numbers: &[u32], at: usize, number: u32) -> bool
     at < numbers.len() && numbers[at] == number
 }
 
-/// The next place where a step is taken, else this one.
+/// The next place if a step is taken, else this place.
 fn stepped(at: usize, is_taken: bool) -> usize
     requires { IsTrue is_taken → at < 2 ^ 63 }
     ensures { result ≡ cond is_taken (at + 1) at }

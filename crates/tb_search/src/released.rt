@@ -1,4 +1,4 @@
-//! The walk over released text: the current revisions of the sentences that are released, by number.
+//! The walk over released text: the current revisions of released sentences, in the order of the sentences' numbers.
 
 ghost use Rattle.std.specs.Prelude.{◌≡◌, ◌≢◌, ◌<◌, ◌^◌, length, false, map, Err};
 ghost use Rattle.tb_refine.specs.DeskTables.{sentence_record};
@@ -19,7 +19,7 @@ use std::alloc::Global;
 use tb_reads::{CurrentRev, ReadError};
 use tb_refine::desk_rows_are_readable;
 
-/// The current revisions of released sentences, where batch and current revision of each sentence are at hand.
+/// The current revisions of released sentences, where `heads` has the batch and the current revision of each sentence.
 fn released_among<S: Alter>(
     alloc: Global,
     conn: &mut Connection<S>,
@@ -44,7 +44,7 @@ fn released_among<S: Alter>(
     released_of(alloc, batches.as_slice(), pulled.as_slice(), heads)
 }
 
-/// The current revisions of released sentences, by number.
+/// The current revisions of released sentences, in the order of the sentences' numbers.
 fn released_picks<S: Alter>(alloc: Global, conn: &mut Connection<S>) -> Result<Vec<Pick>, Stopped>
     ensures picked { Tells S.Store conn.old conn.new result (λ s v.
         v.items ≡ picks_from (is_in_release s.batches) 1 s.sentences) }
@@ -65,8 +65,9 @@ fn released_picks<S: Alter>(alloc: Global, conn: &mut Connection<S>) -> Result<V
     released_among(alloc, conn, heads.as_slice())
 }
 
-/// Visits the texts of all released sentences, by number: the current revision of each. One is in memory at a time, and two
-/// numbers of each sentence. Whatever it answers, the desk stays as it was.
+/// Visits the texts of all released sentences, in the order of their numbers: the current revision of each.
+///
+/// In memory are one text at a time, and two numbers for each sentence. The desk is unchanged.
 pub(crate) fn visit_released<S: Alter, O, V: BodyVisitor<O>>(
     alloc: Global,
     conn: &mut Connection<S>,

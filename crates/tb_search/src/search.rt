@@ -1,4 +1,4 @@
-//! What is found in released text: its keyword lines, the table of its keys, its number.
+//! Searches released text: its keyword lines, the table of its keys, or the number of hits.
 
 ghost use Rattle.std.specs.Prelude.{◌≡◌, ◌≢◌, ℕ, List, length, false, Err};
 ghost use Rattle.std.specs.Io.KnownBytes.{Appends};
@@ -26,12 +26,13 @@ use tb_match::Strategy;
 use tb_query::{Attr, Query};
 use tb_report::Freq;
 
-/// How many hits a query has in released text: in the current revisions of the sentences that are released. One sentence is in
-/// memory at a time. Whatever it answers, the desk stays as it was.
+/// How many hits a query has in released text: in the current revisions of released sentences.
+///
+/// One sentence is in memory at a time. The desk is unchanged.
 ///
 /// # Errors
 ///
-/// The tables could not be read, or memory was wanting.
+/// The tables cannot be read, or memory was refused.
 pub fn number_released<S: Alter>(
     alloc: Global,
     conn: &mut Connection<S>,
@@ -57,8 +58,9 @@ pub fn number_released<S: Alter>(
     Ok(number)
 }
 
-/// The frequency table of the hits of a query in released text: of each hit its values in one column. One sentence is in
-/// memory at a time, beside the table. Whatever it answers, the desk stays as it was.
+/// The frequency table of the hits of a query in released text, by their values in one column.
+///
+/// One sentence is in memory at a time, beside the table. The desk is unchanged.
 ///
 /// # Errors
 ///
@@ -89,15 +91,16 @@ pub fn count_released<S: Alter>(
     Ok(table)
 }
 
-/// Puts a keyword line for each hit of a query in released text, with `context` words on each side: by the number of the
-/// sentence, and in a sentence as the strategy lists them; then the line `hits N`, which no keyword line is, so an output
-/// without it is an answer that broke off. Answers how many hits there are. One sentence is in memory at a time. Whatever it
-/// answers, the desk stays as it was.
+/// Writes a keyword line for each hit of a query in released text, then the line `hits N`. Returns the number of hits.
+///
+/// Each line has `context` words on each side. Lines are in the order of the sentences' numbers, and within a sentence
+/// in the order of the strategy. No keyword line looks like `hits N`, so output without this line is incomplete. One
+/// sentence is in memory at a time. The desk is unchanged.
 ///
 /// # Errors
 ///
-/// `Output`, where the sink refuses a piece: it may hold a first part of the answer then. After any other it holds whole
-/// keyword lines, those of the first hits.
+/// `Output`, where the sink refuses a piece; it may hold a first part of the answer. After any other error it holds the
+/// whole keyword lines of the first hits.
 pub fn search_released<S: Alter, W: Sink>(
     alloc: Global,
     conn: &mut Connection<S>,
@@ -133,7 +136,7 @@ pub fn search_released<S: Alter, W: Sink>(
     Ok(listing.found)
 }
 
-/// What is found in sentences is one list: an answer is fixed by the query, the strategy and the text.
+/// A law: the query, the strategy and the sentences fix the list of hits.
 pub fn one_list_is_found()
     ensures { (s : AnyStrategy) (q : Asked) (bs : List BlockText) (found others : List Occurrence)
         → AreFound s q bs found → AreFound s q bs others → found ≡ others }

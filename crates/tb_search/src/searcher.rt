@@ -1,4 +1,4 @@
-//! Sentences, read back from their texts, and what is found in them.
+//! Reads sentences back from their texts, and finds hits in them.
 
 ghost use Rattle.std.specs.Prelude.{◌≡◌, ◌≢◌, ◌<◌, ◌≤◌, ◌+◌, false, All, Err, IfErr, IfOk};
 ghost use Rattle.std.specs.Prelude.{[], ◌∷◌};
@@ -17,7 +17,7 @@ use tb_prefilter::PrefilteredSearcher;
 use tb_query::Query;
 use tb_reads::ReadError;
 
-/// The sentence of which this is the text. It borrows from the text, which is cut, and tested for no more than UTF-8.
+/// The sentence with this text. It borrows from the text, which is only split into fields and tested for UTF-8.
 pub(crate) fn sentence_in<'a>(alloc: Global, body: &'a [u8]) -> Result<BlockRef<'a>, Stopped>
     ensures read { IfOk result (λ b. (x : BlockText) → IsFile body.now (x ∷ []) → b ≡ x) }
     ensures never_refuses { result ≢ Err Stopped.Output }
@@ -31,7 +31,7 @@ pub(crate) fn sentence_in<'a>(alloc: Global, body: &'a [u8]) -> Result<BlockRef<
     Ok(block)
 }
 
-/// A count and some more. No memory holds what a `u64` does not count.
+/// The sum of a count and a length. A sum past 64 bits is reported as want of memory: no memory holds so many hits.
 pub(crate) fn raised(count: u64, more: usize) -> Result<u64, Stopped>
     ensures sum { IfOk result (λ n. n ≡ count + more) }
     ensures never_refuses { result ≢ Err Stopped.Output }
@@ -45,7 +45,7 @@ pub(crate) fn raised(count: u64, more: usize) -> Result<u64, Stopped>
     }
 }
 
-/// A query that is looked for in one sentence after the other.
+/// A query that is searched for in one sentence after another.
 #[derive(Drop)]
 pub(crate) struct SentenceSearcher<'q> {
     pub alloc: Global,
@@ -54,7 +54,7 @@ pub(crate) struct SentenceSearcher<'q> {
 }
 
 impl<'q> SentenceSearcher<'q> {
-    /// Makes a query ready.
+    /// Prepares a query.
     pub(crate) fn new(
         alloc: Global,
         query: &'q Query,
@@ -74,7 +74,7 @@ impl<'q> SentenceSearcher<'q> {
         })
     }
 
-    /// Whether the text may be that of a sentence with a hit. Where it is not, it is not cut into rows.
+    /// Whether the text may be that of a sentence with a hit. If not, it need not be split into rows.
     pub(crate) fn may_hit(&self, body: &[u8]) -> bool
         ensures { result ≡ false → (b : BlockText) → IsFile body.now (b ∷ [])
             → AreHitsIn self.now.strategy self.now.searcher b [] }
@@ -82,7 +82,7 @@ impl<'q> SentenceSearcher<'q> {
         self.searcher.may_hit(body)
     }
 
-    /// Its hits in a sentence.
+    /// The hits of the query in a sentence.
     pub(crate) fn hits(&mut self, block: &BlockRef<'_>) -> Result<Vec<(u32, u32)>, Stopped>
         ensures hits { IfOk result (λ v. AreHitsIn self.old.strategy self.old.searcher block.now v.items) }
         ensures lie { IfOk result (λ v. All (λ h. (h.0 < h.1) × (h.1 ≤ words_of block.now)) v.items) }

@@ -7,9 +7,9 @@ use tb_reads::ReadError;
 /// Why a walk ends early.
 #[derive(Debug, Drop)]
 pub enum Stopped {
-    /// The tables could not be read, or memory was wanting.
+    /// The tables cannot be read, or memory was refused.
     Read(ReadError),
-    /// What the text was put into has refused a piece of it.
+    /// The sink refused a piece of the text.
     Output,
 }
 

@@ -1,4 +1,4 @@
-//! The walk over the bodies of all revisions, which visits those that are asked for.
+//! The walk over the bodies of all revisions, which visits some of them.
 
 ghost use Rattle.std.specs.Prelude.{◌≡◌, ◌≤◌, false, List, map, All, IfOk, IfErr, OnOk, MatchBool, true};
 ghost use Rattle.std.specs.Prelude.{None, Err};
@@ -25,7 +25,7 @@ fn is_asked(pick: &Pick, sent: u32, rev: u32) -> bool
     pick.sent == sent && pick.rev == rev
 }
 
-/// Visits a body where it is that of the revision that is asked for. Answers how many it has visited.
+/// Visits a body if its revision is the one to visit. Returns how many bodies it visited, 0 or 1.
 fn visit_asked<O, V: BodyVisitor<O>>(
     pick: &Pick,
     sent: u32,
@@ -51,7 +51,7 @@ fn visit_asked<O, V: BodyVisitor<O>>(
     Ok(1)
 }
 
-/// Visits the bodies of the revisions that are asked for, by sentence and number. One body is at hand at a time.
+/// Visits the bodies of these revisions, in the order of sentences and revisions. One body is in memory at a time.
 pub(crate) fn visit_picked<S: Alter, O, V: BodyVisitor<O>>(
     conn: &mut Connection<S>,
     picks: &[Pick],

@@ -19,7 +19,7 @@ use tb_reads::ReadError;
 use tb_report::kwic_named;
 use tb_rules::sent_id;
 
-/// A line in memory, which takes bytes while memory is left.
+/// A line in memory.
 #[derive(Drop)]
 struct Line {
     bytes: Vec<u8>,
@@ -39,7 +39,7 @@ impl Sink for Line {
     }
 }
 
-/// Puts the bytes, or answers that they are refused.
+/// Writes the bytes, or reports that the sink refused them.
 fn put_piece<W: Sink>(bytes: &[u8], out: &mut W) -> Result<(), Stopped>
     ensures put { OnOk result (Appends (W.held out.old) (W.held out.new) bytes.now) }
     ensures part { IfErr result (λ e. (e ≡ Stopped.Output)
@@ -54,7 +54,7 @@ fn put_piece<W: Sink>(bytes: &[u8], out: &mut W) -> Result<(), Stopped>
     }
 }
 
-/// Puts the line of one hit, in one piece: it is made in memory first, in place of the line before.
+/// Writes the line of one hit in one piece. The line is made in memory first, in place of the line before.
 fn put_hit<W: Sink>(
     line: &mut Line,
     name: &str,
@@ -79,7 +79,7 @@ fn put_hit<W: Sink>(
     put_piece(line.bytes.as_slice(), out)
 }
 
-/// Puts the lines of the hits of a sentence.
+/// Writes the lines of the hits of a sentence.
 fn put_hits<W: Sink>(
     alloc: Global,
     name: &str,
@@ -108,7 +108,7 @@ fn put_hits<W: Sink>(
     Ok(())
 }
 
-/// Puts the keyword lines of the hits of a query, and counts them.
+/// Writes the keyword lines of the hits of a query, and counts them.
 #[derive(Drop)]
 pub(crate) struct WriteKwic<'q> {
     pub seeker: SentenceSearcher<'q>,
@@ -146,7 +146,7 @@ impl<'q, W: Sink> BodyVisitor<W> for WriteKwic<'q> {
     }
 }
 
-/// Puts the last line of an answer: how many hits there are.
+/// Writes the last line of an answer: how many hits there are.
 pub(crate) fn put_total<W: Sink>(found: u64, out: &mut W) -> Result<(), Stopped>
     ensures put { OnOk result (Appends (W.held out.old) (W.held out.new) (total_line found)) }
     ensures part { IfErr result (λ e. (e ≡ Stopped.Output)
