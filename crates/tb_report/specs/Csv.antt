@@ -1,4 +1,5 @@
--- Tables as CSV (RFC 4180): a head line and a line for each row, each ended by LF; a field is quoted only where it must be.
+-- Tables as CSV (RFC 4180): a head line and a line for each row, each with LF at its end. A field is quoted only where
+-- it must be.
 use Rattle.std.specs.Prelude.{◌≡◌, ℕ, false, List, [], ◌∷◌, map, codes, Option, Some, None}
 use Rattle.std.specs.Fmt.{decimal}
 use Rattle.std.specs.Io.KnownBytes.{Appends}
@@ -14,7 +15,8 @@ use Rattle.tb_core.specs.Totals.{at_state}
 use Rattle.tb_core.specs.Words.{state_word, kind_word}
 use Rattle.tb_report.specs.Tables.{Row}
 
--- rows of fields, each as the crate csv writes a row by its defaults: commas between fields, LF at the end, quotes where needed
+-- rows of fields, as the library csv writes a row by its defaults: commas between fields, LF at the end, quotes where
+-- needed
 abbrev pub csv_of : List (List (List ℕ)) → List ℕ
 csv_of rows = flat_map (row_text default_writer) rows
 
@@ -53,7 +55,7 @@ moves_head =
     codes "no" ∷ codes "kind" ∷ codes "batch" ∷ codes "sentence" ∷ codes "from" ∷ codes "to"
     ∷ codes "sentences" ∷ codes "words_out" ∷ codes "words_in" ∷ codes "who" ∷ []
 
--- a state that may be missing
+-- the word for a state, or for none
 abbrev pub from_word : Option State → List ℕ
 from_word None = codes "none"
 from_word (Some state) = state_word state
@@ -67,7 +69,7 @@ move_fields m =
 abbrev pub moves_csv : List MoveText → List ℕ
 moves_csv moves = csv_of (moves_head ∷ map move_fields moves)
 
--- ---- the writer of the crate csv
+-- ---- the writer of the library csv
 
 -- no row is begun
 abbrev pub IsBetweenRows : {W : Type 0} → Writer W → Type 0
@@ -81,6 +83,6 @@ PutsRows contents old new rows = IsBetweenRows old → IsBetweenRows new
 
 -- ---- the sink of a whole table
 
--- the sink refused a piece, and says why
+-- the sink refused a piece, for a reason with this property
 abbrev pub IsRefused : {S Refusal : Type 0} → (S → Refusal → Type 0) → S → Type 0
 IsRefused {S} {Refusal} is_refusal sink = (refusal : Refusal) × is_refusal sink refusal

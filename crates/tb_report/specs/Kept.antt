@@ -1,4 +1,4 @@
--- Rows of a table as the code keeps them.
+-- The rows of a table, as the code keeps them.
 use Rattle.std.specs.Prelude.{◌≡◌, ℕ, ◌+◌, ◌*◌, ◌<◌, ◌≤◌, List, [], ◌∷◌, ◌++◌}
 use Rattle.std.specs.Prelude.{String, if◌then◌else◌, length, map, string_bytes}
 use denote.Ref.{Bor}
@@ -12,7 +12,7 @@ use Rattle.std.specs.Str.{bytes_eq}
 use Rattle.std.specs.declared.cmp.Reverse.{Reverse}
 use Rattle.tb_report.specs.Tables.{Row, IsTable, total_of, one_if_same}
 
--- a key that is a `String`, with its count
+-- a key that is a `String`, and its count
 abbrev pub text_row : {Y : Type 0} → String Y × ℕ → Row
 text_row e = (string_bytes e.0, e.1)
 
@@ -20,22 +20,22 @@ text_row e = (string_bytes e.0, e.1)
 abbrev pub rows_of : {Y : Type 0} → List (String Y × ℕ) → List Row
 rows_of entries = map text_row entries
 
--- a row that stands as a count, in reverse, before its key
+-- a row as a pair of the count, in reverse order, and the key
 abbrev pub ranked_row : Reverse ℕ × Bor (List ℕ) → Row
 ranked_row r = (r.1.now, r.0.0)
 
 -- ---- short keys and long ones
 
--- n, and then the bytes as digits to the base 256
+-- n, followed by the bytes as digits to the base 256
 abbrev pub number_after : ℕ → List ℕ → ℕ
 number_after n [] = n
 number_after n (byte ∷ bytes) = number_after (n * 256 + byte) bytes
 
--- the number of a key, whose leading 1 tells how many bytes follow
+-- the number of a key; its leading 1 shows how many bytes follow
 abbrev pub number_of : List ℕ → ℕ
 number_of key = number_after 1 key
 
--- an entry of the map of short keys: the key and its count, by the key's number
+-- an entry of the map of short keys: the number of a key, and the key with its count
 pub record IsNumbered {Y : Type 0} (e : ℕ × (String Y × ℕ)) : Type 0 where
   pub number : e.0 ≡ number_of (string_bytes e.1.0)
   pub short : length (string_bytes e.1.0) ≤ 15
@@ -55,12 +55,12 @@ pub record AreLong {Y : Type 0} (entries : List (String Y × ℕ)) : Type 0 wher
 abbrev pub short_rows : {Y : Type 0} → List (ℕ × (String Y × ℕ)) → List Row
 short_rows entries = rows_of (values_of entries)
 
--- the rows, put into the order of their keys
+-- the rows, in the order of their keys
 abbrev pub in_order : List Row → List Row
 in_order [] = []
 in_order (row ∷ rows) = insert_entry (slice_cmp nat_cmp) (in_order rows) row.0 row.1
 
--- the table that both maps keep
+-- the table that both maps hold together
 abbrev pub table_of : {Y Z : Type 0} → List (ℕ × (String Y × ℕ)) → List (String Z × ℕ) → List Row
 table_of short long = in_order (short_rows short ++ rows_of long)
 

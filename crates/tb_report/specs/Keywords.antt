@@ -1,6 +1,6 @@
--- What a report tells of one hit: its line, a keyword in context, and its key.
+-- What a report has of one hit: its line, a keyword in context, and its key.
 -- The CQP Query Language Manual, on concordance lines: a match with the words before it and after it.
--- A hit (i, j) covers the words i + 1 to j of a sentence; its words are the word rows.
+-- A hit (i, j) covers the words i + 1 to j of a sentence, where words are the word rows.
 use Rattle.std.specs.Prelude.{ℕ, ◌+◌, ◌-◌, List, [], ◌∷◌, ◌++◌, map, take, drop}
 use Rattle.std.specs.List.{join_with_byte}
 use Rattle.std.specs.Fmt.{decimal}
@@ -18,15 +18,15 @@ values column b = map (value_of column) (word_rows b)
 abbrev pub joined : List (List ℕ) → List ℕ
 joined texts = join_with_byte 32 texts
 
--- of the texts of words, those of a hit
+-- the texts of a hit's words
 abbrev pub of_hit : ℕ → ℕ → List (List ℕ) → List (List ℕ)
 of_hit i j texts = take (j - i) (drop i texts)
 
--- the last n of the first i, or all of them where they are fewer
+-- the last n of the first i texts, or all of them where there are fewer
 abbrev pub before : ℕ → ℕ → List (List ℕ) → List (List ℕ)
 before n i texts = drop (i - n) (take i texts)
 
--- the first n of those after the first j, or all of them where they are fewer
+-- the first n texts after the first j, or all of them where there are fewer
 abbrev pub after : ℕ → ℕ → List (List ℕ) → List (List ℕ)
 after n j texts = take n (drop j texts)
 
@@ -34,7 +34,7 @@ after n j texts = take n (drop j texts)
 abbrev pub key_of : Attr → BlockText → ℕ × ℕ → List ℕ
 key_of column b hit = joined (of_hit hit.0 hit.1 (values column b))
 
--- six columns, of a name, of the first word's number and the last one's, and of the forms
+-- the six columns of a line: a name, the numbers of the first and the last word, and three of forms
 abbrev pub columns : List ℕ → ℕ × ℕ → ℕ → List (List ℕ) → List (List ℕ)
 columns name hit n forms =
     name ∷ decimal (hit.0 + 1) ∷ decimal hit.1 ∷ joined (before n hit.0 forms)

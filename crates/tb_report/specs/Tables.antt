@@ -1,4 +1,4 @@
--- Frequency tables: keys, as their bytes, each with how often it occurs.
+-- Frequency tables: keys as bytes, each with the number of its occurrences.
 use Rattle.std.specs.Prelude.{◌≡◌, ℕ, ◌+◌, ◌<◌, List, if◌then◌else◌, count_by, sum, unwrap_or}
 use Rattle.std.specs.List.{All}
 use Rattle.std.specs.List.Sorted.{IsStrictlySortedBy, IsPermutation}
@@ -12,7 +12,7 @@ use Rattle.std.specs.Str.{bytes_eq}
 abbrev pub Row : Type 0
 Row = List ℕ × ℕ
 
--- the count beside the key, 0 where the key isn't in the table
+-- the count of a key, 0 where it is not in the table
 abbrev pub count_in : List Row → List ℕ → ℕ
 count_in table key = unwrap_or (lookup (bytes_eq key) table) 0
 
@@ -20,7 +20,7 @@ count_in table key = unwrap_or (lookup (bytes_eq key) table) 0
 abbrev pub total_of : List Row → ℕ
 total_of table = sum (values_of table)
 
--- how often the key stands in the list
+-- how often the list has the key
 abbrev pub times : List ℕ → List (List ℕ) → ℕ
 times key keys = count_by (bytes_eq key) keys
 
@@ -28,12 +28,12 @@ times key keys = count_by (bytes_eq key) keys
 abbrev pub one_if_same : List ℕ → List ℕ → ℕ
 one_if_same key other = if bytes_eq key other then 1 else 0
 
--- a table: its keys ascend by their bytes, so each stands there once, and no count is 0
+-- a table: its keys ascend by their bytes, so each occurs once, and no count is 0
 pub record IsTable (table : List Row) : Type 0 where
   pub ascending : IsStrictlySortedBy (slice_cmp nat_cmp) (keys_of table)
   pub counted : All (λ n. 0 < n) (values_of table)
 
--- the table of a list of keys: beside each key stands how often it occurs
+-- the table of a list of keys: the count of a key is how often the list has it
 pub record IsTableOf (keys : List (List ℕ)) (table : List Row) : Type 0 where
   pub is_table : IsTable table
   pub counts : (key : List ℕ) → count_in table key ≡ times key keys
@@ -44,7 +44,7 @@ pub record CountsOneMore (old new : List Row) (key : List ℕ) : Type 0 where
   pub counts : (other : List ℕ) → count_in new other ≡ count_in old other + one_if_same other key
   pub total : total_of new ≡ total_of old + 1
 
--- by count, the greatest first; rows of one count by the bytes of the key
+-- by count, the greatest first; rows with the same count by the bytes of the key
 abbrev pub rank : Row → Row → Ordering
 rank row other = ordering_then (nat_cmp other.1 row.1) (slice_cmp nat_cmp row.0 other.0)
 

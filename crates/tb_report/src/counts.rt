@@ -8,13 +8,13 @@ ghost use Rattle.tb_report.specs.Tables.{total_of};
 use std::alloc::{AllocError, Global};
 use std::collections::BTreeMap;
 
-/// The keys of at most 15 bytes with their counts, each key by its number: numbers are compared faster than texts.
+/// The keys of at most 15 bytes with their counts, each by the number of its key: numbers compare faster than texts.
 pub(crate) type ShortCounts = BTreeMap<u128, (String, u64)>;
 
-/// The keys of more bytes with their counts.
+/// The longer keys with their counts.
 pub(crate) type LongCounts = BTreeMap<String, u64>;
 
-/// Whether the key has a number.
+/// Whether the key is short enough to have a number.
 pub(crate) fn is_short(key: &str) -> bool
     ensures yes { IsTrue result → length key.now ≤ 15 }
     ensures no { IsFalse result → 15 < length key.now }
@@ -34,7 +34,7 @@ fn number_of_key(key: &str) -> u128
     number
 }
 
-/// Counts a short key once more.
+/// Adds one to the count of a short key.
 pub(crate) fn count_short(
     alloc: Global,
     counts: &mut ShortCounts,
@@ -58,7 +58,7 @@ pub(crate) fn count_short(
     Ok(())
 }
 
-/// Counts a long key once more.
+/// Adds one to the count of a long key.
 pub(crate) fn count_long(
     alloc: Global,
     counts: &mut LongCounts,

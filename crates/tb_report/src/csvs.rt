@@ -21,7 +21,7 @@ use std::io::Write;
 use tb_conllu::Sink;
 use tb_core::{Move, State, Totals};
 
-/// A table that grows in memory, where only want of memory stops it.
+/// A table that grows in memory. Only want of memory stops it.
 type Rows = Writer<Vec<u8>>;
 
 fn put_row<W: Write + Drop>(rows: &mut Writer<W>, fields: &[&[u8]]) -> Result<(), ReportFault>
@@ -51,7 +51,7 @@ fn put_ranks<W: Write + Drop>(rows: &mut Writer<W>, ranks: &[Rank<'_>]) -> Resul
     Ok(())
 }
 
-/// The place of a state among the six.
+/// The place of a state among the six, from 0.
 fn place(state: State) -> usize
     ensures { result ≡ state_place state }
 {
@@ -104,7 +104,7 @@ fn word_of_kind(step: &Move) -> &str
     step.kind.word()
 }
 
-/// The word for the state that sentences left.
+/// The word for the state that the sentences left.
 fn word_from(step: &Move) -> &str
     ensures { result.now ≡ from_word step.now.from }
 {
@@ -114,7 +114,7 @@ fn word_from(step: &Move) -> &str
     }
 }
 
-/// The word for the state that sentences came to.
+/// The word for the state that the sentences came to.
 fn word_to(step: &Move) -> &str
     ensures { result.now ≡ state_word step.now.to }
 {
@@ -233,7 +233,7 @@ fn moves_text(alloc: Global, moves: &[Move]) -> Result<Vec<u8>, ReportFault>
     finish(rows)
 }
 
-/// Appends a text that was made.
+/// Appends a text that is complete.
 fn put_text<S: Sink>(text: &[u8], out: &mut S) -> Result<(), ReportFault>
     ensures written { OnOk result (Appends (S.held out.old) (S.held out.new) text.now) }
     ensures part { OnErr result (AppendsPart (S.held out.old) (S.held out.new) text.now) }
@@ -246,13 +246,15 @@ fn put_text<S: Sink>(text: &[u8], out: &mut S) -> Result<(), ReportFault>
     }
 }
 
-/// Appends a frequency table: the head line `key,count` and a line for each key, the greatest count first, keys of one
-/// count by their bytes. Each line ends with LF, and a field is quoted only where it must be.
+/// Appends a frequency table as CSV (RFC 4180): the head line `key,count`, and a line for each key.
+///
+/// The greatest count comes first, and keys with the same count are in the order of their bytes. Each line ends with
+/// LF. A field is quoted only where it must be.
 ///
 /// # Errors
 ///
-/// `Memory`: no memory is left, and nothing was put. `Write`: the sink refused the text, and may have taken some of it,
-/// from the front. Over a sink that never refuses, `Write` never comes.
+/// - `Memory`: memory was refused, and nothing was written.
+/// - `Write`: the sink refused the text, and may hold a first part of it. It never comes where the sink never refuses.
 pub fn csv_freq<S: Sink>(freq: &Freq, out: &mut S) -> Result<(), ReportFault>
     ensures written { OnOk result ((rows : List Row) × IsRankingOf freq.now rows
         × Appends (S.held out.old) (S.held out.new) (freq_csv rows)) }
@@ -271,8 +273,8 @@ pub fn csv_freq<S: Sink>(freq: &Freq, out: &mut S) -> Result<(), ReportFault>
 ///
 /// # Errors
 ///
-/// `Memory`: no memory is left, and nothing was put. `Write`: the sink refused the text, and may have taken some of it,
-/// from the front. Over a sink that never refuses, `Write` never comes.
+/// - `Memory`: memory was refused, and nothing was written.
+/// - `Write`: the sink refused the text, and may hold a first part of it. It never comes where the sink never refuses.
 pub fn csv_totals<S: Sink>(alloc: Global, totals: &Totals, out: &mut S) -> Result<(), ReportFault>
     ensures written { OnOk result (Appends (S.held out.old) (S.held out.new) (totals_csv totals.now)) }
     ensures memory { IfErr result (λ e. e ≡ ReportFault.Memory → out.new ≡ out.old) }
@@ -285,13 +287,14 @@ pub fn csv_totals<S: Sink>(alloc: Global, totals: &Totals, out: &mut S) -> Resul
     put_text(&text, out)
 }
 
-/// Appends moves: the head line `no,kind,batch,sentence,from,to,sentences,words_out,words_in,who` and a line for each.
-/// Where a move is of a whole batch, its sentence is 0; where sentences left no state, `from` is `none`.
+/// Appends moves: the head line `no,kind,batch,sentence,from,to,sentences,words_out,words_in,who`, and a line for each.
+///
+/// The sentence is 0 where a whole batch moves. `from` is `none` where the sentences had no state.
 ///
 /// # Errors
 ///
-/// `Memory`: no memory is left, and nothing was put. `Write`: the sink refused the text, and may have taken some of it,
-/// from the front. Over a sink that never refuses, `Write` never comes.
+/// - `Memory`: memory was refused, and nothing was written.
+/// - `Write`: the sink refused the text, and may hold a first part of it. It never comes where the sink never refuses.
 pub fn csv_moves<S: Sink>(alloc: Global, moves: &[Move], out: &mut S) -> Result<(), ReportFault>
     ensures written { OnOk result (Appends (S.held out.old) (S.held out.new) (moves_csv moves.now)) }
     ensures memory { IfErr result (λ e. e ≡ ReportFault.Memory → out.new ≡ out.old) }

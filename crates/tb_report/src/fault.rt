@@ -1,4 +1,4 @@
-//! What keeps a table from being written.
+//! Why a table cannot be written.
 
 ghost use Rattle.std.specs.Prelude.{◌≡◌};
 ghost use Rattle.tb_report.specs.declared.fault.ReportFault.TheVariants.{Memory, Write};
@@ -6,10 +6,10 @@ ghost use Rattle.tb_report.specs.declared.fault.ReportFault.TheVariants.{Memory,
 use std::alloc::AllocError;
 use tb_conllu::WriteFault;
 
-/// Why a table wasn't written as CSV.
+/// Why a table was not written as CSV.
 #[derive(Clone, Copy, PartialEq, Eq, Debug)]
 pub enum ReportFault {
-    /// No memory is left.
+    /// Memory was refused.
     Memory,
     /// The writer failed.
     Write,

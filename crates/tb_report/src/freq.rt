@@ -36,7 +36,7 @@ impl Model for Freq {
 }
 
 impl Freq {
-    /// A table without keys. What it takes later comes from `alloc`.
+    /// A table without keys. It takes its memory from `alloc`.
     pub fn new(alloc: Global) -> Freq
         ensures { result ≡ [] }
     {
@@ -61,7 +61,7 @@ impl Freq {
         self.alloc
     }
 
-    /// The rows in the order of a report.
+    /// The rows, the greatest count first.
     pub(crate) fn ranking(&self) -> Result<Vec<Rank<'_>>, AllocError>
         ensures { IfOk result (λ v. IsRankingOf self.now (map ranked_row v.items)) }
     {
@@ -70,11 +70,11 @@ impl Freq {
         Ok(ranks)
     }
 
-    /// The keys with their counts: the greatest count first, keys of one count by their bytes.
+    /// The keys with their counts: the greatest count first, and keys with the same count in the order of their bytes.
     ///
     /// # Errors
     ///
-    /// No memory is left.
+    /// Memory was refused.
     pub fn rows(&self) -> Result<Vec<(String, u64)>, AllocError>
         ensures rows { IfOk result (λ v. IsRankingOf self.now (rows_of v.items)) }
         ensures sum { IfOk result (λ v. total_of (rows_of v.items) ≡ total_of self.now) }
@@ -83,11 +83,11 @@ impl Freq {
         owned_rows(self.alloc, &ranks)
     }
 
-    /// Counts the key once more. Takes no memory where the table has the key.
+    /// Adds one to the count of the key. Takes no memory where the table has the key.
     ///
     /// # Errors
     ///
-    /// No memory is left for a new key. The table stays as it was.
+    /// Memory for a new key was refused. The table is unchanged.
     pub fn add(&mut self, key: &str) -> Result<(), AllocError>
         requires { total_of self.old < 2 ^ 64 - 1 }
         ensures counted { OnOk result (CountsOneMore self.old self.new key.now) }
@@ -102,7 +102,7 @@ impl Freq {
     }
 }
 
-/// A row of a table, so that rows in ascending order have the greatest count first.
+/// A row of a table. In ascending order the greatest count comes first.
 pub(crate) type Rank<'a> = (Reverse<u64>, &'a str);
 
 /// The entries of both maps as ranks.
@@ -139,7 +139,7 @@ fn push_long<'a>(ranks: &mut Vec<Rank<'a>>, long: &'a LongCounts) -> Result<(), 
     Ok(())
 }
 
-/// The ranks with keys of their own.
+/// The ranks, with keys that they own.
 fn owned_rows(alloc: Global, ranks: &[Rank<'_>]) -> Result<Vec<(String, u64)>, AllocError>
     ensures { IfOk result (λ v. rows_of v.items ≡ map ranked_row ranks.now) }
 {
@@ -151,7 +151,7 @@ fn owned_rows(alloc: Global, ranks: &[Rank<'_>]) -> Result<Vec<(String, u64)>, A
     Ok(rows)
 }
 
-/// Counts the key once more in the map of its length.
+/// Adds one to the count of the key, in the map for its length.
 fn count_once(
     alloc: Global,
     short: &mut ShortCounts,

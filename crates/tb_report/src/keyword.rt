@@ -14,7 +14,7 @@ use tb_conllu::{BlockOf, RowOf, Sink, Text, put_number};
 use tb_rules::sent_id;
 use tb_syntax::Attr;
 
-/// A number, and a tab.
+/// Writes a number and a tab.
 fn put_number_column<S: Sink>(number: u32, out: &mut S) -> Result<(), S::Refusal>
     ensures put { OnOk result (Appends (S.held out.old) (S.held out.new) (decimal number ++ 9 ∷ [])) }
     ensures refused { IfErr result (S.IsRefusal out.new) }
@@ -23,7 +23,7 @@ fn put_number_column<S: Sink>(number: u32, out: &mut S) -> Result<(), S::Refusal
     out.put(b"\t")
 }
 
-/// Words, and a tab.
+/// Writes words and a tab.
 fn put_words_column<T: Text, S: Sink>(
     rows: &[RowOf<T>],
     words: usize,
@@ -37,7 +37,7 @@ fn put_words_column<T: Text, S: Sink>(
     out.put(b"\t")
 }
 
-/// The first three columns, each before a tab.
+/// Writes the first three columns, each with a tab after it.
 fn put_place<S: Sink>(name: &str, hit: (u32, u32), out: &mut S) -> Result<(), S::Refusal>
     requires { hit.0 < hit.1 }
     ensures put { OnOk result (Appends (S.held out.old) (S.held out.new)
@@ -51,7 +51,7 @@ fn put_place<S: Sink>(name: &str, hit: (u32, u32), out: &mut S) -> Result<(), S:
     put_number_column(end, out)
 }
 
-/// The last three columns, with a tab between each two, and the end of the line.
+/// Writes the last three columns, with a tab between each two, and the end of the line.
 fn put_forms<T: Text, S: Sink>(
     rows: &[RowOf<T>],
     hit: (u32, u32),
@@ -79,15 +79,17 @@ fn put_forms<T: Text, S: Sink>(
     out.put(b"\n")
 }
 
-/// Puts the keyword line of a hit: `sent_id`, the numbers of its first word and its last, and the forms of `context`
-/// words before it, of its own words and of `context` words after it, or of all on that side where there are fewer;
-/// a tab between each two columns, one space between each two words, and LF at the end. Takes no memory.
+/// Writes the keyword line of a hit. Takes no memory.
+///
+/// Its columns are `sent_id`, the numbers of the first and the last word of the hit, and three columns of forms. These
+/// are `context` words before the hit, the words of the hit, and `context` words after it. On a side with fewer words,
+/// all are written. Columns are separated by a tab, words by one space. The line ends with LF.
 ///
 /// A hit `(i, j)` covers the words `i + 1` to `j`.
 ///
 /// # Errors
 ///
-/// The sink refused a piece.
+/// The reason for which the sink refused a piece.
 pub fn kwic<T: Text, S: Sink>(
     block: &BlockOf<T>,
     hit: (u32, u32),
@@ -105,12 +107,13 @@ pub fn kwic<T: Text, S: Sink>(
     kwic_named(name, block, hit, context, out)
 }
 
-/// Puts the keyword line of a hit in a sentence whose `sent_id` is at hand: what many lines of one sentence share is then
-/// read once, and the sentence need keep no other rule.
+/// Writes the keyword line of a hit in a sentence whose `sent_id` is `name`.
+///
+/// Where a sentence has many lines, its name is then found once. The sentence need not keep the other rules.
 ///
 /// # Errors
 ///
-/// The sink refused a piece.
+/// The reason for which the sink refused a piece.
 pub fn kwic_named<T: Text, S: Sink>(
     name: &str,
     block: &BlockOf<T>,
@@ -134,7 +137,7 @@ pub fn kwic_named<T: Text, S: Sink>(
 ///
 /// # Errors
 ///
-/// No memory is left.
+/// Memory was refused.
 pub fn key<T: Text>(
     alloc: Global,
     block: &BlockOf<T>,

@@ -4,13 +4,13 @@ ghost use Rattle.std.specs.Prelude.{◌≡◌, ℕ, ◌+◌, List, ◌++◌, len
 ghost use Rattle.std.specs.List.Sorted.{IsPermutation};
 ghost use Rattle.tb_report.specs.Tables.{IsRankingOf, IsTable, IsTableOf, Row, count_in, total_of};
 
-/// A list of keys has one table.
+/// A list of keys has exactly one table.
 pub fn keys_have_one_table()
     ensures { (keys : List (List ℕ)) (table other : List Row) → IsTableOf keys table → IsTableOf keys other
         → table ≡ other }
 {}
 
-/// The order of the keys doesn't matter: keys rearranged have the same table.
+/// The order of the keys does not matter: permuted keys have the same table.
 pub fn order_of_keys_is_nothing()
     ensures { (keys moved : List (List ℕ)) (table : List Row) → IsPermutation keys moved → IsTableOf keys table
         → IsTableOf moved table }
@@ -28,7 +28,7 @@ pub fn counts_sum_to_keys()
     ensures { (keys : List (List ℕ)) (table : List Row) → IsTableOf keys table → total_of table ≡ length keys }
 {}
 
-/// A table has one ranking.
+/// A table has exactly one ranking.
 pub fn table_has_one_ranking()
     ensures { (table rows others : List Row) → IsRankingOf table rows → IsRankingOf table others
         → rows ≡ others }

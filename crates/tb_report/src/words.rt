@@ -1,4 +1,4 @@
-//! Words of a sentence, some after some others, joined by spaces.
+//! Words of a sentence, from a given word on, joined by spaces.
 
 ghost use Rattle.std.specs.Prelude.{◌≡◌, ◌∷◌, ◌++◌, [], IfErr, OnOk, Bool, drop, filter};
 ghost use Rattle.std.specs.Prelude.{if◌then◌else◌, map, string_bytes, take};
@@ -11,7 +11,7 @@ use std::alloc::AllocError;
 use tb_conllu::{RowOf, Sink, Text, is_word_row};
 use tb_syntax::Attr;
 
-/// The rows behind the first `words` words.
+/// The rows after the first `words` words.
 pub(crate) fn after_words<T: Text>(rows: &[RowOf<T>], words: usize) -> &[RowOf<T>]
     ensures { filter is_word result.now ≡ drop words (filter is_word rows.now) }
 {
@@ -43,7 +43,7 @@ fn value_of<T: Text>(column: Attr, row: &RowOf<T>) -> &str
     }
 }
 
-/// A text, after a space where it isn't the first.
+/// Writes a text, after a space if it is not the first.
 fn put_next<S: Sink>(is_first: bool, text: &str, out: &mut S) -> Result<(), S::Refusal>
     ensures put { OnOk result (Appends (S.held out.old) (S.held out.new)
         (if is_first then text.now else 32 ∷ text.now)) }
@@ -55,7 +55,7 @@ fn put_next<S: Sink>(is_first: bool, text: &str, out: &mut S) -> Result<(), S::R
     out.put(text.as_bytes())
 }
 
-/// The forms of the first `words` words, or of all where they are fewer.
+/// Writes the forms of the first `words` words, or of all where there are fewer.
 pub(crate) fn put_words<T: Text, S: Sink>(
     rows: &[RowOf<T>],
     words: usize,
@@ -79,7 +79,7 @@ pub(crate) fn put_words<T: Text, S: Sink>(
     Ok(())
 }
 
-/// A text, after a space where it isn't the first.
+/// Appends a text, after a space if it is not the first.
 fn push_next(is_first: bool, text: &str, key: &mut String) -> Result<(), AllocError>
     ensures { OnOk result (string_bytes key.new ≡ string_bytes key.old ++
         (if is_first then text.now else 32 ∷ text.now)) }
@@ -90,7 +90,7 @@ fn push_next(is_first: bool, text: &str, key: &mut String) -> Result<(), AllocEr
     key.push_str(text)
 }
 
-/// The values of the first `words` words, or of all where they are fewer, after those of the key.
+/// Appends the values of the first `words` words to the key, or of all where there are fewer.
 pub(crate) fn push_words<T: Text>(
     rows: &[RowOf<T>],
     words: usize,
