@@ -1,5 +1,5 @@
 -- Inner: no contract beyond this crate cites a definition of this module.
--- Codes for tests and for what is asked, by which a proof tells them apart.
+-- Codes for tests and for queries, by which a proof tells values apart.
 use Rattle.std.specs.Prelude.{◌≡◌, ℕ, List, nat_eq, refl}
 use Rattle.std.proofs.Common.{sym, ap, subst, true≢false}
 use base.Stored.{Gv, gnil, gnum, gcons, num, Coded}

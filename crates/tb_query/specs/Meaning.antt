@@ -1,5 +1,5 @@
--- When a token expression holds of a word (The CQP Query Language Manual, on token expressions): values are compared as they
--- stand in the file, an underscore too.
+-- When a token expression holds of a word (The CQP Query Language Manual, on token expressions). Values are compared as
+-- the file has them, an underscore too.
 use Rattle.std.specs.Prelude.{◌≡◌, ℕ, nat_eq, ◌%◌, ◌-◌, ◌≤◌, List, Bool, true, false, not, Some}
 use Rattle.std.specs.Prelude.{if◌then◌else◌, filter}
 use Rattle.std.specs.List.{slice_get}

@@ -1,5 +1,5 @@
 -- Inner: no contract beyond this crate cites a definition of this module.
--- Token expressions made ready for a search, as their tests.
+-- Token expressions that are prepared for a search, as their tests.
 use Rattle.tb_query.specs.declared.prepared.PreparedExpr.{PreparedExpr}
 use Rattle.tb_query.specs.declared.prepared.PreparedExpr.TheOpen.{PreparedExpr-F}
 use Rattle.tb_query.specs.declared.prepared.PreparedExpr.TheFolds.{fold-PreparedExpr}

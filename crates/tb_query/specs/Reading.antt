@@ -1,4 +1,4 @@
--- What a text asks, and what is wrong with one that asks nothing.
+-- What a text asks, and the fault of a text that is no query.
 use Rattle.std.specs.Prelude.{◌≡◌, ℕ, ◌+◌, List, [], ◌∷◌, ◌++◌, length, map}
 use Rattle.std.specs.List.{slice_get}
 use Rattle.std.specs.Option.{unwrap_or}
@@ -14,15 +14,15 @@ use Rattle.tb_query.specs.declared.fault.QueryFault.TheVariants.{TooLong, Syntax
 use Rattle.tb_query.specs.declared.fault.QueryFault.TheVariants.{Memory}
 use Rattle.tb_query.specs.Search.{Asked}
 
--- what literal k says, counted from 0
+-- the text of literal k, counted from 0
 abbrev pub text_of : List (List ℕ) → ℕ → List ℕ
 text_of said k = unwrap_or (slice_get said k) []
 
--- a literal with what it says in the place of its number
+-- a literal with its text in the place of its number
 abbrev pub with_text : List (List ℕ) → Literal → PlainLit
 with_text said l = record { text = text_of said l.number; flag = l.flag }
 
--- a token expression, with what its literals say in the place of their numbers
+-- a token expression with the texts of its literals in the place of their numbers
 abbrev pub with_texts : List (List ℕ) → Test Literal → Test PlainLit
 with_texts said = with_each (with_text said)
 
@@ -31,12 +31,12 @@ abbrev pub Reads : List ℕ → Tree → List (Test PlainLit) → Type 0
 Reads text t ts = (es : List (Test Literal)) × (said : List (List ℕ)) × Says text t es said
     × (ts ≡ map (with_texts said) es)
 
--- each literal is a pattern, but with %l any text is one
+-- each literal is a valid pattern; with %l any text is one
 abbrev pub AreAccepted : List PlainLit → Type 0
 AreAccepted [] = Unit {0}
 AreAccepted (l ∷ ls) = IsAccepted l.flag l.text × AreAccepted ls
 
--- literal k, counted from 1, is the first that is none
+-- literal k, counted from 1, is the first that is no valid pattern
 abbrev pub IsFirstRefused : List PlainLit → ℕ → Type 0
 IsFirstRefused ls k =
     (before : List PlainLit) × (l : PlainLit) × (after : List PlainLit) × (ls ≡ before ++ l ∷ after)
@@ -47,7 +47,7 @@ IsFirstRefused ls k =
 abbrev pub IsQuery : List ℕ → Asked → Type 0
 IsQuery text q = Reads text q.pat q.tests × AreAccepted (literals_of q.tests)
 
--- What is wrong with a text. The first of these is told that holds.
+-- The fault of a text, the first in this order that holds.
 abbrev pub IsFault : List ℕ → QueryFault → Type 0
 IsFault text TooLong = syntax.IsFault text reported.TooLong
 IsFault text (Syntax b) = syntax.IsFault text (reported.Syntax b)

@@ -1,5 +1,5 @@
 -- Inner: no contract beyond this crate cites a definition of this module.
--- What a refusal of a literal says.
+-- Which refusal of literals is reported.
 use Rattle.std.specs.Prelude.{◌≡◌, ℕ, ◌+◌, List, ◌∷◌, ◌++◌, map}
 use Rattle.tb_syntax.specs.declared.expr.Literal.{Literal}
 use Rattle.tb_literal.specs.Literals.{IsAccepted}
@@ -7,7 +7,7 @@ use Rattle.tb_query.specs.declared.fault.QueryFault.{QueryFault}
 use Rattle.tb_query.specs.declared.fault.QueryFault.TheVariants.{Pattern, Memory}
 use Rattle.tb_query.specs.Reading.{text_of, with_text, AreAccepted}
 
--- the first of the literals that is refused is told by its number, counted from 1
+-- the first of the literals that is refused, by its number, counted from 1
 abbrev pub IsRefusalAmong : List (List ℕ) → List Literal → QueryFault → Type 0
 IsRefusalAmong said ls (Pattern k) =
     (before : List Literal) × (l : Literal) × (after : List Literal) × (ls ≡ before ++ l ∷ after)

@@ -12,7 +12,7 @@ use Rattle.tb_literal.specs.Literals.{PlainLit}
 use Rattle.tb_syntax.specs.Tests.{Test}
 use Rattle.tb_query.specs.Meaning.{word_rows, HoldsOf}
 
--- what is asked: a pattern over tests, which it names by their numbers
+-- a query: a pattern over tests, which it names by their numbers
 pub record Asked : Type 0 where
   pub pat : Tree
   pub tests : List (Test PlainLit)
@@ -21,12 +21,12 @@ pub record Asked : Type 0 where
 abbrev pub IsSearchable : Asked → Type 0
 IsSearchable q = Fits (length q.tests) q.pat × (length q.tests ≤ 32)
 
--- the table tells of each test and each word of the sentence whether the one holds of the other
+-- the table says of which words of the sentence each test holds
 abbrev pub IsTruthOf : List (Test PlainLit) → BlockText → Facts → Type 0
 IsTruthOf ts b f = (f.words ≡ words_of b) × (f.exprs ≡ length ts) × ((e w : ℕ) → Holds f e w
     ↔ HoldsOf ts (word_rows b) e w)
 
--- a match that has a word: it covers the words i + 1 to j
+-- a match with at least one word: it covers the words i + 1 to j
 abbrev pub Finds : Asked → BlockText → ℕ → ℕ → Type 0
 Finds q b i j = (i < j) × (j ≤ words_of b) × Match (HoldsOf q.tests (word_rows b)) q.pat i j
 

@@ -1,5 +1,5 @@
 -- Inner: no contract beyond this crate cites a definition of this module.
--- Codes for patterns, by which a proof tells them apart.
+-- Codes for patterns, by which a proof tells values apart.
 use Rattle.std.specs.Prelude.{◌≡◌, ℕ, nat_eq, refl, Option}
 use Rattle.std.proofs.Common.{sym, ap, subst, true≢false}
 use base.Stored.{Gv, gnil, gnum, gcons, num, Coded}

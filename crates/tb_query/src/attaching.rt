@@ -1,4 +1,4 @@
-//! From token expressions that name their literals by number to those with needles.
+//! Turns token expressions that name their literals by number into those with matchers.
 
 ghost use Rattle.std.specs.Prelude.{◌≡◌, ◌+◌, ◌∷◌, [], map, string_bytes, IfOk, IfErr};
 ghost use Rattle.tb_literal.specs.Literals.{IsAccepted};
@@ -13,15 +13,15 @@ use std::alloc::{AllocError, Global};
 use tb_literal::{LiteralMatcher, PatternFault};
 use tb_syntax::{Attr, Expr, Literal};
 
-/// How many bytes the patterns of a query may take together, as they are built.
+/// How many bytes the compiled patterns of a query may take together.
 const ALL_PATTERNS: usize = 16 << 20;
 
-/// How many bytes a pattern may take, as it is built, of a query with so many literals.
+/// How many bytes one compiled pattern may take, in a query with this number of literals.
 fn pattern_bytes(literals: usize) -> usize {
     ALL_PATTERNS / literals.max(2)
 }
 
-/// What the literal says.
+/// The text of the literal.
 fn text_of(alloc: Global, texts: &[String], literal: Literal) -> Result<String, AllocError>
     ensures { IfOk result (λ s. string_bytes s ≡ text_of (map string_bytes texts.now) literal.number) }
 {
@@ -31,7 +31,7 @@ fn text_of(alloc: Global, texts: &[String], literal: Literal) -> Result<String, 
     }
 }
 
-/// The needle of the literal. Out of line, so that what it builds takes no stack at each level.
+/// The matcher of the literal. Out of line, so that what it builds takes no stack at each level.
 #[inline(never)]
 fn needle_of(
     alloc: Global,
@@ -71,7 +71,7 @@ fn item(needle: LiteralMatcher) -> Expr<LiteralMatcher>
     Expr::Item(needle)
 }
 
-/// The expression denied so many times.
+/// The expression, negated this many times.
 fn denied(
     alloc: Global,
     times: usize,
@@ -96,7 +96,7 @@ fn either(exprs: Vec<Expr<LiteralMatcher>>) -> Expr<LiteralMatcher>
     Expr::Either(exprs)
 }
 
-/// The expression with the needles of its literals.
+/// The expression with the matchers of its literals.
 #[cycle(attaching)]
 fn attach(
     alloc: Global,
@@ -121,7 +121,7 @@ fn attach(
     }
 }
 
-/// The expressions with the needles of their literals.
+/// The expressions with the matchers of their literals.
 #[cycle(attaching)]
 pub(crate) fn attach_all(
     alloc: Global,

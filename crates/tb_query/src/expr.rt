@@ -2,5 +2,5 @@
 
 use tb_literal::LiteralMatcher;
 
-/// What is asked of one word: a token expression over what was built of its literals.
+/// A token expression, with the matchers of its literals.
 pub type Expr = tb_syntax::Expr<LiteralMatcher>;

@@ -1,4 +1,4 @@
-//! What can be wrong with the text of a query.
+//! Faults of the text of a query.
 
 ghost use Rattle.std.specs.Prelude.{◌≡◌};
 ghost use Rattle.tb_query.specs.declared.fault.QueryFault.TheVariants.{Memory};
@@ -9,13 +9,13 @@ use std::error::Error;
 use std::fmt;
 use tb_syntax::Fault;
 
-/// Why a text was not read as a query. The first of them in this order is told.
+/// Why a text is no query. The first that holds, in this order, is reported.
 #[derive(Clone, Copy, PartialEq, Eq, Debug)]
 pub enum QueryFault {
     /// It has more than 2,000 bytes.
     TooLong,
-    /// It is outside the grammar. The byte, counted from 0, is where the first lexeme begins, or what
-    /// is none, that no query can have there; the length of the text where it only ends too early.
+    /// It is outside the grammar. The byte, counted from 0, is the beginning of the first lexeme that no query can have
+    /// there, or of a part that is no lexeme. It is the length of the text where the text only ends too early.
     Syntax(u64),
     /// It has more than 32 token expressions.
     TooMany,
@@ -23,10 +23,10 @@ pub enum QueryFault {
     TooDeep,
     /// A repetition has a number above 32, an upper number of 0, or one below its lower number.
     Repeat,
-    /// A literal is no pattern. It is the first such one, counted from 1 over all literals of the
-    /// text, those with `%l` too.
+    /// A literal is no valid pattern. It is the first such one, counted from 1 over all literals of the text, those
+    /// with `%l` too.
     Pattern(u64),
-    /// There was no memory for it, or a pattern is too large.
+    /// Memory was refused, or a compiled pattern is too large.
     Memory,
 }
 

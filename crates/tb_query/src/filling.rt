@@ -11,7 +11,7 @@ use crate::prepared::{PreparedExpr, asks};
 use tb_conllu::{RowOf, Text, is_word_row};
 use tb_match::Truth;
 
-/// Makes the expression hold of the word where it does.
+/// Enters the expression for the word, if it holds.
 fn fill_cell<T: Text>(
     prepared_expr: &mut PreparedExpr<'_>,
     row: &RowOf<T>,
@@ -34,7 +34,7 @@ fn fill_cell<T: Text>(
     }
 }
 
-/// Makes the expression hold of each word of which it does.
+/// Enters the expression for each word of which it holds.
 fn fill_row<T: Text>(
     prepared_expr: &mut PreparedExpr<'_>,
     rows: &[RowOf<T>],
@@ -60,7 +60,7 @@ fn fill_row<T: Text>(
     }
 }
 
-/// Makes each expression hold of each word of which it does.
+/// Enters each expression for each word of which it holds.
 pub(crate) fn fill<T: Text>(
     prepared_exprs: &mut [PreparedExpr<'_>],
     rows: &[RowOf<T>],

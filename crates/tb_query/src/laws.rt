@@ -1,4 +1,4 @@
-//! Laws of what texts ask.
+//! Laws of what texts ask. Each function states a fact about the definitions, and runs nothing.
 
 ghost use Rattle.std.specs.Prelude.{◌≡◌, ◌⊎◌, ℕ, List, map};
 ghost use Rattle.tb_match.specs.declared.pattern.Pat.{Pat};
@@ -18,7 +18,7 @@ use tb_syntax::{
     one_fault, one_saying, what_is_said_can_be_searched, what_says_something_has_no_fault,
 };
 
-/// A text says one thing at most: one pattern, over one list of token expressions.
+/// A text reads as at most one pattern, over one list of token expressions.
 pub fn a_text_has_one_reading()
     ensures pattern { (text : List ℕ) (t u : Tree) (ts us : List (Test PlainLit)) → Reads text t ts
         → Reads text u us → t ≡ u }
@@ -28,15 +28,14 @@ pub fn a_text_has_one_reading()
     one_saying();
 }
 
-/// A text asks one thing at most: where two answers to a text are what it asks, they are the same
-/// pattern over the same tests.
+/// A text asks at most one thing: two readings of it have the same pattern over the same tests.
 pub fn a_text_asks_one_thing()
     ensures { (text : List ℕ) (q r : Asked) → IsQuery text q → IsQuery text r → q ≡ r }
 {
     a_text_has_one_reading();
 }
 
-/// Of a text that is a query no fault is told but want of memory.
+/// A text that is a query has no fault but want of memory.
 pub fn a_query_has_no_fault()
     ensures { (text : List ℕ) (q : Asked) (e : QueryFault) → IsQuery text q → IsFault text e → e ≡ Memory }
 {
@@ -44,7 +43,7 @@ pub fn a_query_has_no_fault()
     what_says_something_has_no_fault();
 }
 
-/// At most one fault is told of a text, want of memory aside.
+/// A text has at most one fault, want of memory aside.
 pub fn a_text_has_one_fault()
     ensures { (text : List ℕ) (e f : QueryFault) → IsFault text e → IsFault text f → (e ≡ Memory → ⊥)
         → (f ≡ Memory → ⊥) → e ≡ f }
@@ -54,16 +53,15 @@ pub fn a_text_has_one_fault()
     one_fault();
 }
 
-/// The literals of the token expressions say, one after the other, what the literals of the text
-/// say.
+/// The literals of the token expressions, one after another, are the literals of the text.
 pub fn literals_are_in_order()
     ensures { (text : List ℕ) (t : Tree) (es : List (Test Literal)) (said : List (List ℕ))
         → Says text t es said →
         map (λ (l : PlainLit). l.text) (literals_of (map (with_texts said) es)) ≡ said }
 {}
 
-/// A text is a query that can be searched for, with a pattern of the matcher's, or has a fault that is not
-/// want of memory.
+/// A text is a query that can be searched for, with a pattern of the matcher's, or has a fault that is not want of
+/// memory.
 pub fn each_text_is_reported()
     ensures { (text : List ℕ) → ((q : Asked) × (p : Pat) × (tree p ≡ q.pat) × IsQuery text q × IsSearchable q)
         ⊎ ((e : QueryFault) × (e ≡ Memory → ⊥) × IsFault text e) }

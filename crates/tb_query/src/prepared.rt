@@ -1,4 +1,4 @@
-//! Token expressions with what a search writes to.
+//! Token expressions, prepared for a search with the caches that it writes to.
 
 ghost use Rattle.std.specs.Prelude.{◌≡◌, ℕ, not, if◌then◌else◌, IfOk, map};
 ghost use Rattle.std.specs.Global.{Global};
@@ -15,15 +15,15 @@ use tb_conllu::{RowOf, Text};
 use tb_literal::{LiteralCache, LiteralMatcher};
 use tb_syntax::Attr;
 
-/// A column of a word, and what its value is tested against.
+/// A column of a word, and what tests its value.
 #[derive(Drop)]
 pub(crate) struct Column<'q> {
     attr: Attr,
     tester: LiteralCache<'q>,
 }
 
-/// A token expression with what a search writes to: made once for a whole search, and then asked of
-/// each word.
+/// A token expression, prepared with the caches that a search writes to. It is made once for a search, and then tested
+/// on each word.
 #[derive(Drop)]
 pub(crate) enum PreparedExpr<'q> {
     Any,
@@ -34,8 +34,8 @@ pub(crate) enum PreparedExpr<'q> {
     Either(Vec<PreparedExpr<'q>>),
 }
 
-/// What tests values against the literal. Out of line, so that what it makes takes no stack at each
-/// level of an expression.
+/// What tests values against the literal. Out of line, so that what it makes takes no stack at each level of an
+/// expression.
 #[inline(never)]
 fn tester_of(alloc: Global, needle: &LiteralMatcher) -> Result<LiteralCache<'_>, AllocError>
     ensures { IfOk result (λ t. t ≡ needle.now) }
@@ -43,7 +43,7 @@ fn tester_of(alloc: Global, needle: &LiteralMatcher) -> Result<LiteralCache<'_>,
     needle.tester(alloc)
 }
 
-/// Makes a token expression ready for a search.
+/// Prepares a token expression for a search.
 #[cycle(prepare_expr)]
 fn prepare_expr(alloc: Global, expr: &Expr) -> Result<PreparedExpr<'_>, AllocError>
     ensures { IfOk result (λ a. asked a ≡ test expr.now) }
@@ -64,7 +64,7 @@ fn prepare_expr(alloc: Global, expr: &Expr) -> Result<PreparedExpr<'_>, AllocErr
     }
 }
 
-/// Makes token expressions ready for a search, in their order.
+/// Prepares token expressions for a search, in their order.
 #[cycle(prepare_expr)]
 pub(crate) fn prepare_exprs(
     alloc: Global,
@@ -93,7 +93,7 @@ fn value_of<T: Text>(attr: Attr, row: &RowOf<T>) -> &str
     }
 }
 
-/// Whether the expression is one that is denied an odd number of times.
+/// Whether the expression is negated an odd number of times.
 fn is_odd_denial(prepared_expr: &PreparedExpr<'_>) -> bool
     ensures { (n : ℕ) (inner : Box PreparedExpr Global) → prepared_expr.now ≡ PreparedExpr.Denied n inner
         → result ≡ is_odd n }
@@ -104,7 +104,7 @@ fn is_odd_denial(prepared_expr: &PreparedExpr<'_>) -> bool
     }
 }
 
-/// What holds of an expression that is denied, an odd number of times or an even one.
+/// The value of an expression that is negated an odd number of times, or an even one.
 fn denied(odd: bool, held: bool) -> bool
     ensures { result ≡ (if odd then not held else held) }
 {
@@ -128,7 +128,7 @@ pub(crate) fn holds<T: Text>(prepared_expr: &mut PreparedExpr<'_>, row: &RowOf<T
     }
 }
 
-/// Whether each of the expressions holds of the word.
+/// Whether all expressions hold of the word.
 #[cycle(holds)]
 fn all_hold<T: Text>(prepared_exprs: &mut [PreparedExpr<'_>], row: &RowOf<T>) -> bool
     ensures answer { result ≡ all_hold (tests (map asked prepared_exprs.old)) row.now }
@@ -142,7 +142,7 @@ fn all_hold<T: Text>(prepared_exprs: &mut [PreparedExpr<'_>], row: &RowOf<T>) ->
     true
 }
 
-/// Whether some of the expressions holds of the word.
+/// Whether one of the expressions holds of the word.
 #[cycle(holds)]
 fn some_hold<T: Text>(prepared_exprs: &mut [PreparedExpr<'_>], row: &RowOf<T>) -> bool
     ensures answer { result ≡ some_hold (tests (map asked prepared_exprs.old)) row.now }
@@ -156,8 +156,7 @@ fn some_hold<T: Text>(prepared_exprs: &mut [PreparedExpr<'_>], row: &RowOf<T>) -
     false
 }
 
-/// Whether the expression holds of the word. The commonest one, a column, is asked without a further
-/// call.
+/// Whether the expression holds of the word. The commonest expression, a column, is tested without a further call.
 #[inline]
 pub(crate) fn asks<T: Text>(prepared_expr: &mut PreparedExpr<'_>, row: &RowOf<T>) -> bool
     ensures answer { result ≡ holds (asked prepared_expr.old) row.now }

@@ -1,4 +1,4 @@
-//! Queries, with what was built for their literals.
+//! Queries, with the matchers of their literals.
 
 ghost use Rattle.std.specs.Prelude.{◌≡◌, ◌+◌, ◌*◌, ◌/◌, ◌≤◌, IfOk, length, map};
 ghost use Rattle.tb_conllu.specs.Words.{words_of};
@@ -40,7 +40,7 @@ impl Model for Query {
 }
 
 impl Query {
-    /// A query of its parts.
+    /// A query from its parts.
     pub(crate) fn new(pat: Pat, exprs: Vec<Expr>) -> Query
         requires { IsSearchable (record { pat = tree pat; tests = map test exprs.items }) }
         ensures { result ≡ record { pat = tree pat; tests = map test exprs.items } }
@@ -48,8 +48,7 @@ impl Query {
         Query { pat, exprs }
     }
 
-    /// The pattern. Its expressions are numbers of [`Query::exprs`], counted from 0: it can be searched
-    /// for in a table of so many.
+    /// The pattern. It names expressions by their places in [`Query::exprs`], from 0.
     pub fn pat(&self) -> &Pat
         ensures pat { tree result.now ≡ self.now.pat }
         ensures fits { Fits (length self.now.tests) (tree result.now) }
@@ -65,15 +64,14 @@ impl Query {
         &self.exprs
     }
 
-    /// The query made ready for a search over many sentences.
+    /// Prepares the query for a search over many sentences.
     pub fn searcher(&self, alloc: Global) -> Result<Searcher<'_>, AllocError>
         ensures { IfOk result (λ s. s ≡ self.now) }
     {
         Searcher::new(alloc, &self.pat, &self.exprs)
     }
 
-    /// Which expressions hold of which words of the sentence. For many sentences, make one
-    /// [`Query::searcher`].
+    /// Which expressions hold of which words of the sentence. For many sentences, make one [`Query::searcher`].
     pub fn truth<T: Text>(&self, alloc: Global, block: &BlockOf<T>) -> Result<Truth, AllocError>
         requires { words_of block.now ≤ 1000 }
         ensures { IfOk result (λ t. IsTruthOf self.now.tests block.now t) }
@@ -82,8 +80,8 @@ impl Query {
         searcher.truth(alloc, block)
     }
 
-    /// The hits of the query in the sentence, by the strategy, and the number of unions of bit rows
-    /// that it took. For many sentences, make one [`Query::searcher`].
+    /// The hits of the query in the sentence, by the strategy, and the number of unions of bit rows that the search
+    /// took. For many sentences, make one [`Query::searcher`].
     pub fn hits<T: Text>(
         &self,
         alloc: Global,

@@ -1,4 +1,4 @@
-//! From the text of a query to what it asks.
+//! Parses the text of a query.
 
 ghost use Rattle.std.specs.Prelude.{◌≡◌, ◌≤◌, length, IfOk, IfErr};
 ghost use Rattle.tb_match.specs.Weight.{Fits};
@@ -10,10 +10,11 @@ use crate::fault::QueryFault;
 use crate::query::Query;
 use std::alloc::Global;
 
-/// What the text asks: a pattern over at most 32 token expressions, which it names by their numbers.
+/// Parses a text as a query: a pattern over at most 32 token expressions, which it names by their numbers.
 ///
-/// Errors: what is wrong with a text that is no query, or want of memory, which comes only of texts
-/// within the limit of length.
+/// # Errors
+///
+/// The first fault of the text. `Memory` comes only for a text within the limit of length.
 pub fn parse(alloc: Global, text: &str) -> Result<Query, QueryFault>
     ensures query { IfOk result (λ q. IsQuery text.now q) }
     ensures fits { IfOk result (λ q. Fits (length q.tests) q.pat) }

@@ -1,4 +1,4 @@
-//! A query made ready for a search.
+//! A query that is prepared for a search.
 
 ghost use Rattle.std.specs.Prelude.{◌≡◌, ◌+◌, ◌*◌, ◌/◌, ◌≤◌, IfOk, map};
 ghost use Rattle.tb_conllu.specs.Words.{words_of};
@@ -15,8 +15,7 @@ use std::marker::Model;
 use tb_conllu::{BlockOf, Text, words};
 use tb_match::{Found, Pat, Strategy, Truth, find};
 
-/// A query with what a search writes to: made once for a whole search, and then used for each
-/// sentence.
+/// A query, prepared with the caches that a search writes to. It is made once for a search, and used for each sentence.
 #[derive(Drop)]
 pub struct Searcher<'q> {
     pat: &'q Pat,
@@ -42,7 +41,7 @@ impl<'q> Model for Searcher<'q> {
 }
 
 impl<'q> Searcher<'q> {
-    /// Makes the parts of a query ready for a search.
+    /// Prepares the parts of a query for a search.
     pub(crate) fn new(
         alloc: Global,
         pat: &'q Pat,
@@ -70,8 +69,8 @@ impl<'q> Searcher<'q> {
         Ok(truth)
     }
 
-    /// The hits of the query in the sentence, by the strategy, and the number of unions of bit rows
-    /// that it took.
+    /// The hits of the query in the sentence, by the strategy, and the number of unions of bit rows that the search
+    /// took.
     pub fn hits<T: Text>(
         &mut self,
         alloc: Global,
