@@ -1,4 +1,4 @@
--- Token expressions without where they lie in memory.
+-- Token expressions as plain data.
 use Rattle.tb_syntax.specs.declared.expr.Expr.{Expr}
 use Rattle.tb_syntax.specs.declared.expr.Expr.TheOpen.{Expr-F}
 use Rattle.tb_syntax.specs.declared.expr.Expr.TheFolds.{fold-Expr}

@@ -1,5 +1,5 @@
 -- Inner: no contract beyond this crate cites a definition of this module.
--- The first lexeme of a text, found byte by byte.
+-- The first lexeme of a text, read byte by byte.
 use Rattle.std.specs.Prelude.{ℕ, List, [], ◌∷◌, Bool, true, false, nat_eq, if◌then◌else◌, Option, Some}
 use Rattle.std.specs.Prelude.{None, option_map, take, drop}
 use Rattle.std.specs.Char.{is_ascii_alphabetic, is_ascii_digit}
@@ -9,8 +9,8 @@ use Rattle.tb_syntax.specs.declared.lexeme.Lexeme.TheVariants.{Quote}
 use Rattle.tb_syntax.specs.declared.spelling.Found.{Found}
 use Rattle.tb_syntax.specs.Spelling.{word, number, double_mark, single_mark, is_quote}
 
--- What is left after a literal, whose text is read after its opening quote. The first argument is the quote, the second says that
--- such a quote stands before, and so ends the literal unless another one follows.
+-- What is left after a literal, read after its opening quote. The first argument is the quote. The second says that
+-- such a quote was read before, which ends the literal unless another one follows.
 abbrev pub after_literal : ℕ → Bool → List ℕ → Option (List ℕ)
 after_literal q true [] = Some []
 after_literal q false [] = None
@@ -41,12 +41,12 @@ first_lexeme k [] = None
 first_lexeme k (c ∷ cs) = if is_ascii_alphabetic c then cut word (prefix_len is_ascii_alphabetic
     (c ∷ cs)) (c ∷ cs) else first_no_word k c cs
 
--- what was found, with what is left of the text
+-- a found lexeme, with the rest of the text
 abbrev pub found : List ℕ → Option Found → Option (Lexeme × List ℕ)
 found text None = None
 found text (Some f) = Some (f.lexeme, drop f.length text)
 
--- what a literal says, read after its opening quote; the second argument says that a quote stands before
+-- the text of a literal, read after its opening quote; the second argument says that a quote was read before
 abbrev pub said_of : ℕ → Bool → List ℕ → List ℕ
 said_of q shut [] = []
 said_of q true (c ∷ cs) = c ∷ said_of q false cs

@@ -1,5 +1,5 @@
 -- Inner: no contract beyond this crate cites a definition of this module.
--- What lexemes go on with, and what may follow a part of a query so that the part ends there.
+-- What lexemes begin with, and what may follow a part of a query so that the part ends there.
 use Rattle.std.specs.Prelude.{◌≡◌, List, ◌∷◌, Bool, true, false}
 use Rattle.tb_syntax.specs.declared.lexeme.Lexeme.{Lexeme}
 use Rattle.tb_syntax.specs.declared.lexeme.Lexeme.TheVariants.{LeftParen, LeftBracket, LeftBrace, Quest, Star, Plus}

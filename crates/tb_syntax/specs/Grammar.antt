@@ -1,5 +1,6 @@
--- The grammar of queries: each way in which a text can be derived, and the lexemes that it spells.
--- The language is a part of CQP's query language (The CQP Query Language Manual, section 3: token expressions, regular expressions over them, `within s`).
+-- The grammar of queries: each derivation of a text, and its lexemes.
+-- The language is a part of CQP's (The CQP Query Language Manual, section 3: token expressions, regular expressions
+-- over them, `within s`).
 use Rattle.std.specs.Prelude.{◌≡◌, ℕ, List, [], ◌∷◌, ◌++◌}
 use Rattle.tb_syntax.specs.declared.lexeme.Attr.{Attr}
 use Rattle.tb_syntax.specs.declared.lexeme.Attr.TheVariants.{Feats}

@@ -7,7 +7,7 @@ use Rattle.tb_syntax.specs.declared.lexeme.Lexeme.TheVariants.{Quote, Stray}
 use Rattle.tb_syntax.specs.declared.lexing.Span.{Span}
 use Rattle.tb_syntax.specs.Spelling.{Starts, IsStray}
 
--- space, tab, LF and CR mean nothing between lexemes
+-- space, tab, LF and CR separate lexemes
 abbrev pub is_white : ℕ → Bool
 is_white c = nat_eq c 0x20 || nat_eq c 0x09 || nat_eq c 0x0A || nat_eq c 0x0D
 
@@ -20,11 +20,12 @@ abbrev pub literals_after : ℕ → Lexeme → ℕ
 literals_after k (Quote j) = k + 1
 literals_after k _ = k
 
--- the bytes of a text from where a span starts to where it ends
+-- the bytes of a span
 abbrev pub bytes_at : List ℕ → Span → List ℕ
 bytes_at text s = take (s.end - s.start) (drop s.start text)
 
--- The text, which begins at byte `at` after k literals, has these lexemes at these places. What is no lexeme comes last.
+-- The text, which begins at byte `at` after k literals, has these lexemes at these places. A part that is no lexeme
+-- comes last.
 abbrev pub Lexes : ℕ → ℕ → List ℕ → List Lexeme → List Span → Type 0
 Lexes at k text [] [] = list_all is_white text ≡ true
 Lexes at k text (l ∷ ls) (s ∷ ss) =

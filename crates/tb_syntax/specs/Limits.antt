@@ -1,4 +1,4 @@
--- The limits of a query, as its derivation has them.
+-- The limits of a query, stated on its derivation.
 use Rattle.std.specs.Prelude.{ℕ, suc, zero, ◌+◌, Bool, true, false, ◌&&◌, nat_le, if◌then◌else◌, Option}
 use Rattle.std.specs.Prelude.{Some, None}
 use Rattle.tb_syntax.specs.declared.lexeme.Lexeme.{Lexeme}
@@ -12,7 +12,7 @@ use Rattle.tb_syntax.specs.Grammar.{one_cat, or_alt, Cat, one_item, and_cat, Ite
 use Rattle.tb_syntax.specs.Grammar.{bare, parens, Query, query}
 use Rattle.tb_syntax.specs.Pattern.{alt_count}
 
--- at most so many round parentheses are open at one place
+-- at most r round parentheses are open at one place
 abbrev mutual
   pub test_nests : ℕ → Test' → Bool
   test_nests r (one_conj c) = conj_nests r c
@@ -52,7 +52,7 @@ abbrev mutual
 abbrev pub query_nests : ℕ → Query → Bool
 query_nests r (query a e) = alt_nests r a
 
--- how many more parentheses may be opened after a lexeme, if it may stand at all
+-- how many more parentheses may be opened after a lexeme, or none if the lexeme opens one too many
 abbrev pub room_after : ℕ → Lexeme → Option ℕ
 room_after zero LeftParen = None
 room_after (suc r) LeftParen = Some r
@@ -63,19 +63,20 @@ room_after r _ = Some r
 abbrev pub query_count : Query → ℕ
 query_count (query a e) = alt_count a
 
--- a lexeme begins a token expression, which a literal does only outside the brackets
+-- the lexeme begins a token expression, which a literal does only outside the brackets
 abbrev pub begins_expression : Bool → Lexeme → Bool
 begins_expression inside LeftBracket = true
 begins_expression false (Quote k) = true
 begins_expression inside _ = false
 
--- whether what follows a lexeme stands within the brackets
+-- whether the lexeme after this one is within the brackets
 abbrev pub inside_after : Bool → Lexeme → Bool
 inside_after inside LeftBracket = true
 inside_after inside RightBracket = false
 inside_after inside _ = inside
 
--- The numbers of a repetition are at most `most`; its upper number, where there is one, is at least 1 and not below the lower.
+-- The numbers of a repetition are at most `most`. Its upper number, if there is one, is at least 1 and not below the
+-- lower.
 abbrev pub repeat_fits : ℕ → Repeat → Bool
 repeat_fits most quest = true
 repeat_fits most star = true
@@ -84,7 +85,7 @@ repeat_fits most (exactly n) = nat_le n most && nat_le 1 n
 repeat_fits most (at_least n) = nat_le n most
 repeat_fits most (between n m) = nat_le n most && (nat_le n m && nat_le 1 m && nat_le m most)
 
--- each repetition does
+-- each repetition is within the limits
 abbrev mutual
   pub alt_repeats : ℕ → Alt → Bool
   alt_repeats most (one_cat c) = cat_repeats most c
@@ -107,7 +108,7 @@ abbrev mutual
 abbrev pub query_repeats : ℕ → Query → Bool
 query_repeats most (query a e) = alt_repeats most a
 
--- what is known of a repetition after a lexeme, if its numbers are within the limits so far
+-- what was read of a repetition up to a lexeme, if its numbers so far are within the limits
 abbrev pub bounds_after : ℕ → Bounds → Lexeme → Option Bounds
 bounds_after most Apart (Number n) = if nat_le n most then Some (Least n) else None
 bounds_after most (Least n) RightBrace = if nat_le 1 n then Some Apart else None

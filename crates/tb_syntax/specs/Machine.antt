@@ -1,5 +1,5 @@
 -- Inner: no contract beyond this crate cites a definition of this module.
--- The scan as a machine over lexemes, which holds no tree and no stack but two numbers.
+-- The scan as a machine over lexemes, with two counters in place of a tree and a stack.
 use Rattle.std.specs.Prelude.{ℕ, suc, zero, ◌+◌, List, [], ◌∷◌, Bool, true, false, if◌then◌else◌}
 use Rattle.std.specs.Prelude.{Option, Some, None, option_and_then}
 use Rattle.tb_syntax.specs.declared.lexeme.Attr.TheVariants.{Feats}
@@ -107,7 +107,7 @@ is_inside _ = false
 abbrev pub step : Place → Lexeme → Option Place
 step p l = if is_inside p.mode then step_inside p.mode p.outer p.inner l else step_outside p.mode p.outer l
 
--- the place after all of the lexemes, if each may stand where it does
+-- the place after all of the lexemes, if each is possible where it is
 abbrev pub run : Place → List Lexeme → Option Place
 run p [] = Some p
 run p (l ∷ ls) = option_and_then (λ q. run q ls) (step p l)
@@ -124,7 +124,7 @@ abbrev pub ends : Option Place → Bool
 ends None = false
 ends (Some p) = may_end_at p.mode p.outer
 
--- the whole list is taken, and the query may end there
+-- all lexemes are possible, and the query may end there
 abbrev pub accepts : Place → List Lexeme → Bool
 accepts p ls = ends (run p ls)
 

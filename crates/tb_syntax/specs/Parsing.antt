@@ -1,5 +1,5 @@
 -- Inner: no contract beyond this crate cites a definition of this module.
--- What is read off lexemes that begin with a part of a query: what the part says, and what is left.
+-- What is parsed from lexemes that begin with a part of a query: the meaning of the part, and the lexemes after it.
 use Rattle.std.specs.Prelude.{◌≡◌, ℕ, ◌+◌, ◌≤◌, List, [], ◌∷◌, ◌++◌, length, false, Option}
 use Rattle.std.specs.Prelude.{Some, None}
 use Rattle.tb_match.specs.Trees.{Tree}
@@ -17,7 +17,7 @@ use Rattle.tb_syntax.specs.Pattern.{alt_tests, cat_tests, item_tests, atom_tests
 use Rattle.tb_syntax.specs.Tests.{Test}
 use Rattle.tb_syntax.specs.Limits.{query_count}
 
--- the first lexeme, and what is left
+-- the first lexeme, and the lexemes after it
 abbrev pub head : List Lexeme → Lexeme
 head [] = Stray
 head (l ∷ ls) = l
@@ -38,7 +38,7 @@ pub record ReadsUnit (ls : List Lexeme) (t : Test Literal) (rest : List Lexeme) 
   pub at : (u : Unit') (end : List Lexeme) → begins_flag end ≡ false → unit_text u ++ end ≡ ls
       → (t ≡ unit_test u) × (rest ≡ end)
 
--- the parts of a conjunction, after those that were read before
+-- the parts of a conjunction, after those that were parsed before
 pub record ReadsUnits (ls : List Lexeme) (old new : List (Test Literal)) (rest : List Lexeme) : Type 0 where
   pub at : (c : Conj) (end : List Lexeme) → EndsConj end → conj_text c ++ end ≡ ls
       → (new ≡ old ++ conj_parts c) × (rest ≡ end)
@@ -47,7 +47,7 @@ pub record ReadsConj (ls : List Lexeme) (t : Test Literal) (rest : List Lexeme) 
   pub at : (c : Conj) (end : List Lexeme) → EndsConj end → conj_text c ++ end ≡ ls
       → (t ≡ both_of (conj_parts c)) × (rest ≡ end)
 
--- the parts of a disjunction, after those that were read before
+-- the parts of a disjunction, after those that were parsed before
 pub record ReadsConjs (ls : List Lexeme) (old new : List (Test Literal)) (rest : List Lexeme) : Type 0 where
   pub at : (t : Test') (end : List Lexeme) → EndsTest end → test_text t ++ end ≡ ls
       → (new ≡ old ++ test_parts t) × (rest ≡ end)
@@ -56,7 +56,7 @@ pub record ReadsTest (ls : List Lexeme) (t : Test Literal) (rest : List Lexeme) 
   pub at : (u : Test') (end : List Lexeme) → EndsTest end → test_text u ++ end ≡ ls
       → (t ≡ either_of (test_parts u)) × (rest ≡ end)
 
--- what a repetition says: how often at least, and how often at most
+-- the least and the greatest number of a repetition
 abbrev pub bounds : Repeat → ℕ × Option ℕ
 bounds quest = (0, Some 1)
 bounds star = (0, None)
@@ -70,20 +70,20 @@ pub record ReadsNumbers (ls : List Lexeme) (found : ℕ × Option ℕ) (rest : L
   pub at : (r : Repeat) (end : List Lexeme) → rep_text r ++ end ≡ LeftBrace ∷ ls → (found ≡ bounds r)
       × (rest ≡ end)
 
--- the repetition, if one stands there
+-- the repetition at the beginning, if there is one
 pub record ReadsRepeat (ls : List Lexeme) (found : Option (ℕ × Option ℕ)) (rest : List Lexeme) : Type 0 where
   pub some : (r : Repeat) (end : List Lexeme) → rep_text r ++ end ≡ ls → (found ≡ Some (bounds r))
       × (rest ≡ end)
   pub none : begins_rep ls ≡ false → (found ≡ None) × (rest ≡ ls)
 
--- the one token expression of an atom that is no parenthesis
+-- the only token expression of an atom that is no parenthesis
 pub record ReadsExpr (ls : List Lexeme) (t : Test Literal) (rest : List Lexeme) : Type 0 where
   pub at : (a : Atom) (end : List Lexeme) → begins_flag end ≡ false → atom_text a ++ end ≡ ls
       → ((b : Alt) → a ≡ parens b → ⊥) →
       (atom_tests a ≡ t ∷ []) × (rest ≡ end)
 
--- In what follows `old` are the token expressions that were read before, and `new` those with what was read.
--- Their numbers are 16 bits long.
+-- From here on, `old` are the token expressions that were parsed before, and `new` are these and what was parsed. Their
+-- numbers have 16 bits.
 pub record ReadsAtom (ls : List Lexeme) (old new : List (Test Literal)) (t : Tree) (rest : List Lexeme) : Type 0 where
   pub at : (a : Atom) (end : List Lexeme) → begins_flag end ≡ false → atom_text a ++ end ≡ ls
       → length old + atom_count a ≤ 65536 →
@@ -94,7 +94,7 @@ pub record ReadsItem (ls : List Lexeme) (old new : List (Test Literal)) (t : Tre
       → length old + item_count i ≤ 65536 →
       (t ≡ item_tree (length old) i) × (new ≡ old ++ item_tests i) × (rest ≡ end)
 
--- the parts of a sequence, after those that were read before
+-- the parts of a sequence, after those that were parsed before
 pub record ReadsItems (ls : List Lexeme) (old new : List
     (Test Literal)) (before after : List Tree) (rest : List Lexeme) : Type 0 where
   pub at : (c : Cat) (end : List Lexeme) → EndsCat end → cat_text c ++ end ≡ ls
@@ -106,7 +106,7 @@ pub record ReadsCat (ls : List Lexeme) (old new : List (Test Literal)) (t : Tree
       → length old + cat_count c ≤ 65536 →
       (t ≡ cat_of (cat_parts (length old) c)) × (new ≡ old ++ cat_tests c) × (rest ≡ end)
 
--- the parts of a choice, after those that were read before
+-- the parts of a choice, after those that were parsed before
 pub record ReadsCats (ls : List Lexeme) (old new : List
     (Test Literal)) (before after : List Tree) (rest : List Lexeme) : Type 0 where
   pub at : (a : Alt) (end : List Lexeme) → EndsAlt end → alt_text a ++ end ≡ ls

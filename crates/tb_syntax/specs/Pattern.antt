@@ -1,4 +1,4 @@
--- What a query says: its pattern over token expressions, and those expressions, each without where it lies in memory.
+-- The meaning of a query as plain data: its pattern over token expressions, and these expressions.
 use Rattle.std.specs.Prelude.{◌≡◌, ℕ, ◌+◌, List, [], ◌∷◌, ◌++◌, None, Some}
 use Rattle.tb_match.specs.Trees.{Tree, tok, cat, alt, rep, forest}
 use Rattle.tb_syntax.specs.declared.expr.Literal.{Literal}
@@ -15,7 +15,7 @@ use Rattle.tb_syntax.specs.Tests.{Test, every, whole, feature, negated, both, ei
 abbrev pub literal_of : ℕ → Flag → Literal
 literal_of k f = record { number = k; flag = f }
 
--- a conjunction, a disjunction of one is that one
+-- a conjunction or a disjunction of one part is that part
 abbrev pub both_of : {L : Type 0} → List (Test L) → Test L
 both_of (t ∷ []) = t
 both_of ts = both (tests ts)
@@ -43,7 +43,7 @@ abbrev mutual
   unit_test (compares a s k f) = signed s (whole a (literal_of k f))
   unit_test (contains k f) = feature (literal_of k f)
 
--- a sequence, an alternative of one is that one
+-- a sequence or a choice of one part is that part
 abbrev pub cat_of : List Tree → Tree
 cat_of (t ∷ []) = t
 cat_of ts = cat (forest ts)
@@ -60,7 +60,7 @@ repeated_tree (exactly n) t = rep t n (Some n)
 repeated_tree (at_least n) t = rep t n None
 repeated_tree (between n m) t = rep t n (Some m)
 
--- how many token expressions stand there
+-- how many token expressions there are
 abbrev mutual
   pub alt_count : Alt → ℕ
   alt_count (one_cat c) = cat_count c
@@ -80,7 +80,7 @@ abbrev mutual
   atom_count (bare k f) = 1
   atom_count (parens a) = alt_count a
 
--- the pattern, where e token expressions stand before it
+-- the pattern, where e token expressions come before it
 abbrev mutual
   pub alt_parts : ℕ → Alt → List Tree
   alt_parts e (one_cat c) = cat_of (cat_parts e c) ∷ []
@@ -100,7 +100,7 @@ abbrev mutual
   atom_tree e (bare k f) = tok e
   atom_tree e (parens a) = alt_of (alt_parts e a)
 
--- the token expressions, as they stand in the text
+-- the token expressions, in the order of the text
 abbrev mutual
   pub alt_tests : Alt → List (Test Literal)
   alt_tests (one_cat c) = cat_tests c

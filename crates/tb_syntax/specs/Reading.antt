@@ -1,4 +1,4 @@
--- Which texts are queries within the limits, and what is wrong with one that is not.
+-- Which texts are queries within the limits, and the fault of a text that is none.
 use Rattle.std.specs.Prelude.{◌≡◌, ℕ, ◌+◌, ◌<◌, ◌≤◌, List, length, take, true, false, option_map}
 use Rattle.std.specs.List.{slice_get}
 use Rattle.std.specs.Option.{unwrap_or}
@@ -18,7 +18,8 @@ use Rattle.tb_syntax.specs.Tests.{Test}
 abbrev pub IsText : List ℕ → List Lexeme → List Span → Type 0
 IsText text ls ss = (length text ≤ 2000) × Lexes 0 0 text ls ss
 
--- The text is a query within the limits: at most 32 token expressions, 16 round parentheses open at one place, and numbers of repetitions up to 32.
+-- The text is a query within the limits: at most 32 token expressions, 16 round parentheses open at one place, and
+-- numbers of repetitions up to 32.
 abbrev pub IsWithin : List ℕ → List Lexeme → List Span → Query → Type 0
 IsWithin text ls ss q = IsText text ls ss × (query_text q ≡ ls) × (query_count q ≤ 32)
     × (query_nests 16 q ≡ true) × (query_repeats 32 q ≡ true)
@@ -26,20 +27,21 @@ IsWithin text ls ss q = IsText text ls ss × (query_text q ≡ ls) × (query_cou
 abbrev pub IsAccepted : List ℕ → List Lexeme → List Span → Type 0
 IsAccepted text ls ss = (q : Query) × IsWithin text ls ss q
 
--- it is, and says this: its pattern, and its token expressions
+-- the text is such a query, with this pattern and these token expressions
 abbrev pub IsRead : List ℕ → List Lexeme → List Span → Tree → List (Test Literal) → Type 0
 IsRead text ls ss t es = (q : Query) × IsWithin text ls ss q × (query_tree q ≡ t) × (query_tests q ≡ es)
 
--- some query begins with the lexemes before this one, but none has this one after them, or none ends there
+-- Some query begins with the lexemes before number i. None begins with lexeme i after them too, or, at the end, the
+-- lexemes are no query.
 abbrev pub IsWrongAt : List Lexeme → ℕ → Type 0
 IsWrongAt ls i = (IsQuery ls → ⊥) × (i ≤ length ls) × IsBeginning (take i ls)
     × (i < length ls → IsBeginning (take (i + 1) ls) → ⊥)
 
--- where the lexeme of this number begins, or the end of a text of n bytes
+-- the place where the lexeme with this number begins, or the end of a text of n bytes
 abbrev pub byte_of : List Span → ℕ → ℕ → ℕ
 byte_of ss i n = unwrap_or (option_map (λ (s : Span). s.start) (slice_get ss i)) n
 
--- What is wrong with a text. The first of these is told that holds.
+-- The fault of a text, the first in this order that holds.
 abbrev pub IsFault : List ℕ → Fault → Type 0
 IsFault text TooLong = 2000 < length text
 IsFault text (Syntax b) = (ls : List Lexeme) × (ss : List Span) × IsText text ls ss × ((i : ℕ) × IsWrongAt ls i

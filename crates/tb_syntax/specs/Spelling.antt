@@ -1,4 +1,4 @@
--- How lexemes are spelled (The CQP Query Language Manual, section 3, cut down). Letters and digits are ASCII.
+-- How lexemes are spelled (The CQP Query Language Manual, section 3, in part). Letters and digits are ASCII.
 use Rattle.std.specs.Prelude.{◌≡◌, ℕ, ◌+◌, ◌*◌, ◌-◌, min, List, [], ◌∷◌, ◌++◌, codes}
 use Rattle.std.specs.Prelude.{Bool, true, false, ◌||◌, ◌&&◌, nat_eq, if◌then◌else◌, Option, Some, None}
 use Rattle.std.specs.Prelude.{option_map}
@@ -32,12 +32,12 @@ word s =
     else if bytes_eq s (codes "s") then Some Sentence
     else option_map Name (column s)
 
--- the number that digits write after the digits of v
+-- the number that the digits write after those of v
 abbrev pub decimal_from : ℕ → List ℕ → ℕ
 decimal_from v [] = v
 decimal_from v (c ∷ cs) = decimal_from (10 * v + (c - 48)) cs
 
--- Digits are a number where no zero leads. One above 255 stands as 255.
+-- Digits are a number if there is no leading zero. A number above 255 is stored as 255.
 abbrev pub number : List ℕ → Option Lexeme
 number [] = None
 number (c ∷ []) = Some (Number (min 255 (decimal_from 0 (c ∷ []))))
@@ -80,33 +80,33 @@ abbrev pub doubled : ℕ → List ℕ → List ℕ
 doubled q [] = []
 doubled q (c ∷ cs) = if nat_eq q c then c ∷ c ∷ doubled q cs else c ∷ doubled q cs
 
--- the text begins with such a byte
+-- the text begins with a byte that has p
 abbrev pub begins : (ℕ → Bool) → List ℕ → Bool
 begins p [] = false
 begins p (c ∷ cs) = p c
 
--- s is the longest run of such bytes at the beginning of the text, and the rest is left
+-- s is the longest run of bytes that have p at the beginning of the text, and `rest` is what follows
 pub record IsRun (p : ℕ → Bool) (s text rest : List ℕ) : Type 0 where
   pub parts : text ≡ s ++ rest
   pub all : list_all p s ≡ true
   pub longest : begins p rest ≡ false
 
--- The text begins with this lexeme, and the rest is left. A literal has the number k.
+-- The text begins with this lexeme, and `rest` is what follows. A literal has the number k.
 pub data Starts (k : ℕ) (text : List ℕ) (l : Lexeme) (rest : List ℕ) : Type 0 where
   of_letters : (s : List ℕ) → IsRun is_ascii_alphabetic s text rest → word s ≡ Some l → Starts k text l rest
   of_digits : (s : List ℕ) → IsRun is_ascii_digit s text rest → number s ≡ Some l → Starts k text l rest
   of_two_marks : (a b : ℕ) → text ≡ a ∷ b ∷ rest → double_mark a b ≡ Some l → Starts k text l rest
-  -- where no lexeme of two marks stands
+  -- where there is no lexeme of two marks
   of_one_mark : (a : ℕ) → text ≡ a ∷ rest → single_mark a ≡ Some l → ((b : ℕ) (bs : List ℕ)
       → rest ≡ b ∷ bs → double_mark a b ≡ None) → Starts k text l rest
-  -- what a literal says stands between two quotes, and each such quote in it is written twice
+  -- the text of a literal is between two quotes, and each such quote in it is written twice
   of_quotes : (q : ℕ) (s : List ℕ) → is_quote q ≡ true → text ≡ q ∷ (doubled q s ++ q ∷ rest)
       → begins (nat_eq q) rest ≡ false → l ≡ Quote k → Starts k text l rest
 
--- no lexeme stands there
+-- the text begins with no lexeme
 abbrev pub IsStray : ℕ → List ℕ → Type 0
 IsStray k text = (l : Lexeme) (rest : List ℕ) → Starts k text l rest → ⊥
 
--- the bytes of a literal that says s, its quotes with it
+-- the bytes of a literal with the text s, including its quotes
 abbrev pub IsQuoted : List ℕ → List ℕ → Type 0
 IsQuoted bytes s = (q : ℕ) × (is_quote q ≡ true) × (bytes ≡ q ∷ (doubled q s ++ q ∷ []))

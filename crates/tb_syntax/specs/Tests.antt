@@ -1,5 +1,5 @@
--- Token expressions without where they lie in memory: what is asked of one word, with each `!`. A literal may be anything: its number in
--- the text of a query, or the text that it says.
+-- Token expressions as plain data: tests of one word, with each `!`. A literal may be anything: its number in the text
+-- of a query, or its text.
 use Rattle.std.specs.Prelude.{ℕ, zero, suc, List, [], ◌∷◌, ◌++◌}
 use Rattle.tb_syntax.specs.declared.lexeme.Attr.{Attr}
 
@@ -13,9 +13,9 @@ mutual
     feature : L → Test L
     -- the test does not hold
     negated : Test L → Test L
-    -- each of the tests holds
+    -- all of the tests hold
     both : Tests L → Test L
-    -- some of the tests holds
+    -- one of the tests holds
     either : Tests L → Test L
 
   pub data Tests (L : Type 0) : Type 0 where
@@ -26,12 +26,12 @@ abbrev pub tests : {L : Type 0} → List (Test L) → Tests L
 tests [] = no_test
 tests (t ∷ ts) = and_test t (tests ts)
 
--- denied so many times
+-- negated this many times
 abbrev pub denied_times : {L : Type 0} → ℕ → Test L → Test L
 denied_times zero t = t
 denied_times (suc n) t = denied_times n (negated t)
 
--- the literals of a test, as they stand in the text
+-- the literals of a test, in the order of the text
 abbrev mutual
   pub literals : {L : Type 0} → Test L → List L
   literals every = []
@@ -45,12 +45,12 @@ abbrev mutual
   all_literals no_test = []
   all_literals (and_test t ts) = literals t ++ all_literals ts
 
--- those of one test after the other
+-- the literals of one test after another
 abbrev pub literals_of : {L : Type 0} → List (Test L) → List L
 literals_of [] = []
 literals_of (t ∷ ts) = literals t ++ literals_of ts
 
--- a test, with what the function makes of each literal in the place of that literal
+-- a test in which f of each literal replaces the literal
 abbrev mutual
   pub with_each : {L M : Type 0} → (L → M) → Test L → Test M
   with_each f every = every

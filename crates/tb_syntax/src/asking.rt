@@ -1,4 +1,4 @@
-//! Reading the tests between brackets.
+//! Parses the tests between brackets.
 
 ghost use Rattle.std.specs.Prelude.{◌≡◌, ◌∷◌, ◌≤◌, ◌-◌, List, length, map, IfOk};
 ghost use Rattle.tb_syntax.specs.declared.expr.Literal.{Literal};
@@ -12,7 +12,7 @@ use crate::expr::{Expr, Literal, any, both_of, denied, either_of, item, whole};
 use crate::lexeme::{Attr, Lexeme};
 use std::alloc::{AllocError, Global};
 
-/// The comparison of a column whose name has been read.
+/// The comparison after the name of a column, which is read already.
 fn comparison_at(
     alloc: Global,
     attr: Attr,
@@ -29,7 +29,7 @@ fn comparison_at(
     }
 }
 
-/// The number of `!` that stand there, and what is left after them.
+/// The number of `!` at the beginning, and the lexemes after them.
 fn denials_at(lexemes: &[Lexeme]) -> (usize, &[Lexeme])
     ensures exact { (t : Test Literal) (end : List Lexeme) → ReadsUnit result.1.now t end
         → ReadsUnit lexemes.now (denied_times result.0 t) end }
@@ -45,7 +45,7 @@ fn denials_at(lexemes: &[Lexeme]) -> (usize, &[Lexeme])
     (times, rest)
 }
 
-/// The unit of a test, before which no `!` stands.
+/// The unit of a test, without a `!` before it.
 #[cycle(asking)]
 fn plain_unit_at(
     alloc: Global,
@@ -77,7 +77,7 @@ fn unit_at(alloc: Global, lexemes: &[Lexeme]) -> Result<(Expr<Literal>, &[Lexeme
     Ok((denied(alloc, times, expr)?, rest))
 }
 
-/// Puts the units of a conjunction after the parts.
+/// Appends the units of a conjunction to the parts.
 #[cycle(asking)]
 fn units_at<'s>(
     alloc: Global,
@@ -107,7 +107,7 @@ fn conj_at(alloc: Global, lexemes: &[Lexeme]) -> Result<(Expr<Literal>, &[Lexeme
     Ok((both_of(parts), rest))
 }
 
-/// Puts the conjunctions of a disjunction after the parts.
+/// Appends the conjunctions of a disjunction to the parts.
 #[cycle(asking)]
 fn conjs_at<'s>(
     alloc: Global,

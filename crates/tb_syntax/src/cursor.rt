@@ -1,7 +1,7 @@
-//! Reading lexemes one after the other.
+//! Reads lexemes one after another.
 //!
-//! The lexemes have been scanned. So where none of those stands that the grammar has there, what is
-//! answered does not matter, and nothing is left.
+//! The lexemes have passed the scan, so they are a query. For other lexemes the answers have no meaning, and no lexeme
+//! is left after them.
 
 ghost use Rattle.std.specs.Prelude.{◌≡◌, ◌≤◌, ◌-◌, length};
 ghost use Rattle.tb_syntax.specs.Parsing.{head, tail, ReadsFlag, ReadsLiteral};
@@ -19,7 +19,7 @@ pub(crate) fn head(lexemes: &[Lexeme]) -> Lexeme
     }
 }
 
-/// What is left after the first lexeme.
+/// The lexemes after the first one.
 pub(crate) fn tail(lexemes: &[Lexeme]) -> &[Lexeme]
     ensures rest { result.now ≡ tail lexemes.now }
     ensures shorter { length result.now ≤ length lexemes.now - 1 }
@@ -30,7 +30,7 @@ pub(crate) fn tail(lexemes: &[Lexeme]) -> &[Lexeme]
     }
 }
 
-/// The flag that stands there, if one does.
+/// The flag at the beginning, if there is one.
 fn flag_at(lexemes: &[Lexeme]) -> (Flag, &[Lexeme])
     ensures exact { ReadsFlag lexemes.now result.0 result.1.now }
     ensures shorter { length result.1.now ≤ length lexemes.now }
@@ -42,7 +42,7 @@ fn flag_at(lexemes: &[Lexeme]) -> (Flag, &[Lexeme])
     }
 }
 
-/// The literal that stands there, with its flag.
+/// The literal at the beginning, with its flag.
 pub(crate) fn literal_at(lexemes: &[Lexeme]) -> (Literal, &[Lexeme])
     ensures exact { ReadsLiteral lexemes.now result.0 result.1.now }
     ensures shorter { length result.1.now ≤ length lexemes.now - 1 }

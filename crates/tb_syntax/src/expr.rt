@@ -16,22 +16,23 @@ pub struct Literal {
     pub flag: Flag,
 }
 
-/// What is asked of one word. A literal stands as the `L` of it: by its number, as [`Literal`], in what
-/// a text was parsed to, and with what was built of it in what words are tested against.
+/// A token expression: a test of one word.
+///
+/// `L` is its literals: [`Literal`], a number, in a parsed text, and a matcher in what tests words.
 #[derive(Debug, PartialEq, Eq, Drop)]
 pub enum Expr<L> {
-    /// Nothing: any word will do.
+    /// Any word.
     Any,
     /// The literal fits the whole value of the column.
     Whole(Attr, L),
     /// The literal fits some item of the word's features.
     Item(L),
-    /// The expression, denied so many times: once for each `!` before it. They are counted, so that
-    /// the depth of an expression is that of its parentheses, however long a chain of `!` is.
+    /// The expression, negated as often as there is a `!` before it. They are counted, so that the depth of an
+    /// expression is that of its parentheses, however long a chain of `!` is.
     Denied(usize, Box<Expr<L>>),
-    /// Each of the expressions holds.
+    /// All of the expressions hold.
     Both(Vec<Expr<L>>),
-    /// Some of the expressions holds.
+    /// One of the expressions holds.
     Either(Vec<Expr<L>>),
 }
 
@@ -56,7 +57,7 @@ pub(crate) fn item(literal: Literal) -> Expr<Literal>
     Expr::Item(literal)
 }
 
-/// The expression denied so many times, which is the expression itself where that is none.
+/// The expression, negated this many times; the expression itself for 0.
 pub(crate) fn denied(
     alloc: Global,
     times: usize,
@@ -70,7 +71,7 @@ pub(crate) fn denied(
     Ok(Expr::Denied(times, Box::new(alloc, expr)?))
 }
 
-/// The conjunction of the parts, which is the part itself where there is one.
+/// The conjunction of the parts; the part itself where there is one.
 pub(crate) fn both_of(mut parts: Vec<Expr<Literal>>) -> Expr<Literal>
     ensures { test result ≡ both_of (map test parts.items) }
 {
@@ -82,7 +83,7 @@ pub(crate) fn both_of(mut parts: Vec<Expr<Literal>>) -> Expr<Literal>
     Expr::Both(parts)
 }
 
-/// The disjunction of the parts, which is the part itself where there is one.
+/// The disjunction of the parts; the part itself where there is one.
 pub(crate) fn either_of(mut parts: Vec<Expr<Literal>>) -> Expr<Literal>
     ensures { test result ≡ either_of (map test parts.items) }
 {

@@ -1,17 +1,17 @@
-//! What can be wrong with the text of a query.
+//! Faults of the text of a query.
 
 ghost use Rattle.std.specs.Prelude.{◌≡◌};
 ghost use Rattle.tb_syntax.specs.declared.fault.Fault.TheVariants.{Memory};
 
 use std::alloc::AllocError;
 
-/// Why a text was not read. The first of them in this order is told.
+/// Why a text is no query. The first that holds, in this order, is reported.
 #[derive(Clone, Copy, PartialEq, Eq, Debug)]
 pub enum Fault {
     /// It has more than 2,000 bytes.
     TooLong,
-    /// It is outside the grammar. The byte, counted from 0, is where the first lexeme begins, or what
-    /// is none, that no query can have there; the length of the text where it only ends too early.
+    /// It is outside the grammar. The byte, counted from 0, is the beginning of the first lexeme that no query can have
+    /// there, or of a part that is no lexeme. It is the length of the text where the text only ends too early.
     Syntax(usize),
     /// It has more than 32 token expressions.
     TooMany,
@@ -19,7 +19,7 @@ pub enum Fault {
     TooDeep,
     /// A repetition has a number above 32, an upper number of 0, or one below its lower number.
     Repeat,
-    /// There was no memory for it.
+    /// Memory was refused.
     Memory,
 }
 

@@ -22,13 +22,13 @@ pub enum Attr {
 pub enum Flag {
     /// With no mark: a pattern for the whole value.
     Plain,
-    /// With `%c`: a pattern that takes no notice of case.
+    /// With `%c`: a pattern that ignores case.
     NoCase,
-    /// With `%l`: the value's own text, and no pattern.
+    /// With `%l`: the text itself, which is no pattern.
     Literal,
 }
 
-/// A lexeme of a query. It owns no text: a literal is known by its number among the literals.
+/// A lexeme of a query. It owns no text: a literal is named by its number among the literals.
 #[derive(Clone, Copy, PartialEq, Eq, Debug)]
 pub enum Lexeme {
     /// `(`
@@ -75,10 +75,10 @@ pub enum Lexeme {
     Within,
     /// `s`
     Sentence,
-    /// A number with no leading zero; one that is too large for the type stands as its greatest.
+    /// A number with no leading zero. A number above 255 is stored as 255.
     Number(u8),
     /// The literal with this number, counted from 0.
     Quote(u16),
-    /// A run of letters or digits that no query has, or what is no lexeme at all.
+    /// A run of letters or digits that no query has, or a byte that begins no lexeme.
     Stray,
 }

@@ -1,4 +1,4 @@
-//! From the text of a query to its lexemes.
+//! Splits the text of a query into lexemes.
 
 ghost use Rattle.std.specs.Prelude.{◌≡◌, ◌∷◌, ◌++◌, ◌<◌, ◌≤◌, ◌+◌, ◌-◌, ◌^◌, []};
 ghost use Rattle.std.specs.Prelude.{length, IfOk, OnOk};
@@ -8,16 +8,16 @@ use crate::lexeme::Lexeme;
 use crate::spelling::lexeme_at;
 use std::alloc::{AllocError, Global};
 
-/// The bytes of a text that a lexeme takes up.
+/// The bytes of a lexeme in a text.
 #[derive(Clone, Copy, PartialEq, Eq, Debug)]
 pub struct Span {
-    /// Where its first byte stands, counted from 0.
+    /// The place of its first byte, counted from 0.
     pub start: usize,
-    /// Where the byte after it stands.
+    /// The place after its last byte.
     pub end: usize,
 }
 
-/// The lexemes of a text, and where they stand in it.
+/// The lexemes of a text, and their places in it.
 #[derive(Debug, Drop)]
 pub struct Lexed {
     pub lexemes: Vec<Lexeme>,
@@ -46,7 +46,7 @@ impl Lexed {
     }
 }
 
-/// Whether the byte means nothing between lexemes: space, tab, LF and CR.
+/// Whether the byte separates lexemes: space, tab, LF or CR.
 fn is_white(byte: u8) -> bool
     ensures { result ≡ is_white byte }
 {
@@ -65,8 +65,7 @@ fn literals_after(literals: u16, lexeme: Lexeme) -> u16
     }
 }
 
-/// The lexemes of the text up to the first place where no lexeme stands, which is told as a stray
-/// one of no bytes.
+/// The lexemes of the text, up to the first place with no lexeme, for which a stray lexeme is the last.
 pub(crate) fn lex(alloc: Global, text: &[u8]) -> Result<Lexed, AllocError>
     requires { length text.now < 2 ^ 16 }
     ensures { IfOk result (λ x. Lexes 0 0 text.now x.lexemes.items x.spans.items) }

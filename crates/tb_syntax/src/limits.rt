@@ -1,4 +1,4 @@
-//! The limits of a query, asked of its lexemes.
+//! Tests the limits of a query on its lexemes.
 
 ghost use Rattle.std.specs.Prelude.{◌≡◌, ◌<◌, ◌≤◌, ◌+◌, ◌-◌, ◌^◌, length, IfSome};
 ghost use Rattle.tb_syntax.specs.Grammar.{Query, query_text};
@@ -7,7 +7,7 @@ ghost use Rattle.tb_syntax.specs.Limits.{query_repeats, room_after};
 
 use crate::lexeme::Lexeme;
 
-/// How many more parentheses may be opened after a lexeme, if it may stand at all.
+/// How many more parentheses may be opened after a lexeme, or none if the lexeme opens one too many.
 fn room_after(room: usize, lexeme: Lexeme) -> Option<usize>
     requires { room < 2 ^ 64 - 1 }
     ensures value { result ≡ room_after room lexeme }
@@ -21,8 +21,8 @@ fn room_after(room: usize, lexeme: Lexeme) -> Option<usize>
     }
 }
 
-/// Whether at most `most` round parentheses are open at each place of a query, those outside the
-/// brackets and those in its tests together.
+/// Whether a query has at most `most` open round parentheses at each place. Those outside the brackets and those in its
+/// tests count together.
 pub fn nests_within(lexemes: &[Lexeme], most: usize) -> bool
     requires few { most < 2 ^ 32 }
     requires short { length lexemes.now < 2 ^ 32 }
@@ -38,7 +38,7 @@ pub fn nests_within(lexemes: &[Lexeme], most: usize) -> bool
     true
 }
 
-/// Whether a lexeme begins a token expression: a bracket does, and outside the brackets a literal.
+/// Whether a lexeme begins a token expression: a bracket does, and a literal outside the brackets.
 fn begins_expression(inside: bool, lexeme: Lexeme) -> bool
     ensures { result ≡ begins_expression inside lexeme }
 {
@@ -49,7 +49,7 @@ fn begins_expression(inside: bool, lexeme: Lexeme) -> bool
     }
 }
 
-/// Whether what follows a lexeme stands within the brackets.
+/// Whether the lexeme after this one is within the brackets.
 fn inside_after(inside: bool, lexeme: Lexeme) -> bool
     ensures { result ≡ inside_after inside lexeme }
 {
@@ -60,7 +60,7 @@ fn inside_after(inside: bool, lexeme: Lexeme) -> bool
     }
 }
 
-/// The number of token expressions of a query: its brackets, and the literals outside of them.
+/// The number of token expressions of a query: its brackets, and the literals outside them.
 pub fn count_expressions(lexemes: &[Lexeme]) -> usize
     ensures count { (q : Query) → query_text q ≡ lexemes.now → result ≡ query_count q }
     ensures bound { result ≤ length lexemes.now }
@@ -76,10 +76,10 @@ pub fn count_expressions(lexemes: &[Lexeme]) -> usize
     count
 }
 
-/// What stands before a lexeme of a repetition.
+/// What of a repetition was read before a lexeme.
 #[derive(Clone, Copy, PartialEq, Eq, Debug)]
 pub enum Bounds {
-    /// No number that is still to be compared.
+    /// No number that still has to be compared.
     Apart,
     /// The lower number alone.
     Least(u8),
@@ -87,7 +87,7 @@ pub enum Bounds {
     Ranged(u8),
 }
 
-/// What stands before the next lexeme, if the numbers are within the limits so far.
+/// What was read before the next lexeme, if the numbers so far are within the limits.
 fn bounds_after(bounds: Bounds, lexeme: Lexeme, most: u8) -> Option<Bounds>
     ensures { result ≡ bounds_after most bounds lexeme }
 {
@@ -119,8 +119,8 @@ fn bounds_after(bounds: Bounds, lexeme: Lexeme, most: u8) -> Option<Bounds>
     }
 }
 
-/// Whether each number of a query's repetitions is at most `most`, and each upper number is at
-/// least 1 and not below the lower one, where `{n}` means n to n.
+/// Whether all repetitions of a query are within the limits. Each number is at most `most`, and each upper number is at
+/// least 1 and not below the lower one. `{n}` means n to n.
 pub fn repeats_within(lexemes: &[Lexeme], most: u8) -> bool
     ensures { (q : Query) → query_text q ≡ lexemes.now → result ≡ query_repeats most q }
 {

@@ -1,4 +1,4 @@
-//! Reading patterns.
+//! Parses patterns.
 
 ghost use Rattle.std.specs.Prelude.{◌≡◌, ◌∷◌, ◌≤◌, ◌-◌, length, map, IfOk};
 ghost use Rattle.tb_match.specs.Trees.{tree};
@@ -15,7 +15,7 @@ use crate::tree::{alt_of, cat_of, repeated, tok};
 use std::alloc::{AllocError, Global};
 use tb_match::Pat;
 
-/// The numbers of a repetition, whose brace has been read: how often at least and at most.
+/// The least and the greatest number of a repetition, whose brace is read already.
 fn numbers_at(lexemes: &[Lexeme]) -> ((u8, Option<u8>), &[Lexeme])
     ensures exact { ReadsNumbers lexemes.now result.0 result.1.now }
     ensures shorter { length result.1.now ≤ length lexemes.now }
@@ -34,7 +34,7 @@ fn numbers_at(lexemes: &[Lexeme]) -> ((u8, Option<u8>), &[Lexeme])
     }
 }
 
-/// The repetition that stands there, if one does.
+/// The repetition at the beginning, if there is one.
 fn repeat_at(lexemes: &[Lexeme]) -> (Option<(u8, Option<u8>)>, &[Lexeme])
     ensures exact { ReadsRepeat lexemes.now result.0 result.1.now }
     ensures shorter { length result.1.now ≤ length lexemes.now }
@@ -51,7 +51,7 @@ fn repeat_at(lexemes: &[Lexeme]) -> (Option<(u8, Option<u8>)>, &[Lexeme])
     }
 }
 
-/// The token expression that stands there.
+/// The token expression at the beginning.
 fn expr_at(alloc: Global, lexemes: &[Lexeme]) -> Result<(Expr<Literal>, &[Lexeme]), AllocError>
     ensures exact { IfOk result (λ x. ReadsExpr lexemes.now (test x.0) x.1.now) }
     ensures shorter { IfOk result (λ x. length x.1.now ≤ length lexemes.now - 1) }
@@ -72,7 +72,7 @@ fn expr_at(alloc: Global, lexemes: &[Lexeme]) -> Result<(Expr<Literal>, &[Lexeme
     }
 }
 
-/// The atom.
+/// The atom at the beginning.
 #[cycle(parsing)]
 fn atom_at<'s>(
     alloc: Global,
@@ -97,7 +97,7 @@ fn atom_at<'s>(
     }
 }
 
-/// The atom, and its repetition.
+/// The atom at the beginning, with its repetition.
 #[cycle(parsing)]
 fn item_at<'s>(
     alloc: Global,
@@ -116,7 +116,7 @@ fn item_at<'s>(
     }
 }
 
-/// Whether an atom begins there.
+/// Whether an atom is at the beginning.
 fn begins_atom(lexemes: &[Lexeme]) -> bool
     ensures { result ≡ begins_atom lexemes.now }
 {
@@ -126,7 +126,7 @@ fn begins_atom(lexemes: &[Lexeme]) -> bool
     )
 }
 
-/// Puts the items of a sequence after the parts.
+/// Appends the items of a sequence to the parts.
 #[cycle(parsing)]
 fn items_at<'s>(
     alloc: Global,
@@ -146,7 +146,7 @@ fn items_at<'s>(
     Ok(rest)
 }
 
-/// The sequence.
+/// The sequence at the beginning.
 #[cycle(parsing)]
 fn cat_at<'s>(
     alloc: Global,
@@ -162,7 +162,7 @@ fn cat_at<'s>(
     Ok((cat_of(parts), rest))
 }
 
-/// Puts the sequences of a choice after the parts.
+/// Appends the sequences of a choice to the parts.
 #[cycle(parsing)]
 fn cats_at<'s>(
     alloc: Global,
@@ -182,7 +182,7 @@ fn cats_at<'s>(
     }
 }
 
-/// The choice.
+/// The choice at the beginning.
 #[cycle(parsing)]
 fn alt_at<'s>(
     alloc: Global,
@@ -198,19 +198,19 @@ fn alt_at<'s>(
     Ok((alt_of(parts), rest))
 }
 
-/// A query that has been parsed.
+/// A query that is parsed.
 #[derive(Debug, Drop)]
 pub struct Parsed {
     /// Its pattern, over the numbers of its token expressions.
     pub pat: Pat,
-    /// Its token expressions, as they stand in the text.
+    /// Its token expressions, in the order of the text.
     pub exprs: Vec<Expr<Literal>>,
 }
 
-/// What a query says, of its lexemes.
+/// Parses the lexemes of a query.
 ///
-/// Of lexemes that are no query the answer does not matter. The stack is as deep as parentheses are
-/// open, and a sequence, a choice or a test has parts: some 70 KiB for 2,000 bytes.
+/// For lexemes that are no query the answer has no meaning. The stack grows with open parentheses and with the parts of
+/// a sequence, a choice or a test: about 70 KiB for 2,000 bytes.
 pub(crate) fn parse_lexemes(alloc: Global, lexemes: &[Lexeme]) -> Result<Parsed, AllocError>
     ensures { IfOk result (λ p. ReadsQuery lexemes.now (tree p.pat) (map test p.exprs.items)) }
 {

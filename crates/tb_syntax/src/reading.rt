@@ -1,4 +1,4 @@
-//! Reading the text of a query.
+//! Reads the text of a query.
 
 ghost use Rattle.std.specs.Prelude.{length, map, IfOk, IfErr, ◌≡◌, ◌≤◌};
 ghost use Rattle.std.specs.String.{string_bytes};
@@ -17,19 +17,19 @@ use crate::scanning::scan;
 use crate::unquoting::unquote_all;
 use std::alloc::Global;
 
-/// The greatest number of bytes of a query.
+/// The most bytes of a query.
 const LONGEST: usize = 2000;
 
-/// The greatest number of token expressions of a query.
+/// The most token expressions of a query.
 const MOST_EXPRESSIONS: usize = 32;
 
-/// The greatest number of round parentheses that are open at one place.
+/// The most round parentheses that may be open at one place.
 const MOST_PARENTHESES: usize = 16;
 
 /// The greatest number of a repetition.
 const MOST_TIMES: u8 = 32;
 
-/// Where the lexeme of this number begins, or the end of the text.
+/// The place where the lexeme with this number begins, or the end of the text.
 fn byte_of(spans: &[Span], place: usize, end: usize) -> usize
     ensures { result ≡ byte_of spans.now place end }
 {
@@ -41,8 +41,9 @@ fn byte_of(spans: &[Span], place: usize, end: usize) -> usize
 
 /// The lexemes of a query.
 ///
-/// Errors: what is wrong with a text that is no query within the limits, or want of memory, which comes
-/// only of texts within the limit of length.
+/// # Errors
+///
+/// The first fault of the text. `Memory` comes only for a text within the limit of length.
 pub fn read(alloc: Global, text: &str) -> Result<Lexed, Fault>
     ensures query { IfOk result (λ x. IsAccepted text.now x.lexemes.items x.spans.items) }
     ensures fault { IfErr result (λ e. IsFault text.now e) }
@@ -69,21 +70,23 @@ pub fn read(alloc: Global, text: &str) -> Result<Lexed, Fault>
     Ok(lexed)
 }
 
-/// A query: what it says.
+/// A query, parsed.
 #[derive(Debug, Drop)]
 pub struct Query {
     /// Its pattern and its token expressions.
     pub parsed: Parsed,
-    /// What each of its literals says, in the order of the text. The token expressions know them by
-    /// their numbers.
+    /// The text of each of its literals, in the order of the query. The token expressions name them by number.
     pub literals: Vec<String>,
 }
 
-/// What a query says. Its pattern names only its own token expressions, of which there are at most
-/// 32, and is within the limits of a search.
+/// Parses a query, in a part of CQP's language (The CQP Query Language Manual, section 3).
 ///
-/// Errors: what is wrong with a text that is no query within the limits, or want of memory, which comes
-/// only of texts within the limit of length.
+/// Its pattern names only its own token expressions, of which there are at most 32, and is within the limits of a
+/// search.
+///
+/// # Errors
+///
+/// The first fault of the text. `Memory` comes only for a text within the limit of length.
 pub fn parse(alloc: Global, text: &str) -> Result<Query, Fault>
     ensures query { IfOk result (λ x. Says text.now (tree x.parsed.pat) (map test x.parsed.exprs.items)
         (map string_bytes x.literals.items)) }

@@ -1,7 +1,7 @@
-//! Which lists of lexemes are queries, and where one that is none goes wrong.
+//! Decides which lists of lexemes are queries, and where a list that is none goes wrong.
 //!
-//! But for its round parentheses the language is regular, so one mode and two counters decide it,
-//! with no recursion and no memory.
+//! Without its round parentheses the language is regular. So one mode and two counters decide it, with no recursion and
+//! no memory.
 
 ghost use Rattle.std.specs.Prelude.{◌≡◌, ◌<◌, ◌≤◌, ◌+◌, ◌-◌, ◌^◌, length, take, IfOk};
 ghost use Rattle.std.specs.Prelude.{IfErr, IfSome};
@@ -15,39 +15,39 @@ use crate::lexeme::{Attr, Lexeme};
 pub enum Mode {
     /// An atom has to come.
     Wants,
-    /// A bare literal stands before.
+    /// After a bare literal.
     Quoted,
-    /// An atom stands before that takes no flag.
+    /// After an atom that takes no flag.
     Has,
-    /// A repeated atom stands before.
+    /// After a repeated atom.
     Repeated,
     /// The first number of a repetition has to come.
     Braced,
-    /// The first number of a repetition stands before.
+    /// After the first number of a repetition.
     Lowest,
-    /// The comma of a repetition stands before.
+    /// After the comma of a repetition.
     Ranged,
-    /// The second number of a repetition stands before.
+    /// After the second number of a repetition.
     Highest,
-    /// The bracket of a token expression stands before.
+    /// After the bracket of a token expression.
     Opened,
     /// A unit of a test has to come.
     Asks,
-    /// The name of a column stands before.
+    /// After the name of a column.
     Named,
-    /// The name `feats` stands before.
+    /// After the name `feats`.
     Featured,
     /// The literal of a unit has to come.
     Signed,
-    /// The literal of a unit stands before.
+    /// After the literal of a unit.
     Tested,
-    /// A unit stands before that takes no flag.
+    /// After a unit that takes no flag.
     Whole,
     /// The `s` has to come.
     Scoped,
-    /// The scope stands before.
+    /// After the scope.
     Bounded,
-    /// The semicolon stands before.
+    /// After the semicolon.
     Stopped,
 }
 
@@ -61,7 +61,7 @@ pub struct Place {
     pub inner: u32,
 }
 
-/// The place after one more lexeme outside the brackets, if it may stand here.
+/// The place after one more lexeme outside the brackets, if the lexeme is possible here.
 fn step_outside(mode: Mode, outer: u32, lexeme: Lexeme) -> Option<Place>
     requires { outer < 2 ^ 32 - 1 }
     ensures value { result ≡ step_outside mode outer lexeme }
@@ -117,7 +117,7 @@ fn step_outside(mode: Mode, outer: u32, lexeme: Lexeme) -> Option<Place>
     })
 }
 
-/// The place after one more lexeme within the brackets, if it may stand here.
+/// The place after one more lexeme within the brackets, if the lexeme is possible here.
 fn step_inside(mode: Mode, outer: u32, inner: u32, lexeme: Lexeme) -> Option<Place>
     requires { inner < 2 ^ 32 - 1 }
     ensures value { result ≡ step_inside mode outer inner lexeme }
@@ -156,7 +156,7 @@ fn is_inside(mode: Mode) -> bool
     )
 }
 
-/// The place after one more lexeme, if it may stand here.
+/// The place after one more lexeme, if the lexeme is possible here.
 pub fn step(place: Place, lexeme: Lexeme) -> Option<Place>
     requires outer { place.outer < 2 ^ 32 - 1 }
     requires inner { place.inner < 2 ^ 32 - 1 }
@@ -183,8 +183,10 @@ fn may_end(place: Place) -> bool
 
 /// Whether the lexemes are a query.
 ///
-/// An error is the number, from 0, of the first lexeme that cannot follow those before it in any
-/// query, or the number of all lexemes where they only end too early.
+/// # Errors
+///
+/// The number, from 0, of the first lexeme that follows those before it in no query; the number of all lexemes where
+/// they only end too early.
 pub fn scan(lexemes: &[Lexeme]) -> Result<(), usize>
     requires { length lexemes.now < 2 ^ 32 - 1 }
     ensures query { IfOk result (λ _. IsQuery lexemes.now) }

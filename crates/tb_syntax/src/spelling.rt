@@ -1,4 +1,4 @@
-//! The spelling of each lexeme.
+//! Recognizes each lexeme by its spelling.
 
 ghost use Rattle.std.specs.Prelude.{◌≡◌, ◌∷◌, ◌<◌, ◌≤◌, ◌+◌, ◌-◌, ◌^◌, ℕ, List};
 ghost use Rattle.std.specs.Prelude.{length, min, take, drop, option_map, option_and_then, MatchOption, IfSome, false};
@@ -54,7 +54,7 @@ fn word(letters: &[u8]) -> Option<Lexeme>
     }
 }
 
-/// The number that digits write, if no zero leads.
+/// The number that digits write, if it has no leading zero.
 fn number(digits: &[u8]) -> Option<Lexeme>
     ensures { result ≡ number digits.now }
 {
@@ -147,8 +147,8 @@ fn digits(text: &[u8]) -> usize
     text.len()
 }
 
-/// The number of bytes that a literal takes up after its opening quote, the closing one with it, if
-/// there is one. Such a quote that is followed by another one does not close it.
+/// How many bytes a literal has after its opening quote, with the closing one, if there is one. A quote of the same
+/// kind that is written twice does not close the literal.
 fn literal_length(quote: u8, text: &[u8]) -> Option<usize>
     ensures rest { option_map (λ n. drop n text.now) result ≡ after_literal quote false text.now }
     ensures bound { IfSome result (λ n. n ≤ length text.now) }
@@ -168,7 +168,7 @@ fn literal_length(quote: u8, text: &[u8]) -> Option<usize>
 #[derive(Clone, Copy, PartialEq, Eq, Debug)]
 pub struct Found {
     pub lexeme: Lexeme,
-    /// The number of bytes that it takes up.
+    /// How many bytes it has.
     pub length: usize,
 }
 
@@ -192,7 +192,7 @@ fn number_at(text: &[u8]) -> Option<Found>
     Some(Found { lexeme, length })
 }
 
-/// The lexeme of one mark or two at the beginning of the text.
+/// The lexeme of one or two marks at the beginning of the text.
 fn mark_at(first: u8, rest: &[u8]) -> Option<Found>
     ensures value { found (first ∷ rest.now) result ≡ first_mark first rest.now }
     ensures bound { IfSome result (λ f. f.length ≤ length rest.now + 1) }
@@ -206,7 +206,7 @@ fn mark_at(first: u8, rest: &[u8]) -> Option<Found>
     Some(Found { lexeme, length: 1 })
 }
 
-/// The literal at the beginning of the text, where its opening quote has been read.
+/// The literal at the beginning of the text, whose opening quote is read already.
 fn literal_at(quote: u8, rest: &[u8], literals: u16) -> Option<Found>
     requires { length rest.now < 2 ^ 64 - 1 }
     ensures value { found (quote ∷ rest.now) result ≡ option_map (λ left. (Lexeme.Quote literals, left))
@@ -220,7 +220,7 @@ fn literal_at(quote: u8, rest: &[u8], literals: u16) -> Option<Found>
     })
 }
 
-/// The lexeme at the beginning of the text, found by its first byte.
+/// The lexeme at the beginning of the text, recognized by its first byte.
 fn first_lexeme(text: &[u8], literals: u16) -> Option<Found>
     ensures value { found text.now result ≡ first_lexeme literals text.now }
     ensures bound { IfSome result (λ f. f.length ≤ length text.now) }
@@ -238,7 +238,7 @@ fn first_lexeme(text: &[u8], literals: u16) -> Option<Found>
     mark_at(*first, rest)
 }
 
-/// The lexeme at the beginning of the text, which `literals` literals stand before, if there is one.
+/// The lexeme at the beginning of the text, if there is one. `literals` is the number of literals before it.
 pub(crate) fn lexeme_at(text: &[u8], literals: u16) -> Option<Found>
     ensures lexeme { MatchOption result (IsStray literals text.now) (λ f.
         Starts literals text.now f.lexeme (drop f.length text.now)) }

@@ -7,14 +7,14 @@ ghost use Rattle.tb_syntax.specs.Pattern.{cat_of, alt_of};
 use std::alloc::{AllocError, Global};
 use tb_match::Pat;
 
-/// The word of which this expression holds.
+/// A word of which this expression holds.
 pub(crate) fn tok(expr: u16) -> Pat
     ensures { tree result ≡ tok expr }
 {
     Pat::Tok(expr)
 }
 
-/// The pattern repeated.
+/// The pattern, repeated.
 pub(crate) fn repeated(
     alloc: Global,
     pat: Pat,
@@ -26,7 +26,7 @@ pub(crate) fn repeated(
     Ok(Pat::Rep(Box::new(alloc, pat)?, least, most))
 }
 
-/// The sequence of the parts, which is the part itself where there is one.
+/// The sequence of the parts; the part itself where there is one.
 pub(crate) fn cat_of(mut parts: Vec<Pat>) -> Pat
     ensures { tree result ≡ cat_of (map tree parts.items) }
 {
@@ -38,7 +38,7 @@ pub(crate) fn cat_of(mut parts: Vec<Pat>) -> Pat
     Pat::Cat(parts)
 }
 
-/// The choice between the parts, which is the part itself where there is one.
+/// The choice between the parts; the part itself where there is one.
 pub(crate) fn alt_of(mut parts: Vec<Pat>) -> Pat
     ensures { tree result ≡ alt_of (map tree parts.items) }
 {

@@ -1,4 +1,4 @@
-//! What a literal says.
+//! The texts of literals.
 
 ghost use Rattle.std.specs.Prelude.{◌≡◌, ◌<◌, ℕ, List, map, IfOk, false};
 ghost use Rattle.std.specs.String.{string_bytes};
@@ -11,7 +11,7 @@ use crate::lexeme::Lexeme;
 use crate::lexing::Lexed;
 use std::alloc::{AllocError, Global};
 
-/// What a literal says that stands after its opening quote, with its closing one.
+/// The text of a literal, from the bytes after its opening quote, with its closing quote.
 fn said_after(alloc: Global, quote: char, text: &str) -> Result<String, AllocError>
     ensures { quote < 128 → IfOk result (λ s. string_bytes s ≡ said_of quote false text.now) }
 {
@@ -30,10 +30,9 @@ fn said_after(alloc: Global, quote: char, text: &str) -> Result<String, AllocErr
     Ok(said)
 }
 
-/// What a literal says: the text between its quotes, where a quote of this kind that is written
-/// twice is one.
+/// The text of a literal: the bytes between its quotes, in which a quote of this kind is written twice.
 ///
-/// Of a text that is no literal the answer does not matter.
+/// For a text that is no literal the answer has no meaning.
 pub(crate) fn unquote(alloc: Global, literal: &str) -> Result<String, AllocError>
     ensures { (s : List ℕ) → IsQuoted literal.now s → IfOk result (λ v. string_bytes v ≡ s) }
 {
@@ -44,7 +43,7 @@ pub(crate) fn unquote(alloc: Global, literal: &str) -> Result<String, AllocError
     }
 }
 
-/// What the literals of a text say, in the order of the text.
+/// The texts of all literals of a query, in its order.
 pub(crate) fn unquote_all(
     alloc: Global,
     text: &str,
