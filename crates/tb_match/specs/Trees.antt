@@ -1,11 +1,11 @@
--- Patterns without where they lie in memory.
+-- Patterns as plain data.
 use Rattle.std.specs.Prelude.{ℕ, Option, List, [], ◌∷◌, map}
 use Rattle.tb_match.specs.declared.pattern.Pat.{Pat}
 use Rattle.tb_match.specs.declared.pattern.Pat.TheOpen.{Pat-F}
 use Rattle.tb_match.specs.declared.pattern.Pat.TheFolds.{fold-Pat}
 
--- A pattern over the words of a sentence, whose expressions stand by their numbers: one word, parts one after the other, any one of
--- the parts, or a pattern repeated at least so often, and at most so often where a second number is given.
+-- A pattern over the words of a sentence, which names expressions by number. It is one word, parts one after another,
+-- one of the parts, or a repeated pattern with a least number and perhaps a greatest one.
 mutual
   pub data Tree : Type 0 where
     tok : ℕ → Tree
@@ -28,7 +28,7 @@ tree_step (Pat-F.Cat ps) = cat (forest ps.items)
 tree_step (Pat-F.Alt ps) = alt (forest ps.items)
 tree_step (Pat-F.Rep p a b) = rep p.value a b
 
--- what a pattern in memory stands for
+-- the plain data of a pattern
 abbrev pub tree : Pat → Tree
 tree = fold-Pat Tree tree_step
 

@@ -1,4 +1,4 @@
-//! Chains of at most so many links: from each place, turn by turn, the links of the places that are new.
+//! Chains of at most a given number of links: in each turn, from each place, the links of the places that are new.
 
 ghost use Rattle.std.specs.Prelude.{◌≡◌, ◌+◌, ◌-◌, ◌*◌, ◌/◌, ◌<◌, ◌≤◌, ◌^◌};
 ghost use Rattle.std.specs.Prelude.{◌↔◌, ◌⊎◌, ◌≢◌, ℕ, IsTrue, length};
@@ -11,7 +11,7 @@ use crate::table::{begin, clear, store};
 use crate::uniting::unite;
 use crate::walk::{next_place, next_unknown};
 
-/// Unites into the row the links of each place of `before` that `done` has not.
+/// Unites into the row the links of each place that `before` has and `done` has not.
 #[inline(always)]
 fn follow(
     row: &mut [u64],
@@ -45,8 +45,8 @@ fn follow(
     }
 }
 
-/// Adds to the row the places that one link leads to from its own. The links of the places of
-/// `done` lead into the row already; afterwards those of all that it had do.
+/// Adds to the row the places that one link leads to from its places. Before the call, the row has the links of the
+/// places in `done`; after it, those of all places that it had.
 #[inline(always)]
 fn extend(
     row: &mut [u64],
@@ -79,7 +79,7 @@ fn extend(
     done.copy_from_slice(before);
 }
 
-/// Whether the two rows are the same.
+/// Whether the two rows are equal.
 #[inline(always)]
 fn is_same(row: &[u64], other: &[u64]) -> bool
     ensures { IsTrue result → row.now ≡ other.now }
@@ -87,8 +87,8 @@ fn is_same(row: &[u64], other: &[u64]) -> bool
     *row == *other
 }
 
-/// Makes the row the places that at most so many links lead to from the place, and says whether it is
-/// the row of any number of links. Once it is, further turns add nothing.
+/// Makes the row the places that at most `times` links lead to from the place. Returns whether it is the row `closed`
+/// of any number of links. Once it is, further turns add nothing.
 #[inline(always)]
 fn limit_row(
     row: &mut [u64],
@@ -127,7 +127,7 @@ fn limit_row(
     is_same(row, closed)
 }
 
-/// The same in a table, of which the row is that of any number of links.
+/// The same for a row of a table, which is that of any number of links.
 #[inline(always)]
 fn limit_place(
     table: &mut [u64],
@@ -167,8 +167,7 @@ fn limit_place(
     same
 }
 
-/// Makes the rows of any number of links those of at most so many, place by place, and says whether
-/// they are the same.
+/// Makes the rows of any number of links those of at most `times`, place by place. Returns whether they are the same.
 fn limit_places(
     table: &mut [u64],
     spare: &mut [u64],
@@ -204,8 +203,7 @@ fn limit_places(
     same
 }
 
-/// Makes the rows of any number of links those of at most so many, and says whether they are the
-/// same.
+/// Makes the rows of any number of links those of at most `times`. Returns whether they are the same.
 pub(crate) fn limit(
     table: &mut [u64],
     spare: &mut [u64],
@@ -242,7 +240,7 @@ pub(crate) fn limit(
     )
 }
 
-/// Takes the place out of the row.
+/// Removes the place from the row.
 #[inline(always)]
 fn remove(row: &mut [u64], place: usize)
     requires { place / 64 < length row.old }
@@ -251,7 +249,7 @@ fn remove(row: &mut [u64], place: usize)
     row[place / 64] = without_place(row[place / 64], place % 64);
 }
 
-/// Takes the place out of its own row of the table, where no link leads from it to itself.
+/// Removes the place from its own row of the table, unless a link leads from it to itself.
 #[inline(always)]
 fn leave_place(table: &mut [u64], links: &[u64], shape: Shape, place: usize)
     requires links { length links.now ≡ (shape.last + 1) * shape.width }
@@ -267,8 +265,8 @@ fn leave_place(table: &mut [u64], links: &[u64], shape: Shape, place: usize)
     }
 }
 
-/// Takes each place out of its own row, where no link leads from it to itself: what is left are the
-/// chains of at least one link.
+/// Removes each place from its own row, unless a link leads from it to itself. What is left are the chains of at least
+/// one link.
 pub(crate) fn leave(table: &mut [u64], links: &[u64], shape: Shape)
     requires links { length links.now ≡ (shape.last + 1) * shape.width }
     requires table { length table.old ≡ (shape.last + 1) * shape.width }

@@ -2,8 +2,7 @@
 
 ghost use Rattle.tb_match.specs.Weight.{IsBetween, IsBetween-prop};
 
-/// How many links a chain may have: at least so many, and at most so many where a greatest number is
-/// given.
+/// How many links a chain may have: at least `least`, and at most `most` if it is given.
 #[derive(Clone, Copy)]
 pub(crate) struct Bounds {
     pub(crate) least: u8,

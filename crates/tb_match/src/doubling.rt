@@ -1,5 +1,5 @@
-//! Links put before a table many times, as the least number of a repetition asks: turn by turn, or, where
-//! links are many, by links that lead two, four and more at once.
+//! Puts links before a table as many times as the least number of a repetition. It takes one turn at a time or, where
+//! links are many, takes links that lead two, four and more at once.
 
 ghost use Rattle.std.specs.Prelude.{◌≡◌, ◌+◌, ◌-◌, ◌*◌, ◌<◌, ◌≤◌, ◌^◌, ◌↔◌};
 ghost use Rattle.std.specs.Prelude.{◌≢◌, ℕ, IsTrue, length};
@@ -9,7 +9,7 @@ ghost use Rattle.tb_match.specs.Match.{Chain};
 use crate::shape::Shape;
 use crate::table::{clear, compose, gather_all, store};
 
-/// Makes row `place` the places that two links lead to. Where the links are closed this costs less.
+/// Makes row `place` the places that two links lead to. This is faster where the links are closed.
 #[inline(always)]
 fn square_row(
     links: &mut [u64],
@@ -51,7 +51,8 @@ fn square_row(
     }
 }
 
-/// Makes the links what two of them lead to. A row asks for those after it alone, which are the old ones.
+/// Makes the links their own composition: two of them in a row. A row needs only later rows, which are still the old
+/// ones.
 fn square(links: &mut [u64], spare: &mut [u64], shape: Shape, closed: bool, steps: &mut u64)
     requires spare { length spare.old ≡ shape.width }
     requires links { length links.old ≡ (shape.last + 1) * shape.width }
@@ -68,8 +69,8 @@ fn square(links: &mut [u64], spare: &mut [u64], shape: Shape, closed: bool, step
     }
 }
 
-/// Takes one turn, or makes the links twice as long where an even number of turns is left. Returns
-/// how many turns are left.
+/// Takes one turn, or makes the links twice as long where an even number of turns is left. Returns how many turns are
+/// left.
 fn take_turn(
     links: &mut [u64],
     table: &mut [u64],
@@ -110,11 +111,11 @@ fn take_turn(
     left - 1
 }
 
-/// Links are many where they make up one in so many of all pairs of places at least.
+/// Links are many if they are at least one in this many of all pairs of places.
 const SHARE: usize = 8;
 
-/// Whether links are many. It decides only which of two ways is taken: a few links are put before
-/// the table in little time, while links of many steps may be much more than they.
+/// Whether links are many. It only chooses between two ways with the same result. A few links are put before the table
+/// quickly, while links of many steps may be far more.
 fn are_many(links: &[u64], last: usize) -> bool
     requires small { last ≤ 1000 }
 {
@@ -125,8 +126,8 @@ fn are_many(links: &[u64], last: usize) -> bool
     count >= (last + 1) * (last + 1) / (2 * SHARE)
 }
 
-/// Says whether turns are to be taken two, four and more at once. If so, and the table is closed, the
-/// links become the table's own, which are chains of them: closed links cost less.
+/// Returns whether to take turns two, four and more at once. If so, and the table is closed, the links become the
+/// table's own, which are chains of them: closed links are faster.
 fn prepare(links: &mut [u64], table: &[u64], shape: Shape, times: usize, closed: bool) -> bool
     requires links { length links.old ≡ (shape.last + 1) * shape.width }
     requires table { length table.now ≡ (shape.last + 1) * shape.width }
@@ -154,8 +155,8 @@ fn prepare(links: &mut [u64], table: &[u64], shape: Shape, times: usize, closed:
     true
 }
 
-/// Puts the links before the table's relation as many times. Where the table is closed, and has the
-/// links of each of its places, this costs less. The links are used up.
+/// Puts the links before the table's relation `times` times. This is faster where the table is closed and has the links
+/// of each of its places. The links are used up.
 pub(crate) fn repeat(
     links: &mut [u64],
     table: &mut [u64],

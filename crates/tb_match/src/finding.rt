@@ -1,4 +1,4 @@
-//! The hits of a pattern.
+//! Finds the hits of a pattern.
 
 ghost use Rattle.std.specs.Prelude.{◌+◌, ◌*◌, ◌/◌, ◌≤◌, IfOk};
 ghost use Rattle.tb_match.specs.Hits.{AreHits, HitsAreOneList, IsFound};
@@ -14,32 +14,30 @@ use crate::strategy::Strategy;
 use crate::truth::Truth;
 use std::alloc::{AllocError, Global};
 
-/// What [`find`] found.
+/// The answer of [`find`].
 #[derive(Debug, Drop)]
 pub struct Found {
     /// The hits, by first place and then by last place: `(i, j)` covers the words `i + 1` to `j`.
     pub hits: Vec<(u32, u32)>,
     /// How often one row of a table was united into another: the calls of [`unite`](crate::uniting::unite).
     ///
-    /// Not counted is what makes no union of two rows: the walks over the places of a row, copies and
-    /// comparisons of rows, and a word, an optional word or a short run of words, whose rows are
-    /// marked place by place, or shifted and masked where a row is one machine word. So `[a] [b]?`
-    /// takes no step.
+    /// Work without a union of two rows is not counted: walks over the places of a row, and copies and comparisons of
+    /// rows. A word, an optional word or a short run of words needs no union. Its rows are marked place by place, or
+    /// shifted and masked where a row is one machine word. So `[a] [b]?` takes no step.
     pub steps: u64,
 }
 
-/// The hits of the pattern in the sentence of the table, by the strategy, and the number of unions
-/// of bit rows that it took.
+/// The hits of the pattern in the sentence of the table, by the strategy. Also the number of unions of bit rows that
+/// the search took.
 ///
-/// A lone word is read off the table, and where a part that each match needs matches nowhere, no
-/// table is made. Otherwise it holds at most two tables of bits, and one more for each sequence,
-/// choice or repetition that is open on the way down to a part; a table has a row for each place,
-/// of one bit for each place: 21 machine words on 20 words, 128,128 bytes on 1,000.
+/// A lone word is read from the table. Where a part that each match needs matches nowhere, no table is made. Otherwise
+/// the search holds at most two tables of bits. It holds one more for each sequence, choice or repetition that is open
+/// on the way down to a part. A table has a row for each place, and a row has a bit for each place. That is 21 machine
+/// words for 20 words, and 128,128 bytes for 1,000.
 ///
-/// It takes stack for each level of the pattern: less than 500 bytes a level as compiled for x86-64,
-/// so that 2 MiB hold some 4,400 levels, and 8 MiB some 18,000. Which levels a pattern has is the
-/// caller's care: the query language allows 16 parentheses open at one place, which makes at most
-/// some fifty levels.
+/// The stack grows by less than 500 bytes for each level of the pattern, as compiled for x86-64. So 2 MiB hold some
+/// 4,400 levels, and 8 MiB some 18,000. The caller bounds the levels: the query language allows 16 open parentheses at
+/// one place, which gives at most some fifty levels.
 pub fn find(
     alloc: Global,
     pat: &Pat,
@@ -73,8 +71,7 @@ pub fn find(
     Ok(Found { hits, steps })
 }
 
-/// The hits of a pattern are one list: what [`find`] ensures of them leaves no choice. A law, whose
-/// proof is all that there is to it.
+/// A law: the contract of [`find`] fixes the list of hits.
 pub fn hits_are_one_list()
     ensures { HitsAreOneList }
 {}

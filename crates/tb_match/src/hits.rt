@@ -1,4 +1,4 @@
-//! The hits among the pairs of places of a table of bit rows.
+//! Chooses the hits among the pairs of places in a table of bit rows.
 
 ghost use Rattle.std.specs.Prelude.{◌≡◌, ◌+◌, ◌*◌, ◌<◌, ◌≤◌, ◌↔◌, ◌⊎◌, ℕ, IfOk};
 ghost use Rattle.std.specs.Prelude.{OnOk, length};
@@ -24,7 +24,7 @@ fn least_end(table: &[u64], shape: Shape, place: usize) -> usize
     next_place(table, place * shape.width, place + 1, shape.last)
 }
 
-/// The greatest end of a pair from `place`, where it lies beyond `reached`, and else `reached`.
+/// The greatest end of a pair from `place` if it is beyond `reached`, else `reached`.
 fn furthest_end(table: &[u64], shape: Shape, place: usize, reached: usize) -> usize
     requires table { length table.now ≡ (shape.last + 1) * shape.width }
     requires order { place ≤ shape.last }
@@ -43,8 +43,8 @@ fn furthest_end(table: &[u64], shape: Shape, place: usize, reached: usize) -> us
     furthest
 }
 
-/// The pairs that strictly contain no other. From the last place back, only the least end of a
-/// place can be one, and it is where it lies before all those of later places.
+/// The pairs that strictly contain no other. Going back from the last place, only the least end of a place can give
+/// one. It does if it is before those of all later places.
 fn shortest(alloc: Global, table: &[u64], shape: Shape) -> Result<Vec<(u32, u32)>, AllocError>
     requires table { length table.now ≡ (shape.last + 1) * shape.width }
     ensures { IfOk result (λ v. AreHits Strategy.Shortest (Forward table.now shape.width shape.last) v.items) }
@@ -62,8 +62,7 @@ fn shortest(alloc: Global, table: &[u64], shape: Shape) -> Result<Vec<(u32, u32)
     Ok(hits)
 }
 
-/// The pairs that no other strictly contains: the greatest end of a place, where it lies beyond
-/// all those of earlier places.
+/// The pairs that no other strictly contains: the greatest end of a place, if it is beyond those of all earlier places.
 fn longest(alloc: Global, table: &[u64], shape: Shape) -> Result<Vec<(u32, u32)>, AllocError>
     requires table { length table.now ≡ (shape.last + 1) * shape.width }
     ensures { IfOk result (λ v. AreHits Strategy.Longest (Forward table.now shape.width shape.last) v.items) }
@@ -80,7 +79,7 @@ fn longest(alloc: Global, table: &[u64], shape: Shape) -> Result<Vec<(u32, u32)>
     Ok(hits)
 }
 
-/// Adds the pairs from `place` to those of earlier places.
+/// Appends the pairs from `place` to those of earlier places.
 fn push_pairs(
     hits: &mut Vec<(u32, u32)>,
     table: &[u64],
@@ -117,8 +116,8 @@ fn every(alloc: Global, table: &[u64], shape: Shape) -> Result<Vec<(u32, u32)>, 
     Ok(hits)
 }
 
-/// The words of which the expression holds. None contains another, so by each strategy they are the
-/// hits of a lone token.
+/// The words of which the expression holds. None contains another, so by each strategy they are the hits of a lone
+/// token.
 pub(crate) fn word_hits(
     alloc: Global,
     expr: u16,

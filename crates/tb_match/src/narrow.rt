@@ -1,5 +1,5 @@
-//! Rows of one machine word, as sentences of fewer than 64 words have them: all places of a row
-//! step over a word at once, and links are chained in their own table.
+//! Rows of one machine word, which sentences of fewer than 64 words have. All places of a row step over a word at once,
+//! and links are chained in their own table.
 
 ghost use Rattle.std.specs.Prelude.{◌≡◌, ◌+◌, ◌-◌, ◌^◌, ◌<◌, ◌≤◌, ◌≢◌, ◌↔◌};
 ghost use Rattle.std.specs.Prelude.{◌⊎◌, ℕ, length};
@@ -14,7 +14,7 @@ use crate::truth::Truth;
 use crate::uniting::unite;
 use crate::walk::bits_from;
 
-/// The bits, and that of the place.
+/// The bits and the bit of the place.
 #[inline(always)]
 fn with_place(bits: u64, place: usize) -> u64
     requires { place < 64 }
@@ -23,7 +23,7 @@ fn with_place(bits: u64, place: usize) -> u64
     bits | 1 << place
 }
 
-/// The places at which the words end of which the expression holds.
+/// The places where the words end of which the expression holds.
 pub(crate) fn ends_of(expr: u16, truth: &Truth) -> u64
     requires expr { expr < truth.now.exprs }
     requires short { truth.now.words < 64 }
@@ -38,8 +38,7 @@ pub(crate) fn ends_of(expr: u16, truth: &Truth) -> u64
     ends
 }
 
-/// The places one word further on, where a word may end there; also the row's own where a step
-/// may stay.
+/// The places one word further on, where a word may end. An optional step keeps the row's own places too.
 #[inline(always)]
 fn step_word(row: u64, ends: u64, stay: Step) -> u64
     ensures places { (j : ℕ) → j < 64 → ((bit_at result j ≡ 1) ↔ ((MayStay stay × (bit_at row j ≡ 1)) ⊎
@@ -68,7 +67,7 @@ fn run_word(row: u64, ends: u64) -> u64
     all
 }
 
-/// Makes each row its places one word further on; and its own too where a step may stay.
+/// Makes each row its places one word further on. An optional step keeps its own places too.
 pub(crate) fn step_words(table: &mut [u64], ends: u64, stay: Step)
     ensures rows { (i j : ℕ) → i < length table.old → j < 64 → (InTable table.new 1 i j ↔
         ((MayStay stay × InTable table.old 1 i j) ⊎
@@ -90,7 +89,7 @@ pub(crate) fn run_words(table: &mut [u64], ends: u64)
     }
 }
 
-/// The bits, without that of the place.
+/// The bits without the bit of the place.
 #[inline(always)]
 pub(crate) fn without_place(bits: u64, place: usize) -> u64
     requires { place < 64 }
@@ -100,7 +99,7 @@ pub(crate) fn without_place(bits: u64, place: usize) -> u64
     bits & !(1 << place)
 }
 
-/// The bits, without those of the other word.
+/// The bits without those of the other word.
 #[inline(always)]
 fn without(bits: u64, known: u64) -> u64
     ensures places { (j : ℕ) → j < 64 → ((bit_at result j ≡ 1) ↔ ((bit_at bits j ≡ 1)
@@ -130,7 +129,7 @@ fn lowest_place(bits: u64) -> usize
     bits.trailing_zeros() as usize
 }
 
-/// Unites with the row that of a place of the table.
+/// Unites into the row the row of a place of the table.
 #[inline(always)]
 fn unite_word(row: &mut [u64], table: &[u64], place: usize, steps: &mut u64)
     requires one { length row.old ≡ 1 }
@@ -143,9 +142,8 @@ fn unite_word(row: &mut [u64], table: &[u64], place: usize, steps: &mut u64)
     unite(row, &table[place..place + 1], steps);
 }
 
-/// The row of a place, of which the table has the links, where the later rows are closed: its
-/// links, and the rows of the places that they lead on to. The row of a place that was brought
-/// with another adds nothing, and is left out.
+/// The row of a place whose links are in the table: its links, and the rows of the places that they lead to. The later
+/// rows are closed. The row of a place that came with another adds nothing, and is left out.
 #[inline(always)]
 fn chained_word(table: &[u64], place: usize, last: usize, steps: &mut u64) -> u64
     requires table { length table.now ≡ last + 1 }
@@ -171,8 +169,7 @@ fn chained_word(table: &[u64], place: usize, last: usize, steps: &mut u64) -> u6
     links | gathered[0]
 }
 
-/// Makes the links their chains: any number of them but none, in one sweep from the last place to
-/// the first.
+/// Makes the links their chains of one or more, in one sweep from the last place to the first.
 pub(crate) fn chain_words(table: &mut [u64], last: usize, steps: &mut u64)
     requires table { length table.old ≡ last + 1 }
     requires short { last < 64 }

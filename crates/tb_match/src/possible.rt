@@ -1,4 +1,4 @@
-//! Whether a pattern can match at all in a sentence: a test that costs far less than the matches.
+//! Whether a pattern can match at all in a sentence. The test is far cheaper than the matches.
 
 ghost use Rattle.std.specs.Prelude.{◌≡◌, ℕ, false};
 ghost use Rattle.tb_match.specs.Facts.{Facts, Holds};
@@ -37,8 +37,7 @@ fn can_any_match(parts: &[Pat], truth: &Truth) -> bool
     false
 }
 
-/// False only where the pattern matches nowhere: some expression that each match needs holds of no
-/// word.
+/// False only where the pattern matches nowhere, since some expression that each match needs holds of no word.
 #[cycle(can_match)]
 pub(crate) fn can_match(pat: &Pat, truth: &Truth) -> bool
     requires { IsProper truth.now.exprs (tree pat.now) }

@@ -1,4 +1,4 @@
-//! The relation of a pattern as a table of bit rows.
+//! Computes the relation of a pattern as a table of bit rows.
 
 ghost use Rattle.std.specs.Prelude.{◌≡◌, ◌+◌, ◌-◌, ◌*◌, ◌<◌, ◌≤◌, ◌^◌, ◌↔◌};
 ghost use Rattle.std.specs.Prelude.{◌⊎◌, ℕ, IfOk, IsTrue, length, None};
@@ -60,14 +60,14 @@ fn token_rows(alloc: Global, expr: u16, truth: &Truth, shape: Shape) -> Result<V
     marked_rows(alloc, expr, truth, shape)
 }
 
-/// The rows of chains of links, and whether no greatest number ends them sooner.
+/// The rows of chains of links, and whether they are the chains without a greatest number.
 #[derive(Drop)]
 struct Chains {
     rows: Vec<u64>,
     unlimited: bool,
 }
 
-/// The rows of chains of links that may follow the least number of them.
+/// The rows of the chains of links that may follow the least number of them.
 fn further(
     alloc: Global,
     links: &[u64],
@@ -105,7 +105,7 @@ fn further(
     Ok(Chains { rows, unlimited })
 }
 
-/// The rows of chains of links that may follow all but one of the least number of them.
+/// The rows of the chains of links that may follow all but one of the least number of them.
 fn begun(
     alloc: Global,
     links: &[u64],
@@ -145,7 +145,7 @@ fn begun(
     Ok(Chains { rows, unlimited })
 }
 
-/// The rows of chains of as many links as the bounds allow, in a table of their own.
+/// The rows of chains of as many links as the bounds allow, in a new table.
 fn swept(
     alloc: Global,
     links: &mut [u64],
@@ -187,8 +187,8 @@ fn all_stay(links: &[u64], shape: Shape) -> bool
     true
 }
 
-/// The least number of links that has to be asked for. Where a link leads from each place to
-/// itself, a chain of fewer links is also one of more.
+/// The least number of links that has to be required. Where a link leads from each place to itself, a chain of fewer
+/// links is also one of more.
 fn least_needed(links: &[u64], least: u8, shape: Shape) -> u8
     requires links { length links.now ≡ (shape.last + 1) * shape.width }
     ensures fewer { result ≤ least }
@@ -201,8 +201,7 @@ fn least_needed(links: &[u64], least: u8, shape: Shape) -> u8
     }
 }
 
-/// Whether the links are to be chained in their own table: where the numbers are those of `+` and
-/// a row is one machine word.
+/// Whether to chain the links in their own table: for the numbers of `+`, where a row is one machine word.
 fn is_chained_in_place(bounds: Bounds, shape: Shape) -> bool
     ensures { IsTrue result → (bounds.least ≡ 1) × (bounds.most ≡ None) × (shape.width ≡ 1) }
 {
@@ -241,7 +240,7 @@ fn repetition(
     swept(alloc, &mut links, needed, spare, shape, steps)
 }
 
-/// The rows of the parts, one after the other.
+/// The rows of the parts, one after another.
 #[cycle(rows)]
 fn sequence(
     alloc: Global,
@@ -271,8 +270,7 @@ fn sequence(
     Ok(table)
 }
 
-/// The rows of the table followed by the part. A word, an optional word or a run of words needs no
-/// rows of its own.
+/// The rows of the table followed by the part. A word, an optional word or a run of words needs no rows of its own.
 #[cycle(rows)]
 fn followed(
     alloc: Global,

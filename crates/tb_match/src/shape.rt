@@ -10,8 +10,8 @@ pub(crate) const WIDEST: usize = 16;
 /// The last place of a row of one word.
 const LAST_OF_WORD: usize = 63;
 
-/// The shape of a table of bit rows: a row for each place up to the last, each of so many words. A
-/// row has room for a bit of each place, and a sentence has at most 1,000 words.
+/// The shape of a table of bit rows: a row for each place up to `last`, each of `width` machine words. A row has a bit
+/// for each place, and a sentence has at most 1,000 words.
 #[derive(Clone, Copy)]
 pub(crate) struct Shape {
     pub(crate) width: usize,
@@ -22,7 +22,7 @@ pub(crate) struct Shape {
 }
 
 impl Shape {
-    /// The shape of the tables of a sentence of so many words.
+    /// The shape of the tables for a sentence of this many words.
     pub(crate) fn of_words(words: usize) -> Shape
         requires { words ≤ 1000 }
         ensures last { result.last ≡ words }
@@ -33,7 +33,7 @@ impl Shape {
         }
     }
 
-    /// Where the row of a place stands in a table.
+    /// The range of the row of a place in a table.
     #[inline(always)]
     pub(crate) fn row(self, place: usize) -> Range<usize>
         requires { place ≤ self.last }
@@ -43,7 +43,7 @@ impl Shape {
         place * self.width..(place + 1) * self.width
     }
 
-    /// The same shape, of which the compiler knows that a row is one word.
+    /// The same shape, where the compiler knows that a row is one word.
     #[inline(always)]
     pub(crate) fn of_one_word(self) -> Shape
         requires { self.width ≡ 1 }

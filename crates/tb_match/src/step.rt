@@ -1,10 +1,10 @@
-//! Whether a place leads on to itself as well.
+//! Whether a step may stay at its place.
 
 /// Whether a step over one word may also stay at its place, as where the word is optional.
 #[derive(Clone, Copy)]
 pub(crate) enum Step {
-    /// The place stays, beside those that the step leads on to.
+    /// The place is kept beside those that the step leads to.
     Optional,
-    /// Only what the step leads on to stays.
+    /// Only the places that the step leads to are kept.
     Required,
 }

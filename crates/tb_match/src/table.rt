@@ -1,4 +1,4 @@
-//! Tables of bit rows, one after the other in one slice.
+//! Tables of bit rows, one row after another in one slice.
 
 ghost use Rattle.std.specs.Prelude.{◌≡◌, ◌+◌, ◌-◌, ◌*◌, ◌/◌, ◌<◌, ◌≤◌, ◌^◌};
 ghost use Rattle.std.specs.Prelude.{◌↔◌, ◌⊎◌, ◌≢◌, ℕ, IsTrue, IfOk, length};
@@ -10,7 +10,7 @@ use crate::uniting::unite;
 use crate::walk::{next_place, next_unknown};
 use std::alloc::{AllocError, Global};
 
-/// Puts the place into the row.
+/// Adds the place to the row.
 #[inline(always)]
 fn put(row: &mut [u64], place: usize)
     requires { place / 64 < length row.old }
@@ -48,8 +48,8 @@ fn gather(
     }
 }
 
-/// The same where the rows are closed: the row of a place has the row of each place in it. So the
-/// row of a place that `spare` has already adds nothing, and is left out.
+/// The same where the rows are closed: the row of a place includes the row of each place in it. So the row of a place
+/// that `spare` already has adds nothing, and is left out.
 #[inline(always)]
 fn gather_closed(
     spare: &mut [u64],
@@ -98,7 +98,7 @@ pub(crate) fn begin(row: &mut [u64], place: usize)
     put(row, place);
 }
 
-/// Puts the place into a row of the table.
+/// Adds the place to a row of the table.
 #[inline(always)]
 pub(crate) fn mark(table: &mut [u64], shape: Shape, row: usize, place: usize)
     requires table { length table.old ≡ (shape.last + 1) * shape.width }
@@ -123,8 +123,8 @@ pub(crate) fn store(table: &mut [u64], row: &[u64], place: usize)
     table[at..at + row.len()].copy_from_slice(row);
 }
 
-/// Unites into the empty row that of each place that a link from `first` leads to. Where the rows
-/// are closed, those that the row has already are left out.
+/// Unites into the empty row the row of each place that a link from `first` leads to. Where the rows are closed, those
+/// that the row already has are left out.
 #[inline(always)]
 pub(crate) fn gather_all(
     spare: &mut [u64],
@@ -198,7 +198,7 @@ fn set_row(
     }
 }
 
-/// The same where the rows are closed and the row is empty, with `place` itself.
+/// The same where the rows are closed and the row is empty, with `place` itself added.
 #[inline(always)]
 fn set_closed_row(
     links: &[u64],
@@ -235,8 +235,7 @@ fn set_closed_row(
     }
 }
 
-/// Makes the table's relation the links' relation followed by the table's. Where the table is closed
-/// this costs less.
+/// Makes the table's relation the links' relation followed by the table's. This is faster where the table is closed.
 pub(crate) fn compose(
     links: &[u64],
     table: &mut [u64],
@@ -261,8 +260,8 @@ pub(crate) fn compose(
     }
 }
 
-/// Closes the links: chains of any number of them, in one sweep from the last place to the first.
-/// The rows of later places are closed by then, so a row need not be united twice.
+/// Closes the links: chains of any number of them, in one sweep from the last place to the first. The rows of later
+/// places are closed by then, so no row has to be united twice.
 pub(crate) fn close(
     links: &[u64],
     table: &mut [u64],
@@ -286,7 +285,7 @@ pub(crate) fn close(
     }
 }
 
-/// Unites each row of the table with that of another.
+/// Unites into each row of the table the same row of the other.
 pub(crate) fn merge(table: &mut [u64], other: &[u64], shape: Shape, steps: &mut u64)
     requires other { length other.now ≡ (shape.last + 1) * shape.width }
     requires table { length table.old ≡ (shape.last + 1) * shape.width }
@@ -302,7 +301,7 @@ pub(crate) fn merge(table: &mut [u64], other: &[u64], shape: Shape, steps: &mut 
     }
 }
 
-/// Unites one row of the table with that of another.
+/// Unites into one row of the table the same row of the other.
 #[inline(always)]
 fn merge_row(table: &mut [u64], other: &[u64], shape: Shape, place: usize, steps: &mut u64)
     requires other { length other.now ≡ (shape.last + 1) * shape.width }
@@ -323,7 +322,7 @@ fn merge_row(table: &mut [u64], other: &[u64], shape: Shape, place: usize, steps
     );
 }
 
-/// A table of rows with no place.
+/// A table whose rows have no place.
 pub(crate) fn empty(alloc: Global, shape: Shape) -> Result<Vec<u64>, AllocError>
     ensures whole { IfOk result (λ v. length v.items ≡ (shape.last + 1) * shape.width) }
     ensures none { IfOk result (λ v. (i j : ℕ) → InTable v.items shape.width i j → ⊥) }
@@ -331,7 +330,7 @@ pub(crate) fn empty(alloc: Global, shape: Shape) -> Result<Vec<u64>, AllocError>
     Vec::from_elem(alloc, 0, (shape.last + 1) * shape.width)
 }
 
-/// A table in which each row has its own place alone.
+/// A table in which each row has only its own place.
 pub(crate) fn diagonal(alloc: Global, shape: Shape) -> Result<Vec<u64>, AllocError>
     ensures whole { IfOk result (λ v. length v.items ≡ (shape.last + 1) * shape.width) }
     ensures rows { IfOk result (λ v. (i j : ℕ) → i ≤ shape.last → j ≤ shape.last

@@ -1,5 +1,5 @@
-//! Parts of a pattern that are one word, an optional word or a run of words: no table of their own
-//! is made for them, the places of a row step over the words.
+//! Parts of a pattern that are one word, an optional word or a run of words. They need no table of their own: the
+//! places of a row step over the words.
 
 ghost use Rattle.std.specs.Prelude.{◌≡◌, ◌+◌, ◌*◌, ◌<◌, ◌≤◌, ◌↔◌, ◌⊎◌, ◌≢◌};
 ghost use Rattle.std.specs.Prelude.{ℕ, IsTrue, IfOk, length, Some, None};
@@ -61,7 +61,7 @@ pub(crate) fn optional_token_of(pat: &Pat) -> Option<u16>
     }
 }
 
-/// The expression of a pattern that is any number of words, one after the other.
+/// The expression of a pattern that is any number of words in a row.
 fn starred_token_of(pat: &Pat) -> Option<u16>
     ensures words { (e : ℕ) → result ≡ Some e → (t : Facts) (i j : ℕ) →
         (Match (Holds t) (tree pat.now) i j ↔ ((k : ℕ) × Chain (IsWord t e) k i j)) }
@@ -73,11 +73,11 @@ fn starred_token_of(pat: &Pat) -> Option<u16>
     }
 }
 
-/// How many words a run may have to be walked word by word.
+/// The longest run of words that is walked word by word.
 const SHORT_RUN: usize = 8;
 
-/// Whether the expression holds of no more than a few words in a row. It decides only which of two
-/// ways is taken: a row of short runs is walked in little time, one of long runs is not.
+/// Whether the expression holds of only a few words in a row. It only chooses between two ways with the same result:
+/// walking is fast for short runs, and slow for long ones.
 fn has_short_runs(expr: u16, truth: &Truth) -> bool
     requires expr { expr < truth.now.exprs }
 {
@@ -92,8 +92,7 @@ fn has_short_runs(expr: u16, truth: &Truth) -> bool
     true
 }
 
-/// The expression of a pattern that is any number of words, one after the other, where it holds of
-/// no more than a few in a row.
+/// The expression of a pattern that is any number of words in a row, if it holds of only a few in a row.
 pub(crate) fn short_run_of(pat: &Pat, truth: &Truth) -> Option<u16>
     requires { IsProper truth.now.exprs (tree pat.now) }
     ensures words { (e : ℕ) → result ≡ Some e → (t : Facts) (i j : ℕ) →
@@ -110,8 +109,8 @@ pub(crate) fn short_run_of(pat: &Pat, truth: &Truth) -> Option<u16>
     }
 }
 
-/// Puts into the row the place, where a step may stay, and the next one, where the expression holds
-/// of the word between them.
+/// Adds to the row the place itself if the step is optional, and the next place if the expression holds of the word
+/// between them.
 #[inline(always)]
 fn mark_step(
     table: &mut [u64],
@@ -164,8 +163,8 @@ pub(crate) fn optional_token_rows(
     Ok(table)
 }
 
-/// Puts into the row of `next` the places of the row of `table`, where a step may stay, and those
-/// one word further on.
+/// Adds to the row of `next` the places one word further on from the row of `table`. If the step is optional, it adds
+/// those of the row itself too.
 #[inline(always)]
 fn step_row(
     table: &[u64],
@@ -194,8 +193,8 @@ fn step_row(
     }
 }
 
-/// The rows of the table followed by one word of which the expression holds, walked place by place;
-/// also those of the table itself where a step may stay.
+/// The rows of the table followed by one word of which the expression holds, walked place by place. If the step is
+/// optional, they include those of the table itself.
 fn walk_over(
     alloc: Global,
     table: &[u64],
@@ -220,8 +219,8 @@ fn walk_over(
     Ok(next)
 }
 
-/// The rows of the table followed by one word of which the expression holds; also those of the
-/// table itself where a step may stay.
+/// The rows of the table followed by one word of which the expression holds. If the step is optional, they include
+/// those of the table itself.
 pub(crate) fn step_over(
     alloc: Global,
     mut table: Vec<u64>,
@@ -246,8 +245,8 @@ pub(crate) fn step_over(
     walk_over(alloc, &table, expr, truth, shape, stay)
 }
 
-/// Puts into the row each place that a run of words of which the expression holds leads to. A place
-/// that is put is walked over in its turn.
+/// Adds to the row each place that a run of words of which the expression holds leads to. An added place is walked over
+/// in its turn.
 #[inline(always)]
 fn run_row(table: &mut [u64], row: usize, expr: u16, truth: &Truth, shape: Shape)
     requires expr { expr < truth.now.exprs }
@@ -268,8 +267,8 @@ fn run_row(table: &mut [u64], row: usize, expr: u16, truth: &Truth, shape: Shape
     }
 }
 
-/// Makes the table's relation its own followed by any number of words of which the expression
-/// holds, walked place by place.
+/// Makes the table's relation its own followed by any number of words of which the expression holds, walked place by
+/// place.
 fn walk_on(table: &mut [u64], expr: u16, truth: &Truth, shape: Shape)
     requires expr { expr < truth.now.exprs }
     requires words { shape.last ≡ truth.now.words }
@@ -284,8 +283,7 @@ fn walk_on(table: &mut [u64], expr: u16, truth: &Truth, shape: Shape)
     }
 }
 
-/// Makes the table's relation its own followed by any number of words of which the expression
-/// holds.
+/// Makes the table's relation its own followed by any number of words of which the expression holds.
 pub(crate) fn run_on(table: &mut [u64], expr: u16, truth: &Truth, shape: Shape)
     requires expr { expr < truth.now.exprs }
     requires words { shape.last ≡ truth.now.words }

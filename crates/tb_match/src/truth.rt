@@ -7,8 +7,7 @@ ghost use Rattle.tb_match.specs.Facts.{Facts, Holds};
 use std::alloc::{AllocError, Global};
 use std::marker::Model;
 
-/// Which expressions hold of which words of one sentence. Expressions are numbered from 0, and
-/// words from 1.
+/// Which expressions hold of which words of one sentence. Expressions are numbered from 0, words from 1.
 #[derive(Drop)]
 pub struct Truth {
     words: usize,
@@ -80,7 +79,7 @@ impl Truth {
         false
     }
 
-    /// Makes the expression hold of the word, and leaves all else as it is.
+    /// Records that the expression holds of the word. Nothing else changes.
     pub fn set(&mut self, expr: u16, word: usize)
         requires expr { expr < self.old.exprs }
         requires first { 1 ≤ word }

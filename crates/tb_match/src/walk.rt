@@ -1,11 +1,10 @@
-//! Walks over the places of a bit row, a word of 64 places at a time.
+//! Walks over the places of a bit row, 64 places at a time.
 
 ghost use Rattle.std.specs.Prelude.{◌≡◌, ◌+◌, ◌/◌, ◌<◌, ◌≤◌, ◌↔◌, ℕ, length};
 ghost use Rattle.std.specs.Int.{bit_at};
 ghost use Rattle.tb_match.specs.Bits.{InRow};
 
-/// The bits of a word whose lowest bit stands for place `base`, without those of places before
-/// `from`.
+/// The bits of a word whose lowest bit is place `base`, without those of places before `from`.
 #[inline(always)]
 pub(crate) fn bits_from(word: u64, base: usize, from: usize) -> u64
     requires { from < base + 64 }
@@ -18,8 +17,8 @@ pub(crate) fn bits_from(word: u64, base: usize, from: usize) -> u64
     }
 }
 
-/// The first place from `from` on that the row has which begins at word `at`, or one past the last
-/// place where there is none.
+/// The first place from `from` on that the row beginning at word `at` has, or one past the last place where there is
+/// none.
 #[inline(always)]
 pub(crate) fn next_place(cells: &[u64], at: usize, from: usize, last: usize) -> usize
     requires row { at + last / 64 < length cells.now }
@@ -38,8 +37,8 @@ pub(crate) fn next_place(cells: &[u64], at: usize, from: usize, last: usize) -> 
     last + 1
 }
 
-/// The first place from `from` on that the row has which begins at word `at`, those of the row
-/// `known` left out; or one past the last place where there is none.
+/// The first place from `from` on that the row beginning at word `at` has and the row `known` has not. One past the
+/// last place where there is none.
 #[inline(always)]
 pub(crate) fn next_unknown(
     cells: &[u64],

@@ -1,4 +1,4 @@
-//! How heavy a pattern is, and whether it is within the limits.
+//! The weight of a pattern, and whether it is within the limits.
 
 ghost use Rattle.std.specs.Prelude.{◌≡◌, ◌+◌, ◌<◌, ◌≤◌, ◌↔◌, ℕ, IsTrue, SomeIff};
 ghost use Rattle.tb_match.specs.declared.pattern.Pat.{Pat};
@@ -24,7 +24,7 @@ fn limited(weight: u64) -> Option<u64>
     }
 }
 
-/// What a repetition adds to the weight of what it repeats.
+/// What a repetition adds to the weight of the repeated pattern.
 fn turns_of(least: u8, most: Option<u8>) -> u64
     ensures count { result ≡ turns least most }
     ensures limit { result ≤ 257 }
@@ -35,7 +35,7 @@ fn turns_of(least: u8, most: Option<u8>) -> u64
     }
 }
 
-/// The weights of the parts, and one for each.
+/// The weights of the parts, and one more for each.
 #[cycle(weight)]
 fn weight_of_parts(parts: &[Pat]) -> Option<u64>
     ensures { SomeIff result (weight_of_all (trees parts.now) ≤ 1000000) (weight_of_all (trees parts.now)) }
@@ -49,12 +49,15 @@ fn weight_of_parts(parts: &[Pat]) -> Option<u64>
 }
 
 /// The weight of the pattern, or None where it is above 1,000,000. It bounds the work of
-/// [`find`](crate::finding::find): 1 for a word, the parts' weights and 1 for each part of a sequence
-/// or a choice, and for a repetition its greatest number and 1, or its least number and 2 where it
-/// has no greatest one, beside the weight of what it repeats.
+/// [`find`](crate::finding::find).
 ///
-/// It takes no memory, and one stack frame for each level of the pattern, of less than 50 bytes: 2 MiB
-/// hold some 43,000 levels.
+/// - A word weighs 1.
+/// - A sequence or a choice weighs what its parts weigh, and 1 more for each.
+/// - A repetition weighs what its pattern weighs, and its greatest number and 1; without a greatest number, its least
+///   number and 2.
+///
+/// It takes no memory, and one stack frame of less than 50 bytes for each level of the pattern: 2 MiB hold some 43,000
+/// levels.
 #[cycle(weight)]
 pub fn weight(pat: &Pat) -> Option<u64>
     ensures { SomeIff result (weight_of (tree pat.now) ≤ 1000000) (weight_of (tree pat.now)) }
@@ -90,8 +93,8 @@ fn are_proper(parts: &[Pat], exprs: u16) -> bool
     true
 }
 
-/// Whether the pattern names only the first `exprs` expressions, and each of its repetitions has
-/// numbers within the limits.
+/// Whether the pattern names only the first `exprs` expressions, and each of its repetitions has numbers within the
+/// limits.
 #[cycle(is_proper)]
 fn is_proper(pat: &Pat, exprs: u16) -> bool
     ensures { IsTrue result ↔ IsProper exprs (tree pat.now) }
@@ -104,20 +107,21 @@ fn is_proper(pat: &Pat, exprs: u16) -> bool
     }
 }
 
-/// Whether the pattern can be searched for in a table of `exprs` expressions: it names no other
-/// expression, each repetition's numbers are at most 32, the greatest is given as at least 1 and
-/// not below the least, and its weight is at most 1,000,000.
+/// Whether the pattern can be searched for in a table of `exprs` expressions.
 ///
-/// It takes no memory, and one stack frame for each level of the pattern, of less than 50 bytes: 2 MiB
-/// hold some 43,000 levels.
+/// It names no other expression, and its weight is at most 1,000,000. The numbers of each repetition are at most 32. A
+/// greatest number is at least 1, and not below the least.
+///
+/// It takes no memory, and one stack frame of less than 50 bytes for each level of the pattern: 2 MiB hold some 43,000
+/// levels.
 pub fn fits(pat: &Pat, exprs: u16) -> bool
     ensures { IsTrue result ↔ Fits exprs (tree pat.now) }
 {
     is_proper(pat, exprs) && weight(pat).is_some()
 }
 
-/// Each tree that fits is that of a pattern: what is said of the trees that fit is said of patterns that
-/// a program can have, whose expressions have numbers of 16 bits.
+/// A law: each tree that fits is that of a pattern. So facts of the trees that fit are facts of patterns that a program
+/// can have, whose expressions have numbers of 16 bits.
 pub fn what_fits_is_a_pattern()
     ensures { (exprs : ℕ) (t : Tree) → exprs ≤ 65536 → Fits exprs t → (p : Pat) × (tree p ≡ t) }
 {}
