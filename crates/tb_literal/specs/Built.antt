@@ -1,5 +1,5 @@
 -- Inner: no contract beyond this crate cites a definition of this module.
--- How what is built for a literal stands for it.
+-- What the compiled form of a literal means.
 use Rattle.std.specs.Prelude.{◌≡◌, ◌<◌, ℕ, List, Option, None, Some, false, true, is_some, option_map}
 use Rattle.std.specs.Prelude.{slice_index, IsUtf8}
 use Rattle.std.specs.Str.{bytes_eq}
@@ -13,17 +13,17 @@ use Rattle.tb_syntax.specs.declared.lexeme.Flag.{Flag}
 use Rattle.tb_syntax.specs.declared.lexeme.Flag.TheVariants.{Plain, NoCase, Literal}
 use Rattle.tb_literal.specs.Patterns.{finds, wrapped}
 
--- a search of bytes by the built pattern finds something exactly where the text read as a pattern does
+-- the compiled pattern finds something in bytes exactly where the text, parsed as a pattern, does
 pub record Means (re : Re) (text : List ℕ) : Type 0 where
   pub at : (value : List ℕ) → ((k : ℕ) → slice_index value k < 256)
       → is_some (find_str re value 0) ≡ finds text value
 
--- the text, as a pattern for the whole value, fits the equal value alone
+-- the text, as a pattern for the whole value, fits only the equal value
 pub record FitsItselfAlone (text : List ℕ) : Type 0 where
   pub at : (value : List ℕ) → IsUtf8 value → ((k : ℕ) → slice_index value k < 256)
       → finds (wrapped false text) value ≡ bytes_eq value text
 
--- What was built means the text under the flag. Nothing is built with %l, nor for a text that fits itself alone.
+-- The compiled form means the text with the flag. Nothing is compiled with %l, nor for a text that fits only itself.
 abbrev pub IsBuiltFor : Flag → List ℕ → Option Re → Type 0
 IsBuiltFor Plain text (Some re) = Means re (wrapped false text)
 IsBuiltFor Plain text None = FitsItselfAlone text

@@ -1,5 +1,6 @@
--- The items of a list of features (the CoNLL-U format page, on FEATS: items are separated by `|`, and an underscore stands where there is none),
--- and when such a list contains a literal (The CQP Query Language Manual, on feature sets and `contains`).
+-- The items of a list of features, and when such a list contains a literal.
+-- CoNLL-U format page, on FEATS: items are separated by `|`, and a list without items is an underscore.
+-- The CQP Query Language Manual, on feature sets and `contains`.
 use Rattle.std.specs.Prelude.{ℕ, List, [], Bool, nat_eq, if◌then◌else◌, codes}
 use Rattle.std.specs.List.{list_any, slice_split}
 use Rattle.std.specs.Str.{bytes_eq}

@@ -1,16 +1,17 @@
--- The literals of a query, and the values that they fit (The CQP Query Language Manual, on regular expressions and the flags %c and %l).
+-- The literals of a query, and the values that they fit (The CQP Query Language Manual, on regular expressions and the
+-- flags %c and %l).
 use Rattle.std.specs.Prelude.{◌≡◌, IsUtf8, ℕ, List, Bool, true, false}
 use Rattle.std.specs.Str.{bytes_eq}
 use Rattle.tb_syntax.specs.declared.lexeme.Flag.{Flag}
 use Rattle.tb_syntax.specs.declared.lexeme.Flag.TheVariants.{Plain, NoCase, Literal}
 use Rattle.tb_literal.specs.Patterns.{IsWhole, finds, wrapped}
 
--- a literal without where it lies in memory
+-- a literal as plain data
 pub record PlainLit : Type 0 where
   pub text : List ℕ
   pub flag : Flag
 
--- a literal of a query: its text is a pattern, or with %l any text
+-- the text may be a literal: it is a pattern, or with %l any text
 abbrev pub IsAccepted : Flag → List ℕ → Type 0
 IsAccepted Plain text = IsWhole false text
 IsAccepted NoCase text = IsWhole true text

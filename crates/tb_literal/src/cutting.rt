@@ -1,9 +1,9 @@
-//! The items of a list of features.
+//! Splits a list of features into its items.
 
 ghost use Rattle.std.specs.Prelude.{◌≡◌, ◌<◌, ◌∷◌, [], length, IfSome, MatchOption};
 ghost use Rattle.tb_literal.specs.Items.{pieces};
 
-/// The first piece and what follows its bar; None where the text is one piece.
+/// The first piece, and the text after its bar; none where the text is one piece.
 pub(crate) fn cut(rest: &str) -> Option<(&str, &str)>
     ensures pieces { MatchOption result (pieces rest.now ≡ rest.now ∷ []) (λ x.
         pieces rest.now ≡ x.0.now ∷ pieces x.1.now) }

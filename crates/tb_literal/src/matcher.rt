@@ -1,4 +1,4 @@
-//! A literal with what was built for it, and what tests values against it.
+//! A literal with its compiled pattern, and the cache with which a search tests values.
 
 ghost use Rattle.std.specs.Prelude.{◌≡◌, IfOk, IfErr, IfSome, IsOk};
 ghost use Rattle.std.specs.List.{list_any};
@@ -13,12 +13,12 @@ use std::fmt;
 use std::marker::Model;
 use tb_syntax::Flag;
 
-/// A literal with what was built for it. Contracts see the literal alone.
+/// A literal with its compiled pattern. Contracts see the literal alone.
 #[derive(Drop)]
 pub struct LiteralMatcher {
     text: String,
     flag: Flag,
-    // None with `%l`, and for a text that fits the equal value alone.
+    // None with `%l`, and for a text that fits no value but itself.
     built: Option<Box<Regex>>,
 }
 
@@ -44,7 +44,7 @@ impl fmt::Debug for LiteralMatcher {
     }
 }
 
-/// A needle with what a search writes to: made once for a whole search, and then used for each value.
+/// A literal with the cache that a search writes to. It is made once for a search, and used for each value.
 #[derive(Drop)]
 pub struct LiteralCache<'n> {
     text: &'n str,
@@ -67,8 +67,13 @@ impl<'n> Model for LiteralCache<'n> {
 impl LiteralMatcher {
     ghost use Rattle.std.specs.Prelude.{string_bytes};
 
-    /// Builds what the literal needs, of at most so many bytes. With `%l` nothing is built, and no
-    /// text is refused.
+    /// Compiles the literal to at most `most` bytes.
+    ///
+    /// With `%l` nothing is compiled, and each text is accepted.
+    ///
+    /// # Errors
+    ///
+    /// `Syntax`, where the text is no pattern; `Memory`, where memory was refused or the pattern needs more bytes.
     pub fn new(
         alloc: Global,
         text: String,
@@ -89,7 +94,7 @@ impl LiteralMatcher {
         Ok(LiteralMatcher { text, flag, built })
     }
 
-    /// The literal's text, its quotes aside.
+    /// The literal's text, without its quotes.
     pub fn text(&self) -> &str
         ensures { result.now ≡ self.now.text }
     {
@@ -103,7 +108,7 @@ impl LiteralMatcher {
         self.flag
     }
 
-    /// The text of a literal that fits no value but its own text.
+    /// The text of a literal that fits no value but its own text; else none.
     pub fn plain_text(&self) -> Option<&str>
         ensures text { IfSome result (λ t. t.now ≡ self.now.text) }
         ensures alone { IfSome result (λ _. IsPlainText self.now) }
@@ -144,7 +149,7 @@ impl<'n> LiteralCache<'n> {
         value == self.text
     }
 
-    /// The same by the matcher, where there is one: out of line, so that the comparison is not.
+    /// The same with the regex matcher, if there is one. Out of line, so that the comparison of texts stays inline.
     #[inline(never)]
     fn meets_by_matcher(&mut self, value: &str) -> bool
         ensures value { result ≡ meets self.old value.now }

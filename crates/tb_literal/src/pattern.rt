@@ -1,4 +1,4 @@
-//! Patterns, as regex builds them.
+//! Patterns, as the library regex compiles them.
 
 ghost use Rattle.std.specs.Prelude.{◌≡◌, List, ℕ, false, IfOk, IfErr};
 ghost use Rattle.regex.specs.Strings.{regex_pattern, matcher_pattern};
@@ -13,12 +13,12 @@ use std::error::Error;
 use std::fmt;
 use tb_syntax::Flag;
 
-/// Why a text gives no pattern.
+/// Why a text is no pattern.
 #[derive(Clone, Copy, PartialEq, Eq, Debug)]
 pub enum PatternFault {
-    /// It isn't in regex's grammar or nests too deep, alone or wrapped.
+    /// It is not in regex's grammar or nests too deep, alone or wrapped.
     Syntax,
-    /// A growth was refused, or the built pattern passes the limit of size.
+    /// Memory was refused, or the compiled pattern passes the limit of size.
     Memory,
 }
 
@@ -55,7 +55,7 @@ impl<T: Drop> From<AllocFailed<T>> for PatternFault {
     }
 }
 
-/// What an error of regex's parser says.
+/// The fault for an error of regex's parser.
 fn fault_of(kind: ErrorKind) -> PatternFault
     ensures { result ≡ PatternFault.Syntax → kind ≡ OutOfMemory → ⊥ }
 {
@@ -65,7 +65,7 @@ fn fault_of(kind: ErrorKind) -> PatternFault
     }
 }
 
-/// Reads one text as a pattern, and builds nothing.
+/// Parses a text as a pattern, and compiles nothing.
 fn read(alloc: Global, text: &str) -> Result<(), PatternFault>
     ensures pattern { IfOk result (λ _. IsPattern text.now) }
     ensures refused { IfErr result (λ e. e ≡ PatternFault.Syntax → IsPattern text.now → ⊥) }
@@ -76,7 +76,7 @@ fn read(alloc: Global, text: &str) -> Result<(), PatternFault>
     Ok(())
 }
 
-/// Builds one text as a pattern of at most so many bytes.
+/// Compiles a text as a pattern of at most `most` bytes.
 fn build(alloc: Global, source: &str, most: usize) -> Result<Regex, PatternFault>
     ensures means { IfOk result (λ r. Means (regex_pattern r) source.now) }
     ensures pattern { IfOk result (λ _. IsPattern source.now) }
@@ -89,8 +89,9 @@ fn build(alloc: Global, source: &str, most: usize) -> Result<Regex, PatternFault
     }
 }
 
-/// Reads the text alone, so that it can't reach out of its wrapping, and then builds what runs: the
-/// text wrapped, so that a match is the whole value.
+/// Compiles a text as a pattern for the whole value, in a wrapping.
+///
+/// The text is parsed alone first, so that no part of it can reach out of its wrapping.
 pub(crate) fn compile(
     alloc: Global,
     text: &str,
@@ -111,8 +112,8 @@ pub(crate) fn compile(
     Ok(Box::new(alloc, regex)?)
 }
 
-/// What a pattern needs: nothing where no character of its text has a meaning of its own, since it
-/// fits the equal value alone.
+/// Compiles a text as a pattern. It is none where no character of the text has a special meaning: such a text fits only
+/// the equal value.
 pub(crate) fn compile_unless_plain(
     alloc: Global,
     text: &str,
