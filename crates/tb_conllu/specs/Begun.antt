@@ -1,5 +1,5 @@
 -- Between crates: no contract of a front door cites a definition of this module.
--- What has been read of a file so far: whole sentences, and what has come of the next.
+-- What was read of a file so far: whole sentences, and a part of the next.
 use Rattle.std.specs.Prelude.{ℕ, List, [], ◌∷◌, ◌++◌, map, Bool, true, false}
 use Rattle.std.specs.List.{AllByRecursion}
 use Rattle.tb_conllu.specs.Text.{RowText, BlockText, lines_of, row_line}
@@ -14,7 +14,7 @@ pub record BegunText : Type 0 where
 abbrev pub lines_so_far : BegunText → List (List ℕ)
 lines_so_far b = lines_of b.done ++ (b.comments ++ map row_line b.rows)
 
--- whether a word line of the sentence has come
+-- whether the sentence has a word line so far
 abbrev pub has_rows : List RowText → Bool
 has_rows [] = false
 has_rows (r ∷ rs) = true

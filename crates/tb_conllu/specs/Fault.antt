@@ -4,7 +4,7 @@ use Rattle.tb_conllu.specs.declared.fault.ReadFault.{ReadFault}
 use Rattle.tb_conllu.specs.declared.fault.ReadFault.TheVariants.{At, Memory}
 use Rattle.tb_conllu.specs.Reported.{IsReported}
 
--- the fault of bytes that come after so many lines; memory is wanted only where there is a byte
+-- the fault of bytes that come after `lines` lines; memory runs out only where there is a byte
 abbrev pub IsFaultAfter : ℕ → List ℕ → ReadFault → Type 0
 IsFaultAfter lines f (At line code) = (n : ℕ) × (line ≡ lines + n) × IsReported f n code
 IsFaultAfter lines f Memory = 0 < length f

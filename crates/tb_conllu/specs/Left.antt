@@ -1,21 +1,21 @@
 -- Between crates: no contract of a front door cites a definition of this module.
--- What is left of a file that is read one sentence after another.
+-- The rest of a file that is read one sentence after another.
 use Rattle.std.specs.Prelude.{◌≡◌, ℕ, ◌+◌, List, [], ◌∷◌, ◌++◌, length}
 use Rattle.tb_conllu.specs.Text.{BlockText, block_lines, lines_of, text_of}
 use Rattle.tb_conllu.specs.Shape.{IsShaped, AllShaped}
 
--- the bytes that are left, and how many lines came before them
+-- the bytes of the rest, and how many lines came before them
 pub record Left : Type 0 where
   pub rest : List ℕ
   pub line : ℕ
 
--- the next sentence, and what is left after it
+-- the next sentence, and the rest after it
 pub record IsNext (old new : Left) (block : BlockText) : Type 0 where
   pub shaped : IsShaped block
   pub text : old.rest ≡ text_of (block ∷ []) ++ new.rest
   pub place : new.line ≡ old.line + length (block_lines block)
 
--- of this file these sentences were read, and this is left
+-- these sentences of the file were read, and this is the rest
 pub record IsReadTo (file : List ℕ) (bs : List BlockText) (left : Left) : Type 0 where
   pub shaped : AllShaped bs
   pub whole : file ≡ text_of bs ++ left.rest

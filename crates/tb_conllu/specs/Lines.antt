@@ -1,6 +1,6 @@
--- What is wrong with one line: the least of nine codes.
--- CoNLL-U format page: a blank line ends a sentence, a line that begins with a hash is a comment and stands
--- before the word lines, every other line is a word line of ten fields.
+-- The fault of one line: the least of nine codes.
+-- CoNLL-U format page: a blank line ends a sentence. A line that begins with a hash is a comment, and comes before the
+-- word lines. Every other line is a word line of ten fields.
 use Rattle.std.specs.Prelude.{ℕ, List, [], ◌∷◌, length, take, Bool, true, false, ◌&&◌, ◌||◌, not}
 use Rattle.std.specs.Prelude.{nat_lt, nat_le, ◌==◌, bytes_eq, if◌then◌else◌, slice_index, slice_index_or}
 use Rattle.std.specs.Prelude.{chars}
@@ -32,7 +32,7 @@ field k line = slice_index_or (fields line) k []
 abbrev pub has_ten_fields : List ℕ → Bool
 has_ten_fields line = length (fields line) == 10 && not (list_any is_empty (fields line))
 
--- `0`, or one to six digits of which the first isn't `0`
+-- `0`, or one to six digits of which the first is not `0`
 abbrev pub is_number : List ℕ → Bool
 is_number ds = list_all is_digit ds && nat_lt 0 (length ds) && nat_le (length ds) 6 && (not
     (slice_index ds 0 == 48) || length ds == 1)
@@ -40,7 +40,7 @@ is_number ds = list_all is_digit ds && nat_lt 0 (length ds) && nat_le (length ds
 abbrev pub is_positive : List ℕ → Bool
 is_positive ds = is_number ds && not (bytes_eq ds (48 ∷ []))
 
--- two parts, of which the first meets one test and the second the other
+-- two parts, of which the first has p and the second q
 abbrev pub are_two : (List ℕ → Bool) → (List ℕ → Bool) → List (List ℕ) → Bool
 are_two p q [] = false
 are_two p q (a ∷ []) = false
@@ -60,7 +60,7 @@ is_id ds = is_positive ds || is_span ds || is_node ds
 abbrev pub is_head : List ℕ → Bool
 is_head ds = bytes_eq ds (95 ∷ []) || is_number ds
 
--- a field other than FORM, LEMMA and MISC holds white space; ID, where it does, is at fault before
+-- a field other than FORM, LEMMA and MISC holds white space; where ID holds some, code 5 comes first
 abbrev pub has_spaced_field : List ℕ → Bool
 has_spaced_field line = has_space (field 3 line) || has_space (field 4 line) || has_space (field 5 line)
     || has_space (field 6 line) || has_space (field 7 line) || has_space (field 8 line)
@@ -85,7 +85,7 @@ line_code came line =
     if is_comment line then (if came then 8 else 0) else
     word_code line
 
--- whether a word line of the sentence came before, after this line
+-- after this line: whether a word line of the sentence came before
 abbrev pub came_after : Bool → List ℕ → Bool
 came_after came line = if is_empty line then false else if is_comment line then came else true
 

@@ -1,9 +1,9 @@
 -- Between crates: no contract of a front door cites a definition of this module.
--- What may be wrong with a line, in nine conditions, each by itself.
--- CoNLL-U format page (https://universaldependencies.org/format.html): a file is UTF-8 and NFC; a blank line ends a
--- sentence; a line that begins with a hash is a comment, and stands before the word lines; every other line is a word
--- line of ten fields, with one tab between each two; no field is empty, and only FORM, LEMMA and MISC may hold white
--- space; an ID is an integer from 1, a range of two, or a decimal number of an empty node; a HEAD is an integer from
+-- The nine faults of a line, each as a condition of its own.
+-- CoNLL-U format page (https://universaldependencies.org/format.html): a file is UTF-8 and NFC. A blank line ends a
+-- sentence. A line that begins with a hash is a comment, and comes before the word lines. Every other line is a word
+-- line of ten fields, with one tab between each two. No field is empty, and only FORM, LEMMA and MISC may hold white
+-- space. An ID is an integer from 1, a range of two, or a decimal number of an empty node. A HEAD is an integer from
 -- 0, or an underscore. Numbers of at most six digits, and no control character but tab, are this project's own limits.
 use Rattle.std.specs.Prelude.{◌≡◌, ◌≢◌, ℕ, ◌<◌, ◌⊎◌, List, [], ◌∷◌, length, take, Any}
 use Rattle.std.specs.Prelude.{Bool, true, false, IfSome}
@@ -42,11 +42,11 @@ IsIdText text = (id : LineId) × IsIdShaped id × (text ≡ id_text id)
 abbrev pub IsHeadText : List ℕ → Type 0
 IsHeadText text = (head : Option ℕ) × IfSome head IsShort × (text ≡ head_text head)
 
--- a field holds white space, and is none of the fields 1, 2 and 9: FORM, LEMMA and MISC
+-- a field other than 1, 2 and 9 (FORM, LEMMA and MISC) holds white space
 abbrev pub HoldsSpace : List ℕ → Type 0
 HoldsSpace line = (k : ℕ) × (k < 10) × (k ≢ 1) × (k ≢ 2) × (k ≢ 9) × (has_space (field k line) ≡ true)
 
--- U+0000 to U+001F, and no tab
+-- it holds one of U+0000 to U+001F that is no tab
 abbrev pub HoldsControl : List ℕ → Type 0
 HoldsControl line = Any (λ b. (b < 32) × (b ≢ 9)) line
 
@@ -93,7 +93,7 @@ HasCode came line code =
     ⊎ ((code ≡ 8) × IsLateComment came line)
     ⊎ ((code ≡ 9) × IsEarlyBlank came line)
 
--- The line has none of the nine.
+-- The line has none of the nine codes.
 abbrev pub HasNoCode : Bool → List ℕ → Type 0
 HasNoCode came line = (code : ℕ) → HasCode came line code → ⊥
 

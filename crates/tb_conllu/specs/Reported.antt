@@ -1,4 +1,4 @@
--- Why a file is refused, and where: the first line that nothing can mend.
+-- Why a file is refused, and where: the first line after which no continuation is a file.
 use Rattle.std.specs.Prelude.{◌≡◌, ℕ, ◌+◌, ◌⊎◌, List, [], ◌∷◌, ◌++◌, length, ◌==◌}
 use Rattle.std.specs.Prelude.{false}
 use Rattle.std.specs.List.{list_any, AllByRecursion}
@@ -13,12 +13,12 @@ IsLine bs = list_any (λ b. b == 10) bs ≡ false
 abbrev pub AreLines : List (List ℕ) → Type 0
 AreLines ls = AllByRecursion IsLine ls
 
--- The bytes are a file of sentences: their text, and each of them shaped.
+-- The bytes are a file of sentences: their text, where each is shaped.
 pub record IsFile (f : List ℕ) (bs : List BlockText) : Type 0 where
   pub shaped : AllShaped bs
   pub text : f ≡ text_of bs
 
--- No file begins with these lines, each ended by a line feed.
+-- No file begins with these lines, each with its line feed.
 abbrev pub IsDead : List (List ℕ) → Type 0
 IsDead ls = (bs : List BlockText) (rest : List ℕ) → AllShaped bs → text_of bs ≡ ended ls ++ rest → ⊥
 
@@ -26,8 +26,8 @@ IsDead ls = (bs : List BlockText) (rest : List ℕ) → AllShaped bs → text_of
 abbrev pub IsNoFile : List ℕ → Type 0
 IsNoFile f = (bs : List BlockText) → AllShaped bs → f ≡ text_of bs → ⊥
 
--- The first line that nothing can mend, counted from 1, with its least code: a file can still begin with the
--- lines before it, and none begins with it too.
+-- The first line after which no continuation is a file, counted from 1, with its least code. Some file begins with the
+-- lines before it, and none with these and the line.
 pub record IsLineFault (f : List ℕ) (line code : ℕ) : Type 0 where
   pub before : List (List ℕ)
   pub reported : List ℕ
@@ -39,8 +39,8 @@ pub record IsLineFault (f : List ℕ) (line code : ℕ) : Type 0 where
   pub alive : IsDead before → ⊥
   pub least : line_code (came_through false before) reported ≡ code
 
--- Nothing is at fault but the end: a file can still begin with the lines, but bytes follow the last line feed,
--- or the last sentence lacks its blank line.
+-- Only the end is at fault: some file begins with the lines, but bytes follow the last line feed, or the last sentence
+-- lacks its blank line.
 pub record IsUnended (f : List ℕ) (line : ℕ) : Type 0 where
   pub before : List (List ℕ)
   pub rest : List ℕ
@@ -51,6 +51,6 @@ pub record IsUnended (f : List ℕ) (line : ℕ) : Type 0 where
   pub alive : IsDead before → ⊥
   pub no_file : IsNoFile f
 
--- The fault that is told of bytes that are no file: codes 1 to 9 at a line, 10 at the end.
+-- The fault of bytes that are no file: codes 1 to 9 at a line, 10 at the end.
 abbrev pub IsReported : List ℕ → ℕ → ℕ → Type 0
 IsReported f line code = IsLineFault f line code ⊎ (IsUnended f line × (code ≡ 10))

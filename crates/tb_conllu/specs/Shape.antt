@@ -1,6 +1,6 @@
--- Which sentences can be written and read back: the shape that the format asks of each of their parts.
--- CoNLL-U format page: the text is NFC and UTF-8, fields are not empty, only FORM, LEMMA and MISC may hold
--- spaces, comments begin with a hash. Numbers of at most six digits are this project's own limit.
+-- Which sentences can be written and read back: the shape that the format requires of each of their parts.
+-- CoNLL-U format page: the text is NFC and UTF-8. Fields are not empty, and only FORM, LEMMA and MISC may hold spaces.
+-- Comments begin with a hash. Numbers of at most six digits are this project's own limit.
 use Rattle.std.specs.Prelude.{◌≡◌, ℕ, ◌<◌, ◌≤◌, List, [], ◌∷◌, length, take, IfSome, Bool}
 use Rattle.std.specs.Prelude.{false, ◌&&◌, not, nat_lt, ◌==◌, chars}
 use Rattle.std.specs.List.{AllByRecursion, list_any}
@@ -18,19 +18,19 @@ is_control b = nat_lt b 32 && not (b == 9)
 abbrev pub is_tab : ℕ → Bool
 is_tab b = b == 9
 
--- a text that may stand in a line
+-- a text that a line may have
 pub record IsLineText (bs : List ℕ) : Type 0 where
   pub utf8 : IsUtf8 bs
   pub nfc : IsInForm Nfc (chars bs)
   pub clean : list_any is_control bs ≡ false
 
--- a text that may stand in a field
+-- a text that a field may have
 pub record IsFieldText (bs : List ℕ) : Type 0 where
   pub text : IsLineText bs
   pub nonempty : 0 < length bs
   pub no_tab : list_any is_tab bs ≡ false
 
--- a text that may stand in a field other than FORM, LEMMA and MISC
+-- a text that a field other than FORM, LEMMA and MISC may have
 pub record IsTightText (bs : List ℕ) : Type 0 where
   pub field : IsFieldText bs
   pub no_space : has_space bs ≡ false

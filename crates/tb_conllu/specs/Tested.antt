@@ -1,5 +1,5 @@
 -- Between crates: no contract of a front door cites a definition of this module.
--- What one look at all bytes tells of each of their lines.
+-- What one pass over all bytes shows of each of their lines.
 use Rattle.std.specs.Prelude.{◌≡◌, ℕ, List, IsTrue, false}
 use Rattle.std.specs.List.{list_any}
 use Rattle.std.specs.Str.{IsUtf8}
@@ -7,7 +7,7 @@ use Rattle.tb_conllu.specs.Plain.{is_stray, is_beyond_latin}
 use Rattle.tb_conllu.specs.Shape.{is_control}
 use Rattle.tb_conllu.specs.declared.linetext.Tested.{Tested}
 
--- it holds of these bytes, of which line feeds may be some
+-- it holds of these bytes, which may hold line feeds
 pub record HoldsOf (t : Tested) (bs : List ℕ) : Type 0 where
   pub quiet : IsTrue t.quiet → list_any is_stray bs ≡ false
   pub utf8 : IsTrue t.utf8 → IsUtf8 bs

@@ -1,13 +1,13 @@
--- Sentences as plain data, and the one text that they have.
--- CoNLL-U format page, "CoNLL-U Format" and "Sentence Boundaries and Comments": a sentence is its comment
--- lines, its word lines of ten fields that single tabs separate, and one blank line; every line ends with LF.
+-- Sentences as plain data, and the text that each has.
+-- CoNLL-U format page, "CoNLL-U Format" and "Sentence Boundaries and Comments": a sentence is its comment lines, its
+-- word lines, and one blank line. A word line has ten fields, separated by single tabs. Every line ends with LF.
 use Rattle.std.specs.Prelude.{ℕ, List, [], ◌∷◌, ◌++◌, map, Option, Some, None}
 use Rattle.std.specs.List.{flat_map, join_with_byte}
 use Rattle.std.specs.Fmt.{decimal}
 use Rattle.tb_conllu.specs.declared.id.LineId.{LineId}
 use Rattle.tb_conllu.specs.declared.id.LineId.TheVariants.{Word, Span, Empty}
 
--- a row without where it lies in memory: each text is its list of bytes
+-- a row as plain data: each text is its list of bytes
 pub record RowText : Type 0 where
   pub id : LineId
   pub form : List ℕ
@@ -20,7 +20,7 @@ pub record RowText : Type 0 where
   pub deps : List ℕ
   pub misc : List ℕ
 
--- a sentence without where it lies in memory
+-- a sentence as plain data
 pub record BlockText : Type 0 where
   pub comments : List (List ℕ)
   pub rows : List RowText
@@ -31,7 +31,7 @@ id_text (Word n) = decimal n
 id_text (Span n m) = decimal n ++ 45 ∷ decimal m
 id_text (Empty i k) = decimal i ++ 46 ∷ decimal k
 
--- a number, or `_` where none is given
+-- a number, or `_` where there is none
 abbrev pub head_text : Option ℕ → List ℕ
 head_text None = 95 ∷ []
 head_text (Some n) = decimal n
@@ -49,11 +49,11 @@ row_line r = join_with_byte 9 (fields_of r)
 abbrev pub block_lines : BlockText → List (List ℕ)
 block_lines b = b.comments ++ (map row_line b.rows ++ [] ∷ [])
 
--- the lines of sentences, one sentence after the other
+-- the lines of sentences, one sentence after another
 abbrev pub lines_of : List BlockText → List (List ℕ)
 lines_of bs = flat_map block_lines bs
 
--- these lines, each ended by a line feed
+-- these lines, each with its line feed
 abbrev pub ended : List (List ℕ) → List ℕ
 ended ls = flat_map (λ l. l ++ 10 ∷ []) ls
 

@@ -1,5 +1,5 @@
 -- Inner: no contract beyond this crate cites a definition of this module.
--- What a writer answers each time that it is asked to take some of a text, and when writing the text ends.
+-- The answers of a writer that is asked to take some of a text, and when writing the text ends.
 use Rattle.std.specs.Prelude.{◌≡◌, ℕ, ◌+◌, ◌<◌, ◌≤◌, List, [], ◌∷◌, ◌++◌, length}
 use Rattle.std.specs.Prelude.{Option, Some, None, Result, Ok, Err}
 use Rattle.std.specs.Prelude.{⊤, ◌⊎◌}
@@ -11,40 +11,40 @@ use Rattle.tb_conllu.specs.declared.sink.Stop.TheVariants.{Interrupted, Failed}
 abbrev pub Answer : Type 0
 Answer = Result ℕ Stop
 
--- counted answers grow by these
+-- these were added to the counted answers
 abbrev pub Answers : Option (List Answer) → Option (List Answer) → List Answer → Type 0
 Answers None new rs = ⊤
 Answers (Some xs) None rs = ⊥
 Answers (Some xs) (Some ys) rs = ys ≡ xs ++ rs
 
--- it took some bytes, or a signal came between: writing goes on
+-- it took some bytes, or a signal interrupted it: writing goes on
 abbrev pub GoesOn : Answer → Type 0
 GoesOn (Ok n) = 0 < n
 GoesOn (Err Interrupted) = ⊤
 GoesOn (Err Failed) = ⊥
 
--- it took no byte: there was no room, a signal came between, or it failed
+-- it took no byte: there was no room, a signal interrupted it, or it failed
 abbrev pub TakesNone : Answer → Type 0
 TakesNone (Ok n) = n ≡ 0
 TakesNone (Err stop) = ⊤
 
--- one for a signal that came between
+-- 1 for an interruption by a signal
 abbrev pub one_if_interrupted : Answer → ℕ
 one_if_interrupted (Ok n) = 0
 one_if_interrupted (Err Interrupted) = 1
 one_if_interrupted (Err Failed) = 0
 
--- how often a signal came between
+-- how often a signal interrupted it
 abbrev pub interruptions : List Answer → ℕ
 interruptions [] = 0
 interruptions (a ∷ rs) = one_if_interrupted a + interruptions rs
 
--- after each of them writing goes on, and a signal came between fewer than a thousand times
+-- after each answer writing goes on, and there were fewer than a thousand interruptions
 pub record AreSteps (rs : List Answer) : Type 0 where
   pub steps : AllByRecursion GoesOn rs
   pub patient : interruptions rs < 1000
 
--- the last of them takes no byte: it is no step, or it is the thousandth signal
+-- the last answer takes no byte: writing does not go on after it, or it is the thousandth interruption
 pub record AreLast (rs : List Answer) : Type 0 where
   pub before : List Answer
   pub last : Answer
@@ -53,11 +53,11 @@ pub record AreLast (rs : List Answer) : Type 0 where
   pub none : TakesNone last
   pub reason : (GoesOn last → ⊥) ⊎ (interruptions rs ≡ 1000)
 
--- a text of so many bytes was taken: the writer was asked for no more than its bytes, and a thousand interruptions
+-- a text of this many bytes was taken, in at most as many calls as it has bytes, and a thousand more
 abbrev pub HasTaken : Option (List Answer) → Option (List Answer) → ℕ → Type 0
 HasTaken old new bytes = (rs : List Answer) × Answers old new rs × AreSteps rs × (length rs ≤ bytes + 1000)
 
--- it was not: the writer was asked no more often, and its last answer is the reason
+-- it was not, in at most as many calls, and the last answer is the reason
 abbrev pub HasGivenUp : Option (List Answer) → Option (List Answer) → ℕ → Type 0
 HasGivenUp old new bytes = (rs : List Answer) × Answers old new rs × AreLast rs × (length rs ≤ bytes + 1000)
 

@@ -15,6 +15,8 @@ fn is_word_line(id: LineId) -> bool
 }
 
 /// Whether the row is a word: neither a range nor an empty node.
+///
+/// CoNLL-U format page, "Words, Tokens and Empty Nodes".
 pub fn is_word_row<T: Text>(row: &RowOf<T>) -> bool
     ensures { result ≡ is_word row.now }
 {

@@ -5,11 +5,11 @@ use std::alloc::{AllocError, AllocFailed};
 use std::error::Error;
 use std::fmt;
 
-/// Why a file isn't read.
+/// Why a file is not read.
 #[derive(Debug, Drop)]
 pub enum ReadFault {
-    /// The first line that nothing can mend, counted from 1, and its least code: 1 to 9, or 10 where only the end is at
-    /// fault.
+    /// The first line, counted from 1, after which no continuation is a file, and its least code. This is 1 to 9, or 10
+    /// where only the end is at fault.
     At { line: usize, code: u8 },
     /// Memory ran out.
     Memory,

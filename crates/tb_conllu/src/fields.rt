@@ -22,7 +22,7 @@ pub struct TenFields<'a> {
     pub misc: &'a str,
 }
 
-/// The first field of a line and what follows its tab; `None` where no tab is left.
+/// The first field of a line, and the text after its tab; `None` where no tab is left.
 fn next_field(line: &str) -> Option<(&str, &str)>
     ensures { MatchOption result (fields line.now ≡ line.now ∷ []) (λ p.
         fields line.now ≡ p.0.now ∷ fields p.1.now) }
@@ -31,7 +31,7 @@ fn next_field(line: &str) -> Option<(&str, &str)>
     Some((&line[..end], &line[end + 1..]))
 }
 
-/// The fields of a line that has ten, empty or not.
+/// The fields of a line that has ten. They may be empty.
 fn cut(line: &str) -> Option<TenFields<'_>>
     ensures { MatchOption result (has_ten_fields line.now ≡ false) (λ p. fields line.now ≡ list_of p) }
 {

@@ -68,7 +68,7 @@ pub fn add_row<T: Text>(block: &mut BlockOf<T>, row: RowOf<T>) -> Result<(), All
     Ok(())
 }
 
-/// Takes the line of this number, which isn't blank, into the sentence; or refuses it with the least code that it has.
+/// Adds the line with this number, which is not blank, to the sentence, or refuses it with its least code.
 pub fn take_line<'a>(block: &mut BlockRef<'a>, text: &'a str, line: usize) -> Result<(), ReadFault>
     requires text { IsLineText text.now }
     requires filled { is_empty text.now ≡ false }

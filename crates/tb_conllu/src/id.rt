@@ -7,6 +7,6 @@ pub enum LineId {
     Word(u32),
     /// A multiword token: its first and its last word.
     Span(u32, u32),
-    /// An empty node: the word that it follows (0 before the first), and its number there.
+    /// An empty node: the word before it (0 before the first), and its number after that word.
     Empty(u32, u32),
 }

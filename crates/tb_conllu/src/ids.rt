@@ -33,7 +33,7 @@ fn node(text: &[u8]) -> Option<(u32, u32)>
     Some((word, place))
 }
 
-/// The ID that a text spells: `n`, `n-m` or `i.k`, where n, m and k are at least 1.
+/// The ID that a text writes: `n`, `n-m` or `i.k`, where n, m and k are at least 1.
 pub fn id_of(text: &str) -> Option<LineId>
     ensures { MatchOption result (is_id text.now ≡ false) (λ id. (is_id text.now ≡ true)
         × (id_text id ≡ text.now) × IsIdShaped id) }
@@ -51,7 +51,7 @@ pub fn id_of(text: &str) -> Option<LineId>
     None
 }
 
-/// The HEAD that a text spells: `_`, or a number; `None` where it is neither.
+/// The HEAD that a text writes: `_`, or a number; `None` where it is neither.
 pub fn head_of(text: &str) -> Option<Option<u32>>
     ensures { MatchOption result (is_head text.now ≡ false) (λ head. (is_head text.now ≡ true)
         × (head_text head ≡ text.now) × IfSome head IsShort) }

@@ -1,5 +1,5 @@
-//! Sentences of texts that are known to be those of sentences, as the texts are that a desk keeps: they are cut, and
-//! nothing of them is tested again but that they are UTF-8.
+//! Reads sentences from texts that are known to be those of sentences, as a desk keeps them. They are split into
+//! fields, and tested for nothing but UTF-8.
 
 ghost use Rattle.std.specs.Prelude.{◌≡◌, ◌<◌, ℕ, List, [], ◌∷◌, ◌++◌, map, length, nat_le, true};
 ghost use Rattle.std.specs.Prelude.{false, Some, IfOk, IfSome, OnOk, MatchOption, MatchBool};
@@ -21,7 +21,7 @@ use memchr::memchr;
 use simdutf8::basic::from_utf8;
 use std::alloc::{AllocError, Global};
 
-/// The first line of a text and what follows it; `None` where no line feed is left.
+/// The first line of a text, and the text after it; `None` where no line feed is left.
 fn next_line(text: &str) -> Option<(&str, &str)>
     ensures { MatchOption result (IsLine text.now) (λ p. IsLine p.0.now × (text.now ≡ p.0.now ++ 10 ∷ p.1.now)) }
 {
@@ -29,7 +29,7 @@ fn next_line(text: &str) -> Option<(&str, &str)>
     Some((&text[..end], &text[end + 1..]))
 }
 
-/// Takes the comments with which a text begins into the sentence. Answers what follows them.
+/// Adds the comments at the beginning of a text to the sentence. Returns the text after them.
 fn take_comments<'a>(block: &mut BlockRef<'a>, text: &'a str) -> Result<&'a str, AllocError>
     ensures taken { (cs : List (List ℕ)) (rest : List ℕ) → AllByRecursion IsCommentText cs
         → is_comment rest ≡ false → text.now ≡ ended cs ++ rest
@@ -48,7 +48,7 @@ fn take_comments<'a>(block: &mut BlockRef<'a>, text: &'a str) -> Result<&'a str,
     Ok(left)
 }
 
-/// What stands before the next tab or line feed, which is passed by; `None` where no such is left.
+/// The text before the next tab or line feed, which the scanner passes; `None` where there is none.
 #[inline(always)]
 fn next_part<'a>(cutter: &mut FieldScanner<'a>) -> Option<&'a str>
     ensures { MatchOption result (parts cutter.old ≡ cutter.old ∷ []) (λ part.
@@ -57,7 +57,7 @@ fn next_part<'a>(cutter: &mut FieldScanner<'a>) -> Option<&'a str>
     cutter.cut()
 }
 
-/// The ten fields of a row of which the first is at hand; `None` where fewer are left.
+/// The ten fields of a row whose first field is `id`; `None` where fewer are left.
 #[inline(always)]
 fn fields_after<'a>(id: &'a str, cutter: &mut FieldScanner<'a>) -> Option<TenFields<'a>>
     ensures { MatchOption result (nat_le (length (parts cutter.old)) 9 ≡ true) (λ p. id.now ∷ parts cutter.old
@@ -86,7 +86,7 @@ fn fields_after<'a>(id: &'a str, cutter: &mut FieldScanner<'a>) -> Option<TenFie
     })
 }
 
-/// The row of which the first field is at hand.
+/// The row whose first field is `id`.
 #[inline(always)]
 fn row_after<'a>(id: &'a str, cutter: &mut FieldScanner<'a>) -> Option<RowRef<'a>>
     ensures row { (r : RowText) (rest : List (List ℕ)) → IsRowShaped r → 0 < length rest
@@ -107,8 +107,8 @@ fn row_after<'a>(id: &'a str, cutter: &mut FieldScanner<'a>) -> Option<RowRef<'a
     Some(row_from(fields, id, head))
 }
 
-/// A sentence with nothing in it, and room for as many rows as a text of so many bytes has where one takes 48 of them: most
-/// take more, and a list that grows copies what it has.
+/// An empty sentence, with room for the rows of a text of this many bytes, at 48 bytes a row. Most rows take more. A
+/// list that grows would copy what it has.
 fn roomy_block<'a>(alloc: Global, bytes: usize) -> Result<BlockRef<'a>, AllocError>
     ensures { IfOk result (λ b. b ≡ record { comments = []; rows = [] }) }
 {
@@ -118,7 +118,7 @@ fn roomy_block<'a>(alloc: Global, bytes: usize) -> Result<BlockRef<'a>, AllocErr
     })
 }
 
-/// Takes the rows of a text, up to a blank line, into the sentence. Answers whether it came to one.
+/// Adds the rows of a text to the sentence, up to a blank line. Returns whether there was one.
 fn take_rows<'a>(block: &mut BlockRef<'a>, text: &'a str) -> Result<bool, AllocError>
     ensures whole { (rs : List RowText) → AllByRecursion IsRowShaped rs
         → text.now ≡ ended (map row_line rs ++ [] ∷ []) → IfOk result (λ whole. whole ≡ true) }
@@ -139,13 +139,15 @@ fn take_rows<'a>(block: &mut BlockRef<'a>, text: &'a str) -> Result<bool, AllocE
     Ok(false)
 }
 
-/// The sentence of bytes that are known to be a sentence's text, as those are that a desk keeps; its texts are borrowed
-/// from them. It is cut at line feeds and tabs, and nothing is tested but what a cut needs, so it takes half the time of
-/// [`crate::read_ref`]. Of bytes that are no sentence's text, nothing is said: `None`, or a sentence of some kind.
+/// The sentence with this text, which is known to be a sentence's, as those that a desk keeps. It borrows its texts
+/// from the bytes.
+///
+/// The bytes are split at line feeds and tabs, and only what the split needs is tested. This takes half the time of
+/// [`crate::read_ref`]. For bytes that are no sentence's text the answer is `None` or any sentence.
 ///
 /// # Errors
 ///
-/// No memory is left.
+/// Memory was refused.
 pub fn known_block(alloc: Global, bytes: &[u8]) -> Result<Option<BlockRef<'_>>, AllocError>
     ensures { (b : BlockText) → IsFile bytes.now (b ∷ []) → IfOk result (λ found. found ≡ Some b) }
 {

@@ -1,4 +1,4 @@
-//! Laws of files and faults: each function only states a fact about the definitions, and runs nothing.
+//! Laws of files and faults. Each function states a fact about the definitions, and runs nothing.
 
 ghost use Rattle.std.specs.Prelude.{◌≡◌, ◌↔◌, ◌<◌, ◌+◌, ℕ, Bool, List, [], ◌∷◌, ◌++◌};
 ghost use Rattle.std.specs.Prelude.{length, false};
@@ -12,14 +12,14 @@ ghost use Rattle.tb_conllu.specs.Shape.{AllShaped};
 ghost use Rattle.tb_conllu.specs.Text.{BlockText, text_of, lines_of};
 ghost use Rattle.tb_conllu.specs.Reported.{AreLines, IsDead, IsFile, IsNoFile, IsReported};
 
-/// The code of a line is the least of the nine that it has; 0 where it has none.
+/// The code of a line is the least of the nine codes that it has; 0 where it has none.
 pub fn a_line_has_its_least_code()
     ensures none { (came : Bool) (line : List ℕ) → line_code came line ≡ 0 ↔ HasNoCode came line }
     ensures least { (came : Bool) (line : List ℕ) (code : ℕ) → 0 < code
         → line_code came line ≡ code ↔ HasLeastCode came line code }
 {}
 
-/// A line at fault is dead, with the lines before it.
+/// No file begins with a line at fault and the lines before it.
 pub fn faulty_line_is_dead()
     ensures { (before : List (List ℕ)) (reported : List ℕ) → AreLines (before ++ reported ∷ [])
         → 0 < line_code (came_through false before) reported → IsDead (before ++ reported ∷ []) }
@@ -30,7 +30,7 @@ pub fn read_lines_are_alive()
     ensures { (b : BegunText) → IsSound b → IsDead (lines_so_far b) → ⊥ }
 {}
 
-/// Two lists of shaped sentences with one text are equal.
+/// Two lists of shaped sentences with the same text are equal.
 pub fn one_list_has_a_text()
     ensures { (f : List ℕ) (bs cs : List BlockText) → IsFile f bs → IsFile f cs → bs ≡ cs }
 {}
@@ -41,24 +41,25 @@ pub fn a_file_begins_one_way()
         → text_of cs ≡ text_of bs ++ rest → (more : List BlockText) × (cs ≡ bs ++ more) × IsFile rest more }
 {}
 
-/// A fault of what follows whole sentences is the fault of the whole, so many lines later.
+/// A fault of the bytes after whole sentences is the fault of the whole, with the lines of these sentences added.
 pub fn fault_after_sentences()
     ensures { (bs : List BlockText) (f : List ℕ) (line code : ℕ) → AllShaped bs → IsReported f line code
         → IsReported (text_of bs ++ f) (length (lines_of bs) + line) code }
 {}
 
-/// Bytes of which a fault is told are no file.
+/// Bytes with a fault are no file.
 pub fn reported_bytes_are_no_file()
     ensures { (f : List ℕ) (line code : ℕ) → IsReported f line code → IsNoFile f }
 {}
 
-/// At most one fault is told of any bytes.
+/// Any bytes have at most one fault.
 pub fn one_fault_is_reported()
     ensures { (f : List ℕ) (line code other_line other_code : ℕ) → IsReported f line code
         → IsReported f other_line other_code → (line ≡ other_line) × (code ≡ other_code) }
 {}
 
-/// A file that is read one sentence after another: what the next one leaves, the end, all that is left, and a fault.
+/// A file that is read one sentence after another: the next sentence, the end, the sentences that are left, and a
+/// fault.
 pub fn a_file_is_read_in_order()
     ensures begin { (f : List ℕ) → IsReadTo f [] (record { rest = f; line = 0 }) }
     ensures next { (f : List ℕ) (bs : List BlockText) (old new : Left) (b : BlockText) → IsReadTo f bs old

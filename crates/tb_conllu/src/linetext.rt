@@ -14,7 +14,7 @@ use simdutf8::is_utf8;
 use std::alloc::{AllocError, Global};
 use unicode_normalization::is_nfc;
 
-/// What one look at all bytes told, which then holds of each of their lines.
+/// What one pass over all bytes found, which then holds of each of their lines.
 #[derive(Clone, Copy)]
 pub struct Tested {
     /// No byte is a control character other than tab and line feed.
@@ -47,8 +47,8 @@ fn any_stray(bytes: &[u8]) -> bool
     seen
 }
 
-/// Whether some character is U+0300 or above, by the first bytes of characters. Normalization form C leaves those
-/// below as they are.
+/// Whether some character is U+0300 or above, by the first bytes of characters. Normalization form C does not change
+/// those below.
 fn any_beyond_latin(bytes: &[u8]) -> bool
     ensures { result ≡ list_any is_beyond_latin bytes.now }
 {
@@ -59,7 +59,7 @@ fn any_beyond_latin(bytes: &[u8]) -> bool
     beyond
 }
 
-/// What there is to tell of all bytes.
+/// Tests all bytes in one pass.
 pub fn test_all(bytes: &[u8]) -> Tested
     ensures { HoldsOf result bytes.now }
 {
@@ -70,13 +70,13 @@ pub fn test_all(bytes: &[u8]) -> Tested
     }
 }
 
-/// The text of bytes that are UTF-8, `None` of others. `known` says that they are.
+/// The text of bytes that are UTF-8, `None` for others. `known` says that they are UTF-8.
 fn as_text(raw: &[u8], known: bool) -> Option<&str>
     requires { IsTrue known → IsUtf8 raw.now }
     ensures { MatchOption result (¬ (IsUtf8 raw.now)) (λ text. (text.now ≡ raw.now) × IsUtf8 raw.now) }
 {
     if known {
-        // No line is tested again.
+        // the pass over all bytes has tested this line
         return Some(unsafe { std::str::from_utf8_unchecked(raw) });
     }
     std::str::from_utf8(raw).ok()
@@ -102,8 +102,8 @@ pub fn is_composed(alloc: Global, text: &str, latin: bool) -> Result<bool, Alloc
     is_nfc(alloc, text)
 }
 
-/// The text of the line of this number, where it is UTF-8 (else code 1), NFC (else 2) and without control
-/// characters other than tab (else 3).
+/// The text of the line with this number, if it is UTF-8 (else code 1), NFC (else 2), and without control characters
+/// other than tab (else 3).
 pub fn line_text<'a>(
     alloc: Global,
     raw: &'a [u8],

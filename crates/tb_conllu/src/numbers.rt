@@ -28,7 +28,7 @@ fn value(text: &[u8]) -> u32
     n
 }
 
-/// The number that a text spells: `0`, or one to six digits of which the first isn't `0`.
+/// The number that a text writes: `0`, or one to six digits of which the first is not `0`.
 pub fn number(text: &[u8]) -> Option<u32>
     ensures { MatchOption result (is_number text.now ≡ false) (λ n. (is_number text.now ≡ true)
         × (decimal n ≡ text.now) × IsShort n) }
@@ -40,7 +40,7 @@ pub fn number(text: &[u8]) -> Option<u32>
     }
 }
 
-/// The number that a text spells, where it isn't 0.
+/// The number that a text writes, if it is not 0.
 pub fn positive(text: &[u8]) -> Option<u32>
     ensures { MatchOption result (is_positive text.now ≡ false) (λ n. (is_positive text.now ≡ true)
         × (decimal n ≡ text.now) × (1 ≤ n) × IsShort n) }

@@ -1,4 +1,4 @@
-//! Bytes cut at the first of a mark.
+//! Splits bytes at the first of a mark.
 
 ghost use Rattle.std.specs.Prelude.{◌≡◌, ◌<◌, ◌+◌, ◌∷◌, ◌++◌, ◌==◌, MatchOption, drop};
 ghost use Rattle.std.specs.Prelude.{length, false};
@@ -6,7 +6,7 @@ ghost use Rattle.std.specs.List.{list_any};
 
 use memchr::memchr;
 
-/// What follows the byte at `end`.
+/// The bytes after the byte at `end`.
 fn after(bytes: &[u8], end: usize) -> &[u8]
     requires { end < length bytes.now }
     ensures { result.now ≡ drop (end + 1) bytes.now }
@@ -14,7 +14,7 @@ fn after(bytes: &[u8], end: usize) -> &[u8]
     &bytes[end + 1..]
 }
 
-/// What stands before the first of the mark, and what stands after it; `None` where the mark is nowhere.
+/// The bytes before the first of the mark, and those after it; `None` where the mark is nowhere.
 pub fn cut_once(mark: u8, bytes: &[u8]) -> Option<(&[u8], &[u8])>
     ensures { MatchOption result (list_any (λ b. b == mark) bytes.now ≡ false) (λ p.
         (list_any (λ b. b == mark) p.0.now ≡ false) × (bytes.now ≡ p.0.now ++ mark ∷ p.1.now)) }

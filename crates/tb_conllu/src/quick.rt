@@ -1,5 +1,5 @@
-//! Rows read one after another of a text that was tested as a whole: its tabs and line feeds are found 64 bytes at a time, and
-//! a row that is not plainly one is left to those who tell what it is.
+//! Reads rows quickly from a text that was tested as a whole. Its tabs and line feeds are found 64 bytes at a time. A
+//! row that may have a fault is left to the functions that report it.
 
 ghost use Rattle.std.specs.Prelude.{◌≡◌, ℕ, List, [], ◌∷◌, ◌++◌, map, take, slice_index, IfOk};
 ghost use Rattle.std.specs.Prelude.{IfSome, IsTrue, ◌||◌};
@@ -24,7 +24,7 @@ use crate::spaces::any_wide_near;
 use std::alloc::{AllocError, Global};
 use tb_chars::is_digit_byte;
 
-/// The field that this mark ends; `None` where it is empty, or not ended so.
+/// The field before this mark; `None` where it is empty, or where another mark ends it.
 #[inline(always)]
 fn field_before<'a>(cutter: &mut FieldScanner<'a>, mark: u8) -> Option<&'a str>
     ensures { IfSome result (λ field. IsParted field.now × (cutter.old ≡ field.now ++ mark ∷ cutter.new)) }
@@ -37,7 +37,7 @@ fn field_before<'a>(cutter: &mut FieldScanner<'a>, mark: u8) -> Option<&'a str>
     Some(field)
 }
 
-/// The fields of the line with which what is left begins, which is passed by; `None` where it has not ten, all of them filled.
+/// The fields of the next line, which the scanner passes; `None` where it has not ten, all of them filled.
 #[inline(always)]
 fn fields_next<'a>(cutter: &mut FieldScanner<'a>) -> Option<TenFields<'a>>
     ensures { IfSome result (λ p. AllByRecursion IsParted (list_of p)
@@ -67,7 +67,7 @@ fn fields_next<'a>(cutter: &mut FieldScanner<'a>) -> Option<TenFields<'a>>
     })
 }
 
-/// What stands before the line feed at `end`.
+/// The text before the line feed at `end`.
 #[inline(always)]
 fn before_feed(text: &str, end: usize) -> &str
     requires { slice_index text.now end ≡ 10 }
@@ -76,7 +76,7 @@ fn before_feed(text: &str, end: usize) -> &str
     &text[..end]
 }
 
-/// Whether one of the fields that may hold no white space has some. The line stands first in what was left.
+/// Whether one of the fields that may not hold white space holds some. The line is the first of `unread`.
 #[inline(always)]
 fn any_spaced_next(unread: &str, line: &str, p: TenFields<'_>) -> bool
     requires first { (rest : List ℕ) × (unread.now ≡ line.now ++ 10 ∷ rest) }
@@ -89,7 +89,7 @@ fn any_spaced_next(unread: &str, line: &str, p: TenFields<'_>) -> bool
     any_wide_near(unread.as_bytes(), line.len()) && any_field_spaced(p)
 }
 
-/// The row with which what is left begins, which is passed by; `None` where no row without a fault is there.
+/// The next row, which the scanner passes; `None` where the next line is no row without a fault.
 #[inline(always)]
 fn row_next<'a>(
     alloc: Global,
@@ -129,7 +129,7 @@ pub fn is_numbered(bytes: &[u8]) -> bool
     }
 }
 
-/// Takes the rows with which a text begins into the sentence, up to one that is at fault. Answers what follows them.
+/// Adds the rows at the beginning of a text to the sentence, up to one at fault. Returns the text after them.
 pub fn take_rows<'a>(
     alloc: Global,
     block: &mut BlockRef<'a>,

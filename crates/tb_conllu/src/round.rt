@@ -1,4 +1,4 @@
-//! Reading and writing, one after the other, in either order.
+//! Reads and writes, in either order.
 
 ghost use Rattle.std.specs.Prelude.{◌≡◌, List, IfOk, IfErr, MatchResult};
 ghost use Rattle.tb_conllu.specs.Fault.{IsReadFault};
@@ -13,11 +13,11 @@ use crate::whole::read;
 use crate::writer::write;
 use std::alloc::Global;
 
-/// A file read and written: its bytes again.
+/// Reads a file and writes it: the same bytes again.
 ///
 /// # Errors
 ///
-/// The file's fault, as `read` tells it, or want of memory.
+/// The file's fault, as `read` reports it, or want of memory.
 pub fn rewrite(alloc: Global, bytes: &[u8]) -> Result<Vec<u8>, ReadFault>
     ensures unchanged { IfOk result (λ v. v.items ≡ bytes.now) }
     ensures reported { IfErr result (IsReadFault bytes.now) }
@@ -30,11 +30,11 @@ pub fn rewrite(alloc: Global, bytes: &[u8]) -> Result<Vec<u8>, ReadFault>
     Ok(write(alloc, &blocks)?)
 }
 
-/// Sentences written and read: where they are shaped as the format asks, the same sentences again.
+/// Writes sentences and reads them: the same sentences again, if they have the shape that the format requires.
 ///
 /// # Errors
 ///
-/// Want of memory; the fault of the text, where a sentence is not shaped so.
+/// Memory was refused; or the fault of the text, where a sentence does not have this shape.
 pub fn reread(alloc: Global, blocks: &[Block]) -> Result<Vec<Block>, ReadFault>
     ensures unchanged { AllShaped blocks.now → MatchResult result (λ v. v.items ≡ blocks.now) (λ e.
         e ≡ Memory) }

@@ -27,7 +27,7 @@ pub fn any_field_spaced(p: TenFields<'_>) -> bool
         || has_white_space(p.deps)
 }
 
-/// Whether one of the fields that may hold no white space has some.
+/// Whether one of the fields that may not hold white space holds some.
 fn any_spaced(line: &str, p: TenFields<'_>) -> bool
     requires { fields line.now ≡ list_of p }
     ensures { result ≡

@@ -5,7 +5,9 @@ use crate::id::LineId;
 use crate::text::Text;
 use std::marker::Model;
 
-/// A word line.
+/// A word line: a word, a range of words or an empty node, with its ten fields. `head` is `None` for `_`.
+///
+/// CoNLL-U format page, "CoNLL-U Format".
 #[derive(Drop)]
 pub struct RowOf<T: Text> {
     pub id: LineId,
@@ -37,7 +39,9 @@ impl<T: Text> Model for RowOf<T> {
     } };
 }
 
-/// A sentence.
+/// A sentence: its comment lines, each with its hash, and its word lines.
+///
+/// CoNLL-U format page, "Sentence Boundaries and Comments".
 #[derive(Drop)]
 pub struct BlockOf<T: Text> {
     pub comments: Vec<T>,

@@ -1,4 +1,4 @@
-//! Text cut at tabs and line feeds, which are found 64 bytes at a time.
+//! Splits text at tabs and line feeds, which are found 64 bytes at a time.
 
 ghost use Rattle.std.specs.Prelude.{◌≡◌, ◌≢◌, ◌↔◌, ℕ, ◌+◌, ◌<◌, ◌≤◌, ◌∷◌};
 ghost use Rattle.std.specs.Prelude.{◌++◌, MatchOption, false, length, slice_index, true};
@@ -30,7 +30,7 @@ fn without_lowest(marks: u64) -> u64
     marks & (marks - 1)
 }
 
-/// Bit k says that byte k is a tab or a line feed.
+/// The tabs and line feeds among 64 bytes: bit k is that of byte k.
 #[inline(always)]
 fn marks_of(bytes: u8x64) -> u64
     ensures { (k : ℕ) → (bit_at result k ≡ 1) ↔ ((k < 64) × (is_mark (slice_index bytes k) ≡ true)) }
@@ -40,7 +40,7 @@ fn marks_of(bytes: u8x64) -> u64
         .to_bitmask()
 }
 
-/// Up to 64 bytes, and zeros after them, which are no marks.
+/// Up to 64 bytes, filled with zeros, which are no marks.
 fn filled_up(rest: &[u8]) -> [u8; 64]
     requires { length rest.now ≤ 64 }
     ensures { (k : ℕ) → slice_index result k ≡ slice_index rest.now k }
@@ -59,7 +59,7 @@ fn loaded(bytes: &[u8], base: usize) -> u8x64
     u8x64::from_slice(&bytes[base..])
 }
 
-/// The marks of the 64 bytes from `base` on, of which the last may be past the end.
+/// The marks of the 64 bytes from `base` on. The last of these may be past the end.
 #[inline(always)]
 fn marks_at(bytes: &[u8], base: usize) -> u64
     requires { base ≤ length bytes.now }
@@ -71,8 +71,8 @@ fn marks_at(bytes: &[u8], base: usize) -> u64
     marks_of(u8x64::from_array(filled_up(&bytes[base..])))
 }
 
-/// The next 64 bytes that have a mark, after the 64 from `base` on: where they begin, and their marks, which are 0
-/// where the text ends before.
+/// The next 64 bytes with a mark, after those from `base` on: their place, and their marks, which are 0 where the text
+/// ends before one.
 #[inline(always)]
 fn next_marks(bytes: &[u8], base: usize) -> (usize, u64)
     requires { base ≤ length bytes.now }
@@ -90,7 +90,7 @@ fn next_marks(bytes: &[u8], base: usize) -> (usize, u64)
     (at, 0)
 }
 
-/// The 64 bytes at hand where a mark of theirs is left, and else the next that have one.
+/// The current 64 bytes if they have a mark left, else the next with one.
 #[inline(always)]
 fn marks_left(bytes: &[u8], base: usize, marks: u64) -> (usize, u64)
     requires { base ≤ length bytes.now }
@@ -104,15 +104,15 @@ fn marks_left(bytes: &[u8], base: usize, marks: u64) -> (usize, u64)
     next_marks(bytes, base)
 }
 
-/// What is left of a text that is cut at tabs and line feeds.
+/// The rest of a text that is split at tabs and line feeds.
 #[derive(Drop)]
 pub struct FieldScanner<'a> {
     text: &'a str,
-    /// Where what is left begins.
+    /// The place where the rest begins.
     start: usize,
-    /// Where the 64 bytes begin whose marks are known.
+    /// The place of the 64 bytes whose marks are known.
     base: usize,
-    /// The marks among them that are left.
+    /// The marks among them that are in the rest.
     marks: u64,
 }
 
@@ -140,7 +140,7 @@ impl<'a> FieldScanner<'a> {
         }
     }
 
-    /// All that is left.
+    /// The rest of the text.
     #[inline(always)]
     pub fn left(&self) -> &'a str
         ensures { result.now ≡ self.now }
@@ -148,7 +148,7 @@ impl<'a> FieldScanner<'a> {
         &self.text[self.start..]
     }
 
-    /// What stands before the next tab or line feed, which is passed by; `None` where no such is left.
+    /// The text before the next tab or line feed, which is passed; `None` where there is none.
     #[inline(always)]
     pub fn cut(&mut self) -> Option<&'a str>
         ensures { MatchOption result ((list_any is_mark self.old ≡ false) × (self.new ≡ self.old)) (λ part.

@@ -1,4 +1,4 @@
-//! Sentences read one after another.
+//! Reads sentences one after another.
 
 ghost use Rattle.std.specs.Prelude.{◌≡◌, ◌+◌, ◌<◌, ◌≤◌, ◌-◌, ◌^◌, List, [], ◌∷◌};
 ghost use Rattle.std.specs.Prelude.{◌++◌, IfOk, IfErr, IfSome, OnOk, MatchOption, length, map, take};
@@ -21,11 +21,11 @@ use crate::rows::BlockRef;
 use std::alloc::{AllocError, Global};
 use std::marker::Model;
 
-/// A sentence, and where it ends.
+/// A sentence, and its end.
 #[derive(Drop)]
 struct Found<'a> {
     block: BlockRef<'a>,
-    /// What follows the sentence.
+    /// The bytes after the sentence.
     rest: &'a [u8],
     /// The number of its last line.
     line: usize,
@@ -36,12 +36,12 @@ fn known_text(bytes: &[u8]) -> &str
     requires { IsUtf8 bytes.now }
     ensures { result.now ≡ bytes.now }
 {
-    // Their lines were tested, or all bytes at once.
+    // their lines were tested, or all bytes at once
     unsafe { std::str::from_utf8_unchecked(bytes) }
 }
 
-/// Takes the rows with which bytes begin into the sentence, up to one that is at fault, where the look at all bytes lets it.
-/// Answers what follows them.
+/// Adds the rows at the beginning of bytes to the sentence, up to one at fault, if the pass over all bytes allows it.
+/// Returns the bytes after them.
 #[inline(always)]
 fn quick_rows<'a>(
     alloc: Global,
@@ -60,7 +60,7 @@ fn quick_rows<'a>(
     Ok(take_rows(alloc, block, known_text(bytes), tested)?.as_bytes())
 }
 
-/// The first sentence of bytes that come after so many lines.
+/// The first sentence of bytes that come after this many lines.
 fn read_block<'a>(
     alloc: Global,
     bytes: &'a [u8],
@@ -105,14 +105,14 @@ fn read_block<'a>(
     })
 }
 
-/// A sentence, and its text: the bytes of the file that it was read of.
+/// A sentence, and its text in the file.
 #[derive(Drop)]
 pub struct SourcedSentence<'a> {
     pub block: BlockRef<'a>,
     pub text: &'a str,
 }
 
-/// The bytes before those that are left, of which so many are left.
+/// The bytes before the last `left`.
 fn before_rest(bytes: &[u8], left: usize) -> &[u8]
     requires { left ≤ length bytes.now }
     ensures { result.now ≡ take (length bytes.now - left) bytes.now }
@@ -120,7 +120,7 @@ fn before_rest(bytes: &[u8], left: usize) -> &[u8]
     &bytes[..bytes.len() - left]
 }
 
-/// What is left of a file, read one sentence after another: one sentence at a time is in memory.
+/// The rest of a file that is read one sentence after another. One sentence at a time is in memory.
 #[derive(Drop)]
 pub struct Sentences<'a> {
     rest: &'a [u8],
@@ -148,7 +148,7 @@ impl<'a> Sentences<'a> {
         }
     }
 
-    /// The next sentence, which borrows its texts; `None` where nothing is left. After an `Err` all is left as it was.
+    /// The next sentence, which borrows its texts; `None` at the end. After an `Err` nothing has changed.
     pub fn read_next(&mut self, alloc: Global) -> Result<Option<BlockRef<'a>>, ReadFault>
         ensures next { IfOk result (λ o. MatchOption o ((self.old.rest ≡ [])
             × (self.new ≡ self.old)) (IsNext self.old self.new)) }
@@ -163,8 +163,9 @@ impl<'a> Sentences<'a> {
         Ok(Some(found.block))
     }
 
-    /// The next sentence with its text; `None` where nothing is left. After an `Err` all is left as it was. The texts of
-    /// all sentences, one after the other, are the file. No byte is copied, and none is tested again.
+    /// The next sentence with its text; `None` at the end. After an `Err` nothing has changed.
+    ///
+    /// The texts of all sentences, one after another, are the file. No byte is copied, and none is tested again.
     pub fn read_passage(&mut self, alloc: Global) -> Result<Option<SourcedSentence<'a>>, ReadFault>
         ensures next { IfOk result (λ o. MatchOption o ((self.old.rest ≡ []) × (self.new ≡ self.old)) (λ p.
             IsNext self.old self.new p.block)) }
@@ -179,11 +180,11 @@ impl<'a> Sentences<'a> {
         Ok(Some(SourcedSentence { block, text }))
     }
 
-    /// Reads what is left to its end, and keeps nothing of it.
+    /// Reads the rest to its end, and keeps nothing.
     ///
     /// # Errors
     ///
-    /// The fault of what was left, or want of memory.
+    /// The fault of the rest, or want of memory.
     pub fn read_rest(&mut self, alloc: Global) -> Result<(), ReadFault>
         ensures file { OnOk result ((bs : List BlockText) × IsFile self.old.rest bs) }
         ensures end { OnOk result (self.new.rest ≡ []) }

@@ -1,4 +1,4 @@
-//! Where the writer's bytes go: a writer of std, or whatever takes bytes.
+//! Where written bytes go: a writer of std, or any other sink.
 
 ghost use Rattle.std.specs.Prelude.{◌≡◌, ◌≤◌, ℕ, List, [], ◌∷◌, length, Option, None, Some, Result};
 ghost use Rattle.std.specs.Prelude.{IfErr, IfOk};
@@ -12,26 +12,26 @@ use crate::fault::WriteFault;
 use std::alloc::AllocError;
 use std::io::{ErrorKind, Write};
 
-/// Takes bytes, one piece after the other.
+/// Takes bytes, one piece after another.
 ///
-/// All that is written here is generic over a sink, and hands on a refusal of the sink as it is: it makes none of its
-/// own, and puts nothing more after one. So over a sink that says of its refusals when they come, writing fails only
-/// then; over one that never refuses, it always succeeds. Each writer of std is a sink that says nothing of them.
+/// All that is written here is generic over a sink. It passes on a refusal of the sink, makes none of its own, and puts
+/// nothing after one. So writing fails only where the sink's contract allows a refusal: never over a sink that never
+/// refuses. Each writer of std is a sink whose contract says nothing of refusals.
 pub trait Sink {
-    /// Why a piece isn't taken.
+    /// Why a piece is refused.
     type Refusal: Drop;
 
-    // the bytes that it holds, where they are known
+    // the bytes that it holds, where its contract names them
     ghost held: { Self → Option (List ℕ) };
 
-    // what is known of a refusal, and of the sink as it stands after it
+    // what is known of a refusal, and of the sink after it
     ghost IsRefusal: { Self → Self.Refusal → Type 0 };
 
     /// Takes all the bytes, after those that it holds.
     ///
     /// # Errors
     ///
-    /// They are refused; the sink may then have taken some of them, from the front.
+    /// The bytes are refused. The sink may hold a first part of them.
     fn put(&mut self, bytes: &[u8]) -> Result<(), Self::Refusal>
         ensures taken { OnOk result (Appends (held self.old) (held self.new) bytes.now) }
         ensures part { OnErr result (AppendsPart (held self.old) (held self.new) bytes.now) }
@@ -41,7 +41,7 @@ pub trait Sink {
 /// Why a writer took no byte.
 #[derive(Clone, Copy, Drop)]
 enum Stop {
-    /// A signal came between.
+    /// A signal interrupted it.
     Interrupted,
     /// It failed.
     Failed,
@@ -49,18 +49,18 @@ enum Stop {
 
 /// Takes bytes, some at a time.
 ///
-/// Each writer of std is one that keeps no count of its answers, and says nothing of them.
+/// Each writer of std is one that does not count its answers, and whose contract says nothing of them.
 trait PartWriter {
-    // the bytes that it holds, where they are known
+    // the bytes that it holds, where its contract names them
     ghost stored: { Self → Option (List ℕ) };
 
-    // its answers, one for each time that it was asked, where they are counted
+    // its answers, one for each call, where they are counted
     ghost answers: { Self → Option (List (Result ℕ Stop)) };
 
-    // what is known of an answer, and of the writer as it is after it
+    // what is known of an answer, and of the writer after it
     ghost IsAnswer: { Self → Result ℕ Stop → Type 0 };
 
-    /// Takes some of the bytes, from the front, after those that it holds.
+    /// Takes a first part of the bytes, after those that it holds.
     ///
     /// # Errors
     ///
@@ -93,14 +93,14 @@ impl<W: Write> PartWriter for W {
     }
 }
 
-/// How many times a signal may come between before writing counts as failed.
+/// After how many interruptions by a signal writing counts as failed.
 const INTERRUPTIONS: usize = 1000;
 
-/// Writes the bytes; a writer that fails keeps what it took before, and nothing is written after.
+/// Writes the bytes. A writer that fails keeps what it took before, and nothing is written after that.
 ///
 /// # Errors
 ///
-/// The writer took no byte, or failed, or a signal came between for the thousandth time.
+/// The writer took no byte, or failed, or was interrupted by a signal for the thousandth time.
 fn put_all<W: PartWriter>(bytes: &[u8], out: &mut W) -> Result<(), WriteFault>
     ensures taken { OnOk result (Appends (W.stored out.old) (W.stored out.new) bytes.now) }
     ensures part { OnErr result (AppendsPart (W.stored out.old) (W.stored out.new) bytes.now) }

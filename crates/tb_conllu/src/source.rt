@@ -1,4 +1,4 @@
-//! Where bytes come from: a reader of std, or whatever gives bytes.
+//! Where read bytes come from: a reader of std, or any other source.
 
 ghost use Rattle.std.specs.Prelude.{ℕ, List, [], ◌∷◌, take, Option, None, Some, IfOk, IfErr};
 ghost use Rattle.std.specs.Io.{ReadsAtMost};
@@ -10,23 +10,23 @@ use std::io::{ErrorKind, Read};
 
 /// Gives bytes, some at a time.
 ///
-/// All that reads here is generic over a source, and reports a failure only where the source failed. So over a source
-/// that says of its failures when they come, a read fails only then; over one that never fails, never. Each reader of
-/// std is a source that says nothing of them.
+/// All that reads here is generic over a source, and reports a failure only where the source failed. So a read fails
+/// only where the source's contract allows a failure: never over a source that never fails. Each reader of std is a
+/// source whose contract says nothing of failures.
 pub trait Source {
     /// Why no bytes come.
     type Failure: Drop;
 
-    // the bytes that it will give, where they are known
+    // the bytes that it will give, where its contract names them
     ghost left: { Self → Option (List ℕ) };
 
-    // the pieces that it gave, one for each time that it was asked, where they are counted
+    // the pieces that it gave, one for each call, where they are counted
     ghost pieces: { Self → Option (List (List ℕ)) };
 
-    // what is known of a failure, and of the source as it is after it
+    // what is known of a failure, and of the source after it
     ghost IsFailure: { Self → Self.Failure → Type 0 };
 
-    /// Gives some of the bytes, from the front, and none only at their end or where there is no room.
+    /// Gives a first part of the bytes, and none only at their end or where there is no room.
     ///
     /// # Errors
     ///
@@ -42,10 +42,10 @@ pub trait Source {
 #[derive(Clone, Copy, Debug, Drop)]
 pub struct SourceFault;
 
-/// How many times in a row a signal may come between before a read counts as failed.
+/// After how many interruptions in a row by a signal a read counts as failed.
 const INTERRUPTIONS: u32 = 1000;
 
-/// Reads once, and again where a signal came between.
+/// Reads once, and again after a signal interrupted it.
 fn read_on<R: Read>(reader: &mut R, buf: &mut [u8]) -> Result<usize, SourceFault>
     ensures bound { ReadsAtMost result buf.new }
     ensures bytes { ReadConsumes (R.remaining reader.old) (R.remaining reader.new) result buf.new }
@@ -77,7 +77,7 @@ impl<R: Read> Source for R {
     }
 }
 
-/// Bytes in memory, which never fail to come.
+/// Bytes in memory, which never fail.
 #[derive(Drop)]
 pub struct SliceSource<'a> {
     pub bytes: &'a [u8],

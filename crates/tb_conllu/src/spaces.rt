@@ -1,4 +1,4 @@
-//! Bytes of a line that white space may begin with.
+//! Finds bytes of a line that white space may begin with.
 
 ghost use Rattle.std.specs.Prelude.{◌≡◌, ◌≤◌, ◌+◌, ◌*◌, ◌/◌, length, take};
 ghost use Rattle.std.specs.List.{list_any};
@@ -6,7 +6,8 @@ ghost use Rattle.tb_conllu.specs.Plain.{is_loose, is_wide};
 
 use tb_chars::may_begin_white;
 
-/// Whether some byte may begin white space, tabs aside: in most lines none does, so their fields need no look at all.
+/// Whether some byte other than a tab may begin white space. In most lines none does, so their fields need no further
+/// test.
 pub fn any_loose(bytes: &[u8]) -> bool
     ensures { result ≡ list_any is_loose bytes.now }
 {
@@ -17,7 +18,7 @@ pub fn any_loose(bytes: &[u8]) -> bool
     loose
 }
 
-/// The same, tabs and line feeds aside.
+/// The same for bytes other than tabs and line feeds.
 fn any_wide(bytes: &[u8]) -> bool
     ensures { result ≡ list_any is_wide bytes.now }
 {
@@ -28,7 +29,8 @@ fn any_wide(bytes: &[u8]) -> bool
     wide
 }
 
-/// The same of the bytes before `end` and of some after it, where there are some: 32 at a time are faster than one by one.
+/// The same for the bytes before `end` and some after it, if there are any. Testing 32 at a time is faster than one by
+/// one.
 pub fn any_wide_near(bytes: &[u8], end: usize) -> bool
     requires { end ≤ length bytes.now }
     ensures { result ≡ list_any is_wide (take ((end / 32 + 1) * 32) bytes.now) }

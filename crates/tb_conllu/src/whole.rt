@@ -1,4 +1,4 @@
-//! Whole files.
+//! Reads whole files.
 
 ghost use Rattle.std.specs.Prelude.{◌≡◌, List, IfOk, IfErr, MatchResult};
 ghost use Rattle.tb_conllu.specs.Fault.{IsReadFault};
@@ -12,8 +12,12 @@ use crate::rows::{Block, BlockRef};
 use crate::sentences::Sentences;
 use std::alloc::Global;
 
-/// The sentences of a file, which borrow their texts; or the first line that nothing can mend, with its least code:
-/// 1 to 9 at a line, 10 where nothing is at fault but the end.
+/// The sentences of a file, which borrow their texts.
+///
+/// # Errors
+///
+/// The first line after which no continuation is a file, with its least code. This is 1 to 9 at a line, or 10 where
+/// only the end is at fault. Or memory was refused.
 pub fn read_ref<'a>(alloc: Global, bytes: &'a [u8]) -> Result<Vec<BlockRef<'a>>, ReadFault>
     ensures file { IfOk result (λ v. IsFile bytes.now v.items) }
     ensures reported { IfErr result (IsReadFault bytes.now) }
@@ -28,7 +32,7 @@ pub fn read_ref<'a>(alloc: Global, bytes: &'a [u8]) -> Result<Vec<BlockRef<'a>>,
     Ok(all)
 }
 
-/// The sentences of a file, which hold their texts; or its fault, as `read_ref` tells it.
+/// The same as `read_ref`, but the sentences own their texts.
 pub fn read(alloc: Global, bytes: &[u8]) -> Result<Vec<Block>, ReadFault>
     ensures file { IfOk result (λ v. IsFile bytes.now v.items) }
     ensures reported { IfErr result (IsReadFault bytes.now) }

@@ -1,4 +1,4 @@
-//! Sentences written as text.
+//! Writes sentences as text.
 
 ghost use Rattle.std.specs.Prelude.{◌≡◌, [], ◌∷◌, ◌++◌, decimal, IfErr, IfOk, OnErr, OnOk};
 ghost use Rattle.std.specs.Io.KnownBytes.{Appends};
@@ -15,11 +15,11 @@ use itoa::Buffer;
 use std::alloc::{AllocError, Global};
 use std::io::Write;
 
-/// Puts a number in decimal digits. Takes no memory.
+/// Writes a number in decimal digits. Takes no memory.
 ///
 /// # Errors
 ///
-/// The sink refused a piece; it may then have taken some of the digits, from the front.
+/// The reason for which the sink refused a piece. It may hold a first part of the digits.
 pub fn put_number<S: Sink>(number: u32, out: &mut S) -> Result<(), S::Refusal>
     ensures put { OnOk result (Appends (S.held out.old) (S.held out.new) (decimal number)) }
     ensures part { OnErr result (AppendsPart (S.held out.old) (S.held out.new) (decimal number)) }
@@ -29,7 +29,7 @@ pub fn put_number<S: Sink>(number: u32, out: &mut S) -> Result<(), S::Refusal>
     out.put(digits.format(number).as_bytes())
 }
 
-/// Two numbers with a mark between them.
+/// Writes two numbers with a mark between them.
 fn put_pair<S: Sink>(first: u32, mark: u8, second: u32, out: &mut S) -> Result<(), S::Refusal>
     ensures put { OnOk result (Appends (S.held out.old) (S.held out.new) (decimal first ++ mark ∷ decimal second)) }
     ensures refused { IfErr result (S.IsRefusal out.new) }
@@ -50,7 +50,7 @@ fn put_id<S: Sink>(id: LineId, out: &mut S) -> Result<(), S::Refusal>
     }
 }
 
-/// A tab and a head.
+/// Writes a tab and a head.
 fn put_head<S: Sink>(head: Option<u32>, out: &mut S) -> Result<(), S::Refusal>
     ensures put { OnOk result (Appends (S.held out.old) (S.held out.new) (9 ∷ head_text head)) }
     ensures refused { IfErr result (S.IsRefusal out.new) }
@@ -64,7 +64,7 @@ fn put_head<S: Sink>(head: Option<u32>, out: &mut S) -> Result<(), S::Refusal>
     }
 }
 
-/// Each text after a tab.
+/// Writes each text after a tab.
 fn put_fields<S: Sink>(fields: &[&str], out: &mut S) -> Result<(), S::Refusal>
     ensures put { OnOk result (Appends (S.held out.old) (S.held out.new) (flat_map (λ field.
         9 ∷ field.now) fields.now)) }
@@ -120,13 +120,13 @@ fn put_comments<T: Text, S: Sink>(comments: &[T], out: &mut S) -> Result<(), S::
     Ok(())
 }
 
-/// Puts the text of one sentence: its comments, its rows and a blank line. Takes no memory.
+/// Writes the text of one sentence: its comments, its rows and a blank line. Takes no memory.
 ///
-/// Any sentence is put as it is; it reads back where it is shaped as the format asks.
+/// Any sentence is written as it is. It reads back if it has the shape that the format requires.
 ///
 /// # Errors
 ///
-/// The sink refused a piece.
+/// The reason for which the sink refused a piece.
 pub fn put_block<T: Text, S: Sink>(block: &BlockOf<T>, out: &mut S) -> Result<(), S::Refusal>
     ensures put { OnOk result (Appends (S.held out.old) (S.held out.new) (text_of (block.now ∷ []))) }
     ensures refused { IfErr result (S.IsRefusal out.new) }
@@ -136,11 +136,11 @@ pub fn put_block<T: Text, S: Sink>(block: &BlockOf<T>, out: &mut S) -> Result<()
     out.put(b"\n")
 }
 
-/// Puts the text of the sentences, in order. Takes no memory.
+/// Writes the text of the sentences, in order. Takes no memory.
 ///
 /// # Errors
 ///
-/// The sink refused a piece.
+/// The reason for which the sink refused a piece.
 pub fn put_blocks<T: Text, S: Sink>(blocks: &[BlockOf<T>], out: &mut S) -> Result<(), S::Refusal>
     ensures put { OnOk result (Appends (S.held out.old) (S.held out.new) (text_of blocks.now)) }
     ensures refused { IfErr result (S.IsRefusal out.new) }
@@ -151,22 +151,22 @@ pub fn put_blocks<T: Text, S: Sink>(blocks: &[BlockOf<T>], out: &mut S) -> Resul
     Ok(())
 }
 
-/// Appends the text of one sentence to what a writer holds, as `put_block` does. Takes no memory.
+/// Writes the text of one sentence to a writer, as `put_block` does. Takes no memory.
 ///
 /// # Errors
 ///
-/// The writer failed. How much it took then is not said.
+/// The writer failed. How much it took is unknown.
 pub fn write_block_to<T: Text, W: Write>(block: &BlockOf<T>, out: &mut W) -> Result<(), WriteFault>
     ensures { OnOk result (Appends (W.contents out.old) (W.contents out.new) (text_of (block.now ∷ []))) }
 {
     put_block(block, out)
 }
 
-/// Appends the text of the sentences, in order, to what a writer holds, as `put_blocks` does. Takes no memory.
+/// Writes the text of the sentences, in order, to a writer, as `put_blocks` does. Takes no memory.
 ///
 /// # Errors
 ///
-/// The writer failed. How much it took then is not said.
+/// The writer failed. How much it took is unknown.
 pub fn write_to<T: Text, W: Write>(blocks: &[BlockOf<T>], out: &mut W) -> Result<(), WriteFault>
     ensures { OnOk result (Appends (W.contents out.old) (W.contents out.new) (text_of blocks.now)) }
 {
@@ -177,7 +177,7 @@ pub fn write_to<T: Text, W: Write>(blocks: &[BlockOf<T>], out: &mut W) -> Result
 ///
 /// # Errors
 ///
-/// No memory is left.
+/// Memory was refused.
 pub fn write<T: Text>(alloc: Global, blocks: &[BlockOf<T>]) -> Result<Vec<u8>, AllocError>
     ensures { IfOk result (λ v. v.items ≡ text_of blocks.now) }
 {
