@@ -1,7 +1,7 @@
--- What the comments of a sentence say: values under keys, and the two that every sentence has.
+-- The comments of a sentence: values by keys, and the two comments that every sentence has.
 -- CoNLL-U format page, "Sentence Boundaries and Comments": `# sent_id = ...` and `# text = ...` are required.
--- Where the page leaves it open, this project is lenient: spaces (U+0020) round key and value mean nothing, and
--- the key ends at the first `=`.
+-- Where the page leaves it open, this project is lenient. Spaces (U+0020) around key and value are ignored, and the key
+-- ends at the first `=`.
 use Rattle.std.specs.Prelude.{◌≡◌, ℕ, ◌<◌, List, [], ◌∷◌, length, reverse, Option, Some, None, false}
 use Rattle.std.specs.Prelude.{◌&&◌, bytes_eq, ◌==◌, if◌then◌else◌}
 use Rattle.std.specs.List.{filter_map, list_any, before_first, after_first}
@@ -17,14 +17,14 @@ drop_spaces (b ∷ bs) = if b == 32 then drop_spaces bs else b ∷ bs
 abbrev pub trimmed : List ℕ → List ℕ
 trimmed bs = reverse (drop_spaces (reverse (drop_spaces bs)))
 
--- The value that a comment gives to the key: between the hash and the first `=` stands the key.
+-- The value of a comment with this key, which is the text between the hash and the first `=`.
 abbrev pub value_under : List ℕ → List ℕ → Option (List ℕ)
 value_under key [] = None
 value_under key (b ∷ bs) =
     if b == 35 && list_any is_equals bs && bytes_eq (trimmed (before_first is_equals bs)) key then Some (trimmed
     (after_first is_equals bs)) else None
 
--- the values that comments give to the key, in order
+-- the values of the comments with the key, in order
 abbrev pub values_of : List ℕ → List (List ℕ) → List (List ℕ)
 values_of key cs = filter_map (value_under key) cs
 
@@ -48,7 +48,7 @@ sent_ids b = values_of sent_id_key b.comments
 abbrev pub texts : BlockText → List (List ℕ)
 texts b = values_of text_key b.comments
 
--- Exactly one comment names the sentence, and the name isn't empty and holds no white space.
+-- Exactly one comment names the sentence. The name is not empty and holds no white space.
 pub record HasSentId (b : BlockText) : Type 0 where
   pub name : List ℕ
   pub one : sent_ids b ≡ name ∷ []

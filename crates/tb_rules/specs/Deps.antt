@@ -1,7 +1,7 @@
 -- The enhanced dependencies of words and empty nodes.
 -- CoNLL-U format page, "Syntactic Annotation" and UD v2 guidelines, "Enhanced Dependencies": `_`, or pairs
 -- `head:relation` joined by bars, in the order of their heads. A head is 0, or the ID, as it is written, of a word or
--- an empty node of the sentence; 0 comes before all, and `i.k` after `i`. Pairs of one head may stand in either order.
+-- an empty node of the sentence. 0 comes before all, and `i.k` after `i`. Pairs with the same head may be in any order.
 use Rattle.std.specs.Prelude.{ℕ, List, [], ◌∷◌, Option, Some, None, Bool, true, false, ◌&&◌, ◌||◌}
 use Rattle.std.specs.Prelude.{nat_lt, nat_le, ◌==◌, bytes_eq, codes}
 use Rattle.std.specs.Option.{is_some}
@@ -49,13 +49,13 @@ abbrev pub is_place_in_order : LineId → LineId → Bool
 is_place_in_order a b = nat_lt (place_word a) (place_word b) || (place_word a == place_word b && nat_le (place_node a)
     (place_node b))
 
--- the rows of two heads: the root, which has none, before all, and the others by their IDs
+-- the rows of two heads are in order: the root, which has none, before all, and the others by their IDs
 abbrev pub are_in_order : Option RowText → Option RowText → Bool
 are_in_order None next = true
 are_in_order (Some r) None = false
 are_in_order (Some r) (Some s) = is_place_in_order r.id s.id
 
--- ---- pairs of head and relation
+-- ---- pairs of a head and a relation
 
 abbrev pub pair_head : List ℕ → List ℕ
 pair_head bs = before_first is_colon bs
@@ -82,6 +82,6 @@ is_fine_as_dependent rs (Word n) r = is_dependency_text rs r.deps
 is_fine_as_dependent rs (Span a b) r = true
 is_fine_as_dependent rs (Empty i k) r = is_dependency_text rs r.deps
 
--- each word and empty node of a sentence of these rows; ranges pass
+-- each word and each empty node of a sentence with these rows; ranges pass
 abbrev pub dependency_test : List RowText → RowTest
 dependency_test rs before r = is_fine_as_dependent rs r.id r

@@ -1,9 +1,9 @@
 -- Inner: no contract beyond this crate cites a definition of this module.
--- How far the words of a sentence hang below the root: the number of steps along the heads, which the heads fix.
+-- The depth of a word: the number of steps along the heads from it to the root. The heads fix it.
 use Rattle.std.specs.Prelude.{◌≡◌, ℕ, ◌+◌, ◌<◌, ◌≢◌, List, length, slice_index}
 use Rattle.tb_rules.specs.Tree.{walk}
 
--- From word k, d steps along the heads come to 0, and no fewer do.
+-- From word k, d steps along the heads lead to 0, and fewer do not.
 pub record IsDepth (heads : List ℕ) (k d : ℕ) : Type 0 where
   pub arrives : walk heads d k ≡ 0
   pub no_sooner : (n : ℕ) → n < d → walk heads n k ≢ 0

@@ -1,11 +1,11 @@
 -- Inner: no contract beyond this crate cites a definition of this module.
--- White space that is folded as characters come, and a text that is compared with them.
+-- White space that is folded while characters come, and a text that is compared with them.
 use Rattle.std.specs.Prelude.{◌≡◌, ◌↔◌, ℕ, List, [], ◌∷◌, ◌++◌, length, Bool, true, false}
 use Rattle.std.specs.Prelude.{◌&&◌, not, ◌==◌, if◌then◌else◌, encode_utf8_all}
 use Rattle.std.specs.Char.{is_whitespace}
 
--- What is to come of a folded text. Begun says whether a character came out before these, gap whether white space
--- came since.
+-- What these characters add to a folded text. `begun` says whether a character came out before them, `gap` whether
+-- white space came after it.
 abbrev pub folded_after : Bool → Bool → List ℕ → List ℕ
 folded_after begun gap [] = []
 folded_after begun gap (c ∷ cs) =
@@ -13,11 +13,11 @@ folded_after begun gap (c ∷ cs) =
     if begun && gap then 32 ∷ c ∷ folded_after true false cs else
     c ∷ folded_after true false cs
 
--- a text that is being folded: what came out, whether white space came since, and the characters to come
+-- a text that is being folded: what came out, whether white space came after it, and the characters to come
 abbrev pub continued : List ℕ → Bool → List ℕ → List ℕ
 continued out gap cs = out ++ encode_utf8_all (folded_after (not (length out == 0)) gap cs)
 
--- the space that stands for white space between two characters
+-- the space that represents white space between two characters
 abbrev pub gap_text : Bool → Bool → List ℕ
 gap_text begun gap = if begun && gap then 32 ∷ [] else []
 
@@ -25,11 +25,11 @@ gap_text begun gap = if begun && gap then 32 ∷ [] else []
 abbrev pub IsRest : List ℕ → Bool → Bool → List ℕ → Type 0
 IsRest rest begun gap cs = rest ≡ encode_utf8_all (folded_after begun gap cs)
 
--- Whatever follows these characters, the rest is not what comes.
+-- With any characters after these, the rest is not what comes.
 abbrev pub Refuses : List ℕ → Bool → Bool → List ℕ → Type 0
 Refuses rest begun gap cs = (next : List ℕ) → ¬ (IsRest rest begun gap (cs ++ next))
 
--- After these characters a shorter rest stands for the same comparison.
+-- After these characters, a shorter rest gives the same comparison.
 abbrev pub Leaves : List ℕ → Bool → Bool → List ℕ → List ℕ → Bool → Bool → Type 0
 Leaves rest begun gap cs rest' begun' gap' = (next : List ℕ) → IsRest rest' begun' gap' next
     ↔ IsRest rest begun gap (cs ++ next)

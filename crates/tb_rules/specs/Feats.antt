@@ -1,5 +1,5 @@
 -- Morphological features, row by row.
--- CoNLL-U format page, "Morphological Annotation". This project asks features of ranges too.
+-- CoNLL-U format page, "Morphological Annotation". This project requires features of ranges too.
 use Rattle.tb_fields.specs.Feats.{is_feature_text}
 use Rattle.tb_rules.specs.Rows.{RowTest}
 

@@ -1,5 +1,5 @@
 -- Inner: no contract beyond this crate cites a definition of this module.
--- Which IDs the rows of a sentence carry, by counts alone.
+-- Which IDs the rows of a sentence have, from counts alone.
 -- CoNLL-U format page, "Words, Tokens and Empty Nodes": words are numbered from 1 on, and the empty nodes after word i
 -- are i.1, i.2, ...
 use Rattle.std.specs.Prelude.{◌≡◌, ℕ, ◌≤◌, List, Bool, true, false, ◌&&◌, nat_lt, nat_le, ◌==◌}
@@ -27,17 +27,17 @@ is_node_id (Word n) = false
 is_node_id (Span a b) = false
 is_node_id (Empty i k) = true
 
--- Rows of so many words, with the right numbers.
+-- Rows with this many words, and with the right numbers.
 pub record AreNumbered (rs : List RowText) (words : ℕ) : Type 0 where
   pub in_place : EachRowPasses is_in_place rs
   pub count : words ≡ count_by is_word rs
   pub few : words ≤ 1000
 
--- of each word, and of 0, how many empty nodes stand after it
+-- for each word, and for 0, how many empty nodes come after it
 abbrev pub AreNodeCounts : List RowText → List ℕ → Type 0
 AreNodeCounts rs nodes = (i : ℕ) → slice_index nodes i ≡ count_by (is_node_after i) rs
 
--- So many words, and so many empty nodes after each, tell which IDs there are.
+-- The number of words, and of empty nodes after each, decide which IDs there are.
 pub record TellIds (rs : List RowText) (words : ℕ) (nodes : List ℕ) : Type 0 where
   pub word : (n : ℕ) → list_any (λ r. is_word_numbered n r.id) rs ≡ (nat_lt 0 n && nat_le n words)
   pub node : (i k : ℕ) → list_any (λ r. is_node_numbered i k r.id) rs

@@ -1,5 +1,5 @@
 -- Inner: no contract beyond this crate cites a definition of this module.
--- Heads as numbers, by which rows in their places are found and compared without a look at any.
+-- Heads as numbers, by which rows with the right numbers are found and compared without looking at any.
 use Rattle.std.specs.Prelude.{ℕ, List, [], ◌∷◌, length, Option, Some, None, Bool, true, false, ◌&&◌}
 use Rattle.std.specs.Prelude.{◌||◌, not, nat_lt, nat_le, ◌==◌, slice_index, if◌then◌else◌}
 use Rattle.std.specs.List.{list_any, list_all, before_first, after_first, slice_split}
@@ -18,14 +18,14 @@ use Rattle.tb_rules.specs.Named.{is_word_numbered, is_node_numbered}
 
 -- ---- numbers
 
--- not empty, no zero in front of other digits, and at most 19 digits, which fit 64 bits
+-- not empty, without a leading zero, and at most 19 digits, which fit 64 bits
 abbrev pub is_plain : List ℕ → Bool
 is_plain bs = nat_lt 0 (length bs) && nat_le (length bs) 19 && (not (slice_index bs 0 == 48) || length bs == 1)
 
 abbrev pub value_of : List ℕ → Option ℕ
 value_of bs = if list_all is_digit bs then Some (digits_value 10 bs) else None
 
--- the number that is written so
+-- the number that the text writes
 abbrev pub number_of : List ℕ → Option ℕ
 number_of bs = if is_plain bs then value_of bs else None
 
@@ -43,7 +43,7 @@ node_place None k = None
 node_place (Some i) None = None
 node_place (Some i) (Some k) = if k == 0 then None else Some (i, k)
 
--- what a head spells: (0, 0) for the root, (n, 0) for word n, and (i, k) for the empty node i.k
+-- the place of a head: (0, 0) for the root, (n, 0) for word n, and (i, k) for the empty node i.k
 abbrev pub place_of : List ℕ → Option (ℕ × ℕ)
 place_of bs = if list_any is_dot bs then node_place (number_of (before_first is_dot bs)) (number_of
     (after_first is_dot bs)) else word_place (number_of bs)
@@ -64,7 +64,7 @@ are_places_in_order None q = false
 are_places_in_order (Some p) None = false
 are_places_in_order (Some p) (Some q) = is_up_to p q
 
--- ---- pairs of head and relation
+-- ---- pairs of a head and a relation
 
 abbrev pub is_placed_pair : List RowText → List ℕ → Bool
 is_placed_pair rs bs = list_any is_colon bs && is_place_there rs (place_of

@@ -1,7 +1,7 @@
--- The text that the rows of a sentence spell, and white space that doesn't count.
+-- The text of the rows of a sentence, in which white space does not count.
 -- CoNLL-U format page, "Words, Tokens and Empty Nodes" and "Miscellaneous" (SpaceAfter=No): the text is the forms of
--- the tokens, a range in place of its words, each followed by a space but where SpaceAfter=No says otherwise.
--- White space is Unicode's White_Space.
+-- the tokens, with a range in place of its words. A space follows each unless it has SpaceAfter=No. White space is
+-- Unicode's White_Space.
 use Rattle.std.specs.Prelude.{◌≡◌, ℕ, List, [], ◌∷◌, ◌++◌, length, filter, Bool, true, false}
 use Rattle.std.specs.Prelude.{◌&&◌, not, nat_lt, nat_le, bytes_eq, if◌then◌else◌, codes, chars}
 use Rattle.std.specs.Prelude.{encode_utf8_all}
@@ -15,7 +15,7 @@ use Rattle.tb_fields.specs.Feats.{is_bar}
 
 -- ---- white space
 
--- what stands between white space: the characters cut there, without the empty pieces
+-- the texts between white space, without the empty ones
 abbrev pub pieces : List ℕ → List (List ℕ)
 pieces cs = filter (λ piece. nat_lt 0 (length piece)) (slice_split is_whitespace cs)
 
@@ -30,7 +30,7 @@ covers m (Word n) = false
 covers m (Span a b) = nat_le a m && nat_le m b
 covers m (Empty i k) = false
 
--- a word that one of the rows, a range, covers
+-- a word in a range of the sentence
 abbrev pub is_covered : List RowText → ℕ → Bool
 is_covered rs m = list_any (λ r. covers m r.id) rs
 
@@ -47,15 +47,15 @@ has_no_space_after r = list_any (bytes_eq (codes "SpaceAfter=No")) (slice_split 
 abbrev pub form_and_space : RowText → List ℕ
 form_and_space r = if has_no_space_after r then chars r.form else chars r.form ++ 32 ∷ []
 
--- what a row of these adds
+-- the text that a row adds
 abbrev pub token_text : List RowText → RowText → List ℕ
 token_text rs r = if is_token_id rs r.id then form_and_space r else []
 
--- what the rows spell
+-- the text of the rows
 abbrev pub text_of_rows : List RowText → List ℕ
 text_of_rows rs = flat_map (token_text rs) rs
 
--- the restored text, folded, as UTF-8
+-- the text of the rows, folded, as UTF-8
 abbrev pub restored_text : BlockText → List ℕ
 restored_text b = encode_utf8_all (folded (text_of_rows b.rows))
 
@@ -63,7 +63,7 @@ restored_text b = encode_utf8_all (folded (text_of_rows b.rows))
 abbrev pub folded_text : List ℕ → List ℕ
 folded_text bs = encode_utf8_all (folded (chars bs))
 
--- The rows spell the text that the comment gives, but for white space.
+-- The text of the rows is that of the comment. Differences in white space do not count.
 pub record IsRestored (b : BlockText) : Type 0 where
   pub value : List ℕ
   pub one : texts b ≡ value ∷ []

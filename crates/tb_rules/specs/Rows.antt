@@ -1,4 +1,4 @@
--- Rules that are asked of each row of a sentence, and the first row that breaks one.
+-- Rules that each row of a sentence keeps by itself, and the first row that breaks one.
 use Rattle.std.specs.Prelude.{◌≡◌, ℕ, ◌<◌, ◌+◌, List, length, take, slice_index_or, Bool, true, false}
 use Rattle.tb_conllu.specs.Text.{RowText}
 

@@ -1,5 +1,4 @@
--- What a sentence keeps, rule by rule, and what a fault tells: the rule of the least number that is broken, and its
--- first row.
+-- The rules of a sentence, and its fault: the broken rule with the least number, and its first row.
 use Rattle.std.specs.Prelude.{◌≡◌, ◌<◌, ◌≤◌, ℕ}
 use Rattle.tb_conllu.specs.Text.{BlockText}
 use Rattle.tb_conllu.specs.Words.{words_of}
@@ -49,7 +48,7 @@ number one_root = 9
 number tree = 10
 number restored = 11
 
--- what each asks
+-- what each rule requires
 abbrev pub Keeps : Rule → BlockText → Type 0
 Keeps sent_id b = HasSentId b
 Keeps text b = HasText b
@@ -63,7 +62,7 @@ Keeps one_root b = HasOneRoot b
 Keeps tree b = HasTree b
 Keeps restored b = IsRestored b
 
--- the row of a fault: the first that fails the test of a rule that is asked of each row, and 0 at the other rules
+-- the row of a fault: for a rule of rows the first that fails its test, for the other rules 0
 abbrev pub IsFaultRow : Rule → BlockText → ℕ → Type 0
 IsFaultRow sent_id b row = row ≡ 0
 IsFaultRow text b row = row ≡ 0
@@ -77,7 +76,7 @@ IsFaultRow one_root b row = row ≡ 0
 IsFaultRow tree b row = row ≡ 0
 IsFaultRow restored b row = row ≡ 0
 
--- the rules of numbers up to n
+-- the rules with numbers up to n
 abbrev pub KeepsTo : ℕ → BlockText → Type 0
 KeepsTo n b = (r : Rule) → number r ≤ n → Keeps r b
 
@@ -88,7 +87,7 @@ KeepsTo6 b = KeepsTo 6 b
 abbrev pub KeepsRules : BlockText → Type 0
 KeepsRules b = (r : Rule) → Keeps r b
 
--- The rule of this number is broken, those of smaller numbers are kept, and the row is that of the fault.
+-- The rule with this number is broken, those with smaller numbers are kept, and the row is that of the fault.
 pub record IsBroken (b : BlockText) (rule row : ℕ) : Type 0 where
   pub which : Rule
   pub numbered : rule ≡ number which

@@ -1,6 +1,6 @@
 -- Multiword tokens: rows `a-b` for words that are written as one.
--- CoNLL-U format page, "Words, Tokens and Empty Nodes": the range stands before its first word, ranges do not
--- overlap, and all fields but ID, FORM and MISC are empty. FEATS may hold features (page "Morphological Annotation").
+-- CoNLL-U format page, "Words, Tokens and Empty Nodes": the range comes before its first word, and ranges do not
+-- overlap. All fields but ID, FORM and MISC are empty. FEATS may hold features (page "Morphological Annotation").
 use Rattle.std.specs.Prelude.{ℕ, ◌+◌, List, Bool, true, ◌&&◌, nat_lt, nat_le, ◌==◌, is_none, count_by}
 use Rattle.std.specs.List.{list_all}
 use Rattle.tb_conllu.specs.declared.id.LineId.{LineId}
@@ -21,17 +21,17 @@ ends_before m (Word n) = true
 ends_before m (Span a b) = nat_lt b m
 ends_before m (Empty i k) = true
 
--- the rows before a range from word a on: just the words before a, and ranges that all end before a
+-- before a range from word a on come exactly the words before a, and only ranges that end before a
 abbrev pub lead_to : ℕ → List RowText → Bool
 lead_to a before = a == (count_by is_word before + 1) && list_all (λ r. ends_before a r.id) before
 
--- a row of a sentence of n words, behind these rows
+-- a row of a sentence of n words, after these rows
 abbrev pub is_fine_as_span : ℕ → List RowText → LineId → RowText → Bool
 is_fine_as_span n before (Word m) r = true
 is_fine_as_span n before (Span a b) r = lead_to a before && nat_le a b && nat_le b n && is_bare r
 is_fine_as_span n before (Empty i k) r = true
 
--- Each range of a sentence of n words; other rows pass. It stands before its first word, after each word before
--- that, and begins after the end of every range before it.
+-- Each range of a sentence of n words; other rows pass. It comes before its first word and after all earlier words, and
+-- begins after the end of every range before it.
 abbrev pub span_test : ℕ → RowTest
 span_test n before r = is_fine_as_span n before r.id r

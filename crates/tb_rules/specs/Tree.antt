@@ -1,6 +1,6 @@
--- The words of a sentence hang from one root.
--- UD v2 guidelines, "Syntax: General Principles": one word has the head 0, and all others depend on it, directly
--- or through other words.
+-- The words of a sentence depend on one root.
+-- UD v2 guidelines, "Syntax: General Principles": one word has the head 0, and all others depend on it, directly or
+-- through other words.
 use Rattle.std.specs.Prelude.{◌≡◌, ℕ, zero, suc, ◌-◌, ◌≤◌, ◌==◌, List, length, map, filter}
 use Rattle.std.specs.Prelude.{Option, Some, None, Bool, ◌&&◌, slice_index, if◌then◌else◌, count_by}
 use Rattle.tb_conllu.specs.Text.{RowText, BlockText}
@@ -26,16 +26,16 @@ heads_of b = map (λ r. head_number r.head) (filter is_word b.rows)
 abbrev pub head_at : List ℕ → ℕ → ℕ
 head_at heads k = if k == 0 then 0 else slice_index heads (k - 1)
 
--- where n steps along the heads lead from k
+-- the word that n steps along the heads lead to from k
 abbrev pub walk : List ℕ → ℕ → ℕ → ℕ
 walk heads zero k = k
 walk heads (suc n) k = head_at heads (walk heads n k)
 
--- some number of steps, at most as many as there are words, comes to 0
+-- at most as many steps as there are words lead to 0
 abbrev pub ReachesRoot : List ℕ → ℕ → Type 0
 ReachesRoot heads k = (n : ℕ) × (n ≤ length heads) × (walk heads n k ≡ 0)
 
--- from each word some steps along the heads come to 0
+-- from each word, steps along the heads lead to 0
 abbrev pub IsTree : List ℕ → Type 0
 IsTree heads = (k : ℕ) → 1 ≤ k → k ≤ length heads → ReachesRoot heads k
 

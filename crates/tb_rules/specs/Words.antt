@@ -1,4 +1,4 @@
--- What each word says: its part of speech, its head and its relation to the head.
+-- The part of speech of each word, its head and its relation to the head.
 -- UD v2 guidelines, "Universal POS tags", "Universal Dependency Relations" and "Syntax: General Principles";
 -- CoNLL-U format page, "Syntactic Annotation" (HEAD 0 and the relation root go together).
 use Rattle.std.specs.Prelude.{ℕ, List, Option, Some, None, Bool, true, false, ◌&&◌, not, nat_le, ◌==◌}
@@ -10,7 +10,7 @@ use Rattle.tb_fields.specs.Relations.{universal_part, is_relation}
 use Rattle.tb_fields.specs.Tags.{is_universal_tag}
 use Rattle.tb_rules.specs.Rows.{RowTest}
 
--- a head of word m, in a sentence of n words
+-- a head for word m, in a sentence of n words
 abbrev pub is_head_of : ℕ → ℕ → Option ℕ → Bool
 is_head_of n m None = false
 is_head_of n m (Some h) = nat_le h n && not (h == m)
@@ -19,7 +19,7 @@ abbrev pub is_root_head : Option ℕ → Bool
 is_root_head None = false
 is_root_head (Some h) = h == 0
 
--- the relation root goes with head 0, and no other does
+-- the head 0 has the relation root, and no other head has it
 abbrev pub fits_root : Option ℕ → List ℕ → Bool
 fits_root head deprel = if is_root_head head then bytes_eq (universal_part deprel) (codes "root") else not (bytes_eq
     (universal_part deprel) (codes "root"))

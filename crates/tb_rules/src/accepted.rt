@@ -1,4 +1,4 @@
-//! Fields of rows that were accepted before. Those of a file come back in a few hundred forms.
+//! Remembers fields of rows that were accepted before. A file repeats a few hundred of them.
 
 ghost use Rattle.std.specs.Prelude.{◌≡◌, ◌&&◌, IfOk, true, string_bytes};
 ghost use Rattle.tb_fields.specs.Feats.{is_feature_text};
@@ -8,16 +8,16 @@ ghost use Rattle.tb_fields.specs.Tags.{is_universal_tag};
 use std::alloc::{AllocError, Global};
 use tb_fields::{is_blank_field, is_feature_list, is_relation_text, is_tag};
 
-/// How many bits number a place.
+/// How many bits the number of a place has.
 const PLACE_BITS: u32 = 10;
 
 /// How many values of each kind are remembered at most.
 const PLACES: usize = 1 << PLACE_BITS;
 
-/// How many values come before the first that is remembered: more than most sentences have.
+/// How many values pass before the first one is remembered: more than most sentences have.
 const LET_BY: usize = 128;
 
-/// Of how many bytes a field is at most that is remembered.
+/// The length in bytes of the longest field that is remembered.
 const LONGEST: usize = 128;
 
 /// Spreads the bits of a word over the upper ones: 2^64 divided by the golden ratio.
@@ -38,26 +38,26 @@ struct AcceptedWord {
     ghost fine: { (is_universal_tag (string_bytes tag) && is_relation (string_bytes relation)) ≡ true },
 }
 
-/// What was accepted, each in the place that its bytes say. What came first stays there.
+/// The values that were accepted, each in a place given by its bytes. The first value in a place stays there.
 #[derive(Drop)]
 pub(crate) struct Accepted {
-    /// How many values are still let by. Of a short text it does not pay to remember any.
+    /// How many values still pass before one is remembered. For a short text it does not pay to remember any.
     let_by: usize,
     features: Vec<Option<AcceptedFeatures>>,
     words: Vec<Option<AcceptedWord>>,
 }
 
-/// Mixes a word into what was mixed before.
+/// Mixes a word into the words before it.
 fn mixed_with(mixed: u64, word: u64) -> u64 {
     (mixed ^ word).wrapping_mul(SPREAD)
 }
 
-/// The place that the upper bits of what was mixed say.
+/// The place that the upper bits of the mixed words give.
 fn place_of(mixed: u64) -> usize {
     (mixed >> (64 - PLACE_BITS)) as usize
 }
 
-/// The place of a value of FEATS, by all of its bytes. Any would do, since the texts are compared.
+/// The place of a value of FEATS, from all of its bytes. Any place is right, since the texts are compared.
 fn features_place(text: &[u8]) -> usize {
     let (words, _) = text.as_chunks::<8>();
     let mut mixed = mixed_with(0, text.len() as u64);
@@ -80,12 +80,12 @@ fn ends_of(text: &[u8]) -> u64 {
     }
 }
 
-/// The place of a part of speech and a relation, by their ends.
+/// The place of a part of speech and a relation, from their first and last bytes.
 fn word_place(tag: &[u8], relation: &[u8]) -> usize {
     place_of(mixed_with(mixed_with(0, ends_of(tag)), ends_of(relation)))
 }
 
-/// Makes the places, where there are none.
+/// Makes the places, if there are none yet.
 fn make_places<X: Drop>(slots: &mut Vec<Option<X>>) -> Result<(), AllocError> {
     for _ in slots.len()..PLACES {
         slots.push(None)?;
@@ -103,7 +103,7 @@ impl Accepted {
         }
     }
 
-    /// Remembers nothing of a sentence, and takes no memory.
+    /// Remembers nothing, and takes no memory: for a single sentence.
     pub(crate) fn none(alloc: Global) -> Self {
         Accepted {
             let_by: usize::MAX,
@@ -139,7 +139,7 @@ impl Accepted {
         }
     }
 
-    /// Whether the next value is remembered.
+    /// Whether to remember the next value.
     fn remembers_next(&mut self) -> bool {
         if self.let_by == 0 {
             return true;
@@ -148,7 +148,7 @@ impl Accepted {
         false
     }
 
-    /// Remembers a value of FEATS, where its place is free.
+    /// Remembers a value of FEATS, if its place is free.
     fn remember_features(&mut self, alloc: Global, text: &str) -> Result<(), AllocError>
         requires { is_feature_text text.now ≡ true }
     {
@@ -163,7 +163,7 @@ impl Accepted {
         Ok(())
     }
 
-    /// Remembers a part of speech and a relation, where their place is free.
+    /// Remembers a part of speech and a relation, if their place is free.
     fn remember_word(&mut self, alloc: Global, tag: &str, relation: &str) -> Result<(), AllocError>
         requires { (is_universal_tag tag.now && is_relation relation.now) ≡ true }
     {
@@ -182,8 +182,8 @@ impl Accepted {
         Ok(())
     }
 
-    /// Whether the text may stand in FEATS, as `is_feature_list` says. Where no memory is left to remember it, it is
-    /// looked at again when it comes again.
+    /// Whether the text may be in FEATS, as `is_feature_list` tests it. Where no memory is left to remember it, it is
+    /// tested again the next time.
     pub(crate) fn accept_features(&mut self, alloc: Global, text: &str) -> Result<bool, AllocError>
         ensures { IfOk result (λ b. b ≡ is_feature_text text.now) }
     {
@@ -200,7 +200,7 @@ impl Accepted {
     }
 
     /// Whether the texts are a universal part of speech and a universal relation, as `is_tag` and `is_relation_text`
-    /// say. Where no memory is left to remember them, they are looked at again when they come again.
+    /// test them. Where no memory is left to remember them, they are tested again the next time.
     pub(crate) fn accept_word(&mut self, alloc: Global, tag: &str, relation: &str) -> bool
         ensures { result ≡ (is_universal_tag tag.now && is_relation relation.now) }
     {

@@ -1,4 +1,4 @@
-//! Rules 1 to 11, one after the other.
+//! Tests rules 1 to 11, one after another.
 
 ghost use Rattle.std.specs.Prelude.{◌≡◌, OnOk, IfOk, IfErr, MatchOption};
 ghost use Rattle.tb_rules.specs.Rules.{HasWords, HasSpans, HasNodes, HasFeatures, HasDependencies, KeepsTo6};
@@ -63,7 +63,7 @@ fn dependency_row<T: Text>(alloc: Global, block: &BlockOf<T>) -> Result<Option<u
     dependency_fault(alloc, &block.rows, words(block))
 }
 
-/// The least broken rule of 1 to 6: comments, and what each row says by itself and by its place.
+/// The least broken rule of 1 to 6: comments, and each row by itself and by its place.
 fn check_rows<T: Text>(
     alloc: Global,
     accepted: &mut Accepted,
@@ -122,7 +122,7 @@ fn check_whole<T: Text>(
     Ok(())
 }
 
-/// The least broken rule of 1 to 11. What was accepted before is not looked at again.
+/// The least broken rule of 1 to 11. Fields that were accepted before are not tested again.
 pub(crate) fn first_broken<T: Text>(
     alloc: Global,
     accepted: &mut Accepted,
@@ -142,8 +142,8 @@ pub(crate) fn first_broken<T: Text>(
 ///
 /// # Errors
 ///
-/// The least broken rule, with the first row at fault, counted from 1, for rules 4 to 8, and row 0 for the others; or
-/// want of memory, which comes only where rules 1 to 6 are kept.
+/// The least broken rule. For rules 4 to 8 it has the first row at fault, counted from 1; for the others row 0. Or
+/// memory was refused, which comes only where rules 1 to 6 are kept.
 pub fn check<T: Text>(alloc: Global, block: &BlockOf<T>) -> Result<(), RuleFault>
     ensures valid { OnOk result (KeepsRules block.now) }
     ensures fault { IfErr result (IsRuleFault block.now) }

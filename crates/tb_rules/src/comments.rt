@@ -38,14 +38,14 @@ fn trim_spaces(text: &str) -> &str
     trim_back(trim_front(text))
 }
 
-/// The value that the comment gives to the key.
+/// The value of the comment, if its key is this one.
 fn value_with<'a>(comment: &'a str, key: &str) -> Option<&'a str>
     ensures { option_copied result ≡ value_under key.now comment.now }
 {
     let Some(rest) = comment.strip_prefix('#') else {
         return None;
     };
-    // Most comments have another key, and are not looked through for the `=`.
+    // Most comments have another key, and need no search for the `=`.
     let Some(_) = strip_text(trim_front(rest), key) else {
         return None;
     };
@@ -59,7 +59,7 @@ fn value_with<'a>(comment: &'a str, key: &str) -> Option<&'a str>
     }
 }
 
-/// The one value that comments give to the key.
+/// The value of the only comment with the key.
 fn only_value<'a, T: Text>(comments: &'a [T], key: &str) -> Option<&'a str>
     ensures { option_copied result ≡ only (values_of key.now (map T.bytes comments.now)) }
 {
@@ -75,7 +75,7 @@ fn only_value<'a, T: Text>(comments: &'a [T], key: &str) -> Option<&'a str>
     found
 }
 
-/// The one value that comments, which are borrowed, give to the key.
+/// The value of the only one of borrowed comments with the key.
 fn only_borrowed<'a>(comments: &[&'a str], key: &str) -> Option<&'a str>
     ensures { option_copied result ≡ only (values_of key.now (map (λ c. c.now) comments.now)) }
 {
@@ -91,7 +91,7 @@ fn only_borrowed<'a>(comments: &[&'a str], key: &str) -> Option<&'a str>
     first
 }
 
-/// The name of the sentence: the value of its one comment with key `sent_id`, None where there is none or more
+/// The name of the sentence: the value of its only comment with the key `sent_id`. None where there is none or more
 /// than one. Takes no memory.
 ///
 /// CoNLL-U format page, "Sentence Boundaries and Comments".
@@ -101,14 +101,14 @@ pub fn sent_id<'a, T: Text>(block: &'a BlockOf<T>) -> Option<&'a str>
     only_value(&block.comments, SENT_ID)
 }
 
-/// The name of a sentence that borrows its texts, which outlives the sentence. Takes no memory.
+/// The name of a sentence that borrows its texts. The name outlives the sentence. Takes no memory.
 pub fn sent_id_ref<'a>(block: &BlockRef<'a>) -> Option<&'a str>
     ensures { option_copied result ≡ only (sent_ids block.now) }
 {
     only_borrowed(&block.comments, SENT_ID)
 }
 
-/// The text of the sentence: the value of its one comment with key `text`, None where there is none or more than
+/// The text of the sentence: the value of its only comment with the key `text`. None where there is none or more than
 /// one. Takes no memory.
 ///
 /// CoNLL-U format page, "Sentence Boundaries and Comments".
@@ -118,7 +118,7 @@ pub fn text<'a, T: Text>(block: &'a BlockOf<T>) -> Option<&'a str>
     only_value(&block.comments, TEXT)
 }
 
-/// Whether exactly one comment names the sentence, by a name without white space.
+/// Whether exactly one comment names the sentence, and the name has no white space.
 pub(crate) fn has_sent_id<T: Text>(block: &BlockOf<T>) -> bool
     ensures { IsTrue result ↔ HasSentId block.now }
 {

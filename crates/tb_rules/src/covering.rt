@@ -1,4 +1,4 @@
-//! Which rows come out in the text: ranges, and words in no range.
+//! The tokens of the text: ranges, and words in no range.
 
 ghost use Rattle.std.specs.Prelude.{◌≡◌, max, true};
 ghost use Rattle.tb_rules.specs.Restored.{covers, is_covered, is_token_id};
@@ -21,7 +21,7 @@ fn is_in_range<T: Text>(rows: &[RowOf<T>], word: u32) -> bool
     rows.iter().any(|row| is_over(row.id, word))
 }
 
-/// Whether the row comes out, as all rows tell.
+/// Whether the row is a token, from all rows.
 fn is_token<T: Text>(id: LineId, rows: &[RowOf<T>]) -> bool
     ensures { result ≡ is_token_id rows.now id }
 {
@@ -32,7 +32,7 @@ fn is_token<T: Text>(id: LineId, rows: &[RowOf<T>]) -> bool
     }
 }
 
-/// Whether the row comes out, as the greatest end of the ranges before it tells.
+/// Whether the row is a token, from the greatest end of the ranges before it.
 fn is_token_past(id: LineId, end: u32) -> bool
     ensures { result ≡ is_token_after end id }
 {
@@ -43,7 +43,7 @@ fn is_token_past(id: LineId, end: u32) -> bool
     }
 }
 
-/// Whether the row comes out. Where ranges lead, the ends before it tell, and no row is looked at twice.
+/// Whether the row is a token. Where ranges lead, the ends before it decide, and no row is looked at twice.
 pub(crate) fn comes_out<T: Text>(id: LineId, rows: &[RowOf<T>], lead: bool, end: u32) -> bool
     requires { lead ≡ true → is_token_id rows.now id ≡ is_token_after end id }
     ensures { result ≡ is_token_id rows.now id }
@@ -83,8 +83,8 @@ fn may_follow(id: LineId, word: u32, start: u32) -> bool
     }
 }
 
-/// Whether no word comes before a range that starts at or before it, nor after one that starts behind it: then
-/// ranges lead.
+/// Whether no word comes before a range that starts at or before it, nor after one that starts after it. Then ranges
+/// lead.
 pub(crate) fn ranges_lead<T: Text>(rows: &[RowOf<T>]) -> bool
     ensures { result ≡ true → RangesLead rows.now }
 {

@@ -70,7 +70,7 @@ fn node_head(word: Option<usize>, node: Option<usize>) -> Option<(usize, usize)>
     }
 }
 
-/// What the head spells: (0, 0) for the root, (n, 0) for word n, and (i, k) for the empty node i.k.
+/// The place of a head: (0, 0) for the root, (n, 0) for word n, and (i, k) for the empty node i.k.
 fn head(text: &str) -> Option<(usize, usize)>
     ensures { result ≡ place_of text.now }
 {
@@ -128,7 +128,7 @@ fn are_in_order(pair: &str, next: &str) -> bool
     heads_in_order(head_of_pair(pair), head_of_pair(next))
 }
 
-/// Whether the head of the pair stands before that of the first pair of the text, or is the same.
+/// Whether the head of the pair is before that of the first pair of the text, or the same.
 fn is_before(pair: &str, text: &str) -> bool
     ensures { result ≡ place_precedes pair.now (slice_split is_bar text.now) }
 {
@@ -192,8 +192,8 @@ fn rows_are_few<T: Text>(rows: &[RowOf<T>])
     let _count = rows.len();
 }
 
-/// The first word or empty node whose DEPS are at fault, by the number of its row (from 1), in a sentence of so many
-/// words whose rows carry the right numbers.
+/// The first word or empty node whose DEPS are at fault, by the number of its row (from 1). The sentence has `words`
+/// words, and its rows have the right numbers.
 pub(crate) fn dependency_fault<T: Text>(
     alloc: Global,
     rows: &[RowOf<T>],

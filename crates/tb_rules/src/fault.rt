@@ -22,7 +22,7 @@ impl From<AllocError> for RuleFault {
     }
 }
 
-/// What a broken rule asks.
+/// What a rule requires.
 pub(crate) fn meaning(rule: u8) -> &'static str {
     match rule {
         1 => "exactly one comment gives sent_id, and its value has no white space",

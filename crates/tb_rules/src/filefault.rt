@@ -9,7 +9,7 @@ use std::fmt;
 /// Why the sentences of a file break the rules.
 #[derive(Clone, Copy, Debug, PartialEq, Eq)]
 pub enum FileFault {
-    /// The first sentence at fault, counted from 1; its least broken rule, 1 to 12; and for rules 4 to 8 its first
+    /// The first sentence at fault, counted from 1, and its least broken rule, 1 to 12. For rules 4 to 8 also its first
     /// row at fault, counted from 1, else 0.
     At {
         sentence: usize,

@@ -9,7 +9,7 @@ ghost use Rattle.tb_rules.specs.Places.{is_there, is_place_there};
 use std::alloc::{AllocError, Global};
 use tb_conllu::{LineId, RowOf, Text};
 
-/// The rows of a sentence, and the counts that tell which IDs they carry.
+/// The rows of a sentence, and the counts that show which IDs they have.
 #[derive(Drop)]
 pub(crate) struct Heads<'a, T: Text> {
     pub(crate) rows: &'a [RowOf<T>],
@@ -41,7 +41,7 @@ fn count_one(counts: &mut Vec<usize>, place: usize)
     counts[place] += 1;
 }
 
-/// How many empty nodes stand after each word, and before the first.
+/// How many empty nodes come after each word, and before the first.
 fn counts<T: Text>(alloc: Global, rows: &[RowOf<T>], words: usize) -> Result<Vec<usize>, AllocError>
     requires { AreNumbered rows.now words }
     ensures { IfOk result (λ v. AreNodeCounts rows.now v.items) }
@@ -71,7 +71,7 @@ fn node_counts<T: Text>(
     }
 }
 
-/// The IDs of a sentence of so many words, whose rows carry the right numbers.
+/// The IDs of a sentence with `words` words, whose rows have the right numbers.
 pub(crate) fn heads_in<T: Text>(
     alloc: Global,
     rows: &[RowOf<T>],

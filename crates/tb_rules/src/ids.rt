@@ -4,7 +4,7 @@ ghost use Rattle.tb_rules.specs.Ids.{is_next_id, is_node_id_after, is_in_place, 
 
 use tb_conllu::{BlockOf, LineId, RowOf, Text, words};
 
-/// The rows that have come: how many words, and how many empty nodes since the last of them.
+/// The rows so far: how many words, and how many empty nodes since the last of them.
 #[derive(Clone, Copy)]
 struct Came {
     words: usize,
@@ -42,7 +42,7 @@ fn are_in_place<T: Text>(rows: &[RowOf<T>]) -> bool
     true
 }
 
-/// Whether the rows carry the right numbers: words 1 to n, at most 1000, and empty nodes after their words.
+/// Whether the rows have the right numbers: words 1 to n, at most 1000, and empty nodes after their words.
 pub(crate) fn has_ids<T: Text>(block: &BlockOf<T>) -> bool
     ensures { IsTrue result ↔ HasIds block.now }
 {

@@ -1,4 +1,4 @@
-//! The text that rows spell, compared with a given one as it comes.
+//! Compares the text of rows with a given one, piece by piece.
 
 ghost use Rattle.std.specs.Prelude.{◌≡◌, ◌≢◌, ◌↔◌, IsTrue, ◌++◌, ◌∷◌, [], ℕ, List};
 ghost use Rattle.std.specs.Prelude.{MatchOption, chars, encode_utf8, encode_utf8_all, true, false};
@@ -13,8 +13,8 @@ use crate::spelling::has_no_space;
 use tb_chars::is_solid_text;
 use tb_conllu::{RowOf, Text};
 
-/// What is left of a text whose white space is folded, whether a character of it came, and whether white space came
-/// since.
+/// The rest of an expected text with folded white space, whether a character of it came, and whether white space came
+/// after that.
 #[derive(Clone, Copy)]
 struct Expected<'a> {
     rest: &'a str,
@@ -41,7 +41,7 @@ fn strip_char(text: &str, c: char) -> Option<&str>
     text.strip_prefix(c)
 }
 
-/// What follows the front of a text that begins with it.
+/// The rest of a text after `front`, if it begins with it.
 pub(crate) fn strip_text<'a>(text: &'a str, front: &str) -> Option<&'a str>
     ensures { MatchOption result ((rest : List ℕ) → text.now ≢ front.now ++ rest) (λ x.
         text.now ≡ front.now ++ x.now) }
@@ -49,7 +49,7 @@ pub(crate) fn strip_text<'a>(text: &'a str, front: &str) -> Option<&'a str>
     text.strip_prefix(front)
 }
 
-/// The rest behind the one space that stands for white space between two characters.
+/// The rest after the one space that represents the white space between two characters.
 fn past_gap(expected: Expected<'_>) -> Option<&str>
     ensures { MatchOption result ((rest : List ℕ)
         → expected.entry.rest.now ≢ gap_text expected.entry.begun expected.entry.gap ++ rest) (λ x.
@@ -87,7 +87,7 @@ fn take_char(expected: Expected<'_>, c: char) -> Option<Expected<'_>>
     })
 }
 
-/// Takes a text without white space at once.
+/// Takes a text without white space in one piece.
 fn take_solid<'a>(expected: Expected<'a>, text: &str) -> Option<Expected<'a>>
     requires { is_solid text.now ≡ true }
     ensures { MatchOption result (Refuses expected.entry.rest.now expected.entry.begun expected.entry.gap
@@ -134,7 +134,7 @@ fn take_piece<'a>(expected: Expected<'a>, text: &str) -> Option<Expected<'a>>
     }
 }
 
-/// Takes what stands between spaces at once.
+/// Takes the text between spaces in one piece.
 fn take_spaced<'a>(expected: Expected<'a>, text: &str) -> Option<Expected<'a>>
     ensures { MatchOption result (Refuses expected.entry.rest.now expected.entry.begun expected.entry.gap
         (chars text.now)) (λ e.
@@ -223,7 +223,7 @@ fn take_rows<'a, T: Text>(
     Some(now)
 }
 
-/// Whether the rows spell the text.
+/// Whether the text of the rows is this one.
 pub(crate) fn spell<T: Text>(rows: &[RowOf<T>], text: &str) -> bool
     ensures { IsTrue result ↔ (encode_utf8_all (folded (text_of_rows rows.now)) ≡ text.now) }
 {

@@ -16,7 +16,7 @@ fn is_fine<T: Text>(row: &RowOf<T>) -> bool
     }
 }
 
-/// The first empty node at fault, as the number of its row (from 1).
+/// The first empty node at fault, by the number of its row (from 1).
 pub(crate) fn node_fault<T: Text>(rows: &[RowOf<T>]) -> Option<usize>
     ensures { MatchOption result (EachRowPasses node_test rows.now) (IsFirstFault node_test rows.now) }
 {

@@ -17,7 +17,7 @@ fn is_bare_row<T: Text>(row: &RowOf<T>) -> bool
         && is_blank_field(row.deps.text())
 }
 
-/// The last word of a range, 0 of another row.
+/// The last word of a range; 0 for another row.
 pub(crate) fn end_of(id: LineId) -> u32
     ensures { result ≡ end_of_id id }
 {
@@ -41,7 +41,7 @@ fn is_fine<T: Text>(row: &RowOf<T>, words: usize, before: usize, end: u32) -> bo
     }
 }
 
-/// The first range at fault, as the number of its row (from 1), in a sentence of so many words.
+/// The first range at fault, by the number of its row (from 1), in a sentence of `words` words.
 pub(crate) fn span_fault<T: Text>(rows: &[RowOf<T>], words: usize) -> Option<usize>
     ensures { MatchOption result (EachRowPasses (span_test words) rows.now) (IsFirstFault (span_test words) rows.now) }
 {

@@ -16,10 +16,10 @@ use std::alloc::{AllocError, Global};
 use tb_conllu::{BlockOf, RowOf, Text};
 use tb_fields::is_blank_field;
 
-/// The item of MISC that says that no space follows. Mostly it stands alone.
+/// The item of MISC that says that no space follows. In most rows it is the only one.
 const NO_SPACE: &str = "SpaceAfter=No";
 
-/// A text whose white space is folded as it comes.
+/// A text whose white space is folded while characters come.
 #[derive(Drop)]
 struct Folding {
     text: String,
@@ -161,8 +161,8 @@ fn spelled<T: Text>(alloc: Global, rows: &[RowOf<T>]) -> Result<String, AllocErr
     Ok(folding.text)
 }
 
-/// The text that the rows spell: the forms of ranges and of words in no range, each followed by a space but where
-/// MISC has `SpaceAfter=No`, with each run of white space as one space and none at the ends.
+/// The text of the rows: the forms of ranges and of words in no range, with a space after each unless MISC has
+/// `SpaceAfter=No`. Each run of white space is one space, and there is none at the ends.
 ///
 /// CoNLL-U format page, "Words, Tokens and Empty Nodes" and "Miscellaneous".
 pub fn restored<T: Text>(alloc: Global, block: &BlockOf<T>) -> Result<String, AllocError>
@@ -171,12 +171,12 @@ pub fn restored<T: Text>(alloc: Global, block: &BlockOf<T>) -> Result<String, Al
     spelled(alloc, &block.rows)
 }
 
-/// Whether the rows spell the value, but for white space.
+/// Whether the text of the rows is the value. Differences in white space do not count.
 fn is_spelled<T: Text>(alloc: Global, rows: &[RowOf<T>], value: &str) -> Result<bool, AllocError>
     ensures { IfOk result (λ b. IsTrue b ↔ (encode_utf8_all (folded (text_of_rows rows.now))
         ≡ folded_text value.now)) }
 {
-    // What rows spell is folded, so a value that they spell is folded too.
+    // The text of rows is folded, so a value equal to it is folded too.
     if spell(rows, value) {
         return Ok(true);
     }
@@ -184,7 +184,7 @@ fn is_spelled<T: Text>(alloc: Global, rows: &[RowOf<T>], value: &str) -> Result<
     Ok(spell(rows, folded.as_str()))
 }
 
-/// Whether the rows spell the text that the comment gives, but for white space.
+/// Whether the text of the rows is that of the comment. Differences in white space do not count.
 pub(crate) fn is_restored<T: Text>(alloc: Global, block: &BlockOf<T>) -> Result<bool, AllocError>
     ensures { IfOk result (λ b. IsTrue b ↔ IsRestored block.now) }
 {

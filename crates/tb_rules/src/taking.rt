@@ -1,4 +1,4 @@
-//! The sentences of a file, checked one after another.
+//! Checks the sentences of a file one after another.
 
 ghost use Rattle.std.specs.Prelude.{◌≡◌, ℕ, List, [], ◌∷◌, ◌++◌, OnOk, OnErr, IfErr, map};
 ghost use Rattle.std.specs.Prelude.{string_bytes};
@@ -17,7 +17,7 @@ use std::collections::BTreeSet;
 use std::marker::Model;
 use tb_conllu::{BlockOf, Text};
 
-/// Rules 1 to 11 of the sentence with this number.
+/// Tests rules 1 to 11 of the sentence with this number.
 fn check_alone<T: Text>(
     alloc: Global,
     accepted: &mut Accepted,
@@ -39,12 +39,13 @@ fn check_alone<T: Text>(
     }
 }
 
-/// Takes the sentences of a file one after another, of which it keeps the names, and within fixed bounds the fields that it
-/// accepted. A contract sees it as the names, in the order of their bytes.
+/// Checks the sentences of a file one after another. It keeps their names, and a bounded number of accepted fields.
+///
+/// Contracts see it as the names, in the order of their bytes.
 #[derive(Drop)]
 pub struct Checker {
     alloc: Global,
-    // In order, not hashed: no file can make its names collide.
+    // A tree, not a hash table: no file can make its names collide.
     names: BTreeSet<String>,
     accepted: Accepted,
 }
@@ -56,7 +57,7 @@ impl Model for Checker {
 }
 
 impl Checker {
-    /// No sentence has been taken yet. Takes no memory.
+    /// No sentence was taken yet. Takes no memory.
     pub fn new(alloc: Global) -> Self
         ensures { HasTaken result [] }
     {
@@ -67,12 +68,12 @@ impl Checker {
         }
     }
 
-    /// Takes the next sentence. Rule 12 is asked last: that no sentence before has its `sent_id`.
+    /// Takes the next sentence. Rule 12 is tested last: no sentence before has its `sent_id`.
     ///
     /// # Errors
     ///
-    /// The sentence's number in the file, with its least broken rule and its row; or want of memory, which comes only
-    /// where the sentence keeps rules 1 to 6. The sentence is not taken then, and all is as before.
+    /// The sentence's number in the file, with its least broken rule and its row. Or memory was refused, which comes
+    /// only where the sentence keeps rules 1 to 6. The sentence is then not taken, and nothing has changed.
     pub fn take<T: Text>(&mut self, block: &BlockOf<T>) -> Result<(), FileFault>
         ensures valid { (before : List BlockText) → HasTaken self.old before
             → OnOk result (HasTaken self.new (before ++ block.now ∷ [])) }
@@ -105,13 +106,13 @@ impl Checker {
     }
 }
 
-/// Whether each sentence of a file keeps rules 1 to 11, and none has the `sent_id` of one before it.
+/// Whether each sentence of a file keeps rules 1 to 11, and has a `sent_id` that none before it has.
 ///
 /// # Errors
 ///
-/// The first sentence that breaks a rule, counted from 1, with its least broken rule of 1 to 12 and, for rules 4 to 8,
-/// its first row at fault, counted from 1, else 0; or want of memory, which comes only at a sentence that keeps rules 1
-/// to 6.
+/// The first sentence that breaks a rule, counted from 1, with its least broken rule of 1 to 12. For rules 4 to 8 it
+/// has the first row at fault, counted from 1; for the others row 0. Or memory was refused, which comes only at a
+/// sentence that keeps rules 1 to 6.
 pub fn check_all<T: Text>(alloc: Global, blocks: &[BlockOf<T>]) -> Result<(), FileFault>
     ensures valid { OnOk result (IsValid blocks.now) }
     ensures fault { IfErr result (IsFileFault blocks.now) }

@@ -48,7 +48,7 @@ fn word_heads<T: Text>(alloc: Global, block: &BlockOf<T>) -> Result<Vec<u32>, Al
         .collect(alloc)
 }
 
-/// One step along the heads; 0 stays.
+/// One step along the heads; from 0 it stays at 0.
 fn step(heads: &[u32], at: usize) -> usize
     ensures { result ≡ head_at heads.now at }
 {
@@ -61,7 +61,7 @@ fn step(heads: &[u32], at: usize) -> usize
     }
 }
 
-/// The number of steps from `at` to the root, where it is known: 0 at the root, 1 from beyond the words.
+/// The number of steps from `at` to the root, if it is known: 0 at the root, 1 from past the last word.
 fn known_depth(heads: &[u32], depths: &[usize], at: usize) -> Option<usize>
     requires { AreDepths heads.now depths.now }
     ensures { MatchOption result ((0 < at) × (at ≤ length depths.now)) (IsDepth heads.now at) }
@@ -78,9 +78,9 @@ fn known_depth(heads: &[u32], depths: &[usize], at: usize) -> Option<usize>
     }
 }
 
-/// The number of steps from the word to the root, unless there are more than words.
+/// The number of steps from the word to the root, or none where it does not reach the root.
 ///
-/// It walks to the first word whose depth is known.
+/// Walks to the first word whose depth is known.
 fn depth(heads: &[u32], depths: &[usize], word: usize) -> Option<usize>
     requires { AreDepths heads.now depths.now }
     ensures { MatchOption result (¬ ReachesRoot heads.now word) (λ d. IsDepth heads.now word d
@@ -115,7 +115,8 @@ fn note_depths(heads: &[u32], depths: &mut [usize], word: usize, depth: usize)
     }
 }
 
-/// Whether each word reaches the root. No word is walked over twice: a walk ends at the first word of a known depth.
+/// Whether each word reaches the root. A walk ends at the first word whose depth is known, so no word is walked over
+/// twice.
 fn is_tree(alloc: Global, heads: &[u32]) -> Result<bool, AllocError>
     ensures { IfOk result (λ b. IsTrue b ↔ IsTree heads.now) }
 {

@@ -27,7 +27,7 @@ fn head_is_fine(head: Option<u32>, word: u32, words: usize) -> bool
     }
 }
 
-/// Whether the relation is `root`, alone or with a subtype; most relations differ in their first byte.
+/// Whether the relation is `root`, alone or with a subtype. Most relations differ in their first byte.
 fn is_root_relation(relation: &str) -> bool
     ensures { result ≡ bytes_eq (universal_part relation.now) (codes "root") }
 {
@@ -74,7 +74,7 @@ fn is_fine<T: Text>(alloc: Global, accepted: &mut Accepted, row: &RowOf<T>, word
     }
 }
 
-/// The first word at fault, as the number of its row (from 1), in a sentence of so many words.
+/// The first word at fault, by the number of its row (from 1), in a sentence of `words` words.
 pub(crate) fn word_fault<T: Text>(
     alloc: Global,
     accepted: &mut Accepted,
