@@ -1,5 +1,5 @@
--- A field that says nothing.
--- CoNLL-U format page: the underscore is used for what is not given.
+-- A field without a value.
+-- CoNLL-U format page: an underscore is written for a value that is not given.
 use Rattle.std.specs.Prelude.{ℕ, List, [], ◌∷◌, Bool, bytes_eq}
 
 -- `_`

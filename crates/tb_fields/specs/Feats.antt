@@ -1,9 +1,9 @@
 -- Morphological features.
 -- CoNLL-U format page, "Morphological Annotation", and UD v2 guidelines, "Morphology: General Principles" (layered
--- features, several values): `_`, or features `Name=Value` in the order of their names, joined by bars. Names and
--- values are ASCII letters and digits and begin with a capital or a digit; names are in order whatever the case of
--- their letters; several values of a feature are joined by commas. This project asks it of ranges too, and leaves
--- the order of the values of a feature free.
+-- features, several values). The field is `_`, or features `Name=Value` joined by bars, in the order of their names.
+-- Names and values are ASCII letters and digits, and begin with a capital or a digit. The order of names ignores the
+-- case of letters. Several values of a feature are joined by commas. This project requires the same of ranges, and
+-- leaves the order of a feature's values free.
 use Rattle.std.specs.Prelude.{ℕ, List, [], ◌∷◌, length, map, Bool, true, false, ◌&&◌, ◌||◌, not, nat_lt}
 use Rattle.std.specs.Prelude.{nat_le, ◌==◌, bytes_eq}
 use Rattle.std.specs.Char.{to_ascii_lowercase}
@@ -46,7 +46,7 @@ abbrev pub is_label : List ℕ → Bool
 is_label [] = false
 is_label (b ∷ bs) = is_capital_or_digit b && list_all is_letter_or_digit bs
 
--- what follows the opening bracket of a layer: small letters and digits, and the closing bracket at the end
+-- the text after the opening bracket of a layer: small letters and digits, and the closing bracket at the end
 abbrev pub is_layer : List ℕ → Bool
 is_layer bs =
     list_any is_closing bs && nat_lt 0 (length
@@ -58,12 +58,12 @@ abbrev pub is_name : List ℕ → Bool
 is_name bs = is_label (before_first is_opening bs) && (not (list_any is_opening bs) || is_layer
     (after_first is_opening bs))
 
--- no text stands twice
+-- each text is unique
 abbrev pub are_distinct : List (List ℕ) → Bool
 are_distinct [] = true
 are_distinct (x ∷ xs) = not (list_any (bytes_eq x) xs) && are_distinct xs
 
--- values, none twice
+-- values, each unique
 abbrev pub are_values : List (List ℕ) → Bool
 are_values vs = list_all is_label vs && are_distinct vs
 
@@ -74,7 +74,7 @@ is_feature bs = list_any is_equals bs && is_name (before_first is_equals bs) && 
 abbrev pub feature_name : List ℕ → List ℕ
 feature_name bs = before_first is_equals bs
 
--- the first is not after the second in the order of their bytes, whatever the case of ASCII letters
+-- the first is not after the second in the order of their bytes; ASCII case does not matter
 abbrev pub is_not_after : List ℕ → List ℕ → Bool
 is_not_after [] ys = true
 is_not_after (x ∷ xs) [] = false
@@ -91,7 +91,7 @@ abbrev pub are_in_order : List (List ℕ) → Bool
 are_in_order [] = true
 are_in_order (x ∷ xs) = precedes x xs && are_in_order xs
 
--- features in the order of their names, no name twice
+-- features in the order of their names, each name unique
 abbrev pub are_features : List (List ℕ) → Bool
 are_features items = list_all is_feature items && (are_in_order (map feature_name items) && are_distinct
     (map feature_name items))

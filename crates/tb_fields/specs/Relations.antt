@@ -1,5 +1,5 @@
 -- Universal relations and their subtypes.
--- UD v2 guidelines, "Universal Dependency Relations": a relation may have a subtype behind a colon.
+-- UD v2 guidelines, "Universal Dependency Relations": a relation may have a subtype after a colon.
 use Rattle.std.specs.Prelude.{ℕ, List, Bool, ◌&&◌, ◌||◌, not, ◌==◌, bytes_eq, codes}
 use Rattle.std.specs.List.{list_any, before_first, after_first}
 use Rattle.tb_chars.specs.Spaces.{is_solid}
@@ -39,7 +39,7 @@ is_universal_relation bs = is_relation_a_to_c bs || is_relation_d_to_m bs || is_
 abbrev pub is_colon : ℕ → Bool
 is_colon b = b == 58
 
--- the relation without its subtype: what stands before the first colon
+-- the relation without its subtype: the text before the first colon
 abbrev pub universal_part : List ℕ → List ℕ
 universal_part bs = before_first is_colon bs
 

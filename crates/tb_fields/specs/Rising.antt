@@ -1,10 +1,10 @@
 -- Inner: no contract beyond this crate cites a definition of this module.
--- Features whose names rise strictly, which nearly all lists of features are: then no name can come twice.
+-- Features whose names ascend strictly, as in nearly all lists. Then each name is unique.
 use Rattle.std.specs.Prelude.{ℕ, List, [], ◌∷◌, Bool, true, false, ◌&&◌, ◌||◌, nat_lt, ◌==◌}
 use Rattle.std.specs.Char.{to_ascii_lowercase}
 use Rattle.tb_fields.specs.Feats.{is_feature, feature_name}
 
--- the first is before the second in the order of their bytes, whatever the case of ASCII letters, and they differ in more than case
+-- the first is strictly before the second in the order of their bytes; ASCII case does not matter
 abbrev pub is_below : List ℕ → List ℕ → Bool
 is_below [] [] = false
 is_below [] (y ∷ ys) = true

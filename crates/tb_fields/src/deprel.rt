@@ -71,7 +71,7 @@ fn is_universal(text: &str) -> bool
     is_a_to_c(text) || is_d_to_m(text) || is_n_to_x(text)
 }
 
-/// The relation without its subtype: what stands before the first colon.
+/// The relation without its subtype: the text before the first colon.
 pub fn relation_base(relation: &str) -> &str
     ensures { result.now ≡ universal_part relation.now }
 {

@@ -11,7 +11,7 @@ use crate::rising::holds_rising_features;
 use std::alloc::{AllocError, Global};
 use std::collections::BTreeSet;
 
-/// Texts of so many bytes hold so few values that comparing each with each is quickest.
+/// In texts of at most this many bytes, comparing each value with each is fastest.
 const FEW_VALUES: usize = 32;
 
 /// The same for features, whose names are longer.
@@ -23,7 +23,7 @@ fn is_first_byte(b: u8) -> bool
     matches!(b, b'A'..=b'Z' | b'0'..=b'9')
 }
 
-/// Most bytes are small letters, so these are asked for first.
+/// Most bytes are small letters, so these are tested first.
 fn is_later_byte(b: u8) -> bool
     ensures { result ≡ is_letter_or_digit b }
 {
@@ -86,7 +86,7 @@ pub(crate) fn is_name_text(text: &str) -> bool
     }
 }
 
-/// Whether the value stands among the values in the text, which commas separate.
+/// Whether the value is one of those in the text, which commas separate.
 fn comes_again(value: &str, text: &str) -> bool
     ensures { result ≡ list_any (bytes_eq value.now) (slice_split is_comma text.now) }
 {
@@ -106,7 +106,7 @@ fn value_is_fine(value: &str, more: &str) -> bool
     is_label_text(value) && !comes_again(value, more)
 }
 
-/// The same as `holds_values`; each value is compared with each.
+/// The same as `holds_values`. Compares each value with each.
 fn holds_few_values(text: &str) -> bool
     ensures { result ≡ are_values (slice_split is_comma text.now) }
 {
@@ -120,7 +120,7 @@ fn holds_few_values(text: &str) -> bool
     is_label_text(left)
 }
 
-/// Whether the value is well formed and had not come before; then it has, from now on.
+/// Whether the value is well formed and new. If so, it is added to those seen.
 fn is_new_value<'a>(seen: &mut BTreeSet<&'a str>, value: &'a str) -> Result<bool, AllocError>
     ensures new { IfOk result (λ b. b ≡ (is_label value.now && not (has_come seen.old value.now))) }
     ensures kept { IfOk result (λ b. b ≡ true → (q : List ℕ)
@@ -132,7 +132,7 @@ fn is_new_value<'a>(seen: &mut BTreeSet<&'a str>, value: &'a str) -> Result<bool
     comes_first(seen, value)
 }
 
-/// The same as `holds_values`, in time that hardly grows faster than the text.
+/// The same as `holds_values`, in nearly linear time.
 fn holds_many_values(alloc: Global, text: &str) -> Result<bool, AllocError>
     ensures { IfOk result (λ b. b ≡ are_values (slice_split is_comma text.now)) }
 {
@@ -147,7 +147,7 @@ fn holds_many_values(alloc: Global, text: &str) -> Result<bool, AllocError>
     is_new_value(&mut seen, left)
 }
 
-/// Whether commas separate values in the text, none twice.
+/// Whether the text is values separated by commas, each unique.
 fn holds_values(alloc: Global, text: &str) -> Result<bool, AllocError>
     ensures { IfOk result (λ b. b ≡ are_values (slice_split is_comma text.now)) }
 {
@@ -179,7 +179,7 @@ fn name_of(item: &str) -> &str
     }
 }
 
-/// Whether the first stands before the second in the order of bytes, or beside it, whatever the case of letters.
+/// Whether the first is before the second in the order of bytes, or equal to it. ASCII case does not matter.
 fn is_in_order(first: &[u8], second: &[u8]) -> bool
     ensures { result ≡ is_not_after first.now second.now }
 {
@@ -219,7 +219,7 @@ fn are_names_in_order(name: &str, item: &str) -> bool
     is_in_order(name.as_bytes(), name_of(item).as_bytes())
 }
 
-/// Whether the name stands before that of the first feature of the text, or beside it.
+/// Whether the name is before that of the first feature of the text, or equal to it.
 fn is_before(name: &str, text: &str) -> bool
     ensures { result ≡ precedes name.now (map feature_name (slice_split is_bar text.now)) }
 {
@@ -229,7 +229,7 @@ fn is_before(name: &str, text: &str) -> bool
     }
 }
 
-/// Whether the feature may stand before the others.
+/// Whether the feature may come before the others.
 fn feature_is_fine(alloc: Global, item: &str, more: &str) -> Result<bool, AllocError>
     ensures { IfOk result (λ b. b ≡ (is_feature item.now && (precedes (feature_name item.now)
         (map feature_name (slice_split is_bar more.now)) && not (list_any (bytes_eq (feature_name item.now))
@@ -239,7 +239,7 @@ fn feature_is_fine(alloc: Global, item: &str, more: &str) -> Result<bool, AllocE
     Ok(is_feature_item(alloc, item)? && is_before(name, more) && !has_name(name, more))
 }
 
-/// The same as `holds_features`; each name is compared with each.
+/// The same as `holds_features`. Compares each name with each.
 fn holds_few_features(alloc: Global, text: &str) -> Result<bool, AllocError>
     ensures { IfOk result (λ b. b ≡ are_features (slice_split is_bar text.now)) }
 {
@@ -253,7 +253,7 @@ fn holds_few_features(alloc: Global, text: &str) -> Result<bool, AllocError>
     is_feature_item(alloc, left)
 }
 
-/// Whether the feature may stand before the others and its name had not come before; then it has, from now on.
+/// Whether the feature may come before the others and its name is new. If so, the name is added to those seen.
 fn is_new_feature<'a>(
     alloc: Global,
     seen: &mut BTreeSet<&'a str>,
@@ -272,7 +272,7 @@ fn is_new_feature<'a>(
     comes_first(seen, name)
 }
 
-/// The same as `holds_features`, in time that hardly grows faster than the text.
+/// The same as `holds_features`, in nearly linear time.
 fn holds_many_features(alloc: Global, text: &str) -> Result<bool, AllocError>
     ensures { IfOk result (λ b. b ≡ are_features (slice_split is_bar text.now)) }
 {
@@ -290,7 +290,7 @@ fn holds_many_features(alloc: Global, text: &str) -> Result<bool, AllocError>
     comes_first(&mut seen, name_of(left))
 }
 
-/// Whether bars separate features in the text, in the order of their names, no name twice.
+/// Whether the text is features separated by bars, in the order of their names, each name unique.
 fn holds_features(alloc: Global, text: &str) -> Result<bool, AllocError>
     ensures { IfOk result (λ b. b ≡ are_features (slice_split is_bar text.now)) }
 {
@@ -301,13 +301,13 @@ fn holds_features(alloc: Global, text: &str) -> Result<bool, AllocError>
     }
 }
 
-/// Whether the text may stand in FEATS: `_`, or features in the order of their names, joined by bars, no name twice.
+/// Whether the text may be in FEATS: `_`, or features joined by bars, in the order of their names, each name unique.
 ///
 /// CoNLL-U format page, "Morphological Annotation"; UD v2 guidelines, "Morphology: General Principles".
 ///
 /// # Errors
 ///
-/// Want of memory, which only long lists take.
+/// Memory was refused, which only long lists need.
 pub fn is_feature_list(alloc: Global, text: &str) -> Result<bool, AllocError>
     ensures { IfOk result (λ b. b ≡ is_feature_text text.now) }
 {

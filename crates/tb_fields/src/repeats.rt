@@ -1,4 +1,4 @@
-//! Texts of a long list, none twice.
+//! Finds repeated texts in a long list.
 
 ghost use Rattle.std.specs.Prelude.{◌≡◌, ◌||◌, List, ℕ, IfOk, OnOk, not, bytes_eq};
 ghost use Rattle.tb_fields.specs.Seen.{has_come};
@@ -6,7 +6,7 @@ ghost use Rattle.tb_fields.specs.Seen.{has_come};
 use std::alloc::AllocError;
 use std::collections::BTreeSet;
 
-/// Whether the text had not come before; from now on it has.
+/// Whether the text is new. It is added to those seen.
 pub(crate) fn comes_first<'a>(
     seen: &mut BTreeSet<&'a str>,
     text: &'a str,

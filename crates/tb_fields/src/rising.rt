@@ -1,4 +1,4 @@
-//! Features whose names rise strictly: nearly all lists, of which one look at each byte tells enough.
+//! Features whose names ascend strictly, as in nearly all lists. One pass over their bytes is enough.
 
 ghost use Rattle.std.specs.Prelude.{◌≡◌, true, IfSome};
 ghost use Rattle.std.specs.List.{slice_split};
@@ -7,7 +7,7 @@ ghost use Rattle.tb_fields.specs.Rising.{is_below};
 
 use crate::feats::{is_label_text, is_name_text};
 
-/// Whether the first stands before the second in the order of bytes, whatever the case of letters, and is not the same.
+/// Whether the first is strictly before the second in the order of bytes. ASCII case does not matter.
 fn is_below(first: &[u8], second: &[u8]) -> bool
     ensures { result ≡ is_below first.now second.now }
 {
@@ -27,14 +27,14 @@ fn is_below(first: &[u8], second: &[u8]) -> bool
     first.len() < second.len()
 }
 
-/// The same as `is_name_text`, with one look at a name that has no layer.
+/// The same as `is_name_text`, in one pass for a name without a layer.
 fn is_name_here(text: &str) -> bool
     ensures { result ≡ is_name text.now }
 {
     is_label_text(text) || is_name_text(text)
 }
 
-/// The name of a feature of one value; `None` of other texts, of which some are features too.
+/// The name of a feature with one value; `None` for other texts, of which some are features too.
 fn plain_name(item: &str) -> Option<&str>
     ensures { IfSome result (λ name. (is_feature item.now ≡ true) × (name.now ≡ feature_name item.now)) }
 {
@@ -45,7 +45,7 @@ fn plain_name(item: &str) -> Option<&str>
     Some(name)
 }
 
-/// The same where the name stands above the last one.
+/// The same, if the name is above the last one.
 fn next_name<'a>(last: &str, item: &'a str) -> Option<&'a str>
     ensures { IfSome result (λ name. (is_feature item.now ≡ true)
         × (is_below last.now (feature_name item.now) ≡ true) × (name.now ≡ feature_name item.now)) }
@@ -57,7 +57,8 @@ fn next_name<'a>(last: &str, item: &'a str) -> Option<&'a str>
     Some(name)
 }
 
-/// Whether bars separate features of one value in the text, whose names rise strictly. Other texts may hold features too.
+/// Whether the text is features of one value, separated by bars, whose names ascend strictly. Other texts may hold
+/// features too.
 pub(crate) fn holds_rising_features(text: &str) -> bool
     ensures { result ≡ true → are_features (slice_split is_bar text.now) ≡ true }
 {
