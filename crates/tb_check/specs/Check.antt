@@ -1,4 +1,4 @@
--- What the check of a file answers: the reply, its line and the exit status.
+-- The check of a file: the reply, its line and the exit status.
 use Rattle.std.specs.Prelude.{◌≡◌, ◌≤◌, ◌<◌, ◌⊎◌, ℕ, List, ◌++◌, length, codes, decimal}
 use Rattle.std.specs.Prelude.{Bool, true, false, Option, IfSome, MatchOption}
 use Rattle.std.specs.List.{sum_by}
@@ -20,17 +20,17 @@ use Rattle.tb_check.specs.declared.reply.CheckReply.TheVariants.{Counts, Read, R
 abbrev pub words_in : List BlockText → ℕ
 words_in bs = sum_by words_of bs
 
--- The fault that is told of sentences: the first that breaks a rule; want of memory is told only at a sentence that keeps
--- rules 1 to 6, after valid ones.
+-- The fault that is reported of sentences: the first that breaks a rule. Want of memory is reported only at a sentence
+-- that keeps rules 1 to 6, after valid ones.
 abbrev pub IsReportedFault : List BlockText → FileFault → Type 0
 IsReportedFault bs (At sentence rule row) = IsFaultAt bs sentence rule row
 IsReportedFault bs rules.Memory = IsCutShort bs
 
--- How far the rules have been asked of these sentences: all of them are taken, or their fault was told.
+-- The rules of these sentences are tested: all sentences were taken, or their fault was reported.
 abbrev pub IsAsked : List (List ℕ) → Option FileFault → List BlockText → Type 0
 IsAsked names reported bs = MatchOption reported (HasTaken names bs) (IsReportedFault bs)
 
--- What a survey of these sentences tells: how many they are, their words, and the fault of the first that breaks a rule.
+-- The survey of these sentences: how many they are, their words, and the fault of the first that breaks a rule.
 abbrev pub IsSurvey : List BlockText → Survey → Type 0
 IsSurvey bs s = (s.sentences ≡ length bs) × (s.words ≡ words_in bs)
     × MatchOption s.fault (IsValid bs) (IsReportedFault bs)
@@ -39,9 +39,8 @@ IsSurvey bs s = (s.sentences ≡ length bs) × (s.words ≡ words_in bs)
 abbrev pub file_limit : ℕ
 file_limit = 4194304
 
--- The reply that is true of an input of at most `limit` bytes, or of a longer one. Want of memory may come in place
--- of any other reply, where there is a byte to hold. A failed device is true of no input. A rule is told only of a
--- file that can be read whole.
+-- The reply is true of an input. Want of memory may come in place of any other reply, where there is a byte to hold. A
+-- failed device is true of no input. A rule is reported only for a file that can be read to its end.
 abbrev pub IsReplyTo : ℕ → List ℕ → CheckReply → Type 0
 IsReplyTo limit input (Counts sentences words) = (length input ≤ limit) × ((bs : List BlockText) × IsFile input bs
     × IsValid bs × (sentences ≡ length bs) × (words ≡ words_in bs))
@@ -52,7 +51,7 @@ IsReplyTo limit input Long = limit < length input
 IsReplyTo limit input Memory = 0 < length input
 IsReplyTo limit input Device = ⊥
 
--- whether a reply tells of the input; want of memory and a failed device don't
+-- whether a reply says something of the input; want of memory and a failed device do not
 abbrev pub tells_of_input : CheckReply → Bool
 tells_of_input (Counts sentences words) = true
 tells_of_input (Read line code) = true
@@ -81,21 +80,21 @@ status_of Long = 1
 status_of Memory = 3
 status_of Device = 3
 
--- The text was written whole and the status is its own; or the sink refused it, for one of its reasons, holds a part
--- of it from the front, and the status is 3.
+-- The text was written whole, and the status is its own. Or the sink refused it for one of its reasons: then it holds a
+-- first part of it, and the status is 3.
 abbrev pub IsWritten : {Reason : Type 0} → Option (List ℕ) → Option (List ℕ) → List ℕ → ℕ
     → (Reason → Type 0) → ℕ → Type 0
 IsWritten {Reason} old new text own is_refusal status =
     (Appends old new text × (status ≡ own)) ⊎ (AppendsPart old new text × ((reason : Reason) × is_refusal reason)
     × (status ≡ 3))
 
--- What is written and answered, where this is known of the reply.
+-- What is written and returned, where this is known of the reply.
 abbrev pub Answers : {Reason : Type 0} → (CheckReply → Type 0) → Option (List ℕ) → Option (List ℕ)
     → (Reason → Type 0) → ℕ → Type 0
 Answers known old new is_refusal status = (reply : CheckReply) × known reply
     × IsWritten old new (reply_text reply) (status_of reply) is_refusal status
 
--- The reply is true of the input, where the source says what it will give. The reply is a failed device only where the
+-- The reply is true of the input, where the source's contract names it. The reply is a failed device only where the
 -- source failed.
 abbrev pub IsReplyToRead : {Why : Type 0} → (Why → Type 0) → ℕ → Option (List ℕ) → Option (List ℕ)
     → CheckReply → Type 0

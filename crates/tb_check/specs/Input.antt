@@ -1,19 +1,19 @@
--- What was read of an input.
+-- What was read from an input.
 use Rattle.std.specs.Prelude.{◌≡◌, ◌≤◌, ◌<◌, ◌+◌, ℕ, List, length, Option}
 use Rattle.std.specs.Io.KnownBytes.{Consumes, IsAtEnd}
 use Rattle.tb_check.specs.declared.input.Input.{Input}
 use Rattle.tb_check.specs.declared.input.Input.TheVariants.{Whole, TooLong, Memory, Broken}
 
--- bytes were taken of what a source had left, and P holds of how many
+-- some bytes were taken of what a source had left, and P holds of how many
 abbrev pub TakenSome : Option (List ℕ) → Option (List ℕ) → (ℕ → Type 0) → Type 0
 TakenSome old new P = (taken : List ℕ) × Consumes old new taken × P (length taken)
 
--- the source failed, for one of its reasons, after no more bytes than the limit
+-- the source failed, for one of its reasons, after at most `limit` bytes
 abbrev pub IsBrokenWithin : {Why : Type 0} → (Why → Type 0) → ℕ → Option (List ℕ) → Option (List ℕ)
     → Type 0
 IsBrokenWithin {Why} is_failure limit old new = ((why : Why) × is_failure why) × TakenSome old new (λ n. n ≤ limit)
 
--- what was found, and what was taken for it; memory is wanted only for bytes that came
+-- the outcome, and the bytes that were taken; memory runs out only for bytes that came
 abbrev pub IsInput : {Why : Type 0} → (Why → Type 0) → ℕ → Option (List ℕ) → Option (List ℕ) → Input
     → Type 0
 IsInput is_failure limit old new (Whole bytes) =

@@ -1,7 +1,7 @@
--- What the words of a command line ask for, the program's name first.
+-- What the words of a command line ask for. The program's name comes first.
 use Rattle.std.specs.Prelude.{ℕ, List, [], ◌∷◌, Bool, false, ◌&&◌, bytes_eq, codes}
 
--- the one word `check`, or it and the end of options
+-- the only word is `check`, perhaps with the end of options after it
 abbrev pub asks_check : List (List ℕ) → Bool
 asks_check [] = false
 asks_check (name ∷ []) = false

@@ -1,4 +1,4 @@
-//! The check of a file.
+//! Checks a file.
 
 ghost use Rattle.std.specs.Prelude.{◌<◌, ◌≤◌, ◌^◌, ℕ, List, [], ◌∷◌, ◌++◌, length, IfOk};
 ghost use Rattle.std.specs.Prelude.{IfErr};
@@ -19,12 +19,13 @@ use tb_rules::{Checker, FileFault, a_fault_stays};
 /// The greatest size of a file, in bytes.
 pub const FILE_LIMIT: u64 = 4_194_304;
 
-/// What is found in a file of sentences.
+/// What a check finds in a file that can be read.
 #[derive(Clone, Copy, Debug, PartialEq, Eq)]
 pub struct Survey {
     pub sentences: u64,
     pub words: u64,
-    /// The first sentence that breaks a rule, with its least rule and row; or that memory ran out over the rules.
+    /// The first sentence that breaks a rule, with its least rule and row; or that memory ran out while the rules were
+    /// tested.
     pub fault: Option<FileFault>,
 }
 
@@ -34,7 +35,7 @@ impl Survey {
     ghost use Rattle.tb_conllu.specs.Reported.{IsFile};
     ghost use Rattle.tb_check.specs.Check.{IsReplyTo, IsSurvey};
 
-    /// What the check answers of the file.
+    /// The reply of the check for the file.
     fn reply(self) -> CheckReply
         ensures reply { (limit : ℕ) (input : List ℕ) (bs : List BlockText) → length input ≤ limit
             → IsFile input bs → IsSurvey bs self → IsReplyTo limit input result }
@@ -60,7 +61,7 @@ impl Survey {
     }
 }
 
-/// Asks the rules of the next sentence, unless a fault was told before.
+/// Tests the rules of the next sentence, unless a fault was reported before.
 fn ask<T: Text>(
     checker: &mut Checker,
     block: &BlockOf<T>,
@@ -69,7 +70,7 @@ fn ask<T: Text>(
     ensures { (before : List BlockText) → IsAsked checker.old reported before
         → IsAsked checker.new result (before ++ block.now ∷ []) }
 {
-    // The law by which a fault of the first sentences is the file's.
+    // law: a fault of the first sentences is the file's
     a_fault_stays();
     if reported.is_some() {
         return reported;
@@ -77,18 +78,18 @@ fn ask<T: Text>(
     checker.take(block).err()
 }
 
-/// Surveys a file, of which one sentence at a time is kept, and the names of all. It is read to its end, also where a
-/// sentence breaks a rule.
+/// Surveys a file. It keeps one sentence at a time, and the names of all. It reads the file to its end, even after a
+/// sentence that breaks a rule.
 ///
 /// # Errors
 ///
-/// Where the bytes are no file, the line that nothing can mend, with its least code, whatever rules the sentences before
-/// it break; or want of memory.
+/// Where the bytes are no file, the first line after which no continuation is one, with its least code. Rules that the
+/// sentences before it break do not matter. Or memory was refused.
 pub fn survey_file(alloc: Global, file: &[u8]) -> Result<Survey, ReadFault>
     ensures found { IfOk result (λ s. (bs : List BlockText) × IsFile file.now bs × IsSurvey bs s) }
     ensures fault { IfErr result (IsReadFault file.now) }
 {
-    // The law by which a fault of what is left is the file's.
+    // law: a fault of the rest is the file's
     fault_after_sentences();
     let mut unread = Sentences::new(file);
     let mut checker = Checker::new(alloc);
@@ -105,7 +106,7 @@ pub fn survey_file(alloc: Global, file: &[u8]) -> Result<Survey, ReadFault>
     Ok(found)
 }
 
-/// What the check of a file answers. No device is in it.
+/// The reply of the check for a file in memory. It is never `Device`.
 pub fn check_file(alloc: Global, file: &[u8], limit: u64) -> CheckReply
     requires { length file.now ≤ limit }
     ensures reply { IsReplyTo limit file.now result }
@@ -120,7 +121,7 @@ pub fn check_file(alloc: Global, file: &[u8], limit: u64) -> CheckReply
     }
 }
 
-/// What the check of a source answers.
+/// The reply of the check for a source.
 fn check_source<R: Source>(alloc: Global, source: &mut R, limit: u64) -> CheckReply
     requires { limit < 2 ^ 32 }
     ensures { IsReplyToRead (R.IsFailure source.new) limit (R.left source.old) (R.left source.new) result }
@@ -133,10 +134,10 @@ fn check_source<R: Source>(alloc: Global, source: &mut R, limit: u64) -> CheckRe
     }
 }
 
-/// Checks at most so many bytes, writes the reply, and gives the exit status.
+/// Checks at most `limit` bytes, writes the reply, and returns the exit status.
 ///
-/// Whatever the source, one of the replies is written whole, with its own status, or the sink refused it. The reply
-/// is a failed device only where the source failed. Where the source says what it will give, the reply is true of it.
+/// Over any source, one of the replies is written whole, with its own status, or the sink refused it. The reply is
+/// `Device` only where the source failed. Where the source's contract names its bytes, the reply is true of them.
 pub fn check_within<R: Source, S: Sink>(
     alloc: Global,
     source: &mut R,
@@ -151,7 +152,7 @@ pub fn check_within<R: Source, S: Sink>(
     put_reply(out, reply.line().as_str(), reply.status())
 }
 
-/// Checks what the source gives, up to 4,194,304 bytes, writes the reply, and gives the exit status, as `check_within`.
+/// Checks what the source gives, up to 4,194,304 bytes, writes the reply, and returns the exit status.
 pub fn run_check<R: Source, S: Sink>(alloc: Global, source: &mut R, out: &mut S) -> u8
     ensures { Answers (IsReplyToRead (R.IsFailure source.new) file_limit (R.left source.old) (R.left source.new))
         (S.held out.old) (S.held out.new) (S.IsRefusal out.new) result }
@@ -159,7 +160,7 @@ pub fn run_check<R: Source, S: Sink>(alloc: Global, source: &mut R, out: &mut S)
     check_within(alloc, source, out, FILE_LIMIT)
 }
 
-/// Checks bytes in memory, as `run_check`. No device fails, and memory is wanted only where there is a byte.
+/// Checks bytes in memory, as `run_check` does. No device fails, and memory runs out only where there is a byte.
 pub fn check_bytes<S: Sink>(alloc: Global, bytes: &[u8], out: &mut S) -> u8
     ensures { Answers (IsReplyTo file_limit bytes.now) (S.held out.old) (S.held out.new) (S.IsRefusal out.new) result }
 {

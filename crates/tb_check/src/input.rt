@@ -1,4 +1,4 @@
-//! An input taken whole, up to a limit.
+//! Reads a whole input, up to a limit.
 
 ghost use Rattle.std.specs.Prelude.{◌<◌, ◌^◌};
 ghost use Rattle.tb_check.specs.Input.{IsInput};
@@ -6,7 +6,7 @@ ghost use Rattle.tb_check.specs.Input.{IsInput};
 use std::alloc::Global;
 use tb_conllu::Source;
 
-/// What an input was.
+/// The outcome of reading an input.
 #[derive(Drop)]
 pub enum Input {
     /// All its bytes.
@@ -19,7 +19,7 @@ pub enum Input {
     Broken,
 }
 
-/// Reads all there is, or one byte more than the limit.
+/// Reads all bytes, or one byte more than the limit.
 pub fn read_all<R: Source>(alloc: Global, source: &mut R, limit: u64) -> Input
     requires { limit < 2 ^ 32 }
     ensures { IsInput (R.IsFailure source.new) limit (R.left source.old) (R.left source.new) result }

@@ -1,4 +1,4 @@
-//! Laws of replies: each function only states a fact about the definitions.
+//! Laws of replies. Each function states a fact about the definitions, and runs nothing.
 
 ghost use Rattle.std.specs.Prelude.{◌≡◌, ◌≤◌, ◌⊎◌, ℕ, List, length, true};
 ghost use Rattle.tb_conllu.specs.Text.{BlockText};
@@ -24,7 +24,7 @@ pub fn one_reply_is_true()
     one_sentence_is_reported();
 }
 
-/// The reply to valid sentences within the limit is how many they are, and their words; or want of memory.
+/// The reply to valid sentences within the limit is how many there are, and their words; or want of memory.
 pub fn valid_sentences_are_counted()
     ensures { (limit : ℕ) (input : List ℕ) (bs : List BlockText) (reply : CheckReply) → length input ≤ limit
         → IsFile input bs → IsValid bs → IsReplyTo limit input reply

@@ -1,10 +1,10 @@
-//! A reply written to any sink.
+//! Writes a reply to any sink.
 
 ghost use Rattle.tb_check.specs.Check.{IsWritten};
 
 use tb_conllu::Sink;
 
-/// Writes a reply, and gives its status, or 3 where the sink refused it.
+/// Writes a reply. Returns its status, or 3 where the sink refused a part of it.
 pub fn put_reply<S: Sink>(out: &mut S, text: &str, status: u8) -> u8
     ensures { IsWritten (S.held out.old) (S.held out.new) text.now status (S.IsRefusal out.new) result }
 {

@@ -1,21 +1,21 @@
-//! What the check answers, and its line, made without memory.
+//! The replies of the check, and their lines, which are made without memory.
 
 ghost use Rattle.std.specs.Prelude.{◌≡◌, ◌++◌, ◌≤◌, ◌+◌, codes, decimal, length};
 ghost use Rattle.arrayvec.specs.ArrayString.{array_string_len};
 
 use arrayvec::ArrayString;
 
-/// What the check of a file answers.
+/// The reply of the check for a file.
 #[derive(Clone, Copy, Debug, PartialEq, Eq)]
 pub enum CheckReply {
-    /// The file is read and keeps the rules: so many sentences, and words in them.
+    /// The file can be read and keeps the rules. It has this many sentences, and words in them.
     Counts { sentences: u64, words: u64 },
-    /// The line of the file, from 1, that nothing can mend, and its least code.
+    /// The first line, from 1, after which no continuation is a file, and its least code.
     Read { line: u64, code: u8 },
-    /// The file is read, and a sentence breaks a rule: its number, from 1; its least broken rule, 1 to 12; and for
-    /// rules 4 to 8 its first row at fault, from 1, else 0.
+    /// The file can be read, and a sentence breaks a rule: its number, from 1, and its least broken rule, 1 to 12. For
+    /// rules 4 to 8 also its first row at fault, from 1, else 0.
     Rule { sentence: u64, rule: u8, row: u64 },
-    /// The file has more bytes than are taken.
+    /// The file has more bytes than the limit.
     Long,
     /// Memory was refused.
     Memory,

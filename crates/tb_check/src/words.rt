@@ -3,7 +3,7 @@
 ghost use Rattle.std.specs.Prelude.{◌≡◌, map, string_bytes};
 ghost use Rattle.tb_check.specs.Words.{asks_check};
 
-/// Whether the words are the program's name and `check`, which `--` may end.
+/// Whether the words are the program's name and `check`, perhaps with `--` at the end.
 pub fn is_check(words: &[String]) -> bool
     ensures { result ≡ asks_check (map string_bytes words.now) }
 {
