@@ -1,4 +1,4 @@
--- ASCII digits: the CoNLL-U format page writes IDs and heads by them, and features hold no others.
+-- ASCII digits: the CoNLL-U format page writes IDs and heads with them, and features have no others.
 use Rattle.std.specs.Prelude.{ℕ, Bool, ◌&&◌, nat_le}
 
 abbrev pub is_digit : ℕ → Bool

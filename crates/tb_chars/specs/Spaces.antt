@@ -1,4 +1,4 @@
--- Texts without white space, which is Unicode's White_Space.
+-- Texts without white space, as Unicode's property White_Space has it.
 use Rattle.std.specs.Prelude.{ℕ, List, length, Bool, ◌&&◌, ◌||◌, not, nat_lt, nat_le, ◌==◌, chars}
 use Rattle.std.specs.Char.{is_whitespace}
 use Rattle.std.specs.List.{list_any}

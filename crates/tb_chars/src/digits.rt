@@ -1,4 +1,4 @@
-//! Digits, which are the ASCII ones.
+//! ASCII digits.
 
 ghost use Rattle.std.specs.Prelude.{◌≡◌};
 ghost use Rattle.std.specs.List.{list_all};

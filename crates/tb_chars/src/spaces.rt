@@ -1,4 +1,4 @@
-//! White space, which is Unicode's `White_Space`.
+//! White space, as Unicode's property `White_Space` has it.
 
 ghost use Rattle.std.specs.Prelude.{◌≡◌};
 ghost use Rattle.std.specs.List.{list_any};
@@ -12,8 +12,8 @@ pub fn may_begin_white(b: u8) -> bool
     matches!(b, 0..=32 | 194 | 225..=227)
 }
 
-/// Whether some byte may begin white space. In most texts none does, so they need no second look. All bytes are looked at, since
-/// many at a time are faster than a stop at the first.
+/// Whether some byte may begin white space. In most texts none does, so they need no second test. It tests all bytes,
+/// since many at a time are faster than a stop at the first.
 fn any_white_start(bytes: &[u8]) -> bool
     ensures { result ≡ list_any begins_white bytes.now }
 {
@@ -31,7 +31,7 @@ pub fn has_white_space(text: &str) -> bool
     any_white_start(text.as_bytes()) && text.chars().any(|c| c.is_whitespace())
 }
 
-/// Whether the text is not empty and holds no white space.
+/// Whether the text is not empty and has no white space.
 pub fn is_solid_text(text: &str) -> bool
     ensures { result ≡ is_solid text.now }
 {
