@@ -51,8 +51,8 @@ IsFailure cause r = (r ≡ reply.Memory) ⊎ ((r ≡ reply.Device) × cause)
 abbrev pub IsStoreFailure : Reply → Type 0
 IsStoreFailure r = IsFailure ⊤ r ⊎ (r ≡ reply.Desk)
 
--- No size keeps SQLite from writing what the command says: where it writes, its body is short, and a rowid is left for
--- its revision, or for each byte of a file.
+-- No size keeps SQLite from writing what the command writes: its body is short, and rowids are left for its revisions.
+-- A command that writes nothing needs neither.
 abbrev pub HasRoom : {S : Type 0} → Ghosts S → Limits → Machine → Command → (old : Kept S) → Type 0
 HasRoom g l s (import_file name user body) old = HasRoomIfWritten l s (import_file name user body) body
     (length body) (state g old.conn)
@@ -60,8 +60,8 @@ HasRoom g l s (correct n base user body) old = HasRoomIfWritten l s (correct n b
     (state g old.conn)
 HasRoom g l s _ old = ⊤
 
--- Why a command blames the device: the store was shut, its disk failed, or room was wanting. Where none is so, the desk
--- is in doubt: memory was refused twice.
+-- When a command blames the device: the store was shut, its disk failed, or there was no room. In any other case the
+-- desk is in doubt: memory ran out twice.
 abbrev pub BlamesFor : {S : Type 0} → Ghosts S → Limits → Machine → Command → (old new : Kept S) → Type 0
 BlamesFor g l s c old new = HasRoom g l s c old → IsFaultless g old.conn new.conn → IsTrue new.in_doubt
 

@@ -1,4 +1,5 @@
--- When a fault is the device's. The store is open, and its disk fails at nothing meanwhile (`IsFaultless`): then none is.
+-- When a call may blame the device. While the store is open and its disk fails at nothing (`IsFaultless`), it may not,
+-- with one exception: a command whose desk is in doubt.
 use Rattle.std.specs.Prelude.{◌≡◌, ◌⊎◌, Result, Err, IfErr, IsTrue, None}
 use Rattle.sqlite.specs.Store.{Ghosts}
 use Rattle.sqlite.specs.Held.{Held, state}
@@ -22,8 +23,8 @@ FailsWithoutDevice g old new result =
 abbrev pub BlamesNoDevice : {S X : Type 0} → Ghosts S → Kept S → Kept S → Result X Fault → Type 0
 BlamesNoDevice g old new result = InState g old new (λ s. IsFaultless g old.conn new.conn → IfErr result IsNoDevice)
 
--- Of a command on a desk: where it blames the device, the desk is in doubt, and it is as before (`IsSo s so`: under
--- which premises).
+-- Where a command on a desk blames the device although nothing failed, the desk is in doubt, and durably represents its
+-- state. `IsSo s so` is `so` under the premises of the command.
 abbrev pub BlamesInDoubtAlone : {S X : Type 0} → Ghosts S → Kept S → Kept S → Result X Fault
     → (Machine → Type 0 → Type 0)
     → Type 0

@@ -84,12 +84,12 @@ CommandEnds g old new command reply s (Err NotADesk) = ⊥
 CommandEnds g old new command reply s (Err Output) = ⊥
 CommandEnds g old new command reply s (Err _) = IsTrue (state g new.conn).is_open → IsDurable g new s
 
--- where no sentence of the state has the number, the command is refused: it is told no failure
+-- where no sentence of the state has the number, the command is refused, and does not fail
 abbrev pub RefusesMissing : {S X : Type 0} → Ghosts S → (old : Kept S) → (number : ℕ) → Result X Fault → Type 0
 RefusesMissing g old number result =
     (s : Machine) → Represents g old s → HasNoSentence s number → (r : Refusal) × (result ≡ Err (Refused r))
 
--- a command ends so in the state for which the desk stands
+-- a command ends so in the state that the desk represents
 abbrev pub EndsAs : {S X : Type 0} → Ghosts S → Kept S → Kept S → Result X Fault → Command → (X → Reply)
     → Type 0
 EndsAs g old new result command reply = InState g old new (λ s. CommandEnds g old new command reply s result)

@@ -45,13 +45,13 @@ abbrev pub TellsWant : {S : Type 0} → Ghosts S → (old new : Held S) → Resu
 TellsWant g old new reported =
     HasCleanDisk (state g new) → reported ≡ Err Memory → WantsToTell (state g old) (state g new)
 
--- Where the store was open and its disk failed at nothing meanwhile, the device is blamed only where memory was wanting
--- at the question whether the store is open. Then the desk is in doubt.
+-- Where the store was open and its disk failed at nothing meanwhile, the device is blamed only where that question ran
+-- out of memory. Then the desk is in doubt.
 abbrev pub BlamesForWant : {S : Type 0} → Ghosts S → (old new : Held S) → (in_doubt : Bool) → Fault → Type 0
 BlamesForWant g old new in_doubt fault = HasCleanDisk (state g new) → IsFaultless g old new
     → fault ≡ Device → IsTrue in_doubt × WantsToTell (state g old) (state g new)
 
--- the desk is put in doubt only where the device is blamed, and memory was wanting at that question
+-- the desk is put in doubt only where the device is blamed, and that question ran out of memory
 abbrev pub PutsInDoubt : {S : Type 0} → Ghosts S → (old new : Held S) → (before after : Bool) → Fault → Type 0
 PutsInDoubt g old new before after fault = IsTrue after → IsTrue before
     ⊎ ((fault ≡ Device) × (HasCleanDisk (state g new) → WantsToTell (state g old) (state g new)))
