@@ -1,5 +1,7 @@
-//! What is asked of a desk, done and answered: a call as a text, the same over HTTP and on the command line; one request of HTTP
-//! over any reader and any sink, a list of them in turn, and a line of words with its body.
+//! Answers the calls of a desk as texts, for the command line and over HTTP.
+//!
+//! Read `answer` first, which serves one request, and then `run_line`, which does one command line. Their contracts
+//! cite `specs/Served.antt` and `specs/Ran.antt`.
 #![tactic(auto)]
 
 mod answering;

@@ -1,4 +1,7 @@
-//! The characters of a field, looked at one by one: white space and digits.
+//! Classifies the characters of a field: white space and digits.
+//!
+//! Read `specs/Spaces.antt` and `specs/Digits.antt` first. They define the two classes, and every contract here cites
+//! one of them.
 #![tactic(auto)]
 
 mod digits;

@@ -1,4 +1,6 @@
-//! The check of a file, over any reader and writer.
+//! Checks a CoNLL-U file, over any reader and any writer.
+//!
+//! Read `run_check` first, and then `specs/Check.antt`, which says what a check answers.
 #![tactic(auto)]
 
 mod check;

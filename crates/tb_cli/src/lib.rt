@@ -1,4 +1,7 @@
-//! The words of the command line, by clap.
+//! Reads the words of a command line into a `Line`, by clap.
+//!
+//! Read `Line` in `lines.rt` first, and then `specs/Lines.antt`, which says which words are which line. `tree.rt`
+//! declares the commands and their options.
 #![tactic(auto)]
 
 mod lines;

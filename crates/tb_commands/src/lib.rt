@@ -1,5 +1,8 @@
-//! The commands of the desk over a connection: each is judged by what is read of the tables, planned, and written in one
-//! transaction, after which the tables stand for the next state of the machine.
+//! Does four commands of a desk over a connection: events, corrections, pulls and restores.
+//!
+//! Each command reads what it names, judges it by tb_core, and writes one transaction. Afterwards the tables
+//! represent the next state of the machine. Read `event` in `stepping.rt` first, which is the shortest of the four.
+//! tb_import has the import.
 #![tactic(auto)]
 
 mod committing;

@@ -1,5 +1,8 @@
-//! CoNLL-U text read and written exactly: bytes become sentences where they are the text of those sentences, and
-//! otherwise the first line that nothing can mend is told.
+//! Reads and writes CoNLL-U text exactly.
+//!
+//! Bytes become sentences where they are the text of those sentences. Otherwise the answer is the first line after
+//! which no continuation is valid. Read `specs/Text.antt` first, which says what the text of a sentence is. Then read
+//! `Sentences` in `sentences.rt` and `put_block` in `writer.rt`.
 #![tactic(auto)]
 
 mod counts;

@@ -1,7 +1,9 @@
-//! The desk machine: batches, sentences and moves, what each command is answered, and what every state keeps.
+//! The state machine of the desk: batches, sentences and moves, the answer to each command, and what every state
+//! keeps.
 //!
-//! `judge_*` tell how a command ends by what was read of the desk. Nothing here reads a store, and memory is taken for the
-//! bodies of imports and corrections alone.
+//! Read `specs/Machine.antt` first, which has the state, and then `specs/Steps.antt`, which has the commands. The
+//! functions `judge_*` decide how a command ends, by what was read of the desk. Nothing here reads a store. Only the
+//! bodies of imports and corrections take memory.
 #![tactic(auto)]
 
 mod bodyfault;

@@ -1,4 +1,6 @@
-//! What a field of a row may hold, looked at by itself: features, parts of speech, relations.
+//! Tests one field of a row by itself: features, parts of speech and relations.
+//!
+//! Read `specs/Feats.antt`, `specs/Tags.antt` and `specs/Relations.antt` first, which say what each field may hold.
 #![tactic(auto)]
 
 mod blank;

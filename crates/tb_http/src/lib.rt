@@ -1,5 +1,7 @@
-//! What HTTP knows of the desk without its store: what the bytes of a request ask, and the texts of answers that are one
-//! line. The forms of values and the lines serve the command line too.
+//! The part of HTTP that needs no store: what the bytes of a request ask, and the heads and lines of answers.
+//!
+//! Read `read_ask` in `asks.rt` first, and then `specs/Asks.antt`, which says what bytes ask. The command line uses
+//! the forms of values (`forms.rt`) and the lines (`replies.rt`) too.
 #![tactic(auto)]
 
 mod actions;

@@ -1,4 +1,7 @@
-//! An import over one SQLite connection: what its name and its sentences are to a desk, and what it writes.
+//! Does an import over one SQLite connection, in one transaction.
+//!
+//! Read `import` in `importing.rt` first. It looks for the name of the batch, judges the sentences by tb_core, plans
+//! the rows, and writes them. `specs/Planned.antt` says what it writes.
 #![tactic(auto)]
 
 mod again;

@@ -1,4 +1,7 @@
-//! Patterns over the words of a sentence, and where they match: exactly the defined hits, within a bound.
+//! Finds where a pattern over the words of a sentence matches: exactly the hits that are defined, in bounded work.
+//!
+//! Read `specs/Match.antt` and `specs/Hits.antt` first, which define matches and hits. Then read `find` in
+//! `finding.rt`.
 #![tactic(auto)]
 
 mod bounded;

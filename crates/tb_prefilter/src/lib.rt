@@ -1,5 +1,7 @@
-//! A prefilter of a search: bytes that the text of a sentence needs to have for a hit. A text without them is passed
-//! over before it is cut into rows. Begin with `specs/Needed.antt`. Callers use `PrefilteredSearcher`.
+//! The prefilter of a search: bytes that the text of a sentence needs to have for a hit.
+//!
+//! A search passes over a text without them, before it is cut into rows. Read `specs/Needed.antt` first. Callers use
+//! `PrefilteredSearcher`.
 #![tactic(auto)]
 
 mod gathering;

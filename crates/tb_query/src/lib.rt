@@ -1,9 +1,9 @@
 //! Queries: what a text asks of sentences, and what it finds in them.
 //!
-//! The language is that of the Corpus Query Processor (CQP), cut down; its patterns are those of Rust's
-//! `regex` crate. A text is read by [`parse`](crate::reading::parse), and a sentence is searched by
-//! [`Query::hits`](crate::query::Query::hits), or many of them by one
-//! [`Searcher`](crate::searcher::Searcher). What a caller of queries names is here, whichever crate makes it.
+//! The language is a part of that of the Corpus Query Processor (CQP). Its patterns are those of Rust's `regex`
+//! crate. Read [`parse`](crate::reading::parse) first, which reads a text. [`Query::hits`](crate::query::Query::hits)
+//! searches one sentence, and one [`Searcher`](crate::searcher::Searcher) searches many. Callers need no other crate
+//! for the names that a query uses: they are all here.
 #![tactic(auto)]
 
 mod attaching;

@@ -1,5 +1,7 @@
-//! The refinement: which records of the tables represent a state of the desk machine, what each command makes of them, and
-//! what all commands share, as what the desk knows beside its tables, what an error is to a caller, and what has a name.
+//! The refinement: which records of the tables represent a state of the machine, and what each command makes of them.
+//!
+//! Read `specs/DeskTables.antt` first, which relates tables and states, and then the laws in `laws.rt`. The rest is
+//! what all commands share: the counts that a desk keeps in memory, the next move, the totals, names and faults.
 #![tactic(auto)]
 
 mod counters;

@@ -1,4 +1,6 @@
-//! The replay of a desk: whether rows, read from a file, are those of a state that accepted commands reach.
+//! Replays the moves of a desk: decides whether the rows of a file are those of a state that commands reach.
+//!
+//! Read `replays` in `replaying.rt` first, and then the law `replay_is_exact`, which says that its answer is exact.
 #![tactic(auto)]
 
 mod allowing;

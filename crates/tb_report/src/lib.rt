@@ -1,4 +1,7 @@
-//! Reports on what a search found: keyword lines, keys of hits, and frequency tables, and CSV.
+//! Reports what a search found: keyword lines, keys of hits, frequency tables and CSV.
+//!
+//! Read `specs/Keywords.antt` and `specs/Tables.antt` first. Then read `kwic` in `keyword.rt` and `Freq` in
+//! `freq.rt`.
 #![tactic(auto)]
 
 mod counts;

@@ -1,4 +1,7 @@
-//! The rules that a sentence of a treebank keeps beyond its shape.
+//! The twelve rules that sentences and files of a treebank keep beyond their format.
+//!
+//! Read `specs/Rules.antt` first, which defines each rule. `check` asks rules 1 to 11 of one sentence, and `Checker`
+//! all twelve of a file, one sentence at a time.
 #![tactic(auto)]
 
 mod accepted;

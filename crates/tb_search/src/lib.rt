@@ -1,5 +1,7 @@
-//! What a desk tells of the text of many sentences at a time: each is read, and put out, searched or counted, while no other
-//! is in memory.
+//! Walks over the text of a desk: exports, searches and counts, with one sentence in memory at a time.
+//!
+//! Read `search_released` in `search.rt` first. All walks go through `visit_picked` in `walk.rt`, which hands each
+//! sentence to a visitor.
 #![tactic(auto)]
 
 mod copy_text;

@@ -1,7 +1,7 @@
-//! The query language: its lexemes, which lists of them are queries, and what a query says.
+//! The syntax of queries: lexemes, grammar, limits, the first fault of a text, and what a query says.
 //!
-//! The language is that of the Corpus Query Processor (CQP), cut down: token expressions between
-//! brackets, bare literals, round parentheses, alternatives and repetitions.
+//! The language is a part of that of the Corpus Query Processor (CQP): token expressions between brackets, bare
+//! literals, round parentheses, alternatives and repetitions. Read `specs/Grammar.antt` first, and then `parse`.
 #![tactic(auto)]
 
 mod asking;

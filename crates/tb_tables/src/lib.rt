@@ -1,10 +1,9 @@
-//! The seven tables of a desk's SQLite file: their schema, their rows, the statements that write them, and the commands
-//! of a desk as transactions, each with its meaning over lists of records. Which records a desk can have is said elsewhere:
-//! here states and kinds are numbers.
+//! The seven tables of a desk's SQLite file: their schema, and the statements and transactions that write them.
 //!
-//! Each command writes its records, one move and the totals of the states that the move leaves and reaches, and commits last.
-//! After an error, and after a crash before the commit, the records are those of before. Which commands are allowed, and which
-//! numbers follow, is the caller's to know.
+//! Each contract says what happens to lists of records. A command writes its records, one move and the totals of the
+//! states that the move leaves and reaches, and commits last. After an error, or a crash before the commit, the
+//! tables have the old records. Here states and kinds are numbers: the caller knows which commands are allowed. Read
+//! `specs/Layout.antt` and `specs/Records.antt` first, and then `write_event`.
 #![tactic(auto)]
 
 mod correcting;

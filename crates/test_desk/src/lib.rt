@@ -1,5 +1,6 @@
-//! Tests of the desk machine (decisions, bodies, the order of tests, totals, the replay, the texts of refusals and faults), of its reports,
-//! and of what requests and command lines ask.
+//! Tests of the machine, of reports, and of what requests and command lines ask.
+//!
+//! Read `order_tests.rt` first, which has the first fault of each command. No test here opens a database.
 #![tactic(auto)]
 
 #[cfg(test)]

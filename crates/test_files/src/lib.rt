@@ -1,5 +1,6 @@
-//! Tests of what is read, written and checked: each call of the libraries with ample memory, and readers and writers that fail. What the
-//! program prints of small files is asked by `tools/examples`.
+//! Tests of reading, writing and checking files: each call with ample memory, and readers and writers that fail.
+//!
+//! Read `read_tests.rt` first. `tools/examples` asks what the program prints for small files.
 #![tactic(auto)]
 
 #[cfg(test)]

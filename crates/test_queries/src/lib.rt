@@ -1,5 +1,6 @@
-//! Tests of the query crates, which go through several of them: patterns, the language of queries, literals, and what
-//! queries find.
+//! Tests that go through several of the query crates: patterns, syntax, literals, and what queries find.
+//!
+//! Read `search_tests.rt` first, which searches sentences with whole queries.
 #![tactic(auto)]
 
 #[cfg(test)]

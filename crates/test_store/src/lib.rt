@@ -1,5 +1,7 @@
-//! Tests of a desk's store: how it answers commands and questions within small limits, searches over its released text, and lists of
-//! requests. All databases are in memory.
+//! Tests of a desk with its store: commands and questions within small limits, searches, and lists of requests.
+//!
+//! Read `script_tests.rt` first: its scripts (`scripts.rt`) have commands with their answers. All databases are in
+//! memory.
 #![tactic(auto)]
 
 #[cfg(test)]

@@ -1,4 +1,6 @@
-//! The program `treedesk`.
+//! The program `treedesk`: `main` hands its words, standard input and standard output to tb_desk.
+//!
+//! Read `run_words_reported` in tb_desk next.
 #![tactic(auto)]
 
 mod hints;
