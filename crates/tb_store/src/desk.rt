@@ -51,9 +51,10 @@ use tb_refine::{Counters, faults, one_state_for_the_file};
 use tb_report::Freq;
 use tb_verify::{DeskSummary, read_desk};
 
-/// A desk: the connection that holds its tables, its limits, and the counts and totals that it read or wrote last, so
-/// that the next numbers are known without asking the database. It may be let go at any time: what it answered to
-/// have done stands, after a crash too.
+/// A desk: the connection that holds its tables, its limits, and the counts and totals that it read or wrote last. So the
+/// next numbers are known without asking the database.
+///
+/// It may be dropped at any time. What it answered to have done is done, after a crash too.
 #[derive(Drop)]
 pub struct Desk<S: Alter> {
     conn: Connection<S>,
@@ -63,7 +64,7 @@ pub struct Desk<S: Alter> {
     sentences: u32,
     moves: u32,
     totals: Totals,
-    /// A command failed, and memory was refused for the question whether the store is open: it may be shut, and the
+    /// A command failed, and memory ran out at the question whether the store is open. So the store may be shut, and the
     /// command committed.
     in_doubt: bool,
 }
@@ -186,9 +187,11 @@ impl<S: Alter> Desk<S> {
 }
 
 impl<S: Alter> Desk<S> {
-    /// The desk of a store that is one, whose step limit it takes off: all its tables are read and tested, and
-    /// nothing is changed, whatever the store is. The rows of all tables are in memory at a time, with the texts of
-    /// all revisions. A fault gives the connection back without its step limit, over a store that is as it was.
+    /// The desk of a store that is one. All its tables are read and tested. Nothing of the store is changed, whether it
+    /// is a desk or not; the connection loses its step limit.
+    ///
+    /// The rows of all tables are in memory at once, with the texts of all revisions. A fault gives the connection back
+    /// without its step limit, over a store that is as it was.
     ///
     /// # Errors
     ///
@@ -271,8 +274,8 @@ impl<S: Alter> Desk<S> {
         Some(number as u32)
     }
 
-    /// Whether the store is open. A fault of the device may have shut it: then no call is answered any more. A store
-    /// whose disk fails at the question is told to be shut.
+    /// Whether the store is open. A fault of the device may have shut it; then every call fails. A store whose disk
+    /// fails at the question is reported as shut.
     ///
     /// # Errors
     ///
@@ -297,8 +300,8 @@ impl<S: Alter> Desk<S> {
         }
     }
 
-    /// Whether a command failed and memory was refused for the question whether the store is open. Such a command is
-    /// answered `Device`: the store may be shut, and the command committed. `is_open` settles it.
+    /// Whether a command failed and memory ran out at the question whether the store is open. Such a command is answered
+    /// `Device`: the store may be shut, and the command committed. `is_open` settles it.
     pub fn is_in_doubt(&self) -> bool
         ensures { result ≡ self.now.in_doubt }
     {
@@ -476,10 +479,11 @@ impl<S: Alter> Desk<S> {
         )
     }
 
-    /// Puts a keyword line for each hit of the query in released text, with `context` words on each side: by the number of the
-    /// sentence, and in a sentence as the strategy lists them; then the line `hits N`, which no keyword line is. Answers how
-    /// many hits there are. One sentence is in memory at a time. Nothing is refused: whether the hits are within the limit,
-    /// `number` tells.
+    /// Writes a keyword line for each hit of the query in released text, with `context` words on each side, then the line
+    /// `hits N`. Returns how many hits there are.
+    ///
+    /// Sentences come by their numbers, and the hits of a sentence as the strategy lists them. One sentence is in memory at
+    /// a time. Nothing is refused: `number` says whether the hits are within the limit.
     ///
     /// # Errors
     ///
@@ -511,8 +515,10 @@ impl<S: Alter> Desk<S> {
         finding::search(self.alloc, &mut self.conn, query, strategy, context, out)
     }
 
-    /// The frequency table of the hits of the query in released text: of each hit its values in one column. One sentence is in
-    /// memory at a time, beside the table. Nothing is refused: whether the hits are within the limit, `number` tells.
+    /// The frequency table of the hits of the query in released text, by their values in one column.
+    ///
+    /// One sentence is in memory at a time, beside the table. Nothing is refused: `number` says whether the hits are within
+    /// the limit.
     pub fn count(&mut self, query: &Query, strategy: Strategy, column: Attr) -> Result<Freq, Fault>
         ensures answered { Gives S.Store self.old self.new result (λ s table. (found : List Occurrence)
             × AreReleasedHits s query.now strategy found × IsTableOf (keys column found) table) }

@@ -18,15 +18,16 @@ use std::alloc::Global;
 use tb_core::{Fault, Limits};
 
 impl<S: Alter> Desk<S> {
-    /// The desk of a store that is one of version 1 without pulls, whose step limit it takes off: all its tables are read and
-    /// tested, and then they are made those of a desk in one transaction. The rows of all tables are in memory at a time, with
-    /// the texts of all revisions. A fault gives the connection back, over a desk of version 1 that is as it was; a crash on
-    /// the way leaves its tables, or the whole tables of the desk.
+    /// The desk of a store that is one of version 1 without pulls. All its tables are read and tested, and then become those
+    /// of a desk in one transaction. The connection loses its step limit.
+    ///
+    /// The rows of all tables are in memory at once, with the texts of all revisions. A fault gives the connection back,
+    /// over a desk of version 1 that is as it was. A crash on the way leaves its tables, or the whole tables of the desk.
     ///
     /// # Errors
     ///
-    /// `NotADesk`, where the store is the desk of version 1 of no state without pulls, or the connection is in a transaction:
-    /// then it is as it was, whatever it is.
+    /// `NotADesk`, where the store is not the desk of version 1 of a state without pulls, or the connection is in a
+    /// transaction. Then the store is as it was.
     pub fn migrate(alloc: Global, conn: Connection<S>, limits: Limits) -> Result<Desk<S>, Unmade<S>>
         requires within { IsWithin limits }
         ensures migrated { IfOk result (λ d. HasCleanDisk (state S.Store d.conn) → (s : Machine)

@@ -13,7 +13,7 @@ use tb_core::Fault;
 /// A text that is no statement. Only a store that is open refuses it as such, and it takes no memory to do so.
 const NO_STATEMENT: &str = "unknown";
 
-/// What the error tells of the store with which it refuses the text.
+/// What the error with which the store refuses the text says of the store.
 fn reported_by(error: Error) -> Result<bool, Fault>
     ensures { result ≡ reported_of_error error }
 {
@@ -24,7 +24,7 @@ fn reported_by(error: Error) -> Result<bool, Fault>
     }
 }
 
-/// Whether the store is open. One whose disk fails at the question is told to be shut.
+/// Whether the store is open. One whose disk fails at the question is reported as shut.
 ///
 /// # Errors
 ///
