@@ -319,7 +319,8 @@ pub(crate) const ON_A_RANGE: &str =
 pub(crate) const BAD_NAME: &str =
     "the name of a batch or a user is 1 to 32 letters, digits, dots, underscores and hyphens";
 
-pub(crate) const NO_SUCH_BATCH: &str = "no batch has this name; `moves` tells what was imported";
+pub(crate) const NO_SUCH_BATCH: &str =
+    "no batch has this name; names are given by `import`, and TABLES.md has a query that lists them";
 
 pub(crate) const NO_SUCH_SENTENCE: &str =
     "no sentence has this number; they are counted from 1, in the order in which they were imported";
