@@ -3,7 +3,39 @@
 use std::fmt::{self, Display, Formatter};
 use std::io::{self, ErrorKind};
 use tb_http::Reply;
-use tb_words::Words;
+use tb_words::{MEMORY, Words};
+
+/// What the system has no more of.
+#[derive(Clone, Copy)]
+pub enum Shortage {
+    OwnFiles,
+    AllFiles,
+    Buffers,
+}
+
+impl Shortage {
+    /// What the system is short of where a call fails so: ENFILE, EMFILE and ENOBUFS, as Linux numbers them, which have no
+    /// kind of their own.
+    fn of_system(error: io::Error) -> Option<Shortage> {
+        match error.raw_os_error()? {
+            23 => Some(Shortage::AllFiles),
+            24 => Some(Shortage::OwnFiles),
+            105 => Some(Shortage::Buffers),
+            _ => None,
+        }
+    }
+
+    fn text(self) -> &'static str {
+        match self {
+            Shortage::OwnFiles =>
+                "the command may have no more files open; raise the limit (`ulimit -n`) and try again",
+            Shortage::AllFiles =>
+                "the system may have no more files open; end other programs and try again",
+            Shortage::Buffers =>
+                "the system has no buffers left for it; end other programs and try again",
+        }
+    }
+}
 
 /// Why no desk is opened or made in a file.
 #[derive(Clone, Copy)]
@@ -15,6 +47,10 @@ pub enum FileCause {
     ReservedName,
     Denied,
     ReadOnly,
+    NewReadOnly,
+    Links,
+    Lost,
+    NoAnswer,
     Unopened,
     SecondName,
     NotSqlite,
@@ -32,6 +68,8 @@ pub enum FileCause {
     Busy,
     Full,
     Quota,
+    TooLarge,
+    Short(Shortage),
     Failed,
     NoRandom,
     Memory,
@@ -40,27 +78,48 @@ pub enum FileCause {
 impl FileCause {
     /// What is told of a file that the system refuses.
     pub(crate) fn of_system(error: io::Error) -> FileCause {
+        if let Some(shortage) = Shortage::of_system(error) {
+            return FileCause::Short(shortage);
+        }
         match error.kind() {
             ErrorKind::OutOfMemory => FileCause::Memory,
             ErrorKind::StorageFull => FileCause::Full,
             ErrorKind::QuotaExceeded => FileCause::Quota,
+            ErrorKind::FileTooLarge => FileCause::TooLarge,
             ErrorKind::Uncategorized => FileCause::Failed,
             ErrorKind::NotFound => FileCause::Missing,
             ErrorKind::NotADirectory => FileCause::NoFolder,
             ErrorKind::IsADirectory => FileCause::Folder,
             ErrorKind::PermissionDenied => FileCause::Denied,
             ErrorKind::ReadOnlyFilesystem => FileCause::ReadOnly,
+            ErrorKind::FilesystemLoop => FileCause::Links,
+            ErrorKind::StaleNetworkFileHandle => FileCause::Lost,
+            ErrorKind::TimedOut | ErrorKind::NotConnected | ErrorKind::HostUnreachable => {
+                FileCause::NoAnswer
+            }
             // (so the database refuses a file with two names, and a link in the place of its log)
             ErrorKind::Unsupported => FileCause::SecondName,
             _ => FileCause::Unopened,
         }
     }
 
-    /// The same of a file that is to be made: then its folder is missing.
+    /// The same of a file that is to be made: then its folder is missing, and there is nothing to copy.
     pub(crate) fn of_new(self) -> FileCause {
         match self {
             FileCause::Missing => FileCause::NoFolder,
+            FileCause::ReadOnly => FileCause::NewReadOnly,
             other => other,
+        }
+    }
+
+    /// What is told of a file whose device failed just now. The database hands on no more than that, so the number is
+    /// asked for by which the last call of the system failed. Where that says nothing either, it is told as said.
+    pub(crate) fn of_device(otherwise: FileCause) -> FileCause {
+        match io::Error::from_raw_os_error(os::errno()).kind() {
+            ErrorKind::StorageFull => FileCause::Full,
+            ErrorKind::QuotaExceeded => FileCause::Quota,
+            ErrorKind::FileTooLarge => FileCause::TooLarge,
+            _ => otherwise,
         }
     }
 
@@ -71,6 +130,8 @@ impl FileCause {
             FileCause::Busy
             | FileCause::Full
             | FileCause::Quota
+            | FileCause::TooLarge
+            | FileCause::Short(_)
             | FileCause::Failed
             | FileCause::NoRandom => Reply::Device,
             _ => Reply::Desk,
@@ -95,6 +156,14 @@ impl FileCause {
                 "you may not read and write it, or its folder; a desk needs both, also to be read",
             FileCause::ReadOnly =>
                 "it stands where nothing may be written; copy it to another disk",
+            FileCause::NewReadOnly =>
+                "nothing may be written in its folder or on its disk; choose another place",
+            FileCause::Links =>
+                "its links lead to one another, or are too many; name the file that is meant",
+            FileCause::Lost =>
+                "the network's file system has lost it; see that it is still there, and mount its disk again",
+            FileCause::NoAnswer =>
+                "the file system that has it does not answer; look after its server and try again",
             FileCause::Unopened =>
                 "the system does not open a file of this name; choose another one",
             FileCause::SecondName =>
@@ -124,11 +193,13 @@ impl FileCause {
                 "another command has had it for ten seconds; try again once that has ended",
             FileCause::Full => "the disk is full; make room and try again",
             FileCause::Quota => "your share of the disk is used up; make room and try again",
+            FileCause::TooLarge =>
+                "it may not grow so large; raise the limit (`ulimit -f`), or copy it to another disk",
+            FileCause::Short(shortage) => shortage.text(),
             FileCause::Failed => "the system failed to read or write it; look after the disk",
             FileCause::NoRandom =>
                 "the system gives no random numbers, which a desk needs; try again",
-            FileCause::Memory =>
-                "the system gives no more memory; end other programs and try again",
+            FileCause::Memory => MEMORY,
         }
     }
 }
@@ -185,14 +256,28 @@ impl Form {
 pub enum PortCause {
     Taken,
     Denied,
+    NoLoopback,
+    NoneGiven,
+    Short(Shortage),
     Failed,
+    Memory,
 }
 
+/// The first port that every user may listen on.
+const OPEN_TO_ALL: u16 = 1024;
+
 impl PortCause {
-    pub(crate) fn of_system(error: io::Error) -> PortCause {
+    /// What is told of this port where the system refuses it.
+    pub(crate) fn of_system(error: io::Error, port: u16) -> PortCause {
+        if let Some(shortage) = Shortage::of_system(error) {
+            return PortCause::Short(shortage);
+        }
         match error.kind() {
+            ErrorKind::OutOfMemory => PortCause::Memory,
+            ErrorKind::AddrNotAvailable => PortCause::NoLoopback,
+            _ if port == 0 => PortCause::NoneGiven,
             ErrorKind::AddrInUse => PortCause::Taken,
-            ErrorKind::PermissionDenied => PortCause::Denied,
+            ErrorKind::PermissionDenied if port < OPEN_TO_ALL => PortCause::Denied,
             _ => PortCause::Failed,
         }
     }
@@ -203,8 +288,14 @@ impl PortCause {
                 "another program listens on it; choose another port, or 0 for a free one",
             PortCause::Denied =>
                 "you may not listen on it; choose a port from 1024 on, or 0 for a free one",
+            PortCause::NoLoopback =>
+                "the system has no address 127.0.0.1; look after its loopback interface",
+            PortCause::NoneGiven =>
+                "the system gives no free port; name one from 1024 on, or end other programs",
+            PortCause::Short(shortage) => shortage.text(),
             PortCause::Failed =>
-                "the system does not let a program listen on it; choose another port",
+                "the system does not let a program listen on it; choose another port, or 0 for a free one",
+            PortCause::Memory => MEMORY,
         }
     }
 }
@@ -259,9 +350,9 @@ impl StreamCause {
             StreamCause::OutputQuota =>
                 "standard output: your share of the disk is used up, the answer is not whole; make room, ask again",
             StreamCause::OutputTooLarge =>
-                "standard output: the file may not grow so large, so the answer is not whole",
+                "standard output: the file may not grow so large; raise the limit (`ulimit -f`) and ask again",
             StreamCause::OutputFailed =>
-                "standard output: the system failed to write it, so the answer is not whole",
+                "standard output: the system failed to write it; have the answer written elsewhere, and ask again",
         }
     }
 }
@@ -289,6 +380,8 @@ pub enum Cause {
     Memory,
     /// A command was done on a desk in memory.
     NothingKept,
+    /// Released text was asked for of a desk in memory.
+    NothingThere,
     /// A desk in memory is served.
     NothingWillBeKept,
     /// The desk or the check refuses, or something else is to be told of its answer.
@@ -310,12 +403,15 @@ impl Cause {
                 "serving ended: the desk's files were moved, removed or replaced; serve the file that is meant",
             Cause::FileShut =>
                 "serving ended: a fault of the device shut the desk's file; look after the disk and serve it again",
-            Cause::NoConnections => "serving ended: the system gave no more connections",
+            Cause::NoConnections =>
+                "serving ended: the system gave no more connections; serve the desk again",
             Cause::BrokenOff =>
                 "the answer broke off, as memory was wanting or the desk's file could not be read; ask again",
-            Cause::Memory => "the system gives no more memory; end other programs and try again",
+            Cause::Memory => MEMORY,
             Cause::NothingKept =>
                 "nothing is kept: without --db the desk was in memory, for this command alone",
+            Cause::NothingThere =>
+                "without --db the desk is in memory, and empty; name the file of a desk by --db",
             Cause::NothingWillBeKept =>
                 "without --db the desk is in memory; what is sent to it is gone when the server ends",
         }

@@ -4,6 +4,9 @@ use crate::causes::Cause;
 use std::env;
 use std::fmt::{self, Display, Formatter};
 use std::io::IsTerminal;
+use tb_answer::put_reply;
+use tb_conllu::Sink;
+use tb_http::Reply;
 
 /// A cause, and the place that it is about: a file, a port, or a value of the command line.
 #[derive(Drop)]
@@ -55,6 +58,14 @@ impl From<u8> for Outcome {
             status,
             reported: None,
         }
+    }
+}
+
+/// Puts the line of a run for which the system gives no memory, and tells of it.
+pub(crate) fn put_memory<W: Sink>(out: &mut W) -> Outcome {
+    Outcome {
+        status: put_reply(out, Reply::Memory),
+        reported: Some(Diagnostic::from(Cause::Memory)),
     }
 }
 

@@ -1,9 +1,10 @@
 //! Lines of words done on a desk, and what is told of their answers. It is made from the value that was refused, while
 //! the input that it is about is at hand.
 
-use crate::causes::Cause;
+use crate::causes::{Cause, FileCause};
 use crate::diagnostics::{Diagnostic, Outcome, wants_words};
-use crate::nothing::words_of_nothing;
+use crate::nothing::{unreleased, words_of_nothing};
+use crate::words::file_of;
 use sqlite::Alter;
 use std::io::{self, Write};
 use tb_answer::{DeskCall, Question, ask, obey, put_body, put_reply, reply_for_fault, run_line};
@@ -69,23 +70,72 @@ fn answer_question<S: Alter, W: Write>(
     }
 }
 
-/// An output of which is known whether it has taken more than one line.
-#[derive(Drop)]
-struct Counted<W> {
-    out: W,
-    lines: u8,
+/// Whether an answer is the line of a reply, as far as it has come.
+#[derive(Clone, Copy)]
+struct Awaited<'a> {
+    left: &'a [u8],
+    differs: bool,
 }
 
-impl<W: Write> Write for Counted<W> {
+impl<'a> Awaited<'a> {
+    fn new(line: &'a [u8]) -> Awaited<'a> {
+        Awaited {
+            left: line,
+            differs: false,
+        }
+    }
+
+    fn take(&mut self, byte: u8) {
+        match self.left.split_first() {
+            Some((first, rest)) if *first == byte => self.left = rest,
+            _ => self.differs = true,
+        }
+    }
+
+    fn has_come(&self) -> bool {
+        !self.differs && self.left.is_empty()
+    }
+}
+
+/// An output of which is known whether it has taken more than one line, and whether that line says that memory or the
+/// device failed.
+#[derive(Drop)]
+struct Watched<'a, W> {
+    out: W,
+    lines: u8,
+    memory: Awaited<'a>,
+    device: Awaited<'a>,
+}
+
+impl<W> Watched<'_, W> {
+    fn take(&mut self, byte: u8) {
+        self.memory.take(byte);
+        self.device.take(byte);
+        if byte == b'\n' {
+            self.lines = self.lines.saturating_add(1);
+        }
+    }
+
+    /// The failure that the answer is, if it is one.
+    fn failure(&self) -> Option<Reply> {
+        if self.memory.has_come() {
+            Some(Reply::Memory)
+        } else if self.device.has_come() {
+            Some(Reply::Device)
+        } else {
+            None
+        }
+    }
+}
+
+impl<W: Write> Write for Watched<'_, W> {
     fn write(&mut self, buf: &[u8]) -> io::Result<usize> {
         let taken = self.out.write(buf)?;
         for byte in buf.iter().take(taken) {
             if self.lines > 1 {
                 break;
             }
-            if *byte == b'\n' {
-                self.lines = self.lines.saturating_add(1);
-            }
+            self.take(*byte);
         }
         Ok(taken)
     }
@@ -93,6 +143,15 @@ impl<W: Write> Write for Counted<W> {
     fn flush(&mut self) -> io::Result<()> {
         self.out.flush()
     }
+}
+
+/// What is known of an answer that was put.
+#[derive(Clone, Copy)]
+struct Put {
+    status: u8,
+    /// How many lines it has; those after the second do not count.
+    lines: u8,
+    failure: Option<Reply>,
 }
 
 /// The query of a line and its strategy.
@@ -145,21 +204,42 @@ fn words_of_asked<S: Alter>(
     }
 }
 
-/// What is told of what was read off a desk: why it was refused, or why a query finds nothing.
+/// What is told of an answer that was refused.
+fn words_of_refused<S: Alter>(rt: &HostRuntime, desk: &mut Desk<S>, line: &Line) -> Option<Words> {
+    match query_of(line) {
+        Some((text, strategy)) => words_of_asked(rt, desk, text, strategy),
+        None => words_of_export(rt, desk, line),
+    }
+}
+
+/// What is told of an answer that finds nothing.
+fn words_of_empty<S: Alter>(
+    rt: &HostRuntime,
+    desk: &mut Desk<S>,
+    line: &Line,
+    lines: u8,
+) -> Option<Words> {
+    match query_of(line) {
+        Some((text, strategy)) if lines == 1 => words_of_nothing(rt, desk, text, strategy),
+        None if lines == 0 => unreleased(desk),
+        _ => None,
+    }
+}
+
+/// What is told of what was read off a desk: why it was refused, or why nothing is found. A failure that does not come
+/// again is told as it was answered.
 fn words_of_reading<S: Alter>(
     rt: &HostRuntime,
     desk: &mut Desk<S>,
     line: &Line,
-    status: u8,
-    lines: u8,
+    put: Put,
 ) -> Option<Words> {
-    match query_of(line) {
-        Some((text, strategy)) if status == 0 && lines == 1 => {
-            words_of_nothing(rt, desk, text, strategy)
-        }
-        Some((text, strategy)) if status != 0 => words_of_asked(rt, desk, text, strategy),
-        None if status == 1 => words_of_export(rt, desk, line),
-        _ => None,
+    if put.status == 0 {
+        return words_of_empty(rt, desk, line, put.lines);
+    }
+    match words_of_refused(rt, desk, line) {
+        Some(words) => Some(words),
+        None => words_of_reply(rt.alloc(), put.failure?, &[], Asked::Other),
     }
 }
 
@@ -169,15 +249,53 @@ fn read_off<S: Alter, W: Write>(
     desk: &mut Desk<S>,
     out: &mut W,
 ) -> Outcome {
-    let mut counted = Counted { out, lines: 0 };
+    let (memory, device) = (Reply::Memory.line(), Reply::Device.line());
+    let mut watched = Watched {
+        out,
+        lines: 0,
+        memory: Awaited::new(memory.as_str().as_bytes()),
+        device: Awaited::new(device.as_str().as_bytes()),
+    };
     let nothing = Ok(Vec::new(rt.alloc()));
-    let status = run_line(rt.alloc(), line, nothing, desk, &mut counted);
+    let status = run_line(rt.alloc(), line, nothing, desk, &mut watched);
     if !wants_words(rt) {
         return Outcome::from(status);
     }
+    let put = Put {
+        status,
+        lines: watched.lines,
+        failure: watched.failure(),
+    };
     Outcome {
         status,
-        reported: reported_of(words_of_reading(rt, desk, line, status, counted.lines)),
+        reported: reported_of(words_of_reading(rt, desk, line, put)),
+    }
+}
+
+/// Why the device failed on a command just now, where the system says more than that it did.
+fn cause_of_device(reply: Reply) -> Option<FileCause> {
+    match reply {
+        Reply::Device => match FileCause::of_device(FileCause::Failed) {
+            FileCause::Failed => None,
+            cause => Some(cause),
+        },
+        _ => None,
+    }
+}
+
+/// The same outcome, which is told by what the system says of the desk's file, where it says something.
+fn with_cause(
+    rt: &HostRuntime,
+    line: &Line,
+    outcome: Outcome,
+    cause: Option<FileCause>,
+) -> Outcome {
+    match (cause, file_of(line)) {
+        (Some(cause), Some(path)) => Outcome {
+            status: outcome.status,
+            reported: Some(Diagnostic::at(rt, path, Cause::File(cause))),
+        },
+        _ => outcome,
     }
 }
 
@@ -196,7 +314,9 @@ pub(crate) fn run_reported<S: Alter, W: Write>(
     match DeskCall::of_line(line, body.as_slice()) {
         Some(DeskCall::Command(command)) => {
             let reply = obey(desk, command);
-            put_reported(rt, reply, body.as_slice(), asked_of(line), out)
+            let cause = cause_of_device(reply);
+            let outcome = put_reported(rt, reply, body.as_slice(), asked_of(line), out);
+            with_cause(rt, line, outcome, cause)
         }
         Some(DeskCall::Question(question)) => answer_question(rt, question, desk, out),
         None => read_off(rt, line, desk, out),

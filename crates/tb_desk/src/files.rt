@@ -28,9 +28,9 @@ pub(crate) const LIMITS: Limits = Limits {
 fn cause_of_error(error: Error) -> FileCause {
     match error {
         Error::SqliteFailure(ErrorCode::OutOfMemory) => FileCause::Memory,
-        Error::SqliteFailure(ErrorCode::DiskFull) => FileCause::Full,
+        Error::SqliteFailure(ErrorCode::DiskFull) => FileCause::of_device(FileCause::Full),
         Error::SqliteFailure(ErrorCode::DatabaseBusy) => FileCause::Busy,
-        Error::SqliteFailure(ErrorCode::SystemIoFailure) => FileCause::Failed,
+        Error::SqliteFailure(ErrorCode::SystemIoFailure) => FileCause::of_device(FileCause::Failed),
         _ => FileCause::Damaged,
     }
 }
@@ -49,7 +49,7 @@ fn cause_of_path(error: OpenError) -> FileCause {
 fn cause_of_fault(fault: Fault, not_a_desk: FileCause) -> FileCause {
     match fault {
         Fault::Memory => FileCause::Memory,
-        Fault::Device | Fault::Output => FileCause::Failed,
+        Fault::Device | Fault::Output => FileCause::of_device(FileCause::Failed),
         Fault::NotADesk | Fault::Refused(_) => not_a_desk,
     }
 }

@@ -1,5 +1,5 @@
-//! Why a query finds nothing, where that can be seen: its signs are meant as they stand, or it asks for a form that only
-//! ranges have.
+//! Why a query finds nothing, where that can be seen: nothing is released, its signs are meant as they stand, or it asks
+//! for a form that only ranges have.
 
 use sqlite::Alter;
 use std::alloc::AllocError;
@@ -7,7 +7,10 @@ use std::io::{self, Write};
 use tb_match::Strategy;
 use tb_query::parse;
 use tb_store::Desk;
-use tb_words::{Words, forms_asked, with_signs_as_they_stand, words_of_hits, words_of_range};
+use tb_words::{
+    Words, forms_asked, with_signs_as_they_stand, words_of_hits, words_of_range,
+    words_of_unreleased,
+};
 
 /// How many bytes of a line are kept: the forms that a query can ask for are shorter.
 const LONGEST: usize = 4096;
@@ -105,6 +108,19 @@ fn form_of_a_range<S: Alter>(rt: &HostRuntime, desk: &mut Desk<S>, text: &str) -
     Some(words_of_range(rt.alloc(), form))
 }
 
+/// What is told where no sentence is released: nothing that reads released text finds any.
+pub(crate) fn unreleased<S: Alter>(desk: &mut Desk<S>) -> Option<Words> {
+    let Ok(totals) = desk.totals() else {
+        return None;
+    };
+    let [_, _, _, _, released, _] = totals.sentences;
+    if released == 0 {
+        Some(words_of_unreleased())
+    } else {
+        None
+    }
+}
+
 /// Why a query finds nothing, as far as it can be seen.
 pub(crate) fn words_of_nothing<S: Alter>(
     rt: &HostRuntime,
@@ -112,6 +128,9 @@ pub(crate) fn words_of_nothing<S: Alter>(
     text: &str,
     strategy: Strategy,
 ) -> Option<Words> {
+    if let Some(words) = unreleased(desk) {
+        return Some(words);
+    }
     match hits_as_it_stands(rt, desk, text, strategy) {
         Some(words) => Some(words),
         None => form_of_a_range(rt, desk, text),

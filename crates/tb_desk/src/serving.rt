@@ -2,7 +2,7 @@
 
 use crate::callers::Caller;
 use crate::causes::{Cause, PortCause};
-use crate::diagnostics::{Diagnostic, Outcome};
+use crate::diagnostics::{Diagnostic, Outcome, put_memory};
 use crate::patience::{Answer, Patient, has_changed};
 use crate::place::Place;
 use crate::waiting::Waiting;
@@ -104,9 +104,9 @@ fn listen(rt: &HostRuntime, port: u16) -> Result<(TcpListener, u16), PortCause> 
     match TcpListener::bind(rt, (Ipv4Addr::LOCALHOST, port)) {
         Ok(listener) => match listener.local_addr() {
             Ok(address) => Ok((listener, address.port())),
-            Err(error) => Err(PortCause::of_system(error)),
+            Err(error) => Err(PortCause::of_system(error, port)),
         },
-        Err(error) => Err(PortCause::of_system(error)),
+        Err(error) => Err(PortCause::of_system(error, port)),
     }
 }
 
@@ -153,17 +153,19 @@ pub(crate) fn serve<S: Alter, W: Write>(
     out: &mut W,
 ) -> Outcome {
     let Ok(routes) = Routes::new(rt.alloc()) else {
-        return Outcome::from(put_reply(out, Reply::Memory));
+        return put_memory(out);
     };
     let Ok(waiting) = Waiting::new(rt.alloc()) else {
-        return Outcome::from(put_reply(out, Reply::Memory));
+        return put_memory(out);
     };
     let (listener, chosen) = match listen(rt, port) {
         Ok(both) => both,
         Err(cause) => return put_port_cause(rt, port, cause, out),
     };
-    if let Err(reply) = announce(rt.alloc(), chosen, out) {
-        return Outcome::from(put_reply(out, reply));
+    match announce(rt.alloc(), chosen, out) {
+        Ok(()) => {}
+        Err(Reply::Memory) => return put_memory(out),
+        Err(reply) => return Outcome::from(put_reply(out, reply)),
     }
     match serve_all(rt, routes, desk, place, waiting, listener, requests) {
         Ok(()) => Outcome::from(0),

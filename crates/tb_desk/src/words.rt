@@ -7,7 +7,7 @@ ghost use Rattle.tb_conllu.specs.declared.fault.WriteFault.{WriteFault};
 
 use crate::causes::{Cause, FileCause};
 use crate::checking::check_reported;
-use crate::diagnostics::{Diagnostic, Outcome, wants_words};
+use crate::diagnostics::{Diagnostic, Outcome, put_memory, wants_words};
 use crate::explaining::run_reported;
 use crate::files::{self, FileDesk};
 use crate::place::Place;
@@ -54,15 +54,8 @@ fn put_fault<W: Sink>(
     }
 }
 
-fn put_memory<W: Sink>(out: &mut W) -> Outcome {
-    Outcome {
-        status: put_reply(out, Reply::Memory),
-        reported: Some(Diagnostic::from(Cause::Memory)),
-    }
-}
-
 /// The file that a line names, where it works on a desk.
-fn file_of(line: &Line) -> Option<&str> {
+pub(crate) fn file_of(line: &Line) -> Option<&str> {
     let db = match line {
         Line::Import { db, .. }
         | Line::Event { db, .. }
@@ -163,14 +156,26 @@ fn changes_desk(line: &Line) -> bool {
     )
 }
 
-/// How a line ended that was done on a desk in memory: nothing is kept of what it changed.
-fn ended_in_memory(line: &Line, outcome: Outcome) -> Outcome {
-    if outcome.status != 0 || !changes_desk(line) {
-        return outcome;
+/// What is told of a line that was done on a desk in memory: nothing is kept of what it changed, and nothing is there
+/// that it could read.
+fn cause_in_memory(line: &Line) -> Option<Cause> {
+    match line {
+        Line::Search { .. } | Line::Count { .. } | Line::Export { name: None, .. } => {
+            Some(Cause::NothingThere)
+        }
+        _ if changes_desk(line) => Some(Cause::NothingKept),
+        _ => None,
     }
-    Outcome {
-        status: outcome.status,
-        reported: Some(Diagnostic::from(Cause::NothingKept)),
+}
+
+/// How a line ended that was done on a desk in memory.
+fn ended_in_memory(line: &Line, outcome: Outcome) -> Outcome {
+    match cause_in_memory(line) {
+        Some(cause) if outcome.status == 0 => Outcome {
+            status: outcome.status,
+            reported: Some(Diagnostic::from(cause)),
+        },
+        _ => outcome,
     }
 }
 

@@ -124,3 +124,8 @@ pub fn words_of_range(alloc: Global, form: &str) -> Words {
     let form = shown(form);
     Words::at(format!(in alloc; "`{form}`"), reported::ON_A_RANGE).on(Page::Queries)
 }
+
+/// What is told of released text that is asked for where no sentence is released.
+pub fn words_of_unreleased() -> Words {
+    Words::alone(reported::NOTHING_RELEASED).on(Page::Batches)
+}

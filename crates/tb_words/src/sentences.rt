@@ -314,6 +314,9 @@ pub(crate) const LITERALLY: &str =
 pub(crate) const ON_A_RANGE: &str =
     "this form is on a range alone, and ranges are no words; ask for its words, as \"do\" \"n't\" for don't";
 
+pub(crate) const NOTHING_RELEASED: &str =
+    "no sentence is released, and only released text is searched, counted and exported; `totals` tells the states";
+
 // Of a command.
 
 pub(crate) const BAD_NAME: &str =
@@ -372,7 +375,7 @@ pub(crate) const LONG: &str = "the input has more than 4,194,304 bytes: cut it a
 pub(crate) const DEVICE: &str =
     "the desk's file could not be read or written; see whether its disk is full, and ask again";
 
-pub(crate) const MEMORY: &str = "the system gave no memory; end other programs and try again";
+pub const MEMORY: &str = "the system gave no memory; end other programs and try again";
 
 pub(crate) const DESK: &str =
     "a row of the desk is not of its form; another program has changed the file, take a copy back";
