@@ -56,110 +56,84 @@ fn word(state: State) -> &'static str
     }
 }
 
+/// Appends a text, or a number.
+macro_rules! push {
+    ($line:ident, text $text:expr) => {
+        $line.push_str($text)
+    };
+    ($line:ident, number $number:expr) => {
+        push_number(&mut $line, $number)
+    };
+}
+
+/// The line of these texts and numbers.
+macro_rules! line {
+    ($($kind:ident $part:expr),*) => {{
+        let mut line = ArrayString::new();
+        $(push!(line, $kind $part);)*
+        line.push_str("\n");
+        line
+    }};
+}
+
 fn imported_line(r: &Imported) -> ArrayString<128>
     ensures { result.bytes ≡ reply_text (reply.Imported r.now) }
 {
-    let mut line = ArrayString::new();
-    line.push_str("imported batch=");
-    push_number(&mut line, r.batch);
-    line.push_str(" first=");
-    push_number(&mut line, r.first);
-    line.push_str(" sentences=");
-    push_number(&mut line, r.sentences);
-    line.push_str(" words=");
-    push_number(&mut line, r.words);
-    line.push_str("\n");
-    line
+    line!(
+        text "imported batch=", number r.batch, text " first=", number r.first, text " sentences=",
+        number r.sentences, text " words=", number r.words
+    )
 }
 
 fn moved_line(r: &Moved) -> ArrayString<128>
     ensures { result.bytes ≡ reply_text (reply.Moved r.now) }
 {
-    let mut line = ArrayString::new();
-    line.push_str("moved batch=");
-    push_number(&mut line, r.batch);
-    line.push_str(" state=");
-    line.push_str(word(r.state));
-    line.push_str(" sentences=");
-    push_number(&mut line, r.sentences);
-    line.push_str(" words=");
-    push_number(&mut line, r.words);
-    line.push_str("\n");
-    line
+    line!(
+        text "moved batch=", number r.batch, text " state=", text word(r.state), text " sentences=",
+        number r.sentences, text " words=", number r.words
+    )
 }
 
 fn corrected_line(r: &Corrected) -> ArrayString<128>
     ensures { result.bytes ≡ reply_text (reply.Corrected r.now) }
 {
-    let mut line = ArrayString::new();
-    line.push_str("corrected sentence=");
-    push_number(&mut line, r.sentence);
-    line.push_str(" rev=");
-    push_number(&mut line, r.rev);
-    line.push_str(" words=");
-    push_number(&mut line, r.words);
-    line.push_str("\n");
-    line
+    line!(text "corrected sentence=", number r.sentence, text " rev=", number r.rev, text " words=", number r.words)
 }
 
 fn pulled_line(r: &Pulled) -> ArrayString<128>
     ensures { result.bytes ≡ reply_text (reply.Pulled r.now) }
 {
-    let mut line = ArrayString::new();
-    line.push_str("pulled sentence=");
-    push_number(&mut line, r.sentence);
-    line.push_str(" words=");
-    push_number(&mut line, r.words);
-    line.push_str("\n");
-    line
+    line!(text "pulled sentence=", number r.sentence, text " words=", number r.words)
 }
 
 fn restored_line(r: &Restored) -> ArrayString<128>
     ensures { result.bytes ≡ reply_text (reply.Restored r.now) }
 {
-    let mut line = ArrayString::new();
-    line.push_str("restored sentence=");
-    push_number(&mut line, r.sentence);
-    line.push_str(" state=");
-    line.push_str(word(r.state));
-    line.push_str(" words=");
-    push_number(&mut line, r.words);
-    line.push_str("\n");
-    line
+    line!(
+        text "restored sentence=", number r.sentence, text " state=", text word(r.state), text " words=",
+        number r.words
+    )
 }
 
 fn fixed_line(text: &str) -> ArrayString<128>
     requires { length text.now ≤ 40 }
     ensures { result.bytes ≡ text.now ++ codes "\n" }
 {
-    let mut line = ArrayString::new();
-    line.push_str(text);
-    line.push_str("\n");
-    line
+    line!(text text)
 }
 
 fn one_number(text: &str, a: u64) -> ArrayString<128>
     requires { length text.now ≤ 40 }
     ensures { result.bytes ≡ text.now ++ decimal a ++ codes "\n" }
 {
-    let mut line = ArrayString::new();
-    line.push_str(text);
-    push_number(&mut line, a);
-    line.push_str("\n");
-    line
+    line!(text text, number a)
 }
 
 fn two_numbers(text: &str, a: u64, b: u64) -> ArrayString<128>
     requires { length text.now ≤ 40 }
     ensures { result.bytes ≡ text.now ++ decimal a ++ codes " " ++ decimal b ++ codes "\n" }
 {
-    let mut line = ArrayString::new();
-    line.push_str(text);
-    push_number(&mut line, a);
-    line.push_str(" ");
-    push_number(&mut line, b);
-    line.push_str("\n");
-    line
+    line!(text text, number a, text " ", number b)
 }
 
 fn rule_line(sentence: u64, rule: u8, row: u64) -> ArrayString<128>
@@ -167,25 +141,13 @@ fn rule_line(sentence: u64, rule: u8, row: u64) -> ArrayString<128>
         ≡ codes "refused 9 Rule " ++ decimal sentence ++ codes " " ++ decimal rule ++ codes " " ++ decimal row
         ++ codes "\n" }
 {
-    let mut line = ArrayString::new();
-    line.push_str("refused 9 Rule ");
-    push_number(&mut line, sentence);
-    line.push_str(" ");
-    push_number(&mut line, u64::from(rule));
-    line.push_str(" ");
-    push_number(&mut line, row);
-    line.push_str("\n");
-    line
+    line!(text "refused 9 Rule ", number sentence, text " ", number u64::from(rule), text " ", number row)
 }
 
 fn wrong_state_line(state: State) -> ArrayString<128>
     ensures { result.bytes ≡ codes "refused 4 WrongState " ++ state_word state ++ codes "\n" }
 {
-    let mut line = ArrayString::new();
-    line.push_str("refused 4 WrongState ");
-    line.push_str(word(state));
-    line.push_str("\n");
-    line
+    line!(text "refused 4 WrongState ", text word(state))
 }
 
 /// The line of a refusal.
