@@ -1,5 +1,5 @@
 -- What a fault of a command line says.
-use Rattle.std.specs.Prelude.{◌≡◌, [], Result, Ok, Err, ⊤}
+use Rattle.std.specs.Prelude.{◌≡◌, [], Option, Some, None, Result, Ok, Err, IfOk, IfErr, ⊤}
 use Rattle.clap.specs.Words.{IsAmong, Kinds, kind_of}
 use Rattle.tb_cli.specs.declared.lines.LineFault.{LineFault}
 use Rattle.tb_cli.specs.declared.lines.LineFault.TheVariants.{Clap, Usage, Memory}
@@ -15,6 +15,10 @@ abbrev pub ComesOnly : LineFault → Type 0 → Type 0 → Type 0
 ComesOnly (Clap e) C U = C
 ComesOnly Usage C U = U
 ComesOnly Memory C U = ⊤
+
+-- what is read is what is given (`of`: as plain data), and the desk's own fault comes only where nothing is
+abbrev pub ReadsAs : {T A : Type 0} → Option A → (T → A) → Result T LineFault → Type 0
+ReadsAs found of result = IfOk result (λ x. found ≡ Some (of x)) × IfErr result (λ e. ComesOnly e ⊥ (found ≡ None))
 
 -- clap's definition refuses words by these kinds of error, and takes them where there is none: a result comes only of
 -- words that it takes, and an error of clap has one of the kinds

@@ -78,6 +78,12 @@ verb_of name =
     else if bytes_eq name (codes "serve") then Some verb.Serve
     else None
 
+-- what a command on one sentence says
+abbrev pub on_sentence : (Option Text → Text → ℕ → Said) → List Row → Option Said
+on_sentence line rows =
+    with_two (line (first_of (codes "db") rows)) (first_of (codes "user") rows)
+    (formed number_of (first_of (codes "no") rows))
+
 -- what a command says with its values
 abbrev pub said_with : Verb → List Row → Option Said
 said_with verb.Check rows = Some check
@@ -92,12 +98,8 @@ said_with verb.Event rows =
 said_with verb.Correct rows =
     with_three (correct (first_of (codes "db") rows)) (first_of (codes "user") rows)
     (formed number_of (first_of (codes "no") rows)) (formed base_of (first_of (codes "base") rows))
-said_with verb.Pull rows =
-    with_two (pull (first_of (codes "db") rows)) (first_of (codes "user") rows)
-    (formed number_of (first_of (codes "no") rows))
-said_with verb.Restore rows =
-    with_two (restore (first_of (codes "db") rows)) (first_of (codes "user") rows)
-    (formed number_of (first_of (codes "no") rows))
+said_with verb.Pull rows = on_sentence pull rows
+said_with verb.Restore rows = on_sentence restore rows
 said_with verb.Show rows =
     with_two (show (first_of (codes "db") rows)) (formed number_of (first_of (codes "no") rows))
     (maybe number_of (first_of (codes "rev") rows))

@@ -1,6 +1,9 @@
 -- The commands, as clap is told of them.
-use Rattle.std.specs.Prelude.{List, true, [], ◌∷◌, codes, Some, fold}
-use Rattle.clap.specs.Words.{App, Rule, Text, new_app, new_rule, with_rule, with_subcommand}
+use Rattle.std.specs.Prelude.{◌≡◌, List, true, false, [], ◌∷◌, codes, Some, fold}
+use Rattle.clap.specs.Words.{App, Rule, Text, app_of, rule_of, new_app, new_rule, with_rule, with_subcommand}
+use Rattle.clap.specs.declared.builder.command.Command.{Command}
+use Rattle.clap.specs.declared.builder.command.Command.TheViews.{out-Command}
+use Rattle.clap.specs.declared.builder.arg.Arg.{Arg}
 use Rattle.tb_cli.specs.declared.verbs.Verb.{Verb}
 use Rattle.tb_cli.specs.declared.verbs.Verb.TheVariants as verb
 
@@ -24,6 +27,14 @@ word_rule name = record (new_rule name) { required = true }
 abbrev pub optional_rule : Text → Rule
 optional_rule name = new_rule name
 
+-- what clap knows of a command, and no argument of it stands for its subcommands too
+abbrev pub IsKnownAs : App → Command → Type 0
+IsKnownAs app command = (app_of command ≡ app) × ((out-Command command).has_globals ≡ false)
+
+-- the same of an argument
+abbrev pub HasRule : Rule → Arg → Type 0
+HasRule rule arg = (rule_of arg ≡ rule) × (arg.global ≡ false)
+
 abbrev pub with_db : App → App
 with_db a = with_rule a (option_rule (codes "db"))
 
@@ -33,31 +44,22 @@ with_db_and_user a = with_rule (with_db a) (needed_rule (codes "user"))
 abbrev pub with_db_and_strategy : App → App
 with_db_and_strategy a = with_rule (with_db a) (default_rule (codes "strategy") (codes "longest"))
 
-abbrev pub check_app : App
-check_app = new_app (codes "check")
+-- a command of a user on what a word names
+abbrev pub with_user_and_word : Text → Text → App
+with_user_and_word name word = with_rule (with_db_and_user (new_app name)) (word_rule word)
 
-abbrev pub new_desk_app : App
-new_desk_app = with_rule (new_app (codes "new")) (needed_rule (codes "db"))
+-- a command that works on a file, which it has to name
+abbrev pub in_file_app : Text → App
+in_file_app name = with_rule (new_app name) (needed_rule (codes "db"))
 
-abbrev pub migrate_app : App
-migrate_app = with_rule (new_app (codes "migrate")) (needed_rule (codes "db"))
-
-abbrev pub import_app : App
-import_app = with_rule (with_db_and_user (new_app (codes "import"))) (word_rule (codes "name"))
+abbrev pub with_query : App → App
+with_query a = with_rule a (word_rule (codes "query"))
 
 abbrev pub event_app : App
-event_app = with_rule (with_rule (with_db_and_user (new_app (codes "event"))) (word_rule (codes "name"))) (word_rule
-    (codes "event"))
+event_app = with_rule (with_user_and_word (codes "event") (codes "name")) (word_rule (codes "event"))
 
 abbrev pub correct_app : App
-correct_app = with_rule (with_rule (with_db_and_user (new_app (codes "correct"))) (word_rule (codes "no"))) (word_rule
-    (codes "base"))
-
-abbrev pub pull_app : App
-pull_app = with_rule (with_db_and_user (new_app (codes "pull"))) (word_rule (codes "no"))
-
-abbrev pub restore_app : App
-restore_app = with_rule (with_db_and_user (new_app (codes "restore"))) (word_rule (codes "no"))
+correct_app = with_rule (with_user_and_word (codes "correct") (codes "no")) (word_rule (codes "base"))
 
 abbrev pub show_app : App
 show_app = with_rule (with_rule (with_db (new_app (codes "show"))) (option_rule (codes "rev"))) (word_rule (codes "no"))
@@ -65,21 +67,12 @@ show_app = with_rule (with_rule (with_db (new_app (codes "show"))) (option_rule 
 abbrev pub export_app : App
 export_app = with_rule (with_db (new_app (codes "export"))) (optional_rule (codes "name"))
 
-abbrev pub totals_app : App
-totals_app = with_db (new_app (codes "totals"))
-
-abbrev pub moves_app : App
-moves_app = with_db (new_app (codes "moves"))
-
 abbrev pub search_app : App
 search_app =
-    with_rule (with_rule (with_db_and_strategy (new_app (codes "search"))) (default_rule (codes "context") (codes "5")))
-    (word_rule (codes "query"))
+    with_query (with_rule (with_db_and_strategy (new_app (codes "search"))) (default_rule (codes "context") (codes "5")))
 
 abbrev pub count_app : App
-count_app =
-    with_rule (with_rule (with_db_and_strategy (new_app (codes "count"))) (word_rule (codes "attribute")))
-    (word_rule (codes "query"))
+count_app = with_query (with_rule (with_db_and_strategy (new_app (codes "count"))) (word_rule (codes "attribute")))
 
 abbrev pub serve_app : App
 serve_app = with_rule (with_rule (with_db (new_app (codes "serve"))) (needed_rule (codes "port"))) (default_rule
@@ -89,20 +82,38 @@ serve_app = with_rule (with_rule (with_db (new_app (codes "serve"))) (needed_rul
 abbrev pub top_app : App
 top_app = record { top = record (new_app (codes "treedesk")).top { has_version = true }; subs = [] }
 
+-- the word of each command
+abbrev pub word_of : Verb → Text
+word_of verb.Check = codes "check"
+word_of verb.New = codes "new"
+word_of verb.Migrate = codes "migrate"
+word_of verb.Import = codes "import"
+word_of verb.Event = codes "event"
+word_of verb.Correct = codes "correct"
+word_of verb.Pull = codes "pull"
+word_of verb.Restore = codes "restore"
+word_of verb.Show = codes "show"
+word_of verb.Export = codes "export"
+word_of verb.Totals = codes "totals"
+word_of verb.Moves = codes "moves"
+word_of verb.Search = codes "search"
+word_of verb.Count = codes "count"
+word_of verb.Serve = codes "serve"
+
 -- each command
 abbrev pub app_by : Verb → App
-app_by verb.Check = check_app
-app_by verb.New = new_desk_app
-app_by verb.Migrate = migrate_app
-app_by verb.Import = import_app
+app_by verb.Check = new_app (codes "check")
+app_by verb.New = in_file_app (codes "new")
+app_by verb.Migrate = in_file_app (codes "migrate")
+app_by verb.Import = with_user_and_word (codes "import") (codes "name")
 app_by verb.Event = event_app
 app_by verb.Correct = correct_app
-app_by verb.Pull = pull_app
-app_by verb.Restore = restore_app
+app_by verb.Pull = with_user_and_word (codes "pull") (codes "no")
+app_by verb.Restore = with_user_and_word (codes "restore") (codes "no")
 app_by verb.Show = show_app
 app_by verb.Export = export_app
-app_by verb.Totals = totals_app
-app_by verb.Moves = moves_app
+app_by verb.Totals = with_db (new_app (codes "totals"))
+app_by verb.Moves = with_db (new_app (codes "moves"))
 app_by verb.Search = search_app
 app_by verb.Count = count_app
 app_by verb.Serve = serve_app

@@ -4,6 +4,7 @@
 //! declares the commands and their options.
 #![tactic(auto)]
 
+mod help;
 mod lines;
 mod reading;
 mod tree;

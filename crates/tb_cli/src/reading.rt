@@ -4,78 +4,36 @@ ghost use Rattle.std.specs.Prelude.{◌≡◌, ◌≢◌, IfOk, IfErr, Some, Non
 ghost use Rattle.std.specs.String.{string_bytes};
 ghost use Rattle.clap.specs.Words.{takes, fault_of, subcommand_of, subcommand_rows_of, rows_of, found_of};
 ghost use Rattle.tb_cli.specs.Tree.{desk_app};
-ghost use Rattle.tb_cli.specs.Fault.{AnswersAs, ComesOnly};
+ghost use Rattle.tb_cli.specs.Fault.{AnswersAs, ComesOnly, ReadsAs};
 ghost use Rattle.tb_cli.specs.Lines.{said_by, said_of, said_with};
 ghost use Rattle.tb_cli.specs.declared.verbs.Verb.TheVariants as verb;
 
 use crate::lines::{Line, LineFault};
 use crate::tree::desk;
 use crate::values::{
-    attribute_in, base_in, batch_if_any, batch_in, context_in, copied, event_in, number_if_any,
-    number_in, port_in, requests_in, strategy_in, value,
+    attribute_in, base_in, batch_if_any, batch_in, context_in, copied, event_in, given,
+    number_if_any, number_in, port_in, requests_in, strategy_in, text_of, value,
 };
 use crate::verbs::{Verb, verb_of};
 use clap::ArgMatches;
 use clap::error::ErrorKind;
 use std::alloc::Global;
 
-fn new_desk(alloc: Global, matches: &ArgMatches<'_>) -> Result<Line, LineFault>
-    ensures ok { IfOk result (λ line. said_with verb.New (rows_of (found_of matches.now)) ≡ Some (said_by line)) }
-    ensures err { IfErr result (λ e. ComesOnly e ⊥ (said_with verb.New (rows_of (found_of matches.now)) ≡ None)) }
-{
-    let Some(db) = value(matches, "db") else {
-        return Err(LineFault::Usage);
-    };
-    let db = String::from_str(alloc, db)?;
-    Ok(Line::New { db })
-}
-
-fn migrate(alloc: Global, matches: &ArgMatches<'_>) -> Result<Line, LineFault>
-    ensures ok { IfOk result (λ line. said_with verb.Migrate (rows_of (found_of matches.now))
-        ≡ Some (said_by line)) }
-    ensures err { IfErr result (λ e. ComesOnly e ⊥ (said_with verb.Migrate (rows_of (found_of matches.now))
-        ≡ None)) }
-{
-    let Some(db) = value(matches, "db") else {
-        return Err(LineFault::Usage);
-    };
-    let db = String::from_str(alloc, db)?;
-    Ok(Line::Migrate { db })
-}
-
 fn import(alloc: Global, matches: &ArgMatches<'_>) -> Result<Line, LineFault>
-    ensures ok { IfOk result (λ line. said_with verb.Import (rows_of (found_of matches.now)) ≡ Some (said_by line)) }
-    ensures err { IfErr result (λ e. ComesOnly e ⊥ (said_with verb.Import (rows_of (found_of matches.now))
-        ≡ None)) }
+    ensures { ReadsAs (said_with verb.Import (rows_of (found_of matches.now))) said_by result }
 {
-    let Some(user) = value(matches, "user") else {
-        return Err(LineFault::Usage);
-    };
-    let Some(name) = batch_in(matches, "name") else {
-        return Err(LineFault::Usage);
-    };
-    let user = String::from_str(alloc, user)?;
-    let name = String::from_str(alloc, name)?;
+    let user = text_of(alloc, value(matches, "user"))?;
+    let name = text_of(alloc, batch_in(matches, "name"))?;
     let db = copied(alloc, value(matches, "db"))?;
     Ok(Line::Import { db, user, name })
 }
 
 fn event(alloc: Global, matches: &ArgMatches<'_>) -> Result<Line, LineFault>
-    ensures ok { IfOk result (λ line. said_with verb.Event (rows_of (found_of matches.now)) ≡ Some (said_by line)) }
-    ensures err { IfErr result (λ e. ComesOnly e ⊥ (said_with verb.Event (rows_of (found_of matches.now))
-        ≡ None)) }
+    ensures { ReadsAs (said_with verb.Event (rows_of (found_of matches.now))) said_by result }
 {
-    let Some(user) = value(matches, "user") else {
-        return Err(LineFault::Usage);
-    };
-    let Some(name) = batch_in(matches, "name") else {
-        return Err(LineFault::Usage);
-    };
-    let Some(event) = event_in(matches, "event") else {
-        return Err(LineFault::Usage);
-    };
-    let user = String::from_str(alloc, user)?;
-    let name = String::from_str(alloc, name)?;
+    let user = text_of(alloc, value(matches, "user"))?;
+    let name = text_of(alloc, batch_in(matches, "name"))?;
+    let event = given(event_in(matches, "event"))?;
     let db = copied(alloc, value(matches, "db"))?;
     Ok(Line::Event {
         db,
@@ -86,117 +44,57 @@ fn event(alloc: Global, matches: &ArgMatches<'_>) -> Result<Line, LineFault>
 }
 
 fn correct(alloc: Global, matches: &ArgMatches<'_>) -> Result<Line, LineFault>
-    ensures ok { IfOk result (λ line. said_with verb.Correct (rows_of (found_of matches.now))
-        ≡ Some (said_by line)) }
-    ensures err { IfErr result (λ e. ComesOnly e ⊥ (said_with verb.Correct (rows_of (found_of matches.now))
-        ≡ None)) }
+    ensures { ReadsAs (said_with verb.Correct (rows_of (found_of matches.now))) said_by result }
 {
-    let Some(user) = value(matches, "user") else {
-        return Err(LineFault::Usage);
-    };
-    let Some(no) = number_in(matches, "no") else {
-        return Err(LineFault::Usage);
-    };
-    let Some(base) = base_in(matches, "base") else {
-        return Err(LineFault::Usage);
-    };
-    let user = String::from_str(alloc, user)?;
+    let user = text_of(alloc, value(matches, "user"))?;
+    let no = given(number_in(matches, "no"))?;
+    let base = given(base_in(matches, "base"))?;
     let db = copied(alloc, value(matches, "db"))?;
     Ok(Line::Correct { db, user, no, base })
 }
 
 fn pull(alloc: Global, matches: &ArgMatches<'_>) -> Result<Line, LineFault>
-    ensures ok { IfOk result (λ line. said_with verb.Pull (rows_of (found_of matches.now)) ≡ Some (said_by line)) }
-    ensures err { IfErr result (λ e. ComesOnly e ⊥ (said_with verb.Pull (rows_of (found_of matches.now)) ≡ None)) }
+    ensures { ReadsAs (said_with verb.Pull (rows_of (found_of matches.now))) said_by result }
 {
-    let Some(user) = value(matches, "user") else {
-        return Err(LineFault::Usage);
-    };
-    let Some(no) = number_in(matches, "no") else {
-        return Err(LineFault::Usage);
-    };
-    let user = String::from_str(alloc, user)?;
+    let user = text_of(alloc, value(matches, "user"))?;
+    let no = given(number_in(matches, "no"))?;
     let db = copied(alloc, value(matches, "db"))?;
     Ok(Line::Pull { db, user, no })
 }
 
 fn restore(alloc: Global, matches: &ArgMatches<'_>) -> Result<Line, LineFault>
-    ensures ok { IfOk result (λ line. said_with verb.Restore (rows_of (found_of matches.now))
-        ≡ Some (said_by line)) }
-    ensures err { IfErr result (λ e. ComesOnly e ⊥ (said_with verb.Restore (rows_of (found_of matches.now))
-        ≡ None)) }
+    ensures { ReadsAs (said_with verb.Restore (rows_of (found_of matches.now))) said_by result }
 {
-    let Some(user) = value(matches, "user") else {
-        return Err(LineFault::Usage);
-    };
-    let Some(no) = number_in(matches, "no") else {
-        return Err(LineFault::Usage);
-    };
-    let user = String::from_str(alloc, user)?;
+    let user = text_of(alloc, value(matches, "user"))?;
+    let no = given(number_in(matches, "no"))?;
     let db = copied(alloc, value(matches, "db"))?;
     Ok(Line::Restore { db, user, no })
 }
 
 fn show(alloc: Global, matches: &ArgMatches<'_>) -> Result<Line, LineFault>
-    ensures ok { IfOk result (λ line. said_with verb.Show (rows_of (found_of matches.now)) ≡ Some (said_by line)) }
-    ensures err { IfErr result (λ e. ComesOnly e ⊥ (said_with verb.Show (rows_of (found_of matches.now)) ≡ None)) }
+    ensures { ReadsAs (said_with verb.Show (rows_of (found_of matches.now))) said_by result }
 {
-    let Some(no) = number_in(matches, "no") else {
-        return Err(LineFault::Usage);
-    };
-    let Some(rev) = number_if_any(matches, "rev") else {
-        return Err(LineFault::Usage);
-    };
+    let no = given(number_in(matches, "no"))?;
+    let rev = given(number_if_any(matches, "rev"))?;
     let db = copied(alloc, value(matches, "db"))?;
     Ok(Line::Show { db, no, rev })
 }
 
 fn export(alloc: Global, matches: &ArgMatches<'_>) -> Result<Line, LineFault>
-    ensures ok { IfOk result (λ line. said_with verb.Export (rows_of (found_of matches.now)) ≡ Some (said_by line)) }
-    ensures err { IfErr result (λ e. ComesOnly e ⊥ (said_with verb.Export (rows_of (found_of matches.now))
-        ≡ None)) }
+    ensures { ReadsAs (said_with verb.Export (rows_of (found_of matches.now))) said_by result }
 {
-    let Some(name) = batch_if_any(matches, "name") else {
-        return Err(LineFault::Usage);
-    };
+    let name = given(batch_if_any(matches, "name"))?;
     let db = copied(alloc, value(matches, "db"))?;
     let name = copied(alloc, name)?;
     Ok(Line::Export { db, name })
 }
 
-fn totals(alloc: Global, matches: &ArgMatches<'_>) -> Result<Line, LineFault>
-    ensures ok { IfOk result (λ line. said_with verb.Totals (rows_of (found_of matches.now)) ≡ Some (said_by line)) }
-    ensures err { IfErr result (λ e. ComesOnly e ⊥ (said_with verb.Totals (rows_of (found_of matches.now))
-        ≡ None)) }
-{
-    let db = copied(alloc, value(matches, "db"))?;
-    Ok(Line::Totals { db })
-}
-
-fn moves(alloc: Global, matches: &ArgMatches<'_>) -> Result<Line, LineFault>
-    ensures ok { IfOk result (λ line. said_with verb.Moves (rows_of (found_of matches.now)) ≡ Some (said_by line)) }
-    ensures err { IfErr result (λ e. ComesOnly e ⊥ (said_with verb.Moves (rows_of (found_of matches.now))
-        ≡ None)) }
-{
-    let db = copied(alloc, value(matches, "db"))?;
-    Ok(Line::Moves { db })
-}
-
 fn search(alloc: Global, matches: &ArgMatches<'_>) -> Result<Line, LineFault>
-    ensures ok { IfOk result (λ line. said_with verb.Search (rows_of (found_of matches.now)) ≡ Some (said_by line)) }
-    ensures err { IfErr result (λ e. ComesOnly e ⊥ (said_with verb.Search (rows_of (found_of matches.now))
-        ≡ None)) }
+    ensures { ReadsAs (said_with verb.Search (rows_of (found_of matches.now))) said_by result }
 {
-    let Some(strategy) = strategy_in(matches, "strategy") else {
-        return Err(LineFault::Usage);
-    };
-    let Some(context) = context_in(matches, "context") else {
-        return Err(LineFault::Usage);
-    };
-    let Some(query) = value(matches, "query") else {
-        return Err(LineFault::Usage);
-    };
-    let query = String::from_str(alloc, query)?;
+    let strategy = given(strategy_in(matches, "strategy"))?;
+    let context = given(context_in(matches, "context"))?;
+    let query = text_of(alloc, value(matches, "query"))?;
     let db = copied(alloc, value(matches, "db"))?;
     Ok(Line::Search {
         db,
@@ -207,20 +105,11 @@ fn search(alloc: Global, matches: &ArgMatches<'_>) -> Result<Line, LineFault>
 }
 
 fn count(alloc: Global, matches: &ArgMatches<'_>) -> Result<Line, LineFault>
-    ensures ok { IfOk result (λ line. said_with verb.Count (rows_of (found_of matches.now)) ≡ Some (said_by line)) }
-    ensures err { IfErr result (λ e. ComesOnly e ⊥ (said_with verb.Count (rows_of (found_of matches.now))
-        ≡ None)) }
+    ensures { ReadsAs (said_with verb.Count (rows_of (found_of matches.now))) said_by result }
 {
-    let Some(strategy) = strategy_in(matches, "strategy") else {
-        return Err(LineFault::Usage);
-    };
-    let Some(attribute) = attribute_in(matches, "attribute") else {
-        return Err(LineFault::Usage);
-    };
-    let Some(query) = value(matches, "query") else {
-        return Err(LineFault::Usage);
-    };
-    let query = String::from_str(alloc, query)?;
+    let strategy = given(strategy_in(matches, "strategy"))?;
+    let attribute = given(attribute_in(matches, "attribute"))?;
+    let query = text_of(alloc, value(matches, "query"))?;
     let db = copied(alloc, value(matches, "db"))?;
     Ok(Line::Count {
         db,
@@ -231,29 +120,28 @@ fn count(alloc: Global, matches: &ArgMatches<'_>) -> Result<Line, LineFault>
 }
 
 fn serve(alloc: Global, matches: &ArgMatches<'_>) -> Result<Line, LineFault>
-    ensures ok { IfOk result (λ line. said_with verb.Serve (rows_of (found_of matches.now)) ≡ Some (said_by line)) }
-    ensures err { IfErr result (λ e. ComesOnly e ⊥ (said_with verb.Serve (rows_of (found_of matches.now))
-        ≡ None)) }
+    ensures { ReadsAs (said_with verb.Serve (rows_of (found_of matches.now))) said_by result }
 {
-    let Some(port) = port_in(matches, "port") else {
-        return Err(LineFault::Usage);
-    };
-    let Some(requests) = requests_in(matches, "requests") else {
-        return Err(LineFault::Usage);
-    };
+    let port = given(port_in(matches, "port"))?;
+    let requests = given(requests_in(matches, "requests"))?;
     let db = copied(alloc, value(matches, "db"))?;
     Ok(Line::Serve { db, port, requests })
 }
 
 /// What a command says with its values.
 fn line_of(alloc: Global, verb: Verb, values: &ArgMatches<'_>) -> Result<Line, LineFault>
-    ensures ok { IfOk result (λ line. said_with verb (rows_of (found_of values.now)) ≡ Some (said_by line)) }
-    ensures err { IfErr result (λ e. ComesOnly e ⊥ (said_with verb (rows_of (found_of values.now)) ≡ None)) }
+    ensures { ReadsAs (said_with verb (rows_of (found_of values.now))) said_by result }
 {
     match verb {
         Verb::Check => Ok(Line::Check),
-        Verb::New => new_desk(alloc, values),
-        Verb::Migrate => migrate(alloc, values),
+        Verb::New => {
+            let db = text_of(alloc, value(values, "db"))?;
+            Ok(Line::New { db })
+        }
+        Verb::Migrate => {
+            let db = text_of(alloc, value(values, "db"))?;
+            Ok(Line::Migrate { db })
+        }
         Verb::Import => import(alloc, values),
         Verb::Event => event(alloc, values),
         Verb::Correct => correct(alloc, values),
@@ -261,8 +149,14 @@ fn line_of(alloc: Global, verb: Verb, values: &ArgMatches<'_>) -> Result<Line, L
         Verb::Restore => restore(alloc, values),
         Verb::Show => show(alloc, values),
         Verb::Export => export(alloc, values),
-        Verb::Totals => totals(alloc, values),
-        Verb::Moves => moves(alloc, values),
+        Verb::Totals => {
+            let db = copied(alloc, value(values, "db"))?;
+            Ok(Line::Totals { db })
+        }
+        Verb::Moves => {
+            let db = copied(alloc, value(values, "db"))?;
+            Ok(Line::Moves { db })
+        }
         Verb::Search => search(alloc, values),
         Verb::Count => count(alloc, values),
         Verb::Serve => serve(alloc, values),

@@ -6,8 +6,10 @@ ghost use Rattle.std.specs.String.{string_bytes};
 ghost use Rattle.clap.specs.Words.{rows_of, found_of, first_of};
 ghost use Rattle.tb_http.specs.Forms.{is_slash, number_of, base_of, context_of, event_of, strategy_of, attribute_of};
 ghost use Rattle.tb_http.specs.Forms.{port_of, requests_of};
+ghost use Rattle.tb_cli.specs.Fault.{ReadsAs};
 ghost use Rattle.tb_cli.specs.Lines.{batch_of, formed, maybe};
 
+use crate::lines::LineFault;
 use clap::ArgMatches;
 use std::alloc::{AllocError, Global};
 use tb_core::Event;
@@ -22,6 +24,23 @@ pub fn copied(alloc: Global, text: Option<&str>) -> Result<Option<String>, Alloc
         Some(text) => Ok(Some(String::from_str(alloc, text)?)),
         None => Ok(None),
     }
+}
+
+/// A value that has to be there.
+pub fn given<T: Drop>(found: Option<T>) -> Result<T, LineFault>
+    ensures { ReadsAs found (λ x. x) result }
+{
+    match found {
+        Some(value) => Ok(value),
+        None => Err(LineFault::Usage),
+    }
+}
+
+/// A copy of a text that has to be there.
+pub fn text_of(alloc: Global, text: Option<&str>) -> Result<String, LineFault>
+    ensures { ReadsAs (option_map (λ s. s.now) text.entry) string_bytes result }
+{
+    Ok(String::from_str(alloc, given(text)?)?)
 }
 
 /// The value of an argument.

@@ -2,6 +2,7 @@
 
 ghost use Rattle.std.specs.Prelude.{◌≡◌, bytes_eq};
 ghost use Rattle.tb_cli.specs.Lines.{verb_of};
+ghost use Rattle.tb_cli.specs.Tree.{word_of};
 
 /// A command.
 #[derive(Clone, Copy)]
@@ -41,6 +42,29 @@ pub const VERBS: [Verb; 15] = [
     Verb::Count,
     Verb::Serve,
 ];
+
+/// The word of a command.
+pub fn word_of<'a>(verb: Verb) -> &'a str
+    ensures { result.now ≡ word_of verb }
+{
+    match verb {
+        Verb::Check => "check",
+        Verb::New => "new",
+        Verb::Migrate => "migrate",
+        Verb::Import => "import",
+        Verb::Event => "event",
+        Verb::Correct => "correct",
+        Verb::Pull => "pull",
+        Verb::Restore => "restore",
+        Verb::Show => "show",
+        Verb::Export => "export",
+        Verb::Totals => "totals",
+        Verb::Moves => "moves",
+        Verb::Search => "search",
+        Verb::Count => "count",
+        Verb::Serve => "serve",
+    }
+}
 
 fn is_word(text: &str, word: &str) -> bool
     ensures { result ≡ bytes_eq text.now word.now }

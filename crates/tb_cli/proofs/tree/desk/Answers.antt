@@ -7,18 +7,18 @@ use Rattle.tb_cli.proofs.tree.desk.Goals as goal
 
 pub loop-verb-init : goal.loop-verb-init
 unfolding desk_app
-loop-verb-init c = (ap (λ (a : App). fold with_verb a verbs) c.top-command.ensures.app, c.top-command.ensures.local)
+loop-verb-init c = (ap (λ (a : App). fold with_verb a verbs) c.top-command.ensures.0, c.top-command.ensures.1)
 
 pub loop-verb-preserved : goal.loop-verb-preserved
 unfolding verbs
 loop-verb-preserved c =
     let i = c.loop-verb.verb-index in
     let a = app_of c.loop-verb.command in
-    let sub : app_of c.in_ok-subcommand.field-0 ≡ app_by (get_or verbs i Check) = c.in_ok-subcommand.ensures.app in
-    let next : app_of c.in_ok-command.command ≡ with_subcommand a (app_of c.in_ok-subcommand.field-0).top = c.in_ok-command.ensures.app in
+    let sub : app_of c.in_ok-subcommand.field-0 ≡ app_by (get_or verbs i Check) = c.in_ok-subcommand.ensures.0 in
+    let next : app_of c.in_ok-command.command ≡ with_subcommand a (app_of c.in_ok-subcommand.field-0).top = c.in_ok-command.ensures.0 in
     let grown = next ∙ ap (λ (s : App). with_subcommand a s.top) sub in
     let rest = at_drop_more (fold with_verb a) verbs i Check c.loop-verb-test.true in
-    (ap (λ (b : App). fold with_verb b (drop (i + 1) verbs)) grown ∙ sym rest ∙ c.loop-verb.invariant.0, c.in_ok-command.ensures.local)
+    (ap (λ (b : App). fold with_verb b (drop (i + 1) verbs)) grown ∙ sym rest ∙ c.loop-verb.invariant.0, c.in_ok-command.ensures.1)
 
 pub returns : goal.returns
 unfolding verbs
