@@ -27,6 +27,9 @@ module _ {S : Type 0} (g : Ghosts S) where
     commits_nothing = record { clean = omega arith; shield = λ h. h; counts = omega arith; limit = refl; closes = λ clean h. inl h; crash = λ clean db h. inl h };
   }
 
+  pub stays_same : (c : Held S) → Stays g c c
+  stays_same c = record { schema = λ clean has. has; holds = λ clean d holds. holds; sees = λ clean has. refl }
+
   -- a read of the tables
   module _ (a b : Held S) where
     pub left_from : (a.in_transaction ≡ false → b.in_transaction ≡ false) → (HasCleanDisk (state g b) → IsTrue (state g b).is_open → (d : Tables) → Holds g a d → Holds g b d)

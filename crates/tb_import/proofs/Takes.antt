@@ -4,7 +4,8 @@ use Rattle.std.proofs.lemmas.List.{take_all}
 use Rattle.std.specs.List.{AllByRecursion}
 use Rattle.tb_conllu.specs.Text.{BlockText}
 use Rattle.tb_core.specs.Names.{Lacks}
-use Rattle.tb_core.specs.Acts.{ids_in}
+use Rattle.tb_core.specs.Machine.{Sentence}
+use Rattle.tb_core.specs.Acts.{ids_in, ids_of}
 use Rattle.tb_core.specs.Taking.{NewSentenceText, taken_of}
 use Rattle.tb_core.specs.Tests.{IsFirstTaken}
 
@@ -38,3 +39,15 @@ first_in_file ids (b ∷ bs) (suc i) t low at before here =
 pub first_of : (ids : List (List ℕ)) (bs : List BlockText) (ts : List NewSentenceText) (i : ℕ) (t : NewSentenceText) → i < length ts → t ≡ get_or ts i t → ts ≡ map taken_of bs → AreFree ids (take i ts) → (Lacks ids t.sent_id → ⊥) → IsFirstTaken ids bs (i + 1)
 first_of ids bs ts i t low at is before here =
     first_in_file ids bs i t (subst (λ (l : List NewSentenceText). i < length l) is low) (subst (λ (l : List NewSentenceText). t ≡ get_or l i t) is at) (subst (λ (l : List NewSentenceText). AreFree ids (take i l)) is before) here
+
+-- where nothing stands, all are free
+free_of_none : (ids : List (List ℕ)) → ids ≡ [] → (names : List (List ℕ)) → AllByRecursion (Lacks ids) names
+free_of_none ids none [] = tt
+free_of_none ids none (n ∷ ns) = (subst (λ (l : List (List ℕ)). Lacks l n) (sym none) tt, free_of_none ids none ns)
+
+no_ids : (xs : List Sentence) → 0 ≡ length xs → ids_of xs ≡ []
+no_ids [] none = refl
+no_ids (x ∷ xs) none = absurd (omega (arith, none))
+
+pub none_standing : (xs : List Sentence) (bs : List BlockText) → 0 ≡ length xs → AllByRecursion (Lacks (ids_of xs)) (ids_in bs)
+none_standing xs bs none = free_of_none (ids_of xs) (no_ids xs none) (ids_in bs)

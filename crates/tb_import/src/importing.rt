@@ -31,7 +31,7 @@ ghost use Rattle.tb_tables.specs.Leaving.{KeepsRecordsOnErr, IsFaultless, FailsO
 use crate::committing::commit_import;
 use crate::counters::ImportCounters;
 use crate::naming::find_name;
-use crate::new_sentences::first_taken;
+use crate::new_sentences::first_standing;
 use crate::planning::{items_of, plan};
 use sqlite::{Alter, Connection};
 use std::alloc::Global;
@@ -64,7 +64,7 @@ fn admit<S: Alter>(
     ensures stays { OnOk result (Stays S.Store conn.old conn.new) }
     ensures left { IsLeft S.Store conn.old conn.new }
 {
-    let standing = first_taken(conn, taken)?;
+    let standing = first_standing(conn, known, taken)?;
     judge_import_after(
         &known.counts.limits,
         taken.len() as u64,

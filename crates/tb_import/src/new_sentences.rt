@@ -12,14 +12,16 @@ ghost use Rattle.tb_core.specs.Found.{FindsId};
 ghost use Rattle.tb_tables.specs.Leaving.{IsFaultless, FailsOnlyAs};
 ghost use Rattle.tb_refine.specs.Faults.{IsNoDevice};
 ghost use Rattle.tb_import.specs.Leaving.{IsLeft, Stays};
+ghost use Rattle.tb_import.specs.Planned.{IsKnown};
 ghost use Rattle.tb_refine.specs.Calls.{KnowsDesk};
 
+use crate::counters::ImportCounters;
 use sqlite::{Alter, Connection};
 use tb_core::{Fault, NewSentence};
 use tb_refine::is_taken;
 
 /// The first of these sentences, counted from 1, whose `sent_id` a sentence of the desk has. Looks at none after it.
-pub(crate) fn first_taken<S: Alter>(
+fn first_taken<S: Alter>(
     conn: &mut Connection<S>,
     taken: &[NewSentence<'_>],
 ) -> Result<Option<u64>, Fault>
@@ -40,4 +42,25 @@ pub(crate) fn first_taken<S: Alter>(
         }
     }
     Ok(None)
+}
+
+/// The first of these sentences, counted from 1, whose `sent_id` stands. A desk without sentences has none and is not asked.
+pub(crate) fn first_standing<S: Alter>(
+    conn: &mut Connection<S>,
+    known: &ImportCounters,
+    taken: &[NewSentence<'_>],
+) -> Result<Option<u64>, Fault>
+    ensures answered { HasCleanDisk (state S.Store conn.new)
+        → IfOk result (λ found. (s : Machine) (bs : List BlockText) → IsDeskOf S.Store conn.old s
+        → IsKnown known.now s → taken.now ≡ map taken_of bs → FindsId s bs found) }
+    ensures never_refuses { (r : AnyRefusal) → result ≢ Err (Fault.Refused r) }
+    ensures fails { KnowsDesk S.Store conn.old conn.new result }
+    ensures cause { IsFaultless S.Store conn.old conn.new → FailsOnlyAs IsNoDevice S.Store conn.old conn.new result }
+    ensures stays { OnOk result (Stays S.Store conn.old conn.new) }
+    ensures left { IsLeft S.Store conn.old conn.new }
+{
+    if known.sentences == 0 {
+        return Ok(None);
+    }
+    first_taken(conn, taken)
 }
