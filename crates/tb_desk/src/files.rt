@@ -97,14 +97,17 @@ impl Log {
     }
 }
 
-/// How many pages of a file are kept in memory at most: 64 MiB of them.
-const MOST_PAGES: u64 = 16_384;
+/// How many pages of a file are kept in memory at most: 192 MiB of them.
+const MOST_PAGES: u64 = 49_152;
 
 /// How many pages more than the file has are kept by a command that adds none, or few.
 pub(crate) const ROOM: u64 = 64;
 
 /// The same of a command that may add many.
 pub(crate) const ROOM_TO_GROW: u64 = 2_000;
+
+/// The same of a server: 84 MiB, the pages of 64 MB of text. Each search reads the pages beyond this room anew.
+pub(crate) const ROOM_TO_SERVE: u64 = 21_504;
 
 /// How many pages are kept in memory once they were read, so that each is read once: all that the file has, and room for more.
 /// Memory for all of them is taken at once, so a small desk is to take little.

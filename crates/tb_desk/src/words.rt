@@ -77,7 +77,8 @@ pub(crate) fn file_of(line: &Line) -> Option<&str> {
 /// How many pages more than the file has a line on it is to keep in memory.
 fn room_of(line: &Line) -> u64 {
     match line {
-        Line::Import { .. } | Line::Correct { .. } | Line::Serve { .. } => files::ROOM_TO_GROW,
+        Line::Import { .. } | Line::Correct { .. } => files::ROOM_TO_GROW,
+        Line::Serve { .. } => files::ROOM_TO_SERVE,
         _ => files::ROOM,
     }
 }
