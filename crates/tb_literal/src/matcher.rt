@@ -37,7 +37,7 @@ impl Model for LiteralMatcher {
 
 impl fmt::Debug for LiteralMatcher {
     fn fmt<W: fmt::Write>(&self, f: &mut fmt::Formatter<W>) -> fmt::Result {
-        f.debug_struct("Needle")
+        f.debug_struct("LiteralMatcher")
             .field("text", &self.text)
             .field("flag", &self.flag)
             .finish()
