@@ -15,6 +15,7 @@ mod Upgraded
 mod Begun
 mod Version1Texts
 mod Version1Unrefused
+mod Version1Selected
 mod Version1Answered
 mod Version1Reads
 mod NoPulls

@@ -1,5 +1,5 @@
 -- What one read tells, and several in a row.
-use Rattle.std.proofs.Common.{◌≡◌, ◌≢◌, false, None, Result, Ok, Err, OnOk, IfOk, IsTrue, sym, ap, subst, ◌∙◌, arith}
+use Rattle.std.proofs.Common.{◌≡◌, ◌≢◌, false, None, Result, Ok, Err, IsTrue, sym, ap, subst, ◌∙◌, arith}
 use Rattle.sqlite.specs.Store.{Ghosts}
 use Rattle.sqlite.specs.Effect.{Database}
 use Rattle.sqlite.specs.Held.{Held, state}

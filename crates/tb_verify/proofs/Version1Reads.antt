@@ -1,5 +1,5 @@
 -- What one read tells, and several in a row.
-use Rattle.std.proofs.Common.{◌≡◌, ◌≢◌, None, List, Result, Ok, Err, OnOk, IfOk, IsPermutation, map, sym, ap, subst, ◌∙◌, arith}
+use Rattle.std.proofs.Common.{◌≡◌, ◌≢◌, None, List, Result, Ok, Err, IsPermutation, map, sym, ap, subst, ◌∙◌, arith}
 use Rattle.std.proofs.lemmas.List.Sorted.{IsPermutation-sym}
 use Rattle.sqlite.specs.declared.error.Error.{Error}
 use Rattle.sqlite.specs.Order.{Row}
@@ -17,7 +17,7 @@ use Rattle.tb_tables.specs.Layout.{version_one_schema}
 use Rattle.tb_tables.specs.Records.{Shows}
 use Rattle.tb_tables.specs.Leaving.{IsFaultless}
 use Rattle.tb_tables.proofs.Causes.{faultless_next}
-use Rattle.tb_verify.specs.Version1Selected.{HasSelected}
+use Rattle.tb_verify.proofs.Version1Selected.{HasSelected}
 use Rattle.tb_verify.specs.Version1Reads.{HasReadVersion1, AreOfNoState}
 use Rattle.tb_verify.proofs.Begun.{first_unchanged}
 use Rattle.tb_verify.proofs.Results.{ok_is_no_err, err_is, both_shown, if_ok_under, on_ok_under}

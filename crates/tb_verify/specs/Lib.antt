@@ -7,5 +7,4 @@ pub mod Summary
 pub mod TableReads
 pub mod Version1
 pub mod Version1Desk
-pub mod Version1Selected
 pub mod Version1Reads

@@ -19,7 +19,6 @@ mod unfit;
 mod upgrading;
 mod version1_desk;
 mod version1_reading;
-mod version1_selecting;
 mod version1_summary;
 
 pub use desk::read_desk;

@@ -10,9 +10,6 @@ ghost use Rattle.tb_verify.specs.Version1Reads.{HasReadVersion1, AreTheRevisions
 
 use crate::faults::{of_error, of_read};
 use crate::summary::TableRows;
-use crate::version1_selecting::{
-    batch_rows, move_rows, revision_rows, sentence_rows, total_rows, version_rows,
-};
 use sqlite::types::ValueRef;
 use sqlite::{Alter, Connection, Row};
 use std::alloc::Global;
@@ -49,7 +46,7 @@ fn is_first_version(rows: &[Row]) -> bool
 fn read_version1<S: Alter>(conn: &mut Connection<S>) -> Result<(), Fault>
     ensures { HasReadVersion1 S.Store conn.old conn.new result (λ _ trees. TellsFirst trees) }
 {
-    match version_rows(conn) {
+    match conn.query_all("SELECT rowid, version FROM meta", &[]) {
         Ok(rows) => {
             if !is_first_version(rows.as_slice()) {
                 return Err(Fault::NotADesk);
@@ -69,7 +66,10 @@ fn read_version1_batches<S: Alter>(
         Shows batch_view (numbered batch_shown 1 (map batch_of v.items)) (trees 1)) }
 {
     desk_rows_are_readable();
-    match batch_rows(conn) {
+    match conn.query_all(
+        "SELECT no, name, state, worker FROM batches ORDER BY no",
+        &[],
+    ) {
         Ok(rows) => match batches_in(alloc, rows.as_slice()) {
             Ok(batches) => Ok(batches),
             Err(error) => Err(of_read(error)),
@@ -87,7 +87,10 @@ fn read_version1_sentences<S: Alter>(
         Shows sentence_view (numbered sentence_shown 1 (map sentence_of v.items)) (trees 3)) }
 {
     desk_rows_are_readable();
-    match sentence_rows(conn) {
+    match conn.query_all(
+        "SELECT no, sent_id, batch, rev, words FROM sentences ORDER BY no",
+        &[],
+    ) {
         Ok(rows) => match sentences_in(alloc, rows.as_slice()) {
             Ok(sentences) => Ok(sentences),
             Err(error) => Err(of_read(error)),
@@ -104,7 +107,10 @@ fn read_version1_revisions<S: Alter>(
     ensures { HasReadVersion1 S.Store conn.old conn.new result (λ v trees. AreTheRevisions v.items trees) }
 {
     desk_rows_are_readable();
-    match revision_rows(conn) {
+    match conn.query_all(
+        "SELECT sent, rev, who, body FROM revisions ORDER BY sent, rev",
+        &[],
+    ) {
         Ok(rows) => match revisions_in(alloc, rows.as_slice()) {
             Ok(revisions) => Ok(revisions),
             Err(error) => Err(of_read(error)),
@@ -122,7 +128,10 @@ fn read_version1_moves<S: Alter>(
         Shows move_view (numbered move_shown 1 (map move_of v.items)) (trees 7)) }
 {
     desk_rows_are_readable();
-    match move_rows(conn) {
+    match conn.query_all(
+        "SELECT no, kind, batch, sent, from_state, to_state, sentences, words_out, words_in, who FROM moves ORDER BY no",
+        &[],
+    ) {
         Ok(rows) => match moves_in(alloc, rows.as_slice()) {
             Ok(moves) => Ok(moves),
             Err(error) => Err(of_read(error)),
@@ -140,7 +149,10 @@ fn read_version1_totals<S: Alter>(
         Shows total_view (numbered total_shown 1 (map total_of v.items)) (trees 8)) }
 {
     desk_rows_are_readable();
-    match total_rows(conn) {
+    match conn.query_all(
+        "SELECT state, sentences, words FROM totals ORDER BY state",
+        &[],
+    ) {
         Ok(rows) => match totals_in(alloc, rows.as_slice()) {
             Ok(totals) => Ok(totals),
             Err(error) => Err(of_read(error)),

@@ -1,4 +1,3 @@
--- Inner: no contract beyond this crate cites a definition of this module.
 -- The rows that SELECT shows of a table of version 1.
 use Rattle.std.specs.Prelude.{◌≡◌, ◌≢◌, ℕ, false, List, All, map, Result, IfOk, OnOk, IsTrue}
 use Rattle.std.specs.Prelude.{IsPermutation}
