@@ -32,6 +32,8 @@ mod requests;
 #[cfg(test)]
 mod rows;
 #[cfg(test)]
+mod taking_tests;
+#[cfg(test)]
 mod text_tests;
 #[cfg(test)]
 mod total_tests;
