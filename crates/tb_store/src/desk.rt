@@ -13,6 +13,7 @@ ghost use Rattle.tb_core.specs.Machine.{Machine, empty_machine};
 ghost use Rattle.tb_core.specs.Totals.{AreTotalsOf};
 ghost use Rattle.tb_core.specs.Commands.{correct as correct_it, event_on, import_file, imported, pull as pull_it};
 ghost use Rattle.tb_core.specs.Commands.{restore as restore_it, moved_on, corrected_to, pulled_out, restored_to};
+ghost use Rattle.tb_lists.specs.Batches.{batch_lines};
 ghost use Rattle.tb_report.specs.Tables.{IsTableOf};
 ghost use Rattle.tb_search.specs.Released.{released, in_batch, current_text};
 ghost use Rattle.tb_search.specs.Searched.{Occurrence, answer, keys};
@@ -45,6 +46,7 @@ use tb_core::{
     totals_are_nets,
 };
 use tb_import::ImportCounters;
+use tb_lists::{BatchLine, list_batches};
 use tb_match::Strategy;
 use tb_query::{Attr, Query};
 use tb_refine::{Counters, faults, one_state_for_the_file};
@@ -340,6 +342,22 @@ impl<S: Alter> Desk<S> {
         ensures limits { self.new.limits ≡ self.old.limits }
     {
         asking::moves(self.alloc, &mut self.conn)
+    }
+
+    /// The batches by number, each with its state, its worker and what is in it. Nothing is refused.
+    pub fn batches(&mut self) -> Result<Vec<BatchLine>, Fault>
+        ensures answered { Gives S.Store self.old self.new result (λ s v. v.items ≡ batch_lines s) }
+        ensures never_refuses { (r : AnyRefusal) → result ≢ Err (Fault.Refused r) }
+        ensures output { result ≢ Err Fault.Output }
+        ensures fails { KnowsItself S.Store self.old self.new result }
+        ensures cause { BlamesNoDevice S.Store self.old self.new result }
+        ensures stays { Does S.Store self.old self.new result (λ s. Represents S.Store self.new s) }
+        ensures keeps_state { KeepsState S.Store self.old self.new }
+        ensures crash { WritesNothing S.Store self.old self.new }
+        ensures commits_nothing { CommitsNothing S.Store self.old.conn self.new.conn }
+        ensures limits { self.new.limits ≡ self.old.limits }
+    {
+        list_batches(self.alloc, &mut self.conn)
     }
 
     /// The current revision of the sentence with this number, from 1.

@@ -1,0 +1,11 @@
+use Rattle.std.proofs.Common.{[], ◌∷◌, Some, map}
+use Rattle.std.proofs.lemmas.Result.{IfOk-weaker}
+use Rattle.tb_lists.specs.Csv.{batch_fields, batches_head}
+use Rattle.tb_report.proofs.CsvRows.{puts_both, whole_table}
+use Rattle.tb_lists.proofs.csvs.batches_text.Goals as goal
+
+pub returns : goal.returns
+returns c =
+    let fresh = c.new_rows-rows in
+    let all = puts_both (λ w. Some w.items) fresh.result c.put_batches_head.new.rows c.put_batches.new.rows (batches_head ∷ []) (map batch_fields c.args.batches.now) c.in_ok-put_batches_head.ensures c.in_ok-put_batches.ensures in
+    IfOk-weaker c.finish.result _ _ (λ v kept. whole_table (λ w. Some w.items) fresh.result c.put_batches.new.rows (batches_head ∷ map batch_fields c.args.batches.now) v.items fresh.ensures.between fresh.ensures.empty all kept) c.finish.ensures

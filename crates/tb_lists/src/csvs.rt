@@ -1,0 +1,149 @@
+//! Lists as CSV.
+
+ghost use Rattle.std.specs.Prelude.{◌≡◌, [], ◌∷◌, Err, IfErr, IfOk, OnErr, OnOk, Some, map};
+ghost use Rattle.std.specs.Io.KnownBytes.{Appends, Keeps};
+ghost use Rattle.csv.specs.Writing.{text_written};
+ghost use Rattle.tb_conllu.specs.Sunk.{AppendsPart};
+ghost use Rattle.tb_core.specs.Words.{state_word};
+ghost use Rattle.tb_report.specs.Csv.{IsBetweenRows, IsRefused, PutsRows};
+ghost use Rattle.tb_lists.specs.Csv.{batch_fields, batches_csv, batches_head};
+
+use crate::batches::BatchLine;
+use csv::{Writer, WriterBuilder};
+use itoa::Buffer;
+use std::alloc::Global;
+use std::io::Write;
+use tb_conllu::Sink;
+use tb_report::ReportFault;
+
+/// A table that grows in memory, where only want of memory stops it.
+type Rows = Writer<Vec<u8>>;
+
+fn put_row<W: Write + Drop>(rows: &mut Writer<W>, fields: &[&[u8]]) -> Result<(), ReportFault>
+    ensures { OnOk result (PutsRows W.contents rows.old rows.new (map (λ f. f.now) fields.now ∷ [])) }
+{
+    match rows.write_fields(fields) {
+        Ok(()) => Ok(()),
+        Err(_) => Err(ReportFault::Memory),
+    }
+}
+
+fn word_of_state(batch: &BatchLine) -> &str
+    ensures { result.now ≡ state_word batch.now.state }
+{
+    batch.state.word()
+}
+
+fn put_batch<W: Write + Drop>(rows: &mut Writer<W>, batch: &BatchLine) -> Result<(), ReportFault>
+    ensures { OnOk result (PutsRows W.contents rows.old rows.new (batch_fields batch.now ∷ [])) }
+{
+    let mut no = Buffer::new();
+    let mut first = Buffer::new();
+    let mut sentences = Buffer::new();
+    let mut words = Buffer::new();
+    let mut pulled = Buffer::new();
+    put_row(
+        rows,
+        &[
+            no.format(batch.no).as_bytes(),
+            batch.name.as_bytes(),
+            word_of_state(batch).as_bytes(),
+            batch.worker.as_bytes(),
+            first.format(batch.first).as_bytes(),
+            sentences.format(batch.sentences).as_bytes(),
+            words.format(batch.words).as_bytes(),
+            pulled.format(batch.pulled).as_bytes(),
+        ],
+    )
+}
+
+fn put_batches<W: Write + Drop>(
+    rows: &mut Writer<W>,
+    batches: &[BatchLine],
+) -> Result<(), ReportFault>
+    ensures { OnOk result (PutsRows W.contents rows.old rows.new (map batch_fields batches.now)) }
+{
+    for batch in batches {
+        put_batch(rows, batch)?;
+    }
+    Ok(())
+}
+
+fn put_batches_head<W: Write + Drop>(rows: &mut Writer<W>) -> Result<(), ReportFault>
+    ensures { OnOk result (PutsRows W.contents rows.old rows.new (batches_head ∷ [])) }
+{
+    let head = [
+        "no".as_bytes(),
+        "name".as_bytes(),
+        "state".as_bytes(),
+        "worker".as_bytes(),
+        "first".as_bytes(),
+        "sentences".as_bytes(),
+        "words".as_bytes(),
+        "pulled".as_bytes(),
+    ];
+    put_row(rows, &head)
+}
+
+/// A table without rows.
+fn new_rows(alloc: Global) -> Rows
+    ensures between { IsBetweenRows result }
+    ensures empty { text_written (λ w. Some w.items) result ≡ Some [] }
+{
+    WriterBuilder::new().from_writer(Vec::new(alloc))
+}
+
+/// The bytes of the rows.
+fn finish(rows: Rows) -> Result<Vec<u8>, ReportFault>
+    ensures { IfOk result (λ v. Keeps (text_written (λ w. Some w.items) rows) (Some v.items)) }
+{
+    match rows.into_inner() {
+        Ok(text) => Ok(text),
+        Err(_) => Err(ReportFault::Memory),
+    }
+}
+
+fn batches_text(alloc: Global, batches: &[BatchLine]) -> Result<Vec<u8>, ReportFault>
+    ensures { IfOk result (λ v. v.items ≡ batches_csv batches.now) }
+{
+    let mut rows = new_rows(alloc);
+    put_batches_head(&mut rows)?;
+    put_batches(&mut rows, batches)?;
+    finish(rows)
+}
+
+/// Appends a text that was made.
+fn put_text<S: Sink>(text: &[u8], out: &mut S) -> Result<(), ReportFault>
+    ensures written { OnOk result (Appends (S.held out.old) (S.held out.new) text.now) }
+    ensures part { OnErr result (AppendsPart (S.held out.old) (S.held out.new) text.now) }
+    ensures fault { IfErr result (λ e. e ≡ ReportFault.Write) }
+    ensures refused { result ≡ Err ReportFault.Write → IsRefused S.IsRefusal out.new }
+{
+    match out.put(text) {
+        Ok(()) => Ok(()),
+        Err(_) => Err(ReportFault::Write),
+    }
+}
+
+/// Appends a list of batches: the head line `no,name,state,worker,first,sentences,words,pulled` and a line for each. Where
+/// nobody works on a batch, its worker is empty.
+///
+/// # Errors
+///
+/// `Memory`: no memory is left, and nothing was put. `Write`: the sink refused the text, and may have taken some of it,
+/// from the front. Over a sink that never refuses, `Write` never comes.
+pub fn csv_batches<S: Sink>(
+    alloc: Global,
+    batches: &[BatchLine],
+    out: &mut S,
+) -> Result<(), ReportFault>
+    ensures written { OnOk result (Appends (S.held out.old) (S.held out.new) (batches_csv batches.now)) }
+    ensures memory { IfErr result (λ e. e ≡ ReportFault.Memory → out.new ≡ out.old) }
+    ensures refused { result ≡ Err ReportFault.Write → IsRefused S.IsRefusal out.new }
+    ensures part { OnErr result (AppendsPart (S.held out.old) (S.held out.new) (batches_csv batches.now)) }
+{
+    let Ok(text) = batches_text(alloc, batches) else {
+        return Err(ReportFault::Memory);
+    };
+    put_text(&text, out)
+}

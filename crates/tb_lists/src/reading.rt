@@ -1,0 +1,147 @@
+//! Lists, read from the tables of a desk and told as facts of the state for which they stand. Whatever is answered, they
+//! stand for it still.
+
+ghost use Rattle.std.specs.Prelude.{◌≡◌, ◌≢◌, ◌<◌, ◌^◌, Err, IfErr, IfOk, List, false, length, map};
+ghost use Rattle.tb_core.specs.declared.refusals.Refusal.{Refusal as AnyRefusal};
+ghost use Rattle.tb_core.specs.Machine.{Sentence};
+ghost use Rattle.tb_core.specs.Rows.{pulled_from};
+ghost use Rattle.tb_tables.specs.Values.{batch_of, sentence_of};
+ghost use Rattle.tb_tables.specs.Leaving.{ChangesNothing, CommitsNothing, FailsOnlyAs, IsFaultless, KeepsRecords};
+ghost use Rattle.tb_refine.specs.Calls.{KnowsDesk, Tells};
+ghost use Rattle.tb_refine.specs.DeskTables.{batch_record, sentence_record};
+ghost use Rattle.tb_refine.specs.Faults.{IsNoDevice};
+ghost use Rattle.tb_lists.specs.Batches.{batch_lines};
+ghost use Rattle.tb_lists.specs.Counted.{AreCounts};
+
+use crate::batches::{BatchLine, lines_of};
+use crate::counting::{Count, count_rows};
+use sqlite::{Alter, Connection};
+use std::alloc::Global;
+use tb_core::Fault;
+use tb_refine::{desk_rows_are_readable, faults, one_list_for_the_rows};
+use tb_tables::{BatchRow, SentenceRow};
+
+/// The rows of all batches, by number.
+fn read_batches<S: Alter>(alloc: Global, conn: &mut Connection<S>) -> Result<Vec<BatchRow>, Fault>
+    ensures answered { Tells S.Store conn.old conn.new result (λ s v.
+        map batch_of v.items ≡ map batch_record s.batches) }
+    ensures never_refuses { (r : AnyRefusal) → result ≢ Err (Fault.Refused r) }
+    ensures output { result ≢ Err Fault.Output }
+    ensures fails { KnowsDesk S.Store conn.old conn.new result }
+    ensures cause { IsFaultless S.Store conn.old conn.new → FailsOnlyAs IsNoDevice S.Store conn.old conn.new result }
+    ensures unchanged { ChangesNothing S.Store conn.old conn.new result }
+    ensures autocommit { conn.old.in_transaction ≡ false → conn.new.in_transaction ≡ false }
+    ensures keeps_records { KeepsRecords S.Store conn.old conn.new }
+    ensures commits_nothing { CommitsNothing S.Store conn.old conn.new }
+{
+    desk_rows_are_readable();
+    one_list_for_the_rows();
+    match tb_reads::batches(alloc, conn) {
+        Ok(rows) => Ok(rows),
+        Err(error) => Err(faults::of_read(error)),
+    }
+}
+
+/// The rows of all sentences, by number.
+fn read_sentences<S: Alter>(
+    alloc: Global,
+    conn: &mut Connection<S>,
+) -> Result<Vec<SentenceRow>, Fault>
+    ensures answered { Tells S.Store conn.old conn.new result (λ s v.
+        map sentence_of v.items ≡ map sentence_record s.sentences) }
+    ensures never_refuses { (r : AnyRefusal) → result ≢ Err (Fault.Refused r) }
+    ensures output { result ≢ Err Fault.Output }
+    ensures fails { KnowsDesk S.Store conn.old conn.new result }
+    ensures cause { IsFaultless S.Store conn.old conn.new → FailsOnlyAs IsNoDevice S.Store conn.old conn.new result }
+    ensures unchanged { ChangesNothing S.Store conn.old conn.new result }
+    ensures autocommit { conn.old.in_transaction ≡ false → conn.new.in_transaction ≡ false }
+    ensures keeps_records { KeepsRecords S.Store conn.old conn.new }
+    ensures commits_nothing { CommitsNothing S.Store conn.old conn.new }
+{
+    desk_rows_are_readable();
+    one_list_for_the_rows();
+    match tb_reads::sentences(alloc, conn) {
+        Ok(rows) => Ok(rows),
+        Err(error) => Err(faults::of_read(error)),
+    }
+}
+
+/// The numbers of all pulled sentences, ascending.
+fn read_pulled<S: Alter>(alloc: Global, conn: &mut Connection<S>) -> Result<Vec<u32>, Fault>
+    ensures answered { Tells S.Store conn.old conn.new result (λ s v. v.items ≡ pulled_from 1 s.sentences) }
+    ensures never_refuses { (r : AnyRefusal) → result ≢ Err (Fault.Refused r) }
+    ensures output { result ≢ Err Fault.Output }
+    ensures fails { KnowsDesk S.Store conn.old conn.new result }
+    ensures cause { IsFaultless S.Store conn.old conn.new → FailsOnlyAs IsNoDevice S.Store conn.old conn.new result }
+    ensures unchanged { ChangesNothing S.Store conn.old conn.new result }
+    ensures autocommit { conn.old.in_transaction ≡ false → conn.new.in_transaction ≡ false }
+    ensures keeps_records { KeepsRecords S.Store conn.old conn.new }
+    ensures commits_nothing { CommitsNothing S.Store conn.old conn.new }
+{
+    desk_rows_are_readable();
+    match tb_reads::pulled(alloc, conn) {
+        Ok(numbers) => Ok(numbers),
+        Err(error) => Err(faults::of_read(error)),
+    }
+}
+
+/// What is in each of so many batches, of rows that were read.
+fn counts_of(
+    alloc: Global,
+    batches: usize,
+    rows: &[SentenceRow],
+    pulled: &[u32],
+) -> Result<Vec<Count>, Fault>
+    ensures answered { IfOk result (λ v. (xs : List Sentence) → map sentence_of rows.now ≡ map sentence_record xs
+        → pulled.now ≡ pulled_from 1 xs → AreCounts batches xs v.items) }
+    ensures never_refuses { (r : AnyRefusal) → result ≢ Err (Fault.Refused r) }
+    ensures output { result ≢ Err Fault.Output }
+    ensures fails { result ≡ Err Fault.NotADesk → length rows.now < 2 ^ 32 → ⊥ }
+    ensures cause { IfErr result IsNoDevice }
+{
+    if rows.len() > u32::MAX as usize {
+        return Err(Fault::NotADesk);
+    }
+    count_rows(alloc, batches, rows, pulled)
+}
+
+/// What is in each of so many batches, by number.
+fn read_counts<S: Alter>(
+    alloc: Global,
+    conn: &mut Connection<S>,
+    batches: usize,
+) -> Result<Vec<Count>, Fault>
+    ensures answered { Tells S.Store conn.old conn.new result (λ s v. AreCounts batches s.sentences v.items) }
+    ensures never_refuses { (r : AnyRefusal) → result ≢ Err (Fault.Refused r) }
+    ensures output { result ≢ Err Fault.Output }
+    ensures fails { KnowsDesk S.Store conn.old conn.new result }
+    ensures cause { IsFaultless S.Store conn.old conn.new → FailsOnlyAs IsNoDevice S.Store conn.old conn.new result }
+    ensures unchanged { ChangesNothing S.Store conn.old conn.new result }
+    ensures autocommit { conn.old.in_transaction ≡ false → conn.new.in_transaction ≡ false }
+    ensures keeps_records { KeepsRecords S.Store conn.old conn.new }
+    ensures commits_nothing { CommitsNothing S.Store conn.old conn.new }
+{
+    let rows = read_sentences(alloc, conn)?;
+    let pulled = read_pulled(alloc, conn)?;
+    counts_of(alloc, batches, rows.as_slice(), pulled.as_slice())
+}
+
+/// The batches of a desk, by number, each with its state, its worker and what is in it. Nothing is refused.
+pub fn list_batches<S: Alter>(
+    alloc: Global,
+    conn: &mut Connection<S>,
+) -> Result<Vec<BatchLine>, Fault>
+    ensures answered { Tells S.Store conn.old conn.new result (λ s v. v.items ≡ batch_lines s) }
+    ensures never_refuses { (r : AnyRefusal) → result ≢ Err (Fault.Refused r) }
+    ensures output { result ≢ Err Fault.Output }
+    ensures fails { KnowsDesk S.Store conn.old conn.new result }
+    ensures cause { IsFaultless S.Store conn.old conn.new → FailsOnlyAs IsNoDevice S.Store conn.old conn.new result }
+    ensures unchanged { ChangesNothing S.Store conn.old conn.new result }
+    ensures autocommit { conn.old.in_transaction ≡ false → conn.new.in_transaction ≡ false }
+    ensures keeps_records { KeepsRecords S.Store conn.old conn.new }
+    ensures commits_nothing { CommitsNothing S.Store conn.old conn.new }
+{
+    let batches = read_batches(alloc, conn)?;
+    let counts = read_counts(alloc, conn, batches.len())?;
+    lines_of(alloc, batches.as_slice(), counts.as_slice())
+}
