@@ -8,6 +8,7 @@ use std::test::Fail;
 use tb_answer::{DeskCommand, obey};
 use tb_core::{Move, Totals};
 use tb_http::{attribute_of, event_of, strategy_of};
+use tb_lists::csv_batches;
 use tb_query::{Query, parse};
 use tb_report::{csv_freq, csv_moves, csv_totals};
 use tb_store::Desk;
@@ -136,6 +137,15 @@ fn numbered<S: Alter>(alloc: Global, desk: &mut Desk<S>, line: &str) -> Result<S
     reported(alloc, desk.number(&query, strategy))
 }
 
+/// `batches`: how many there are, and their list.
+fn listed<S: Alter>(alloc: Global, desk: &mut Desk<S>) -> Result<String, Fail> {
+    let batches = desk.batches()?;
+    let mut out: Vec<u8> = Vec::new(alloc);
+    csv_batches(alloc, batches.as_slice(), &mut out)?;
+    let count = format!(in alloc; "{}", batches.len())?;
+    shown(alloc, count, out.as_slice())
+}
+
 /// The answer to a command or a question.
 pub(crate) fn obeyed<S: Alter>(
     alloc: Global,
@@ -148,6 +158,7 @@ pub(crate) fn obeyed<S: Alter>(
         "cut" => cut(alloc, desk, line),
         "count" => counted(alloc, desk, line),
         "number" => numbered(alloc, desk, line),
+        "batches" => listed(alloc, desk),
         "standing" => standing(alloc, desk),
         _ => commanded(alloc, desk, line),
     }

@@ -13,6 +13,7 @@ pub(crate) const WORK: &str = "\
     correct 1 1 ann go => refused 3 NoSuchSentence\n\
     revision 1 1 => refused 3 NoSuchSentence\n\
     search longest 5 [] => 0 hits 0;\n\
+    batches => 0 no,name,state,worker,first,sentences,words,pulled;\n\
     standing => desk\n\
     \n\
     1000 1000 1000\n\
@@ -63,6 +64,7 @@ pub(crate) const WORK: &str = "\
     pull 2 dan => pulled sentence=2 words=1\n\
     pull 2 dan => refused 20 Pulled\n\
     assign b1 ann => moved batch=1 state=assigned sentences=1 words=3\n\
+    batches => 1 no,name,state,worker,first,sentences,words,pulled;1,b1,assigned,ann,1,1,3,1;\n\
     correct 2 1 ann go => refused 4 WrongState withdrawn\n\
     restore 2 dan => restored sentence=2 state=assigned words=1\n\
     restore 2 dan => refused 21 NotPulled\n\
@@ -73,6 +75,7 @@ pub(crate) const WORK: &str = "\
     reopen b1 ben => moved batch=1 state=open sentences=1 words=3\n\
     pull 1 dan => pulled sentence=1 words=3\n\
     assign b1 ben => moved batch=1 state=assigned sentences=0 words=0\n\
+    batches => 1 no,name,state,worker,first,sentences,words,pulled;1,b1,assigned,ben,1,0,0,2;\n\
     \n\
     1 2 1000\n\
     import b1 ann dogs => imported batch=1 first=1 sentences=1 words=3\n\
@@ -96,6 +99,7 @@ pub(crate) const SEARCHES: &str = "\
     1000 1000 15\n\
     import b6 ann book => imported batch=1 first=1 sentences=1 words=9\n\
     import b7 ann go => imported batch=2 first=2 sentences=1 words=1\n\
+    batches => 2 no,name,state,worker,first,sentences,words,pulled;1,b6,open,,1,1,9,0;2,b7,open,,2,1,1,0;\n\
     search longest 5 []* => 0 hits 0;\n\
     assign b6 ann => moved batch=1 state=assigned sentences=1 words=9\n\
     search longest 5 []* => 0 hits 0;\n\
