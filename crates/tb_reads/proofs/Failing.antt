@@ -22,7 +22,7 @@ use Rattle.tb_tables.proofs.Texts.{simple, by_number}
 use Rattle.tb_tables.specs.Failing.{IsStoreFault, IsWant}
 use Rattle.tb_reads.specs.declared.error.ReadError.{ReadError}
 use Rattle.tb_reads.specs.declared.error.ReadError.TheVariants.{Store}
-use Rattle.tb_reads.specs.Failing.{IsReadFault, IsReadWant}
+use Rattle.tb_reads.specs.Failing.{IsReadFault, IsReadWant, IsDeskQuery, CanRead}
 use Rattle.tb_reads.proofs.Queries.{rising, select_batches, select_batches_terms, select_batches_is, select_sentences, select_sentences_terms, select_sentences_is, select_moves, select_moves_terms, select_moves_is, select_totals, select_totals_terms, select_totals_is, select_revisions, select_revisions_terms, select_revisions_is, select_pulled, select_pulled_terms, select_pulled_is, select_versions, select_versions_terms, select_versions_is, select_batch, select_batch_terms, select_batch_is, select_sentence, select_sentence_terms, select_sentence_is, select_named_batch, select_named_batch_terms, select_named_batch_is, select_named_sentence, select_named_sentence_terms, select_named_sentence_is, select_revision, select_revision_terms, select_revision_is, select_one_pulled, select_one_pulled_terms, select_one_pulled_is, select_work, select_work_terms, select_work_is, select_heads, select_heads_terms, select_heads_is, select_bodies, select_bodies_terms, select_bodies_is}
 
 pub if_err : {T E : Type 0} {P Q : E → Type 0} (r : Result T E) → IfErr r P → ((e : E) → P e → Q e) → IfErr r Q
@@ -79,6 +79,29 @@ module _ (sql : List ℕ) (params : Row) (old new : State) (command : Command) (
       let this : ran.0.command ≡ command = ap command_of known ∙ is in
       absurd (never it.0 e (ap (λ (d : Database). d.schema) db ∙ has) (subst (λ l. RefusesToRead l command it.0 params e) unlimited (subst (λ k. RefusesToRead old.step_limit k it.0 params e) this it.2)))
 
+module _ (sql : List ℕ) (params : Row) where
+  pub can_read : (u : Result Compiled CompileError) (command : Command) → IsWhole (length sql) (length params) u → command_of u ≡ command
+      → ((db : Database) (e : Error) → db.schema ≡ desk_schema → RefusesToRead None command db params e → ⊥) → CanRead sql params u
+  can_read (Ok c) command whole is never = (whole.0, whole.1, λ db e has refused. never db e has (subst (λ k. RefusesToRead None k db params e) is refused))
+  can_read (Err e) command whole is never = whole
+
+  whole_of : (u : Result Compiled CompileError) → CanRead sql params u → IsWhole (length sql) (length params) u
+  whole_of (Ok c) h = (h.0, h.1)
+  whole_of (Err e) h = h
+
+  never_of : (u : Result Compiled CompileError) → CanRead sql params u → (db : Database) (e : Error) → db.schema ≡ desk_schema → RefusesToRead None (command_of u) db params e → ⊥
+  never_of (Ok c) h = h.2
+  never_of (Err e) h = absurd h
+
+  pub desk_fails : IsDeskQuery sql params → (old new : State) (e : Error) → FailsToQuery sql params old new e → old.now.schema ≡ desk_schema → old.step_limit ≡ None → Fails old new ⊥ e
+  desk_fails reads old new e failed has unlimited =
+      let u = understood desk_schema sql in
+      read_fails sql params old new (command_of u) has unlimited refl reads.0 reads.1 (whole_of u reads.2) (never_of u reads.2) e failed
+
+-- at the parameters as values
+pub reads_at : (sql : List ℕ) (params given : Row) → IsDeskQuery sql params → given ≡ params → IsDeskQuery sql given
+reads_at sql params given reads same = subst (IsDeskQuery sql) (sym same) reads
+
 -- ---- the texts
 
 batches_whole : IsWhole (length select_batches) 0 (understood desk_schema select_batches)
@@ -89,9 +112,8 @@ batches_typed : accepts_program desk_schema [] (simple 1 [] select_batches_terms
 unfolding everything
 batches_typed = refl
 
-pub batches_fails : (old new : State) (given : Row) (e : Error) → FailsToQuery select_batches given old new e → given ≡ [] → old.now.schema ≡ desk_schema → old.step_limit ≡ None → Fails old new ⊥ e
-batches_fails old new given e failed same has unlimited =
-    read_fails select_batches [] old new _ has unlimited select_batches_is.0 select_batches_is.1 select_batches_is.2 batches_whole (unrefused 1 [] select_batches_terms (rising 0 ∷ []) [] batches_typed) e (subst (λ ps. FailsToQuery select_batches ps old new e) same failed)
+pub batches_reads : IsDeskQuery select_batches []
+batches_reads = (select_batches_is.1, select_batches_is.2, can_read select_batches [] _ _ batches_whole select_batches_is.0 (unrefused 1 [] select_batches_terms (rising 0 ∷ []) [] batches_typed))
 
 sentences_whole : IsWhole (length select_sentences) 0 (understood desk_schema select_sentences)
 unfolding understood everything
@@ -101,9 +123,8 @@ sentences_typed : accepts_program desk_schema [] (simple 3 [] select_sentences_t
 unfolding everything
 sentences_typed = refl
 
-pub sentences_fails : (old new : State) (given : Row) (e : Error) → FailsToQuery select_sentences given old new e → given ≡ [] → old.now.schema ≡ desk_schema → old.step_limit ≡ None → Fails old new ⊥ e
-sentences_fails old new given e failed same has unlimited =
-    read_fails select_sentences [] old new _ has unlimited select_sentences_is.0 select_sentences_is.1 select_sentences_is.2 sentences_whole (unrefused 3 [] select_sentences_terms (rising 0 ∷ []) [] sentences_typed) e (subst (λ ps. FailsToQuery select_sentences ps old new e) same failed)
+pub sentences_reads : IsDeskQuery select_sentences []
+sentences_reads = (select_sentences_is.1, select_sentences_is.2, can_read select_sentences [] _ _ sentences_whole select_sentences_is.0 (unrefused 3 [] select_sentences_terms (rising 0 ∷ []) [] sentences_typed))
 
 moves_whole : IsWhole (length select_moves) 0 (understood desk_schema select_moves)
 unfolding understood everything
@@ -113,9 +134,8 @@ moves_typed : accepts_program desk_schema [] (simple 7 [] select_moves_terms (ri
 unfolding everything
 moves_typed = refl
 
-pub moves_fails : (old new : State) (given : Row) (e : Error) → FailsToQuery select_moves given old new e → given ≡ [] → old.now.schema ≡ desk_schema → old.step_limit ≡ None → Fails old new ⊥ e
-moves_fails old new given e failed same has unlimited =
-    read_fails select_moves [] old new _ has unlimited select_moves_is.0 select_moves_is.1 select_moves_is.2 moves_whole (unrefused 7 [] select_moves_terms (rising 0 ∷ []) [] moves_typed) e (subst (λ ps. FailsToQuery select_moves ps old new e) same failed)
+pub moves_reads : IsDeskQuery select_moves []
+moves_reads = (select_moves_is.1, select_moves_is.2, can_read select_moves [] _ _ moves_whole select_moves_is.0 (unrefused 7 [] select_moves_terms (rising 0 ∷ []) [] moves_typed))
 
 totals_whole : IsWhole (length select_totals) 0 (understood desk_schema select_totals)
 unfolding understood everything
@@ -125,9 +145,8 @@ totals_typed : accepts_program desk_schema [] (simple 8 [] select_totals_terms (
 unfolding everything
 totals_typed = refl
 
-pub totals_fails : (old new : State) (given : Row) (e : Error) → FailsToQuery select_totals given old new e → given ≡ [] → old.now.schema ≡ desk_schema → old.step_limit ≡ None → Fails old new ⊥ e
-totals_fails old new given e failed same has unlimited =
-    read_fails select_totals [] old new _ has unlimited select_totals_is.0 select_totals_is.1 select_totals_is.2 totals_whole (unrefused 8 [] select_totals_terms (rising 0 ∷ []) [] totals_typed) e (subst (λ ps. FailsToQuery select_totals ps old new e) same failed)
+pub totals_reads : IsDeskQuery select_totals []
+totals_reads = (select_totals_is.1, select_totals_is.2, can_read select_totals [] _ _ totals_whole select_totals_is.0 (unrefused 8 [] select_totals_terms (rising 0 ∷ []) [] totals_typed))
 
 revisions_whole : IsWhole (length select_revisions) 0 (understood desk_schema select_revisions)
 unfolding understood everything
@@ -149,9 +168,8 @@ pulled_typed : accepts_program desk_schema [] (simple 9 [] select_pulled_terms (
 unfolding everything
 pulled_typed = refl
 
-pub pulled_fails : (old new : State) (given : Row) (e : Error) → FailsToQuery select_pulled given old new e → given ≡ [] → old.now.schema ≡ desk_schema → old.step_limit ≡ None → Fails old new ⊥ e
-pulled_fails old new given e failed same has unlimited =
-    read_fails select_pulled [] old new _ has unlimited select_pulled_is.0 select_pulled_is.1 select_pulled_is.2 pulled_whole (unrefused 9 [] select_pulled_terms (rising 0 ∷ []) [] pulled_typed) e (subst (λ ps. FailsToQuery select_pulled ps old new e) same failed)
+pub pulled_reads : IsDeskQuery select_pulled []
+pulled_reads = (select_pulled_is.1, select_pulled_is.2, can_read select_pulled [] _ _ pulled_whole select_pulled_is.0 (unrefused 9 [] select_pulled_terms (rising 0 ∷ []) [] pulled_typed))
 
 versions_whole : IsWhole (length select_versions) 0 (understood desk_schema select_versions)
 unfolding understood everything
@@ -161,9 +179,8 @@ versions_typed : accepts_program desk_schema [] (simple 0 [] select_versions_ter
 unfolding everything
 versions_typed = refl
 
-pub versions_fails : (old new : State) (given : Row) (e : Error) → FailsToQuery select_versions given old new e → given ≡ [] → old.now.schema ≡ desk_schema → old.step_limit ≡ None → Fails old new ⊥ e
-versions_fails old new given e failed same has unlimited =
-    read_fails select_versions [] old new _ has unlimited select_versions_is.0 select_versions_is.1 select_versions_is.2 versions_whole (unrefused 0 [] select_versions_terms (rising 1 ∷ []) [] versions_typed) e (subst (λ ps. FailsToQuery select_versions ps old new e) same failed)
+pub versions_reads : IsDeskQuery select_versions []
+versions_reads = (select_versions_is.1, select_versions_is.2, can_read select_versions [] _ _ versions_whole select_versions_is.0 (unrefused 0 [] select_versions_terms (rising 1 ∷ []) [] versions_typed))
 
 batch_whole : IsWhole (length select_batch) 1 (understood desk_schema select_batch)
 unfolding understood everything
@@ -173,9 +190,8 @@ batch_typed : (a : ℕ) → accepts_program desk_schema [] (simple 1 (by_number 
 unfolding everything
 batch_typed a = refl
 
-pub batch_fails : (a : ℕ) (old new : State) (given : Row) (e : Error) → FailsToQuery select_batch given old new e → given ≡ Int (pos a) ∷ [] → old.now.schema ≡ desk_schema → old.step_limit ≡ None → Fails old new ⊥ e
-batch_fails a old new given e failed same has unlimited =
-    read_fails select_batch (Int (pos a) ∷ []) old new _ has unlimited select_batch_is.0 select_batch_is.1 select_batch_is.2 batch_whole (unrefused 1 (by_number ∷ []) select_batch_terms ([]) (Int (pos a) ∷ []) (batch_typed a)) e (subst (λ ps. FailsToQuery select_batch ps old new e) same failed)
+pub batch_reads : (a : ℕ) → IsDeskQuery select_batch (Int (pos a) ∷ [])
+batch_reads a = (select_batch_is.1, select_batch_is.2, can_read select_batch (Int (pos a) ∷ []) _ _ batch_whole select_batch_is.0 (unrefused 1 (by_number ∷ []) select_batch_terms ([]) (Int (pos a) ∷ []) (batch_typed a)))
 
 sentence_whole : IsWhole (length select_sentence) 1 (understood desk_schema select_sentence)
 unfolding understood everything
@@ -185,9 +201,8 @@ sentence_typed : (a : ℕ) → accepts_program desk_schema [] (simple 3 (by_numb
 unfolding everything
 sentence_typed a = refl
 
-pub sentence_fails : (a : ℕ) (old new : State) (given : Row) (e : Error) → FailsToQuery select_sentence given old new e → given ≡ Int (pos a) ∷ [] → old.now.schema ≡ desk_schema → old.step_limit ≡ None → Fails old new ⊥ e
-sentence_fails a old new given e failed same has unlimited =
-    read_fails select_sentence (Int (pos a) ∷ []) old new _ has unlimited select_sentence_is.0 select_sentence_is.1 select_sentence_is.2 sentence_whole (unrefused 3 (by_number ∷ []) select_sentence_terms ([]) (Int (pos a) ∷ []) (sentence_typed a)) e (subst (λ ps. FailsToQuery select_sentence ps old new e) same failed)
+pub sentence_reads : (a : ℕ) → IsDeskQuery select_sentence (Int (pos a) ∷ [])
+sentence_reads a = (select_sentence_is.1, select_sentence_is.2, can_read select_sentence (Int (pos a) ∷ []) _ _ sentence_whole select_sentence_is.0 (unrefused 3 (by_number ∷ []) select_sentence_terms ([]) (Int (pos a) ∷ []) (sentence_typed a)))
 
 named_batch_whole : IsWhole (length select_named_batch) 1 (understood desk_schema select_named_batch)
 unfolding understood everything
@@ -197,9 +212,8 @@ named_batch_typed : (a : List ℕ) → accepts_program desk_schema [] (simple 1 
 unfolding everything
 named_batch_typed a = refl
 
-pub named_batch_fails : (a : List ℕ) (old new : State) (given : Row) (e : Error) → FailsToQuery select_named_batch given old new e → given ≡ Text a ∷ [] → old.now.schema ≡ desk_schema → old.step_limit ≡ None → Fails old new ⊥ e
-named_batch_fails a old new given e failed same has unlimited =
-    read_fails select_named_batch (Text a ∷ []) old new _ has unlimited select_named_batch_is.0 select_named_batch_is.1 select_named_batch_is.2 named_batch_whole (unrefused 1 (op2 (Compare Eq Binary) (col 1 2) (col 0 0) ∷ []) select_named_batch_terms [] (Text a ∷ []) (named_batch_typed a)) e (subst (λ ps. FailsToQuery select_named_batch ps old new e) same failed)
+pub named_batch_reads : (a : List ℕ) → IsDeskQuery select_named_batch (Text a ∷ [])
+named_batch_reads a = (select_named_batch_is.1, select_named_batch_is.2, can_read select_named_batch (Text a ∷ []) _ _ named_batch_whole select_named_batch_is.0 (unrefused 1 (op2 (Compare Eq Binary) (col 1 2) (col 0 0) ∷ []) select_named_batch_terms [] (Text a ∷ []) (named_batch_typed a)))
 
 named_sentence_whole : IsWhole (length select_named_sentence) 1 (understood desk_schema select_named_sentence)
 unfolding understood everything
@@ -209,9 +223,8 @@ named_sentence_typed : (a : List ℕ) → accepts_program desk_schema [] (simple
 unfolding everything
 named_sentence_typed a = refl
 
-pub named_sentence_fails : (a : List ℕ) (old new : State) (given : Row) (e : Error) → FailsToQuery select_named_sentence given old new e → given ≡ Text a ∷ [] → old.now.schema ≡ desk_schema → old.step_limit ≡ None → Fails old new ⊥ e
-named_sentence_fails a old new given e failed same has unlimited =
-    read_fails select_named_sentence (Text a ∷ []) old new _ has unlimited select_named_sentence_is.0 select_named_sentence_is.1 select_named_sentence_is.2 named_sentence_whole (unrefused 3 (op2 (Compare Eq Binary) (col 1 2) (col 0 0) ∷ []) select_named_sentence_terms [] (Text a ∷ []) (named_sentence_typed a)) e (subst (λ ps. FailsToQuery select_named_sentence ps old new e) same failed)
+pub named_sentence_reads : (a : List ℕ) → IsDeskQuery select_named_sentence (Text a ∷ [])
+named_sentence_reads a = (select_named_sentence_is.1, select_named_sentence_is.2, can_read select_named_sentence (Text a ∷ []) _ _ named_sentence_whole select_named_sentence_is.0 (unrefused 3 (op2 (Compare Eq Binary) (col 1 2) (col 0 0) ∷ []) select_named_sentence_terms [] (Text a ∷ []) (named_sentence_typed a)))
 
 revision_whole : IsWhole (length select_revision) 2 (understood desk_schema select_revision)
 unfolding understood everything
@@ -221,9 +234,8 @@ revision_typed : (a : ℕ) (b : ℕ) → accepts_program desk_schema [] (simple 
 unfolding everything
 revision_typed a b = refl
 
-pub revision_fails : (a : ℕ) (b : ℕ) (old new : State) (given : Row) (e : Error) → FailsToQuery select_revision given old new e → given ≡ Int (pos a) ∷ Int (pos b) ∷ [] → old.now.schema ≡ desk_schema → old.step_limit ≡ None → Fails old new ⊥ e
-revision_fails a b old new given e failed same has unlimited =
-    read_fails select_revision (Int (pos a) ∷ Int (pos b) ∷ []) old new _ has unlimited select_revision_is.0 select_revision_is.1 select_revision_is.2 revision_whole (unrefused 5 (op2 (Compare Eq Binary) (col 1 1) (col 0 0) ∷ op2 (Compare Eq Binary) (col 1 2) (col 0 1) ∷ []) select_revision_terms [] (Int (pos a) ∷ Int (pos b) ∷ []) (revision_typed a b)) e (subst (λ ps. FailsToQuery select_revision ps old new e) same failed)
+pub revision_reads : (a : ℕ) (b : ℕ) → IsDeskQuery select_revision (Int (pos a) ∷ Int (pos b) ∷ [])
+revision_reads a b = (select_revision_is.1, select_revision_is.2, can_read select_revision (Int (pos a) ∷ Int (pos b) ∷ []) _ _ revision_whole select_revision_is.0 (unrefused 5 (op2 (Compare Eq Binary) (col 1 1) (col 0 0) ∷ op2 (Compare Eq Binary) (col 1 2) (col 0 1) ∷ []) select_revision_terms [] (Int (pos a) ∷ Int (pos b) ∷ []) (revision_typed a b)))
 
 one_pulled_whole : IsWhole (length select_one_pulled) 1 (understood desk_schema select_one_pulled)
 unfolding understood everything
@@ -233,9 +245,8 @@ one_pulled_typed : (a : ℕ) → accepts_program desk_schema [] (simple 9 (by_nu
 unfolding everything
 one_pulled_typed a = refl
 
-pub one_pulled_fails : (a : ℕ) (old new : State) (given : Row) (e : Error) → FailsToQuery select_one_pulled given old new e → given ≡ Int (pos a) ∷ [] → old.now.schema ≡ desk_schema → old.step_limit ≡ None → Fails old new ⊥ e
-one_pulled_fails a old new given e failed same has unlimited =
-    read_fails select_one_pulled (Int (pos a) ∷ []) old new _ has unlimited select_one_pulled_is.0 select_one_pulled_is.1 select_one_pulled_is.2 one_pulled_whole (unrefused 9 (by_number ∷ []) select_one_pulled_terms [] (Int (pos a) ∷ []) (one_pulled_typed a)) e (subst (λ ps. FailsToQuery select_one_pulled ps old new e) same failed)
+pub one_pulled_reads : (a : ℕ) → IsDeskQuery select_one_pulled (Int (pos a) ∷ [])
+one_pulled_reads a = (select_one_pulled_is.1, select_one_pulled_is.2, can_read select_one_pulled (Int (pos a) ∷ []) _ _ one_pulled_whole select_one_pulled_is.0 (unrefused 9 (by_number ∷ []) select_one_pulled_terms [] (Int (pos a) ∷ []) (one_pulled_typed a)))
 
 work_whole : IsWhole (length select_work) 1 (understood desk_schema select_work)
 unfolding understood everything
@@ -245,9 +256,8 @@ work_typed : (a : ℕ) → accepts_program desk_schema [] (simple 3 (op2 (Compar
 unfolding everything
 work_typed a = refl
 
-pub work_fails : (a : ℕ) (old new : State) (given : Row) (e : Error) → FailsToQuery select_work given old new e → given ≡ Int (pos a) ∷ [] → old.now.schema ≡ desk_schema → old.step_limit ≡ None → Fails old new ⊥ e
-work_fails a old new given e failed same has unlimited =
-    read_fails select_work (Int (pos a) ∷ []) old new _ has unlimited select_work_is.0 select_work_is.1 select_work_is.2 work_whole (unrefused 3 (op2 (Compare Eq Binary) (col 1 3) (col 0 0) ∷ []) select_work_terms (rising 0 ∷ []) (Int (pos a) ∷ []) (work_typed a)) e (subst (λ ps. FailsToQuery select_work ps old new e) same failed)
+pub work_reads : (a : ℕ) → IsDeskQuery select_work (Int (pos a) ∷ [])
+work_reads a = (select_work_is.1, select_work_is.2, can_read select_work (Int (pos a) ∷ []) _ _ work_whole select_work_is.0 (unrefused 3 (op2 (Compare Eq Binary) (col 1 3) (col 0 0) ∷ []) select_work_terms (rising 0 ∷ []) (Int (pos a) ∷ []) (work_typed a)))
 
 heads_whole : IsWhole (length select_heads) 0 (understood desk_schema select_heads)
 unfolding understood everything

@@ -3,8 +3,10 @@ pub mod Reading
 pub mod Queries
 pub mod Order
 pub mod Ordered
+pub mod Tables
 pub mod Shown
 pub mod Picked
+pub mod Picks
 pub mod Sifted
 pub mod Staying
 pub mod Streaming

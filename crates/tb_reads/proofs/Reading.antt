@@ -24,29 +24,16 @@ module _ {X : Type 0} (row : ℕ → X → Row) where
       ap (λ j. take j rows) next ∙ take-suc rows k r low ∙ ap₂ (λ a b. a ++ b ∷ []) so (at ∙ is ∙ ap (λ m. row m (of s)) no_is)
       ∙ sym (numbered_more row 1 (map of found) (of s)) ∙ ap (numbered row 1) (sym (map-append of found (s ∷ [])))
 
-  pub form_here : (Is : X → Type 0) (rows : List Row) (k : ℕ) (r : Row) (dx : X) → k < length rows → get_or rows k r ≡ r → ((x : X) → Is x → r ≢ row (k + 1) x)
+  pub form_here : (Is : X → Type 0) (rows : List Row) (k : ℕ) (r : Row) → k < length rows → get_or rows k r ≡ r → ((x : X) → Is x → r ≢ row (k + 1) x)
       → (xs : List X) → All Is xs → rows ≢ numbered row 1 xs
-  form_here Is rows k r dx low at apart xs each e =
-      let within : k < length xs = omega (arith, low, ap length e, length-numbered 1 xs) in
-      let is = sym at ∙ ap (λ rs. get_or rs k r) e ∙ numbered_at 1 k xs r dx within in
+  form_here Is rows k r low at apart [] each e = absurd (omega (arith, low, ap length e))
+  form_here Is rows k r low at apart (x ∷ xs) each e =
+      let within : k < length (x ∷ xs) = omega (arith, low, ap length e, length-numbered 1 (x ∷ xs)) in
+      let is = sym at ∙ ap (λ rs. get_or rs k r) e ∙ numbered_at 1 k (x ∷ xs) r x within in
       let no_is : 1 + k ≡ k + 1 = omega arith in
-      apart (get_or xs k dx) (each k dx within) (is ∙ ap (λ m. row m (get_or xs k dx)) no_is)
+      apart (get_or (x ∷ xs) k x) (each k x within) (is ∙ ap (λ m. row m (get_or (x ∷ xs) k x)) no_is)
 
-module _ {X : Type 0} (row : X → Row) where
-  map_at : (i : ℕ) (xs : List X) (d : Row) (dx : X) → i < length xs → get_or (map row xs) i d ≡ row (get_or xs i dx)
-  map_at i [] d dx low = absurd (omega (arith, low))
-  map_at zero (x ∷ xs) d dx low = refl
-  map_at (suc i) (x ∷ xs) d dx low = map_at i xs d dx (omega (arith, low))
-
-  pub map_more : {S : Type 0} (of : S → X) (rows : List Row) (found : List S) (k : ℕ) (r : Row) (s : S) → k < length rows → take k rows ≡ map row (map of found)
-      → get_or rows k r ≡ r → r ≡ row (of s) → take (k + 1) rows ≡ map row (map of (found ++ s ∷ []))
-  map_more of rows found k r s low so at is =
-      let next : k + 1 ≡ suc k = omega arith in
-      ap (λ j. take j rows) next ∙ take-suc rows k r low ∙ ap₂ (λ a b. a ++ b ∷ []) so (at ∙ is)
-      ∙ sym (map-append row (map of found) (of s ∷ [])) ∙ ap (map row) (sym (map-append of found (s ∷ [])))
-
-  pub form_among : (Is : X → Type 0) (rows : List Row) (k : ℕ) (r : Row) (dx : X) → k < length rows → get_or rows k r ≡ r → ((x : X) → Is x → r ≢ row x)
-      → (xs : List X) → All Is xs → rows ≢ map row xs
-  form_among Is rows k r dx low at apart xs each e =
-      let within : k < length xs = omega (arith, low, ap length e, length-map xs row) in
-      apart (get_or xs k dx) (each k dx within) (sym at ∙ ap (λ rs. get_or rs k r) e ∙ map_at k xs r dx within)
+-- rows that show no number
+pub numbered_flat : {X : Type 0} (row : X → Row) (k : ℕ) (xs : List X) → numbered (λ _. row) k xs ≡ map row xs
+numbered_flat row k [] = refl
+numbered_flat row k (x ∷ xs) = ap (λ rs. row x ∷ rs) (numbered_flat row (suc k) xs)

@@ -1,9 +1,16 @@
 -- Between crates: no contract of a front door cites a definition of this module.
 -- How a read of the tables of a desk fails.
-use Rattle.std.specs.Prelude.{◌≡◌, ⊤, Result, Err, IsTrue}
+use Rattle.std.specs.Prelude.{◌≡◌, ◌≤◌, ℕ, List, length, false, ⊤, None, Result, Ok, Err, IsTrue}
 use Rattle.sqlite.specs.Store.{Ghosts}
 use Rattle.sqlite.specs.Held.{Held, state}
+use Rattle.sqlite.specs.Order.{Row}
+use Rattle.sqlite.specs.Effect.{Database, RefusesToRead}
+use Rattle.sqlite.specs.Listing.{understood, reads_listing}
+use Rattle.sqlite_resolve.specs.declared.compiled.Compiled.{Compiled}
+use Rattle.sqlite_resolve.specs.declared.error.CompileError.{CompileError}
+use Rattle.sqlite.specs.Given.{IsPlain}
 use Rattle.sqlite.specs.State.{HasCleanDisk, IsUnchanged}
+use Rattle.sqlite.specs.declared.error.Error.{Error}
 use Rattle.sqlite_trees.specs.Tree.{Trees}
 use Rattle.tb_tables.specs.Layout.{desk_schema}
 use Rattle.tb_tables.specs.Failing.{IsStoreFault, IsWant}
@@ -41,3 +48,14 @@ abbrev pub SeesAsBefore : {S : Type 0} → Ghosts S → Held S → Held S → Ty
 SeesAsBefore g old new =
     HasCleanDisk (state g new) → IsTrue (state g new).is_open → (state g old).now.schema ≡ desk_schema
     → IsSettled g old → (state g new).now ≡ (state g old).now
+
+-- a text that is one statement with so many parameters, and is refused nothing on a desk where there is no limit on steps
+abbrev pub CanRead : List ℕ → Row → Result Compiled CompileError → Type 0
+CanRead sql params (Ok c) = (length sql ≤ c.tail) × (length params ≡ length c.names)
+    × ((db : Database) (e : Error) → db.schema ≡ desk_schema → RefusesToRead None c.command db params e → ⊥)
+CanRead sql params (Err e) = ⊥
+
+-- a statement that reads the tables of a desk, and commits nothing
+abbrev pub IsDeskQuery : List ℕ → Row → Type 0
+IsDeskQuery sql params = IsPlain (understood desk_schema sql) × (reads_listing desk_schema sql ≡ false)
+    × CanRead sql params (understood desk_schema sql)

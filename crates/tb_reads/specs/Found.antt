@@ -36,6 +36,11 @@ work_of batch n (x ∷ xs) = cond (nat_eq x.batch batch) (record {
 abbrev pub work_shown : BatchSentence → Row
 work_shown w = Int (pos w.number) ∷ Int (pos w.rev) ∷ Int (pos w.words) ∷ []
 
+-- the first of the rows shows the record that is found, and where none is found there is no row
+abbrev pub ShowsFirst : {T : Type 0} → (T → Row) → List Row → Option T → Type 0
+ShowsFirst shown rows None = rows ≡ []
+ShowsFirst shown rows (Some x) = slice_get rows 0 ≡ Some (shown x)
+
 -- among the rows is one that shows no such record
 abbrev pub HasUnreadable : {X : Type 0} → (X → Type 0) → (X → Row) → List Row → Type 0
 HasUnreadable {X} Is shown rows = (row : Row) × Contains rows row × ((x : X) → Is x → row ≢ shown x)

@@ -6,6 +6,7 @@
 
 mod cursor;
 mod error;
+mod fetch;
 mod records;
 mod single;
 mod stream;

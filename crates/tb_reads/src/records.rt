@@ -1,19 +1,77 @@
 //! Rows as records, and which rows are none.
 
-ghost use Rattle.std.specs.Prelude.{ℕ, ◌≡◌, ◌≢◌, ◌+◌, ◌<◌, ◌^◌, length, map, pos, List, All};
+ghost use Rattle.std.specs.Prelude.{ℕ, ◌≡◌, ◌≢◌, ◌+◌, ◌<◌, ◌^◌, length, map, pos, List, All, []};
 ghost use Rattle.std.specs.Prelude.{Err, IfOk, IsUtf8, string_bytes, IfErr};
 ghost use Rattle.sqlite.specs.Order.{column};
 ghost use Rattle.sqlite.specs.declared.types.Value.TheVariants.{Int, Text};
 ghost use Rattle.tb_tables.specs.Records.{Batch, Sentence, Revision, Move, Total, numbered, batch_shown};
-ghost use Rattle.tb_tables.specs.Records.{sentence_shown, revision_shown, move_shown, total_shown, number_shown};
+ghost use Rattle.tb_tables.specs.Records.{sentence_shown, revision_shown, move_shown, total_shown};
 ghost use Rattle.tb_tables.specs.Values.{batch_of, sentence_of, revision_of, move_of, total_of};
 ghost use Rattle.tb_reads.specs.Readable.{IsBatch, IsSentence, IsRevision, IsMove, IsTotal};
+ghost use Rattle.tb_reads.specs.Found.{HasUnreadable, ShowsFirst};
 ghost use Rattle.tb_reads.specs.Failing.{IsReadFault, IsReadWant};
 
 use crate::error::ReadError;
+use crate::work::BatchSentence;
 use sqlite::{Error, ErrorCode, Row};
 use std::alloc::Global;
 use tb_tables::{BatchRow, MoveRow, RevisionRow, SentenceRow, TotalRow};
+
+/// A record that a row shows.
+pub(crate) trait FromRow: Sized + Drop {
+    ghost use Rattle.std.specs.Prelude.{ℕ, ◌≡◌, ◌≢◌, Err, IfOk, IfErr};
+    ghost use Rattle.sqlite.specs.Order.{Row as Columns};
+    ghost use Rattle.tb_reads.specs.Failing.{IsReadFault, IsReadWant};
+
+    // the record as plain data
+    ghost Plain: { Type 0 };
+
+    ghost plain: { Self → Plain };
+
+    // what the row shows of it; where the table numbers its records, the row has this number
+    ghost shown: { ℕ → Plain → Columns };
+
+    // the columns can be read back
+    ghost Fits: { Plain → Type 0 };
+
+    /// The record of a row that has this number.
+    fn from_row(row: &Row, number: u64) -> Result<Self, ReadError>
+        ensures ok { IfOk result (λ x. row.now ≡ shown number (plain x)) }
+        ensures form { result ≡ Err ReadError.Form → (x : Plain) → Fits x → row.now ≢ shown number x }
+        ensures fails { IfErr result IsReadFault }
+        ensures cause { IfErr result IsReadWant };
+}
+
+/// The records of these rows, which are numbered from 1. `Form` is answered exactly where the rows are those of no such
+/// list.
+pub(crate) fn all_in<T: FromRow>(alloc: Global, rows: &[Row]) -> Result<Vec<T>, ReadError>
+    ensures ok { IfOk result (λ v. rows.now ≡ numbered T.shown 1 (map T.plain v.items)) }
+    ensures form { result ≡ Err ReadError.Form → (xs : List T.Plain) → All T.Fits xs
+        → rows.now ≢ numbered T.shown 1 xs }
+    ensures fails { IfErr result IsReadFault }
+    ensures cause { IfErr result IsReadWant }
+{
+    let mut found = Vec::new(alloc);
+    let mut number = 0u64;
+    for row in rows {
+        number += 1;
+        found.push(T::from_row(row, number)?)?;
+    }
+    Ok(found)
+}
+
+/// The record of the first row, where there is a row.
+pub(crate) fn first_in<T: FromRow>(rows: &[Row], number: u64) -> Result<Option<T>, ReadError>
+    ensures first { IfOk result (ShowsFirst (λ x. T.shown number (T.plain x)) rows.now) }
+    ensures form { result ≡ Err ReadError.Form → HasUnreadable T.Fits (T.shown number) rows.now }
+    ensures fails { IfErr result IsReadFault }
+    ensures cause { IfErr result IsReadWant }
+{
+    match rows.first() {
+        Some(row) => Ok(Some(T::from_row(row, number)?)),
+        None => Ok(None),
+    }
+}
 
 pub(crate) fn number_at(row: &Row, at: usize) -> Result<u32, ReadError>
     requires { at < length row.now }
@@ -64,27 +122,211 @@ fn text_at(row: &Row, at: usize) -> Result<String, ReadError>
     }
 }
 
-/// The batch of a row that has this number.
-pub(crate) fn batch_in(row: &Row, number: u64) -> Result<BatchRow, ReadError>
-    ensures ok { IfOk result (λ x. row.now ≡ batch_shown number (batch_of x)) }
-    ensures form { result ≡ Err ReadError.Form → (x : Batch) → IsBatch x → row.now ≢ batch_shown number x }
-    ensures fails { IfErr result IsReadFault }
-    ensures cause { IfErr result IsReadWant }
-{
-    if row.column_count() != 4 {
-        return Err(ReadError::Form);
+impl FromRow for BatchRow {
+    ghost use Rattle.tb_tables.specs.Records.{Batch, batch_shown};
+    ghost use Rattle.tb_tables.specs.Values.{batch_of};
+    ghost use Rattle.tb_reads.specs.Readable.{IsBatch};
+
+    ghost Plain = { Batch };
+
+    ghost plain = { batch_of };
+
+    ghost shown = { batch_shown };
+
+    ghost Fits = { IsBatch };
+
+    fn from_row(row: &Row, number: u64) -> Result<BatchRow, ReadError> {
+        if row.column_count() != 4 {
+            return Err(ReadError::Form);
+        }
+        if key_at(row)? != number {
+            return Err(ReadError::Form);
+        }
+        let name = text_at(row, 1)?;
+        let state = number_at(row, 2)?;
+        let worker = text_at(row, 3)?;
+        Ok(BatchRow {
+            name,
+            state,
+            worker,
+        })
     }
-    if key_at(row)? != number {
-        return Err(ReadError::Form);
+}
+
+impl FromRow for SentenceRow {
+    ghost use Rattle.tb_tables.specs.Records.{Sentence, sentence_shown};
+    ghost use Rattle.tb_tables.specs.Values.{sentence_of};
+    ghost use Rattle.tb_reads.specs.Readable.{IsSentence};
+
+    ghost Plain = { Sentence };
+
+    ghost plain = { sentence_of };
+
+    ghost shown = { sentence_shown };
+
+    ghost Fits = { IsSentence };
+
+    fn from_row(row: &Row, number: u64) -> Result<SentenceRow, ReadError> {
+        if row.column_count() != 5 {
+            return Err(ReadError::Form);
+        }
+        if key_at(row)? != number {
+            return Err(ReadError::Form);
+        }
+        let sent_id = text_at(row, 1)?;
+        let batch = number_at(row, 2)?;
+        let rev = number_at(row, 3)?;
+        let words = number_at(row, 4)?;
+        Ok(SentenceRow {
+            sent_id,
+            batch,
+            rev,
+            words,
+        })
     }
-    let name = text_at(row, 1)?;
-    let state = number_at(row, 2)?;
-    let worker = text_at(row, 3)?;
-    Ok(BatchRow {
-        name,
-        state,
-        worker,
-    })
+}
+
+impl FromRow for MoveRow {
+    ghost use Rattle.tb_tables.specs.Records.{Move, move_shown};
+    ghost use Rattle.tb_tables.specs.Values.{move_of};
+    ghost use Rattle.tb_reads.specs.Readable.{IsMove};
+
+    ghost Plain = { Move };
+
+    ghost plain = { move_of };
+
+    ghost shown = { move_shown };
+
+    ghost Fits = { IsMove };
+
+    fn from_row(row: &Row, number: u64) -> Result<MoveRow, ReadError> {
+        if row.column_count() != 10 {
+            return Err(ReadError::Form);
+        }
+        if key_at(row)? != number {
+            return Err(ReadError::Form);
+        }
+        let kind = number_at(row, 1)?;
+        let batch = number_at(row, 2)?;
+        let sent = number_at(row, 3)?;
+        let from = number_at(row, 4)?;
+        let to = number_at(row, 5)?;
+        let sentences = number_at(row, 6)?;
+        let words_out = number_at(row, 7)?;
+        let words_in = number_at(row, 8)?;
+        let who = text_at(row, 9)?;
+        Ok(MoveRow {
+            kind,
+            batch,
+            sent,
+            from,
+            to,
+            sentences,
+            words_out,
+            words_in,
+            who,
+        })
+    }
+}
+
+impl FromRow for TotalRow {
+    ghost use Rattle.tb_tables.specs.Records.{Total, total_shown};
+    ghost use Rattle.tb_tables.specs.Values.{total_of};
+    ghost use Rattle.tb_reads.specs.Readable.{IsTotal};
+
+    ghost Plain = { Total };
+
+    ghost plain = { total_of };
+
+    ghost shown = { total_shown };
+
+    ghost Fits = { IsTotal };
+
+    fn from_row(row: &Row, number: u64) -> Result<TotalRow, ReadError> {
+        if row.column_count() != 3 {
+            return Err(ReadError::Form);
+        }
+        if key_at(row)? != number {
+            return Err(ReadError::Form);
+        }
+        let sentences = number_at(row, 1)?;
+        let words = number_at(row, 2)?;
+        Ok(TotalRow { sentences, words })
+    }
+}
+
+impl FromRow for RevisionRow {
+    ghost use Rattle.tb_tables.specs.Records.{Revision, revision_shown};
+    ghost use Rattle.tb_tables.specs.Values.{revision_of};
+    ghost use Rattle.tb_reads.specs.Readable.{IsRevision};
+
+    ghost Plain = { Revision };
+
+    ghost plain = { revision_of };
+
+    ghost shown = { λ _. revision_shown };
+
+    ghost Fits = { IsRevision };
+
+    fn from_row(row: &Row, _number: u64) -> Result<RevisionRow, ReadError> {
+        if row.column_count() != 4 {
+            return Err(ReadError::Form);
+        }
+        let sent = number_at(row, 0)?;
+        let rev = number_at(row, 1)?;
+        let who = text_at(row, 2)?;
+        let body = text_at(row, 3)?;
+        Ok(RevisionRow {
+            sent,
+            rev,
+            who,
+            body,
+        })
+    }
+}
+
+impl FromRow for u32 {
+    ghost use Rattle.std.specs.Prelude.{ℕ, ◌<◌, ◌^◌};
+    ghost use Rattle.tb_tables.specs.Records.{number_shown};
+
+    ghost Plain = { ℕ };
+
+    ghost plain = { λ n. n };
+
+    ghost shown = { λ _. number_shown };
+
+    ghost Fits = { λ n. n < 2 ^ 32 };
+
+    fn from_row(row: &Row, _number: u64) -> Result<u32, ReadError> {
+        if row.column_count() != 1 {
+            return Err(ReadError::Form);
+        }
+        number_at(row, 0)
+    }
+}
+
+impl FromRow for BatchSentence {
+    ghost use Rattle.tb_reads.specs.declared.work.BatchSentence.{BatchSentence};
+    ghost use Rattle.tb_reads.specs.Found.{work_shown};
+    ghost use Rattle.tb_reads.specs.Readable.{IsWork};
+
+    ghost Plain = { BatchSentence };
+
+    ghost plain = { λ x. x };
+
+    ghost shown = { λ _. work_shown };
+
+    ghost Fits = { IsWork };
+
+    fn from_row(row: &Row, _number: u64) -> Result<BatchSentence, ReadError> {
+        if row.column_count() != 3 {
+            return Err(ReadError::Form);
+        }
+        let number = number_at(row, 0)?;
+        let rev = number_at(row, 1)?;
+        let words = number_at(row, 2)?;
+        Ok(BatchSentence { number, rev, words })
+    }
 }
 
 /// The batches of rows of four columns, as `batches` asks for them, that are numbered from 1. `Form` is answered exactly where
@@ -96,39 +338,7 @@ pub fn batches_in(alloc: Global, rows: &[Row]) -> Result<Vec<BatchRow>, ReadErro
     ensures fails { IfErr result IsReadFault }
     ensures cause { IfErr result IsReadWant }
 {
-    let mut found = Vec::new(alloc);
-    let mut number = 0u64;
-    for row in rows {
-        number += 1;
-        found.push(batch_in(row, number)?)?;
-    }
-    Ok(found)
-}
-
-/// The sentence of a row that has this number.
-pub(crate) fn sentence_in(row: &Row, number: u64) -> Result<SentenceRow, ReadError>
-    ensures ok { IfOk result (λ x. row.now ≡ sentence_shown number (sentence_of x)) }
-    ensures form { result ≡ Err ReadError.Form → (x : Sentence) → IsSentence x
-        → row.now ≢ sentence_shown number x }
-    ensures fails { IfErr result IsReadFault }
-    ensures cause { IfErr result IsReadWant }
-{
-    if row.column_count() != 5 {
-        return Err(ReadError::Form);
-    }
-    if key_at(row)? != number {
-        return Err(ReadError::Form);
-    }
-    let sent_id = text_at(row, 1)?;
-    let batch = number_at(row, 2)?;
-    let rev = number_at(row, 3)?;
-    let words = number_at(row, 4)?;
-    Ok(SentenceRow {
-        sent_id,
-        batch,
-        rev,
-        words,
-    })
+    all_in(alloc, rows)
 }
 
 /// The sentences of such rows of five columns. `Form` is answered exactly where they are those of no list of sentences.
@@ -139,48 +349,7 @@ pub fn sentences_in(alloc: Global, rows: &[Row]) -> Result<Vec<SentenceRow>, Rea
     ensures fails { IfErr result IsReadFault }
     ensures cause { IfErr result IsReadWant }
 {
-    let mut found = Vec::new(alloc);
-    let mut number = 0u64;
-    for row in rows {
-        number += 1;
-        found.push(sentence_in(row, number)?)?;
-    }
-    Ok(found)
-}
-
-/// The move of a row that has this number.
-pub(crate) fn move_in(row: &Row, number: u64) -> Result<MoveRow, ReadError>
-    ensures ok { IfOk result (λ x. row.now ≡ move_shown number (move_of x)) }
-    ensures form { result ≡ Err ReadError.Form → (x : Move) → IsMove x → row.now ≢ move_shown number x }
-    ensures fails { IfErr result IsReadFault }
-    ensures cause { IfErr result IsReadWant }
-{
-    if row.column_count() != 10 {
-        return Err(ReadError::Form);
-    }
-    if key_at(row)? != number {
-        return Err(ReadError::Form);
-    }
-    let kind = number_at(row, 1)?;
-    let batch = number_at(row, 2)?;
-    let sent = number_at(row, 3)?;
-    let from = number_at(row, 4)?;
-    let to = number_at(row, 5)?;
-    let sentences = number_at(row, 6)?;
-    let words_out = number_at(row, 7)?;
-    let words_in = number_at(row, 8)?;
-    let who = text_at(row, 9)?;
-    Ok(MoveRow {
-        kind,
-        batch,
-        sent,
-        from,
-        to,
-        sentences,
-        words_out,
-        words_in,
-        who,
-    })
+    all_in(alloc, rows)
 }
 
 /// The moves of such rows of ten columns. `Form` is answered exactly where they are those of no list of moves.
@@ -191,31 +360,7 @@ pub fn moves_in(alloc: Global, rows: &[Row]) -> Result<Vec<MoveRow>, ReadError>
     ensures fails { IfErr result IsReadFault }
     ensures cause { IfErr result IsReadWant }
 {
-    let mut found = Vec::new(alloc);
-    let mut number = 0u64;
-    for row in rows {
-        number += 1;
-        found.push(move_in(row, number)?)?;
-    }
-    Ok(found)
-}
-
-/// The total of a row that has this number.
-pub(crate) fn total_in(row: &Row, number: u64) -> Result<TotalRow, ReadError>
-    ensures ok { IfOk result (λ x. row.now ≡ total_shown number (total_of x)) }
-    ensures form { result ≡ Err ReadError.Form → (x : Total) → IsTotal x → row.now ≢ total_shown number x }
-    ensures fails { IfErr result IsReadFault }
-    ensures cause { IfErr result IsReadWant }
-{
-    if row.column_count() != 3 {
-        return Err(ReadError::Form);
-    }
-    if key_at(row)? != number {
-        return Err(ReadError::Form);
-    }
-    let sentences = number_at(row, 1)?;
-    let words = number_at(row, 2)?;
-    Ok(TotalRow { sentences, words })
+    all_in(alloc, rows)
 }
 
 /// The totals of such rows of three columns. `Form` is answered exactly where they are those of no list of totals.
@@ -226,35 +371,7 @@ pub fn totals_in(alloc: Global, rows: &[Row]) -> Result<Vec<TotalRow>, ReadError
     ensures fails { IfErr result IsReadFault }
     ensures cause { IfErr result IsReadWant }
 {
-    let mut found = Vec::new(alloc);
-    let mut number = 0u64;
-    for row in rows {
-        number += 1;
-        found.push(total_in(row, number)?)?;
-    }
-    Ok(found)
-}
-
-/// The revision of a row.
-pub(crate) fn revision_in(row: &Row) -> Result<RevisionRow, ReadError>
-    ensures ok { IfOk result (λ x. row.now ≡ revision_shown (revision_of x)) }
-    ensures form { result ≡ Err ReadError.Form → (x : Revision) → IsRevision x → row.now ≢ revision_shown x }
-    ensures fails { IfErr result IsReadFault }
-    ensures cause { IfErr result IsReadWant }
-{
-    if row.column_count() != 4 {
-        return Err(ReadError::Form);
-    }
-    let sent = number_at(row, 0)?;
-    let rev = number_at(row, 1)?;
-    let who = text_at(row, 2)?;
-    let body = text_at(row, 3)?;
-    Ok(RevisionRow {
-        sent,
-        rev,
-        who,
-        body,
-    })
+    all_in(alloc, rows)
 }
 
 /// The revisions of rows of four columns. `Form` is answered exactly where they are those of no list of revisions.
@@ -265,37 +382,5 @@ pub fn revisions_in(alloc: Global, rows: &[Row]) -> Result<Vec<RevisionRow>, Rea
     ensures fails { IfErr result IsReadFault }
     ensures cause { IfErr result IsReadWant }
 {
-    let mut found = Vec::new(alloc);
-    for row in rows {
-        found.push(revision_in(row)?)?;
-    }
-    Ok(found)
-}
-
-/// The number of a row that is a number alone.
-pub(crate) fn number_in(row: &Row) -> Result<u32, ReadError>
-    ensures ok { IfOk result (λ n. row.now ≡ number_shown n) }
-    ensures form { result ≡ Err ReadError.Form → (n : ℕ) → n < 2 ^ 32 → row.now ≢ number_shown n }
-    ensures fails { IfErr result IsReadFault }
-    ensures cause { IfErr result IsReadWant }
-{
-    if row.column_count() != 1 {
-        return Err(ReadError::Form);
-    }
-    number_at(row, 0)
-}
-
-/// The numbers of rows that are numbers alone.
-pub(crate) fn numbers_in(alloc: Global, rows: &[Row]) -> Result<Vec<u32>, ReadError>
-    ensures ok { IfOk result (λ v. rows.now ≡ map number_shown v.items) }
-    ensures form { result ≡ Err ReadError.Form → (ns : List ℕ) → All (λ n. n < 2 ^ 32) ns
-        → rows.now ≢ map number_shown ns }
-    ensures fails { IfErr result IsReadFault }
-    ensures cause { IfErr result IsReadWant }
-{
-    let mut found = Vec::new(alloc);
-    for row in rows {
-        found.push(number_in(row)?)?;
-    }
-    Ok(found)
+    all_in(alloc, rows)
 }

@@ -1,7 +1,6 @@
 //! Whole tables, in the order of their keys, as typed records: what the opening of a file reads.
 
-ghost use Rattle.std.specs.Prelude.{ℕ, ◌≡◌, ◌<◌, ◌^◌, length, map, false, List, All, IsPermutation};
-ghost use Rattle.sqlite.specs.Held.{state};
+ghost use Rattle.std.specs.Prelude.{ℕ, ◌≡◌, ◌<◌, ◌^◌, length, map, false, List, All};
 ghost use Rattle.sqlite_trees.specs.Tree.{IsAscending};
 ghost use Rattle.tb_tables.specs.Records.{Batch, Sentence, Revision, Move, Total, Shows, numbered, batch_shown};
 ghost use Rattle.tb_tables.specs.Records.{sentence_shown, revision_shown, move_shown, total_shown, number_shown};
@@ -9,36 +8,16 @@ ghost use Rattle.tb_tables.specs.Records.{meta_view, batch_view, sentence_view, 
 ghost use Rattle.tb_tables.specs.Records.{number_view};
 ghost use Rattle.tb_tables.specs.Values.{batch_of, sentence_of, revision_of, move_of, total_of};
 ghost use Rattle.tb_reads.specs.Readable.{IsBatch, IsSentence, IsRevision, IsMove, IsTotal, ComesBefore};
-ghost use Rattle.tb_tables.specs.Failing.{IsStoreFault, IsWant};
 ghost use Rattle.tb_reads.specs.Failing.{HasNoForm, IsReadFault, IsUnchangedOnForm, SeesAsBefore, IsReadWant};
 ghost use Rattle.tb_tables.specs.Leaving.{ChangesNothing, CommitsNothing, CommitsNothingOnDesk, FailsOnlyAs};
 ghost use Rattle.tb_tables.specs.Leaving.{KeepsRecords, Reads, IsFaultless};
 
 use crate::error::ReadError;
-use crate::records::{batches_in, moves_in, numbers_in, revision_in, sentences_in, totals_in};
-use sqlite::{Alter, Connection, Error, ErrorCode, Row};
+use crate::fetch::fetch_all;
+use crate::records::FromRow;
+use sqlite::{Alter, Connection, Error, ErrorCode};
 use std::alloc::Global;
 use tb_tables::{BatchRow, MoveRow, RevisionRow, SentenceRow, TotalRow};
-
-fn batch_rows<S: Alter>(conn: &mut Connection<S>) -> Result<Vec<Row>, Error>
-    ensures all { Reads S.Store conn.old conn.new result (λ rows trees.
-        IsPermutation (map batch_view (trees 1)) rows.items) }
-    ensures order { Reads S.Store conn.old conn.new result (λ rows trees. (xs : List Batch)
-        → Shows batch_view (numbered batch_shown 1 xs) (trees 1) → rows.items ≡ numbered batch_shown 1 xs) }
-    ensures sees { SeesAsBefore S.Store conn.old conn.new }
-    ensures fails { FailsOnlyAs IsStoreFault S.Store conn.old conn.new result }
-    ensures cause { IsFaultless S.Store conn.old conn.new → FailsOnlyAs IsWant S.Store conn.old conn.new result }
-    ensures unchanged { ChangesNothing S.Store conn.old conn.new result }
-    ensures autocommit { conn.old.in_transaction ≡ false → conn.new.in_transaction ≡ false }
-    ensures keeps_records { KeepsRecords S.Store conn.old conn.new }
-    ensures commits_nothing { CommitsNothing S.Store conn.old conn.new }
-    ensures survives { CommitsNothingOnDesk S.Store conn.old conn.new }
-{
-    conn.query_all(
-        "SELECT no, name, state, worker FROM batches ORDER BY no",
-        &[],
-    )
-}
 
 /// The batches, by number. `Form` is answered exactly where the rows are those of no such list.
 pub fn batches<S: Alter>(
@@ -59,27 +38,10 @@ pub fn batches<S: Alter>(
     ensures commits_nothing { CommitsNothing S.Store conn.old conn.new }
     ensures survives { CommitsNothingOnDesk S.Store conn.old conn.new }
 {
-    let rows = batch_rows(conn)?;
-    batches_in(alloc, rows.as_slice())
-}
-
-fn sentence_rows<S: Alter>(conn: &mut Connection<S>) -> Result<Vec<Row>, Error>
-    ensures all { Reads S.Store conn.old conn.new result (λ rows trees.
-        IsPermutation (map sentence_view (trees 3)) rows.items) }
-    ensures order { Reads S.Store conn.old conn.new result (λ rows trees. (xs : List Sentence)
-        → Shows sentence_view (numbered sentence_shown 1 xs) (trees 3)
-        → rows.items ≡ numbered sentence_shown 1 xs) }
-    ensures sees { SeesAsBefore S.Store conn.old conn.new }
-    ensures fails { FailsOnlyAs IsStoreFault S.Store conn.old conn.new result }
-    ensures cause { IsFaultless S.Store conn.old conn.new → FailsOnlyAs IsWant S.Store conn.old conn.new result }
-    ensures unchanged { ChangesNothing S.Store conn.old conn.new result }
-    ensures autocommit { conn.old.in_transaction ≡ false → conn.new.in_transaction ≡ false }
-    ensures keeps_records { KeepsRecords S.Store conn.old conn.new }
-    ensures commits_nothing { CommitsNothing S.Store conn.old conn.new }
-    ensures survives { CommitsNothingOnDesk S.Store conn.old conn.new }
-{
-    conn.query_all(
-        "SELECT no, sent_id, batch, rev, words FROM sentences ORDER BY no",
+    fetch_all(
+        alloc,
+        conn,
+        "SELECT no, name, state, worker FROM batches ORDER BY no",
         &[],
     )
 }
@@ -103,26 +65,10 @@ pub fn sentences<S: Alter>(
     ensures commits_nothing { CommitsNothing S.Store conn.old conn.new }
     ensures survives { CommitsNothingOnDesk S.Store conn.old conn.new }
 {
-    let rows = sentence_rows(conn)?;
-    sentences_in(alloc, rows.as_slice())
-}
-
-fn move_rows<S: Alter>(conn: &mut Connection<S>) -> Result<Vec<Row>, Error>
-    ensures all { Reads S.Store conn.old conn.new result (λ rows trees.
-        IsPermutation (map move_view (trees 7)) rows.items) }
-    ensures order { Reads S.Store conn.old conn.new result (λ rows trees. (xs : List Move)
-        → Shows move_view (numbered move_shown 1 xs) (trees 7) → rows.items ≡ numbered move_shown 1 xs) }
-    ensures sees { SeesAsBefore S.Store conn.old conn.new }
-    ensures fails { FailsOnlyAs IsStoreFault S.Store conn.old conn.new result }
-    ensures cause { IsFaultless S.Store conn.old conn.new → FailsOnlyAs IsWant S.Store conn.old conn.new result }
-    ensures unchanged { ChangesNothing S.Store conn.old conn.new result }
-    ensures autocommit { conn.old.in_transaction ≡ false → conn.new.in_transaction ≡ false }
-    ensures keeps_records { KeepsRecords S.Store conn.old conn.new }
-    ensures commits_nothing { CommitsNothing S.Store conn.old conn.new }
-    ensures survives { CommitsNothingOnDesk S.Store conn.old conn.new }
-{
-    conn.query_all(
-        "SELECT no, kind, batch, sent, from_state, to_state, sentences, words_out, words_in, who FROM moves ORDER BY no",
+    fetch_all(
+        alloc,
+        conn,
+        "SELECT no, sent_id, batch, rev, words FROM sentences ORDER BY no",
         &[],
     )
 }
@@ -143,26 +89,10 @@ pub fn moves<S: Alter>(alloc: Global, conn: &mut Connection<S>) -> Result<Vec<Mo
     ensures commits_nothing { CommitsNothing S.Store conn.old conn.new }
     ensures survives { CommitsNothingOnDesk S.Store conn.old conn.new }
 {
-    let rows = move_rows(conn)?;
-    moves_in(alloc, rows.as_slice())
-}
-
-fn total_rows<S: Alter>(conn: &mut Connection<S>) -> Result<Vec<Row>, Error>
-    ensures all { Reads S.Store conn.old conn.new result (λ rows trees.
-        IsPermutation (map total_view (trees 8)) rows.items) }
-    ensures order { Reads S.Store conn.old conn.new result (λ rows trees. (xs : List Total)
-        → Shows total_view (numbered total_shown 1 xs) (trees 8) → rows.items ≡ numbered total_shown 1 xs) }
-    ensures sees { SeesAsBefore S.Store conn.old conn.new }
-    ensures fails { FailsOnlyAs IsStoreFault S.Store conn.old conn.new result }
-    ensures cause { IsFaultless S.Store conn.old conn.new → FailsOnlyAs IsWant S.Store conn.old conn.new result }
-    ensures unchanged { ChangesNothing S.Store conn.old conn.new result }
-    ensures autocommit { conn.old.in_transaction ≡ false → conn.new.in_transaction ≡ false }
-    ensures keeps_records { KeepsRecords S.Store conn.old conn.new }
-    ensures commits_nothing { CommitsNothing S.Store conn.old conn.new }
-    ensures survives { CommitsNothingOnDesk S.Store conn.old conn.new }
-{
-    conn.query_all(
-        "SELECT state, sentences, words FROM totals ORDER BY state",
+    fetch_all(
+        alloc,
+        conn,
+        "SELECT no, kind, batch, sent, from_state, to_state, sentences, words_out, words_in, who FROM moves ORDER BY no",
         &[],
     )
 }
@@ -183,8 +113,12 @@ pub fn totals<S: Alter>(alloc: Global, conn: &mut Connection<S>) -> Result<Vec<T
     ensures commits_nothing { CommitsNothing S.Store conn.old conn.new }
     ensures survives { CommitsNothingOnDesk S.Store conn.old conn.new }
 {
-    let rows = total_rows(conn)?;
-    totals_in(alloc, rows.as_slice())
+    fetch_all(
+        alloc,
+        conn,
+        "SELECT state, sentences, words FROM totals ORDER BY state",
+        &[],
+    )
 }
 
 /// The revisions, by sentence and number. `Form` is answered exactly where the rows are those of no such list. One row is at hand
@@ -219,27 +153,9 @@ pub fn revisions<S: Alter>(
         let Some(row) = rows.next()? else {
             return Ok(found);
         };
-        found.push(revision_in(row)?)?;
+        found.push(RevisionRow::from_row(row, 0)?)?;
     }
     Err(ReadError::Store(Error::SqliteFailure(ErrorCode::OutOfMemory)))
-}
-
-fn number_rows<S: Alter>(conn: &mut Connection<S>) -> Result<Vec<Row>, Error>
-    ensures all { Reads S.Store conn.old conn.new result (λ rows trees.
-        IsPermutation (map number_view (trees 9)) rows.items) }
-    ensures order { Reads S.Store conn.old conn.new result (λ rows trees. (xs : List ℕ)
-        → IsAscending (λ a b. a < b) xs → Shows number_view (map number_shown xs) (trees 9)
-        → rows.items ≡ map number_shown xs) }
-    ensures sees { SeesAsBefore S.Store conn.old conn.new }
-    ensures fails { FailsOnlyAs IsStoreFault S.Store conn.old conn.new result }
-    ensures cause { IsFaultless S.Store conn.old conn.new → FailsOnlyAs IsWant S.Store conn.old conn.new result }
-    ensures unchanged { ChangesNothing S.Store conn.old conn.new result }
-    ensures autocommit { conn.old.in_transaction ≡ false → conn.new.in_transaction ≡ false }
-    ensures keeps_records { KeepsRecords S.Store conn.old conn.new }
-    ensures commits_nothing { CommitsNothing S.Store conn.old conn.new }
-    ensures survives { CommitsNothingOnDesk S.Store conn.old conn.new }
-{
-    conn.query_all("SELECT sent FROM pulled ORDER BY sent", &[])
 }
 
 /// The numbers of the sentences that are pulled, ascending. `Form` is answered exactly where the rows are those of no such list.
@@ -260,26 +176,7 @@ pub fn pulled<S: Alter>(alloc: Global, conn: &mut Connection<S>) -> Result<Vec<u
     ensures commits_nothing { CommitsNothing S.Store conn.old conn.new }
     ensures survives { CommitsNothingOnDesk S.Store conn.old conn.new }
 {
-    let rows = number_rows(conn)?;
-    numbers_in(alloc, rows.as_slice())
-}
-
-fn version_rows<S: Alter>(conn: &mut Connection<S>) -> Result<Vec<Row>, Error>
-    ensures all { Reads S.Store conn.old conn.new result (λ rows trees.
-        IsPermutation (map meta_view (trees 0)) rows.items) }
-    ensures order { Reads S.Store conn.old conn.new result (λ rows trees. (xs : List ℕ)
-        → IsAscending (λ a b. a < b) xs → Shows meta_view (map number_shown xs) (trees 0)
-        → rows.items ≡ map number_shown xs) }
-    ensures sees { SeesAsBefore S.Store conn.old conn.new }
-    ensures fails { FailsOnlyAs IsStoreFault S.Store conn.old conn.new result }
-    ensures cause { IsFaultless S.Store conn.old conn.new → FailsOnlyAs IsWant S.Store conn.old conn.new result }
-    ensures unchanged { ChangesNothing S.Store conn.old conn.new result }
-    ensures autocommit { conn.old.in_transaction ≡ false → conn.new.in_transaction ≡ false }
-    ensures keeps_records { KeepsRecords S.Store conn.old conn.new }
-    ensures commits_nothing { CommitsNothing S.Store conn.old conn.new }
-    ensures survives { CommitsNothingOnDesk S.Store conn.old conn.new }
-{
-    conn.query_all("SELECT version FROM meta ORDER BY version", &[])
+    fetch_all(alloc, conn, "SELECT sent FROM pulled ORDER BY sent", &[])
 }
 
 /// The versions that the file tells, ascending: in the file of a desk the number 2 alone. `Form` is answered exactly where the rows are those of no such list.
@@ -300,6 +197,10 @@ pub fn versions<S: Alter>(alloc: Global, conn: &mut Connection<S>) -> Result<Vec
     ensures commits_nothing { CommitsNothing S.Store conn.old conn.new }
     ensures survives { CommitsNothingOnDesk S.Store conn.old conn.new }
 {
-    let rows = version_rows(conn)?;
-    numbers_in(alloc, rows.as_slice())
+    fetch_all(
+        alloc,
+        conn,
+        "SELECT version FROM meta ORDER BY version",
+        &[],
+    )
 }

@@ -1,19 +1,33 @@
-use Rattle.std.proofs.Common.{refl, ◌≡◌, rules, sym, subst, IsPermutation}
+use Rattle.std.proofs.Common.{rules, refl, [], ◌∷◌}
+use Rattle.sqlite.specs.declared.types.Value.TheVariants.{Text}
+use Rattle.sqlite.specs.Held.{state}
+use Rattle.sqlite.specs.Values.{bound_value}
+use Rattle.sqlite_value.specs.Value.{owned}
 use Rattle.tb_tables.specs.Records.{Sentence, sentence_shown}
 use Rattle.tb_reads.specs.Found.{has_name}
 use Rattle.tb_reads.proofs.Picked.{number_found, keys_readable}
-use Rattle.tb_reads.proofs.Shown.{if_ok, on_ok}
+use Rattle.tb_reads.proofs.Queries.{select_named_sentence}
+use Rattle.tb_reads.proofs.Failing.{reads_at, named_sentence_reads}
+use Rattle.tb_reads.proofs.Picks.{named_sentence_shows, number_among}
+use Rattle.tb_reads.proofs.Shown.{if_ok, shown_at}
 use Rattle.tb_reads.proofs.single.sentence_named.Goals as goal
 
-pub returns-clause-ok : goal.returns-clause-ok
-returns-clause-ok g c clean = if_ok c.first_number.result c.first_number.ensures.first (λ found reported has xs holds.
-    let same : c.as_slice.result.now ≡ c.in_ok-rows.rows.items = search rules in
-    number_found sentence_shown (λ (x : Sentence). x.sent_id) (λ _ _. refl) (λ _ _. refl) c.args.sent_id.now found xs _ reported (subst (IsPermutation _) (sym same) (c.in_ok-rows.ensures.found clean has xs holds)))
+pub fetch_first-requires : goal.fetch_first-requires
+fetch_first-requires g c = reads_at select_named_sentence (Text c.args.sent_id.now ∷ []) (bound_value (owned c.params-to_sql.result) ∷ []) (named_sentence_reads c.args.sent_id.now) (search rules)
 
-pub returns-clause-unchanged : goal.returns-clause-unchanged
-returns-clause-unchanged g c clean = on_ok c.first_number.result (c.in_ok-rows.ensures.unchanged clean)
+pub returns-clause-ok : goal.returns-clause-ok
+returns-clause-ok g c clean = if_ok c.fetch_first.result (c.fetch_first.ensures.shown clean) (λ found it has xs holds.
+    let name = c.args.sent_id.now in
+    let old = state g.S.Store c.args.conn.now in
+    let new = state g.S.Store c.fetch_first.new.conn in
+    let shown = shown_at select_named_sentence old new it.0 (Text name ∷ []) _ it.1 (search rules) in
+    number_found sentence_shown (λ (x : Sentence). x.sent_id) (λ _ _. refl) (λ _ _. refl) name found xs it.0 (number_among it.0 found it.2) (named_sentence_shows old new has it.0 name shown xs holds))
 
 pub returns-clause-form : goal.returns-clause-form
 returns-clause-form g c clean failed has xs low holds =
-    let same : c.as_slice.result.now ≡ c.in_ok-rows.rows.items = search rules in
-    keys_readable sentence_shown (λ _ _. refl) (has_name c.args.sent_id.now) xs _ low (subst (IsPermutation _) (sym same) (c.in_ok-rows.ensures.found clean has xs holds)) (c.first_number.ensures.form failed)
+    let name = c.args.sent_id.now in
+    let old = state g.S.Store c.args.conn.now in
+    let new = state g.S.Store c.fetch_first.new.conn in
+    let it = c.fetch_first.ensures.form clean failed in
+    let shown = shown_at select_named_sentence old new it.0 (Text name ∷ []) _ it.1 (search rules) in
+    keys_readable sentence_shown (λ _ _. refl) (has_name name) xs it.0 low (named_sentence_shows old new has it.0 name shown xs holds) it.2

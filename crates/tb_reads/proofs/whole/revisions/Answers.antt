@@ -89,16 +89,16 @@ rows-preserved g c =
           let was = inv.3 (omega (arith, moved.survives.clean)) has in
           let gave = (rw (c.in_ok-row.was, c.in-Some.is) at (moved.ok clean)) select_revisions [] (map revision_shown (map revision_of c.rows.found.items)) was.0 in
           let same = (rw c.in_ok-row.was at (moved.same clean)) in
-          let x = c.in_ok-revision_in.field-0 in
+          let x = c.in_ok-from_row.field-0 in
           let items = c.rows.found.items in
-          let next = shown_push revision_shown (map revision_of items) (revision_of x) c.in-Some.row.now c.in_ok-revision_in.ensures.ok ∙ ap (map revision_shown) (sym (map-append revision_of items (x ∷ []))) in (
+          let next = shown_push revision_shown (map revision_of items) (revision_of x) c.in-Some.row.now c.in_ok-from_row.ensures.ok ∙ ap (map revision_shown) (sym (map-append revision_of items (x ∷ []))) in (
             subst (HasGiven g.S.Store select_revisions [] c.next.follows.lender-at-none.conn.now) (next ∙ ap (λ l. map revision_shown (map revision_of l)) (sym c.in_ok-push.ensures.items)) gave,
             unchanged_then old mid now was.1 same,
           ),
     )
 
-pub returns-in_err-revision_in-clause-form : goal.returns-in_err-revision_in-clause-form
-returns-in_err-revision_in-clause-form g c clean reported has xs each up holds =
+pub returns-in_err-from_row-clause-form : goal.returns-in_err-from_row-clause-form
+returns-in_err-from_row-clause-form g c clean reported has xs each up holds =
     let moved = c.next.follows.holds-at-none in
     let old = state g.S.Store c.args.conn.now in
     let mid = state g.S.Store c.rows.rows.conn.now in
@@ -113,9 +113,9 @@ returns-in_err-revision_in-clause-form g c clean reported has xs each up holds =
     let has_now : now.now.schema ≡ desk_schema = ap (λ (d : Database). d.schema) same.0.now_is ∙ has in
     let more = begun_answer g.S.Store select_revisions (simple 5 [] select_revisions_terms (rising 1 ∷ rising 2 ∷ [])) _ conn (given ++ row ∷ []) select_revisions_is.0 select_revisions_is.1 select_revisions_is.2 has_now gave in
     let here = subst (λ (d : Database). Shows revision_view (map revision_shown xs) (d.trees 5)) (sym same.0.now_is) holds in
-    let reported_is = err_from_is_err_and c.from_residual-in_err-revision_in.result c.from_residual-in_err-revision_in.ensures.1 in
-    let failed : c.revision_in.result ≡ Err Form = let err = c.in_err-revision_in.was in let is = reported_is.1 in let alike = reported_is.2 in cc in
-    not_among IsRevision revision_shown given row more.0 xs (recursion_from_All IsRevision xs each) (revisions_all now.now.trees _ more.1 xs each up here) (c.revision_in.ensures.form failed)
+    let reported_is = err_from_is_err_and c.from_residual-in_err-from_row.result c.from_residual-in_err-from_row.ensures.1 in
+    let failed : c.from_row.result ≡ Err Form = let err = c.in_err-from_row.was in let is = reported_is.1 in let alike = reported_is.2 in cc in
+    not_among IsRevision revision_shown given row more.0 xs (recursion_from_All IsRevision xs each) (revisions_all now.now.trees _ more.1 xs each up here) (c.from_row.ensures.form failed)
 
 pub returns-in_err-rows-clause-keeps_records : goal.returns-in_err-rows-clause-keeps_records
 returns-in_err-rows-clause-keeps_records g c = rw c.in_err-rows.was at (refused_stays g.S.Store select_revisions [] c.args.conn.now c.query.follows.lender-at-none c.query.result select_revisions_is.1 c.query.follows.holds-at-none)
@@ -141,8 +141,8 @@ returns-in_default-clause-keeps_records g c clean opened d holds =
     let here : Holds g.S.Store conn d = then_holds g.S.Store c.args.conn.now mid conn d holds was.1 (rw c.in_ok-row.was at (moved.same late)) in
     search rules
 
-pub returns-in_err-revision_in-clause-keeps_records : goal.returns-in_err-revision_in-clause-keeps_records
-returns-in_err-revision_in-clause-keeps_records g c clean opened d holds =
+pub returns-in_err-from_row-clause-keeps_records : goal.returns-in_err-from_row-clause-keeps_records
+returns-in_err-from_row-clause-keeps_records g c clean opened d holds =
     let moved = c.next.follows.holds-at-none in
     let mid = c.rows.rows.conn.now in
     let conn = c.next.follows.lender-at-none.conn.now in
@@ -182,8 +182,8 @@ returns-in_default-clause-commits_nothing g c =
     let moved = c.next.follows.holds-at-none.survives in
     survives_then old mid _ (λ _. old.now.schema ≢ desk_schema) (λ _. ⊥) (λ _. old.now.schema ≢ desk_schema) (λ _ db other. other) (λ _ db none. absurd none) c.rows.invariant.1 (search rules)
 
-pub returns-in_err-revision_in-clause-commits_nothing : goal.returns-in_err-revision_in-clause-commits_nothing
-returns-in_err-revision_in-clause-commits_nothing g c =
+pub returns-in_err-from_row-clause-commits_nothing : goal.returns-in_err-from_row-clause-commits_nothing
+returns-in_err-from_row-clause-commits_nothing g c =
     let old = state g.S.Store c.args.conn.now in
     let mid = state g.S.Store c.rows.rows.conn.now in
     let moved = c.next.follows.holds-at-none.survives in
@@ -229,8 +229,8 @@ returns-in_err-row-clause-survives g c has = on_desk _ _ (returns-in_err-row-cla
 pub returns-in_default-clause-survives : goal.returns-in_default-clause-survives
 returns-in_default-clause-survives g c has = on_desk _ _ (returns-in_default-clause-commits_nothing g c) has
 
-pub returns-in_err-revision_in-clause-survives : goal.returns-in_err-revision_in-clause-survives
-returns-in_err-revision_in-clause-survives g c has = on_desk _ _ (returns-in_err-revision_in-clause-commits_nothing g c) has
+pub returns-in_err-from_row-clause-survives : goal.returns-in_err-from_row-clause-survives
+returns-in_err-from_row-clause-survives g c has = on_desk _ _ (returns-in_err-from_row-clause-commits_nothing g c) has
 
 pub returns-in_err-push-clause-survives : goal.returns-in_err-push-clause-survives
 returns-in_err-push-clause-survives g c has = on_desk _ _ (returns-in_err-push-clause-commits_nothing g c) has
@@ -262,8 +262,8 @@ returns-in_default-clause-sees g c clean opened has settled =
     let here : (state g.S.Store conn).now ≡ (state g.S.Store c.args.conn.now).now = (rw c.in_ok-row.was at (moved.same late)).0.now_is ∙ was.1.0.now_is in
     search rules
 
-pub returns-in_err-revision_in-clause-sees : goal.returns-in_err-revision_in-clause-sees
-returns-in_err-revision_in-clause-sees g c clean opened has settled =
+pub returns-in_err-from_row-clause-sees : goal.returns-in_err-from_row-clause-sees
+returns-in_err-from_row-clause-sees g c clean opened has settled =
     let moved = c.next.follows.holds-at-none in
     let conn = c.next.follows.lender-at-none.conn.now in
     let late : HasCleanDisk (state g.S.Store conn) = search rules in
@@ -287,8 +287,8 @@ returns-clause-sees g c clean opened has settled =
     let here : (state g.S.Store mid).now ≡ (state g.S.Store c.args.conn.now).now = (c.rows.invariant.3 late has).1.0.now_is in
     search rules
 
-pub returns-in_err-revision_in-clause-untouched : goal.returns-in_err-revision_in-clause-untouched
-returns-in_err-revision_in-clause-untouched g c clean form has =
+pub returns-in_err-from_row-clause-untouched : goal.returns-in_err-from_row-clause-untouched
+returns-in_err-from_row-clause-untouched g c clean form has =
     let moved = c.next.follows.holds-at-none in
     let old = state g.S.Store c.args.conn.now in
     let mid = state g.S.Store c.rows.rows.conn.now in

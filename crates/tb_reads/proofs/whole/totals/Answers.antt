@@ -1,18 +1,17 @@
-use Rattle.std.proofs.Common.{◌≡◌, rules, sym, subst, IsPermutation, map}
-use Rattle.std.proofs.lemmas.List.Sorted.{IsPermutation-sym}
 use Rattle.sqlite.specs.Held.{state}
-use Rattle.tb_tables.specs.Records.{total_view}
-use Rattle.tb_reads.proofs.Shown.{if_ok, on_ok}
+use Rattle.tb_reads.proofs.Failing.{totals_reads}
+use Rattle.tb_reads.proofs.Shown.{if_ok}
+use Rattle.tb_reads.proofs.Tables.{totals_all, totals_order}
 use Rattle.tb_reads.proofs.whole.totals.Goals as goal
 
+pub fetch_all-requires : goal.fetch_all-requires
+fetch_all-requires g c = totals_reads
+
 pub returns-clause-ok : goal.returns-clause-ok
-returns-clause-ok g c clean = if_ok c.totals_in.result c.totals_in.ensures.ok (λ v is has.
-    let views = map total_view ((state g.S.Store c.args.conn.now).now.trees 8) in
-    let same : c.as_slice.result.now ≡ c.in_ok-rows.rows.items = search rules in
-    IsPermutation-sym views _ (subst (IsPermutation views) is (subst (IsPermutation views) (sym same) (c.in_ok-rows.ensures.all clean has))))
+returns-clause-ok g c clean = if_ok c.fetch_all.result (c.fetch_all.ensures.shown clean) (λ v shown has.
+    totals_all (state g.S.Store c.args.conn.now) (state g.S.Store c.fetch_all.new.conn) has _ shown)
 
-pub returns-clause-unchanged : goal.returns-clause-unchanged
-returns-clause-unchanged g c clean = on_ok c.totals_in.result (c.in_ok-rows.ensures.unchanged clean)
-
-pub returns-clause-untouched : goal.returns-clause-untouched
-returns-clause-untouched g c clean form has = c.in_ok-rows.ensures.unchanged clean has
+pub returns-clause-form : goal.returns-clause-form
+returns-clause-form g c clean failed has xs each holds =
+    let it = c.fetch_all.ensures.form clean failed in
+    it.2 xs each (totals_order (state g.S.Store c.args.conn.now) (state g.S.Store c.fetch_all.new.conn) has it.0 it.1 xs holds)

@@ -1,0 +1,22 @@
+use Rattle.std.proofs.Common.{◌≡◌, rules, subst, sym, ◌∙◌}
+use Rattle.sqlite.specs.Held.{state}
+use Rattle.sqlite.specs.State.{Shown}
+use Rattle.sqlite.specs.Values.{bound}
+use Rattle.tb_reads.proofs.Shown.{if_ok, on_ok}
+use Rattle.tb_reads.proofs.fetch.fetch_all.Goals as goal
+
+pub returns-clause-shown : goal.returns-clause-shown
+returns-clause-shown g c clean = if_ok c.all_in.result c.all_in.ensures.ok (λ v is.
+    let same : c.as_slice.result.now ≡ c.in_ok-rows.rows.items = search rules in
+    subst (Shown c.args.sql.now (bound c.args.params.now) (state g.S.Store c.args.conn.now) (state g.S.Store c.fetch_rows.new.conn)) (sym same ∙ is) (c.in_ok-rows.ensures.shown clean))
+
+pub returns-clause-form : goal.returns-clause-form
+returns-clause-form g c clean failed =
+    let same : c.as_slice.result.now ≡ c.in_ok-rows.rows.items = search rules in
+    (c.in_ok-rows.rows.items, c.in_ok-rows.ensures.shown clean, λ xs each is. c.all_in.ensures.form failed xs each (same ∙ is))
+
+pub returns-clause-unchanged : goal.returns-clause-unchanged
+returns-clause-unchanged g c clean = on_ok c.all_in.result (c.in_ok-rows.ensures.unchanged clean)
+
+pub returns-clause-untouched : goal.returns-clause-untouched
+returns-clause-untouched g c clean form has = c.in_ok-rows.ensures.unchanged clean has

@@ -1,0 +1,94 @@
+//! The statements that read a desk.
+
+ghost use Rattle.std.specs.Prelude.{◌≡◌, ◌≢◌, List, All, map, Err, IfOk, false};
+ghost use Rattle.sqlite.specs.Held.{state};
+ghost use Rattle.sqlite.specs.Order.{Row as Columns};
+ghost use Rattle.sqlite.specs.State.{HasCleanDisk, Shown};
+ghost use Rattle.sqlite.specs.Values.{bound};
+ghost use Rattle.tb_tables.specs.Failing.{IsStoreFault, IsWant};
+ghost use Rattle.tb_tables.specs.Leaving.{ChangesNothing, CommitsNothing, CommitsNothingOnDesk, FailsOnlyAs};
+ghost use Rattle.tb_tables.specs.Leaving.{KeepsRecords, IsFaultless};
+ghost use Rattle.tb_tables.specs.Records.{numbered};
+ghost use Rattle.tb_reads.specs.Failing.{IsDeskQuery, SeesAsBefore, IsUnchangedOnForm, IsReadFault, IsReadWant};
+ghost use Rattle.tb_reads.specs.Found.{HasUnreadable, ShowsFirst};
+
+use crate::error::ReadError;
+use crate::records::{FromRow, all_in, first_in};
+use sqlite::types::ValueRef;
+use sqlite::{Alter, Connection, Error, Row};
+use std::alloc::Global;
+
+/// The rows that a statement gives.
+pub(crate) fn fetch_rows<S: Alter>(
+    conn: &mut Connection<S>,
+    sql: &str,
+    params: &[ValueRef<'_>],
+) -> Result<Vec<Row>, Error>
+    requires { IsDeskQuery sql.now (bound params.now) }
+    ensures shown { HasCleanDisk (state S.Store conn.new) → IfOk result (λ rows. Shown sql.now (bound params.now)
+        (state S.Store conn.old) (state S.Store conn.new) rows.items) }
+    ensures sees { SeesAsBefore S.Store conn.old conn.new }
+    ensures fails { FailsOnlyAs IsStoreFault S.Store conn.old conn.new result }
+    ensures cause { IsFaultless S.Store conn.old conn.new → FailsOnlyAs IsWant S.Store conn.old conn.new result }
+    ensures unchanged { ChangesNothing S.Store conn.old conn.new result }
+    ensures autocommit { conn.old.in_transaction ≡ false → conn.new.in_transaction ≡ false }
+    ensures keeps_records { KeepsRecords S.Store conn.old conn.new }
+    ensures commits_nothing { CommitsNothing S.Store conn.old conn.new }
+    ensures survives { CommitsNothingOnDesk S.Store conn.old conn.new }
+{
+    conn.query_all(sql, params)
+}
+
+/// The records that the rows of a statement show. `Form` is answered exactly where the rows are those of no such list.
+pub(crate) fn fetch_all<T: FromRow, S: Alter>(
+    alloc: Global,
+    conn: &mut Connection<S>,
+    sql: &str,
+    params: &[ValueRef<'_>],
+) -> Result<Vec<T>, ReadError>
+    requires { IsDeskQuery sql.now (bound params.now) }
+    ensures shown { HasCleanDisk (state S.Store conn.new) → IfOk result (λ v. Shown sql.now (bound params.now)
+        (state S.Store conn.old) (state S.Store conn.new) (numbered T.shown 1 (map T.plain v.items))) }
+    ensures form { HasCleanDisk (state S.Store conn.new) → result ≡ Err ReadError.Form → (rows : List Columns)
+        × Shown sql.now (bound params.now) (state S.Store conn.old) (state S.Store conn.new) rows
+        × ((xs : List T.Plain) → All T.Fits xs → rows ≢ numbered T.shown 1 xs) }
+    ensures untouched { IsUnchangedOnForm S.Store conn.old conn.new result }
+    ensures sees { SeesAsBefore S.Store conn.old conn.new }
+    ensures fails { FailsOnlyAs IsReadFault S.Store conn.old conn.new result }
+    ensures cause { IsFaultless S.Store conn.old conn.new → FailsOnlyAs IsReadWant S.Store conn.old conn.new result }
+    ensures unchanged { ChangesNothing S.Store conn.old conn.new result }
+    ensures autocommit { conn.old.in_transaction ≡ false → conn.new.in_transaction ≡ false }
+    ensures keeps_records { KeepsRecords S.Store conn.old conn.new }
+    ensures commits_nothing { CommitsNothing S.Store conn.old conn.new }
+    ensures survives { CommitsNothingOnDesk S.Store conn.old conn.new }
+{
+    let rows = fetch_rows(conn, sql, params)?;
+    all_in(alloc, rows.as_slice())
+}
+
+/// The record that the first row of a statement shows, where there is a row.
+pub(crate) fn fetch_first<T: FromRow, S: Alter>(
+    conn: &mut Connection<S>,
+    sql: &str,
+    params: &[ValueRef<'_>],
+    number: u64,
+) -> Result<Option<T>, ReadError>
+    requires { IsDeskQuery sql.now (bound params.now) }
+    ensures shown { HasCleanDisk (state S.Store conn.new) → IfOk result (λ found. (rows : List Columns)
+        × Shown sql.now (bound params.now) (state S.Store conn.old) (state S.Store conn.new) rows
+        × ShowsFirst (λ x. T.shown number (T.plain x)) rows found) }
+    ensures form { HasCleanDisk (state S.Store conn.new) → result ≡ Err ReadError.Form → (rows : List Columns)
+        × Shown sql.now (bound params.now) (state S.Store conn.old) (state S.Store conn.new) rows
+        × HasUnreadable T.Fits (T.shown number) rows }
+    ensures sees { SeesAsBefore S.Store conn.old conn.new }
+    ensures fails { FailsOnlyAs IsReadFault S.Store conn.old conn.new result }
+    ensures cause { IsFaultless S.Store conn.old conn.new → FailsOnlyAs IsReadWant S.Store conn.old conn.new result }
+    ensures unchanged { ChangesNothing S.Store conn.old conn.new result }
+    ensures autocommit { conn.old.in_transaction ≡ false → conn.new.in_transaction ≡ false }
+    ensures keeps_records { KeepsRecords S.Store conn.old conn.new }
+    ensures commits_nothing { CommitsNothing S.Store conn.old conn.new }
+    ensures survives { CommitsNothingOnDesk S.Store conn.old conn.new }
+{
+    let rows = fetch_rows(conn, sql, params)?;
+    first_in(rows.as_slice(), number)
+}
