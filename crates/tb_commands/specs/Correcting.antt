@@ -27,7 +27,7 @@ use Rattle.tb_core.specs.Totals.{AreTotalsOf}
 
 -- ---- what is read
 
--- the sentence, and of its current revision who gave it and its text
+-- the sentence; and who gave its current revision, with that revision's text
 pub record IsCurrentRead (s : Machine) (x : Sentence) (f : CurrentRead) : Type 0 where
   pub sentence : IsSentenceRead s x f.sentence
   pub who : string_bytes f.who ≡ x.current.who
@@ -46,7 +46,7 @@ current_seen f = record {
 
 -- ---- what is written
 
--- this sentence has the number, and the revision after its current one has this body
+-- the sentence has this number, and the revision after its current one has this body
 pub record IsMadeRevision (s : Machine) (number : ℕ) (body : BlockText) (x : Sentence) (rev words : ℕ) (text : List ℕ) : Type 0 where
   pub there : slice_get s.sentences (number - 1) ≡ Some x
   pub next : rev ≡ rev_of x + 1
@@ -68,7 +68,7 @@ correction_move counted number f words user = record {
   who = user;
 }
 
--- of the new revision the number, the words and the text; its move; and the totals after it
+-- the number, the words and the text of the new revision; its move; and the totals after it
 pub record PlanText : Type 0 where
   pub rev : ℕ
   pub words : ℕ
@@ -76,14 +76,14 @@ pub record PlanText : Type 0 where
   pub change : MoveWrite
   pub totals : Totals
 
--- the correction of the sentence with this number to this one
+-- what is written corrects the sentence with this number to this text
 pub record IsPlannedCorrection (s : Machine) (n : ℕ) (user : List ℕ) (b : BlockText) (p : PlanText) : Type 0 where
   pub sentence : Sentence
   pub made : IsMadeRevision s n b sentence p.rev p.words p.text
   pub change : IsWritten s (correcting (n - 1) user b) p.change
   pub totals : AreTotalsOf p.totals (after s (correcting (n - 1) user b))
 
--- A correction that is not refused, with its reply: a repeat has nothing to write, and any other writes its revision.
+-- A correction that is not refused, with its reply. A repeat writes nothing; any other correction writes its revision.
 abbrev pub Decides : Limits → Machine → (n base : ℕ) → (user body : List ℕ) → Corrected → Option PlanText
     → Type 0
 Decides l s n base user body reply None = Steps l s (correct n base user body) (replied (corrected_to reply)) s
@@ -91,9 +91,9 @@ Decides l s n base user body reply (Some p) =
     (b : BlockText) × IsPlannedCorrection s n user b p × IsAllowed s (correcting (n - 1) user b)
     × Steps l s (correct n base user body) (replied (corrected_to reply)) (after s (correcting (n - 1) user b))
 
--- ---- what is left
+-- ---- what a correction leaves
 
--- A correction with a reply: a repeat leaves the desk as it was.
+-- A correction with a reply. A repeat leaves the desk as it was.
 abbrev pub Corrects : {S : Type 0} → Ghosts S → Limits → Machine → (n base : ℕ) → (user body : List ℕ)
     → Held S → Corrected → Option Totals → Type 0
 Corrects g l s n base user body new reply None = Steps l s (correct n base user body) (replied (corrected_to reply)) s

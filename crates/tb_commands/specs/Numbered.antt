@@ -1,5 +1,5 @@
 -- Between crates: no contract of a front door cites a definition of this module.
--- Moves that are numbered as they stand.
+-- Moves that are numbered in their order.
 use Rattle.std.specs.Prelude.{◌≡◌, ℕ, suc, List, [], ◌∷◌}
 use Rattle.tb_core.specs.Moves.{MoveText}
 

@@ -1,5 +1,5 @@
 -- Inner: no contract beyond this crate cites a definition of this module.
--- What accepted pulls and restores are answered, and what they write.
+-- The replies to accepted pulls and restores, and what they write.
 use Rattle.std.specs.Prelude.{ℕ, List, Some}
 use Rattle.tb_core.specs.declared.limits.Limits.{Limits}
 use Rattle.tb_core.specs.declared.kinds.Kind.TheVariants.{Pull, Restore}
@@ -13,7 +13,7 @@ use Rattle.tb_commands.specs.declared.finding.SentenceRead.{SentenceRead}
 use Rattle.tb_refine.specs.declared.preparing.PreparedMove.{PreparedMove}
 use Rattle.tb_refine.specs.Counted.{IsPrepared}
 
--- the moves, of a sentence that was read so
+-- the moves of a sentence that was read so
 abbrev pub pull_move : (counted number : ℕ) → SentenceRead → (user : List ℕ) → MoveText
 pull_move counted number f user = record {
   no = counted;
@@ -42,7 +42,7 @@ restore_move counted number f user = record {
   who = user;
 }
 
--- The command is this act, which is allowed and is answered so; this is what is written of it.
+-- The command is this act. The act is allowed and has this reply, and this is what it writes.
 pub record IsJudged (l : Limits) (s : Machine) (c : Command) (a : Act) (reply : Reply) (p : PreparedMove) : Type 0 where
   pub prepared : IsPrepared s a p
   pub allowed : IsAllowed s a

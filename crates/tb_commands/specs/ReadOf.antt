@@ -1,5 +1,5 @@
 -- Between crates: no contract of a front door cites a definition of this module.
--- What was read of a sentence.
+-- What a command read of a sentence.
 use Rattle.std.specs.Prelude.{◌≡◌, string_bytes}
 use Rattle.tb_core.specs.Machine.{Machine, Sentence, batch_with, rev, words}
 use Rattle.tb_commands.specs.declared.finding.SentenceRead.{SentenceRead}

@@ -1,5 +1,5 @@
 -- Inner: no contract beyond this crate cites a definition of this module.
--- What an accepted event is answered, and what it writes.
+-- The reply to an accepted event, and what the event writes.
 use Rattle.std.specs.Prelude.{◌≡◌, ℕ, ◌+◌, List, Some, string_bytes}
 use Rattle.tb_core.specs.declared.kinds.Event.{Event}
 use Rattle.tb_core.specs.declared.kinds.Kind.TheVariants.{Step}
@@ -19,7 +19,7 @@ use Rattle.tb_refine.specs.Counted.{IsPrepared}
 abbrev pub seen_of : BatchRead → BatchSeen
 seen_of f = record { number = f.number; state = f.state; worker = string_bytes f.worker }
 
--- the move of an event on a batch that was read so, where these of its sentences are not pulled
+-- the move of an event on a batch that was read so, whose sentences that are not pulled have these sums
 abbrev pub event_move : ℕ → Event → BatchRead → Sums → List ℕ → MoveText
 event_move number event found sums user = record {
   no = number;
@@ -34,7 +34,7 @@ event_move number event found sums user = record {
   who = user;
 }
 
--- the event at this place
+-- this is the plan of the event on the batch at this place
 pub record IsPlanned (s : Machine) (place : ℕ) (event : Event) (user : List ℕ) (p : EventPlan) : Type 0 where
   pub batch : Batch
   pub there : slice_get s.batches place ≡ Some batch

@@ -1,5 +1,5 @@
 -- Between crates: no contract of a front door cites a definition of this module.
--- What a command leaves of a desk, and what of a batch its events move.
+-- What a command leaves of a desk, and the part of a batch that its events move.
 use Rattle.std.specs.Prelude.{◌≡◌, ℕ, ◌+◌, List, length, cond, Bool, false, ◌||◌, [], ◌∷◌, nat_eq}
 use Rattle.sqlite.specs.Store.{Ghosts}
 use Rattle.sqlite.specs.Held.{Held}
@@ -12,8 +12,8 @@ use Rattle.tb_core.specs.Totals.{AreTotalsOf}
 use Rattle.tb_refine.specs.DeskTables.{IsDeskOf}
 use Rattle.tb_reads.specs.declared.work.BatchSentence.{BatchSentence}
 
--- The command is answered so, the desk stands for the state after it, and these are the totals; batches and sentences are
--- as many as before.
+-- The command has this answer, the desk represents the state after it, and these are the totals. There is one move
+-- more; the numbers of batches and sentences are unchanged.
 pub record IsDone {S : Type 0} (g : Ghosts S) (l : Limits) (s : Machine) (c : Command) (r : Reply) (new : Held S) (t : Totals) : Type 0 where
   pub next : Machine
   pub steps : Steps l s c (replied r) next
@@ -23,13 +23,13 @@ pub record IsDone {S : Type 0} (g : Ghosts S) (l : Limits) (s : Machine) (c : Co
   pub sentences : length next.sentences ≡ length s.sentences
   pub moves : length next.moves ≡ length s.moves + 1
 
--- ---- what of a batch is not pulled
+-- ---- the part of a batch that is not pulled
 
 abbrev pub is_listed : ℕ → List ℕ → Bool
 is_listed n [] = false
 is_listed n (m ∷ ms) = nat_eq m n || is_listed n ms
 
--- the weight of a sentence, none where it is pulled
+-- the weight of a sentence; 0 where it is pulled
 abbrev pub unless_pulled : List ℕ → (BatchSentence → ℕ) → BatchSentence → ℕ
 unless_pulled pulled w item = cond (is_listed item.number pulled) 0 (w item)
 

@@ -1,4 +1,5 @@
-//! The writes of accepted acts: each is one transaction, after which the tables stand for the state that the act leads to.
+//! The writes of accepted acts. Each is one transaction. Afterwards the tables represent the state that the act leads
+//! to.
 
 ghost use Rattle.std.specs.Prelude.{◌≡◌, ◌≢◌, ◌-◌, ◌<◌, ℕ, List, Err, None, false, OnOk};
 ghost use Rattle.sqlite.specs.State.{HasCleanDisk, Survives};
@@ -22,7 +23,8 @@ use tb_core::{Fault, reached_states_are_well};
 use tb_refine::faults;
 use tb_tables::{MoveWrite, write_correction, write_pull, write_restore};
 
-/// A correction of the sentence with this number, from 1: its new current revision, with so many words, by this user.
+/// Writes a correction of the sentence with this number, from 1. Its new current revision has so many words, by this
+/// user.
 pub(crate) fn correct<S: Alter>(
     conn: &mut Connection<S>,
     number: u32,
@@ -64,7 +66,7 @@ pub(crate) fn correct<S: Alter>(
     }
 }
 
-/// A pull of the sentence with this number, from 1.
+/// Writes a pull of the sentence with this number, from 1.
 pub(crate) fn pull<S: Alter>(
     conn: &mut Connection<S>,
     number: u32,
@@ -96,7 +98,7 @@ pub(crate) fn pull<S: Alter>(
     }
 }
 
-/// The way back of a pulled sentence with this number, from 1.
+/// Writes a restore of the pulled sentence with this number, from 1.
 pub(crate) fn restore<S: Alter>(
     conn: &mut Connection<S>,
     number: u32,

@@ -40,20 +40,20 @@ use tb_core::{
 use tb_refine::{Counters, desk_rows_are_readable, faults, narrow, next_move, prepare};
 use tb_tables::{MoveWrite, RevisionRow};
 
-/// A sentence and its current revision, as they were read.
+/// A sentence and its current revision, as read from the tables.
 #[derive(Debug, Drop)]
 pub(crate) struct CurrentRead {
     pub sentence: SentenceRead,
-    /// Who gave the current revision.
+    /// The user who gave the current revision.
     pub who: String,
     /// Its text.
     pub body: String,
 }
 
-/// What an accepted correction writes. It borrows from the body.
+/// What an accepted correction writes. It borrows from the request's body.
 #[derive(Drop)]
 pub(crate) struct CorrectionPlan<'a> {
-    /// The number of the new revision, and its words and its text.
+    /// The number of the new revision, its words and its text.
     pub rev: u32,
     pub words: u32,
     pub text: &'a str,
@@ -74,7 +74,7 @@ impl<'a> Model for CorrectionPlan<'a> {
     } };
 }
 
-/// The current revision of the sentence with this number, from 1, which stands.
+/// The current revision of the sentence with this number, from 1, which exists.
 fn current_row<S: Alter>(
     conn: &mut Connection<S>,
     number: u32,
@@ -101,7 +101,7 @@ fn current_row<S: Alter>(
     }
 }
 
-/// The sentence with this number, from 1, which stands, and its current revision.
+/// The sentence with this number, from 1, which exists, and its current revision.
 fn find_current<S: Alter>(conn: &mut Connection<S>, number: u32) -> Result<CurrentRead, Fault>
     requires { 0 < number }
     ensures answered { Tells S.Store conn.old conn.new result (λ s f. (x : Sentence)
@@ -124,7 +124,7 @@ fn find_current<S: Alter>(conn: &mut Connection<S>, number: u32) -> Result<Curre
     })
 }
 
-/// What was read, as it is judged.
+/// What was read, in the form in which tb_core judges it.
 fn found_of(read: &CurrentRead) -> CurrentFound<'_>
     ensures { result ≡ current_seen read.now }
 {
@@ -139,7 +139,7 @@ fn found_of(read: &CurrentRead) -> CurrentFound<'_>
     }
 }
 
-/// A stored text that cannot be read is not a desk's.
+/// A stored text that cannot be read is not that of a desk.
 fn fault_of_text(fault: ReadFault) -> Fault
     ensures never_refuses { (r : AnyRefusal) → result ≢ Fault.Refused r }
     ensures fails { fault ≡ ReadFault.Memory → result ≢ Fault.NotADesk }
@@ -151,7 +151,7 @@ fn fault_of_text(fault: ReadFault) -> Fault
     }
 }
 
-/// The sentence of a body, which corrects the one of this text.
+/// The sentence of a body, which corrects the sentence with this text.
 fn take<'a>(
     alloc: Global,
     counts: &Counters,
@@ -223,7 +223,7 @@ fn move_by(who: String, no: u32, number: u32, read: &CurrentRead, new_words: u32
     }
 }
 
-/// What a correction writes.
+/// Makes what a correction writes.
 fn plan<'a>(
     alloc: Global,
     counts: &Counters,
@@ -273,7 +273,7 @@ fn reply_of(number: u32, plan: &CorrectionPlan<'_>) -> Corrected
     }
 }
 
-/// The correction of a sentence that was judged by all but its body: its reply, and what it writes.
+/// The reply and the writes of a correction, whose body alone is still to be judged.
 fn plan_body<'a>(
     alloc: Global,
     counts: &Counters,
@@ -304,7 +304,7 @@ fn plan_body<'a>(
     Ok((reply_of(number, &plan), plan))
 }
 
-/// The reply to a correction that is not refused, and what it writes, nothing where it is a repeat.
+/// The reply to a correction that is not refused, and what it writes. A repeat writes nothing.
 fn decide<'a>(
     alloc: Global,
     counts: &Counters,
@@ -339,7 +339,7 @@ fn decide<'a>(
     }
 }
 
-/// Reads the sentence of a correction, which stands, and judges the correction.
+/// Reads the sentence of a correction, which exists, and judges the correction.
 fn planned<'a, S: Alter>(
     alloc: Global,
     conn: &mut Connection<S>,
@@ -372,13 +372,15 @@ fn planned<'a, S: Alter>(
     decide(alloc, counts, number, base, user, body, &read)
 }
 
-/// Corrects the sentence with this number, from 1, which stands; with the reply, the totals after it, none where it is a
-/// repeat and nothing is written. `base` is the number of the revision that was corrected, from 1.
+/// Corrects the sentence with this number, from 1, which exists. `base` is the number of the revision that was
+/// corrected, from 1.
+///
+/// Returns the reply and the totals afterwards. There are no totals where it is a repeat, which writes nothing.
 ///
 /// # Errors
 ///
-/// `BadName`; of one that is no repeat `WrongState`, `NotYours`, `OwnWork`, `Stale`; `Read`, `Rule`, `Empty`, `NotOne`;
-/// `SentIdChanged`, `TextChanged`, `NothingChanged`; `Full`. The first that holds.
+/// The first that holds: `BadName`; unless it is a repeat, `WrongState`, `NotYours`, `OwnWork`, `Stale`; `Read`,
+/// `Rule`, `Empty`, `NotOne`; `SentIdChanged`, `TextChanged`, `NothingChanged`; `Full`.
 pub fn correct<S: Alter>(
     alloc: Global,
     conn: &mut Connection<S>,
@@ -429,7 +431,7 @@ pub fn correct<S: Alter>(
     Ok((reply, Some(plan.totals)))
 }
 
-/// The refusal of a correction of a sentence that does not stand.
+/// The refusal of a correction of a sentence that does not exist.
 pub fn no_correction(number: u64, base: u64, user: &str, body: &[u8]) -> Fault
     ensures refused { (r : AnyRefusal) → result ≡ Fault.Refused r → (l : AnyLimits) (s : Machine)
         → LacksSentence s number → Steps l s (correct_it number base user.now body.now) (refused_by r) s }

@@ -21,17 +21,17 @@ use tb_core::{Fault, State, reached_states_are_well};
 use tb_refine::{batch_number, desk_rows_are_readable, faults, state_numbered};
 use tb_tables::{BatchRow, SentenceRow};
 
-/// A batch, as it was read.
+/// A batch, as read from the tables.
 #[derive(Debug, Drop)]
 pub struct BatchRead {
     /// Its number, from 1.
     pub number: u32,
     pub state: State,
-    /// Who works on it, empty for nobody.
+    /// The user who works on it; empty where nobody does.
     pub worker: String,
 }
 
-/// A row as a batch.
+/// The batch of a row.
 fn read_batch(row: BatchRow, number: u32) -> Result<BatchRead, Fault>
     ensures batch { IfOk result (λ f. (st : AnyState) → row.state ≡ state_number st → (f.number ≡ number)
         × (f.state ≡ st) × (f.worker ≡ row.worker)) }
@@ -49,7 +49,7 @@ fn read_batch(row: BatchRow, number: u32) -> Result<BatchRead, Fault>
     })
 }
 
-/// The batch with this number, from 1, which stands.
+/// The batch with this number, from 1, which exists.
 fn batch<S: Alter>(conn: &mut Connection<S>, number: u32) -> Result<BatchRead, Fault>
     ensures answered { Tells S.Store conn.old conn.new result (λ s f. (b : Batch) → slice_get s.batches (number - 1)
         ≡ Some b → (f.number ≡ number) × (f.state ≡ b.state) × (string_bytes f.worker ≡ b.worker)) }
@@ -73,7 +73,11 @@ fn batch<S: Alter>(conn: &mut Connection<S>, number: u32) -> Result<BatchRead, F
     }
 }
 
-/// The batch with this name, or none where no batch has it. Nothing is refused.
+/// The batch with this name, or `None` where no batch has it. Nothing is refused.
+///
+/// # Errors
+///
+/// `NotADesk`, with no limit on steps only where the store is no desk; want of memory; or a fault of the device.
 pub fn find_batch<S: Alter>(
     conn: &mut Connection<S>,
     name: &str,
@@ -95,22 +99,22 @@ pub fn find_batch<S: Alter>(
     Ok(Some(found))
 }
 
-/// A sentence, as it was read.
+/// A sentence, as read from the tables.
 #[derive(Debug, Drop)]
 pub struct SentenceRead {
     /// The number of its batch, from 1.
     pub batch: u32,
     /// The state of that batch.
     pub state: State,
-    /// Who works on it, empty for nobody.
+    /// The user who works on that batch; empty where nobody does.
     pub worker: String,
     pub pulled: bool,
-    /// The number of its current revision, and the words of that.
+    /// The number of its current revision, and the words of that revision.
     pub rev: u32,
     pub words: u32,
 }
 
-/// The row of the sentence with this number, from 1, which stands.
+/// The row of the sentence with this number, from 1, which exists.
 fn sentence_row<S: Alter>(conn: &mut Connection<S>, number: u32) -> Result<SentenceRow, Fault>
     requires { 0 < number }
     ensures answered { Tells S.Store conn.old conn.new result (λ s f. (x : Sentence)
@@ -132,7 +136,7 @@ fn sentence_row<S: Alter>(conn: &mut Connection<S>, number: u32) -> Result<Sente
     }
 }
 
-/// Whether the sentence with this number, from 1, which stands, is pulled.
+/// Whether the sentence with this number, from 1, which exists, is pulled.
 fn is_pulled<S: Alter>(conn: &mut Connection<S>, number: u32) -> Result<bool, Fault>
     requires { 0 < number }
     ensures answered { Tells S.Store conn.old conn.new result (λ s pulled. (x : Sentence)
@@ -151,7 +155,12 @@ fn is_pulled<S: Alter>(conn: &mut Connection<S>, number: u32) -> Result<bool, Fa
     }
 }
 
-/// The sentence with this number, from 1, which stands, with what stands of its batch. Nothing is refused.
+/// The sentence with this number, from 1, which exists, with the state and the worker of its batch. Nothing is
+/// refused.
+///
+/// # Errors
+///
+/// `NotADesk`, with no limit on steps only where the store is no desk; want of memory; or a fault of the device.
 pub fn find_sentence<S: Alter>(conn: &mut Connection<S>, number: u32) -> Result<SentenceRead, Fault>
     requires { 0 < number }
     ensures answered { Tells S.Store conn.old conn.new result (λ s f. (x : Sentence)

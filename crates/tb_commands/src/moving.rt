@@ -1,4 +1,4 @@
-//! Rows of moves as moves of the machine.
+//! Rows of the table of moves, as moves of the machine.
 
 ghost use Rattle.std.specs.Prelude.{◌≡◌, ◌≢◌, List, map, Err, IfOk, IfErr};
 ghost use Rattle.tb_core.specs.declared.refusals.Refusal.{Refusal as AnyRefusal};
@@ -46,11 +46,11 @@ fn read_move(alloc: Global, row: &MoveRow, no: u64) -> Result<Move, Fault>
     })
 }
 
-/// The moves of rows that are numbered from 1, as they stand.
+/// The moves of rows, numbered from 1 in this order.
 ///
 /// # Errors
 ///
-/// `NotADesk` where a row names a kind or a state by a number that stands for none; want of memory.
+/// `NotADesk` where a row has a number that no kind or no state has; or want of memory.
 pub fn read_moves(alloc: Global, rows: &[MoveRow]) -> Result<Vec<Move>, Fault>
     ensures records { IfOk result (λ v. map move_record v.items ≡ map move_of rows.now) }
     ensures numbers { IfOk result (λ v. AreNumbered 1 v.items) }

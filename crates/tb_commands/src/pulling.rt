@@ -1,4 +1,4 @@
-//! A pull of a sentence, and its way back.
+//! Pulls of sentences, and restores of pulled ones.
 
 ghost use Rattle.std.specs.Prelude.{◌≡◌, ◌≢◌, ◌+◌, ◌-◌, ◌<◌, ◌≤◌, length, Some, None};
 ghost use Rattle.std.specs.Prelude.{Err, slice_get, string_bytes};
@@ -52,7 +52,7 @@ fn pull_by(who: String, no: u32, number: u32, read: &SentenceRead) -> Move
     }
 }
 
-/// What a pull is answered, and what it writes.
+/// The reply to a pull, and what the pull writes.
 fn plan_pull(
     alloc: Global,
     counts: &Counters,
@@ -86,7 +86,7 @@ fn plan_pull(
     ))
 }
 
-/// The reply to a pull that is not refused, and what it writes.
+/// The reply to a pull that is not refused, and what the pull writes.
 fn decide_pull(
     alloc: Global,
     counts: &Counters,
@@ -126,7 +126,7 @@ fn decide_pull(
     }
 }
 
-/// Reads the sentence of a pull, which stands, and judges the pull.
+/// Reads the sentence of a pull, which exists, and judges the pull.
 fn pull_planned<S: Alter>(
     alloc: Global,
     conn: &mut Connection<S>,
@@ -156,7 +156,7 @@ fn pull_planned<S: Alter>(
     decide_pull(alloc, counts, number, user, &read)
 }
 
-/// Pulls the sentence with this number, from 1, which stands; with the reply, the totals after it.
+/// Pulls the sentence with this number, from 1, which exists. Returns the reply and the totals afterwards.
 ///
 /// # Errors
 ///
@@ -195,7 +195,7 @@ pub fn pull<S: Alter>(
     Ok((reply, prepared.totals))
 }
 
-/// The refusal of a pull of a sentence that does not stand.
+/// The refusal of a pull of a sentence that does not exist.
 pub fn no_pull(counts: &Counters, number: u64, user: &str) -> Fault
     ensures refused { (r : AnyRefusal) → result ≡ Fault.Refused r → (s : Machine) → LacksSentence s number
         → counts.now.moves ≡ length s.moves
@@ -230,7 +230,7 @@ fn restore_by(who: String, no: u32, number: u32, read: &SentenceRead) -> Move
     }
 }
 
-/// What a restore is answered, and what it writes.
+/// The reply to a restore, and what the restore writes.
 fn plan_restore(
     alloc: Global,
     counts: &Counters,
@@ -265,7 +265,7 @@ fn plan_restore(
     ))
 }
 
-/// The reply to a restore that is not refused, and what it writes.
+/// The reply to a restore that is not refused, and what the restore writes.
 fn decide_restore(
     alloc: Global,
     counts: &Counters,
@@ -305,7 +305,7 @@ fn decide_restore(
     }
 }
 
-/// Reads the sentence of a restore, which stands, and judges the restore.
+/// Reads the sentence of a restore, which exists, and judges the restore.
 fn restore_planned<S: Alter>(
     alloc: Global,
     conn: &mut Connection<S>,
@@ -335,7 +335,7 @@ fn restore_planned<S: Alter>(
     decide_restore(alloc, counts, number, user, &read)
 }
 
-/// Restores the sentence with this number, from 1, which stands; with the reply, the totals after it.
+/// Restores the sentence with this number, from 1, which exists. Returns the reply and the totals afterwards.
 ///
 /// # Errors
 ///
@@ -374,7 +374,7 @@ pub fn restore<S: Alter>(
     Ok((reply, prepared.totals))
 }
 
-/// The refusal of a restore of a sentence that does not stand.
+/// The refusal of a restore of a sentence that does not exist.
 pub fn no_restore(counts: &Counters, number: u64, user: &str) -> Fault
     ensures refused { (r : AnyRefusal) → result ≡ Fault.Refused r → (s : Machine) → LacksSentence s number
         → counts.now.moves ≡ length s.moves

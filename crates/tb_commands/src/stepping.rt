@@ -37,19 +37,19 @@ use tb_refine::{
 };
 use tb_tables::write_event;
 
-/// What an accepted event is answered, and what it writes.
+/// The reply to an accepted event, and what the event writes.
 #[derive(Debug, Drop)]
 pub(crate) struct EventPlan {
     pub reply: Moved,
     /// The number of the batch.
     pub number: u32,
-    /// The number of its state after the event, and its worker, empty for nobody.
+    /// The number of its state after the event, and its worker; empty for nobody.
     pub in_state: u32,
     pub worker: String,
     pub prepared: PreparedMove,
 }
 
-/// What becomes of the worker of a batch that stands.
+/// Judges an event on a batch that exists. Returns how the event changes the batch's worker.
 fn judge_found(
     counts: &Counters,
     name: &str,
@@ -85,8 +85,8 @@ fn judge_found(
     }
 }
 
-/// The batch of an event that is not refused, and what becomes of its worker. The event of a batch that does not stand is
-/// refused.
+/// Judges an event. Returns its batch, and how it changes the batch's worker. An event on a batch that does not exist
+/// is refused.
 fn judge(
     counts: &Counters,
     name: &str,
@@ -124,7 +124,7 @@ fn judge(
     }
 }
 
-/// Who works on a batch afterwards.
+/// The name of the batch's worker after the event.
 fn worker_after(alloc: Global, makes: Worker, user: &str, worker: String) -> Result<String, Fault>
     ensures value { IfOk result (λ name. string_bytes name ≡ with_worker makes user.now (string_bytes worker)) }
     ensures never_refuses { (r : AnyRefusal) → result ≢ Err (Fault.Refused r) }
@@ -138,7 +138,7 @@ fn worker_after(alloc: Global, makes: Worker, user: &str, worker: String) -> Res
     }
 }
 
-/// The move of an event on this batch, where its sentences that are not pulled have these sums.
+/// The move of an event on this batch, whose sentences that are not pulled have these sums.
 fn event_step(
     alloc: Global,
     number: u32,
@@ -166,7 +166,7 @@ fn event_step(
     })
 }
 
-/// What an event writes and is answered.
+/// The reply to an event, and what the event writes.
 fn plan(
     alloc: Global,
     counts: &Counters,
@@ -211,7 +211,7 @@ fn plan(
     })
 }
 
-/// Reads the batch of an event and its work, and judges the event.
+/// Reads the batch of an event and the sums of its sentences, and judges the event.
 fn planned<S: Alter>(
     alloc: Global,
     conn: &mut Connection<S>,
@@ -243,7 +243,7 @@ fn planned<S: Alter>(
     plan(alloc, counts, event, user, batch, makes, sums)
 }
 
-/// Writes what was planned.
+/// Writes a planned event.
 fn write<S: Alter>(conn: &mut Connection<S>, plan: &EventPlan) -> Result<(), Fault>
     requires autocommit { conn.old.in_transaction ≡ false }
     ensures done { TellsOnOk S.Store conn.old conn.new result (λ s. (place : ℕ) (event : AnyEvent) (user : List ℕ)
@@ -279,7 +279,7 @@ fn write<S: Alter>(conn: &mut Connection<S>, plan: &EventPlan) -> Result<(), Fau
     }
 }
 
-/// Makes an event on the batch with this name; with the reply, the totals after it.
+/// Makes an event on the batch with this name. Returns the reply and the totals afterwards.
 ///
 /// # Errors
 ///

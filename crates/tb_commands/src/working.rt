@@ -1,4 +1,4 @@
-//! What of a batch its events move: its sentences that are not pulled.
+//! The part of a batch that its events move: its sentences that are not pulled.
 
 ghost use Rattle.std.specs.Prelude.{◌≡◌, ◌≢◌, ◌<◌, ◌≤◌, ◌+◌, ◌^◌, length, Err, sum_by};
 ghost use Rattle.std.specs.Prelude.{map, IfOk, false, IfErr};
@@ -19,21 +19,21 @@ use tb_core::{Fault, reached_states_are_well};
 use tb_reads::BatchSentence;
 use tb_refine::{desk_rows_are_readable, desk_rows_fit, faults};
 
-/// Sentences, and the words of their current revisions.
+/// How many sentences, and the words of their current revisions.
 #[derive(Clone, Copy, Debug)]
 pub(crate) struct Sums {
     pub sentences: u32,
     pub words: u32,
 }
 
-/// Whether a number is among others, which ascend.
+/// Whether a number is in the list, which ascends.
 fn is_among(number: u32, numbers: &[u32]) -> bool
     ensures { IsAscending (λ a b. a < b) numbers.now → result ≡ is_listed number numbers.now }
 {
     numbers.binary_search(&number).is_ok()
 }
 
-/// One more sentence, with its words.
+/// Adds one sentence, with its words.
 fn with_one(sums: Sums, item: &BatchSentence) -> Result<Sums, Fault>
     ensures value { IfOk result (λ r. (r.sentences ≡ sums.sentences + 1)
         × (r.words ≡ sums.words + item.now.words)) }
@@ -51,7 +51,7 @@ fn with_one(sums: Sums, item: &BatchSentence) -> Result<Sums, Fault>
     Ok(Sums { sentences, words })
 }
 
-/// The sentence, with its words, unless it is pulled.
+/// Adds the sentence, with its words, unless it is pulled.
 fn with_work(sums: Sums, item: &BatchSentence, pulled: &[u32]) -> Result<Sums, Fault>
     ensures value { IfOk result (λ r. IsAscending (λ a b. a < b) pulled.now
         → (r.sentences ≡ sums.sentences + unless_pulled pulled.now each_one item.now)
@@ -69,7 +69,7 @@ fn with_work(sums: Sums, item: &BatchSentence, pulled: &[u32]) -> Result<Sums, F
     with_one(sums, item)
 }
 
-/// The sums of those that are not pulled.
+/// The sums of the sentences that are not pulled.
 fn sums_of(work: &[BatchSentence], pulled: &[u32]) -> Result<Sums, Fault>
     ensures value { IfOk result (λ r. IsAscending (λ a b. a < b) pulled.now
         → (r.sentences ≡ sum_by (unless_pulled pulled.now each_one) work.now)
@@ -130,7 +130,7 @@ fn read_pulled<S: Alter>(alloc: Global, conn: &mut Connection<S>) -> Result<Vec<
     }
 }
 
-/// The sentences of the batch with this number, from 1, that are not pulled, and their words.
+/// How many sentences of the batch with this number, from 1, are not pulled, and their words.
 pub(crate) fn find_work<S: Alter>(
     alloc: Global,
     conn: &mut Connection<S>,
