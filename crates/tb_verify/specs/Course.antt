@@ -1,5 +1,5 @@
 -- Between crates: no contract of a front door cites a definition of this module.
--- What the rows of one sentence tell, and when they are those of a sentence.
+-- What the rows of one sentence say, and when they are those of a sentence.
 use Rattle.std.specs.Prelude.{◌≡◌, ℕ, ◌+◌, ◌-◌, List, [], ◌∷◌, length, map, Bool, true, false}
 use Rattle.std.specs.Prelude.{◌&&◌, not, nat_eq, bytes_eq, Option, Some, None, slice_get}
 use Rattle.std.specs.List.{list_all}
@@ -17,8 +17,8 @@ use Rattle.tb_tables.specs.Records.{Sentence, Revision}
 abbrev pub own_text : BlockText → List ℕ
 own_text b = text_of (b ∷ [])
 
--- The sentence with this number has this row and these revisions, and is pulled or not; each revision keeps the rules, with
--- its `sent_id` and its text, and differs from the one before.
+-- The sentence with this number has this row and these revisions, and is pulled or not. Each revision keeps the rules,
+-- with the row's `sent_id` and text, and differs from the one before.
 pub record IsReadBack (number : ℕ) (reported : Sentence) (flag : Bool) (rows : List Revision) (x : machine.Sentence) : Type 0 where
   pub row : sentence_record x ≡ reported
   pub pulled : x.pulled ≡ flag
@@ -27,7 +27,7 @@ pub record IsReadBack (number : ℕ) (reported : Sentence) (flag : Bool) (rows :
 
 -- ---- the tests
 
--- the revisions are of the sentence with this number, and numbered from this number on
+-- the revisions are of the sentence with this number, and are numbered from this number on
 abbrev pub is_numbered : ℕ → ℕ → Revision → Bool
 is_numbered n k r = nat_eq r.sent n && nat_eq r.rev k
 
@@ -35,7 +35,7 @@ abbrev pub are_numbered : ℕ → ℕ → List Revision → Bool
 are_numbered n k [] = true
 are_numbered n k (r ∷ rs) = is_numbered n k r && are_numbered n (k + 1) rs
 
--- no text is that of the one before
+-- no text is the same as the one before
 abbrev pub are_new : List (List ℕ) → Bool
 are_new [] = true
 are_new (a ∷ []) = true
@@ -47,12 +47,12 @@ is_titled name b = bytes_eq (sent_id_of b) name
 abbrev pub is_spelled : List ℕ → BlockText → Bool
 is_spelled value b = bytes_eq (text_value_of b) value
 
--- the last has so many words, and its text is that of all
+-- the last sentence has n words, and all have the same `text` as it
 abbrev pub ends_as : ℕ → List BlockText → Option BlockText → Bool
 ends_as n bs None = false
 ends_as n bs (Some b) = nat_eq (words_of b) n && list_all (is_spelled (text_value_of b)) bs
 
--- the row tells the sentences that its revisions hold
+-- the row agrees with the sentences that its revisions hold
 abbrev pub is_reported : Sentence → List BlockText → Bool
 is_reported s bs = list_all (is_titled s.sent_id) bs && (nat_eq (length bs) s.rev && ends_as s.words bs
     (slice_get bs (length bs - 1)))
@@ -63,7 +63,7 @@ text_in r = r.body
 abbrev pub is_course : ℕ → Sentence → List Revision → List BlockText → Bool
 is_course n s rs bs = are_numbered n 1 rs && (are_new (map text_in rs) && is_reported s bs)
 
--- of each revision its user and the words of its text
+-- for each revision its user and the words of its text
 abbrev pub rows_reported : List Revision → List BlockText → List replay.RevisionRow
 rows_reported [] bs = []
 rows_reported (r ∷ rs) [] = []

@@ -8,7 +8,7 @@ use Rattle.tb_core.specs.Rows.{revisions_from, pulled_from}
 use Rattle.tb_refine.specs.DeskTables.{sentence_record, revision_record}
 use Rattle.tb_tables.specs.Records.{Sentence, Revision}
 
--- The sentences, numbered from this number on, have these rows, and these numbers of pulled ones; each is fine by itself.
+-- The sentences, numbered from n on, have these rows, and the pulled ones have these numbers. Each is fine by itself.
 pub record AreReadBack (n : ℕ) (reported : List Sentence) (flags : List ℕ) (rows : List Revision) (xs : List machine.Sentence) : Type 0 where
   pub sentences : map sentence_record xs ≡ reported
   pub revised : map revision_record (revisions_from n xs) ≡ rows
@@ -20,6 +20,6 @@ abbrev pub is_next : ℕ → List ℕ → Bool
 is_next n [] = false
 is_next n (m ∷ ms) = nat_eq m n
 
--- the numbers after it
+-- the numbers of the pulled sentences after it
 abbrev pub after_next : ℕ → List ℕ → List ℕ
 after_next n ms = cond (is_next n ms) (drop 1 ms) ms

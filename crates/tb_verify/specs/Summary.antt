@@ -1,5 +1,5 @@
 -- Between crates: no contract of a front door cites a definition of this module.
--- What rows tell of a state.
+-- What rows say of a state.
 use Rattle.std.specs.Prelude.{◌≡◌, List, length, map}
 use Rattle.tb_core.specs.declared.kinds.State.{State}
 use Rattle.tb_core.specs.declared.sums.Totals.{Totals}
@@ -32,7 +32,7 @@ tables_in r = record {
   pulled = r.pulled.items;
 }
 
--- A state with these batches, sentences and moves, in which names are apart and each sentence is fine by itself.
+-- A state with these batches, sentences and moves, whose names are apart and whose sentences are each fine by itself.
 pub record IsShownBy (batches : List Batch) (entries : List SummaryRow) (moves : List MoveText) (f : Machine) : Type 0 where
   pub batches_are : batches ≡ f.batches
   pub entries_are : entries ≡ entries_of f.sentences

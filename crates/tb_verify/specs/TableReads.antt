@@ -1,5 +1,5 @@
 -- Inner: no contract beyond this crate cites a definition of this module.
--- A read of tables: what it tells of them, and what it leaves of the connection.
+-- A read of tables: what it says of them, and what it leaves of the connection.
 use Rattle.std.specs.Prelude.{◌≡◌, ◌≢◌, false, Result, Err, IfOk, OnOk, IsTrue}
 use Rattle.sqlite.specs.Store.{Ghosts}
 use Rattle.sqlite.specs.Held.{Held, state}
@@ -17,9 +17,9 @@ use Rattle.tb_tables.specs.Leaving.{IsFaultless, FailsOnlyAs}
 use Rattle.tb_reads.specs.Failing.{SeesAsBefore}
 use Rattle.tb_refine.specs.DeskTables.{tables_of}
 
--- On the schema of a desk: what is read is shown by the trees (IsShown), and where they stand for a reachable state, it is
--- what the tables of this state hold (IsHeld); `NotADesk` is answered only where they stand for none, and `Device`, with
--- no limit on steps, only where the disk failed or the store was shut. Nothing is changed.
+-- On the schema of a desk, the trees show what is read (IsShown). Where the trees represent a reachable state, it is
+-- what the tables of this state hold (IsHeld). `NotADesk` comes only where they represent no such state. `Device`,
+-- with no limit on steps, comes only where the disk failed or the store was shut. Nothing is changed.
 pub record HasReadTable {S X : Type 0} (g : Ghosts S) (old new : Held S) (result : Result X Fault) (IsShown : X
     → Trees → Type 0) (IsHeld : X → Tables → Type 0) : Type 0 where
   pub shown : HasCleanDisk (state g new) → IfOk result (λ x. (state g old).now.schema ≡ desk_schema
@@ -41,8 +41,8 @@ pub record HasReadTable {S X : Type 0} (g : Ghosts S) (old new : Held S) (result
       → Holds g new d
   pub commits_nothing : Survives (state g old) (state g new) (λ _. (state g old).now.schema ≢ desk_schema)
 
--- What can be told of a connection to a desk without a read: it is in no transaction, so it sees what the last commit left,
--- and has the tables.
+-- What is known of a connection to a desk without a read. It is in no transaction, so it sees what the last commit
+-- left, and it has the tables.
 pub record LooksLikeDesk {S : Type 0} (g : Ghosts S) (c : Held S) : Type 0 where
   pub autocommit : c.in_transaction ≡ false
   pub settled : IsTrue (state g c).is_open → (state g c).now ≡ (state g c).committed

@@ -1,5 +1,5 @@
 -- Between crates: no contract of a front door cites a definition of this module.
--- What is unfit of a text that cannot be read, or breaks a rule: want of memory says nothing of it.
+-- Why a text that cannot be read, or that breaks a rule, is unfit. Want of memory says nothing of the text.
 use Rattle.tb_conllu.specs.declared.fault.ReadFault.{ReadFault}
 use Rattle.tb_conllu.specs.declared.fault.ReadFault.TheVariants as reading
 use Rattle.tb_rules.specs.declared.fault.RuleFault.{RuleFault}

@@ -14,7 +14,7 @@ use Rattle.tb_tables.specs.Records.{total_shown, batch_view, sentence_view, revi
 abbrev pub versioned_view : Row → Row
 versioned_view r = column r 0 ∷ column r 1 ∷ []
 
--- one row, whatever its number, tells version 1
+-- there is one row, with any number, and it names version 1
 abbrev pub TellsFirst : Trees → Type 0
 TellsFirst trees = (n : ℤ) × Shows versioned_view ((Int n ∷ Int (pos 1) ∷ []) ∷ []) (trees 0)
 
@@ -39,7 +39,7 @@ pub record IsInsideFirst (s : State) : Type 0 where
   pub begun : IsTrue s.in_transaction
   pub schema : s.now.schema ≡ version_one_schema
 
--- a connection in no transaction, whose six tables stand for these records, now and after each crash
+-- a connection in no transaction; its six tables represent these records, now and after each crash
 pub record HoldsFirst {S : Type 0} (g : Ghosts S) (c : Held S) (d : Tables) : Type 0 where
   pub autocommit : c.in_transaction ≡ false
   pub is_open : IsTrue (state g c).is_open

@@ -20,8 +20,8 @@ pub record IsFirstDesk {S : Type 0} (g : Ghosts S) (c : Held S) (s : Machine) : 
   pub unpulled : HasNoPull s
   pub holds : HoldsFirst g c (tables_of s)
 
--- What can be told of a connection to such a desk without a read: it is in no transaction, so it sees what the last commit
--- left, and has the six tables.
+-- What is known of a connection to such a desk without a read. It is in no transaction, so it sees what the last
+-- commit left, and it has the six tables.
 pub record LooksFirst {S : Type 0} (g : Ghosts S) (c : Held S) : Type 0 where
   pub autocommit : c.in_transaction ≡ false
   pub settled : IsTrue (state g c).is_open → (state g c).now ≡ (state g c).committed

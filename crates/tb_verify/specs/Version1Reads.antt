@@ -1,5 +1,5 @@
 -- Inner: no contract beyond this crate cites a definition of this module.
--- A read of the tables of version 1: what it tells of them, and what it leaves of the connection.
+-- A read of the tables of version 1: what it says of them, and what it leaves of the connection.
 use Rattle.std.specs.Prelude.{◌≡◌, ◌≢◌, false, List, [], map, Result, Err, IfOk, OnOk, IsTrue}
 use Rattle.sqlite.specs.Store.{Ghosts}
 use Rattle.sqlite.specs.Held.{Held, state}
@@ -20,7 +20,7 @@ use Rattle.tb_verify.specs.Summary.{tables_in}
 use Rattle.tb_verify.specs.declared.summary.TableRows.{TableRows}
 use Rattle.tb_verify.specs.Version1.{AreStoredInVersion1, HoldsFirst, FailsOnlyAsFirst}
 
--- the six tables stand for no reachable state
+-- the six tables represent no reachable state
 abbrev pub AreOfNoState : Trees → Type 0
 AreOfNoState trees = (s : Machine) → IsReachable s → AreStoredInVersion1 (tables_of s) trees → ⊥
 
@@ -31,16 +31,17 @@ AreTheRevisions rows trees =
     → Shows revision_view (map revision_shown (tables_of s).revisions) (trees 5)
     → map revision_of rows ≡ (tables_of s).revisions)
 
--- The rows of all tables and of no pulled sentence, which are those of each reachable state without a pulled sentence for
--- which the tables stand.
+-- The rows of all tables, and of no pulled sentence. They are those of each reachable state without a pulled sentence
+-- that the tables represent.
 pub record AreTheRows (r : TableRows) (trees : Trees) : Type 0 where
   pub stands : AreStoredInVersion1 (tables_in r) trees
   pub unpulled : (tables_in r).pulled ≡ []
   pub whole : (s : Machine) → IsReachable s → (tables_of s).pulled ≡ []
       → AreStoredInVersion1 (tables_of s) trees → tables_in r ≡ tables_of s
 
--- On the schema of version 1: the trees are as is told. `NotADesk` is answered only where they stand for no reachable
--- state, and `Device`, with no limit on steps, only where the disk failed or the store was shut. Nothing is changed.
+-- On the schema of version 1, the trees are as the result says. `NotADesk` comes only where they represent no
+-- reachable state. `Device`, with no limit on steps, comes only where the disk failed or the store was shut. Nothing
+-- is changed.
 pub record HasReadVersion1 {S X : Type 0} (g : Ghosts S) (old new : Held S) (result : Result X Fault) (Are : X → Trees
     → Type 0) : Type 0 where
   pub are : HasCleanDisk (state g new) → IfOk result (λ x. (state g old).now.schema ≡ version_one_schema

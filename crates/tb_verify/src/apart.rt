@@ -1,4 +1,4 @@
-//! Whether names of batches are good, and each its own; and names of sentences, each its own.
+//! Whether batches have good names, no two the same, and whether no two sentences have one `sent_id`.
 
 ghost use Rattle.std.specs.Prelude.{◌≡◌, IfOk, Decides, map, string_bytes};
 ghost use Rattle.std.specs.List.{list_all};
@@ -11,7 +11,7 @@ use std::collections::BTreeSet;
 use tb_core::good_name;
 use tb_tables::{BatchRow, SentenceRow};
 
-/// Adds the text to those seen, and answers whether it was none of them.
+/// Adds the text to those seen. Returns whether it was not among them.
 fn add(alloc: Global, seen: &mut BTreeSet<String>, text: &str) -> Result<bool, AllocError>
     ensures { IfOk result (λ added. IsAdded added (map string_bytes seen.old.keys) text.now
         (map string_bytes seen.new.keys)) }
@@ -36,7 +36,7 @@ fn are_good(rows: &[BatchRow]) -> bool
 fn names_apart(alloc: Global, rows: &[BatchRow]) -> Result<bool, AllocError>
     ensures { IfOk result (λ apart. Decides apart (AreApart (map (λ r. string_bytes r.name) rows.now))) }
 {
-    // In order, not hashed: no file can make its names collide.
+    // A tree, not a hash table: no file can make its names collide.
     let mut seen: BTreeSet<String> = BTreeSet::new(alloc);
     for row in rows {
         if !add(alloc, &mut seen, row.name.as_str())? {
@@ -46,7 +46,7 @@ fn names_apart(alloc: Global, rows: &[BatchRow]) -> Result<bool, AllocError>
     Ok(true)
 }
 
-/// Whether batches have good names, each its own.
+/// Whether batches have good names, no two the same.
 ///
 /// # Errors
 ///
@@ -60,7 +60,7 @@ pub(crate) fn are_batches_apart(alloc: Global, rows: &[BatchRow]) -> Result<bool
     names_apart(alloc, rows)
 }
 
-/// Whether sentences have each its own `sent_id`.
+/// Whether no two sentences have the same `sent_id`.
 ///
 /// # Errors
 ///

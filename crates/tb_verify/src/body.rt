@@ -1,4 +1,4 @@
-//! The text of a revision, read back.
+//! The text of a revision, parsed back into its sentence.
 
 ghost use Rattle.std.specs.Prelude.{◌≡◌, ◌∷◌, [], List, length, IfOk, Err, MatchOption, map, string_bytes};
 ghost use Rattle.std.specs.List.{AllByRecursion};
@@ -15,7 +15,7 @@ use tb_conllu::{BlockRef, read_ref};
 use tb_rules::check;
 use tb_tables::RevisionRow;
 
-/// The sentence, where there is one alone.
+/// The sentence, if there is exactly one.
 fn only_of<'a>(mut blocks: Vec<BlockRef<'a>>) -> Option<BlockRef<'a>>
     ensures { MatchOption result (length blocks.entry.items ≡ 1 → ⊥) (λ b. blocks.entry.items ≡ b ∷ []) }
 {
@@ -28,7 +28,7 @@ fn only_of<'a>(mut blocks: Vec<BlockRef<'a>>) -> Option<BlockRef<'a>>
     Some(last)
 }
 
-/// The sentence that keeps rules 1 to 11, of which this is the text.
+/// The sentence that has this text and keeps rules 1 to 11.
 fn sentence_in<'a>(alloc: Global, body: &'a str) -> Result<BlockRef<'a>, Unfit>
     ensures fine { IfOk result (λ b. IsLawful b × (own_text b ≡ body.now)) }
     ensures unfit { result ≡ Err NotADesk → (b : BlockText) → IsLawful b → own_text b ≡ body.now → ⊥ }
@@ -41,7 +41,7 @@ fn sentence_in<'a>(alloc: Global, body: &'a str) -> Result<BlockRef<'a>, Unfit>
     Ok(block)
 }
 
-/// The sentences of which these revisions are the texts, in order.
+/// The sentences that have these revisions' texts, in order.
 pub(crate) fn sentences_in<'a>(
     alloc: Global,
     rows: &'a [RevisionRow],

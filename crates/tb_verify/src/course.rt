@@ -1,4 +1,4 @@
-//! Whether the rows of one sentence tell what its revisions hold.
+//! Whether the rows of one sentence agree with what its revisions hold.
 
 ghost use Rattle.std.specs.Prelude.{◌≡◌, ◌+◌, ◌-◌, ◌&&◌, length, map, nat_eq, bytes_eq, slice_get};
 ghost use Rattle.std.specs.Prelude.{string_bytes};
@@ -113,7 +113,7 @@ fn are_all_new(rows: &[RevisionRow]) -> bool
     true
 }
 
-/// Whether the row of a sentence, and those of its revisions, tell these sentences.
+/// Whether the row of a sentence, and the rows of its revisions, agree with these sentences.
 pub(crate) fn is_course_right(
     number: u64,
     row: &SentenceRow,

@@ -1,11 +1,12 @@
 //! Whether a store is a desk.
 //!
-//! A store is the desk of a state where four things hold: the connection is open and in no transaction; what it sees is
-//! what the last commit left; the schema is exactly that of the seven tables; and their rows are those of a state that
-//! accepted commands reach within the largest limits. The second follows from the first. The first is known of an open
-//! connection once a read has answered, so all four are found out here, and `NotADesk` is told exactly: it comes where the
-//! connection is in a transaction, the schema is another, or the rows are those of no such state. A read that the store
-//! cuts short, for whatever reason, is the device's.
+//! A store is the desk of a state where four things hold. The connection is open and in no transaction. It sees what
+//! the last commit left. The schema is exactly that of the seven tables. Their rows are those of a state that accepted
+//! commands reach within the largest limits.
+//!
+//! The second follows from the first, and a connection is known to be open once a read has answered. So all four are
+//! tested here, and `NotADesk` is exact: the connection is in a transaction, the schema is another, or no such state
+//! has the rows. A read that the store cuts short, for any reason, is a fault of the device.
 
 ghost use Rattle.std.specs.Prelude.{◌≡◌, ◌≢◌, ◌≤◌, false, None, Err, IsTrue, IfOk, OnOk};
 ghost use Rattle.sqlite.specs.State.{HasCleanDisk, IsUnchanged, Survives};
@@ -34,14 +35,16 @@ fn may_be_desk<S: Alter>(conn: &Connection<S>) -> bool
     conn.is_autocommit() && has_desk_schema(conn)
 }
 
-/// Reads all tables of a store, and tests whether it is a desk: what a desk keeps of the state for which they stand. The
-/// rows of all tables are in memory at a time, with the texts of all revisions; the sentence of each text is parsed once.
-/// Nothing is changed, whatever it answers.
+/// Reads all tables of a store, and tests whether it is a desk. Returns the counts and totals of the state that the
+/// tables represent.
+///
+/// The rows of all tables are in memory at once, with the texts of all revisions. Each text is parsed once. Nothing is
+/// changed, also after an error.
 ///
 /// # Errors
 ///
-/// `NotADesk`, where the store is the desk of no state; want of memory; or the store's, only where the disk failed or the
-/// store was shut.
+/// `NotADesk`, where the store is the desk of no state; want of memory; or the store's, only where the disk failed or
+/// the store was shut.
 pub fn read_desk<S: Alter>(alloc: Global, conn: &mut Connection<S>) -> Result<DeskSummary, Fault>
     ensures answered { HasCleanDisk (state S.Store conn.new) → IfOk result (λ x. (s : Machine)
         × IsDeskOf S.Store conn.old s × IsDeskOf S.Store conn.new s × IsSummaryOf x s) }

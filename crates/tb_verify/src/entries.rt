@@ -1,4 +1,4 @@
-//! The sentences of a file, read back one after the other.
+//! The sentences of a file, read back one after another.
 
 ghost use Rattle.std.specs.Prelude.{◌≡◌, List, IfOk, Err, map, take, drop};
 ghost use Rattle.tb_core.specs.Machine.{Sentence};
@@ -52,12 +52,13 @@ fn later_pulled(number: u64, pulled: &[u32]) -> &[u32]
     pulled
 }
 
-/// The sentences of a file, read back from their rows, of which those of revisions come in the order of their keys; the
-/// numbers of pulled sentences ascend. They borrow the names of users.
+/// The sentences of a file, read back from their rows. They borrow the names of users.
+///
+/// The rows of revisions come in the order of their keys, and the numbers of pulled sentences ascend.
 ///
 /// # Errors
 ///
-/// `NotADesk` where no sentences have these rows, each of them fine by itself; or want of memory.
+/// `NotADesk` where no sentences, each fine by itself, have these rows; or want of memory.
 pub fn entries_in<'a>(
     alloc: Global,
     sentences: &[SentenceRow],

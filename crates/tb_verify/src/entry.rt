@@ -15,7 +15,7 @@ use tb_conllu::{BlockRef, one_list_has_a_text, words};
 use tb_replay::{Revision, SentenceSummary};
 use tb_tables::{RevisionRow, SentenceRow};
 
-/// Of each revision its user and its words.
+/// The user and the words of each revision.
 fn reported_revisions<'a>(
     alloc: Global,
     rows: &'a [RevisionRow],
@@ -39,8 +39,8 @@ fn reported_revisions<'a>(
 ///
 /// # Errors
 ///
-/// `NotADesk` where no sentence has these rows of which each revision keeps rules 1 to 11, with its `sent_id` and its
-/// text, and differs from the one before; or want of memory.
+/// `NotADesk` where no sentence has these rows, or want of memory. Each revision has to keep rules 1 to 11, with the
+/// row's `sent_id` and text, and to differ from the one before.
 pub fn entry_in<'a>(
     alloc: Global,
     number: u64,
@@ -53,7 +53,7 @@ pub fn entry_in<'a>(
     ensures unfit { result ≡ Err NotADesk → (x : Sentence)
         → IsReadBack number (sentence_of row.now) pulled (map revision_of revisions.now) x → ⊥ }
 {
-    // The law by which a text is that of one sentence.
+    // A text is that of at most one list of sentences, by this law.
     one_list_has_a_text();
     let blocks = sentences_in(alloc, revisions)?;
     if !is_course_right(number, row, revisions, &blocks) {

@@ -1,4 +1,4 @@
-//! What an error of the database or of a read, or the test of rows, is to a caller.
+//! Errors of the database and of reads, and unfit rows, as faults for a caller.
 
 ghost use Rattle.std.specs.Prelude.{◌≡◌, ◌≢◌};
 ghost use Rattle.tb_core.specs.declared.refusals.Refusal.{Refusal};
@@ -10,7 +10,7 @@ use sqlite::{Error, ErrorCode};
 use tb_core::Fault;
 use tb_reads::ReadError;
 
-/// Want of memory is `Memory`, and whatever else the database answers is the store's.
+/// Want of memory is `Memory`. Every other error of the database is the store's.
 pub(crate) fn of_error(error: Error) -> Fault
     ensures no_form { result ≢ Fault.NotADesk }
     ensures cause { IsWant error → result ≢ Fault.Device }
@@ -22,8 +22,8 @@ pub(crate) fn of_error(error: Error) -> Fault
     }
 }
 
-/// The same of a read; rows that are those of no records are not a desk's. So `NotADesk` never comes of a read that was cut
-/// short.
+/// The fault of an error of a read. Rows that are those of no records are not a desk's. So `NotADesk` never comes of a
+/// read that was cut short.
 pub(crate) fn of_read(error: ReadError) -> Fault
     ensures form { result ≡ Fault.NotADesk → error ≡ ReadError.Form }
     ensures cause { IsReadWant error → result ≢ Fault.Device }
@@ -35,7 +35,7 @@ pub(crate) fn of_read(error: ReadError) -> Fault
     }
 }
 
-/// The same of rows that were tested.
+/// The fault of rows that a test calls unfit.
 pub(crate) fn of_unfit(unfit: Unfit) -> Fault
     ensures form { result ≡ Fault.NotADesk → unfit ≡ Unfit.NotADesk }
     ensures cause { result ≢ Fault.Device }

@@ -1,4 +1,4 @@
-//! What rows tell of sentences and states.
+//! Laws: what rows say of sentences and states.
 
 ghost use Rattle.std.specs.Prelude.{◌≡◌, ℕ, List, map};
 ghost use Rattle.std.specs.List.{AllByRecursion};
@@ -17,12 +17,12 @@ pub(crate) fn rows_tell_sentences()
     ensures { (n : ℕ) (reported : List Sentence) (flags : List ℕ) (rows : List Revision) (xs ys : List AnySentence)
         → AreReadBack n reported flags rows xs → AreReadBack n reported flags rows ys → xs ≡ ys }
 {
-    // The law by which a text is that of one sentence.
+    // A text is that of at most one list of sentences, by this law.
     one_list_has_a_text();
 }
 
-/// A state is fine where its sentences are, each by itself, and its rows of batches and sentences tell names apart; else it
-/// is not.
+/// A state is fine exactly where its sentences are, each by itself, and its rows of batches and sentences have names
+/// that are apart.
 pub(crate) fn rows_tell_names_apart()
     ensures fine { (f : Machine) (bs : List Batch) (ss : List Sentence) → map batch_record f.batches ≡ bs
         → map sentence_record f.sentences ≡ ss → AreNamed bs → AreTitled ss

@@ -1,6 +1,7 @@
-//! What opens a file as a desk: it reads all tables, tests whether their rows are those of a state that accepted commands
-//! reach, and makes a desk of a file of version 1. Read `desk.rt` first, then `summary.rt`, and for version 1
-//! `version1_desk.rt`.
+//! Opens a file as a desk: reads all tables and tests whether their rows are those of a state that accepted commands
+//! reach. It also makes a desk of a file of version 1.
+//!
+//! Read `desk.rt` first, then `summary.rt`. Version 1 is in `version1_desk.rt`.
 #![tactic(auto)]
 
 mod apart;

@@ -33,7 +33,7 @@ fn batch_in<'a>(row: &'a BatchRow) -> Result<tb_replay::BatchRow<'a>, Unfit>
 ///
 /// # Errors
 ///
-/// `NotADesk`, where the number of a state stands for none; or want of memory.
+/// `NotADesk`, where a row has a number that no state has; or want of memory.
 pub(crate) fn batches_in<'a>(
     alloc: Global,
     rows: &'a [BatchRow],
@@ -84,7 +84,7 @@ fn move_in(alloc: Global, row: &MoveRow, no: u64) -> Result<Move, Unfit>
 ///
 /// # Errors
 ///
-/// `NotADesk`, where the number of a kind or of a state stands for none; or want of memory.
+/// `NotADesk`, where a row has a number that no kind or no state has; or want of memory.
 pub(crate) fn moves_in(alloc: Global, rows: &[MoveRow]) -> Result<Vec<Move>, Unfit>
     ensures records { IfOk result (λ v. map move_record v.items ≡ map move_of rows.now) }
     ensures numbers { IfOk result (λ v. AreNumbered 1 v.items) }

@@ -1,4 +1,4 @@
-//! The rows of all tables of a desk, read one table after the other. Whatever a read answers, nothing is changed.
+//! The rows of all tables of a desk, read one table after another. No read changes anything, also after an error.
 
 ghost use Rattle.std.specs.Prelude.{◌≡◌, ◌↔◌, [], ◌∷◌, map, IsTrue};
 ghost use Rattle.tb_tables.specs.Records.{AreStored, Shows, numbered, batch_shown, sentence_shown, revision_shown};
@@ -25,7 +25,7 @@ fn is_second(versions: &[u32]) -> bool
     }
 }
 
-/// That the file tells one version, 2.
+/// Tests that the file names one version, 2.
 fn read_version<S: Alter>(alloc: Global, conn: &mut Connection<S>) -> Result<(), Fault>
     ensures { HasReadTable S.Store conn.old conn.new result (λ _ trees. Shows meta_view (number_shown 2 ∷ [])
         (trees 0)) (λ _ _. Unit {0}) }
@@ -124,7 +124,7 @@ fn read_pulled<S: Alter>(alloc: Global, conn: &mut Connection<S>) -> Result<Vec<
 ///
 /// # Errors
 ///
-/// `NotADesk`, where they are those of no records, or the version is not 2; want of memory; or the store's.
+/// `NotADesk`, where the rows are those of no records, or the version is not 2; want of memory; or the store's.
 pub(crate) fn read_rows<S: Alter>(
     alloc: Global,
     conn: &mut Connection<S>,

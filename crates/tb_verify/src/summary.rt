@@ -1,4 +1,4 @@
-//! Whether the rows of all tables are those of a state that accepted commands reach. No database is in it.
+//! Whether the rows of all tables are those of a state that accepted commands reach. This module uses no database.
 
 ghost use Rattle.std.specs.Prelude.{◌≡◌, ◌≤◌, map, Err, Decides, IfOk};
 ghost use Rattle.tb_core.specs.Machine.{Machine};
@@ -21,7 +21,8 @@ use tb_core::{Move, Totals};
 use tb_replay::{SentenceSummary, reached_states_are_fine, replays};
 use tb_tables::{BatchRow, MoveRow, RevisionRow, SentenceRow, TotalRow};
 
-/// The rows of a file's tables, in the order of their keys. All are in memory at a time, the texts of all revisions too.
+/// The rows of a file's tables, in the order of their keys. All are in memory at once, with the texts of all
+/// revisions.
 #[derive(Debug, Drop)]
 pub(crate) struct TableRows {
     pub batches: Vec<BatchRow>,
@@ -33,8 +34,8 @@ pub(crate) struct TableRows {
     pub pulled: Vec<u32>,
 }
 
-/// What a desk keeps of the state for which its tables stand: how many batches, sentences and moves there are, and the
-/// totals.
+/// The counts and totals of the state that a desk's tables represent: how many batches, sentences and moves there are,
+/// and the totals.
 #[derive(Clone, Copy, Debug, PartialEq, Eq)]
 pub struct DeskSummary {
     pub batches: u32,
@@ -43,7 +44,7 @@ pub struct DeskSummary {
     pub totals: Totals,
 }
 
-/// Whether names of batches are good and each its own, and names of sentences each its own.
+/// Whether batches have good names, and no two batches and no two sentences have the same name.
 fn are_apart(
     alloc: Global,
     batches: &[BatchRow],
@@ -58,7 +59,7 @@ fn are_apart(
     are_sentences_apart(alloc, sentences)
 }
 
-/// The totals of a state that accepted commands reach, where these are its rows.
+/// The totals of the state that has these rows, if accepted commands reach it.
 fn reached_totals(
     alloc: Global,
     batches: &[tb_replay::BatchRow<'_>],
@@ -77,7 +78,7 @@ fn reached_totals(
     totals_in(batches, entries, totals)
 }
 
-/// The counts, where no state within the largest limits has more.
+/// The counts, if a state within the largest limits can have as many.
 fn counted(
     batches: usize,
     sentences: usize,
@@ -102,7 +103,7 @@ fn counted(
     })
 }
 
-/// What a desk keeps of the state that has these rows, one that accepted commands reach within the largest limits.
+/// The counts and totals of the state that has these rows, which accepted commands reach within the largest limits.
 ///
 /// # Errors
 ///

@@ -1,4 +1,4 @@
-//! Whether stored totals are the sums that rows have.
+//! Whether stored totals are the sums of the rows.
 
 ghost use Rattle.std.specs.Prelude.{◌≡◌, ◌↔◌, ◌≤◌, length, map, None, Err, IsTrue, IfOk, IfSome};
 ghost use Rattle.tb_core.specs.Machine.{Machine};
@@ -15,7 +15,7 @@ use tb_core::Totals;
 use tb_replay::{SentenceSummary, totals_of};
 use tb_tables::TotalRow;
 
-/// The totals that six rows tell.
+/// The totals that six rows hold.
 fn stored_in(rows: &[TotalRow]) -> Option<Totals>
     ensures six { IfSome result (λ t. (length rows.now ≡ 6) × (t.sentences ≡ map (λ r. r.sentences) rows.now)
         × (t.words ≡ map (λ r. r.words) rows.now)) }
@@ -50,7 +50,7 @@ fn are_same(a: &[u64], b: &[u64]) -> bool
     a == b
 }
 
-/// Whether these are the rows of the totals.
+/// Whether these rows hold these totals.
 fn are_sums(rows: &[TotalRow], totals: &Totals) -> bool
     ensures { IsTrue result ↔ map total_of rows.now ≡ six_totals totals.now }
 {
@@ -60,7 +60,7 @@ fn are_sums(rows: &[TotalRow], totals: &Totals) -> bool
     are_same(&stored.sentences, &totals.sentences) && are_same(&stored.words, &totals.words)
 }
 
-/// The totals of batches and sentences, where these are their rows.
+/// The totals of batches and sentences, if these are the rows of the totals.
 ///
 /// # Errors
 ///

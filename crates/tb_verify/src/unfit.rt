@@ -1,4 +1,4 @@
-//! Why rows are not read back.
+//! Why rows cannot be read back.
 
 ghost use Rattle.std.specs.Prelude.{◌≡◌};
 ghost use Rattle.tb_verify.specs.Unfit.{unfit_of_reading, unfit_of_rules};
@@ -8,12 +8,12 @@ use std::alloc::{AllocError, AllocFailed};
 use tb_conllu::ReadFault;
 use tb_rules::RuleFault;
 
-/// Why rows are not read back.
+/// Why rows cannot be read back.
 #[derive(Clone, Copy, Debug, PartialEq, Eq)]
 pub enum Unfit {
     /// The rows are not those of a desk.
     NotADesk,
-    /// Memory was refused.
+    /// Memory ran out.
     Memory,
 }
 

@@ -1,4 +1,4 @@
-//! The tables of version 1 become those of a desk.
+//! Converts the tables of version 1 into those of a desk.
 
 ghost use Rattle.std.specs.Prelude.{◌≡◌, [], false, IsTrue, OnOk, OnErr};
 ghost use Rattle.sqlite.specs.State.{HasCleanDisk, Survives};
@@ -11,7 +11,7 @@ ghost use Rattle.tb_tables.specs.Leaving.{KeepsCommitted, BlamesNoDisk};
 
 use sqlite::{Alter, Connection, Error, Transaction};
 
-/// The table of the sentences that are pulled, without a row.
+/// Makes the table of pulled sentences, without a row.
 fn make_pulled<S: Alter>(tx: &mut Transaction<'_, S>) -> Result<(), Error>
     ensures same_reference { tx.new.conn.ghost_name ≡ tx.old.conn.ghost_name }
     ensures ok { HasCleanDisk (state S.Store tx.new.conn.now)
@@ -57,8 +57,11 @@ fn change_tables<S: Alter>(tx: &mut Transaction<'_, S>) -> Result<(), Error>
     Ok(())
 }
 
-/// Makes the tables of a desk of those of version 1, in one transaction: the same records, and none of them pulled. An error
-/// leaves the tables of version 1, and so does a crash before the commit; one after it leaves the whole tables of the desk.
+/// Converts the tables of version 1 into those of a desk, in one transaction: the same records, and no sentence is
+/// pulled.
+///
+/// An error leaves the tables of version 1, and so does a crash before the commit. A crash after it leaves the whole
+/// tables of the desk.
 pub fn upgrade<S: Alter>(conn: &mut Connection<S>) -> Result<(), Error>
     requires autocommit { conn.old.in_transaction ≡ false }
     ensures ok { HasCleanDisk (state S.Store conn.new) → OnOk result ((d : Tables) → d.pulled ≡ []

@@ -31,8 +31,8 @@ fn may_be_first_desk<S: Alter>(conn: &Connection<S>) -> bool
     conn.is_autocommit() && has_version_one_schema(conn)
 }
 
-/// Reads all tables of a store, and tests whether it is a desk of version 1: what a desk keeps of the state for which they
-/// stand. Nothing is changed, whatever it answers.
+/// Reads all tables of a store, and tests whether it is a desk of version 1. Returns the counts and totals of the
+/// state that the tables represent. Nothing is changed, also after an error.
 fn read_first_desk<S: Alter>(alloc: Global, conn: &mut Connection<S>) -> Result<DeskSummary, Fault>
     ensures answered { HasCleanDisk (state S.Store conn.new) → IfOk result (λ x. (s : Machine)
         × IsFirstDesk S.Store conn.old s × IsSummaryOf x s) }
@@ -59,13 +59,15 @@ fn read_first_desk<S: Alter>(alloc: Global, conn: &mut Connection<S>) -> Result<
     summary_without_pulls(alloc, &rows)
 }
 
-/// Makes a desk of a store that is one of version 1 without pulls: what the desk keeps of the state for which its tables
-/// stand. All rows are read and tested first, and are in memory at a time; then the tables are changed in one transaction.
+/// Makes a desk of a store that is one of version 1 without pulls. Returns the counts and totals of the state that its
+/// tables represent.
+///
+/// All rows are read and tested first, and are in memory at once. Then the tables are changed in one transaction.
 ///
 /// # Errors
 ///
 /// `NotADesk`, where the store is the desk of version 1 of no such state, and it is as it was; want of memory; or the
-/// store's. Each leaves a desk of version 1 what it was.
+/// store's. After each of them a desk of version 1 is still one.
 pub fn migrate<S: Alter>(alloc: Global, conn: &mut Connection<S>) -> Result<DeskSummary, Fault>
     ensures migrated { HasCleanDisk (state S.Store conn.new) → IfOk result (λ x. (s : Machine)
         × IsFirstDesk S.Store conn.old s × IsDeskOf S.Store conn.new s × IsSummaryOf x s) }

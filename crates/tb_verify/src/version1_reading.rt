@@ -1,4 +1,5 @@
-//! The rows of the six tables of version 1, read one table after the other. Whatever a read answers, nothing is changed.
+//! The rows of the six tables of version 1, read one table after another. No read changes anything, also after an
+//! error.
 
 ghost use Rattle.std.specs.Prelude.{◌≡◌, ◌≢◌, ℤ, false, pos, [], ◌∷◌, map, List, All, IsTrue};
 ghost use Rattle.sqlite.specs.declared.types.Value.TheVariants.{Int};
@@ -42,7 +43,7 @@ fn is_first_version(rows: &[Row]) -> bool
     }
 }
 
-/// That the file tells one version, 1.
+/// Tests that the file names one version, 1.
 fn read_version1<S: Alter>(conn: &mut Connection<S>) -> Result<(), Fault>
     ensures { HasReadVersion1 S.Store conn.old conn.new result (λ _ trees. TellsFirst trees) }
 {
@@ -165,7 +166,7 @@ fn read_version1_totals<S: Alter>(
 ///
 /// # Errors
 ///
-/// `NotADesk`, where they are those of no records, or the version is not 1; want of memory; or the store's.
+/// `NotADesk`, where the rows are those of no records, or the version is not 1; want of memory; or the store's.
 pub(crate) fn read_version1_rows<S: Alter>(
     alloc: Global,
     conn: &mut Connection<S>,

@@ -1,4 +1,4 @@
-//! Whether rows are those of a state without pulls. No database is in it.
+//! Whether rows are those of a state without pulls. This module uses no database.
 
 ghost use Rattle.std.specs.Prelude.{◌≡◌, ◌≢◌, ◌≤◌, ◌↔◌, All, Err, IsTrue, IfOk, IfErr};
 ghost use Rattle.tb_core.specs.declared.refusals.Refusal.{Refusal as AnyRefusal};
@@ -16,7 +16,7 @@ use std::alloc::Global;
 use tb_core::Fault;
 use tb_tables::MoveRow;
 
-/// Whether a move is no pull and no restore.
+/// Whether a move is neither a pull nor a restore.
 fn is_no_pull(row: &MoveRow) -> bool
     ensures { IsTrue result ↔ (row.now.kind ≢ 11) × (row.now.kind ≢ 12) }
 {
@@ -29,8 +29,8 @@ fn has_no_pull(moves: &[MoveRow]) -> bool
     moves.iter().all(|row| is_no_pull(row))
 }
 
-/// What a desk keeps of the state that has these rows, one that accepted commands reach within the largest limits, none of
-/// them a pull or a restore.
+/// The counts and totals of the state that has these rows. Accepted commands, none of them a pull or a restore, reach
+/// it within the largest limits.
 ///
 /// # Errors
 ///
