@@ -17,23 +17,23 @@ use Rattle.tb_tables.specs.Failing.{IsStoreFault, IsWant}
 use Rattle.tb_reads.specs.declared.error.ReadError.{ReadError}
 use Rattle.tb_reads.specs.declared.error.ReadError.TheVariants.{Store, Form}
 
--- where the database answered with an error, it is a fault of the store
+-- an error of the database is a fault of the store
 abbrev pub IsReadFault : ReadError → Type 0
 IsReadFault (Store e) = IsStoreFault e
 IsReadFault Form = ⊤
 
--- where the database answered with an error, it is want of memory
+-- an error of the database is want of memory
 abbrev pub IsReadWant : ReadError → Type 0
 IsReadWant (Store e) = IsWant e
 IsReadWant Form = ⊤
 
--- `Form` is told of tables of a desk only where the trees show nothing that could be read (`IsNone`)
+-- on tables of a desk, `Form` comes only where the trees show nothing that could be read (`IsNone`)
 abbrev pub HasNoForm : {S X : Type 0} → Ghosts S → Held S → Held S → Result X ReadError → (Trees → Type 0)
     → Type 0
 HasNoForm g old new result IsNone = HasCleanDisk (state g new) → result ≡ Err Form
     → (state g old).now.schema ≡ desk_schema → IsNone (state g old).now.trees
 
--- and only by a read that changed nothing
+-- and only from a read that changed nothing
 abbrev pub IsUnchangedOnForm : {S X : Type 0} → Ghosts S → Held S → Held S → Result X ReadError → Type 0
 IsUnchangedOnForm g old new result =
     HasCleanDisk (state g new) → result ≡ Err Form → (state g old).now.schema ≡ desk_schema
@@ -43,13 +43,13 @@ IsUnchangedOnForm g old new result =
 abbrev pub IsSettled : {S : Type 0} → Ghosts S → Held S → Type 0
 IsSettled g c = IsTrue (state g c).is_open → (state g c).now ≡ (state g c).committed
 
--- whatever a read answers, the connection sees what it saw, while the store is open
+-- after a read, with any answer, the connection sees what it saw before, while the store is open
 abbrev pub SeesAsBefore : {S : Type 0} → Ghosts S → Held S → Held S → Type 0
 SeesAsBefore g old new =
     HasCleanDisk (state g new) → IsTrue (state g new).is_open → (state g old).now.schema ≡ desk_schema
     → IsSettled g old → (state g new).now ≡ (state g old).now
 
--- a text that is one statement with so many parameters, and is refused nothing on a desk where there is no limit on steps
+-- A text of one statement with so many parameters. On a desk, with no limit on steps, nothing refuses it.
 abbrev pub CanRead : List ℕ → Row → Result Compiled CompileError → Type 0
 CanRead sql params (Ok c) = (length sql ≤ c.tail) × (length params ≡ length c.names)
     × ((db : Database) (e : Error) → db.schema ≡ desk_schema → RefusesToRead None c.command db params e → ⊥)

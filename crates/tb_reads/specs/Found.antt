@@ -13,13 +13,13 @@ use Rattle.sqlite.specs.Collation.TheVariants.{Binary}
 use Rattle.tb_tables.specs.Records.{Sentence, Revision}
 use Rattle.tb_reads.specs.declared.work.BatchSentence.{BatchSentence}
 
--- the number of a record that has this name, or none where no record has it. Records are numbered from 1
+-- The number of a record that has this name, or none where no record has it. Records are numbered from 1.
 abbrev pub IsNumberOf : {X : Type 0} → (X → List ℕ) → List ℕ → List X → Option ℕ → Type 0
 IsNumberOf {X} name_of name xs None = AllByRecursion (λ x. name_of x ≢ name) xs
 IsNumberOf {X} name_of name xs (Some n) = (x : X) × (0 < n) × (slice_get xs (n - 1) ≡ Some x)
     × (name_of x ≡ name)
 
--- a revision of this sentence with this number, or none where there is none
+-- a revision of this sentence with this number, or none where it does not exist
 abbrev pub IsRevisionAt : ℕ → ℕ → List Revision → Option Revision → Type 0
 IsRevisionAt sent rev xs None = AllByRecursion (λ (r : Revision). ¬ ((r.sent ≡ sent) × (r.rev ≡ rev))) xs
 IsRevisionAt sent rev xs (Some r) = Contains xs r × (r.sent ≡ sent) × (r.rev ≡ rev)
@@ -36,12 +36,12 @@ work_of batch n (x ∷ xs) = cond (nat_eq x.batch batch) (record {
 abbrev pub work_shown : BatchSentence → Row
 work_shown w = Int (pos w.number) ∷ Int (pos w.rev) ∷ Int (pos w.words) ∷ []
 
--- the first of the rows shows the record that is found, and where none is found there is no row
+-- the first of the rows shows the record that is found; where none is found there is no row
 abbrev pub ShowsFirst : {T : Type 0} → (T → Row) → List Row → Option T → Type 0
 ShowsFirst shown rows None = rows ≡ []
 ShowsFirst shown rows (Some x) = slice_get rows 0 ≡ Some (shown x)
 
--- among the rows is one that shows no such record
+-- one of the rows shows no such record
 abbrev pub HasUnreadable : {X : Type 0} → (X → Type 0) → (X → Row) → List Row → Type 0
 HasUnreadable {X} Is shown rows = (row : Row) × Contains rows row × ((x : X) → Is x → row ≢ shown x)
 
@@ -62,7 +62,7 @@ has_pair a b r = equals (column r 0) (Int (pos a)) && (equals (column r 1) (Int 
 abbrev pub has_batch : ℕ → Row → Bool
 has_batch n r = equals (column r 2) (Int (pos n)) && true
 
--- ---- the columns that are asked for, of what all columns show
+-- ---- the selected columns, of what all columns show
 
 abbrev pub key_alone : Row → Row
 key_alone r = column r 0 ∷ []

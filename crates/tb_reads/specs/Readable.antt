@@ -1,5 +1,5 @@
 -- Between crates: no contract of a front door cites a definition of this module.
--- Records that columns can be read back as: texts in UTF-8, numbers of 32 bits.
+-- Records that can be read back from columns: texts in UTF-8, numbers of 32 bits.
 use Rattle.std.specs.Prelude.{◌≡◌, ◌⊎◌, ◌<◌, ◌^◌, IsUtf8}
 use Rattle.tb_tables.specs.Records.{Batch, Sentence, Revision, Move, Total}
 use Rattle.tb_reads.specs.declared.stream.CurrentRev.{CurrentRev}
@@ -46,6 +46,6 @@ pub record IsHead (x : CurrentRev) : Type 0 where
   pub batch_fits : x.batch < 2 ^ 32
   pub rev_fits : x.rev < 2 ^ 32
 
--- revisions in the order of their sentences, and within a sentence in that of their numbers
+-- revisions in the order of their sentences, and within a sentence in the order of their numbers
 abbrev pub ComesBefore : Revision → Revision → Type 0
 ComesBefore r s = (r.sent < s.sent) ⊎ ((r.sent ≡ s.sent) × (r.rev < s.rev))

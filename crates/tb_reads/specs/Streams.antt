@@ -51,7 +51,8 @@ body_shown r = Int (pos r.sent) ∷ Int (pos r.rev) ∷ Text r.body ∷ []
 abbrev pub body_columns : Row → Row
 body_columns r = column r 0 ∷ column r 1 ∷ column r 3 ∷ []
 
--- The connection reads the bodies of a desk's revisions, by sentence and number, and those of these revisions are to come.
+-- The connection reads the bodies of a desk's revisions, by sentence and number. The bodies of these revisions are
+-- still to come.
 pub record AreToCome {S : Type 0} (g : Ghosts S) (h : Held S) (left : List Revision) : Type 0 where
   pub schema : (state g h).now.schema ≡ desk_schema
   pub before : List Revision
@@ -64,25 +65,26 @@ pub record AreToCome {S : Type 0} (g : Ghosts S) (h : Held S) (left : List Revis
 abbrev pub lent_shown : Body → Row
 lent_shown b = Int (pos b.sent) ∷ Int (pos b.rev) ∷ Text b.body.now ∷ []
 
--- a lent body is that of this revision
+-- a lent body is the body of this revision
 pub record IsBodyOf (b : Body) (x : Revision) : Type 0 where
   pub sent : b.sent ≡ x.sent
   pub rev : b.rev ≡ x.rev
   pub body : b.body.now ≡ x.body
 
--- of the revisions to come the first is handed out, or there are none
+-- the first of the revisions to come is handed out, or none is left
 abbrev pub GoesOn : {S : Type 0} (g : Ghosts S) (h : Held S) → Option Body → List Revision → Type 0
 GoesOn g h None xs = xs ≡ []
 GoesOn g h (Some b) xs = (x : Revision) × (rest : List Revision) × (xs ≡ x ∷ rest) × IsBodyOf b x
     × AreToCome g h rest
 
--- the same for the row at which the connection stands
+-- the same for the current row of the connection
 abbrev pub IsAtRow : {S : Type 0} (g : Ghosts S) (h : Held S) → Option Row → List Revision → Type 0
 IsAtRow g h None xs = xs ≡ []
 IsAtRow g h (Some r) xs = (x : Revision) × (rest : List Revision) × (xs ≡ x ∷ rest) × (r ≡ body_shown x)
     × AreToCome g h rest
 
--- what the connection is left as where no rows are handed out, and why: on the tables of a desk for a fault of the store alone
+-- What the connection is where no rows are handed out, and why. On the tables of a desk a fault of the store is the
+-- only reason.
 pub record IsLeft {S X : Type 0} (g : Ghosts S) (old : Held S) (result : Result X Error) (new : Held S) : Type 0 where
   pub fails : HasCleanDisk (state g new) → (state g old).step_limit ≡ None
       → (state g old).now.schema ≡ desk_schema → IfErr result IsStoreFault

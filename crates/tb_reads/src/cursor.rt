@@ -47,9 +47,13 @@ fn body_in(row: &Row) -> Result<Body<'_>, ReadError>
     }
 }
 
-/// The bodies of all revisions, by sentence and number, which `next_body` hands out one at a time. The connection is lent
-/// to the rows until they are dropped, which may be at any of them and changes nothing. On the tables of a desk, with no limit
-/// on steps, an error is a fault of the store.
+/// The bodies of all revisions, by sentence and number. `next_body` hands them out one at a time.
+///
+/// The rows borrow the connection until they are dropped. They may be dropped at any row, and that changes nothing.
+///
+/// # Errors
+///
+/// On the tables of a desk, with no limit on steps, an error is a fault of the store.
 pub fn bodies<S: Alter>(conn: &mut Connection<S>) -> Result<Rows<'_, S>, Error>
     ensures* refused { sem 𝓛 (RestsIfErr (the_row S.row S.Store) conn.entry (λ rows. rows.conn.ghost_name) result
         (IsLeft S.Store conn.old result)) }
@@ -75,7 +79,7 @@ pub fn bodies<S: Alter>(conn: &mut Connection<S>) -> Result<Rows<'_, S>, Error>
     )
 }
 
-// The body at which the rows stand.
+// The body in the current row.
 fn body_at<'a, S: Alter>(rows: &'a Rows<'_, S>) -> Result<Option<Body<'a>>, ReadError>
     ensures ok { IfOk result (λ found. option_map lent_shown found ≡ row_if rows.now.has_row rows.now.conn.now) }
     ensures form { result ≡ Err ReadError.Form → (row_if rows.now.has_row rows.now.conn.now ≢ None)
@@ -89,8 +93,12 @@ fn body_at<'a, S: Alter>(rows: &'a Rows<'_, S>) -> Result<Option<Body<'a>>, Read
     }
 }
 
-/// The next body of the rows of `bodies`, or none after the last. `Form` is answered only where the rows are those of no
-/// list of revisions, and an error of the database, where there is no limit on steps, only for a fault of the store.
+/// The next body of the rows of `bodies`, or `None` after the last.
+///
+/// # Errors
+///
+/// `Form` comes only where the rows are those of no list of revisions. An error of the database, with no limit on
+/// steps, comes only of a fault of the store.
 pub fn next_body<'conn, 'a, S: Alter>(
     rows: &'a mut Rows<'conn, S>,
 ) -> Result<Option<Body<'a>>, ReadError>

@@ -6,7 +6,7 @@ use std::alloc::AllocFailed;
 /// Why a read gives no records.
 #[derive(Debug, Drop)]
 pub enum ReadError {
-    /// The database answered with an error, or memory was wanting.
+    /// The database answered with an error, or memory ran out.
     Store(Error),
     /// The rows are not those of records.
     Form,

@@ -18,7 +18,7 @@ use sqlite::types::ValueRef;
 use sqlite::{Alter, Connection, Error, Row};
 use std::alloc::Global;
 
-/// The rows that a statement gives.
+/// The rows that a statement returns.
 pub(crate) fn fetch_rows<S: Alter>(
     conn: &mut Connection<S>,
     sql: &str,
@@ -39,7 +39,7 @@ pub(crate) fn fetch_rows<S: Alter>(
     conn.query_all(sql, params)
 }
 
-/// The records that the rows of a statement show. `Form` is answered exactly where the rows are those of no such list.
+/// The records that the rows of a statement show. `Form` comes exactly where the rows are those of no such list.
 pub(crate) fn fetch_all<T: FromRow, S: Alter>(
     alloc: Global,
     conn: &mut Connection<S>,
@@ -66,7 +66,7 @@ pub(crate) fn fetch_all<T: FromRow, S: Alter>(
     all_in(alloc, rows.as_slice())
 }
 
-/// The record that the first row of a statement shows, where there is a row.
+/// The record in the first row of a statement, if there is a row.
 pub(crate) fn fetch_first<T: FromRow, S: Alter>(
     conn: &mut Connection<S>,
     sql: &str,

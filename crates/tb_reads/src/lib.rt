@@ -1,6 +1,6 @@
 //! Reads the tables of a desk: whole tables in the order of their keys, single records, and one row at a time.
 //!
-//! The contract of each read says which records it gives. Read `whole.rt` first, which reads whole tables. A read of
+//! The contract of each read says which records it returns. Read `whole.rt` first, which reads whole tables. A read of
 //! one row at a time is in `stream.rt` and `cursor.rt`, and borrows the connection meanwhile.
 #![tactic(auto)]
 

@@ -1,4 +1,4 @@
-//! Rows as records, and which rows are none.
+//! Rows as records, and which rows are no records.
 
 ghost use Rattle.std.specs.Prelude.{ℕ, ◌≡◌, ◌≢◌, ◌+◌, ◌<◌, ◌^◌, length, map, pos, List, All, []};
 ghost use Rattle.std.specs.Prelude.{Err, IfOk, IsUtf8, string_bytes, IfErr};
@@ -42,7 +42,7 @@ pub(crate) trait FromRow: Sized + Drop {
         ensures cause { IfErr result IsReadWant };
 }
 
-/// The records of these rows, which are numbered from 1. `Form` is answered exactly where the rows are those of no such
+/// The records of these rows, which are numbered from 1. `Form` comes exactly where the rows are those of no such
 /// list.
 pub(crate) fn all_in<T: FromRow>(alloc: Global, rows: &[Row]) -> Result<Vec<T>, ReadError>
     ensures ok { IfOk result (λ v. rows.now ≡ numbered T.shown 1 (map T.plain v.items)) }
@@ -60,7 +60,7 @@ pub(crate) fn all_in<T: FromRow>(alloc: Global, rows: &[Row]) -> Result<Vec<T>, 
     Ok(found)
 }
 
-/// The record of the first row, where there is a row.
+/// The record in the first row, if there is a row.
 pub(crate) fn first_in<T: FromRow>(rows: &[Row], number: u64) -> Result<Option<T>, ReadError>
     ensures first { IfOk result (ShowsFirst (λ x. T.shown number (T.plain x)) rows.now) }
     ensures form { result ≡ Err ReadError.Form → HasUnreadable T.Fits (T.shown number) rows.now }
@@ -89,7 +89,7 @@ pub(crate) fn number_at(row: &Row, at: usize) -> Result<u32, ReadError>
     }
 }
 
-/// The number of the row itself, which stands first.
+/// The number of the row itself, which is its first column.
 fn key_at(row: &Row) -> Result<u64, ReadError>
     requires { 0 < length row.now }
     ensures ok { IfOk result (λ n. column row.now 0 ≡ Int (pos n)) }
@@ -329,8 +329,11 @@ impl FromRow for BatchSentence {
     }
 }
 
-/// The batches of rows of four columns, as `batches` asks for them, that are numbered from 1. `Form` is answered exactly where
-/// the rows are those of no such list.
+/// The batches of rows of four columns, as `batches` selects them, numbered from 1.
+///
+/// # Errors
+///
+/// `Form`, exactly where the rows are those of no such list; else `Store`.
 pub fn batches_in(alloc: Global, rows: &[Row]) -> Result<Vec<BatchRow>, ReadError>
     ensures ok { IfOk result (λ v. rows.now ≡ numbered batch_shown 1 (map batch_of v.items)) }
     ensures form { result ≡ Err ReadError.Form → (xs : List Batch) → All IsBatch xs
@@ -341,7 +344,11 @@ pub fn batches_in(alloc: Global, rows: &[Row]) -> Result<Vec<BatchRow>, ReadErro
     all_in(alloc, rows)
 }
 
-/// The sentences of such rows of five columns. `Form` is answered exactly where they are those of no list of sentences.
+/// The sentences of such rows of five columns.
+///
+/// # Errors
+///
+/// `Form`, exactly where the rows are those of no list of sentences; else `Store`.
 pub fn sentences_in(alloc: Global, rows: &[Row]) -> Result<Vec<SentenceRow>, ReadError>
     ensures ok { IfOk result (λ v. rows.now ≡ numbered sentence_shown 1 (map sentence_of v.items)) }
     ensures form { result ≡ Err ReadError.Form → (xs : List Sentence) → All IsSentence xs
@@ -352,7 +359,11 @@ pub fn sentences_in(alloc: Global, rows: &[Row]) -> Result<Vec<SentenceRow>, Rea
     all_in(alloc, rows)
 }
 
-/// The moves of such rows of ten columns. `Form` is answered exactly where they are those of no list of moves.
+/// The moves of such rows of ten columns.
+///
+/// # Errors
+///
+/// `Form`, exactly where the rows are those of no list of moves; else `Store`.
 pub fn moves_in(alloc: Global, rows: &[Row]) -> Result<Vec<MoveRow>, ReadError>
     ensures ok { IfOk result (λ v. rows.now ≡ numbered move_shown 1 (map move_of v.items)) }
     ensures form { result ≡ Err ReadError.Form → (xs : List Move) → All IsMove xs
@@ -363,7 +374,11 @@ pub fn moves_in(alloc: Global, rows: &[Row]) -> Result<Vec<MoveRow>, ReadError>
     all_in(alloc, rows)
 }
 
-/// The totals of such rows of three columns. `Form` is answered exactly where they are those of no list of totals.
+/// The totals of such rows of three columns.
+///
+/// # Errors
+///
+/// `Form`, exactly where the rows are those of no list of totals; else `Store`.
 pub fn totals_in(alloc: Global, rows: &[Row]) -> Result<Vec<TotalRow>, ReadError>
     ensures ok { IfOk result (λ v. rows.now ≡ numbered total_shown 1 (map total_of v.items)) }
     ensures form { result ≡ Err ReadError.Form → (xs : List Total) → All IsTotal xs
@@ -374,7 +389,11 @@ pub fn totals_in(alloc: Global, rows: &[Row]) -> Result<Vec<TotalRow>, ReadError
     all_in(alloc, rows)
 }
 
-/// The revisions of rows of four columns. `Form` is answered exactly where they are those of no list of revisions.
+/// The revisions of rows of four columns.
+///
+/// # Errors
+///
+/// `Form`, exactly where the rows are those of no list of revisions; else `Store`.
 pub fn revisions_in(alloc: Global, rows: &[Row]) -> Result<Vec<RevisionRow>, ReadError>
     ensures ok { IfOk result (λ v. rows.now ≡ map revision_shown (map revision_of v.items)) }
     ensures form { result ≡ Err ReadError.Form → (xs : List Revision) → All IsRevision xs

@@ -18,6 +18,10 @@ use sqlite::{Alter, Connection, params};
 use tb_tables::{BatchRow, RevisionRow, SentenceRow};
 
 /// The batch that has this number, if there is one.
+///
+/// # Errors
+///
+/// `Form`, only where the rows of the table are those of no list of batches; else `Store`.
 pub fn batch<S: Alter>(conn: &mut Connection<S>, number: u32) -> Result<Option<BatchRow>, ReadError>
     requires row { 0 < number }
     ensures ok { Reads S.Store conn.old conn.new result (λ found trees. (xs : List Batch)
@@ -42,6 +46,10 @@ pub fn batch<S: Alter>(conn: &mut Connection<S>, number: u32) -> Result<Option<B
 }
 
 /// The sentence that has this number, if there is one.
+///
+/// # Errors
+///
+/// `Form`, only where the rows of the table are those of no list of sentences; else `Store`.
 pub fn sentence<S: Alter>(
     conn: &mut Connection<S>,
     number: u32,
@@ -68,7 +76,11 @@ pub fn sentence<S: Alter>(
     )
 }
 
-/// The number of a batch of this name, if there is one.
+/// The number of a batch with this name, if there is one.
+///
+/// # Errors
+///
+/// `Form`, only where the rows of the table are those of no list of fewer than 2^32 batches; else `Store`.
 pub fn batch_named<S: Alter>(conn: &mut Connection<S>, name: &str) -> Result<Option<u32>, ReadError>
     ensures ok { Reads S.Store conn.old conn.new result (λ found trees. (xs : List Batch)
         → Shows batch_view (numbered batch_shown 1 xs) (trees 1) → IsNumberOf (λ x. x.name) name.now xs found) }
@@ -90,7 +102,11 @@ pub fn batch_named<S: Alter>(conn: &mut Connection<S>, name: &str) -> Result<Opt
     )
 }
 
-/// The number of a sentence of this sent_id, if there is one.
+/// The number of a sentence with this `sent_id`, if there is one.
+///
+/// # Errors
+///
+/// `Form`, only where the rows of the table are those of no list of fewer than 2^32 sentences; else `Store`.
 pub fn sentence_named<S: Alter>(
     conn: &mut Connection<S>,
     sent_id: &str,
@@ -117,6 +133,10 @@ pub fn sentence_named<S: Alter>(
 }
 
 /// The revision of a sentence that has this number, if there is one.
+///
+/// # Errors
+///
+/// `Form`, only where the rows of the table are those of no list of revisions; else `Store`.
 pub fn revision<S: Alter>(
     conn: &mut Connection<S>,
     sent: u32,
@@ -143,7 +163,11 @@ pub fn revision<S: Alter>(
     )
 }
 
-/// Whether the sentence with this number is pulled. `Form` is never answered.
+/// Whether the sentence with this number is pulled.
+///
+/// # Errors
+///
+/// `Store`; `Form` never comes.
 pub fn is_pulled<S: Alter>(conn: &mut Connection<S>, sent: u32) -> Result<bool, ReadError>
     ensures ok { Reads S.Store conn.old conn.new result (λ found trees. (xs : List ℕ)
         → Shows number_view (map number_shown xs) (trees 9) → (IsTrue found ↔ Contains xs sent)) }

@@ -1,4 +1,4 @@
-//! Rows one at a time, while the connection is lent: what a walk over the whole treebank reads.
+//! Rows one at a time, while the connection is borrowed: what a walk over the whole treebank reads.
 
 ghost use Rattle.std.specs.Prelude.{◌≡◌, ◌≢◌, map, false, List, All, Err, IfOk, IfErr};
 ghost use Rattle.tb_tables.specs.Records.{Sentence, Shows, numbered, sentence_shown, sentence_view};
@@ -36,8 +36,11 @@ fn head_in(row: &Row) -> Result<CurrentRev, ReadError>
     Ok(CurrentRev { batch, rev })
 }
 
-/// Batch and current revision of each sentence, by number. One row is at hand at a time. `Form` is answered only where
-/// the rows are those of no such list.
+/// The batch and the current revision of each sentence, by number. One row is in memory at a time.
+///
+/// # Errors
+///
+/// `Form`, only where the rows are those of no such list; else `Store`.
 pub fn heads<S: Alter>(
     alloc: Global,
     conn: &mut Connection<S>,

@@ -19,7 +19,11 @@ use sqlite::{Alter, Connection, Error, ErrorCode};
 use std::alloc::Global;
 use tb_tables::{BatchRow, MoveRow, RevisionRow, SentenceRow, TotalRow};
 
-/// The batches, by number. `Form` is answered exactly where the rows are those of no such list.
+/// The batches, by number.
+///
+/// # Errors
+///
+/// `Form`, exactly where the rows are those of no such list; else `Store`.
 pub fn batches<S: Alter>(
     alloc: Global,
     conn: &mut Connection<S>,
@@ -46,7 +50,11 @@ pub fn batches<S: Alter>(
     )
 }
 
-/// The sentences, by number. `Form` is answered exactly where the rows are those of no such list.
+/// The sentences, by number.
+///
+/// # Errors
+///
+/// `Form`, exactly where the rows are those of no such list; else `Store`.
 pub fn sentences<S: Alter>(
     alloc: Global,
     conn: &mut Connection<S>,
@@ -73,7 +81,11 @@ pub fn sentences<S: Alter>(
     )
 }
 
-/// The moves, in the order in which they were made. `Form` is answered exactly where the rows are those of no such list.
+/// The moves, in the order in which they were made.
+///
+/// # Errors
+///
+/// `Form`, exactly where the rows are those of no such list; else `Store`.
 pub fn moves<S: Alter>(alloc: Global, conn: &mut Connection<S>) -> Result<Vec<MoveRow>, ReadError>
     ensures ok { Reads S.Store conn.old conn.new result (λ v trees.
         Shows move_view (numbered move_shown 1 (map move_of v.items)) (trees 7)) }
@@ -97,7 +109,11 @@ pub fn moves<S: Alter>(alloc: Global, conn: &mut Connection<S>) -> Result<Vec<Mo
     )
 }
 
-/// The totals of each state, by its number. `Form` is answered exactly where the rows are those of no such list.
+/// The totals of each state, by its number.
+///
+/// # Errors
+///
+/// `Form`, exactly where the rows are those of no such list; else `Store`.
 pub fn totals<S: Alter>(alloc: Global, conn: &mut Connection<S>) -> Result<Vec<TotalRow>, ReadError>
     ensures ok { Reads S.Store conn.old conn.new result (λ v trees.
         Shows total_view (numbered total_shown 1 (map total_of v.items)) (trees 8)) }
@@ -121,8 +137,13 @@ pub fn totals<S: Alter>(alloc: Global, conn: &mut Connection<S>) -> Result<Vec<T
     )
 }
 
-/// The revisions, by sentence and number. `Form` is answered exactly where the rows are those of no such list. One row is at hand
-/// at a time, beside the records, since the texts are most of a file.
+/// The revisions, by sentence and number.
+///
+/// One row is in memory at a time, beside the records, since the texts are most of a file.
+///
+/// # Errors
+///
+/// `Form`, exactly where the rows are those of no such list; else `Store`.
 pub fn revisions<S: Alter>(
     alloc: Global,
     conn: &mut Connection<S>,
@@ -158,7 +179,11 @@ pub fn revisions<S: Alter>(
     Err(ReadError::Store(Error::SqliteFailure(ErrorCode::OutOfMemory)))
 }
 
-/// The numbers of the sentences that are pulled, ascending. `Form` is answered exactly where the rows are those of no such list.
+/// The numbers of the pulled sentences, ascending.
+///
+/// # Errors
+///
+/// `Form`, exactly where the rows are those of no such list; else `Store`.
 pub fn pulled<S: Alter>(alloc: Global, conn: &mut Connection<S>) -> Result<Vec<u32>, ReadError>
     ensures ok { Reads S.Store conn.old conn.new result (λ v trees. Shows number_view (map number_shown v.items)
         (trees 9)) }
@@ -179,7 +204,11 @@ pub fn pulled<S: Alter>(alloc: Global, conn: &mut Connection<S>) -> Result<Vec<u
     fetch_all(alloc, conn, "SELECT sent FROM pulled ORDER BY sent", &[])
 }
 
-/// The versions that the file tells, ascending: in the file of a desk the number 2 alone. `Form` is answered exactly where the rows are those of no such list.
+/// The versions that the file names, ascending: in the file of a desk the number 2 alone.
+///
+/// # Errors
+///
+/// `Form`, exactly where the rows are those of no such list; else `Store`.
 pub fn versions<S: Alter>(alloc: Global, conn: &mut Connection<S>) -> Result<Vec<u32>, ReadError>
     ensures ok { Reads S.Store conn.old conn.new result (λ v trees. Shows meta_view (map number_shown v.items)
         (trees 0)) }

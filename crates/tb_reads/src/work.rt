@@ -13,19 +13,22 @@ use crate::fetch::fetch_all;
 use sqlite::{Alter, Connection, params};
 use std::alloc::Global;
 
-/// A sentence of a batch, as work on it is counted.
+/// A sentence of a batch, with what the sums of the batch count.
 #[derive(Clone, Copy, Debug, PartialEq, Eq)]
 pub struct BatchSentence {
     /// The number of the sentence.
     pub number: u32,
     /// The number of its current revision.
     pub rev: u32,
-    /// Words of the current revision.
+    /// The words of the current revision.
     pub words: u32,
 }
 
-/// The sentences of a batch, by number. `Form` is answered only where the rows are those of no list of fewer than
-/// 2^32 sentences.
+/// The sentences of a batch, by number.
+///
+/// # Errors
+///
+/// `Form`, only where the rows are those of no list of fewer than 2^32 sentences; else `Store`.
 pub fn sentences_of<S: Alter>(
     alloc: Global,
     conn: &mut Connection<S>,
