@@ -1,5 +1,5 @@
 -- Between crates: no contract of a front door cites a definition of this module.
--- Lists as CSV, as the tables of a desk are.
+-- Lists as CSV, in the form of the tables of a desk.
 use Rattle.std.specs.Prelude.{ℕ, List, [], ◌∷◌, map, codes}
 use Rattle.std.specs.Fmt.{decimal}
 use Rattle.tb_core.specs.Words.{state_word}

@@ -1,4 +1,4 @@
-//! A batch as a list tells it.
+//! A batch, as a list shows it.
 
 ghost use Rattle.std.specs.Prelude.{◌≡◌, ◌≢◌, Err, IfErr, IfOk, List, map, string_bytes};
 ghost use Rattle.tb_core.specs.declared.refusals.Refusal.{Refusal as AnyRefusal};
@@ -16,20 +16,21 @@ use tb_core::{Fault, State};
 use tb_refine::state_numbered;
 use tb_tables::BatchRow;
 
-/// A batch, and what is in it.
+/// A batch, and what it holds.
 #[derive(Drop)]
 pub struct BatchLine {
     /// Its number, from 1.
     pub no: u64,
     pub name: String,
     pub state: State,
-    /// Whoever works on it, or the empty text for nobody.
+    /// The user who works on it; empty where nobody does.
     pub worker: String,
-    /// The number of its first sentence, from 1, pulled or not. Its sentences have the numbers from there on.
+    /// The number of its first sentence, from 1, pulled or not; 0 where it has none. Its other sentences have the next
+    /// numbers.
     pub first: u64,
     /// How many of its sentences are not pulled.
     pub sentences: u64,
-    /// The words of the current revisions of these.
+    /// The words of the current revisions of these sentences.
     pub words: u64,
     /// How many of its sentences are pulled.
     pub pulled: u64,
@@ -50,7 +51,7 @@ impl Model for BatchLine {
     } };
 }
 
-/// The batch of a row, with its number and what was counted.
+/// The batch of a row, with its number and its count.
 fn line_of(alloc: Global, no: u64, row: &BatchRow, count: Count) -> Result<BatchLine, Fault>
     ensures line { IfOk result (λ x. (b : Batch) → batch_of row.now ≡ batch_record b
         → x ≡ line_with no b count) }
@@ -76,7 +77,7 @@ fn line_of(alloc: Global, no: u64, row: &BatchRow, count: Count) -> Result<Batch
     })
 }
 
-/// The batches of the rows, by number, with what was counted.
+/// The batches of the rows, by number, with their counts.
 pub(crate) fn lines_of(
     alloc: Global,
     rows: &[BatchRow],

@@ -1,4 +1,4 @@
-//! What is in each batch, counted in one walk over the rows of all sentences.
+//! What each batch holds, counted in one walk over the rows of all sentences.
 
 ghost use Rattle.std.specs.Prelude.{◌≡◌, ◌≢◌, ◌+◌, ◌<◌, ◌^◌, Err, IfErr, IfOk, length, map, replicate, slice_index_or};
 ghost use Rattle.std.specs.Prelude.{◌-◌, slice_set};
@@ -11,20 +11,20 @@ use std::alloc::Global;
 use tb_core::Fault;
 use tb_tables::SentenceRow;
 
-/// What was counted of a batch.
+/// What is counted for a batch.
 #[derive(Clone, Copy, Debug)]
 pub(crate) struct Count {
-    /// The number of its first sentence, or 0.
+    /// The number of its first sentence, or 0 before there is one.
     pub first: u64,
-    /// Its sentences that are not pulled.
+    /// How many of its sentences are not pulled.
     pub sentences: u64,
-    /// The words of these.
+    /// The words of these sentences.
     pub words: u64,
-    /// Its sentences that are pulled.
+    /// How many of its sentences are pulled.
     pub pulled: u64,
 }
 
-/// What was counted before the first sentence.
+/// The count before the first sentence.
 const NONE: Count = Count {
     first: 0,
     sentences: 0,
@@ -32,7 +32,7 @@ const NONE: Count = Count {
     pulled: 0,
 };
 
-/// What was counted at a place.
+/// The count at a place.
 pub(crate) fn count_at(counts: &[Count], place: u64) -> Count
     ensures { result ≡ slice_index_or counts.now place no_count }
 {
@@ -50,14 +50,14 @@ fn put_count(counts: &mut Vec<Count>, place: u64, count: Count)
     }
 }
 
-/// The number of the first sentence that was seen, where this one is seen now.
+/// The number of the first sentence, when this one comes.
 fn first_of(number: u64, first: u64) -> u64
     ensures { result ≡ first_seen number first }
 {
     if first == 0 { number } else { first }
 }
 
-/// With one more sentence, of which so many were seen before.
+/// Adds one more sentence, after `seen` others.
 fn with_one(count: Count, seen: u64, words: u32, is_pulled: bool) -> Count
     requires few { seen < 2 ^ 32 - 1 }
     requires bound { IsOfSoMany seen count }
@@ -81,7 +81,7 @@ fn with_one(count: Count, seen: u64, words: u32, is_pulled: bool) -> Count
     }
 }
 
-/// Counts one more sentence for its batch. So many were seen before.
+/// Counts one more sentence for its batch, after `seen` others.
 fn put_one(counts: &mut Vec<Count>, seen: u64, row: &SentenceRow, is_pulled: bool)
     requires few { seen < 2 ^ 32 - 1 }
     requires bound { AllByRecursion (IsOfSoMany seen) counts.old.items }
@@ -109,7 +109,7 @@ fn is_out(number: u32, pulled: &[u32]) -> bool
     pulled.binary_search(&number).is_ok()
 }
 
-/// What is in each of so many batches, by number.
+/// The counts of so many batches, by number.
 pub(crate) fn count_rows(
     alloc: Global,
     batches: usize,

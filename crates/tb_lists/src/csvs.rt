@@ -16,7 +16,7 @@ use std::io::Write;
 use tb_conllu::Sink;
 use tb_report::ReportFault;
 
-/// A table that grows in memory, where only want of memory stops it.
+/// A table that grows in memory; only want of memory stops it.
 type Rows = Writer<Vec<u8>>;
 
 fn put_row<W: Write + Drop>(rows: &mut Writer<W>, fields: &[&[u8]]) -> Result<(), ReportFault>
@@ -112,7 +112,7 @@ fn batches_text(alloc: Global, batches: &[BatchLine]) -> Result<Vec<u8>, ReportF
     finish(rows)
 }
 
-/// Appends a text that was made.
+/// Writes a finished text.
 fn put_text<S: Sink>(text: &[u8], out: &mut S) -> Result<(), ReportFault>
     ensures written { OnOk result (Appends (S.held out.old) (S.held out.new) text.now) }
     ensures part { OnErr result (AppendsPart (S.held out.old) (S.held out.new) text.now) }
@@ -125,13 +125,13 @@ fn put_text<S: Sink>(text: &[u8], out: &mut S) -> Result<(), ReportFault>
     }
 }
 
-/// Appends a list of batches: the head line `no,name,state,worker,first,sentences,words,pulled` and a line for each. Where
-/// nobody works on a batch, its worker is empty.
+/// Writes a list of batches: the header line `no,name,state,worker,first,sentences,words,pulled` and a line for each
+/// batch. The worker is empty where nobody works on the batch.
 ///
 /// # Errors
 ///
-/// `Memory`: no memory is left, and nothing was put. `Write`: the sink refused the text, and may have taken some of it,
-/// from the front. Over a sink that never refuses, `Write` never comes.
+/// `Memory`: no memory is left, and nothing was written. `Write`: the sink refused the text, and may have taken a
+/// first part of it. Over a sink that never refuses, `Write` never comes.
 pub fn csv_batches<S: Sink>(
     alloc: Global,
     batches: &[BatchLine],

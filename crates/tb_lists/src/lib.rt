@@ -1,4 +1,6 @@
-//! Lists of what a desk holds, for looking: its batches, each with where it stands and what is in it, and the lists as CSV.
+//! Lists what a desk holds, and writes the lists as CSV: its batches, each with its state, its worker and its counts.
+//!
+//! Read `list_batches` in `reading.rt` first, and then `specs/Batches.antt`, which defines the list.
 #![tactic(auto)]
 
 mod batches;

@@ -1,5 +1,5 @@
-//! Lists, read from the tables of a desk and told as facts of the state for which they stand. Whatever is answered, they
-//! stand for it still.
+//! Lists, read from the tables of a desk. Contracts state them as facts of the state that the tables represent. No
+//! read changes that state, also after an error.
 
 ghost use Rattle.std.specs.Prelude.{◌≡◌, ◌≢◌, ◌<◌, ◌^◌, Err, IfErr, IfOk, List, false, length, map};
 ghost use Rattle.tb_core.specs.declared.refusals.Refusal.{Refusal as AnyRefusal};
@@ -85,7 +85,7 @@ fn read_pulled<S: Alter>(alloc: Global, conn: &mut Connection<S>) -> Result<Vec<
     }
 }
 
-/// What is in each of so many batches, of rows that were read.
+/// The counts of so many batches, from rows that were read.
 fn counts_of(
     alloc: Global,
     batches: usize,
@@ -105,7 +105,7 @@ fn counts_of(
     count_rows(alloc, batches, rows, pulled)
 }
 
-/// What is in each of so many batches, by number.
+/// The counts of so many batches, by number.
 fn read_counts<S: Alter>(
     alloc: Global,
     conn: &mut Connection<S>,
@@ -126,7 +126,11 @@ fn read_counts<S: Alter>(
     counts_of(alloc, batches, rows.as_slice(), pulled.as_slice())
 }
 
-/// The batches of a desk, by number, each with its state, its worker and what is in it. Nothing is refused.
+/// The batches of a desk, by number, each with its state, its worker and its counts. Nothing is refused.
+///
+/// # Errors
+///
+/// `NotADesk`, with no limit on steps only where the store is no desk; want of memory; or a fault of the device.
 pub fn list_batches<S: Alter>(
     alloc: Global,
     conn: &mut Connection<S>,
