@@ -16,12 +16,12 @@ ComesOnly (Clap e) C U = C
 ComesOnly Usage C U = U
 ComesOnly Memory C U = ⊤
 
--- what is read is what is given (`of`: as plain data), and the desk's own fault comes only where nothing is
+-- The result x is what is given (`of x`, as plain data). The desk's own fault comes only where nothing is given.
 abbrev pub ReadsAs : {T A : Type 0} → Option A → (T → A) → Result T LineFault → Type 0
 ReadsAs found of result = IfOk result (λ x. found ≡ Some (of x)) × IfErr result (λ e. ComesOnly e ⊥ (found ≡ None))
 
--- clap's definition refuses words by these kinds of error, and takes them where there is none: a result comes only of
--- words that it takes, and an error of clap has one of the kinds
+-- clap's definition refuses words with these kinds of error, and accepts them where there is none. A result comes only
+-- of words that it accepts, and an error of clap has one of the kinds.
 abbrev pub AnswersAs : {T : Type 0} → Kinds → Result T LineFault → Type 0
 AnswersAs kinds (Ok x) = kinds ≡ []
 AnswersAs kinds (Err (Clap e)) = IsAmong (kind_of e) kinds

@@ -1,4 +1,4 @@
--- What the words of a command line say: the subcommand and its values, where these have their forms.
+-- What the words of a command line say: the subcommand and its values, where all of these have their forms.
 use Rattle.std.specs.Prelude.{ℕ, List, codes, Option, Some, None, option_map, option_and_then, if◌then◌else◌}
 use Rattle.std.specs.Prelude.{bytes_eq}
 use Rattle.std.specs.List.{list_any}
@@ -14,7 +14,7 @@ use Rattle.tb_cli.specs.declared.lines.Line.TheVariants as line
 use Rattle.tb_cli.specs.declared.verbs.Verb.{Verb}
 use Rattle.tb_cli.specs.declared.verbs.Verb.TheVariants as verb
 
--- a command line, as plain data; the first text is that of --db, if it is given
+-- a command line as plain data; the first text is the value of --db, if it is given
 pub data Said : Type 0 where
   check : Said
   new_desk : Text → Said
@@ -32,7 +32,7 @@ pub data Said : Type 0 where
   count : Option Text → Strategy → Attr → Text → Said
   serve : Option Text → ℕ → ℕ → Said
 
--- where each part is there and has its form
+-- every part is there and has its form
 abbrev pub with_one : {A D : Type 0} → (A → D) → Option A → Option D
 with_one f (Some a) = Some (f a)
 with_one f None = None
@@ -45,7 +45,7 @@ abbrev pub with_three : {A B C D : Type 0} → (A → B → C → D) → Option 
 with_three f (Some a) b c = with_two (f a) b c
 with_three f None b c = None
 
--- a value that may be absent, and else has its form
+-- a value that may be missing, and otherwise has its form
 abbrev pub maybe : {A : Type 0} → (Text → Option A) → Option Text → Option (Option A)
 maybe form None = Some None
 maybe form (Some text) = option_map Some (form text)
@@ -54,7 +54,7 @@ maybe form (Some text) = option_map Some (form text)
 abbrev pub formed : {A : Type 0} → (Text → Option A) → Option Text → Option A
 formed form value = option_and_then form value
 
--- a batch's name has the form of a segment: any text with a byte and no slash
+-- a batch's name has the form of a segment: any text with at least one byte and without a slash
 abbrev pub batch_of : Text → Option Text
 batch_of text = if list_any is_slash text then None else name_of text
 
@@ -117,11 +117,11 @@ said_with verb.Serve rows =
     with_two (serve (first_of (codes "db") rows)) (formed port_of (first_of (codes "port") rows))
     (formed requests_of (first_of (codes "requests") rows))
 
--- what the subcommand that clap finds says with its values
+-- what the subcommand that clap finds says, with its values
 abbrev pub said_of : Option (Text × List Row) → Option Said
 said_of found = option_and_then (λ p. option_and_then (λ v. said_with v p.1) (verb_of p.0)) found
 
--- the plain data of the code's line
+-- the line of the code, as plain data
 abbrev pub said_by : Line → Said
 said_by line.Check = check
 said_by (line.New db) = new_desk (string_bytes db)

@@ -1,4 +1,4 @@
--- The commands, as clap is told of them.
+-- The commands, as they are declared to clap.
 use Rattle.std.specs.Prelude.{◌≡◌, List, true, false, [], ◌∷◌, codes, Some, fold}
 use Rattle.clap.specs.Words.{App, Rule, Text, app_of, rule_of, new_app, new_rule, with_rule, with_subcommand}
 use Rattle.clap.specs.declared.builder.command.Command.{Command}
@@ -11,27 +11,27 @@ use Rattle.tb_cli.specs.declared.verbs.Verb.TheVariants as verb
 abbrev pub option_rule : Text → Rule
 option_rule name = record (new_rule name) { long = Some name }
 
--- an option that has to be there
+-- an option that is required
 abbrev pub needed_rule : Text → Rule
 needed_rule name = record (option_rule name) { required = true }
 
--- an option with the value that stands where it isn't given
+-- an option with a default value
 abbrev pub default_rule : Text → Text → Rule
 default_rule name value = record (option_rule name) { defaults = value ∷ [] }
 
--- a word that has to be there
+-- a word that is required
 abbrev pub word_rule : Text → Rule
 word_rule name = record (new_rule name) { required = true }
 
--- a word that may be there
+-- a word that may be missing
 abbrev pub optional_rule : Text → Rule
 optional_rule name = new_rule name
 
--- what clap knows of a command, and no argument of it stands for its subcommands too
+-- clap knows this of a command, and no argument of it holds for its subcommands too
 abbrev pub IsKnownAs : App → Command → Type 0
 IsKnownAs app command = (app_of command ≡ app) × ((out-Command command).has_globals ≡ false)
 
--- the same of an argument
+-- clap knows this of an argument
 abbrev pub HasRule : Rule → Arg → Type 0
 HasRule rule arg = (rule_of arg ≡ rule) × (arg.global ≡ false)
 
@@ -44,11 +44,11 @@ with_db_and_user a = with_rule (with_db a) (needed_rule (codes "user"))
 abbrev pub with_db_and_strategy : App → App
 with_db_and_strategy a = with_rule (with_db a) (default_rule (codes "strategy") (codes "longest"))
 
--- a command of a user on what a word names
+-- a command by a user on what a word names
 abbrev pub with_user_and_word : Text → Text → App
 with_user_and_word name word = with_rule (with_db_and_user (new_app name)) (word_rule word)
 
--- a command that works on a file, which it has to name
+-- a command that works on a file and requires `--db`
 abbrev pub in_file_app : Text → App
 in_file_app name = with_rule (new_app name) (needed_rule (codes "db"))
 

@@ -1,8 +1,8 @@
-//! What help says of each command.
+//! The texts of help for each command.
 
 use crate::verbs::Verb;
 
-/// What help says after the list of commands.
+/// The text of help after the list of commands.
 pub const ENDING: &str = "\
 Examples:
   treedesk check < news.conllu
@@ -22,7 +22,7 @@ Exit status:
 Environment:
   TREEDESK_EXPLAIN=1  explain each refusal on standard error, also where that is no terminal";
 
-/// What a command does, as the list of commands tells it.
+/// What a command does, as the list of commands shows it.
 pub fn about<'a>(verb: Verb) -> &'a str {
     match verb {
         Verb::Check => {
@@ -47,7 +47,7 @@ pub fn about<'a>(verb: Verb) -> &'a str {
     }
 }
 
-/// What the help of a command ends with: what to know of it, an example, and the exit statuses.
+/// The end of a command's help: what to know about it, an example, and the exit statuses.
 macro_rules! ending {
     ($notes:literal, $example:literal) => {
         concat!(
@@ -59,7 +59,7 @@ macro_rules! ending {
     };
 }
 
-/// What the help of a command ends with.
+/// The end of a command's help.
 pub fn ending<'a>(verb: Verb) -> &'a str {
     match verb {
         Verb::Check => ending!(

@@ -1,11 +1,11 @@
-//! A command with its values, and why words are none.
+//! A command with its values, and why words are no command.
 
 use std::alloc::AllocError;
 use tb_core::Event;
 use tb_match::Strategy;
 use tb_syntax::Attr;
 
-/// A command with its values. Where `db` is none, the desk is one in memory.
+/// A command with its values. Where `db` is `None`, the desk is one in memory.
 #[derive(Debug, Drop)]
 pub enum Line {
     Check,
@@ -79,11 +79,12 @@ pub enum Line {
 /// Why words are no line.
 #[derive(Debug, Drop)]
 pub enum LineFault {
-    /// Words that clap does not take: unknown, missing, doubled or surplus ones; or help or the version was asked for.
+    /// Words that clap does not accept: unknown, missing, repeated or surplus ones. Help and the version come this way
+    /// too.
     Clap(clap::Error),
-    /// No command, or a value that is not of its form.
+    /// No command, or a value that does not have its form.
     Usage,
-    /// Memory was refused.
+    /// Memory ran out.
     Memory,
 }
 

@@ -128,7 +128,7 @@ fn serve(alloc: Global, matches: &ArgMatches<'_>) -> Result<Line, LineFault>
     Ok(Line::Serve { db, port, requests })
 }
 
-/// What a command says with its values.
+/// The line of a command with these values.
 fn line_of(alloc: Global, verb: Verb, values: &ArgMatches<'_>) -> Result<Line, LineFault>
     ensures { ReadsAs (said_with verb (rows_of (found_of values.now))) said_by result }
 {
@@ -163,7 +163,7 @@ fn line_of(alloc: Global, verb: Verb, values: &ArgMatches<'_>) -> Result<Line, L
     }
 }
 
-/// The subcommand that was met, with its values.
+/// The subcommand in the words, with its values.
 fn entered<'a, 'm>(matches: &'m ArgMatches<'a>) -> Option<(&'a str, &'m ArgMatches<'a>)>
     ensures { option_map (λ p. (p.0.now, rows_of (found_of p.1.now))) result ≡ subcommand_rows_of matches.now }
 {
@@ -195,12 +195,12 @@ impl Line {
     ghost use Rattle.tb_cli.specs.Fault.{AnswersAs, ComesOnly};
     ghost use Rattle.tb_cli.specs.Lines.{said_by, said_of};
 
-    /// What the words say, the program's name first.
+    /// Reads a line from words, the program's name first.
     ///
     /// # Errors
     ///
-    /// clap's only where its definition does not take the words, and of a kind that the definition has for them;
-    /// `Usage` only where it does, and there is no command or a value is not of its form; or want of memory. So words
+    /// `Clap`: clap's definition does not accept the words, and has an error of this kind for them. `Usage`: it
+    /// accepts them, but there is no command, or a value does not have its form. `Memory`: want of memory. So words
     /// that clap refuses are never a line.
     pub fn read(alloc: Global, words: &[String]) -> Result<Line, LineFault>
         ensures ok { IfOk result (λ line. said_of (subcommand_of desk_app (map string_bytes words.now))

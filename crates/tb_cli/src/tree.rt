@@ -1,4 +1,4 @@
-//! The commands that clap is told of.
+//! The commands, declared to clap.
 
 ghost use Rattle.std.specs.Prelude.{◌≡◌, IfOk, false, codes};
 ghost use Rattle.clap.specs.Words.{app_of, rule_of, new_app, with_rule, with_subcommand};
@@ -20,7 +20,7 @@ fn option<'a>(alloc: Global, name: &'a str, help: &'a str) -> Arg<'a>
     Arg::new(alloc, name).long(name).help(help)
 }
 
-/// An option that has to be there.
+/// An option that is required.
 fn needed<'a>(alloc: Global, name: &'a str, help: &'a str) -> Arg<'a>
     ensures { HasRule (needed_rule name.entry.now) result }
 {
@@ -37,21 +37,21 @@ fn defaulted<'a>(alloc: Global, name: &'a str, value: &'a str, help: &'a str) ->
         .help(help)
 }
 
-/// A word that has to be there.
+/// A word that is required.
 fn word<'a>(alloc: Global, name: &'a str, help: &'a str) -> Arg<'a>
     ensures { HasRule (word_rule name.entry.now) result }
 {
     Arg::new(alloc, name).required(true).help(help)
 }
 
-/// A word that may be there.
+/// A word that may be missing.
 fn optional<'a>(alloc: Global, name: &'a str, help: &'a str) -> Arg<'a>
     ensures { HasRule (optional_rule name.entry.now) result }
 {
     Arg::new(alloc, name).help(help)
 }
 
-/// A command with its help, and no argument yet.
+/// A command with its help, and without an argument.
 fn command<'a>(alloc: Global, verb: Verb) -> Command<'a>
     ensures { IsKnownAs (new_app (word_of verb)) result }
 {
@@ -60,7 +60,7 @@ fn command<'a>(alloc: Global, verb: Verb) -> Command<'a>
         .after_help(ending(verb))
 }
 
-/// The command with one more argument.
+/// Adds an argument to the command.
 fn with<'a>(command: Command<'a>, arg: Arg<'a>) -> Result<Command<'a>, AllocError>
     requires local { arg.global ≡ false }
     requires whole { (out-Command command).has_globals ≡ false }
@@ -69,7 +69,7 @@ fn with<'a>(command: Command<'a>, arg: Arg<'a>) -> Result<Command<'a>, AllocErro
     command.arg(arg)
 }
 
-/// The command with one more subcommand.
+/// Adds a subcommand to the command.
 fn with_sub<'a>(command: Command<'a>, sub: Command<'a>) -> Result<Command<'a>, AllocError>
     requires whole { (out-Command command).has_globals ≡ false }
     requires local { (out-Command sub).has_globals ≡ false }
@@ -101,7 +101,7 @@ fn with_db_and_strategy<'a>(alloc: Global, verb: Verb) -> Result<Command<'a>, Al
     )
 }
 
-/// A command that works on a file, which it has to name.
+/// A command that works on a file and requires `--db`.
 fn in_file<'a>(alloc: Global, verb: Verb) -> Result<Command<'a>, AllocError>
     ensures { IfOk result (IsKnownAs (in_file_app (word_of verb))) }
 {
@@ -111,7 +111,7 @@ fn in_file<'a>(alloc: Global, verb: Verb) -> Result<Command<'a>, AllocError>
     )
 }
 
-/// A command of a user on what a word names.
+/// A command by a user on what a word names.
 fn with_user_and_word<'a>(
     alloc: Global,
     verb: Verb,
@@ -141,7 +141,7 @@ fn correct<'a>(alloc: Global) -> Result<Command<'a>, AllocError>
     with(on_sentence(alloc, Verb::Correct)?, base)
 }
 
-/// A command of a user on a sentence.
+/// A command by a user on a sentence.
 fn on_sentence<'a>(alloc: Global, verb: Verb) -> Result<Command<'a>, AllocError>
     ensures { IfOk result (IsKnownAs (with_user_and_word (word_of verb) (codes "no"))) }
 {
@@ -163,7 +163,7 @@ fn export<'a>(alloc: Global) -> Result<Command<'a>, AllocError>
     with(with_db(alloc, Verb::Export)?, optional(alloc, "name", name))
 }
 
-/// The command with the query as its last word.
+/// Adds the query to the command, as its last word.
 fn with_query<'a>(alloc: Global, command: Command<'a>) -> Result<Command<'a>, AllocError>
     requires whole { (out-Command command).has_globals ≡ false }
     ensures { IfOk result (IsKnownAs (with_query (app_of command.entry))) }
@@ -216,7 +216,7 @@ fn serve<'a>(alloc: Global) -> Result<Command<'a>, AllocError>
     )
 }
 
-/// A command, as clap is told of it.
+/// A command, as it is declared to clap.
 fn subcommand<'a>(alloc: Global, verb: Verb) -> Result<Command<'a>, AllocError>
     ensures { IfOk result (IsKnownAs (app_by verb)) }
 {
@@ -239,7 +239,7 @@ fn subcommand<'a>(alloc: Global, verb: Verb) -> Result<Command<'a>, AllocError>
     }
 }
 
-/// The program's name, version and what help says of it.
+/// The program's name, its version and what its help says.
 fn top<'a>(alloc: Global) -> Command<'a>
     ensures { IsKnownAs top_app result }
 {
@@ -251,7 +251,7 @@ fn top<'a>(alloc: Global) -> Command<'a>
         .after_help(ENDING)
 }
 
-/// The whole command: its subcommands stand in the order of help.
+/// The whole command, with its subcommands in the order of help.
 pub fn desk<'a>(alloc: Global) -> Result<Command<'a>, AllocError>
     ensures { IfOk result (λ r. app_of r ≡ desk_app) }
 {

@@ -1,4 +1,4 @@
-//! The values that clap found.
+//! The values that clap finds.
 
 ghost use Rattle.std.specs.Prelude.{◌≡◌, IfOk, option_map};
 ghost use Rattle.std.specs.List.{list_any};
@@ -16,7 +16,7 @@ use tb_core::Event;
 use tb_match::Strategy;
 use tb_syntax::Attr;
 
-/// A copy of a text that may be there.
+/// A copy of a text that may be missing.
 pub fn copied(alloc: Global, text: Option<&str>) -> Result<Option<String>, AllocError>
     ensures { IfOk result (λ r. option_map string_bytes r ≡ option_map (λ s. s.now) text.entry) }
 {
@@ -26,7 +26,7 @@ pub fn copied(alloc: Global, text: Option<&str>) -> Result<Option<String>, Alloc
     }
 }
 
-/// A value that has to be there.
+/// A value that is required.
 pub fn given<T: Drop>(found: Option<T>) -> Result<T, LineFault>
     ensures { ReadsAs found (λ x. x) result }
 {
@@ -36,7 +36,7 @@ pub fn given<T: Drop>(found: Option<T>) -> Result<T, LineFault>
     }
 }
 
-/// A copy of a text that has to be there.
+/// A copy of a text that is required.
 pub fn text_of(alloc: Global, text: Option<&str>) -> Result<String, LineFault>
     ensures { ReadsAs (option_map (λ s. s.now) text.entry) string_bytes result }
 {
@@ -77,7 +77,7 @@ pub fn batch_in<'a>(matches: &ArgMatches<'a>, id: &str) -> Option<&'a str>
     }
 }
 
-/// The value as the name of a batch that may be absent.
+/// The value as the name of a batch; it may be missing.
 pub fn batch_if_any<'a>(matches: &ArgMatches<'a>, id: &str) -> Option<Option<&'a str>>
     ensures { option_map (λ o. option_map (λ s. s.now) o) result
         ≡ maybe batch_of (first_of id.now (rows_of (found_of matches.now))) }
@@ -91,7 +91,7 @@ pub fn batch_if_any<'a>(matches: &ArgMatches<'a>, id: &str) -> Option<Option<&'a
     }
 }
 
-/// The value as a number that may be absent.
+/// The value as a number; it may be missing.
 pub fn number_if_any(matches: &ArgMatches<'_>, id: &str) -> Option<Option<u64>>
     ensures { result ≡ maybe number_of (first_of id.now (rows_of (found_of matches.now))) }
 {
