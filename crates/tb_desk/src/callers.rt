@@ -1,4 +1,4 @@
-//! Connections, and what each of them has said of its request.
+//! Connections, and what each of them has sent of its request so far.
 
 use crate::patience::{Patient, REQUEST};
 use crate::place::Place;
@@ -10,31 +10,31 @@ use std::net::TcpStream;
 use std::time::{Duration, Instant};
 use tb_http::HEAD_BYTES;
 
-/// How many headers a head has that is taken: with more it is no head.
+/// The most headers that a head may have. A head with more is not accepted.
 const HEADERS: usize = 32;
 
-/// A connection, and the beginning of its request, which is read as it comes: so a client that is slow to say what it
-/// asks keeps nobody from the desk.
+/// A connection, and the beginning of its request, which is read as it arrives. So a client that sends its request
+/// slowly keeps nobody from the desk.
 #[derive(Drop)]
 pub(crate) struct Caller {
     stream: TcpStream,
     since: Instant,
     room: Vec<u8>,
-    /// How many bytes of the room came.
+    /// How many bytes of the buffer are filled.
     filled: usize,
-    /// Whether nothing more comes.
+    /// Whether the connection sends nothing more.
     has_ended: bool,
-    /// Whether a request may be read from here without waiting for a head.
+    /// Whether the request may be read without waiting for the head.
     is_ready: bool,
 }
 
-/// Whether a head is whole, or none can come of these bytes.
+/// Whether the head is complete, or these bytes cannot begin one.
 fn is_decided(bytes: &[u8]) -> bool {
     let mut headers = [EMPTY_HEADER_SPAN; HEADERS];
     !matches!(parse_request(bytes, &mut headers), Ok(Status::Partial))
 }
 
-/// Whether nothing has come yet, and no fault of the connection.
+/// Whether nothing has arrived yet, and the connection has no fault.
 fn is_none_yet(error: &io::Error) -> bool {
     error.kind() == ErrorKind::WouldBlock
         || error.kind() == ErrorKind::TimedOut
@@ -61,12 +61,12 @@ impl Caller {
         self.is_ready
     }
 
-    /// How long it has been there.
+    /// How long the connection has existed.
     pub(crate) fn waited(&self, rt: &HostRuntime) -> io::Result<Duration> {
         self.since.elapsed(rt)
     }
 
-    /// Notes what one read gave.
+    /// Notes the result of one read.
     fn note(&mut self, came: io::Result<usize>) {
         match came {
             Ok(0) => {
@@ -78,12 +78,12 @@ impl Caller {
                 let said = self.said();
                 self.is_ready = said.len() >= HEAD_BYTES || is_decided(said);
             }
-            // (a connection that fails is served, and fails there)
+            // A connection that fails is served, and fails there.
             Err(error) => self.is_ready = !is_none_yet(&error),
         }
     }
 
-    /// Reads on, once, until the head is there. Without memory for it, it is read when it is this one's turn.
+    /// Reads on, once, until the head is there. Without memory for the head, it is read when the connection is served.
     pub(crate) fn hear(&mut self) {
         if self.is_ready {
             return;
@@ -100,12 +100,12 @@ impl Caller {
         self.note(came);
     }
 
-    /// What it has said until now.
+    /// What the connection has sent so far.
     fn said(&self) -> &[u8] {
         self.room.get(..self.filled).unwrap_or(self.room.as_slice())
     }
 
-    /// Its request, from the first byte on. The time for the rest of it begins now.
+    /// The request, from its first byte on. The time for the rest of it begins now.
     pub(crate) fn request<'a>(
         &'a self,
         rt: &'a HostRuntime,
@@ -119,7 +119,7 @@ impl Caller {
     }
 }
 
-/// A request: what has come of it, and then what comes.
+/// A request: the bytes that have arrived, and then those that the connection still sends.
 #[derive(Drop)]
 pub(crate) struct Request<'a> {
     said: &'a [u8],

@@ -1,11 +1,11 @@
-//! Why the program does not do what it was asked, in words: each cause has one sentence, and all of them stand here.
+//! Why the program does not do what it was asked, in words. Each cause has one sentence, and all sentences are here.
 
 use std::fmt::{self, Display, Formatter};
 use std::io::{self, ErrorKind};
 use tb_http::Reply;
 use tb_words::{MEMORY, Words};
 
-/// What the system has no more of.
+/// What the system has run out of.
 #[derive(Clone, Copy)]
 pub enum Shortage {
     OwnFiles,
@@ -14,8 +14,8 @@ pub enum Shortage {
 }
 
 impl Shortage {
-    /// What the system is short of where a call fails so: ENFILE, EMFILE and ENOBUFS, as Linux numbers them, which have no
-    /// kind of their own.
+    /// What the system is short of where a call fails with this error: ENFILE, EMFILE or ENOBUFS. These have no kind
+    /// of their own, so they are compared by their numbers on Linux.
     fn of_system(error: io::Error) -> Option<Shortage> {
         match error.raw_os_error()? {
             23 => Some(Shortage::AllFiles),
@@ -37,7 +37,7 @@ impl Shortage {
     }
 }
 
-/// Why no desk is opened or made in a file.
+/// Why no desk can be opened or made in a file.
 #[derive(Clone, Copy)]
 pub enum FileCause {
     Missing,
@@ -76,7 +76,7 @@ pub enum FileCause {
 }
 
 impl FileCause {
-    /// What is told of a file that the system refuses.
+    /// The cause for a file that the system refuses.
     pub(crate) fn of_system(error: io::Error) -> FileCause {
         if let Some(shortage) = Shortage::of_system(error) {
             return FileCause::Short(shortage);
@@ -97,13 +97,14 @@ impl FileCause {
             ErrorKind::TimedOut | ErrorKind::NotConnected | ErrorKind::HostUnreachable => {
                 FileCause::NoAnswer
             }
-            // (so the database refuses a file with two names, and a link in the place of its log)
+            // The database reports a file with two names so, and a link in the place of its log.
             ErrorKind::Unsupported => FileCause::SecondName,
             _ => FileCause::Unopened,
         }
     }
 
-    /// The same of a file that is to be made: then its folder is missing, and there is nothing to copy.
+    /// The cause for a file that is to be made. A missing path means that its folder is missing; a read-only file
+    /// system has nothing that could be copied.
     pub(crate) fn of_new(self) -> FileCause {
         match self {
             FileCause::Missing => FileCause::NoFolder,
@@ -112,8 +113,9 @@ impl FileCause {
         }
     }
 
-    /// What is told of a file whose device failed just now. The database hands on no more than that, so the number is
-    /// asked for by which the last call of the system failed. Where that says nothing either, it is told as said.
+    /// The cause for a file whose device failed just now. The database reports only that it failed, so this asks for
+    /// the error number of the last failed call of the system. Where that says nothing either, the cause is
+    /// `otherwise`.
     pub(crate) fn of_device(otherwise: FileCause) -> FileCause {
         match io::Error::from_raw_os_error(os::errno()).kind() {
             ErrorKind::StorageFull => FileCause::Full,
@@ -123,7 +125,7 @@ impl FileCause {
         }
     }
 
-    /// The line that is printed: that memory or a device fails, or that this is no desk.
+    /// The line that is printed: memory or a device fails, or the file is no desk.
     pub(crate) fn reply(self) -> Reply {
         match self {
             FileCause::Memory => Reply::Memory,
@@ -138,7 +140,7 @@ impl FileCause {
         }
     }
 
-    /// Whether the file is no desk, so that it is left as it was.
+    /// Whether the file is no desk, and is therefore left as it was.
     pub(crate) fn is_no_desk(self) -> bool {
         matches!(self.reply(), Reply::Desk)
     }
@@ -204,7 +206,7 @@ impl FileCause {
     }
 }
 
-/// What a value on the command line is to be.
+/// What form a value on the command line has to have.
 #[derive(Clone, Copy)]
 pub enum Form {
     Batch,
@@ -219,7 +221,7 @@ pub enum Form {
 }
 
 impl Form {
-    /// Whether a text is of this form.
+    /// Whether a text has this form.
     pub(crate) fn takes(self, text: &str) -> bool {
         match self {
             Form::Batch => !text.is_empty() && !text.contains('/'),
@@ -251,7 +253,7 @@ impl Form {
     }
 }
 
-/// Why a port cannot be listened on.
+/// Why the program cannot listen on a port.
 #[derive(Clone, Copy)]
 pub enum PortCause {
     Taken,
@@ -263,11 +265,11 @@ pub enum PortCause {
     Memory,
 }
 
-/// The first port that every user may listen on.
+/// The first port on which every user may listen.
 const OPEN_TO_ALL: u16 = 1024;
 
 impl PortCause {
-    /// What is told of this port where the system refuses it.
+    /// The cause for a port that the system refuses.
     pub(crate) fn of_system(error: io::Error, port: u16) -> PortCause {
         if let Some(shortage) = Shortage::of_system(error) {
             return PortCause::Short(shortage);
@@ -300,7 +302,7 @@ impl PortCause {
     }
 }
 
-/// Why a standard stream gives or takes no more.
+/// Why a standard stream can be neither read nor written any further.
 #[derive(Clone, Copy)]
 pub enum StreamCause {
     InputClosed,
@@ -315,7 +317,7 @@ pub enum StreamCause {
 }
 
 impl StreamCause {
-    /// What is told of an input that failed so.
+    /// The cause for an input that failed with this error.
     pub fn of_input(kind: ErrorKind) -> StreamCause {
         match kind {
             ErrorKind::IsADirectory => StreamCause::InputFolder,
@@ -323,7 +325,7 @@ impl StreamCause {
         }
     }
 
-    /// What is told of an output that failed so.
+    /// The cause for an output that failed with this error.
     pub fn of_output(kind: ErrorKind) -> StreamCause {
         match kind {
             ErrorKind::BrokenPipe => StreamCause::OutputPipe,
@@ -357,39 +359,39 @@ impl StreamCause {
     }
 }
 
-/// Why a command was not done, or what else is to be known of it.
+/// Why a command was not done, or what else a user has to know about it.
 #[derive(Drop)]
 pub enum Cause {
     File(FileCause),
     Value(Form),
     Port(PortCause),
     Stream(StreamCause),
-    /// No command stands on the line.
+    /// The command line has no command.
     NoCommand,
-    /// A word of the line is not text.
+    /// A word of the command line is not text.
     NotText,
-    /// A server ended: the desk's files are no longer where they were.
+    /// A server ended: the desk's files are no longer in their place.
     FilesMoved,
     /// A server ended: a fault has shut the desk's file.
     FileShut,
-    /// A server ended: no more connections came to it.
+    /// A server ended: the system gives it no more connections.
     NoConnections,
-    /// The answer has no last line, and the output took all that came.
+    /// The answer has no last line, though the output accepted all of it.
     BrokenOff,
-    /// The system gave no memory before a command began.
+    /// The system had no memory before a command began.
     Memory,
     /// A command was done on a desk in memory.
     NothingKept,
-    /// Released text was asked for of a desk in memory.
+    /// A command asks for released text of a desk in memory.
     NothingThere,
-    /// A desk in memory is served.
+    /// A server serves a desk in memory.
     NothingWillBeKept,
-    /// The desk or the check refuses, or something else is to be told of its answer.
+    /// The desk or the check refuses, or its answer needs other words.
     Words(Words),
 }
 
 impl Cause {
-    /// The sentence of a cause that stands here.
+    /// The sentence of a cause that is defined here.
     fn text(&self) -> &'static str {
         match self {
             Cause::Words(_) => "",

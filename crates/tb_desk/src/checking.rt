@@ -1,4 +1,4 @@
-//! The check of a file, with what is told of it while the file is at hand.
+//! The check of a file, with the words for its answer while the file is at hand.
 
 ghost use Rattle.std.specs.Prelude.{◌≡◌};
 ghost use Rattle.tb_check.specs.Check.{Answers, IsReplyToRead, file_limit};
@@ -12,7 +12,7 @@ use tb_core::Refusal;
 use tb_http::{Reply, RequestFault};
 use tb_words::Asked;
 
-/// What the check of a source answers, and the file, where it came whole.
+/// What the check of a source answers, and the file if it was read whole.
 #[derive(Drop)]
 struct Checked {
     reply: CheckReply,
@@ -39,7 +39,7 @@ fn check_source<R: Source>(alloc: Global, source: &mut R) -> Checked
     }
 }
 
-/// The reply of a desk that says the same. Of counts nothing is told, and of an input that fails whoever reads it does.
+/// The desk's reply that says the same. Counts need no words. The reader of an input explains how it failed.
 fn reply_for(reply: CheckReply) -> Option<Reply> {
     match reply {
         CheckReply::Counts { .. } | CheckReply::Device => None,
@@ -62,7 +62,7 @@ fn reported_of_check(rt: &HostRuntime, checked: &Checked) -> Option<Diagnostic> 
     }
 }
 
-/// Checks what the source gives, up to 4,194,304 bytes, as `run_check`, and tells of a refusal.
+/// Checks what the source gives, up to 4,194,304 bytes, as `run_check` does, and explains a refusal.
 pub(crate) fn check_reported<R: Source, S: Sink>(
     rt: &HostRuntime,
     source: &mut R,

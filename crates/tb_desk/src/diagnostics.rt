@@ -1,4 +1,4 @@
-//! What is told on standard error, beside the answer: it never changes what is printed, nor the exit status.
+//! What the program says on standard error, beside the answer. It never changes what is printed, nor the exit status.
 
 use crate::causes::Cause;
 use std::env;
@@ -8,7 +8,7 @@ use tb_answer::put_reply;
 use tb_conllu::Sink;
 use tb_http::Reply;
 
-/// A cause, and the place that it is about: a file, a port, or a value of the command line.
+/// A cause, and the place that it is about: a file, a port, or a value on the command line.
 #[derive(Drop)]
 pub struct Diagnostic {
     pub place: Option<String>,
@@ -16,12 +16,12 @@ pub struct Diagnostic {
 }
 
 impl Diagnostic {
-    /// Whether it is told of what the desk or the check answers.
+    /// Whether it explains an answer of the desk or the check.
     pub fn is_of_answer(&self) -> bool {
         matches!(self.cause, Cause::Words(_))
     }
 
-    /// Without memory for the place, the cause is told alone.
+    /// A cause at a place. Without memory for the place it is the cause alone.
     pub(crate) fn at(rt: &HostRuntime, place: &str, cause: Cause) -> Diagnostic {
         Diagnostic {
             place: String::from_str(rt.alloc(), place).ok(),
@@ -45,7 +45,7 @@ impl Display for Diagnostic {
     }
 }
 
-/// How a run ended: its exit status, and why it is so, where the printed line does not say that.
+/// How a run ended: its exit status, and the reason for it where the printed line does not say that.
 #[derive(Drop)]
 pub struct Outcome {
     pub status: u8,
@@ -61,7 +61,7 @@ impl From<u8> for Outcome {
     }
 }
 
-/// Puts the line of a run for which the system gives no memory, and tells of it.
+/// Prints the line for a run that ran out of memory, and gives the reason.
 pub(crate) fn put_memory<W: Sink>(out: &mut W) -> Outcome {
     Outcome {
         status: put_reply(out, Reply::Memory),
@@ -69,10 +69,10 @@ pub(crate) fn put_memory<W: Sink>(out: &mut W) -> Outcome {
     }
 }
 
-/// The variable of the environment that asks for words also where standard error is no terminal.
+/// The environment variable that asks for words even where standard error is not a terminal.
 const ASKS: &str = "TREEDESK_EXPLAIN";
 
-/// Whether words are wanted on standard error: somebody sits at a terminal, or they were asked for.
+/// Whether words are wanted on standard error: it is a terminal, or the environment asks for them.
 pub fn wants_words(rt: &HostRuntime) -> bool {
     if rt.stderr().is_terminal() {
         return true;

@@ -1,5 +1,5 @@
-//! Lines of words done on a desk, and what is told of their answers. It is made from the value that was refused, while
-//! the input that it is about is at hand.
+//! Does command lines on a desk, and explains their answers. An explanation is made from the refused value, while the
+//! input that it is about is at hand.
 
 use crate::causes::{Cause, FileCause};
 use crate::diagnostics::{Diagnostic, Outcome, wants_words};
@@ -15,7 +15,7 @@ use tb_query::parse;
 use tb_store::Desk;
 use tb_words::{Asked, Words, words_of_query, words_of_reply};
 
-/// What is told of a reply, where words are wanted.
+/// The words for a reply, where words are wanted.
 pub(crate) fn reported_of_reply(
     rt: &HostRuntime,
     reply: Reply,
@@ -35,7 +35,7 @@ fn reported_of(words: Option<Words>) -> Option<Diagnostic> {
     }
 }
 
-/// Puts a reply and tells of it.
+/// Prints a reply, and explains it.
 fn put_reported<W: Write>(
     rt: &HostRuntime,
     reply: Reply,
@@ -70,7 +70,7 @@ fn answer_question<S: Alter, W: Write>(
     }
 }
 
-/// Whether an answer is the line of a reply, as far as it has come.
+/// Whether an answer is the line of a reply, as far as it has been written.
 #[derive(Clone, Copy)]
 struct Awaited<'a> {
     left: &'a [u8],
@@ -97,7 +97,7 @@ impl<'a> Awaited<'a> {
     }
 }
 
-/// An output of which is known whether it has taken more than one line, and whether that line says that memory or the
+/// An output that knows whether it has received more than one line, and whether that line says that memory or the
 /// device failed.
 #[derive(Drop)]
 struct Watched<'a, W> {
@@ -116,7 +116,7 @@ impl<W> Watched<'_, W> {
         }
     }
 
-    /// The failure that the answer is, if it is one.
+    /// The failure that the answer reports, if it reports one.
     fn failure(&self) -> Option<Reply> {
         if self.memory.has_come() {
             Some(Reply::Memory)
@@ -145,11 +145,11 @@ impl<W: Write> Write for Watched<'_, W> {
     }
 }
 
-/// What is known of an answer that was put.
+/// What is known of a written answer.
 #[derive(Clone, Copy)]
 struct Put {
     status: u8,
-    /// How many lines it has; those after the second do not count.
+    /// How many lines it has. Counting stops at two.
     lines: u8,
     failure: Option<Reply>,
 }
@@ -171,7 +171,7 @@ fn query_of(line: &Line) -> Option<(&str, Strategy)> {
     }
 }
 
-/// What a refused export is told. A desk that refuses stays as it was, so it is asked again.
+/// The words for a refused export. A desk that refuses stays as it was, so it can be asked again.
 fn words_of_export<S: Alter>(rt: &HostRuntime, desk: &mut Desk<S>, line: &Line) -> Option<Words> {
     let Line::Export {
         name: Some(name),
@@ -187,7 +187,7 @@ fn words_of_export<S: Alter>(rt: &HostRuntime, desk: &mut Desk<S>, line: &Line) 
     }
 }
 
-/// What a refused query is told.
+/// The words for a refused query.
 fn words_of_asked<S: Alter>(
     rt: &HostRuntime,
     desk: &mut Desk<S>,
@@ -204,7 +204,7 @@ fn words_of_asked<S: Alter>(
     }
 }
 
-/// What is told of an answer that was refused.
+/// The words for a refused answer.
 fn words_of_refused<S: Alter>(rt: &HostRuntime, desk: &mut Desk<S>, line: &Line) -> Option<Words> {
     match query_of(line) {
         Some((text, strategy)) => words_of_asked(rt, desk, text, strategy),
@@ -212,7 +212,7 @@ fn words_of_refused<S: Alter>(rt: &HostRuntime, desk: &mut Desk<S>, line: &Line)
     }
 }
 
-/// What is told of an answer that finds nothing.
+/// The words for an answer that finds nothing.
 fn words_of_empty<S: Alter>(
     rt: &HostRuntime,
     desk: &mut Desk<S>,
@@ -226,8 +226,8 @@ fn words_of_empty<S: Alter>(
     }
 }
 
-/// What is told of what was read off a desk: why it was refused, or why nothing is found. A failure that does not come
-/// again is told as it was answered.
+/// The words for an answer read from a desk: why it was refused, or why nothing was found. A failure that does not
+/// happen again is reported as it was answered.
 fn words_of_reading<S: Alter>(
     rt: &HostRuntime,
     desk: &mut Desk<S>,
@@ -272,7 +272,7 @@ fn read_off<S: Alter, W: Write>(
     }
 }
 
-/// Why the device failed on a command just now, where the system says more than that it did.
+/// Why the device failed on a command just now, where the system says more than that it failed.
 fn cause_of_device(reply: Reply) -> Option<FileCause> {
     match reply {
         Reply::Device => match FileCause::of_device(FileCause::Failed) {
@@ -283,7 +283,7 @@ fn cause_of_device(reply: Reply) -> Option<FileCause> {
     }
 }
 
-/// The same outcome, which is told by what the system says of the desk's file, where it says something.
+/// The same outcome, with the cause that the system reports for the desk's file, if it reports one.
 fn with_cause(
     rt: &HostRuntime,
     line: &Line,
@@ -299,7 +299,7 @@ fn with_cause(
     }
 }
 
-/// Does a line on a desk where its body came, else tells why it did not; puts the answer, and tells of it.
+/// Does a line on a desk if its body was read, otherwise reports why it was not. Prints the answer and explains it.
 pub(crate) fn run_reported<S: Alter, W: Write>(
     rt: &HostRuntime,
     line: &Line,

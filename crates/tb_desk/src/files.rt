@@ -1,4 +1,4 @@
-//! Desks in files. What stands here is tested, not proved: no contract ties a file to its path.
+//! Desks in files. This module is tested, not proved: no contract ties a file to its path.
 
 ghost use Rattle.std.specs.Prelude.{◌≡◌, false, IfOk, IsTrue};
 
@@ -24,7 +24,7 @@ pub(crate) const LIMITS: Limits = Limits {
     hits: 1_000_000,
 };
 
-/// What is told of a file that the database does not open.
+/// The cause for a file that the database does not open.
 fn cause_of_error(error: Error) -> FileCause {
     match error {
         Error::SqliteFailure(ErrorCode::OutOfMemory) => FileCause::Memory,
@@ -35,7 +35,7 @@ fn cause_of_error(error: Error) -> FileCause {
     }
 }
 
-/// What is told of a file that the system does not open.
+/// The cause for a file that the system does not open.
 fn cause_of_path(error: OpenError) -> FileCause {
     match error {
         OpenError::OutOfMemory => FileCause::Memory,
@@ -45,7 +45,7 @@ fn cause_of_path(error: OpenError) -> FileCause {
     }
 }
 
-/// What is told of a database of which no desk is made, where its tables or rows do not allow it.
+/// The cause for a database that cannot be opened as a desk; `not_a_desk` where its tables or rows do not allow it.
 fn cause_of_fault(fault: Fault, not_a_desk: FileCause) -> FileCause {
     match fault {
         Fault::Memory => FileCause::Memory,
@@ -54,12 +54,12 @@ fn cause_of_fault(fault: Fault, not_a_desk: FileCause) -> FileCause {
     }
 }
 
-/// The log beside a file, as it is before the database takes it.
+/// The log beside a file, as it is before the database opens it.
 #[derive(Drop)]
 struct Log {
     path: String,
     was_there: bool,
-    /// Once the file is locked: whether nothing was done in the log.
+    /// Whether the log is an empty file, as seen once the file is locked.
     is_empty: bool,
 }
 
@@ -76,7 +76,7 @@ impl Log {
         })
     }
 
-    /// Looks at the log again: the file is locked now, so nobody else writes it.
+    /// Looks at the log again. The file is locked now, so nobody else writes the log.
     fn look(&mut self, rt: &HostRuntime) {
         self.is_empty = match fs::metadata(rt, self.path.as_str()) {
             Ok(found) => found.len() == 0,
@@ -84,7 +84,7 @@ impl Log {
         };
     }
 
-    /// Takes back what opening a file that is no desk has put there. The file is still locked.
+    /// Undoes what opening a file that is no desk has written there. The file is still locked.
     fn undo(&self, rt: &HostRuntime) -> io::Result<()> {
         if !self.is_empty {
             return Ok(());
@@ -97,20 +97,20 @@ impl Log {
     }
 }
 
-/// How many pages of a file are kept in memory at most: 192 MiB of them.
+/// The most pages of a file that are kept in memory: 192 MiB.
 const MOST_PAGES: u64 = 49_152;
 
-/// How many pages more than the file has are kept by a command that adds none, or few.
+/// How many pages beyond those of the file are kept for a command that adds few or none.
 pub(crate) const ROOM: u64 = 64;
 
-/// The same of a command that may add many.
+/// The same for a command that may add many.
 pub(crate) const ROOM_TO_GROW: u64 = 2_000;
 
-/// The same of a server: 84 MiB, the pages of 64 MB of text. Each search reads the pages beyond this room anew.
+/// The same for a server: 84 MiB, the pages of 64 MB of text. Each search reads the pages beyond this room again.
 pub(crate) const ROOM_TO_SERVE: u64 = 21_504;
 
-/// How many pages are kept in memory once they were read, so that each is read once: all that the file has, and room for more.
-/// Memory for all of them is taken at once, so a small desk is to take little.
+/// How many pages are kept in memory, so that each is read once: all pages of the file, and room for more. Memory for
+/// all of them is reserved at once, so a small desk has to take little.
 fn pages_to_keep(rt: &HostRuntime, path: &str, room: u64) -> usize {
     let bytes = match fs::metadata(rt, path) {
         Ok(metadata) => metadata.len(),
@@ -129,7 +129,7 @@ fn options(rt: &HostRuntime, path: &str, room: u64) -> Result<Options, FileCause
     })
 }
 
-/// A connection over these files, in no transaction. Where they are no database, the log is as it was.
+/// A connection over these files, in no transaction. Where they are no database, the log stays as it was.
 fn over<D: Disk + Drop>(
     rt: &HostRuntime,
     files: Files<D>,
@@ -153,8 +153,8 @@ fn over<D: Disk + Drop>(
     }
 }
 
-/// A connection to the file at this path, in no transaction, with room for so many pages more. A file that another
-/// command has is waited for.
+/// A connection to the file at this path, in no transaction, with room for so many pages more. It waits for a file
+/// that another command has open.
 fn connect(
     rt: &HostRuntime,
     path: &str,
@@ -178,14 +178,14 @@ fn connect(
     Err(FileCause::Busy)
 }
 
-/// Closes the file, so that it holds all by itself. What fails there loses nothing: the log beside the file keeps what was
-/// done, and the next command finds it.
+/// Closes the file, so that it is complete without its log. A failure here loses nothing: the log beside the file
+/// keeps what was done, and the next command finds it.
 pub(crate) fn close(desk: FileDesk) {
     let _ = desk.into_connection().close();
 }
 
-/// The desk that was made of a connection, or why there is none. The file is closed then, and what is no desk is left
-/// as it was.
+/// The desk that was made of a connection, or why there is none. Without a desk the file is closed, and what is no
+/// desk stays as it was.
 fn made(
     rt: &HostRuntime,
     log: &Log,
@@ -207,7 +207,7 @@ fn made(
     }
 }
 
-/// Tells a file that is no desk for what it begins with, and leaves it alone.
+/// Refuses a file that by its first bytes, and those of its log, is not a desk of version 2. The file is not changed.
 pub(crate) fn look(rt: &HostRuntime, path: &str) -> Result<(), FileCause> {
     match version_of(rt, path)? {
         Version::Two => Ok(()),
@@ -224,7 +224,7 @@ pub(crate) fn open(rt: &HostRuntime, path: &str, room: u64) -> Result<FileDesk, 
     made(rt, &log, desk, FileCause::Rows)
 }
 
-/// Brings the desk of version 1 in the file at this path to version 2.
+/// Migrates the desk of version 1 in the file at this path to version 2.
 pub(crate) fn migrate(rt: &HostRuntime, path: &str) -> Result<FileDesk, FileCause> {
     let not_a_desk = match version_of(rt, path)? {
         Version::One => FileCause::Rows,
@@ -236,7 +236,7 @@ pub(crate) fn migrate(rt: &HostRuntime, path: &str) -> Result<FileDesk, FileCaus
     made(rt, &log, desk, not_a_desk)
 }
 
-/// Makes a desk in the file at this path, which is missing, empty or a blank database.
+/// Makes a desk in the file at this path. The file is missing, empty or a blank database.
 pub(crate) fn make(rt: &HostRuntime, path: &str) -> Result<FileDesk, FileCause> {
     may_become_desk(rt, path)?;
     let mut log = Log::before(rt, path)?;

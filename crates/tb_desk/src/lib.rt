@@ -1,9 +1,12 @@
-//! The desk: the front door to all that it answers.
+//! The front door of the desk: it answers requests over HTTP and command lines, and runs the whole program. Read
+//! `words.rt` first, with `run_words`, and then `serving.rt`.
 //!
-//! `answer` does what the bytes of one request over HTTP ask, and `answer_all` what a list of requests asks. A `Line` is read
-//! from the words of a command line, and `run_line` does it on a desk. `run_check` checks a file. `run_words` is the whole
-//! program: it does what the words ask on a file or in memory, or serves it over HTTP. `requests_lead_on`,
-//! `requests_in_memory_lead_on` and `the_check_counts_what_is_taken` are laws: proved facts that link these answers.
+//! `answer` does what the bytes of one request over HTTP ask, and `answer_all` what a list of requests asks. A `Line`
+//! is read from the words of a command line, and `run_line` does it on a desk. `run_check` checks a file. `run_words`
+//! is the whole program: it does what the words ask on a file or in memory, or serves the desk over HTTP.
+//!
+//! `requests_lead_on`, `requests_in_memory_lead_on` and `the_check_counts_what_is_taken` are laws: proved facts that
+//! link these answers.
 #![tactic(auto)]
 
 mod callers;

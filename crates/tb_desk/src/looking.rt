@@ -1,5 +1,5 @@
-//! What a file is, told by its own bytes before the database opens it: to open a file writes a log beside it, also
-//! where it is no desk.
+//! What a file is, by its own bytes, before the database opens it. Opening a file writes a log beside it, even where
+//! the file is no desk.
 
 use crate::causes::FileCause;
 use sqlite_disk::{Disk, Files, Memory};
@@ -9,29 +9,29 @@ use std::fs;
 use std::io::{ErrorKind, Read};
 use std::path::PathBuf;
 
-/// What a database file begins with (the file format of SQLite, section 1.3).
+/// The first bytes of a database file (the file format of SQLite, section 1.3).
 const HEADER: &[u8] = b"SQLite format 3\0";
 
-/// What a log begins with after its first byte, which a desk writes last (section 4.1).
+/// The bytes of a log after its first byte, which a desk writes last (section 4.1).
 const LOG_MAGIC: &[u8] = b"\x7f\x06";
 
-/// How many bytes of a file are read: the largest page has so many.
+/// How many bytes of a file are read: the size of the largest page.
 const LOOKED_AT: u64 = 65_536;
 
-/// How many bytes of a log are read. The tables are made by its first frames where the file itself does not have them
-/// yet.
+/// How many bytes of a log are read. Its first frames make the tables where the file does not have them yet.
 const LOG_LOOKED_AT: u64 = 4_194_304;
 
-/// How long a log may be that a desk which was not made to its end has left.
+/// The greatest length of the log that an interrupted `new` leaves.
 const HALF_MADE_LOG: u64 = 1_048_576;
 
-/// How many bytes of a log stand before its first page: its own header, and that of the page (section 4.1).
+/// How many bytes of a log precede its first page: the log's header and the page's (section 4.1).
 const BEFORE_FIRST_PAGE: usize = 56;
 
-/// How many bytes a page of a desk's file has.
+/// The size of a page of a desk's file, in bytes.
 pub(crate) const PAGE_BYTES: u64 = 4096;
 
-/// How the rows begin by which a database lists a desk's tables: the kind, the name, and the name of its table.
+/// The beginnings of the rows in which a database lists a desk's tables: the kind, the name, and the name of its
+/// table.
 const TABLES: [&str; 6] = [
     "tablemetameta",
     "tablebatchesbatches",
@@ -41,17 +41,17 @@ const TABLES: [&str; 6] = [
     "tabletotalstotals",
 ];
 
-/// The same of the table that a desk of version 1 lacks.
+/// The same for the table that a desk of version 1 lacks.
 const PULLED: &str = "tablepulledpulled";
 
-/// What version a desk is of: the tables of both are in use, and one of today has a table more.
+/// The version of a desk. Both sets of tables are in use; today's has one table more.
 #[derive(Clone, Copy, PartialEq, Eq)]
 pub(crate) enum Version {
     One,
     Two,
 }
 
-/// The path of the file that lies beside another by this ending.
+/// The path of a file beside another, which has this ending.
 pub(crate) fn beside(rt: &HostRuntime, path: &str, ending: &str) -> Result<String, FileCause> {
     match format!(in rt.alloc(); "{path}{ending}") {
         Ok(beside) => Ok(beside),
@@ -59,7 +59,7 @@ pub(crate) fn beside(rt: &HostRuntime, path: &str, ending: &str) -> Result<Strin
     }
 }
 
-/// The path without links: a log lies beside the file that a link leads to.
+/// The path without links: a log is beside the file to which a link leads.
 pub(crate) fn real(rt: &HostRuntime, path: &str) -> Result<PathBuf, FileCause> {
     match fs::canonicalize(rt, path) {
         Ok(real) => Ok(real),
@@ -67,7 +67,7 @@ pub(crate) fn real(rt: &HostRuntime, path: &str) -> Result<PathBuf, FileCause> {
     }
 }
 
-/// What a file begins with, so many bytes at most; nothing of a file that is not there.
+/// The first bytes of a file, at most so many; empty for a missing file.
 pub(crate) fn beginning(rt: &HostRuntime, path: &str, most: u64) -> Result<Vec<u8>, FileCause> {
     let mut bytes = Vec::new(rt.alloc());
     match fs::File::open(rt, path) {
@@ -89,7 +89,7 @@ fn has(bytes: &[u8], text: &str) -> bool {
     false
 }
 
-/// The desk whose tables these bytes list.
+/// The version of the desk whose tables these bytes list.
 fn listed_in(bytes: &[u8]) -> Option<Version> {
     for table in TABLES {
         if !has(bytes, table) {
@@ -103,7 +103,7 @@ fn listed_in(bytes: &[u8]) -> Option<Version> {
     })
 }
 
-/// Whether something lies there that is no plain file, as a link, or a pipe that one would wait at.
+/// Whether the path has something that is no plain file, such as a link, or a pipe on which a read would wait.
 fn is_odd(rt: &HostRuntime, path: &str) -> Result<bool, FileCause> {
     match fs::symlink_metadata(rt, path) {
         Ok(found) => Ok(!found.is_file()),
@@ -112,7 +112,7 @@ fn is_odd(rt: &HostRuntime, path: &str) -> Result<bool, FileCause> {
     }
 }
 
-/// Whether another program has left a journal that is to be played back.
+/// Whether another program has left a journal that has to be played back.
 fn has_journal(rt: &HostRuntime, path: &str) -> Result<bool, FileCause> {
     let journal = beside(rt, path, "-journal")?;
     if is_odd(rt, journal.as_str())? {
@@ -122,8 +122,8 @@ fn has_journal(rt: &HostRuntime, path: &str) -> Result<bool, FileCause> {
     Ok(first.first().is_some_and(|byte| *byte != 0))
 }
 
-/// Which desk a file may be, by what it and its log begin with at one look: the log has tables that the file itself
-/// does not have yet.
+/// The version of desk that a file may be, by the first bytes of it and its log, read once. The log has tables that
+/// the file itself does not have yet.
 fn listed_now(rt: &HostRuntime, path: &str) -> Result<Version, FileCause> {
     let head = beginning(rt, path, LOOKED_AT)?;
     if !head.is_empty() && !head.starts_with(HEADER) {
@@ -137,7 +137,7 @@ fn listed_now(rt: &HostRuntime, path: &str) -> Result<Version, FileCause> {
     if is_odd(rt, log_path.as_str())? {
         return in_file.ok_or(FileCause::OddLog);
     }
-    // (the library takes no log for an empty file: it would cut the log, and make a database in the file)
+    // The library does not use a log beside an empty file: it would truncate the log, and make a database in the file.
     if head.is_empty() {
         return Err(FileCause::Empty);
     }
@@ -149,8 +149,8 @@ fn listed_now(rt: &HostRuntime, path: &str) -> Result<Version, FileCause> {
     }
 }
 
-/// Which desk a file may be. While another command closes a desk, its tables pass from the log into the file: what
-/// neither has at the first look, the file has at the second.
+/// The version of desk that a file may be. While another command closes a desk, its tables move from the log into the
+/// file. If neither has them at the first look, the file has them at the second.
 fn listed(rt: &HostRuntime, path: &str) -> Result<Version, FileCause> {
     match listed_now(rt, path) {
         Err(FileCause::Empty | FileCause::OtherDatabase) => listed_now(rt, path),
@@ -158,12 +158,12 @@ fn listed(rt: &HostRuntime, path: &str) -> Result<Version, FileCause> {
     }
 }
 
-/// Names that SQLite gives a meaning of its own are no files.
+/// Whether SQLite gives the name a meaning of its own, so that it is no file.
 pub(crate) fn is_no_path(path: &str) -> bool {
     path == ":memory:" || path.starts_with("file:")
 }
 
-/// What is wrong with a path at which no plain file lies, though something does.
+/// The cause for a path that has something other than a plain file.
 fn odd(found: &fs::Metadata) -> FileCause {
     if found.is_dir() {
         FileCause::Folder
@@ -172,7 +172,7 @@ fn odd(found: &fs::Metadata) -> FileCause {
     }
 }
 
-/// What version the desk is of that a plain file may be, by what it begins with.
+/// The version of the desk that a plain file may be, by its first bytes.
 pub(crate) fn version_of(rt: &HostRuntime, path: &str) -> Result<Version, FileCause> {
     if is_no_path(path) {
         return Err(FileCause::ReservedName);
@@ -198,8 +198,8 @@ fn are_zero(bytes: &[u8]) -> bool {
     true
 }
 
-/// Whether a file holds no table: it is empty, or its first page lists none, or it is what is left of such a page
-/// that was not written to its end.
+/// Whether a file has no table. It is empty, or its first page lists none, or it is the remainder of such a page that
+/// was not completely written.
 fn is_blank(head: &[u8]) -> bool {
     if are_zero(head) {
         return head.len() as u64 <= PAGE_BYTES;
@@ -208,14 +208,14 @@ fn is_blank(head: &[u8]) -> bool {
         (Some(found), Some(wanted)) => found == wanted,
         _ => false,
     };
-    // (of the tree of tables on the first page: the kind of its root, which is a leaf, and how many rows it has)
+    // Of the tree of tables on the first page: the kind of its root, which is a leaf, and its number of rows.
     is_database
         && head.get(100) == Some(&13)
         && head.get(103) == Some(&0)
         && head.get(104) == Some(&0)
 }
 
-/// Whether a log that says nothing may be one that a desk has left: its header was not written yet.
+/// Whether bytes without a readable header may be a log that a desk has left before it wrote the header.
 fn is_unwritten(log: &[u8]) -> bool {
     match log.get(1..) {
         Some(rest) if rest.starts_with(LOG_MAGIC) => true,
@@ -223,8 +223,8 @@ fn is_unwritten(log: &[u8]) -> bool {
     }
 }
 
-/// Whether the pages that a log has are the first one alone, and it lists no table: so `new` begins, and it may have
-/// been stopped there.
+/// Whether the log has only the first page, and that page lists no table. `new` begins so, and may have been stopped
+/// there.
 fn are_begun(log: &[u8], pages: &[u32]) -> bool {
     match log.get(BEFORE_FIRST_PAGE..) {
         Some(first) => pages.len() == 1 && pages.first() == Some(&1) && is_blank(first),
@@ -232,7 +232,8 @@ fn are_begun(log: &[u8], pages: &[u32]) -> bool {
     }
 }
 
-/// Whether a log has something that was done. Of what is no log, that is so too.
+/// Whether a log has commits other than the first page that `new` writes. Bytes that are no log count as commits,
+/// unless they may be a log whose header was not written yet.
 fn has_commits(alloc: Global, bytes: &[u8]) -> Result<bool, FileCause> {
     let mut files = Files {
         log: Memory::new(alloc),
@@ -252,7 +253,7 @@ fn has_commits(alloc: Global, bytes: &[u8]) -> Result<bool, FileCause> {
     }
 }
 
-/// Whether a log lies there that a new desk would take for its own, though it holds what was done on another.
+/// Whether there is a log that a new desk would take for its own, though it holds commits of another desk.
 fn has_log_of_another(rt: &HostRuntime, path: &str) -> Result<bool, FileCause> {
     let log = beside(rt, path, "-wal")?;
     match fs::symlink_metadata(rt, log.as_str()) {
@@ -267,7 +268,7 @@ fn has_log_of_another(rt: &HostRuntime, path: &str) -> Result<bool, FileCause> {
     }
 }
 
-/// What a file that is not blank holds.
+/// The cause for a file that is not blank, by what it holds.
 fn held_by(head: &[u8]) -> FileCause {
     if listed_in(head).is_some() {
         FileCause::DeskAlready
@@ -276,7 +277,7 @@ fn held_by(head: &[u8]) -> FileCause {
     }
 }
 
-/// Tells a file of which no desk may be made, by what it and its neighbours begin with.
+/// Refuses a file in which no desk may be made, by the first bytes of it and of the files beside it.
 fn look_at_new(rt: &HostRuntime, path: &str) -> Result<(), FileCause> {
     let head = beginning(rt, path, LOOKED_AT)?;
     if !is_blank(&head) {
@@ -291,8 +292,8 @@ fn look_at_new(rt: &HostRuntime, path: &str) -> Result<(), FileCause> {
     Ok(())
 }
 
-/// Tells a path at which no desk may be made: one may where nothing is there, or an empty file, or a blank database,
-/// and no log of another desk.
+/// Refuses a path at which no desk may be made. One may be made where there is nothing, an empty file or a blank
+/// database, and no log of another desk.
 pub(crate) fn may_become_desk(rt: &HostRuntime, path: &str) -> Result<(), FileCause> {
     if is_no_path(path) {
         return Err(FileCause::ReservedName);

@@ -1,4 +1,4 @@
-//! Why a query finds nothing, where that can be seen: nothing is released, its signs are meant as they stand, or it asks
+//! Why a query finds nothing, where that can be seen. Nothing is released, its signs are meant literally, or it asks
 //! for a form that only ranges have.
 
 use sqlite::Alter;
@@ -12,10 +12,10 @@ use tb_words::{
     words_of_unreleased,
 };
 
-/// How many bytes of a line are kept: the forms that a query can ask for are shorter.
+/// How many bytes of a line are kept. The forms that a query can ask for are shorter.
 const LONGEST: usize = 4096;
 
-/// Takes a file, and looks in it for ranges with one of the forms.
+/// A sink that receives a file, and looks in it for ranges with one of the forms.
 #[derive(Drop)]
 struct Ranges<'a> {
     forms: Vec<&'a str>,
@@ -33,7 +33,7 @@ fn range_form(line: &str) -> Option<&str> {
     rest.split('\t').next()
 }
 
-/// The place of a form among those that are asked for.
+/// The place of a form in the list of forms.
 fn place_of(forms: &[&str], form: &str) -> Option<usize> {
     for (place, asked) in forms.iter().enumerate() {
         if *asked == form {
@@ -44,7 +44,7 @@ fn place_of(forms: &[&str], form: &str) -> Option<usize> {
 }
 
 impl Ranges<'_> {
-    /// Looks at the line that has ended.
+    /// Looks at the line that is now complete.
     fn look(&mut self) {
         let line = str::from_utf8(self.line.as_slice()).unwrap_or("");
         if let Some(form) = range_form(line) {
@@ -76,7 +76,7 @@ impl Write for Ranges<'_> {
     }
 }
 
-/// How many hits the query has where its signs are taken as they stand.
+/// How many hits the query has where its signs are taken literally.
 fn hits_as_it_stands<S: Alter>(
     rt: &HostRuntime,
     desk: &mut Desk<S>,
@@ -108,7 +108,7 @@ fn form_of_a_range<S: Alter>(rt: &HostRuntime, desk: &mut Desk<S>, text: &str) -
     Some(words_of_range(rt.alloc(), form))
 }
 
-/// What is told where no sentence is released: nothing that reads released text finds any.
+/// The words for a desk without released sentences. Nothing that reads released text finds any there.
 pub(crate) fn unreleased<S: Alter>(desk: &mut Desk<S>) -> Option<Words> {
     let Ok(totals) = desk.totals() else {
         return None;
@@ -121,7 +121,7 @@ pub(crate) fn unreleased<S: Alter>(desk: &mut Desk<S>) -> Option<Words> {
     }
 }
 
-/// Why a query finds nothing, as far as it can be seen.
+/// The reason why a query finds nothing, if one can be seen.
 pub(crate) fn words_of_nothing<S: Alter>(
     rt: &HostRuntime,
     desk: &mut Desk<S>,

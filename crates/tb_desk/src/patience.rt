@@ -1,4 +1,4 @@
-//! How long a client may keep the desk to itself.
+//! Time limits for clients, so that none keeps the desk to itself.
 
 use crate::place::Place;
 use std::io::{self, ErrorKind, Read, Write};
@@ -8,15 +8,16 @@ use std::time::{Duration, Instant};
 /// How many seconds the reads of a request may take together.
 pub(crate) const REQUEST: u64 = 10;
 
-/// How many seconds a client may take longer for an answer than its bytes need.
+/// How many seconds longer a client may take for an answer than its bytes need.
 const ANSWER: u64 = 3;
 
-/// How many bytes of an answer a client has to take in a millisecond.
+/// How many bytes of an answer a client has to receive in a millisecond.
 const RATE: u64 = 1_024;
 
-/// Reads a connection: each read has its own time, and all of them together have another, so that a client that sends
-/// a byte now and then is let go too. Where a file was moved meanwhile, what came is told as a fault, so that nothing
-/// is done on it.
+/// Reads a connection within time limits: one for each read, and one for all reads together. So a client that sends a
+/// byte now and then is cut off too.
+///
+/// If a file was moved meanwhile, the read fails, so that nothing is done on that file.
 #[derive(Drop)]
 pub(crate) struct Patient<'a> {
     rt: &'a HostRuntime,
@@ -28,7 +29,7 @@ pub(crate) struct Patient<'a> {
 }
 
 impl<'a> Patient<'a> {
-    /// The times begin now, in seconds.
+    /// A reader whose time limits, in seconds, begin now.
     pub(crate) fn new(
         rt: &'a HostRuntime,
         stream: &'a TcpStream,
@@ -67,7 +68,7 @@ impl Read for Patient<'_> {
     }
 }
 
-/// Whether the files of a desk are no longer where they were. A desk in memory has none.
+/// Whether the files of a desk are no longer in their place. A desk in memory has no files.
 pub(crate) fn has_changed(rt: &HostRuntime, place: Option<&Place>) -> bool {
     match place {
         Some(place) => place.has_changed(rt),
@@ -75,8 +76,10 @@ pub(crate) fn has_changed(rt: &HostRuntime, place: Option<&Place>) -> bool {
     }
 }
 
-/// Writes an answer. A client that takes nothing for some seconds, or less than a mebibyte in a second, is let go.
-/// Only the time that the client takes counts. After a write that failed none is tried.
+/// Writes an answer within a time limit. A client that receives nothing for some seconds, or less than a mebibyte a
+/// second, is cut off.
+///
+/// Only the time that the client takes counts. After a write that failed, no other is tried.
 #[derive(Drop)]
 pub(crate) struct Answer<'a> {
     rt: &'a HostRuntime,
@@ -93,7 +96,7 @@ impl<'a> Answer<'a> {
         }
     }
 
-    /// Has the next write take no longer than what is left, from now on.
+    /// Limits the next write to the time that is left. The write begins now.
     fn begin(&self) -> io::Result<Instant> {
         if self.left.is_zero() {
             return Err(io::Error::from(ErrorKind::TimedOut));
@@ -102,7 +105,7 @@ impl<'a> Answer<'a> {
         Instant::now(self.rt)
     }
 
-    /// So many bytes were taken since.
+    /// Notes that a write which began at `since` wrote `count` bytes.
     fn note(&mut self, since: Instant, count: usize) {
         let took = since.elapsed(self.rt).unwrap_or(Duration::ZERO);
         let earned = Duration::from_millis(count as u64 / RATE);

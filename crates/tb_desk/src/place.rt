@@ -1,4 +1,4 @@
-//! Where a desk's files lie, while it is served.
+//! Where a desk's files are, while the desk is served.
 
 use crate::causes::FileCause;
 use crate::looking::{PAGE_BYTES, beginning, beside, real};
@@ -6,16 +6,16 @@ use std::fs;
 use std::io::ErrorKind;
 use std::os::unix::fs::MetadataExt;
 
-/// A file by the numbers that the system gives it: at its path another may lie later, or the same cut short.
+/// A file, identified by its device and its inode. Later its path may have another file, or a truncated one.
 #[derive(Clone, Copy)]
 struct Numbers {
     device: u64,
     file: u64,
-    /// How many bytes it has at least.
+    /// The least size that the file has to keep, in bytes.
     least: u64,
 }
 
-/// Where a desk's file and its log lie.
+/// The places of a desk's file and its log.
 #[derive(Drop)]
 pub(crate) struct Place {
     path: String,
@@ -35,7 +35,7 @@ fn numbers_of(rt: &HostRuntime, path: &str) -> Result<Numbers, FileCause> {
     }
 }
 
-/// How many pages a database has as it says itself (the file format of SQLite, section 1.3.8).
+/// The number of pages in the database header (the file format of SQLite, section 1.3.8).
 fn pages_of(head: &[u8]) -> u64 {
     let mut pages = 0;
     for at in 28..32 {
@@ -45,8 +45,8 @@ fn pages_of(head: &[u8]) -> u64 {
     pages
 }
 
-/// How many bytes a desk's file has to keep: those of its pages, as far as they are there. What lies behind them is
-/// no part of it.
+/// How many bytes a desk's file has to keep: those of its pages that exist. Bytes after them are not part of the
+/// database.
 fn kept_bytes(rt: &HostRuntime, path: &str) -> Result<u64, FileCause> {
     let pages = pages_of(&beginning(rt, path, 100)?);
     match fs::metadata(rt, path) {
@@ -55,7 +55,7 @@ fn kept_bytes(rt: &HostRuntime, path: &str) -> Result<u64, FileCause> {
     }
 }
 
-/// Whether another file lies at the path, or none, or less of it. Where the system cannot tell, nothing is known.
+/// Whether the path has another file, none, or a truncated one. Any other error of the system counts as no change.
 fn has_another(rt: &HostRuntime, path: &str, numbers: Numbers) -> bool {
     match fs::metadata(rt, path) {
         Ok(found) => {
@@ -69,7 +69,7 @@ fn has_another(rt: &HostRuntime, path: &str, numbers: Numbers) -> bool {
 }
 
 impl Place {
-    /// Where the files lie now.
+    /// Where the files are now.
     pub(crate) fn new(rt: &HostRuntime, path: &str) -> Result<Place, FileCause> {
         let log_path = beside(rt, real(rt, path)?.as_str(), "-wal")?;
         Ok(Place {
@@ -78,13 +78,13 @@ impl Place {
                 least: kept_bytes(rt, path)?,
                 ..numbers_of(rt, path)?
             },
-            // (which begins anew now and then)
+            // No size: a log starts again from time to time.
             log: numbers_of(rt, log_path.as_str())?,
             log_path,
         })
     }
 
-    /// Whether one of them was moved, removed or replaced since, or the file cut short.
+    /// Whether one of them was moved, removed or replaced since, or the desk's file was truncated.
     pub(crate) fn has_changed(&self, rt: &HostRuntime) -> bool {
         has_another(rt, self.path.as_str(), self.file)
             || has_another(rt, self.log_path.as_str(), self.log)

@@ -1,4 +1,4 @@
-//! The desk over HTTP on loopback: one connection after another, and on each one request.
+//! Serves the desk over HTTP on loopback: one connection after another, with one request each.
 
 use crate::callers::Caller;
 use crate::causes::{Cause, PortCause};
@@ -14,15 +14,15 @@ use tb_answer::{Broken, answer, put_reply, respond_reply};
 use tb_http::{BODY_BYTES, Reply, Routes, Status};
 use tb_store::Desk;
 
-/// How many seconds a client may take to see its answer, between two pieces that it still sends, and in all.
+/// The time limits for a client after its answer, in seconds: between two pieces that it still sends, and in all.
 const FAREWELL: u64 = 1;
 
 const WHOLE_FAREWELL: u64 = 2;
 
 const BUFFER: usize = 65_536;
 
-/// Takes what a client still sends after its answer: were the connection closed at once, what is on its way would
-/// have the system take the answer back.
+/// Reads what a client still sends after its answer. If the connection were closed at once, bytes on their way would
+/// make the system discard the answer.
 fn take_rest<'a>(rt: &'a HostRuntime, stream: &'a TcpStream) -> io::Result<()> {
     stream.shutdown(Shutdown::Write)?;
     let mut rest = [0; 4096];
@@ -36,20 +36,21 @@ fn take_rest<'a>(rt: &'a HostRuntime, stream: &'a TcpStream) -> io::Result<()> {
     Ok(())
 }
 
-/// Parts from a client that has its answer. A connection that fails meanwhile has ended.
+/// Ends the connection of a client that has its answer. A connection that fails meanwhile has ended too.
 fn part<'a>(rt: &'a HostRuntime, stream: &'a TcpStream) {
     let _ = take_rest(rt, stream);
 }
 
-/// Tells a client that its request is not done, which takes no memory.
+/// Answers that a request is not done. This needs no memory.
 fn refuse<'a>(rt: &'a HostRuntime, stream: &'a TcpStream, reply: Reply) {
     let mut out = Answer::new(rt, stream);
     let _ = respond_reply(&mut out, reply);
     part(rt, stream);
 }
 
-/// Reads one request of a connection and answers it. Gives the cause for which the desk can be served no further. Where
-/// its files are no longer where they were, nothing is done. A connection that fails has been served.
+/// Reads one request of a connection and answers it. Returns the cause if the desk cannot be served any further.
+///
+/// Where the desk's files are no longer in their place, nothing is done. A connection that fails counts as served.
 fn serve_one<'a, S: Alter>(
     rt: &'a HostRuntime,
     routes: &Routes,
@@ -88,7 +89,7 @@ fn serve_one<'a, S: Alter>(
     }
 }
 
-/// Prints the port at once, for whoever waits to connect to it.
+/// Prints the port at once, for programs that wait to connect to it.
 fn announce<W: Write>(alloc: Global, port: u16, out: &mut W) -> Result<(), Reply> {
     let Ok(line) = format!(in alloc; "listening {port}\n") else {
         return Err(Reply::Memory);
@@ -99,7 +100,7 @@ fn announce<W: Write>(alloc: Global, port: u16, out: &mut W) -> Result<(), Reply
     }
 }
 
-/// Listens on this port of loopback, or on one that the system chooses where it is 0, and tells which it is.
+/// Listens on this port of loopback; for port 0 the system chooses one. Returns the port.
 fn listen(rt: &HostRuntime, port: u16) -> Result<(TcpListener, u16), PortCause> {
     match TcpListener::bind(rt, (Ipv4Addr::LOCALHOST, port)) {
         Ok(listener) => match listener.local_addr() {
@@ -131,7 +132,7 @@ fn serve_all<S: Alter>(
     Ok(())
 }
 
-/// Tells that a port cannot be listened on.
+/// Reports that the program cannot listen on a port.
 fn put_port_cause<W: Write>(rt: &HostRuntime, port: u16, cause: PortCause, out: &mut W) -> Outcome {
     Outcome {
         status: put_reply(out, Reply::Device),
@@ -142,8 +143,9 @@ fn put_port_cause<W: Write>(rt: &HostRuntime, port: u16, cause: PortCause, out: 
     }
 }
 
-/// Serves so many connections on this port of loopback, or on one that the system chooses where it is 0, and gives the
-/// exit status. It ends where the desk's files are no longer where they were, and where a fault has shut the store.
+/// Serves so many connections on this port of loopback; for port 0 the system chooses one.
+///
+/// It ends early where the desk's files are no longer in their place, or where a fault has shut the store.
 pub(crate) fn serve<S: Alter, W: Write>(
     rt: &HostRuntime,
     desk: &mut Desk<S>,

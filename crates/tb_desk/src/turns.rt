@@ -1,22 +1,22 @@
-//! Waiting for a file that another command has.
+//! Waits for a file that another command has open.
 
 use crate::causes::FileCause;
 use crate::diagnostics::wants_words;
 use std::thread;
 use std::time::{Duration, Instant};
 
-/// For how many seconds a file is asked for, from the first time on.
+/// For how many seconds a command tries to open a file, from the first attempt on.
 const PATIENCE: u64 = 10;
 
-/// After how many milliseconds it is asked for again at first.
+/// The pause between attempts at first, in milliseconds.
 const PAUSE: u64 = 20;
 
-/// After how many milliseconds a command asks more often, so that it comes before those that have just begun.
+/// After how many milliseconds a command tries more often, so that it comes before commands that have just begun.
 const EAGER: u64 = 1_000;
 
 const EAGER_PAUSE: u64 = 2;
 
-/// After how many milliseconds whoever waits is told.
+/// After how many milliseconds the program says that it waits.
 const QUIET: u64 = 500;
 
 /// A command that waits for the file at a path.
@@ -42,7 +42,7 @@ impl<'a> Turn<'a> {
         }
     }
 
-    /// How long it has waited.
+    /// How long the command has waited.
     fn waited(&self) -> Result<Duration, FileCause> {
         match self.since.elapsed(self.rt) {
             Ok(waited) => Ok(waited),
@@ -50,7 +50,7 @@ impl<'a> Turn<'a> {
         }
     }
 
-    /// Tells once that the command waits. Where that cannot be told, nothing is lost.
+    /// Says once that the command waits. A failure to say so is ignored.
     fn tell(&mut self) {
         if self.is_reported {
             return;
@@ -64,11 +64,11 @@ impl<'a> Turn<'a> {
         }
     }
 
-    /// Waits a little, before the file is asked for once more.
+    /// Waits a little, before the next attempt.
     ///
     /// # Errors
     ///
-    /// It has waited long enough.
+    /// `Busy`, where the command has waited long enough; or the clock's fault.
     pub(crate) fn wait(&mut self) -> Result<(), FileCause> {
         let waited = self.waited()?;
         if waited >= Duration::from_secs(PATIENCE) {

@@ -1,4 +1,4 @@
-//! Connections that wait for their turn: one that says nothing, or says it slowly, keeps nobody from the desk.
+//! Connections that wait to be served. One that sends nothing, or sends slowly, keeps nobody from the desk.
 
 use crate::callers::Caller;
 use std::alloc::{AllocError, Global};
@@ -10,32 +10,33 @@ use std::time::{Duration, Instant};
 /// How many seconds a connection has for the head of its request.
 const HEAD: u64 = 10;
 
-/// For how many milliseconds a connection is listened to alone where no other waits: nearly every client speaks at once.
+/// How many milliseconds the server waits for a new connection's request where no other connection waits. Nearly every
+/// client sends at once.
 const FIRST: u64 = 20;
 
-/// After how many milliseconds those that wait are asked again.
+/// The pause between looks at the waiting connections, in milliseconds.
 const PAUSE: u64 = 2;
 
 /// How many connections may wait.
 const MOST: usize = 256;
 
-/// What the system calls want of room: ENOMEM, ENFILE, EMFILE and ENOBUFS, as Linux numbers them.
+/// The errors for want of room: ENOMEM, ENFILE, EMFILE and ENOBUFS, by their numbers on Linux.
 const NO_ROOM: [i32; 4] = [12, 23, 24, 105];
 
-/// The connections whose request is not answered yet, the longest first.
+/// The connections whose request is not answered yet, the oldest first.
 #[derive(Drop)]
 pub(crate) struct Waiting {
     callers: Vec<Caller>,
 }
 
-/// Whether no connection is there yet, or one that went again, and no fault of the listener.
+/// Whether there is no connection yet, or one that has closed again. Then the listener has no fault.
 fn is_none_yet(error: &io::Error) -> bool {
     error.kind() == ErrorKind::WouldBlock
         || error.kind() == ErrorKind::Interrupted
         || error.kind() == ErrorKind::ConnectionAborted
 }
 
-/// Whether the system has no room for one more connection now: no memory, or too many open files.
+/// Whether the system has no room for another connection now: no memory, or too many open files.
 fn wants_room(error: &io::Error) -> bool {
     match error.raw_os_error() {
         Some(code) => NO_ROOM.contains(&code),
@@ -43,7 +44,7 @@ fn wants_room(error: &io::Error) -> bool {
     }
 }
 
-/// A new connection, which is listened to for a moment where no other waits.
+/// A new connection. Where no other waits, the server waits a moment for its request.
 fn heard(rt: &HostRuntime, stream: TcpStream, is_alone: bool) -> io::Result<Caller> {
     let since = Instant::now(rt)?;
     if is_alone {
@@ -66,14 +67,15 @@ impl Waiting {
         })
     }
 
-    /// Makes room for one more.
+    /// Drops the oldest connection, to make room for another.
     fn let_one_go(&mut self) {
         if !self.callers.is_empty() {
             let _ = self.callers.remove(0);
         }
     }
 
-    /// Takes one more connection, and says whether one was there. Only where none waits, it is waited for.
+    /// Accepts one more connection, and returns whether there was one. It waits for one only where no other connection
+    /// waits.
     fn take(&mut self, rt: &HostRuntime, listener: &TcpListener) -> io::Result<bool> {
         let is_alone = self.callers.is_empty();
         if self.callers.len() >= MOST {
@@ -82,7 +84,7 @@ impl Waiting {
         listener.set_nonblocking(!is_alone)?;
         match listener.accept() {
             Ok((stream, _)) => {
-                // (one that cannot be asked is let go)
+                // A connection that cannot be read is dropped.
                 if let Ok(caller) = heard(rt, stream, is_alone) {
                     let _ = self.callers.push(caller);
                 }
@@ -97,7 +99,8 @@ impl Waiting {
         }
     }
 
-    /// The place of the first connection whose head is there, or that has had its time for it, and whether it is there.
+    /// The place of the first connection whose head is complete, or whose time for it is over; and whether the head is
+    /// complete.
     fn place(&mut self, rt: &HostRuntime) -> io::Result<Option<(usize, bool)>> {
         for at in 0..self.callers.len() {
             let Some(caller) = self.callers.get_mut(at) else {
@@ -114,7 +117,8 @@ impl Waiting {
         Ok(None)
     }
 
-    /// Waits a little, or makes room at once for those that the system keeps.
+    /// Waits a little. Where all places are taken, drops a connection at once to make room for those that the system
+    /// queues.
     fn rest(&mut self, rt: &HostRuntime, has_come: bool) {
         if self.callers.len() >= MOST {
             self.let_one_go();
@@ -123,7 +127,8 @@ impl Waiting {
         }
     }
 
-    /// Waits for a connection with the head of a request, or lets one go that has had its time for it.
+    /// Waits for a connection with the head of a request. Returns `None` for one that is dropped, since its time is
+    /// over.
     pub(crate) fn next(
         &mut self,
         rt: &HostRuntime,

@@ -1,4 +1,4 @@
-//! The words of a command line.
+//! Does what the words of a command line ask.
 
 ghost use Rattle.std.specs.Prelude.{◌≡◌, map, string_bytes, true};
 ghost use Rattle.tb_check.specs.Check.{Answers, IsReplyToRead, file_limit};
@@ -22,7 +22,7 @@ use tb_conllu::{Sink, Source};
 use tb_http::Reply;
 use tb_store::Desk;
 
-/// Puts the line of a cause that lies in a file, and tells it of the file at this path.
+/// Prints the line of a cause that lies in a file, and names the file as its place.
 fn put_file_cause<W: Sink>(rt: &HostRuntime, path: &str, cause: FileCause, out: &mut W) -> Outcome {
     Outcome {
         status: put_reply(out, cause.reply()),
@@ -30,7 +30,7 @@ fn put_file_cause<W: Sink>(rt: &HostRuntime, path: &str, cause: FileCause, out: 
     }
 }
 
-/// Tells why words are no line: clap's text, which is help too, or the desk's own.
+/// Prints why words are no line: clap's text, which may be help, or the desk's own line.
 fn put_fault<W: Sink>(
     rt: &HostRuntime,
     words: &[String],
@@ -54,7 +54,7 @@ fn put_fault<W: Sink>(
     }
 }
 
-/// The file that a line names, where it works on a desk.
+/// The file that a line names, if it works on a desk.
 pub(crate) fn file_of(line: &Line) -> Option<&str> {
     let db = match line {
         Line::Import { db, .. }
@@ -74,7 +74,7 @@ pub(crate) fn file_of(line: &Line) -> Option<&str> {
     db.as_ref().map(|path| path.as_str())
 }
 
-/// How many pages more than the file has a line on it is to keep in memory.
+/// How many pages beyond those of its file a line keeps in memory.
 fn room_of(line: &Line) -> u64 {
     match line {
         Line::Import { .. } | Line::Correct { .. } => files::ROOM_TO_GROW,
@@ -83,7 +83,7 @@ fn room_of(line: &Line) -> u64 {
     }
 }
 
-/// Puts a line where a desk was brought into the file at this path, and closes it.
+/// Prints the line for a desk that was opened in the file at this path, and closes it.
 fn put_opened<W: Sink>(
     rt: &HostRuntime,
     path: &str,
@@ -122,8 +122,10 @@ fn run_on_desk<W: Write>(
     }
 }
 
-/// The body is read before the file is opened, and so before others are kept from it: in `show | correct` on one file
-/// each command then has its turn. A fault of the file is told before one of the body all the same.
+/// Does a line on the desk of the file at this path.
+///
+/// The body is read before the file is opened, and so before it is locked for others. So in `show | correct` on one
+/// file each command has its turn. A fault of the file is still reported before one of the body.
 fn run_on_file<R: Source, W: Write>(
     rt: &HostRuntime,
     path: &str,
@@ -145,7 +147,7 @@ fn run_on_file<R: Source, W: Write>(
     }
 }
 
-/// Whether a line changes the desk that it works on, where it is done.
+/// Whether a line that is done changes the desk.
 fn changes_desk(line: &Line) -> bool {
     matches!(
         line,
@@ -157,8 +159,8 @@ fn changes_desk(line: &Line) -> bool {
     )
 }
 
-/// What is told of a line that was done on a desk in memory: nothing is kept of what it changed, and nothing is there
-/// that it could read.
+/// What a user has to know of a line that was done on a desk in memory. What it changed is not kept, and there was
+/// nothing to read.
 fn cause_in_memory(line: &Line) -> Option<Cause> {
     match line {
         Line::Search { .. } | Line::Count { .. } | Line::Export { name: None, .. } => {
@@ -169,7 +171,7 @@ fn cause_in_memory(line: &Line) -> Option<Cause> {
     }
 }
 
-/// How a line ended that was done on a desk in memory.
+/// The outcome of a line that was done on a desk in memory.
 fn ended_in_memory(line: &Line, outcome: Outcome) -> Outcome {
     match cause_in_memory(line) {
         Some(cause) if outcome.status == 0 => Outcome {
@@ -180,7 +182,7 @@ fn ended_in_memory(line: &Line, outcome: Outcome) -> Outcome {
     }
 }
 
-/// Serves a desk in memory. Whoever would lose what is sent to it is told before the first request.
+/// Serves a desk in memory. A warning that nothing is kept comes before the first request.
 fn serve_in_memory<S: Alter, W: Write>(
     rt: &HostRuntime,
     desk: &mut Desk<S>,
@@ -194,7 +196,7 @@ fn serve_in_memory<S: Alter, W: Write>(
     serve(rt, desk, None, port, requests, out)
 }
 
-/// Without a file the desk is in memory, for this run.
+/// Does a line without a file. The desk is in memory, for this run.
 fn run_in_memory<R: Source, W: Write>(
     rt: &HostRuntime,
     line: &Line,
@@ -234,8 +236,9 @@ fn run<R: Source, W: Write>(rt: &HostRuntime, line: &Line, reader: &mut R, out: 
     }
 }
 
-/// Does what the words ask, the program's name first, and gives the exit status and what is told beside it: `check`
-/// checks what the reader gives, and other commands work on a desk in a file, or in memory for this run.
+/// Does what the words ask, the program's name first. Returns the exit status, and what to say beside it.
+///
+/// `check` checks what the reader gives. Other commands work on a desk in a file, or in memory for this run.
 pub fn run_words_reported<R: Source, W: Write>(
     rt: &HostRuntime,
     words: &[String],
@@ -255,7 +258,7 @@ pub fn run_words_reported<R: Source, W: Write>(
     }
 }
 
-/// Does what the words ask, as [`run_words_reported`], and gives the exit status.
+/// Does what the words ask, as [`run_words_reported`] does, and returns the exit status.
 pub fn run_words<R: Source, W: Write>(
     rt: &HostRuntime,
     words: &[String],

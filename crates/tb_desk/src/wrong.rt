@@ -1,9 +1,9 @@
-//! Which word of a line is not of its form: of words that clap takes, and of which the line makes no command.
+//! Which word of a command line does not have its form, where clap accepts the words but they are no command.
 
 use crate::causes::{Cause, Form};
 use crate::diagnostics::Diagnostic;
 
-/// A value on the command line, under the name that help has for it.
+/// A value on the command line, with its name in help.
 #[derive(Clone, Copy)]
 struct Given<'a> {
     name: &'a str,
@@ -11,18 +11,18 @@ struct Given<'a> {
     value: &'a str,
 }
 
-/// The values of a command, one after the other.
+/// The values of a command, one after another.
 #[derive(Drop)]
 struct Values<'a> {
     command: &'a str,
     words: &'a [String],
-    /// How many values without an option stand before.
+    /// How many values without an option precede.
     before: usize,
     /// Whether a word may still be an option.
     has_options: bool,
 }
 
-/// What the value of an option is to be. A path and a user may be any text.
+/// The form that the value of an option has to have. A path and a user may be any text.
 fn form_of_option(name: &str) -> Option<Form> {
     match name {
         "--strategy" => Some(Form::Strategy),
@@ -34,7 +34,7 @@ fn form_of_option(name: &str) -> Option<Form> {
     }
 }
 
-/// What a value without an option is called and is to be, after so many others. A query may be any text.
+/// The name and the form of a value without an option, after `before` others. A query may be any text.
 fn place_of(command: &str, before: usize) -> (&'static str, Option<Form>) {
     match (command, before) {
         ("import" | "event" | "export", 0) => ("<name>", Some(Form::Batch)),
@@ -63,7 +63,7 @@ impl<'a> Values<'a> {
         Some(first.as_str())
     }
 
-    /// A value that stands by itself.
+    /// A value without an option.
     fn without_option(&mut self, value: &'a str) -> Given<'a> {
         let (name, form) = place_of(self.command, self.before);
         self.before = self.before.saturating_add(1);
@@ -97,7 +97,7 @@ impl<'a> Values<'a> {
     }
 }
 
-/// The first value that is not of its form.
+/// The first value that does not have its form.
 fn first_wrong<'a>(command: &'a str, words: &'a [String]) -> Option<(Given<'a>, Form)> {
     let mut values = Values::new(command, words);
     for _ in 0..words.len() {
@@ -110,7 +110,7 @@ fn first_wrong<'a>(command: &'a str, words: &'a [String]) -> Option<(Given<'a>, 
     None
 }
 
-/// What is wrong with words that clap takes: a value is not of its form, or no command is there.
+/// What is wrong with words that clap accepts: a value does not have its form, or there is no command.
 pub(crate) fn wrong_word(rt: &HostRuntime, words: &[String]) -> Diagnostic {
     let [_, command, rest @ ..] = words else {
         return Diagnostic::from(Cause::NoCommand);
