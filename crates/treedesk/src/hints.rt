@@ -1,10 +1,10 @@
-//! What an answer means, in words, on standard error: the cause that the program hands up with the place that it is
-//! about, and what became of the streams.
+//! What the program says on standard error about an answer: the cause that it returns, with the place, and what
+//! happened to the streams.
 
 use std::io::{self, ErrorKind, Write};
 use tb_desk::{Cause, Diagnostic, StreamCause};
 
-/// An output, and why it failed.
+/// An output, and why it failed, if it did.
 #[derive(Drop)]
 pub(crate) struct Heard<W> {
     out: W,
@@ -16,12 +16,12 @@ impl<W> Heard<W> {
         Heard { out, failed: None }
     }
 
-    /// How the first write failed that did.
+    /// The error of the first write that failed.
     pub(crate) fn failed(&self) -> Option<ErrorKind> {
         self.failed
     }
 
-    /// Notes how a write failed. One that a signal came between is tried again.
+    /// Notes how a write failed. A write that a signal interrupted is tried again, and is not noted.
     fn note(&mut self, error: io::Error) -> io::Error {
         if self.failed.is_none() && error.kind() != ErrorKind::Interrupted {
             self.failed = Some(error.kind());
@@ -46,7 +46,7 @@ impl<W: Write> Write for Heard<W> {
     }
 }
 
-/// What is known at the end of a run: its exit status, what the program tells of it, and what is to be told of its
+/// What is known at the end of a run: its exit status, the cause that the program returns, and the faults of its
 /// streams.
 #[derive(Drop)]
 pub(crate) struct Ended {
@@ -56,13 +56,13 @@ pub(crate) struct Ended {
     pub(crate) output: Option<StreamCause>,
 }
 
-/// Tells one cause.
+/// Prints one cause.
 pub(crate) fn tell(rt: &HostRuntime, cause: Cause) -> io::Result<()> {
     eprintln!(rt; "treedesk: {cause}")
 }
 
 impl Ended {
-    /// Tells of an input that failed, or else that an answer is not whole, though all of it that came was written.
+    /// Reports an input that failed. If none did, reports that an answer is incomplete, though all of it was written.
     fn tell_rest(&self, rt: &HostRuntime) -> io::Result<()> {
         match self.input {
             Some(cause) => tell(rt, Cause::Stream(cause)),
@@ -74,7 +74,8 @@ impl Ended {
         }
     }
 
-    /// Tells why the answer is what it is. What it says of an input that failed is not told.
+    /// Prints why the answer is what it is. Where an input failed, that is reported, not the answer that followed from
+    /// it.
     fn tell_cause(&self, rt: &HostRuntime) -> io::Result<()> {
         match &self.reported {
             Some(reported) if self.input.is_none() || !reported.is_of_answer() => {
@@ -84,7 +85,7 @@ impl Ended {
         }
     }
 
-    /// Tells it, and what became of the output.
+    /// Prints the cause, and then what happened to the output.
     pub(crate) fn tell(&self, rt: &HostRuntime) -> io::Result<()> {
         self.tell_cause(rt)?;
         match self.output {

@@ -14,7 +14,7 @@ use std::process::ExitCode;
 use tb_check::put_reply;
 use tb_desk::{Cause, StreamCause, run_words_reported, wants_words};
 
-/// How much of an answer waits to be written at once.
+/// The size of the output buffer, in bytes.
 const BUFFER: usize = 65_536;
 
 /// The words of the command line, the program's name first.
@@ -22,13 +22,15 @@ fn words(rt: &HostRuntime) -> io::Result<Vec<String>> {
     Ok(env::args(rt)?.collect(rt.alloc())?)
 }
 
-/// The numbers of the standard streams, by which the system knows them.
+/// The file descriptors of the standard streams.
 const INPUT: i32 = 0;
 
 const OUTPUT: i32 = 1;
 
-/// What stands in for standard streams that are closed: else the file of a desk would get the number of one, and what
-/// is printed would land in it. Such an input is empty then, and such an output takes nothing.
+/// Files that take the place of standard streams that are closed. Otherwise the file of a desk would get the
+/// descriptor of a stream, and what is printed would be written into it.
+///
+/// Such an input is empty, and such an output accepts nothing.
 #[derive(Drop)]
 struct Held {
     files: [io::Result<File>; 3],
@@ -57,7 +59,7 @@ impl Held {
         false
     }
 
-    /// What is told of an output that failed so.
+    /// The cause for an output that failed with this error.
     fn output_cause(&self, failed: Option<ErrorKind>) -> Option<StreamCause> {
         match failed {
             Some(_) if self.stands_for(OUTPUT) => Some(StreamCause::OutputClosed),
@@ -67,8 +69,7 @@ impl Held {
     }
 }
 
-/// Standard input. Whoever types it is told that it is being read, at the first read; where that cannot be told,
-/// nothing is lost.
+/// Standard input. At the first read from a terminal, the program says that it reads. A failure to say so is ignored.
 #[derive(Drop)]
 struct Typed<'a> {
     rt: &'a HostRuntime,
@@ -77,7 +78,7 @@ struct Typed<'a> {
 }
 
 impl Typed<'_> {
-    /// What is to be told of it.
+    /// Why the input failed, or that it was closed, if it was.
     fn cause(&self, held: &Held) -> Option<StreamCause> {
         match self.failed {
             Some(kind) => Some(StreamCause::of_input(kind)),
@@ -105,8 +106,8 @@ impl Read for Typed<'_> {
     }
 }
 
-/// Does what the words ask on standard input and output, and gives the exit status. Where words are wanted on
-/// standard error, it is told there why; where that cannot be told, nothing is lost.
+/// Does what the words ask on standard input and output, and returns the exit status. Where words are wanted on
+/// standard error, it prints the reason there. A failure to print it is ignored.
 fn run(rt: &HostRuntime, held: &Held) -> io::Result<u8> {
     let words = words(rt)?;
     let mut out = Heard::new(BufWriter::with_capacity(rt.alloc(), BUFFER, rt.stdout())?);
@@ -132,7 +133,7 @@ fn run(rt: &HostRuntime, held: &Held) -> io::Result<u8> {
     Ok(status)
 }
 
-/// Puts the line of a run that did not begin, and tells why.
+/// Prints the line of a run that did not begin, and the reason.
 fn put_and_tell(rt: &HostRuntime, line: &str, status: u8, cause: Cause) -> u8 {
     let status = put_reply(&mut rt.stdout(), line, status);
     if wants_words(rt) {
