@@ -1,9 +1,9 @@
-//! Words that hang from one another.
+//! Words that hang from one another: cycles of HEADs.
 
 use std::alloc::Global;
 use tb_conllu::{LineId, RowRef};
 
-/// How many words of a circle are told.
+/// The most words of a circle that are shown.
 const MOST: usize = 8;
 
 /// The HEADs of the words of a sentence, in order.
@@ -17,13 +17,13 @@ pub(crate) fn heads_of(alloc: Global, rows: &[RowRef<'_>]) -> Option<Vec<u32>> {
     Some(heads)
 }
 
-/// The HEAD of a word; 0 of what is no word.
+/// The HEAD of a word; 0 for a number that no word has.
 fn head_of(heads: &[u32], word: u32) -> u32 {
     let at = (word as usize).wrapping_sub(1);
     heads.get(at).copied().unwrap_or(0)
 }
 
-/// Where so many steps along HEAD lead.
+/// The word that so many steps along HEAD reach.
 fn after(heads: &[u32], word: u32, steps: usize) -> u32 {
     let mut here = word;
     for _ in 0..steps {
@@ -32,7 +32,7 @@ fn after(heads: &[u32], word: u32, steps: usize) -> u32 {
     here
 }
 
-/// A word to which steps along HEAD come back.
+/// A word that lies on a circle of HEADs, if there is one.
 pub(crate) fn on_circle(heads: &[u32]) -> Option<u32> {
     for head in heads {
         let end = after(heads, *head, heads.len());
@@ -43,7 +43,7 @@ pub(crate) fn on_circle(heads: &[u32]) -> Option<u32> {
     None
 }
 
-/// The circle from a word on.
+/// The circle, from this word on.
 pub(crate) fn circle_text(alloc: Global, heads: &[u32], word: u32) -> Option<String> {
     let mut text = format!(in alloc; "{word}").ok()?;
     let mut here = word;

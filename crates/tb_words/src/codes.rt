@@ -8,14 +8,14 @@ use std::alloc::Global;
 use tb_chars::has_white_space;
 use unicode_normalization::is_nfc;
 
-/// What a file in UTF-16 begins with.
+/// The first bytes of a file in UTF-16.
 const LITTLE_UTF16: &[u8] = b"\xff\xfe";
 
 const BIG_UTF16: &[u8] = b"\xfe\xff";
 
 const BYTE_ORDER_MARK: char = '\u{FEFF}';
 
-/// How many words a line has at least whose columns spaces separate, not tabs.
+/// The least number of words in a line whose columns are taken to be separated by spaces, not by tabs.
 const FEW_WORDS: usize = 5;
 
 fn not_utf8(alloc: Global, number: usize, raw: &[u8]) -> Words {
@@ -74,7 +74,7 @@ fn is_stray(c: char) -> bool {
     matches!(c, '\0'..='\u{8}' | '\u{A}'..='\u{1F}')
 }
 
-/// The first control character of a line other than tab, and how many characters stand before it.
+/// The first control character of a line other than tab, and how many characters precede it.
 fn first_stray(line: &str) -> Option<(usize, char)> {
     for (at, c) in line.chars().enumerate() {
         if is_stray(c) {
@@ -104,7 +104,7 @@ fn control(alloc: Global, number: usize, line: &str) -> Words {
     }
 }
 
-/// What is wrong with a line in which no tab stands.
+/// What is wrong with a line without a tab.
 fn without_tab(line: &str) -> &'static str {
     if line.split_whitespace().count() >= FEW_WORDS {
         reported::SPACES_FOR_TABS
@@ -134,7 +134,7 @@ fn empty_column(line: &str) -> usize {
     0
 }
 
-/// What is wrong with a line, if it is no word line by what it begins with.
+/// What is wrong with the beginning of a line, if it shows that the line is no word line.
 fn begins_wrong(line: &str) -> Option<&'static str> {
     if line.starts_with(BYTE_ORDER_MARK) {
         Some(reported::BYTE_ORDER_MARK)
@@ -177,7 +177,7 @@ fn columns(alloc: Global, number: usize, line: &str) -> Words {
     )
 }
 
-/// What is wrong with one number of an ID, if something is.
+/// What is wrong with one number of an ID, if anything is.
 fn number_fault(number: &str) -> Option<&'static str> {
     if number.is_empty() || !number.bytes().all(|byte| byte.is_ascii_digit()) {
         return None;
@@ -219,7 +219,7 @@ fn space(alloc: Global, number: usize, line: &str) -> Words {
     Words::at(format!(in alloc; "line {number}"), reported::SPACE)
 }
 
-/// Whether a comment is one with which sentences begin.
+/// Whether a comment is of the kind with which sentences begin.
 fn begins_sentence(comment: &str) -> bool {
     let said = comment.strip_prefix('#').unwrap_or(comment).trim();
     said.starts_with("sent_id")
@@ -248,7 +248,7 @@ fn blank_place(file: &[u8], number: usize) -> &'static str {
     }
 }
 
-/// What is wrong with the end of a file, whose last line feed ends the line before this one.
+/// What is wrong with the end of a file. Its last line feed ends the line before the one with this number.
 fn unended(file: &[u8], number: usize) -> &'static str {
     let last = line_at(file, number);
     if last.contains(&b'\r') {
@@ -262,7 +262,7 @@ fn unended(file: &[u8], number: usize) -> &'static str {
     }
 }
 
-/// What is wrong with the line of this number, counted from 1, that has this code.
+/// What is wrong with the line that has this number, counted from 1, and this code.
 pub(crate) fn words_of_line(alloc: Global, file: &[u8], number: usize, code: u8) -> Words {
     let line = text_at(file, number);
     let words = match code {

@@ -32,12 +32,12 @@ pub(crate) fn name(column: usize) -> &'static str {
     NAMES.get(column).copied().unwrap_or("a column too many")
 }
 
-/// What stands in a column of a line.
+/// The value in a column of a line.
 pub(crate) fn field(line: &str, column: usize) -> &str {
     line.split('\t').nth(column).unwrap_or("")
 }
 
-/// The first column of a range that has to be `_` and is not.
+/// The first column of a range that is not `_`, though it has to be.
 pub(crate) fn filled(row: &RowRef<'_>) -> usize {
     if row.lemma != "_" {
         LEMMA

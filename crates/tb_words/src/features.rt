@@ -4,15 +4,15 @@ use crate::sentences as reported;
 use std::alloc::{AllocError, Global};
 use tb_fields::is_feature_list;
 
-/// How many features are looked at: no row has more in earnest.
+/// How many features are looked at. No real row has more.
 const LOOKED_AT: usize = 1000;
 
-/// Whether a text may stand in FEATS. Where memory is wanting, nothing is found.
+/// Whether a text may be the value of FEATS. Where memory runs out, no fault is found.
 fn is_list(alloc: Global, text: &str) -> bool {
     is_feature_list(alloc, text).unwrap_or(true)
 }
 
-/// The same of a text that is made.
+/// The same for a text that is built here.
 fn is_made_list(alloc: Global, made: Result<String, AllocError>) -> bool {
     match made {
         Ok(text) => is_list(alloc, text.as_str()),
@@ -36,7 +36,7 @@ fn has_wrong_value(alloc: Global, values: &str) -> bool {
     false
 }
 
-/// What is wrong with one feature, if something is.
+/// What is wrong with one feature, if anything is.
 fn item_fault(alloc: Global, item: &str) -> Option<&'static str> {
     let Some((name, values)) = item.split_once('=') else {
         return Some(reported::FEATURE_FORM);
@@ -53,7 +53,7 @@ fn item_fault(alloc: Global, item: &str) -> Option<&'static str> {
     Some(reported::VALUE_TWICE)
 }
 
-/// Whether one of the features before, of which there are so many, has the name of this one.
+/// Whether one of the first `before` features has the name of this one.
 fn is_named_before(feats: &str, before: usize, item: &str) -> bool {
     for earlier in feats.split('|').take(before) {
         if name_of(earlier) == name_of(item) {
@@ -63,7 +63,7 @@ fn is_named_before(feats: &str, before: usize, item: &str) -> bool {
     false
 }
 
-/// Whether a feature, before which stand so many, may not follow the one before it.
+/// Whether a feature may not follow the one before it. `before` features precede it.
 fn is_out_of_order(alloc: Global, feats: &str, before: usize, item: &str) -> bool {
     match feats.split('|').nth(before.wrapping_sub(1)) {
         Some(last) => !is_made_list(alloc, format!(in alloc; "{last}|{item}")),

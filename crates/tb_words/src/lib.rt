@@ -1,5 +1,7 @@
-//! What a refusal means, in words: where it lies, what stands there, and what to do. The words are made from the value
-//! that was refused and from the input that it is about. They change nothing of what is answered.
+//! Explains a refusal in words: where the fault is, what is there, and what to do. The words are made from the refused
+//! value and from the input that it is about; they change no answer.
+//!
+//! Read `words.rt` first, and then `refusals.rt`. All sentences are in `sentences.rt`.
 #![tactic(auto)]
 
 mod circles;

@@ -2,21 +2,21 @@
 
 use std::alloc::Global;
 
-/// The bytes of a text that a literal takes up, its quotes with them.
+/// The bytes of a text that a literal occupies, with its quotes.
 #[derive(Clone, Copy)]
 pub(crate) struct Literal {
     pub(crate) start: usize,
     pub(crate) end: usize,
 }
 
-/// What a pattern reads in another way than as it stands, of the signs that are often meant as they stand.
+/// The signs that have a meaning in a pattern, and that are often meant literally.
 const SIGNS: &[char] = &['[', ']', '.', '+', '?', '(', ')'];
 
 fn is_quote(c: char) -> bool {
     c == '"' || c == '\''
 }
 
-/// A text that is read from the front: whether a literal is open, and whether a quote that may close it came just before.
+/// The state of a scan from the front: whether a literal is open, and whether a quote that may close it has just come.
 #[derive(Clone, Copy)]
 struct Reading {
     quote: Option<char>,
@@ -33,7 +33,7 @@ impl Reading {
         }
     }
 
-    /// Takes a character, and gives the literal that it ends by standing after it.
+    /// Reads a character. Returns the literal that ends just before it, if one does.
     fn take(&mut self, at: usize, c: char) -> Option<Literal> {
         let mut ended = None;
         if let Some(quote) = self.quote {
@@ -55,7 +55,7 @@ impl Reading {
         ended
     }
 
-    /// The literal that the end of a text ends.
+    /// The literal that ends at the end of the text, if one does.
     fn end(&self, length: usize) -> Option<Literal> {
         if self.quote.is_none() || !self.is_shut {
             return None;
@@ -82,14 +82,14 @@ pub(crate) fn literals(alloc: Global, text: &str) -> Option<Vec<Literal>> {
     Some(found)
 }
 
-/// Whether a byte of the text stands in a literal.
+/// Whether a byte of the text lies in a literal.
 pub(crate) fn holds(literals: &[Literal], at: usize) -> bool {
     literals
         .iter()
         .any(|literal| literal.start <= at && at < literal.end)
 }
 
-/// The literal as it is written, its quotes with it.
+/// The literal as it is written, with its quotes.
 pub(crate) fn written(text: &str, literal: Literal) -> &str {
     text.get(literal.start..literal.end).unwrap_or("")
 }
@@ -98,13 +98,13 @@ fn after(text: &str, literal: Literal) -> &str {
     text.get(literal.end..).unwrap_or("").trim_start()
 }
 
-/// Whether signs of a literal have a meaning of their own, and no flag and no backslash takes it from them.
+/// Whether a literal has signs with a meaning of their own, and neither a flag nor a backslash.
 fn has_signs(text: &str, literal: Literal) -> bool {
     let value = written(text, literal);
     value.contains(SIGNS) && !value.contains('\\') && !after(text, literal).starts_with('%')
 }
 
-/// The query in which each literal with signs is taken as it stands; nothing where no literal has any.
+/// The query with each literal that has signs taken literally, by `%l`; `None` where no literal has any.
 pub fn with_signs_as_they_stand(alloc: Global, text: &str) -> Option<String> {
     let mut made = String::new(alloc);
     let mut copied = 0;
@@ -122,7 +122,7 @@ pub fn with_signs_as_they_stand(alloc: Global, text: &str) -> Option<String> {
     if has_any { Some(made) } else { None }
 }
 
-/// Whether what stands before a literal asks a column other than `word`.
+/// Whether the text before a literal asks for a column other than `word`.
 fn asks_another(before: &str) -> bool {
     let before = before.trim_end();
     match before.strip_suffix('=') {
@@ -131,7 +131,7 @@ fn asks_another(before: &str) -> bool {
     }
 }
 
-/// The forms that a query asks for as they stand, between the quotes of its literals.
+/// The forms that a query names between the quotes of its literals, where they are values of `word`.
 pub fn forms_asked<'a>(alloc: Global, text: &'a str) -> Option<Vec<&'a str>> {
     let mut forms = Vec::new(alloc);
     for literal in literals(alloc, text)?.as_slice() {

@@ -3,7 +3,7 @@
 use crate::sentences as reported;
 use tb_conllu::{LineId, RowRef, id_of};
 
-/// The head that a text names in a sentence, as its word and its node there.
+/// The head that a text names in a sentence, as the numbers of its word and of its empty node.
 fn head_in(rows: &[RowRef<'_>], text: &str) -> Option<(u32, u32)> {
     if text == "0" {
         return Some((0, 0));

@@ -1,17 +1,17 @@
-//! A line of a query, and under it a mark.
+//! Shows a line of a query, with a mark under one character.
 
 use crate::words::visible;
 use std::alloc::Global;
 
-/// How many characters of a line are shown, and how many of them at most stand before the mark.
+/// The most characters of a line that are shown, and the most that precede the mark.
 const WIDTH: usize = 72;
 
 const BEFORE: usize = 48;
 
-/// What stands before each line of a picture.
+/// The margin of each line of a picture.
 const MARGIN: &str = "    ";
 
-/// The line in which a byte stands, and what of it stands before the byte.
+/// The line that has a byte, and the part of the line before the byte.
 fn line_with(text: &str, at: usize) -> (&str, &str) {
     let start = match text.get(..at).unwrap_or("").rsplit_once('\n') {
         Some((before, _)) => before.len().saturating_add(1),
@@ -25,7 +25,7 @@ fn line_with(text: &str, at: usize) -> (&str, &str) {
     (line, text.get(start..at).unwrap_or(""))
 }
 
-/// The line of a query in which a byte stands, and a mark under the byte's character.
+/// The line of a query that has a byte, and a mark under the byte's character.
 pub(crate) fn picture(alloc: Global, text: &str, at: usize) -> Option<String> {
     let (line, before) = line_with(text, at);
     let count = before.chars().count();

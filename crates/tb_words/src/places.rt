@@ -1,28 +1,28 @@
-//! Where something stands in a file.
+//! Where something is in a file.
 
 use std::alloc::Global;
 use tb_conllu::{BlockRef, LineId, Sentences};
 
-/// The line of this number, counted from 1, without its line feed; nothing where there is none.
+/// The line with this number, counted from 1, without its line feed; empty where there is none.
 pub(crate) fn line_at(file: &[u8], number: usize) -> &[u8] {
     file.split(|byte| *byte == b'\n')
         .nth(number.saturating_sub(1))
         .unwrap_or(&[])
 }
 
-/// The text of a line; nothing where it is not UTF-8.
+/// The text of a line; empty where it is not UTF-8.
 pub(crate) fn text_at(file: &[u8], number: usize) -> &str {
     str::from_utf8(line_at(file, number)).unwrap_or("")
 }
 
-/// A sentence, and how many lines stand before it.
+/// A sentence, and how many lines precede it.
 #[derive(Drop)]
 pub(crate) struct Placed<'a> {
     pub(crate) block: BlockRef<'a>,
     before: usize,
 }
 
-/// The lines of a sentence, its blank one with them.
+/// The number of lines of a sentence, with its blank line.
 fn lines_of(block: &BlockRef<'_>) -> usize {
     block
         .comments
@@ -54,7 +54,7 @@ impl Placed<'_> {
     }
 }
 
-/// The sentences of a file one after the other, each with its place.
+/// The sentences of a file one after another, each with its place.
 #[derive(Drop)]
 pub(crate) struct Places<'a> {
     alloc: Global,
@@ -71,7 +71,7 @@ impl<'a> Places<'a> {
         }
     }
 
-    /// The next sentence, if one is there and memory too.
+    /// The next sentence, if there is one and memory for it.
     pub(crate) fn next(&mut self) -> Option<Placed<'a>> {
         let Ok(Some(block)) = self.unread.read_next(self.alloc) else {
             return None;
@@ -82,7 +82,7 @@ impl<'a> Places<'a> {
     }
 }
 
-/// The sentence of this number, counted from 1.
+/// The sentence with this number, counted from 1.
 pub(crate) fn sentence_at<'a>(alloc: Global, file: &'a [u8], number: u64) -> Option<Placed<'a>> {
     let mut places = Places::new(alloc, file);
     for _ in 1..number {

@@ -22,7 +22,7 @@ fn syntax(alloc: Global, text: &str, literals: &[Literal], at: usize) -> Words {
     at_byte(alloc, text, at, sentence)
 }
 
-/// A number that white space may stand around; one that is too large for the type stands as its greatest.
+/// A number, which may have white space around it. One that is too large for the type becomes the largest one.
 fn number(text: &str) -> Option<u32> {
     let digits = text.trim();
     if digits.is_empty() {
@@ -31,7 +31,7 @@ fn number(text: &str) -> Option<u32> {
     Some(digits.parse::<u32>().unwrap_or(u32::MAX))
 }
 
-/// What is wrong with the numbers of a repetition, which stand between its braces.
+/// What is wrong with the numbers of a repetition. The text is what its braces enclose.
 fn numbers_fault(text: &str) -> Option<&'static str> {
     let (first, second) = text.split_once(',').unwrap_or((text, text));
     let lower = number(first)?;
@@ -63,7 +63,7 @@ fn repetition(alloc: Global, text: &str, literals: &[Literal]) -> Option<Words> 
     None
 }
 
-/// Whether a pattern names what was found before, as by `\1`.
+/// Whether a pattern refers to an earlier match, as `\1` does.
 fn looks_back(pattern: &str) -> bool {
     pattern.split('\\').skip(1).any(|piece| piece.starts_with(|c: char| matches!(c, '1'..='9')))
 }
@@ -82,7 +82,7 @@ fn pattern_fault(pattern: &str) -> &'static str {
     }
 }
 
-/// The literal of this number, counted from 1, that is no pattern.
+/// What is wrong with the literal that has this number, counted from 1, and is no pattern.
 fn pattern(alloc: Global, text: &str, literals: &[Literal], number: u64) -> Option<Words> {
     let literal = *literals.get(number.checked_sub(1)? as usize)?;
     let sentence = pattern_fault(written(text, literal));
@@ -109,7 +109,7 @@ pub fn words_of_query(alloc: Global, text: &str, fault: QueryFault) -> Words {
     words.on(Page::Queries)
 }
 
-/// What is told of a query that finds nothing, but as this text finds so much.
+/// The words for a query that finds nothing, while this text of it finds so many hits.
 pub fn words_of_hits(alloc: Global, text: &str, hits: u64) -> Words {
     let query = shown(text);
     Words::at(
@@ -119,13 +119,13 @@ pub fn words_of_hits(alloc: Global, text: &str, hits: u64) -> Words {
     .on(Page::Queries)
 }
 
-/// What is told of a form that is asked for and stands on a range alone.
+/// The words for a form that a query asks for and that only a range has.
 pub fn words_of_range(alloc: Global, form: &str) -> Words {
     let form = shown(form);
     Words::at(format!(in alloc; "`{form}`"), reported::ON_A_RANGE).on(Page::Queries)
 }
 
-/// What is told of released text that is asked for where no sentence is released.
+/// The words for a desk without released sentences, where released text is asked for.
 pub fn words_of_unreleased() -> Words {
     Words::alone(reported::NOTHING_RELEASED).on(Page::Batches)
 }

@@ -1,4 +1,4 @@
-//! What is told of a refused command, and of what comes next.
+//! The words for a refused command, and for what may come next.
 
 use crate::codes::words_of_line;
 use crate::rules::words_of_rule;
@@ -8,7 +8,7 @@ use std::alloc::Global;
 use tb_core::{Refusal, State};
 use tb_http::{Reply, RequestFault};
 
-/// What was asked, as far as words need it.
+/// What was asked, as far as the words depend on it.
 #[derive(Clone, Copy)]
 pub enum Asked {
     Event,
@@ -19,7 +19,7 @@ pub enum Asked {
     Other,
 }
 
-/// What may come after this state of a batch.
+/// The sentence that says what may come after this state of a batch.
 fn next_of(state: State) -> &'static str {
     match state {
         State::Opened => reported::OPEN,
@@ -31,13 +31,13 @@ fn next_of(state: State) -> &'static str {
     }
 }
 
-/// What is told of a batch in this state.
+/// The words for a batch in this state.
 fn words_of_move(alloc: Global, state: State) -> Words {
     let word = state.word();
     Words::at(format!(in alloc; "the batch is {word}"), next_of(state))
 }
 
-/// The sentence of a refusal that is about no place.
+/// The sentence for a refusal that has no place.
 fn sentence_of(refusal: Refusal) -> &'static str {
     match refusal {
         Refusal::BadName => reported::BAD_NAME,
@@ -64,7 +64,7 @@ fn sentence_of(refusal: Refusal) -> &'static str {
     }
 }
 
-/// What is told of a state that does not allow what was asked.
+/// The words for a state that does not allow what was asked.
 fn wrong_state(alloc: Global, state: State, asked: Asked) -> Words {
     let word = state.word();
     let words = match asked {
@@ -104,7 +104,7 @@ fn of_refusal(alloc: Global, refusal: Refusal, asked: Asked) -> Words {
     }
 }
 
-/// What is told of a reply: of one that refuses, with what is wrong in the body, and of a batch that moved.
+/// The words for a reply. A refusal gets what is wrong in the body, and a batch that moved gets what may come next.
 pub fn words_of_reply(alloc: Global, reply: Reply, body: &[u8], asked: Asked) -> Option<Words> {
     match reply {
         Reply::Moved(moved) => Some(words_of_move(alloc, moved.state)),

@@ -13,7 +13,7 @@ use tb_conllu::{BlockRef, LineId, RowRef, is_word_row, words};
 use tb_fields::{is_relation_text, is_tag};
 use tb_rules::sent_id_ref;
 
-/// What stands wrong in a row: a column, what is wrong of it, and a sentence.
+/// What is wrong in a row: the column, its wrong value, and the sentence that says so.
 #[derive(Clone, Copy)]
 struct Fault<'a> {
     column: usize,
@@ -21,20 +21,20 @@ struct Fault<'a> {
     sentence: &'static str,
 }
 
-/// The key of a comment and its value.
+/// The key and the value of a comment.
 fn key_and_value(comment: &str) -> Option<(&str, &str)> {
     let (key, value) = comment.strip_prefix('#')?.split_once('=')?;
     Some((key.trim_matches(' '), value.trim_matches(' ')))
 }
 
-/// A comment with a key: how many comments stand before it, and its value.
+/// A comment with a key: how many comments precede it, and its value.
 #[derive(Clone, Copy)]
 pub(crate) struct Comment<'a> {
     pub(crate) at: usize,
     pub(crate) value: &'a str,
 }
 
-/// The first comment with this key after so many comments.
+/// The first comment with this key, after the first `before` comments.
 pub(crate) fn keyed<'a>(block: &BlockRef<'a>, key: &str, before: usize) -> Option<Comment<'a>> {
     for (at, comment) in block.comments.iter().enumerate().skip(before) {
         if let Some((name, value)) = key_and_value(comment) {
@@ -46,7 +46,7 @@ pub(crate) fn keyed<'a>(block: &BlockRef<'a>, key: &str, before: usize) -> Optio
     None
 }
 
-/// Two comments with one key, or none.
+/// What is wrong where two comments have one key, or none has it.
 fn key_fault(
     alloc: Global,
     placed: &Placed<'_>,
@@ -64,7 +64,7 @@ fn key_fault(
     Some(Words::at(format!(in alloc; "lines {line} and {again}"), two))
 }
 
-/// What is wrong with the one name of a sentence.
+/// What is wrong with the only name of a sentence.
 fn name_fault(alloc: Global, placed: &Placed<'_>) -> Option<Words> {
     let name = keyed(&placed.block, "sent_id", 0)?;
     let line = placed.comment_line(name.at);
@@ -91,7 +91,7 @@ fn sent_id_fault(alloc: Global, placed: &Placed<'_>) -> Option<Words> {
     }
 }
 
-/// A row that stands where another has to.
+/// The words for a row in the place of another.
 fn out_of_order(
     alloc: Global,
     line: usize,
@@ -185,7 +185,7 @@ fn word_fault(row: &RowRef<'_>, count: usize) -> (usize, &'static str) {
     }
 }
 
-/// The last word of the ranges among these rows, and how many of the rows are words.
+/// The last word of the ranges among the first `at` rows, and how many of these rows are words.
 fn before(rows: &[RowRef<'_>], at: usize) -> (u32, usize) {
     let mut end: u32 = 0;
     let mut count: usize = 0;
@@ -232,7 +232,7 @@ fn node_fault(row: &RowRef<'_>) -> (usize, &'static str) {
     }
 }
 
-/// What is wrong with a row whose line is this text.
+/// What is wrong with a row that has this line.
 fn row_fault<'a>(
     alloc: Global,
     block: &BlockRef<'a>,
@@ -285,7 +285,7 @@ fn is_root(row: &RowRef<'_>) -> bool {
     is_word_row(row) && matches!(row.head, Some(0))
 }
 
-/// The first word with HEAD 0 after so many rows.
+/// The first word with HEAD 0, after the first `before` rows.
 fn root_after(rows: &[RowRef<'_>], before: usize) -> Option<usize> {
     for (at, row) in rows.iter().enumerate().skip(before) {
         if is_root(row) {
@@ -346,7 +346,7 @@ fn name_taken(alloc: Global, file: &[u8], placed: &Placed<'_>, number: u64) -> O
     ))
 }
 
-/// A row is counted from 1.
+/// What is wrong with a sentence by this rule. The row is counted from 1.
 fn fault_of(
     alloc: Global,
     file: &[u8],
@@ -374,8 +374,8 @@ fn fault_of(
     }
 }
 
-/// Where the sentence of this number, counted from 1, breaks a rule, and by what. The row is that of rules 4 to 8, else
-/// 0.
+/// The words for a broken rule: where the sentence with this number, counted from 1, breaks it, and by what. The row
+/// is that of rules 4 to 8, else 0.
 pub(crate) fn words_of_rule(
     alloc: Global,
     file: &[u8],

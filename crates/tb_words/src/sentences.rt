@@ -1,6 +1,7 @@
-//! All sentences that are told of what the desk refuses. Each says what is wrong or what is to be, and most what to do.
+//! All sentences that explain what the desk refuses. Each says what is wrong or what has to be there, and most say
+//! what to do.
 
-// Of a line that cannot be read.
+// For a line that cannot be read.
 
 pub(crate) const NOT_UTF8: &str =
     "this is not UTF-8; where the file is in Latin-1, `iconv -f latin1 -t utf-8` makes it so";
@@ -84,7 +85,7 @@ pub(crate) const COMMENTS_AT_END: &str = "the file ends with a comment and no wo
 pub(crate) const NO_BLANK_AT_END: &str =
     "the last sentence lacks its blank line; `printf '\\n' >> FILE` writes it";
 
-// Of a sentence that breaks a rule.
+// For a sentence that breaks a rule.
 
 pub(crate) const SENT_ID_MISSING: &str = "the sentence has no comment `# sent_id = ..`; write one";
 
@@ -188,7 +189,7 @@ pub(crate) const SENT_ID_AGAIN: &str =
 
 pub(crate) const BROKEN: &str = "the sentence breaks the rule";
 
-// Of a query.
+// For a query.
 
 pub(crate) const TOO_LONG: &str = "a query has at most 2,000 bytes";
 
@@ -317,7 +318,7 @@ pub(crate) const ON_A_RANGE: &str =
 pub(crate) const NOTHING_RELEASED: &str =
     "no sentence is released, and only released text is searched, counted and exported; `totals` tells the states";
 
-// Of a command.
+// For a command.
 
 pub(crate) const BAD_NAME: &str =
     "the name of a batch or a user is 1 to 32 letters, digits, dots, underscores and hyphens";
@@ -380,7 +381,7 @@ pub const MEMORY: &str = "the system gave no memory; end other programs and try 
 pub(crate) const DESK: &str =
     "a row of the desk is not of its form; another program has changed the file, take a copy back";
 
-// Of a batch, by its state: what may come next, and who may ask.
+// For a batch, by its state: what may come next, and who may ask for it.
 
 pub(crate) const OPEN: &str = "next: assign, by whoever will work on it; or withdraw, by anyone";
 

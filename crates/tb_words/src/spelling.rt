@@ -1,4 +1,4 @@
-//! Where the forms of a sentence and its text part.
+//! Where the forms of a sentence differ from its text.
 
 use crate::places::Placed;
 use crate::rules::keyed;
@@ -7,7 +7,7 @@ use crate::words::{Words, shown};
 use std::alloc::Global;
 use tb_rules::restored;
 
-/// A text with each run of white space as one space, and none at the ends.
+/// A text in which each run of white space is one space, and none is at the ends.
 fn folded(alloc: Global, text: &str) -> Option<String> {
     let mut all = String::new(alloc);
     for word in text.split_whitespace() {
@@ -19,7 +19,7 @@ fn folded(alloc: Global, text: &str) -> Option<String> {
     Some(all)
 }
 
-/// How many bytes two texts begin with that are the same, in whole characters.
+/// The length of the common beginning of two texts, in bytes, up to a whole character.
 fn same(first: &str, second: &str) -> usize {
     for ((at, one), other) in first.char_indices().zip(second.chars()) {
         if one != other {
@@ -33,7 +33,7 @@ fn rest(text: &str, from: usize) -> &str {
     text.get(from..).unwrap_or("")
 }
 
-/// Where the word begins in which the texts part.
+/// The beginning of the word in which the texts first differ.
 fn word_start(text: &str, at: usize) -> usize {
     match text.get(..at).unwrap_or("").rsplit_once(' ') {
         Some((before, _)) => before.len().saturating_add(1),

@@ -1,27 +1,27 @@
-//! What most likely is meant where a query has what no query can have.
+//! What a query most likely means, where it has something that no query can have.
 
 use crate::literals::{Literal, holds};
 use crate::sentences as reported;
 
-/// Quotes that are not those of a query.
+/// Quotes that a query does not use.
 const CURLY: &[char] = &[
     '\u{2018}', '\u{2019}', '\u{201A}', '\u{201B}', '\u{201C}', '\u{201D}', '\u{201E}', '\u{201F}',
     '\u{2032}', '\u{2033}', '\u{AB}', '\u{BB}', '\u{2039}', '\u{203A}', '`', '\u{B4}',
 ];
 
-/// A text, and the place where it goes wrong.
+/// A text, and the place of its first fault.
 #[derive(Clone, Copy)]
 pub(crate) struct Wrong<'a> {
-    /// What stands before the place, without the white space next to it.
+    /// The text before the place, without the white space next to it.
     before: &'a str,
-    /// What stands from the place on.
+    /// The text from the place on.
     rest: &'a str,
     /// How many brackets and round parentheses are open at the place.
     brackets: usize,
     parentheses: usize,
 }
 
-/// How many of one sign are open before a place, literals aside.
+/// How many of one sign are open before a place, without those in literals.
 fn open(text: &str, literals: &[Literal], at: usize, opens: char, closes: char) -> usize {
     let mut count: usize = 0;
     for (place, c) in text.char_indices() {
@@ -37,7 +37,7 @@ fn open(text: &str, literals: &[Literal], at: usize, opens: char, closes: char) 
     count
 }
 
-/// The run of ASCII letters and digits with which a text begins.
+/// The ASCII letters, digits and underscores with which a text begins.
 fn word(text: &str) -> &str {
     for (at, c) in text.char_indices() {
         if !c.is_ascii_alphanumeric() && c != '_' {
@@ -54,7 +54,7 @@ fn is_column(word: &str) -> bool {
     )
 }
 
-/// Whether a word is the name of a column but for the case of its letters.
+/// Whether a word is the name of a column, apart from the case of its letters.
 fn is_column_in_capitals(word: &str) -> bool {
     for name in ["word", "lemma", "upos", "xpos", "feats", "deprel"] {
         if name.eq_ignore_ascii_case(word) {
@@ -64,7 +64,7 @@ fn is_column_in_capitals(word: &str) -> bool {
     false
 }
 
-/// What is wrong with a word that stands for the name of a column.
+/// What is wrong with a word in the place of a column's name.
 fn column_fault(word: &str) -> &'static str {
     if is_column_in_capitals(word) {
         return reported::COLUMN_CASE;
@@ -94,14 +94,14 @@ impl<'a> Wrong<'a> {
         }
     }
 
-    /// Whether a name of a column stands just before.
+    /// Whether the name of a column precedes the place.
     fn follows_column(&self) -> bool {
         ["word", "lemma", "upos", "xpos", "feats", "deprel"]
             .iter()
             .any(|name| self.before.ends_with(*name))
     }
 
-    /// Whether a value has to stand here.
+    /// Whether a value has to be here.
     fn wants_value(&self) -> bool {
         self.brackets > 0 && (self.before.ends_with('=') || self.before.ends_with("contains"))
     }
@@ -114,7 +114,7 @@ impl<'a> Wrong<'a> {
         self.before.ends_with(['?', '*', '+', '}'])
     }
 
-    /// Where the text ends too early.
+    /// What is missing where the text ends too early.
     fn end(&self) -> &'static str {
         if self.before.is_empty() {
             reported::EMPTY_QUERY
@@ -133,7 +133,7 @@ impl<'a> Wrong<'a> {
         }
     }
 
-    /// A word within brackets.
+    /// What is wrong with a word within brackets.
     fn word_inside(&self, word: &str) -> &'static str {
         if self.wants_value() {
             reported::VALUE_UNQUOTED
@@ -152,7 +152,7 @@ impl<'a> Wrong<'a> {
         }
     }
 
-    /// A word outside brackets.
+    /// What is wrong with a word outside brackets.
     fn word_outside(&self, word: &str) -> &'static str {
         let after = self.rest.get(word.len()..).unwrap_or("");
         if self.follows_flag() {
@@ -183,7 +183,7 @@ impl<'a> Wrong<'a> {
         }
     }
 
-    /// A quote. `is_closed` says whether its literal ends.
+    /// What is wrong with a quote. `is_closed` says whether its literal ends.
     fn quote(&self, is_closed: bool) -> &'static str {
         if !is_closed {
             reported::QUOTE_OPEN
@@ -212,7 +212,7 @@ impl<'a> Wrong<'a> {
         }
     }
 
-    /// A sign that is no letter and no digit.
+    /// What is wrong with a sign that is neither a letter nor a digit.
     fn sign(&self, sign: char) -> &'static str {
         match sign {
             '%' => reported::FLAG,

@@ -1,4 +1,4 @@
-//! Words, and values as they are shown.
+//! The words that explain a refusal, and values in the form in which they are shown.
 
 use std::alloc::AllocError;
 use std::fmt::{self, Display, Formatter};
@@ -24,7 +24,7 @@ impl Display for Page {
     }
 }
 
-/// What is told: a place and what stands there, a sentence, the page that says more, and the line of a query with a mark
+/// An explanation: a place and what is there, a sentence, the page that says more, and the line of a query with a mark
 /// under the place.
 #[derive(Drop)]
 pub struct Words {
@@ -45,7 +45,7 @@ impl Words {
         }
     }
 
-    /// A sentence after a place. Without memory for the place it is told alone.
+    /// A sentence after a place. Without memory for the place it is the sentence alone.
     pub(crate) fn at(place: Result<String, AllocError>, sentence: &'static str) -> Words {
         Words {
             place: place.ok(),
@@ -55,13 +55,13 @@ impl Words {
         }
     }
 
-    /// The same with the page that says more.
+    /// Adds the page that says more.
     pub(crate) fn on(mut self, page: Page) -> Words {
         self.page = Some(page);
         self
     }
 
-    /// The same with a picture under it.
+    /// Adds a picture under the sentence.
     pub(crate) fn with_picture(mut self, picture: Option<String>) -> Words {
         self.picture = picture;
         self
@@ -87,7 +87,8 @@ impl Display for Words {
 /// How many characters of a value are shown.
 const MOST: usize = 40;
 
-/// A value as it is shown: what would move the marks of a terminal is left out, and so is what is too long.
+/// A value as it is shown. Control characters, which could move a terminal's cursor, are replaced, and a long value is
+/// cut.
 #[derive(Clone, Copy)]
 pub(crate) struct Excerpt<'a> {
     value: &'a str,
@@ -97,7 +98,7 @@ pub(crate) fn shown(value: &str) -> Excerpt<'_> {
     Excerpt { value }
 }
 
-/// A character, or what stands for one that a terminal would not show.
+/// A character, or U+FFFD in the place of a control character.
 pub(crate) fn visible(c: char) -> char {
     if c.is_control() { '\u{FFFD}' } else { c }
 }
