@@ -1,4 +1,4 @@
-//! A pattern as deep as is asked.
+//! Measures a pattern of any depth.
 
 use std::alloc::{AllocError, Global};
 use std::io;
@@ -17,7 +17,7 @@ fn chained_parts(alloc: Global, levels: usize) -> Result<Pat, AllocError> {
     Ok(pat)
 }
 
-/// A table of ten words, of which its one expression holds.
+/// A table of ten words, with one expression that holds of each of them.
 fn ten_words(alloc: Global) -> Result<Truth, AllocError> {
     let mut truth = Truth::new(alloc, 10, 1)?;
     for word in 1..11 {
@@ -28,8 +28,9 @@ fn ten_words(alloc: Global) -> Result<Truth, AllocError> {
     Ok(truth)
 }
 
-/// Weighs a pattern so many levels deep, tests it, searches for it in a sentence of ten words and lets it go, and says so
-/// after each: with a small stack the last line tells how far it came.
+/// Weighs a pattern so many levels deep, tests it, searches for it in a sentence of ten words, and drops it.
+///
+/// It prints a line after each step. So with a small stack the last line says how far it came.
 pub fn depth(rt: HostRuntime, levels: usize) -> io::Result<()> {
     let alloc = rt.alloc();
     let pat = chained_parts(alloc, levels)?;

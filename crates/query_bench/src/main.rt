@@ -1,8 +1,8 @@
 //! Measures how long queries take: reading their texts, and searching sentences.
 //!
 //! `query_bench QUERY .. < FILE` reads the CoNLL-U file on standard input once, and then searches it for each query.
-//! `query_bench depth N` tries a pattern that is N levels deep. Each line has the least time of many rounds. Without
-//! a word the program only prints its usage, since times are never the same twice.
+//! `query_bench depth N` tries a pattern that is N levels deep. Each line has the least time of many rounds. Without a
+//! word the program only prints its usage, since times are never the same twice.
 #![tactic(auto)]
 
 mod depth;

@@ -7,8 +7,8 @@ use tb_conllu::BlockRef;
 use tb_match::Strategy;
 use tb_query::{Query, QueryFault, parse};
 
-/// Sentences of more rows are left out. A search takes 1,000 words, and there are no more words than
-/// rows: so the words are counted by the searcher alone, and not once more beforehand.
+/// Sentences of more rows are left out. A search takes at most 1,000 words, and a sentence has no more words than
+/// rows. So only the searcher has to count the words.
 const MOST_ROWS: usize = 1000;
 
 /// How many nanoseconds it takes to read the text of a query: the least of 200 rounds.
@@ -24,7 +24,7 @@ fn reading(rt: HostRuntime, text: &str) -> io::Result<u128> {
     Ok(best)
 }
 
-/// Makes the tables of truths of all the sentences.
+/// Makes the tables of truths of all sentences.
 fn ask_all(alloc: Global, query: &Query, sentences: &[BlockRef<'_>]) -> Result<(), AllocError> {
     let mut searcher = query.searcher(alloc)?;
     for sentence in sentences {
@@ -35,7 +35,7 @@ fn ask_all(alloc: Global, query: &Query, sentences: &[BlockRef<'_>]) -> Result<(
     Ok(())
 }
 
-/// How many hits there are in all the sentences by a strategy, and how many unions they took.
+/// How many hits all sentences have by a strategy, and how many unions they took.
 fn search_all(
     alloc: Global,
     query: &Query,
@@ -55,7 +55,7 @@ fn search_all(
     Ok((hits, unions))
 }
 
-/// Times the tables of truths of all the sentences.
+/// Times the tables of truths of all sentences.
 fn asking(rt: HostRuntime, query: &Query, sentences: &[BlockRef<'_>]) -> io::Result<u128> {
     let mut best = u128::MAX;
     for _ in 0..15 {
@@ -66,7 +66,7 @@ fn asking(rt: HostRuntime, query: &Query, sentences: &[BlockRef<'_>]) -> io::Res
     Ok(best)
 }
 
-/// Times the hits in all the sentences by a strategy, tables and all.
+/// Times the search of all sentences by a strategy, with the tables of truths.
 fn searching(
     rt: HostRuntime,
     query: &Query,
