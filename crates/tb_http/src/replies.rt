@@ -23,7 +23,7 @@ pub enum Reply {
     Refused(Refusal),
     /// The request asks nothing.
     Faulty(RequestFault),
-    /// Memory was refused.
+    /// Memory ran out.
     Memory,
     /// The store failed, or an input could not be read.
     Device,
