@@ -1,4 +1,4 @@
-//! Finds the sentence of a file whose `sent_id` is taken.
+//! Finds the sentence of a file whose `sent_id` the desk already has.
 
 ghost use Rattle.std.specs.Prelude.{◌≡◌, ◌≢◌, List, map, None, Err, IfOk, OnOk};
 ghost use Rattle.sqlite.specs.State.{HasCleanDisk};
@@ -20,7 +20,7 @@ use sqlite::{Alter, Connection};
 use tb_core::{Fault, NewSentence};
 use tb_refine::is_taken;
 
-/// The first of these sentences, counted from 1, whose `sent_id` a sentence of the desk has. Looks at none after it.
+/// The number, from 1, of the first sentence whose `sent_id` a sentence of the desk has. It looks at none after it.
 fn first_taken<S: Alter>(
     conn: &mut Connection<S>,
     taken: &[NewSentence<'_>],
@@ -44,7 +44,8 @@ fn first_taken<S: Alter>(
     Ok(None)
 }
 
-/// The first of these sentences, counted from 1, whose `sent_id` stands. A desk without sentences has none and is not asked.
+/// The number, from 1, of the first sentence whose `sent_id` the desk already has. A desk without sentences has none
+/// and is not asked.
 pub(crate) fn first_standing<S: Alter>(
     conn: &mut Connection<S>,
     known: &ImportCounters,
