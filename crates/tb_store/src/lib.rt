@@ -1,7 +1,8 @@
-//! The desk over one SQLite connection: its tables are those of a state of the desk machine, before and after each call.
+//! The desk over one SQLite connection. Its tables are those of a state of the desk machine, before and after each
+//! call.
 //!
-//! A [`Desk`](crate::desk::Desk) is made on an empty database, adopted from a file, or made in memory. What a caller of a
-//! desk names is here, whichever crate makes it.
+//! Read [`Desk`](crate::desk::Desk) first: it is made on an empty database, adopted from a file, or made in memory.
+//! All types that a caller of a desk names are here, whichever crate defines them.
 #![tactic(auto)]
 
 mod answers;
