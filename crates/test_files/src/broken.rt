@@ -2,7 +2,7 @@
 
 use std::io::{self, ErrorKind, Read, Write};
 
-/// Gives some bytes, and then fails.
+/// Gives its bytes, and then fails.
 #[derive(Drop)]
 pub(crate) struct BrokenReader<'a> {
     pub(crate) rest: &'a [u8],
@@ -19,7 +19,7 @@ impl Read for BrokenReader<'_> {
     }
 }
 
-/// Takes so many bytes, and then fails.
+/// Takes as many bytes as it has room for, and then fails.
 #[derive(Drop)]
 pub(crate) struct BrokenWriter {
     pub(crate) room: usize,

@@ -1,12 +1,12 @@
-//! Cases as text, one on each line: what is asked stands before ` => `, and the answer after it.
+//! Cases as text, one on each line: the question precedes ` => `, and the answer follows it.
 //!
-//! One loop walks them, so that a further case costs the prover nothing.
+//! One loop reads all cases, so another case costs the prover nothing.
 
 use std::alloc::{AllocError, Global};
 use std::process::Abort;
 use std::test::Fail;
 
-/// Something that is asked of the text of a case.
+/// A question that can be asked of the text of a case.
 pub(crate) trait Question {
     /// The answer as text.
     fn answer(&self, alloc: Global, asked: &str) -> Result<String, Fail>;
@@ -36,7 +36,7 @@ pub(crate) fn unfolded(alloc: Global, text: &str) -> Result<String, AllocError> 
     text.replace(alloc, '¶', "\n")
 }
 
-/// The file with what stands before ` -> `, where it comes first, changed to what stands after it.
+/// The file, with the first text before ` -> ` changed to the text after it.
 pub(crate) fn changed(alloc: Global, file: &str, change: &str) -> Result<String, Fail> {
     let unfolded = unfolded(alloc, change)?;
     let (old, new) = unfolded.split_once(" -> ").ok_or("a change")?;

@@ -1,4 +1,4 @@
-//! What a field may hold. What is expected was worked out by hand from the guidelines.
+//! What a field may hold. The expected answers were worked out by hand from the guidelines.
 
 use crate::cases::{Question, assert_answers};
 use std::alloc::Global;
@@ -6,7 +6,7 @@ use std::test::Fail;
 use tb_chars::{has_white_space, is_solid_text};
 use tb_fields::{is_blank_field, is_feature_list, is_relation_text, is_tag, relation_base};
 
-/// What is asked of a field.
+/// A question that can be asked of a field.
 #[derive(Drop)]
 enum FieldQuestion {
     Features,
@@ -56,7 +56,8 @@ const FEATURES: &str = "\
     Abbr=Yes|Animacy=Anim|Aspect=Perf|Case=Nom|Definite=Ind|Degree=Pos|Evident=Fh|Foreign=Yes|Gender=Masc|Mood=Ind|Number=Sing|NUMBER=Sing|Number=Plur => no\n\
     Abbr=Yes|Animacy=Anim|Aspect=Perf|Case=Nom|Definite=Ind|Degree=Pos|Evident=Fh|Foreign=Yes|Gender=Masc|Mood=Ind|NumType=Card|Number=Sing => no\n";
 
-/// Lists of forty values: all different, the first again at the end, and one in small letters at the end.
+/// Lists of forty values: all different; with the first one again at the end; and with one in small letters at the
+/// end.
 const FORTY_VALUES: &str = "\
     A=A1,A2,A3,A4,A5,A6,A7,A8,A9,B1,B2,B3,B4,B5,B6,B7,B8,B9,C1,C2,C3,C4,C5,C6,C7,C8,C9,F1,F2,F3,F4,F5,F6,F7,F8,F9,E1,E2,E3,E4 => yes\n\
     A=A1,A2,A3,A4,A5,A6,A7,A8,A9,B1,B2,B3,B4,B5,B6,B7,B8,B9,C1,C2,C3,C4,C5,C6,C7,C8,C9,F1,F2,F3,F4,F5,F6,F7,F8,F9,E1,E2,E3,A1 => no\n\

@@ -38,7 +38,7 @@ pub(crate) const COFFEE_AND_TEA: &str = "\
     6\ttea\ttea\tNOUN\t_\t_\t5\torphan\t5.1:obj\t_\n\
     \n";
 
-/// The text of this name; of any other name nothing.
+/// The text with this name; empty for any other name.
 fn text_named(name: &str) -> &'static str {
     match name {
         "D" => DOGS_BARK,
@@ -55,7 +55,7 @@ fn text_named(name: &str) -> &'static str {
     }
 }
 
-/// The texts of these names, which spaces separate, one after another.
+/// The texts with these names, which spaces separate, one after another.
 pub(crate) fn file_of(alloc: Global, names: &str) -> Result<String, AllocError> {
     let mut file = String::new(alloc);
     for name in names.split(' ') {

@@ -1,4 +1,4 @@
-//! Tests of reading, writing and checking files: each call with ample memory, and readers and writers that fail.
+//! Tests of reading, writing and checking files: each call with enough memory, and with readers and writers that fail.
 //!
 //! Read `read_tests.rt` first. `tools/examples` asks what the program prints for small files.
 #![tactic(auto)]

@@ -1,4 +1,4 @@
-//! Sentences with their slices of a file, of unknown texts and of known ones, and a sink that never refuses.
+//! Sentences with their slices of a file, read from unchecked and from known texts; and a sink that never refuses.
 
 ghost use Rattle.std.specs.Prelude.{None, IsOk};
 
@@ -8,7 +8,8 @@ use std::test::Fail;
 use tb_check::run_check;
 use tb_conllu::{BlockRef, Sentences, Sink, known_block, put_blocks, put_number, read_ref};
 
-/// A sentence comes with the text that spells it, and of a known text is read what the reader that tests everything reads.
+/// Each sentence comes with the text that spells it. Of a known text, the reader of known texts reads what the reader
+/// that tests everything reads.
 #[test]
 fn sentences_come_with_their_text(rt: HostRuntime) -> Result<(), Fail> {
     let alloc = rt.alloc();
@@ -31,13 +32,13 @@ fn sentences_come_with_their_text(rt: HostRuntime) -> Result<(), Fail> {
     Ok(())
 }
 
-/// Counts the bytes that it is given, and never refuses any.
+/// Counts the bytes that it receives, and never refuses any.
 #[derive(Drop)]
 struct Counting {
     count: u64,
 }
 
-/// Why bytes are refused: they never are.
+/// Why bytes are refused. It has no value, since they never are.
 #[derive(Drop)]
 struct Never;
 

@@ -1,4 +1,5 @@
-//! What is read of bytes: rows, sentences one after another, and the first fault. What is expected was worked out by hand.
+//! What is read from bytes: rows, sentences one after another, and the first fault. The expected answers were worked
+//! out by hand.
 
 use crate::cases::{Question, assert_answers, unfolded};
 use crate::files::file_of;
@@ -9,7 +10,7 @@ use tb_conllu::{
     read_ref, row_of, words,
 };
 
-/// Appends whether the row is a word, its ID and its head as they were read, and its other fields in their order.
+/// Appends whether the row is a word, its ID and its head as read, and its other fields in their order.
 fn tell_row<T: Text>(list: &mut String, row: &RowOf<T>) -> Result<(), AllocError> {
     let kind = if is_word_row(row) { "word" } else { "no word" };
     write!(list, "{kind} {:?} {:?}", row.id, row.head)?;
@@ -28,7 +29,7 @@ fn tell_row<T: Text>(list: &mut String, row: &RowOf<T>) -> Result<(), AllocError
     list.push_str("\n")
 }
 
-/// How many words each sentence has, its comments and its rows, a line each.
+/// A line for each sentence: how many words it has, its comments and its rows.
 pub(crate) fn reported<T: Text>(
     alloc: Global,
     blocks: &[BlockOf<T>],
@@ -47,7 +48,7 @@ pub(crate) fn reported<T: Text>(
     Ok(list)
 }
 
-/// The three files D, V and C in the order V, C, D, as `reported` tells them.
+/// The three files D, V and C in the order V, C, D, as `reported` writes them.
 pub(crate) const FIELDS: &str = "\
     5 words\n\
     # sent_id = s2\n\
@@ -93,7 +94,7 @@ fn reads_the_fields_of_each_row(rt: HostRuntime) -> Result<(), Fail> {
     Ok(())
 }
 
-/// The next sentence, as `reported` tells an owned copy of it; or that none is left; or the fault.
+/// The next sentence, as `reported` writes an owned copy of it; or that none is left; or the fault.
 fn next_reported(alloc: Global, left: &mut Sentences<'_>) -> Result<String, AllocError> {
     match left.read_next(alloc) {
         Ok(Some(block)) => reported(alloc, &[own_block(alloc, &block)?]),
@@ -102,7 +103,7 @@ fn next_reported(alloc: Global, left: &mut Sentences<'_>) -> Result<String, Allo
     }
 }
 
-/// A fault is told again where it was told before.
+/// A fault is reported again where it was reported before.
 #[test]
 fn reads_one_sentence_after_another(rt: HostRuntime) -> Result<(), Fail> {
     let alloc = rt.alloc();
@@ -142,7 +143,7 @@ impl Question for ReadQuestion {
     }
 }
 
-/// The first faulty line is told, with its least code.
+/// The first faulty line is reported, with its lowest code.
 const FAULTS: &str = "\
     # a¶¶ => Some(At { line: 2, code: 9 })\n\
     # \u{1}e\u{301}¶ => Some(At { line: 1, code: 2 })\n\

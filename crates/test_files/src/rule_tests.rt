@@ -1,5 +1,5 @@
-//! The rules: the values of a sentence, one sentence after another, and faults in words. What is expected was worked out by
-//! hand from the rules.
+//! The rules: the values of a sentence, one sentence after another, and faults in words. The expected answers were
+//! worked out by hand from the rules.
 
 use crate::cases::{Question, assert_answers, changed, unfolded};
 use crate::files::{VAMONOS, file_of};
@@ -22,7 +22,7 @@ const THREE_WORDS: &str = "\
     3\tở\t_\tVERB\t_\t_\t2\tdep\t_\t_\n\
     \n";
 
-/// What rows `ID FORM` spell, the first of which gets the ID of word 0, that no line can have.
+/// The text that rows `ID FORM` spell. The first row gets the ID of word 0, which no line can have.
 struct Restored;
 
 impl Question for Restored {
@@ -45,7 +45,7 @@ const ROWS_IN_ANY_ORDER: &str = "\
     9 z, 2 b, 1-3 c, 1 a => z c\n\
     9 z, 2 b, 1-3 c, 1 a, 5-4 d, 4 e, 2-2 f => z c d e f\n";
 
-/// The name and the text of the sentence of a file, and the first rule that is broken.
+/// The name and the text of the sentence of a file, and the first rule that it breaks.
 fn values_of(alloc: Global, file: &str) -> Result<String, Fail> {
     let sentence = sentence_of(alloc, file)?;
     let name = sent_id(&sentence);
@@ -54,7 +54,7 @@ fn values_of(alloc: Global, file: &str) -> Result<String, Fail> {
     Ok(format!(in alloc; "{name:?} {words:?} {reported:?}")?)
 }
 
-/// The same of a sentence with these comments.
+/// The same for a sentence with these comments.
 struct Values;
 
 impl Question for Values {
@@ -85,7 +85,7 @@ fn gives_the_values_of_a_sentence(rt: HostRuntime) -> Result<(), Fail> {
     assert_answers(&rt, alloc, &Values, COMMENTS, 4)
 }
 
-/// What is told of each sentence of a file: one at fault is not taken, and the next is taken in its place.
+/// What is reported for each sentence of a file. A sentence at fault is not accepted, and the next takes its place.
 #[test]
 fn goes_on_after_a_fault(rt: HostRuntime) -> Result<(), Fail> {
     let alloc = rt.alloc();
@@ -105,7 +105,7 @@ fn goes_on_after_a_fault(rt: HostRuntime) -> Result<(), Fail> {
 /// A sentence without its name.
 const GO: &str = "# text = Go\n1\tGo\t_\tVERB\t_\tMood=Imp|VerbForm=Fin\t0\troot\t_\t_\n\n";
 
-/// What is told of a sentence with this name, after a change.
+/// What is reported for a sentence with this name, after a change.
 fn reported_of(
     alloc: Global,
     checker: &mut Checker,
@@ -118,7 +118,7 @@ fn reported_of(
     Ok(format!(in alloc; "/{reported:?}")?)
 }
 
-/// What comes again and again is taken each time, and what differs from it in one letter is not.
+/// A value that comes again is accepted each time. A value that differs from it in one letter is not.
 #[test]
 fn knows_what_came_before(rt: HostRuntime) -> Result<(), Fail> {
     let alloc = rt.alloc();
@@ -137,8 +137,8 @@ fn knows_what_came_before(rt: HostRuntime) -> Result<(), Fail> {
     Ok(())
 }
 
-/// What is told in words of a file after a change, `NAMES: OLD -> NEW`: whether all that follows its first sentence is
-/// read, and then whether the rules are kept.
+/// What is reported in words for a file after a change, `NAMES: OLD -> NEW`: whether everything after its first
+/// sentence can be read, and then whether the rules are kept.
 struct Words;
 
 impl Question for Words {

@@ -1,5 +1,4 @@
-//! What is asked of a source, and what is answered where it fails: sources that count their pieces, and that are cut
-//! off.
+//! What is asked of a source, and the answer where it fails. The sources count their pieces, or are cut off.
 
 ghost use Rattle.std.specs.Prelude.{◌≡◌, ◌≤◌, [], length, map, vec_items, None, Some};
 ghost use Rattle.tb_check.specs.Check.{Answers, file_limit};
@@ -11,7 +10,7 @@ use std::test::Fail;
 use tb_check::{check_bytes, check_within, run_check};
 use tb_conllu::{Sink, Source, SourceFault};
 
-/// Bytes in memory, and a failure in place of their end.
+/// Bytes in memory, and a failure instead of their end.
 #[derive(Drop)]
 struct Cut<'a> {
     bytes: &'a [u8],
@@ -38,7 +37,7 @@ impl<'a> Source for Cut<'a> {
     }
 }
 
-/// Bytes in memory, one at a time. It keeps each piece that it gave, and fails where it has no room for one.
+/// Bytes in memory, one at a time. It keeps each piece that it gave, and fails where it has no room for another.
 #[derive(Drop)]
 struct Counted<'a> {
     alloc: Global,
@@ -68,7 +67,7 @@ impl<'a> Source for Counted<'a> {
     }
 }
 
-/// Over bytes that are cut off a device fails only where no byte is left, and so only of a file within the limit.
+/// Over bytes that are cut off, the device fails only where no byte is left, and so only for a file within the limit.
 fn check_cut<S: Sink>(alloc: Global, bytes: &[u8], out: &mut S) -> u8
     ensures { Answers (λ reply. reply ≡ Device → length bytes.now ≤ file_limit)
         (S.held out.old) (S.held out.new) (S.IsRefusal out.new) result }
@@ -82,7 +81,7 @@ fn reported(alloc: Global, status: u8, out: &[u8]) -> Result<String, Fail> {
     Ok(format!(in alloc; "{status} {line}")?)
 }
 
-/// A file that is cut off is a failed device, unless it is above the limit all the same.
+/// A file that is cut off is a failed device, unless it is above the limit.
 #[test]
 fn a_source_that_is_cut_off(rt: HostRuntime) -> Result<(), Fail> {
     let alloc = rt.alloc();
@@ -102,7 +101,7 @@ fn a_source_that_is_cut_off(rt: HostRuntime) -> Result<(), Fail> {
     Ok(())
 }
 
-/// A file is asked for up to its end, and one above the limit up to the first byte above it.
+/// A file is read to its end. A file above the limit is read up to the first byte above it.
 #[test]
 fn a_source_that_counts_its_pieces(rt: HostRuntime) -> Result<(), Fail> {
     let alloc = rt.alloc();

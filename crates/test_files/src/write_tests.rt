@@ -27,8 +27,8 @@ fn writes_files(rt: HostRuntime) -> Result<(), Fail> {
     Ok(())
 }
 
-/// A file is the same when it is read and written, and when it is then read and written once more. A sentence without
-/// rows is not read again.
+/// Reading and writing a file gives the same file, and so does doing it again. A sentence without rows is not read
+/// back.
 #[test]
 fn a_file_written_again_is_the_same(rt: HostRuntime) -> Result<(), Fail> {
     let alloc = rt.alloc();
@@ -52,7 +52,7 @@ fn a_file_written_again_is_the_same(rt: HostRuntime) -> Result<(), Fail> {
     Ok(())
 }
 
-/// A writer that fails, at each byte, has taken what it could; a slice that is full is such a writer.
+/// A writer that fails at some byte has taken all bytes before it. A slice that is full is such a writer.
 #[test]
 fn tells_a_failed_writer(rt: HostRuntime) -> Result<(), Fail> {
     let blocks = read_ref(rt.alloc(), VAMONOS.as_bytes())?;
