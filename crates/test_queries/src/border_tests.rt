@@ -1,5 +1,5 @@
-//! Sentences on both sides of each border of a bit row: no word, one word, a row that just fits
-//! one machine word or two, and one place more; and long ones. Noun phrases; repetitions within one another.
+//! Sentences on both sides of each border of a bit row: no word, one word, a row that just fits one machine word or
+//! two, and one place more; and long ones. Also noun phrases, and repetitions within one another.
 
 use crate::cases::{cut, strategy};
 use crate::match_tests::search;
@@ -17,7 +17,8 @@ fn push_hit(list: &mut String, hit: (u32, u32)) -> Result<(), AllocError> {
     push(list, &hit.1)
 }
 
-/// How many hits there are, the first one and the last: `2: 0-1 .. 64-65`, or `0`; then the steps, if they are asked for.
+/// How many hits there are, the first one and the last: `2: 0-1 .. 64-65`, or `0`. Then the steps, if they are asked
+/// for.
 fn summary(alloc: Global, found: &Found, with_steps: bool) -> Result<String, AllocError> {
     let mut reported = shown(alloc, &found.hits.len())?;
     if let Some(hit) = found.hits.first() {
@@ -57,13 +58,13 @@ fn at_number(alloc: Global, text: &str, n: usize) -> Result<String, AllocError> 
     Ok(all)
 }
 
-/// The number that a text says; 0 where it says none.
+/// The number that a text spells; 0 where it spells none.
 fn number(text: &str) -> u64 {
     text.parse().unwrap_or(0)
 }
 
-/// What is found in a case `PATTERN on TABLE by STRATEGY` in a sentence of so many words. Each hit has a word. The steps
-/// lie within the limits of a case `PATTERN on TABLE by STRATEGY within LEAST to GREATEST`.
+/// What is found for a case `PATTERN on TABLE by STRATEGY` in a sentence of so many words. Each hit has a word. For a
+/// case `PATTERN on TABLE by STRATEGY within LEAST to GREATEST`, the steps are within these limits.
 fn reported_of(
     rt: &impl Abort,
     alloc: Global,
@@ -99,16 +100,16 @@ fn assert_hits(rt: &impl Abort, alloc: Global, cases: &str, words: usize) -> Res
     Ok(())
 }
 
-/// A star, and a star and a word that is nowhere.
+/// A star, and a star with a word that is nowhere.
 const NO_WORDS: &str = "\
     0 * on a by every => 0\n\
     0 * 1 .2 on a- by shortest => 0; 0\n\
     0 * 1 .2 on a- by longest => 0; 0\n\
     0 * 1 .2 on a- by every => 0; 0\n";
 
-/// The first word and all that follow; a lone word, which is found where it stands, by each strategy, and takes no
-/// union; a part that holds of no word, which takes none either; stars, which take a union for each word, however
-/// often they are repeated; a star where nothing holds; rows of ten words, one chunk of eight and a rest of two.
+/// The first word with all that follow. A lone word, which each strategy finds in its place, without a union. A part
+/// that holds of no word, which takes no union either. Stars, which take a union for each word, however often they are
+/// repeated. A star where nothing holds. Rows of ten words: one chunk of eight and a rest of two.
 const ANY_WORDS: &str = "\
     0 1 * .2 on fr by longest => 1: 0-n .. 0-n\n\
     0 1 * .2 on fr by shortest => 1: 0-1 .. 0-1\n\
@@ -137,15 +138,15 @@ const TWO_WORDS: &str = "\
     0 1 * 0 ? .3 on ea by every => k: 0-1 .. m-n\n";
 
 /// "the old book on the table in the room": `[upos="DET"]? [upos="ADJ"]* [upos="NOUN"]`, and the same after
-/// `[upos="ADP"]`, as often as it comes.
+/// `[upos="ADP"]`, any number of times.
 const NINE_WORDS: &str = "\
     0 ? 1 * 2 3 4 ? 5 * 6 .4 * .4 on DJNPDJN by shortest => 3: 2-3 .. 8-9\n\
     0 ? 1 * 2 3 4 ? 5 * 6 .4 * .4 on DJNPDJN by longest => 1: 0-9 .. 0-9\n\
     0 ? 1 * 2 3 4 ? 5 * 6 .4 * .4 on DJNPDJN by every => 15: 0-3 .. 8-9\n";
 
-/// The least and the greatest numbers of unions of five stars; a repetition of one word up to 32 times has all pieces of
-/// up to 32 words; within another, of up to 1,024; the pieces of exactly 31 times 31 words are 40. Expression 0 holds of
-/// each word, 1 of every third and the last two, and 2 of the others and the last.
+/// The least and the greatest numbers of unions of five stars. A repetition of one word up to 32 times has all pieces
+/// of up to 32 words; within another, of up to 1,024. The pieces of exactly 31 times 31 words are 40. Expression 0
+/// holds of each word, 1 of every third and the last two, and 2 of the others and the last.
 const REPETITIONS: &str = "\
     0 5×* on a by longest within 1000 to 5516511 => 1: 0-1000 .. 0-1000\n\
     0 1×0-32 on ast by longest within 1000 to 40000 => 969: 0-32 .. 968-1000\n\

@@ -1,4 +1,4 @@
-//! Cases as lines of text, `TEXT => ANSWER` each: the prover takes one long text more easily than many values.
+//! Cases as lines of text, `TEXT => ANSWER` each. The prover handles one long text more easily than many values.
 
 use crate::questions::{Question, answer};
 use crate::writing::assert_reported;
@@ -7,7 +7,7 @@ use std::process::Abort;
 use std::test::Fail;
 use tb_match::Strategy;
 
-/// What stands before the sign, and after it.
+/// The text before the sign, and the text after it.
 pub(crate) fn cut<'a>(rt: &impl Abort, text: &'a str, sign: &str) -> (&'a str, &'a str) {
     match text.split_once(sign) {
         Some(parts) => parts,
@@ -39,8 +39,8 @@ fn push_times(all: &mut String, text: &str, times: u32) -> Result<(), AllocError
     Ok(())
 }
 
-/// The pieces of a text of `16×( [] 16×)`, which is an expression in sixteen parentheses, put together. Any other text
-/// is itself.
+/// A text of the form `16×( [] 16×)`, written out: it is an expression in sixteen parentheses. Any other text is
+/// unchanged.
 fn spelled(alloc: Global, text: &str) -> Result<String, AllocError> {
     let mut all = String::new(alloc);
     if !text.contains('×') {
@@ -56,7 +56,7 @@ fn spelled(alloc: Global, text: &str) -> Result<String, AllocError> {
     Ok(all)
 }
 
-/// Asserts what each text of the cases is answered with.
+/// Asserts the answer to each text of the cases.
 pub(crate) fn assert_cases(
     rt: &impl Abort,
     alloc: Global,

@@ -1,12 +1,12 @@
-//! Lexemes as letters.
+//! Lexemes, written as letters.
 
 use std::alloc::{AllocError, Global};
 use std::process::Abort;
 use std::test::Fail;
 use tb_syntax::{Attr, Lexeme};
 
-/// The lexeme of a sign. Signs and digits are themselves; letters stand for what takes more than one, as `T` for 32 and
-/// `U` for 33.
+/// The lexeme of a sign. Signs and digits represent themselves; letters represent what takes more than one sign, as
+/// `T` for 32 and `U` for 33.
 fn lexeme_of(sign: char, literals: u16) -> Lexeme {
     match sign {
         '(' => Lexeme::LeftParen,
@@ -45,7 +45,7 @@ fn lexeme_of(sign: char, literals: u16) -> Lexeme {
     }
 }
 
-/// The lexemes of a list of signs, whose literals are counted.
+/// The lexemes of a list of signs, whose literals are numbered.
 pub(crate) fn lexemes(alloc: Global, signs: &str) -> Result<Vec<Lexeme>, AllocError> {
     let mut list = Vec::new(alloc);
     let mut literals: u16 = 0;

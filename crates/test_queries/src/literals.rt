@@ -1,4 +1,4 @@
-//! What a literal fits, as text.
+//! The values that a literal fits, as text.
 
 use crate::cases::cut;
 use std::alloc::{AllocError, Global};

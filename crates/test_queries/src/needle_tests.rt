@@ -1,5 +1,5 @@
-//! Literals and values. What is expected follows from the documentation of Rust's regex crate, the
-//! manual of CQP and the CoNLL-U format page, worked out by hand.
+//! Literals and values. The expected answers follow from the documentation of Rust's regex crate, the manual of CQP
+//! and the CoNLL-U format page. They were worked out by hand.
 
 use crate::cases::assert_cases;
 use crate::literals::{fits, needle};
@@ -8,8 +8,8 @@ use std::test::Fail;
 use tb_syntax::Flag;
 
 /// A pattern matches the whole value. A text without signs fits itself alone. Classes are those of Unicode, and a dot
-/// is one character. An underscore is a value as any other. A dot is no line feed, and an end of a line is no end of the
-/// value. The empty pattern fits the empty value alone.
+/// is one character. An underscore is a value like any other. A dot does not match a line feed, and the end of a line
+/// is not the end of the value. The empty pattern fits the empty value alone.
 const PLAIN: &str = r"a|ab at ab => yes
 a|ab at a => yes
 a at ab => no
@@ -53,7 +53,7 @@ g(?-i:o) at GO => no
  at  => yes
  at   => no";
 
-/// With %l the text is the value.
+/// With `%l` the text is the value.
 const LITERAL: &str = r"g. at Go => no
 g. at go => no
 g. at g. => yes
@@ -63,7 +63,7 @@ a|b at a => no
  at  => yes
  at a => no";
 
-/// A comma parts the values of one item. An underscore stands for no item.
+/// A comma separates the values of one item. An underscore means that there is no item.
 const PLAIN_ITEMS: &str = "\
     Number=Plur at Case=Nom|Number=Plur => yes\n\
     Case=Nom at Case=Nom|Number=Plur => yes\n\
@@ -86,9 +86,9 @@ const LITERAL_ITEMS: &str = "\
     Case=Nom|Number=Plur at Case=Nom|Number=Plur => no\n\
     _ at _ => no\n";
 
-/// The second to fourth are no pattern alone, though they are one wrapped; the next two are none wrapped, though they
-/// are one alone, since a comment runs to the end of a line. Then nests: each pair of parentheses is a level, and what
-/// wraps the text adds two; regex allows 250. The last two are too large, which is a want of memory.
+/// The second to fourth are no pattern alone, but are one when wrapped. The next two are no pattern when wrapped, but
+/// are one alone, since a comment runs to the end of a line. Then nests: each pair of parentheses is a level, and the
+/// wrapping adds two; regex allows 250. The last two are too large, which is reported as want of memory.
 const REFUSED: &str = r"( => Some(Syntax)
 a)|(b => Some(Syntax)
 a)|(?:b => Some(Syntax)

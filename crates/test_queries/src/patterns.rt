@@ -4,20 +4,20 @@ use std::alloc::{AllocError, Global};
 use std::process::Abort;
 use tb_match::{Pat, Truth};
 
-/// A part of a pattern's text, which stands after the patterns that it is made of.
+/// A part of a pattern's text. It follows the patterns of which it is made.
 #[derive(Clone, Copy)]
 enum Node {
     /// One word of which the expression with this number holds.
     Word(u16),
-    /// The last so many patterns, one after the other.
+    /// The last n patterns, one after another.
     Sequence(usize),
-    /// Any one of the last so many patterns.
+    /// Any one of the last n patterns.
     Choice(usize),
     /// The last pattern repeated.
     Repeated(u8, Option<u8>),
 }
 
-/// What is made of the parts by a node.
+/// The pattern that a node makes of its parts.
 fn made(alloc: Global, node: Node, mut parts: Vec<Pat>) -> Result<Option<Pat>, AllocError> {
     match node {
         Node::Word(expr) => Ok(Some(Pat::Tok(expr))),
@@ -30,7 +30,7 @@ fn made(alloc: Global, node: Node, mut parts: Vec<Pat>) -> Result<Option<Pat>, A
     }
 }
 
-/// Puts a node in the place of the last patterns, which it is made of, and says whether there were enough.
+/// Replaces the last patterns by the node that is made of them. Returns whether there were enough.
 fn put(alloc: Global, pats: &mut Vec<Pat>, node: Node) -> Result<bool, AllocError> {
     let count = match node {
         Node::Word(_) => 0,
@@ -48,8 +48,8 @@ fn put(alloc: Global, pats: &mut Vec<Pat>, node: Node) -> Result<bool, AllocErro
     Ok(true)
 }
 
-/// The node that is written so: `*`, `+`, `?`, `2-4` and `2-` repeat, `.3` is a sequence and `|3` a choice of three
-/// patterns, and a digit is a word.
+/// The node of a token: `*`, `+`, `?`, `2-4` and `2-` repeat, `.3` is a sequence and `|3` a choice of three patterns,
+/// and a digit is a word.
 fn node_of(token: &str) -> Node {
     if let Some((least, most)) = token.split_once('-') {
         return Node::Repeated(least.parse().unwrap_or(0), most.parse().ok());
@@ -65,8 +65,7 @@ fn node_of(token: &str) -> Node {
     }
 }
 
-/// The pattern of a text, whose nodes stand after what they are made of: `0 1 * .2` for `[0] [1]*`, `0 5×*` for five
-/// stars.
+/// The pattern of a text in postfix order: `0 1 * .2` for `[0] [1]*`, `0 5×*` for five stars.
 pub(crate) fn pattern(rt: &impl Abort, alloc: Global, text: &str) -> Result<Pat, AllocError> {
     let mut pats = Vec::new(alloc);
     for token in text.split(' ') {
@@ -87,7 +86,7 @@ pub(crate) fn pattern(rt: &impl Abort, alloc: Global, text: &str) -> Result<Pat,
     }
 }
 
-/// Whether an expression, known by a letter, holds of a word of a sentence of so many words.
+/// Whether an expression, named by a letter, holds of a word in a sentence of so many words.
 fn holds(letter: char, word: usize, words: usize) -> bool {
     match letter {
         'a' => true,
@@ -99,7 +98,7 @@ fn holds(letter: char, word: usize, words: usize) -> bool {
         // Every third word and the last two, the others and the last one.
         's' => word % 3 == 0 || word.saturating_add(1) >= words,
         't' => word % 3 != 0 || word == words,
-        // Words round the end of the first machine word, and after it.
+        // Words near the end of the first machine word, and after it.
         'b' => matches!(word, 1 | 61 | 62 | 63 | 64 | 65 | 66 | 127 | 128),
         'c' => matches!(word, 2 | 64 | 65 | 66 | 67 | 128),
         // "the old book on the table in the room": determiners, adjectives, nouns and prepositions.
@@ -118,7 +117,7 @@ fn mark(truth: &mut Truth, expr: u16, word: usize) {
     }
 }
 
-/// The table of a sentence of so many words that has an expression for each letter.
+/// The table of a sentence of so many words, with an expression for each letter.
 pub(crate) fn table(
     rt: &impl Abort,
     alloc: Global,

@@ -1,4 +1,4 @@
-//! Which sentences a search passes over before they are cut into rows. What is expected was worked out by hand.
+//! Which sentences a search skips before they are split into rows. The expected answers were worked out by hand.
 
 use crate::cases::cut;
 use crate::reading::query_of;
@@ -7,7 +7,7 @@ use crate::writing::assert_reported;
 use std::test::Fail;
 use tb_prefilter::PrefilteredSearcher;
 
-/// A value between two tabs; parts that a match may lack; choices, denials and patterns, of which no bytes are needed.
+/// A value between two tabs; parts that a match may lack; choices, negations and patterns, which need no bytes.
 const CASES: &str = r#"[] => searched
 "boat" => searched
 "ship" => passed over

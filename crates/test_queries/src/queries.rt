@@ -1,4 +1,4 @@
-//! What a text says, as text.
+//! What a query's text says, as text.
 
 use crate::writing::{push, shown};
 use std::alloc::Global;
@@ -6,7 +6,7 @@ use std::test::Fail;
 use tb_match::fits;
 use tb_syntax::{Lexed, Parsed, Query, read};
 
-/// Its lexemes, and where they stand.
+/// Its lexemes, and their places.
 pub(crate) fn placed(alloc: Global, text: &str) -> Result<String, Fail> {
     let Lexed { lexemes, spans } = read(alloc, text)?;
     let mut reported = shown(alloc, &lexemes)?;
@@ -15,7 +15,7 @@ pub(crate) fn placed(alloc: Global, text: &str) -> Result<String, Fail> {
     Ok(reported)
 }
 
-/// Its pattern, its token expressions, and whether the pattern fits so many.
+/// Its pattern, its token expressions, and whether the pattern fits that many.
 pub(crate) fn tree(alloc: Global, text: &str) -> Result<String, Fail> {
     let Query {
         parsed,
@@ -30,7 +30,7 @@ pub(crate) fn tree(alloc: Global, text: &str) -> Result<String, Fail> {
     Ok(reported)
 }
 
-/// What its literals say.
+/// The values of its literals.
 pub(crate) fn literals(alloc: Global, text: &str) -> Result<String, Fail> {
     let query = tb_syntax::parse(alloc, text)?;
     let mut reported = String::new(alloc);

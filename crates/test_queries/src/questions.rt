@@ -1,4 +1,4 @@
-//! What is asked of the texts of cases.
+//! The questions that cases ask of their texts.
 
 use crate::lexemes::lexemes;
 use crate::literals::{fit, needle};
@@ -9,20 +9,20 @@ use std::process::Abort;
 use std::test::Fail;
 use tb_syntax::{Flag, repeats_within, scan};
 
-/// What is asked of the text of a case.
+/// A question that can be asked of the text of a case.
 #[derive(Clone, Copy)]
 pub(crate) enum Question {
-    /// Which of its lexemes is the first that stands wrong, if one does.
+    /// Which of its lexemes is the first wrong one, if any is.
     Scan,
     /// Whether the numbers of its repetitions are within the limits.
     Repeats,
-    /// What is wrong with it as a query, whatever its literals say.
+    /// What is wrong with it as a query, whether or not its literals are patterns.
     Fault,
-    /// Its lexemes, and where they stand.
+    /// Its lexemes, and their places.
     Places,
     /// Its pattern and its token expressions.
     Tree,
-    /// What its literals say.
+    /// The values of its literals.
     Literals,
     /// Whether the literal before `at` fits the value after it.
     Value(Flag),
@@ -34,7 +34,7 @@ pub(crate) enum Question {
     QueryFault,
 }
 
-/// What the text is answered with.
+/// The answer for the text.
 pub(crate) fn answer(
     rt: &impl Abort,
     alloc: Global,

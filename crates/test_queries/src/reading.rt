@@ -1,4 +1,4 @@
-//! What tests read. A test that knows nothing more of a sentence or a query than its type is shorter to prove.
+//! Reads what tests need. A test that knows only the type of a sentence or a query is shorter to prove.
 
 use std::alloc::Global;
 use std::process::Abort;

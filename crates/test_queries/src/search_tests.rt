@@ -1,5 +1,5 @@
-//! What a user of tb_query sees: hits, tables, the expressions of a query, and what is said of a text that is none. What is
-//! expected was worked out by hand; tools/queries asks the program for many queries more.
+//! What a user of tb_query sees: hits, tables, the expressions of a query, and the faults of a text that is no query.
+//! The expected answers were worked out by hand; tools/queries asks the program for many more queries.
 
 use crate::cases::cut;
 use crate::match_tests::search;
@@ -22,8 +22,8 @@ pub(crate) const BOAT: &str = "\
     6\tboat\t_\tNOUN\t_\t_\t_\t_\t_\t_\n\
     \n";
 
-/// Asserts the hits of a query in a sentence, asked of the query and of its searcher, and found by the matcher in the
-/// tables that both make. A pattern of weight 6 takes at most 168 unions on six words.
+/// Asserts the hits of a query in a sentence, found by the query, by its searcher, and by the matcher in the tables of
+/// both. A pattern of weight 6 takes at most 168 unions on six words.
 fn assert_finds<T: Text>(
     rt: &impl Abort,
     alloc: Global,
@@ -48,7 +48,7 @@ fn assert_finds<T: Text>(
     Ok(())
 }
 
-/// Adjectives and a noun, by one searcher in a sentence that is lent, in an owned copy, and in a sentence without words.
+/// Adjectives and a noun, by one searcher: in a borrowed sentence, in an owned copy, and in a sentence without words.
 #[test]
 fn sentences_are_searched(rt: HostRuntime) -> Result<(), Fail> {
     let alloc = rt.alloc();
@@ -91,7 +91,7 @@ fn expressions_are_handed_out(rt: HostRuntime) -> Result<(), Fail> {
     Ok(())
 }
 
-/// What is said of a fault.
+/// The text of a fault.
 fn message(alloc: Global, fault: &QueryFault) -> Result<String, AllocError> {
     format!(in alloc; "{fault}")
 }

@@ -1,5 +1,5 @@
-//! Queries as lists of lexemes and as texts. The expected answers were worked out by hand from the grammar, the limits and the
-//! documentation of Rust's regex crate. tools/queries asks the program for the faults of many texts more.
+//! Queries as lists of lexemes and as texts. The expected answers were worked out by hand from the grammar, the limits
+//! and the documentation of Rust's regex crate. tools/queries asks the program for the faults of many more texts.
 
 use crate::cases::assert_cases;
 use crate::lexemes::lexemes;
@@ -14,9 +14,9 @@ use tb_syntax::{
     one_reading, one_saying, one_unquoting, scan,
 };
 
-/// Nothing ends too early; a parenthesis may be opened, but not shut, at first; two queries of every production; then
-/// `[upos=]`, `"a"{x`, `[word contains "a"]`, `"a" "b")`, `"a" within s within` and `[(upos="a"]`, and parentheses that
-/// take no stack.
+/// An empty list ends too early; at first, a parenthesis may be opened but not closed; two queries use every
+/// production. Then come `[upos=]`, `"a"{x`, `[word contains "a"]`, `"a" "b")`, `"a" within s within` and
+/// `[(upos="a"]`, and parentheses that need no stack.
 const SCANS: &str = r#" => Some(0)
 ( => Some(1)
 ) => Some(0)
@@ -44,7 +44,7 @@ const REPEATS: &str = r#""{1} => true
 "{0,0} => false
 "{0,U} => false"#;
 
-/// Each fault, whatever the literals say; many signs, which take no stack.
+/// Each fault, with literals of any value; many signs, which need no stack.
 const FAULTS: &str = r#"[word="go"%c & !feats contains "X"] => None
 "(" => None
 [ 1989×! word="a"] => None
@@ -55,7 +55,7 @@ const FAULTS: &str = r#"[word="go"%c & !feats contains "X"] => None
 17×( [] 17×) => Some(TooDeep)
 "a"{3,2} => Some(Repeat)"#;
 
-/// A sequence binds before a choice; each repetition; each kind of test; each column.
+/// A sequence binds more tightly than a choice. Also each repetition, each kind of test and each column.
 const TREES: &str =
     r#""a" "b"|"c" => Alt([Cat([Tok(0), Tok(1)]), Tok(2)]) [Whole(Form, Literal { number: 0, flag: Plain }), Whole(Form, Literal { number: 1, flag: Plain }), Whole(Form, Literal { number: 2, flag: Plain })] fits
 []? => Rep(Tok(0), 0, Some(1)) [Any] fits
@@ -75,7 +75,7 @@ const TREES: &str =
 const PLACES: &str =
     r#" "a""b" 'c'{12} => [Quote(0), Quote(1), LeftBrace, Number(12), RightBrace] [Span { start: 1, end: 7 }, Span { start: 8, end: 11 }, Span { start: 11, end: 12 }, Span { start: 12, end: 14 }, Span { start: 14, end: 15 }]"#;
 
-/// What each literal of a query says, in the order of the text.
+/// The value of each literal of a query, in the order of the text.
 const LITERALS: &str = r#""a""b" => <a"b>
 'it''s' => <it's>
 "it's" => <it's>
@@ -93,8 +93,8 @@ const LITERALS: &str = r#""a""b" => <a"b>
 'd' [lemma="c"%c | feats contains 'b|''x'%l] ([] """a"""%l)* 'ß'%c => <d><c><b|'x><"a"><ß>
 []+ => "#;
 
-/// The same of a query, whose literals have to be patterns: the first that is none, and one that is too large, which is a
-/// want of memory.
+/// The faults of a query, whose literals have to be patterns: the first literal that is none, and one that is too
+/// large, which is reported as want of memory.
 const QUERY_FAULTS: &str = r#"[word="go"%c & !feats contains "X"] => None
 "("%l => None
 [] 1999×␣ => Some(TooLong)
@@ -123,8 +123,8 @@ fn texts_are_read(rt: HostRuntime) -> Result<(), Fail> {
     Ok(())
 }
 
-/// In `([(word="a")])` two parentheses are open round the test. In `[word="a"] "b" ([])` the literal of the test is no
-/// token expression.
+/// In `([(word="a")])` two parentheses are open around the test. In `[word="a"] "b" ([])` the literal of the test is
+/// no token expression.
 #[test]
 fn lexemes_are_counted(rt: HostRuntime) -> Result<(), Fail> {
     one_reading();

@@ -1,10 +1,10 @@
-//! Values as text. What writes them stands here alone, and what compares them: each such place is long to prove.
+//! Values as text. All writing and comparing of values is here, since each such place takes long to prove.
 
 use std::alloc::{AllocError, Global};
 use std::fmt::Debug;
 use std::process::Abort;
 
-/// Writes the value after the text.
+/// Appends the value to the text.
 pub(crate) fn push<T: Debug>(text: &mut String, value: &T) -> Result<(), AllocError> {
     write!(text, "{value:?}")
 }
@@ -16,7 +16,7 @@ pub(crate) fn shown<T: Debug>(alloc: Global, value: &T) -> Result<String, AllocE
     Ok(text)
 }
 
-/// Asserts what is told of a case.
+/// Asserts what a case reports.
 pub(crate) fn assert_reported(rt: &impl Abort, reported: &str, wanted: &str, case: &str) {
     assert_eq!(rt; reported, wanted, "of {case}");
 }
