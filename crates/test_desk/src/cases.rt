@@ -1,13 +1,13 @@
-//! Cases as text, one on each line: what is asked stands before ` => `, and the answer after it.
+//! Cases as text, one on each line: the question precedes ` => `, and the answer follows it.
 //!
-//! One loop walks them, so that a further case costs the prover nothing.
+//! One loop reads all cases, so another case costs the prover nothing.
 
 use std::alloc::Global;
 use std::process::Abort;
 use std::str;
 use std::test::Fail;
 
-/// Something that is asked of the text of a case.
+/// A question that can be asked of the text of a case.
 pub(crate) trait Question {
     /// The answer as text.
     fn answer(&self, alloc: Global, asked: &str) -> Result<String, Fail>;

@@ -7,11 +7,11 @@ use std::test::Fail;
 use tb_core::Totals;
 use tb_report::{Freq, csv_freq, csv_moves, csv_totals};
 
-/// Keys, with a bar between each two.
+/// Keys, separated by bars.
 const KEYS: &str =
     "plain|two words|a,b|say \"x\"|line\nfeed|ж|книга|北京|שלום|_|=1+1|\ttab| lead||é|ü,ß|\"|two words|a,b|say \"x\"|ж|книга|北京|_|=1+1|\ttab||é|ü,ß|two words|a,b|ж|книга|_|=1+1||é|two words|ж|_||fifteen letters|sixteen, letters|sixteen, letterz|достопримечательность|fifteen letters|sixteen, letters|достопримечательность|достопримечательность|достопримечательность|достопримечательность|fifteen letter";
 
-/// Their table, as Python's `csv` module wrote it: `csv.writer(file, lineterminator="\n")`, the rows sorted by
+/// Their table, as Python's `csv` module wrote it: `csv.writer(file, lineterminator="\n")`, with the rows sorted by
 /// `(-count, key.encode())`.
 const TABLE: &str =
     "key,count\nдостопримечательность,5\n,4\n_,4\ntwo words,4\nж,4\n=1+1,3\n\"a,b\",3\né,3\nкнига,3\n\ttab,2\nfifteen letters,2\n\"say \"\"x\"\"\",2\n\"sixteen, letters\",2\n\"ü,ß\",2\n北京,2\n lead,1\n\"\"\"\",1\nfifteen letter,1\n\"line\nfeed\",1\nplain,1\n\"sixteen, letterz\",1\nשלום,1\n";
@@ -38,7 +38,7 @@ fn keys_of_many_scripts(rt: HostRuntime) -> Result<(), Fail> {
     Ok(())
 }
 
-/// Totals, as the same module wrote them: all in a batch that was withdrawn.
+/// Totals, as the same module wrote them. All of them are in a batch that was withdrawn.
 const TOTALS: &str = "\
     state,sentences,words\n\
     open,0,0\n\
@@ -48,8 +48,8 @@ const TOTALS: &str = "\
     released,0,0\n\
     withdrawn,2,4\n";
 
-/// Moves, with a bar between each two: a batch of two sentences, which are pulled, one of them restored and pulled again; one
-/// move of each other kind; and moves of users whose names no desk takes.
+/// Moves, separated by bars: a batch of two sentences, which are pulled, one of them restored and pulled again; one
+/// move of each other kind; and moves by users whose names no desk accepts.
 const MOVES: &str =
     "1 import 1 0 none open 2 0 4 ann|2 pull 1 2 open withdrawn 1 1 1 dan|3 assign 1 0 open assigned 1 3 3 ann|4 restore 1 2 withdrawn assigned 1 1 1 dan|5 pull 1 2 assigned withdrawn 1 1 1 dan|6 withdraw 1 0 assigned withdrawn 1 3 3 cem|7 reopen 1 0 withdrawn open 1 3 3 ben|8 pull 1 1 open withdrawn 1 3 3 dan|9 assign 1 0 open assigned 0 0 0 ben|10 unassign 1 0 assigned open 0 0 0 ben|11 correct 2 3 assigned assigned 1 3 4 ann|12 submit 2 0 assigned submitted 1 4 4 ann|13 send-back 2 0 submitted assigned 1 4 4 ben|14 adjudicate 2 0 submitted adjudicated 1 4 4 ben|15 release 2 0 adjudicated released 1 4 4 cem|18446744073709551615 submit 1 0 assigned submitted 1 18446744073709551615 0 a,b|18446744073709551615 submit 1 0 assigned submitted 1 18446744073709551615 0 say␣\"x\"|18446744073709551615 submit 1 0 assigned submitted 1 18446744073709551615 0 line\nfeed|18446744073709551615 submit 1 0 assigned submitted 1 18446744073709551615 0 книга|18446744073709551615 submit 1 0 assigned submitted 1 18446744073709551615 0 北京|18446744073709551615 submit 1 0 assigned submitted 1 18446744073709551615 0 שלום|18446744073709551615 submit 1 0 assigned submitted 1 18446744073709551615 0 =1+1|18446744073709551615 submit 1 0 assigned submitted 1 18446744073709551615 0 -|18446744073709551615 submit 1 0 assigned submitted 1 18446744073709551615 0 ␣lead|18446744073709551615 submit 1 0 assigned submitted 1 18446744073709551615 0 \ttab|18446744073709551615 submit 1 0 assigned submitted 1 18446744073709551615 0 \"|18446744073709551615 submit 1 0 assigned submitted 1 18446744073709551615 0 |18446744073709551615 submit 1 0 assigned submitted 1 18446744073709551615 0 é,␣ü";
 

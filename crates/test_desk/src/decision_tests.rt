@@ -1,5 +1,5 @@
-//! Decisions against the table of events, with the worker and with another user: 8 events, 6 states. What is expected was
-//! made from the table by another program.
+//! Decisions compared with the table of events, for the worker and for another user: 8 events, 6 states. Another
+//! program made the expected answers from the table.
 
 use crate::cases::{Question, assert_answers};
 use crate::reading::{event_named, number, state_named, word_at};
@@ -7,9 +7,9 @@ use std::alloc::Global;
 use std::test::Fail;
 use tb_core::{Refusal, decide_correct, decide_event, decide_pull, decide_restore, good_name};
 
-/// What is decided of the words of a case: an event in a state, by a user, where `ann` is the worker; a correction in a
-/// state, of the worker, by a user, on a base of a current number; a pull or a restore, in a state, of a sentence that is
-/// pulled or not; a name.
+/// The decision for the words of a case. The worker is `ann`. A case is an event in a state, by a user; a correction
+/// in a state, by a user, of a base and a current number; a pull or a restore, in a state, of a sentence that is
+/// pulled or not; or a name.
 struct Decision;
 
 fn done_or(alloc: Global, decision: Result<(), Refusal>) -> Result<String, Fail> {
@@ -48,7 +48,8 @@ impl Question for Decision {
     }
 }
 
-/// Of corrections, the first refusal is told where several hold: the state before the user, the user before the base.
+/// Where several refusals of a correction hold, the first is reported: the state before the user, the user before the
+/// base.
 const CASES: &str = "\
     assign open ann => assigned Caller\n\
     assign open ben => assigned Caller\n\

@@ -1,5 +1,5 @@
-//! Commands that would be accepted but for the faults that the words of a case name, told by their parts in the order in
-//! which a desk asks them.
+//! Commands that are accepted without the faults that a case names. The parts of the machine judge them, in the order
+//! in which a desk asks these parts.
 
 use crate::cases::Question;
 use crate::reading::{event_named, word_at};
@@ -21,10 +21,10 @@ const LIMITS: Limits = Limits {
 const SECOND: &str =
     "# sent_id = stay\n# text = Stay\n1\tStay\tstay\tVERB\t_\t_\t0\troot\t_\t_\n\n";
 
-/// The sentence that a correction is to correct.
+/// The sentence that a correction corrects.
 const STANDING: &str = "# sent_id = go\n# text = Go\n1\tGo\tgo\tVERB\t_\t_\t0\troot\t_\t_\n\n";
 
-/// What is told of a command with the faults of a case.
+/// What is reported for a command with the faults of a case.
 pub(crate) struct Faulty;
 
 impl Question for Faulty {
@@ -44,12 +44,12 @@ fn has(asked: &str, fault: &str) -> bool {
     asked.split(' ').any(|word| word == fault)
 }
 
-/// The first where the case names the fault, else the second.
+/// The first value where the case names the fault, else the second.
 fn either<T: Copy>(asked: &str, fault: &str, faulty: T, fine: T) -> T {
     if has(asked, fault) { faulty } else { fine }
 }
 
-/// The one sentence of the body. Without a fault it differs from the standing one in its lemma alone.
+/// The one sentence of the body. Without a fault it differs from the stored one only in its lemma.
 fn sentence_text(alloc: Global, asked: &str) -> Result<String, AllocError> {
     let name = either(asked, "id", "gone", "go");
     let form = either(asked, "text", "Went", "Go");
@@ -74,7 +74,7 @@ fn body_text(alloc: Global, asked: &str) -> Result<String, Fail> {
     Ok(body)
 }
 
-/// An event of a batch: its worker may ask for it, or only others may.
+/// An event on a batch. Either only its worker may ask for it, or only others may.
 fn event_reported(alloc: Global, asked: &str) -> Result<String, Fail> {
     let event = event_named(word_at(asked, 0))?;
     let by_worker = event == Event::Submit;
@@ -102,7 +102,7 @@ fn event_reported(alloc: Global, asked: &str) -> Result<String, Fail> {
     }
 }
 
-/// What the name of an import has found: nothing, another import, or this one.
+/// What the desk finds under the name of an import: nothing, another import, or this one.
 fn name_found(asked: &str) -> NameFound {
     if has(asked, "again") {
         NameFound::Same(Imported {
@@ -138,7 +138,8 @@ fn import_reported(alloc: Global, asked: &str, body: &[u8]) -> Result<String, Fa
     }
 }
 
-/// The sentence that a correction is to correct, with its second revision on which the correction is made, or with a third.
+/// The sentence that a correction corrects. Its current revision is the second, on which the correction is made, or
+/// the third.
 fn current_found<'a>(asked: &str, body: &'a [u8]) -> CurrentFound<'a> {
     let again = has(asked, "again");
     let state = either(asked, "own", State::Submitted, State::Assigned);
@@ -175,7 +176,7 @@ fn correction_reported(alloc: Global, asked: &str, body: &[u8]) -> Result<String
     }
 }
 
-/// A pull of a sentence, or a restore, of which one that is not pulled is the fault `here`.
+/// A pull or a restore of a sentence. The fault `here` of a restore is that the sentence is not pulled.
 fn pull_reported(alloc: Global, asked: &str) -> Result<String, Fail> {
     let restores = has(asked, "restore");
     let state = either(asked, "state", State::Withdrawn, State::Submitted);

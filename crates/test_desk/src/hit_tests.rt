@@ -30,7 +30,7 @@ const GO: &str = "\
     1\tGo\tgo\tVERB\t_\t_\t0\troot\t_\t_\n\
     \n";
 
-/// A range of words, whose row is no word.
+/// A sentence with a range of words, whose row is no word.
 const SEA: &str = "\
     # sent_id = s2\n\
     # text = vámonos al mar\n\
@@ -53,7 +53,7 @@ const LEMMAS: &str = "\
     5\tz\tc,\"d\"\tX\t_\t_\t1\tdep\t_\t_\n\
     \n";
 
-/// Writes the keyword line of a hit, and counts its key.
+/// Writes the keyword line of a hit, and counts the hit's key.
 fn report(
     rt: &impl Abort,
     alloc: Global,

@@ -5,7 +5,7 @@ use std::alloc::Global;
 use std::test::Fail;
 use tb_cli::{Line, LineFault};
 
-/// What words say, the program's name left out. They are cut at spaces; `␣` stands for a space in a word, and `∅` for an
+/// What words say, without the program's name. Spaces separate the words; `␣` represents a space in a word, and `∅` an
 /// empty word.
 struct Words;
 
@@ -29,7 +29,7 @@ impl Question for Words {
     }
 }
 
-/// Each command; values of the wrong form; words that clap refuses; help and the version; no word at all.
+/// Each command; values without their form; words that clap refuses; help and the version; no word at all.
 const LINES: &str = "\
     check => Check\n\
     new --db F => New { db: \"F\" }\n\

@@ -1,13 +1,14 @@
-//! The order of tests: each fault of a command alone, and each pair of faults that can hold at once, of which the first is
-//! told. What is expected was made from the order by another program.
+//! The order of tests: each fault of a command alone, and each pair of faults that can hold at once, of which the
+//! first is reported. Another program made the expected answers from the order.
 
 use crate::cases::assert_answers;
 use crate::faulty::Faulty;
 use std::test::Fail;
 
-/// An event that the worker alone asks for, and one that only others do, of which `worker` is the wrong one; an import and a
-/// correction, in whose body a line that cannot be read stands behind the sentences, of which the first breaks the rule; a
-/// pull and a restore. A repeated correction is always stale and changes nothing, so these two come with it.
+/// An event that only the worker may ask for, and one that only others may; `worker` is the wrong user. An import and
+/// a correction, in whose body a line that cannot be read follows the sentences, and the first sentence breaks the
+/// rule. A pull and a restore. A repeated correction is always stale and changes nothing, so these two faults come
+/// with it.
 const CASES: &str = "\
     submit => submitted\n\
     submit name => refused 1 BadName\n\

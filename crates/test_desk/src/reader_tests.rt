@@ -1,10 +1,10 @@
-//! Requests cut short, and readers that give one byte a read and then fail.
+//! Requests that are cut short, and readers that give one byte a read and then fail.
 
 use crate::requests::reported_by;
 use std::io::{self, ErrorKind, Read};
 use std::test::Fail;
 
-/// Gives one byte a read, and fails after the last.
+/// Gives one byte a read, and fails after the last one.
 #[derive(Drop)]
 struct Drip<'a> {
     rest: &'a [u8],
@@ -37,7 +37,7 @@ const REQUEST: &str = "\
 
 const TAKEN: &str = "Import { name: \"b1\" } by \"ann\" with 150";
 
-/// The reader that fails at its last read is never asked for it: nothing is read after the body.
+/// The reader would fail at the read after its last byte, but nothing is read after the body.
 #[test]
 fn requests_cut_short_or_broken_off(rt: HostRuntime) -> Result<(), Fail> {
     let alloc = rt.alloc();

@@ -1,4 +1,4 @@
-//! Whether desks replay, and what their totals are.
+//! Whether the rows of desks replay, and what their totals are.
 
 use crate::cases::{Question, assert_answers};
 use crate::rows::{batches_reported, entries_reported, moves_reported};
@@ -27,10 +27,10 @@ impl Question for Desk {
     }
 }
 
-/// An import, an assignment, a correction, a pull and a submission, as they come; then the same with one word changed: the
-/// number of words of a revision, its user, a missing revision, the flag of the pulled sentence, the state and the worker
-/// of the batch, the worker's own adjudication, sentences that the import does not name; a restore, to its batch and to
-/// another state; and a restore and a correction of a sentence that is not the first.
+/// An import, an assignment, a correction, a pull and a submission, in this order. Then the same with one word
+/// changed: the number of words of a revision, its user, a missing revision, the flag of the pulled sentence, the
+/// state and the worker of the batch, the worker's own adjudication, sentences that the import does not name. Then a
+/// restore, to its batch and to another state; and a restore and a correction of a sentence that is not the first.
 const DESKS: &str = "\
     a submitted ann | 1 in bob:3 ann:4; 1 out bob:5 | import 1 0 none open 2 0 8 bob; assign 1 0 open assigned 2 8 8 ann; correct 1 1 assigned assigned 1 3 4 ann; pull 1 2 assigned withdrawn 1 5 5 cy; submit 1 0 assigned submitted 1 4 4 ann => true [0, 0, 1, 0, 0, 1] [0, 0, 4, 0, 0, 5]\n\
     a submitted ann | 1 in bob:3 ann:5; 1 out bob:5 | import 1 0 none open 2 0 8 bob; assign 1 0 open assigned 2 8 8 ann; correct 1 1 assigned assigned 1 3 4 ann; pull 1 2 assigned withdrawn 1 5 5 cy; submit 1 0 assigned submitted 1 4 4 ann => false [0, 0, 1, 0, 0, 1] [0, 0, 5, 0, 0, 5]\n\

@@ -7,7 +7,7 @@ use std::test::Fail;
 use tb_core::{Corrected, Imported, Moved, Pulled, Restored, State};
 use tb_http::{Allow, Extra, Reply, RequestFault, Status, head_of_reply, response_head};
 
-/// A reply by a name, or by the number and the words of a refusal.
+/// A reply, by a name, or by the number and the words of a refusal.
 fn reply_named(name: &str) -> Result<Reply, Fail> {
     Ok(match name {
         "imported" => Reply::Imported(Imported {

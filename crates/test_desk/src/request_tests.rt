@@ -15,8 +15,9 @@ impl Question for Request {
     }
 }
 
-/// Heads and users; lengths and bodies; paths and methods; no header, 32 and 33; and all 64 sets of six faults, of which the
-/// first is told: two users, a coding, an unknown path, a wrong method, a body too long, a body too short.
+/// Heads and users; lengths and bodies; paths and methods; no header, 32 and 33. Then all 64 sets of six faults, of
+/// which the first is reported: two users, a coding, an unknown path, a wrong method, a body too long, a body too
+/// short.
 const REQUESTS: &str = "\
     GET /totals HTTP/1.1¶¶ => Totals by \"\" with 0\n\
     GET /totals HTTP/1.1¶¶more => Totals by \"\" with 0\n\

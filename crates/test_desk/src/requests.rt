@@ -1,12 +1,13 @@
-//! Requests as texts, and what they ask as a text.
+//! Requests as texts, and what they ask, as text.
 
 use std::alloc::{AllocError, Global};
 use std::io::Read;
 use std::test::Fail;
 use tb_http::{Ask, AskFault, HEAD_BYTES, Reply, RequestFault, Routes, read_ask};
 
-/// The bytes of a text in which `¶` stands for CR LF, `␊` for a lone LF, `␉` for a tab, `ÿ` for the byte 255, and `…` for
-/// 8,162 letters.
+/// The bytes of a text. In it `
+///
+/// ` represents CR LF, `␊` a lone LF, `␉` a tab, `ÿ` the byte 255, and `…` 8,162 letters.
 pub(crate) fn bytes_of(alloc: Global, text: &str) -> Result<Vec<u8>, AllocError> {
     let mut all = Vec::new(alloc);
     for sign in text.chars() {
@@ -22,7 +23,7 @@ pub(crate) fn bytes_of(alloc: Global, text: &str) -> Result<Vec<u8>, AllocError>
     Ok(all)
 }
 
-/// The status and the line of a fault, and the methods that are told with it.
+/// The status and the line of a fault, and the methods that are answered with it.
 fn fault_text(alloc: Global, fault: RequestFault) -> Result<String, Fail> {
     let reply = Reply::Faulty(fault);
     let status = reply.status();

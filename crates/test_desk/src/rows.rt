@@ -1,9 +1,9 @@
 //! A desk in one line of text, read as rows.
 //!
-//! `BATCHES | SENTENCES | MOVES`, each list separated by `; `. A batch is `NAME STATE WORKER` or `NAME STATE`, a sentence
-//! `BATCH PLACE USER:WORDS USER:WORDS ..` with `in` or `out` for its place, a move
-//! `KIND BATCH SENTENCE FROM TO SENTENCES WORDS_OUT WORDS_IN USER`; `none` stands for no state,
-//! and `␣` for a space in the name of a user.
+//! `BATCHES | SENTENCES | MOVES`, each list separated by `; `. A batch is `NAME STATE WORKER` or `NAME STATE`. A
+//! sentence is `BATCH PLACE USER:WORDS USER:WORDS ..`, with `in` or `out` for its place. A move is `KIND BATCH
+//! SENTENCE FROM TO SENTENCES WORDS_OUT WORDS_IN USER`. `none` represents no state, and `␣` a space in the name of a
+//! user.
 
 use crate::reading::{event_named, number, state_named, word_at};
 use std::alloc::Global;
@@ -65,7 +65,7 @@ pub(crate) fn entries_reported<'a>(
     Ok(entries)
 }
 
-/// The move of this number that words tell.
+/// The move with this number, from the words of a row.
 pub(crate) fn move_reported(alloc: Global, no: u64, row: &str) -> Result<Move, Fail> {
     let from = match word_at(row, 3) {
         "none" => None,

@@ -1,11 +1,11 @@
-//! Files and corrections, taken as sentences that own their texts.
+//! Files and corrections, read into sentences that own their texts.
 
 use std::alloc::Global;
 use std::test::Fail;
 use tb_conllu::{Block, write};
 use tb_core::{take_file, take_one};
 
-/// Two sentences, of which the first is corrected.
+/// Two sentences. The first one is corrected.
 const FILE: &str = "\
     # sent_id = s1\n\
     # text = Dogs bark\n\

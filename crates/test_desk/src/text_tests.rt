@@ -1,4 +1,4 @@
-//! The texts of refusals and faults, and the words for states, events and kinds, as they stand in replies and tables.
+//! The texts of refusals and faults, and the words for states, events and kinds, as replies and tables have them.
 
 use crate::cases::{Question, assert_answers};
 use crate::reading::{refusal_named, word_at};
@@ -7,7 +7,7 @@ use std::alloc::Global;
 use std::test::Fail;
 use tb_core::Fault;
 
-/// The text of a fault, and the number of a refusal before it; the word of a kind.
+/// The text of a fault, after the number of a refusal; and the word of a kind.
 struct Texts;
 
 impl Question for Texts {

@@ -1,4 +1,4 @@
-//! Totals kept from move to move.
+//! Totals that are kept from move to move.
 
 use crate::cases::{Question, assert_answers};
 use crate::rows::move_reported;
@@ -12,8 +12,8 @@ use tb_core::{
 };
 use tb_replay::{reached_states_are_fine, replay_is_exact};
 
-/// The totals after moves that `; ` separates, beginning with none: sentences and words of each state; or that one is not
-/// taken.
+/// The totals after moves that `; ` separates, from none on: the sentences and words of each state. Or `not taken`,
+/// where a move is not accepted.
 struct After;
 
 impl Question for After {
@@ -33,8 +33,9 @@ impl Question for After {
     }
 }
 
-/// A file of three words through its states to release; a correction that adds a word; a pull and a restore; a withdrawal;
-/// then moves that a state does not have, or that pass 64 bits, also where they leave and come to the same state.
+/// A file of three words through its states to release; a correction that adds a word; a pull and a restore; a
+/// withdrawal. Then moves that a state does not allow, or that exceed 64 bits, also where they leave and enter the
+/// same state.
 const TOTALS: &str = "\
     import 1 0 none open 1 0 3 ann; import 1 0 open assigned 1 3 3 ann; import 1 0 assigned submitted 1 3 3 ann; import 1 0 submitted adjudicated 1 3 3 ann; import 1 0 adjudicated released 1 3 3 ann => [0, 0, 0, 0, 1, 0] [0, 0, 0, 0, 3, 0]\n\
     import 1 0 none open 1 0 3 ann; import 1 0 open assigned 1 3 3 ann; import 1 0 assigned assigned 1 3 4 ann => [0, 1, 0, 0, 0, 0] [0, 4, 0, 0, 0, 0]\n\
@@ -54,7 +55,7 @@ fn totals_follow_moves(rt: HostRuntime) -> Result<(), Fail> {
     assert_answers(&rt, rt.alloc(), &After, TOTALS, 12)
 }
 
-/// The laws run nothing; each is called once.
+/// The laws run no code; each is called once.
 #[test]
 fn laws_are_called(rt: HostRuntime) -> Result<(), Fail> {
     reached_states_are_well();
