@@ -1,4 +1,4 @@
-//! Commands of a desk and questions to it, and what stands after them, each as a line of text.
+//! Commands of a desk and questions to it, and what the desk holds after them, each as a line of text.
 
 use crate::files::body_of;
 use crate::telling::reported;
@@ -25,7 +25,7 @@ pub(crate) fn number_at(line: &str, place: usize) -> Result<u64, Fail> {
     Ok(word_at(line, place).parse::<u64>().ok().ok_or("a number")?)
 }
 
-/// The query that follows three words; `phrases` stands for that of noun phrases.
+/// The query that follows three words; `phrases` means the query of noun phrases.
 fn query_of(alloc: Global, line: &str) -> Result<Query, Fail> {
     let text = line.splitn(4, ' ').nth(3).ok_or("a query")?;
     let text = if *text == *"phrases" {
@@ -67,7 +67,7 @@ fn command_of<'a>(line: &'a str, body: &'a [u8]) -> Result<DeskCommand<'a>, Fail
     }
 }
 
-/// What a command is answered.
+/// The answer to a command.
 fn commanded<S: Alter>(alloc: Global, desk: &mut Desk<S>, line: &str) -> Result<String, Fail> {
     let place = if *word_at(line, 0) == *"correct" {
         4
@@ -89,7 +89,7 @@ fn revised<S: Alter>(alloc: Global, desk: &mut Desk<S>, line: &str) -> Result<St
     )
 }
 
-/// An answer and the text that came with it, on one line: `/` stands for a tab, and `;` for the end of a line.
+/// An answer and the text that came with it, on one line: `/` replaces a tab, and `;` the end of a line.
 fn shown(alloc: Global, answer: String, out: &[u8]) -> Result<String, Fail> {
     let text = str::from_utf8(out)?.replace(alloc, "\t", "/")?;
     let mut line = answer;
@@ -164,7 +164,7 @@ pub(crate) fn obeyed<S: Alter>(
     }
 }
 
-/// Adds the lines of a table but its head and what ends so, each after a space.
+/// Appends the lines of a table, each after a space, without the header and without those that end in `but`.
 fn push_lines(text: &mut String, table: &[u8], but: &str) -> Result<(), Fail> {
     for line in str::from_utf8(table)?.lines().skip(1) {
         if !line.ends_with(but) {
@@ -175,7 +175,7 @@ fn push_lines(text: &mut String, table: &[u8], but: &str) -> Result<(), Fail> {
     Ok(())
 }
 
-/// The totals that are not nothing, and the moves, each after a space.
+/// Appends the totals that are not zero, and the moves, each after a space.
 fn push_standing(
     alloc: Global,
     text: &mut String,
@@ -190,7 +190,7 @@ fn push_standing(
     push_lines(text, table.as_slice(), "\n")
 }
 
-/// The totals that are not nothing, and the moves; or why they are not told.
+/// The totals that are not zero, and the moves; or why the desk does not answer.
 fn standing<S: Alter>(alloc: Global, desk: &mut Desk<S>) -> Result<String, Fail> {
     let totals = match desk.totals() {
         Ok(totals) => totals,

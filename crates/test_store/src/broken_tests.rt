@@ -1,4 +1,4 @@
-//! One request whose reader or writer fails: it gives one byte at a time, and fails at each.
+//! One request whose reader or writer fails. It gives or takes one byte at a time, and fails at each.
 
 ghost use Rattle.std.specs.Prelude.{◌≡◌, [], None, Some};
 
@@ -17,7 +17,7 @@ const IMPORT: &str = "POST /batches/b1 HTTP/1.1¶Host: x¶Desk-User: ann¶Conten
 const IMPORTED: &str =
     "HTTP/1.1 200 OK§45¶Connection: close¶¶imported batch=1 first=1 sentences=1 words=3␊";
 
-/// Gives bytes one at a time, and fails in place of their end.
+/// Gives bytes one at a time, and fails instead of their end.
 #[derive(Drop)]
 struct Dripping<'a> {
     bytes: &'a [u8],
@@ -44,8 +44,8 @@ impl<'a> Source for Dripping<'a> {
     }
 }
 
-/// Where the reader fails before the last byte, nothing is written and nothing is done; with the last byte the
-/// request is answered, and no further read is made, which would fail.
+/// Where the reader fails before the last byte, nothing is written and nothing is done. With the last byte the request
+/// is answered, and there is no further read, which would fail.
 #[test]
 fn a_reader_that_fails_at_each_byte(rt: HostRuntime) -> Result<(), Fail> {
     let alloc = rt.alloc();
@@ -69,7 +69,7 @@ fn a_reader_that_fails_at_each_byte(rt: HostRuntime) -> Result<(), Fail> {
     Ok(())
 }
 
-/// Where the writer fails, the batch is there all the same, and the same request again is answered as before.
+/// Where the writer fails, the batch is imported all the same, and the same request again is answered as before.
 #[test]
 fn a_writer_that_fails_at_each_byte(rt: HostRuntime) -> Result<(), Fail> {
     let alloc = rt.alloc();

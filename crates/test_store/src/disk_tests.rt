@@ -1,4 +1,4 @@
-//! Desks in files, on a disk in memory: one is made, left and found again, and what is none is refused.
+//! Desks in files, on a disk in memory. One is made, left and opened again, and a file that is no desk is refused.
 
 ghost use Rattle.std.specs.Prelude.{◌≡◌, IfOk, IsTrue, false};
 ghost use Rattle.sqlite_disk.specs.Memory.{memory_is_usable};
@@ -79,10 +79,10 @@ fn migrate(alloc: Global, db: Memory) -> Result<Result<Desk<Store>, Fault>, Fail
     Ok(desk_or_fault(Desk::migrate(alloc, conn, LIMITS)))
 }
 
-/// What a desk with one batch tells.
+/// What a desk with one batch holds.
 const STANDING: &str = "desk open,1,3 1,import,1,0,none,open,1,0,3,ann";
 
-/// The file of a desk with one batch, which was open before and after its import.
+/// The file of a desk with one batch. The desk was open before and after its import.
 fn one_batch(rt: &impl Abort, alloc: Global) -> Result<Memory, Fail>
     ensures { IfOk result (λ db. IsTrue (memory_is_usable db)) }
 {
@@ -99,7 +99,7 @@ fn one_batch(rt: &impl Abort, alloc: Global) -> Result<Memory, Fail>
     leave(desk)
 }
 
-/// A desk that was left is found again as it was, and is open.
+/// A desk that was left is opened again as it was, and is open.
 #[test]
 fn a_desk_is_left_and_adopted(rt: HostRuntime) -> Result<(), Fail> {
     let alloc = rt.alloc();
@@ -123,7 +123,7 @@ fn a_blank_file_is_no_desk(rt: HostRuntime) -> Result<(), Fail> {
     Ok(())
 }
 
-/// A desk is not made over another, and is none of version 1.
+/// A desk is not made over another, and a desk of today is none of version 1.
 #[test]
 fn a_desk_is_not_made_twice(rt: HostRuntime) -> Result<(), Fail> {
     let alloc = rt.alloc();

@@ -21,7 +21,7 @@ const CANNOT: &str = "\
 
 ";
 
-/// The same sentence, its second word taken apart.
+/// The same sentence, with its second word split.
 const CAN_NOT: &str = "\
 # sent_id = s4
 # text = I cannot.
@@ -66,7 +66,7 @@ const LETTERS: &str = "\
 
 ";
 
-/// The file with this name; nothing for any other.
+/// The file with this name; empty for any other name.
 fn file_named(name: &str) -> &'static str {
     match name {
         "dogs" => DOGS,
@@ -79,7 +79,7 @@ fn file_named(name: &str) -> &'static str {
     }
 }
 
-/// Adds the rows of words from 2 to 1000.
+/// Appends the rows of words 2 to 1000.
 fn push_rows(alloc: Global, text: &mut String) -> Result<(), Fail> {
     for place in 2..=1000u32 {
         let row = format!(in alloc; "{place}\tw\tw\tX\t_\t_\t1\tdep\t_\t_\n")?;
@@ -100,12 +100,12 @@ fn thousand(alloc: Global) -> Result<String, Fail> {
     Ok(text)
 }
 
-/// What stands at a place, from 0, between colons.
+/// The part at a place, from 0, between colons.
 fn part_at(text: &str, place: usize) -> &str {
     text.split(':').nth(place).unwrap_or("")
 }
 
-/// A file, as `dogs`, or with one text in the place of another, as `dogs:dog:cat`.
+/// A file, as `dogs`, or with one text replaced by another, as `dogs:dog:cat`.
 fn edited(alloc: Global, text: &str) -> Result<String, Fail> {
     let name = part_at(text, 0);
     if *name == *"thousand" {
@@ -118,7 +118,7 @@ fn edited(alloc: Global, text: &str) -> Result<String, Fail> {
     Ok(file.replace(alloc, part_at(text, 1), part_at(text, 2))?)
 }
 
-/// The body of such files, each after a plus.
+/// The body of such files, which pluses separate.
 pub(crate) fn body_of(alloc: Global, text: &str) -> Result<String, Fail> {
     let mut body = String::new(alloc);
     for part in text.split('+') {

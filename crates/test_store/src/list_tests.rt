@@ -1,6 +1,8 @@
-//! Lists of requests on one desk in memory, each list answered by one call. Requests and responses are written with signs: `¶`
-//! stands for CR LF, `␊` for LF, `…` for a file of one sentence, 150 bytes, and `§` for what a head says from its status to
-//! its length.
+//! Lists of requests on one desk in memory. One call answers each list. Requests and responses are written with signs:
+//! `
+//!
+//! ` represents CR LF, `␊` LF, `…` a file of one sentence, 150 bytes, and `§` what a head has from its status to its
+//! length.
 
 use crate::files::DOGS;
 use crate::server::Server;
@@ -12,7 +14,8 @@ use tb_conllu::Sink;
 
 const HEAD: &str = "¶Content-Type: text/plain; charset=utf-8¶Content-Length: ";
 
-/// An import, twice, and all that is asked of its batch up to the release; requests that are refused among them.
+/// An import, twice, and everything that may be asked of its batch up to the release, with requests that are refused
+/// in between.
 const ASKED: &str = "\
     POST /batches/b1 HTTP/1.1¶Host: x¶Desk-User: ann¶Content-Length: 150¶¶…\n\
     POST /batches/b1 HTTP/1.1¶Desk-User: bea¶Content-Length: 150¶¶…\n\
@@ -63,12 +66,12 @@ const COMMANDS: &str = "\
     POST /batches/b1/assign HTTP/1.1¶Desk-User: ann¶¶\n\
     POST /batches/b1/submit HTTP/1.1¶Desk-User: ann¶¶";
 
-/// The response to the first of them, and 74 bytes of that to the second: 218 bytes.
+/// The response to the first of them, and 74 bytes of the response to the second: 218 bytes.
 const CUT: &str = "\
     HTTP/1.1 200 OK§45¶Connection: close¶¶imported batch=1 first=1 sentences=1 words=3␊\
     HTTP/1.1 200 OK§";
 
-/// The text with what its signs stand for.
+/// The text with its signs written out.
 pub(crate) fn plain(alloc: Global, text: &str) -> Result<String, Fail> {
     let headed = text.replace(alloc, "§", HEAD)?;
     let whole = headed.replace(alloc, "…", DOGS)?;
@@ -76,7 +79,7 @@ pub(crate) fn plain(alloc: Global, text: &str) -> Result<String, Fail> {
     Ok(ended.replace(alloc, "␊", "\n")?)
 }
 
-/// The requests that stand in lines.
+/// The requests of these lines, one each.
 fn requests_in(alloc: Global, list: &str) -> Result<Vec<Vec<u8>>, Fail> {
     let mut requests = Vec::new(alloc);
     for line in list.lines() {
@@ -85,7 +88,7 @@ fn requests_in(alloc: Global, list: &str) -> Result<Vec<Vec<u8>>, Fail> {
     Ok(requests)
 }
 
-/// Has a desk answer the requests that stand in lines, and gives what is told of it.
+/// Has a desk answer the requests of these lines. Returns how that ended.
 fn answer_lines<W: Sink>(
     alloc: Global,
     server: &mut Server,

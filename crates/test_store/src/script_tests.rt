@@ -1,4 +1,4 @@
-//! Scripts are obeyed line by line, each on a desk in memory.
+//! Runs scripts line by line, each on a desk in memory.
 
 use crate::asking::{number_at, obeyed};
 use crate::scripts::{BODIES, REFUSALS, SEARCHES, WORK};
@@ -20,7 +20,7 @@ fn new_desk(alloc: Global, line: &str) -> Result<Desk<MemStore>, Fail> {
     Ok(Desk::in_memory(alloc, limits)?)
 }
 
-/// Asserts the answer to a line, with each of the bodies where it names `BODY`.
+/// Asserts the answer to a line. Where the line has `BODY`, each of the bodies takes its place.
 fn assert_case(
     rt: &impl Abort,
     alloc: Global,
@@ -57,7 +57,7 @@ fn scripts_are_answered(rt: HostRuntime) -> Result<(), Fail> {
     Ok(())
 }
 
-/// What releases `book`.
+/// The commands that release `book`.
 const RELEASED: &str = "\
     import b6 ann book\n\
     assign b6 ann\n\
@@ -65,7 +65,7 @@ const RELEASED: &str = "\
     adjudicate b6 ben\n\
     release b6 cem\n";
 
-/// What is found there.
+/// What a search finds there.
 const FOUND: &str =
     "s6/3/3/the old/book/on the;s6/6/6/on the/table/in the;s6/9/9/in the/room/;hits 3;";
 
@@ -73,7 +73,7 @@ const STANDING: &str = "\
     desk released,1,9 1,import,1,0,none,open,1,0,9,ann 2,assign,1,0,open,assigned,1,9,9,ann 3,submit,1,0,assigned,submitted,1,9,9,ann \
     4,adjudicate,1,0,submitted,adjudicated,1,9,9,ben 5,release,1,0,adjudicated,released,1,9,9,cem";
 
-/// Asserts that a search writes what there is room for, and that it says so.
+/// Asserts that a search writes as much as there is room for, and reports that.
 fn assert_cut(
     rt: &impl Abort,
     alloc: Global,

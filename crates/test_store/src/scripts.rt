@@ -1,7 +1,7 @@
-//! Commands and questions, each with its answer. A script is for a new desk, whose limits of sentences, moves and hits stand in its
-//! first line; an empty line stands between two.
+//! Commands and questions, each with its answer. A script is for a new desk. Its first line has the desk's limits of
+//! sentences, moves and hits. An empty line separates two scripts.
 
-/// Batches led through their states, with corrections and pulls.
+/// Batches that go through their states, with corrections and pulls.
 pub(crate) const WORK: &str = "\
     1000 1000 1000\n\
     import b1 ann nothing => refused 10 Empty\n\
@@ -94,7 +94,7 @@ pub(crate) const WORK: &str = "\
     import b1 ann go => imported batch=1 first=1 sentences=1 words=1\n\
     import b2 ann dogs => refused 17 Full\n";
 
-/// What is found in released text, and in no other.
+/// What searches find in released text, and in no other.
 pub(crate) const SEARCHES: &str = "\
     1000 1000 15\n\
     import b6 ann book => imported batch=1 first=1 sentences=1 words=9\n\
@@ -199,12 +199,12 @@ pub(crate) const SEARCHES: &str = "\
     release b9 cem => moved batch=1 state=released sentences=1 words=1000\n\
     number every of []* => refused 22 TooManyHits\n";
 
-/// What `BODY` stands for: bodies that a correction of `dogs` refuses, one for each reason, two for several reasons, and one that
-/// only a full desk refuses.
+/// The texts that replace `BODY`: bodies that a correction of `dogs` refuses, one for each reason, two for several
+/// reasons, and one that only a full desk refuses.
 pub(crate) const BODIES: &str = "\
     go:0:x dogs:NOUN:NN+go:0:x dogs:NOUN:NN dogs+dogs nothing dogs+go go dogs:.:! dogs dogs:dog:cat";
 
-/// Commands that are refused for two reasons or more, on desks that have no room for another move.
+/// Commands that are refused for two reasons or more, on desks without room for another move.
 pub(crate) const REFUSALS: &str = "\
     1 1 1000\n\
     import b1 ann dogs => imported batch=1 first=1 sentences=1 words=3\n\

@@ -1,5 +1,5 @@
-//! A desk in memory that is asked over HTTP. What is proved of its calls is not read again at each place that makes
-//! them, which keeps a test cheap to prove: it asserts what comes while it runs.
+//! A desk in memory that answers requests. The contracts of its calls are not repeated at each place that makes them,
+//! which keeps a test cheap to prove. A test asserts at run time what it gets.
 
 use sqlite::MemStore;
 use std::alloc::Global;

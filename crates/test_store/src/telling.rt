@@ -1,11 +1,11 @@
-//! What is asserted, as text.
+//! What tests assert, as text.
 
 use std::alloc::Global;
 use std::fmt::{Debug, Display};
 use std::process::Abort;
 use std::test::Fail;
 
-/// The value, or the error as it is told.
+/// The value, or the text of the error.
 pub(crate) fn reported<T: Debug + Drop, E: Display + Drop>(
     alloc: Global,
     answer: Result<T, E>,
@@ -16,7 +16,7 @@ pub(crate) fn reported<T: Debug + Drop, E: Display + Drop>(
     }
 }
 
-/// Asserts that this was told of a question.
+/// Asserts that the answer to a question is this text.
 pub(crate) fn assert_reported(rt: &impl Abort, reported: &str, wanted: &str, of: &str) {
     assert!(rt;
         *reported == *wanted,

@@ -1,5 +1,5 @@
-//! Long lists of requests, and requests one at a time: the status that is returned beside the head that is written, a
-//! sink that refuses at each place, and more hits than an answer may have.
+//! Long lists of requests, and single requests: the returned status beside the written head, a sink that refuses at
+//! each place, and more hits than an answer may have.
 
 use crate::files::{DOGS, body_of};
 use crate::server::Server;
@@ -13,7 +13,7 @@ use tb_http::Status;
 /// The events that release a batch, each with its user.
 const RELEASE: &str = "assign ann,submit ann,adjudicate ben,release cem";
 
-/// A request of a user, with this body.
+/// A request by a user, with this body.
 fn request(alloc: Global, target: &str, user: &str, body: &str) -> Result<Vec<u8>, Fail> {
     let size = body.len();
     let text = format!(in alloc;
@@ -22,7 +22,7 @@ fn request(alloc: Global, target: &str, user: &str, body: &str) -> Result<Vec<u8
     Ok(text.into_bytes())
 }
 
-/// Adds the requests that import a batch and release it.
+/// Appends the requests that import a batch and release it.
 fn push_batch(
     alloc: Global,
     requests: &mut Vec<Vec<u8>>,
@@ -86,7 +86,7 @@ fn a_hundred_batches_are_released_and_searched(rt: HostRuntime) -> Result<(), Fa
     Ok(())
 }
 
-/// Answers one request into so many bytes, and tells how it ended and what they hold.
+/// Answers one request into a buffer of this size. Returns how that ended, and the buffer.
 fn answer_into(
     alloc: Global,
     server: &mut Server,
@@ -100,8 +100,8 @@ fn answer_into(
     Ok((reported, room))
 }
 
-/// The search of a hundred sentences, whose sink refuses at each of its bytes: it holds what came before, and the
-/// desk answers the next request.
+/// The search of a hundred sentences, whose sink refuses at each of its bytes. The sink holds what came before, and
+/// the desk answers the next request.
 #[test]
 fn a_search_is_refused_at_each_byte(rt: HostRuntime) -> Result<(), Fail> {
     let alloc = rt.alloc();
@@ -124,7 +124,7 @@ fn a_search_is_refused_at_each_byte(rt: HostRuntime) -> Result<(), Fail> {
     Ok(())
 }
 
-/// Answers a request, and asserts that the status that is returned is that of the head.
+/// Answers a request, and asserts that the returned status is the one in the head.
 fn assert_answered(
     rt: &impl Abort,
     alloc: Global,
