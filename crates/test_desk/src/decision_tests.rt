@@ -7,9 +7,10 @@ use std::alloc::Global;
 use std::test::Fail;
 use tb_core::{Refusal, decide_correct, decide_event, decide_pull, decide_restore, good_name};
 
-/// The decision for the words of a case. The worker is `ann`. A case is an event in a state, by a user; a correction
-/// in a state, by a user, of a base and a current number; a pull or a restore, in a state, of a sentence that is
-/// pulled or not; or a name.
+/// The decision for the words of a case. The worker of an event's batch is `ann`.
+///
+/// A case is an event in a state, by a user; a correction in a state, with the batch's worker, by a user, on a base, of
+/// a current number; a pull or a restore, in a state, of a sentence that is `pulled` or not; or a name.
 struct Decision;
 
 fn done_or(alloc: Global, decision: Result<(), Refusal>) -> Result<String, Fail> {

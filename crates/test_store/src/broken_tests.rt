@@ -1,4 +1,4 @@
-//! One request whose reader or writer fails. It gives or takes one byte at a time, and fails at each.
+//! One request whose reader or writer fails, at each of its bytes. The reader gives one byte at a time.
 
 ghost use Rattle.std.specs.Prelude.{◌≡◌, [], None, Some};
 
