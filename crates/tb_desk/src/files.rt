@@ -3,7 +3,8 @@
 ghost use Rattle.std.specs.Prelude.{◌≡◌, false, IfOk, IsTrue};
 
 use crate::causes::FileCause;
-use crate::looking::{PAGE_BYTES, Version, beside, may_become_desk, version_of};
+use crate::contents::{PAGE_BYTES, Version};
+use crate::looking::{beside, may_become_desk, version_of};
 use crate::turns::Turn;
 use sqlite::{Connection, Error, ErrorCode, File, FileStore, Options};
 use sqlite_disk::{Disk, Files, Unknown};

@@ -12,6 +12,7 @@
 mod callers;
 mod causes;
 mod checking;
+mod contents;
 mod diagnostics;
 mod explaining;
 mod files;

@@ -2,6 +2,7 @@
 //! the file is no desk.
 
 use crate::causes::FileCause;
+use crate::contents::{Version, are_begun, is_blank, is_unwritten, listed_in};
 use sqlite_disk::{Disk, Files, Memory};
 use sqlite_wal::{Error, probe_frames, probe_page_size};
 use std::alloc::Global;
@@ -12,9 +13,6 @@ use std::path::PathBuf;
 /// The first bytes of a database file (the file format of SQLite, section 1.3).
 const HEADER: &[u8] = b"SQLite format 3\0";
 
-/// The bytes of a log after its first byte, which a desk writes last (section 4.1).
-const LOG_MAGIC: &[u8] = b"\x7f\x06";
-
 /// How many bytes of a file are read: the size of the largest page.
 const LOOKED_AT: u64 = 65_536;
 
@@ -23,33 +21,6 @@ const LOG_LOOKED_AT: u64 = 4_194_304;
 
 /// The greatest length of the log that an interrupted `new` leaves.
 const HALF_MADE_LOG: u64 = 1_048_576;
-
-/// How many bytes of a log precede its first page: the log's header and the page's (section 4.1).
-const BEFORE_FIRST_PAGE: usize = 56;
-
-/// The size of a page of a desk's file, in bytes.
-pub(crate) const PAGE_BYTES: u64 = 4096;
-
-/// The beginnings of the rows in which a database lists a desk's tables: the kind, the name, and the name of its
-/// table.
-const TABLES: [&str; 6] = [
-    "tablemetameta",
-    "tablebatchesbatches",
-    "tablesentencessentences",
-    "tablerevisionsrevisions",
-    "tablemovesmoves",
-    "tabletotalstotals",
-];
-
-/// The same for the table that a desk of version 1 lacks.
-const PULLED: &str = "tablepulledpulled";
-
-/// The version of a desk. Both sets of tables are in use; today's has one table more.
-#[derive(Clone, Copy, PartialEq, Eq)]
-pub(crate) enum Version {
-    One,
-    Two,
-}
 
 /// The path of a file beside another, which has this ending.
 pub(crate) fn beside(rt: &HostRuntime, path: &str, ending: &str) -> Result<String, FileCause> {
@@ -78,29 +49,6 @@ pub(crate) fn beginning(rt: &HostRuntime, path: &str, most: u64) -> Result<Vec<u
         Err(error) if error.kind() == ErrorKind::NotFound => Ok(bytes),
         Err(error) => Err(FileCause::of_system(error)),
     }
-}
-
-fn has(bytes: &[u8], text: &str) -> bool {
-    for at in 0..bytes.len() {
-        if bytes[at..].starts_with(text.as_bytes()) {
-            return true;
-        }
-    }
-    false
-}
-
-/// The version of the desk whose tables these bytes list.
-fn listed_in(bytes: &[u8]) -> Option<Version> {
-    for table in TABLES {
-        if !has(bytes, table) {
-            return None;
-        }
-    }
-    Some(if has(bytes, PULLED) {
-        Version::Two
-    } else {
-        Version::One
-    })
 }
 
 /// Whether the path has something that is no plain file, such as a link, or a pipe on which a read would wait.
@@ -187,49 +135,6 @@ pub(crate) fn version_of(rt: &HostRuntime, path: &str) -> Result<Version, FileCa
         return Err(FileCause::Journal);
     }
     listed(rt, real.as_str())
-}
-
-fn are_zero(bytes: &[u8]) -> bool {
-    for byte in bytes {
-        if *byte != 0 {
-            return false;
-        }
-    }
-    true
-}
-
-/// Whether a file has no table. It is empty, or its first page lists none, or it is the remainder of such a page that
-/// was not completely written.
-fn is_blank(head: &[u8]) -> bool {
-    if are_zero(head) {
-        return head.len() as u64 <= PAGE_BYTES;
-    }
-    let is_database = match (head.get(1..16), HEADER.get(1..16)) {
-        (Some(found), Some(wanted)) => found == wanted,
-        _ => false,
-    };
-    // Of the tree of tables on the first page: the kind of its root, which is a leaf, and its number of rows.
-    is_database
-        && head.get(100) == Some(&13)
-        && head.get(103) == Some(&0)
-        && head.get(104) == Some(&0)
-}
-
-/// Whether bytes without a readable header may be a log that a desk has left before it wrote the header.
-fn is_unwritten(log: &[u8]) -> bool {
-    match log.get(1..) {
-        Some(rest) if rest.starts_with(LOG_MAGIC) => true,
-        _ => are_zero(log.get(..4).unwrap_or(log)),
-    }
-}
-
-/// Whether the log has only the first page, and that page lists no table. `new` begins so, and may have been stopped
-/// there.
-fn are_begun(log: &[u8], pages: &[u32]) -> bool {
-    match log.get(BEFORE_FIRST_PAGE..) {
-        Some(first) => pages.len() == 1 && pages.first() == Some(&1) && is_blank(first),
-        None => false,
-    }
 }
 
 /// Whether a log has commits other than the first page that `new` writes. Bytes that are no log count as commits,

@@ -1,7 +1,8 @@
 //! Where a desk's files are, while the desk is served.
 
 use crate::causes::FileCause;
-use crate::looking::{PAGE_BYTES, beginning, beside, real};
+use crate::contents::PAGE_BYTES;
+use crate::looking::{beginning, beside, real};
 use std::fs;
 use std::io::ErrorKind;
 use std::os::unix::fs::MetadataExt;

@@ -1,0 +1,56 @@
+-- Inner: no contract beyond this crate cites a definition of this module.
+-- What the bytes of a file and of its log show of its tables (the file format of SQLite, sections 1.3, 1.6 and 4.1).
+use Rattle.std.specs.Prelude.{◌≡◌, ◌++◌, ◌⊎◌, ◌≤◌, ℕ, List, [], ◌∷◌, All, codes, length, take, drop, slice_get, Option, None, Some}
+use Rattle.memchr.specs.Find.{OccursAt}
+use Rattle.tb_desk.specs.declared.contents.Version.{Version}
+use Rattle.tb_desk.specs.declared.contents.Version.TheVariants.{One, Two}
+
+-- The text is somewhere in the bytes.
+pub record Has (bytes text : List ℕ) : Type 0 where
+  pub at : ℕ
+  pub occurs : OccursAt bytes text at
+
+-- The bytes begin with the text.
+pub record BeginsWith (bytes text : List ℕ) : Type 0 where
+  pub rest : List ℕ
+  pub cut : bytes ≡ text ++ rest
+
+-- A database lists each table in a row, which has the kind, the name, and the name of its table.
+pub record ListsTables (bytes : List ℕ) : Type 0 where
+  pub meta : Has bytes (codes "tablemetameta")
+  pub batches : Has bytes (codes "tablebatchesbatches")
+  pub sentences : Has bytes (codes "tablesentencessentences")
+  pub revisions : Has bytes (codes "tablerevisionsrevisions")
+  pub moves : Has bytes (codes "tablemovesmoves")
+  pub totals : Has bytes (codes "tabletotalstotals")
+
+-- A desk of version 1 lacks this table.
+abbrev pub ListsPulled : List ℕ → Type 0
+ListsPulled bytes = Has bytes (codes "tablepulledpulled")
+
+-- The version of the desk whose tables the bytes list.
+abbrev pub IsListed : List ℕ → Option Version → Type 0
+IsListed bytes None = ¬ ListsTables bytes
+IsListed bytes (Some One) = ListsTables bytes × ¬ ListsPulled bytes
+IsListed bytes (Some Two) = ListsTables bytes × ListsPulled bytes
+
+abbrev pub AreZero : List ℕ → Type 0
+AreZero bytes = All (λ b. b ≡ 0) bytes
+
+-- The first page of a database that lists no table: after its first byte the header's, and a root that is a leaf (13)
+-- without rows.
+abbrev pub ListsNone : List ℕ → Type 0
+ListsNone head = BeginsWith (drop 1 head) (codes "QLite format 3\0")
+    × (slice_get head 100 ≡ Some 13) × (slice_get head 103 ≡ Some 0) × (slice_get head 104 ≡ Some 0)
+
+-- The beginning of a file without a table: it lists none, or it is what is left of a page that was not written whole.
+abbrev pub IsBlank : List ℕ → Type 0
+IsBlank head = (AreZero head × (length head ≤ 4096)) ⊎ ListsNone head
+
+-- The beginning of a log whose header is not written whole: its first byte comes last.
+abbrev pub IsUnwritten : List ℕ → Type 0
+IsUnwritten log = BeginsWith (drop 1 log) (127 ∷ 6 ∷ []) ⊎ AreZero (take 4 log)
+
+-- A log that has only the first page (after a header of 32 bytes and one of 24), which lists no table.
+abbrev pub AreBegun : (log : List ℕ) → (pages : List ℕ) → Type 0
+AreBegun log pages = (56 ≤ length log) × (pages ≡ 1 ∷ []) × IsBlank (drop 56 log)
