@@ -1,6 +1,6 @@
 //! The values that clap finds.
 
-ghost use Rattle.std.specs.Prelude.{◌≡◌, IfOk, option_map};
+ghost use Rattle.std.specs.Prelude.{◌≡◌, ◌≢◌, Err, None, IfOk, IsOk, option_map};
 ghost use Rattle.std.specs.List.{list_any};
 ghost use Rattle.std.specs.String.{string_bytes};
 ghost use Rattle.clap.specs.Words.{rows_of, found_of, first_of};
@@ -18,7 +18,8 @@ use tb_syntax::Attr;
 
 /// A copy of a text that may be missing.
 pub fn copied(alloc: Global, text: Option<&str>) -> Result<Option<String>, AllocError>
-    ensures { IfOk result (λ r. option_map string_bytes r ≡ option_map (λ s. s.now) text.entry) }
+    ensures value { IfOk result (λ r. option_map string_bytes r ≡ option_map (λ s. s.now) text.entry) }
+    ensures sure { text.entry ≡ None → IsOk result }
 {
     match text {
         Some(text) => Ok(Some(String::from_str(alloc, text)?)),
@@ -28,7 +29,8 @@ pub fn copied(alloc: Global, text: Option<&str>) -> Result<Option<String>, Alloc
 
 /// A value that is required.
 pub fn given<T: Drop>(found: Option<T>) -> Result<T, LineFault>
-    ensures { ReadsAs found (λ x. x) result }
+    ensures value { ReadsAs found (λ x. x) result }
+    ensures memory { result ≢ Err LineFault.Memory }
 {
     match found {
         Some(value) => Ok(value),
@@ -38,7 +40,8 @@ pub fn given<T: Drop>(found: Option<T>) -> Result<T, LineFault>
 
 /// A copy of a text that is required.
 pub fn text_of(alloc: Global, text: Option<&str>) -> Result<String, LineFault>
-    ensures { ReadsAs (option_map (λ s. s.now) text.entry) string_bytes result }
+    ensures value { ReadsAs (option_map (λ s. s.now) text.entry) string_bytes result }
+    ensures memory { text.entry ≡ None → result ≢ Err LineFault.Memory }
 {
     Ok(String::from_str(alloc, given(text)?)?)
 }

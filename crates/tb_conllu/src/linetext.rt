@@ -1,6 +1,6 @@
 //! The text of one line.
 
-ghost use Rattle.std.specs.Prelude.{◌≡◌, Bool, IfOk, IfErr, IsTrue, MatchOption, not, false};
+ghost use Rattle.std.specs.Prelude.{◌≡◌, Bool, IfOk, IfErr, IsOk, IsTrue, MatchOption, not, false, true};
 ghost use Rattle.std.specs.List.{list_any};
 ghost use Rattle.std.specs.Str.{IsUtf8};
 ghost use Rattle.tb_conllu.specs.Lines.{is_nfc_text};
@@ -94,7 +94,8 @@ fn is_latin(bytes: &[u8], known: bool) -> bool
 #[inline(always)]
 pub fn is_composed(alloc: Global, text: &str, latin: bool) -> Result<bool, AllocError>
     requires { IsTrue latin → list_any is_beyond_latin text.now ≡ false }
-    ensures { IfOk result (λ b. b ≡ is_nfc_text text.now) }
+    ensures value { IfOk result (λ b. b ≡ is_nfc_text text.now) }
+    ensures sure { list_any is_beyond_latin text.now ≡ false → IsOk result }
 {
     if is_latin(text.as_bytes(), latin) {
         return Ok(true);
@@ -113,6 +114,7 @@ pub fn line_text<'a>(
     requires { HoldsOfLine tested raw.now }
     ensures ok { IfOk result (λ text. (text.now ≡ raw.now) × IsLineText raw.now) }
     ensures err { IfErr result (λ e. (came : Bool) → IsRefusal line came raw.now e) }
+    ensures memory { IfErr result (λ e. e ≡ ReadFault.Memory → list_any is_beyond_latin raw.now ≡ true) }
 {
     let Some(text) = as_text(raw, tested.utf8) else {
         return Err(ReadFault::At { line, code: 1 });

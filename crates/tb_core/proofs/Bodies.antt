@@ -1,8 +1,9 @@
 -- A body that is read and checked one sentence after another.
-use Rattle.std.proofs.Common.{◌≡◌, ℕ, ◌<◌, ◌≤◌, ◌⊎◌, inl, inr, List, [], ◌∷◌, ◌++◌, length, map, refl, sym, ◌∙◌, ap, subst, arith}
+use Rattle.std.proofs.Common.{◌≡◌, ℕ, ◌<◌, ◌≤◌, ◌⊎◌, inl, inr, List, [], ◌∷◌, ◌++◌, length, length-append, map, refl, sym, ◌∙◌, ap, subst, arith}
 use Rattle.std.specs.Prelude.{Result, Ok, Err, MatchResult, IfOk, IfErr}
 use Rattle.std.proofs.lemmas.List.{map-append, length-map}
 use Rattle.tb_conllu.specs.Left.{Left, IsNext, IsReadTo}
+use Rattle.tb_conllu.proofs.Reading.{sentence_some}
 use Rattle.tb_conllu.specs.Text.{BlockText, text_of}
 use Rattle.tb_conllu.specs.Shape.{AllShaped}
 use Rattle.tb_conllu.specs.Reported.{IsFile, IsNoFile, IsReported}
@@ -154,3 +155,18 @@ only_this laws block body current (Err Memory) taken refused b h = refl
 only_this laws block body current (Err Device) taken refused b h = absurd refused
 only_this laws block body current (Err NotADesk) taken refused b h = absurd refused
 only_this laws block body current (Err Output) taken refused b h = absurd refused
+
+-- memory runs out only in a body with a byte
+read_fault_wants : (body : List ℕ) (bs : List BlockText) (left : Left) (e : ReadFault) → IsReadTo body bs left → IsFaultAfter left.line left.rest e → fault_of_reading e ≡ Memory → 0 < length body
+read_fault_wants body bs left (reading.At line code) read fault memory = cc
+read_fault_wants body bs left reading.Memory read fault memory = omega (arith, fault, ap length read.whole, length-append (text_of bs) left.rest)
+
+-- the same, of the fault that a caller hands on
+pub reading_wants : (body : List ℕ) (bs : List BlockText) (left : Left) (e : ReadFault) (reported : Fault) → IsReadTo body bs left → IsFaultAfter left.line left.rest e → reported ≡ fault_of_reading e
+    → reported ≡ Memory → 0 < length body
+reading_wants body bs left e reported read fault is memory = read_fault_wants body bs left e read fault (sym is ∙ memory)
+
+-- a body from which a sentence was read has a byte
+pub some_read : (body : List ℕ) (bs : List BlockText) (old new : Left) (b : BlockText) → IsReadTo body bs old → IsNext old new b → 0 < length body
+some_read body bs old new b read next =
+    omega (arith, sentence_some b, ap length read.whole, length-append (text_of bs) old.rest, ap length next.text, length-append (text_of (b ∷ [])) new.rest)

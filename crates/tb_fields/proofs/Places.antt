@@ -1,4 +1,4 @@
-use Rattle.std.proofs.Common.{◌≡◌, ℕ, suc, ◌+◌, ◌-◌, ◌<◌, List, [], ◌∷◌, length, Bool, true, false, cond, not, ◌||◌, Option, Some, None, Bor, eqb, refl, sym, ◌∙◌, ap, arith, length-drop}
+use Rattle.std.proofs.Common.{◌≡◌, ℕ, suc, ◌+◌, ◌-◌, ◌<◌, ◌≤◌, List, [], ◌∷◌, length, Bool, true, false, cond, not, ◌||◌, Option, Some, None, Bor, eqb, refl, sym, ◌∙◌, ap, arith, length-drop, length-take-le}
 use Rattle.std.specs.List.{list_any, position_or_len, slice_split, onto_first, before_first, after_first}
 use Rattle.std.specs.Option.{MatchOption}
 use Rattle.std.proofs.Math.Seq.{take-length}
@@ -46,3 +46,11 @@ parts_at c bs (Some (x, y)) h small =
 pub first_part : (c : ℕ) (bs : List ℕ) (r : Option (Bor (List ℕ) × Bor (List ℕ))) → IsSplitOnceResult c bs r → c < 128 → MatchOption r (before_first (λ b. eqb b c) bs ≡ bs) (λ x. x.0.now ≡ before_first (λ b. eqb b c) bs)
 first_part c bs None h small = let none : position_or_len (λ b. eqb b c) bs ≡ length bs = split_once_first c bs None h small in rw none (take-length bs)
 first_part c bs (Some (x, y)) h small = (split_once_first c bs (Some (x, y)) h small).1
+
+-- what comes before an ASCII character is no longer than all
+pub front_length : (c : ℕ) (bs : List ℕ) (r : Option (Bor (List ℕ) × Bor (List ℕ))) → IsSplitOnceResult c bs r → c < 128 → MatchOption r (Unit {0}) (λ x. length x.0.now ≤ length bs)
+front_length c bs None h small = tt
+front_length c bs (Some (x, y)) h small =
+    let cut = split_once_first c bs (Some (x, y)) h small in
+    let short : length x.now ≡ position_or_len (λ b. eqb b c) bs = ap length cut.1 ∙ length-take-le (position_or_len (λ b. eqb b c) bs) bs (omega (arith, cut.0)) in
+    omega (arith, cut.0, short)

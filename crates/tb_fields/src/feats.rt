@@ -1,4 +1,4 @@
-ghost use Rattle.std.specs.Prelude.{◌≡◌, ◌&&◌, map, bytes_eq, not, IfOk, ◌||◌, List, ℕ, true};
+ghost use Rattle.std.specs.Prelude.{◌≡◌, ◌≤◌, ◌&&◌, length, map, bytes_eq, not, IfOk, IsOk, ◌||◌, List, ℕ, true};
 ghost use Rattle.tb_fields.specs.Seen.{has_come};
 ghost use Rattle.std.specs.List.{list_any, list_all, slice_split};
 ghost use Rattle.tb_fields.specs.Feats.{is_bar, is_comma, is_capital_or_digit, is_small_or_digit, is_letter_or_digit};
@@ -149,7 +149,8 @@ fn holds_many_values(alloc: Global, text: &str) -> Result<bool, AllocError>
 
 /// Whether the text is values separated by commas, each unique.
 fn holds_values(alloc: Global, text: &str) -> Result<bool, AllocError>
-    ensures { IfOk result (λ b. b ≡ are_values (slice_split is_comma text.now)) }
+    ensures value { IfOk result (λ b. b ≡ are_values (slice_split is_comma text.now)) }
+    ensures sure { length text.now ≤ 32 → IsOk result }
 {
     if text.len() <= FEW_VALUES {
         Ok(holds_few_values(text))
@@ -159,7 +160,8 @@ fn holds_values(alloc: Global, text: &str) -> Result<bool, AllocError>
 }
 
 fn is_feature_item(alloc: Global, item: &str) -> Result<bool, AllocError>
-    ensures { IfOk result (λ b. b ≡ is_feature item.now) }
+    ensures value { IfOk result (λ b. b ≡ is_feature item.now) }
+    ensures sure { length item.now ≤ 32 → IsOk result }
 {
     let Some((name, values)) = item.split_once('=') else {
         return Ok(false);
@@ -231,9 +233,10 @@ fn is_before(name: &str, text: &str) -> bool
 
 /// Whether the feature may come before the others.
 fn feature_is_fine(alloc: Global, item: &str, more: &str) -> Result<bool, AllocError>
-    ensures { IfOk result (λ b. b ≡ (is_feature item.now && (precedes (feature_name item.now)
+    ensures value { IfOk result (λ b. b ≡ (is_feature item.now && (precedes (feature_name item.now)
         (map feature_name (slice_split is_bar more.now)) && not (list_any (bytes_eq (feature_name item.now))
         (map feature_name (slice_split is_bar more.now)))))) }
+    ensures sure { length item.now ≤ 32 → IsOk result }
 {
     let name = name_of(item);
     Ok(is_feature_item(alloc, item)? && is_before(name, more) && !has_name(name, more))
@@ -241,7 +244,8 @@ fn feature_is_fine(alloc: Global, item: &str, more: &str) -> Result<bool, AllocE
 
 /// The same as `holds_features`. Compares each name with each.
 fn holds_few_features(alloc: Global, text: &str) -> Result<bool, AllocError>
-    ensures { IfOk result (λ b. b ≡ are_features (slice_split is_bar text.now)) }
+    ensures value { IfOk result (λ b. b ≡ are_features (slice_split is_bar text.now)) }
+    ensures sure { length text.now ≤ 32 → IsOk result }
 {
     let mut left = text;
     while let Some((item, more)) = left.split_once('|') {
@@ -292,7 +296,8 @@ fn holds_many_features(alloc: Global, text: &str) -> Result<bool, AllocError>
 
 /// Whether the text is features separated by bars, in the order of their names, each name unique.
 fn holds_features(alloc: Global, text: &str) -> Result<bool, AllocError>
-    ensures { IfOk result (λ b. b ≡ are_features (slice_split is_bar text.now)) }
+    ensures value { IfOk result (λ b. b ≡ are_features (slice_split is_bar text.now)) }
+    ensures sure { length text.now ≤ 32 → IsOk result }
 {
     if text.len() <= FEW_FEATURES {
         holds_few_features(alloc, text)
@@ -307,9 +312,10 @@ fn holds_features(alloc: Global, text: &str) -> Result<bool, AllocError>
 ///
 /// # Errors
 ///
-/// Memory was refused, which only long lists need.
+/// Memory was refused. A text of at most 32 bytes needs none.
 pub fn is_feature_list(alloc: Global, text: &str) -> Result<bool, AllocError>
-    ensures { IfOk result (λ b. b ≡ is_feature_text text.now) }
+    ensures value { IfOk result (λ b. b ≡ is_feature_text text.now) }
+    ensures sure { length text.now ≤ 32 → IsOk result }
 {
     if is_blank_field(text) || holds_rising_features(text) {
         return Ok(true);

@@ -9,3 +9,4 @@ pub mod Texts
 pub mod Values
 pub mod Taken
 pub mod Asking
+pub mod Routed

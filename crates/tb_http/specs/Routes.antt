@@ -1,7 +1,7 @@
 -- The desk's routes, as the library matchit stores and finds them.
-use Rattle.std.specs.Prelude.{ℕ, List, [], codes, Option, Result, Ok, Err, option_map}
+use Rattle.std.specs.Prelude.{ℕ, List, [], codes, Bool, false, Option, is_none, Result, Ok, Err, option_map}
 use Rattle.matchit.specs.Rows.{RowsOf}
-use Rattle.matchit.specs.Router.{RouteOf, route_from}
+use Rattle.matchit.specs.Router.{RouteOf, route_from, nearest}
 use Rattle.matchit.specs.Route.{parse_route, Scan}
 use Rattle.matchit.specs.Order.{placed}
 use Rattle.matchit.specs.Seek.{first}
@@ -17,6 +17,15 @@ with_route (Err e) value rows = rows
 -- the rows with the route of this text
 unfoldable pub with_text : List ℕ → Route → RowsOf (RouteOf Route) → RowsOf (RouteOf Route)
 with_text text value rows = with_route (parse_route text) value rows
+
+-- whether the rows take one more route: it can be parsed, and no row conflicts with it
+abbrev pub takes_route : {E : Type 0} → Result Scan E → RowsOf (RouteOf Route) → Bool
+takes_route (Ok s) rows = is_none (nearest s.pattern rows)
+takes_route (Err e) rows = false
+
+-- whether the rows take the route of this text
+unfoldable pub takes_text : List ℕ → RowsOf (RouteOf Route) → Bool
+takes_text text rows = takes_route (parse_route text) rows
 
 -- the desk's routes
 unfoldable pub route_rows : RowsOf (RouteOf Route)

@@ -1,7 +1,8 @@
 //! The desk's routes, matched by the library matchit.
 
-ghost use Rattle.std.specs.Prelude.{◌≡◌, IfOk, OnOk};
-ghost use Rattle.tb_http.specs.Routes.{with_text, route_rows, route_of};
+ghost use Rattle.std.specs.Prelude.{◌≡◌, IfErr, IfOk, OnOk, true};
+ghost use Rattle.matchit.specs.declared.error.InsertError.TheVariants.{OutOfMemory};
+ghost use Rattle.tb_http.specs.Routes.{takes_text, with_text, route_rows, route_of};
 
 use matchit::{InsertError, Router};
 use std::alloc::Global;
@@ -37,7 +38,8 @@ pub enum Route {
 
 /// The router with one more route.
 fn with(mut router: Router<Route>, route: &str, value: Route) -> Result<Router<Route>, InsertError>
-    ensures { IfOk result (λ r. r ≡ with_text route.now value router) }
+    ensures rows { IfOk result (λ r. r ≡ with_text route.now value router) }
+    ensures memory { takes_text route.now router ≡ true → IfErr result (λ e. e ≡ OutOfMemory) }
 {
     router.insert(route, value)?;
     Ok(router)
@@ -45,7 +47,8 @@ fn with(mut router: Router<Route>, route: &str, value: Route) -> Result<Router<R
 
 /// The router of the desk's paths.
 fn router(alloc: Global) -> Result<Router<Route>, InsertError>
-    ensures { IfOk result (λ r. r ≡ route_rows) }
+    ensures rows { IfOk result (λ r. r ≡ route_rows) }
+    ensures memory { IfErr result (λ e. e ≡ OutOfMemory) }
 {
     let router = Router::new(alloc);
     let router = with(router, "/batches/{name}", Route::Batch)?;
@@ -76,7 +79,9 @@ impl Routes {
     /// # Errors
     ///
     /// Memory was refused.
-    pub fn new(alloc: Global) -> Result<Routes, InsertError> {
+    pub fn new(alloc: Global) -> Result<Routes, InsertError>
+        ensures { IfErr result (λ e. e ≡ OutOfMemory) }
+    {
         let router = router(alloc)?;
         Ok(Routes { router })
     }

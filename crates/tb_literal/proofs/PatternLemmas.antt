@@ -11,11 +11,17 @@ use Rattle.regex.specs.Patterns.{Re, find_str, default_config}
 use Rattle.regex.specs.Strings.{regex_pattern, regex_source, regex_config, IsReadFromSource}
 use Rattle.regex_syntax.specs.declared.Config.{Config}
 use Rattle.regex.specs.Views.{builder_config, with_size_limit}
+use Rattle.regex.specs.Sources.{IsRefusal}
+use Rattle.regex.specs.Failures.{IsRightKind}
+use Rattle.regex.specs.declared.error.Error.{Error}
+use Rattle.regex.specs.declared.error.Error.TheVariants as regex
 use Rattle.regex.specs.declared.builder.RegexBuilder.{RegexBuilder}
 use Rattle.regex.specs.declared.string.regex.Regex.{Regex}
 use Rattle.regex.proofs.OnLiterals.{is_match_as_written, same_refl}
 use Rattle.tb_literal.specs.Patterns.{IsPattern, read_pattern, tree_finds, finds}
 use Rattle.tb_literal.specs.Built.{Means}
+use Rattle.tb_literal.specs.Refused.{fault_of_error}
+use Rattle.tb_literal.specs.declared.pattern.PatternFault.TheVariants as fault
 
 -- what holds of a value, if there is one
 pub weaker : {A : Type 0} (o : Option A) (P Q : A → Type 0) → ((x : A) → P x → Q x) → IsSomeAnd o P → IsSomeAnd o Q
@@ -47,6 +53,14 @@ outside_of_refuses source kind (inl m) n p = n m
 outside_of_refuses source kind (inr (inl none)) n p = none_holds (read_pattern source) _ none p
 outside_of_refuses source kind (inr (inr deep)) n p =
     too_deep (read_pattern source) (λ x. x.0.depth) 250 deep.1 p
+
+-- what the builder refuses as outside the grammar is none
+pub outside_by : (source : List ℕ) (error : Error) → IsRefusal default_config source error → IsRightKind default_config source error →
+    fault_of_error error ≡ fault.Syntax → IsPattern source → ⊥
+outside_by source (regex.Syntax e) grammar right syntax p = outside_of_refuses source e.kind (grammar e refl) right p
+outside_by source regex.CompiledTooBig grammar right syntax p = cc
+outside_by source regex.Internal grammar right syntax p = cc
+outside_by source regex.OutOfMemory grammar right syntax p = cc
 
 finds_by : (o : Option (Nested Re × Names)) (value : List ℕ) (b : _) → IsSomeAnd o (λ _. ⊤) →
     ((x : Nested Re × Names) → o ≡ Some x → b ≡ is_some (find_str x.0.value value 0)) → b ≡ tree_finds o value

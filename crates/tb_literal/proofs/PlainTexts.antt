@@ -1,15 +1,14 @@
 -- A literal for which nothing is built fits no value but its own text.
-use Rattle.std.proofs.Common.{◌≡◌, ◌<◌, ◌+◌, ◌&&◌, ℕ, zero, suc, List, [], ◌∷◌, ◌++◌, Option, None, Some, Bool, true, false, IsUtf8, slice_index, refl, sym, ap, ◌∙◌, subst, arith, is_some, option_map, Box, Global, cond, ⊎_elim, ◌/◌}
+use Rattle.std.proofs.Common.{◌≡◌, ◌<◌, ◌+◌, ◌&&◌, ℕ, zero, suc, List, [], ◌∷◌, ◌++◌, Option, None, Bool, true, false, IsUtf8, slice_index, refl, sym, ◌∙◌, subst, arith, Box, Global, cond, ⊎_elim, ◌/◌}
 use Rattle.std.proofs.lemmas.Bool.{false≢true}
 use Rattle.std.proofs.lemmas.Slice.Eq.{bytes_eq-Decides}
 use lib.Dec.{ltb, T, ltb→lt}
 use lib.Utf8.{next, encode, encodes, scalar, scalars, scalar_cases}
-use Rattle.regex.specs.Strings.{regex_pattern}
 use Rattle.regex.specs.declared.string.regex.Regex.{Regex}
 use Rattle.tb_syntax.specs.declared.lexeme.Flag.{Flag}
 use Rattle.tb_syntax.specs.declared.lexeme.Flag.TheVariants.{Plain, NoCase, Literal}
 use Rattle.tb_literal.specs.Built.{IsPatternFor}
-use Rattle.tb_literal.specs.Literals.{PlainLit, IsPlainText}
+use Rattle.tb_literal.specs.Literals.{IsPlainText}
 
 abbrev AreBytes : List ℕ → Type 0
 AreBytes bs = (k : ℕ) → slice_index bs k < 256

@@ -2,3 +2,4 @@ pub mod Patterns
 pub mod Literals
 pub mod Items
 pub mod Built
+pub mod Refused

@@ -1,6 +1,6 @@
 //! A literal with its compiled pattern, and the cache with which a search tests values.
 
-ghost use Rattle.std.specs.Prelude.{◌≡◌, IfOk, IfErr, IfSome, IsOk};
+ghost use Rattle.std.specs.Prelude.{◌≡◌, None, IfOk, IfErr, IfSome, IsOk, IsSome};
 ghost use Rattle.std.specs.List.{list_any};
 ghost use Rattle.tb_literal.specs.Literals.{IsAccepted, IsPlainText, meets};
 ghost use Rattle.tb_literal.specs.Items.{pieces, meets_item};
@@ -112,6 +112,8 @@ impl LiteralMatcher {
     pub fn plain_text(&self) -> Option<&str>
         ensures text { IfSome result (λ t. t.now ≡ self.now.text) }
         ensures alone { IfSome result (λ _. IsPlainText self.now) }
+        ensures literal { self.now.flag ≡ Flag.Literal → IsSome result }
+        ensures no_case { self.now.flag ≡ Flag.NoCase → result ≡ None }
     {
         match &self.built {
             Some(_) => None,

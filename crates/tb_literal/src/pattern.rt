@@ -1,10 +1,11 @@
 //! Patterns, as the library regex compiles them.
 
-ghost use Rattle.std.specs.Prelude.{◌≡◌, List, ℕ, false, IfOk, IfErr};
-ghost use Rattle.regex.specs.Strings.{regex_pattern, matcher_pattern};
+ghost use Rattle.std.specs.Prelude.{◌≡◌, ◌≤◌, ◌+◌, List, ℕ, false, IfOk, IfErr, IfSome};
+ghost use Rattle.regex.specs.Strings.{regex_pattern, regex_size, matcher_pattern};
 ghost use Rattle.regex_syntax.specs.declared.error.ErrorKind.TheVariants.{OutOfMemory};
 ghost use Rattle.tb_literal.specs.Patterns.{IsPattern, IsWhole, finds, wrapped};
 ghost use Rattle.tb_literal.specs.Built.{Means, IsPatternFor};
+ghost use Rattle.tb_literal.specs.Refused.{fault_of_error};
 
 use regex::{Matcher, Regex, RegexBuilder, escape};
 use regex_syntax::{Config, ErrorKind};
@@ -57,7 +58,8 @@ impl<T: Drop> From<AllocFailed<T>> for PatternFault {
 
 /// The fault for an error of regex's parser.
 fn fault_of(kind: ErrorKind) -> PatternFault
-    ensures { result ≡ PatternFault.Syntax → kind ≡ OutOfMemory → ⊥ }
+    ensures syntax { result ≡ PatternFault.Syntax → kind ≡ OutOfMemory → ⊥ }
+    ensures memory { result ≡ PatternFault.Memory → kind ≡ OutOfMemory }
 {
     match kind {
         ErrorKind::OutOfMemory => PatternFault::Memory,
@@ -76,16 +78,26 @@ fn read(alloc: Global, text: &str) -> Result<(), PatternFault>
     Ok(())
 }
 
+/// The fault for an error of regex's builder.
+fn fault_of_build(error: regex::Error) -> PatternFault
+    ensures { result ≡ fault_of_error error }
+{
+    match error {
+        regex::Error::Syntax(_) => PatternFault::Syntax,
+        _ => PatternFault::Memory,
+    }
+}
+
 /// Compiles a text as a pattern of at most `most` bytes.
 fn build(alloc: Global, source: &str, most: usize) -> Result<Regex, PatternFault>
     ensures means { IfOk result (λ r. Means (regex_pattern r) source.now) }
     ensures pattern { IfOk result (λ _. IsPattern source.now) }
+    ensures small { IfOk result (λ r. regex_size r ≤ most + 24) }
     ensures refused { IfErr result (λ e. e ≡ PatternFault.Syntax → IsPattern source.now → ⊥) }
 {
     match RegexBuilder::new(source).size_limit(most).build(alloc) {
         Ok(regex) => Ok(regex),
-        Err(regex::Error::Syntax(_)) => Err(PatternFault::Syntax),
-        Err(_) => Err(PatternFault::Memory),
+        Err(error) => Err(fault_of_build(error)),
     }
 }
 
@@ -99,6 +111,7 @@ pub(crate) fn compile(
     most: usize,
 ) -> Result<Box<Regex>, PatternFault>
     ensures means { IfOk result (λ r. Means (regex_pattern r.value) (wrapped no_case text.now)) }
+    ensures small { IfOk result (λ r. regex_size r.value ≤ most + 24) }
     ensures accepted { IfOk result (λ _. IsWhole no_case text.now) }
     ensures refused { IfErr result (λ e. e ≡ PatternFault.Syntax → IsWhole no_case text.now → ⊥) }
 {
@@ -120,6 +133,7 @@ pub(crate) fn compile_unless_plain(
     most: usize,
 ) -> Result<Option<Box<Regex>>, PatternFault>
     ensures stands { IfOk result (λ built. IsPatternFor Flag.Plain text.now built) }
+    ensures small { IfOk result (λ built. IfSome built (λ r. regex_size r.value ≤ most + 24)) }
     ensures accepted { IfOk result (λ _. IsWhole false text.now) }
     ensures refused { IfErr result (λ e. e ≡ PatternFault.Syntax → IsWhole false text.now → ⊥) }
 {

@@ -1,11 +1,11 @@
 //! What a text needs to have for a hit, and the texts that have it not.
 
-ghost use Rattle.std.specs.Prelude.{◌≡◌, List, [], ◌∷◌, IfOk, false};
+ghost use Rattle.std.specs.Prelude.{◌≡◌, All, List, [], ◌∷◌, IfOk, IsTrue, false};
 ghost use Rattle.tb_conllu.specs.Text.{BlockText};
 ghost use Rattle.tb_conllu.specs.Reported.{IsFile};
 ghost use Rattle.tb_match.specs.declared.strategy.Strategy.{Strategy as AnyStrategy};
 ghost use Rattle.tb_query.specs.Search.{Asked, AreHitsIn};
-ghost use Rattle.tb_prefilter.specs.Needed.{AreNeeded};
+ghost use Rattle.tb_prefilter.specs.Needed.{AreNeeded, IsSubstring};
 
 use crate::gathering::gather;
 use crate::needing::is_needed;
@@ -28,8 +28,9 @@ pub fn needles_of(alloc: Global, query: &Query) -> Result<Vec<Vec<u8>>, AllocErr
 
 /// Whether all needles are in the text. Where one is not, the sentence has no hit.
 pub fn may_hit(needles: &[Vec<u8>], body: &[u8]) -> bool
-    ensures { result ≡ false → (s : AnyStrategy) (q : Asked) (b : BlockText) → AreNeeded q needles.now
+    ensures none { result ≡ false → (s : AnyStrategy) (q : Asked) (b : BlockText) → AreNeeded q needles.now
         → IsFile body.now (b ∷ []) → AreHitsIn s q b [] }
+    ensures all { IsTrue result → All (λ n. IsSubstring n.items body.now) needles.now }
 {
     for needle in needles {
         if memmem::find(body, needle.as_slice()).is_none() {

@@ -3,9 +3,16 @@
 use Rattle.std.specs.Prelude.{◌≡◌, ℕ, ◌+◌, List, ◌∷◌, ◌++◌, map}
 use Rattle.tb_syntax.specs.declared.expr.Literal.{Literal}
 use Rattle.tb_literal.specs.Literals.{IsAccepted}
+use Rattle.tb_literal.specs.declared.pattern.PatternFault.{PatternFault}
+use Rattle.tb_literal.specs.declared.pattern.PatternFault.TheVariants as pattern
 use Rattle.tb_query.specs.declared.fault.QueryFault.{QueryFault}
 use Rattle.tb_query.specs.declared.fault.QueryFault.TheVariants.{Pattern, Memory}
 use Rattle.tb_query.specs.Reading.{text_of, with_text, AreAccepted}
+
+-- the fault for a literal that is refused: its number, counted from 1; or want of memory
+abbrev pub fault_of_literal : Literal → PatternFault → QueryFault
+fault_of_literal l pattern.Syntax = Pattern (l.number + 1)
+fault_of_literal l pattern.Memory = Memory
 
 -- the first of the literals that is refused, by its number, counted from 1
 abbrev pub IsRefusalAmong : List (List ℕ) → List Literal → QueryFault → Type 0

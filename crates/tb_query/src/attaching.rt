@@ -1,11 +1,11 @@
 //! Turns token expressions that name their literals by number into those with matchers.
 
-ghost use Rattle.std.specs.Prelude.{◌≡◌, ◌+◌, ◌∷◌, [], map, string_bytes, IfOk, IfErr};
+ghost use Rattle.std.specs.Prelude.{◌≡◌, ◌+◌, ◌/◌, ◌∷◌, [], map, max, string_bytes, IfOk, IfErr};
 ghost use Rattle.tb_literal.specs.Literals.{IsAccepted};
 ghost use Rattle.tb_syntax.specs.Exprs.{test};
 ghost use Rattle.tb_syntax.specs.Tests.{every, whole, feature, denied_times, both, either, tests, literals};
 ghost use Rattle.tb_syntax.specs.Tests.{literals_of};
-ghost use Rattle.tb_query.specs.Refusing.{IsRefusalAmong};
+ghost use Rattle.tb_query.specs.Refusing.{IsRefusalAmong, fault_of_literal};
 ghost use Rattle.tb_query.specs.Reading.{text_of, with_text, with_texts, AreAccepted};
 
 use crate::fault::QueryFault;
@@ -17,7 +17,9 @@ use tb_syntax::{Attr, Expr, Literal};
 const ALL_PATTERNS: usize = 16 << 20;
 
 /// How many bytes one compiled pattern may take, in a query with this number of literals.
-fn pattern_bytes(literals: usize) -> usize {
+fn pattern_bytes(literals: usize) -> usize
+    ensures { result ≡ 16777216 / max literals 2 }
+{
     ALL_PATTERNS / literals.max(2)
 }
 
@@ -28,6 +30,16 @@ fn text_of(alloc: Global, texts: &[String], literal: Literal) -> Result<String, 
     match texts.get(usize::from(literal.number)) {
         Some(text) => text.clone(),
         None => Ok(String::new(alloc)),
+    }
+}
+
+/// The fault of a query for a literal that is refused.
+fn fault_of(literal: Literal, fault: PatternFault) -> QueryFault
+    ensures { result ≡ fault_of_literal literal fault }
+{
+    match fault {
+        PatternFault::Syntax => QueryFault::Pattern(u64::from(literal.number) + 1),
+        PatternFault::Memory => QueryFault::Memory,
     }
 }
 
@@ -45,8 +57,7 @@ fn needle_of(
     let text = text_of(alloc, texts, literal)?;
     match LiteralMatcher::new(alloc, text, literal.flag, pattern_bytes(texts.len())) {
         Ok(needle) => Ok(needle),
-        Err(PatternFault::Syntax) => Err(QueryFault::Pattern(u64::from(literal.number) + 1)),
-        Err(PatternFault::Memory) => Err(QueryFault::Memory),
+        Err(fault) => Err(fault_of(literal, fault)),
     }
 }
 

@@ -1,6 +1,6 @@
 -- Each act that may be done is the accepted ending of a command, and each command that changes the state is an act.
 use Rattle.std.proofs.Common.{◌≡◌, ◌⊎◌, inl, inr, ℕ, zero, suc, ◌+◌, ◌≤◌, List, [], ◌∷◌, ◌++◌, length, Bool, true, false, ◌&&◌, None, Some, Result, Ok, Err, refl, sym, ◌∙◌, ap, subst, arith, length-append}
-use Rattle.std.specs.Prelude.{cond, slice_get, nat_eq, nat_le}
+use Rattle.std.specs.Prelude.{cond, slice_get, nat_le}
 use Rattle.std.specs.List.{AllByRecursion}
 use Rattle.std.proofs.lemmas.List.{length-map}
 use Rattle.std.proofs.lemmas.Bool.{eq-eqb}
@@ -15,13 +15,13 @@ use Rattle.tb_core.specs.declared.refusals.Refusal.TheVariants.{Full, Stale}
 use Rattle.tb_core.specs.Names.{is_name, Lacks, AreApart}
 use Rattle.tb_core.specs.Deciding.{event_decision, may_correct, then_current, correct_decision, pull_decision, restore_decision}
 use Rattle.tb_core.specs.Events.{goes_to, makes_worker}
-use Rattle.tb_core.specs.Machine.{sent_id_of, text_value_of, Batch, Sentence, Machine, empty_machine, batch_with, state_in, rev}
+use Rattle.tb_core.specs.Machine.{sent_id_of, text_value_of, Batch, Sentence, Machine, batch_with, state_in, rev}
 use Rattle.tb_core.specs.Acts.{Act, importing, stepping, correcting, pulling, restoring, MayImport, MayStep, MayCorrect, MayPull, MayRestore, IsAllowed, after, move_of, names_of, ids_of, ids_in, new_sentence, new_sentences, corrected, flagged}
 use Rattle.tb_core.specs.Reaching.{Reached, begun, further, has_room}
 use Rattle.tb_core.specs.Keeping.{IsWell}
 use Rattle.tb_core.specs.Commands.{Command, import_file, event_on, correct, pull, restore, Answer, replied, refused, Ending, ending, HasBatch, HasSentence, Means, reply_to}
 use Rattle.tb_core.specs.Tests.{passed, Refuses, IsFirstTaken, IsFull}
-use Rattle.tb_core.specs.Steps.{Steps, ImportEnds, EventEnds, CorrectEnds, PullEnds, RestoreEnds}
+use Rattle.tb_core.specs.Steps.{Steps}
 use Rattle.tb_core.proofs.Lists.{head_is, get_one}
 use Rattle.tb_core.proofs.Keeps.{well}
 use Rattle.tb_core.proofs.Same.{IsOneList}

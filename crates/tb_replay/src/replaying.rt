@@ -1,7 +1,7 @@
 //! The replay: makes each move on the slots and marks, and compares the end with the rows.
 
 ghost use Rattle.std.specs.Prelude.{◌≡◌, ◌+◌, ◌-◌, ◌^◌, ◌<◌, ◌++◌, ◌↔◌, map, slice_set};
-ghost use Rattle.std.specs.Prelude.{slice_index_or, IfOk, OnOk, true};
+ghost use Rattle.std.specs.Prelude.{slice_index_or, ◌≢◌, ◌≤◌, length, IfOk, IsOk, OnOk, true};
 ghost use Rattle.tb_core.specs.Acts.{with_worker};
 ghost use Rattle.tb_core.specs.Machine.{Machine, change_at};
 ghost use Rattle.tb_core.specs.Reaching.{IsReachable};
@@ -245,6 +245,7 @@ fn step_import<'a>(
         (small slots.old.items marks.old.items count) change.now) }
     ensures next { IfOk result (λ b. b ≡ true → small slots.new.items marks.new.items (count + 1)
         ≡ import_next entries.now (small slots.old.items marks.old.items count) change.now) }
+    ensures sure { batches ≤ length slots.old.items → IsOk result }
 {
     if slots.len() >= batches {
         return Ok(false);
@@ -279,6 +280,7 @@ fn step<'a>(
         (small slots.old.items marks.old.items count) change.now) }
     ensures next { IfOk result (λ b. b ≡ true → small slots.new.items marks.new.items (count + 1)
         ≡ kind_next change.now.kind entries.now (small slots.old.items marks.old.items count) change.now) }
+    ensures sure { change.now.kind ≢ Kind.Import → IsOk result }
 {
     match change.kind {
         Kind::Import => step_import(batches, slots, marks, entries, count, change),

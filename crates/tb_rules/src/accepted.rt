@@ -1,6 +1,6 @@
 //! Remembers fields of rows that were accepted before. A file repeats a few hundred of them.
 
-ghost use Rattle.std.specs.Prelude.{◌≡◌, ◌&&◌, IfOk, true, string_bytes};
+ghost use Rattle.std.specs.Prelude.{◌≡◌, ◌≤◌, ◌&&◌, length, IfOk, IsOk, true, string_bytes};
 ghost use Rattle.tb_fields.specs.Feats.{is_feature_text};
 ghost use Rattle.tb_fields.specs.Relations.{is_relation};
 ghost use Rattle.tb_fields.specs.Tags.{is_universal_tag};
@@ -185,7 +185,8 @@ impl Accepted {
     /// Whether the text may be in FEATS, as `is_feature_list` tests it. Where no memory is left to remember it, it is
     /// tested again the next time.
     pub(crate) fn accept_features(&mut self, alloc: Global, text: &str) -> Result<bool, AllocError>
-        ensures { IfOk result (λ b. b ≡ is_feature_text text.now) }
+        ensures value { IfOk result (λ b. b ≡ is_feature_text text.now) }
+        ensures sure { length text.now ≤ 32 → IsOk result }
     {
         if is_blank_field(text) || self.holds_features(text) {
             return Ok(true);

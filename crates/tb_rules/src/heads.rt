@@ -1,6 +1,6 @@
 //! The words and the empty nodes that a head may name.
 
-ghost use Rattle.std.specs.Prelude.{◌≡◌, ◌+◌, ◌<◌, ◌^◌, IfOk, slice_index, slice_set, vec_len};
+ghost use Rattle.std.specs.Prelude.{◌≡◌, ◌+◌, ◌<◌, ◌^◌, IfOk, IsOk, slice_index, slice_set, vec_len, false};
 ghost use Rattle.std.specs.List.{list_any};
 ghost use Rattle.tb_rules.specs.Named.{is_word_numbered, is_node_numbered, is_node_id, AreNumbered, AreNodeCounts};
 ghost use Rattle.tb_rules.specs.Named.{TellIds};
@@ -62,7 +62,8 @@ fn node_counts<T: Text>(
     words: usize,
 ) -> Result<Vec<usize>, AllocError>
     requires { AreNumbered rows.now words }
-    ensures { IfOk result (λ v. AreNodeCounts rows.now v.items) }
+    ensures counts { IfOk result (λ v. AreNodeCounts rows.now v.items) }
+    ensures sure { list_any (λ r. is_node_id r.id) rows.now ≡ false → IsOk result }
 {
     if has_nodes(rows) {
         counts(alloc, rows, words)
@@ -78,7 +79,8 @@ pub(crate) fn heads_in<T: Text>(
     words: usize,
 ) -> Result<Heads<'_, T>, AllocError>
     requires { AreNumbered rows.now words }
-    ensures { IfOk result (λ h. h.rows.now ≡ rows.now) }
+    ensures rows { IfOk result (λ h. h.rows.now ≡ rows.now) }
+    ensures sure { list_any (λ r. is_node_id r.id) rows.now ≡ false → IsOk result }
 {
     let nodes = node_counts(alloc, rows, words)?;
     Ok(Heads { rows, words, nodes })

@@ -1,4 +1,4 @@
-ghost use Rattle.std.specs.Prelude.{◌≡◌, ◌↔◌, IsTrue, ◌++◌, ◌∷◌, ℕ, List, [], IfOk, OnOk};
+ghost use Rattle.std.specs.Prelude.{◌≡◌, ◌↔◌, IsTrue, ◌++◌, ◌∷◌, ℕ, List, [], IfOk, IsOk, OnOk};
 ghost use Rattle.std.specs.Prelude.{bytes_eq, string_bytes, chars, encode_utf8, encode_utf8_all, length, not, ◌==◌};
 ghost use Rattle.std.specs.Prelude.{◌&&◌, true, false};
 ghost use Rattle.std.specs.List.{list_any, slice_split};
@@ -173,8 +173,9 @@ pub fn restored<T: Text>(alloc: Global, block: &BlockOf<T>) -> Result<String, Al
 
 /// Whether the text of the rows is the value. Differences in white space do not count.
 fn is_spelled<T: Text>(alloc: Global, rows: &[RowOf<T>], value: &str) -> Result<bool, AllocError>
-    ensures { IfOk result (λ b. IsTrue b ↔ (encode_utf8_all (folded (text_of_rows rows.now))
+    ensures value { IfOk result (λ b. IsTrue b ↔ (encode_utf8_all (folded (text_of_rows rows.now))
         ≡ folded_text value.now)) }
+    ensures sure { encode_utf8_all (folded (text_of_rows rows.now)) ≡ value.now → IsOk result }
 {
     // The text of rows is folded, so a value equal to it is folded too.
     if spell(rows, value) {

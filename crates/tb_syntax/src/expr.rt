@@ -1,6 +1,6 @@
 //! Token expressions.
 
-ghost use Rattle.std.specs.Prelude.{◌≡◌, map, IfOk};
+ghost use Rattle.std.specs.Prelude.{◌≡◌, map, IfOk, IsOk};
 ghost use Rattle.tb_syntax.specs.Exprs.{test};
 ghost use Rattle.tb_syntax.specs.Pattern.{both_of, either_of};
 ghost use Rattle.tb_syntax.specs.Tests.{every, whole, feature, denied_times};
@@ -63,7 +63,8 @@ pub(crate) fn denied(
     times: usize,
     expr: Expr<Literal>,
 ) -> Result<Expr<Literal>, AllocError>
-    ensures { IfOk result (λ e. test e ≡ denied_times times (test expr)) }
+    ensures value { IfOk result (λ e. test e ≡ denied_times times (test expr)) }
+    ensures sure { times ≡ 0 → IsOk result }
 {
     if times == 0 {
         return Ok(expr);

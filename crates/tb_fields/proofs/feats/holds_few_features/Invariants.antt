@@ -1,4 +1,4 @@
-use Rattle.std.proofs.Common.{◌≡◌, length}
+use Rattle.std.proofs.Common.{◌≡◌, ◌≤◌, length}
 use denote.Text.{Utf8}
 use denote.Shadow.{shadow}
 use Rattle.std.specs.List.{slice_split}
@@ -6,7 +6,7 @@ use Rattle.tb_fields.specs.Feats.{is_bar, are_features}
 use Rattle.tb_fields.proofs.feats.holds_few_features.Given as goal
 
 abbrev pub invariant-loop-item : goal.invariant-loop-item
-invariant-loop-item l = shadow (Utf8 l.left) × (are_features (slice_split is_bar l.left) ≡ are_features (slice_split is_bar l.fn.text))
+invariant-loop-item l = shadow (Utf8 l.left) × (are_features (slice_split is_bar l.left) ≡ are_features (slice_split is_bar l.fn.text)) × (length l.left ≤ length l.fn.text)
 
 abbrev pub decreases-loop-item : goal.decreases-loop-item
 decreases-loop-item l = length l.left

@@ -28,13 +28,13 @@ pub returns-then-not-branch-2 : goal.returns-then-not-branch-2
 returns-then-not-branch-2 c =
     let parts = rw c.in_default.is at (parts_at 124 c.loop-item.left.now c.split_once.result c.split_once.ensures.cases (lit< tt)) in
     let old = has_come c.loop-item.seen in
-    let none = sym c.in_ok-is_feature_item.ensures ∙ c.if-not-branch-2.true in
+    let none = sym c.in_ok-is_feature_item.ensures.value ∙ c.if-not-branch-2.true in
     sym (ap (λ b. b && not (old (feature_name c.loop-item.left.now))) none) ∙ (new_features_one old (slice_split is_bar c.loop-item.left.now) c.loop-item.left.now parts ∙ c.loop-item.invariant.1)
 
 pub returns : goal.returns
 returns c =
     let parts = rw c.in_default.is at (parts_at 124 c.loop-item.left.now c.split_once.result c.split_once.ensures.cases (lit< tt)) in
     let old = has_come c.loop-item.seen in
-    let some = sym c.in_ok-is_feature_item.ensures ∙ c.if-not-branch-2.false in
+    let some = sym c.in_ok-is_feature_item.ensures.value ∙ c.if-not-branch-2.false in
     let last = ap (λ (x : List ℕ). not (old x)) c.name_of.ensures ∙ (sym (ap (λ b. b && not (old (feature_name c.loop-item.left.now))) some) ∙ (new_features_one old (slice_split is_bar c.loop-item.left.now) c.loop-item.left.now parts ∙ c.loop-item.invariant.1)) in
     subst (λ (y : Bool). IfOk c.comes_first.result (λ b. b ≡ y)) last c.comes_first.ensures.new

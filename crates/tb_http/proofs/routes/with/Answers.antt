@@ -1,10 +1,13 @@
-use Rattle.std.proofs.Common.{◌≡◌, Ok, Err, Result}
+use Rattle.std.proofs.Common.{◌≡◌, Ok, Err, Result, true, refl}
+use Rattle.std.proofs.lemmas.Bool.{false≢true}
+use Rattle.std.proofs.lemmas.Result.{err_from_is_err_and}
 use Rattle.matchit.specs.Rows.{RowsOf}
 use Rattle.matchit.specs.Route.{parse_route, Scan}
 use Rattle.matchit.specs.Router.{RouteOf, InsertsRead}
 use Rattle.matchit.specs.declared.error.InsertError.{InsertError}
+use Rattle.matchit.specs.declared.error.InsertError.TheVariants.{Conflict, OutOfMemory, InvalidParamSegment, InvalidParam, InvalidCatchAll}
 use Rattle.tb_http.specs.declared.routes.Route.{Route}
-use Rattle.tb_http.specs.Routes.{with_route, with_text}
+use Rattle.tb_http.specs.Routes.{with_route, with_text, takes_route, takes_text}
 use Rattle.tb_http.proofs.routes.with.Goals as goal
 
 inserted : (s : Result Scan InsertError) (v : Route) (old new : RowsOf (RouteOf Route)) (u : Unit {0})
@@ -12,6 +15,21 @@ inserted : (s : Result Scan InsertError) (v : Route) (old new : RowsOf (RouteOf 
 inserted (Ok s) v old new u h = h.1
 inserted (Err s) v old new u h = h.0
 
-pub returns : goal.returns
+pub returns-clause-rows : goal.returns-clause-rows
 unfolding with_text
-returns c = inserted (parse_route c.args.route.now) c.args.value _ _ _ c.in_ok-insert.ensures
+returns-clause-rows c = inserted (parse_route c.args.route.now) c.args.value _ _ _ c.in_ok-insert.ensures
+
+for_memory : (s : Result Scan InsertError) (v : Route) (old new : RowsOf (RouteOf Route)) (e : InsertError) → takes_route s old ≡ true
+    → InsertsRead s v old new (Err e) → e ≡ OutOfMemory
+for_memory (Ok s) v old new OutOfMemory taken h = refl
+for_memory (Ok s) v old new (Conflict with) taken h = let there = h.1.1 in absurd (cc)
+for_memory (Ok s) v old new InvalidParamSegment taken h = absurd h.1
+for_memory (Ok s) v old new InvalidParam taken h = absurd h.1
+for_memory (Ok s) v old new InvalidCatchAll taken h = absurd h.1
+for_memory (Err e) v old new other taken h = absurd (false≢true taken)
+
+pub returns-in_err-insert-clause-memory : goal.returns-in_err-insert-clause-memory
+unfolding takes_text
+returns-in_err-insert-clause-memory c = λ taken.
+    let p = err_from_is_err_and c.from_residual.result c.from_residual.ensures.1 in
+    rw (p.1, p.2) (for_memory (parse_route c.args.route.now) c.args.value _ _ _ taken c.in_err-insert.ensures)

@@ -9,4 +9,4 @@ use Rattle.tb_rules.proofs.deps.dependency_fault.Goals as goal
 pub returns : goal.returns
 returns g c =
     fault_same c.args.rows.now c.first_fault.result c.requires.in_place c.rows_are_few.ensures
-    (subst (λ (rs : List RowText). MatchOption c.first_fault.result (EachRowPasses (place_test rs) rs) (IsFirstFault (place_test rs) rs)) c.in_ok-heads.ensures c.first_fault.ensures)
+    (subst (λ (rs : List RowText). MatchOption c.first_fault.result (EachRowPasses (place_test rs) rs) (IsFirstFault (place_test rs) rs)) c.in_ok-heads.ensures.rows c.first_fault.ensures)

@@ -10,7 +10,7 @@ returns-in-Contains-clause-exact c =
 
 pub returns-in_ok-denied-in-Differs-clause-exact : goal.returns-in_ok-denied-in-Differs-clause-exact
 returns-in_ok-denied-in-Differs-clause-exact c =
-    same_unit _ _ _ _ (c.in_ok-denied-in-Differs.ensures ∙ ap negated c.whole.ensures)
+    same_unit _ _ _ _ (c.in_ok-denied-in-Differs.ensures.value ∙ ap negated c.whole.ensures)
     (differs_read c.args.attr c.args.lexemes.now c.tail.result.now c.literal_at.result.1.now c.literal_at.result.0 (sym c.head.ensures ∙ c.in-Differs.is) c.tail.ensures.rest c.literal_at.ensures.exact)
 
 pub returns-in_default-clause-exact : goal.returns-in_default-clause-exact
