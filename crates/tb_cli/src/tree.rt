@@ -239,12 +239,16 @@ fn subcommand<'a>(alloc: Global, verb: Verb) -> Result<Command<'a>, AllocError>
     }
 }
 
+/// What `--version` prints after the program's name: the version, and the toolchain that proves the program. tools/lint
+/// compares the second line with what `rt version` prints.
+const VERSION: &str = "0.1.0\nproved with rattle-kit-13f logic dac8208d650f15bf";
+
 /// The program's name, its version and what its help says.
 fn top<'a>(alloc: Global) -> Command<'a>
     ensures { IsKnownAs top_app result }
 {
     Command::new(alloc, "treedesk")
-        .version("0.1.0")
+        .version(VERSION)
         .about(
             "A treebank desk for CoNLL-U files: check, import, correct, release, search and count",
         )
