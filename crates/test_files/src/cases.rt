@@ -2,14 +2,14 @@
 //!
 //! One loop reads all cases, so another case costs the prover nothing.
 
-use std::alloc::{AllocError, Global};
+use std::alloc::Global;
+use std::fmt::Debug;
 use std::process::Abort;
-use std::test::Fail;
 
 /// A question that can be asked of the text of a case.
 pub(crate) trait Question {
     /// The answer as text.
-    fn answer(&self, alloc: Global, asked: &str) -> Result<String, Fail>;
+    fn answer(&self, rt: &impl Abort, alloc: Global, asked: &str) -> String;
 }
 
 /// Asserts the answer to each of so many cases.
@@ -19,26 +19,33 @@ pub(crate) fn assert_answers<Q: Question>(
     question: &Q,
     cases: &str,
     count: usize,
-) -> Result<(), Fail> {
-    assert_eq!(rt; cases.lines().count(), count);
+) {
+    assert_same(rt, &cases.lines().count(), &count, "the number of cases");
     for case in cases.lines() {
-        let Some((asked, wanted)) = case.split_once(" => ") else {
-            panic!(rt; "{case}");
-        };
-        let answer = question.answer(alloc, asked)?;
-        assert_eq!(rt; answer.as_str(), wanted, "of {asked}");
+        let (asked, wanted) = case.split_once(" => ").expect(rt, case);
+        let answer = question.answer(rt, alloc, asked);
+        assert_text(rt, answer.as_str(), wanted, asked);
     }
-    Ok(())
+}
+
+/// Asserts that a text is the one that is wanted. A call costs the prover less than the macro.
+pub(crate) fn assert_text(rt: &impl Abort, found: &str, wanted: &str, of: &str) {
+    assert_eq!(rt; found, wanted, "of {of}");
+}
+
+/// Asserts the same of two values.
+pub(crate) fn assert_same<T: Debug + PartialEq>(rt: &impl Abort, found: &T, wanted: &T, of: &str) {
+    assert_eq!(rt; *found, *wanted, "of {of}");
 }
 
 /// The text with a line feed in the place of each `¶`, since a case is one line.
-pub(crate) fn unfolded(alloc: Global, text: &str) -> Result<String, AllocError> {
-    text.replace(alloc, '¶', "\n")
+pub(crate) fn unfolded(rt: &impl Abort, alloc: Global, text: &str) -> String {
+    text.replace(alloc, '¶', "\n").expect(rt, "error")
 }
 
 /// The file, with the first text before ` -> ` changed to the text after it.
-pub(crate) fn changed(alloc: Global, file: &str, change: &str) -> Result<String, Fail> {
-    let unfolded = unfolded(alloc, change)?;
-    let (old, new) = unfolded.split_once(" -> ").ok_or("a change")?;
-    Ok(file.replacen(alloc, old, new, 1)?)
+pub(crate) fn changed(rt: &impl Abort, alloc: Global, file: &str, change: &str) -> String {
+    let unfolded = unfolded(rt, alloc, change);
+    let (old, new) = unfolded.split_once(" -> ").expect(rt, "a change");
+    file.replacen(alloc, old, new, 1).expect(rt, "error")
 }

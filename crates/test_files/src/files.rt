@@ -1,7 +1,8 @@
 //! Small files that the examples use. `docs/guide/FORMAT.md` names the first three D, V and C.
 
 use crate::samples::{ARABIC, CHINESE, ENGLISH, HINDI, RUSSIAN};
-use std::alloc::{AllocError, Global};
+use std::alloc::Global;
+use std::process::Abort;
 
 /// Three words.
 pub(crate) const DOGS_BARK: &str = "\
@@ -56,10 +57,10 @@ fn text_named(name: &str) -> &'static str {
 }
 
 /// The texts with these names, which spaces separate, one after another.
-pub(crate) fn file_of(alloc: Global, names: &str) -> Result<String, AllocError> {
+pub(crate) fn file_of(rt: &impl Abort, alloc: Global, names: &str) -> String {
     let mut file = String::new(alloc);
     for name in names.split(' ') {
-        file.push_str(text_named(name))?;
+        file.push_str(text_named(name)).expect(rt, "error");
     }
-    Ok(file)
+    file
 }

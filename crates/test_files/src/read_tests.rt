@@ -1,19 +1,19 @@
 //! What is read from bytes: rows, sentences one after another, and the first fault. The expected answers were worked
 //! out by hand.
 
-use crate::cases::{Question, assert_answers, unfolded};
+use crate::cases::{Question, assert_answers, assert_same, assert_text, unfolded};
 use crate::files::file_of;
-use std::alloc::{AllocError, Global};
-use std::test::Fail;
+use std::alloc::Global;
+use std::process::Abort;
 use tb_conllu::{
     BlockOf, RowOf, Sentences, Text, head_of, id_of, is_word_row, own_block, own_row, read,
     read_ref, row_of, words,
 };
 
 /// Appends whether the row is a word, its ID and its head as read, and its other fields in their order.
-fn tell_row<T: Text>(list: &mut String, row: &RowOf<T>) -> Result<(), AllocError> {
+fn tell_row<T: Text>(rt: &impl Abort, list: &mut String, row: &RowOf<T>) {
     let kind = if is_word_row(row) { "word" } else { "no word" };
-    write!(list, "{kind} {:?} {:?}", row.id, row.head)?;
+    write!(list, "{kind} {:?} {:?}", row.id, row.head).expect(rt, "error");
     for field in [
         &row.form,
         &row.lemma,
@@ -24,28 +24,25 @@ fn tell_row<T: Text>(list: &mut String, row: &RowOf<T>) -> Result<(), AllocError
         &row.deps,
         &row.misc,
     ] {
-        write!(list, "/{}", field.text())?;
+        write!(list, "/{}", field.text()).expect(rt, "error");
     }
-    list.push_str("\n")
+    list.push_str("\n").expect(rt, "error");
 }
 
 /// A line for each sentence: how many words it has, its comments and its rows.
-pub(crate) fn reported<T: Text>(
-    alloc: Global,
-    blocks: &[BlockOf<T>],
-) -> Result<String, AllocError> {
+pub(crate) fn reported<T: Text>(rt: &impl Abort, alloc: Global, blocks: &[BlockOf<T>]) -> String {
     let mut list = String::new(alloc);
     for block in blocks {
-        write!(list, "{} words\n", words(block))?;
+        write!(list, "{} words\n", words(block)).expect(rt, "error");
         for comment in &block.comments {
-            list.push_str(comment.text())?;
-            list.push_str("\n")?;
+            list.push_str(comment.text()).expect(rt, "error");
+            list.push_str("\n").expect(rt, "error");
         }
         for row in &block.rows {
-            tell_row(&mut list, row)?;
+            tell_row(rt, &mut list, row);
         }
     }
-    Ok(list)
+    list
 }
 
 /// The three files D, V and C in the order V, C, D, as `reported` writes them.
@@ -78,49 +75,77 @@ pub(crate) const FIELDS: &str = "\
     word Word(3) Some(2)/././PUNCT/_/_/punct/_/_\n";
 
 #[test]
-fn reads_the_fields_of_each_row(rt: HostRuntime) -> Result<(), Fail> {
+fn reads_the_fields_of_each_row(rt: HostRuntime) {
     let alloc = rt.alloc();
-    let file = file_of(alloc, "V C D")?;
-    let blocks = read(alloc, file.as_bytes())?;
-    assert_eq!(rt; reported(alloc, &blocks)?.as_str(), FIELDS);
-    let borrowed = read_ref(alloc, file.as_bytes())?;
-    assert_eq!(rt; reported(alloc, &borrowed)?.as_str(), FIELDS);
-    assert_eq!(rt; read_ref(alloc, b"")?.len(), 0);
-    let row = row_of("8.1\tw w\tl\tX\tx\tf\t_\tr\td\tm m")?;
+    let file = file_of(&rt, alloc, "V C D");
+    let blocks = read(alloc, file.as_bytes()).expect(&rt, "error");
+    assert_text(
+        &rt,
+        reported(&rt, alloc, &blocks).as_str(),
+        FIELDS,
+        "read_tests",
+    );
+    let borrowed = read_ref(alloc, file.as_bytes()).expect(&rt, "error");
+    assert_text(
+        &rt,
+        reported(&rt, alloc, &borrowed).as_str(),
+        FIELDS,
+        "read_tests",
+    );
+    assert_same(
+        &rt,
+        &read_ref(alloc, b"").expect(&rt, "error").len(),
+        &0,
+        "read_tests",
+    );
+    let row = row_of("8.1\tw w\tl\tX\tx\tf\t_\tr\td\tm m").expect(&rt, "error");
     let mut list = String::new(alloc);
-    tell_row(&mut list, &own_row(alloc, &row)?)?;
+    tell_row(&rt, &mut list, &own_row(alloc, &row).expect(&rt, "error"));
     let wanted = "no word Empty(8, 1) None/w w/l/X/x/f/r/d/m m\n";
-    assert_eq!(rt; list.as_str(), wanted);
-    Ok(())
+    assert_text(&rt, list.as_str(), wanted, "read_tests");
 }
 
 /// The next sentence, as `reported` writes an owned copy of it; or that none is left; or the fault.
-fn next_reported(alloc: Global, left: &mut Sentences<'_>) -> Result<String, AllocError> {
+fn next_reported(rt: &impl Abort, alloc: Global, left: &mut Sentences<'_>) -> String {
     match left.read_next(alloc) {
-        Ok(Some(block)) => reported(alloc, &[own_block(alloc, &block)?]),
-        Ok(None) => String::from_str(alloc, "nothing"),
-        Err(fault) => format!(in alloc; "{fault:?}"),
+        Ok(Some(block)) => {
+            let owned = own_block(alloc, &block).expect(rt, "error");
+            reported(rt, alloc, &[owned])
+        }
+        Ok(None) => String::from_str(alloc, "nothing").expect(rt, "error"),
+        Err(fault) => format!(in alloc; "{fault:?}").expect(rt, "error"),
     }
 }
 
 /// A fault is reported again where it was reported before.
 #[test]
-fn reads_one_sentence_after_another(rt: HostRuntime) -> Result<(), Fail> {
+fn reads_one_sentence_after_another(rt: HostRuntime) {
     let alloc = rt.alloc();
-    let file = file_of(alloc, "V C D x")?;
+    let file = file_of(&rt, alloc, "V C D x");
     let mut left = Sentences::new(file.as_bytes());
     let mut fields = String::new(alloc);
     for _ in 0..3 {
-        fields.push_str(next_reported(alloc, &mut left)?.as_str())?;
+        fields
+            .push_str(next_reported(&rt, alloc, &mut left).as_str())
+            .expect(&rt, "error");
     }
-    assert_eq!(rt; fields.as_str(), FIELDS);
+    assert_text(&rt, fields.as_str(), FIELDS, "read_tests");
     for _ in 0..2 {
-        let fault = next_reported(alloc, &mut left)?;
-        assert_eq!(rt; fault.as_str(), "At { line: 27, code: 10 }");
+        let fault = next_reported(&rt, alloc, &mut left);
+        assert_text(
+            &rt,
+            fault.as_str(),
+            "At { line: 27, code: 10 }",
+            "read_tests",
+        );
     }
     let mut none = Sentences::new(b"");
-    assert_eq!(rt; next_reported(alloc, &mut none)?.as_str(), "nothing");
-    Ok(())
+    assert_text(
+        &rt,
+        next_reported(&rt, alloc, &mut none).as_str(),
+        "nothing",
+        "read_tests",
+    );
 }
 
 /// What is wrong with a file, and what an ID and a HEAD spell.
@@ -131,14 +156,14 @@ enum ReadQuestion {
 }
 
 impl Question for ReadQuestion {
-    fn answer(&self, alloc: Global, asked: &str) -> Result<String, Fail> {
+    fn answer(&self, rt: &impl Abort, alloc: Global, asked: &str) -> String {
         match self {
             ReadQuestion::Fault => {
-                let file = unfolded(alloc, asked)?;
-                Ok(format!(in alloc; "{:?}", read(alloc, file.as_bytes()).err())?)
+                let file = unfolded(rt, alloc, asked);
+                format!(in alloc; "{:?}", read(alloc, file.as_bytes()).err()).expect(rt, "error")
             }
-            ReadQuestion::Id => Ok(format!(in alloc; "{:?}", id_of(asked))?),
-            ReadQuestion::Head => Ok(format!(in alloc; "{:?}", head_of(asked))?),
+            ReadQuestion::Id => format!(in alloc; "{:?}", id_of(asked)).expect(rt, "error"),
+            ReadQuestion::Head => format!(in alloc; "{:?}", head_of(asked)).expect(rt, "error"),
         }
     }
 }
@@ -174,9 +199,9 @@ const HEADS: &str = "\
     1000000 => None\n";
 
 #[test]
-fn tells_faults_and_spells_numbers(rt: HostRuntime) -> Result<(), Fail> {
+fn tells_faults_and_spells_numbers(rt: HostRuntime) {
     let alloc = rt.alloc();
-    assert_answers(&rt, alloc, &ReadQuestion::Fault, FAULTS, 5)?;
-    assert_answers(&rt, alloc, &ReadQuestion::Id, IDS, 13)?;
+    assert_answers(&rt, alloc, &ReadQuestion::Fault, FAULTS, 5);
+    assert_answers(&rt, alloc, &ReadQuestion::Id, IDS, 13);
     assert_answers(&rt, alloc, &ReadQuestion::Head, HEADS, 5)
 }

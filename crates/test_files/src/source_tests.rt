@@ -4,9 +4,10 @@ ghost use Rattle.std.specs.Prelude.{◌≡◌, ◌≤◌, [], length, map, vec_i
 ghost use Rattle.tb_check.specs.Check.{Answers, file_limit};
 ghost use Rattle.tb_check.specs.declared.reply.CheckReply.TheVariants.{Device};
 
+use crate::cases::{assert_same, assert_text};
 use crate::files::DOGS_BARK;
 use std::alloc::Global;
-use std::test::Fail;
+use std::process::Abort;
 use tb_check::{check_bytes, check_within, run_check};
 use tb_conllu::{Sink, Source, SourceFault};
 
@@ -76,34 +77,48 @@ fn check_cut<S: Sink>(alloc: Global, bytes: &[u8], out: &mut S) -> u8
 }
 
 /// The status, and the line that was printed.
-fn reported(alloc: Global, status: u8, out: &[u8]) -> Result<String, Fail> {
-    let line = str::from_utf8(out)?.strip_suffix('\n').ok_or("a line")?;
-    Ok(format!(in alloc; "{status} {line}")?)
+fn reported(rt: &impl Abort, alloc: Global, status: u8, out: &[u8]) -> String {
+    let line = str::from_utf8(out)
+        .expect(rt, "error")
+        .strip_suffix('\n')
+        .expect(rt, "error: a line");
+    format!(in alloc; "{status} {line}").expect(rt, "error")
 }
 
 /// A file that is cut off is a failed device, unless it is above the limit.
 #[test]
-fn a_source_that_is_cut_off(rt: HostRuntime) -> Result<(), Fail> {
+fn a_source_that_is_cut_off(rt: HostRuntime) {
     let alloc = rt.alloc();
     let file = DOGS_BARK.as_bytes();
     let mut out = Vec::new(alloc);
     let status = check_cut(alloc, file, &mut out);
-    assert_eq!(rt; reported(alloc, status, &out)?.as_str(), "3 refused device");
+    assert_text(
+        &rt,
+        reported(&rt, alloc, status, &out).as_str(),
+        "3 refused device",
+        "source_tests",
+    );
     let mut out = Vec::new(alloc);
     let status = check_within(alloc, &mut Cut { bytes: file }, &mut out, 149);
-    assert_eq!(rt; reported(alloc, status, &out)?.as_str(), "1 refused long");
+    assert_text(
+        &rt,
+        reported(&rt, alloc, status, &out).as_str(),
+        "1 refused long",
+        "source_tests",
+    );
     let mut out = Vec::new(alloc);
     let status = check_bytes(alloc, file, &mut out);
-    assert_eq!(rt;
-        reported(alloc, status, &out)?.as_str(),
-        "0 sentences 1 words 3"
+    assert_text(
+        &rt,
+        reported(&rt, alloc, status, &out).as_str(),
+        "0 sentences 1 words 3",
+        "source_tests",
     );
-    Ok(())
 }
 
 /// A file is read to its end. A file above the limit is read up to the first byte above it.
 #[test]
-fn a_source_that_counts_its_pieces(rt: HostRuntime) -> Result<(), Fail> {
+fn a_source_that_counts_its_pieces(rt: HostRuntime) {
     let alloc = rt.alloc();
     for (limit, wanted, pieces) in [
         (151, "0 sentences 1 words 3", 151),
@@ -118,8 +133,12 @@ fn a_source_that_counts_its_pieces(rt: HostRuntime) -> Result<(), Fail> {
         };
         let mut out = Vec::new(alloc);
         let status = check_within(alloc, &mut source, &mut out, limit);
-        assert_eq!(rt; reported(alloc, status, &out)?.as_str(), wanted);
-        assert_eq!(rt; source.given.len(), pieces);
+        assert_text(
+            &rt,
+            reported(&rt, alloc, status, &out).as_str(),
+            wanted,
+            "source_tests",
+        );
+        assert_same(&rt, &source.given.len(), &pieces, "source_tests");
     }
-    Ok(())
 }
