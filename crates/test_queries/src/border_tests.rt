@@ -5,40 +5,39 @@ use crate::cases::{cut, strategy};
 use crate::match_tests::search;
 use crate::patterns::{pattern, table};
 use crate::writing::{assert_reported, push, shown};
-use std::alloc::{AllocError, Global};
+use std::alloc::Global;
 use std::process::Abort;
-use std::test::Fail;
 use tb_match::Found;
 
 /// Writes a hit by its places, as `0-2`.
-fn push_hit(list: &mut String, hit: (u32, u32)) -> Result<(), AllocError> {
-    push(list, &hit.0)?;
-    list.push_str("-")?;
-    push(list, &hit.1)
+fn push_hit(rt: &impl Abort, list: &mut String, hit: (u32, u32)) {
+    push(list, &hit.0).expect(rt, "error");
+    list.push_str("-").expect(rt, "error");
+    push(list, &hit.1).expect(rt, "error");
 }
 
 /// How many hits there are, the first one and the last: `2: 0-1 .. 64-65`, or `0`. Then the steps, if they are asked
 /// for.
-fn summary(alloc: Global, found: &Found, with_steps: bool) -> Result<String, AllocError> {
-    let mut reported = shown(alloc, &found.hits.len())?;
+fn summary(rt: &impl Abort, alloc: Global, found: &Found, with_steps: bool) -> String {
+    let mut reported = shown(alloc, &found.hits.len()).expect(rt, "error");
     if let Some(hit) = found.hits.first() {
-        reported.push_str(": ")?;
-        push_hit(&mut reported, *hit)?;
+        reported.push_str(": ").expect(rt, "error");
+        push_hit(rt, &mut reported, *hit);
     }
     if let Some(hit) = found.hits.last() {
-        reported.push_str(" .. ")?;
-        push_hit(&mut reported, *hit)?;
+        reported.push_str(" .. ").expect(rt, "error");
+        push_hit(rt, &mut reported, *hit);
     }
     if with_steps {
-        reported.push_str("; ")?;
-        push(&mut reported, &found.steps)?;
+        reported.push_str("; ").expect(rt, "error");
+        push(&mut reported, &found.steps).expect(rt, "error");
     }
-    Ok(reported)
+    reported
 }
 
 /// The text at a number n: `n` is the number itself, `m` and `l` are one and two less, `k` is one more, `d` is twice n,
 /// and `t` is the sum of the numbers from 1 to n.
-fn at_number(alloc: Global, text: &str, n: usize) -> Result<String, AllocError> {
+fn at_number(rt: &impl Abort, alloc: Global, text: &str, n: usize) -> String {
     let mut all = String::new(alloc);
     for sign in text.chars() {
         let number = match sign {
@@ -49,13 +48,13 @@ fn at_number(alloc: Global, text: &str, n: usize) -> Result<String, AllocError> 
             'd' => n.saturating_mul(2),
             't' => n.saturating_mul(n.saturating_add(1)) / 2,
             _ => {
-                all.push(sign)?;
+                all.push(sign).expect(rt, "error");
                 continue;
             }
         };
-        push(&mut all, &number)?;
+        push(&mut all, &number).expect(rt, "error");
     }
-    Ok(all)
+    all
 }
 
 /// The number that a text spells; 0 where it spells none.
@@ -71,7 +70,7 @@ fn reported_of(
     case: &str,
     words: usize,
     with_steps: bool,
-) -> Result<String, Fail> {
+) -> String {
     let (case, limits) = match case.split_once(" within ") {
         Some(parts) => parts,
         None => (case, "0 to 1000000000000"),
@@ -79,25 +78,24 @@ fn reported_of(
     let (least, greatest) = cut(rt, limits, " to ");
     let (case, by) = cut(rt, case, " by ");
     let (text, letters) = cut(rt, case, " on ");
-    let truth = table(rt, alloc, letters, words)?;
-    let pat = pattern(rt, alloc, text)?;
-    let found = search(rt, alloc, &pat, &truth, strategy(rt, by))?;
+    let truth = table(rt, alloc, letters, words);
+    let pat = pattern(rt, alloc, text);
+    let found = search(rt, alloc, &pat, &truth, strategy(rt, by)).expect(rt, "error");
     assert!(rt; number(least) <= found.steps && found.steps <= number(greatest));
     for (i, j) in &found.hits {
         assert!(rt; *i < *j);
     }
-    Ok(summary(alloc, &found, with_steps)?)
+    summary(rt, alloc, &found, with_steps)
 }
 
 /// Asserts the hits of cases `PATTERN on TABLE by STRATEGY => HITS` in a sentence of n words.
-fn assert_hits(rt: &impl Abort, alloc: Global, cases: &str, words: usize) -> Result<(), Fail> {
+fn assert_hits(rt: &impl Abort, alloc: Global, cases: &str, words: usize) {
     for line in cases.lines() {
         let (case, hits) = cut(rt, line, " => ");
-        let reported = reported_of(rt, alloc, case, words, hits.contains(';'))?;
-        let wanted = at_number(alloc, hits, words)?;
+        let reported = reported_of(rt, alloc, case, words, hits.contains(';'));
+        let wanted = at_number(rt, alloc, hits, words);
         assert_reported(rt, reported.as_str(), wanted.as_str(), line);
     }
-    Ok(())
 }
 
 /// A star, and a star with a word that is nowhere.
@@ -175,15 +173,14 @@ const REPETITIONS: &str = "\
     1 ? 2 ? .2 4×2-32 on ast by longest within 4000 to 3000000 => 1: 0-1000 .. 0-1000";
 
 #[test]
-fn hits_at_each_length(rt: HostRuntime) -> Result<(), Fail> {
+fn hits_at_each_length(rt: HostRuntime) {
     let alloc = rt.alloc();
-    assert_hits(&rt, alloc, NO_WORDS, 0)?;
-    assert_hits(&rt, alloc, NINE_WORDS, 9)?;
-    assert_hits(&rt, alloc, REPETITIONS, 1000)?;
-    assert_hits(&rt, alloc, ANY_WORDS, 1)?;
+    assert_hits(&rt, alloc, NO_WORDS, 0);
+    assert_hits(&rt, alloc, NINE_WORDS, 9);
+    assert_hits(&rt, alloc, REPETITIONS, 1000);
+    assert_hits(&rt, alloc, ANY_WORDS, 1);
     for words in [2, 20, 30, 62, 63, 64, 65, 66, 127, 128, 129, 600, 1000] {
-        assert_hits(&rt, alloc, ANY_WORDS, words)?;
-        assert_hits(&rt, alloc, TWO_WORDS, words)?;
+        assert_hits(&rt, alloc, ANY_WORDS, words);
+        assert_hits(&rt, alloc, TWO_WORDS, words);
     }
-    Ok(())
 }

@@ -2,9 +2,8 @@
 
 use crate::questions::{Question, answer};
 use crate::writing::assert_reported;
-use std::alloc::{AllocError, Global};
+use std::alloc::Global;
 use std::process::Abort;
-use std::test::Fail;
 use tb_match::Strategy;
 
 /// The text before the sign, and the text after it.
@@ -26,48 +25,41 @@ pub(crate) fn strategy(rt: &impl Abort, name: &str) -> Strategy {
 }
 
 /// The text so many times, with a space for each `␣` and a line feed for each `␤`.
-fn push_times(all: &mut String, text: &str, times: u32) -> Result<(), AllocError> {
+fn push_times(rt: &impl Abort, all: &mut String, text: &str, times: u32) {
     for _ in 0..times {
         for sign in text.chars() {
             match sign {
-                '␣' => all.push(' ')?,
-                '␤' => all.push('\n')?,
-                _ => all.push(sign)?,
+                '␣' => all.push(' ').expect(rt, "error"),
+                '␤' => all.push('\n').expect(rt, "error"),
+                _ => all.push(sign).expect(rt, "error"),
             }
         }
     }
-    Ok(())
 }
 
 /// A text of the form `16×( [] 16×)`, written out: it is an expression in sixteen parentheses. Any other text is
 /// unchanged.
-fn spelled(alloc: Global, text: &str) -> Result<String, AllocError> {
+fn spelled(rt: &impl Abort, alloc: Global, text: &str) -> String {
     let mut all = String::new(alloc);
     if !text.contains('×') {
-        all.push_str(text)?;
-        return Ok(all);
+        all.push_str(text).expect(rt, "error");
+        return all;
     }
     for token in text.split(' ') {
         match token.split_once('×') {
-            Some((times, piece)) => push_times(&mut all, piece, times.parse().unwrap_or(0))?,
-            None => push_times(&mut all, token, 1)?,
+            Some((times, piece)) => push_times(rt, &mut all, piece, times.parse().unwrap_or(0)),
+            None => push_times(rt, &mut all, token, 1),
         }
     }
-    Ok(all)
+    all
 }
 
 /// Asserts the answer to each text of the cases.
-pub(crate) fn assert_cases(
-    rt: &impl Abort,
-    alloc: Global,
-    question: Question,
-    cases: &str,
-) -> Result<(), Fail> {
+pub(crate) fn assert_cases(rt: &impl Abort, alloc: Global, question: Question, cases: &str) {
     for case in cases.lines() {
         let (text, wanted) = cut(rt, case, " => ");
-        let whole = spelled(alloc, text)?;
-        let reported = answer(rt, alloc, question, whole.as_str())?;
+        let whole = spelled(rt, alloc, text);
+        let reported = answer(rt, alloc, question, whole.as_str());
         assert_reported(rt, reported.as_str(), wanted, case);
     }
-    Ok(())
 }

@@ -1,8 +1,7 @@
 //! Lexemes, written as letters.
 
-use std::alloc::{AllocError, Global};
+use std::alloc::Global;
 use std::process::Abort;
-use std::test::Fail;
 use tb_syntax::{Attr, Lexeme};
 
 /// The lexeme of a sign. Signs and digits represent themselves; letters represent what takes more than one sign, as
@@ -46,14 +45,14 @@ fn lexeme_of(sign: char, literals: u16) -> Lexeme {
 }
 
 /// The lexemes of a list of signs, whose literals are numbered.
-pub(crate) fn lexemes(alloc: Global, signs: &str) -> Result<Vec<Lexeme>, AllocError> {
+pub(crate) fn lexemes(rt: &impl Abort, alloc: Global, signs: &str) -> Vec<Lexeme> {
     let mut list = Vec::new(alloc);
     let mut literals: u16 = 0;
     for sign in signs.chars() {
-        list.push(lexeme_of(sign, literals))?;
+        list.push(lexeme_of(sign, literals)).expect(rt, "error");
         if sign == '"' {
             literals = literals.saturating_add(1);
         }
     }
-    Ok(list)
+    list
 }

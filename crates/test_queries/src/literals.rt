@@ -1,9 +1,8 @@
 //! The values that a literal fits, as text.
 
 use crate::cases::cut;
-use std::alloc::{AllocError, Global};
+use std::alloc::Global;
 use std::process::Abort;
-use std::test::Fail;
 use tb_literal::{LiteralCache, LiteralMatcher, PatternFault};
 use tb_syntax::Flag;
 
@@ -32,14 +31,14 @@ pub(crate) fn fit(
     text: &str,
     flag: Flag,
     by_items: bool,
-) -> Result<String, Fail> {
+) -> String {
     let (literal, value) = cut(rt, text, " at ");
-    let needle = needle(alloc, literal, flag)?;
-    let mut tester = needle.tester(alloc)?;
+    let needle = needle(alloc, literal, flag).expect(rt, "error");
+    let mut tester = needle.tester(alloc).expect(rt, "error");
     let reported = if fits(&mut tester, value, by_items) {
         "yes"
     } else {
         "no"
     };
-    Ok(String::from_str(alloc, reported)?)
+    String::from_str(alloc, reported).expect(rt, "error")
 }

@@ -3,7 +3,6 @@
 use crate::patterns::pattern;
 use std::alloc::{AllocError, Global};
 use std::process::Abort;
-use std::test::Fail;
 use tb_match::{Found, Pat, Strategy, Truth, find, fits, unite, weight};
 
 /// The hits of a pattern in a table.
@@ -20,7 +19,7 @@ pub(crate) fn search(
 }
 
 #[test]
-fn unions_of_all_lengths(rt: HostRuntime) -> Result<(), Fail> {
+fn unions_of_all_lengths(rt: HostRuntime) {
     let alloc = rt.alloc();
     for length in 0..21u64 {
         let mut to = Vec::new(alloc);
@@ -28,21 +27,20 @@ fn unions_of_all_lengths(rt: HostRuntime) -> Result<(), Fail> {
         let mut want = Vec::new(alloc);
         for k in 0..length {
             let (a, b) = (0x0123_4567_89ab_cdef ^ k, 0xf0f0_f0f0_0000_ffff ^ (k << 32));
-            to.push(a)?;
-            from.push(b)?;
-            want.push(a | b)?;
+            to.push(a).expect(&rt, "error");
+            from.push(b).expect(&rt, "error");
+            want.push(a | b).expect(&rt, "error");
         }
         let mut steps = 7;
         assert!(rt; to.len() == from.len());
         unite(&mut to, &from, &mut steps);
         assert!(rt; to == want && steps == 8);
     }
-    Ok(())
 }
 
 #[test]
-fn one_mark_at_a_time(rt: HostRuntime) -> Result<(), Fail> {
-    let mut truth = Truth::new(rt.alloc(), 3, 2)?;
+fn one_mark_at_a_time(rt: HostRuntime) {
+    let mut truth = Truth::new(rt.alloc(), 3, 2).expect(&rt, "error");
     assert!(rt; truth.exprs() == 2 && truth.words() == 3);
     assert!(rt; !truth.get(1, 2));
     truth.set(1, 2);
@@ -52,29 +50,27 @@ fn one_mark_at_a_time(rt: HostRuntime) -> Result<(), Fail> {
         assert!(rt; !truth.get(expr, word));
     }
     assert!(rt; truth.get(1, 2));
-    Ok(())
 }
 
 /// Five nested stars, and the heaviest pattern.
 #[test]
-fn patterns_weigh(rt: HostRuntime) -> Result<(), Fail> {
+fn patterns_weigh(rt: HostRuntime) {
     let alloc = rt.alloc();
-    assert!(rt; weight(&pattern(&rt, alloc, "0 5×*")?) == Some(11));
+    assert!(rt; weight(&pattern(&rt, alloc, "0 5×*")) == Some(11));
     let mut parts = Vec::new(alloc);
     for _ in 0..500_000 {
-        parts.push(Pat::Tok(0))?;
+        parts.push(Pat::Tok(0)).expect(&rt, "error");
     }
     let mut pat = Pat::Cat(parts);
     assert!(rt; weight(&pat) == Some(1_000_000) && fits(&pat, 1) && !fits(&pat, 0));
     if let Pat::Cat(parts) = &mut pat {
-        parts.push(Pat::Cat(Vec::new(alloc)))?;
+        parts.push(Pat::Cat(Vec::new(alloc))).expect(&rt, "error");
     }
     assert!(rt; weight(&pat).is_none() && !fits(&pat, 1));
-    Ok(())
 }
 
 #[test]
-fn numbers_of_repetitions(rt: HostRuntime) -> Result<(), Fail> {
+fn numbers_of_repetitions(rt: HostRuntime) {
     for (least, most, fit) in [
         (0, None, true),
         (32, None, true),
@@ -86,8 +82,11 @@ fn numbers_of_repetitions(rt: HostRuntime) -> Result<(), Fail> {
         (32, Some(32), true),
         (0, Some(33), false),
     ] {
-        let pat = Pat::Rep(Box::new(rt.alloc(), Pat::Tok(0))?, least, most);
+        let pat = Pat::Rep(
+            Box::new(rt.alloc(), Pat::Tok(0)).expect(&rt, "error"),
+            least,
+            most,
+        );
         assert!(rt; fits(&pat, 1) == fit);
     }
-    Ok(())
 }

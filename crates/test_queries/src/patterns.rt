@@ -1,6 +1,6 @@
 //! Patterns and tables of truths as short texts.
 
-use std::alloc::{AllocError, Global};
+use std::alloc::Global;
 use std::process::Abort;
 use tb_match::{Pat, Truth};
 
@@ -18,34 +18,34 @@ enum Node {
 }
 
 /// The pattern that a node makes of its parts.
-fn made(alloc: Global, node: Node, mut parts: Vec<Pat>) -> Result<Option<Pat>, AllocError> {
+fn made(rt: &impl Abort, alloc: Global, node: Node, mut parts: Vec<Pat>) -> Option<Pat> {
     match node {
-        Node::Word(expr) => Ok(Some(Pat::Tok(expr))),
-        Node::Sequence(_) => Ok(Some(Pat::Cat(parts))),
-        Node::Choice(_) => Ok(Some(Pat::Alt(parts))),
+        Node::Word(expr) => Some(Pat::Tok(expr)),
+        Node::Sequence(_) => Some(Pat::Cat(parts)),
+        Node::Choice(_) => Some(Pat::Alt(parts)),
         Node::Repeated(least, most) => match parts.pop() {
-            Some(inner) => Ok(Some(Pat::Rep(Box::new(alloc, inner)?, least, most))),
-            None => Ok(None),
+            Some(inner) => Some(Pat::Rep(Box::new(alloc, inner).expect(rt, "error"), least, most)),
+            None => None,
         },
     }
 }
 
 /// Replaces the last patterns by the node that is made of them. Returns whether there were enough.
-fn put(alloc: Global, pats: &mut Vec<Pat>, node: Node) -> Result<bool, AllocError> {
+fn put(rt: &impl Abort, alloc: Global, pats: &mut Vec<Pat>, node: Node) -> bool {
     let count = match node {
         Node::Word(_) => 0,
         Node::Sequence(count) | Node::Choice(count) => count,
         Node::Repeated(_, _) => 1,
     };
     if pats.len() < count {
-        return Ok(false);
+        return false;
     }
-    let parts = pats.split_off(pats.len() - count)?;
-    let Some(pat) = made(alloc, node, parts)? else {
-        return Ok(false);
+    let parts = pats.split_off(pats.len() - count).expect(rt, "error");
+    let Some(pat) = made(rt, alloc, node, parts) else {
+        return false;
     };
-    pats.push(pat)?;
-    Ok(true)
+    pats.push(pat).expect(rt, "error");
+    true
 }
 
 /// The node of a token: `*`, `+`, `?`, `2-4` and `2-` repeat, `.3` is a sequence and `|3` a choice of three patterns,
@@ -66,7 +66,7 @@ fn node_of(token: &str) -> Node {
 }
 
 /// The pattern of a text in postfix order: `0 1 * .2` for `[0] [1]*`, `0 5×*` for five stars.
-pub(crate) fn pattern(rt: &impl Abort, alloc: Global, text: &str) -> Result<Pat, AllocError> {
+pub(crate) fn pattern(rt: &impl Abort, alloc: Global, text: &str) -> Pat {
     let mut pats = Vec::new(alloc);
     for token in text.split(' ') {
         let (times, token) = match token.split_once('×') {
@@ -74,14 +74,14 @@ pub(crate) fn pattern(rt: &impl Abort, alloc: Global, text: &str) -> Result<Pat,
             None => ("1", token),
         };
         for _ in 0..times.parse::<u32>().unwrap_or(0) {
-            let ready = put(alloc, &mut pats, node_of(token))?;
+            let ready = put(rt, alloc, &mut pats, node_of(token));
             assert!(rt; ready, "the parts of the node are there");
         }
     }
     let only = pats.pop();
     assert!(rt; pats.is_empty(), "the text is one pattern");
     match only {
-        Some(pat) => Ok(pat),
+        Some(pat) => pat,
         None => panic!(rt; "the text is a pattern"),
     }
 }
@@ -118,15 +118,10 @@ fn mark(truth: &mut Truth, expr: u16, word: usize) {
 }
 
 /// The table of a sentence of so many words, with an expression for each letter.
-pub(crate) fn table(
-    rt: &impl Abort,
-    alloc: Global,
-    letters: &str,
-    words: usize,
-) -> Result<Truth, AllocError> {
+pub(crate) fn table(rt: &impl Abort, alloc: Global, letters: &str, words: usize) -> Truth {
     let exprs = letters.len();
     assert!(rt; exprs <= 32 && words <= 1000, "a table within the limits");
-    let mut truth = Truth::new(alloc, words, exprs as u16)?;
+    let mut truth = Truth::new(alloc, words, exprs as u16).expect(rt, "error");
     let mut expr: u16 = 0;
     for letter in letters.chars() {
         for word in 1..words + 1 {
@@ -136,5 +131,5 @@ pub(crate) fn table(
         }
         expr = expr.saturating_add(1);
     }
-    Ok(truth)
+    truth
 }

@@ -4,7 +4,6 @@ use crate::cases::cut;
 use crate::reading::query_of;
 use crate::search_tests::BOAT;
 use crate::writing::assert_reported;
-use std::test::Fail;
 use tb_prefilter::PrefilteredSearcher;
 
 /// A value between two tabs; parts that a match may lack; choices, negations and patterns, which need no bytes.
@@ -32,12 +31,12 @@ const CASES: &str = r#"[] => searched
 [lemma="boat"] => searched"#;
 
 #[test]
-fn sentences_are_passed_over(rt: HostRuntime) -> Result<(), Fail> {
+fn sentences_are_passed_over(rt: HostRuntime) {
     let alloc = rt.alloc();
     for case in CASES.lines() {
         let (text, wanted) = cut(&rt, case, " => ");
-        let query = query_of(alloc, text)?;
-        let searcher = PrefilteredSearcher::new(alloc, &query)?;
+        let query = query_of(&rt, alloc, text);
+        let searcher = PrefilteredSearcher::new(alloc, &query).expect(&rt, "error");
         let reported = if searcher.may_hit(BOAT.as_bytes()) {
             "searched"
         } else {
@@ -45,5 +44,4 @@ fn sentences_are_passed_over(rt: HostRuntime) -> Result<(), Fail> {
         };
         assert_reported(&rt, reported, wanted, case);
     }
-    Ok(())
 }

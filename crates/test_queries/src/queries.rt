@@ -2,42 +2,44 @@
 
 use crate::writing::{push, shown};
 use std::alloc::Global;
-use std::test::Fail;
+use std::process::Abort;
 use tb_match::fits;
 use tb_syntax::{Lexed, Parsed, Query, read};
 
 /// Its lexemes, and their places.
-pub(crate) fn placed(alloc: Global, text: &str) -> Result<String, Fail> {
-    let Lexed { lexemes, spans } = read(alloc, text)?;
-    let mut reported = shown(alloc, &lexemes)?;
-    reported.push_str(" ")?;
-    push(&mut reported, &spans)?;
-    Ok(reported)
+pub(crate) fn placed(rt: &impl Abort, alloc: Global, text: &str) -> String {
+    let Lexed { lexemes, spans } = read(alloc, text).expect(rt, "error");
+    let mut reported = shown(alloc, &lexemes).expect(rt, "error");
+    reported.push_str(" ").expect(rt, "error");
+    push(&mut reported, &spans).expect(rt, "error");
+    reported
 }
 
 /// Its pattern, its token expressions, and whether the pattern fits that many.
-pub(crate) fn tree(alloc: Global, text: &str) -> Result<String, Fail> {
+pub(crate) fn tree(rt: &impl Abort, alloc: Global, text: &str) -> String {
     let Query {
         parsed,
         literals: _,
-    } = tb_syntax::parse(alloc, text)?;
+    } = tb_syntax::parse(alloc, text).expect(rt, "error");
     let Parsed { pat, exprs } = parsed;
     let fit = fits(&pat, exprs.len() as u16);
-    let mut reported = shown(alloc, &pat)?;
-    reported.push_str(" ")?;
-    push(&mut reported, &exprs)?;
-    reported.push_str(if fit { " fits" } else { " does not fit" })?;
-    Ok(reported)
+    let mut reported = shown(alloc, &pat).expect(rt, "error");
+    reported.push_str(" ").expect(rt, "error");
+    push(&mut reported, &exprs).expect(rt, "error");
+    reported
+        .push_str(if fit { " fits" } else { " does not fit" })
+        .expect(rt, "error");
+    reported
 }
 
 /// The values of its literals.
-pub(crate) fn literals(alloc: Global, text: &str) -> Result<String, Fail> {
-    let query = tb_syntax::parse(alloc, text)?;
+pub(crate) fn literals(rt: &impl Abort, alloc: Global, text: &str) -> String {
+    let query = tb_syntax::parse(alloc, text).expect(rt, "error");
     let mut reported = String::new(alloc);
     for literal in &query.literals {
-        reported.push_str("<")?;
-        reported.push_str(literal.as_str())?;
-        reported.push_str(">")?;
+        reported.push_str("<").expect(rt, "error");
+        reported.push_str(literal.as_str()).expect(rt, "error");
+        reported.push_str(">").expect(rt, "error");
     }
-    Ok(reported)
+    reported
 }

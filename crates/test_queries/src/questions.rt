@@ -6,7 +6,6 @@ use crate::queries::{literals, placed, tree};
 use crate::writing::shown;
 use std::alloc::Global;
 use std::process::Abort;
-use std::test::Fail;
 use tb_syntax::{Flag, repeats_within, scan};
 
 /// A question that can be asked of the text of a case.
@@ -35,26 +34,27 @@ pub(crate) enum Question {
 }
 
 /// The answer for the text.
-pub(crate) fn answer(
-    rt: &impl Abort,
-    alloc: Global,
-    question: Question,
-    text: &str,
-) -> Result<String, Fail> {
+pub(crate) fn answer(rt: &impl Abort, alloc: Global, question: Question, text: &str) -> String {
     match question {
         Question::Scan => {
-            let list = lexemes(alloc, text)?;
+            let list = lexemes(rt, alloc, text);
             assert!(rt; list.len() <= 2000, "few lexemes");
-            Ok(shown(alloc, &scan(&list).err())?)
+            shown(alloc, &scan(&list).err()).expect(rt, "error")
         }
-        Question::Repeats => Ok(shown(alloc, &repeats_within(&lexemes(alloc, text)?, 32))?),
-        Question::Fault => Ok(shown(alloc, &tb_syntax::parse(alloc, text).err())?),
-        Question::Places => placed(alloc, text),
-        Question::Tree => tree(alloc, text),
-        Question::Literals => literals(alloc, text),
+        Question::Repeats => shown(alloc, &repeats_within(&lexemes(rt, alloc, text), 32)).expect(
+            rt, "error",
+        ),
+        Question::Fault => shown(alloc, &tb_syntax::parse(alloc, text).err()).expect(rt, "error"),
+        Question::Places => placed(rt, alloc, text),
+        Question::Tree => tree(rt, alloc, text),
+        Question::Literals => literals(rt, alloc, text),
         Question::Value(flag) => fit(rt, alloc, text, flag, false),
         Question::Item(flag) => fit(rt, alloc, text, flag, true),
-        Question::Refusal(flag) => Ok(shown(alloc, &needle(alloc, text, flag).err())?),
-        Question::QueryFault => Ok(shown(alloc, &tb_query::parse(alloc, text).err())?),
+        Question::Refusal(flag) => shown(alloc, &needle(alloc, text, flag).err()).expect(
+            rt, "error",
+        ),
+        Question::QueryFault => shown(alloc, &tb_query::parse(alloc, text).err()).expect(
+            rt, "error",
+        ),
     }
 }

@@ -2,22 +2,17 @@
 
 use std::alloc::Global;
 use std::process::Abort;
-use std::test::Fail;
 use tb_conllu::{BlockRef, read_ref};
 use tb_query::{Query, parse};
 
 /// The sentences of a file.
-pub(crate) fn sentences_of<'a>(
-    rt: &impl Abort,
-    alloc: Global,
-    file: &'a str,
-) -> Result<Vec<BlockRef<'a>>, Fail> {
-    let sentences = read_ref(alloc, file.as_bytes())?;
+pub(crate) fn sentences_of<'a>(rt: &impl Abort, alloc: Global, file: &'a str) -> Vec<BlockRef<'a>> {
+    let sentences = read_ref(alloc, file.as_bytes()).expect(rt, "error");
     assert!(rt; sentences.len() > 0, "the file has a sentence");
-    Ok(sentences)
+    sentences
 }
 
 /// The query of a text.
-pub(crate) fn query_of(alloc: Global, text: &str) -> Result<Query, Fail> {
-    Ok(parse(alloc, text)?)
+pub(crate) fn query_of(rt: &impl Abort, alloc: Global, text: &str) -> Query {
+    parse(alloc, text).expect(rt, "error")
 }

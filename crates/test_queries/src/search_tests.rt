@@ -7,7 +7,6 @@ use crate::reading::{query_of, sentences_of};
 use crate::writing::{assert_reported, shown};
 use std::alloc::{AllocError, Global};
 use std::process::Abort;
-use std::test::Fail;
 use tb_conllu::{BlockOf, BlockRef, Text, own_block, words};
 use tb_match::Strategy;
 use tb_query::{Attr, Expr, Flag, Query, QueryFault, Searcher, parse};
@@ -32,29 +31,28 @@ fn assert_finds<T: Text>(
     sentence: &BlockOf<T>,
     strategy: Strategy,
     hits: &[(u32, u32)],
-) -> Result<(), Fail> {
+) {
     let few = words(sentence) <= 1000;
     assert!(rt; few, "the sentence is searched");
-    let found = query.hits(alloc, sentence, strategy)?;
+    let found = query.hits(alloc, sentence, strategy).expect(rt, "error");
     assert!(rt; found.hits.as_slice() == hits && found.steps <= 168);
-    let found = searcher.hits(alloc, sentence, strategy)?;
+    let found = searcher.hits(alloc, sentence, strategy).expect(rt, "error");
     assert!(rt; found.hits.as_slice() == hits && found.steps <= 168);
-    let table = query.truth(alloc, sentence)?;
-    let found = search(rt, alloc, query.pat(), &table, strategy)?;
+    let table = query.truth(alloc, sentence).expect(rt, "error");
+    let found = search(rt, alloc, query.pat(), &table, strategy).expect(rt, "error");
     assert!(rt; found.hits.as_slice() == hits);
-    let table = searcher.truth(alloc, sentence)?;
-    let found = search(rt, alloc, query.pat(), &table, strategy)?;
+    let table = searcher.truth(alloc, sentence).expect(rt, "error");
+    let found = search(rt, alloc, query.pat(), &table, strategy).expect(rt, "error");
     assert!(rt; found.hits.as_slice() == hits);
-    Ok(())
 }
 
 /// Adjectives and a noun, by one searcher: in a borrowed sentence, in an owned copy, and in a sentence without words.
 #[test]
-fn sentences_are_searched(rt: HostRuntime) -> Result<(), Fail> {
+fn sentences_are_searched(rt: HostRuntime) {
     let alloc = rt.alloc();
-    let query = query_of(alloc, r#"[upos="ADJ"]* [upos="NOUN"]"#)?;
-    let mut searcher = query.searcher(alloc)?;
-    let boats = sentences_of(&rt, alloc, BOAT)?;
+    let query = query_of(&rt, alloc, r#"[upos="ADJ"]* [upos="NOUN"]"#);
+    let mut searcher = query.searcher(alloc).expect(&rt, "error");
+    let boats = sentences_of(&rt, alloc, BOAT);
     assert!(rt; boats.len() == 1);
     let empty = BlockRef {
         comments: Vec::new(alloc),
@@ -66,19 +64,18 @@ fn sentences_are_searched(rt: HostRuntime) -> Result<(), Fail> {
         (Strategy::Every, [(1, 4), (2, 4), (3, 4), (5, 6)].as_slice()),
     ] {
         for boat in &boats {
-            let owned = own_block(alloc, boat)?;
-            assert_finds(&rt, alloc, &query, &mut searcher, boat, strategy, hits)?;
-            assert_finds(&rt, alloc, &query, &mut searcher, &owned, strategy, hits)?;
+            let owned = own_block(alloc, boat).expect(&rt, "error");
+            assert_finds(&rt, alloc, &query, &mut searcher, boat, strategy, hits);
+            assert_finds(&rt, alloc, &query, &mut searcher, &owned, strategy, hits);
         }
-        assert_finds(&rt, alloc, &query, &mut searcher, &empty, strategy, &[])?;
+        assert_finds(&rt, alloc, &query, &mut searcher, &empty, strategy, &[]);
     }
-    Ok(())
 }
 
 #[test]
-fn expressions_are_handed_out(rt: HostRuntime) -> Result<(), Fail> {
-    let query = query_of(rt.alloc(), r#"[lemma="dog"%l]"#)?;
-    let pattern = shown(rt.alloc(), query.pat())?;
+fn expressions_are_handed_out(rt: HostRuntime) {
+    let query = query_of(&rt, rt.alloc(), r#"[lemma="dog"%l]"#);
+    let pattern = shown(rt.alloc(), query.pat()).expect(&rt, "error");
     assert_reported(&rt, pattern.as_str(), "Tok(0)", "the pattern");
     assert!(rt; query.exprs().len() == 1);
     for expr in query.exprs() {
@@ -88,7 +85,6 @@ fn expressions_are_handed_out(rt: HostRuntime) -> Result<(), Fail> {
         assert!(rt; *attr == Attr::Lemma && needle.flag() == Flag::Literal);
         assert!(rt; needle.text() == "dog");
     }
-    Ok(())
 }
 
 /// The text of a fault.
@@ -100,14 +96,18 @@ const MESSAGES: &str = r#"[upos=] => outside the grammar at byte 6
 "a" "[" => literal 2 is no pattern"#;
 
 #[test]
-fn faults_are_said(rt: HostRuntime) -> Result<(), Fail> {
+fn faults_are_said(rt: HostRuntime) {
     let alloc = rt.alloc();
     for case in MESSAGES.lines() {
         let (text, wanted) = cut(&rt, case, " => ");
         let Err(fault) = parse(alloc, text) else {
             panic!(rt; "the text is a query");
         };
-        assert_reported(&rt, message(alloc, &fault)?.as_str(), wanted, case);
+        assert_reported(
+            &rt,
+            message(alloc, &fault).expect(&rt, "error").as_str(),
+            wanted,
+            case,
+        );
     }
-    Ok(())
 }

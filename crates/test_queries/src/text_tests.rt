@@ -4,7 +4,6 @@
 use crate::cases::assert_cases;
 use crate::lexemes::lexemes;
 use crate::questions::Question;
-use std::test::Fail;
 use tb_query::{
     a_query_has_no_fault, a_text_asks_one_thing, a_text_has_one_fault, a_text_has_one_reading,
     literals_are_in_order,
@@ -106,7 +105,7 @@ const QUERY_FAULTS: &str = r#"[word="go"%c & !feats contains "X"] => None
 "(a{1000}){1000}" => Some(Memory)"#;
 
 #[test]
-fn texts_are_read(rt: HostRuntime) -> Result<(), Fail> {
+fn texts_are_read(rt: HostRuntime) {
     let alloc = rt.alloc();
     assert!(rt; tb_syntax::parse(alloc, "\t\"a\"\r\n+ ;").is_ok());
     for (question, cases) in [
@@ -118,15 +117,14 @@ fn texts_are_read(rt: HostRuntime) -> Result<(), Fail> {
         (Question::Literals, LITERALS),
         (Question::QueryFault, QUERY_FAULTS),
     ] {
-        assert_cases(&rt, alloc, question, cases)?;
+        assert_cases(&rt, alloc, question, cases);
     }
-    Ok(())
 }
 
 /// In `([(word="a")])` two parentheses are open around the test. In `[word="a"] "b" ([])` the literal of the test is
 /// no token expression.
 #[test]
-fn lexemes_are_counted(rt: HostRuntime) -> Result<(), Fail> {
+fn lexemes_are_counted(rt: HostRuntime) {
     one_reading();
     one_lexing();
     literals_are_quoted();
@@ -140,11 +138,10 @@ fn lexemes_are_counted(rt: HostRuntime) -> Result<(), Fail> {
     literals_are_in_order();
     assert!(rt; Flag::Plain != Flag::Literal);
     assert!(rt; scan(&[]) == Err(0));
-    let grouped = lexemes(rt.alloc(), r#"([(w=")])"#)?;
+    let grouped = lexemes(&rt, rt.alloc(), r#"([(w=")])"#);
     assert!(rt; grouped.len() == 9);
     assert!(rt; nests_within(&grouped, 2) && !nests_within(&grouped, 1));
-    let three = lexemes(rt.alloc(), r#"[w="]"([])"#)?;
+    let three = lexemes(&rt, rt.alloc(), r#"[w="]"([])"#);
     assert!(rt; three.len() == 10 && count_expressions(&three) == 3);
     assert!(rt; count_expressions(&[Lexeme::LeftBracket, Lexeme::RightBracket]) == 1);
-    Ok(())
 }
