@@ -55,9 +55,9 @@ none_above strategy limit n (inr is) above = subst (λ (x : Strategy). IsAbove x
 module _ (s : Machine) (q : Asked) (strategy : Strategy) (n : ℕ) where
   -- after a head that was put
   pub after_head : (head bytes : List ℕ) (old mid new : Option (List ℕ)) (e : Ending) → bytes ≡ head → Appends old mid bytes → IsStreamed s q strategy n [] mid new e → IsStreamed s q strategy n head old new e
-  after_head head bytes old mid new Whole is put (found, are, then_) =
+  after_head head bytes old mid new (Whole hits) is put (found, are, then_, number) =
       let first = subst (Appends old mid) is put in
-      (found, are, Appends-trans old mid new head (answer n found) first then_)
+      (found, are, Appends-trans old mid new head (answer n found) first then_, number)
   after_head head bytes old mid new BrokenOff is put broke = λ found are.
       let first = subst (Appends old mid) is put in
       let it = broke found are in

@@ -1,6 +1,6 @@
 -- The calls of a desk that a line of words makes, and what each writes and leaves.
 use Rattle.std.specs.Prelude.{◌≡◌, ◌≤◌, ◌<◌, ◌-◌, ◌^◌, ◌⊎◌, ℕ, List, Option, Some, None}
-use Rattle.std.specs.Prelude.{IsTrue}
+use Rattle.std.specs.Prelude.{IsTrue, length}
 use Rattle.sqlite.specs.Store.{Ghosts}
 use Rattle.sqlite.specs.Held.{state}
 use Rattle.sqlite_trees.specs.View.{doubt}
@@ -22,6 +22,8 @@ use Rattle.tb_answer.specs.declared.calls.DeskCall.{DeskCall}
 use Rattle.tb_answer.specs.declared.calls.DeskCall.TheVariants as call
 use Rattle.tb_answer.specs.declared.questions.Question.{Question}
 use Rattle.tb_answer.specs.declared.questions.Question.TheVariants as question
+use Rattle.tb_answer.specs.declared.written.Written.{Written}
+use Rattle.tb_answer.specs.declared.written.Written.TheVariants as written
 use Rattle.tb_answer.specs.Commanded.{HasFailed, IsAnswered}
 use Rattle.tb_answer.specs.Asked.{IsBody, IsReportedOf}
 
@@ -73,16 +75,17 @@ call_asked act.totals user body = Some (asks question.Totals)
 call_asked act.moves user body = Some (asks question.Moves)
 call_asked _ user body = None
 
--- The text that answers a call in a state, and its own exit status: a reply with its status, or the text of a question
--- with 0.
+-- The text that answers a call in a state, its own exit status, and the value that says what it is: a reply with its
+-- status, or the text of a question with 0.
 abbrev pub IsOutput : {S : Type 0} → Ghosts S → Limits → Machine → CallText → (old new : Kept S)
-    → (text : List ℕ) → (own : ℕ) → Type 0
-IsOutput g l s (commands c) old new text own = (r : Reply) × IsAnswered g l s c old new r
-    × (text ≡ reply_text r) × (own ≡ exit_of r)
-IsOutput g l s (asks q) old new text own =
+    → (text : List ℕ) → (own : ℕ) → Written → Type 0
+IsOutput g l s (commands c) old new text own w = (r : Reply) × IsAnswered g l s c old new r
+    × (text ≡ reply_text r) × (own ≡ exit_of r) × (w ≡ written.Reply r)
+IsOutput g l s (asks q) old new text own w =
     (IsTrue (state g new.conn).is_open → Represents g new s)
-    × (((rev : Option ℕ) × IsBody s q rev text × (own ≡ 0)) ⊎ ((r : Reply)
-    × IsReportedOf (HasFailed g old new) s q r × (text ≡ reply_text r) × (own ≡ exit_of r)))
+    × (((rev : Option ℕ) × IsBody s q rev text × (own ≡ 0) × (w ≡ written.Text (length text))) ⊎ ((r : Reply)
+    × IsReportedOf (HasFailed g old new) s q r × (text ≡ reply_text r) × (own ≡ exit_of r)
+    × (w ≡ written.Reply r)))
 
 -- the disk stays doubted where it was, and its count of faults does not fall
 abbrev pub ForgetsNothing : {S : Type 0} → Ghosts S → (old new : Kept S) → Type 0

@@ -1,5 +1,5 @@
 -- What an export has in a state: the batch with the given name, or released text where there is no name.
-use Rattle.std.specs.Prelude.{◌≡◌, ◌⊎◌, ℕ, List, Option, Some, None, Result, Ok, Err}
+use Rattle.std.specs.Prelude.{◌≡◌, ◌⊎◌, ℕ, List, length, Option, Some, None, Result, Ok, Err}
 use Rattle.tb_core.specs.declared.refusals.Refusal.{Refusal}
 use Rattle.tb_core.specs.declared.refusals.Fault.TheVariants.{Refused}
 use Rattle.tb_core.specs.Machine.{Machine, Sentence}
@@ -11,6 +11,8 @@ use Rattle.tb_http.specs.declared.replies.Reply.TheVariants as reply
 use Rattle.tb_http.specs.declared.status.Status.{Status}
 use Rattle.tb_http.specs.declared.status.Status.TheVariants as status
 use Rattle.tb_http.specs.Replies.{reply_text, exit_of, status_of}
+use Rattle.tb_answer.specs.declared.written.Written.{Written}
+use Rattle.tb_answer.specs.declared.written.Written.TheVariants as written
 use Rattle.tb_answer.specs.Commanded.{IsFailure}
 use Rattle.tb_answer.specs.Responses.{reply_response, body_response}
 
@@ -34,13 +36,13 @@ abbrev pub IsReportedOfExport : (cause : Type 0) → Machine → (name : Option 
 IsReportedOfExport cause s name reported = ((r : Refusal) × (reported ≡ reply.Refused r) × HasExport s name (Err r))
     ⊎ IsFailure cause reported
 
--- The text of an export on the command line, and its own exit status.
+-- The text of an export on the command line, its own exit status, and the value that says what it is.
 abbrev pub IsExportOutput : (cause : Type 0) → Machine → (name : Option (List ℕ)) → (text : List ℕ)
-    → (own : ℕ)
-    → Type 0
-IsExportOutput cause s name text own =
-    (HasExport s name (Ok text) × (own ≡ 0))
-    ⊎ ((r : Reply) × IsReportedOfExport cause s name r × (text ≡ reply_text r) × (own ≡ exit_of r))
+    → (own : ℕ) → Written → Type 0
+IsExportOutput cause s name text own w =
+    (HasExport s name (Ok text) × (own ≡ 0) × (w ≡ written.Text (length text)))
+    ⊎ ((r : Reply) × IsReportedOfExport cause s name r × (text ≡ reply_text r) × (own ≡ exit_of r)
+    × (w ≡ written.Reply r))
 
 -- The response of an export in a state, and its status: 200 with the text, or that of a reply.
 abbrev pub IsExportResponse : (cause : Type 0) → Machine → (name : Option (List ℕ)) → (text : List ℕ)

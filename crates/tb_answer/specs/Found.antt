@@ -12,7 +12,7 @@ use Rattle.tb_core.specs.declared.limits.Limits.{Limits}
 use Rattle.tb_core.specs.declared.refusals.Refusal.TheVariants as refusal
 use Rattle.tb_core.specs.Machine.{Machine}
 use Rattle.tb_report.specs.Csv.{freq_csv}
-use Rattle.tb_report.specs.Tables.{Row, IsTableOf, IsRankingOf}
+use Rattle.tb_report.specs.Tables.{Row, IsTableOf, IsRankingOf, total_of}
 use Rattle.tb_http.specs.declared.heads.Extra.TheVariants as extra
 use Rattle.tb_http.specs.declared.replies.Reply.{Reply}
 use Rattle.tb_http.specs.declared.replies.Reply.TheVariants as reply
@@ -27,6 +27,8 @@ use Rattle.tb_answer.specs.declared.finding.Search.{Search}
 use Rattle.tb_answer.specs.declared.finding.Count.{Count}
 use Rattle.tb_answer.specs.declared.ending.Ending.{Ending}
 use Rattle.tb_answer.specs.declared.ending.Ending.TheVariants.{Whole, BrokenOff, Refused}
+use Rattle.tb_answer.specs.declared.written.Written.{Written}
+use Rattle.tb_answer.specs.declared.written.Written.TheVariants as written
 use Rattle.tb_answer.specs.Commanded.{IsFailure}
 use Rattle.tb_answer.specs.Output.{IsWritten}
 use Rattle.tb_answer.specs.Responses.{reply_response, body_response, IsSent}
@@ -87,12 +89,13 @@ IsAskedQuery l s text strategy q = IsQuery text q × IsAllowed l s q strategy
 
 -- ---- a search, whose lines are written as they are found
 
--- What a sink has after a head, by the ending of the search. `Whole` has the whole answer. `BrokenOff` has the whole
--- keyword lines of the first hits, without the last line. `Refused` has a first part of the answer.
+-- What a sink has after a head, by the ending of the search. `Whole` has the whole answer, with so many hits.
+-- `BrokenOff` has the whole keyword lines of the first hits, without the last line. `Refused` has a first part of the
+-- answer.
 abbrev pub IsStreamed : Machine → Asked → Strategy → ℕ → (head : List ℕ) → (old new : Option (List ℕ))
     → Ending → Type 0
-IsStreamed s q strategy n head old new Whole = (found : List Occurrence) × AreReleasedHits s q strategy found
-    × Appends old new (head ++ answer n found)
+IsStreamed s q strategy n head old new (Whole hits) = (found : List Occurrence) × AreReleasedHits s q strategy found
+    × Appends old new (head ++ answer n found) × (hits ≡ length found)
 IsStreamed s q strategy n head old new BrokenOff =
     (found : List Occurrence) → AreReleasedHits s q strategy found → (first : List Occurrence)
     × (rest : List Occurrence) × (found ≡ first ++ rest) × Appends old new (head ++ lines n first)
@@ -108,24 +111,24 @@ IsFound l s x head old new is_refusal e =
     × (e ≡ Refused → HasReason is_refusal)
 
 abbrev pub exit_of_ending : Ending → ℕ
-exit_of_ending Whole = 0
+exit_of_ending (Whole hits) = 0
 exit_of_ending BrokenOff = 3
 exit_of_ending Refused = 3
 
 -- over HTTP the status is sent before a search can break off
 abbrev pub reported_of_ending : Ending → Option Status
-reported_of_ending Whole = Some Ok
+reported_of_ending (Whole hits) = Some Ok
 reported_of_ending BrokenOff = Some Ok
 reported_of_ending Refused = None
 
 -- A search on the command line: what is found, with the status of the ending; or the line of a reply, with its own
--- status.
+-- status. The value says which.
 abbrev pub IsSearchRun : {Reason : Type 0} → (cause : Type 0) → Limits → Machine → SearchText
-    → (old new : Option (List ℕ)) → (Reason → Type 0) → (status : ℕ) → Type 0
-IsSearchRun cause l s x old new is_refusal status =
-    ((e : Ending) × IsFound l s x [] old new is_refusal e × (status ≡ exit_of_ending e))
+    → (old new : Option (List ℕ)) → (Reason → Type 0) → Written → (status : ℕ) → Type 0
+IsSearchRun cause l s x old new is_refusal w status =
+    ((e : Ending) × IsFound l s x [] old new is_refusal e × (status ≡ exit_of_ending e) × (w ≡ written.Found e))
     ⊎ ((r : Reply) × IsReportedOfQuery cause l s x.query x.strategy r
-    × IsWritten old new (reply_text r) (exit_of r) is_refusal status)
+    × IsWritten old new (reply_text r) (exit_of r) is_refusal status × (w ≡ written.Reply r))
 
 -- the head of a search over HTTP, without a length, since none is known
 abbrev pub search_head : List ℕ
@@ -141,26 +144,26 @@ IsSearchResponse cause l s x old new is_refusal reported =
 
 -- ---- a count, whose table is made whole
 
--- the text is a query, and this is the table of the keys of its hits, as CSV
-abbrev pub IsCounted : Limits → Machine → CountText → (text : List ℕ) → Type 0
-IsCounted l s x text =
+-- the text is a query, and this is the table of the keys of its hits, as CSV; its counts have this sum
+abbrev pub IsCounted : Limits → Machine → CountText → (text : List ℕ) → (hits : ℕ) → Type 0
+IsCounted l s x text hits =
     (q : Asked) × IsAskedQuery l s x.query x.strategy q × (found : List Occurrence)
     × AreReleasedHits s q x.strategy found
     × (table : List Row) × (rows : List Row) × IsTableOf (keys x.column found) table × IsRankingOf table rows
-    × (text ≡ freq_csv rows)
+    × (text ≡ freq_csv rows) × (hits ≡ total_of table)
 
--- The text of a count on the command line, and its own exit status.
+-- The text of a count on the command line, its own exit status, and the value that says what it is.
 abbrev pub IsCountOutput : (cause : Type 0) → Limits → Machine → CountText → (text : List ℕ) → (own : ℕ)
-    → Type 0
-IsCountOutput cause l s x text own =
-    (IsCounted l s x text × (own ≡ 0))
+    → Written → Type 0
+IsCountOutput cause l s x text own w =
+    ((hits : ℕ) × IsCounted l s x text hits × (own ≡ 0) × (w ≡ written.Table hits))
     ⊎ ((r : Reply) × IsReportedOfQuery cause l s x.query x.strategy r × (text ≡ reply_text r)
-    × (own ≡ exit_of r))
+    × (own ≡ exit_of r) × (w ≡ written.Reply r))
 
 -- The response of a count over HTTP, and its status.
 abbrev pub IsCountResponse : (cause : Type 0) → Limits → Machine → CountText → (text : List ℕ) → Status
     → Type 0
 IsCountResponse cause l s x text status =
-    ((body : List ℕ) × IsCounted l s x body × (text ≡ body_response None body) × (status ≡ Ok))
+    ((body : List ℕ) × (hits : ℕ) × IsCounted l s x body hits × (text ≡ body_response None body) × (status ≡ Ok))
     ⊎ ((r : Reply) × IsReportedOfQuery cause l s x.query x.strategy r × (text ≡ reply_response r)
     × (status ≡ status_of r))

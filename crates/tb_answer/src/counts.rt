@@ -2,7 +2,7 @@
 
 ghost use Rattle.std.specs.Prelude.{◌≡◌, ℕ, List, IfOk, IfErr};
 ghost use Rattle.tb_report.specs.Csv.{freq_csv};
-ghost use Rattle.tb_report.specs.Tables.{Row, IsTableOf, IsRankingOf};
+ghost use Rattle.tb_report.specs.Tables.{Row, IsTableOf, IsRankingOf, total_of};
 ghost use Rattle.tb_search.specs.Searched.{Occurrence, keys};
 ghost use Rattle.tb_http.specs.declared.status.Status.{Status as AnyStatus};
 ghost use Rattle.tb_store.specs.Found.{AreReleasedHits};
@@ -14,11 +14,11 @@ ghost use Rattle.tb_answer.specs.Calls.{ReadsOnly};
 ghost use Rattle.tb_store.specs.Calls.{Gives, GivesOnErr, InState, KeepsState};
 ghost use Rattle.tb_tables.specs.Leaving.{CommitsNothing};
 
+use crate::bodies::body_of;
 use crate::commands::reply_for_fault;
 use crate::finding::{Count, accepted};
-use crate::output::{put_body, put_reply};
-use crate::questions::Body;
 use crate::responses::{respond_body, respond_reply};
+use crate::written::Ran;
 use sqlite::Alter;
 use std::alloc::Global;
 use tb_conllu::Sink;
@@ -27,14 +27,25 @@ use tb_query::Query;
 use tb_report::{Freq, csv_freq};
 use tb_store::Desk;
 
+/// The table of a count as CSV, and how many hits it counts.
+#[derive(Drop)]
+pub(crate) struct CountTable {
+    pub(crate) text: Vec<u8>,
+    pub(crate) hits: u64,
+}
+
 /// A table as CSV. A sink in memory fails only for want of memory.
-fn table_text(alloc: Global, table: &Freq) -> Result<Vec<u8>, Reply>
-    ensures text { IfOk result (λ v. (rows : List Row) × IsRankingOf table.now rows × (v.items ≡ freq_csv rows)) }
+fn table_text(alloc: Global, table: &Freq) -> Result<CountTable, Reply>
+    ensures text { IfOk result (λ v. (rows : List Row) × IsRankingOf table.now rows
+        × (v.text.items ≡ freq_csv rows) × (v.hits ≡ total_of table.now)) }
     ensures failed { IfErr result (λ r. r ≡ Reply.Memory) }
 {
     let mut text = Vec::new(alloc);
     match csv_freq(table, &mut text) {
-        Ok(()) => Ok(text),
+        Ok(()) => Ok(CountTable {
+            text,
+            hits: table.total(),
+        }),
         Err(_) => Err(Reply::Memory),
     }
 }
@@ -45,10 +56,11 @@ fn counted<S: Alter>(
     desk: &mut Desk<S>,
     query: &Query,
     count: Count<'_>,
-) -> Result<Vec<u8>, Reply>
+) -> Result<CountTable, Reply>
     ensures counted { Gives S.Store desk.old desk.new result (λ s v. (found : List Occurrence)
         × AreReleasedHits s query.now count.entry.strategy found × (table : List Row) × (rows : List Row)
-        × IsTableOf (keys count.entry.column found) table × IsRankingOf table rows × (v.items ≡ freq_csv rows)) }
+        × IsTableOf (keys count.entry.column found) table × IsRankingOf table rows
+        × (v.text.items ≡ freq_csv rows) × (v.hits ≡ total_of table)) }
     ensures failed { GivesOnErr S.Store desk.old desk.new result (λ s r.
         IsFailure (HasFailed S.Store desk.old desk.new) r) }
     ensures keeps_state { KeepsState S.Store desk.old desk.new }
@@ -61,7 +73,7 @@ fn counted<S: Alter>(
     }
 }
 
-/// The text of a count.
+/// The text of a count, and how many hits it counts.
 ///
 /// # Errors
 ///
@@ -70,9 +82,9 @@ fn count_text<S: Alter>(
     alloc: Global,
     desk: &mut Desk<S>,
     count: Count<'_>,
-) -> Result<Vec<u8>, Reply>
+) -> Result<CountTable, Reply>
     ensures counted { Gives S.Store desk.old desk.new result (λ s v.
-        IsCounted desk.old.limits s (count_by count.entry) v.items) }
+        IsCounted desk.old.limits s (count_by count.entry) v.text.items v.hits) }
     ensures reported { GivesOnErr S.Store desk.old desk.new result (λ s r.
         IsReportedOfQuery (HasFailed S.Store desk.old desk.new) desk.old.limits s count.entry.query.now
         count.entry.strategy r) }
@@ -86,23 +98,24 @@ fn count_text<S: Alter>(
     }
 }
 
-/// Counts what a query finds in released text. Writes the table, or the line of a reply, and returns the exit status.
+/// Counts what a query finds in released text, and writes the table or the line of a reply.
 pub fn run_count<S: Alter, W: Sink>(
     alloc: Global,
     desk: &mut Desk<S>,
     count: Count<'_>,
     out: &mut W,
-) -> u8
+) -> Ran
     ensures written { InState S.Store desk.old desk.new (λ s. (text : List ℕ) × (own : ℕ)
         × IsCountOutput (HasFailed S.Store desk.old desk.new) desk.old.limits s (count_by count.entry) text own
-        × IsWritten (W.held out.old) (W.held out.new) text own (W.IsRefusal out.new) result) }
+        result.written
+        × IsWritten (W.held out.old) (W.held out.new) text own (W.IsRefusal out.new) result.status) }
     ensures keeps_state { KeepsState S.Store desk.old desk.new }
     ensures crash { ReadsOnly S.Store desk.old desk.new }
     ensures limits { desk.new.limits ≡ desk.old.limits }
 {
     match count_text(alloc, desk, count) {
-        Ok(text) => put_body(out, text.as_slice()),
-        Err(reply) => put_reply(out, reply),
+        Ok(counted) => Ran::by_table(out, &counted),
+        Err(reply) => Ran::by_reply(out, reply),
     }
 }
 
@@ -123,7 +136,7 @@ pub fn respond_count<S: Alter, W: Sink>(
     ensures limits { desk.new.limits ≡ desk.old.limits }
 {
     match count_text(alloc, desk, count) {
-        Ok(text) => respond_body(out, &Body { text, rev: None }),
+        Ok(counted) => respond_body(out, &body_of(counted.text)),
         Err(reply) => respond_reply(out, reply),
     }
 }

@@ -13,9 +13,9 @@ use tb_http::Status;
 
 /// How a search ends that writes its lines as they are found.
 #[derive(Clone, Copy, Debug, PartialEq, Eq)]
-pub(crate) enum Ending {
-    /// It wrote its last line.
-    Whole,
+pub enum Ending {
+    /// It wrote its last line, which says that there are so many hits.
+    Whole(u64),
     /// The store or memory failed before the last line.
     BrokenOff,
     /// The sink refused a piece.
@@ -40,7 +40,7 @@ pub(crate) fn exit_of(ending: Ending) -> u8
     ensures { result ≡ exit_of_ending ending }
 {
     match ending {
-        Ending::Whole => 0,
+        Ending::Whole(_) => 0,
         Ending::BrokenOff | Ending::Refused => 3,
     }
 }
@@ -50,7 +50,7 @@ pub(crate) fn reported_of(ending: Ending) -> Option<Status>
     ensures { result ≡ reported_of_ending ending }
 {
     match ending {
-        Ending::Whole | Ending::BrokenOff => Some(Status::Ok),
+        Ending::Whole(_) | Ending::BrokenOff => Some(Status::Ok),
         Ending::Refused => None,
     }
 }

@@ -19,9 +19,9 @@ ghost use Rattle.tb_store.specs.Calls.{Does, Gives, GivesOnErr, InState, KnowsIt
 
 use crate::bodies::body_of;
 use crate::commands::reply_for_fault;
-use crate::output::{put_body, put_reply};
 use crate::questions::Body;
 use crate::responses::{respond_body, respond_reply};
+use crate::written::Ran;
 use sqlite::Alter;
 use std::alloc::Global;
 use tb_conllu::Sink;
@@ -88,7 +88,7 @@ fn export_body<S: Alter>(
     }
 }
 
-/// Writes the text of an export, or the line of a reply, and returns the exit status.
+/// Writes the text of an export, or the line of a reply.
 ///
 /// The text is made whole in memory first, so that a failure of the store leaves no part of it in the sink.
 pub fn run_export<S: Alter, W: Sink>(
@@ -96,17 +96,18 @@ pub fn run_export<S: Alter, W: Sink>(
     desk: &mut Desk<S>,
     name: Option<&str>,
     out: &mut W,
-) -> u8
+) -> Ran
     ensures written { InState S.Store desk.old desk.new (λ s. (text : List ℕ) × (own : ℕ)
         × IsExportOutput (HasFailed S.Store desk.old desk.new) s (option_map (λ n. n.now) name.entry) text own
-        × IsWritten (W.held out.old) (W.held out.new) text own (W.IsRefusal out.new) result) }
+        result.written
+        × IsWritten (W.held out.old) (W.held out.new) text own (W.IsRefusal out.new) result.status) }
     ensures keeps_state { KeepsState S.Store desk.old desk.new }
     ensures crash { ReadsOnly S.Store desk.old desk.new }
     ensures limits { desk.new.limits ≡ desk.old.limits }
 {
     match export_body(alloc, desk, name) {
-        Ok(body) => put_body(out, body.text.as_slice()),
-        Err(reply) => put_reply(out, reply),
+        Ok(body) => Ran::by_text(out, body.text.as_slice()),
+        Err(reply) => Ran::by_reply(out, reply),
     }
 }
 

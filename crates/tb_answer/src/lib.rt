@@ -1,7 +1,7 @@
 //! Answers the calls of a desk as texts, for the command line and over HTTP.
 //!
-//! Read `answer` first, which serves one request, and then `run_line`, which does one command line. Their contracts
-//! cite `specs/Served.antt` and `specs/Ran.antt`.
+//! Read `answer` first, which serves one request, and then `run_line_reported`, which does one command line. Their
+//! contracts cite `specs/Served.antt` and `specs/Ran.antt`.
 #![tactic(auto)]
 
 mod answering;
@@ -21,19 +21,22 @@ mod responding;
 mod responses;
 mod running;
 mod searches;
+mod written;
 
 pub use answering::{Broken, answer, answer_all};
 pub use bodies::{ask, moves, revision, sentence, totals};
 pub use calls::{DeskCall, DeskCommand};
 pub use commands::{correct, event, import, pull, reply_for_fault, restore};
 pub use counts::{respond_count, run_count};
+pub use ending::Ending;
 pub use exports::{respond_export, run_export};
 pub use finding::{Count, Search};
 pub use laws::{requests_in_memory_lead_on, requests_lead_on, the_check_counts_what_is_taken};
-pub use lines::{read_body, run_line, run_line_from};
+pub use lines::{read_body, run_line, run_line_from, run_line_reported};
 pub use output::{put_body, put_reply};
 pub use questions::{Body, Question};
 pub use responding::respond_call;
 pub use responses::{respond_body, respond_reply};
 pub use running::{obey, run_call};
 pub use searches::{respond_search, run_search};
+pub use written::{Ran, Written};

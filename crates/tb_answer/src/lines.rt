@@ -6,17 +6,17 @@ ghost use Rattle.tb_cli.specs.Lines.{said_by};
 ghost use Rattle.tb_answer.specs.Commanded.{HasFailed};
 ghost use Rattle.tb_answer.specs.Taken.{IsTaken, WithTaken, has_body};
 ghost use Rattle.tb_answer.specs.Calls.{call_by, call_in, ReadsOnly};
-ghost use Rattle.tb_answer.specs.Ran.{reading_by, reading_in, IsReadingRun, IsCalled, IsDone, IsRan, IsCallSafe};
-ghost use Rattle.tb_answer.specs.Ran.{IsDoneSafe, IsLineSafe};
+ghost use Rattle.tb_answer.specs.Ran.{reading_by, reading_in, IsReadingRun, IsCalled, IsDone, IsRan, IsRanAs};
+ghost use Rattle.tb_answer.specs.Ran.{IsCallSafe, IsDoneSafe, IsLineSafe};
 ghost use Rattle.tb_store.specs.Calls.{InState, KeepsState};
 
 use crate::calls::DeskCall;
 use crate::counts::run_count;
 use crate::exports::run_export;
 use crate::finding::{Count, Search};
-use crate::output::put_reply;
 use crate::running::run_call;
 use crate::searches::run_search;
+use crate::written::{Ran, Written};
 use sqlite::Alter;
 use std::alloc::Global;
 use tb_check::{FILE_LIMIT, Input, read_all};
@@ -104,15 +104,16 @@ fn reading_of(line: &Line) -> Option<Reading<'_>>
     }
 }
 
-/// Writes what a line reads from a desk, and returns the exit status.
+/// Writes what a line reads from a desk.
 fn run_reading<S: Alter, W: Sink>(
     alloc: Global,
     reading: Reading<'_>,
     desk: &mut Desk<S>,
     out: &mut W,
-) -> u8
+) -> Ran
     ensures read { InState S.Store desk.old desk.new (λ s. IsReadingRun (HasFailed S.Store desk.old desk.new)
-        desk.old.limits s (reading_by reading.entry) (W.held out.old) (W.held out.new) (W.IsRefusal out.new) result) }
+        desk.old.limits s (reading_by reading.entry) (W.held out.old) (W.held out.new) (W.IsRefusal out.new)
+        result.written result.status) }
     ensures keeps_state { KeepsState S.Store desk.old desk.new }
     ensures crash { ReadsOnly S.Store desk.old desk.new }
     ensures limits { desk.new.limits ≡ desk.old.limits }
@@ -124,36 +125,40 @@ fn run_reading<S: Alter, W: Sink>(
     }
 }
 
-/// Makes the call of a line, if it makes one, and returns the exit status.
+/// Makes the call of a line, if it makes one.
 fn run_called<S: Alter, W: Sink>(
     alloc: Global,
     call: Option<DeskCall<'_>>,
     desk: &mut Desk<S>,
     out: &mut W,
-) -> u8
+) -> Ran
     ensures called { InState S.Store desk.old desk.new (λ s. IsCalled S.Store desk.old.limits s
         (option_map call_by call.entry) desk.old desk.new
-        (W.held out.old) (W.held out.new) (W.IsRefusal out.new) result) }
+        (W.held out.old) (W.held out.new) (W.IsRefusal out.new) result.written result.status) }
     ensures crash { IsCallSafe S.Store (option_map call_by call.entry) desk.old desk.new }
     ensures limits { desk.new.limits ≡ desk.old.limits }
 {
     match call {
         Some(call) => run_call(alloc, call, desk, out),
-        None => tb_check::put_reply(out, "refused usage\n", 2),
+        None => Ran {
+            status: tb_check::put_reply(out, "refused usage\n", 2),
+            written: Written::Usage,
+        },
     }
 }
 
-/// Runs a line with its body on a desk, writes the answer, and returns the exit status.
+/// Runs a line with its body on a desk, and writes the answer.
 fn do_line<S: Alter, W: Sink>(
     alloc: Global,
     line: &Line,
     body: &[u8],
     desk: &mut Desk<S>,
     out: &mut W,
-) -> u8
+) -> Ran
     ensures done { InState S.Store desk.old desk.new (λ s.
         IsDone S.Store desk.old.limits s (reading_in (said_by line.now)) (call_in
-        (said_by line.now) body.now) desk.old desk.new (W.held out.old) (W.held out.new) (W.IsRefusal out.new) result) }
+        (said_by line.now) body.now) desk.old desk.new (W.held out.old) (W.held out.new) (W.IsRefusal out.new)
+        result.written result.status) }
     ensures crash { IsDoneSafe S.Store (reading_in (said_by line.now))
         (call_in (said_by line.now) body.now) desk.old desk.new }
     ensures limits { desk.new.limits ≡ desk.old.limits }
@@ -164,11 +169,36 @@ fn do_line<S: Alter, W: Sink>(
     }
 }
 
-/// Runs a line on a desk with its body, or reports why there is no body. Writes the answer, and returns the exit
-/// status.
+/// Runs a line on a desk with its body, or reports why there is no body. Writes the answer, and returns the exit status
+/// and what was written.
 ///
 /// The status is 0 for done, 1 for refused, and 3 where memory, the device or the sink failed. It is 2 for a line that
-/// is not for a desk (`check`, `new`, `migrate`, `serve`).
+/// is not for a desk (`check`, `new`, `migrate`, `serve`). The value has the reply exactly where the line of that reply
+/// is the answer.
+pub fn run_line_reported<S: Alter, W: Sink>(
+    alloc: Global,
+    line: &Line,
+    body: &Result<Vec<u8>, Reply>,
+    desk: &mut Desk<S>,
+    out: &mut W,
+) -> Ran
+    ensures ran { InState S.Store desk.old desk.new (λ s. MatchResult body.now (λ v.
+        IsRanAs S.Store desk.old.limits s (said_by line.now) (Taken v.items) desk.old desk.new
+        (W.held out.old) (W.held out.new) (W.IsRefusal out.new) result.written result.status) (λ r.
+        IsRanAs S.Store desk.old.limits s (said_by line.now) (Untaken r) desk.old desk.new (W.held out.old)
+        (W.held out.new) (W.IsRefusal out.new) result.written result.status)) }
+    ensures crash { MatchResult body.now
+        (λ v. IsLineSafe S.Store (said_by line.now) (Taken v.items) desk.old desk.new)
+        (λ r. IsLineSafe S.Store (said_by line.now) (Untaken r) desk.old desk.new) }
+    ensures limits { desk.new.limits ≡ desk.old.limits }
+{
+    match body {
+        Ok(body) => do_line(alloc, line, body.as_slice(), desk, out),
+        Err(reply) => Ran::by_reply(out, *reply),
+    }
+}
+
+/// Runs a line on a desk, as [`run_line_reported`] does, and returns the exit status.
 pub fn run_line<S: Alter, W: Sink>(
     alloc: Global,
     line: &Line,
@@ -185,10 +215,7 @@ pub fn run_line<S: Alter, W: Sink>(
         (λ r. IsLineSafe S.Store (said_by line.now) (Untaken r) desk.old desk.new) }
     ensures limits { desk.new.limits ≡ desk.old.limits }
 {
-    match body {
-        Ok(body) => do_line(alloc, line, body.as_slice(), desk, out),
-        Err(reply) => put_reply(out, reply),
-    }
+    run_line_reported(alloc, line, &body, desk, out).status
 }
 
 /// Reads the body of a line, and runs the line on a desk: [`read_body`], then [`run_line`]. Returns the exit status.

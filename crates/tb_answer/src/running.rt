@@ -7,7 +7,7 @@ ghost use Rattle.tb_answer.specs.Calls.{command_by, call_by, IsOutput, IsSafe};
 ghost use Rattle.tb_store.specs.Calls.{CrashesWhole, InState};
 
 use crate::calls::{DeskCall, DeskCommand};
-use crate::output::{put_body, put_reply};
+use crate::written::Ran;
 use crate::{bodies, commands};
 use sqlite::Alter;
 use std::alloc::Global;
@@ -36,24 +36,24 @@ pub fn obey<S: Alter>(desk: &mut Desk<S>, command: DeskCommand<'_>) -> Reply
     }
 }
 
-/// Makes a call, writes its answer to the sink, and returns the exit status.
+/// Makes a call, and writes its answer to the sink.
 pub fn run_call<S: Alter, W: Sink>(
     alloc: Global,
     call: DeskCall<'_>,
     desk: &mut Desk<S>,
     out: &mut W,
-) -> u8
+) -> Ran
     ensures written { InState S.Store desk.old desk.new (λ s. (text : List ℕ) × (own : ℕ)
-        × IsOutput S.Store desk.old.limits s (call_by call.entry) desk.old desk.new text own
-        × IsWritten (W.held out.old) (W.held out.new) text own (W.IsRefusal out.new) result) }
+        × IsOutput S.Store desk.old.limits s (call_by call.entry) desk.old desk.new text own result.written
+        × IsWritten (W.held out.old) (W.held out.new) text own (W.IsRefusal out.new) result.status) }
     ensures crash { IsSafe S.Store (call_by call.entry) desk.old desk.new }
     ensures limits { desk.new.limits ≡ desk.old.limits }
 {
     match call {
-        DeskCall::Command(command) => put_reply(out, obey(desk, command)),
+        DeskCall::Command(command) => Ran::by_reply(out, obey(desk, command)),
         DeskCall::Question(question) => match bodies::ask(alloc, desk, question) {
-            Ok(body) => put_body(out, body.text.as_slice()),
-            Err(reply) => put_reply(out, reply),
+            Ok(body) => Ran::by_text(out, body.text.as_slice()),
+            Err(reply) => Ran::by_reply(out, reply),
         },
     }
 }

@@ -8,10 +8,10 @@ ghost use Rattle.tb_answer.specs.Calls.{ReadsOnly};
 ghost use Rattle.tb_store.specs.Calls.{InState, KeepsState};
 ghost use Rattle.tb_tables.specs.Leaving.{CommitsNothing};
 
-use crate::ending::{Ending, ending_of, exit_of, reported_of};
+use crate::ending::{Ending, ending_of, reported_of};
 use crate::finding::{Search, accepted};
-use crate::output::put_reply;
 use crate::responses::{put_piece, respond_reply};
+use crate::written::Ran;
 use arrayvec::ArrayString;
 use sqlite::Alter;
 use std::alloc::Global;
@@ -35,12 +35,12 @@ fn put_found<S: Alter, W: Sink>(
     ensures limits { desk.new.limits ≡ desk.old.limits }
 {
     match desk.search(query, search.strategy, search.context, out) {
-        Ok(_) => Ending::Whole,
+        Ok(hits) => Ending::Whole(hits),
         Err(fault) => ending_of(fault),
     }
 }
 
-/// Searches released text, writes the keyword lines or the line of a reply, and returns the exit status.
+/// Searches released text, and writes the keyword lines or the line of a reply.
 ///
 /// A search that ends with its last line has status 0. One that breaks off has 3, and nothing more is written.
 pub fn run_search<S: Alter, W: Sink>(
@@ -48,16 +48,17 @@ pub fn run_search<S: Alter, W: Sink>(
     desk: &mut Desk<S>,
     search: Search<'_>,
     out: &mut W,
-) -> u8
+) -> Ran
     ensures written { InState S.Store desk.old desk.new (λ s. IsSearchRun (HasFailed S.Store desk.old desk.new)
-        desk.old.limits s (search_by search.entry) (W.held out.old) (W.held out.new) (W.IsRefusal out.new) result) }
+        desk.old.limits s (search_by search.entry) (W.held out.old) (W.held out.new) (W.IsRefusal out.new)
+        result.written result.status) }
     ensures keeps_state { KeepsState S.Store desk.old desk.new }
     ensures crash { ReadsOnly S.Store desk.old desk.new }
     ensures limits { desk.new.limits ≡ desk.old.limits }
 {
     match accepted(alloc, desk, search.query, search.strategy) {
-        Ok(query) => exit_of(put_found(desk, &query, search, out)),
-        Err(reply) => put_reply(out, reply),
+        Ok(query) => Ran::by_search(put_found(desk, &query, search, out)),
+        Err(reply) => Ran::by_reply(out, reply),
     }
 }
 

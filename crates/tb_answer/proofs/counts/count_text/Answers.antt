@@ -11,7 +11,7 @@ pub returns-in-Ok-clause-counted : goal.returns-in-Ok-clause-counted
 returns-in-Ok-clause-counted g c clean = if_ok c.counted.result (c.counted.ensures.counted clean) (λ v reported s stands.
     let mid : HasCleanDisk (state g.S.Store c.accepted.new.desk.conn) = omega (arith, clean, c.counted.ensures.commits_nothing.clean) in
     let it = reported s (c.in-Ok.ensures.stays mid s stands) in
-    (c.in-Ok.query, c.in-Ok.ensures.accepted mid s stands, it.0, it.1, it.2, it.3, it.4, it.5, it.6))
+    (c.in-Ok.query, c.in-Ok.ensures.accepted mid s stands, it.0, it.1, it.2, it.3, it.4, it.5, it.6, it.7))
 
 pub returns-in-Ok-clause-reported : goal.returns-in-Ok-clause-reported
 returns-in-Ok-clause-reported g c clean = if_err c.counted.result (c.counted.ensures.failed clean) (λ r failed s stands.

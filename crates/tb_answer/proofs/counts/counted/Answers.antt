@@ -6,7 +6,7 @@ use Rattle.tb_answer.proofs.counts.counted.Goals as goal
 pub returns-in-Ok-clause-counted : goal.returns-in-Ok-clause-counted
 returns-in-Ok-clause-counted g c clean = if_ok c.table_text.result c.table_text.ensures.text (λ v reported s stands.
     let it = c.in-Ok.ensures.answered clean s stands in
-    (it.0, it.1, c.in-Ok.table, reported.0, it.2, reported.1, reported.2))
+    (it.0, it.1, c.in-Ok.table, reported.0, it.2, reported.1, reported.2, reported.3))
 
 pub returns-in-Ok-clause-failed : goal.returns-in-Ok-clause-failed
 returns-in-Ok-clause-failed g c clean = if_err c.table_text.result c.table_text.ensures.failed (λ r is s stands. inl is)

@@ -3,7 +3,7 @@ use Rattle.tb_answer.proofs.searches.put_found.Goals as goal
 pub returns-in-Ok-clause-put : goal.returns-in-Ok-clause-put
 returns-in-Ok-clause-put g c clean s stands =
     let it = c.in-Ok.ensures.answered clean s stands in
-    (it.0, it.1, it.3)
+    (it.0, it.1, it.3, it.2)
 
 pub returns-in-Err-clause-put : goal.returns-in-Err-clause-put
 returns-in-Err-clause-put g c clean s stands = c.ending_of.ensures.streamed s c.args.query.now c.args.search.strategy c.args.search.context _ _ (c.in-Err.ensures.broken clean s stands)
