@@ -1,4 +1,3 @@
-pub mod Numbering
 pub mod Finds
 pub mod Revised
 pub mod Unpulled

@@ -1,4 +1,3 @@
-pub mod Numbered
 pub mod ReadOf
 pub mod Working
 pub mod Stepping

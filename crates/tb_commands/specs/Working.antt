@@ -1,6 +1,6 @@
 -- Between crates: no contract of a front door cites a definition of this module.
 -- What a command leaves of a desk, and the part of a batch that its events move.
-use Rattle.std.specs.Prelude.{◌≡◌, ℕ, ◌+◌, List, length, cond, Bool, false, ◌||◌, [], ◌∷◌, nat_eq}
+use Rattle.std.specs.Prelude.{◌≡◌, ℕ, ◌+◌, List, length, cond}
 use Rattle.sqlite.specs.Store.{Ghosts}
 use Rattle.sqlite.specs.Held.{Held}
 use Rattle.tb_core.specs.declared.sums.Totals.{Totals}
@@ -10,6 +10,7 @@ use Rattle.tb_core.specs.Commands.{Command, Reply, replied}
 use Rattle.tb_core.specs.Steps.{Steps}
 use Rattle.tb_core.specs.Totals.{AreTotalsOf}
 use Rattle.tb_refine.specs.DeskTables.{IsDeskOf}
+use Rattle.tb_refine.specs.Listed.{is_listed}
 use Rattle.tb_reads.specs.declared.work.BatchSentence.{BatchSentence}
 
 -- The command has this answer, the desk represents the state after it, and these are the totals. There is one move
@@ -24,10 +25,6 @@ pub record IsDone {S : Type 0} (g : Ghosts S) (l : Limits) (s : Machine) (c : Co
   pub moves : length next.moves ≡ length s.moves + 1
 
 -- ---- the part of a batch that is not pulled
-
-abbrev pub is_listed : ℕ → List ℕ → Bool
-is_listed n [] = false
-is_listed n (m ∷ ms) = nat_eq m n || is_listed n ms
 
 -- the weight of a sentence; 0 where it is pulled
 abbrev pub unless_pulled : List ℕ → (BatchSentence → ℕ) → BatchSentence → ℕ

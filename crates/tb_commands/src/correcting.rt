@@ -1,6 +1,6 @@
 //! A correction of a sentence.
 
-ghost use Rattle.std.specs.Prelude.{◌≡◌, ◌≢◌, ℕ, ◌+◌, ◌-◌, ◌^◌, ◌<◌, ◌≤◌, List, []};
+ghost use Rattle.std.specs.Prelude.{◌≡◌, ◌≢◌, ℕ, ◌+◌, ◌-◌, ◌^◌, ◌<◌, ◌≤◌, List, [], is_ok};
 ghost use Rattle.std.specs.Prelude.{◌∷◌, length, None, Some, Err};
 ghost use Rattle.std.specs.Prelude.{slice_get, string_bytes, false, IfOk, IfSome, IfErr};
 ghost use Rattle.sqlite.specs.State.{HasCleanDisk};
@@ -23,8 +23,9 @@ ghost use Rattle.tb_commands.specs.Correcting.{current_seen, correction_move};
 ghost use Rattle.tb_refine.specs.Calls.{CrashesTo, KnowsDeskWhere, RefusesAs, Tells};
 ghost use Rattle.tb_refine.specs.Calls.{BlamesNoDevice};
 ghost use Rattle.tb_refine.specs.Room.{HasRoomIfWritten};
-ghost use Rattle.tb_tables.specs.Leaving.{ChangesNothing, CommitsNothing, KeepsRecords, KeepsRecordsOnErr};
+ghost use Rattle.tb_tables.specs.Leaving.{KeepsRecordsOnErr};
 ghost use Rattle.tb_tables.specs.Leaving.{IsFaultless, FailsOnlyAs};
+ghost use Rattle.tb_reads.specs.ReadOnly.{IsReadOnly};
 ghost use Rattle.tb_refine.specs.Faults.{IsNoDevice};
 
 use crate::committing;
@@ -88,10 +89,7 @@ fn current_row<S: Alter>(
     ensures fails { KnowsDeskWhere S.Store conn.old conn.new result (λ s so. (x : Sentence)
         → slice_get s.sentences (number - 1) ≡ Some x → rev ≡ rev_of x → so) }
     ensures cause { IsFaultless S.Store conn.old conn.new → FailsOnlyAs IsNoDevice S.Store conn.old conn.new result }
-    ensures unchanged { ChangesNothing S.Store conn.old conn.new result }
-    ensures autocommit { conn.old.in_transaction ≡ false → conn.new.in_transaction ≡ false }
-    ensures keeps_records { KeepsRecords S.Store conn.old conn.new }
-    ensures commits_nothing { CommitsNothing S.Store conn.old conn.new }
+    ensures read_only { IsReadOnly S.Store conn.old conn.new (is_ok result) }
 {
     desk_rows_are_readable();
     match tb_reads::revision(conn, number, rev) {
@@ -110,10 +108,7 @@ fn find_current<S: Alter>(conn: &mut Connection<S>, number: u32) -> Result<Curre
     ensures fails { KnowsDeskWhere S.Store conn.old conn.new result (λ s so. (x : Sentence)
         → slice_get s.sentences (number - 1) ≡ Some x → so) }
     ensures cause { IsFaultless S.Store conn.old conn.new → FailsOnlyAs IsNoDevice S.Store conn.old conn.new result }
-    ensures unchanged { ChangesNothing S.Store conn.old conn.new result }
-    ensures autocommit { conn.old.in_transaction ≡ false → conn.new.in_transaction ≡ false }
-    ensures keeps_records { KeepsRecords S.Store conn.old conn.new }
-    ensures commits_nothing { CommitsNothing S.Store conn.old conn.new }
+    ensures read_only { IsReadOnly S.Store conn.old conn.new (is_ok result) }
 {
     let sentence = find_sentence(conn, number)?;
     let row = current_row(conn, number, sentence.rev)?;
@@ -363,10 +358,7 @@ fn planned<'a, S: Alter>(
         → number ≤ length s.sentences → result ≢ Err Fault.NotADesk }
     ensures cause { IsFaultless S.Store conn.old conn.new → FailsOnlyAs IsNoDevice S.Store conn.old conn.new result }
     ensures room { IfOk result (λ r. IfSome r.1 (λ _. counts.now.moves + 1 ≤ 1000000000)) }
-    ensures unchanged { ChangesNothing S.Store conn.old conn.new result }
-    ensures autocommit { conn.old.in_transaction ≡ false → conn.new.in_transaction ≡ false }
-    ensures keeps_records { KeepsRecords S.Store conn.old conn.new }
-    ensures commits_nothing { CommitsNothing S.Store conn.old conn.new }
+    ensures read_only { IsReadOnly S.Store conn.old conn.new (is_ok result) }
 {
     let read = find_current(conn, number)?;
     decide(alloc, counts, number, base, user, body, &read)

@@ -8,13 +8,11 @@
 mod committing;
 mod correcting;
 mod finding;
-mod moving;
 mod pulling;
 mod stepping;
 mod working;
 
 pub use correcting::{correct, no_correction};
 pub use finding::{BatchRead, SentenceRead, find_batch, find_sentence};
-pub use moving::read_moves;
 pub use pulling::{no_pull, no_restore, pull, restore};
 pub use stepping::event;

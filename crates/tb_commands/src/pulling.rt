@@ -1,6 +1,6 @@
 //! Pulls of sentences, and restores of pulled ones.
 
-ghost use Rattle.std.specs.Prelude.{◌≡◌, ◌≢◌, ◌+◌, ◌-◌, ◌<◌, ◌≤◌, length, Some, None};
+ghost use Rattle.std.specs.Prelude.{◌≡◌, ◌≢◌, ◌+◌, ◌-◌, ◌<◌, ◌≤◌, length, Some, None, is_ok};
 ghost use Rattle.std.specs.Prelude.{Err, slice_get, string_bytes};
 ghost use Rattle.std.specs.Prelude.{false, IfOk, IfErr};
 ghost use Rattle.sqlite.specs.Held.{state};
@@ -18,8 +18,9 @@ ghost use Rattle.tb_commands.specs.ReadOf.{IsSentenceRead};
 ghost use Rattle.tb_refine.specs.Counted.{IsWithin, IsCounted, IsPrepared};
 ghost use Rattle.tb_commands.specs.Working.{IsDone};
 ghost use Rattle.tb_commands.specs.Pulling.{pull_move, restore_move, IsJudged};
-ghost use Rattle.tb_tables.specs.Leaving.{ChangesNothing, CommitsNothing, KeepsRecords, KeepsRecordsOnErr};
+ghost use Rattle.tb_tables.specs.Leaving.{KeepsRecordsOnErr};
 ghost use Rattle.tb_tables.specs.Leaving.{IsFaultless, FailsOnlyAs};
+ghost use Rattle.tb_reads.specs.ReadOnly.{IsReadOnly};
 ghost use Rattle.tb_refine.specs.Calls.{CrashesTo, KnowsDeskWhere, RefusesAs, Tells};
 ghost use Rattle.tb_refine.specs.Calls.{BlamesNoDevice};
 ghost use Rattle.tb_refine.specs.Faults.{IsNoDevice};
@@ -147,10 +148,7 @@ fn pull_planned<S: Alter>(
         → number ≤ length s.sentences → so) }
     ensures cause { IsFaultless S.Store conn.old conn.new → FailsOnlyAs IsNoDevice S.Store conn.old conn.new result }
     ensures room { IfOk result (λ _. counts.now.moves + 1 ≤ 1000000000) }
-    ensures unchanged { ChangesNothing S.Store conn.old conn.new result }
-    ensures autocommit { conn.old.in_transaction ≡ false → conn.new.in_transaction ≡ false }
-    ensures keeps_records { KeepsRecords S.Store conn.old conn.new }
-    ensures commits_nothing { CommitsNothing S.Store conn.old conn.new }
+    ensures read_only { IsReadOnly S.Store conn.old conn.new (is_ok result) }
 {
     let read = find_sentence(conn, number)?;
     decide_pull(alloc, counts, number, user, &read)
@@ -326,10 +324,7 @@ fn restore_planned<S: Alter>(
         → number ≤ length s.sentences → so) }
     ensures cause { IsFaultless S.Store conn.old conn.new → FailsOnlyAs IsNoDevice S.Store conn.old conn.new result }
     ensures room { IfOk result (λ _. counts.now.moves + 1 ≤ 1000000000) }
-    ensures unchanged { ChangesNothing S.Store conn.old conn.new result }
-    ensures autocommit { conn.old.in_transaction ≡ false → conn.new.in_transaction ≡ false }
-    ensures keeps_records { KeepsRecords S.Store conn.old conn.new }
-    ensures commits_nothing { CommitsNothing S.Store conn.old conn.new }
+    ensures read_only { IsReadOnly S.Store conn.old conn.new (is_ok result) }
 {
     let read = find_sentence(conn, number)?;
     decide_restore(alloc, counts, number, user, &read)

@@ -1,36 +1,29 @@
 //! The part of a batch that its events move: its sentences that are not pulled.
 
-ghost use Rattle.std.specs.Prelude.{◌≡◌, ◌≢◌, ◌<◌, ◌≤◌, ◌+◌, ◌^◌, length, Err, sum_by};
-ghost use Rattle.std.specs.Prelude.{map, IfOk, false, IfErr};
+ghost use Rattle.std.specs.Prelude.{◌≡◌, ◌≢◌, ◌<◌, ◌≤◌, ◌+◌, ◌^◌, length, Err, sum_by, is_ok};
+ghost use Rattle.std.specs.Prelude.{map, IfOk, IfErr};
 ghost use Rattle.sqlite_trees.specs.Tree.{IsAscending};
 ghost use Rattle.tb_core.specs.declared.refusals.Refusal.{Refusal as AnyRefusal};
 ghost use Rattle.tb_core.specs.Machine.{weigh, at_work, one, words};
-ghost use Rattle.tb_core.specs.Rows.{pulled_from};
 ghost use Rattle.tb_refine.specs.DeskTables.{sentence_record};
 ghost use Rattle.tb_reads.specs.Found.{work_of};
-ghost use Rattle.tb_commands.specs.Working.{is_listed, unless_pulled, each_one, its_words};
+ghost use Rattle.tb_reads.specs.ReadOnly.{IsReadOnly};
+ghost use Rattle.tb_commands.specs.Working.{unless_pulled, each_one, its_words};
 ghost use Rattle.tb_refine.specs.Calls.{KnowsDesk, Tells};
-ghost use Rattle.tb_tables.specs.Leaving.{ChangesNothing, CommitsNothing, KeepsRecords, IsFaultless, FailsOnlyAs};
+ghost use Rattle.tb_tables.specs.Leaving.{IsFaultless, FailsOnlyAs};
 ghost use Rattle.tb_refine.specs.Faults.{IsNoDevice};
 
 use sqlite::{Alter, Connection};
 use std::alloc::Global;
 use tb_core::{Fault, reached_states_are_well};
 use tb_reads::BatchSentence;
-use tb_refine::{desk_rows_are_readable, desk_rows_fit, faults};
+use tb_refine::{desk_rows_are_readable, desk_rows_fit, faults, is_among, read_pulled};
 
 /// How many sentences, and the words of their current revisions.
 #[derive(Clone, Copy, Debug)]
 pub(crate) struct Sums {
     pub sentences: u32,
     pub words: u32,
-}
-
-/// Whether a number is in the list, which ascends.
-fn is_among(number: u32, numbers: &[u32]) -> bool
-    ensures { IsAscending (λ a b. a < b) numbers.now → result ≡ is_listed number numbers.now }
-{
-    numbers.binary_search(&number).is_ok()
 }
 
 /// Adds one sentence, with its words.
@@ -99,33 +92,12 @@ fn read_work<S: Alter>(
     ensures never_refuses { (r : AnyRefusal) → result ≢ Err (Fault.Refused r) }
     ensures fails { KnowsDesk S.Store conn.old conn.new result }
     ensures cause { IsFaultless S.Store conn.old conn.new → FailsOnlyAs IsNoDevice S.Store conn.old conn.new result }
-    ensures unchanged { ChangesNothing S.Store conn.old conn.new result }
-    ensures autocommit { conn.old.in_transaction ≡ false → conn.new.in_transaction ≡ false }
-    ensures keeps_records { KeepsRecords S.Store conn.old conn.new }
-    ensures commits_nothing { CommitsNothing S.Store conn.old conn.new }
+    ensures read_only { IsReadOnly S.Store conn.old conn.new (is_ok result) }
 {
     desk_rows_fit();
     desk_rows_are_readable();
     match tb_reads::sentences_of(alloc, conn, number) {
         Ok(work) => Ok(work),
-        Err(error) => Err(faults::of_read(error)),
-    }
-}
-
-/// The numbers of all pulled sentences, ascending.
-fn read_pulled<S: Alter>(alloc: Global, conn: &mut Connection<S>) -> Result<Vec<u32>, Fault>
-    ensures answered { Tells S.Store conn.old conn.new result (λ s v. v.items ≡ pulled_from 1 s.sentences) }
-    ensures never_refuses { (r : AnyRefusal) → result ≢ Err (Fault.Refused r) }
-    ensures fails { KnowsDesk S.Store conn.old conn.new result }
-    ensures cause { IsFaultless S.Store conn.old conn.new → FailsOnlyAs IsNoDevice S.Store conn.old conn.new result }
-    ensures unchanged { ChangesNothing S.Store conn.old conn.new result }
-    ensures autocommit { conn.old.in_transaction ≡ false → conn.new.in_transaction ≡ false }
-    ensures keeps_records { KeepsRecords S.Store conn.old conn.new }
-    ensures commits_nothing { CommitsNothing S.Store conn.old conn.new }
-{
-    desk_rows_are_readable();
-    match tb_reads::pulled(alloc, conn) {
-        Ok(numbers) => Ok(numbers),
         Err(error) => Err(faults::of_read(error)),
     }
 }
@@ -142,10 +114,7 @@ pub(crate) fn find_work<S: Alter>(
     ensures never_refuses { (r : AnyRefusal) → result ≢ Err (Fault.Refused r) }
     ensures fails { KnowsDesk S.Store conn.old conn.new result }
     ensures cause { IsFaultless S.Store conn.old conn.new → FailsOnlyAs IsNoDevice S.Store conn.old conn.new result }
-    ensures unchanged { ChangesNothing S.Store conn.old conn.new result }
-    ensures autocommit { conn.old.in_transaction ≡ false → conn.new.in_transaction ≡ false }
-    ensures keeps_records { KeepsRecords S.Store conn.old conn.new }
-    ensures commits_nothing { CommitsNothing S.Store conn.old conn.new }
+    ensures read_only { IsReadOnly S.Store conn.old conn.new (is_ok result) }
 {
     reached_states_are_well();
     let work = read_work(alloc, conn, number)?;

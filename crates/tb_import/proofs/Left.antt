@@ -1,21 +1,20 @@
 -- One call that only reads after another.
-use Rattle.std.proofs.Common.{◌≡◌, ◌≢◌, ◌∙◌, ap, false, IsTrue, None, Result, Ok, Err, OnOk, OnErr, IfErr, IsErrAnd, refl, inl, arith}
+use Rattle.std.proofs.Common.{◌≡◌, Bool, true, ◌∙◌, IsTrue, None, Result, Ok, Err, OnOk, OnErr, IfErr, IsErrAnd, refl, inl, arith}
 use Rattle.sqlite.specs.Store.{Ghosts}
-use Rattle.sqlite.specs.Effect.{Database}
 use Rattle.sqlite.specs.Tree.{Trees}
 use Rattle.sqlite.specs.Held.{Held, state}
-use Rattle.sqlite.specs.State.{HasCleanDisk, IsUnchanged, Survives}
+use Rattle.sqlite.specs.State.{HasCleanDisk, Survives}
 use Rattle.sqlite.proofs.StateLemmas.{survives_then, survives_weaker}
 use Rattle.tb_core.specs.declared.refusals.Fault.{Fault}
 use Rattle.tb_core.specs.Machine.{Machine}
 use Rattle.tb_tables.specs.Layout.{desk_schema}
-use Rattle.tb_tables.specs.Records.{Tables}
-use Rattle.tb_tables.specs.Changes.{Holds}
 use Rattle.tb_tables.specs.Leaving.{IsFaultless}
 use Rattle.tb_tables.proofs.Commands.{same_holds}
 use Rattle.tb_tables.proofs.Causes.{handed_on, faultless_next}
 use Rattle.tb_refine.specs.DeskTables.{tables_of, IsDeskOf}
 use Rattle.tb_refine.specs.Faults.{IsNoDevice}
+use Rattle.tb_reads.specs.ReadOnly.{IsReadOnly}
+use Rattle.tb_reads.proofs.ReadOnly.{schema_stays}
 use Rattle.tb_import.specs.Leaving.{IsLeft, Stays}
 
 module _ {S : Type 0} (g : Ghosts S) where
@@ -30,19 +29,7 @@ module _ {S : Type 0} (g : Ghosts S) where
   pub stays_same : (c : Held S) → Stays g c c
   stays_same c = record { schema = λ clean has. has; holds = λ clean d holds. holds; sees = λ clean has. refl }
 
-  -- a read of the tables
   module _ (a b : Held S) where
-    pub left_from : (a.in_transaction ≡ false → b.in_transaction ≡ false) → (HasCleanDisk (state g b) → IsTrue (state g b).is_open → (d : Tables) → Holds g a d → Holds g b d)
-        → Survives (state g a) (state g b) (λ _. (state g a).now.schema ≢ desk_schema) → IsLeft g a b
-    left_from mode kept commits_nothing = record { mode = mode; kept = kept; commits_nothing = survives_weaker (state g a) (state g b) _ _ (λ _ _ other d holds. other holds.schema) commits_nothing }
-
-    pub stays_from : (HasCleanDisk (state g b) → (state g a).now.schema ≡ desk_schema → IsUnchanged (state g a) (state g b)) → Stays g a b
-    stays_from same = record {
-      schema = λ clean has. ap (λ (d : Database). d.schema) (same clean has).0.now_is ∙ has;
-      holds = λ clean d holds. same_holds g a b d holds (same clean holds.schema);
-      sees = λ clean has. (same clean has).0.now_is;
-    }
-
     pub desk_stays : Stays g a b → HasCleanDisk (state g b) → (s : Machine) → IsDeskOf g a s → IsDeskOf g b s
     desk_stays stays clean s desk = record { reachable = desk.reachable; holds = stays.holds clean (tables_of s) desk.holds }
 
@@ -75,6 +62,21 @@ module _ {S : Type 0} (g : Ghosts S) where
         → (IsFaultless g b c → HasCleanDisk (state g c) → (state g b).step_limit ≡ None → (state g b).now.schema ≡ desk_schema → IsNoDevice e)
         → IsFaultless g a c → HasCleanDisk (state g c) → (state g a).step_limit ≡ None → (state g a).now.schema ≡ desk_schema → IfErr r IsNoDevice
     left_clear r e handed one stays two fine good clean unlimited has = handed_on IsNoDevice r e handed (next_clear (IsNoDevice e) one stays two fine good clean unlimited has)
+
+-- a read of the tables
+pub left_from : {S : Type 0} {g : Ghosts S} {a b : Held S} {s : Bool} → IsReadOnly g a b s → IsLeft g a b
+left_from {g = g} {a = a} {b = b} read = record {
+  mode = read.autocommit;
+  kept = read.keeps_records;
+  commits_nothing = survives_weaker (state g a) (state g b) _ _ (λ _ _ other d holds. other holds.schema) read.commits_nothing;
+}
+
+pub stays_from : {S : Type 0} {g : Ghosts S} {a b : Held S} → IsReadOnly g a b true → Stays g a b
+stays_from {g = g} {a = a} {b = b} read = record {
+  schema = λ clean has. schema_stays g a b (read.unchanged clean has) has;
+  holds = λ clean d holds. same_holds g a b d holds (read.unchanged clean holds.schema);
+  sees = λ clean has. (read.unchanged clean has).0.now_is;
+}
 
 pub stays_if : {T E : Type 0} {X Y : Type 0} (r : Result T E) → (X → Y) → OnOk r X → OnOk r Y
 stays_if (Ok x) f h = f h

@@ -11,8 +11,8 @@ use Rattle.tb_tables.specs.Values.{sentence_of, batch_of}
 use Rattle.tb_tables.specs.declared.rows.SentenceRow.{SentenceRow}
 use Rattle.tb_tables.specs.declared.rows.BatchRow.{BatchRow}
 use Rattle.tb_refine.specs.DeskTables.{sentence_record, batch_record}
-use Rattle.tb_commands.specs.Working.{is_listed}
-use Rattle.tb_commands.proofs.Summing.{listed_pulled, pulled_ascends}
+use Rattle.tb_refine.specs.Listed.{is_listed}
+use Rattle.tb_refine.proofs.Listing.{listed_pulled, pulled_ascends}
 use Rattle.tb_lists.specs.declared.counting.Count.{Count}
 use Rattle.tb_lists.specs.Batches.{BatchText, first_from, is_out, batch_line, lines_from}
 use Rattle.tb_lists.specs.Counted.{no_count, first_seen, counted, change_of, count_all, IsOfSoMany, count_on, AreCounts, line_with, lines_with}

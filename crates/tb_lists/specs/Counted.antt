@@ -4,7 +4,7 @@ use Rattle.std.specs.Prelude.{◌≡◌, ℕ, zero, suc, ◌+◌, ◌-◌, ◌*�
 use Rattle.std.specs.Prelude.{cond, nat_eq, slice_index_or}
 use Rattle.tb_core.specs.Machine.{Batch, Sentence, change_at, weigh, at_work, one, words}
 use Rattle.tb_tables.specs.declared.rows.SentenceRow.{SentenceRow}
-use Rattle.tb_commands.specs.Working.{is_listed}
+use Rattle.tb_refine.specs.Listed.{is_listed}
 use Rattle.tb_lists.specs.declared.counting.Count.{Count}
 use Rattle.tb_lists.specs.Batches.{BatchText, first_from, is_out}
 

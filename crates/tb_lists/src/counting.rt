@@ -1,14 +1,14 @@
 //! What each batch holds, counted in one walk over the rows of all sentences.
 
-ghost use Rattle.std.specs.Prelude.{◌≡◌, ◌≢◌, ◌+◌, ◌<◌, ◌^◌, Err, IfErr, IfOk, length, map, replicate, slice_index_or};
+ghost use Rattle.std.specs.Prelude.{◌≡◌, ◌+◌, ◌<◌, ◌^◌, IfErr, IfOk, length, replicate, slice_index_or};
 ghost use Rattle.std.specs.Prelude.{◌-◌, slice_set};
 ghost use Rattle.std.specs.List.{AllByRecursion};
 ghost use Rattle.sqlite_trees.specs.Tree.{IsAscending};
-ghost use Rattle.tb_commands.specs.Working.{is_listed};
 ghost use Rattle.tb_lists.specs.Counted.{IsOfSoMany, change_of, count_all, counted, first_seen, no_count};
 
 use std::alloc::Global;
 use tb_core::Fault;
+use tb_refine::is_among;
 use tb_tables::SentenceRow;
 
 /// What is counted for a batch.
@@ -102,13 +102,6 @@ fn put_one(counts: &mut Vec<Count>, seen: u64, row: &SentenceRow, is_pulled: boo
     put_count(counts, place, count);
 }
 
-/// Whether the sentence with this number is among the pulled ones.
-fn is_out(number: u32, pulled: &[u32]) -> bool
-    ensures { IsAscending (λ a b. a < b) pulled.now → result ≡ is_listed number pulled.now }
-{
-    pulled.binary_search(&number).is_ok()
-}
-
 /// The counts of so many batches, by number.
 pub(crate) fn count_rows(
     alloc: Global,
@@ -124,7 +117,7 @@ pub(crate) fn count_rows(
     let mut counts = vec![in alloc; NONE; batches]?;
     let mut seen = 0u32;
     for row in rows {
-        let is_pulled = is_out(seen + 1, pulled);
+        let is_pulled = is_among(seen + 1, pulled);
         put_one(&mut counts, u64::from(seen), row, is_pulled);
         seen += 1;
     }

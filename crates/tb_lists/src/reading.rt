@@ -1,12 +1,13 @@
 //! Lists, read from the tables of a desk. Contracts state them as facts of the state that the tables represent. No
 //! read changes that state, also after an error.
 
-ghost use Rattle.std.specs.Prelude.{◌≡◌, ◌≢◌, ◌<◌, ◌^◌, Err, IfErr, IfOk, List, false, length, map};
+ghost use Rattle.std.specs.Prelude.{◌≡◌, ◌≢◌, ◌<◌, ◌^◌, Err, IfErr, IfOk, List, length, map, is_ok};
 ghost use Rattle.tb_core.specs.declared.refusals.Refusal.{Refusal as AnyRefusal};
 ghost use Rattle.tb_core.specs.Machine.{Sentence};
 ghost use Rattle.tb_core.specs.Rows.{pulled_from};
 ghost use Rattle.tb_tables.specs.Values.{batch_of, sentence_of};
-ghost use Rattle.tb_tables.specs.Leaving.{ChangesNothing, CommitsNothing, FailsOnlyAs, IsFaultless, KeepsRecords};
+ghost use Rattle.tb_tables.specs.Leaving.{FailsOnlyAs, IsFaultless};
+ghost use Rattle.tb_reads.specs.ReadOnly.{IsReadOnly};
 ghost use Rattle.tb_refine.specs.Calls.{KnowsDesk, Tells};
 ghost use Rattle.tb_refine.specs.DeskTables.{batch_record, sentence_record};
 ghost use Rattle.tb_refine.specs.Faults.{IsNoDevice};
@@ -18,7 +19,7 @@ use crate::counting::{Count, count_rows};
 use sqlite::{Alter, Connection};
 use std::alloc::Global;
 use tb_core::Fault;
-use tb_refine::{desk_rows_are_readable, faults, one_list_for_the_rows};
+use tb_refine::{desk_rows_are_readable, faults, one_list_for_the_rows, read_pulled};
 use tb_tables::{BatchRow, SentenceRow};
 
 /// The rows of all batches, by number.
@@ -29,10 +30,7 @@ fn read_batches<S: Alter>(alloc: Global, conn: &mut Connection<S>) -> Result<Vec
     ensures output { result ≢ Err Fault.Output }
     ensures fails { KnowsDesk S.Store conn.old conn.new result }
     ensures cause { IsFaultless S.Store conn.old conn.new → FailsOnlyAs IsNoDevice S.Store conn.old conn.new result }
-    ensures unchanged { ChangesNothing S.Store conn.old conn.new result }
-    ensures autocommit { conn.old.in_transaction ≡ false → conn.new.in_transaction ≡ false }
-    ensures keeps_records { KeepsRecords S.Store conn.old conn.new }
-    ensures commits_nothing { CommitsNothing S.Store conn.old conn.new }
+    ensures read_only { IsReadOnly S.Store conn.old conn.new (is_ok result) }
 {
     desk_rows_are_readable();
     one_list_for_the_rows();
@@ -53,34 +51,12 @@ fn read_sentences<S: Alter>(
     ensures output { result ≢ Err Fault.Output }
     ensures fails { KnowsDesk S.Store conn.old conn.new result }
     ensures cause { IsFaultless S.Store conn.old conn.new → FailsOnlyAs IsNoDevice S.Store conn.old conn.new result }
-    ensures unchanged { ChangesNothing S.Store conn.old conn.new result }
-    ensures autocommit { conn.old.in_transaction ≡ false → conn.new.in_transaction ≡ false }
-    ensures keeps_records { KeepsRecords S.Store conn.old conn.new }
-    ensures commits_nothing { CommitsNothing S.Store conn.old conn.new }
+    ensures read_only { IsReadOnly S.Store conn.old conn.new (is_ok result) }
 {
     desk_rows_are_readable();
     one_list_for_the_rows();
     match tb_reads::sentences(alloc, conn) {
         Ok(rows) => Ok(rows),
-        Err(error) => Err(faults::of_read(error)),
-    }
-}
-
-/// The numbers of all pulled sentences, ascending.
-fn read_pulled<S: Alter>(alloc: Global, conn: &mut Connection<S>) -> Result<Vec<u32>, Fault>
-    ensures answered { Tells S.Store conn.old conn.new result (λ s v. v.items ≡ pulled_from 1 s.sentences) }
-    ensures never_refuses { (r : AnyRefusal) → result ≢ Err (Fault.Refused r) }
-    ensures output { result ≢ Err Fault.Output }
-    ensures fails { KnowsDesk S.Store conn.old conn.new result }
-    ensures cause { IsFaultless S.Store conn.old conn.new → FailsOnlyAs IsNoDevice S.Store conn.old conn.new result }
-    ensures unchanged { ChangesNothing S.Store conn.old conn.new result }
-    ensures autocommit { conn.old.in_transaction ≡ false → conn.new.in_transaction ≡ false }
-    ensures keeps_records { KeepsRecords S.Store conn.old conn.new }
-    ensures commits_nothing { CommitsNothing S.Store conn.old conn.new }
-{
-    desk_rows_are_readable();
-    match tb_reads::pulled(alloc, conn) {
-        Ok(numbers) => Ok(numbers),
         Err(error) => Err(faults::of_read(error)),
     }
 }
@@ -116,10 +92,7 @@ fn read_counts<S: Alter>(
     ensures output { result ≢ Err Fault.Output }
     ensures fails { KnowsDesk S.Store conn.old conn.new result }
     ensures cause { IsFaultless S.Store conn.old conn.new → FailsOnlyAs IsNoDevice S.Store conn.old conn.new result }
-    ensures unchanged { ChangesNothing S.Store conn.old conn.new result }
-    ensures autocommit { conn.old.in_transaction ≡ false → conn.new.in_transaction ≡ false }
-    ensures keeps_records { KeepsRecords S.Store conn.old conn.new }
-    ensures commits_nothing { CommitsNothing S.Store conn.old conn.new }
+    ensures read_only { IsReadOnly S.Store conn.old conn.new (is_ok result) }
 {
     let rows = read_sentences(alloc, conn)?;
     let pulled = read_pulled(alloc, conn)?;
@@ -140,10 +113,7 @@ pub fn list_batches<S: Alter>(
     ensures output { result ≢ Err Fault.Output }
     ensures fails { KnowsDesk S.Store conn.old conn.new result }
     ensures cause { IsFaultless S.Store conn.old conn.new → FailsOnlyAs IsNoDevice S.Store conn.old conn.new result }
-    ensures unchanged { ChangesNothing S.Store conn.old conn.new result }
-    ensures autocommit { conn.old.in_transaction ≡ false → conn.new.in_transaction ≡ false }
-    ensures keeps_records { KeepsRecords S.Store conn.old conn.new }
-    ensures commits_nothing { CommitsNothing S.Store conn.old conn.new }
+    ensures read_only { IsReadOnly S.Store conn.old conn.new (is_ok result) }
 {
     let batches = read_batches(alloc, conn)?;
     let counts = read_counts(alloc, conn, batches.len())?;

@@ -25,8 +25,7 @@ use Rattle.tb_tables.proofs.Texts.{simple}
 use Rattle.tb_reads.specs.declared.cursor.Body.{Body}
 use Rattle.tb_reads.specs.Readable.{IsRevision, ComesBefore}
 use Rattle.tb_reads.specs.Streams.{AreToCome, IsLeft, IsAtRow, GoesOn, IsBodyOf, bodies_text, body_shown, body_columns, lent_shown}
-use Rattle.tb_reads.proofs.Shown.{commits_nothing}
-use Rattle.tb_reads.proofs.Staying.{failed_stays, nothing_committed}
+use Rattle.tb_reads.proofs.ReadOnly.{cursor_refused}
 use Rattle.tb_reads.proofs.Queries.{rising, select_bodies_is, select_bodies_terms}
 use Rattle.tb_reads.proofs.Failing.{bodies_fails, fault_of}
 use Rattle.tb_reads.proofs.Ordered.{pair, IsPair, pair_in_order, revisions_rise, revisions_placed}
@@ -130,9 +129,6 @@ module _ {S : Type 0} (g : Ghosts S) (old new : Held S) (has : (state g old).now
   start : HasGiven g bodies_text [] new [] × IsUnchanged (state g old) (state g new)
   start = begun_plain g bodies_text [] old new (subst (λ s. IsPlain (understood s bodies_text)) (sym has) select_bodies_is.1) begun
 
-  pub start_same : IsUnchanged (state g old) (state g new)
-  start_same = start.1
-
   pub starts : (xs : List Revision) → All IsRevision xs → IsAscending ComesBefore xs → Shows revision_view (map revision_shown xs) ((state g old).now.trees 5) → AreToCome g new xs
   starts xs each rises shows = record {
     schema = ap (λ (d : Database). d.schema) start.1.0.now_is ∙ has;
@@ -148,10 +144,7 @@ left_so g old new (Ok rows) h = tt
 left_so g old new (Err e) refused = record {
   fails = λ clean unlimited has. fault_of (bodies_fails (state g old) (state g new) [] e (refused.err clean) refl has unlimited);
   cause = λ good clean unlimited has. failed_wants (state g old) (state g new) good e (bodies_fails (state g old) (state g new) [] e (refused.err clean) refl has unlimited);
-  mode = refused.mode;
-  kept = λ clean opened d holds. failed_stays g bodies_text [] old new d e select_bodies_is.1 holds opened (refused.err clean);
-  commits_nothing = nothing_committed bodies_text [] (state g old) (state g new) select_bodies_is.1 refused.survives;
-  survives = λ has. commits_nothing bodies_text [] (state g old) (state g new) desk_schema select_bodies_is.1 has refused.survives;
+  read_only = cursor_refused g bodies_text [] old new (Err e) select_bodies_is.1 refused;
 }
 
 pub advance_fails : {S : Type 0} (g : Ghosts S) (old new : Held S) (e : Error) → FailsToAdvance g old new e → (state g old).step_limit ≡ None → (xs : List Revision) → AreToCome g old xs → Fails (state g old) (state g new) ⊥ e

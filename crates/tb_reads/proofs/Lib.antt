@@ -12,3 +12,4 @@ pub mod Staying
 pub mod Streaming
 pub mod Lent
 pub mod Failing
+pub mod ReadOnly

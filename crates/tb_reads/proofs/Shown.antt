@@ -4,9 +4,8 @@ use Rattle.sqlite.specs.Order.{Row}
 use Rattle.sqlite.specs.Listing.{understood}
 use Rattle.sqlite.specs.Clock.{timed}
 use Rattle.sqlite.specs.Schema.{Schema}
-use Rattle.sqlite.specs.State.{State, Shown, ShowsRows, IsUnchanged, Survives, CommitsShowing}
-use Rattle.sqlite.proofs.Callers.{IsPlain, never_commits}
-use Rattle.sqlite.proofs.StateLemmas.{survives_weaker}
+use Rattle.sqlite.specs.State.{State, Shown, ShowsRows, IsUnchanged}
+use Rattle.sqlite.proofs.Callers.{IsPlain}
 
 pub if_ok : {T E : Type 0} {P Q : T → Type 0} (r : Result T E) → IfOk r P → ((x : T) → P x → Q x) → IfOk r Q
 if_ok (Ok x) h f = f x h
@@ -30,9 +29,6 @@ shown_same sql params old new schema rows plain has h =
     let here = subst (λ s. IsPlain (understood s sql)) (sym has) plain in
     let none = (subst IsPlain h.1.is here).0 in
     (subst (ShowsRows old new sql h.0 (timed params h.0.formats h.1.now) rows) none h.2).3
-
-pub commits_nothing : (sql : List ℕ) (params : Row) (old new : State) (schema : Schema) → IsPlain (understood schema sql) → old.now.schema ≡ schema → Survives old new (CommitsShowing sql params old) → Survives old new (λ _. ⊥)
-commits_nothing sql params old new schema plain has = survives_weaker old new _ _ (λ _ db. never_commits sql params old db (subst (λ s. IsPlain (understood s sql)) (sym has) plain))
 
 -- what was shown, at the parameters as values
 pub shown_at : (sql : List ℕ) (old new : State) (rows : List Row) (params given : Row) → Shown sql given old new rows → given ≡ params → Shown sql params old new rows

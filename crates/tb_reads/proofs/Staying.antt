@@ -59,15 +59,7 @@ module _ {S : Type 0} (g : Ghosts S) where
       let none = (subst IsPlain ran.1.is here).0 in
       unchanged_holds old new d h (subst (FailsToShow (state g old) (state g new) sql ran.0 (timed params ran.0.formats ran.1.now) e) none ran.2).3
 
-  pub refused_stays : (sql : List ℕ) (params : Row) (old new : Held S) {X : Type 0} (result : Result X Error) → IsPlain (understood desk_schema sql) → OnErr result (IsRefused g sql params old result new)
-      → OnErr result (HasCleanDisk (state g new) → IsTrue (state g new).is_open → (d : Tables) → Holds g old d → Holds g new d)
-  refused_stays sql params old new (Ok rows) plain h = tt
-  refused_stays sql params old new (Err e) plain refused = λ clean opened d holds. failed_stays sql params old new d e plain holds opened (refused.err clean)
-
   -- one row at a time
-  pub then_holds : (old mid new : Held S) (d : Tables) → Holds g old d → IsUnchanged (state g old) (state g mid) → IsUnchanged (state g mid) (state g new) → Holds g new d
-  then_holds old mid new d h one two = unchanged_holds mid new d (unchanged_holds old mid d h one) two
-
   pub stopped_stays : (old new : Held S) (d : Tables) (e : Error) → Holds g old d → IsTrue (state g new).is_open → Fails (state g old) (state g new) ⊥ e ⊎ IsUnchanged (state g old) (state g new) → Holds g new d
   stopped_stays old new d e h opened (inl failed) = undone_holds old new d h opened failed.3
   stopped_stays old new d e h opened (inr same) = unchanged_holds old new d h same

@@ -20,8 +20,6 @@ use Rattle.tb_reads.specs.Streams.{head_of, head_shown, head_columns}
 use Rattle.std.specs.List.{AllByRecursion}
 use Rattle.std.proofs.lemmas.List.Elements.{recursion_from_All}
 use Rattle.tb_reads.specs.Readable.{IsSentence, IsHead, IsRevision, ComesBefore}
-use Rattle.sqlite.specs.State.{State, Survives}
-use Rattle.sqlite.proofs.StateLemmas.{survives_weaker}
 use Rattle.sqlite_trees.specs.Tree.{IsAscending}
 use Rattle.tb_reads.proofs.Queries.{rising, select_heads_terms, select_revisions_terms}
 use Rattle.tb_reads.proofs.Ordered.{first, IsFirst, first_in_order, same_list, by_order, keyed_twice, pair, IsPair, pair_in_order, revisions_rise, revisions_placed}
@@ -88,7 +86,3 @@ revisions_all db rows answer xs each up holds =
     let fit = recursion_from_All IsRevision xs each in
     by_order 5 select_revisions_terms (rising 1 ∷ rising 2 ∷ []) (λ r. column r 1 ∷ column r 2 ∷ []) revision_view (λ _. refl) (overlay db []) rows answer (map revision_shown xs) keyed_twice pair IsPair (λ _. refl) (λ _. refl)
     (revisions_rise (λ r. r) xs fit up) (revisions_placed (λ r. r) xs fit) (pair_in_order 5 select_revisions_terms) holds
-
--- what no other tables than a desk's could have made come about, a desk's could not
-pub on_desk : (old new : State) → Survives old new (λ _. old.now.schema ≢ desk_schema) → old.now.schema ≡ desk_schema → Survives old new (λ _. ⊥)
-on_desk old new kept has = survives_weaker old new _ _ (λ _ db other. other has) kept

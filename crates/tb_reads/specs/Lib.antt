@@ -2,3 +2,4 @@ pub mod Readable
 pub mod Found
 pub mod Streams
 pub mod Failing
+pub mod ReadOnly

@@ -26,6 +26,7 @@ use Rattle.tb_reads.specs.declared.error.ReadError.{ReadError}
 use Rattle.tb_reads.specs.declared.error.ReadError.TheVariants.{Form}
 use Rattle.tb_reads.specs.Readable.{IsRevision, ComesBefore}
 use Rattle.tb_reads.specs.Failing.{IsReadFault, IsReadWant}
+use Rattle.tb_reads.specs.ReadOnly.{IsReadOnly}
 
 -- ---- the batch and the current revision of a sentence
 
@@ -89,11 +90,7 @@ pub record IsLeft {S X : Type 0} (g : Ghosts S) (old : Held S) (result : Result 
   pub fails : HasCleanDisk (state g new) → (state g old).step_limit ≡ None
       → (state g old).now.schema ≡ desk_schema → IfErr result IsStoreFault
   pub cause : IsFaultless g old new → FailsOnlyAs IsWant g old new result
-  pub mode : old.in_transaction ≡ false → new.in_transaction ≡ false
-  pub kept : HasCleanDisk (state g new) → IsTrue (state g new).is_open → (d : Tables) → Holds g old d
-      → Holds g new d
-  pub commits_nothing : Survives (state g old) (state g new) (λ _. (state g old).now.schema ≢ desk_schema)
-  pub survives : (state g old).now.schema ≡ desk_schema → Survives (state g old) (state g new) (λ _. ⊥)
+  pub read_only : IsReadOnly g old new false
 
 -- what the rows are once the body that they lent is given back
 pub record HasGone {S : Type 0} (g : Ghosts S) (old : Rows S g) (result : Result

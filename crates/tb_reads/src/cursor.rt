@@ -1,10 +1,10 @@
 //! The bodies of all revisions, lent one at a time.
 
-ghost use Rattle.std.specs.Prelude.{◌≡◌, ◌≢◌, false, List, map, All, Err, IfOk, IfErr, OnOk, option_map};
+ghost use Rattle.std.specs.Prelude.{◌≡◌, ◌≢◌, true, List, map, All, Err, IfOk, IfErr, option_map};
 ghost use Rattle.std.specs.Prelude.{Some, None};
 ghost use Rattle.std.specs.Borrow.{sem, RestsIfErr};
 ghost use Rattle.sqlite.specs.contracts.connection.Connection.{the_row};
-ghost use Rattle.sqlite.specs.State.{HasCleanDisk, IsUnchanged, Survives};
+ghost use Rattle.sqlite.specs.State.{HasCleanDisk};
 ghost use Rattle.sqlite.specs.Held.{state};
 ghost use Rattle.sqlite.specs.Given.{row_if};
 ghost use Rattle.sqlite_trees.specs.Tree.{IsAscending};
@@ -12,6 +12,7 @@ ghost use Rattle.tb_tables.specs.Layout.{desk_schema};
 ghost use Rattle.tb_tables.specs.Records.{Revision, Shows, revision_shown, revision_view};
 ghost use Rattle.tb_reads.specs.Readable.{IsRevision, ComesBefore};
 ghost use Rattle.tb_reads.specs.Failing.{IsReadFault, IsReadWant};
+ghost use Rattle.tb_reads.specs.ReadOnly.{IsReadOnly};
 ghost use Rattle.tb_reads.specs.Streams.{AreToCome, EndsAs, IsLeft, body_shown, lent_shown};
 
 use crate::error::ReadError;
@@ -63,15 +64,7 @@ pub fn bodies<S: Alter>(conn: &mut Connection<S>) -> Result<Rows<'_, S>, Error>
         → IsAscending ComesBefore xs
         → Shows revision_view (map revision_shown xs) ((state S.Store conn.old).now.trees 5)
         → AreToCome S.Store rows.conn.now xs) }
-    ensures unchanged { IfOk result (λ rows. HasCleanDisk (state S.Store rows.conn.now)
-        → (state S.Store conn.old).now.schema ≡ desk_schema
-        → IsUnchanged (state S.Store conn.old) (state S.Store rows.conn.now)) }
-    ensures autocommit { IfOk result (λ rows. conn.old.in_transaction ≡ false
-        → rows.conn.now.in_transaction ≡ false) }
-    ensures commits_nothing { IfOk result (λ rows. Survives (state S.Store conn.old) (state S.Store rows.conn.now)
-        (λ _. (state S.Store conn.old).now.schema ≢ desk_schema)) }
-    ensures survives { IfOk result (λ rows. (state S.Store conn.old).now.schema ≡ desk_schema
-        → Survives (state S.Store conn.old) (state S.Store rows.conn.now) (λ _. ⊥)) }
+    ensures read_only { IfOk result (λ rows. IsReadOnly S.Store conn.old rows.conn.now true) }
 {
     conn.query(
         "SELECT sent, rev, body FROM revisions ORDER BY sent, rev",

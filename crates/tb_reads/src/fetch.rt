@@ -1,16 +1,17 @@
 //! The statements that read a desk.
 
-ghost use Rattle.std.specs.Prelude.{◌≡◌, ◌≢◌, List, All, map, Err, IfOk, false};
+ghost use Rattle.std.specs.Prelude.{◌≡◌, ◌≢◌, List, All, map, Err, IfOk, is_ok};
 ghost use Rattle.sqlite.specs.Held.{state};
 ghost use Rattle.sqlite.specs.Order.{Row as Columns};
 ghost use Rattle.sqlite.specs.State.{HasCleanDisk, Shown};
 ghost use Rattle.sqlite.specs.Values.{bound};
 ghost use Rattle.tb_tables.specs.Failing.{IsStoreFault, IsWant};
-ghost use Rattle.tb_tables.specs.Leaving.{ChangesNothing, CommitsNothing, CommitsNothingOnDesk, FailsOnlyAs};
-ghost use Rattle.tb_tables.specs.Leaving.{KeepsRecords, IsFaultless};
+ghost use Rattle.tb_tables.specs.Leaving.{FailsOnlyAs};
+ghost use Rattle.tb_tables.specs.Leaving.{IsFaultless};
 ghost use Rattle.tb_tables.specs.Records.{numbered};
 ghost use Rattle.tb_reads.specs.Failing.{IsDeskQuery, SeesAsBefore, IsUnchangedOnForm, IsReadFault, IsReadWant};
 ghost use Rattle.tb_reads.specs.Found.{HasUnreadable, ShowsFirst};
+ghost use Rattle.tb_reads.specs.ReadOnly.{IsReadOnly};
 
 use crate::error::ReadError;
 use crate::records::{FromRow, all_in, first_in};
@@ -30,11 +31,7 @@ pub(crate) fn fetch_rows<S: Alter>(
     ensures sees { SeesAsBefore S.Store conn.old conn.new }
     ensures fails { FailsOnlyAs IsStoreFault S.Store conn.old conn.new result }
     ensures cause { IsFaultless S.Store conn.old conn.new → FailsOnlyAs IsWant S.Store conn.old conn.new result }
-    ensures unchanged { ChangesNothing S.Store conn.old conn.new result }
-    ensures autocommit { conn.old.in_transaction ≡ false → conn.new.in_transaction ≡ false }
-    ensures keeps_records { KeepsRecords S.Store conn.old conn.new }
-    ensures commits_nothing { CommitsNothing S.Store conn.old conn.new }
-    ensures survives { CommitsNothingOnDesk S.Store conn.old conn.new }
+    ensures read_only { IsReadOnly S.Store conn.old conn.new (is_ok result) }
 {
     conn.query_all(sql, params)
 }
@@ -56,11 +53,7 @@ pub(crate) fn fetch_all<T: FromRow, S: Alter>(
     ensures sees { SeesAsBefore S.Store conn.old conn.new }
     ensures fails { FailsOnlyAs IsReadFault S.Store conn.old conn.new result }
     ensures cause { IsFaultless S.Store conn.old conn.new → FailsOnlyAs IsReadWant S.Store conn.old conn.new result }
-    ensures unchanged { ChangesNothing S.Store conn.old conn.new result }
-    ensures autocommit { conn.old.in_transaction ≡ false → conn.new.in_transaction ≡ false }
-    ensures keeps_records { KeepsRecords S.Store conn.old conn.new }
-    ensures commits_nothing { CommitsNothing S.Store conn.old conn.new }
-    ensures survives { CommitsNothingOnDesk S.Store conn.old conn.new }
+    ensures read_only { IsReadOnly S.Store conn.old conn.new (is_ok result) }
 {
     let rows = fetch_rows(conn, sql, params)?;
     all_in(alloc, rows.as_slice())
@@ -83,11 +76,7 @@ pub(crate) fn fetch_first<T: FromRow, S: Alter>(
     ensures sees { SeesAsBefore S.Store conn.old conn.new }
     ensures fails { FailsOnlyAs IsReadFault S.Store conn.old conn.new result }
     ensures cause { IsFaultless S.Store conn.old conn.new → FailsOnlyAs IsReadWant S.Store conn.old conn.new result }
-    ensures unchanged { ChangesNothing S.Store conn.old conn.new result }
-    ensures autocommit { conn.old.in_transaction ≡ false → conn.new.in_transaction ≡ false }
-    ensures keeps_records { KeepsRecords S.Store conn.old conn.new }
-    ensures commits_nothing { CommitsNothing S.Store conn.old conn.new }
-    ensures survives { CommitsNothingOnDesk S.Store conn.old conn.new }
+    ensures read_only { IsReadOnly S.Store conn.old conn.new (is_ok result) }
 {
     let rows = fetch_rows(conn, sql, params)?;
     first_in(rows.as_slice(), number)

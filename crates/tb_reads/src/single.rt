@@ -1,7 +1,7 @@
 //! Single records, by their number or their name.
 
-ghost use Rattle.std.specs.Prelude.{ℕ, ◌≡◌, ◌<◌, ◌^◌, ◌-◌, ◌↔◌, map, length};
-ghost use Rattle.std.specs.Prelude.{false, IsTrue, List, Contains, All, Err, option_map, slice_get};
+ghost use Rattle.std.specs.Prelude.{ℕ, ◌≡◌, ◌<◌, ◌^◌, ◌-◌, ◌↔◌, map, length, is_ok};
+ghost use Rattle.std.specs.Prelude.{IsTrue, List, Contains, All, Err, option_map, slice_get};
 ghost use Rattle.tb_tables.specs.Records.{Batch, Sentence, Revision, Shows, numbered, batch_shown, sentence_shown};
 ghost use Rattle.tb_tables.specs.Records.{revision_shown, number_shown, batch_view, sentence_view, revision_view};
 ghost use Rattle.tb_tables.specs.Records.{number_view};
@@ -9,8 +9,9 @@ ghost use Rattle.tb_tables.specs.Values.{batch_of, sentence_of, revision_of};
 ghost use Rattle.tb_reads.specs.Readable.{IsBatch, IsSentence, IsRevision};
 ghost use Rattle.tb_reads.specs.Found.{IsNumberOf, IsRevisionAt};
 ghost use Rattle.tb_reads.specs.Failing.{HasNoForm, IsReadFault, IsReadWant};
-ghost use Rattle.tb_tables.specs.Leaving.{ChangesNothing, CommitsNothing, CommitsNothingOnDesk, FailsOnlyAs};
-ghost use Rattle.tb_tables.specs.Leaving.{KeepsRecords, Reads, IsFaultless};
+ghost use Rattle.tb_reads.specs.ReadOnly.{IsReadOnly};
+ghost use Rattle.tb_tables.specs.Leaving.{FailsOnlyAs};
+ghost use Rattle.tb_tables.specs.Leaving.{Reads, IsFaultless};
 
 use crate::error::ReadError;
 use crate::fetch::{fetch_first, fetch_rows};
@@ -31,11 +32,7 @@ pub fn batch<S: Alter>(conn: &mut Connection<S>, number: u32) -> Result<Option<B
         → ¬ Shows batch_view (numbered batch_shown 1 xs) (trees 1)) }
     ensures fails { FailsOnlyAs IsReadFault S.Store conn.old conn.new result }
     ensures cause { IsFaultless S.Store conn.old conn.new → FailsOnlyAs IsReadWant S.Store conn.old conn.new result }
-    ensures unchanged { ChangesNothing S.Store conn.old conn.new result }
-    ensures autocommit { conn.old.in_transaction ≡ false → conn.new.in_transaction ≡ false }
-    ensures keeps_records { KeepsRecords S.Store conn.old conn.new }
-    ensures commits_nothing { CommitsNothing S.Store conn.old conn.new }
-    ensures survives { CommitsNothingOnDesk S.Store conn.old conn.new }
+    ensures read_only { IsReadOnly S.Store conn.old conn.new (is_ok result) }
 {
     fetch_first(
         conn,
@@ -62,11 +59,7 @@ pub fn sentence<S: Alter>(
         → ¬ Shows sentence_view (numbered sentence_shown 1 xs) (trees 3)) }
     ensures fails { FailsOnlyAs IsReadFault S.Store conn.old conn.new result }
     ensures cause { IsFaultless S.Store conn.old conn.new → FailsOnlyAs IsReadWant S.Store conn.old conn.new result }
-    ensures unchanged { ChangesNothing S.Store conn.old conn.new result }
-    ensures autocommit { conn.old.in_transaction ≡ false → conn.new.in_transaction ≡ false }
-    ensures keeps_records { KeepsRecords S.Store conn.old conn.new }
-    ensures commits_nothing { CommitsNothing S.Store conn.old conn.new }
-    ensures survives { CommitsNothingOnDesk S.Store conn.old conn.new }
+    ensures read_only { IsReadOnly S.Store conn.old conn.new (is_ok result) }
 {
     fetch_first(
         conn,
@@ -88,11 +81,7 @@ pub fn batch_named<S: Alter>(conn: &mut Connection<S>, name: &str) -> Result<Opt
         → ¬ Shows batch_view (numbered batch_shown 1 xs) (trees 1)) }
     ensures fails { FailsOnlyAs IsReadFault S.Store conn.old conn.new result }
     ensures cause { IsFaultless S.Store conn.old conn.new → FailsOnlyAs IsReadWant S.Store conn.old conn.new result }
-    ensures unchanged { ChangesNothing S.Store conn.old conn.new result }
-    ensures autocommit { conn.old.in_transaction ≡ false → conn.new.in_transaction ≡ false }
-    ensures keeps_records { KeepsRecords S.Store conn.old conn.new }
-    ensures commits_nothing { CommitsNothing S.Store conn.old conn.new }
-    ensures survives { CommitsNothingOnDesk S.Store conn.old conn.new }
+    ensures read_only { IsReadOnly S.Store conn.old conn.new (is_ok result) }
 {
     fetch_first(
         conn,
@@ -118,11 +107,7 @@ pub fn sentence_named<S: Alter>(
         → ¬ Shows sentence_view (numbered sentence_shown 1 xs) (trees 3)) }
     ensures fails { FailsOnlyAs IsReadFault S.Store conn.old conn.new result }
     ensures cause { IsFaultless S.Store conn.old conn.new → FailsOnlyAs IsReadWant S.Store conn.old conn.new result }
-    ensures unchanged { ChangesNothing S.Store conn.old conn.new result }
-    ensures autocommit { conn.old.in_transaction ≡ false → conn.new.in_transaction ≡ false }
-    ensures keeps_records { KeepsRecords S.Store conn.old conn.new }
-    ensures commits_nothing { CommitsNothing S.Store conn.old conn.new }
-    ensures survives { CommitsNothingOnDesk S.Store conn.old conn.new }
+    ensures read_only { IsReadOnly S.Store conn.old conn.new (is_ok result) }
 {
     fetch_first(
         conn,
@@ -149,11 +134,7 @@ pub fn revision<S: Alter>(
         → ¬ Shows revision_view (map revision_shown xs) (trees 5)) }
     ensures fails { FailsOnlyAs IsReadFault S.Store conn.old conn.new result }
     ensures cause { IsFaultless S.Store conn.old conn.new → FailsOnlyAs IsReadWant S.Store conn.old conn.new result }
-    ensures unchanged { ChangesNothing S.Store conn.old conn.new result }
-    ensures autocommit { conn.old.in_transaction ≡ false → conn.new.in_transaction ≡ false }
-    ensures keeps_records { KeepsRecords S.Store conn.old conn.new }
-    ensures commits_nothing { CommitsNothing S.Store conn.old conn.new }
-    ensures survives { CommitsNothingOnDesk S.Store conn.old conn.new }
+    ensures read_only { IsReadOnly S.Store conn.old conn.new (is_ok result) }
 {
     fetch_first(
         conn,
@@ -174,11 +155,7 @@ pub fn is_pulled<S: Alter>(conn: &mut Connection<S>, sent: u32) -> Result<bool, 
     ensures form { ¬ (result ≡ Err ReadError.Form) }
     ensures fails { FailsOnlyAs IsReadFault S.Store conn.old conn.new result }
     ensures cause { IsFaultless S.Store conn.old conn.new → FailsOnlyAs IsReadWant S.Store conn.old conn.new result }
-    ensures unchanged { ChangesNothing S.Store conn.old conn.new result }
-    ensures autocommit { conn.old.in_transaction ≡ false → conn.new.in_transaction ≡ false }
-    ensures keeps_records { KeepsRecords S.Store conn.old conn.new }
-    ensures commits_nothing { CommitsNothing S.Store conn.old conn.new }
-    ensures survives { CommitsNothingOnDesk S.Store conn.old conn.new }
+    ensures read_only { IsReadOnly S.Store conn.old conn.new (is_ok result) }
 {
     let rows = fetch_rows(
         conn,

@@ -1,11 +1,12 @@
 //! Rows one at a time, while the connection is borrowed: what a walk over the whole treebank reads.
 
-ghost use Rattle.std.specs.Prelude.{◌≡◌, ◌≢◌, map, false, List, All, Err, IfOk, IfErr};
+ghost use Rattle.std.specs.Prelude.{◌≡◌, ◌≢◌, map, List, All, Err, IfOk, IfErr, is_ok};
 ghost use Rattle.tb_tables.specs.Records.{Sentence, Shows, numbered, sentence_shown, sentence_view};
 ghost use Rattle.tb_reads.specs.Readable.{IsSentence, IsHead};
 ghost use Rattle.tb_reads.specs.Failing.{HasNoForm, IsReadFault, IsReadWant};
 ghost use Rattle.tb_reads.specs.Streams.{head_of, head_shown};
-ghost use Rattle.tb_tables.specs.Leaving.{ChangesNothing, CommitsNothing, FailsOnlyAs, KeepsRecords, Reads};
+ghost use Rattle.tb_reads.specs.ReadOnly.{IsReadOnly};
+ghost use Rattle.tb_tables.specs.Leaving.{FailsOnlyAs, Reads};
 ghost use Rattle.tb_tables.specs.Leaving.{IsFaultless};
 
 use crate::error::ReadError;
@@ -51,10 +52,7 @@ pub fn heads<S: Alter>(
         → ¬ Shows sentence_view (numbered sentence_shown 1 xs) (trees 3)) }
     ensures fails { FailsOnlyAs IsReadFault S.Store conn.old conn.new result }
     ensures cause { IsFaultless S.Store conn.old conn.new → FailsOnlyAs IsReadWant S.Store conn.old conn.new result }
-    ensures unchanged { ChangesNothing S.Store conn.old conn.new result }
-    ensures keeps_records { KeepsRecords S.Store conn.old conn.new }
-    ensures autocommit { conn.old.in_transaction ≡ false → conn.new.in_transaction ≡ false }
-    ensures commits_nothing { CommitsNothing S.Store conn.old conn.new }
+    ensures read_only { IsReadOnly S.Store conn.old conn.new (is_ok result) }
 {
     let mut found = Vec::new(alloc);
     let mut rows = conn.query("SELECT batch, rev FROM sentences ORDER BY no", &[])?;

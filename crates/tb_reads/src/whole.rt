@@ -1,6 +1,6 @@
 //! Whole tables, in the order of their keys, as typed records: what the opening of a file reads.
 
-ghost use Rattle.std.specs.Prelude.{ℕ, ◌≡◌, ◌<◌, ◌^◌, length, map, false, List, All};
+ghost use Rattle.std.specs.Prelude.{ℕ, ◌≡◌, ◌<◌, ◌^◌, length, map, List, All, is_ok};
 ghost use Rattle.sqlite_trees.specs.Tree.{IsAscending};
 ghost use Rattle.tb_tables.specs.Records.{Batch, Sentence, Revision, Move, Total, Shows, numbered, batch_shown};
 ghost use Rattle.tb_tables.specs.Records.{sentence_shown, revision_shown, move_shown, total_shown, number_shown};
@@ -9,8 +9,9 @@ ghost use Rattle.tb_tables.specs.Records.{number_view};
 ghost use Rattle.tb_tables.specs.Values.{batch_of, sentence_of, revision_of, move_of, total_of};
 ghost use Rattle.tb_reads.specs.Readable.{IsBatch, IsSentence, IsRevision, IsMove, IsTotal, ComesBefore};
 ghost use Rattle.tb_reads.specs.Failing.{HasNoForm, IsReadFault, IsUnchangedOnForm, SeesAsBefore, IsReadWant};
-ghost use Rattle.tb_tables.specs.Leaving.{ChangesNothing, CommitsNothing, CommitsNothingOnDesk, FailsOnlyAs};
-ghost use Rattle.tb_tables.specs.Leaving.{KeepsRecords, Reads, IsFaultless};
+ghost use Rattle.tb_reads.specs.ReadOnly.{IsReadOnly};
+ghost use Rattle.tb_tables.specs.Leaving.{FailsOnlyAs};
+ghost use Rattle.tb_tables.specs.Leaving.{Reads, IsFaultless};
 
 use crate::error::ReadError;
 use crate::fetch::fetch_all;
@@ -36,11 +37,7 @@ pub fn batches<S: Alter>(
     ensures sees { SeesAsBefore S.Store conn.old conn.new }
     ensures fails { FailsOnlyAs IsReadFault S.Store conn.old conn.new result }
     ensures cause { IsFaultless S.Store conn.old conn.new → FailsOnlyAs IsReadWant S.Store conn.old conn.new result }
-    ensures unchanged { ChangesNothing S.Store conn.old conn.new result }
-    ensures autocommit { conn.old.in_transaction ≡ false → conn.new.in_transaction ≡ false }
-    ensures keeps_records { KeepsRecords S.Store conn.old conn.new }
-    ensures commits_nothing { CommitsNothing S.Store conn.old conn.new }
-    ensures survives { CommitsNothingOnDesk S.Store conn.old conn.new }
+    ensures read_only { IsReadOnly S.Store conn.old conn.new (is_ok result) }
 {
     fetch_all(
         alloc,
@@ -67,11 +64,7 @@ pub fn sentences<S: Alter>(
     ensures sees { SeesAsBefore S.Store conn.old conn.new }
     ensures fails { FailsOnlyAs IsReadFault S.Store conn.old conn.new result }
     ensures cause { IsFaultless S.Store conn.old conn.new → FailsOnlyAs IsReadWant S.Store conn.old conn.new result }
-    ensures unchanged { ChangesNothing S.Store conn.old conn.new result }
-    ensures autocommit { conn.old.in_transaction ≡ false → conn.new.in_transaction ≡ false }
-    ensures keeps_records { KeepsRecords S.Store conn.old conn.new }
-    ensures commits_nothing { CommitsNothing S.Store conn.old conn.new }
-    ensures survives { CommitsNothingOnDesk S.Store conn.old conn.new }
+    ensures read_only { IsReadOnly S.Store conn.old conn.new (is_ok result) }
 {
     fetch_all(
         alloc,
@@ -95,11 +88,7 @@ pub fn moves<S: Alter>(alloc: Global, conn: &mut Connection<S>) -> Result<Vec<Mo
     ensures sees { SeesAsBefore S.Store conn.old conn.new }
     ensures fails { FailsOnlyAs IsReadFault S.Store conn.old conn.new result }
     ensures cause { IsFaultless S.Store conn.old conn.new → FailsOnlyAs IsReadWant S.Store conn.old conn.new result }
-    ensures unchanged { ChangesNothing S.Store conn.old conn.new result }
-    ensures autocommit { conn.old.in_transaction ≡ false → conn.new.in_transaction ≡ false }
-    ensures keeps_records { KeepsRecords S.Store conn.old conn.new }
-    ensures commits_nothing { CommitsNothing S.Store conn.old conn.new }
-    ensures survives { CommitsNothingOnDesk S.Store conn.old conn.new }
+    ensures read_only { IsReadOnly S.Store conn.old conn.new (is_ok result) }
 {
     fetch_all(
         alloc,
@@ -123,11 +112,7 @@ pub fn totals<S: Alter>(alloc: Global, conn: &mut Connection<S>) -> Result<Vec<T
     ensures sees { SeesAsBefore S.Store conn.old conn.new }
     ensures fails { FailsOnlyAs IsReadFault S.Store conn.old conn.new result }
     ensures cause { IsFaultless S.Store conn.old conn.new → FailsOnlyAs IsReadWant S.Store conn.old conn.new result }
-    ensures unchanged { ChangesNothing S.Store conn.old conn.new result }
-    ensures autocommit { conn.old.in_transaction ≡ false → conn.new.in_transaction ≡ false }
-    ensures keeps_records { KeepsRecords S.Store conn.old conn.new }
-    ensures commits_nothing { CommitsNothing S.Store conn.old conn.new }
-    ensures survives { CommitsNothingOnDesk S.Store conn.old conn.new }
+    ensures read_only { IsReadOnly S.Store conn.old conn.new (is_ok result) }
 {
     fetch_all(
         alloc,
@@ -159,11 +144,7 @@ pub fn revisions<S: Alter>(
     ensures sees { SeesAsBefore S.Store conn.old conn.new }
     ensures fails { FailsOnlyAs IsReadFault S.Store conn.old conn.new result }
     ensures cause { IsFaultless S.Store conn.old conn.new → FailsOnlyAs IsReadWant S.Store conn.old conn.new result }
-    ensures unchanged { ChangesNothing S.Store conn.old conn.new result }
-    ensures autocommit { conn.old.in_transaction ≡ false → conn.new.in_transaction ≡ false }
-    ensures keeps_records { KeepsRecords S.Store conn.old conn.new }
-    ensures commits_nothing { CommitsNothing S.Store conn.old conn.new }
-    ensures survives { CommitsNothingOnDesk S.Store conn.old conn.new }
+    ensures read_only { IsReadOnly S.Store conn.old conn.new (is_ok result) }
 {
     let mut found = Vec::new(alloc);
     let mut rows = conn.query(
@@ -195,11 +176,7 @@ pub fn pulled<S: Alter>(alloc: Global, conn: &mut Connection<S>) -> Result<Vec<u
     ensures sees { SeesAsBefore S.Store conn.old conn.new }
     ensures fails { FailsOnlyAs IsReadFault S.Store conn.old conn.new result }
     ensures cause { IsFaultless S.Store conn.old conn.new → FailsOnlyAs IsReadWant S.Store conn.old conn.new result }
-    ensures unchanged { ChangesNothing S.Store conn.old conn.new result }
-    ensures autocommit { conn.old.in_transaction ≡ false → conn.new.in_transaction ≡ false }
-    ensures keeps_records { KeepsRecords S.Store conn.old conn.new }
-    ensures commits_nothing { CommitsNothing S.Store conn.old conn.new }
-    ensures survives { CommitsNothingOnDesk S.Store conn.old conn.new }
+    ensures read_only { IsReadOnly S.Store conn.old conn.new (is_ok result) }
 {
     fetch_all(alloc, conn, "SELECT sent FROM pulled ORDER BY sent", &[])
 }
@@ -220,11 +197,7 @@ pub fn versions<S: Alter>(alloc: Global, conn: &mut Connection<S>) -> Result<Vec
     ensures sees { SeesAsBefore S.Store conn.old conn.new }
     ensures fails { FailsOnlyAs IsReadFault S.Store conn.old conn.new result }
     ensures cause { IsFaultless S.Store conn.old conn.new → FailsOnlyAs IsReadWant S.Store conn.old conn.new result }
-    ensures unchanged { ChangesNothing S.Store conn.old conn.new result }
-    ensures autocommit { conn.old.in_transaction ≡ false → conn.new.in_transaction ≡ false }
-    ensures keeps_records { KeepsRecords S.Store conn.old conn.new }
-    ensures commits_nothing { CommitsNothing S.Store conn.old conn.new }
-    ensures survives { CommitsNothingOnDesk S.Store conn.old conn.new }
+    ensures read_only { IsReadOnly S.Store conn.old conn.new (is_ok result) }
 {
     fetch_all(
         alloc,

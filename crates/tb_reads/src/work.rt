@@ -1,12 +1,13 @@
 //! The sentences of a batch.
 
-ghost use Rattle.std.specs.Prelude.{◌≡◌, ◌<◌, ◌^◌, length, false, List, All};
+ghost use Rattle.std.specs.Prelude.{◌≡◌, ◌<◌, ◌^◌, length, List, All, is_ok};
 ghost use Rattle.tb_tables.specs.Records.{Sentence, Shows, numbered, sentence_shown, sentence_view};
 ghost use Rattle.tb_reads.specs.Readable.{IsSentence};
 ghost use Rattle.tb_reads.specs.Found.{work_of};
 ghost use Rattle.tb_reads.specs.Failing.{HasNoForm, IsReadFault, IsReadWant};
-ghost use Rattle.tb_tables.specs.Leaving.{ChangesNothing, CommitsNothing, CommitsNothingOnDesk, FailsOnlyAs};
-ghost use Rattle.tb_tables.specs.Leaving.{KeepsRecords, Reads, IsFaultless};
+ghost use Rattle.tb_reads.specs.ReadOnly.{IsReadOnly};
+ghost use Rattle.tb_tables.specs.Leaving.{FailsOnlyAs};
+ghost use Rattle.tb_tables.specs.Leaving.{Reads, IsFaultless};
 
 use crate::error::ReadError;
 use crate::fetch::fetch_all;
@@ -40,11 +41,7 @@ pub fn sentences_of<S: Alter>(
         → length xs < 2 ^ 32 → ¬ Shows sentence_view (numbered sentence_shown 1 xs) (trees 3)) }
     ensures fails { FailsOnlyAs IsReadFault S.Store conn.old conn.new result }
     ensures cause { IsFaultless S.Store conn.old conn.new → FailsOnlyAs IsReadWant S.Store conn.old conn.new result }
-    ensures unchanged { ChangesNothing S.Store conn.old conn.new result }
-    ensures autocommit { conn.old.in_transaction ≡ false → conn.new.in_transaction ≡ false }
-    ensures keeps_records { KeepsRecords S.Store conn.old conn.new }
-    ensures commits_nothing { CommitsNothing S.Store conn.old conn.new }
-    ensures survives { CommitsNothingOnDesk S.Store conn.old conn.new }
+    ensures read_only { IsReadOnly S.Store conn.old conn.new (is_ok result) }
 {
     fetch_all(
         alloc,

@@ -28,10 +28,6 @@ pub record IsWithin (n m : ℕ) (x : MoveText) : Type 0 where
   pub words_in : x.words_in ≤ 1000 * m
   pub who : IsGood x.who
 
-abbrev pub AreNumbered : ℕ → List MoveText → Type 0
-AreNumbered n [] = Unit {0}
-AreNumbered n (m ∷ ms) = (m.no ≡ n) × AreNumbered (n + 1) ms
-
 abbrev pub HasGoodWorker : Batch → Type 0
 HasGoodWorker b = (b.worker ≡ []) ⊎ IsGood b.worker
 
@@ -50,7 +46,6 @@ pub record IsSound (s : Machine) : Type 0 where
   pub revs : AllByRecursion (IsRevisedBelow (length s.moves)) s.sentences
   pub users : AllByRecursion HasGoodUsers s.sentences
   pub moves : AllByRecursion (IsWithin (length s.batches) (length s.sentences)) s.moves
-  pub numbered : AreNumbered 1 s.moves
 
 -- ---- what there is becomes more
 
@@ -166,10 +161,6 @@ move_within s a w v k =
 
 -- ---- each part after an act
 
-numbered_more : (n : ℕ) (ms : List MoveText) (m : MoveText) → AreNumbered n ms → m.no ≡ n + length ms → AreNumbered n (ms ++ m ∷ [])
-numbered_more n [] m h e = (omega (arith, e), tt)
-numbered_more n (x ∷ ms) m h e = (h.0, numbered_more (n + 1) ms m h.1 (omega (arith, e)))
-
 few_after : (s : Machine) (a : Act) → length s.batches ≤ length s.moves → length (batches_after s a) ≤ length s.moves + 1
 few_after s (importing name user bodies) h = let e = length-append s.batches (new_batch name ∷ []) in omega (arith, e, h)
 few_after s (stepping place event user) h = let e = length-changed (moved event user) s.batches place in omega (arith, e, h)
@@ -237,9 +228,8 @@ sound_after s a w v k h =
       users = users_after s a k h.users;
       moves = all_append (IsWithin n i) s.moves (m ∷ [])
           (all_mapped (IsWithin (length s.batches) (length s.sentences)) (IsWithin n i) (λ x p. within_more (length s.batches) (length s.sentences) n i x (more_batches s a) (more_sentences s a) p) s.moves h.moves) (move_within s a w v k, tt);
-      numbered = numbered_more 1 s.moves m h.numbered (omega arith);
     }
 
 pub sound : (s : Machine) → Reached s → IsSound s
-sound s begun = record { few = omega arith; workers = tt; revs = tt; users = tt; moves = tt; numbered = tt }
+sound s begun = record { few = omega arith; workers = tt; revs = tt; users = tt; moves = tt }
 sound s (further t a r k) = sound_after t a (well t r) (well (after t a) (further t a r k)) k (sound t r)

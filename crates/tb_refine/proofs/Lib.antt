@@ -19,3 +19,5 @@ pub mod Fits
 pub mod Single
 pub mod Alone
 pub mod Telltale
+pub mod Numbering
+pub mod Listing

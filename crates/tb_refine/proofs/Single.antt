@@ -1,17 +1,16 @@
 -- Two reached states with the same tables are equal.
-use Rattle.std.proofs.Common.{◌≡◌, ℕ, ◌+◌, List, [], ◌∷◌, length, map, refl, sym, ◌∙◌, ap, arith}
-use Rattle.tb_core.specs.Moves.{MoveText}
+use Rattle.std.proofs.Common.{◌≡◌, List, [], ◌∷◌, length, map, refl, sym, ◌∙◌, ap, arith}
 use Rattle.tb_core.specs.Machine as machine
 use Rattle.tb_core.specs.Machine.{Machine}
 use Rattle.tb_core.specs.Reaching.{Reached}
 use Rattle.tb_core.specs.Rows.{SentenceRow, RevisionRow, Rows, sentence_row, revisions_from, rows_of}
 use Rattle.tb_core.proofs.Lists.{head_is, tail_is}
-use Rattle.tb_tables.specs.Records.{Tables, Batch, Sentence, Revision, Move}
-use Rattle.tb_refine.specs.DeskTables.{batch_record, sentence_record, revision_record, move_record, tables_of}
-use Rattle.tb_refine.proofs.CallLemmas.{one_state, one_before, one_kind}
-use Rattle.tb_refine.proofs.Lasting.{AreNumbered, sound}
+use Rattle.tb_tables.specs.Records.{Tables, Batch, Sentence, Revision}
+use Rattle.tb_refine.specs.DeskTables.{batch_record, sentence_record, revision_record, tables_of}
+use Rattle.tb_refine.proofs.CallLemmas.{one_state}
+use Rattle.tb_refine.proofs.Numbering.{moves_are_numbered, same_moves}
 
-batch_one : (a b : machine.Batch) → batch_record a ≡ batch_record b → a ≡ b
+pub batch_one : (a b : machine.Batch) → batch_record a ≡ batch_record b → a ≡ b
 batch_one a b e =
     ap (λ z. let w : machine.Batch = record { name = z; state = a.state; worker = a.worker } in w) (ap (λ (r : Batch). r.name) e)
     ∙ (ap (λ z. let w : machine.Batch = record { name = b.name; state = z; worker = a.worker } in w) (one_state a.state b.state (ap (λ (r : Batch). r.state) e))
@@ -39,27 +38,6 @@ revisions_back : (rs : List RevisionRow) → map revision_of (map revision_recor
 revisions_back [] = refl
 revisions_back (r ∷ rs) = ap (λ l. r ∷ l) (revisions_back rs)
 
-move_one : (a b : MoveText) → a.no ≡ b.no → move_record a ≡ move_record b → a ≡ b
-move_one a b n e =
-    ap (λ z. let w : MoveText = record { no = z; kind = a.kind; batch = a.batch; sent = a.sent; from = a.from; to = a.to; sentences = a.sentences; words_out = a.words_out; words_in = a.words_in; who = a.who } in w) n
-    ∙ (ap (λ z. let w : MoveText = record { no = b.no; kind = z; batch = a.batch; sent = a.sent; from = a.from; to = a.to; sentences = a.sentences; words_out = a.words_out; words_in = a.words_in; who = a.who } in w) (one_kind a.kind b.kind (ap (λ (r : Move). r.kind) e))
-    ∙ (ap (λ z. let w : MoveText = record { no = b.no; kind = b.kind; batch = z; sent = a.sent; from = a.from; to = a.to; sentences = a.sentences; words_out = a.words_out; words_in = a.words_in; who = a.who } in w) (ap (λ (r : Move). r.batch) e)
-    ∙ (ap (λ z. let w : MoveText = record { no = b.no; kind = b.kind; batch = b.batch; sent = z; from = a.from; to = a.to; sentences = a.sentences; words_out = a.words_out; words_in = a.words_in; who = a.who } in w) (ap (λ (r : Move). r.sent) e)
-    ∙ (ap (λ z. let w : MoveText = record { no = b.no; kind = b.kind; batch = b.batch; sent = b.sent; from = z; to = a.to; sentences = a.sentences; words_out = a.words_out; words_in = a.words_in; who = a.who } in w) (one_before a.from b.from (ap (λ (r : Move). r.from) e))
-    ∙ (ap (λ z. let w : MoveText = record { no = b.no; kind = b.kind; batch = b.batch; sent = b.sent; from = b.from; to = z; sentences = a.sentences; words_out = a.words_out; words_in = a.words_in; who = a.who } in w) (one_state a.to b.to (ap (λ (r : Move). r.to) e))
-    ∙ (ap (λ z. let w : MoveText = record { no = b.no; kind = b.kind; batch = b.batch; sent = b.sent; from = b.from; to = b.to; sentences = z; words_out = a.words_out; words_in = a.words_in; who = a.who } in w) (ap (λ (r : Move). r.sentences) e)
-    ∙ (ap (λ z. let w : MoveText = record { no = b.no; kind = b.kind; batch = b.batch; sent = b.sent; from = b.from; to = b.to; sentences = b.sentences; words_out = z; words_in = a.words_in; who = a.who } in w) (ap (λ (r : Move). r.words_out) e)
-    ∙ (ap (λ z. let w : MoveText = record { no = b.no; kind = b.kind; batch = b.batch; sent = b.sent; from = b.from; to = b.to; sentences = b.sentences; words_out = b.words_out; words_in = z; who = a.who } in w) (ap (λ (r : Move). r.words_in) e)
-    ∙ ap (λ z. let w : MoveText = record { no = b.no; kind = b.kind; batch = b.batch; sent = b.sent; from = b.from; to = b.to; sentences = b.sentences; words_out = b.words_out; words_in = b.words_in; who = z } in w) (ap (λ (r : Move). r.who) e)))))))))
-
-moves_one : (n : ℕ) (xs ys : List MoveText) → AreNumbered n xs → AreNumbered n ys → map move_record xs ≡ map move_record ys → xs ≡ ys
-moves_one n [] [] h k e = refl
-moves_one n [] (y ∷ ys) h k e = let s = ap length e in absurd (omega (arith, s))
-moves_one n (x ∷ xs) [] h k e = let s = ap length e in absurd (omega (arith, s))
-moves_one n (x ∷ xs) (y ∷ ys) h k e =
-    ap (λ z. z ∷ xs) (move_one x y (h.0 ∙ sym k.0) (head_is (move_record x) (move_record y) (map move_record xs) (map move_record ys) e))
-    ∙ ap (λ l. y ∷ l) (moves_one (n + 1) xs ys h.1 k.1 (tail_is (move_record x) (move_record y) (map move_record xs) (map move_record ys) e))
-
 rows_are : (a b : Rows) → a.batches ≡ b.batches → a.sentences ≡ b.sentences → a.revisions ≡ b.revisions → a.moves ≡ b.moves → a.pulled ≡ b.pulled → a ≡ b
 rows_are a b p q r m f =
     ap (λ z. let w : Rows = record { batches = z; sentences = a.sentences; revisions = a.revisions; moves = a.moves; pulled = a.pulled } in w) p
@@ -76,5 +54,5 @@ rows_same s t r q e =
     rows_are (rows_of s) (rows_of t) (batches_one s.batches t.batches (ap (λ (d : Tables). d.batches) e))
     (sym (rows_back s.sentences) ∙ sents ∙ rows_back t.sentences)
     (sym (revisions_back (revisions_from 1 s.sentences)) ∙ revs ∙ revisions_back (revisions_from 1 t.sentences))
-    (moves_one 1 s.moves t.moves (sound s r).numbered (sound t q).numbered (ap (λ (d : Tables). d.moves) e))
+    (same_moves 1 s.moves t.moves (moves_are_numbered s r) (moves_are_numbered t q) (ap (λ (d : Tables). d.moves) e))
     (ap (λ (d : Tables). d.pulled) e)

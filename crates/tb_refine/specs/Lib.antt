@@ -10,3 +10,5 @@ pub mod Written
 pub mod Fitting
 pub mod Found
 pub mod Calls
+pub mod Numbered
+pub mod Listed

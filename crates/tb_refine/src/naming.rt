@@ -1,12 +1,13 @@
 //! Finds what has a name that a command gives.
 
-ghost use Rattle.std.specs.Prelude.{◌≡◌, ◌≢◌, Err, MatchBool, false};
+ghost use Rattle.std.specs.Prelude.{◌≡◌, ◌≢◌, Err, MatchBool, false, is_ok};
 ghost use Rattle.tb_core.specs.declared.refusals.Refusal.{Refusal as AnyRefusal};
 ghost use Rattle.tb_core.specs.Names.{Lacks};
 ghost use Rattle.tb_core.specs.Acts.{ids_of};
 ghost use Rattle.tb_refine.specs.Finding.{HasNumber};
 ghost use Rattle.tb_refine.specs.Calls.{KnowsDesk, Tells};
-ghost use Rattle.tb_tables.specs.Leaving.{ChangesNothing, CommitsNothing, KeepsRecords, IsFaultless, FailsOnlyAs};
+ghost use Rattle.tb_tables.specs.Leaving.{IsFaultless, FailsOnlyAs};
+ghost use Rattle.tb_reads.specs.ReadOnly.{IsReadOnly};
 ghost use Rattle.tb_refine.specs.Faults.{IsNoDevice};
 
 use crate::{desk_rows_fit, faults};
@@ -20,10 +21,7 @@ pub fn batch_number<S: Alter>(conn: &mut Connection<S>, name: &str) -> Result<Op
     ensures output { result ≢ Err Fault.Output }
     ensures fails { KnowsDesk S.Store conn.old conn.new result }
     ensures cause { IsFaultless S.Store conn.old conn.new → FailsOnlyAs IsNoDevice S.Store conn.old conn.new result }
-    ensures unchanged { ChangesNothing S.Store conn.old conn.new result }
-    ensures autocommit { conn.old.in_transaction ≡ false → conn.new.in_transaction ≡ false }
-    ensures keeps_records { KeepsRecords S.Store conn.old conn.new }
-    ensures commits_nothing { CommitsNothing S.Store conn.old conn.new }
+    ensures read_only { IsReadOnly S.Store conn.old conn.new (is_ok result) }
 {
     desk_rows_fit();
     match tb_reads::batch_named(conn, name) {
@@ -39,10 +37,7 @@ pub fn is_taken<S: Alter>(conn: &mut Connection<S>, sent_id: &str) -> Result<boo
     ensures never_refuses { (r : AnyRefusal) → result ≢ Err (Fault.Refused r) }
     ensures fails { KnowsDesk S.Store conn.old conn.new result }
     ensures cause { IsFaultless S.Store conn.old conn.new → FailsOnlyAs IsNoDevice S.Store conn.old conn.new result }
-    ensures unchanged { ChangesNothing S.Store conn.old conn.new result }
-    ensures autocommit { conn.old.in_transaction ≡ false → conn.new.in_transaction ≡ false }
-    ensures keeps_records { KeepsRecords S.Store conn.old conn.new }
-    ensures commits_nothing { CommitsNothing S.Store conn.old conn.new }
+    ensures read_only { IsReadOnly S.Store conn.old conn.new (is_ok result) }
 {
     desk_rows_fit();
     match tb_reads::sentence_named(conn, sent_id) {

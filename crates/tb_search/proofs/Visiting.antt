@@ -1,11 +1,7 @@
 -- What is visited of the sentences that are wanted, where the tables stand for a desk.
-use Rattle.std.proofs.Common.{◌≡◌, ◌≢◌, List, map, filter, Bool, Result, Ok, Err, OnOk, IfErr, ap, subst, ◌∙◌, arith}
+use Rattle.std.proofs.Common.{◌≡◌, List, map, filter, Bool, Result, Ok, Err, OnOk, IfErr, ap, subst, ◌∙◌}
 use Rattle.sqlite.specs.Store.{Ghosts}
-use Rattle.sqlite.specs.Effect.{Database}
 use Rattle.sqlite.specs.Held.{Held, state}
-use Rattle.sqlite.specs.State.{HasCleanDisk, IsUnchanged, Survives}
-use Rattle.sqlite.proofs.StateLemmas.{survives_then}
-use Rattle.sqlite.proofs.Callers.{unchanged_then}
 use Rattle.sqlite_trees.specs.Tree.{IsAscending}
 use Rattle.std.specs.List.{All}
 use Rattle.tb_core.specs.Machine.{Machine, Sentence}
@@ -15,7 +11,6 @@ use Rattle.tb_tables.specs.Records.{Revision, Shows, revision_shown, revision_vi
 use Rattle.tb_refine.specs.DeskTables.{IsDeskOf, tables_of, revision_record}
 use Rattle.tb_refine.specs.Fitting.{IsReadable}
 use Rattle.tb_reads.specs.Readable.{IsRevision, ComesBefore}
-use Rattle.tb_reads.proofs.Staying.{unchanged_holds}
 use Rattle.tb_search.specs.declared.picks.Pick.{Pick}
 use Rattle.tb_search.specs.declared.stopped.Stopped.{Stopped}
 use Rattle.tb_search.specs.Picked.{picked, bodies, picks_from}
@@ -39,20 +34,6 @@ abbrev pub rows_of : Machine → List Revision
 rows_of s = map revision_record (revisions_from 1 s.sentences)
 
 module _ {S : Type 0} (g : Ghosts S) where
-  pub desk_same : (old new : Held S) (s : Machine) → IsDeskOf g old s → IsUnchanged (state g old) (state g new) → IsDeskOf g new s
-  desk_same old new s desk same = record { reachable = desk.reachable; holds = unchanged_holds g old new (tables_of s) desk.holds same }
-
-  pub lasts_then : (a b c : Held S) → (HasCleanDisk (state g b) → (state g a).now.schema ≡ desk_schema → IsUnchanged (state g a) (state g b))
-      → Survives (state g a) (state g b) (λ _. (state g a).now.schema ≢ desk_schema) → Survives (state g b) (state g c) (λ _. (state g b).now.schema ≢ desk_schema)
-      → Survives (state g a) (state g c) (λ _. (state g a).now.schema ≢ desk_schema)
-  lasts_then a b c same one two = survives_then (state g a) (state g b) (state g c) _ _ _ (λ _ _ other. other) (λ clean _ other has. other (ap (λ (d : Database). d.schema) (same (omega (arith, clean, two.clean)) has).0.now_is ∙ has)) one two
-
-  pub same_then : (a b c : Held S) → ((state g a).now.schema ≡ desk_schema → IsUnchanged (state g a) (state g b)) → ((state g b).now.schema ≡ desk_schema → IsUnchanged (state g b) (state g c))
-      → (state g a).now.schema ≡ desk_schema → IsUnchanged (state g a) (state g c)
-  same_then a b c one two has =
-      let first = one has in
-      unchanged_then (state g a) (state g b) (state g c) first (two (ap (λ (d : Database). d.schema) first.0.now_is ∙ has))
-
   -- what holds of any revisions that the tables show holds of those of the desk
   pub of_desk : {P : Type 0} (c : Held S) (s : Machine) → IsDeskOf g c s → IsReadable (tables_of s) → ((state g c).now.schema ≡ desk_schema → (xs : List Revision) → All IsRevision xs → IsAscending ComesBefore xs → Shows revision_view (map revision_shown xs) ((state g c).now.trees 5) → P) → P
   of_desk c s desk readable reported = reported desk.holds.schema (rows_of s) (revisions_fit (rows_of s) readable.revisions) (revisions_rise 1 s.sentences) desk.holds.stands.revisions

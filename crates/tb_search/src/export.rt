@@ -1,13 +1,13 @@
 //! Exports the text of released sentences, and that of a batch.
 
-ghost use Rattle.std.specs.Prelude.{◌≡◌, ◌≢◌, false, nat_eq, Err};
+ghost use Rattle.std.specs.Prelude.{◌≡◌, ◌≢◌, nat_eq, Err, is_ok};
 ghost use Rattle.std.specs.Io.KnownBytes.{Appends};
 ghost use Rattle.tb_search.specs.Released.{released, in_batch, current_text, IsCutShort};
 ghost use Rattle.tb_search.specs.Visited.{HasReason};
 ghost use Rattle.tb_search.specs.Picked.{picks_from};
 ghost use Rattle.tb_search.specs.Ending.{StopsForFault, StopsForStore, StopsForWant};
 ghost use Rattle.tb_refine.specs.Calls.{Tells, TellsOnErr, TellsOnOk};
-ghost use Rattle.tb_tables.specs.Leaving.{ChangesNothing, CommitsNothing, KeepsRecords};
+ghost use Rattle.tb_reads.specs.ReadOnly.{IsReadOnly};
 
 use crate::copy_text::CopyText;
 use crate::picks::{Pick, picks_of};
@@ -31,10 +31,7 @@ fn batch_picks<S: Alter>(
     ensures fault { StopsForFault S.Store conn.old conn.new result }
     ensures fails { StopsForStore S.Store conn.old conn.new result }
     ensures cause { StopsForWant S.Store conn.old conn.new result }
-    ensures unchanged { ChangesNothing S.Store conn.old conn.new result }
-    ensures autocommit { conn.old.in_transaction ≡ false → conn.new.in_transaction ≡ false }
-    ensures keeps_records { KeepsRecords S.Store conn.old conn.new }
-    ensures commits_nothing { CommitsNothing S.Store conn.old conn.new }
+    ensures read_only { IsReadOnly S.Store conn.old conn.new (is_ok result) }
 {
     desk_rows_are_readable();
     let work = tb_reads::sentences_of(alloc, conn, batch)?;
@@ -63,10 +60,7 @@ pub fn export_released<S: Alter, W: Sink>(
     ensures fault { StopsForFault S.Store conn.old conn.new result }
     ensures fails { StopsForStore S.Store conn.old conn.new result }
     ensures cause { StopsForWant S.Store conn.old conn.new result }
-    ensures unchanged { ChangesNothing S.Store conn.old conn.new result }
-    ensures autocommit { conn.old.in_transaction ≡ false → conn.new.in_transaction ≡ false }
-    ensures keeps_records { KeepsRecords S.Store conn.old conn.new }
-    ensures commits_nothing { CommitsNothing S.Store conn.old conn.new }
+    ensures read_only { IsReadOnly S.Store conn.old conn.new (is_ok result) }
 {
     visit_released(alloc, conn, &mut CopyText, out)
 }
@@ -90,10 +84,7 @@ pub fn export_numbered<S: Alter, W: Sink>(
     ensures fault { StopsForFault S.Store conn.old conn.new result }
     ensures fails { StopsForStore S.Store conn.old conn.new result }
     ensures cause { StopsForWant S.Store conn.old conn.new result }
-    ensures unchanged { ChangesNothing S.Store conn.old conn.new result }
-    ensures autocommit { conn.old.in_transaction ≡ false → conn.new.in_transaction ≡ false }
-    ensures keeps_records { KeepsRecords S.Store conn.old conn.new }
-    ensures commits_nothing { CommitsNothing S.Store conn.old conn.new }
+    ensures read_only { IsReadOnly S.Store conn.old conn.new (is_ok result) }
 {
     desk_rows_are_readable();
     let picks = batch_picks(alloc, conn, batch)?;

@@ -1,14 +1,14 @@
 //! The walk over released text: the current revisions of released sentences, in the order of the sentences' numbers.
 
-ghost use Rattle.std.specs.Prelude.{◌≡◌, ◌≢◌, ◌<◌, ◌^◌, length, false, map, Err};
+ghost use Rattle.std.specs.Prelude.{◌≡◌, ◌≢◌, ◌<◌, ◌^◌, length, map, Err, is_ok};
 ghost use Rattle.tb_refine.specs.DeskTables.{sentence_record};
 ghost use Rattle.tb_reads.specs.Streams.{head_of};
+ghost use Rattle.tb_reads.specs.ReadOnly.{IsReadOnly};
 ghost use Rattle.tb_search.specs.Released.{released, is_released as is_in_release};
 ghost use Rattle.tb_search.specs.Picked.{picks_from};
 ghost use Rattle.tb_search.specs.Visited.{AllTaken, Halted, texts};
 ghost use Rattle.tb_search.specs.Ending.{StopsForFault, StopsForStore, StopsForWant};
 ghost use Rattle.tb_refine.specs.Calls.{Tells, TellsOnErr, TellsOnOk};
-ghost use Rattle.tb_tables.specs.Leaving.{ChangesNothing, CommitsNothing, KeepsRecords};
 
 use crate::picks::{Pick, released_of};
 use crate::stopped::Stopped;
@@ -33,10 +33,7 @@ fn released_among<S: Alter>(
     ensures fault { StopsForFault S.Store conn.old conn.new result }
     ensures fails { StopsForStore S.Store conn.old conn.new result }
     ensures cause { StopsForWant S.Store conn.old conn.new result }
-    ensures unchanged { ChangesNothing S.Store conn.old conn.new result }
-    ensures autocommit { conn.old.in_transaction ≡ false → conn.new.in_transaction ≡ false }
-    ensures keeps_records { KeepsRecords S.Store conn.old conn.new }
-    ensures commits_nothing { CommitsNothing S.Store conn.old conn.new }
+    ensures read_only { IsReadOnly S.Store conn.old conn.new (is_ok result) }
 {
     desk_rows_are_readable();
     let batches = tb_reads::batches(alloc, conn)?;
@@ -52,10 +49,7 @@ fn released_picks<S: Alter>(alloc: Global, conn: &mut Connection<S>) -> Result<V
     ensures fault { StopsForFault S.Store conn.old conn.new result }
     ensures fails { StopsForStore S.Store conn.old conn.new result }
     ensures cause { StopsForWant S.Store conn.old conn.new result }
-    ensures unchanged { ChangesNothing S.Store conn.old conn.new result }
-    ensures autocommit { conn.old.in_transaction ≡ false → conn.new.in_transaction ≡ false }
-    ensures keeps_records { KeepsRecords S.Store conn.old conn.new }
-    ensures commits_nothing { CommitsNothing S.Store conn.old conn.new }
+    ensures read_only { IsReadOnly S.Store conn.old conn.new (is_ok result) }
 {
     desk_rows_are_readable();
     let heads = tb_reads::heads(alloc, conn)?;
@@ -81,10 +75,7 @@ pub(crate) fn visit_released<S: Alter, O, V: BodyVisitor<O>>(
     ensures refused { result ≡ Err Stopped.Output → V.Refused filled.new }
     ensures fails { StopsForStore S.Store conn.old conn.new result }
     ensures cause { StopsForWant S.Store conn.old conn.new result }
-    ensures unchanged { ChangesNothing S.Store conn.old conn.new result }
-    ensures autocommit { conn.old.in_transaction ≡ false → conn.new.in_transaction ≡ false }
-    ensures keeps_records { KeepsRecords S.Store conn.old conn.new }
-    ensures commits_nothing { CommitsNothing S.Store conn.old conn.new }
+    ensures read_only { IsReadOnly S.Store conn.old conn.new (is_ok result) }
 {
     desk_rows_are_readable();
     let picks = released_picks(alloc, conn)?;

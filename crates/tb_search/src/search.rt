@@ -1,6 +1,6 @@
 //! Searches released text: its keyword lines, the table of its keys, or the number of hits.
 
-ghost use Rattle.std.specs.Prelude.{◌≡◌, ◌≢◌, ℕ, List, length, false, Err};
+ghost use Rattle.std.specs.Prelude.{◌≡◌, ◌≢◌, ℕ, List, length, Err, is_ok};
 ghost use Rattle.std.specs.Io.KnownBytes.{Appends};
 ghost use Rattle.tb_conllu.specs.Text.{BlockText};
 ghost use Rattle.tb_match.specs.declared.strategy.Strategy.{Strategy as AnyStrategy};
@@ -10,7 +10,7 @@ ghost use Rattle.tb_search.specs.Visited.{HasReason};
 ghost use Rattle.tb_search.specs.Searched.{AreFound, IsSearchBrokenOff, Occurrence, answer, keys, searched};
 ghost use Rattle.tb_search.specs.Ending.{StopsForFault, StopsForStore, StopsForWant};
 ghost use Rattle.tb_refine.specs.Calls.{Tells, TellsOnErr};
-ghost use Rattle.tb_tables.specs.Leaving.{ChangesNothing, CommitsNothing, KeepsRecords};
+ghost use Rattle.tb_reads.specs.ReadOnly.{IsReadOnly};
 
 use crate::count_hits::CountHits;
 use crate::count_keys::CountKeys;
@@ -45,10 +45,7 @@ pub fn number_released<S: Alter>(
     ensures fault { StopsForFault S.Store conn.old conn.new result }
     ensures fails { StopsForStore S.Store conn.old conn.new result }
     ensures cause { StopsForWant S.Store conn.old conn.new result }
-    ensures unchanged { ChangesNothing S.Store conn.old conn.new result }
-    ensures autocommit { conn.old.in_transaction ≡ false → conn.new.in_transaction ≡ false }
-    ensures keeps_records { KeepsRecords S.Store conn.old conn.new }
-    ensures commits_nothing { CommitsNothing S.Store conn.old conn.new }
+    ensures read_only { IsReadOnly S.Store conn.old conn.new (is_ok result) }
 {
     revisions_read_back();
     let seeker = SentenceSearcher::new(alloc, query, strategy)?;
@@ -78,10 +75,7 @@ pub fn count_released<S: Alter>(
     ensures fault { StopsForFault S.Store conn.old conn.new result }
     ensures fails { StopsForStore S.Store conn.old conn.new result }
     ensures cause { StopsForWant S.Store conn.old conn.new result }
-    ensures unchanged { ChangesNothing S.Store conn.old conn.new result }
-    ensures autocommit { conn.old.in_transaction ≡ false → conn.new.in_transaction ≡ false }
-    ensures keeps_records { KeepsRecords S.Store conn.old conn.new }
-    ensures commits_nothing { CommitsNothing S.Store conn.old conn.new }
+    ensures read_only { IsReadOnly S.Store conn.old conn.new (is_ok result) }
 {
     revisions_read_back();
     let seeker = SentenceSearcher::new(alloc, query, strategy)?;
@@ -119,10 +113,7 @@ pub fn search_released<S: Alter, W: Sink>(
     ensures broken { TellsOnErr S.Store conn.old conn.new result (λ s e. (found : List Occurrence)
         → AreFound strategy query.now (searched s) found
         → IsSearchBrokenOff e (W.held out.old) (W.held out.new) context found) }
-    ensures unchanged { ChangesNothing S.Store conn.old conn.new result }
-    ensures autocommit { conn.old.in_transaction ≡ false → conn.new.in_transaction ≡ false }
-    ensures keeps_records { KeepsRecords S.Store conn.old conn.new }
-    ensures commits_nothing { CommitsNothing S.Store conn.old conn.new }
+    ensures read_only { IsReadOnly S.Store conn.old conn.new (is_ok result) }
 {
     revisions_read_back();
     let seeker = SentenceSearcher::new(alloc, query, strategy)?;

@@ -1,6 +1,6 @@
 //! The walk over the bodies of all revisions, which visits some of them.
 
-ghost use Rattle.std.specs.Prelude.{◌≡◌, ◌≤◌, false, List, map, All, IfOk, IfErr, OnOk, MatchBool, true};
+ghost use Rattle.std.specs.Prelude.{◌≡◌, ◌≤◌, List, map, All, IfOk, IfErr, OnOk, MatchBool, true, is_ok};
 ghost use Rattle.std.specs.Prelude.{None, Err};
 ghost use Rattle.sqlite.specs.State.{HasCleanDisk};
 ghost use Rattle.sqlite.specs.Held.{state};
@@ -8,10 +8,10 @@ ghost use Rattle.sqlite_trees.specs.Tree.{IsAscending};
 ghost use Rattle.tb_tables.specs.Layout.{desk_schema};
 ghost use Rattle.tb_tables.specs.Records.{Revision, Shows, revision_shown, revision_view};
 ghost use Rattle.tb_reads.specs.Readable.{IsRevision, ComesBefore};
+ghost use Rattle.tb_reads.specs.ReadOnly.{IsReadOnly};
 ghost use Rattle.tb_search.specs.Picked.{asks, picked, bodies as bodies_of};
 ghost use Rattle.tb_search.specs.Visited.{AllTaken, Halted, IsStopFault, IsStopWant};
 ghost use Rattle.tb_search.specs.Ending.{WalksUntilWant};
-ghost use Rattle.tb_tables.specs.Leaving.{ChangesNothing, CommitsNothing, KeepsRecords};
 
 use crate::picks::Pick;
 use crate::stopped::Stopped;
@@ -73,10 +73,7 @@ pub(crate) fn visit_picked<S: Alter, O, V: BodyVisitor<O>>(
         → All IsRevision xs → IsAscending ComesBefore xs
         → Shows revision_view (map revision_shown xs) ((state S.Store conn.old).now.trees 5) → IsStopFault e) }
     ensures cause { WalksUntilWant S.Store conn.old conn.new result }
-    ensures unchanged { ChangesNothing S.Store conn.old conn.new result }
-    ensures autocommit { conn.old.in_transaction ≡ false → conn.new.in_transaction ≡ false }
-    ensures keeps_records { KeepsRecords S.Store conn.old conn.new }
-    ensures commits_nothing { CommitsNothing S.Store conn.old conn.new }
+    ensures read_only { IsReadOnly S.Store conn.old conn.new (is_ok result) }
 {
     let mut rows = bodies(conn)?;
     let mut next = 0;

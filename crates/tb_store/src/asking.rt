@@ -1,6 +1,6 @@
 //! Reads of a desk's tables, stated as facts of the state that the desk represents. A read leaves the desk as it is.
 
-ghost use Rattle.std.specs.Prelude.{◌≡◌, ◌≢◌, ◌-◌, ◌<◌, map, false, [], ◌∷◌, Some, Err};
+ghost use Rattle.std.specs.Prelude.{◌≡◌, ◌≢◌, ◌-◌, ◌<◌, map, [], ◌∷◌, Some, Err, is_ok};
 ghost use Rattle.std.specs.Prelude.{slice_get, string_bytes, IfOk, None, length};
 ghost use Rattle.std.specs.Prelude.{IfErr};
 ghost use Rattle.sqlite.specs.State.{HasCleanDisk};
@@ -12,15 +12,15 @@ ghost use Rattle.tb_core.specs.Totals.{AreTotalsOf};
 ghost use Rattle.tb_refine.specs.DeskTables.{IsDeskOf};
 ghost use Rattle.tb_refine.specs.Revisions.{HasRevision};
 ghost use Rattle.tb_refine.specs.Calls.{KnowsDesk, KnowsDeskWhere, Tells};
-ghost use Rattle.tb_tables.specs.Leaving.{ChangesNothing, CommitsNothing, FailsOnlyAs, IsFaultless, KeepsRecords};
+ghost use Rattle.tb_tables.specs.Leaving.{FailsOnlyAs, IsFaultless};
+ghost use Rattle.tb_reads.specs.ReadOnly.{IsReadOnly};
 ghost use Rattle.tb_refine.specs.Faults.{IsNoDevice};
 
 use crate::answers::Current;
 use sqlite::{Alter, Connection};
 use std::alloc::Global;
-use tb_commands::read_moves;
 use tb_core::{Fault, Move, Refusal, Totals};
-use tb_refine::{desk_rows_are_readable, faults};
+use tb_refine::{desk_rows_are_readable, faults, read_moves};
 use tb_tables::TotalRow;
 
 /// The totals of six rows.
@@ -62,10 +62,7 @@ pub(crate) fn totals<S: Alter>(alloc: Global, conn: &mut Connection<S>) -> Resul
     ensures fails { KnowsDesk S.Store conn.old conn.new result }
     ensures cause { IsFaultless S.Store conn.old conn.new → FailsOnlyAs IsNoDevice S.Store conn.old conn.new result }
     ensures output { result ≢ Err Fault.Output }
-    ensures unchanged { ChangesNothing S.Store conn.old conn.new result }
-    ensures autocommit { conn.old.in_transaction ≡ false → conn.new.in_transaction ≡ false }
-    ensures keeps_records { KeepsRecords S.Store conn.old conn.new }
-    ensures commits_nothing { CommitsNothing S.Store conn.old conn.new }
+    ensures read_only { IsReadOnly S.Store conn.old conn.new (is_ok result) }
 {
     desk_rows_are_readable();
     match tb_reads::totals(alloc, conn) {
@@ -84,10 +81,7 @@ pub(crate) fn current<S: Alter>(conn: &mut Connection<S>, number: u32) -> Result
         → slice_get s.sentences (number - 1) ≡ Some x → so) }
     ensures cause { IsFaultless S.Store conn.old conn.new → FailsOnlyAs IsNoDevice S.Store conn.old conn.new result }
     ensures output { result ≢ Err Fault.Output }
-    ensures unchanged { ChangesNothing S.Store conn.old conn.new result }
-    ensures autocommit { conn.old.in_transaction ≡ false → conn.new.in_transaction ≡ false }
-    ensures keeps_records { KeepsRecords S.Store conn.old conn.new }
-    ensures commits_nothing { CommitsNothing S.Store conn.old conn.new }
+    ensures read_only { IsReadOnly S.Store conn.old conn.new (is_ok result) }
 {
     desk_rows_are_readable();
     match tb_reads::sentence(conn, number) {
@@ -113,10 +107,7 @@ pub(crate) fn text<S: Alter>(
         → (q : Revision) → HasRevision x rev q → so) }
     ensures cause { IsFaultless S.Store conn.old conn.new → FailsOnlyAs IsNoDevice S.Store conn.old conn.new result }
     ensures output { result ≢ Err Fault.Output }
-    ensures unchanged { ChangesNothing S.Store conn.old conn.new result }
-    ensures autocommit { conn.old.in_transaction ≡ false → conn.new.in_transaction ≡ false }
-    ensures keeps_records { KeepsRecords S.Store conn.old conn.new }
-    ensures commits_nothing { CommitsNothing S.Store conn.old conn.new }
+    ensures read_only { IsReadOnly S.Store conn.old conn.new (is_ok result) }
 {
     desk_rows_are_readable();
     match tb_reads::revision(conn, number, rev) {
@@ -137,10 +128,7 @@ pub(crate) fn sentence<S: Alter>(conn: &mut Connection<S>, number: u32) -> Resul
         → slice_get s.sentences (number - 1) ≡ Some x → so) }
     ensures cause { IsFaultless S.Store conn.old conn.new → FailsOnlyAs IsNoDevice S.Store conn.old conn.new result }
     ensures output { result ≢ Err Fault.Output }
-    ensures unchanged { ChangesNothing S.Store conn.old conn.new result }
-    ensures autocommit { conn.old.in_transaction ≡ false → conn.new.in_transaction ≡ false }
-    ensures keeps_records { KeepsRecords S.Store conn.old conn.new }
-    ensures commits_nothing { CommitsNothing S.Store conn.old conn.new }
+    ensures read_only { IsReadOnly S.Store conn.old conn.new (is_ok result) }
 {
     let rev = current(conn, number)?;
     let body = text(conn, number, rev)?;
@@ -171,10 +159,7 @@ pub(crate) fn revision<S: Alter>(
         → slice_get s.sentences (number - 1) ≡ Some x → so) }
     ensures cause { IsFaultless S.Store conn.old conn.new → FailsOnlyAs IsNoDevice S.Store conn.old conn.new result }
     ensures output { result ≢ Err Fault.Output }
-    ensures unchanged { ChangesNothing S.Store conn.old conn.new result }
-    ensures autocommit { conn.old.in_transaction ≡ false → conn.new.in_transaction ≡ false }
-    ensures keeps_records { KeepsRecords S.Store conn.old conn.new }
-    ensures commits_nothing { CommitsNothing S.Store conn.old conn.new }
+    ensures read_only { IsReadOnly S.Store conn.old conn.new (is_ok result) }
 {
     let last = current(conn, number)?;
     if rev == 0 || rev > u64::from(last) {
@@ -190,10 +175,7 @@ pub(crate) fn moves<S: Alter>(alloc: Global, conn: &mut Connection<S>) -> Result
     ensures fails { KnowsDesk S.Store conn.old conn.new result }
     ensures cause { IsFaultless S.Store conn.old conn.new → FailsOnlyAs IsNoDevice S.Store conn.old conn.new result }
     ensures output { result ≢ Err Fault.Output }
-    ensures unchanged { ChangesNothing S.Store conn.old conn.new result }
-    ensures autocommit { conn.old.in_transaction ≡ false → conn.new.in_transaction ≡ false }
-    ensures keeps_records { KeepsRecords S.Store conn.old conn.new }
-    ensures commits_nothing { CommitsNothing S.Store conn.old conn.new }
+    ensures read_only { IsReadOnly S.Store conn.old conn.new (is_ok result) }
 {
     desk_rows_are_readable();
     match tb_reads::moves(alloc, conn) {

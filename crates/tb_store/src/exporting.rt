@@ -1,6 +1,6 @@
 //! Writes the texts of many sentences to a sink, one sentence at a time.
 
-ghost use Rattle.std.specs.Prelude.{◌≡◌, ◌≢◌, ℕ, Some, Err, false};
+ghost use Rattle.std.specs.Prelude.{◌≡◌, ◌≢◌, ℕ, Some, Err, false, is_ok};
 ghost use Rattle.std.specs.Io.KnownBytes.{Appends};
 ghost use Rattle.tb_core.specs.declared.refusals.Refusal.{Refusal as AnyRefusal};
 ghost use Rattle.tb_core.specs.Names.{is_name};
@@ -10,7 +10,7 @@ ghost use Rattle.tb_refine.specs.Finding.{HasNumber};
 ghost use Rattle.tb_store.specs.Exports.{IsExportBrokenOff, IsPartOfBatch, RefusesBatch};
 ghost use Rattle.tb_store.specs.Blaming.{FailsWithoutDevice};
 ghost use Rattle.tb_refine.specs.Calls.{KnowsDesk, TellsOnErr, TellsOnOk};
-ghost use Rattle.tb_tables.specs.Leaving.{ChangesNothing, CommitsNothing, KeepsRecords};
+ghost use Rattle.tb_reads.specs.ReadOnly.{IsReadOnly};
 
 use crate::stopping::fault_of;
 use sqlite::{Alter, Connection};
@@ -34,10 +34,7 @@ pub(crate) fn released<S: Alter, W: Sink>(
     ensures output { result ≡ Err Fault.Output → HasReason (W.IsRefusal out.new) }
     ensures fails { KnowsDesk S.Store conn.old conn.new result }
     ensures cause { FailsWithoutDevice S.Store conn.old conn.new result }
-    ensures unchanged { ChangesNothing S.Store conn.old conn.new result }
-    ensures autocommit { conn.old.in_transaction ≡ false → conn.new.in_transaction ≡ false }
-    ensures keeps_records { KeepsRecords S.Store conn.old conn.new }
-    ensures commits_nothing { CommitsNothing S.Store conn.old conn.new }
+    ensures read_only { IsReadOnly S.Store conn.old conn.new (is_ok result) }
 {
     match export_released(alloc, conn, out) {
         Ok(()) => Ok(()),
@@ -60,10 +57,7 @@ fn numbered<S: Alter, W: Sink>(
     ensures output { result ≡ Err Fault.Output → HasReason (W.IsRefusal out.new) }
     ensures fails { KnowsDesk S.Store conn.old conn.new result }
     ensures cause { FailsWithoutDevice S.Store conn.old conn.new result }
-    ensures unchanged { ChangesNothing S.Store conn.old conn.new result }
-    ensures autocommit { conn.old.in_transaction ≡ false → conn.new.in_transaction ≡ false }
-    ensures keeps_records { KeepsRecords S.Store conn.old conn.new }
-    ensures commits_nothing { CommitsNothing S.Store conn.old conn.new }
+    ensures read_only { IsReadOnly S.Store conn.old conn.new (is_ok result) }
 {
     match export_numbered(alloc, conn, number, out) {
         Ok(()) => Ok(()),
@@ -92,10 +86,7 @@ pub(crate) fn batch<S: Alter, W: Sink>(
     ensures fails { KnowsDesk S.Store conn.old conn.new result }
     ensures cause { FailsWithoutDevice S.Store conn.old conn.new result }
     ensures none { (r : AnyRefusal) → result ≡ Err (Fault.Refused r) → W.held out.new ≡ W.held out.old }
-    ensures unchanged { ChangesNothing S.Store conn.old conn.new result }
-    ensures autocommit { conn.old.in_transaction ≡ false → conn.new.in_transaction ≡ false }
-    ensures keeps_records { KeepsRecords S.Store conn.old conn.new }
-    ensures commits_nothing { CommitsNothing S.Store conn.old conn.new }
+    ensures read_only { IsReadOnly S.Store conn.old conn.new (is_ok result) }
 {
     if !good_name(name) {
         return Err(Fault::Refused(Refusal::BadName));

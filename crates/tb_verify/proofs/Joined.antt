@@ -18,11 +18,12 @@ use Rattle.tb_tables.specs.declared.rows.TotalRow.{TotalRow}
 use Rattle.tb_refine.specs.DeskTables.{tables_of, batch_record, move_record, total_record, six_states}
 use Rattle.tb_refine.proofs.Lasting.{sound}
 use Rattle.tb_verify.specs.File.{AreReadBack}
-use Rattle.tb_verify.specs.Numbered.{AreNumbered}
+use Rattle.tb_refine.specs.Numbered.{AreNumbered}
 use Rattle.tb_verify.specs.Summary.{tables_in, IsShownBy}
 use Rattle.tb_verify.specs.declared.summary.TableRows.{TableRows}
 use Rattle.tb_verify.proofs.Agreeing.{alike}
-use Rattle.tb_verify.proofs.Numbering.{same_batch, same_moves, moves_are_numbered}
+use Rattle.tb_refine.proofs.Numbering.{same_moves, moves_are_numbered}
+use Rattle.tb_refine.proofs.Single.{batch_one}
 
 -- at most one list of sentences has these rows
 abbrev pub IsOneReading : Type 0
@@ -74,7 +75,7 @@ module _ (rows : TableRows) (bs : List BatchRow) (ss : List SentenceRow) (rs : L
     pub shown_by : (batches : List machine.Batch) (entries : List SummaryRow) (moves : List MoveText) (xs : List machine.Sentence) → IsOneReading → AreFine s → Reached s → AllByRecursion IsFine s.sentences → map batch_record batches ≡ map batch_of bs
         → AreReadBack 1 (map sentence_of ss) ps (map revision_of rs) xs → entries ≡ entries_of xs → AreNumbered 1 moves → map move_record moves ≡ map move_of ms → IsShownBy batches entries moves s
     shown_by batches entries moves xs one fine reached each b r e n m = record {
-      batches_are = alike batch_record same_batch batches s.batches (b ∙ batches_reported);
+      batches_are = alike batch_record batch_one batches s.batches (b ∙ batches_reported);
       entries_are = e ∙ ap entries_of (one 1 (map sentence_of ss) ps (map revision_of rs) xs s.sentences r (read_back each));
       moves_are = same_moves 1 moves s.moves n (moves_are_numbered s reached) (m ∙ moves_reported);
       fine = fine;

@@ -5,7 +5,6 @@ mod Rereading
 mod Filed
 mod Seen
 mod Reported
-mod Numbering
 mod Six
 mod Joined
 mod Results

@@ -1,10 +1,9 @@
 -- What one read tells, and several in a row.
-use Rattle.std.proofs.Common.{◌≡◌, ◌≢◌, false, None, Result, Ok, Err, IsTrue, sym, ap, subst, ◌∙◌, arith}
+use Rattle.std.proofs.Common.{◌≡◌, ◌≢◌, true, false, None, Result, Ok, Err, sym, ap, subst, ◌∙◌}
 use Rattle.sqlite.specs.Store.{Ghosts}
 use Rattle.sqlite.specs.Effect.{Database}
 use Rattle.sqlite.specs.Held.{Held, state}
-use Rattle.sqlite.specs.State.{HasCleanDisk, IsUnchanged, Survives}
-use Rattle.sqlite.proofs.StateLemmas.{survives_then}
+use Rattle.sqlite.specs.State.{HasCleanDisk, IsUnchanged}
 use Rattle.sqlite.proofs.Callers.{unchanged_then}
 use Rattle.sqlite_trees.specs.Tree.{Trees}
 use Rattle.tb_core.specs.declared.refusals.Fault.{Fault}
@@ -14,14 +13,15 @@ use Rattle.tb_core.specs.Machine.{Machine}
 use Rattle.tb_core.specs.Reaching.{IsReachable}
 use Rattle.tb_tables.specs.Layout.{desk_schema}
 use Rattle.tb_tables.specs.Records.{Tables, AreStored}
-use Rattle.tb_tables.specs.Changes.{Holds}
 use Rattle.tb_tables.specs.Leaving.{IsFaultless}
 use Rattle.tb_tables.proofs.Causes.{faultless_next}
 use Rattle.tb_refine.specs.DeskTables.{tables_of}
 use Rattle.tb_reads.specs.Failing.{SeesAsBefore}
-use Rattle.tb_reads.proofs.Staying.{unchanged_holds, still_settled}
+use Rattle.tb_reads.specs.ReadOnly.{IsReadOnly}
+use Rattle.tb_reads.proofs.ReadOnly.{read_then, was_clean}
+use Rattle.tb_reads.proofs.Staying.{still_settled}
 use Rattle.tb_verify.specs.TableReads.{HasReadTable}
-use Rattle.tb_verify.proofs.Results.{ok_is_no_err, err_is, both_shown, if_ok_under, on_ok_under}
+use Rattle.tb_verify.proofs.Results.{ok_is_no_err, err_is, both_shown, if_ok_under}
 
 -- where the trees stand for a reachable state
 abbrev pub Unstood : Trees → Type 0
@@ -29,12 +29,11 @@ Unstood trees = (s : Machine) → IsReachable s → AreStored (tables_of s) tree
 
 -- ---- one read
 
-module _ {S : Type 0} (g : Ghosts S) (old new : Held S) (mode : old.in_transaction ≡ false → new.in_transaction ≡ false)
-    (kept : HasCleanDisk (state g new) → IsTrue (state g new).is_open → (d : Tables) → Holds g old d → Holds g new d) (commits_nothing : Survives (state g old) (state g new) (λ _. (state g old).now.schema ≢ desk_schema)) (sees : SeesAsBefore g old new) where
+module _ {S : Type 0} (g : Ghosts S) (old new : Held S) (sees : SeesAsBefore g old new) where
   pub read_well : {X : Type 0} (x : X) (IsShown : X → Trees → Type 0) (IsHeld : X → Tables → Type 0) → (HasCleanDisk (state g new) → (state g old).now.schema ≡ desk_schema → IsShown x (state g old).now.trees)
       → (HasCleanDisk (state g new) → (state g old).now.schema ≡ desk_schema → (s : Machine) → IsReachable s → AreStored (tables_of s) (state g old).now.trees → IsHeld x (tables_of s))
-      → (HasCleanDisk (state g new) → (state g old).now.schema ≡ desk_schema → IsUnchanged (state g old) (state g new)) → HasReadTable g old new (Ok x) IsShown IsHeld
-  read_well x IsShown IsHeld shown reported same = record {
+      → IsReadOnly g old new true → HasReadTable g old new (Ok x) IsShown IsHeld
+  read_well x IsShown IsHeld shown reported read = record {
     shown = shown;
     reported = reported;
     unfit = λ clean q. ok_is_no_err x NotADesk q;
@@ -42,16 +41,14 @@ module _ {S : Type 0} (g : Ghosts S) (old new : Held S) (mode : old.in_transacti
     sees = sees;
     refused = λ r q. ok_is_no_err x (Refused r) q;
     cause = λ good clean unlimited has. tt;
-    same = same;
-    mode = mode;
-    kept = kept;
-    commits_nothing = commits_nothing;
+    read_only = read;
   }
 
   pub read_badly : {X : Type 0} (e : Fault) (IsShown : X → Trees → Type 0) (IsHeld : X → Tables → Type 0) → (HasCleanDisk (state g new) → e ≡ NotADesk → (state g old).now.schema ≡ desk_schema → Unstood (state g old).now.trees)
       → (HasCleanDisk (state g new) → e ≡ NotADesk → (state g old).now.schema ≡ desk_schema → IsUnchanged (state g old) (state g new)) → ((r : Refusal) → e ≢ Refused r)
-      → (IsFaultless g old new → HasCleanDisk (state g new) → (state g old).step_limit ≡ None → (state g old).now.schema ≡ desk_schema → e ≢ Device) → HasReadTable g old new (Err e) IsShown IsHeld
-  read_badly {X = X} e IsShown IsHeld unfit untouched refused cause = record {
+      → (IsFaultless g old new → HasCleanDisk (state g new) → (state g old).step_limit ≡ None → (state g old).now.schema ≡ desk_schema → e ≢ Device)
+      → IsReadOnly g old new false → HasReadTable g old new (Err e) IsShown IsHeld
+  read_badly {X = X} e IsShown IsHeld unfit untouched refused cause read = record {
     shown = λ clean. tt;
     reported = λ clean. tt;
     unfit = λ clean q. unfit clean (err_is X e NotADesk q);
@@ -59,20 +56,17 @@ module _ {S : Type 0} (g : Ghosts S) (old new : Held S) (mode : old.in_transacti
     sees = sees;
     refused = λ r q. refused r (err_is X e (Refused r) q);
     cause = cause;
-    same = λ clean. tt;
-    mode = mode;
-    kept = kept;
-    commits_nothing = commits_nothing;
+    read_only = read;
   }
 
 -- ---- a read after another
 
 module _ {S X Y : Type 0} (g : Ghosts S) (a b c : Held S) (x : X) (P : X → Trees → Type 0) (I : X → Tables → Type 0) (one : HasReadTable g a b (Ok x) P I) (r : Result Y Fault) (Q : Y → Trees → Type 0) (J : Y → Tables → Type 0) (two : HasReadTable g b c r Q J) where
   middle : HasCleanDisk (state g c) → HasCleanDisk (state g b)
-  middle clean = let n = two.commits_nothing.clean in omega (arith, clean, n)
+  middle = was_clean two.read_only
 
   unmoved : HasCleanDisk (state g c) → (state g a).now.schema ≡ desk_schema → (state g b).now ≡ (state g a).now
-  unmoved clean has = (one.same (middle clean) has).0.now_is
+  unmoved clean has = (one.read_only.unchanged (middle clean) has).0.now_is
 
   schema_stays : HasCleanDisk (state g c) → (state g a).now.schema ≡ desk_schema → (state g b).now.schema ≡ desk_schema
   schema_stays clean has = ap (λ (d : Database). d.schema) (unmoved clean has) ∙ has
@@ -85,14 +79,11 @@ module _ {S X Y : Type 0} (g : Ghosts S) (a b c : Held S) (x : X) (P : X → Tre
     shown = λ clean. if_ok_under (λ y. P x (state g a).now.trees × Q y (state g a).now.trees) r (λ has. both_shown r (schema_stays clean has) (two.shown clean) (λ y q. (one.shown (middle clean) has, subst (Q y) (trees_stay clean has) q)));
     reported = λ clean. if_ok_under (λ y. (s : Machine) → IsReachable s → AreStored (tables_of s) (state g a).now.trees → I x (tables_of s) × J y (tables_of s)) r (λ has. both_shown r (schema_stays clean has) (two.reported clean) (λ y q s reach stands. (one.reported (middle clean) has s reach stands, q s reach (subst (AreStored (tables_of s)) (sym (trees_stay clean has)) stands))));
     unfit = λ clean q has s reach stands. two.unfit clean q (schema_stays clean has) s reach (subst (AreStored (tables_of s)) (sym (trees_stay clean has)) stands);
-    untouched = λ clean q has. unchanged_then (state g a) (state g b) (state g c) (one.same (middle clean) has) (two.untouched clean q (schema_stays clean has));
-    sees = λ clean opened has settled. two.sees clean opened (schema_stays clean has) (still_settled g a b settled (one.same (middle clean) has)) ∙ unmoved clean has;
+    untouched = λ clean q has. unchanged_then (state g a) (state g b) (state g c) (one.read_only.unchanged (middle clean) has) (two.untouched clean q (schema_stays clean has));
+    sees = λ clean opened has settled. two.sees clean opened (schema_stays clean has) (still_settled g a b settled (one.read_only.unchanged (middle clean) has)) ∙ unmoved clean has;
     refused = two.refused;
-    cause = λ good clean unlimited has. two.cause (faultless_next (state g a) (state g b) (state g c) good one.commits_nothing (middle clean) two.commits_nothing.counts) clean (one.commits_nothing.limit ∙ unlimited) (schema_stays clean has);
-    same = λ clean. on_ok_under r (two.same clean) (λ more has. unchanged_then (state g a) (state g b) (state g c) (one.same (middle clean) has) (more (schema_stays clean has)));
-    mode = λ m. two.mode (one.mode m);
-    kept = λ clean is_open d holds. two.kept clean is_open d (unchanged_holds g a b d holds (one.same (middle clean) holds.schema));
-    commits_nothing = survives_then (state g a) (state g b) (state g c) _ _ _ (λ _ _ other. other) (λ clean _ other has. other (schema_stays clean has)) one.commits_nothing two.commits_nothing;
+    cause = λ good clean unlimited has. two.cause (faultless_next (state g a) (state g b) (state g c) good one.read_only.commits_nothing (middle clean) two.read_only.commits_nothing.counts) clean (one.read_only.commits_nothing.limit ∙ unlimited) (schema_stays clean has);
+    read_only = read_then one.read_only two.read_only;
   }
 
 -- ---- what is made of it
@@ -102,13 +93,13 @@ pub read_failed : {S X Y : Type 0} (g : Ghosts S) (a b : Held S) (e f : Fault) (
     → HasReadTable g a b r Q J
 read_failed {X = X} g a b e f r P I Q J made is h =
     subst (λ w. HasReadTable g a b w Q J) (sym made)
-    (read_badly g a b h.mode h.kept h.commits_nothing h.sees f Q J (λ clean q. h.unfit clean (ap (λ (k : Fault). let w : Result X Fault = Err k in w) (sym is ∙ q)))
+    (read_badly g a b h.sees f Q J (λ clean q. h.unfit clean (ap (λ (k : Fault). let w : Result X Fault = Err k in w) (sym is ∙ q)))
     (λ clean q. h.untouched clean (ap (λ (k : Fault). let w : Result X Fault = Err k in w) (sym is ∙ q))) (λ r q. h.refused r (ap (λ (k : Fault). let w : Result X Fault = Err k in w) (sym is ∙ q)))
-    (λ good clean unlimited has q. h.cause good clean unlimited has (sym is ∙ q)))
+    (λ good clean unlimited has q. h.cause good clean unlimited has (sym is ∙ q)) h.read_only)
 
 -- another value is made
 pub read_as : {S X Y : Type 0} (g : Ghosts S) (a b : Held S) (x : X) (y : Y) (P : X → Trees → Type 0) (I : X → Tables → Type 0) (Q : Y → Trees → Type 0) (J : Y → Tables → Type 0) → ((t : Trees) → P x t → Q y t)
     → ((t : Trees) (d : Tables) → AreStored d t → P x t → I x d → J y d) → HasReadTable g a b (Ok x) P I → HasReadTable g a b (Ok y) Q J
 read_as g a b x y P I Q J shown reported h =
-    read_well g a b h.mode h.kept h.commits_nothing h.sees y Q J (λ clean has. shown (state g a).now.trees (h.shown clean has))
-    (λ clean has s reach stands. reported (state g a).now.trees (tables_of s) stands (h.shown clean has) (h.reported clean has s reach stands)) (λ clean has. h.same clean has)
+    read_well g a b h.sees y Q J (λ clean has. shown (state g a).now.trees (h.shown clean has))
+    (λ clean has s reach stands. reported (state g a).now.trees (tables_of s) stands (h.shown clean has) (h.reported clean has s reach stands)) h.read_only

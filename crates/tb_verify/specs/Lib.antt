@@ -2,7 +2,6 @@ pub mod Unfit
 pub mod Course
 pub mod File
 pub mod Apart
-pub mod Numbered
 pub mod Summary
 pub mod TableReads
 pub mod Version1

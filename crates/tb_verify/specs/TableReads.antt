@@ -1,9 +1,9 @@
 -- Inner: no contract beyond this crate cites a definition of this module.
 -- A read of tables: what it says of them, and what it leaves of the connection.
-use Rattle.std.specs.Prelude.{◌≡◌, ◌≢◌, false, Result, Err, IfOk, OnOk, IsTrue}
+use Rattle.std.specs.Prelude.{◌≡◌, ◌≢◌, false, Result, Err, IfOk, IsTrue, is_ok}
 use Rattle.sqlite.specs.Store.{Ghosts}
 use Rattle.sqlite.specs.Held.{Held, state}
-use Rattle.sqlite.specs.State.{HasCleanDisk, IsUnchanged, Survives}
+use Rattle.sqlite.specs.State.{HasCleanDisk, IsUnchanged}
 use Rattle.sqlite_trees.specs.Tree.{Trees}
 use Rattle.tb_core.specs.declared.refusals.Fault.{Fault}
 use Rattle.tb_core.specs.declared.refusals.Fault.TheVariants.{Refused, Device, NotADesk}
@@ -12,9 +12,9 @@ use Rattle.tb_core.specs.Machine.{Machine}
 use Rattle.tb_core.specs.Reaching.{IsReachable}
 use Rattle.tb_tables.specs.Layout.{desk_schema}
 use Rattle.tb_tables.specs.Records.{Tables, AreStored}
-use Rattle.tb_tables.specs.Changes.{Holds}
 use Rattle.tb_tables.specs.Leaving.{IsFaultless, FailsOnlyAs}
 use Rattle.tb_reads.specs.Failing.{SeesAsBefore}
+use Rattle.tb_reads.specs.ReadOnly.{IsReadOnly}
 use Rattle.tb_refine.specs.DeskTables.{tables_of}
 
 -- On the schema of a desk, the trees show what is read (IsShown). Where the trees represent a reachable state, it is
@@ -34,12 +34,7 @@ pub record HasReadTable {S X : Type 0} (g : Ghosts S) (old new : Held S) (result
   pub sees : SeesAsBefore g old new
   pub refused : (r : Refusal) → result ≢ Err (Refused r)
   pub cause : IsFaultless g old new → FailsOnlyAs (λ (fault : Fault). fault ≢ Device) g old new result
-  pub same : HasCleanDisk (state g new) → OnOk result ((state g old).now.schema ≡ desk_schema
-      → IsUnchanged (state g old) (state g new))
-  pub mode : old.in_transaction ≡ false → new.in_transaction ≡ false
-  pub kept : HasCleanDisk (state g new) → IsTrue (state g new).is_open → (d : Tables) → Holds g old d
-      → Holds g new d
-  pub commits_nothing : Survives (state g old) (state g new) (λ _. (state g old).now.schema ≢ desk_schema)
+  pub read_only : IsReadOnly g old new (is_ok result)
 
 -- What is known of a connection to a desk without a read. It is in no transaction, so it sees what the last commit
 -- left, and it has the tables.

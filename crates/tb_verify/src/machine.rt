@@ -6,12 +6,12 @@ ghost use Rattle.tb_core.specs.Moves.{MoveText};
 ghost use Rattle.tb_tables.specs.Values.{batch_of, move_of};
 ghost use Rattle.tb_refine.specs.DeskTables.{batch_record, move_record};
 ghost use Rattle.tb_verify.specs.declared.unfit.Unfit.TheVariants.{NotADesk};
-ghost use Rattle.tb_verify.specs.Numbered.{AreNumbered};
+ghost use Rattle.tb_refine.specs.Numbered.{AreNumbered};
 
 use crate::unfit::Unfit;
 use std::alloc::Global;
-use tb_core::Move;
-use tb_refine::{kind_numbered, state_before, state_numbered};
+use tb_core::{Fault, Move};
+use tb_refine::{read_moves, state_numbered};
 use tb_tables::{BatchRow, MoveRow};
 
 /// The batch of a row. It borrows the names.
@@ -50,34 +50,14 @@ pub(crate) fn batches_in<'a>(
     Ok(batches)
 }
 
-/// The move of a row, with its number.
-fn move_in(alloc: Global, row: &MoveRow, no: u64) -> Result<Move, Unfit>
-    ensures record { IfOk result (λ m. move_record m ≡ move_of row.now) }
-    ensures number { IfOk result (λ m. m.no ≡ no) }
-    ensures unfit { result ≡ Err NotADesk → (m : MoveText) → move_record m ≡ move_of row.now → ⊥ }
+/// Why rows of moves cannot be read back.
+fn unfit_of(fault: Fault) -> Unfit
+    ensures { result ≡ NotADesk → fault ≡ Fault.NotADesk }
 {
-    let Some(kind) = kind_numbered(row.kind) else {
-        return Err(Unfit::NotADesk);
-    };
-    let Some(from) = state_before(row.from) else {
-        return Err(Unfit::NotADesk);
-    };
-    let Some(to) = state_numbered(row.to) else {
-        return Err(Unfit::NotADesk);
-    };
-    let who = String::from_str(alloc, &row.who)?;
-    Ok(Move {
-        no,
-        kind,
-        batch: u64::from(row.batch),
-        sent: u64::from(row.sent),
-        from,
-        to,
-        sentences: u64::from(row.sentences),
-        words_out: u64::from(row.words_out),
-        words_in: u64::from(row.words_in),
-        who,
-    })
+    match fault {
+        Fault::NotADesk => Unfit::NotADesk,
+        _ => Unfit::Memory,
+    }
 }
 
 /// The moves of rows, numbered from 1.
@@ -91,12 +71,8 @@ pub(crate) fn moves_in(alloc: Global, rows: &[MoveRow]) -> Result<Vec<Move>, Unf
     ensures unfit { result ≡ Err NotADesk → (ms : List MoveText)
         → map move_record ms ≡ map move_of rows.now → ⊥ }
 {
-    let mut moves = Vec::new(alloc);
-    let mut no = 0u64;
-    for row in rows {
-        no += 1;
-        let change = move_in(alloc, row, no)?;
-        moves.push(change)?;
+    match read_moves(alloc, rows) {
+        Ok(moves) => Ok(moves),
+        Err(fault) => Err(unfit_of(fault)),
     }
-    Ok(moves)
 }

@@ -9,6 +9,7 @@ use Rattle.tb_core.specs.Machine.{Revision}
 use Rattle.tb_tables.specs.Values.{revision_of}
 use Rattle.tb_refine.specs.DeskTables.{tables_of}
 use Rattle.tb_refine.proofs.RowsOfState.{revision_reported, current_is}
+use Rattle.tb_reads.proofs.ReadOnly.{read_on}
 use Rattle.tb_commands.proofs.correcting.current_row.Goals as goal
 
 pub returns-in-Ok-Some-clause-answered : goal.returns-in-Ok-Some-clause-answered
@@ -35,3 +36,6 @@ pub returns-in-Err-clause-cause : goal.returns-in-Err-clause-cause
 returns-in-Err-clause-cause g c good clean unlimited has bad =
     let reported : c.of_read.result ≡ Device = cc in
     want_reported c.in-Err.error (c.in-Err.ensures.cause good clean unlimited has) (sym c.of_read.ensures.value ∙ reported)
+
+pub returns-in-Ok-None-clause-read_only : goal.returns-in-Ok-None-clause-read_only
+returns-in-Ok-None-clause-read_only g c = read_on _ c.in-Ok-None.ensures.read_only

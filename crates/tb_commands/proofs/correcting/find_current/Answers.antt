@@ -1,22 +1,15 @@
 use Rattle.tb_core.specs.declared.refusals.Fault.TheVariants.{NotADesk}
 use Rattle.std.proofs.lemmas.Result.{err_from_is_err_and}
-use Rattle.std.proofs.Common.{arith, ◌≡◌, Err, ◌∙◌}
-use Rattle.sqlite.specs.Held.{state}
-use Rattle.sqlite.specs.State.{HasCleanDisk}
-use Rattle.tb_refine.proofs.Unchanged.{desk_same, lasts_then, second_clear}
+use Rattle.std.proofs.Common.{◌≡◌, Err, ◌∙◌}
+use Rattle.tb_refine.proofs.Unchanged.{second_clear, desk_after}
+use Rattle.tb_reads.proofs.ReadOnly.{read_then, read_failed, was_clean}
 use Rattle.tb_commands.proofs.correcting.find_current.Goals as goal
-
-pub returns-in_err-row-clause-commits_nothing : goal.returns-in_err-row-clause-commits_nothing
-returns-in_err-row-clause-commits_nothing g c = lasts_then g.S.Store c.args.conn.now c.find_sentence.new.conn c.current_row.new.conn c.in_ok-sentence.ensures.unchanged c.find_sentence.ensures.commits_nothing c.current_row.ensures.commits_nothing
-
-pub returns-clause-commits_nothing : goal.returns-clause-commits_nothing
-returns-clause-commits_nothing g c = lasts_then g.S.Store c.args.conn.now c.find_sentence.new.conn c.current_row.new.conn c.in_ok-sentence.ensures.unchanged c.find_sentence.ensures.commits_nothing c.current_row.ensures.commits_nothing
 
 pub returns-clause-answered : goal.returns-clause-answered
 returns-clause-answered g c clean s desk x there =
-    let mid : HasCleanDisk (state g.S.Store c.find_sentence.new.conn) = omega (arith, clean, c.current_row.ensures.commits_nothing.clean) in
+    let mid = was_clean c.current_row.ensures.read_only clean in
     let first = c.in_ok-sentence.ensures.answered mid s desk x there in
-    let still = desk_same g.S.Store c.args.conn.now c.find_sentence.new.conn s desk (c.in_ok-sentence.ensures.unchanged mid desk.holds.schema) in
+    let still = desk_after c.in_ok-sentence.ensures.read_only mid desk in
     let row = c.in_ok-row.ensures.answered clean s still x there first.rev in
     record { sentence = first; who = row.0; body = row.1 }
 
@@ -30,12 +23,20 @@ pub returns-in_err-row-clause-fails : goal.returns-in_err-row-clause-fails
 returns-in_err-row-clause-fails g c clean unlimited s desk x there bad =
     let reported = err_from_is_err_and c.from_residual-in_err-row.result c.from_residual-in_err-row.ensures.1 in
     let failed : c.current_row.result ≡ Err NotADesk = let was = c.in_err-row.was in let one = reported.1 in let two = reported.2 in cc in
-    let mid : HasCleanDisk (state g.S.Store c.find_sentence.new.conn) = omega (arith, clean, c.current_row.ensures.commits_nothing.clean) in
+    let mid = was_clean c.current_row.ensures.read_only clean in
     let first = c.in_ok-sentence.ensures.answered mid s desk x there in
-    let still = desk_same g.S.Store c.args.conn.now c.find_sentence.new.conn s desk (c.in_ok-sentence.ensures.unchanged mid desk.holds.schema) in
-    c.current_row.ensures.fails clean (c.find_sentence.ensures.commits_nothing.limit ∙ unlimited) s still x there first.rev failed
+    let still = desk_after c.in_ok-sentence.ensures.read_only mid desk in
+    c.current_row.ensures.fails clean (c.find_sentence.ensures.read_only.commits_nothing.limit ∙ unlimited) s still x there first.rev failed
 
 pub returns-in_err-row-clause-cause : goal.returns-in_err-row-clause-cause
 returns-in_err-row-clause-cause g c =
-    second_clear g.S.Store c.args.conn.now c.find_sentence.new.conn c.current_row.new.conn c.from_residual-in_err-row.result c.in_err-row.field-0.0 c.from_residual-in_err-row.ensures.1
-    c.in_ok-sentence.ensures.unchanged c.find_sentence.ensures.commits_nothing c.current_row.ensures.commits_nothing c.in_err-row.ensures.cause
+    second_clear c.from_residual-in_err-row.result c.in_err-row.field-0.0 c.from_residual-in_err-row.ensures.1 c.in_ok-sentence.ensures.read_only c.current_row.ensures.read_only c.in_err-row.ensures.cause
+
+pub returns-in_err-sentence-clause-read_only : goal.returns-in_err-sentence-clause-read_only
+returns-in_err-sentence-clause-read_only g c = read_failed c.from_residual.result _ c.from_residual.ensures.1 c.find_sentence.ensures.read_only
+
+pub returns-in_err-row-clause-read_only : goal.returns-in_err-row-clause-read_only
+returns-in_err-row-clause-read_only g c = read_failed c.from_residual-in_err-row.result _ c.from_residual-in_err-row.ensures.1 (read_then c.in_ok-sentence.ensures.read_only c.current_row.ensures.read_only)
+
+pub returns-clause-read_only : goal.returns-clause-read_only
+returns-clause-read_only g c = read_then c.in_ok-sentence.ensures.read_only c.in_ok-row.ensures.read_only

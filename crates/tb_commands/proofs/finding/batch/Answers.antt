@@ -6,6 +6,7 @@ use Rattle.tb_refine.specs.DeskTables.{tables_of, batch_record}
 use Rattle.tb_refine.specs.Fitting.{IsReadableBatch}
 use Rattle.tb_refine.proofs.Faultless.{read_reported, fit, want_reported}
 use Rattle.tb_commands.proofs.Finds.{row_reported, none_lacks}
+use Rattle.tb_reads.proofs.ReadOnly.{read_on, read_none}
 use Rattle.tb_commands.proofs.finding.batch.Goals as goal
 
 pub returns-in-Ok-Some-clause-fails : goal.returns-in-Ok-Some-clause-fails
@@ -30,3 +31,12 @@ pub returns-in-Err-clause-cause : goal.returns-in-Err-clause-cause
 returns-in-Err-clause-cause g c good clean unlimited has bad =
     let reported : c.of_read.result ≡ Device = cc in
     want_reported c.in-Err.error (c.in-Err.ensures.cause good clean unlimited has) (sym c.of_read.ensures.value ∙ reported)
+
+pub returns-then-number-eq0-clause-read_only : goal.returns-then-number-eq0-clause-read_only
+returns-then-number-eq0-clause-read_only g c = read_none
+
+pub returns-in-Ok-Some-clause-read_only : goal.returns-in-Ok-Some-clause-read_only
+returns-in-Ok-Some-clause-read_only g c = read_on _ c.in-Ok-Some.ensures.read_only
+
+pub returns-in-Ok-None-clause-read_only : goal.returns-in-Ok-None-clause-read_only
+returns-in-Ok-None-clause-read_only g c = read_on _ c.in-Ok-None.ensures.read_only

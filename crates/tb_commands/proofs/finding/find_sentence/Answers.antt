@@ -1,34 +1,21 @@
 use Rattle.std.proofs.Common.{◌≡◌, ◌-◌, ap, arith, sym, subst, slice_get, Some, Err, ◌∙◌}
 use Rattle.std.proofs.lemmas.Result.{err_from_is_err_and}
 use Rattle.sqlite.specs.Held.{state}
-use Rattle.sqlite.specs.State.{HasCleanDisk}
 use Rattle.tb_core.specs.declared.refusals.Fault.TheVariants.{NotADesk}
 use Rattle.tb_core.specs.Machine.{batch_with}
 use Rattle.tb_tables.specs.Records.{Sentence}
-use Rattle.tb_refine.proofs.Unchanged.{desk_same, lasts_then, same_two, second_clear}
+use Rattle.tb_refine.proofs.Unchanged.{second_clear, desk_after}
 use Rattle.tb_commands.proofs.Finds.{own_batch, placed_above}
+use Rattle.tb_reads.proofs.ReadOnly.{read_then, read_failed, was_clean}
 use Rattle.tb_commands.proofs.finding.find_sentence.Goals as goal
-
-pub returns-in_err-of-clause-commits_nothing : goal.returns-in_err-of-clause-commits_nothing
-returns-in_err-of-clause-commits_nothing g c = lasts_then g.S.Store c.args.conn.now c.sentence_row.new.conn c.batch.new.conn c.in_ok-row.ensures.unchanged c.sentence_row.ensures.commits_nothing c.batch.ensures.commits_nothing
-
-pub returns-in_err-pulled-clause-commits_nothing : goal.returns-in_err-pulled-clause-commits_nothing
-returns-in_err-pulled-clause-commits_nothing g c =
-    let two = lasts_then g.S.Store c.args.conn.now c.sentence_row.new.conn c.batch.new.conn c.in_ok-row.ensures.unchanged c.sentence_row.ensures.commits_nothing c.batch.ensures.commits_nothing in
-    lasts_then g.S.Store c.args.conn.now c.batch.new.conn c.is_pulled.new.conn (same_two g.S.Store c.args.conn.now c.sentence_row.new.conn c.batch.new.conn c.batch.ensures.commits_nothing c.in_ok-row.ensures.unchanged c.in_ok-of.ensures.unchanged) two c.is_pulled.ensures.commits_nothing
-
-pub returns-clause-commits_nothing : goal.returns-clause-commits_nothing
-returns-clause-commits_nothing g c =
-    let two = lasts_then g.S.Store c.args.conn.now c.sentence_row.new.conn c.batch.new.conn c.in_ok-row.ensures.unchanged c.sentence_row.ensures.commits_nothing c.batch.ensures.commits_nothing in
-    lasts_then g.S.Store c.args.conn.now c.batch.new.conn c.is_pulled.new.conn (same_two g.S.Store c.args.conn.now c.sentence_row.new.conn c.batch.new.conn c.batch.ensures.commits_nothing c.in_ok-row.ensures.unchanged c.in_ok-of.ensures.unchanged) two c.is_pulled.ensures.commits_nothing
 
 pub returns-clause-answered : goal.returns-clause-answered
 returns-clause-answered g c clean s desk x there =
-    let late : HasCleanDisk (state g.S.Store c.batch.new.conn) = omega (arith, clean, c.is_pulled.ensures.commits_nothing.clean) in
-    let mid : HasCleanDisk (state g.S.Store c.sentence_row.new.conn) = omega (arith, late, c.batch.ensures.commits_nothing.clean) in
+    let late = was_clean c.is_pulled.ensures.read_only clean in
+    let mid = was_clean c.batch.ensures.read_only late in
     let row = c.in_ok-row.ensures.answered mid s desk x there in
-    let first = desk_same g.S.Store c.args.conn.now c.sentence_row.new.conn s desk (c.in_ok-row.ensures.unchanged mid desk.holds.schema) in
-    let second = desk_same g.S.Store c.sentence_row.new.conn c.batch.new.conn s first (c.in_ok-of.ensures.unchanged late first.holds.schema) in
+    let first = desk_after c.in_ok-row.ensures.read_only mid desk in
+    let second = desk_after c.in_ok-of.ensures.read_only late first in
     let well = c.reached_states_are_well.ensures s desk.reachable.reached in
     let own = own_batch s (c.args.number - 1) x well.placed there in
     let numbered : c.in_ok-row.row.batch ≡ x.batch = ap (λ (r : Sentence). r.batch) row in
@@ -52,34 +39,42 @@ pub returns-in_err-of-clause-fails : goal.returns-in_err-of-clause-fails
 returns-in_err-of-clause-fails g c clean unlimited s desk x there bad =
     let reported = err_from_is_err_and c.from_residual-in_err-of.result c.from_residual-in_err-of.ensures.1 in
     let failed : c.batch.result ≡ Err NotADesk = let was = c.in_err-of.was in let one = reported.1 in let two = reported.2 in cc in
-    let mid : HasCleanDisk (state g.S.Store c.sentence_row.new.conn) = omega (arith, clean, c.batch.ensures.commits_nothing.clean) in
+    let mid = was_clean c.batch.ensures.read_only clean in
     let row = c.in_ok-row.ensures.answered mid s desk x there in
-    let first = desk_same g.S.Store c.args.conn.now c.sentence_row.new.conn s desk (c.in_ok-row.ensures.unchanged mid desk.holds.schema) in
+    let first = desk_after c.in_ok-row.ensures.read_only mid desk in
     let well = c.reached_states_are_well.ensures s desk.reachable.reached in
     let own = own_batch s (c.args.number - 1) x well.placed there in
     let numbered : c.in_ok-row.row.batch ≡ x.batch = ap (λ (r : Sentence). r.batch) row in
     let above = placed_above s (c.args.number - 1) x well.placed there in
-    c.batch.ensures.fails clean (c.sentence_row.ensures.commits_nothing.limit ∙ unlimited) s first (omega (arith, above, numbered)) (batch_with s.batches x.batch)
+    c.batch.ensures.fails clean (c.sentence_row.ensures.read_only.commits_nothing.limit ∙ unlimited) s first (omega (arith, above, numbered)) (batch_with s.batches x.batch)
     (subst (λ n. slice_get s.batches (n - 1) ≡ Some (batch_with s.batches x.batch)) (sym numbered) own) failed
 
 pub returns-in_err-pulled-clause-fails : goal.returns-in_err-pulled-clause-fails
 returns-in_err-pulled-clause-fails g c clean unlimited s desk x there bad =
     let reported = err_from_is_err_and c.from_residual-in_err-pulled.result c.from_residual-in_err-pulled.ensures.1 in
     let failed : c.is_pulled.result ≡ Err NotADesk = let was = c.in_err-pulled.was in let one = reported.1 in let two = reported.2 in cc in
-    let late : HasCleanDisk (state g.S.Store c.batch.new.conn) = omega (arith, clean, c.is_pulled.ensures.commits_nothing.clean) in
-    let mid : HasCleanDisk (state g.S.Store c.sentence_row.new.conn) = omega (arith, late, c.batch.ensures.commits_nothing.clean) in
-    let first = desk_same g.S.Store c.args.conn.now c.sentence_row.new.conn s desk (c.in_ok-row.ensures.unchanged mid desk.holds.schema) in
-    let second = desk_same g.S.Store c.sentence_row.new.conn c.batch.new.conn s first (c.in_ok-of.ensures.unchanged late first.holds.schema) in
-    c.is_pulled.ensures.fails clean (c.batch.ensures.commits_nothing.limit ∙ c.sentence_row.ensures.commits_nothing.limit ∙ unlimited) s second failed
+    let late = was_clean c.is_pulled.ensures.read_only clean in
+    let mid = was_clean c.batch.ensures.read_only late in
+    let first = desk_after c.in_ok-row.ensures.read_only mid desk in
+    let second = desk_after c.in_ok-of.ensures.read_only late first in
+    c.is_pulled.ensures.fails clean (c.batch.ensures.read_only.commits_nothing.limit ∙ c.sentence_row.ensures.read_only.commits_nothing.limit ∙ unlimited) s second failed
 
 pub returns-in_err-of-clause-cause : goal.returns-in_err-of-clause-cause
 returns-in_err-of-clause-cause g c =
-    second_clear g.S.Store c.args.conn.now c.sentence_row.new.conn c.batch.new.conn c.from_residual-in_err-of.result c.in_err-of.field-0.0 c.from_residual-in_err-of.ensures.1
-    c.in_ok-row.ensures.unchanged c.sentence_row.ensures.commits_nothing c.batch.ensures.commits_nothing c.in_err-of.ensures.cause
+    second_clear c.from_residual-in_err-of.result c.in_err-of.field-0.0 c.from_residual-in_err-of.ensures.1 c.in_ok-row.ensures.read_only c.batch.ensures.read_only c.in_err-of.ensures.cause
 
 pub returns-in_err-pulled-clause-cause : goal.returns-in_err-pulled-clause-cause
 returns-in_err-pulled-clause-cause g c =
-    let two = lasts_then g.S.Store c.args.conn.now c.sentence_row.new.conn c.batch.new.conn c.in_ok-row.ensures.unchanged c.sentence_row.ensures.commits_nothing c.batch.ensures.commits_nothing in
-    let same = same_two g.S.Store c.args.conn.now c.sentence_row.new.conn c.batch.new.conn c.batch.ensures.commits_nothing c.in_ok-row.ensures.unchanged c.in_ok-of.ensures.unchanged in
-    second_clear g.S.Store c.args.conn.now c.batch.new.conn c.is_pulled.new.conn c.from_residual-in_err-pulled.result c.in_err-pulled.field-0.0 c.from_residual-in_err-pulled.ensures.1
-    same two c.is_pulled.ensures.commits_nothing c.in_err-pulled.ensures.cause
+    second_clear c.from_residual-in_err-pulled.result c.in_err-pulled.field-0.0 c.from_residual-in_err-pulled.ensures.1 (read_then c.in_ok-row.ensures.read_only c.in_ok-of.ensures.read_only) c.is_pulled.ensures.read_only c.in_err-pulled.ensures.cause
+
+pub returns-in_err-row-clause-read_only : goal.returns-in_err-row-clause-read_only
+returns-in_err-row-clause-read_only g c = read_failed c.from_residual.result _ c.from_residual.ensures.1 c.sentence_row.ensures.read_only
+
+pub returns-in_err-of-clause-read_only : goal.returns-in_err-of-clause-read_only
+returns-in_err-of-clause-read_only g c = read_failed c.from_residual-in_err-of.result _ c.from_residual-in_err-of.ensures.1 (read_then c.in_ok-row.ensures.read_only c.batch.ensures.read_only)
+
+pub returns-in_err-pulled-clause-read_only : goal.returns-in_err-pulled-clause-read_only
+returns-in_err-pulled-clause-read_only g c = read_failed c.from_residual-in_err-pulled.result _ c.from_residual-in_err-pulled.ensures.1 (read_then (read_then c.in_ok-row.ensures.read_only c.in_ok-of.ensures.read_only) c.is_pulled.ensures.read_only)
+
+pub returns-clause-read_only : goal.returns-clause-read_only
+returns-clause-read_only g c = read_then (read_then c.in_ok-row.ensures.read_only c.in_ok-of.ensures.read_only) c.in_ok-pulled.ensures.read_only

@@ -8,7 +8,7 @@ use Rattle.tb_core.specs.Acts.{restoring, flagged, after, move_of}
 use Rattle.tb_core.specs.Commands.{restore, replied, restored_to}
 use Rattle.tb_core.proofs.Weights.{length-changed}
 use Rattle.tb_tables.proofs.Commands.{same_holds}
-use Rattle.tb_refine.proofs.Unchanged.{desk_same}
+use Rattle.tb_refine.proofs.Unchanged.{desk_after}
 use Rattle.tb_commands.proofs.Pulled.{judged_written}
 use Rattle.tb_tables.proofs.Causes.{faultless_next}
 use Rattle.tb_commands.proofs.Short.{never_reported}
@@ -21,35 +21,35 @@ returns-in_err-reply-clause-refused g c clean r is s desk counted within =
     c.restore_planned.ensures.refused clean r failed s desk counted within
 
 pub returns-in_err-reply-clause-crash : goal.returns-in_err-reply-clause-crash
-returns-in_err-reply-clause-crash g c = survives_weaker (state g.S.Store c.args.conn.now) (state g.S.Store c.restore_planned.new.conn) _ _ (λ _ _ other s desk counted within. absurd (other desk.holds.schema)) c.restore_planned.ensures.commits_nothing
+returns-in_err-reply-clause-crash g c = survives_weaker (state g.S.Store c.args.conn.now) (state g.S.Store c.restore_planned.new.conn) _ _ (λ _ _ other s desk counted within. absurd (other desk.holds.schema)) c.restore_planned.ensures.read_only.commits_nothing
 
 pub returns-in_err-restore-clause-keeps_records : goal.returns-in_err-restore-clause-keeps_records
 returns-in_err-restore-clause-keeps_records g c clean opened =
     let reported = err_from_is_err_and c.from_residual-in_err-restore.result c.from_residual-in_err-restore.ensures.1 in
     let mid : HasCleanDisk (state g.S.Store c.restore_planned.new.conn) = omega (arith, clean, c.restore.ensures.crash.clean) in
     let kept = c.in_err-restore.ensures.keeps_records clean opened in
-    rw reported.1 (λ d holds. kept d (same_holds g.S.Store c.args.conn.now c.restore_planned.new.conn d holds (c.in_ok-reply.ensures.unchanged mid holds.schema)))
+    rw reported.1 (λ d holds. kept d (same_holds g.S.Store c.args.conn.now c.restore_planned.new.conn d holds (c.in_ok-reply.ensures.read_only.unchanged mid holds.schema)))
 
 pub returns-in_err-restore-clause-crash : goal.returns-in_err-restore-clause-crash
 returns-in_err-restore-clause-crash g c = survives_then (state g.S.Store c.args.conn.now) (state g.S.Store c.restore_planned.new.conn) (state g.S.Store c.restore.new.conn) _ _ _ (λ _ _ other s desk counted within. absurd (other desk.holds.schema)) (λ clean db whole s desk counted within.
     let mid : HasCleanDisk (state g.S.Store c.restore_planned.new.conn) = omega (arith, clean, c.restore.ensures.crash.clean) in
-    let first = desk_same g.S.Store c.args.conn.now c.restore_planned.new.conn s desk (c.in_ok-reply.ensures.unchanged mid desk.holds.schema) in
+    let first = desk_after c.in_ok-reply.ensures.read_only mid desk in
     let plan = c.in_ok-reply.ensures.answered mid s desk counted within in
     let a = restoring (c.args.number - 1) c.args.user.now in
-    (replied (restored_to c.in_ok-reply.reply), after s a, plan.steps, whole s c.args.user.now first plan.allowed (judged_written _ s _ a _ c.in_ok-reply.prepared plan))) c.restore_planned.ensures.commits_nothing c.restore.ensures.crash
+    (replied (restored_to c.in_ok-reply.reply), after s a, plan.steps, whole s c.args.user.now first plan.allowed (judged_written _ s _ a _ c.in_ok-reply.prepared plan))) c.restore_planned.ensures.read_only.commits_nothing c.restore.ensures.crash
 
 pub returns-clause-crash : goal.returns-clause-crash
 returns-clause-crash g c = survives_then (state g.S.Store c.args.conn.now) (state g.S.Store c.restore_planned.new.conn) (state g.S.Store c.restore.new.conn) _ _ _ (λ _ _ other s desk counted within. absurd (other desk.holds.schema)) (λ clean db whole s desk counted within.
     let mid : HasCleanDisk (state g.S.Store c.restore_planned.new.conn) = omega (arith, clean, c.restore.ensures.crash.clean) in
-    let first = desk_same g.S.Store c.args.conn.now c.restore_planned.new.conn s desk (c.in_ok-reply.ensures.unchanged mid desk.holds.schema) in
+    let first = desk_after c.in_ok-reply.ensures.read_only mid desk in
     let plan = c.in_ok-reply.ensures.answered mid s desk counted within in
     let a = restoring (c.args.number - 1) c.args.user.now in
-    (replied (restored_to c.in_ok-reply.reply), after s a, plan.steps, whole s c.args.user.now first plan.allowed (judged_written _ s _ a _ c.in_ok-reply.prepared plan))) c.restore_planned.ensures.commits_nothing c.restore.ensures.crash
+    (replied (restored_to c.in_ok-reply.reply), after s a, plan.steps, whole s c.args.user.now first plan.allowed (judged_written _ s _ a _ c.in_ok-reply.prepared plan))) c.restore_planned.ensures.read_only.commits_nothing c.restore.ensures.crash
 
 pub returns-clause-answered : goal.returns-clause-answered
 returns-clause-answered g c clean s desk counted within =
     let mid : HasCleanDisk (state g.S.Store c.restore_planned.new.conn) = omega (arith, clean, c.restore.ensures.crash.clean) in
-    let first = desk_same g.S.Store c.args.conn.now c.restore_planned.new.conn s desk (c.in_ok-reply.ensures.unchanged mid desk.holds.schema) in
+    let first = desk_after c.in_ok-reply.ensures.read_only mid desk in
     let plan = c.in_ok-reply.ensures.answered mid s desk counted within in
     let a = restoring (c.args.number - 1) c.args.user.now in
     let limits = c.requires.within in
@@ -75,10 +75,10 @@ returns-in_err-restore-clause-fails g c clean unlimited s desk counted within ba
     let reported = err_from_is_err_and c.from_residual-in_err-restore.result c.from_residual-in_err-restore.ensures.1 in
     let failed : c.restore.result ≡ Err NotADesk = let was = c.in_err-restore.was in let one = reported.1 in let two = reported.2 in cc in
     let mid : HasCleanDisk (state g.S.Store c.restore_planned.new.conn) = omega (arith, clean, c.restore.ensures.crash.clean) in
-    let first = desk_same g.S.Store c.args.conn.now c.restore_planned.new.conn s desk (c.in_ok-reply.ensures.unchanged mid desk.holds.schema) in
+    let first = desk_after c.in_ok-reply.ensures.read_only mid desk in
     let plan = c.in_ok-reply.ensures.answered mid s desk counted within in
     let a = restoring (c.args.number - 1) c.args.user.now in
-    c.restore.ensures.fails clean (c.restore_planned.ensures.commits_nothing.limit ∙ unlimited) s c.args.user.now first plan.allowed (judged_written _ s _ a _ c.in_ok-reply.prepared plan) failed
+    c.restore.ensures.fails clean (c.restore_planned.ensures.read_only.commits_nothing.limit ∙ unlimited) s c.args.user.now first plan.allowed (judged_written _ s _ a _ c.in_ok-reply.prepared plan) failed
 
 pub returns-in_err-reply-clause-cause : goal.returns-in_err-reply-clause-cause
 returns-in_err-reply-clause-cause g c good clean unlimited s desk counted within bad =
@@ -91,9 +91,8 @@ returns-in_err-restore-clause-cause g c good clean unlimited s desk counted with
     let reported = err_from_is_err_and c.from_residual-in_err-restore.result c.from_residual-in_err-restore.ensures.1 in
     let failed : c.restore.result ≡ Err Device = let was = c.in_err-restore.was in let one = reported.1 in let two = reported.2 in cc in
     let mid : HasCleanDisk (state g.S.Store c.restore_planned.new.conn) = omega (arith, clean, c.restore.ensures.crash.clean) in
-    let here = faultless_next (state g.S.Store c.args.conn.now) (state g.S.Store c.restore_planned.new.conn) (state g.S.Store c.restore.new.conn) good c.restore_planned.ensures.commits_nothing mid c.restore.ensures.crash.counts in
-    let same = c.in_ok-reply.ensures.unchanged mid desk.holds.schema in
-    let first = desk_same g.S.Store c.args.conn.now c.restore_planned.new.conn s desk same in
+    let here = faultless_next (state g.S.Store c.args.conn.now) (state g.S.Store c.restore_planned.new.conn) (state g.S.Store c.restore.new.conn) good c.restore_planned.ensures.read_only.commits_nothing mid c.restore.ensures.crash.counts in
+    let first = desk_after c.in_ok-reply.ensures.read_only mid desk in
     let plan = c.in_ok-reply.ensures.answered mid s desk counted within in
     let a = restoring (c.args.number - 1) c.args.user.now in
-    c.restore.ensures.cause here clean (c.restore_planned.ensures.commits_nothing.limit ∙ unlimited) s first c.args.user.now plan.allowed (judged_written _ s _ a _ c.in_ok-reply.prepared plan) failed
+    c.restore.ensures.cause here clean (c.restore_planned.ensures.read_only.commits_nothing.limit ∙ unlimited) s first c.args.user.now plan.allowed (judged_written _ s _ a _ c.in_ok-reply.prepared plan) failed

@@ -3,7 +3,8 @@ use Rattle.std.proofs.lemmas.Result.{err_from_is_err_and}
 use Rattle.tb_core.specs.declared.refusals.Fault.TheVariants.{NotADesk}
 use Rattle.tb_reads.proofs.Shown.{if_ok}
 use Rattle.tb_refine.proofs.There.{sentence_there}
-use Rattle.tb_refine.proofs.Unchanged.{desk_same}
+use Rattle.tb_refine.proofs.Unchanged.{desk_after}
+use Rattle.tb_reads.proofs.ReadOnly.{read_on, read_failed}
 use Rattle.tb_commands.proofs.pulling.restore_planned.Goals as goal
 
 pub returns-clause-answered : goal.returns-clause-answered
@@ -15,7 +16,7 @@ pub returns-clause-refused : goal.returns-clause-refused
 returns-clause-refused g c clean r is s desk counted within =
     let it = sentence_there s c.args.number c.args.number refl c.requires within in (
       c.decide_restore.ensures.refused r is s it.0 desk.reachable.reached counted it.1 (c.in_ok-read.ensures.answered clean s desk it.0 it.1),
-      desk_same g.S.Store c.args.conn.now c.find_sentence.new.conn s desk (c.in_ok-read.ensures.unchanged clean desk.holds.schema),
+      desk_after c.in_ok-read.ensures.read_only clean desk,
     )
 
 pub returns-in_err-read-clause-fails : goal.returns-in_err-read-clause-fails
@@ -29,3 +30,9 @@ pub returns-clause-fails : goal.returns-clause-fails
 returns-clause-fails g c clean unlimited s desk counted limited within bad =
     let it = sentence_there s c.args.number c.args.number refl c.requires within in
     c.decide_restore.ensures.fails s it.0 desk.reachable counted limited it.1 (c.in_ok-read.ensures.answered clean s desk it.0 it.1) bad
+
+pub returns-in_err-read-clause-read_only : goal.returns-in_err-read-clause-read_only
+returns-in_err-read-clause-read_only g c = read_failed c.from_residual.result _ c.from_residual.ensures.1 c.find_sentence.ensures.read_only
+
+pub returns-clause-read_only : goal.returns-clause-read_only
+returns-clause-read_only g c = read_on _ c.in_ok-read.ensures.read_only

@@ -13,16 +13,16 @@ use Rattle.tb_import.proofs.Firstly.{first_reported, read_words}
 use Rattle.tb_import.proofs.again.read_words.Goals as goal
 
 pub returns-in-Ok-Some-clause-left : goal.returns-in-Ok-Some-clause-left
-returns-in-Ok-Some-clause-left g c = left_from g.S.Store c.args.conn.now c.revision.new.conn c.revision.ensures.autocommit c.revision.ensures.keeps_records c.revision.ensures.commits_nothing
+returns-in-Ok-Some-clause-left g c = left_from c.revision.ensures.read_only
 
 pub returns-in-Ok-Some-clause-stays : goal.returns-in-Ok-Some-clause-stays
-returns-in-Ok-Some-clause-stays g c = on_ok c.words_of_text.result (stays_from g.S.Store c.args.conn.now c.revision.new.conn c.in-Ok-Some.ensures.unchanged)
+returns-in-Ok-Some-clause-stays g c = on_ok c.words_of_text.result (stays_from c.in-Ok-Some.ensures.read_only)
 
 pub returns-in-Ok-None-clause-left : goal.returns-in-Ok-None-clause-left
-returns-in-Ok-None-clause-left g c = left_from g.S.Store c.args.conn.now c.revision.new.conn c.revision.ensures.autocommit c.revision.ensures.keeps_records c.revision.ensures.commits_nothing
+returns-in-Ok-None-clause-left g c = left_from c.revision.ensures.read_only
 
 pub returns-in-Err-clause-left : goal.returns-in-Err-clause-left
-returns-in-Err-clause-left g c = left_from g.S.Store c.args.conn.now c.revision.new.conn c.revision.ensures.autocommit c.revision.ensures.keeps_records c.revision.ensures.commits_nothing
+returns-in-Err-clause-left g c = left_from c.revision.ensures.read_only
 
 pub returns-in-Ok-Some-clause-answered : goal.returns-in-Ok-Some-clause-answered
 returns-in-Ok-Some-clause-answered g c clean = if_ok c.words_of_text.result c.words_of_text.ensures.value (λ n value s b desk first.

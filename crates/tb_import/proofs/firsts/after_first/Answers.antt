@@ -15,13 +15,13 @@ use Rattle.tb_import.proofs.Firstly.{first_reported}
 use Rattle.tb_import.proofs.firsts.after_first.Goals as goal
 
 pub returns-in-Ok-Some-clause-left : goal.returns-in-Ok-Some-clause-left
-returns-in-Ok-Some-clause-left g c = left_from g.S.Store c.args.conn.now c.revision.new.conn c.revision.ensures.autocommit c.revision.ensures.keeps_records c.revision.ensures.commits_nothing
+returns-in-Ok-Some-clause-left g c = left_from c.revision.ensures.read_only
 
 pub returns-in-Ok-None-clause-left : goal.returns-in-Ok-None-clause-left
-returns-in-Ok-None-clause-left g c = left_from g.S.Store c.args.conn.now c.revision.new.conn c.revision.ensures.autocommit c.revision.ensures.keeps_records c.revision.ensures.commits_nothing
+returns-in-Ok-None-clause-left g c = left_from c.revision.ensures.read_only
 
 pub returns-in-Err-clause-left : goal.returns-in-Err-clause-left
-returns-in-Err-clause-left g c = left_from g.S.Store c.args.conn.now c.revision.new.conn c.revision.ensures.autocommit c.revision.ensures.keeps_records c.revision.ensures.commits_nothing
+returns-in-Err-clause-left g c = left_from c.revision.ensures.read_only
 
 pub returns-in-Ok-Some-clause-answered : goal.returns-in-Ok-Some-clause-answered
 returns-in-Ok-Some-clause-answered g c clean s b desk first =
@@ -52,4 +52,4 @@ returns-in-Err-clause-cause g c good clean unlimited has bad =
     want_reported c.in-Err.error (c.in-Err.ensures.cause good clean unlimited has) (sym c.of_read.ensures.value ∙ reported)
 
 pub returns-in-Ok-Some-clause-stays : goal.returns-in-Ok-Some-clause-stays
-returns-in-Ok-Some-clause-stays g c = stays_from g.S.Store c.args.conn.now c.revision.new.conn c.in-Ok-Some.ensures.unchanged
+returns-in-Ok-Some-clause-stays g c = stays_from c.in-Ok-Some.ensures.read_only

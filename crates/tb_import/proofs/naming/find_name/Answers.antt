@@ -9,23 +9,23 @@ use Rattle.tb_import.proofs.Left.{left_from, stays_from, left_then, stays_then, 
 use Rattle.tb_import.proofs.naming.find_name.Goals as goal
 
 pub returns-in_err-number-clause-left : goal.returns-in_err-number-clause-left
-returns-in_err-number-clause-left g c = left_from g.S.Store c.args.conn.now c.batch_number.new.conn c.batch_number.ensures.autocommit c.batch_number.ensures.keeps_records c.batch_number.ensures.commits_nothing
+returns-in_err-number-clause-left g c = left_from c.batch_number.ensures.read_only
 
 pub returns-in_default-clause-left : goal.returns-in_default-clause-left
-returns-in_default-clause-left g c = left_from g.S.Store c.args.conn.now c.batch_number.new.conn c.batch_number.ensures.autocommit c.batch_number.ensures.keeps_records c.batch_number.ensures.commits_nothing
+returns-in_default-clause-left g c = left_from c.batch_number.ensures.read_only
 
 pub returns-clause-left : goal.returns-clause-left
 returns-clause-left g c =
-    let read = c.batch_number.ensures in
-    left_then g.S.Store c.args.conn.now c.batch_number.new.conn c.compare.new.conn (left_from g.S.Store c.args.conn.now c.batch_number.new.conn read.autocommit read.keeps_records read.commits_nothing) (stays_from g.S.Store c.args.conn.now c.batch_number.new.conn c.in_ok-number.ensures.unchanged) c.compare.ensures.left
+    let read = c.batch_number.ensures.read_only in
+    left_then g.S.Store c.args.conn.now c.batch_number.new.conn c.compare.new.conn (left_from read) (stays_from c.in_ok-number.ensures.read_only) c.compare.ensures.left
 
 pub returns-clause-stays : goal.returns-clause-stays
-returns-clause-stays g c = stays_if c.compare.result (λ more. stays_then g.S.Store c.args.conn.now c.batch_number.new.conn c.compare.new.conn (stays_from g.S.Store c.args.conn.now c.batch_number.new.conn c.in_ok-number.ensures.unchanged) c.compare.ensures.left more) c.compare.ensures.stays
+returns-clause-stays g c = stays_if c.compare.result (λ more. stays_then g.S.Store c.args.conn.now c.batch_number.new.conn c.compare.new.conn (stays_from c.in_ok-number.ensures.read_only) c.compare.ensures.left more) c.compare.ensures.stays
 
 pub returns-clause-answered : goal.returns-clause-answered
 returns-clause-answered g c clean = if_ok c.compare.result (c.compare.ensures.answered clean) (λ found reported s desk.
     let mid : HasCleanDisk (state g.S.Store c.batch_number.new.conn) = omega (arith, clean, c.compare.ensures.left.commits_nothing.clean) in
-    let stays = stays_from g.S.Store c.args.conn.now c.batch_number.new.conn c.in_ok-number.ensures.unchanged in
+    let stays = stays_from c.in_ok-number.ensures.read_only in
     let here = desk_stays g.S.Store c.args.conn.now c.batch_number.new.conn stays mid s desk in
     let number = rw c.in-Some.is at (c.in_ok-number.ensures.answered mid s desk) in
     let at : c.in-Some.number ≡ (c.in-Some.number - 1) + 1 = (let above = number.1 in omega (arith, above)) in
@@ -40,17 +40,17 @@ returns-in_err-number-clause-fails g c clean unlimited s desk bad =
 pub returns-clause-fails : goal.returns-clause-fails
 returns-clause-fails g c clean unlimited s desk bad =
     let mid : HasCleanDisk (state g.S.Store c.batch_number.new.conn) = omega (arith, clean, c.compare.ensures.left.commits_nothing.clean) in
-    let stays = stays_from g.S.Store c.args.conn.now c.batch_number.new.conn c.in_ok-number.ensures.unchanged in
+    let stays = stays_from c.in_ok-number.ensures.read_only in
     let here = desk_stays g.S.Store c.args.conn.now c.batch_number.new.conn stays mid s desk in
     let number = rw c.in-Some.is at (c.in_ok-number.ensures.answered mid s desk) in
     let at : c.in-Some.number ≡ (c.in-Some.number - 1) + 1 = (let above = number.1 in omega (arith, above)) in
-    c.compare.ensures.fails clean (c.batch_number.ensures.commits_nothing.limit ∙ unlimited) s c.args.name.now (c.in-Some.number - 1) number.0 here (record { there = number.2; named = number.3 }) at bad
+    c.compare.ensures.fails clean (c.batch_number.ensures.read_only.commits_nothing.limit ∙ unlimited) s c.args.name.now (c.in-Some.number - 1) number.0 here (record { there = number.2; named = number.3 }) at bad
 
 pub returns-in_default-clause-stays : goal.returns-in_default-clause-stays
-returns-in_default-clause-stays g c = stays_from g.S.Store c.args.conn.now c.batch_number.new.conn c.in_ok-number.ensures.unchanged
+returns-in_default-clause-stays g c = stays_from c.in_ok-number.ensures.read_only
 
 pub returns-clause-cause : goal.returns-clause-cause
 returns-clause-cause g c =
-    let read = c.batch_number.ensures in
+    let read = c.batch_number.ensures.read_only in
     next_clear g.S.Store c.args.conn.now c.batch_number.new.conn c.compare.new.conn (IfErr c.compare.result IsNoDevice)
-    (left_from g.S.Store c.args.conn.now c.batch_number.new.conn read.autocommit read.keeps_records read.commits_nothing) (stays_from g.S.Store c.args.conn.now c.batch_number.new.conn c.in_ok-number.ensures.unchanged) c.compare.ensures.left c.compare.ensures.cause
+    (left_from read) (stays_from c.in_ok-number.ensures.read_only) c.compare.ensures.left c.compare.ensures.cause

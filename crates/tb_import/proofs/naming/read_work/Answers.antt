@@ -13,10 +13,10 @@ pub returns-in-Ok-clause-answered : goal.returns-in-Ok-clause-answered
 returns-in-Ok-clause-answered g c clean s desk = c.in-Ok.ensures.ok clean desk.holds.schema (map sentence_record s.sentences) desk.holds.stands.sentences
 
 pub returns-in-Ok-clause-left : goal.returns-in-Ok-clause-left
-returns-in-Ok-clause-left g c = left_from g.S.Store c.args.conn.now c.sentences_of.new.conn c.sentences_of.ensures.autocommit c.sentences_of.ensures.keeps_records c.sentences_of.ensures.commits_nothing
+returns-in-Ok-clause-left g c = left_from c.sentences_of.ensures.read_only
 
 pub returns-in-Err-clause-left : goal.returns-in-Err-clause-left
-returns-in-Err-clause-left g c = left_from g.S.Store c.args.conn.now c.sentences_of.new.conn c.sentences_of.ensures.autocommit c.sentences_of.ensures.keeps_records c.sentences_of.ensures.commits_nothing
+returns-in-Err-clause-left g c = left_from c.sentences_of.ensures.read_only
 
 pub returns-in-Err-clause-fails : goal.returns-in-Err-clause-fails
 returns-in-Err-clause-fails g c clean unlimited s desk bad =
@@ -34,4 +34,4 @@ returns-in-Err-clause-cause g c good clean unlimited has bad =
     want_reported c.in-Err.error (c.in-Err.ensures.cause good clean unlimited has) (sym c.of_read.ensures.value ∙ reported)
 
 pub returns-in-Ok-clause-stays : goal.returns-in-Ok-clause-stays
-returns-in-Ok-clause-stays g c = stays_from g.S.Store c.args.conn.now c.sentences_of.new.conn c.in-Ok.ensures.unchanged
+returns-in-Ok-clause-stays g c = stays_from c.in-Ok.ensures.read_only

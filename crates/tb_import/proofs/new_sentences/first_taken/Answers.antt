@@ -1,31 +1,30 @@
 use Rattle.tb_core.specs.declared.refusals.Fault.TheVariants.{NotADesk}
 use Rattle.std.proofs.lemmas.Result.{err_from_is_err_and}
 use Rattle.std.proofs.Common.{◌≡◌, ◌+◌, ◌<◌, ◌≤◌, length, ap, subst, arith, ℕ, List, Err, ◌∙◌}
-use Rattle.sqlite.specs.Held.{state}
-use Rattle.sqlite.specs.State.{HasCleanDisk}
 use Rattle.tb_core.specs.Names.{Lacks}
 use Rattle.tb_core.specs.Acts.{ids_of}
 use Rattle.tb_core.specs.Taking.{NewSentenceText}
 use Rattle.tb_core.specs.Tests.{IsFirstTaken}
 use Rattle.tb_import.proofs.Left.{left_from, stays_from, left_then, stays_then, desk_stays, left_clear}
 use Rattle.tb_import.proofs.Takes.{one_free, first_of, all_free}
+use Rattle.tb_reads.proofs.ReadOnly.{was_clean}
 use Rattle.tb_import.proofs.new_sentences.first_taken.Goals as goal
 
 pub returns-in_err-is_taken-clause-left : goal.returns-in_err-is_taken-clause-left
 returns-in_err-is_taken-clause-left g c =
-    let read = c.is_taken.ensures in
-    left_then g.S.Store c.args.conn.now c.loop-one.conn c.is_taken.new.conn c.loop-one.invariant.1 c.loop-one.invariant.2 (left_from g.S.Store c.loop-one.conn c.is_taken.new.conn read.autocommit read.keeps_records read.commits_nothing)
+    let read = c.is_taken.ensures.read_only in
+    left_then g.S.Store c.args.conn.now c.loop-one.conn c.is_taken.new.conn c.loop-one.invariant.1 c.loop-one.invariant.2 (left_from read)
 
 pub returns-then-branch-clause-left : goal.returns-then-branch-clause-left
 returns-then-branch-clause-left g c =
-    let read = c.is_taken.ensures in
-    left_then g.S.Store c.args.conn.now c.loop-one.conn c.is_taken.new.conn c.loop-one.invariant.1 c.loop-one.invariant.2 (left_from g.S.Store c.loop-one.conn c.is_taken.new.conn read.autocommit read.keeps_records read.commits_nothing)
+    let read = c.is_taken.ensures.read_only in
+    left_then g.S.Store c.args.conn.now c.loop-one.conn c.is_taken.new.conn c.loop-one.invariant.1 c.loop-one.invariant.2 (left_from read)
 
 pub returns-then-branch-clause-answered : goal.returns-then-branch-clause-answered
 returns-then-branch-clause-answered g c clean s bs desk is =
     let inv = c.loop-one.invariant in
     let i = c.loop-one.one-index in
-    let mid : HasCleanDisk (state g.S.Store c.loop-one.conn) = omega (arith, clean, c.is_taken.ensures.commits_nothing.clean) in
+    let mid = was_clean c.is_taken.ensures.read_only clean in
     let here = desk_stays g.S.Store c.args.conn.now c.loop-one.conn inv.2 mid s desk in
     let reported = rw c.if-branch.true at (c.in_ok-is_taken.ensures.answered clean s here) in
     let named = ap (λ (t : NewSentenceText). t.sent_id) c.one.view_is in
@@ -38,15 +37,15 @@ pub loop-one-preserved : goal.loop-one-preserved
 loop-one-preserved g c =
     let inv = c.loop-one.invariant in
     let i = c.loop-one.one-index in
-    let read = c.is_taken.ensures in
-    let left = left_from g.S.Store c.loop-one.conn c.is_taken.new.conn read.autocommit read.keeps_records read.commits_nothing in
-    let stays = stays_from g.S.Store c.loop-one.conn c.is_taken.new.conn c.in_ok-is_taken.ensures.unchanged in
+    let read = c.is_taken.ensures.read_only in
+    let left = left_from read in
+    let stays = stays_from c.in_ok-is_taken.ensures.read_only in
     let low : i < length c.args.taken.now = omega (arith, c.loop-one-test.true) in (
       (let same = inv.0 in omega (arith, same)),
       left_then g.S.Store c.args.conn.now c.loop-one.conn c.is_taken.new.conn inv.1 inv.2 left,
       stays_then g.S.Store c.args.conn.now c.loop-one.conn c.is_taken.new.conn inv.2 left stays,
       λ clean s desk.
-          let mid : HasCleanDisk (state g.S.Store c.loop-one.conn) = omega (arith, clean, read.commits_nothing.clean) in
+          let mid = was_clean read clean in
           let here = desk_stays g.S.Store c.args.conn.now c.loop-one.conn inv.2 mid s desk in
           let reported = rw c.if-branch.false at (c.in_ok-is_taken.ensures.answered clean s here) in
           let named = ap (λ (t : NewSentenceText). t.sent_id) c.one.view_is in
@@ -63,19 +62,19 @@ returns-in_err-is_taken-clause-fails g c clean unlimited s desk bad =
     let reported = err_from_is_err_and c.from_residual.result c.from_residual.ensures.1 in
     let failed : c.is_taken.result ≡ Err NotADesk = let was = c.in_err-is_taken.was in let one = reported.1 in let two = reported.2 in cc in
     let inv = c.loop-one.invariant in
-    let mid : HasCleanDisk (state g.S.Store c.loop-one.conn) = omega (arith, clean, c.is_taken.ensures.commits_nothing.clean) in
+    let mid = was_clean c.is_taken.ensures.read_only clean in
     let here = desk_stays g.S.Store c.args.conn.now c.loop-one.conn inv.2 mid s desk in
     c.is_taken.ensures.fails clean (inv.1.commits_nothing.limit ∙ unlimited) s here failed
 
 pub returns-then-branch-clause-stays : goal.returns-then-branch-clause-stays
 returns-then-branch-clause-stays g c =
-    let read = c.is_taken.ensures in
+    let read = c.is_taken.ensures.read_only in
     stays_then g.S.Store c.args.conn.now c.loop-one.conn c.is_taken.new.conn c.loop-one.invariant.2
-    (left_from g.S.Store c.loop-one.conn c.is_taken.new.conn read.autocommit read.keeps_records read.commits_nothing) (stays_from g.S.Store c.loop-one.conn c.is_taken.new.conn c.in_ok-is_taken.ensures.unchanged)
+    (left_from read) (stays_from c.in_ok-is_taken.ensures.read_only)
 
 pub returns-in_err-is_taken-clause-cause : goal.returns-in_err-is_taken-clause-cause
 returns-in_err-is_taken-clause-cause g c =
     let inv = c.loop-one.invariant in
-    let read = c.is_taken.ensures in
+    let read = c.is_taken.ensures.read_only in
     left_clear g.S.Store c.args.conn.now c.loop-one.conn c.is_taken.new.conn c.from_residual.result c.in_err-is_taken.field-0.0 c.from_residual.ensures.1
-    inv.1 inv.2 (left_from g.S.Store c.loop-one.conn c.is_taken.new.conn read.autocommit read.keeps_records read.commits_nothing) c.in_err-is_taken.ensures.cause
+    inv.1 inv.2 (left_from read) c.in_err-is_taken.ensures.cause

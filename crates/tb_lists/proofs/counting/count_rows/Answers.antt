@@ -1,7 +1,7 @@
 use Rattle.std.proofs.Common.{◌≡◌, ◌+◌, ◌<◌, [], length, drop, replicate, refl, sym, ap, subst, ◌∙◌, arith}
 use Rattle.std.specs.List.{AllByRecursion}
 use Rattle.sqlite_trees.specs.Tree.{IsAscending}
-use Rattle.tb_commands.specs.Working.{is_listed}
+use Rattle.tb_refine.specs.Listed.{is_listed}
 use Rattle.tb_lists.specs.Counted.{IsOfSoMany, change_of, counted, count_all, no_count}
 use Rattle.tb_lists.proofs.Summed.{drop_here, drop_end, many_none}
 use Rattle.tb_lists.proofs.counting.count_rows.Goals as goal
@@ -24,8 +24,8 @@ loop-row-preserved c =
       seen,
       subst (λ n. AllByRecursion (IsOfSoMany (n + 1)) c.put_one.new.counts.items) at c.put_one.ensures.bound,
       λ up.
-          let flag = c.is_out-is_pulled.ensures up ∙ ap (λ n. is_listed n pulled) seen in
-          let put = c.put_one.ensures.value ∙ ap (λ n. change_of (counted (n + 1) row.words c.is_out-is_pulled.result) row.batch c.loop-row.counts.items) at
+          let flag = c.is_among-is_pulled.ensures up ∙ ap (λ n. is_listed n pulled) seen in
+          let put = c.put_one.ensures.value ∙ ap (λ n. change_of (counted (n + 1) row.words c.is_among-is_pulled.result) row.batch c.loop-row.counts.items) at
           ∙ ap (λ t. change_of (counted (i + 1) row.words t) row.batch c.loop-row.counts.items) flag in
           ap (count_all pulled (i + 1 + 1) (drop (i + 1) rows)) put ∙ ap (λ l. count_all pulled (i + 1) l c.loop-row.counts.items) (sym (drop_here rows i row low c.row-item.is)) ∙ before.2 up,
     )

@@ -1,12 +1,14 @@
-use Rattle.std.proofs.Common.{[], refl, rules}
-use Rattle.sqlite.specs.Held.{state}
-use Rattle.tb_tables.specs.Layout.{desk_schema}
+use Rattle.std.proofs.Common.{Result, Ok, Err, IfOk, refl, rules}
 use Rattle.tb_reads.specs.Streams.{bodies_text}
 use Rattle.tb_reads.proofs.Queries.{select_bodies_is}
-use Rattle.tb_reads.proofs.Shown.{if_ok, commits_nothing}
-use Rattle.tb_reads.proofs.Staying.{nothing_committed}
-use Rattle.tb_reads.proofs.Lent.{starts, start_same, left_so}
+use Rattle.tb_reads.proofs.Shown.{if_ok}
+use Rattle.tb_reads.proofs.ReadOnly.{cursor_begun}
+use Rattle.tb_reads.proofs.Lent.{starts, left_so}
 use Rattle.tb_reads.proofs.cursor.bodies.Goals as goal
+
+begun_so : {T E : Type 0} {P Q R Z : T → Type 0} (r : Result T E) → IfOk r P → IfOk r Q → IfOk r R → ((x : T) → P x → Q x → R x → Z x) → IfOk r Z
+begun_so (Ok x) p q k f = f x p q k
+begun_so (Err e) p q k f = tt
 
 pub returns : goal.returns
 returns g c =
@@ -18,9 +20,6 @@ returns g c =
         refused = tt;
         same_reference = q.same_reference;
         ok = if_ok r q.begun (λ rows begun clean has. starts g.S.Store old rows.conn.now has (begun clean));
-        unchanged = if_ok r q.begun (λ rows begun clean has. start_same g.S.Store old rows.conn.now has (begun clean));
-        autocommit = q.mode;
-        commits_nothing = if_ok r q.survives (λ rows kept. nothing_committed bodies_text [] (state g.S.Store old) (state g.S.Store rows.conn.now) select_bodies_is.1 kept);
-        survives = if_ok r q.survives (λ rows kept has. commits_nothing bodies_text [] (state g.S.Store old) (state g.S.Store rows.conn.now) desk_schema select_bodies_is.1 has kept);
+        read_only = begun_so r q.begun q.mode q.survives (λ rows begun mode kept. cursor_begun g.S.Store bodies_text old rows.conn.now select_bodies_is.1 begun mode kept);
       },
     )

@@ -1,29 +1,24 @@
 use Rattle.sqlite.specs.Held.{state}
 use Rattle.tb_tables.specs.Layout.{desk_schema}
 use Rattle.tb_reads.proofs.Staying.{either_way, shown_stays, failed_stays, nothing_committed, answered_sees}
-use Rattle.tb_reads.proofs.Shown.{when_ok, shown_same, commits_nothing}
+use Rattle.tb_reads.proofs.Shown.{shown_same}
+use Rattle.tb_reads.proofs.ReadOnly.{if_succeeds}
 use Rattle.tb_reads.proofs.Failing.{if_err, fault_of, desk_fails}
 use Rattle.tb_tables.proofs.Causes.{failed_wants}
 use Rattle.tb_reads.proofs.fetch.fetch_rows.Goals as goal
 
-pub returns-clause-unchanged : goal.returns-clause-unchanged
-returns-clause-unchanged g c clean = when_ok c.query_all.result (c.query_all.ensures.ok clean) (λ rows shown has.
-    shown_same c.args.sql.now _ (state g.S.Store c.args.conn.now) (state g.S.Store c.query_all.new.self) desk_schema rows.items c.requires.0 has shown)
-
-pub returns-clause-survives : goal.returns-clause-survives
-returns-clause-survives g c has =
-    commits_nothing c.args.sql.now _ (state g.S.Store c.args.conn.now) (state g.S.Store c.query_all.new.self) desk_schema c.requires.0 has c.query_all.ensures.survives
-
-pub returns-clause-keeps_records : goal.returns-clause-keeps_records
-returns-clause-keeps_records g c clean opened d holds =
+pub returns-clause-read_only : goal.returns-clause-read_only
+returns-clause-read_only g c =
     let old = c.args.conn.now in
-    let new = c.query_all.new.self in
-    either_way c.query_all.result (c.query_all.ensures.ok clean) (c.query_all.ensures.err clean)
-    (λ rows shown. shown_stays g.S.Store c.args.sql.now _ old new d rows.items c.requires.0 holds shown)
-    (λ e failed. failed_stays g.S.Store c.args.sql.now _ old new d e c.requires.0 holds opened failed)
-
-pub returns-clause-commits_nothing : goal.returns-clause-commits_nothing
-returns-clause-commits_nothing g c = nothing_committed c.args.sql.now _ (state g.S.Store c.args.conn.now) (state g.S.Store c.query_all.new.self) c.requires.0 c.query_all.ensures.survives
+    let new = c.query_all.new.self in record {
+      unchanged = λ clean. if_succeeds c.query_all.result (c.query_all.ensures.ok clean) (λ rows shown has. shown_same c.args.sql.now _ (state g.S.Store old) (state g.S.Store new) desk_schema rows.items c.requires.0 has shown);
+      autocommit = c.query_all.ensures.mode;
+      keeps_records = λ clean opened d holds.
+          either_way c.query_all.result (c.query_all.ensures.ok clean) (c.query_all.ensures.err clean)
+          (λ rows shown. shown_stays g.S.Store c.args.sql.now _ old new d rows.items c.requires.0 holds shown)
+          (λ e failed. failed_stays g.S.Store c.args.sql.now _ old new d e c.requires.0 holds opened failed);
+      commits_nothing = nothing_committed c.args.sql.now _ (state g.S.Store old) (state g.S.Store new) c.requires.0 c.query_all.ensures.survives;
+    }
 
 pub returns-clause-fails : goal.returns-clause-fails
 returns-clause-fails g c clean unlimited has =

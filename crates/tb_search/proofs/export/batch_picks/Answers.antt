@@ -8,6 +8,7 @@ use Rattle.tb_search.proofs.Rises.{sentences_fit}
 use Rattle.tb_search.proofs.Visiting.{if_err}
 use Rattle.tb_search.proofs.Walking.{err_is, not_form}
 use Rattle.tb_search.proofs.Asked.{batch_asked}
+use Rattle.tb_reads.proofs.ReadOnly.{read_on, read_failed}
 use Rattle.tb_search.proofs.export.batch_picks.Goals as goal
 
 pub returns-clause-picked : goal.returns-clause-picked
@@ -42,3 +43,9 @@ returns-in_err-work-clause-cause g c good clean unlimited =
 
 pub returns-clause-cause : goal.returns-clause-cause
 returns-clause-cause g c good clean unlimited = if_err c.picks_of.result (λ e want s desk. want) c.picks_of.ensures.cause
+
+pub returns-in_err-work-clause-read_only : goal.returns-in_err-work-clause-read_only
+returns-in_err-work-clause-read_only g c = read_failed c.from_residual.result _ c.from_residual.ensures.1 c.sentences_of.ensures.read_only
+
+pub returns-clause-read_only : goal.returns-clause-read_only
+returns-clause-read_only g c = read_on _ c.in_ok-work.ensures.read_only

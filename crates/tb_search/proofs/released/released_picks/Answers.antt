@@ -5,8 +5,10 @@ use Rattle.sqlite.specs.State.{HasCleanDisk}
 use Rattle.tb_tables.proofs.Causes.{faultless_next}
 use Rattle.tb_refine.specs.DeskTables.{sentence_record}
 use Rattle.tb_search.proofs.Rises.{sentences_fit}
-use Rattle.tb_search.proofs.Visiting.{desk_same, lasts_then, if_err}
+use Rattle.tb_search.proofs.Visiting.{if_err}
 use Rattle.tb_search.proofs.Walking.{err_is, not_form}
+use Rattle.tb_reads.proofs.ReadOnly.{read_then, read_on, read_failed, was_clean}
+use Rattle.tb_refine.proofs.Unchanged.{desk_after}
 use Rattle.tb_search.proofs.released.released_picks.Goals as goal
 
 pub returns-in_err-heads-clause-fault : goal.returns-in_err-heads-clause-fault
@@ -18,11 +20,8 @@ returns-in_err-heads-clause-fault g c clean =
 
 pub returns-clause-fault : goal.returns-clause-fault
 returns-clause-fault g c clean = if_err c.released_among.result (λ e reported s desk.
-    let mid : HasCleanDisk (state g.S.Store c.heads.new.conn) = omega (arith, clean, c.released_among.ensures.commits_nothing.clean) in
-    reported s (desk_same g.S.Store c.args.conn.now c.heads.new.conn s desk (c.in_ok-heads.ensures.unchanged mid desk.holds.schema))) (c.released_among.ensures.fault clean)
-
-pub returns-clause-commits_nothing : goal.returns-clause-commits_nothing
-returns-clause-commits_nothing g c = lasts_then g.S.Store c.args.conn.now c.heads.new.conn c.released_among.new.conn c.in_ok-heads.ensures.unchanged c.heads.ensures.commits_nothing c.released_among.ensures.commits_nothing
+    let mid = was_clean c.released_among.ensures.read_only clean in
+    reported s (desk_after c.in_ok-heads.ensures.read_only mid desk)) (c.released_among.ensures.fault clean)
 
 pub returns-in_err-heads-clause-fails : goal.returns-in_err-heads-clause-fails
 returns-in_err-heads-clause-fails g c clean unlimited =
@@ -31,8 +30,8 @@ returns-in_err-heads-clause-fails g c clean unlimited =
 
 pub returns-clause-fails : goal.returns-clause-fails
 returns-clause-fails g c clean unlimited = if_err c.released_among.result (λ e reported s desk.
-    let mid : HasCleanDisk (state g.S.Store c.heads.new.conn) = omega (arith, clean, c.released_among.ensures.commits_nothing.clean) in
-    reported s (desk_same g.S.Store c.args.conn.now c.heads.new.conn s desk (c.in_ok-heads.ensures.unchanged mid desk.holds.schema))) (c.released_among.ensures.fails clean (c.heads.ensures.commits_nothing.limit ∙ unlimited))
+    let mid = was_clean c.released_among.ensures.read_only clean in
+    reported s (desk_after c.in_ok-heads.ensures.read_only mid desk)) (c.released_among.ensures.fails clean (c.heads.ensures.read_only.commits_nothing.limit ∙ unlimited))
 
 pub returns-in_err-heads-clause-cause : goal.returns-in_err-heads-clause-cause
 returns-in_err-heads-clause-cause g c good clean unlimited =
@@ -41,9 +40,18 @@ returns-in_err-heads-clause-cause g c good clean unlimited =
 
 pub returns-clause-cause : goal.returns-clause-cause
 returns-clause-cause g c good clean unlimited =
-    let heads = c.heads.ensures.commits_nothing in
-    let among = c.released_among.ensures.commits_nothing in
+    let heads = c.heads.ensures.read_only.commits_nothing in
+    let among = c.released_among.ensures.read_only.commits_nothing in
     let mid : HasCleanDisk (state g.S.Store c.heads.new.conn) = omega (arith, clean, among.clean) in
     let later = faultless_next (state g.S.Store c.args.conn.now) (state g.S.Store c.heads.new.conn) (state g.S.Store c.released_among.new.conn) good heads mid among.counts in
     if_err c.released_among.result (λ e reported s desk.
-    reported s (desk_same g.S.Store c.args.conn.now c.heads.new.conn s desk (c.in_ok-heads.ensures.unchanged mid desk.holds.schema))) (c.released_among.ensures.cause later clean (heads.limit ∙ unlimited))
+    reported s (desk_after c.in_ok-heads.ensures.read_only mid desk)) (c.released_among.ensures.cause later clean (heads.limit ∙ unlimited))
+
+pub returns-in_err-heads-clause-read_only : goal.returns-in_err-heads-clause-read_only
+returns-in_err-heads-clause-read_only g c = read_failed c.from_residual.result _ c.from_residual.ensures.1 c.heads.ensures.read_only
+
+pub returns-then-len-clause-read_only : goal.returns-then-len-clause-read_only
+returns-then-len-clause-read_only g c = read_on _ c.in_ok-heads.ensures.read_only
+
+pub returns-clause-read_only : goal.returns-clause-read_only
+returns-clause-read_only g c = read_then c.in_ok-heads.ensures.read_only c.released_among.ensures.read_only

@@ -7,6 +7,7 @@ use Rattle.tb_search.specs.Searched.{searched, IsValidText, Meets}
 use Rattle.tb_search.specs.Visited.{IsFault}
 use Rattle.tb_search.proofs.Walking.{err_is}
 use Rattle.tb_search.proofs.Seeking.{reads, asked_so, table_found, no_keys, tells, sought_fault}
+use Rattle.tb_reads.proofs.ReadOnly.{read_failed, read_none}
 use Rattle.tb_search.proofs.search.count_released.Goals as goal
 
 pub returns-clause-answered : goal.returns-clause-answered
@@ -48,3 +49,9 @@ pub returns-in_err-visit_released-clause-cause : goal.returns-in_err-visit_relea
 returns-in_err-visit_released-clause-cause g c good clean unlimited =
     let reported = err_from_is_err_and c.from_residual-in_err-visit_released.result c.from_residual-in_err-visit_released.ensures.1 in
     err_is _ _ _ reported.0 reported.1 reported.2 (λ s desk. c.in_err-visit_released.ensures.cause good clean unlimited s desk)
+
+pub returns-in_err-seeker-clause-read_only : goal.returns-in_err-seeker-clause-read_only
+returns-in_err-seeker-clause-read_only g c = read_failed c.from_residual.result _ c.from_residual.ensures.1 read_none
+
+pub returns-in_err-visit_released-clause-read_only : goal.returns-in_err-visit_released-clause-read_only
+returns-in_err-visit_released-clause-read_only g c = read_failed c.from_residual-in_err-visit_released.result _ c.from_residual-in_err-visit_released.ensures.1 c.visit_released.ensures.read_only

@@ -8,6 +8,7 @@ use Rattle.tb_search.specs.Searched.{searched, lines, total_line}
 use Rattle.tb_search.proofs.Found.{broken_off, no_lines, one_found}
 use Rattle.tb_search.proofs.Seeking.{reads, asked_so, lines_found, lines_cut, total_cut, sought_fault, lists, breaks_off}
 use Rattle.tb_search.proofs.Walking.{err_is, of_sink, same_fault}
+use Rattle.tb_reads.proofs.ReadOnly.{read_on, read_failed, read_none}
 use Rattle.tb_search.proofs.search.search_released.Goals as goal
 
 pub returns-clause-answered : goal.returns-clause-answered
@@ -104,3 +105,12 @@ pub returns-in_err-put_total-clause-cause : goal.returns-in_err-put_total-clause
 returns-in_err-put_total-clause-cause g c good clean unlimited =
     let reported = err_from_is_err_and c.from_residual-in_err-put_total.result c.from_residual-in_err-put_total.ensures.1 in
     err_is _ _ _ reported.0 reported.1 reported.2 (λ s desk. c.in_err-put_total.ensures.cause)
+
+pub returns-in_err-seeker-clause-read_only : goal.returns-in_err-seeker-clause-read_only
+returns-in_err-seeker-clause-read_only g c = read_failed c.from_residual.result _ c.from_residual.ensures.1 read_none
+
+pub returns-in_err-visit_released-clause-read_only : goal.returns-in_err-visit_released-clause-read_only
+returns-in_err-visit_released-clause-read_only g c = read_failed c.from_residual-in_err-visit_released.result _ c.from_residual-in_err-visit_released.ensures.1 c.visit_released.ensures.read_only
+
+pub returns-in_err-put_total-clause-read_only : goal.returns-in_err-put_total-clause-read_only
+returns-in_err-put_total-clause-read_only g c = read_on _ c.in_ok-visit_released.ensures.read_only

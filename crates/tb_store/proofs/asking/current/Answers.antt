@@ -5,6 +5,7 @@ use Rattle.tb_refine.specs.DeskTables.{tables_of, sentence_record}
 use Rattle.tb_refine.specs.Fitting.{IsReadableSentence}
 use Rattle.tb_refine.proofs.Faultless.{read_reported, want_reported, fit}
 use Rattle.tb_commands.proofs.Finds.{none_lacks}
+use Rattle.tb_reads.proofs.ReadOnly.{read_on}
 use Rattle.tb_store.proofs.asking.current.Goals as goal
 
 pub returns-in-Ok-None-clause-fails : goal.returns-in-Ok-None-clause-fails
@@ -23,3 +24,6 @@ pub returns-in-Err-clause-cause : goal.returns-in-Err-clause-cause
 returns-in-Err-clause-cause g c good clean unlimited has bad =
     let reported : c.of_read.result ≡ Device = cc in
     want_reported c.in-Err.error (c.in-Err.ensures.cause good clean unlimited has) (sym c.of_read.ensures.value ∙ reported)
+
+pub returns-in-Ok-None-clause-read_only : goal.returns-in-Ok-None-clause-read_only
+returns-in-Ok-None-clause-read_only g c = read_on _ c.in-Ok-None.ensures.read_only

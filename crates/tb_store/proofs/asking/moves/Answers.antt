@@ -9,8 +9,9 @@ use Rattle.tb_refine.specs.Fitting.{IsReadableMove}
 use Rattle.tb_search.proofs.OneList.{one_list}
 use Rattle.tb_store.proofs.Alike.{same_move}
 use Rattle.tb_refine.proofs.Faultless.{read_reported, want_reported, fit}
-use Rattle.tb_commands.proofs.Numbering.{moves_are_numbered, same_moves}
+use Rattle.tb_refine.proofs.Numbering.{moves_are_numbered, same_moves}
 use Rattle.tb_refine.proofs.There.{both_ok}
+use Rattle.tb_reads.proofs.ReadOnly.{read_on}
 use Rattle.tb_store.proofs.asking.moves.Goals as goal
 
 pub returns-in-Ok-clause-answered : goal.returns-in-Ok-clause-answered
@@ -48,3 +49,6 @@ pub returns-in-Err-clause-cause : goal.returns-in-Err-clause-cause
 returns-in-Err-clause-cause g c good clean unlimited has bad =
     let reported : c.of_read.result ≡ Device = cc in
     want_reported c.in-Err.error (c.in-Err.ensures.cause good clean unlimited has) (sym c.of_read.ensures.value ∙ reported)
+
+pub returns-in-Ok-clause-read_only : goal.returns-in-Ok-clause-read_only
+returns-in-Ok-clause-read_only g c = read_on _ c.in-Ok.ensures.read_only

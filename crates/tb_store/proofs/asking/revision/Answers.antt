@@ -5,17 +5,15 @@ use Rattle.sqlite.specs.State.{HasCleanDisk}
 use Rattle.tb_core.specs.declared.refusals.Fault.TheVariants.{NotADesk}
 use Rattle.tb_tables.proofs.Causes.{faultless_next}
 use Rattle.tb_reads.proofs.Shown.{if_ok}
-use Rattle.tb_refine.proofs.Unchanged.{desk_same, lasts_then, schema_stays}
+use Rattle.tb_refine.proofs.Unchanged.{desk_after}
 use Rattle.tb_refine.proofs.Revised.{has_each}
+use Rattle.tb_reads.proofs.ReadOnly.{read_then, read_on, read_failed, was_clean, schema_stays}
 use Rattle.tb_store.proofs.asking.revision.Goals as goal
 
 pub returns-clause-answered : goal.returns-clause-answered
 returns-clause-answered g c clean = if_ok c.text.result (c.text.ensures.answered clean) (λ t reported s desk x there.
-    let still = desk_same g.S.Store c.args.conn.now c.current.new.conn s desk (c.in_ok-last.ensures.unchanged (omega (arith, clean, c.text.ensures.commits_nothing.clean)) desk.holds.schema) in
+    let still = desk_after c.in_ok-last.ensures.read_only (was_clean c.text.ensures.read_only clean) desk in
     reported s still x there)
-
-pub returns-clause-commits_nothing : goal.returns-clause-commits_nothing
-returns-clause-commits_nothing g c = lasts_then g.S.Store c.args.conn.now c.current.new.conn c.text.new.conn c.in_ok-last.ensures.unchanged c.current.ensures.commits_nothing c.text.ensures.commits_nothing
 
 pub returns-in_err-last-clause-fails : goal.returns-in_err-last-clause-fails
 returns-in_err-last-clause-fails g c clean unlimited s desk x there bad =
@@ -25,18 +23,27 @@ returns-in_err-last-clause-fails g c clean unlimited s desk x there bad =
 
 pub returns-clause-fails : goal.returns-clause-fails
 returns-clause-fails g c clean unlimited s desk x there bad =
-    let mid : HasCleanDisk (state g.S.Store c.current.new.conn) = omega (arith, clean, c.text.ensures.commits_nothing.clean) in
+    let mid = was_clean c.text.ensures.read_only clean in
     let last_is = c.in_ok-last.ensures.answered mid s desk x there in
-    let still = desk_same g.S.Store c.args.conn.now c.current.new.conn s desk (c.in_ok-last.ensures.unchanged mid desk.holds.schema) in
+    let still = desk_after c.in_ok-last.ensures.read_only mid desk in
     let above : 0 < c.args.rev = search rules in
     let within : c.args.rev ≤ c.in_ok-last.last = search rules in
     let each = has_each x c.args.rev c.in_ok-last.last above within last_is in
-    c.text.ensures.fails clean (c.current.ensures.commits_nothing.limit ∙ unlimited) s still x there each.0 each.1 bad
+    c.text.ensures.fails clean (c.current.ensures.read_only.commits_nothing.limit ∙ unlimited) s still x there each.0 each.1 bad
 
 pub returns-clause-cause : goal.returns-clause-cause
 returns-clause-cause g c good clean unlimited has =
-    let first = c.current.ensures.commits_nothing in
-    let then_ = c.text.ensures.commits_nothing in
+    let first = c.current.ensures.read_only.commits_nothing in
+    let then_ = c.text.ensures.read_only.commits_nothing in
     let mid : HasCleanDisk (state g.S.Store c.current.new.conn) = omega (arith, clean, then_.clean) in
     let later = faultless_next (state g.S.Store c.args.conn.now) (state g.S.Store c.current.new.conn) (state g.S.Store c.text.new.conn) good first mid then_.counts in
-    c.text.ensures.cause later clean (first.limit ∙ unlimited) (schema_stays g.S.Store c.args.conn.now c.current.new.conn c.text.new.conn (c.in_ok-last.ensures.unchanged mid has) has)
+    c.text.ensures.cause later clean (first.limit ∙ unlimited) (schema_stays g.S.Store c.args.conn.now c.current.new.conn (c.in_ok-last.ensures.read_only.unchanged mid has) has)
+
+pub returns-in_err-last-clause-read_only : goal.returns-in_err-last-clause-read_only
+returns-in_err-last-clause-read_only g c = read_failed c.from_residual.result _ c.from_residual.ensures.1 c.current.ensures.read_only
+
+pub returns-then-rev-eq0-clause-read_only : goal.returns-then-rev-eq0-clause-read_only
+returns-then-rev-eq0-clause-read_only g c = read_on _ c.in_ok-last.ensures.read_only
+
+pub returns-clause-read_only : goal.returns-clause-read_only
+returns-clause-read_only g c = read_then c.in_ok-last.ensures.read_only c.text.ensures.read_only

@@ -13,6 +13,7 @@ use Rattle.tb_search.proofs.OneList.{one_list}
 use Rattle.tb_store.proofs.Alike.{same_total}
 use Rattle.tb_store.proofs.SixTotals.{totals_stand}
 use Rattle.tb_refine.proofs.Faultless.{read_reported, want_reported, fit}
+use Rattle.tb_reads.proofs.ReadOnly.{read_on}
 use Rattle.tb_store.proofs.asking.totals.Goals as goal
 
 pub returns-in-Ok-clause-answered : goal.returns-in-Ok-clause-answered
@@ -40,3 +41,6 @@ pub returns-in-Err-clause-cause : goal.returns-in-Err-clause-cause
 returns-in-Err-clause-cause g c good clean unlimited has bad =
     let reported : c.of_read.result ≡ Device = cc in
     want_reported c.in-Err.error (c.in-Err.ensures.cause good clean unlimited has) (sym c.of_read.ensures.value ∙ reported)
+
+pub returns-in-Ok-clause-read_only : goal.returns-in-Ok-clause-read_only
+returns-in-Ok-clause-read_only g c = read_on _ c.in-Ok.ensures.read_only

@@ -5,6 +5,7 @@ use Rattle.tb_core.specs.declared.refusals.Fault.TheVariants.{NotADesk}
 use Rattle.tb_tables.proofs.Causes.{handed_on}
 use Rattle.tb_refine.specs.Faults.{IsNoDevice}
 use Rattle.tb_store.specs.Found.{IsAbove}
+use Rattle.tb_reads.proofs.ReadOnly.{read_on, read_failed}
 use Rattle.tb_store.proofs.finding.number.Goals as goal
 
 pub returns-then-is_above-clause-refused : goal.returns-then-is_above-clause-refused
@@ -30,3 +31,9 @@ returns-in_err-number-clause-fails g c clean unlimited s desk bad =
 pub returns-in_err-number-clause-cause : goal.returns-in_err-number-clause-cause
 returns-in_err-number-clause-cause g c good clean unlimited s desk =
     handed_on IsNoDevice c.from_residual.result c.in_err-number.field-0.0 c.from_residual.ensures.1 (c.in_err-number.ensures.cause good clean unlimited s desk)
+
+pub returns-in_err-number-clause-read_only : goal.returns-in_err-number-clause-read_only
+returns-in_err-number-clause-read_only g c = read_failed c.from_residual.result _ c.from_residual.ensures.1 c.whole_number.ensures.read_only
+
+pub returns-then-is_above-clause-read_only : goal.returns-then-is_above-clause-read_only
+returns-then-is_above-clause-read_only g c = read_on _ c.in_ok-number.ensures.read_only

@@ -5,13 +5,14 @@ use Rattle.tb_verify.proofs.Rises.{pulled_rise}
 use Rattle.tb_verify.proofs.reading.read_pulled.Goals as goal
 
 pub returns-in-Ok : goal.returns-in-Ok
-returns-in-Ok g c = read_well g.S.Store c.args.conn.now c.pulled.new.conn c.pulled.ensures.autocommit c.pulled.ensures.keeps_records c.pulled.ensures.commits_nothing c.pulled.ensures.sees c.in-Ok.rows _ _ c.in-Ok.ensures.ok
+returns-in-Ok g c = read_well g.S.Store c.args.conn.now c.pulled.new.conn c.pulled.ensures.sees c.in-Ok.rows _ _ c.in-Ok.ensures.ok
     (λ clean has s reach stands. c.in-Ok.ensures.order clean has (tables_of s).pulled (pulled_rise 1 s.sentences) stands.pulled)
-    c.in-Ok.ensures.unchanged
+    c.in-Ok.ensures.read_only
 
 pub returns-in-Err : goal.returns-in-Err
-returns-in-Err g c = read_badly g.S.Store c.args.conn.now c.pulled.new.conn c.pulled.ensures.autocommit c.pulled.ensures.keeps_records c.pulled.ensures.commits_nothing c.pulled.ensures.sees c.of_read.result _ _
+returns-in-Err g c = read_badly g.S.Store c.args.conn.now c.pulled.new.conn c.pulled.ensures.sees c.of_read.result _ _
     (λ clean q has s reach stands. c.in-Err.ensures.form clean (ap (λ e. Err e) (c.of_read.ensures.form q)) has (tables_of s).pulled (c.desk_rows_are_readable.ensures s reach).pulled (pulled_rise 1 s.sentences) stands.pulled)
     (λ clean q. c.in-Err.ensures.untouched clean (ap (λ e. Err e) (c.of_read.ensures.form q)))
     c.of_read.ensures.never_refuses
     (λ good clean unlimited has. c.of_read.ensures.cause (c.in-Err.ensures.cause good clean unlimited has))
+    c.in-Err.ensures.read_only

@@ -5,7 +5,7 @@ use Rattle.tb_core.specs.Totals.{AreTotalsOf}
 use Rattle.tb_tables.specs.Values.{batch_of, sentence_of}
 use Rattle.tb_refine.specs.DeskTables.{batch_record, sentence_record, move_record}
 use Rattle.tb_verify.proofs.Unreported.{passed_on_as}
-use Rattle.tb_verify.specs.Numbered.{AreNumbered}
+use Rattle.tb_refine.specs.Numbered.{AreNumbered}
 use Rattle.tb_verify.specs.Summary.{IsShownBy}
 use Rattle.tb_verify.proofs.Joined.{AreLent, rows_stand, shown_by, totals_reported, four_ok, as_many_entries, within}
 use Rattle.tb_verify.proofs.summary.summary_of_rows.Goals as goal

@@ -8,22 +8,23 @@ use Rattle.tb_store.specs.Kept.{Kept}
 use Rattle.tb_store.specs.Represents.{Represents}
 use Rattle.tb_refine.proofs.Unchanged.{desk_kept, desk_same}
 use Rattle.tb_refine.proofs.There.{sentence_there}
-use Rattle.tb_store.proofs.Represented.{still_stands, on_ok_then, err_is, refuses_revision}
+use Rattle.tb_store.proofs.Represented.{still_stands, err_is, refuses_revision}
+use Rattle.tb_reads.proofs.ReadOnly.{on_success}
 use Rattle.tb_store.proofs.desk.Desk.revision.Goals as goal
 
 pub returns-clause-keeps_state : goal.returns-clause-keeps_state
 returns-clause-keeps_state g c clean opened s stands =
     let here = subst (λ k. Represents g.S.Store k s) (sym c.self.view_is) stands in
-    still_stands g.S.Store _ c.revision.new.conn s (desk_kept g.S.Store c.self.inside.conn c.revision.new.conn (c.revision.ensures.keeps_records clean opened) s here.desk) here
+    still_stands g.S.Store _ c.revision.new.conn s (desk_kept g.S.Store c.self.inside.conn c.revision.new.conn (c.revision.ensures.read_only.keeps_records clean opened) s here.desk) here
 
 pub returns-clause-stays : goal.returns-clause-stays
-returns-clause-stays g c clean = on_ok_then c.revision.result (c.revision.ensures.unchanged clean) (λ same s stands.
+returns-clause-stays g c clean = on_success c.revision.result (c.revision.ensures.read_only.unchanged clean) (λ same s stands.
     let here = subst (λ k. Represents g.S.Store k s) (sym c.self.view_is) stands in
     still_stands g.S.Store _ c.revision.new.conn s (desk_same g.S.Store c.self.inside.conn c.revision.new.conn s here.desk (same here.desk.holds.schema)) here)
 
 pub returns-clause-commits_nothing : goal.returns-clause-commits_nothing
 returns-clause-commits_nothing g c =
-    subst (λ (k : Kept _). Survives (state g.S.Store k.conn) (state g.S.Store c.revision.new.conn) (λ _. (state g.S.Store k.conn).now.schema ≢ desk_schema)) c.self.view_is c.revision.ensures.commits_nothing
+    subst (λ (k : Kept _). Survives (state g.S.Store k.conn) (state g.S.Store c.revision.new.conn) (λ _. (state g.S.Store k.conn).now.schema ≢ desk_schema)) c.self.view_is c.revision.ensures.read_only.commits_nothing
 
 pub returns-clause-answered : goal.returns-clause-answered
 returns-clause-answered g c clean = if_ok c.revision.result (c.revision.ensures.answered clean) (λ text reported s stands.

@@ -6,22 +6,23 @@ use Rattle.tb_tables.specs.Leaving.{IsFaultless}
 use Rattle.tb_store.specs.Kept.{Kept}
 use Rattle.tb_store.specs.Represents.{Represents}
 use Rattle.tb_refine.proofs.Unchanged.{desk_kept, desk_same}
-use Rattle.tb_store.proofs.Represented.{still_stands, on_ok_then}
+use Rattle.tb_store.proofs.Represented.{still_stands}
+use Rattle.tb_reads.proofs.ReadOnly.{on_success}
 use Rattle.tb_store.proofs.desk.Desk.search.Goals as goal
 
 pub returns-clause-keeps_state : goal.returns-clause-keeps_state
 returns-clause-keeps_state g c clean opened s stands =
     let here = subst (λ k. Represents g.S.Store k s) (sym c.self.view_is) stands in
-    still_stands g.S.Store _ c.search.new.conn s (desk_kept g.S.Store c.self.inside.conn c.search.new.conn (c.search.ensures.keeps_records clean opened) s here.desk) here
+    still_stands g.S.Store _ c.search.new.conn s (desk_kept g.S.Store c.self.inside.conn c.search.new.conn (c.search.ensures.read_only.keeps_records clean opened) s here.desk) here
 
 pub returns-clause-stays : goal.returns-clause-stays
-returns-clause-stays g c clean = on_ok_then c.search.result (c.search.ensures.unchanged clean) (λ same s stands.
+returns-clause-stays g c clean = on_success c.search.result (c.search.ensures.read_only.unchanged clean) (λ same s stands.
     let here = subst (λ k. Represents g.S.Store k s) (sym c.self.view_is) stands in
     still_stands g.S.Store _ c.search.new.conn s (desk_same g.S.Store c.self.inside.conn c.search.new.conn s here.desk (same here.desk.holds.schema)) here)
 
 pub returns-clause-commits_nothing : goal.returns-clause-commits_nothing
 returns-clause-commits_nothing g c =
-    subst (λ (k : Kept _). Survives (state g.S.Store k.conn) (state g.S.Store c.search.new.conn) (λ _. (state g.S.Store k.conn).now.schema ≢ desk_schema)) c.self.view_is c.search.ensures.commits_nothing
+    subst (λ (k : Kept _). Survives (state g.S.Store k.conn) (state g.S.Store c.search.new.conn) (λ _. (state g.S.Store k.conn).now.schema ≢ desk_schema)) c.self.view_is c.search.ensures.read_only.commits_nothing
 
 pub returns-clause-fails : goal.returns-clause-fails
 returns-clause-fails g c clean s stands bad =

@@ -11,11 +11,11 @@ use Rattle.tb_tables.specs.Values.{move_of}
 use Rattle.tb_tables.specs.declared.rows.MoveRow.{MoveRow}
 use Rattle.tb_refine.specs.DeskTables.{move_record}
 use Rattle.tb_refine.proofs.CallLemmas.{one_state, one_before, one_kind}
-use Rattle.tb_commands.specs.Numbered.{AreNumbered}
+use Rattle.tb_refine.specs.Numbered.{AreNumbered}
 
 numbered_more : (n : ℕ) (ms : List MoveText) (m : MoveText) → AreNumbered n ms → m.no ≡ n + length ms → AreNumbered n (ms ++ m ∷ [])
-numbered_more n [] m h is = (let same : n + 0 ≡ n = omega arith in is ∙ same, tt)
-numbered_more n (k ∷ ms) m h is = (h.0, numbered_more (suc n) ms m h.1 (let same : n + suc (length ms) ≡ suc n + length ms = omega arith in is ∙ same))
+numbered_more n [] m h is = (omega (arith, is), tt)
+numbered_more n (k ∷ ms) m h is = (h.0, numbered_more (n + 1) ms m h.1 (omega (arith, is)))
 
 pub moves_are_numbered : (s : Machine) → Reached s → AreNumbered 1 s.moves
 moves_are_numbered _ begun = tt
@@ -41,7 +41,7 @@ same_moves n (x ∷ xs) [] p q e = absurd cc
 same_moves n (x ∷ xs) (y ∷ ys) p q e =
     let head : move_record x ≡ move_record y = cc in
     let tail : map move_record xs ≡ map move_record ys = cc in
-    ap₂ (λ a b. a ∷ b) (same_move x y (p.0 ∙ sym q.0) head) (same_moves (suc n) xs ys p.1 q.1 tail)
+    ap₂ (λ a b. a ∷ b) (same_move x y (p.0 ∙ sym q.0) head) (same_moves (n + 1) xs ys p.1 q.1 tail)
 
 -- ---- one turn of the loop
 

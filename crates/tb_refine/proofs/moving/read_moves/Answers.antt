@@ -3,9 +3,9 @@ use Rattle.std.proofs.lemmas.Result.{err_from_is_err_and}
 use Rattle.tb_core.specs.declared.refusals.Fault.TheVariants.{NotADesk}
 use Rattle.tb_tables.specs.Values.{move_of}
 use Rattle.tb_refine.specs.DeskTables.{move_record}
-use Rattle.tb_commands.specs.Numbered.{AreNumbered}
-use Rattle.tb_commands.proofs.Numbering.{record_more, number_more, row_known}
-use Rattle.tb_commands.proofs.moving.read_moves.Goals as goal
+use Rattle.tb_refine.specs.Numbered.{AreNumbered}
+use Rattle.tb_refine.proofs.Numbering.{record_more, number_more, row_known}
+use Rattle.tb_refine.proofs.moving.read_moves.Goals as goal
 
 pub loop-row-preserved : goal.loop-row-preserved
 loop-row-preserved c =

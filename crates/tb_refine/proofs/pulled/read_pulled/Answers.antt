@@ -2,8 +2,8 @@ use Rattle.std.proofs.Common.{◌≡◌, Err, sym, ap, ◌∙◌}
 use Rattle.tb_core.specs.declared.refusals.Fault.TheVariants.{NotADesk, Device}
 use Rattle.tb_core.specs.Rows.{pulled_from}
 use Rattle.tb_refine.proofs.Faultless.{read_reported, want_reported}
-use Rattle.tb_commands.proofs.Summing.{pulled_ascends}
-use Rattle.tb_commands.proofs.working.read_pulled.Goals as goal
+use Rattle.tb_refine.proofs.Listing.{pulled_ascends}
+use Rattle.tb_refine.proofs.pulled.read_pulled.Goals as goal
 
 pub returns-in-Ok-clause-answered : goal.returns-in-Ok-clause-answered
 returns-in-Ok-clause-answered g c clean s desk =

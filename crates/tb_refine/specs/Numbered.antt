@@ -1,4 +1,4 @@
--- Inner: no contract beyond this crate cites a definition of this module.
+-- Between crates: no contract of a front door cites a definition of this module.
 -- Moves that are numbered in their order.
 use Rattle.std.specs.Prelude.{◌≡◌, ℕ, ◌+◌, List, [], ◌∷◌}
 use Rattle.tb_core.specs.Moves.{MoveText}

@@ -5,12 +5,12 @@ ghost use Rattle.tb_core.specs.declared.refusals.Refusal.{Refusal as AnyRefusal}
 ghost use Rattle.tb_core.specs.Moves.{MoveText};
 ghost use Rattle.tb_tables.specs.Values.{move_of};
 ghost use Rattle.tb_refine.specs.DeskTables.{move_record};
-ghost use Rattle.tb_commands.specs.Numbered.{AreNumbered};
+ghost use Rattle.tb_refine.specs.Numbered.{AreNumbered};
 ghost use Rattle.tb_refine.specs.Faults.{IsNoDevice};
 
+use crate::{kind_numbered, state_before, state_numbered};
 use std::alloc::Global;
 use tb_core::{Fault, Move};
-use tb_refine::{kind_numbered, state_before, state_numbered};
 use tb_tables::MoveRow;
 
 /// The move of a row, with its number.

@@ -1,8 +1,0 @@
-use Rattle.std.proofs.Common.{◌≡◌, length, map, take}
-use Rattle.tb_tables.specs.Values.{move_of}
-use Rattle.tb_refine.specs.DeskTables.{move_record}
-use Rattle.tb_commands.specs.Numbered.{AreNumbered}
-use Rattle.tb_commands.proofs.moving.read_moves.Given as goal
-
-abbrev pub invariant-loop-row : goal.invariant-loop-row
-invariant-loop-row l = (l.no ≡ l.row-index) × (length l.moves.items ≡ l.row-index) × (map move_record l.moves.items ≡ map move_of (take l.row-index l.rows)) × AreNumbered 1 l.moves.items
