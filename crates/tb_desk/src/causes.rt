@@ -149,56 +149,53 @@ impl FileCause {
         match self {
             FileCause::Missing => "there is no such file; `new` makes a desk",
             FileCause::NoFolder =>
-                "the folder of this file is missing, or is no folder; make it first",
+                "its folder is missing, or is not a folder; make the folder first",
             FileCause::Folder => "this is a folder; name the file of a desk in it",
-            FileCause::NotPlain => "this is no plain file; name the file of a desk",
+            FileCause::NotPlain => "this is not a regular file; name the file of a desk",
             FileCause::ReservedName =>
                 "SQLite gives this name a meaning of its own; choose another one",
             FileCause::Denied =>
-                "you may not read and write it, or its folder; a desk needs both, also to be read",
-            FileCause::ReadOnly =>
-                "it stands where nothing may be written; copy it to another disk",
-            FileCause::NewReadOnly =>
-                "nothing may be written in its folder or on its disk; choose another place",
+                "you may not read and write it, or its folder; a desk needs both, even to be read",
+            FileCause::ReadOnly => "it is on a read-only disk; copy it to another one",
+            FileCause::NewReadOnly => "its folder or its disk is read-only; choose another place",
             FileCause::Links =>
-                "its links lead to one another, or are too many; name the file that is meant",
+                "its symbolic links lead to one another, or are too many; name the file itself",
             FileCause::Lost =>
-                "the network's file system has lost it; see that it is still there, and mount its disk again",
+                "the network file system does not find it any more; see that it is still there, and mount its disk again",
             FileCause::NoAnswer =>
-                "the file system that has it does not answer; look after its server and try again",
-            FileCause::Unopened =>
-                "the system does not open a file of this name; choose another one",
+                "its file system does not answer; check the server that has it, and try again",
+            FileCause::Unopened => "the system cannot open a file of this name; choose another one",
             FileCause::SecondName =>
-                "it has two names, or a link lies in its place or its log's; copy it to a name of its own",
+                "it has a second name, or a link is in its place or its log's; copy it to a name of its own",
             FileCause::NotSqlite =>
-                "this is not an SQLite file, so it is no desk; name the file that `new` made",
+                "this is not an SQLite file, so it is not a desk; name the file that `new` made",
             FileCause::Empty => "the file is empty; `new` makes a desk in it",
             FileCause::OtherDatabase =>
                 "this is an SQLite database of something else; name the file that `new` made",
             FileCause::Version1 => "this is a desk of version 1; `migrate` brings it to version 2",
             FileCause::Version2 => "this has the tables of version 2; there is nothing to migrate",
             FileCause::DeskAlready =>
-                "here is a desk already; work on it without `new`, or name another file",
+                "this is a desk already; work on it without `new`, or name another file",
             FileCause::NotBlank =>
                 "the file holds something already; `new` takes a missing or an empty one",
             FileCause::OtherLog =>
-                "beside it, under its name with -wal, lies what was done on another desk; move that away",
+                "beside it, under its name with -wal, is the log of another desk; move that log away",
             FileCause::OddLog =>
-                "under its name with -wal lies no plain file, but its log belongs there; move that away",
+                "what is beside it under its name with -wal is not a regular file, so not its log; move that away",
             FileCause::Journal =>
                 "another program left a journal beside it, its name with -journal; open it once with sqlite3",
             FileCause::Rows =>
-                "its rows are not a desk's; another program changed it, or its log is another's; take a copy back",
+                "its rows are not those of a desk; another program changed it, or its log is another's; restore a backup",
             FileCause::Damaged =>
-                "SQLite cannot read it, it is damaged or cut; take a copy back, with its log",
+                "SQLite cannot read it, so it is damaged or cut off; restore a backup, with its log",
             FileCause::Busy =>
                 "another command has had it for ten seconds; try again once that has ended",
             FileCause::Full => "the disk is full; make room and try again",
-            FileCause::Quota => "your share of the disk is used up; make room and try again",
+            FileCause::Quota => "your disk quota is used up; make room and try again",
             FileCause::TooLarge =>
                 "it may not grow so large; raise the limit (`ulimit -f`), or copy it to another disk",
             FileCause::Short(shortage) => shortage.text(),
-            FileCause::Failed => "the system failed to read or write it; look after the disk",
+            FileCause::Failed => "the system failed to read or write it; check the disk",
             FileCause::NoRandom =>
                 "the system gives no random numbers, which a desk needs; try again",
             FileCause::Memory => MEMORY,
@@ -291,7 +288,7 @@ impl PortCause {
             PortCause::Denied =>
                 "you may not listen on it; choose a port from 1024 on, or 0 for a free one",
             PortCause::NoLoopback =>
-                "the system has no address 127.0.0.1; look after its loopback interface",
+                "the system has no address 127.0.0.1; check its loopback interface",
             PortCause::NoneGiven =>
                 "the system gives no free port; name one from 1024 on, or end other programs",
             PortCause::Short(shortage) => shortage.text(),
@@ -350,11 +347,11 @@ impl StreamCause {
             StreamCause::OutputFull =>
                 "standard output: the disk is full, so the answer is not whole; make room and ask again",
             StreamCause::OutputQuota =>
-                "standard output: your share of the disk is used up, the answer is not whole; make room, ask again",
+                "standard output: your disk quota is used up, so the answer is not whole; make room and ask again",
             StreamCause::OutputTooLarge =>
                 "standard output: the file may not grow so large; raise the limit (`ulimit -f`) and ask again",
             StreamCause::OutputFailed =>
-                "standard output: the system failed to write it; have the answer written elsewhere, and ask again",
+                "standard output: the system failed to write it; write the answer to another place, and ask again",
         }
     }
 }
@@ -400,15 +397,15 @@ impl Cause {
             Cause::Port(cause) => cause.text(),
             Cause::Stream(cause) => cause.text(),
             Cause::NoCommand => "no command is given; `treedesk --help` lists them",
-            Cause::NotText => "a word of the command line is not UTF-8; write it anew",
+            Cause::NotText => "a word of the command line is not UTF-8; write it in UTF-8",
             Cause::FilesMoved =>
                 "serving ended: the desk's files were moved, removed or replaced; serve the file that is meant",
             Cause::FileShut =>
-                "serving ended: a fault of the device shut the desk's file; look after the disk and serve it again",
+                "serving ended: an I/O error closed the desk's file; check the disk and serve the desk again",
             Cause::NoConnections =>
                 "serving ended: the system gave no more connections; serve the desk again",
             Cause::BrokenOff =>
-                "the answer broke off, as memory was wanting or the desk's file could not be read; ask again",
+                "the answer is not whole: there was not enough memory, or the desk's file could not be read; ask again",
             Cause::Memory => MEMORY,
             Cause::NothingKept =>
                 "nothing is kept: without --db the desk was in memory, for this command alone",

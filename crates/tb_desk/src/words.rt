@@ -148,7 +148,7 @@ fn run_on_file<R: Source, W: Write>(
 }
 
 /// Whether a line that is done changes the desk.
-fn changes_desk(line: &Line) -> bool {
+pub(crate) fn changes_desk(line: &Line) -> bool {
     matches!(
         line,
         Line::Import { .. }

@@ -21,7 +21,7 @@ mod syntax;
 mod words;
 
 pub use literals::{forms_asked, with_signs_as_they_stand};
-pub use queries::{words_of_hits, words_of_query, words_of_range, words_of_unreleased};
+pub use queries::{words_of_hits, words_of_range, words_of_unreleased};
 pub use refusals::{Asked, words_of_reply};
 pub use sentences::MEMORY;
 pub use words::Words;

@@ -90,7 +90,7 @@ fn pattern(alloc: Global, text: &str, literals: &[Literal], number: u64) -> Opti
 }
 
 /// What is wrong with a text that is no query.
-pub fn words_of_query(alloc: Global, text: &str, fault: QueryFault) -> Words {
+pub(crate) fn words_of_query(alloc: Global, text: &str, fault: QueryFault) -> Words {
     let found = literals(alloc, text).unwrap_or(Vec::new(alloc));
     let literals = found.as_slice();
     let words = match fault {

@@ -1,21 +1,25 @@
 //! The words for a refused command, and for what may come next.
 
 use crate::codes::words_of_line;
+use crate::queries::words_of_query;
 use crate::rules::words_of_rule;
 use crate::sentences as reported;
 use crate::words::{Page, Words};
 use std::alloc::Global;
 use tb_core::{Refusal, State};
 use tb_http::{Reply, RequestFault};
+use tb_query::{QueryFault, parse};
 
 /// What was asked, as far as the words depend on it.
 #[derive(Clone, Copy)]
-pub enum Asked {
+pub enum Asked<'a> {
     Event,
     /// A correction that was made on this revision.
     Correction(u64),
     /// A pull or a restore.
     Pull,
+    /// A search or a count of what this query finds.
+    Query(&'a str),
     Other,
 }
 
@@ -65,7 +69,7 @@ fn sentence_of(refusal: Refusal) -> &'static str {
 }
 
 /// The words for a state that does not allow what was asked.
-fn wrong_state(alloc: Global, state: State, asked: Asked) -> Words {
+fn wrong_state(alloc: Global, state: State, asked: Asked<'_>) -> Words {
     let word = state.word();
     let words = match asked {
         Asked::Correction(_) => Words::at(
@@ -76,15 +80,15 @@ fn wrong_state(alloc: Global, state: State, asked: Asked) -> Words {
             format!(in alloc; "the batch is {word}"),
             reported::PULL_STATE,
         ),
-        Asked::Event | Asked::Other => words_of_move(alloc, state),
+        Asked::Event | Asked::Query(_) | Asked::Other => words_of_move(alloc, state),
     };
     words.on(Page::Batches)
 }
 
-fn stale(alloc: Global, current: u64, asked: Asked) -> Words {
+fn stale(alloc: Global, current: u64, asked: Asked<'_>) -> Words {
     let base = match asked {
         Asked::Correction(base) => base,
-        Asked::Event | Asked::Pull | Asked::Other => 0,
+        Asked::Event | Asked::Pull | Asked::Query(_) | Asked::Other => 0,
     };
     Words::at(
         format!(in alloc; "made on revision {base}, the current one is {current}"),
@@ -92,8 +96,40 @@ fn stale(alloc: Global, current: u64, asked: Asked) -> Words {
     )
 }
 
-fn of_refusal(alloc: Global, refusal: Refusal, asked: Asked) -> Words {
+/// The fault of a query with this code, at this place.
+fn query_fault(code: u8, at: u64) -> Option<QueryFault> {
+    match code {
+        1 => Some(QueryFault::TooLong),
+        2 => Some(QueryFault::Syntax(at)),
+        3 => Some(QueryFault::TooMany),
+        4 => Some(QueryFault::TooDeep),
+        5 => Some(QueryFault::Repeat),
+        6 => Some(QueryFault::Pattern(at)),
+        _ => None,
+    }
+}
+
+/// The words for a query that is refused with this code, at this place.
+fn of_query(alloc: Global, code: u8, at: u64, asked: Asked<'_>) -> Words {
+    match (asked, query_fault(code, at)) {
+        (Asked::Query(text), Some(fault)) => words_of_query(alloc, text, fault),
+        _ => Words::alone(reported::SYNTAX),
+    }
+}
+
+/// The words for want of memory. A query that wants memory whenever it is read has a pattern that is too large.
+fn of_memory(alloc: Global, asked: Asked<'_>) -> Words {
+    match asked {
+        Asked::Query(text) if matches!(parse(alloc, text), Err(QueryFault::Memory)) => {
+            words_of_query(alloc, text, QueryFault::Memory)
+        }
+        _ => Words::alone(reported::MEMORY),
+    }
+}
+
+fn of_refusal(alloc: Global, refusal: Refusal, asked: Asked<'_>) -> Words {
     match refusal {
+        Refusal::Query(code, at) => of_query(alloc, code, at, asked),
         Refusal::WrongState(state) => wrong_state(alloc, state, asked),
         Refusal::Stale(current) => stale(alloc, current, asked),
         Refusal::SentIdTaken(sentence) => Words::at(
@@ -105,7 +141,7 @@ fn of_refusal(alloc: Global, refusal: Refusal, asked: Asked) -> Words {
 }
 
 /// The words for a reply. A refusal gets what is wrong in the body, and a batch that moved gets what may come next.
-pub fn words_of_reply(alloc: Global, reply: Reply, body: &[u8], asked: Asked) -> Option<Words> {
+pub fn words_of_reply(alloc: Global, reply: Reply, body: &[u8], asked: Asked<'_>) -> Option<Words> {
     match reply {
         Reply::Moved(moved) => Some(words_of_move(alloc, moved.state)),
         Reply::Refused(Refusal::Read(line, code)) => {
@@ -116,7 +152,7 @@ pub fn words_of_reply(alloc: Global, reply: Reply, body: &[u8], asked: Asked) ->
         }
         Reply::Refused(refusal) => Some(of_refusal(alloc, refusal, asked)),
         Reply::Faulty(RequestFault::Long) => Some(Words::alone(reported::LONG)),
-        Reply::Memory => Some(Words::alone(reported::MEMORY)),
+        Reply::Memory => Some(of_memory(alloc, asked)),
         Reply::Device => Some(Words::alone(reported::DEVICE)),
         Reply::Desk => Some(Words::alone(reported::DESK)),
         _ => None,

@@ -216,7 +216,7 @@ pub(crate) const PATTERN_OTHER: &str =
     "this literal is no pattern; a backslash takes the meaning from ( ) [ ] { } . * + ? and %l after the literal from all";
 
 pub(crate) const PATTERN_LARGE: &str =
-    "a pattern of the query is larger than is taken, or the system gave no memory; repeat less in it";
+    "a pattern of the query is too large, or there is not enough memory; repeat less in it";
 
 pub(crate) const CURLY_QUOTE: &str = "this is no straight quote; write \" or '";
 
@@ -376,10 +376,10 @@ pub(crate) const LONG: &str = "the input has more than 4,194,304 bytes: cut it a
 pub(crate) const DEVICE: &str =
     "the desk's file could not be read or written; see whether its disk is full, and ask again";
 
-pub const MEMORY: &str = "the system gave no memory; end other programs and try again";
+pub const MEMORY: &str = "there is not enough memory; end other programs and try again";
 
 pub(crate) const DESK: &str =
-    "a row of the desk is not of its form; another program has changed the file, take a copy back";
+    "a row of the desk does not have its form; another program changed the file, so restore a backup";
 
 // For a batch, by its state: what may come next, and who may ask for it.
 
