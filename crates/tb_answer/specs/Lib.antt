@@ -9,3 +9,4 @@ pub mod Taken
 pub mod Ran
 pub mod Served
 pub mod Turns
+pub mod Viewed

@@ -1,7 +1,7 @@
 //! Answers the calls of a desk as texts, for the command line and over HTTP.
 //!
 //! Read `answer` first, which serves one request, and then `run_line_reported`, which does one command line. Their
-//! contracts cite `specs/Served.antt` and `specs/Ran.antt`.
+//! contracts cite `specs/Served.antt` and `specs/Ran.antt`. `view` gives the lists of `deskview`.
 #![tactic(auto)]
 
 mod answering;
@@ -21,6 +21,7 @@ mod responding;
 mod responses;
 mod running;
 mod searches;
+mod views;
 mod written;
 
 pub use answering::{Broken, answer, answer_all};
@@ -39,4 +40,5 @@ pub use responding::respond_call;
 pub use responses::{respond_body, respond_reply};
 pub use running::{obey, run_call};
 pub use searches::{respond_search, run_search};
+pub use views::view;
 pub use written::{Ran, Written};

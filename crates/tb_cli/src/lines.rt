@@ -76,6 +76,12 @@ pub enum Line {
     },
 }
 
+/// A command of `deskview` with its values. Each reads the desk in a file.
+#[derive(Debug, Drop)]
+pub enum ViewLine {
+    Batches { db: String },
+}
+
 /// Why words are no line.
 #[derive(Debug, Drop)]
 pub enum LineFault {

@@ -2,7 +2,8 @@
 
 ghost use Rattle.std.specs.Prelude.{◌≡◌, ◌≢◌, IfOk, IfErr, Some, None, true, option_map, map};
 ghost use Rattle.std.specs.String.{string_bytes};
-ghost use Rattle.clap.specs.Words.{takes, fault_of, subcommand_of, subcommand_rows_of, rows_of, found_of};
+ghost use Rattle.clap.specs.Words.{app_of, takes, fault_of, is_simple, is_simple_and_free, subcommand_of};
+ghost use Rattle.clap.specs.Words.{subcommand_rows_of, rows_of, found_of};
 ghost use Rattle.tb_cli.specs.Tree.{desk_app};
 ghost use Rattle.tb_cli.specs.Fault.{AnswersAs, ComesOnly, ReadsAs};
 ghost use Rattle.tb_cli.specs.Lines.{said_by, said_of, said_with};
@@ -15,8 +16,8 @@ use crate::values::{
     number_if_any, number_in, port_in, requests_in, strategy_in, text_of, value,
 };
 use crate::verbs::{Verb, verb_of};
-use clap::ArgMatches;
 use clap::error::ErrorKind;
+use clap::{ArgMatches, Command};
 use std::alloc::Global;
 
 fn import(alloc: Global, matches: &ArgMatches<'_>) -> Result<Line, LineFault>
@@ -164,19 +165,25 @@ fn line_of(alloc: Global, verb: Verb, values: &ArgMatches<'_>) -> Result<Line, L
 }
 
 /// The subcommand in the words, with its values.
-fn entered<'a, 'm>(matches: &'m ArgMatches<'a>) -> Option<(&'a str, &'m ArgMatches<'a>)>
+pub(crate) fn entered<'a, 'm>(matches: &'m ArgMatches<'a>) -> Option<(&'a str, &'m ArgMatches<'a>)>
     ensures { option_map (λ p. (p.0.now, rows_of (found_of p.1.now))) result ≡ subcommand_rows_of matches.now }
 {
     matches.subcommand()
 }
 
-/// What clap finds in the words.
-fn parsed(alloc: Global, words: &[String]) -> Result<ArgMatches<'_>, LineFault>
-    ensures ok { IfOk result (λ m. subcommand_rows_of m ≡ subcommand_of desk_app (map string_bytes words.now)) }
-    ensures err { IfErr result (λ e. ComesOnly e (takes desk_app (map string_bytes words.now) ≢ true) ⊥) }
-    ensures answers { AnswersAs (fault_of desk_app (map string_bytes words.now)) result }
+/// What a command finds in the words.
+pub(crate) fn found_by<'a>(
+    command: Command<'a>,
+    words: &'a [String],
+) -> Result<ArgMatches<'a>, LineFault>
+    ensures ok { is_simple (app_of command.entry) ≡ true → IfOk result (λ m.
+        subcommand_rows_of m ≡ subcommand_of (app_of command.entry) (map string_bytes words.now)) }
+    ensures err { IfErr result (λ e. ComesOnly e
+        (takes (app_of command.entry) (map string_bytes words.now) ≢ true) ⊥) }
+    ensures answers { is_simple_and_free (app_of command.entry) ≡ true
+        → AnswersAs (fault_of (app_of command.entry) (map string_bytes words.now)) result }
 {
-    match desk(alloc)?.try_get_matches_from(words) {
+    match command.try_get_matches_from(words) {
         Ok(matches) => Ok(matches),
         Err(error) => {
             if error.kind() == ErrorKind::OutOfMemory {
@@ -185,6 +192,15 @@ fn parsed(alloc: Global, words: &[String]) -> Result<ArgMatches<'_>, LineFault>
             Err(LineFault::Clap(error))
         }
     }
+}
+
+/// What clap finds in the words.
+fn parsed(alloc: Global, words: &[String]) -> Result<ArgMatches<'_>, LineFault>
+    ensures ok { IfOk result (λ m. subcommand_rows_of m ≡ subcommand_of desk_app (map string_bytes words.now)) }
+    ensures err { IfErr result (λ e. ComesOnly e (takes desk_app (map string_bytes words.now) ≢ true) ⊥) }
+    ensures answers { AnswersAs (fault_of desk_app (map string_bytes words.now)) result }
+{
+    found_by(desk(alloc)?, words)
 }
 
 impl Line {

@@ -14,7 +14,7 @@ use clap::{Arg, Command};
 use std::alloc::{AllocError, Global};
 
 /// An option that takes a value.
-fn option<'a>(alloc: Global, name: &'a str, help: &'a str) -> Arg<'a>
+pub(crate) fn option<'a>(alloc: Global, name: &'a str, help: &'a str) -> Arg<'a>
     ensures { HasRule (option_rule name.entry.now) result }
 {
     Arg::new(alloc, name).long(name).help(help)
@@ -61,7 +61,7 @@ fn command<'a>(alloc: Global, verb: Verb) -> Command<'a>
 }
 
 /// Adds an argument to the command.
-fn with<'a>(command: Command<'a>, arg: Arg<'a>) -> Result<Command<'a>, AllocError>
+pub(crate) fn with<'a>(command: Command<'a>, arg: Arg<'a>) -> Result<Command<'a>, AllocError>
     requires local { arg.global ≡ false }
     requires whole { (out-Command command).has_globals ≡ false }
     ensures { IfOk result (IsKnownAs (with_rule (app_of command.entry) (rule_of arg.entry))) }
@@ -70,7 +70,10 @@ fn with<'a>(command: Command<'a>, arg: Arg<'a>) -> Result<Command<'a>, AllocErro
 }
 
 /// Adds a subcommand to the command.
-fn with_sub<'a>(command: Command<'a>, sub: Command<'a>) -> Result<Command<'a>, AllocError>
+pub(crate) fn with_sub<'a>(
+    command: Command<'a>,
+    sub: Command<'a>,
+) -> Result<Command<'a>, AllocError>
     requires whole { (out-Command command).has_globals ≡ false }
     requires local { (out-Command sub).has_globals ≡ false }
     ensures { IfOk result (IsKnownAs (with_subcommand (app_of command.entry) (app_of sub.entry).top)) }
@@ -239,9 +242,9 @@ fn subcommand<'a>(alloc: Global, verb: Verb) -> Result<Command<'a>, AllocError>
     }
 }
 
-/// What `--version` prints after the program's name: the version, and the toolchain that proves the program. tools/lint
+/// What `--version` prints after a program's name: the version, and the toolchain that proves the program. tools/lint
 /// compares the second line with what `rt version` prints.
-const VERSION: &str = "0.1.0\nproved with rattle-kit-13f logic dac8208d650f15bf";
+pub(crate) const VERSION: &str = "0.1.0\nproved with rattle-kit-13f logic dac8208d650f15bf";
 
 /// The program's name, its version and what its help says.
 fn top<'a>(alloc: Global) -> Command<'a>

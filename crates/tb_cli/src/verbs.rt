@@ -66,7 +66,8 @@ pub fn word_of<'a>(verb: Verb) -> &'a str
     }
 }
 
-fn is_word(text: &str, word: &str) -> bool
+/// Whether a text is this word.
+pub(crate) fn is_word(text: &str, word: &str) -> bool
     ensures { result ≡ bytes_eq text.now word.now }
 {
     text == word

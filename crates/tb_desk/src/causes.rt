@@ -363,8 +363,8 @@ pub enum Cause {
     Value(Form),
     Port(PortCause),
     Stream(StreamCause),
-    /// The command line has no command.
-    NoCommand,
+    /// The command line of this program has no command.
+    NoCommand(&'static str),
     /// A word of the command line is not text.
     NotText,
     /// A server ended: the desk's files are no longer in their place.
@@ -391,12 +391,11 @@ impl Cause {
     /// The sentence of a cause that is defined here.
     fn text(&self) -> &'static str {
         match self {
-            Cause::Words(_) => "",
+            Cause::Words(_) | Cause::NoCommand(_) => "",
             Cause::File(cause) => cause.text(),
             Cause::Value(form) => form.text(),
             Cause::Port(cause) => cause.text(),
             Cause::Stream(cause) => cause.text(),
-            Cause::NoCommand => "no command is given; `treedesk --help` lists them",
             Cause::NotText => "a word of the command line is not UTF-8; write it in UTF-8",
             Cause::FilesMoved =>
                 "serving ended: the desk's files were moved, removed or replaced; serve the file that is meant",
@@ -421,6 +420,10 @@ impl Display for Cause {
     fn fmt<W: fmt::Write>(&self, f: &mut Formatter<W>) -> fmt::Result {
         match self {
             Cause::Words(words) => write!(f, "{words}"),
+            Cause::NoCommand(program) => write!(
+                f,
+                "no command is given; `{program} --help` lists them"
+            ),
             _ => f.write_str(self.text()),
         }
     }

@@ -158,6 +158,7 @@ fn over<D: Disk + Drop>(
 /// that another command has open.
 fn connect(
     rt: &HostRuntime,
+    program: &str,
     path: &str,
     log: &mut Log,
     room: u64,
@@ -165,7 +166,7 @@ fn connect(
     ensures { IfOk result (λ c. c.in_transaction ≡ false) }
 {
     let options = options(rt, path, room)?;
-    let mut turn = Turn::new(rt, path)?;
+    let mut turn = Turn::new(rt, program, path)?;
     for _ in 0..u64::MAX {
         match sqlite_std_file::open(rt, path, Unknown) {
             Ok(files) => {
@@ -217,31 +218,36 @@ pub(crate) fn look(rt: &HostRuntime, path: &str) -> Result<(), FileCause> {
 }
 
 /// The desk of the file at this path, with room for so many pages more.
-pub(crate) fn open(rt: &HostRuntime, path: &str, room: u64) -> Result<FileDesk, FileCause> {
+pub(crate) fn open(
+    rt: &HostRuntime,
+    program: &str,
+    path: &str,
+    room: u64,
+) -> Result<FileDesk, FileCause> {
     look(rt, path)?;
     let mut log = Log::before(rt, path)?;
-    let conn = connect(rt, path, &mut log, room)?;
+    let conn = connect(rt, program, path, &mut log, room)?;
     let desk = Desk::adopt(rt.alloc(), conn, LIMITS);
     made(rt, &log, desk, FileCause::Rows)
 }
 
 /// Migrates the desk of version 1 in the file at this path to version 2.
-pub(crate) fn migrate(rt: &HostRuntime, path: &str) -> Result<FileDesk, FileCause> {
+pub(crate) fn migrate(rt: &HostRuntime, program: &str, path: &str) -> Result<FileDesk, FileCause> {
     let not_a_desk = match version_of(rt, path)? {
         Version::One => FileCause::Rows,
         Version::Two => FileCause::Version2,
     };
     let mut log = Log::before(rt, path)?;
-    let conn = connect(rt, path, &mut log, ROOM)?;
+    let conn = connect(rt, program, path, &mut log, ROOM)?;
     let desk = Desk::migrate(rt.alloc(), conn, LIMITS);
     made(rt, &log, desk, not_a_desk)
 }
 
 /// Makes a desk in the file at this path. The file is missing, empty or a blank database.
-pub(crate) fn make(rt: &HostRuntime, path: &str) -> Result<FileDesk, FileCause> {
+pub(crate) fn make(rt: &HostRuntime, program: &str, path: &str) -> Result<FileDesk, FileCause> {
     may_become_desk(rt, path)?;
     let mut log = Log::before(rt, path)?;
-    let conn = match connect(rt, path, &mut log, ROOM) {
+    let conn = match connect(rt, program, path, &mut log, ROOM) {
         Ok(conn) => conn,
         Err(cause) => return Err(cause.of_new()),
     };

@@ -3,7 +3,8 @@
 //!
 //! `answer` does what the bytes of one request over HTTP ask, and `answer_all` what a list of requests asks. A `Line`
 //! is read from the words of a command line, and `run_line` does it on a desk. `run_check` checks a file. `run_words`
-//! is the whole program: it does what the words ask on a file or in memory, or serves the desk over HTTP.
+//! is the whole program: it does what the words ask on a file or in memory, or serves the desk over HTTP. `run_view` does
+//! what the words of `deskview` ask. `run_program` gives such a program its words and its standard streams.
 //!
 //! `requests_lead_on`, `requests_in_memory_lead_on` and `the_check_counts_what_is_taken` are laws: proved facts that
 //! link these answers.
@@ -20,18 +21,23 @@ mod looking;
 mod nothing;
 mod patience;
 mod place;
+mod programs;
 mod serving;
+mod streams;
 mod turns;
+mod viewing;
 mod waiting;
 mod words;
 mod wrong;
 
 pub use causes::{Cause, FileCause, Form, PortCause, StreamCause};
 pub use diagnostics::{Diagnostic, Outcome, wants_words};
+pub use programs::{Program, run_program};
 pub use tb_answer::{
     Broken, answer, answer_all, requests_in_memory_lead_on, requests_lead_on, run_line,
-    the_check_counts_what_is_taken,
+    the_check_counts_what_is_taken, view,
 };
 pub use tb_check::run_check;
-pub use tb_cli::{Line, LineFault};
-pub use words::{run_words, run_words_reported};
+pub use tb_cli::{Line, LineFault, ViewLine};
+pub use viewing::{DESKVIEW, run_view};
+pub use words::{TREEDESK, run_words, run_words_reported};

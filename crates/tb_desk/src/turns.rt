@@ -19,10 +19,11 @@ const EAGER_PAUSE: u64 = 2;
 /// After how many milliseconds the program says that it waits.
 const QUIET: u64 = 500;
 
-/// A command that waits for the file at a path.
+/// A command of a program that waits for the file at a path.
 #[derive(Drop)]
 pub(crate) struct Turn<'a> {
     rt: &'a HostRuntime,
+    program: &'a str,
     path: &'a str,
     since: Instant,
     is_reported: bool,
@@ -30,10 +31,15 @@ pub(crate) struct Turn<'a> {
 
 impl<'a> Turn<'a> {
     /// The wait begins now.
-    pub(crate) fn new(rt: &'a HostRuntime, path: &'a str) -> Result<Turn<'a>, FileCause> {
+    pub(crate) fn new(
+        rt: &'a HostRuntime,
+        program: &'a str,
+        path: &'a str,
+    ) -> Result<Turn<'a>, FileCause> {
         match Instant::now(rt) {
             Ok(since) => Ok(Turn {
                 rt,
+                program,
                 path,
                 since,
                 is_reported: false,
@@ -58,8 +64,8 @@ impl<'a> Turn<'a> {
         self.is_reported = true;
         if wants_words(self.rt) {
             let _reported = eprintln!(self.rt;
-                "treedesk: {}: another command has it; waits for up to ten seconds",
-                self.path
+                "{}: {}: another command has it; waits for up to ten seconds",
+                self.program, self.path
             );
         }
     }

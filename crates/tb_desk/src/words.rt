@@ -22,11 +22,35 @@ use tb_conllu::{Sink, Source};
 use tb_http::Reply;
 use tb_store::Desk;
 
+/// The name of the program.
+pub const TREEDESK: &str = "treedesk";
+
 /// Prints the line of a cause that lies in a file, and names the file as its place.
-fn put_file_cause<W: Sink>(rt: &HostRuntime, path: &str, cause: FileCause, out: &mut W) -> Outcome {
+pub(crate) fn put_file_cause<W: Sink>(
+    rt: &HostRuntime,
+    path: &str,
+    cause: FileCause,
+    out: &mut W,
+) -> Outcome {
     Outcome {
         status: put_reply(out, cause.reply()),
         reported: Some(Diagnostic::at(rt, path, Cause::File(cause))),
+    }
+}
+
+/// Prints clap's text, which may be help.
+pub(crate) fn put_clap<W: Sink>(rt: &HostRuntime, error: clap::Error, out: &mut W) -> Outcome {
+    match error.to_string(rt.alloc()) {
+        Ok(text) => Outcome::from(tb_check::put_reply(out, text.as_str(), error.exit_code() as u8)),
+        Err(_) => put_memory(out),
+    }
+}
+
+/// Prints the line for wrong words, and what is wrong.
+pub(crate) fn put_usage<W: Sink>(wrong: Diagnostic, out: &mut W) -> Outcome {
+    Outcome {
+        status: tb_check::put_reply(out, "refused usage\n", 2),
+        reported: Some(wrong),
     }
 }
 
@@ -38,18 +62,8 @@ fn put_fault<W: Sink>(
     out: &mut W,
 ) -> Outcome {
     match fault {
-        LineFault::Clap(error) => match error.to_string(rt.alloc()) {
-            Ok(text) => Outcome::from(tb_check::put_reply(
-                out,
-                text.as_str(),
-                error.exit_code() as u8,
-            )),
-            Err(_) => put_memory(out),
-        },
-        LineFault::Usage => Outcome {
-            status: tb_check::put_reply(out, "refused usage\n", 2),
-            reported: Some(wrong_word(rt, words)),
-        },
+        LineFault::Clap(error) => put_clap(rt, error, out),
+        LineFault::Usage => put_usage(wrong_word(rt, TREEDESK, words), out),
         LineFault::Memory => put_memory(out),
     }
 }
@@ -137,7 +151,7 @@ fn run_on_file<R: Source, W: Write>(
         return put_file_cause(rt, path, cause, out);
     }
     let body = read_body(rt.alloc(), line, reader);
-    match files::open(rt, path, room_of(line)) {
+    match files::open(rt, TREEDESK, path, room_of(line)) {
         Ok(mut desk) => {
             let outcome = run_on_desk(rt, path, line, body, &mut desk, out);
             files::close(desk);
@@ -191,7 +205,7 @@ fn serve_in_memory<S: Alter, W: Write>(
     out: &mut W,
 ) -> Outcome {
     if wants_words(rt) {
-        let _reported = eprintln!(rt; "treedesk: {}", Cause::NothingWillBeKept);
+        let _reported = eprintln!(rt; "{}: {}", TREEDESK, Cause::NothingWillBeKept);
     }
     serve(rt, desk, None, port, requests, out)
 }
@@ -222,11 +236,11 @@ fn run_in_memory<R: Source, W: Write>(
 fn run<R: Source, W: Write>(rt: &HostRuntime, line: &Line, reader: &mut R, out: &mut W) -> Outcome {
     match line {
         Line::New { db } => {
-            let made = files::make(rt, db.as_str());
+            let made = files::make(rt, TREEDESK, db.as_str());
             put_opened(rt, db.as_str(), made, "made\n", out)
         }
         Line::Migrate { db } => {
-            let migrated = files::migrate(rt, db.as_str());
+            let migrated = files::migrate(rt, TREEDESK, db.as_str());
             put_opened(rt, db.as_str(), migrated, "migrated\n", out)
         }
         _ => match file_of(line) {

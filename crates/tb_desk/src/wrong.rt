@@ -110,16 +110,24 @@ fn first_wrong<'a>(command: &'a str, words: &'a [String]) -> Option<(Given<'a>, 
     None
 }
 
-/// What is wrong with words that clap accepts: a value does not have its form, or there is no command.
-pub(crate) fn wrong_word(rt: &HostRuntime, words: &[String]) -> Diagnostic {
+/// The value in the words that does not have its form, if one does not.
+pub(crate) fn wrong_value(rt: &HostRuntime, words: &[String]) -> Option<Diagnostic> {
     let [_, command, rest @ ..] = words else {
-        return Diagnostic::from(Cause::NoCommand);
+        return None;
     };
     match first_wrong(command.as_str(), rest) {
-        Some((given, form)) => Diagnostic {
+        Some((given, form)) => Some(Diagnostic {
             place: format!(in rt.alloc(); "{} {}", given.name, given.value).ok(),
             cause: Cause::Value(form),
-        },
-        None => Diagnostic::from(Cause::NoCommand),
+        }),
+        None => None,
+    }
+}
+
+/// What is wrong with words that clap accepts: a value does not have its form, or there is no command.
+pub(crate) fn wrong_word(rt: &HostRuntime, program: &'static str, words: &[String]) -> Diagnostic {
+    match wrong_value(rt, words) {
+        Some(wrong) => wrong,
+        None => Diagnostic::from(Cause::NoCommand(program)),
     }
 }

@@ -1,4 +1,3 @@
--- Between crates: no contract of a front door cites a definition of this module.
 -- Lists as CSV, in the form of the tables of a desk.
 use Rattle.std.specs.Prelude.{ℕ, List, [], ◌∷◌, map, codes}
 use Rattle.std.specs.Fmt.{decimal}

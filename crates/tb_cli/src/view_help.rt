@@ -1,0 +1,27 @@
+//! The texts of help of `deskview`.
+
+/// The text of help after the list of commands.
+pub const ENDING: &str = "\
+Examples:
+  deskview batches --db desk.db
+
+Each command reads the desk in the file that --db names, and prints a list as CSV. It changes nothing of the desk.
+`deskview help COMMAND` shows what a command takes and prints, with an example.
+
+Exit status:
+  0  done; help and the version too
+  1  refused
+  2  wrong words on the command line
+  3  out of memory, or an I/O error
+
+Environment:
+  TREEDESK_EXPLAIN=1  explain each refusal on standard error, also where that is no terminal";
+
+/// The end of the help of `batches`.
+pub const BATCHES: &str = "\
+Columns: no, name, state, worker, first, sentences, words, pulled. `first` is the number of the first
+sentence; `sentences` and `words` leave out pulled sentences, which `pulled` counts.
+
+Example: deskview batches --db desk.db
+
+Exit status: 0 done, 1 refused, 2 wrong words, 3 out of memory or an I/O error.";

@@ -1,0 +1,51 @@
+//! The commands of `deskview`, declared to clap.
+
+ghost use Rattle.std.specs.Prelude.{◌≡◌, IfOk};
+ghost use Rattle.clap.specs.Words.{app_of, new_app};
+ghost use Rattle.tb_cli.specs.Tree.{with_db, IsKnownAs};
+ghost use Rattle.tb_cli.specs.View.{view_app, view_top};
+
+use crate::tree::{VERSION, option, with, with_sub};
+use crate::view_help::{BATCHES, ENDING};
+use clap::Command;
+use std::alloc::{AllocError, Global};
+
+/// The program's name, its version and what its help says.
+fn top<'a>(alloc: Global) -> Command<'a>
+    ensures { IsKnownAs view_top result }
+{
+    Command::new(alloc, "deskview")
+        .version(VERSION)
+        .about("Lists of what a treebank desk holds, as CSV")
+        .after_help(ENDING)
+}
+
+/// A command that reads the desk in a file.
+fn reading<'a>(
+    alloc: Global,
+    name: &'a str,
+    about: &'a str,
+    ending: &'a str,
+) -> Result<Command<'a>, AllocError>
+    ensures { IfOk result (IsKnownAs (with_db (new_app name.entry.now))) }
+{
+    let command = Command::new(alloc, name).about(about).after_help(ending);
+    with(
+        command,
+        option(
+            alloc,
+            "db",
+            "The file of the desk, which every command needs",
+        ),
+    )
+}
+
+/// The whole command, with its subcommands in the order of help.
+pub fn deskview<'a>(alloc: Global) -> Result<Command<'a>, AllocError>
+    ensures { IfOk result (λ r. app_of r ≡ view_app) }
+{
+    let about = "List the batches, each with its state, its worker and its counts";
+    let batches = reading(alloc, "batches", about, BATCHES)?;
+    let command = with_sub(top(alloc), batches)?;
+    Ok(command)
+}

@@ -1,0 +1,133 @@
+//! A whole program: it takes the words of the command line and the standard streams, and ends with a status. At its end
+//! standard error gets the cause that was returned, with the place, and what happened to the streams.
+
+use crate::causes::{Cause, StreamCause};
+use crate::diagnostics::{Diagnostic, Outcome, wants_words};
+use crate::streams::{Heard, Held, Typed};
+use std::env;
+use std::io::{self, BufWriter, ErrorKind, Write};
+use tb_check::put_reply;
+use tb_conllu::Source;
+
+/// The size of the output buffer, in bytes.
+const BUFFER: usize = 65_536;
+
+/// What a program does with its words.
+pub trait Program {
+    /// The name with which all that it says on standard error begins.
+    fn name(&self) -> &'static str;
+
+    /// Does what the words ask, the program's name first. Returns the exit status, and what to say beside it.
+    fn run<R: Source, W: Write>(
+        &self,
+        rt: &HostRuntime,
+        words: &[String],
+        reader: &mut R,
+        out: &mut W,
+    ) -> Outcome;
+}
+
+/// What is known at the end of a run: its exit status, the cause that the program returns, and the faults of its
+/// streams.
+#[derive(Drop)]
+struct Ended<'a> {
+    program: &'a str,
+    status: u8,
+    reported: Option<Diagnostic>,
+    input: Option<StreamCause>,
+    output: Option<StreamCause>,
+}
+
+/// Prints one cause.
+fn tell(rt: &HostRuntime, program: &str, cause: Cause) -> io::Result<()> {
+    eprintln!(rt; "{program}: {cause}")
+}
+
+impl Ended<'_> {
+    /// Reports an input that failed. If none did, reports that an answer is incomplete, though all of it was written.
+    fn tell_rest(&self, rt: &HostRuntime) -> io::Result<()> {
+        match self.input {
+            Some(cause) => tell(rt, self.program, Cause::Stream(cause)),
+            None if self.status == 3 && self.output.is_none() && self.reported.is_none() => tell(
+                rt,
+                self.program,
+                Cause::BrokenOff,
+            ),
+            None => Ok(()),
+        }
+    }
+
+    /// Prints why the answer is what it is. Where an input failed, that is reported, not the answer that followed from
+    /// it.
+    fn tell_cause(&self, rt: &HostRuntime) -> io::Result<()> {
+        match &self.reported {
+            Some(reported) if self.input.is_none() || !reported.is_of_answer() => {
+                eprintln!(rt; "{}: {}", self.program, reported)
+            }
+            _ => self.tell_rest(rt),
+        }
+    }
+
+    /// Prints the cause, and then what happened to the output.
+    fn tell(&self, rt: &HostRuntime) -> io::Result<()> {
+        self.tell_cause(rt)?;
+        match self.output {
+            Some(cause) => tell(rt, self.program, Cause::Stream(cause)),
+            None => Ok(()),
+        }
+    }
+}
+
+/// The words of the command line, the program's name first.
+fn words(rt: &HostRuntime) -> io::Result<Vec<String>> {
+    Ok(env::args(rt)?.collect(rt.alloc())?)
+}
+
+/// Does what the words ask on standard input and output, and returns the exit status. Where words are wanted on
+/// standard error, it prints the reason there. A failure to print it is ignored.
+fn run<P: Program>(rt: &HostRuntime, program: &P, held: &Held) -> io::Result<u8> {
+    let words = words(rt)?;
+    let mut out = Heard::new(BufWriter::with_capacity(rt.alloc(), BUFFER, rt.stdout())?);
+    let mut input = Typed::new(rt, program.name());
+    let outcome = program.run(rt, &words, &mut input, &mut out);
+    let status = match out.flush() {
+        Ok(()) => outcome.status,
+        Err(_) => 3,
+    };
+    if wants_words(rt) {
+        let ended = Ended {
+            program: program.name(),
+            status,
+            reported: outcome.reported,
+            input: input.cause(held),
+            output: held.output_cause(out.failed()),
+        };
+        let _reported = ended.tell(rt);
+    }
+    Ok(status)
+}
+
+/// Prints the line of a run that did not begin, and the reason.
+fn put_and_tell(rt: &HostRuntime, program: &str, line: &str, status: u8, cause: Cause) -> u8 {
+    let status = put_reply(&mut rt.stdout(), line, status);
+    if wants_words(rt) {
+        let _reported = tell(rt, program, cause);
+    }
+    status
+}
+
+/// Runs a program on its words and its standard streams, and returns its exit status.
+pub fn run_program<P: Program>(rt: &HostRuntime, program: &P) -> u8 {
+    let held = Held::new(rt);
+    match run(rt, program, &held) {
+        Ok(status) => status,
+        Err(error) if error.kind() == ErrorKind::OutOfMemory => put_and_tell(
+            rt,
+            program.name(),
+            "refused memory\n",
+            3,
+            Cause::Memory,
+        ),
+        Err(_) => put_and_tell(rt, program.name(), "refused usage\n", 2, Cause::NotText),
+    }
+}
