@@ -20,6 +20,7 @@ ghost use Rattle.tb_core.specs.Parts.{IsNamedCorrection};
 ghost use Rattle.tb_refine.specs.Counted.{IsWithin, IsCounted};
 ghost use Rattle.tb_commands.specs.Correcting.{PlanText, IsCurrentRead, IsPlannedCorrection, Decides, Corrects};
 ghost use Rattle.tb_commands.specs.Correcting.{current_seen, correction_move};
+ghost use Rattle.tb_commands.specs.ReadOf.{fault_of_stored};
 ghost use Rattle.tb_refine.specs.Calls.{CrashesTo, KnowsDeskWhere, RefusesAs, Tells};
 ghost use Rattle.tb_refine.specs.Calls.{BlamesNoDevice};
 ghost use Rattle.tb_refine.specs.Room.{HasRoomIfWritten};
@@ -139,6 +140,7 @@ fn fault_of_text(fault: ReadFault) -> Fault
     ensures never_refuses { (r : AnyRefusal) → result ≢ Fault.Refused r }
     ensures fails { fault ≡ ReadFault.Memory → result ≢ Fault.NotADesk }
     ensures cause { IsNoDevice result }
+    ensures value { result ≡ fault_of_stored fault }
 {
     match fault {
         ReadFault::Memory => Fault::Memory,
@@ -193,6 +195,7 @@ fn next_revision(rev: u32) -> Result<u32, Fault>
     ensures never_refuses { (r : AnyRefusal) → result ≢ Err (Fault.Refused r) }
     ensures fails { rev + 1 < 2 ^ 32 → result ≢ Err Fault.NotADesk }
     ensures cause { IfErr result IsNoDevice }
+    ensures fault { IfErr result (λ e. e ≡ Fault.NotADesk) }
 {
     match rev.checked_add(1) {
         Some(next) => Ok(next),

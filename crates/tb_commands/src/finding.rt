@@ -39,6 +39,7 @@ fn read_batch(row: BatchRow, number: u32) -> Result<BatchRead, Fault>
     ensures never_refuses { (r : AnyRefusal) → result ≢ Err (Fault.Refused r) }
     ensures fails { (st : AnyState) → row.state ≡ state_number st → result ≢ Err Fault.NotADesk }
     ensures cause { IfErr result IsNoDevice }
+    ensures fault { IfErr result (λ e. e ≡ Fault.NotADesk) }
 {
     let Some(state) = state_numbered(row.state) else {
         return Err(Fault::NotADesk);

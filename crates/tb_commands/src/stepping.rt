@@ -107,6 +107,7 @@ fn judge(
         → let act = stepping (r.0.number - 1) event user.now in
         IsAllowed s act × Steps counts.now.limits s (event_on name.now event user.now) (replied
         (reply_to s act)) (after s act)) }
+    ensures memory { result ≢ Err Fault.Memory }
 {
     let Some(batch) = found else {
         judge_event(

@@ -34,6 +34,7 @@ fn with_one(sums: Sums, item: &BatchSentence) -> Result<Sums, Fault>
     ensures fails { sums.sentences + 1 < 2 ^ 32 → sums.words + item.now.words < 2 ^ 32
         → result ≢ Err Fault.NotADesk }
     ensures cause { IfErr result IsNoDevice }
+    ensures fault { IfErr result (λ e. e ≡ Fault.NotADesk) }
 {
     let (Some(sentences), Some(words)) = (
         sums.sentences.checked_add(1),
@@ -55,6 +56,7 @@ fn with_work(sums: Sums, item: &BatchSentence, pulled: &[u32]) -> Result<Sums, F
     ensures fails { sums.sentences + 1 < 2 ^ 32 → sums.words + item.now.words < 2 ^ 32
         → result ≢ Err Fault.NotADesk }
     ensures cause { IfErr result IsNoDevice }
+    ensures fault { IfErr result (λ e. e ≡ Fault.NotADesk) }
 {
     if is_among(item.number, pulled) {
         return Ok(sums);
@@ -70,6 +72,7 @@ fn sums_of(work: &[BatchSentence], pulled: &[u32]) -> Result<Sums, Fault>
     ensures never_refuses { (r : AnyRefusal) → result ≢ Err (Fault.Refused r) }
     ensures fails { length work.now < 2 ^ 32 → sum_by its_words work.now < 2 ^ 32 → result ≢ Err Fault.NotADesk }
     ensures cause { IfErr result IsNoDevice }
+    ensures fault { IfErr result (λ e. e ≡ Fault.NotADesk) }
 {
     let mut sums = Sums {
         sentences: 0,

@@ -58,6 +58,7 @@ fn reply_again(number: u32, work: &[BatchSentence], words: u64) -> Result<Import
     ensures fails { (s : Machine) → Reached s → 0 < number → number ≤ length s.batches
         → work.now ≡ work_of number 1 (map sentence_record s.sentences) → result ≢ Err Fault.NotADesk }
     ensures cause { IfErr result IsNoDevice }
+    ensures fault { IfErr result (λ e. e ≡ Fault.NotADesk) }
 {
     // law: sentences are in the order of their batches
     reached_states_are_well();

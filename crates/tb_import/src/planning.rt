@@ -37,6 +37,7 @@ fn item<'a>(one: &NewSentence<'a>) -> Result<NewSentenceRow<'a>, Fault>
     ensures never_refuses { (r : AnyRefusal) → result ≢ Err (Fault.Refused r) }
     ensures fails { one.now.words < 2 ^ 32 → result ≢ Err Fault.NotADesk }
     ensures cause { IfErr result IsNoDevice }
+    ensures fault { IfErr result (λ e. e ≡ Fault.NotADesk) }
 {
     let words = narrow(one.words)?;
     Ok(NewSentenceRow {
@@ -70,6 +71,7 @@ fn next_batch(batches: u32) -> Result<u32, Fault>
     ensures never_refuses { (r : AnyRefusal) → result ≢ Err (Fault.Refused r) }
     ensures fails { 1 + batches < 2 ^ 32 → result ≢ Err Fault.NotADesk }
     ensures cause { IfErr result IsNoDevice }
+    ensures fault { IfErr result (λ e. e ≡ Fault.NotADesk) }
 {
     match batches.checked_add(1) {
         Some(next) => Ok(next),
@@ -83,6 +85,7 @@ fn next_sentence(sentences: u32, new: usize) -> Result<u32, Fault>
     ensures never_refuses { (r : AnyRefusal) → result ≢ Err (Fault.Refused r) }
     ensures fails { sentences + new ≤ 1000000 → result ≢ Err Fault.NotADesk }
     ensures cause { IfErr result IsNoDevice }
+    ensures fault { IfErr result (λ e. e ≡ Fault.NotADesk) }
 {
     if sentences > 1_000_000 || new > 1_000_000 - sentences as usize {
         return Err(Fault::NotADesk);

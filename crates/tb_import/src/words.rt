@@ -16,6 +16,7 @@ pub(crate) fn words_in(taken: &[NewSentence<'_>]) -> Result<u64, Fault>
     ensures never_refuses { (r : AnyRefusal) → result ≢ Err (Fault.Refused r) }
     ensures fails { sum_by (λ (t : NewSentenceText). t.words) taken.now < 2 ^ 64 → result ≢ Err Fault.NotADesk }
     ensures cause { IfErr result IsNoDevice }
+    ensures fault { IfErr result (λ e. e ≡ Fault.NotADesk) }
 {
     let mut total = 0u64;
     for one in taken {

@@ -1,7 +1,7 @@
 //! Lists, read from the tables of a desk. Contracts state them as facts of the state that the tables represent. No
 //! read changes that state, also after an error.
 
-ghost use Rattle.std.specs.Prelude.{◌≡◌, ◌≢◌, ◌<◌, ◌^◌, Err, IfErr, IfOk, List, length, map, is_ok};
+ghost use Rattle.std.specs.Prelude.{◌≡◌, ◌≢◌, ◌<◌, ◌≤◌, ◌^◌, Err, IfErr, IfOk, List, length, map, is_ok};
 ghost use Rattle.tb_core.specs.declared.refusals.Refusal.{Refusal as AnyRefusal};
 ghost use Rattle.tb_core.specs.Machine.{Sentence};
 ghost use Rattle.tb_core.specs.Rows.{pulled_from};
@@ -74,6 +74,7 @@ fn counts_of(
     ensures output { result ≢ Err Fault.Output }
     ensures fails { result ≡ Err Fault.NotADesk → length rows.now < 2 ^ 32 → ⊥ }
     ensures cause { IfErr result IsNoDevice }
+    ensures many { 2 ^ 32 ≤ length rows.now → result ≡ Err Fault.NotADesk }
 {
     if rows.len() > u32::MAX as usize {
         return Err(Fault::NotADesk);

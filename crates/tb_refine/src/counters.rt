@@ -25,6 +25,7 @@ pub fn next_move(counts: &Counters) -> Result<u32, Fault>
     ensures never_refuses { (r : AnyRefusal) → result ≢ Err (Fault.Refused r) }
     ensures fails { counts.now.moves < 1000000000 → result ≢ Err Fault.NotADesk }
     ensures cause { IfErr result IsNoDevice }
+    ensures fault { IfErr result (λ e. e ≡ Fault.NotADesk) }
 {
     if counts.moves >= 1_000_000_000 {
         return Err(Fault::NotADesk);

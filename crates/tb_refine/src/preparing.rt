@@ -34,6 +34,7 @@ pub fn prepare(counts: &Counters, step: Move) -> Result<PreparedMove, Fault>
     ensures fails { (s : Machine) (a : Act) → IsReachable s → IsAllowed s a → IsReachable (after s a)
         → IsCounted counts.now s → step ≡ move_made s a → result ≢ Err Fault.NotADesk }
     ensures cause { IfErr result IsNoDevice }
+    ensures fault { IfErr result (λ e. e ≡ Fault.NotADesk) }
 {
     stored_totals_take_moves();
     stored_totals_hold();

@@ -24,6 +24,7 @@ pub fn narrow(number: u64) -> Result<u32, Fault>
     ensures never_refuses { (r : AnyRefusal) → result ≢ Err (Fault.Refused r) }
     ensures fails { number < 2 ^ 32 → result ≢ Err Fault.NotADesk }
     ensures cause { IfErr result IsNoDevice }
+    ensures fault { IfErr result (λ e. e ≡ Fault.NotADesk) }
 {
     if number > u64::from(u32::MAX) {
         return Err(Fault::NotADesk);
@@ -39,6 +40,7 @@ fn total_at(totals: &Totals, place: usize) -> Result<TotalRow, Fault>
     ensures fails { slice_index totals.now.sentences place < 2 ^ 32 → slice_index totals.now.words place < 2 ^ 32
         → result ≢ Err Fault.NotADesk }
     ensures cause { IfErr result IsNoDevice }
+    ensures fault { IfErr result (λ e. e ≡ Fault.NotADesk) }
 {
     let sentences = narrow(totals.sentences[place])?;
     let words = narrow(totals.words[place])?;
@@ -51,6 +53,7 @@ fn total_row(totals: &Totals, state: State) -> Result<TotalRow, Fault>
     ensures never_refuses { (r : AnyRefusal) → result ≢ Err (Fault.Refused r) }
     ensures fails { AreNarrow totals.now → result ≢ Err Fault.NotADesk }
     ensures cause { IfErr result IsNoDevice }
+    ensures fault { IfErr result (λ e. e ≡ Fault.NotADesk) }
 {
     match state {
         State::Opened => total_at(totals, 0),
@@ -68,6 +71,7 @@ fn left_row(totals: &Totals, from: Option<State>) -> Result<TotalRow, Fault>
     ensures never_refuses { (r : AnyRefusal) → result ≢ Err (Fault.Refused r) }
     ensures fails { AreNarrow totals.now → result ≢ Err Fault.NotADesk }
     ensures cause { IfErr result IsNoDevice }
+    ensures fault { IfErr result (λ e. e ≡ Fault.NotADesk) }
 {
     match from {
         Some(state) => total_row(totals, state),
@@ -84,6 +88,7 @@ fn move_row(moved: Move) -> Result<MoveRow, Fault>
     ensures never_refuses { (r : AnyRefusal) → result ≢ Err (Fault.Refused r) }
     ensures fails { IsNarrowMove moved → result ≢ Err Fault.NotADesk }
     ensures cause { IfErr result IsNoDevice }
+    ensures fault { IfErr result (λ e. e ≡ Fault.NotADesk) }
 {
     let batch = narrow(moved.batch)?;
     let sent = narrow(moved.sent)?;
@@ -109,6 +114,7 @@ fn change_of(totals: &Totals, moved: Move) -> Result<MoveWrite, Fault>
     ensures never_refuses { (r : AnyRefusal) → result ≢ Err (Fault.Refused r) }
     ensures fails { AreNarrow totals.now → IsNarrowMove moved → result ≢ Err Fault.NotADesk }
     ensures cause { IfErr result IsNoDevice }
+    ensures fault { IfErr result (λ e. e ≡ Fault.NotADesk) }
 {
     let number = narrow(moved.no)?;
     let left = left_row(totals, moved.from)?;
@@ -134,6 +140,7 @@ pub fn record(totals: &mut Totals, moved: Move) -> Result<MoveWrite, Fault>
     ensures fails { Takes totals.old moved → ((after : AnyTotals) → IsApplied totals.old after moved
         → AreNarrow after) → IsNarrowMove moved → result ≢ Err Fault.NotADesk }
     ensures cause { IfErr result IsNoDevice }
+    ensures fault { IfErr result (λ e. e ≡ Fault.NotADesk) }
 {
     if !totals.takes(&moved) {
         return Err(Fault::NotADesk);

@@ -1,6 +1,6 @@
 //! Reads sentences back from their texts, and finds hits in them.
 
-ghost use Rattle.std.specs.Prelude.{◌≡◌, ◌≢◌, ◌<◌, ◌≤◌, ◌+◌, false, All, Err, IfErr, IfOk};
+ghost use Rattle.std.specs.Prelude.{◌≡◌, ◌≢◌, ◌<◌, ◌≤◌, ◌+◌, ◌^◌, false, All, Err, IfErr, IfOk};
 ghost use Rattle.std.specs.Prelude.{[], ◌∷◌};
 ghost use Rattle.tb_conllu.specs.Text.{BlockText};
 ghost use Rattle.tb_conllu.specs.Reported.{IsFile};
@@ -38,6 +38,7 @@ pub(crate) fn raised(count: u64, more: usize) -> Result<u64, Stopped>
     ensures fault { IfErr result IsFault }
     ensures fails { IfErr result IsStopFault }
     ensures cause { IfErr result IsStopWant }
+    ensures past { IfErr result (λ _. 2 ^ 64 ≤ count + more) }
 {
     match count.checked_add(more as u64) {
         Some(sum) => Ok(sum),

@@ -8,6 +8,9 @@ use Rattle.tb_core.specs.Names.{is_name}
 use Rattle.tb_core.specs.Machine.{Machine, Sentence}
 use Rattle.tb_core.specs.Tests.{IsBadName, IsNoBatch}
 use Rattle.tb_search.specs.Released.{in_batch, current_text}
+use Rattle.tb_search.specs.declared.stopped.Stopped.{Stopped}
+use Rattle.tb_search.specs.declared.stopped.Stopped.TheVariants as stops
+use Rattle.tb_refine.specs.Faults.{fault_of_read}
 use Rattle.tb_refine.specs.Finding.{HasNumber}
 
 -- What a sink has when an export ends early. After a refusal it has nothing new, and where it failed itself a first
@@ -26,3 +29,8 @@ IsPartOfBatch s name e old new = (new ≡ old) ⊎ ((n : ℕ) × HasNumber s nam
 abbrev pub RefusesBatch : Machine → List ℕ → Fault → Type 0
 RefusesBatch s name (Refused r) = IsBadName (is_name name) r ⊎ ((is_name name ≡ true) × IsNoBatch s name r)
 RefusesBatch s name _ = ⊤
+
+-- why a walk over the sentences ended early, as a fault
+abbrev pub fault_of_stop : Stopped → Fault
+fault_of_stop (stops.Read error) = fault_of_read error
+fault_of_stop stops.Output = Output

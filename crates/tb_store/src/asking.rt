@@ -31,6 +31,7 @@ fn six_totals(rows: &[TotalRow]) -> Result<Totals, Fault>
     ensures cause { IfErr result IsNoDevice }
     ensures output { result ≢ Err Fault.Output }
     ensures never_refuses { (r : AnyRefusal) → result ≢ Err (Fault.Refused r) }
+    ensures fault { IfErr result (λ e. e ≡ Fault.NotADesk) }
 {
     match rows {
         [a, b, c, d, e, f] => Ok(Totals {

@@ -7,7 +7,7 @@ ghost use Rattle.tb_search.specs.Released.{IsCutShort};
 ghost use Rattle.tb_search.specs.Searched.{Occurrence, IsSearchBrokenOff};
 ghost use Rattle.tb_search.specs.Visited.{IsFault, IsStopFault, IsStopWant};
 ghost use Rattle.tb_refine.specs.Faults.{IsNoDevice};
-ghost use Rattle.tb_store.specs.Exports.{IsExportBrokenOff};
+ghost use Rattle.tb_store.specs.Exports.{IsExportBrokenOff, fault_of_stop};
 ghost use Rattle.tb_store.specs.Found.{IsPartFound};
 
 use tb_core::Fault;
@@ -26,6 +26,7 @@ pub(crate) fn fault_of(stopped: Stopped) -> Fault
     ensures output { result ≡ Fault.Output → stopped ≡ Stopped.Output }
     ensures fails { IsFault stopped → IsStopFault stopped → result ≢ Fault.NotADesk }
     ensures cause { IsStopWant stopped → IsNoDevice result }
+    ensures value { result ≡ fault_of_stop stopped }
 {
     match stopped {
         Stopped::Read(error) => faults::of_read(error),

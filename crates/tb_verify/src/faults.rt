@@ -4,6 +4,8 @@ ghost use Rattle.std.specs.Prelude.{◌≡◌, ◌≢◌};
 ghost use Rattle.tb_core.specs.declared.refusals.Refusal.{Refusal};
 ghost use Rattle.tb_tables.specs.Failing.{IsWant};
 ghost use Rattle.tb_reads.specs.Failing.{IsReadWant};
+ghost use Rattle.tb_refine.specs.Faults.{fault_of_making};
+ghost use Rattle.tb_verify.specs.Unfit.{fault_of_rows, fault_of_unfit};
 
 use crate::unfit::Unfit;
 use sqlite::{Error, ErrorCode};
@@ -15,6 +17,7 @@ pub(crate) fn of_error(error: Error) -> Fault
     ensures no_form { result ≢ Fault.NotADesk }
     ensures cause { IsWant error → result ≢ Fault.Device }
     ensures never_refuses { (r : Refusal) → result ≢ Fault.Refused r }
+    ensures value { result ≡ fault_of_making error }
 {
     match error {
         Error::SqliteFailure(ErrorCode::OutOfMemory) => Fault::Memory,
@@ -28,6 +31,7 @@ pub(crate) fn of_read(error: ReadError) -> Fault
     ensures form { result ≡ Fault.NotADesk → error ≡ ReadError.Form }
     ensures cause { IsReadWant error → result ≢ Fault.Device }
     ensures never_refuses { (r : Refusal) → result ≢ Fault.Refused r }
+    ensures value { result ≡ fault_of_rows error }
 {
     match error {
         ReadError::Store(error) => of_error(error),
@@ -40,6 +44,7 @@ pub(crate) fn of_unfit(unfit: Unfit) -> Fault
     ensures form { result ≡ Fault.NotADesk → unfit ≡ Unfit.NotADesk }
     ensures cause { result ≢ Fault.Device }
     ensures never_refuses { (r : Refusal) → result ≢ Fault.Refused r }
+    ensures value { result ≡ fault_of_unfit unfit }
 {
     match unfit {
         Unfit::NotADesk => Fault::NotADesk,

@@ -1,6 +1,6 @@
 //! Rows as batches and moves of the machine.
 
-ghost use Rattle.std.specs.Prelude.{◌≡◌, List, map, Err, IfOk};
+ghost use Rattle.std.specs.Prelude.{◌≡◌, ◌≢◌, List, map, Err, IfOk};
 ghost use Rattle.tb_core.specs.Machine.{Batch};
 ghost use Rattle.tb_core.specs.Moves.{MoveText};
 ghost use Rattle.tb_tables.specs.Values.{batch_of, move_of};
@@ -18,6 +18,7 @@ use tb_tables::{BatchRow, MoveRow};
 fn batch_in<'a>(row: &'a BatchRow) -> Result<tb_replay::BatchRow<'a>, Unfit>
     ensures record { IfOk result (λ b. batch_record b ≡ batch_of row.now) }
     ensures unfit { result ≡ Err NotADesk → (b : Batch) → batch_record b ≡ batch_of row.now → ⊥ }
+    ensures memory { result ≢ Err Unfit.Memory }
 {
     let Some(state) = state_numbered(row.state) else {
         return Err(Unfit::NotADesk);

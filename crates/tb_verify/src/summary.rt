@@ -1,6 +1,6 @@
 //! Whether the rows of all tables are those of a state that accepted commands reach. This module uses no database.
 
-ghost use Rattle.std.specs.Prelude.{◌≡◌, ◌≤◌, map, Err, Decides, IfOk};
+ghost use Rattle.std.specs.Prelude.{◌≡◌, ◌≢◌, ◌≤◌, map, Err, Decides, IfOk};
 ghost use Rattle.tb_core.specs.Machine.{Machine};
 ghost use Rattle.tb_core.specs.Reaching.{IsReachable};
 ghost use Rattle.tb_core.specs.Totals.{AreTotalsOf};
@@ -91,6 +91,7 @@ fn counted(
     ensures totals { IfOk result (λ x. x.totals ≡ totals) }
     ensures unfit { result ≡ Err NotADesk → batches ≤ moves → sentences ≤ 1000000
         → moves ≤ 1000000000 → ⊥ }
+    ensures memory { result ≢ Err Unfit.Memory }
 {
     if batches > moves || sentences > 1_000_000 || moves > 1_000_000_000 {
         return Err(Unfit::NotADesk);

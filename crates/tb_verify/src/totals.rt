@@ -1,6 +1,6 @@
 //! Whether stored totals are the sums of the rows.
 
-ghost use Rattle.std.specs.Prelude.{◌≡◌, ◌↔◌, ◌≤◌, length, map, None, Err, IsTrue, IfOk, IfSome};
+ghost use Rattle.std.specs.Prelude.{◌≡◌, ◌≢◌, ◌↔◌, ◌≤◌, length, map, None, Err, IsTrue, IfOk, IfSome};
 ghost use Rattle.tb_core.specs.Machine.{Machine};
 ghost use Rattle.tb_core.specs.Totals.{AreTotalsOf};
 ghost use Rattle.tb_replay.specs.Summaries.{entries_of};
@@ -76,6 +76,7 @@ pub(crate) fn totals_in(
     ensures unfit { result ≡ Err NotADesk → (f : Machine) → batches.now ≡ f.batches
         → entries.now ≡ entries_of f.sentences → AreFine f → length f.sentences ≤ 1000000
         → map total_of rows.now ≡ map (total_record f) six_states → ⊥ }
+    ensures memory { result ≢ Err Unfit.Memory }
 {
     let Some(totals) = totals_of(batches, entries) else {
         return Err(Unfit::NotADesk);
