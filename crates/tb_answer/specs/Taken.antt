@@ -1,4 +1,3 @@
--- Between crates: no contract of a front door cites a definition of this module.
 -- The body of a line: what it takes from its input.
 use Rattle.std.specs.Prelude.{◌≡◌, ◌≤◌, ◌<◌, ◌+◌, ◌⊎◌, ℕ, List, [], length, Bool, true}
 use Rattle.std.specs.Prelude.{false, Option, Result, Ok, Err}

@@ -1,21 +1,45 @@
 -- What deskview shows of a state, or why it shows nothing.
 use Rattle.std.specs.Prelude.{◌≡◌, ◌⊎◌, ℕ, List}
 use Rattle.tb_core.specs.declared.refusals.Refusal.{Refusal}
+use Rattle.tb_core.specs.declared.refusals.Fault.TheVariants.{Refused}
+use Rattle.tb_core.specs.declared.refusals.Refusal.TheVariants.{NoSuchSentence}
 use Rattle.tb_core.specs.Machine.{Machine}
 use Rattle.tb_http.specs.declared.replies.Reply.{Reply}
 use Rattle.tb_http.specs.declared.replies.Reply.TheVariants as reply
-use Rattle.tb_cli.specs.View.{Viewed, batches}
+use Rattle.tb_cli.specs.View.{Viewed, batches, sentences, revisions}
 use Rattle.tb_lists.specs.Batches.{batch_lines}
-use Rattle.tb_lists.specs.Csv.{batches_csv}
+use Rattle.tb_lists.specs.Csv.{batches_csv, revisions_csv, sentences_csv}
+use Rattle.tb_lists.specs.Revisions.{RevisionText, AreRevisions}
+use Rattle.tb_lists.specs.Sentences.{SentenceText, AreSentences}
+use Rattle.tb_store.specs.Answers.{HasNoSentence}
+use Rattle.tb_store.specs.Exports.{RefusesBatch}
 use Rattle.tb_answer.specs.Commanded.{IsFailure}
+
+-- the text of the list of the sentences of the batch with this name
+abbrev pub IsSentencesText : Machine → List ℕ → List ℕ → Type 0
+IsSentencesText s name text = (lines : List SentenceText) × AreSentences s name lines × (text ≡ sentences_csv lines)
+
+-- the text of the list of the revisions of this sentence
+abbrev pub IsRevisionsText : Machine → ℕ → List ℕ → Type 0
+IsRevisionsText s n text = (lines : List RevisionText) × AreRevisions s n lines × (text ≡ revisions_csv lines)
 
 -- the text of a list in a state
 abbrev pub IsView : Machine → Viewed → List ℕ → Type 0
 IsView s (batches db) text = text ≡ batches_csv (batch_lines s)
+IsView s (sentences db name) text = IsSentencesText s name text
+IsView s (revisions db n) text = IsRevisionsText s n text
 
 -- the refusal of a list in a state
 abbrev pub RefusesView : Machine → Viewed → Refusal → Type 0
 RefusesView s (batches db) r = ⊥
+RefusesView s (sentences db name) r = RefusesBatch s name (Refused r)
+RefusesView s (revisions db n) r = (r ≡ NoSuchSentence) × HasNoSentence s n
+
+-- the list is one of a sentence that does not exist
+abbrev pub ViewsNone : Machine → Viewed → Type 0
+ViewsNone s (batches db) = ⊥
+ViewsNone s (sentences db name) = ⊥
+ViewsNone s (revisions db n) = HasNoSentence s n
 
 -- the answer in place of a list: the refusal, or a failure of the call with this cause
 abbrev pub IsViewReported : (cause : Type 0) → Machine → Viewed → Reply → Type 0

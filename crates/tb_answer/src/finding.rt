@@ -1,6 +1,6 @@
 //! Searches and counts of released text, and whether their queries are accepted.
 
-ghost use Rattle.std.specs.Prelude.{◌≡◌, IfOk, IfErr};
+ghost use Rattle.std.specs.Prelude.{◌≡◌, ◌≢◌, IfOk, IfErr};
 ghost use Rattle.sqlite.specs.State.{HasCleanDisk};
 ghost use Rattle.sqlite.specs.Held.{state};
 ghost use Rattle.tb_core.specs.Machine.{Machine};
@@ -104,6 +104,7 @@ fn within_limit<S: Alter>(
     ensures keeps_state { KeepsState S.Store desk.old desk.new }
     ensures commits_nothing { CommitsNothing S.Store desk.old.conn desk.new.conn }
     ensures limits { desk.new.limits ≡ desk.old.limits }
+    ensures unasked { strategy ≢ Strategy.Every → (desk.new ≡ desk.old) × IfErr result (λ _. ⊥) }
 {
     match strategy {
         Strategy::Every => counted_within(desk, query, strategy),
@@ -111,7 +112,7 @@ fn within_limit<S: Alter>(
     }
 }
 
-/// Parses a query whose hits are within the limit of the desk.
+/// Parses a query whose hits are within the limit of the desk. The desk is asked for `Every` alone.
 ///
 /// # Errors
 ///
@@ -130,6 +131,8 @@ pub(crate) fn accepted<S: Alter>(
     ensures keeps_state { KeepsState S.Store desk.old desk.new }
     ensures commits_nothing { CommitsNothing S.Store desk.old.conn desk.new.conn }
     ensures limits { desk.new.limits ≡ desk.old.limits }
+    ensures unasked { strategy ≢ Strategy.Every → (desk.new ≡ desk.old)
+        × IfErr result (λ r. IsQueryReply text.now r) }
 {
     match read_query(alloc, text) {
         Ok(query) => within_limit(desk, query, strategy),

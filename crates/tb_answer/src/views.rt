@@ -1,20 +1,27 @@
 //! The lists that `deskview` shows, as CSV.
 
-ghost use Rattle.std.specs.Prelude.{◌≡◌, IfOk, IfErr};
+ghost use Rattle.std.specs.Prelude.{◌≡◌, Err, IfOk, IfErr, Some};
+ghost use Rattle.tb_core.specs.Machine.{Machine};
 ghost use Rattle.tb_cli.specs.View.{viewed_by};
 ghost use Rattle.tb_lists.specs.Batches.{batch_lines};
-ghost use Rattle.tb_lists.specs.Csv.{batches_csv};
+ghost use Rattle.tb_lists.specs.Csv.{batches_csv, revisions_csv, sentences_csv};
+ghost use Rattle.tb_answer.specs.Asked.{IsReportedOf};
 ghost use Rattle.tb_answer.specs.Commanded.{HasFailed, IsFailure};
+ghost use Rattle.tb_answer.specs.Exported.{IsReportedOfExport};
 ghost use Rattle.tb_answer.specs.Calls.{ReadsOnly};
-ghost use Rattle.tb_answer.specs.Viewed.{IsView, IsViewReported};
+ghost use Rattle.tb_answer.specs.Viewed.{IsRevisionsText, IsSentencesText, IsView, IsViewReported, ViewsNone};
+ghost use Rattle.tb_store.specs.Answers.{HasNoSentence};
 ghost use Rattle.tb_store.specs.Calls.{Gives, GivesOnErr, KeepsState};
+ghost use Rattle.tb_store.specs.Represents.{Represents};
 
 use crate::commands::reply_for_fault;
+use crate::questions::Question;
 use sqlite::Alter;
 use std::alloc::Global;
 use tb_cli::ViewLine;
+use tb_core::Refusal;
 use tb_http::Reply;
-use tb_lists::{BatchLine, csv_batches};
+use tb_lists::{BatchLine, RevisionLine, SentenceLine, csv_batches, csv_revisions, csv_sentences};
 use tb_store::Desk;
 
 /// Batches as CSV.
@@ -44,6 +51,70 @@ fn batches<S: Alter>(alloc: Global, desk: &mut Desk<S>) -> Result<Vec<u8>, Reply
     }
 }
 
+/// Sentences as CSV.
+fn sentences_text(alloc: Global, sentences: &[SentenceLine]) -> Result<Vec<u8>, Reply>
+    ensures text { IfOk result (λ v. v.items ≡ sentences_csv sentences.now) }
+    ensures failed { IfErr result (λ r. r ≡ Reply.Memory) }
+{
+    let mut text = Vec::new(alloc);
+    match csv_sentences(alloc, sentences, &mut text) {
+        Ok(()) => Ok(text),
+        Err(_) => Err(Reply::Memory),
+    }
+}
+
+/// The sentences of the batch with this name, pulled ones too, by number. It is refused as an export of the batch.
+///
+/// # Errors
+///
+/// The first of `BadName`, `NoSuchBatch`, or a failure.
+fn sentences<S: Alter>(alloc: Global, desk: &mut Desk<S>, name: &str) -> Result<Vec<u8>, Reply>
+    ensures answered { Gives S.Store desk.old desk.new result (λ s v. IsSentencesText s name.now v.items) }
+    ensures reported { GivesOnErr S.Store desk.old desk.new result (λ s r.
+        IsReportedOfExport (HasFailed S.Store desk.old desk.new) s (Some name.now) r) }
+    ensures keeps_state { KeepsState S.Store desk.old desk.new }
+    ensures crash { ReadsOnly S.Store desk.old desk.new }
+    ensures limits { desk.new.limits ≡ desk.old.limits }
+{
+    match desk.sentences(name) {
+        Ok(sentences) => sentences_text(alloc, sentences.as_slice()),
+        Err(error) => Err(reply_for_fault(error)),
+    }
+}
+
+/// Revisions as CSV.
+fn revisions_text(alloc: Global, revisions: &[RevisionLine]) -> Result<Vec<u8>, Reply>
+    ensures text { IfOk result (λ v. v.items ≡ revisions_csv revisions.now) }
+    ensures failed { IfErr result (λ r. r ≡ Reply.Memory) }
+{
+    let mut text = Vec::new(alloc);
+    match csv_revisions(alloc, revisions, &mut text) {
+        Ok(()) => Ok(text),
+        Err(_) => Err(Reply::Memory),
+    }
+}
+
+/// The revisions of the sentence with this number, from 1, each with the move that made it.
+///
+/// # Errors
+///
+/// `NoSuchSentence`, or a failure.
+fn revisions<S: Alter>(alloc: Global, desk: &mut Desk<S>, number: u64) -> Result<Vec<u8>, Reply>
+    ensures answered { Gives S.Store desk.old desk.new result (λ s v. IsRevisionsText s number v.items) }
+    ensures missing { (s : Machine) → Represents S.Store desk.old s → HasNoSentence s number
+        → result ≡ Err (Reply.Refused Refusal.NoSuchSentence) }
+    ensures reported { GivesOnErr S.Store desk.old desk.new result (λ s r.
+        IsReportedOf (HasFailed S.Store desk.old desk.new) s (Question.Sentence number) r) }
+    ensures keeps_state { KeepsState S.Store desk.old desk.new }
+    ensures crash { ReadsOnly S.Store desk.old desk.new }
+    ensures limits { desk.new.limits ≡ desk.old.limits }
+{
+    match desk.revisions(number) {
+        Ok(revisions) => revisions_text(alloc, revisions.as_slice()),
+        Err(why) => Err(reply_for_fault(why)),
+    }
+}
+
 /// The list that a line of `deskview` asks for.
 ///
 /// # Errors
@@ -51,6 +122,8 @@ fn batches<S: Alter>(alloc: Global, desk: &mut Desk<S>) -> Result<Vec<u8>, Reply
 /// The refusals of the list, or a failure.
 pub fn view<S: Alter>(alloc: Global, line: &ViewLine, desk: &mut Desk<S>) -> Result<Vec<u8>, Reply>
     ensures answered { Gives S.Store desk.old desk.new result (λ s v. IsView s (viewed_by line.now) v.items) }
+    ensures missing { (s : Machine) → Represents S.Store desk.old s → ViewsNone s (viewed_by line.now)
+        → result ≡ Err (Reply.Refused Refusal.NoSuchSentence) }
     ensures reported { GivesOnErr S.Store desk.old desk.new result (λ s r.
         IsViewReported (HasFailed S.Store desk.old desk.new) s (viewed_by line.now) r) }
     ensures keeps_state { KeepsState S.Store desk.old desk.new }
@@ -59,5 +132,7 @@ pub fn view<S: Alter>(alloc: Global, line: &ViewLine, desk: &mut Desk<S>) -> Res
 {
     match line {
         ViewLine::Batches { db: _ } => batches(alloc, desk),
+        ViewLine::Sentences { db: _, name } => sentences(alloc, desk, name.as_str()),
+        ViewLine::Revisions { db: _, no } => revisions(alloc, desk, *no),
     }
 }

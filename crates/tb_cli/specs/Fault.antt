@@ -1,5 +1,5 @@
 -- What a fault of a command line says.
-use Rattle.std.specs.Prelude.{◌≡◌, [], Option, Some, None, Result, Ok, Err, IfOk, IfErr, ⊤}
+use Rattle.std.specs.Prelude.{◌≡◌, ◌≢◌, [], Option, Some, None, Result, Ok, Err, IfOk, IfErr, ⊤}
 use Rattle.clap.specs.Words.{IsAmong, Kinds, kind_of}
 use Rattle.tb_cli.specs.declared.lines.LineFault.{LineFault}
 use Rattle.tb_cli.specs.declared.lines.LineFault.TheVariants.{Clap, Usage, Memory}
@@ -16,9 +16,15 @@ ComesOnly (Clap e) C U = C
 ComesOnly Usage C U = U
 ComesOnly Memory C U = ⊤
 
--- The result x is what is given (`of x`, as plain data). The desk's own fault comes only where nothing is given.
+-- the desk's own fault comes only where nothing is given, and want of memory only where something is
+abbrev pub IsFaultOf : {A : Type 0} → Option A → LineFault → Type 0
+IsFaultOf found (Clap e) = ⊥
+IsFaultOf found Usage = found ≡ None
+IsFaultOf found Memory = found ≢ None
+
+-- the result x is what is given (`of x`, as plain data), or the fault is so
 abbrev pub ReadsAs : {T A : Type 0} → Option A → (T → A) → Result T LineFault → Type 0
-ReadsAs found of result = IfOk result (λ x. found ≡ Some (of x)) × IfErr result (λ e. ComesOnly e ⊥ (found ≡ None))
+ReadsAs found of result = IfOk result (λ x. found ≡ Some (of x)) × IfErr result (IsFaultOf found)
 
 -- clap's definition refuses words with these kinds of error, and accepts them where there is none. A result comes only
 -- of words that it accepts, and an error of clap has one of the kinds.

@@ -1,9 +1,10 @@
 -- The command line of deskview: its commands, as they are declared to clap, and what words say.
-use Rattle.std.specs.Prelude.{List, true, [], codes, Option, None, option_and_then, bytes_eq, if◌then◌else◌}
+use Rattle.std.specs.Prelude.{ℕ, List, true, [], codes, Option, None, option_and_then, bytes_eq, if◌then◌else◌}
 use Rattle.std.specs.String.{string_bytes}
-use Rattle.clap.specs.Words.{App, Row, Text, first_of, new_app, with_subcommand}
-use Rattle.tb_cli.specs.Lines.{with_one}
-use Rattle.tb_cli.specs.Tree.{with_db}
+use Rattle.clap.specs.Words.{App, Row, Text, first_of, new_app, with_rule, with_subcommand}
+use Rattle.tb_http.specs.Forms.{number_of}
+use Rattle.tb_cli.specs.Lines.{batch_of, formed, with_one, with_two}
+use Rattle.tb_cli.specs.Tree.{with_db, word_rule}
 use Rattle.tb_cli.specs.declared.lines.ViewLine.{ViewLine}
 use Rattle.tb_cli.specs.declared.lines.ViewLine.TheVariants as line
 
@@ -11,18 +12,40 @@ use Rattle.tb_cli.specs.declared.lines.ViewLine.TheVariants as line
 abbrev pub view_top : App
 view_top = record { top = record (new_app (codes "deskview")).top { has_version = true }; subs = [] }
 
+abbrev pub batches_app : App
+batches_app = with_db (new_app (codes "batches"))
+
+abbrev pub sentences_app : App
+sentences_app = with_rule (with_db (new_app (codes "sentences"))) (word_rule (codes "name"))
+
+abbrev pub revisions_app : App
+revisions_app = with_rule (with_db (new_app (codes "revisions"))) (word_rule (codes "no"))
+
 -- the whole command
 unfoldable pub view_app : App
-view_app = with_subcommand view_top (with_db (new_app (codes "batches"))).top
+view_app =
+    with_subcommand (with_subcommand (with_subcommand view_top batches_app.top) sentences_app.top) revisions_app.top
 
 -- a command line as plain data; the first text is the value of --db
 pub data Viewed : Type 0 where
   batches : Text → Viewed
+  sentences : Text → Text → Viewed
+  revisions : Text → ℕ → Viewed
+
+-- what the command `sentences` says with its values
+abbrev pub sentences_with : List Row → Option Viewed
+sentences_with rows = with_two sentences (first_of (codes "db") rows) (formed batch_of (first_of (codes "name") rows))
+
+-- what the command `revisions` says with its values
+abbrev pub revisions_with : List Row → Option Viewed
+revisions_with rows = with_two revisions (first_of (codes "db") rows) (formed number_of (first_of (codes "no") rows))
 
 -- what the command with this word says with its values
 abbrev pub viewed_with : Text → List Row → Option Viewed
 viewed_with word rows =
     if bytes_eq word (codes "batches") then with_one batches (first_of (codes "db") rows)
+    else if bytes_eq word (codes "sentences") then sentences_with rows
+    else if bytes_eq word (codes "revisions") then revisions_with rows
     else None
 
 -- what the subcommand that clap finds says, with its values
@@ -32,3 +55,5 @@ viewed_of found = option_and_then (λ p. viewed_with p.0 p.1) found
 -- the line of the code, as plain data
 abbrev pub viewed_by : ViewLine → Viewed
 viewed_by (line.Batches db) = batches (string_bytes db)
+viewed_by (line.Sentences db name) = sentences (string_bytes db) (string_bytes name)
+viewed_by (line.Revisions db n) = revisions (string_bytes db) n

@@ -80,6 +80,8 @@ pub enum Line {
 #[derive(Debug, Drop)]
 pub enum ViewLine {
     Batches { db: String },
+    Sentences { db: String, name: String },
+    Revisions { db: String, no: u64 },
 }
 
 /// Why words are no line.

@@ -23,19 +23,23 @@ use std::alloc::Global;
 fn import(alloc: Global, matches: &ArgMatches<'_>) -> Result<Line, LineFault>
     ensures { ReadsAs (said_with verb.Import (rows_of (found_of matches.now))) said_by result }
 {
-    let user = text_of(alloc, value(matches, "user"))?;
-    let name = text_of(alloc, batch_in(matches, "name"))?;
+    let user = given(value(matches, "user"))?;
+    let name = given(batch_in(matches, "name"))?;
     let db = copied(alloc, value(matches, "db"))?;
+    let user = String::from_str(alloc, user)?;
+    let name = String::from_str(alloc, name)?;
     Ok(Line::Import { db, user, name })
 }
 
 fn event(alloc: Global, matches: &ArgMatches<'_>) -> Result<Line, LineFault>
     ensures { ReadsAs (said_with verb.Event (rows_of (found_of matches.now))) said_by result }
 {
-    let user = text_of(alloc, value(matches, "user"))?;
-    let name = text_of(alloc, batch_in(matches, "name"))?;
+    let user = given(value(matches, "user"))?;
+    let name = given(batch_in(matches, "name"))?;
     let event = given(event_in(matches, "event"))?;
     let db = copied(alloc, value(matches, "db"))?;
+    let user = String::from_str(alloc, user)?;
+    let name = String::from_str(alloc, name)?;
     Ok(Line::Event {
         db,
         user,
@@ -47,28 +51,31 @@ fn event(alloc: Global, matches: &ArgMatches<'_>) -> Result<Line, LineFault>
 fn correct(alloc: Global, matches: &ArgMatches<'_>) -> Result<Line, LineFault>
     ensures { ReadsAs (said_with verb.Correct (rows_of (found_of matches.now))) said_by result }
 {
-    let user = text_of(alloc, value(matches, "user"))?;
+    let user = given(value(matches, "user"))?;
     let no = given(number_in(matches, "no"))?;
     let base = given(base_in(matches, "base"))?;
     let db = copied(alloc, value(matches, "db"))?;
+    let user = String::from_str(alloc, user)?;
     Ok(Line::Correct { db, user, no, base })
 }
 
 fn pull(alloc: Global, matches: &ArgMatches<'_>) -> Result<Line, LineFault>
     ensures { ReadsAs (said_with verb.Pull (rows_of (found_of matches.now))) said_by result }
 {
-    let user = text_of(alloc, value(matches, "user"))?;
+    let user = given(value(matches, "user"))?;
     let no = given(number_in(matches, "no"))?;
     let db = copied(alloc, value(matches, "db"))?;
+    let user = String::from_str(alloc, user)?;
     Ok(Line::Pull { db, user, no })
 }
 
 fn restore(alloc: Global, matches: &ArgMatches<'_>) -> Result<Line, LineFault>
     ensures { ReadsAs (said_with verb.Restore (rows_of (found_of matches.now))) said_by result }
 {
-    let user = text_of(alloc, value(matches, "user"))?;
+    let user = given(value(matches, "user"))?;
     let no = given(number_in(matches, "no"))?;
     let db = copied(alloc, value(matches, "db"))?;
+    let user = String::from_str(alloc, user)?;
     Ok(Line::Restore { db, user, no })
 }
 
@@ -203,6 +210,19 @@ fn parsed(alloc: Global, words: &[String]) -> Result<ArgMatches<'_>, LineFault>
     found_by(desk(alloc)?, words)
 }
 
+/// The line that clap's matches say. Only what is a line needs memory.
+fn line_in(alloc: Global, matches: &ArgMatches<'_>) -> Result<Line, LineFault>
+    ensures { ReadsAs (said_of (subcommand_rows_of matches.now)) said_by result }
+{
+    match entered(matches) {
+        Some((name, values)) => match verb_of(name) {
+            Some(verb) => line_of(alloc, verb, values),
+            None => Err(LineFault::Usage),
+        },
+        None => Err(LineFault::Usage),
+    }
+}
+
 impl Line {
     ghost use Rattle.std.specs.Prelude.{◌≡◌, ◌≢◌, IfOk, IfErr, Some, None, true, map};
     ghost use Rattle.std.specs.String.{string_bytes};
@@ -226,12 +246,6 @@ impl Line {
         ensures answers { AnswersAs (fault_of desk_app (map string_bytes words.now)) result }
     {
         let matches = parsed(alloc, words)?;
-        match entered(&matches) {
-            Some((name, values)) => match verb_of(name) {
-                Some(verb) => line_of(alloc, verb, values),
-                None => Err(LineFault::Usage),
-            },
-            None => Err(LineFault::Usage),
-        }
+        line_in(alloc, &matches)
     }
 }

@@ -38,7 +38,7 @@ fn defaulted<'a>(alloc: Global, name: &'a str, value: &'a str, help: &'a str) ->
 }
 
 /// A word that is required.
-fn word<'a>(alloc: Global, name: &'a str, help: &'a str) -> Arg<'a>
+pub(crate) fn word<'a>(alloc: Global, name: &'a str, help: &'a str) -> Arg<'a>
     ensures { HasRule (word_rule name.entry.now) result }
 {
     Arg::new(alloc, name).required(true).help(help)

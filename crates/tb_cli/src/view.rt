@@ -1,14 +1,14 @@
 //! Reads a line of `deskview` from words.
 
-ghost use Rattle.std.specs.Prelude.{◌≡◌, ◌≢◌, IfOk, IfErr, true, map};
+ghost use Rattle.std.specs.Prelude.{◌≡◌, ◌≢◌, IfOk, IfErr, codes, true, map};
 ghost use Rattle.std.specs.String.{string_bytes};
-ghost use Rattle.clap.specs.Words.{takes, fault_of, subcommand_of, subcommand_rows_of, rows_of, found_of};
+ghost use Rattle.clap.specs.Words.{takes, fault_of, subcommand_of, subcommand_rows_of, rows_of, found_of, first_of};
 ghost use Rattle.tb_cli.specs.Fault.{AnswersAs, ComesOnly, ReadsAs};
-ghost use Rattle.tb_cli.specs.View.{view_app, viewed_by, viewed_with};
+ghost use Rattle.tb_cli.specs.View.{revisions_with, sentences_with, view_app, viewed_by, viewed_of, viewed_with};
 
 use crate::lines::{LineFault, ViewLine};
 use crate::reading::{entered, found_by};
-use crate::values::{text_of, value};
+use crate::values::{batch_in, given, number_in, text_of, value};
 use crate::verbs::is_word;
 use crate::view_tree::deskview;
 use clap::ArgMatches;
@@ -23,15 +23,53 @@ fn parsed(alloc: Global, words: &[String]) -> Result<ArgMatches<'_>, LineFault>
     found_by(deskview(alloc)?, words)
 }
 
+/// The file that every list needs.
+fn file_in(alloc: Global, values: &ArgMatches<'_>) -> Result<String, LineFault>
+    ensures { ReadsAs (first_of (codes "db") (rows_of (found_of values.now))) string_bytes result }
+{
+    text_of(alloc, value(values, "db"))
+}
+
+fn sentences(alloc: Global, values: &ArgMatches<'_>) -> Result<ViewLine, LineFault>
+    ensures { ReadsAs (sentences_with (rows_of (found_of values.now))) viewed_by result }
+{
+    let name = given(batch_in(values, "name"))?;
+    let db = file_in(alloc, values)?;
+    let name = String::from_str(alloc, name)?;
+    Ok(ViewLine::Sentences { db, name })
+}
+
+fn revisions(alloc: Global, values: &ArgMatches<'_>) -> Result<ViewLine, LineFault>
+    ensures { ReadsAs (revisions_with (rows_of (found_of values.now))) viewed_by result }
+{
+    let no = given(number_in(values, "no"))?;
+    let db = file_in(alloc, values)?;
+    Ok(ViewLine::Revisions { db, no })
+}
+
 /// The line of the command with this word, and with these values.
 fn line_of(alloc: Global, word: &str, values: &ArgMatches<'_>) -> Result<ViewLine, LineFault>
     ensures { ReadsAs (viewed_with word.now (rows_of (found_of values.now))) viewed_by result }
 {
     if is_word(word, "batches") {
-        let db = text_of(alloc, value(values, "db"))?;
+        let db = file_in(alloc, values)?;
         Ok(ViewLine::Batches { db })
+    } else if is_word(word, "sentences") {
+        sentences(alloc, values)
+    } else if is_word(word, "revisions") {
+        revisions(alloc, values)
     } else {
         Err(LineFault::Usage)
+    }
+}
+
+/// The line that clap's matches say. Only what is a line needs memory.
+fn line_in(alloc: Global, matches: &ArgMatches<'_>) -> Result<ViewLine, LineFault>
+    ensures { ReadsAs (viewed_of (subcommand_rows_of matches.now)) viewed_by result }
+{
+    match entered(matches) {
+        Some((word, values)) => line_of(alloc, word, values),
+        None => Err(LineFault::Usage),
     }
 }
 
@@ -47,7 +85,8 @@ impl ViewLine {
     /// # Errors
     ///
     /// `Clap`: clap's definition does not accept the words, and has an error of this kind for them. `Usage`: it
-    /// accepts them, but there is no command, or no file is named. `Memory`: want of memory.
+    /// accepts them, but there is no command, or no file is named, or a value does not have its form. `Memory`: want of
+    /// memory.
     pub fn read(alloc: Global, words: &[String]) -> Result<ViewLine, LineFault>
         ensures ok { IfOk result (λ line. viewed_of (subcommand_of view_app (map string_bytes words.now))
             ≡ Some (viewed_by line)) }
@@ -56,9 +95,6 @@ impl ViewLine {
         ensures answers { AnswersAs (fault_of view_app (map string_bytes words.now)) result }
     {
         let matches = parsed(alloc, words)?;
-        match entered(&matches) {
-            Some((word, values)) => line_of(alloc, word, values),
-            None => Err(LineFault::Usage),
-        }
+        line_in(alloc, &matches)
     }
 }

@@ -4,6 +4,8 @@
 pub const ENDING: &str = "\
 Examples:
   deskview batches --db desk.db
+  deskview sentences --db desk.db news
+  deskview revisions --db desk.db 7
 
 Each command reads the desk in the file that --db names, and prints a list as CSV. It changes nothing of the desk.
 `deskview help COMMAND` shows what a command takes and prints, with an example.
@@ -23,5 +25,23 @@ Columns: no, name, state, worker, first, sentences, words, pulled. `first` is th
 sentence; `sentences` and `words` leave out pulled sentences, which `pulled` counts.
 
 Example: deskview batches --db desk.db
+
+Exit status: 0 done, 1 refused, 2 wrong words, 3 out of memory or an I/O error.";
+
+/// The end of the help of `sentences`.
+pub const SENTENCES: &str = "\
+Columns: no, sent_id, rev, words, pulled. `rev` is the number of the current revision, `words` counts its
+words, and `pulled` is `yes` or `no`.
+
+Example: deskview sentences --db desk.db news
+
+Exit status: 0 done, 1 refused, 2 wrong words, 3 out of memory or an I/O error.";
+
+/// The end of the help of `revisions`.
+pub const REVISIONS: &str = "\
+Columns: rev, who, kind, move. `rev` counts from 1, `who` wrote the revision, and `move` is the number of
+the move that made it, as `treedesk moves` lists it: the import of the batch, then a correction for each.
+
+Example: deskview revisions --db desk.db 7
 
 Exit status: 0 done, 1 refused, 2 wrong words, 3 out of memory or an I/O error.";

@@ -3,10 +3,10 @@
 ghost use Rattle.std.specs.Prelude.{◌≡◌, IfOk};
 ghost use Rattle.clap.specs.Words.{app_of, new_app};
 ghost use Rattle.tb_cli.specs.Tree.{with_db, IsKnownAs};
-ghost use Rattle.tb_cli.specs.View.{view_app, view_top};
+ghost use Rattle.tb_cli.specs.View.{batches_app, revisions_app, sentences_app, view_app, view_top};
 
-use crate::tree::{VERSION, option, with, with_sub};
-use crate::view_help::{BATCHES, ENDING};
+use crate::tree::{VERSION, option, with, with_sub, word};
+use crate::view_help::{BATCHES, ENDING, REVISIONS, SENTENCES};
 use clap::Command;
 use std::alloc::{AllocError, Global};
 
@@ -40,12 +40,35 @@ fn reading<'a>(
     )
 }
 
+fn batches<'a>(alloc: Global) -> Result<Command<'a>, AllocError>
+    ensures { IfOk result (IsKnownAs batches_app) }
+{
+    let about = "List the batches, each with its state, its worker and its counts";
+    reading(alloc, "batches", about, BATCHES)
+}
+
+fn sentences<'a>(alloc: Global) -> Result<Command<'a>, AllocError>
+    ensures { IfOk result (IsKnownAs sentences_app) }
+{
+    let about = "List the sentences of a batch, each with its current revision";
+    let command = reading(alloc, "sentences", about, SENTENCES)?;
+    with(command, word(alloc, "name", "The name of the batch"))
+}
+
+fn revisions<'a>(alloc: Global) -> Result<Command<'a>, AllocError>
+    ensures { IfOk result (IsKnownAs revisions_app) }
+{
+    let about = "List the revisions of a sentence, each with its user and the move that made it";
+    let command = reading(alloc, "revisions", about, REVISIONS)?;
+    with(command, word(alloc, "no", "The number of the sentence"))
+}
+
 /// The whole command, with its subcommands in the order of help.
 pub fn deskview<'a>(alloc: Global) -> Result<Command<'a>, AllocError>
     ensures { IfOk result (λ r. app_of r ≡ view_app) }
 {
-    let about = "List the batches, each with its state, its worker and its counts";
-    let batches = reading(alloc, "batches", about, BATCHES)?;
-    let command = with_sub(top(alloc), batches)?;
+    let command = with_sub(top(alloc), batches(alloc)?)?;
+    let command = with_sub(command, sentences(alloc)?)?;
+    let command = with_sub(command, revisions(alloc)?)?;
     Ok(command)
 }

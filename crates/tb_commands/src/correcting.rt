@@ -302,7 +302,8 @@ fn plan_body<'a>(
     Ok((reply_of(number, &plan), plan))
 }
 
-/// The reply to a correction that is not refused, and what it writes. A repeat writes nothing.
+/// The reply to a correction that is not refused, and what it writes. A repeat writes nothing. Only a correction whose
+/// body is to be judged needs memory.
 fn decide<'a>(
     alloc: Global,
     counts: &Counters,
@@ -321,6 +322,9 @@ fn decide<'a>(
         → Reached s → IsCounted counts.now s → slice_get s.sentences (number - 1) ≡ Some x
         → IsCurrentRead s x read.now
         → Steps counts.now.limits s (correct_it number base user.now body.now) (refused_by r) s }
+    ensures wants { result ≡ Err Fault.Memory → (s : Machine) (x : Sentence)
+        → slice_get s.sentences (number - 1) ≡ Some x → IsCurrentRead s x read.now
+        → IsNamedCorrection s number base user.now body.now (number - 1) x }
     ensures fails { IsWithin counts.now.limits → (s : Machine) (x : Sentence) → IsReachable s
         → IsCounted counts.now s → slice_get s.sentences (number - 1) ≡ Some x → IsCurrentRead s x read.now
         → result ≢ Err Fault.NotADesk }

@@ -87,7 +87,7 @@ fn plan_pull(
     ))
 }
 
-/// The reply to a pull that is not refused, and what the pull writes.
+/// The reply to a pull that is not refused, and what the pull writes. A refusal needs no memory.
 fn decide_pull(
     alloc: Global,
     counts: &Counters,
@@ -104,6 +104,9 @@ fn decide_pull(
         → Reached s → IsCounted counts.now s → slice_get s.sentences (number - 1) ≡ Some x
         → IsSentenceRead s x read.now
         → Steps counts.now.limits s (pull_it number user.now) (refused_by r) s }
+    ensures wants { result ≡ Err Fault.Memory → (s : Machine) (x : Sentence) → Reached s
+        → IsCounted counts.now s → slice_get s.sentences (number - 1) ≡ Some x → IsSentenceRead s x read.now
+        → IsAllowed s (pulling (number - 1) user.now) }
     ensures fails { (s : Machine) (x : Sentence) → IsReachable s → IsCounted counts.now s
         → IsWithin counts.now.limits → slice_get s.sentences (number - 1) ≡ Some x → IsSentenceRead s x read.now
         → result ≢ Err Fault.NotADesk }
@@ -123,7 +126,7 @@ fn decide_pull(
         u64::from(counts.moves),
     ) {
         Ok(()) => plan_pull(alloc, counts, number, user, read),
-        Err(refusal) => Err(Fault::Refused(refusal)),
+        Err(refused) => Err(Fault::Refused(refused)),
     }
 }
 
@@ -263,7 +266,7 @@ fn plan_restore(
     ))
 }
 
-/// The reply to a restore that is not refused, and what the restore writes.
+/// The reply to a restore that is not refused, and what the restore writes. A refusal needs no memory.
 fn decide_restore(
     alloc: Global,
     counts: &Counters,
@@ -280,6 +283,9 @@ fn decide_restore(
         → Reached s → IsCounted counts.now s → slice_get s.sentences (number - 1) ≡ Some x
         → IsSentenceRead s x read.now
         → Steps counts.now.limits s (restore_it number user.now) (refused_by r) s }
+    ensures wants { result ≡ Err Fault.Memory → (s : Machine) (x : Sentence) → Reached s
+        → IsCounted counts.now s → slice_get s.sentences (number - 1) ≡ Some x → IsSentenceRead s x read.now
+        → IsAllowed s (restoring (number - 1) user.now) }
     ensures fails { (s : Machine) (x : Sentence) → IsReachable s → IsCounted counts.now s
         → IsWithin counts.now.limits → slice_get s.sentences (number - 1) ≡ Some x → IsSentenceRead s x read.now
         → result ≢ Err Fault.NotADesk }

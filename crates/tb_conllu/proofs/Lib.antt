@@ -28,3 +28,4 @@ pub mod Recut
 pub mod PartedLines
 pub mod Tried
 pub mod Nine
+pub mod Shortage

@@ -29,3 +29,6 @@ pub row_keeps_sound : (old new : BlockText) (r : RowText) → IsRowShaped r → 
 row_keeps_sound old new r shaped e h =
     let P : BlockText → Type 0 = λ b. IsSound (begun b) in
     subst P (sym e) (record { done = tt; comments = h.comments; rows = all_append IsRowShaped old.rows (r ∷ []) h.rows (shaped, tt) })
+
+pub first_comment_code : (came : Bool) (t : List ℕ) → IsLineText t → is_empty t ≡ false → is_comment t ≡ true → came ≡ false → line_code came t ≡ 0
+first_comment_code came t h filled hashed before = text_code came t h ∙ cond-false _ _ _ filled ∙ cond-true _ _ _ hashed ∙ cond-false _ _ _ before

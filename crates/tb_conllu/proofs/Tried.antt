@@ -1,7 +1,8 @@
 -- Answers of a writer, one after the other.
-use Rattle.std.proofs.Common.{◌≡◌, ℕ, ◌+◌, ◌<◌, ◌≤◌, List, [], ◌∷◌, ◌++◌, length, Option, Some, None, Err, refl, sym, ◌∙◌, ap, arith, inl, inr, append_assoc, append-nil, length-append}
+use Rattle.std.proofs.Common.{◌≡◌, ℕ, ◌+◌, ◌<◌, ◌≤◌, List, [], ◌∷◌, ◌++◌, length, Option, Some, None, Err, refl, sym, ◌∙◌, ap, subst, arith, inl, inr, append_assoc, append-nil, length-append}
 use Rattle.std.specs.List.{AllByRecursion}
-use Rattle.tb_conllu.specs.Tries.{Answer, Answers, GoesOn, HasGivenUp, HasTaken, TakesNone, interruptions, one_if_interrupted}
+use Rattle.std.proofs.lemmas.List.{replicate_more}
+use Rattle.tb_conllu.specs.Tries.{Answer, Answers, GoesOn, HasGivenUp, HasTaken, TakesNone, interruptions, one_if_interrupted, signals}
 use Rattle.tb_conllu.specs.declared.sink.Stop.TheVariants.{Interrupted}
 
 -- so far only steps: so many bytes were taken, and a signal came between so often
@@ -12,11 +13,11 @@ pub record HasStepped (old new : Option (List Answer)) (written signals : ℕ) :
   pub counted : interruptions rs ≡ signals
   pub few : length rs ≤ written + signals
 
-answers_none : (o : Option (List Answer)) → Answers o o []
+pub answers_none : (o : Option (List Answer)) → Answers o o []
 answers_none None = tt
 answers_none (Some xs) = sym (append-nil xs)
 
-answers_more : (a b c : Option (List Answer)) (xs ys : List Answer) → Answers a b xs → Answers b c ys → Answers a c (xs ++ ys)
+pub answers_more : (a b c : Option (List Answer)) (xs ys : List Answer) → Answers a b xs → Answers b c ys → Answers a c (xs ++ ys)
 answers_more None b c xs ys h k = tt
 answers_more (Some qs) None c xs ys h k = absurd h
 answers_more (Some qs) (Some bs) None xs ys h k = absurd k
@@ -72,3 +73,11 @@ out_of_patience a b c w i n h k room last = (
   },
   omega (arith, length-append h.rs (Err Interrupted ∷ []), h.few, room, last),
 )
+
+-- ---- a reader
+
+-- one more signal
+pub signal_more : (a b c : Option (List Answer)) (i : ℕ) → Answers a b (signals i) → Answers b c (Err Interrupted ∷ []) → Answers a c (signals (i + 1))
+signal_more a b c i h k =
+    let P : List Answer → Type 0 = Answers a c in
+    subst P (replicate_more i (Err Interrupted)) (answers_more a b c (signals i) (Err Interrupted ∷ []) h k)

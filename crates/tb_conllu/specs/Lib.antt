@@ -5,6 +5,7 @@ pub mod Reported
 pub mod Begun
 pub mod Words
 pub mod Fault
+pub mod FaultText
 pub mod TenFields
 pub mod Plain
 pub mod Tested

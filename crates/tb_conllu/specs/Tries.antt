@@ -1,6 +1,6 @@
 -- Inner: no contract beyond this crate cites a definition of this module.
--- The answers of a writer that is asked to take some of a text, and when writing the text ends.
-use Rattle.std.specs.Prelude.{◌≡◌, ℕ, ◌+◌, ◌<◌, ◌≤◌, List, [], ◌∷◌, ◌++◌, length}
+-- The answers of a writer that is asked to take some of a text, and when writing the text ends. Those of a reader.
+use Rattle.std.specs.Prelude.{◌≡◌, ℕ, ◌+◌, ◌<◌, ◌≤◌, List, [], ◌∷◌, ◌++◌, length, replicate}
 use Rattle.std.specs.Prelude.{Option, Some, None, Result, Ok, Err}
 use Rattle.std.specs.Prelude.{⊤, ◌⊎◌}
 use Rattle.std.specs.List.{AllByRecursion}
@@ -64,3 +64,18 @@ HasGivenUp old new bytes = (rs : List Answer) × Answers old new rs × AreLast r
 -- this is known of an answer that takes no byte
 abbrev pub HasStopped : (Answer → Type 0) → Type 0
 HasStopped is_answer = (a : Answer) × TakesNone a × is_answer a
+
+-- ---- a reader
+
+-- so many signals interrupted it
+abbrev pub signals : ℕ → List Answer
+signals n = replicate n (Err Interrupted)
+
+-- it gave n bytes, after fewer than a thousand interruptions
+abbrev pub HasRead : Option (List Answer) → Option (List Answer) → ℕ → Type 0
+HasRead old new n = (k : ℕ) × (k < 1000) × Answers old new (signals k ++ Ok n ∷ [])
+
+-- it failed after fewer than a thousand interruptions, or there were a thousand
+abbrev pub HasFailed : Option (List Answer) → Option (List Answer) → Type 0
+HasFailed old new = ((k : ℕ) × (k < 1000) × Answers old new (signals k ++ Err Failed ∷ []))
+    ⊎ Answers old new (signals 1000)

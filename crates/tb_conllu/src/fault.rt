@@ -1,5 +1,6 @@
 ghost use Rattle.tb_conllu.specs.declared.fault.ReadFault.TheVariants.{Memory};
-ghost use Rattle.std.specs.Prelude.{◌≡◌};
+ghost use Rattle.std.specs.Prelude.{◌≡◌, Some, codes};
+ghost use Rattle.tb_conllu.specs.FaultText.{code_text, fault_text};
 
 use std::alloc::{AllocError, AllocFailed};
 use std::error::Error;
@@ -16,7 +17,9 @@ pub enum ReadFault {
 }
 
 /// What a code says of its line.
-fn meaning(code: u8) -> &'static str {
+fn meaning(code: u8) -> &'static str
+    ensures { result.now ≡ code_text code }
+{
     match code {
         1 => "it is not UTF-8",
         2 => "it is not in Unicode normalization form NFC",
@@ -32,6 +35,8 @@ fn meaning(code: u8) -> &'static str {
 }
 
 impl fmt::Display for ReadFault {
+    ghost output = { λ e. Some (fault_text e) };
+
     fn fmt<W: fmt::Write>(&self, f: &mut fmt::Formatter<W>) -> fmt::Result {
         match self {
             ReadFault::At { line, code } => {
@@ -65,6 +70,8 @@ impl<T: Drop> From<AllocFailed<T>> for ReadFault {
 pub struct WriteFault;
 
 impl fmt::Display for WriteFault {
+    ghost output = { λ _. Some (codes "the writer failed") };
+
     fn fmt<W: fmt::Write>(&self, f: &mut fmt::Formatter<W>) -> fmt::Result {
         f.write_str("the writer failed")
     }

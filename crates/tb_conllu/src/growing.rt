@@ -1,8 +1,9 @@
 //! A sentence that grows line by line.
 
 ghost use Rattle.std.specs.Prelude.{◌≡◌, [], ◌∷◌, ◌++◌, OnOk, IfErr, length, false};
+ghost use Rattle.tb_conllu.specs.declared.fault.ReadFault.TheVariants.{Memory};
 ghost use Rattle.tb_conllu.specs.Begun.{IsSound, has_rows};
-ghost use Rattle.tb_conllu.specs.Lines.{is_comment, is_empty};
+ghost use Rattle.tb_conllu.specs.Lines.{is_comment, is_empty, line_code};
 ghost use Rattle.tb_conllu.specs.Refusal.{IsRefusal, begun, lines_begun};
 ghost use Rattle.tb_conllu.specs.Shape.{IsLineText};
 
@@ -75,6 +76,8 @@ pub fn take_line<'a>(block: &mut BlockRef<'a>, text: &'a str, line: usize) -> Re
     ensures lines { OnOk result (lines_begun block.new ≡ lines_begun block.old ++ text.now ∷ []) }
     ensures sound { OnOk result (IsSound (begun block.old) → IsSound (begun block.new)) }
     ensures err { IfErr result (IsRefusal line (has_rows block.old.rows) text.now) }
+    ensures clean { OnOk result (line_code (has_rows block.old.rows) text.now ≡ 0) }
+    ensures memory { IfErr result (λ e. e ≡ Memory → line_code (has_rows block.old.rows) text.now ≡ 0) }
 {
     if is_hashed(text) {
         if any_row(block) {

@@ -4,7 +4,8 @@ ghost use Rattle.std.specs.Prelude.{◌≡◌, ◌+◌, ◌<◌, ◌≤◌, ◌-
 ghost use Rattle.std.specs.Prelude.{◌++◌, IfOk, IfErr, IfSome, OnOk, MatchOption, length, map, take};
 ghost use Rattle.std.specs.List.{AllByRecursion};
 ghost use Rattle.std.specs.Str.{IsUtf8};
-ghost use Rattle.tb_conllu.specs.Fault.{IsFaultAfter};
+ghost use Rattle.tb_conllu.specs.Fault.{IsFaultAfter, MayWantMemory};
+ghost use Rattle.tb_conllu.specs.declared.fault.ReadFault.TheVariants.{Memory};
 ghost use Rattle.tb_conllu.specs.Left.{Left, IsNext};
 ghost use Rattle.tb_conllu.specs.Shape.{IsRowShaped, IsShaped};
 ghost use Rattle.tb_conllu.specs.Tested.{HoldsOf};
@@ -76,6 +77,7 @@ fn read_block<'a>(
     ensures room { IfOk result (λ found. found.line + length found.rest.now ≤ line + length bytes.now) }
     ensures tested { IfOk result (λ found. HoldsOf tested found.rest.now) }
     ensures fault { IfErr result (IsFaultAfter line bytes.now) }
+    ensures memory { IfErr result (λ e. e ≡ Memory → MayWantMemory bytes.now) }
 {
     let mut block = no_block(alloc);
     let mut rest = bytes;
@@ -153,6 +155,7 @@ impl<'a> Sentences<'a> {
         ensures next { IfOk result (λ o. MatchOption o ((self.old.rest ≡ [])
             × (self.new ≡ self.old)) (IsNext self.old self.new)) }
         ensures fault { IfErr result (λ e. IsFaultAfter self.old.line self.old.rest e × (self.new ≡ self.old)) }
+        ensures memory { IfErr result (λ e. e ≡ Memory → MayWantMemory self.old.rest) }
     {
         if self.rest.is_empty() {
             return Ok(None);
@@ -171,6 +174,7 @@ impl<'a> Sentences<'a> {
             IsNext self.old self.new p.block)) }
         ensures text { IfOk result (λ o. IfSome o (λ p. p.text.now ≡ text_of (p.block ∷ []))) }
         ensures fault { IfErr result (λ e. IsFaultAfter self.old.line self.old.rest e × (self.new ≡ self.old)) }
+        ensures memory { IfErr result (λ e. e ≡ Memory → MayWantMemory self.old.rest) }
     {
         let unread = self.rest;
         let Some(block) = self.read_next(alloc)? else {
@@ -180,7 +184,8 @@ impl<'a> Sentences<'a> {
         Ok(Some(SourcedSentence { block, text }))
     }
 
-    /// Reads the rest to its end, and keeps nothing.
+    /// Reads the rest to its end, and keeps nothing. After an `Err` the sentences before the fault were read, and what
+    /// is left has this fault.
     ///
     /// # Errors
     ///
@@ -189,6 +194,8 @@ impl<'a> Sentences<'a> {
         ensures file { OnOk result ((bs : List BlockText) × IsFile self.old.rest bs) }
         ensures end { OnOk result (self.new.rest ≡ []) }
         ensures fault { IfErr result (IsFaultAfter self.old.line self.old.rest) }
+        ensures left { IfErr result (IsFaultAfter self.new.line self.new.rest) }
+        ensures memory { IfErr result (λ e. e ≡ Memory → MayWantMemory self.old.rest) }
     {
         while let Some(block) = self.read_next(alloc)? {
             drop(block);

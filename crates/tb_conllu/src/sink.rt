@@ -38,9 +38,9 @@ pub trait Sink {
         ensures refused { IfErr result (IsRefusal self.new) };
 }
 
-/// Why a writer took no byte.
+/// Why a writer took no byte, or a reader gave none.
 #[derive(Clone, Copy, Drop)]
-enum Stop {
+pub(crate) enum Stop {
     /// A signal interrupted it.
     Interrupted,
     /// It failed.

@@ -1,10 +1,13 @@
 //! Where read bytes come from: a reader of std, or any other source.
 
-ghost use Rattle.std.specs.Prelude.{ℕ, List, [], ◌∷◌, take, Option, None, Some, IfOk, IfErr};
+ghost use Rattle.std.specs.Prelude.{ℕ, List, [], ◌∷◌, take, Option, None, Some, Result, IfOk, IfErr, OnErr};
 ghost use Rattle.std.specs.Io.{ReadsAtMost};
 ghost use Rattle.std.specs.Io.KnownBytes.{ReadConsumes};
 ghost use Rattle.tb_conllu.specs.Pieces.{Gives};
+ghost use Rattle.tb_conllu.specs.declared.sink.Stop.{Stop};
+ghost use Rattle.tb_conllu.specs.Tries.{Answers, HasFailed, HasRead};
 
+use crate::sink::Stop;
 use std::convert::Infallible;
 use std::io::{ErrorKind, Read};
 
@@ -42,22 +45,65 @@ pub trait Source {
 #[derive(Clone, Copy, Debug, Drop)]
 pub struct SourceFault;
 
+/// Gives bytes, some at a time.
+///
+/// Each reader of std is one that does not count its answers.
+trait PartReader {
+    // the bytes that it will give, where its contract names them
+    ghost unread: { Self → Option (List ℕ) };
+
+    // its answers, one for each call, where they are counted
+    ghost answers: { Self → Option (List (Result ℕ Stop)) };
+
+    /// Gives a first part of the bytes, and none only at their end or where there is no room.
+    ///
+    /// # Errors
+    ///
+    /// It gave none.
+    fn read_once(&mut self, buf: &mut [u8]) -> Result<usize, Stop>
+        ensures bound { ReadsAtMost result buf.new }
+        ensures bytes { ReadConsumes (unread self.old) (unread self.new) result buf.new }
+        ensures counted { Answers (answers self.old) (answers self.new) (result ∷ []) };
+}
+
+impl<R: Read> PartReader for R {
+    ghost unread = { R.remaining };
+
+    ghost answers = { λ _. None };
+
+    fn read_once(&mut self, buf: &mut [u8]) -> Result<usize, Stop> {
+        match self.read(buf) {
+            Ok(count) => Ok(count),
+            Err(error) => {
+                if error.kind() == ErrorKind::Interrupted {
+                    Err(Stop::Interrupted)
+                } else {
+                    Err(Stop::Failed)
+                }
+            }
+        }
+    }
+}
+
 /// After how many interruptions in a row by a signal a read counts as failed.
 const INTERRUPTIONS: u32 = 1000;
 
 /// Reads once, and again after a signal interrupted it.
-fn read_on<R: Read>(reader: &mut R, buf: &mut [u8]) -> Result<usize, SourceFault>
+///
+/// # Errors
+///
+/// The reader failed, or was interrupted by a signal for the thousandth time.
+fn read_on<R: PartReader>(reader: &mut R, buf: &mut [u8]) -> Result<usize, SourceFault>
     ensures bound { ReadsAtMost result buf.new }
-    ensures bytes { ReadConsumes (R.remaining reader.old) (R.remaining reader.new) result buf.new }
+    ensures bytes { ReadConsumes (R.unread reader.old) (R.unread reader.new) result buf.new }
+    ensures read { IfOk result (HasRead (R.answers reader.old) (R.answers reader.new)) }
+    ensures failed { OnErr result (HasFailed (R.answers reader.old) (R.answers reader.new)) }
 {
-    for _attempt in 0..INTERRUPTIONS {
-        match reader.read(buf) {
+    for attempt in 0..INTERRUPTIONS {
+        match reader.read_once(buf) {
             Ok(count) => return Ok(count),
-            Err(error) => {
-                if error.kind() != ErrorKind::Interrupted {
-                    return Err(SourceFault);
-                }
-            }
+            Err(Stop::Failed) => return Err(SourceFault),
+            Err(Stop::Interrupted) => {}
         }
     }
     Err(SourceFault)

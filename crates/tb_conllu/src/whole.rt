@@ -1,7 +1,7 @@
 //! Reads whole files.
 
 ghost use Rattle.std.specs.Prelude.{◌≡◌, List, IfOk, IfErr, MatchResult};
-ghost use Rattle.tb_conllu.specs.Fault.{IsReadFault};
+ghost use Rattle.tb_conllu.specs.Fault.{IsReadFault, MayWantMemory};
 ghost use Rattle.tb_conllu.specs.Text.{BlockText};
 ghost use Rattle.tb_conllu.specs.Reported.{IsFile};
 ghost use Rattle.tb_conllu.specs.declared.fault.ReadFault.TheVariants.{Memory};
@@ -23,6 +23,7 @@ pub fn read_ref<'a>(alloc: Global, bytes: &'a [u8]) -> Result<Vec<BlockRef<'a>>,
     ensures reported { IfErr result (IsReadFault bytes.now) }
     ensures only { (bs : List BlockText) → IsFile bytes.now bs → MatchResult result (λ v. v.items ≡ bs) (λ e.
         e ≡ Memory) }
+    ensures memory { IfErr result (λ e. e ≡ Memory → MayWantMemory bytes.now) }
 {
     let mut left = Sentences::new(bytes);
     let mut all: Vec<BlockRef<'a>> = Vec::new(alloc);
@@ -38,6 +39,7 @@ pub fn read(alloc: Global, bytes: &[u8]) -> Result<Vec<Block>, ReadFault>
     ensures reported { IfErr result (IsReadFault bytes.now) }
     ensures only { (bs : List BlockText) → IsFile bytes.now bs → MatchResult result (λ v. v.items ≡ bs) (λ e.
         e ≡ Memory) }
+    ensures memory { IfErr result (λ e. e ≡ Memory → MayWantMemory bytes.now) }
 {
     let mut left = Sentences::new(bytes);
     let mut all: Vec<Block> = Vec::new(alloc);

@@ -1,6 +1,6 @@
 //! Writes sentences as text.
 
-ghost use Rattle.std.specs.Prelude.{◌≡◌, [], ◌∷◌, ◌++◌, decimal, IfErr, IfOk, OnErr, OnOk};
+ghost use Rattle.std.specs.Prelude.{◌≡◌, [], ◌∷◌, ◌++◌, decimal, IfErr, IfOk, IsOk, OnErr, OnOk};
 ghost use Rattle.std.specs.Io.KnownBytes.{Appends};
 ghost use Rattle.std.specs.List.{flat_map};
 ghost use Rattle.tb_conllu.specs.Sunk.{AppendsPart};
@@ -144,6 +144,7 @@ pub fn put_block<T: Text, S: Sink>(block: &BlockOf<T>, out: &mut S) -> Result<()
 pub fn put_blocks<T: Text, S: Sink>(blocks: &[BlockOf<T>], out: &mut S) -> Result<(), S::Refusal>
     ensures put { OnOk result (Appends (S.held out.old) (S.held out.new) (text_of blocks.now)) }
     ensures refused { IfErr result (S.IsRefusal out.new) }
+    ensures sure { blocks.now ≡ [] → IsOk result }
 {
     for sentence in blocks {
         put_block(sentence, out)?;
@@ -177,9 +178,10 @@ pub fn write_to<T: Text, W: Write>(blocks: &[BlockOf<T>], out: &mut W) -> Result
 ///
 /// # Errors
 ///
-/// Memory was refused.
+/// Memory was refused, which comes only where there is a sentence.
 pub fn write<T: Text>(alloc: Global, blocks: &[BlockOf<T>]) -> Result<Vec<u8>, AllocError>
-    ensures { IfOk result (λ v. v.items ≡ text_of blocks.now) }
+    ensures text { IfOk result (λ v. v.items ≡ text_of blocks.now) }
+    ensures sure { blocks.now ≡ [] → IsOk result }
 {
     let mut out = Bytes {
         bytes: Vec::new(alloc),

@@ -1,9 +1,10 @@
 -- Inner: no contract beyond this crate cites a definition of this module.
 -- What the bytes of a file and of its log show of its tables (the file format of SQLite, sections 1.3, 1.6 and 4.1).
-use Rattle.std.specs.Prelude.{◌≡◌, ◌++◌, ◌⊎◌, ◌≤◌, ℕ, List, [], ◌∷◌, All, codes, length, take, drop, slice_get, Option, None, Some}
+use Rattle.std.specs.Prelude.{◌≡◌, ◌≢◌, ◌++◌, ◌+◌, ◌*◌, ◌⊎◌, ◌≤◌, ◌<◌, ℕ, List, [], ◌∷◌, All, codes, length, take, drop, slice_get, Option, None, Some}
 use Rattle.memchr.specs.Find.{OccursAt}
 use Rattle.tb_desk.specs.declared.contents.Version.{Version}
 use Rattle.tb_desk.specs.declared.contents.Version.TheVariants.{One, Two}
+use Rattle.tb_desk.specs.declared.place.Numbers.{Numbers}
 
 -- The text is somewhere in the bytes.
 pub record Has (bytes text : List ℕ) : Type 0 where
@@ -54,3 +55,12 @@ IsUnwritten log = BeginsWith (drop 1 log) (127 ∷ 6 ∷ []) ⊎ AreZero (take 4
 -- A log that has only the first page (after a header of 32 bytes and one of 24), which lists no table.
 abbrev pub AreBegun : (log : List ℕ) → (pages : List ℕ) → Type 0
 AreBegun log pages = (56 ≤ length log) × (pages ≡ 1 ∷ []) × IsBlank (drop 56 log)
+
+-- the number that four bytes are, the greatest first (section 1.3)
+abbrev pub number_in : List ℕ → ℕ
+number_in (a ∷ b ∷ c ∷ d ∷ []) = ((a * 256 + b) * 256 + c) * 256 + d
+number_in _ = 0
+
+-- What is found at a path, of this size, is another file than the one that was there, or was cut off.
+abbrev pub IsAnother : (found : Numbers) → (size : ℕ) → (then : Numbers) → Type 0
+IsAnother found size then = (found.device ≢ then.device) ⊎ (found.file ≢ then.file) ⊎ (size < then.least)

@@ -1,5 +1,8 @@
 //! Why the program does not do what it was asked, in words. Each cause has one sentence, and all sentences are here.
 
+ghost use Rattle.tb_desk.specs.Replies.{IsFileReply};
+
+use crate::misfit::Misfit;
 use std::fmt::{self, Display, Formatter};
 use std::io::{self, ErrorKind};
 use tb_http::Reply;
@@ -63,7 +66,8 @@ pub enum FileCause {
     OtherLog,
     OddLog,
     Journal,
-    Rows,
+    /// The rows are not those of a desk; what is wrong with them first, where that was looked for.
+    Rows(Option<Misfit>),
     Damaged,
     Busy,
     Full,
@@ -126,7 +130,9 @@ impl FileCause {
     }
 
     /// The line that is printed: memory or a device fails, or the file is no desk.
-    pub(crate) fn reply(self) -> Reply {
+    pub(crate) fn reply(self) -> Reply
+        ensures { IsFileReply result }
+    {
         match self {
             FileCause::Memory => Reply::Memory,
             FileCause::Busy
@@ -137,6 +143,14 @@ impl FileCause {
             | FileCause::Failed
             | FileCause::NoRandom => Reply::Device,
             _ => Reply::Desk,
+        }
+    }
+
+    /// What is wrong first with the rows of the file, if that is known.
+    pub(crate) fn misfit(self) -> Option<Misfit> {
+        match self {
+            FileCause::Rows(misfit) => misfit,
+            _ => None,
         }
     }
 
@@ -184,7 +198,7 @@ impl FileCause {
                 "what is beside it under its name with -wal is not a regular file, so not its log; move that away",
             FileCause::Journal =>
                 "another program left a journal beside it, its name with -journal; open it once with sqlite3",
-            FileCause::Rows =>
+            FileCause::Rows(_) =>
                 "its rows are not those of a desk; another program changed it, or its log is another's; restore a backup",
             FileCause::Damaged =>
                 "SQLite cannot read it, so it is damaged or cut off; restore a backup, with its log",

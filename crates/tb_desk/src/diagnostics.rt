@@ -1,5 +1,8 @@
 //! What the program says on standard error, beside the answer. It never changes what is printed, nor the exit status.
 
+ghost use Rattle.std.specs.Prelude.{◌≡◌};
+ghost use Rattle.tb_desk.specs.Replies.{IsReplyWritten};
+
 use crate::causes::Cause;
 use std::env;
 use std::fmt::{self, Display, Formatter};
@@ -53,6 +56,10 @@ pub struct Outcome {
 }
 
 impl From<u8> for Outcome {
+    ghost use Rattle.std.specs.Prelude.{◌≡◌};
+
+    ghost from_gives = { λ status outcome. outcome.status ≡ status };
+
     fn from(status: u8) -> Outcome {
         Outcome {
             status,
@@ -62,7 +69,9 @@ impl From<u8> for Outcome {
 }
 
 /// Prints the line for a run that ran out of memory, and gives the reason.
-pub(crate) fn put_memory<W: Sink>(out: &mut W) -> Outcome {
+pub(crate) fn put_memory<W: Sink>(out: &mut W) -> Outcome
+    ensures { IsReplyWritten (W.held out.old) (W.held out.new) (W.IsRefusal out.new) result.status Reply.Memory }
+{
     Outcome {
         status: put_reply(out, Reply::Memory),
         reported: Some(Diagnostic::from(Cause::Memory)),

@@ -1,10 +1,15 @@
 //! Does command lines on a desk, and explains their answers. An explanation is made from the value that was answered,
 //! while the input that it is about is at hand.
 
+ghost use Rattle.tb_conllu.specs.declared.fault.WriteFault.{WriteFault};
+ghost use Rattle.tb_cli.specs.Lines.{said_by};
+ghost use Rattle.tb_desk.specs.Running.{IsRead, IsRunOn, taken_of};
+
 use crate::causes::{Cause, FileCause};
 use crate::diagnostics::{Diagnostic, Outcome, wants_words};
 use crate::nothing::{unreleased, words_of_nothing};
-use crate::words::{changes_desk, file_of};
+use crate::running::changes_desk;
+use crate::targets::Target;
 use sqlite::Alter;
 use std::io::Write;
 use tb_answer::{Ending, Ran, Written, run_line_reported};
@@ -38,7 +43,9 @@ fn asked_of(line: &Line) -> Asked<'_> {
 }
 
 /// The words for a line that finds nothing.
-fn words_of_empty<S: Alter>(rt: &HostRuntime, desk: &mut Desk<S>, line: &Line) -> Option<Words> {
+fn words_of_empty<S: Alter>(rt: &HostRuntime, desk: &mut Desk<S>, line: &Line) -> Option<Words>
+    ensures { IsRead S.Store desk.old desk.new }
+{
     match line {
         Line::Search {
             query,
@@ -59,7 +66,9 @@ fn reported_of_empty<S: Alter>(
     rt: &HostRuntime,
     desk: &mut Desk<S>,
     line: &Line,
-) -> Option<Diagnostic> {
+) -> Option<Diagnostic>
+    ensures { IsRead S.Store desk.old desk.new }
+{
     if !wants_words(rt) {
         return None;
     }
@@ -75,7 +84,7 @@ fn cause_at_file(rt: &HostRuntime, line: &Line, ran: Ran) -> Option<Diagnostic> 
     }
     match FileCause::of_device(FileCause::Failed) {
         FileCause::Failed => None,
-        cause => Some(Diagnostic::at(rt, file_of(line)?, Cause::File(cause))),
+        cause => Some(Diagnostic::at(rt, Target::of_line(line).file()?, Cause::File(cause))),
     }
 }
 
@@ -95,7 +104,9 @@ fn reported_of<S: Alter>(
     body: &[u8],
     desk: &mut Desk<S>,
     ran: Ran,
-) -> Option<Diagnostic> {
+) -> Option<Diagnostic>
+    ensures { IsRead S.Store desk.old desk.new }
+{
     match ran.written {
         Written::Reply(reply) => reported_of_reply(rt, reply, body, asked_of(line)),
         Written::Found(Ending::BrokenOff) => Some(Diagnostic::from(Cause::BrokenOff)),
@@ -112,25 +123,41 @@ fn bytes_of(body: &Result<Vec<u8>, Reply>) -> &[u8] {
     }
 }
 
-/// Does a line on a desk if its body was read, otherwise reports why it was not. Prints the answer and explains it.
-pub(crate) fn run_reported<S: Alter, W: Write>(
+/// What there is to say of a line that ran: of the file of its desk where the device failed, or of its answer.
+fn reported_of_run<S: Alter>(
     rt: &HostRuntime,
     line: &Line,
-    body: Result<Vec<u8>, Reply>,
+    body: &Result<Vec<u8>, Reply>,
     desk: &mut Desk<S>,
-    out: &mut W,
-) -> Outcome {
-    let ran = run_line_reported(rt.alloc(), line, &body, desk, out);
+    ran: Ran,
+) -> Option<Diagnostic>
+    ensures { IsRead S.Store desk.old desk.new }
+{
     let cause = if body.is_ok() && changes_desk(line) {
         cause_at_file(rt, line, ran)
     } else {
         None
     };
+    match cause {
+        Some(cause) => Some(cause),
+        None => reported_of(rt, line, bytes_of(body), desk, ran),
+    }
+}
+
+/// Does a line on a desk if its body was read, otherwise reports why it was not. Prints the answer and explains it.
+pub(crate) fn run_reported<S: Alter, W: Write>(
+    rt: &HostRuntime,
+    line: &Line,
+    body: &Result<Vec<u8>, Reply>,
+    desk: &mut Desk<S>,
+    out: &mut W,
+) -> Outcome
+    ensures { IsRunOn S.Store (W.contents out.old) (W.contents out.new) (λ (_ : WriteFault). Unit {0}) result.status
+        desk.old desk.new (said_by line.now) (taken_of (λ v. v.items) body.now) }
+{
+    let ran = run_line_reported(rt.alloc(), line, body, desk, out);
     Outcome {
         status: ran.status,
-        reported: match cause {
-            Some(cause) => Some(cause),
-            None => reported_of(rt, line, bytes_of(&body), desk, ran),
-        },
+        reported: reported_of_run(rt, line, body, desk, ran),
     }
 }

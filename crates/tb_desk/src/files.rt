@@ -1,12 +1,17 @@
 //! Desks in files. This module is tested, not proved: no contract ties a file to its path.
 
-ghost use Rattle.std.specs.Prelude.{◌≡◌, false, IfOk, IsTrue};
+ghost use Rattle.std.specs.Prelude.{◌≡◌, ◌+◌, ◌/◌, false, min, IfOk, IsTrue};
+ghost use Rattle.sqlite.specs.Files.{over_files};
+ghost use Rattle.sqlite.specs.Steps.{over_memory};
+ghost use Rattle.tb_desk.specs.Opened.{IsEmptyDesk, IsSomeDesk};
 
 use crate::causes::FileCause;
 use crate::contents::{PAGE_BYTES, Version};
+use crate::diagnostics::wants_words;
 use crate::looking::{beside, may_become_desk, version_of};
+use crate::misfit::{Misfit, first_misfit};
 use crate::turns::Turn;
-use sqlite::{Connection, Error, ErrorCode, File, FileStore, Options};
+use sqlite::{Alter, Connection, Error, ErrorCode, File, FileStore, MemStore, Options};
 use sqlite_disk::{Disk, Files, Unknown};
 use sqlite_std_file::OpenError;
 use std::fs::OpenOptions;
@@ -16,10 +21,21 @@ use tb_core::{Fault, Limits};
 use tb_store::{Desk, Unmade};
 
 /// A desk in a file.
-pub(crate) type FileDesk = Desk<FileStore<File>>;
+#[derive(Drop)]
+pub(crate) struct FileDesk {
+    pub(crate) desk: Desk<FileStore<File>>,
+}
+
+impl FileDesk {
+    /// Closes the file, so that it is complete without its log. A failure here loses nothing: the log beside the file
+    /// keeps what was done, and the next command finds it.
+    pub(crate) fn close(self) {
+        let _ = self.desk.into_connection().close();
+    }
+}
 
 /// The limits of every desk of the program.
-pub(crate) const LIMITS: Limits = Limits {
+const LIMITS: Limits = Limits {
     sentences: 1_000_000,
     moves: 1_000_000_000,
     hits: 1_000_000,
@@ -110,14 +126,21 @@ pub(crate) const ROOM_TO_GROW: u64 = 2_000;
 /// The same for a server: 84 MiB, the pages of 64 MB of text. Each search reads the pages beyond this room again.
 pub(crate) const ROOM_TO_SERVE: u64 = 21_504;
 
-/// How many pages are kept in memory, so that each is read once: all pages of the file, and room for more. Memory for
-/// all of them is reserved at once, so a small desk has to take little.
+/// How many pages are kept in memory for a file of so many bytes, so that each is read once: all pages of the file, and
+/// room for more. Memory for all of them is reserved at once, so a small desk has to take little.
+fn pages_kept(bytes: u64, room: u64) -> u64
+    ensures { result ≡ min (bytes / 4096 + room) 49152 }
+{
+    (bytes / PAGE_BYTES).saturating_add(room).min(MOST_PAGES)
+}
+
+/// How many pages are kept for the file at this path.
 fn pages_to_keep(rt: &HostRuntime, path: &str, room: u64) -> usize {
     let bytes = match fs::metadata(rt, path) {
         Ok(metadata) => metadata.len(),
         Err(_) => 0,
     };
-    (bytes / PAGE_BYTES).saturating_add(room).min(MOST_PAGES) as usize
+    pages_kept(bytes, room) as usize
 }
 
 fn options(rt: &HostRuntime, path: &str, room: u64) -> Result<Options, FileCause> {
@@ -180,33 +203,31 @@ fn connect(
     Err(FileCause::Busy)
 }
 
-/// Closes the file, so that it is complete without its log. A failure here loses nothing: the log beside the file
-/// keeps what was done, and the next command finds it.
-pub(crate) fn close(desk: FileDesk) {
-    let _ = desk.into_connection().close();
+/// What is wrong first with the rows of a file that is no desk, where words are wanted.
+fn misfit_of<S: Alter>(rt: &HostRuntime, fault: Fault, conn: &mut Connection<S>) -> Option<Misfit> {
+    if fault == Fault::NotADesk && wants_words(rt) {
+        first_misfit(rt.alloc(), conn)
+    } else {
+        None
+    }
 }
 
-/// The desk that was made of a connection, or why there is none. Without a desk the file is closed, and what is no
-/// desk stays as it was.
-fn made(
+/// Why no desk was made of a connection. The file is closed, and what is no desk stays as it was.
+fn given_up(
     rt: &HostRuntime,
     log: &Log,
-    made: Result<FileDesk, Unmade<FileStore<File>>>,
+    fault: Fault,
+    conn: Connection<FileStore<File>>,
     not_a_desk: FileCause,
-) -> Result<FileDesk, FileCause> {
-    match made {
-        Ok(desk) => Ok(desk),
-        Err(Unmade { fault, conn }) => {
-            let cause = cause_of_fault(fault, not_a_desk);
-            if cause.is_no_desk() {
-                let _ = log.undo(rt);
-                drop(conn);
-            } else {
-                let _ = conn.close();
-            }
-            Err(cause)
-        }
+) -> FileCause {
+    let cause = cause_of_fault(fault, not_a_desk);
+    if cause.is_no_desk() {
+        let _ = log.undo(rt);
+        drop(conn);
+    } else {
+        let _ = conn.close();
     }
+    cause
 }
 
 /// Refuses a file that by its first bytes, and those of its log, is not a desk of version 2. The file is not changed.
@@ -217,30 +238,46 @@ pub(crate) fn look(rt: &HostRuntime, path: &str) -> Result<(), FileCause> {
     }
 }
 
+/// A desk in memory, without a batch.
+pub(crate) fn in_memory(rt: &HostRuntime) -> Result<Desk<MemStore>, Fault>
+    ensures { IfOk result (IsEmptyDesk over_memory) }
+{
+    Desk::in_memory(rt.alloc(), LIMITS)
+}
+
 /// The desk of the file at this path, with room for so many pages more.
 pub(crate) fn open(
     rt: &HostRuntime,
     program: &str,
     path: &str,
     room: u64,
-) -> Result<FileDesk, FileCause> {
+) -> Result<FileDesk, FileCause>
+    ensures { IfOk result (λ opened. IsSomeDesk over_files opened.desk) }
+{
     look(rt, path)?;
     let mut log = Log::before(rt, path)?;
     let conn = connect(rt, program, path, &mut log, room)?;
-    let desk = Desk::adopt(rt.alloc(), conn, LIMITS);
-    made(rt, &log, desk, FileCause::Rows)
+    match Desk::adopt(rt.alloc(), conn, LIMITS) {
+        Ok(desk) => Ok(FileDesk { desk }),
+        Err(Unmade { fault, mut conn }) => {
+            let not_a_desk = FileCause::Rows(misfit_of(rt, fault, &mut conn));
+            Err(given_up(rt, &log, fault, conn, not_a_desk))
+        }
+    }
 }
 
 /// Migrates the desk of version 1 in the file at this path to version 2.
 pub(crate) fn migrate(rt: &HostRuntime, program: &str, path: &str) -> Result<FileDesk, FileCause> {
     let not_a_desk = match version_of(rt, path)? {
-        Version::One => FileCause::Rows,
+        Version::One => FileCause::Rows(None),
         Version::Two => FileCause::Version2,
     };
     let mut log = Log::before(rt, path)?;
     let conn = connect(rt, program, path, &mut log, ROOM)?;
-    let desk = Desk::migrate(rt.alloc(), conn, LIMITS);
-    made(rt, &log, desk, not_a_desk)
+    match Desk::migrate(rt.alloc(), conn, LIMITS) {
+        Ok(desk) => Ok(FileDesk { desk }),
+        Err(Unmade { fault, conn }) => Err(given_up(rt, &log, fault, conn, not_a_desk)),
+    }
 }
 
 /// Makes a desk in the file at this path. The file is missing, empty or a blank database.
@@ -251,6 +288,8 @@ pub(crate) fn make(rt: &HostRuntime, program: &str, path: &str) -> Result<FileDe
         Ok(conn) => conn,
         Err(cause) => return Err(cause.of_new()),
     };
-    let desk = Desk::make(rt.alloc(), conn, LIMITS);
-    made(rt, &log, desk, FileCause::NotBlank)
+    match Desk::make(rt.alloc(), conn, LIMITS) {
+        Ok(desk) => Ok(FileDesk { desk }),
+        Err(Unmade { fault, conn }) => Err(given_up(rt, &log, fault, conn, FileCause::NotBlank)),
+    }
 }

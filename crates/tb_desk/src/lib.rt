@@ -1,5 +1,6 @@
 //! The front door of the desk: it answers requests over HTTP and command lines, and runs the whole program. Read
-//! `words.rt` first, with `run_words`, and then `serving.rt`.
+//! `words.rt` first, with `run_words`, then `running.rt` and `serving.rt`. `specs/Program.antt` says what the program
+//! answers.
 //!
 //! `answer` does what the bytes of one request over HTTP ask, and `answer_all` what a list of requests asks. A `Line`
 //! is read from the words of a command line, and `run_line` does it on a desk. `run_check` checks a file. `run_words`
@@ -18,12 +19,15 @@ mod diagnostics;
 mod explaining;
 mod files;
 mod looking;
+mod misfit;
 mod nothing;
 mod patience;
 mod place;
 mod programs;
+mod running;
 mod serving;
 mod streams;
+mod targets;
 mod turns;
 mod viewing;
 mod waiting;
@@ -32,6 +36,7 @@ mod wrong;
 
 pub use causes::{Cause, FileCause, Form, PortCause, StreamCause};
 pub use diagnostics::{Diagnostic, Outcome, wants_words};
+pub use misfit::{Misfit, Table};
 pub use programs::{Program, run_program};
 pub use tb_answer::{
     Broken, answer, answer_all, requests_in_memory_lead_on, requests_lead_on, run_line,

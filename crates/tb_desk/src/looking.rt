@@ -1,6 +1,9 @@
 //! What a file is, by its own bytes, before the database opens it. Opening a file writes a log beside it, even where
 //! the file is no desk.
 
+ghost use Rattle.std.specs.Prelude.{◌≡◌, ◌↔◌, ◌⊎◌, IsTrue, codes};
+ghost use Rattle.tb_desk.specs.Contents.{BeginsWith};
+
 use crate::causes::FileCause;
 use crate::contents::{Version, are_begun, is_blank, is_unwritten, listed_in};
 use sqlite_disk::{Disk, Files, Memory};
@@ -107,7 +110,9 @@ fn listed(rt: &HostRuntime, path: &str) -> Result<Version, FileCause> {
 }
 
 /// Whether SQLite gives the name a meaning of its own, so that it is no file.
-pub(crate) fn is_no_path(path: &str) -> bool {
+pub(crate) fn is_no_path(path: &str) -> bool
+    ensures { IsTrue result ↔ (path.now ≡ codes ":memory:") ⊎ BeginsWith path.now (codes "file:") }
+{
     path == ":memory:" || path.starts_with("file:")
 }
 

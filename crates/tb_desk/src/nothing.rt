@@ -1,9 +1,14 @@
 //! Why a query finds nothing, where that can be seen. Nothing is released, its signs are meant literally, or it asks
 //! for a form that only ranges have.
 
+ghost use Rattle.tb_store.specs.Calls.{Does};
+ghost use Rattle.tb_store.specs.Represents.{Represents};
+ghost use Rattle.tb_desk.specs.Running.{IsRead};
+
 use sqlite::Alter;
 use std::alloc::AllocError;
 use std::io::{self, Write};
+use tb_core::Fault;
 use tb_match::Strategy;
 use tb_query::parse;
 use tb_store::Desk;
@@ -76,25 +81,33 @@ impl Write for Ranges<'_> {
     }
 }
 
-/// How many hits the query has where its signs are taken literally.
+/// The words for a query that has hits where its signs are taken literally.
 fn hits_as_it_stands<S: Alter>(
     rt: &HostRuntime,
     desk: &mut Desk<S>,
     text: &str,
     strategy: Strategy,
-) -> Option<Words> {
-    let other = with_signs_as_they_stand(rt.alloc(), text)?;
-    let Ok(query) = parse(rt.alloc(), other.as_str()) else {
-        return None;
+) -> Result<Option<Words>, Fault>
+    ensures read { IsRead S.Store desk.old desk.new }
+    ensures stays { Does S.Store desk.old desk.new result (λ s. Represents S.Store desk.new s) }
+{
+    let Some(other) = with_signs_as_they_stand(rt.alloc(), text) else {
+        return Ok(None);
     };
-    match desk.number(&query, strategy) {
-        Ok(hits) if hits > 0 => Some(words_of_hits(rt.alloc(), other.as_str(), hits)),
-        _ => None,
+    let Ok(query) = parse(rt.alloc(), other.as_str()) else {
+        return Ok(None);
+    };
+    let hits = desk.number(&query, strategy)?;
+    if hits == 0 {
+        return Ok(None);
     }
+    Ok(Some(words_of_hits(rt.alloc(), other.as_str(), hits)))
 }
 
 /// A form of the query that a range of the released text has.
-fn form_of_a_range<S: Alter>(rt: &HostRuntime, desk: &mut Desk<S>, text: &str) -> Option<Words> {
+fn form_of_a_range<S: Alter>(rt: &HostRuntime, desk: &mut Desk<S>, text: &str) -> Option<Words>
+    ensures { IsRead S.Store desk.old desk.new }
+{
     let mut ranges = Ranges {
         forms: forms_asked(rt.alloc(), text)?,
         line: Vec::new(rt.alloc()),
@@ -108,31 +121,54 @@ fn form_of_a_range<S: Alter>(rt: &HostRuntime, desk: &mut Desk<S>, text: &str) -
     Some(words_of_range(rt.alloc(), form))
 }
 
-/// The words for a desk without released sentences. Nothing that reads released text finds any there.
-pub(crate) fn unreleased<S: Alter>(desk: &mut Desk<S>) -> Option<Words> {
-    let Ok(totals) = desk.totals() else {
-        return None;
-    };
+/// Whether the desk has released sentences.
+fn has_released<S: Alter>(desk: &mut Desk<S>) -> Result<bool, Fault>
+    ensures read { IsRead S.Store desk.old desk.new }
+    ensures stays { Does S.Store desk.old desk.new result (λ s. Represents S.Store desk.new s) }
+{
+    let totals = desk.totals()?;
     let [_, _, _, _, released, _] = totals.sentences;
-    if released == 0 {
-        Some(words_of_unreleased())
-    } else {
-        None
+    Ok(released != 0)
+}
+
+/// The words for a desk without released sentences. Nothing that reads released text finds any there.
+pub(crate) fn unreleased<S: Alter>(desk: &mut Desk<S>) -> Option<Words>
+    ensures { IsRead S.Store desk.old desk.new }
+{
+    match has_released(desk) {
+        Ok(false) => Some(words_of_unreleased()),
+        Ok(true) | Err(_) => None,
     }
 }
 
-/// The reason why a query finds nothing, if one can be seen.
+/// The reason why a query finds nothing in released text, if one can be seen.
+fn words_of_query<S: Alter>(
+    rt: &HostRuntime,
+    desk: &mut Desk<S>,
+    text: &str,
+    strategy: Strategy,
+) -> Option<Words>
+    ensures { IsRead S.Store desk.old desk.new }
+{
+    match hits_as_it_stands(rt, desk, text, strategy) {
+        Ok(Some(words)) => Some(words),
+        Ok(None) => form_of_a_range(rt, desk, text),
+        Err(_) => None,
+    }
+}
+
+/// The reason why a query finds nothing, if one can be seen. A read that fails is the last.
 pub(crate) fn words_of_nothing<S: Alter>(
     rt: &HostRuntime,
     desk: &mut Desk<S>,
     text: &str,
     strategy: Strategy,
-) -> Option<Words> {
-    if let Some(words) = unreleased(desk) {
-        return Some(words);
-    }
-    match hits_as_it_stands(rt, desk, text, strategy) {
-        Some(words) => Some(words),
-        None => form_of_a_range(rt, desk, text),
+) -> Option<Words>
+    ensures { IsRead S.Store desk.old desk.new }
+{
+    match has_released(desk) {
+        Ok(true) => words_of_query(rt, desk, text, strategy),
+        Ok(false) => Some(words_of_unreleased()),
+        Err(_) => None,
     }
 }

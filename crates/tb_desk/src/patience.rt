@@ -1,5 +1,9 @@
 //! Time limits for clients, so that none keeps the desk to itself.
 
+ghost use Rattle.std.specs.Prelude.{◌≡◌, ◌↔◌, ◌≤◌, IsTrue, min};
+ghost use Rattle.std.specs.Duration.{as_nanos};
+ghost use Rattle.tb_desk.specs.Patience.{IsReadTime, answer_time, seconds};
+
 use crate::place::Place;
 use std::io::{self, ErrorKind, Read, Write};
 use std::net::TcpStream;
@@ -13,6 +17,45 @@ const ANSWER: u64 = 3;
 
 /// How many bytes of an answer a client has to receive in a millisecond.
 const RATE: u64 = 1_024;
+
+/// Whether a time is at least as long as another.
+pub(crate) fn is_at_least(time: Duration, least: Duration) -> bool
+    ensures { IsTrue result ↔ as_nanos least ≤ as_nanos time }
+{
+    time.as_nanos() >= least.as_nanos()
+}
+
+/// The shorter of two times.
+fn shorter(a: Duration, b: Duration) -> Duration
+    ensures { as_nanos result ≡ min (as_nanos a) (as_nanos b) }
+{
+    if is_at_least(b, a) {
+        return a;
+    }
+    b
+}
+
+/// How long the next read may take, where all reads have taken so long: at most `each`, and at most what is left of
+/// `whole`. `None` where nothing is left.
+fn read_time(each: Duration, whole: Duration, elapsed: Duration) -> Option<Duration>
+    ensures { IsReadTime (as_nanos each) (as_nanos whole) (as_nanos elapsed) result }
+{
+    match whole.checked_sub(elapsed) {
+        Some(left) if !left.is_zero() => Some(shorter(left, each)),
+        _ => None,
+    }
+}
+
+/// How long a client may take for the rest of an answer, after a write of `count` bytes that took so long.
+fn answer_time(left: Duration, took: Duration, count: usize) -> Duration
+    ensures { as_nanos result ≡ answer_time (as_nanos left) (as_nanos took) count }
+{
+    let earned = Duration::from_millis(count as u64 / RATE);
+    shorter(
+        left.saturating_sub(took).saturating_add(earned),
+        Duration::from_secs(ANSWER),
+    )
+}
 
 /// Reads a connection within time limits: one for each read, and one for all reads together. So a client that sends a
 /// byte now and then is cut off too.
@@ -49,9 +92,9 @@ impl<'a> Patient<'a> {
 
     /// How long the next read may take.
     fn left(&self) -> io::Result<Duration> {
-        match self.whole.checked_sub(self.since.elapsed(self.rt)?) {
-            Some(left) if !left.is_zero() => Ok(left.min(self.each)),
-            _ => Err(io::Error::from(ErrorKind::TimedOut)),
+        match read_time(self.each, self.whole, self.since.elapsed(self.rt)?) {
+            Some(time) => Ok(time),
+            None => Err(io::Error::from(ErrorKind::TimedOut)),
         }
     }
 }
@@ -108,12 +151,7 @@ impl<'a> Answer<'a> {
     /// Notes that a write which began at `since` wrote `count` bytes.
     fn note(&mut self, since: Instant, count: usize) {
         let took = since.elapsed(self.rt).unwrap_or(Duration::ZERO);
-        let earned = Duration::from_millis(count as u64 / RATE);
-        self.left = self
-            .left
-            .saturating_sub(took)
-            .saturating_add(earned)
-            .min(Duration::from_secs(ANSWER));
+        self.left = answer_time(self.left, took, count);
     }
 }
 

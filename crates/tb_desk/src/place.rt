@@ -1,5 +1,8 @@
 //! Where a desk's files are, while the desk is served.
 
+ghost use Rattle.std.specs.Prelude.{◌≡◌, ◌↔◌, ◌≤◌, IsTrue, length, take, drop};
+ghost use Rattle.tb_desk.specs.Contents.{IsAnother, number_in};
+
 use crate::causes::FileCause;
 use crate::contents::PAGE_BYTES;
 use crate::looking::{beginning, beside, real};
@@ -25,25 +28,47 @@ pub(crate) struct Place {
     log: Numbers,
 }
 
+/// What identifies a file of any size.
+fn numbers_in(found: &fs::Metadata) -> Numbers {
+    Numbers {
+        device: found.dev(),
+        file: found.ino(),
+        least: 0,
+    }
+}
+
 fn numbers_of(rt: &HostRuntime, path: &str) -> Result<Numbers, FileCause> {
     match fs::metadata(rt, path) {
-        Ok(found) => Ok(Numbers {
-            device: found.dev(),
-            file: found.ino(),
-            least: 0,
-        }),
+        Ok(found) => Ok(numbers_in(&found)),
         Err(error) => Err(FileCause::of_system(error)),
     }
 }
 
-/// The number of pages in the database header (the file format of SQLite, section 1.3.8).
-fn pages_of(head: &[u8]) -> u64 {
-    let mut pages = 0;
-    for at in 28..32 {
-        let byte = head.get(at).copied().unwrap_or(0);
-        pages = pages % (1 << 24) * 256 + u64::from(byte);
+/// The number that four bytes are, the greatest first.
+fn number_in(bytes: &[u8]) -> u64
+    ensures { result ≡ number_in bytes.now }
+{
+    match bytes {
+        [a, b, c, d] => u64::from(u32::from_be_bytes([*a, *b, *c, *d])),
+        _ => 0,
     }
-    pages
+}
+
+/// The number of pages in the database header (the file format of SQLite, section 1.3.8).
+fn pages_of(head: &[u8]) -> u64
+    ensures { 32 ≤ length head.now → result ≡ number_in (take 4 (drop 28 head.now)) }
+{
+    match head.get(28..32) {
+        Some(bytes) => number_in(bytes),
+        None => 0,
+    }
+}
+
+/// Whether what is found at a path, a file of this size, is another file than the one that was there, or was cut off.
+fn is_another(found: Numbers, size: u64, numbers: Numbers) -> bool
+    ensures { IsTrue result ↔ IsAnother found size numbers }
+{
+    found.device != numbers.device || found.file != numbers.file || size < numbers.least
 }
 
 /// How many bytes a desk's file has to keep: those of its pages that exist. Bytes after them are not part of the
@@ -59,11 +84,7 @@ fn kept_bytes(rt: &HostRuntime, path: &str) -> Result<u64, FileCause> {
 /// Whether the path has another file, none, or a truncated one. Any other error of the system counts as no change.
 fn has_another(rt: &HostRuntime, path: &str, numbers: Numbers) -> bool {
     match fs::metadata(rt, path) {
-        Ok(found) => {
-            found.dev() != numbers.device
-                || found.ino() != numbers.file
-                || found.len() < numbers.least
-        }
+        Ok(found) => is_another(numbers_in(&found), found.len(), numbers),
         Err(error) => error.kind() == ErrorKind::NotFound
             || error.kind() == ErrorKind::NotADirectory,
     }

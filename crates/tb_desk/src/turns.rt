@@ -1,7 +1,11 @@
 //! Waits for a file that another command has open.
 
+ghost use Rattle.std.specs.Duration.{as_nanos};
+ghost use Rattle.tb_desk.specs.Patience.{IsPause};
+
 use crate::causes::FileCause;
 use crate::diagnostics::wants_words;
+use crate::patience::is_at_least;
 use std::thread;
 use std::time::{Duration, Instant};
 
@@ -18,6 +22,19 @@ const EAGER_PAUSE: u64 = 2;
 
 /// After how many milliseconds the program says that it waits.
 const QUIET: u64 = 500;
+
+/// The pause before the next attempt of a command that has waited so long. `None` where it has waited long enough.
+fn pause_after(waited: Duration) -> Option<Duration>
+    ensures { IsPause (as_nanos waited) result }
+{
+    if is_at_least(waited, Duration::from_secs(PATIENCE)) {
+        return None;
+    }
+    if is_at_least(waited, Duration::from_millis(EAGER)) {
+        return Some(Duration::from_millis(EAGER_PAUSE));
+    }
+    Some(Duration::from_millis(PAUSE))
+}
 
 /// A command of a program that waits for the file at a path.
 #[derive(Drop)]
@@ -77,18 +94,13 @@ impl<'a> Turn<'a> {
     /// `Busy`, where the command has waited long enough; or the clock's fault.
     pub(crate) fn wait(&mut self) -> Result<(), FileCause> {
         let waited = self.waited()?;
-        if waited >= Duration::from_secs(PATIENCE) {
+        let Some(pause) = pause_after(waited) else {
             return Err(FileCause::Busy);
-        }
+        };
         if waited >= Duration::from_millis(QUIET) {
             self.tell();
         }
-        let pause = if waited < Duration::from_millis(EAGER) {
-            PAUSE
-        } else {
-            EAGER_PAUSE
-        };
-        thread::sleep(self.rt, Duration::from_millis(pause));
+        thread::sleep(self.rt, pause);
         Ok(())
     }
 }

@@ -1,5 +1,11 @@
 //! Does what the words of a command line of `deskview` ask: it shows a list of the desk in a file.
 
+ghost use Rattle.std.specs.Prelude.{map, string_bytes};
+ghost use Rattle.sqlite.specs.Files.{over_files};
+ghost use Rattle.tb_cli.specs.View.{viewed_by};
+ghost use Rattle.tb_desk.specs.Replies.{IsFaultWritten};
+ghost use Rattle.tb_desk.specs.Viewing.{AreWordsShown, IsShown, IsViewRun};
+
 use crate::causes::Cause;
 use crate::diagnostics::{Diagnostic, Outcome, put_memory};
 use crate::explaining::reported_of_reply;
@@ -17,7 +23,9 @@ pub const DESKVIEW: &str = "deskview";
 /// The file that a line reads.
 fn file_of(line: &ViewLine) -> &str {
     match line {
-        ViewLine::Batches { db } => db.as_str(),
+        ViewLine::Batches { db }
+        | ViewLine::Sentences { db, .. }
+        | ViewLine::Revisions { db, .. } => db.as_str(),
     }
 }
 
@@ -34,12 +42,9 @@ fn wrong_word(rt: &HostRuntime, words: &[String]) -> Diagnostic {
 }
 
 /// Prints why words are no line.
-fn put_fault<W: Sink>(
-    rt: &HostRuntime,
-    words: &[String],
-    fault: LineFault,
-    out: &mut W,
-) -> Outcome {
+fn put_fault<W: Sink>(rt: &HostRuntime, words: &[String], fault: LineFault, out: &mut W) -> Outcome
+    ensures { IsFaultWritten (W.held out.old) (W.held out.new) (W.IsRefusal out.new) result.status fault }
+{
     match fault {
         LineFault::Clap(error) => put_clap(rt, error, out),
         LineFault::Usage => put_usage(wrong_word(rt, words), out),
@@ -48,9 +53,15 @@ fn put_fault<W: Sink>(
 }
 
 /// Prints what a line shows of a desk.
-fn show<W: Sink>(rt: &HostRuntime, line: &ViewLine, desk: &mut FileDesk, out: &mut W) -> Outcome {
-    match view(rt.alloc(), line, desk) {
-        Ok(text) => Outcome::from(put_body(out, text.as_slice())),
+fn show<W: Sink>(rt: &HostRuntime, line: &ViewLine, opened: &mut FileDesk, out: &mut W) -> Outcome
+    ensures { IsShown over_files (W.held out.old) (W.held out.new) (W.IsRefusal out.new) result.status opened.old.desk
+        opened.new.desk (viewed_by line.now) }
+{
+    match view(rt.alloc(), line, &mut opened.desk) {
+        Ok(text) => Outcome {
+            status: put_body(out, text.as_slice()),
+            reported: None,
+        },
         Err(reply) => Outcome {
             status: put_reply(out, reply),
             reported: reported_of_reply(rt, reply, &[], Asked::Other),
@@ -59,12 +70,14 @@ fn show<W: Sink>(rt: &HostRuntime, line: &ViewLine, desk: &mut FileDesk, out: &m
 }
 
 /// Does a line on the desk of its file, as the desk's own questions are done.
-fn run<W: Sink>(rt: &HostRuntime, line: &ViewLine, out: &mut W) -> Outcome {
+fn run<W: Sink>(rt: &HostRuntime, line: &ViewLine, out: &mut W) -> Outcome
+    ensures { IsViewRun (W.held out.old) (W.held out.new) (W.IsRefusal out.new) result.status (viewed_by line.now) }
+{
     let path = file_of(line);
     match files::open(rt, DESKVIEW, path, files::ROOM) {
-        Ok(mut desk) => {
-            let outcome = show(rt, line, &mut desk, out);
-            files::close(desk);
+        Ok(mut opened) => {
+            let outcome = show(rt, line, &mut opened, out);
+            opened.close();
             outcome
         }
         Err(cause) => put_file_cause(rt, path, cause, out),
@@ -72,7 +85,10 @@ fn run<W: Sink>(rt: &HostRuntime, line: &ViewLine, out: &mut W) -> Outcome {
 }
 
 /// Does what the words of `deskview` ask, the program's name first. Returns the exit status, and what to say beside it.
-pub fn run_view<W: Sink>(rt: &HostRuntime, words: &[String], out: &mut W) -> Outcome {
+pub fn run_view<W: Sink>(rt: &HostRuntime, words: &[String], out: &mut W) -> Outcome
+    ensures { AreWordsShown (W.held out.old) (W.held out.new) (W.IsRefusal out.new) result.status
+        (map string_bytes words.now) }
+{
     match ViewLine::read(rt.alloc(), words) {
         Ok(line) => run(rt, &line, out),
         Err(fault) => put_fault(rt, words, fault, out),

@@ -37,9 +37,11 @@ fn form_of_option(name: &str) -> Option<Form> {
 /// The name and the form of a value without an option, after `before` others. A query may be any text.
 fn place_of(command: &str, before: usize) -> (&'static str, Option<Form>) {
     match (command, before) {
-        ("import" | "event" | "export", 0) => ("<name>", Some(Form::Batch)),
+        ("import" | "event" | "export" | "sentences", 0) => ("<name>", Some(Form::Batch)),
         ("event", 1) => ("<event>", Some(Form::Event)),
-        ("correct" | "pull" | "restore" | "show", 0) => ("<no>", Some(Form::Number)),
+        ("correct" | "pull" | "restore" | "show" | "revisions", 0) => {
+            ("<no>", Some(Form::Number))
+        }
         ("correct", 1) => ("<base>", Some(Form::Base)),
         ("count", 0) => ("<attribute>", Some(Form::Attribute)),
         _ => ("<query>", None),

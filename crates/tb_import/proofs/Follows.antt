@@ -3,13 +3,14 @@ use Rattle.std.proofs.Common.{◌≡◌, ◌≢◌, ℕ, zero, suc, ◌+◌, ◌
 use Rattle.std.proofs.lemmas.Bool.Decides.{nat_tests}
 use Rattle.std.proofs.lemmas.List.{append_cancel_left, take_all}
 use Rattle.std.specs.Prelude.{sum_by}
+use Rattle.std.specs.List.{AllByRecursion}
 use Rattle.std.proofs.lemmas.List.Sums.{sum_by-append}
 use Rattle.tb_conllu.specs.Text.{BlockText, text_of}
 use Rattle.tb_conllu.specs.Words.{words_of}
 use Rattle.tb_conllu.proofs.Faults.{text_of-append}
 use Rattle.tb_core.specs.Machine.{Machine}
 use Rattle.tb_reads.specs.declared.work.BatchSentence.{BatchSentence}
-use Rattle.tb_import.specs.Firsts.{IsWorkOf, AreFirsts, DecidesSame}
+use Rattle.tb_import.specs.Firsts.{IsWorkOf, IsAtFirst, AreFirsts, DecidesSame}
 
 abbrev pub no_work : BatchSentence
 no_work = record { number = 0; rev = 0; words = 0 }
@@ -28,6 +29,11 @@ next_of s (w ∷ ws) (b ∷ bs) zero low h = record { body = b; work = h.0; take
 next_of s (w ∷ ws) (b ∷ bs) (suc i) low h =
     let later = next_of s ws bs i (omega (arith, low)) h.1 in
     record { body = later.body; work = later.work; taken = ap (λ l. b ∷ l) later.taken; whole = ap (λ l. b ∷ l) later.whole }
+
+pub at_first : (ws : List BatchSentence) (i : ℕ) → i < length ws → AllByRecursion IsAtFirst ws → IsAtFirst (get_or ws i no_work)
+at_first [] i low h = absurd (omega (arith, low))
+at_first (w ∷ ws) zero low h = h.0
+at_first (w ∷ ws) (suc i) low h = at_first ws i (omega (arith, low)) h.1
 
 as_many : (s : Machine) (ws : List BatchSentence) (bs : List BlockText) → AreFirsts s ws bs → length bs ≡ length ws
 as_many s [] [] h = refl

@@ -1,5 +1,5 @@
 -- One call that only reads after another.
-use Rattle.std.proofs.Common.{◌≡◌, Bool, true, ◌∙◌, IsTrue, None, Result, Ok, Err, OnOk, OnErr, IfErr, IsErrAnd, refl, inl, arith}
+use Rattle.std.proofs.Common.{◌≡◌, Bool, true, ◌∙◌, None, Result, Ok, Err, OnOk, OnErr, IfErr, IsErrAnd, refl, inl, arith}
 use Rattle.sqlite.specs.Store.{Ghosts}
 use Rattle.sqlite.specs.Tree.{Trees}
 use Rattle.sqlite.specs.Held.{Held, state}

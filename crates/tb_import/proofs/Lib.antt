@@ -1,4 +1,5 @@
 pub mod Left
+pub mod Told
 pub mod Takes
 pub mod Follows
 pub mod Ordered

@@ -22,6 +22,10 @@ pub record IsWorkOf (s : Machine) (w : BatchSentence) (b : BlockText) : Type 0 w
   pub rev : w.rev ≡ rev_of first.sentence
   pub words : w.words ≡ words_now first.sentence
 
+-- its first revision is the current one
+abbrev pub IsAtFirst : BatchSentence → Type 0
+IsAtFirst w = w.rev ≡ 1
+
 -- the first revisions of these sentences, in order
 abbrev pub AreFirsts : Machine → List BatchSentence → List BlockText → Type 0
 AreFirsts s [] [] = Unit {0}

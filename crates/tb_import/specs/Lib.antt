@@ -1,3 +1,4 @@
 pub mod Leaving
+pub mod Told
 pub mod Firsts
 pub mod Planned

@@ -1,6 +1,7 @@
 //! Counts the words of first revisions.
 
-ghost use Rattle.std.specs.Prelude.{◌≡◌, ◌≢◌, ◌<◌, ◌^◌, List, sum_by, None, Err, IfOk, OnOk};
+ghost use Rattle.std.specs.Prelude.{◌≡◌, ◌≢◌, ◌<◌, ◌^◌, List, sum_by, None, Ok, Err, IfOk, OnOk};
+ghost use Rattle.std.specs.List.{AllByRecursion};
 ghost use Rattle.sqlite.specs.State.{HasCleanDisk};
 ghost use Rattle.sqlite.specs.Held.{state};
 ghost use Rattle.tb_conllu.specs.Text.{BlockText};
@@ -11,21 +12,22 @@ ghost use Rattle.tb_refine.specs.DeskTables.{IsDeskOf};
 ghost use Rattle.tb_tables.specs.Leaving.{IsFaultless, FailsOnlyAs};
 ghost use Rattle.tb_refine.specs.Faults.{IsNoDevice};
 ghost use Rattle.tb_import.specs.Leaving.{IsLeft, Stays};
-ghost use Rattle.tb_import.specs.Firsts.{IsFirst, IsWorkOf, AreFirsts};
+ghost use Rattle.tb_import.specs.Firsts.{IsFirst, IsWorkOf, IsAtFirst, AreFirsts};
 
-use crate::words::words_of_text;
+use crate::firsts::read_first;
+use crate::words::{more_words, words_of_text};
 use sqlite::{Alter, Connection};
 use std::alloc::Global;
 use tb_conllu::one_list_has_a_text;
 use tb_core::{Fault, reached_states_are_well, revisions_read_back};
 use tb_reads::BatchSentence;
-use tb_refine::{desk_rows_are_readable, faults, records_determine_the_state};
 
 /// The words of the first revision of the sentence with this number, which exists. Reads the text.
 fn read_words<S: Alter>(alloc: Global, conn: &mut Connection<S>, number: u32) -> Result<u64, Fault>
     ensures answered { HasCleanDisk (state S.Store conn.new) → IfOk result (λ n. (s : Machine) (b : BlockText)
         → IsDeskOf S.Store conn.old s → IsFirst s number b → n ≡ words_of b) }
     ensures never_refuses { (r : AnyRefusal) → result ≢ Err (Fault.Refused r) }
+    ensures output { result ≢ Err Fault.Output }
     ensures fails { HasCleanDisk (state S.Store conn.new) → (state S.Store conn.old).step_limit ≡ None
         → (s : Machine) (b : BlockText) → IsDeskOf S.Store conn.old s → IsFirst s number b
         → result ≢ Err Fault.NotADesk }
@@ -33,16 +35,11 @@ fn read_words<S: Alter>(alloc: Global, conn: &mut Connection<S>, number: u32) ->
     ensures stays { OnOk result (Stays S.Store conn.old conn.new) }
     ensures left { IsLeft S.Store conn.old conn.new }
 {
-    records_determine_the_state();
-    desk_rows_are_readable();
     revisions_read_back();
     one_list_has_a_text();
     reached_states_are_well();
-    match tb_reads::revision(conn, number, 1) {
-        Ok(Some(row)) => words_of_text(alloc, row.body.as_bytes()),
-        Ok(None) => Err(Fault::NotADesk),
-        Err(error) => Err(faults::of_read(error)),
-    }
+    let row = read_first(conn, number)?;
+    words_of_text(alloc, row.body.as_bytes())
 }
 
 /// The words of the first revision of this sentence, which exists. Reads the text only where a later revision is
@@ -55,12 +52,14 @@ fn first_words<S: Alter>(
     ensures answered { HasCleanDisk (state S.Store conn.new) → IfOk result (λ n. (s : Machine) (b : BlockText)
         → IsDeskOf S.Store conn.old s → IsWorkOf s one.now b → n ≡ words_of b) }
     ensures never_refuses { (r : AnyRefusal) → result ≢ Err (Fault.Refused r) }
+    ensures output { result ≢ Err Fault.Output }
     ensures fails { HasCleanDisk (state S.Store conn.new) → (state S.Store conn.old).step_limit ≡ None
         → (s : Machine) (b : BlockText) → IsDeskOf S.Store conn.old s → IsWorkOf s one.now b
         → result ≢ Err Fault.NotADesk }
     ensures cause { IsFaultless S.Store conn.old conn.new → FailsOnlyAs IsNoDevice S.Store conn.old conn.new result }
     ensures stays { OnOk result (Stays S.Store conn.old conn.new) }
     ensures left { IsLeft S.Store conn.old conn.new }
+    ensures current { IsAtFirst one.now → result ≡ Ok one.now.words }
 {
     if one.rev == 1 {
         return Ok(u64::from(one.words));
@@ -68,7 +67,7 @@ fn first_words<S: Alter>(
     read_words(alloc, conn, one.number)
 }
 
-/// The words of the first revisions of these sentences, which exist.
+/// The words of the first revisions of these sentences, which exist. It takes memory only for a text that it reads.
 pub(crate) fn words_again<S: Alter>(
     alloc: Global,
     conn: &mut Connection<S>,
@@ -77,19 +76,19 @@ pub(crate) fn words_again<S: Alter>(
     ensures answered { HasCleanDisk (state S.Store conn.new) → IfOk result (λ n. (s : Machine) (bs : List BlockText)
         → IsDeskOf S.Store conn.old s → AreFirsts s work.now bs → n ≡ sum_by words_of bs) }
     ensures never_refuses { (r : AnyRefusal) → result ≢ Err (Fault.Refused r) }
+    ensures output { result ≢ Err Fault.Output }
     ensures fails { HasCleanDisk (state S.Store conn.new) → (state S.Store conn.old).step_limit ≡ None
         → (s : Machine) (bs : List BlockText) → IsDeskOf S.Store conn.old s → AreFirsts s work.now bs
         → sum_by words_of bs < 2 ^ 64 → result ≢ Err Fault.NotADesk }
     ensures cause { IsFaultless S.Store conn.old conn.new → FailsOnlyAs IsNoDevice S.Store conn.old conn.new result }
     ensures stays { OnOk result (Stays S.Store conn.old conn.new) }
     ensures left { IsLeft S.Store conn.old conn.new }
+    ensures current { AllByRecursion IsAtFirst work.now → result ≢ Err Fault.Memory }
 {
     let mut total = 0u64;
     for one in work {
         let words = first_words(alloc, conn, one)?;
-        let Some(more) = total.checked_add(words) else {
-            return Err(Fault::NotADesk);
-        };
+        let more = more_words(total, words)?;
         total = more;
     }
     Ok(total)

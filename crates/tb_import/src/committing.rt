@@ -13,15 +13,29 @@ ghost use Rattle.tb_core.specs.Reaching.{IsReachable};
 ghost use Rattle.tb_refine.specs.DeskTables.{tables_of, IsDeskOf};
 ghost use Rattle.tb_refine.specs.Recorded.{IsWritten};
 ghost use Rattle.tb_refine.specs.Calls.{BlamesNoDevice};
+ghost use Rattle.tb_refine.specs.Faults.{fault_of_error};
 ghost use Rattle.tb_tables.specs.Changes.{HasRevisionRowids};
 ghost use Rattle.tb_tables.specs.Failing.{IsShort};
 ghost use Rattle.tb_import.specs.Planned.{IsMadeBatch};
+ghost use Rattle.tb_import.specs.Told.{told_by};
 ghost use Rattle.tb_tables.specs.Leaving.{KeepsRecordsOnErr};
 
-use sqlite::{Alter, Connection};
+use sqlite::{Alter, Connection, Error};
 use tb_core::{Fault, reached_states_are_well};
 use tb_refine::faults;
 use tb_tables::{MoveWrite, NewSentenceRow, write_import};
+
+/// What is told of a write.
+fn told(written: Result<(), Error>) -> Result<(), Fault>
+    ensures value { result ≡ told_by fault_of_error written }
+    ensures never_refuses { (r : AnyRefusal) → result ≢ Err (Fault.Refused r) }
+    ensures output { result ≢ Err Fault.Output }
+{
+    match written {
+        Ok(()) => Ok(()),
+        Err(error) => Err(faults::of_error(error)),
+    }
+}
 
 /// Writes an import in one transaction: the batch with this number, and its sentences from the number `first` on. Both
 /// count from 1.
@@ -47,6 +61,7 @@ pub(crate) fn commit_import<S: Alter>(
         → IsWritten s (importing name.now who.now bodies) change.now
         → IsDeskOf S.Store conn.new (after s (importing name.now who.now bodies))) }
     ensures never_refuses { (r : AnyRefusal) → result ≢ Err (Fault.Refused r) }
+    ensures output { result ≢ Err Fault.Output }
     ensures fails { HasCleanDisk (state S.Store conn.new) → (state S.Store conn.old).step_limit ≡ None
         → (s : Machine) (bodies : List BlockText) → IsDeskOf S.Store conn.old s
         → IsMadeBatch s number first bodies items.now → IsAllowed s (importing name.now who.now bodies)
@@ -66,8 +81,5 @@ pub(crate) fn commit_import<S: Alter>(
     ensures autocommit { conn.new.in_transaction ≡ false }
 {
     reached_states_are_well();
-    match write_import(conn, number, first, name, who, items, change) {
-        Ok(()) => Ok(()),
-        Err(error) => Err(faults::of_error(error)),
-    }
+    told(write_import(conn, number, first, name, who, items, change))
 }

@@ -1,7 +1,7 @@
 //! Compares a text with the first revisions of sentences.
 
 ghost use Rattle.std.specs.Prelude.{◌≡◌, ◌≢◌, ◌++◌, ◌∷◌, [], ℕ, List, None, Err, IfOk, OnOk};
-ghost use Rattle.std.specs.Prelude.{MatchOption};
+ghost use Rattle.std.specs.Prelude.{MatchOption, string_bytes};
 ghost use Rattle.sqlite.specs.State.{HasCleanDisk};
 ghost use Rattle.sqlite.specs.Held.{state};
 ghost use Rattle.tb_conllu.specs.Text.{BlockText, text_of};
@@ -12,11 +12,47 @@ ghost use Rattle.tb_tables.specs.Leaving.{IsFaultless, FailsOnlyAs};
 ghost use Rattle.tb_refine.specs.Faults.{IsNoDevice};
 ghost use Rattle.tb_import.specs.Leaving.{IsLeft, Stays};
 ghost use Rattle.tb_import.specs.Firsts.{IsFirst, AreFirsts, DecidesSame};
+ghost use Rattle.tb_import.specs.Told.{told_of_row};
 
 use sqlite::{Alter, Connection};
 use tb_core::Fault;
-use tb_reads::BatchSentence;
+use tb_reads::{BatchSentence, ReadError};
 use tb_refine::{desk_rows_are_readable, faults, records_determine_the_state};
+use tb_tables::RevisionRow;
+
+/// What was read of a revision that exists.
+fn there(read: Result<Option<RevisionRow>, ReadError>) -> Result<RevisionRow, Fault>
+    ensures value { result ≡ told_of_row read }
+    ensures never_refuses { (r : AnyRefusal) → result ≢ Err (Fault.Refused r) }
+    ensures output { result ≢ Err Fault.Output }
+{
+    match read {
+        Ok(Some(row)) => Ok(row),
+        Ok(None) => Err(Fault::NotADesk),
+        Err(error) => Err(faults::of_read(error)),
+    }
+}
+
+/// The first revision of the sentence with this number, which exists.
+pub(crate) fn read_first<S: Alter>(
+    conn: &mut Connection<S>,
+    number: u32,
+) -> Result<RevisionRow, Fault>
+    ensures answered { HasCleanDisk (state S.Store conn.new) → IfOk result (λ row. (s : Machine) (b : BlockText)
+        → IsDeskOf S.Store conn.old s → IsFirst s number b → string_bytes row.body ≡ text_of (b ∷ [])) }
+    ensures never_refuses { (r : AnyRefusal) → result ≢ Err (Fault.Refused r) }
+    ensures output { result ≢ Err Fault.Output }
+    ensures fails { HasCleanDisk (state S.Store conn.new) → (state S.Store conn.old).step_limit ≡ None
+        → (s : Machine) (b : BlockText) → IsDeskOf S.Store conn.old s → IsFirst s number b
+        → result ≢ Err Fault.NotADesk }
+    ensures cause { IsFaultless S.Store conn.old conn.new → FailsOnlyAs IsNoDevice S.Store conn.old conn.new result }
+    ensures stays { OnOk result (Stays S.Store conn.old conn.new) }
+    ensures left { IsLeft S.Store conn.old conn.new }
+{
+    records_determine_the_state();
+    desk_rows_are_readable();
+    there(tb_reads::revision(conn, number, 1))
+}
 
 /// The rest of a text after the first revision of the sentence with this number, which exists; none where the text does
 /// not begin with it.
@@ -30,6 +66,7 @@ fn after_first<'a, S: Alter>(
         → MatchOption found ((more : List ℕ) → text.now ≢ text_of (b ∷ []) ++ more) (λ more.
         text.now ≡ text_of (b ∷ []) ++ more.now)) }
     ensures never_refuses { (r : AnyRefusal) → result ≢ Err (Fault.Refused r) }
+    ensures output { result ≢ Err Fault.Output }
     ensures fails { HasCleanDisk (state S.Store conn.new) → (state S.Store conn.old).step_limit ≡ None
         → (s : Machine) (b : BlockText) → IsDeskOf S.Store conn.old s → IsFirst s number b
         → result ≢ Err Fault.NotADesk }
@@ -37,13 +74,8 @@ fn after_first<'a, S: Alter>(
     ensures stays { OnOk result (Stays S.Store conn.old conn.new) }
     ensures left { IsLeft S.Store conn.old conn.new }
 {
-    records_determine_the_state();
-    desk_rows_are_readable();
-    match tb_reads::revision(conn, number, 1) {
-        Ok(Some(row)) => Ok(text.strip_prefix(row.body.as_bytes())),
-        Ok(None) => Err(Fault::NotADesk),
-        Err(error) => Err(faults::of_read(error)),
-    }
+    let row = read_first(conn, number)?;
+    Ok(text.strip_prefix(row.body.as_bytes()))
 }
 
 /// Whether a text is that of the first revisions of these sentences, which exist.
@@ -58,6 +90,7 @@ pub(crate) fn are_firsts<S: Alter>(
         → IfOk result (λ same. (s : Machine) (bs : List BlockText) → IsDeskOf S.Store conn.old s
         → AreFirsts s work.now bs → DecidesSame same text.now bs) }
     ensures never_refuses { (r : AnyRefusal) → result ≢ Err (Fault.Refused r) }
+    ensures output { result ≢ Err Fault.Output }
     ensures fails { HasCleanDisk (state S.Store conn.new) → (state S.Store conn.old).step_limit ≡ None
         → (s : Machine) (bs : List BlockText) → IsDeskOf S.Store conn.old s → AreFirsts s work.now bs
         → result ≢ Err Fault.NotADesk }

@@ -40,7 +40,8 @@ use tb_core::{
     judge_import_after, judge_import_before, judge_import_body,
 };
 
-/// The last tests of an import: its sentences against those of the desk, and the limits.
+/// The last tests of an import: its sentences against those of the desk, and the limits. A desk without sentences takes
+/// no memory for them.
 fn admit<S: Alter>(
     conn: &mut Connection<S>,
     known: &ImportCounters,
@@ -52,6 +53,7 @@ fn admit<S: Alter>(
         → IsTakenImport s name user body bs → taken.now ≡ map taken_of bs
         → Steps known.now.counts.limits s (import_file name user body) (refused_by r) s
         × IsDeskOf S.Store conn.new s }
+    ensures output { result ≢ Err Fault.Output }
     ensures fails { KnowsDesk S.Store conn.old conn.new result }
     ensures cause { IsFaultless S.Store conn.old conn.new → FailsOnlyAs IsNoDevice S.Store conn.old conn.new result }
     ensures accepted { HasCleanDisk (state S.Store conn.new)
@@ -63,6 +65,7 @@ fn admit<S: Alter>(
         (reply_to s act)) (after s act)) }
     ensures stays { OnOk result (Stays S.Store conn.old conn.new) }
     ensures left { IsLeft S.Store conn.old conn.new }
+    ensures fresh { known.now.sentences ≡ 0 → result ≢ Err Fault.Memory }
 {
     let standing = first_standing(conn, known, taken)?;
     judge_import_after(
@@ -91,6 +94,7 @@ fn write<S: Alter>(
         IsAllowed s act → IsReachable (after s act) → IsDeskOf S.Store conn.new (after s act)
         × AreTotalsOf r.1 (after s act) × (imported r.0 ≡ reply_to s act)) }
     ensures never_refuses { (r : AnyRefusal) → result ≢ Err (Fault.Refused r) }
+    ensures output { result ≢ Err Fault.Output }
     ensures fails { HasCleanDisk (state S.Store conn.new) → (state S.Store conn.old).step_limit ≡ None
         → (s : Machine) (bs : List BlockText) → IsDeskOf S.Store conn.old s → IsKnown known.now s
         → taken.now ≡ map taken_of bs
@@ -145,6 +149,7 @@ fn import_new<S: Alter>(
         → FindsName s name.now body.now found
         → Steps known.now.counts.limits s (import_file name.now user.now body.now) (refused_by r) s
         × IsDeskOf S.Store conn.new s) }
+    ensures output { result ≢ Err Fault.Output }
     ensures fails { KnowsDeskWhere S.Store conn.old conn.new result (λ s so. IsKnown known.now s
         → IsNamedImport s name.now user.now body.now
         → FindsName s name.now body.now found → so) }
@@ -197,6 +202,7 @@ pub fn import<S: Alter>(
     ensures refused { RefusesAs S.Store conn.old conn.new result (λ s r. IsKnown known.now s
         → Steps known.now.counts.limits s (import_file name.now user.now body.now) (refused_by r) s
         × IsDeskOf S.Store conn.new s) }
+    ensures output { result ≢ Err Fault.Output }
     ensures fails { KnowsDeskWhere S.Store conn.old conn.new result (λ s so. IsKnown known.now s → so) }
     ensures cause { BlamesNoDevice S.Store conn.old conn.new result (λ s so. IsKnown known.now s
         → HasRoomIfWritten known.now.counts.limits s (import_file name.now user.now body.now) body.now

@@ -3,6 +3,7 @@
 ghost use Rattle.std.specs.Prelude.{◌≡◌, ◌≢◌, ◌<◌, ◌≤◌, ◌+◌, ℕ, List, map, length, sum_by};
 ghost use Rattle.std.specs.Prelude.{None, Err, IfOk, OnOk};
 ghost use Rattle.std.specs.Prelude.{IfErr};
+ghost use Rattle.std.specs.List.{AllByRecursion};
 ghost use Rattle.sqlite.specs.State.{HasCleanDisk};
 ghost use Rattle.sqlite.specs.Held.{state};
 ghost use Rattle.tb_conllu.specs.Words.{words_of};
@@ -15,8 +16,10 @@ ghost use Rattle.tb_refine.specs.DeskTables.{IsDeskOf, sentence_record};
 ghost use Rattle.tb_reads.specs.Found.{work_of};
 ghost use Rattle.tb_core.specs.Found.{FindsName};
 ghost use Rattle.tb_tables.specs.Leaving.{IsFaultless, FailsOnlyAs};
-ghost use Rattle.tb_refine.specs.Faults.{IsNoDevice};
+ghost use Rattle.tb_refine.specs.Faults.{IsNoDevice, fault_of_read};
+ghost use Rattle.tb_import.specs.Firsts.{IsAtFirst};
 ghost use Rattle.tb_import.specs.Leaving.{IsLeft, Stays};
+ghost use Rattle.tb_import.specs.Told.{told_by};
 ghost use Rattle.tb_refine.specs.Calls.{KnowsDesk, KnowsDeskWhere, Tells};
 
 use crate::again::words_again;
@@ -24,8 +27,20 @@ use crate::firsts::are_firsts;
 use sqlite::{Alter, Connection};
 use std::alloc::Global;
 use tb_core::{Fault, Imported, NameFound, reached_states_are_well};
-use tb_reads::BatchSentence;
+use tb_reads::{BatchSentence, ReadError};
 use tb_refine::{batch_number, desk_rows_are_readable, faults};
+
+/// What is told of a read of sentences.
+fn told(read: Result<Vec<BatchSentence>, ReadError>) -> Result<Vec<BatchSentence>, Fault>
+    ensures value { result ≡ told_by fault_of_read read }
+    ensures never_refuses { (r : AnyRefusal) → result ≢ Err (Fault.Refused r) }
+    ensures output { result ≢ Err Fault.Output }
+{
+    match read {
+        Ok(work) => Ok(work),
+        Err(error) => Err(faults::of_read(error)),
+    }
+}
 
 /// The sentences of the batch with this number, pulled ones too.
 fn read_work<S: Alter>(
@@ -36,16 +51,14 @@ fn read_work<S: Alter>(
     ensures answered { Tells S.Store conn.old conn.new result (λ s v.
         v.items ≡ work_of number 1 (map sentence_record s.sentences)) }
     ensures never_refuses { (r : AnyRefusal) → result ≢ Err (Fault.Refused r) }
+    ensures output { result ≢ Err Fault.Output }
     ensures fails { KnowsDesk S.Store conn.old conn.new result }
     ensures cause { IsFaultless S.Store conn.old conn.new → FailsOnlyAs IsNoDevice S.Store conn.old conn.new result }
     ensures stays { OnOk result (Stays S.Store conn.old conn.new) }
     ensures left { IsLeft S.Store conn.old conn.new }
 {
     desk_rows_are_readable();
-    match tb_reads::sentences_of(alloc, conn, number) {
-        Ok(work) => Ok(work),
-        Err(error) => Err(faults::of_read(error)),
-    }
+    told(tb_reads::sentences_of(alloc, conn, number))
 }
 
 /// The reply to the import that made the batch with this number. `work` are its sentences, and `words` the number of
@@ -55,6 +68,7 @@ fn reply_again(number: u32, work: &[BatchSentence], words: u64) -> Result<Import
         → work.now ≡ work_of number 1 (map sentence_record s.sentences)
         → words ≡ sum_by words_of (first_bodies number s.sentences) → imported r ≡ import_reply s number) }
     ensures never_refuses { (r : AnyRefusal) → result ≢ Err (Fault.Refused r) }
+    ensures output { result ≢ Err Fault.Output }
     ensures fails { (s : Machine) → Reached s → 0 < number → number ≤ length s.batches
         → work.now ≡ work_of number 1 (map sentence_record s.sentences) → result ≢ Err Fault.NotADesk }
     ensures cause { IfErr result IsNoDevice }
@@ -73,7 +87,7 @@ fn reply_again(number: u32, work: &[BatchSentence], words: u64) -> Result<Import
     })
 }
 
-/// The same, and counts the words first.
+/// The same, and counts the words first. No text is read where each sentence is at its first revision.
 fn repeat<S: Alter>(
     alloc: Global,
     conn: &mut Connection<S>,
@@ -83,11 +97,13 @@ fn repeat<S: Alter>(
     ensures answered { Tells S.Store conn.old conn.new result (λ s r.
         work.now ≡ work_of number 1 (map sentence_record s.sentences) → imported r ≡ import_reply s number) }
     ensures never_refuses { (r : AnyRefusal) → result ≢ Err (Fault.Refused r) }
+    ensures output { result ≢ Err Fault.Output }
     ensures fails { KnowsDeskWhere S.Store conn.old conn.new result (λ s so. 0 < number → number ≤ length s.batches
         → work.now ≡ work_of number 1 (map sentence_record s.sentences) → so) }
     ensures cause { IsFaultless S.Store conn.old conn.new → FailsOnlyAs IsNoDevice S.Store conn.old conn.new result }
     ensures stays { OnOk result (Stays S.Store conn.old conn.new) }
     ensures left { IsLeft S.Store conn.old conn.new }
+    ensures current { AllByRecursion IsAtFirst work.now → result ≢ Err Fault.Memory }
 {
     let words = words_again(alloc, conn, work)?;
     reply_again(number, work, words)
@@ -105,6 +121,7 @@ fn compare<S: Alter>(
         → IsDeskOf S.Store conn.old s → HasBatch s name place b → number ≡ place + 1
         → FindsName s name body.now found) }
     ensures never_refuses { (r : AnyRefusal) → result ≢ Err (Fault.Refused r) }
+    ensures output { result ≢ Err Fault.Output }
     ensures fails { HasCleanDisk (state S.Store conn.new) → (state S.Store conn.old).step_limit ≡ None
         → (s : Machine) (name : List ℕ) (place : ℕ) (b : Batch) → IsDeskOf S.Store conn.old s
         → HasBatch s name place b → number ≡ place + 1 → result ≢ Err Fault.NotADesk }
@@ -129,6 +146,7 @@ pub(crate) fn find_name<S: Alter>(
 ) -> Result<NameFound, Fault>
     ensures answered { Tells S.Store conn.old conn.new result (λ s found. FindsName s name.now body.now found) }
     ensures never_refuses { (r : AnyRefusal) → result ≢ Err (Fault.Refused r) }
+    ensures output { result ≢ Err Fault.Output }
     ensures fails { KnowsDesk S.Store conn.old conn.new result }
     ensures cause { IsFaultless S.Store conn.old conn.new → FailsOnlyAs IsNoDevice S.Store conn.old conn.new result }
     ensures stays { OnOk result (Stays S.Store conn.old conn.new) }

@@ -1,6 +1,6 @@
 //! Finds the sentence of a file whose `sent_id` the desk already has.
 
-ghost use Rattle.std.specs.Prelude.{◌≡◌, ◌≢◌, List, map, None, Err, IfOk, OnOk};
+ghost use Rattle.std.specs.Prelude.{◌≡◌, ◌≢◌, List, map, None, Ok, Err, IfOk, OnOk};
 ghost use Rattle.sqlite.specs.State.{HasCleanDisk};
 ghost use Rattle.sqlite.specs.Held.{state};
 ghost use Rattle.tb_conllu.specs.Text.{BlockText};
@@ -29,6 +29,7 @@ fn first_taken<S: Alter>(
         → IfOk result (λ found. (s : Machine) (bs : List BlockText) → IsDeskOf S.Store conn.old s
         → taken.now ≡ map taken_of bs → FindsId s bs found) }
     ensures never_refuses { (r : AnyRefusal) → result ≢ Err (Fault.Refused r) }
+    ensures output { result ≢ Err Fault.Output }
     ensures fails { KnowsDesk S.Store conn.old conn.new result }
     ensures cause { IsFaultless S.Store conn.old conn.new → FailsOnlyAs IsNoDevice S.Store conn.old conn.new result }
     ensures stays { OnOk result (Stays S.Store conn.old conn.new) }
@@ -55,10 +56,12 @@ pub(crate) fn first_standing<S: Alter>(
         → IfOk result (λ found. (s : Machine) (bs : List BlockText) → IsDeskOf S.Store conn.old s
         → IsKnown known.now s → taken.now ≡ map taken_of bs → FindsId s bs found) }
     ensures never_refuses { (r : AnyRefusal) → result ≢ Err (Fault.Refused r) }
+    ensures output { result ≢ Err Fault.Output }
     ensures fails { KnowsDesk S.Store conn.old conn.new result }
     ensures cause { IsFaultless S.Store conn.old conn.new → FailsOnlyAs IsNoDevice S.Store conn.old conn.new result }
     ensures stays { OnOk result (Stays S.Store conn.old conn.new) }
     ensures left { IsLeft S.Store conn.old conn.new }
+    ensures fresh { known.now.sentences ≡ 0 → result ≡ Ok None }
 {
     if known.sentences == 0 {
         return Ok(None);

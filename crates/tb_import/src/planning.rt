@@ -35,6 +35,7 @@ pub(crate) struct ImportPlan {
 fn item<'a>(one: &NewSentence<'a>) -> Result<NewSentenceRow<'a>, Fault>
     ensures reported { IfOk result (λ i. i ≡ item_reported one.now) }
     ensures never_refuses { (r : AnyRefusal) → result ≢ Err (Fault.Refused r) }
+    ensures output { result ≢ Err Fault.Output }
     ensures fails { one.now.words < 2 ^ 32 → result ≢ Err Fault.NotADesk }
     ensures cause { IfErr result IsNoDevice }
     ensures fault { IfErr result (λ e. e ≡ Fault.NotADesk) }
@@ -54,6 +55,7 @@ pub(crate) fn items_of<'a>(
 ) -> Result<Vec<NewSentenceRow<'a>>, Fault>
     ensures reported { IfOk result (λ v. v.items ≡ map item_reported taken.now) }
     ensures never_refuses { (r : AnyRefusal) → result ≢ Err (Fault.Refused r) }
+    ensures output { result ≢ Err Fault.Output }
     ensures fails { AllByRecursion (λ (t : NewSentenceText). t.words < 2 ^ 32) taken.now
         → result ≢ Err Fault.NotADesk }
     ensures cause { IfErr result IsNoDevice }
@@ -69,6 +71,7 @@ pub(crate) fn items_of<'a>(
 fn next_batch(batches: u32) -> Result<u32, Fault>
     ensures next { IfOk result (λ n. n ≡ 1 + batches) }
     ensures never_refuses { (r : AnyRefusal) → result ≢ Err (Fault.Refused r) }
+    ensures output { result ≢ Err Fault.Output }
     ensures fails { 1 + batches < 2 ^ 32 → result ≢ Err Fault.NotADesk }
     ensures cause { IfErr result IsNoDevice }
     ensures fault { IfErr result (λ e. e ≡ Fault.NotADesk) }
@@ -83,6 +86,7 @@ fn next_batch(batches: u32) -> Result<u32, Fault>
 fn next_sentence(sentences: u32, new: usize) -> Result<u32, Fault>
     ensures next { IfOk result (λ n. (n ≡ 1 + sentences) × (sentences + new ≤ 1000000)) }
     ensures never_refuses { (r : AnyRefusal) → result ≢ Err (Fault.Refused r) }
+    ensures output { result ≢ Err Fault.Output }
     ensures fails { sentences + new ≤ 1000000 → result ≢ Err Fault.NotADesk }
     ensures cause { IfErr result IsNoDevice }
     ensures fault { IfErr result (λ e. e ≡ Fault.NotADesk) }
@@ -127,12 +131,14 @@ fn change_by(
         → IsPrepared s (importing name user.now bs) p) }
     ensures room { IfOk result (λ _. known.now.counts.moves + 1 ≤ 1000000000) }
     ensures never_refuses { (r : AnyRefusal) → result ≢ Err (Fault.Refused r) }
+    ensures output { result ≢ Err Fault.Output }
     ensures fails { (s : Machine) (name : List ℕ) (bs : List BlockText) → IsReachable s
         → IsAllowed s (importing name user.now bs) → IsReachable (after s (importing name user.now bs))
         → IsKnown known.now s
         → number ≡ 1 + length s.batches → sentences ≡ length bs
         → words ≡ sum_by (λ (t : NewSentenceText). t.words) (map taken_of bs) → result ≢ Err Fault.NotADesk }
     ensures cause { IfErr result IsNoDevice }
+    ensures no_move_left { 1000000000 ≤ known.now.counts.moves → result ≡ Err Fault.NotADesk }
 {
     let no = next_move(&known.counts)?;
     let who = String::from_str(alloc, user)?;
@@ -153,10 +159,13 @@ pub(crate) fn plan(
     ensures sentences { IfOk result (λ p. (p.first ≡ 1 + known.now.sentences)
         × (p.reply.sentences ≡ length taken.now) × (known.now.sentences + length taken.now ≤ 1000000)) }
     ensures never_refuses { (r : AnyRefusal) → result ≢ Err (Fault.Refused r) }
+    ensures output { result ≢ Err Fault.Output }
     ensures fails { (s : Machine) (name : List ℕ) (bs : List BlockText) → IsReachable s
         → IsAllowed s (importing name user.now bs) → IsReachable (after s (importing name user.now bs))
         → IsKnown known.now s → taken.now ≡ map taken_of bs → result ≢ Err Fault.NotADesk }
     ensures cause { IfErr result IsNoDevice }
+    ensures no_move_left { 1000000000 ≤ known.now.counts.moves → result ≡ Err Fault.NotADesk }
+    ensures no_sentence_left { 1000000 < known.now.sentences + length taken.now → result ≡ Err Fault.NotADesk }
 {
     let number = next_batch(known.batches)?;
     let first = next_sentence(known.sentences, taken.len())?;

@@ -1,1 +1,3 @@
+pub mod Makers
 pub mod Summed
+pub mod Told

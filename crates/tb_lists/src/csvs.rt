@@ -4,11 +4,15 @@ ghost use Rattle.std.specs.Prelude.{◌≡◌, [], ◌∷◌, Err, IfErr, IfOk, 
 ghost use Rattle.std.specs.Io.KnownBytes.{Appends, Keeps};
 ghost use Rattle.csv.specs.Writing.{text_written};
 ghost use Rattle.tb_conllu.specs.Sunk.{AppendsPart};
-ghost use Rattle.tb_core.specs.Words.{state_word};
+ghost use Rattle.tb_core.specs.Words.{kind_word, state_word};
 ghost use Rattle.tb_report.specs.Csv.{IsBetweenRows, IsRefused, PutsRows};
 ghost use Rattle.tb_lists.specs.Csv.{batch_fields, batches_csv, batches_head};
+ghost use Rattle.tb_lists.specs.Csv.{revision_fields, revisions_csv, revisions_head};
+ghost use Rattle.tb_lists.specs.Csv.{sentence_fields, sentences_csv, sentences_head, yes_or_no};
 
 use crate::batches::BatchLine;
+use crate::revisions::RevisionLine;
+use crate::sentences::SentenceLine;
 use csv::{Writer, WriterBuilder};
 use itoa::Buffer;
 use std::alloc::Global;
@@ -85,6 +89,107 @@ fn put_batches_head<W: Write + Drop>(rows: &mut Writer<W>) -> Result<(), ReportF
     put_row(rows, &head)
 }
 
+fn word_of_kind(revision: &RevisionLine) -> &str
+    ensures { result.now ≡ kind_word revision.now.kind }
+{
+    revision.kind.word()
+}
+
+fn put_revision<W: Write + Drop>(
+    rows: &mut Writer<W>,
+    revision: &RevisionLine,
+) -> Result<(), ReportFault>
+    ensures { OnOk result (PutsRows W.contents rows.old rows.new (revision_fields revision.now ∷ [])) }
+{
+    let mut rev = Buffer::new();
+    let mut move_no = Buffer::new();
+    put_row(
+        rows,
+        &[
+            rev.format(revision.rev).as_bytes(),
+            revision.who.as_bytes(),
+            word_of_kind(revision).as_bytes(),
+            move_no.format(revision.move_no).as_bytes(),
+        ],
+    )
+}
+
+fn put_revisions<W: Write + Drop>(
+    rows: &mut Writer<W>,
+    revisions: &[RevisionLine],
+) -> Result<(), ReportFault>
+    ensures { OnOk result (PutsRows W.contents rows.old rows.new (map revision_fields revisions.now)) }
+{
+    for revision in revisions {
+        put_revision(rows, revision)?;
+    }
+    Ok(())
+}
+
+fn put_revisions_head<W: Write + Drop>(rows: &mut Writer<W>) -> Result<(), ReportFault>
+    ensures { OnOk result (PutsRows W.contents rows.old rows.new (revisions_head ∷ [])) }
+{
+    let head = [
+        "rev".as_bytes(),
+        "who".as_bytes(),
+        "kind".as_bytes(),
+        "move".as_bytes(),
+    ];
+    put_row(rows, &head)
+}
+
+fn word_of_pulled(sentence: &SentenceLine) -> &str
+    ensures { result.now ≡ yes_or_no sentence.now.pulled }
+{
+    if sentence.pulled { "yes" } else { "no" }
+}
+
+fn put_sentence<W: Write + Drop>(
+    rows: &mut Writer<W>,
+    sentence: &SentenceLine,
+) -> Result<(), ReportFault>
+    ensures { OnOk result (PutsRows W.contents rows.old rows.new (sentence_fields sentence.now ∷ [])) }
+{
+    let mut no = Buffer::new();
+    let mut rev = Buffer::new();
+    let mut words = Buffer::new();
+    put_row(
+        rows,
+        &[
+            no.format(sentence.no).as_bytes(),
+            sentence.sent_id.as_bytes(),
+            rev.format(sentence.rev).as_bytes(),
+            words.format(sentence.words).as_bytes(),
+            word_of_pulled(sentence).as_bytes(),
+        ],
+    )
+}
+
+fn put_sentences<W: Write + Drop>(
+    rows: &mut Writer<W>,
+    sentences: &[SentenceLine],
+) -> Result<(), ReportFault>
+    ensures { OnOk result (PutsRows W.contents rows.old rows.new (map sentence_fields sentences.now)) }
+{
+    for sentence in sentences {
+        put_sentence(rows, sentence)?;
+    }
+    Ok(())
+}
+
+fn put_sentences_head<W: Write + Drop>(rows: &mut Writer<W>) -> Result<(), ReportFault>
+    ensures { OnOk result (PutsRows W.contents rows.old rows.new (sentences_head ∷ [])) }
+{
+    let head = [
+        "no".as_bytes(),
+        "sent_id".as_bytes(),
+        "rev".as_bytes(),
+        "words".as_bytes(),
+        "pulled".as_bytes(),
+    ];
+    put_row(rows, &head)
+}
+
 /// A table without rows.
 fn new_rows(alloc: Global) -> Rows
     ensures between { IsBetweenRows result }
@@ -109,6 +214,24 @@ fn batches_text(alloc: Global, batches: &[BatchLine]) -> Result<Vec<u8>, ReportF
     let mut rows = new_rows(alloc);
     put_batches_head(&mut rows)?;
     put_batches(&mut rows, batches)?;
+    finish(rows)
+}
+
+fn revisions_text(alloc: Global, revisions: &[RevisionLine]) -> Result<Vec<u8>, ReportFault>
+    ensures { IfOk result (λ v. v.items ≡ revisions_csv revisions.now) }
+{
+    let mut rows = new_rows(alloc);
+    put_revisions_head(&mut rows)?;
+    put_revisions(&mut rows, revisions)?;
+    finish(rows)
+}
+
+fn sentences_text(alloc: Global, sentences: &[SentenceLine]) -> Result<Vec<u8>, ReportFault>
+    ensures { IfOk result (λ v. v.items ≡ sentences_csv sentences.now) }
+{
+    let mut rows = new_rows(alloc);
+    put_sentences_head(&mut rows)?;
+    put_sentences(&mut rows, sentences)?;
     finish(rows)
 }
 
@@ -143,6 +266,51 @@ pub fn csv_batches<S: Sink>(
     ensures part { OnErr result (AppendsPart (S.held out.old) (S.held out.new) (batches_csv batches.now)) }
 {
     let Ok(text) = batches_text(alloc, batches) else {
+        return Err(ReportFault::Memory);
+    };
+    put_text(&text, out)
+}
+
+/// Writes the revisions of a sentence: the header line `rev,who,kind,move` and a line for each revision.
+///
+/// # Errors
+///
+/// `Memory`: no memory is left, and nothing was written. `Write`: the sink refused the text, and may have taken a
+/// first part of it. Over a sink that never refuses, `Write` never comes.
+pub fn csv_revisions<S: Sink>(
+    alloc: Global,
+    revisions: &[RevisionLine],
+    out: &mut S,
+) -> Result<(), ReportFault>
+    ensures written { OnOk result (Appends (S.held out.old) (S.held out.new) (revisions_csv revisions.now)) }
+    ensures memory { IfErr result (λ e. e ≡ ReportFault.Memory → out.new ≡ out.old) }
+    ensures refused { result ≡ Err ReportFault.Write → IsRefused S.IsRefusal out.new }
+    ensures part { OnErr result (AppendsPart (S.held out.old) (S.held out.new) (revisions_csv revisions.now)) }
+{
+    let Ok(text) = revisions_text(alloc, revisions) else {
+        return Err(ReportFault::Memory);
+    };
+    put_text(&text, out)
+}
+
+/// Writes the sentences of a batch: the header line `no,sent_id,rev,words,pulled` and a line for each sentence. `pulled` is
+/// `yes` or `no`.
+///
+/// # Errors
+///
+/// `Memory`: no memory is left, and nothing was written. `Write`: the sink refused the text, and may have taken a
+/// first part of it. Over a sink that never refuses, `Write` never comes.
+pub fn csv_sentences<S: Sink>(
+    alloc: Global,
+    sentences: &[SentenceLine],
+    out: &mut S,
+) -> Result<(), ReportFault>
+    ensures written { OnOk result (Appends (S.held out.old) (S.held out.new) (sentences_csv sentences.now)) }
+    ensures memory { IfErr result (λ e. e ≡ ReportFault.Memory → out.new ≡ out.old) }
+    ensures refused { result ≡ Err ReportFault.Write → IsRefused S.IsRefusal out.new }
+    ensures part { OnErr result (AppendsPart (S.held out.old) (S.held out.new) (sentences_csv sentences.now)) }
+{
+    let Ok(text) = sentences_text(alloc, sentences) else {
         return Err(ReportFault::Memory);
     };
     put_text(&text, out)

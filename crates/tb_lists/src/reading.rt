@@ -1,25 +1,30 @@
 //! Lists, read from the tables of a desk. Contracts state them as facts of the state that the tables represent. No
 //! read changes that state, also after an error.
 
-ghost use Rattle.std.specs.Prelude.{◌≡◌, ◌≢◌, ◌<◌, ◌≤◌, ◌^◌, Err, IfErr, IfOk, List, length, map, is_ok};
+ghost use Rattle.std.specs.Prelude.{◌≡◌, ◌≢◌, ◌-◌, ◌<◌, ◌≤◌, ◌^◌, Err, IfErr, IfOk, List, Some, length, map};
+ghost use Rattle.std.specs.Prelude.{is_ok, slice_get};
 ghost use Rattle.tb_core.specs.declared.refusals.Refusal.{Refusal as AnyRefusal};
-ghost use Rattle.tb_core.specs.Machine.{Sentence};
+ghost use Rattle.tb_core.specs.Machine.{Sentence, rev};
 ghost use Rattle.tb_core.specs.Rows.{pulled_from};
 ghost use Rattle.tb_tables.specs.Values.{batch_of, sentence_of};
 ghost use Rattle.tb_tables.specs.Leaving.{FailsOnlyAs, IsFaultless};
 ghost use Rattle.tb_reads.specs.ReadOnly.{IsReadOnly};
-ghost use Rattle.tb_refine.specs.Calls.{KnowsDesk, Tells};
+ghost use Rattle.tb_refine.specs.Calls.{KnowsDesk, KnowsDeskWhere, Tells};
 ghost use Rattle.tb_refine.specs.DeskTables.{batch_record, sentence_record};
 ghost use Rattle.tb_refine.specs.Faults.{IsNoDevice};
 ghost use Rattle.tb_lists.specs.Batches.{batch_lines};
 ghost use Rattle.tb_lists.specs.Counted.{AreCounts};
+ghost use Rattle.tb_lists.specs.Revisions.{revision_lines};
+ghost use Rattle.tb_lists.specs.Sentences.{sentence_lines, sentences_from};
 
 use crate::batches::{BatchLine, lines_of};
 use crate::counting::{Count, count_rows};
+use crate::revisions::{RevisionLine, lines_by};
+use crate::sentences::{self, SentenceLine};
 use sqlite::{Alter, Connection};
 use std::alloc::Global;
-use tb_core::Fault;
-use tb_refine::{desk_rows_are_readable, faults, one_list_for_the_rows, read_pulled};
+use tb_core::{Fault, Move};
+use tb_refine::{desk_rows_are_readable, faults, one_list_for_the_rows, read_moves, read_pulled};
 use tb_tables::{BatchRow, SentenceRow};
 
 /// The rows of all batches, by number.
@@ -119,4 +124,118 @@ pub fn list_batches<S: Alter>(
     let batches = read_batches(alloc, conn)?;
     let counts = read_counts(alloc, conn, batches.len())?;
     lines_of(alloc, batches.as_slice(), counts.as_slice())
+}
+
+/// The row of the sentence with this number, which exists.
+fn read_sentence<S: Alter>(conn: &mut Connection<S>, number: u32) -> Result<SentenceRow, Fault>
+    requires { 0 < number }
+    ensures answered { Tells S.Store conn.old conn.new result (λ s row. (x : Sentence)
+        → slice_get s.sentences (number - 1) ≡ Some x → sentence_of row ≡ sentence_record x) }
+    ensures never_refuses { (r : AnyRefusal) → result ≢ Err (Fault.Refused r) }
+    ensures output { result ≢ Err Fault.Output }
+    ensures fails { KnowsDeskWhere S.Store conn.old conn.new result (λ s so. (x : Sentence)
+        → slice_get s.sentences (number - 1) ≡ Some x → so) }
+    ensures cause { IsFaultless S.Store conn.old conn.new → FailsOnlyAs IsNoDevice S.Store conn.old conn.new result }
+    ensures read_only { IsReadOnly S.Store conn.old conn.new (is_ok result) }
+{
+    desk_rows_are_readable();
+    match tb_reads::sentence(conn, number) {
+        Ok(Some(row)) => Ok(row),
+        Ok(None) => Err(Fault::NotADesk),
+        Err(error) => Err(faults::of_read(error)),
+    }
+}
+
+/// All moves, in their order.
+fn read_steps<S: Alter>(alloc: Global, conn: &mut Connection<S>) -> Result<Vec<Move>, Fault>
+    ensures answered { Tells S.Store conn.old conn.new result (λ s v. v.items ≡ s.moves) }
+    ensures never_refuses { (r : AnyRefusal) → result ≢ Err (Fault.Refused r) }
+    ensures output { result ≢ Err Fault.Output }
+    ensures fails { KnowsDesk S.Store conn.old conn.new result }
+    ensures cause { IsFaultless S.Store conn.old conn.new → FailsOnlyAs IsNoDevice S.Store conn.old conn.new result }
+    ensures read_only { IsReadOnly S.Store conn.old conn.new (is_ok result) }
+{
+    desk_rows_are_readable();
+    one_list_for_the_rows();
+    match tb_reads::moves(alloc, conn) {
+        Ok(rows) => read_moves(alloc, rows.as_slice()),
+        Err(error) => Err(faults::of_read(error)),
+    }
+}
+
+/// The revisions of the sentence with this number, which exists, each with the move that made it. No text of a revision is
+/// read: the user who wrote a revision is the one who made its move. Nothing is refused.
+///
+/// # Errors
+///
+/// `NotADesk`, with no limit on steps only where the store is no desk; want of memory; or a fault of the device.
+pub fn list_revisions<S: Alter>(
+    alloc: Global,
+    conn: &mut Connection<S>,
+    number: u32,
+) -> Result<Vec<RevisionLine>, Fault>
+    requires { 0 < number }
+    ensures answered { Tells S.Store conn.old conn.new result (λ s v. (x : Sentence)
+        → slice_get s.sentences (number - 1) ≡ Some x
+        → (v.items ≡ revision_lines s number x) × (length v.items ≡ rev x)) }
+    ensures never_refuses { (r : AnyRefusal) → result ≢ Err (Fault.Refused r) }
+    ensures output { result ≢ Err Fault.Output }
+    ensures fails { KnowsDeskWhere S.Store conn.old conn.new result (λ s so. (x : Sentence)
+        → slice_get s.sentences (number - 1) ≡ Some x → so) }
+    ensures cause { IsFaultless S.Store conn.old conn.new → FailsOnlyAs IsNoDevice S.Store conn.old conn.new result }
+    ensures read_only { IsReadOnly S.Store conn.old conn.new (is_ok result) }
+{
+    let row = read_sentence(conn, number)?;
+    let steps = read_steps(alloc, conn)?;
+    lines_by(
+        alloc,
+        steps.as_slice(),
+        u64::from(number),
+        u64::from(row.batch),
+    )
+}
+
+/// The sentences of the batch with this number, from rows that were read.
+fn sentences_of(
+    alloc: Global,
+    rows: &[SentenceRow],
+    pulled: &[u32],
+    batch: u32,
+) -> Result<Vec<SentenceLine>, Fault>
+    ensures answered { IfOk result (λ v. (xs : List Sentence) → map sentence_of rows.now ≡ map sentence_record xs
+        → pulled.now ≡ pulled_from 1 xs → v.items ≡ sentences_from batch 1 xs) }
+    ensures never_refuses { (r : AnyRefusal) → result ≢ Err (Fault.Refused r) }
+    ensures output { result ≢ Err Fault.Output }
+    ensures fails { result ≡ Err Fault.NotADesk → length rows.now < 2 ^ 32 → ⊥ }
+    ensures cause { IfErr result IsNoDevice }
+    ensures many { 2 ^ 32 ≤ length rows.now → result ≡ Err Fault.NotADesk }
+{
+    if rows.len() > u32::MAX as usize {
+        Err(Fault::NotADesk)
+    } else {
+        sentences::lines_of(alloc, rows, pulled, batch)
+    }
+}
+
+/// The sentences of the batch with this number, pulled ones too, by number. Nothing is refused: a number that no batch has
+/// gives none. The rows of all sentences are in memory once, beside the list.
+///
+/// # Errors
+///
+/// `NotADesk`, with no limit on steps only where the store is no desk; want of memory; or a fault of the device.
+pub fn list_sentences<S: Alter>(
+    alloc: Global,
+    conn: &mut Connection<S>,
+    batch: u32,
+) -> Result<Vec<SentenceLine>, Fault>
+    ensures answered { Tells S.Store conn.old conn.new result (λ s v. v.items ≡ sentence_lines s batch) }
+    ensures never_refuses { (r : AnyRefusal) → result ≢ Err (Fault.Refused r) }
+    ensures output { result ≢ Err Fault.Output }
+    ensures fails { KnowsDesk S.Store conn.old conn.new result }
+    ensures cause { IsFaultless S.Store conn.old conn.new → FailsOnlyAs IsNoDevice S.Store conn.old conn.new result }
+    ensures read_only { IsReadOnly S.Store conn.old conn.new (is_ok result) }
+{
+    let rows = read_sentences(alloc, conn)?;
+    let pulled = read_pulled(alloc, conn)?;
+    sentences_of(alloc, rows.as_slice(), pulled.as_slice(), batch)
 }

@@ -3,3 +3,4 @@ pub mod Literals
 pub mod Items
 pub mod Built
 pub mod Refused
+pub mod FaultText

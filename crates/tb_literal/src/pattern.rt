@@ -24,6 +24,11 @@ pub enum PatternFault {
 }
 
 impl fmt::Display for PatternFault {
+    ghost use Rattle.std.specs.Prelude.{Some};
+    ghost use Rattle.tb_literal.specs.FaultText.{fault_text};
+
+    ghost output = { λ e. Some (fault_text e) };
+
     fn fmt<W: fmt::Write>(&self, f: &mut fmt::Formatter<W>) -> fmt::Result {
         match self {
             PatternFault::Syntax => f.write_str("the literal is no pattern"),

@@ -7,3 +7,4 @@ pub mod PreparedExprs
 pub mod Reading
 pub mod Refusing
 pub mod Reported
+pub mod FaultText

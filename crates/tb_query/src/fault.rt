@@ -1,6 +1,7 @@
 //! Faults of the text of a query.
 
-ghost use Rattle.std.specs.Prelude.{◌≡◌};
+ghost use Rattle.std.specs.Prelude.{◌≡◌, Some};
+ghost use Rattle.tb_query.specs.FaultText.{fault_text};
 ghost use Rattle.tb_query.specs.declared.fault.QueryFault.TheVariants.{Memory};
 ghost use Rattle.tb_query.specs.Reported.{query_fault};
 
@@ -31,6 +32,8 @@ pub enum QueryFault {
 }
 
 impl fmt::Display for QueryFault {
+    ghost output = { λ e. Some (fault_text e) };
+
     fn fmt<W: fmt::Write>(&self, f: &mut fmt::Formatter<W>) -> fmt::Result {
         match self {
             QueryFault::TooLong => f.write_str("longer than 2,000 bytes"),

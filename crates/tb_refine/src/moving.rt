@@ -5,22 +5,21 @@ ghost use Rattle.tb_core.specs.declared.refusals.Refusal.{Refusal as AnyRefusal}
 ghost use Rattle.tb_core.specs.Moves.{MoveText};
 ghost use Rattle.tb_tables.specs.Values.{move_of};
 ghost use Rattle.tb_refine.specs.DeskTables.{move_record};
+ghost use Rattle.tb_refine.specs.Numbers.{state_number, from_number, kind_number};
 ghost use Rattle.tb_refine.specs.Numbered.{AreNumbered};
 ghost use Rattle.tb_refine.specs.Faults.{IsNoDevice};
 
 use crate::{kind_numbered, state_before, state_numbered};
 use std::alloc::Global;
-use tb_core::{Fault, Move};
+use tb_core::{Fault, Kind, Move, State};
 use tb_tables::MoveRow;
 
-/// The move of a row, with its number.
-fn read_move(alloc: Global, row: &MoveRow, no: u64) -> Result<Move, Fault>
-    ensures record { IfOk result (λ m. move_record m ≡ move_of row.now) }
-    ensures number { IfOk result (λ m. m.no ≡ no) }
-    ensures known { result ≡ Err Fault.NotADesk → (m : MoveText) → move_of row.now ≢ move_record m }
-    ensures cause { IfErr result IsNoDevice }
-    ensures output { result ≢ Err Fault.Output }
-    ensures never_refuses { (r : AnyRefusal) → result ≢ Err (Fault.Refused r) }
+/// The kind of the move of a row, the state before it and the state after it. This needs no memory.
+fn steps_in(row: &MoveRow) -> Result<(Kind, Option<State>, State), Fault>
+    ensures steps { IfOk result (λ p. (row.now.kind ≡ kind_number p.0) × (row.now.from ≡ from_number p.1)
+        × (row.now.to ≡ state_number p.2)) }
+    ensures known { IfErr result (λ e. (e ≡ Fault.NotADesk)
+        × ((m : MoveText) → move_of row.now ≢ move_record m)) }
 {
     let Some(kind) = kind_numbered(row.kind) else {
         return Err(Fault::NotADesk);
@@ -31,6 +30,19 @@ fn read_move(alloc: Global, row: &MoveRow, no: u64) -> Result<Move, Fault>
     let Some(to) = state_numbered(row.to) else {
         return Err(Fault::NotADesk);
     };
+    Ok((kind, from, to))
+}
+
+/// The move of a row, with its number.
+fn read_move(alloc: Global, row: &MoveRow, no: u64) -> Result<Move, Fault>
+    ensures record { IfOk result (λ m. move_record m ≡ move_of row.now) }
+    ensures number { IfOk result (λ m. m.no ≡ no) }
+    ensures known { result ≡ Err Fault.NotADesk → (m : MoveText) → move_of row.now ≢ move_record m }
+    ensures cause { IfErr result IsNoDevice }
+    ensures output { result ≢ Err Fault.Output }
+    ensures never_refuses { (r : AnyRefusal) → result ≢ Err (Fault.Refused r) }
+{
+    let (kind, from, to) = steps_in(row)?;
     let who = String::from_str(alloc, &row.who)?;
     Ok(Move {
         no,

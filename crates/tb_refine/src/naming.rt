@@ -35,6 +35,7 @@ pub fn is_taken<S: Alter>(conn: &mut Connection<S>, sent_id: &str) -> Result<boo
     ensures answered { Tells S.Store conn.old conn.new result (λ s taken.
         MatchBool taken (Lacks (ids_of s.sentences) sent_id.now → ⊥) (Lacks (ids_of s.sentences) sent_id.now)) }
     ensures never_refuses { (r : AnyRefusal) → result ≢ Err (Fault.Refused r) }
+    ensures output { result ≢ Err Fault.Output }
     ensures fails { KnowsDesk S.Store conn.old conn.new result }
     ensures cause { IsFaultless S.Store conn.old conn.new → FailsOnlyAs IsNoDevice S.Store conn.old conn.new result }
     ensures read_only { IsReadOnly S.Store conn.old conn.new (is_ok result) }

@@ -1,6 +1,6 @@
 //! The replay: makes each move on the slots and marks, and compares the end with the rows.
 
-ghost use Rattle.std.specs.Prelude.{◌≡◌, ◌+◌, ◌-◌, ◌^◌, ◌<◌, ◌++◌, ◌↔◌, map, slice_set};
+ghost use Rattle.std.specs.Prelude.{◌≡◌, ◌+◌, ◌-◌, ◌^◌, ◌<◌, ◌++◌, ◌↔◌, All, map, slice_set};
 ghost use Rattle.std.specs.Prelude.{slice_index_or, ◌≢◌, ◌≤◌, length, IfOk, IsOk, OnOk, true};
 ghost use Rattle.tb_core.specs.Acts.{with_worker};
 ghost use Rattle.tb_core.specs.Machine.{Machine, change_at};
@@ -343,7 +343,8 @@ fn plays_out(
     entries: &[SentenceSummary<'_>],
     moves: &[Move],
 ) -> Result<bool, AllocError>
-    ensures { IfOk result (λ b. b ≡ plays batches.now entries.now empty_small moves.now) }
+    ensures answer { IfOk result (λ b. b ≡ plays batches.now entries.now empty_small moves.now) }
+    ensures sure { All (λ m. m.kind ≢ Kind.Import) moves.now → IsOk result }
 {
     let mut slots: Vec<Slot> = Vec::new(alloc);
     let mut marks: Vec<Mark> = Vec::new(alloc);
@@ -370,15 +371,17 @@ fn plays_out(
 ///
 /// # Errors
 ///
-/// Memory was refused.
+/// Memory was refused, which comes only where a move is an import, and the desk is within the largest limits.
 pub fn replays(
     alloc: Global,
     batches: &[BatchRow<'_>],
     entries: &[SentenceSummary<'_>],
     moves: &[Move],
 ) -> Result<bool, AllocError>
-    ensures { (f : Machine) → batches.now ≡ f.batches → entries.now ≡ entries_of f.sentences
+    ensures reached { (f : Machine) → batches.now ≡ f.batches → entries.now ≡ entries_of f.sentences
         → moves.now ≡ f.moves → AreFine f → IfOk result (λ b. (b ≡ true) ↔ IsReachable f) }
+    ensures sure { All (λ m. m.kind ≢ Kind.Import) moves.now → IsOk result }
+    ensures full { 1000000 < length entries.now → IsOk result }
 {
     if entries.len() > 1_000_000 || moves.len() > 1_000_000_000 {
         return Ok(false);

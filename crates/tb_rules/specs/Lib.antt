@@ -15,3 +15,4 @@ pub mod Named
 pub mod Places
 pub mod Rules
 pub mod File
+pub mod FaultText

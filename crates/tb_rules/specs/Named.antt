@@ -1,4 +1,4 @@
--- Inner: no contract beyond this crate cites a definition of this module.
+-- Between crates: no contract of a front door cites a definition of this module.
 -- Which IDs the rows of a sentence have, from counts alone.
 -- CoNLL-U format page, "Words, Tokens and Empty Nodes": words are numbered from 1 on, and the empty nodes after word i
 -- are i.1, i.2, ...

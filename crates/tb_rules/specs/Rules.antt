@@ -1,5 +1,6 @@
 -- The rules of a sentence, and its fault: the broken rule with the least number, and its first row.
-use Rattle.std.specs.Prelude.{◌≡◌, ◌<◌, ◌≤◌, ℕ}
+use Rattle.std.specs.Prelude.{◌≡◌, ◌<◌, ◌≤◌, ℕ, length, false}
+use Rattle.std.specs.List.{All, list_any}
 use Rattle.tb_conllu.specs.Text.{BlockText}
 use Rattle.tb_conllu.specs.Words.{words_of}
 use Rattle.tb_rules.specs.declared.fault.RuleFault.{RuleFault}
@@ -8,6 +9,7 @@ use Rattle.tb_rules.specs.Comments.{HasSentId, HasText}
 use Rattle.tb_rules.specs.Deps.{dependency_test}
 use Rattle.tb_rules.specs.Feats.{feature_test}
 use Rattle.tb_rules.specs.Ids.{HasIds}
+use Rattle.tb_rules.specs.Named.{is_node_id}
 use Rattle.tb_rules.specs.Nodes.{node_test}
 use Rattle.tb_rules.specs.Restored.{IsRestored}
 use Rattle.tb_rules.specs.Rows.{EachRowPasses, IsFirstFault}
@@ -82,6 +84,10 @@ KeepsTo n b = (r : Rule) → number r ≤ n → Keeps r b
 
 abbrev pub KeepsTo6 : BlockText → Type 0
 KeepsTo6 b = KeepsTo 6 b
+
+-- FEATS and DEPS are tested without memory: no FEATS has more than 32 bytes, and there is no empty node
+abbrev pub HasShortLists : BlockText → Type 0
+HasShortLists b = All (λ r. length r.feats ≤ 32) b.rows × (list_any (λ r. is_node_id r.id) b.rows ≡ false)
 
 -- all rules of a sentence by itself
 abbrev pub KeepsRules : BlockText → Type 0

@@ -1,8 +1,10 @@
 //! Tests rules 1 to 11, one after another.
 
-ghost use Rattle.std.specs.Prelude.{◌≡◌, OnOk, IfOk, IfErr, MatchOption};
+ghost use Rattle.std.specs.Prelude.{◌≡◌, ◌≤◌, All, OnOk, IfOk, IfErr, IsOk, MatchOption, length, false};
+ghost use Rattle.std.specs.List.{list_any};
 ghost use Rattle.tb_rules.specs.Rules.{HasWords, HasSpans, HasNodes, HasFeatures, HasDependencies, KeepsTo6};
-ghost use Rattle.tb_rules.specs.Rules.{KeepsRules, IsRuleFault};
+ghost use Rattle.tb_rules.specs.Rules.{HasShortLists, KeepsRules, KeepsTo, IsRuleFault};
+ghost use Rattle.tb_rules.specs.Named.{is_node_id};
 ghost use Rattle.tb_conllu.specs.Words.{words_of};
 ghost use Rattle.tb_rules.specs.Ids.{HasIds};
 ghost use Rattle.tb_rules.specs.Rows.{IsFirstFault};
@@ -50,15 +52,18 @@ fn feature_row<T: Text>(
     accepted: &mut Accepted,
     block: &BlockOf<T>,
 ) -> Result<Option<usize>, AllocError>
-    ensures { IfOk result (λ r. MatchOption r (HasFeatures block.now) (IsFirstFault feature_test block.now.rows)) }
+    ensures value { IfOk result (λ r. MatchOption r (HasFeatures block.now)
+        (IsFirstFault feature_test block.now.rows)) }
+    ensures sure { All (λ r. length r.feats ≤ 32) block.now.rows → IsOk result }
 {
     feature_fault(alloc, accepted, &block.rows)
 }
 
 fn dependency_row<T: Text>(alloc: Global, block: &BlockOf<T>) -> Result<Option<usize>, AllocError>
     requires { HasIds block.now }
-    ensures { IfOk result (λ r. MatchOption r (HasDependencies block.now)
+    ensures value { IfOk result (λ r. MatchOption r (HasDependencies block.now)
         (IsFirstFault (dependency_test block.now.rows) block.now.rows)) }
+    ensures sure { list_any (λ r. is_node_id r.id) block.now.rows ≡ false → IsOk result }
 {
     dependency_fault(alloc, &block.rows, words(block))
 }
@@ -103,6 +108,7 @@ fn check_whole<T: Text>(
     requires { KeepsTo6 block.now }
     ensures valid { OnOk result (KeepsRules block.now) }
     ensures fault { IfErr result (IsRuleFault block.now) }
+    ensures lists { IfErr result (λ e. e ≡ Memory → HasShortLists block.now → KeepsTo 9 block.now) }
 {
     if let Some(row) = feature_row(alloc, accepted, block)? {
         return Err(RuleFault::At { rule: 7, row });
@@ -131,6 +137,7 @@ pub(crate) fn first_broken<T: Text>(
     ensures valid { OnOk result (KeepsRules block.now) }
     ensures fault { IfErr result (IsRuleFault block.now) }
     ensures memory { IfErr result (λ e. e ≡ Memory → KeepsTo6 block.now) }
+    ensures lists { IfErr result (λ e. e ≡ Memory → HasShortLists block.now → KeepsTo 9 block.now) }
 {
     match check_rows(alloc, accepted, block) {
         Ok(()) => check_whole(alloc, accepted, block),
@@ -143,12 +150,13 @@ pub(crate) fn first_broken<T: Text>(
 /// # Errors
 ///
 /// The least broken rule. For rules 4 to 8 it has the first row at fault, counted from 1; for the others row 0. Or
-/// memory was refused, which comes only where rules 1 to 6 are kept.
+/// memory was refused, which comes only where rules 1 to 6 are kept, or 1 to 9 where FEATS and DEPS take no memory.
 pub fn check<T: Text>(alloc: Global, block: &BlockOf<T>) -> Result<(), RuleFault>
     ensures valid { OnOk result (KeepsRules block.now) }
     ensures fault { IfErr result (IsRuleFault block.now) }
     ensures only { KeepsRules block.now → IfErr result (λ e. e ≡ Memory) }
     ensures memory { IfErr result (λ e. e ≡ Memory → KeepsTo6 block.now) }
+    ensures lists { IfErr result (λ e. e ≡ Memory → HasShortLists block.now → KeepsTo 9 block.now) }
 {
     first_broken(alloc, &mut Accepted::none(alloc), block)
 }

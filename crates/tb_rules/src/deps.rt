@@ -1,11 +1,11 @@
 ghost use Rattle.std.specs.Prelude.{◌≡◌, ◌+◌, ◌<◌, ◌≤◌, ◌^◌, length, ◌&&◌, MatchOption};
-ghost use Rattle.std.specs.Prelude.{IfOk};
-ghost use Rattle.std.specs.List.{slice_split};
+ghost use Rattle.std.specs.Prelude.{IfOk, IsOk, false};
+ghost use Rattle.std.specs.List.{list_any, slice_split};
 ghost use Rattle.tb_chars.specs.Spaces.{is_solid};
 ghost use Rattle.tb_rules.specs.Rows.{EachRowPasses, IsFirstFault};
 ghost use Rattle.tb_chars.specs.Digits.{is_digit};
 ghost use Rattle.tb_fields.specs.Feats.{is_bar};
-ghost use Rattle.tb_rules.specs.Named.{AreNumbered};
+ghost use Rattle.tb_rules.specs.Named.{AreNumbered, is_node_id};
 ghost use Rattle.tb_rules.specs.Deps.{pair_head, dependency_test};
 ghost use Rattle.tb_rules.specs.Places.{is_plain, value_of, number_of, place_of, word_place, node_place};
 ghost use Rattle.tb_rules.specs.Places.{is_place_there, is_up_to, are_places_in_order, is_placed_pair, place_precedes};
@@ -200,8 +200,9 @@ pub(crate) fn dependency_fault<T: Text>(
     words: usize,
 ) -> Result<Option<usize>, AllocError>
     requires { AreNumbered rows.now words }
-    ensures { IfOk result (λ r. MatchOption r (EachRowPasses (dependency_test rows.now) rows.now)
+    ensures value { IfOk result (λ r. MatchOption r (EachRowPasses (dependency_test rows.now) rows.now)
         (IsFirstFault (dependency_test rows.now) rows.now)) }
+    ensures sure { list_any (λ r. is_node_id r.id) rows.now ≡ false → IsOk result }
 {
     rows_are_few(rows);
     let heads = heads_in(alloc, rows, words)?;

@@ -1,5 +1,6 @@
 ghost use Rattle.tb_rules.specs.declared.fault.RuleFault.TheVariants.{Memory};
-ghost use Rattle.std.specs.Prelude.{◌≡◌};
+ghost use Rattle.std.specs.Prelude.{◌≡◌, Some};
+ghost use Rattle.tb_rules.specs.FaultText.{fault_text, rule_text};
 
 use std::alloc::AllocError;
 use std::error::Error;
@@ -23,7 +24,9 @@ impl From<AllocError> for RuleFault {
 }
 
 /// What a rule requires.
-pub(crate) fn meaning(rule: u8) -> &'static str {
+fn meaning(rule: u8) -> &'static str
+    ensures { result.now ≡ rule_text rule }
+{
     match rule {
         1 => "exactly one comment gives sent_id, and its value has no white space",
         2 => "exactly one comment gives text",
@@ -44,6 +47,8 @@ pub(crate) fn meaning(rule: u8) -> &'static str {
 }
 
 impl fmt::Display for RuleFault {
+    ghost output = { λ e. Some (fault_text e) };
+
     fn fmt<W: fmt::Write>(&self, f: &mut fmt::Formatter<W>) -> fmt::Result {
         match self {
             RuleFault::At { rule, row: 0 } => write!(f, "rule {rule}: {}", meaning(*rule)),

@@ -1,4 +1,4 @@
-ghost use Rattle.std.specs.Prelude.{MatchOption, IfOk};
+ghost use Rattle.std.specs.Prelude.{MatchOption, IfOk, IsOk, All, length, ◌≤◌};
 ghost use Rattle.tb_rules.specs.Rows.{EachRowPasses, IsFirstFault};
 ghost use Rattle.tb_rules.specs.Feats.{feature_test};
 
@@ -12,8 +12,9 @@ pub(crate) fn feature_fault<T: Text>(
     accepted: &mut Accepted,
     rows: &[RowOf<T>],
 ) -> Result<Option<usize>, AllocError>
-    ensures { IfOk result (λ r. MatchOption r (EachRowPasses feature_test rows.now)
+    ensures value { IfOk result (λ r. MatchOption r (EachRowPasses feature_test rows.now)
         (IsFirstFault feature_test rows.now)) }
+    ensures sure { All (λ r. length r.feats ≤ 32) rows.now → IsOk result }
 {
     for (i, row) in rows.iter().enumerate() {
         if !accepted.accept_features(alloc, row.feats.text())? {

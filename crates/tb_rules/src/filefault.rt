@@ -1,5 +1,6 @@
 ghost use Rattle.tb_rules.specs.declared.filefault.FileFault.TheVariants.{Memory};
-ghost use Rattle.std.specs.Prelude.{◌≡◌};
+ghost use Rattle.std.specs.Prelude.{◌≡◌, Some};
+ghost use Rattle.tb_rules.specs.FaultText.{file_fault_text};
 
 use crate::fault::RuleFault;
 use std::alloc::AllocError;
@@ -29,6 +30,8 @@ impl From<AllocError> for FileFault {
 }
 
 impl fmt::Display for FileFault {
+    ghost output = { λ e. Some (file_fault_text e) };
+
     fn fmt<W: fmt::Write>(&self, f: &mut fmt::Formatter<W>) -> fmt::Result {
         match *self {
             FileFault::At {

@@ -4,7 +4,7 @@ ghost use Rattle.std.specs.Prelude.{◌≡◌, ℕ, List, [], ◌∷◌, ◌++�
 ghost use Rattle.std.specs.Prelude.{string_bytes};
 ghost use Rattle.tb_conllu.specs.Text.{BlockText};
 ghost use Rattle.tb_rules.specs.File.{IsValid, IsCutShort, IsFileFault, IsSentenceFault, HasTaken};
-ghost use Rattle.tb_rules.specs.Rules.{KeepsTo6, KeepsRules};
+ghost use Rattle.tb_rules.specs.Rules.{HasShortLists, KeepsTo, KeepsTo6, KeepsRules};
 ghost use Rattle.tb_rules.specs.declared.filefault.FileFault.TheVariants.{Memory};
 
 use crate::accepted::Accepted;
@@ -27,6 +27,7 @@ fn check_alone<T: Text>(
     ensures valid { OnOk result (KeepsRules block.now) }
     ensures fault { IfErr result (IsSentenceFault sentence block.now) }
     ensures memory { IfErr result (λ e. e ≡ Memory → KeepsTo6 block.now) }
+    ensures lists { IfErr result (λ e. e ≡ Memory → HasShortLists block.now → KeepsTo 9 block.now) }
 {
     match first_broken(alloc, accepted, block) {
         Ok(()) => Ok(()),
@@ -73,7 +74,8 @@ impl Checker {
     /// # Errors
     ///
     /// The sentence's number in the file, with its least broken rule and its row. Or memory was refused, which comes
-    /// only where the sentence keeps rules 1 to 6. The sentence is then not taken, and nothing has changed.
+    /// only where the sentence keeps rules 1 to 6, or 1 to 9 where FEATS and DEPS take no memory. The sentence is then
+    /// not taken, and nothing has changed.
     pub fn take<T: Text>(&mut self, block: &BlockOf<T>) -> Result<(), FileFault>
         ensures valid { (before : List BlockText) → HasTaken self.old before
             → OnOk result (HasTaken self.new (before ++ block.now ∷ [])) }
@@ -82,6 +84,7 @@ impl Checker {
         ensures only { (before : List BlockText) → HasTaken self.old before → IsValid (before ++ block.now ∷ [])
             → IfErr result (λ e. e ≡ Memory) }
         ensures memory { IfErr result (λ e. e ≡ Memory → KeepsTo6 block.now) }
+        ensures lists { IfErr result (λ e. e ≡ Memory → HasShortLists block.now → KeepsTo 9 block.now) }
         ensures kept { OnErr result (self.new ≡ self.old) }
     {
         let sentence = self.names.len() + 1;

@@ -1,26 +1,30 @@
 //! Reads of a desk's tables, stated as facts of the state that the desk represents. A read leaves the desk as it is.
 
 ghost use Rattle.std.specs.Prelude.{◌≡◌, ◌≢◌, ◌-◌, ◌<◌, map, [], ◌∷◌, Some, Err, is_ok};
-ghost use Rattle.std.specs.Prelude.{slice_get, string_bytes, IfOk, None, length};
+ghost use Rattle.std.specs.Prelude.{slice_get, string_bytes, IfOk, None, length, false};
 ghost use Rattle.std.specs.Prelude.{IfErr};
 ghost use Rattle.sqlite.specs.State.{HasCleanDisk};
 ghost use Rattle.sqlite.specs.Held.{state};
 ghost use Rattle.tb_conllu.specs.Text.{text_of};
 ghost use Rattle.tb_core.specs.declared.refusals.Refusal.{Refusal as AnyRefusal};
+ghost use Rattle.tb_core.specs.Names.{is_name};
 ghost use Rattle.tb_core.specs.Machine.{Machine, Sentence, Revision, rev as rev_of};
 ghost use Rattle.tb_core.specs.Totals.{AreTotalsOf};
 ghost use Rattle.tb_refine.specs.DeskTables.{IsDeskOf};
 ghost use Rattle.tb_refine.specs.Revisions.{HasRevision};
-ghost use Rattle.tb_refine.specs.Calls.{KnowsDesk, KnowsDeskWhere, Tells};
+ghost use Rattle.tb_refine.specs.Calls.{KnowsDesk, KnowsDeskWhere, Tells, TellsOnErr};
 ghost use Rattle.tb_tables.specs.Leaving.{FailsOnlyAs, IsFaultless};
 ghost use Rattle.tb_reads.specs.ReadOnly.{IsReadOnly};
 ghost use Rattle.tb_refine.specs.Faults.{IsNoDevice};
+ghost use Rattle.tb_lists.specs.Sentences.{AreSentences};
+ghost use Rattle.tb_store.specs.Exports.{RefusesBatch};
 
 use crate::answers::Current;
 use sqlite::{Alter, Connection};
 use std::alloc::Global;
-use tb_core::{Fault, Move, Refusal, Totals};
-use tb_refine::{desk_rows_are_readable, faults, read_moves};
+use tb_core::{Fault, Move, Refusal, Totals, good_name};
+use tb_lists::{SentenceLine, list_sentences};
+use tb_refine::{batch_number, desk_rows_are_readable, faults, read_moves};
 use tb_tables::TotalRow;
 
 /// The totals of six rows.
@@ -183,4 +187,31 @@ pub(crate) fn moves<S: Alter>(alloc: Global, conn: &mut Connection<S>) -> Result
         Ok(rows) => read_moves(alloc, rows.as_slice()),
         Err(error) => Err(faults::of_read(error)),
     }
+}
+
+/// The sentences of the batch with this name, pulled ones too, by number.
+///
+/// # Errors
+///
+/// The first of `BadName`, `NoSuchBatch`.
+pub(crate) fn sentences<S: Alter>(
+    alloc: Global,
+    conn: &mut Connection<S>,
+    name: &str,
+) -> Result<Vec<SentenceLine>, Fault>
+    ensures answered { Tells S.Store conn.old conn.new result (λ s v. AreSentences s name.now v.items) }
+    ensures bad_name { is_name name.now ≡ false → result ≡ Err (Fault.Refused Refusal.BadName) }
+    ensures refused { TellsOnErr S.Store conn.old conn.new result (λ s e. RefusesBatch s name.now e) }
+    ensures fails { KnowsDesk S.Store conn.old conn.new result }
+    ensures cause { IsFaultless S.Store conn.old conn.new → FailsOnlyAs IsNoDevice S.Store conn.old conn.new result }
+    ensures output { result ≢ Err Fault.Output }
+    ensures read_only { IsReadOnly S.Store conn.old conn.new (is_ok result) }
+{
+    if !good_name(name) {
+        return Err(Fault::Refused(Refusal::BadName));
+    }
+    let Some(number) = batch_number(conn, name)? else {
+        return Err(Fault::Refused(Refusal::NoSuchBatch));
+    };
+    list_sentences(alloc, conn, number)
 }

@@ -1,10 +1,8 @@
 ghost use Rattle.std.specs.Prelude.{◌≡◌, ◌≢◌, ◌↔◌, ◌⊎◌, ◌<◌, ◌≤◌, ℕ, List, length};
-ghost use Rattle.std.specs.Prelude.{true, false, None, Some, Err};
-ghost use Rattle.std.specs.Prelude.{string_bytes, IsTrue, IfOk, IfErr, IfSome};
+ghost use Rattle.std.specs.Prelude.{true, false, None, Some, Err, string_bytes, IsTrue, IfOk, IfErr, IfSome};
 ghost use Rattle.std.specs.Io.KnownBytes.{Appends};
 ghost use Rattle.sqlite.specs.State.{HasCleanDisk, IsUnchanged, Survives};
 ghost use Rattle.sqlite.specs.Held.{state};
-ghost use Rattle.sqlite.specs.Steps.{over_memory};
 ghost use Rattle.tb_tables.specs.Records.{AreStored};
 ghost use Rattle.tb_tables.specs.Making.{no_schema, IsBlank};
 ghost use Rattle.tb_core.specs.declared.refusals.Refusal.{Refusal as AnyRefusal};
@@ -14,6 +12,8 @@ ghost use Rattle.tb_core.specs.Totals.{AreTotalsOf};
 ghost use Rattle.tb_core.specs.Commands.{correct as correct_it, event_on, import_file, imported, pull as pull_it};
 ghost use Rattle.tb_core.specs.Commands.{restore as restore_it, moved_on, corrected_to, pulled_out, restored_to};
 ghost use Rattle.tb_lists.specs.Batches.{batch_lines};
+ghost use Rattle.tb_lists.specs.Revisions.{AreRevisions};
+ghost use Rattle.tb_lists.specs.Sentences.{AreSentences};
 ghost use Rattle.tb_report.specs.Tables.{IsTableOf};
 ghost use Rattle.tb_search.specs.Released.{released, in_batch, current_text};
 ghost use Rattle.tb_search.specs.Searched.{Occurrence, answer, keys};
@@ -37,7 +37,7 @@ ghost use Rattle.tb_tables.specs.Leaving.{CommitsNothing};
 use crate::answers::Current;
 use crate::wanting::certain;
 use crate::{asking, exporting, finding, wanting};
-use sqlite::{Alter, Connection, MemStore};
+use sqlite::{Alter, Connection};
 use std::alloc::Global;
 use std::marker::Model;
 use tb_conllu::Sink;
@@ -46,7 +46,7 @@ use tb_core::{
     totals_are_nets,
 };
 use tb_import::ImportCounters;
-use tb_lists::{BatchLine, list_batches};
+use tb_lists::{BatchLine, RevisionLine, SentenceLine, list_batches, list_revisions};
 use tb_match::Strategy;
 use tb_query::{Attr, Query};
 use tb_refine::{Counters, faults, one_state_for_the_file};
@@ -323,6 +323,7 @@ impl<S: Alter> Desk<S> {
         ensures crash { WritesNothing S.Store self.old self.new }
         ensures commits_nothing { CommitsNothing S.Store self.old.conn self.new.conn }
         ensures limits { self.new.limits ≡ self.old.limits }
+        ensures doubt { self.new.in_doubt ≡ self.old.in_doubt }
     {
         totals_are_nets();
         asking::totals(self.alloc, &mut self.conn)
@@ -340,6 +341,7 @@ impl<S: Alter> Desk<S> {
         ensures crash { WritesNothing S.Store self.old self.new }
         ensures commits_nothing { CommitsNothing S.Store self.old.conn self.new.conn }
         ensures limits { self.new.limits ≡ self.old.limits }
+        ensures doubt { self.new.in_doubt ≡ self.old.in_doubt }
     {
         asking::moves(self.alloc, &mut self.conn)
     }
@@ -356,6 +358,7 @@ impl<S: Alter> Desk<S> {
         ensures crash { WritesNothing S.Store self.old self.new }
         ensures commits_nothing { CommitsNothing S.Store self.old.conn self.new.conn }
         ensures limits { self.new.limits ≡ self.old.limits }
+        ensures doubt { self.new.in_doubt ≡ self.old.in_doubt }
     {
         list_batches(self.alloc, &mut self.conn)
     }
@@ -379,6 +382,7 @@ impl<S: Alter> Desk<S> {
         ensures crash { WritesNothing S.Store self.old self.new }
         ensures commits_nothing { CommitsNothing S.Store self.old.conn self.new.conn }
         ensures limits { self.new.limits ≡ self.old.limits }
+        ensures doubt { self.new.in_doubt ≡ self.old.in_doubt }
     {
         let Some(number) = self.sentence_number(number) else {
             return Err(Fault::Refused(Refusal::NoSuchSentence));
@@ -405,11 +409,61 @@ impl<S: Alter> Desk<S> {
         ensures crash { WritesNothing S.Store self.old self.new }
         ensures commits_nothing { CommitsNothing S.Store self.old.conn self.new.conn }
         ensures limits { self.new.limits ≡ self.old.limits }
+        ensures doubt { self.new.in_doubt ≡ self.old.in_doubt }
     {
         let Some(number) = self.sentence_number(number) else {
             return Err(Fault::Refused(Refusal::NoSuchSentence));
         };
         asking::revision(&mut self.conn, number, rev)
+    }
+
+    /// The revisions of the sentence with this number, from 1, in their order, each with the move that made it. It reads no
+    /// text of a revision.
+    ///
+    /// # Errors
+    ///
+    /// `NoSuchSentence`.
+    pub fn revisions(&mut self, number: u64) -> Result<Vec<RevisionLine>, Fault>
+        ensures answered { Gives S.Store self.old self.new result (λ s v. AreRevisions s number v.items) }
+        ensures refused { (s : Machine) → Represents S.Store self.old s
+            → (result ≡ Err (Fault.Refused Refusal.NoSuchSentence)) ↔ HasNoSentence s number }
+        ensures alone { (r : AnyRefusal) → result ≡ Err (Fault.Refused r) → r ≡ Refusal.NoSuchSentence }
+        ensures output { result ≢ Err Fault.Output }
+        ensures fails { KnowsItself S.Store self.old self.new result }
+        ensures cause { BlamesNoDevice S.Store self.old self.new result }
+        ensures stays { Does S.Store self.old self.new result (λ s. Represents S.Store self.new s) }
+        ensures keeps_state { KeepsState S.Store self.old self.new }
+        ensures crash { WritesNothing S.Store self.old self.new }
+        ensures commits_nothing { CommitsNothing S.Store self.old.conn self.new.conn }
+        ensures doubt { self.new.in_doubt ≡ self.old.in_doubt }
+        ensures limits { self.new.limits ≡ self.old.limits }
+    {
+        let Some(number) = self.sentence_number(number) else {
+            return Err(Fault::Refused(Refusal::NoSuchSentence));
+        };
+        list_revisions(self.alloc, &mut self.conn, number)
+    }
+
+    /// The sentences of the batch with this name, pulled ones too, by number. It reads no text of a revision.
+    ///
+    /// # Errors
+    ///
+    /// The first of `BadName`, `NoSuchBatch`.
+    pub fn sentences(&mut self, name: &str) -> Result<Vec<SentenceLine>, Fault>
+        ensures answered { Gives S.Store self.old self.new result (λ s v. AreSentences s name.now v.items) }
+        ensures bad_name { is_name name.now ≡ false → result ≡ Err (Fault.Refused Refusal.BadName) }
+        ensures refused { GivesOnErr S.Store self.old self.new result (λ s e. RefusesBatch s name.now e) }
+        ensures output { result ≢ Err Fault.Output }
+        ensures fails { KnowsItself S.Store self.old self.new result }
+        ensures cause { BlamesNoDevice S.Store self.old self.new result }
+        ensures stays { Does S.Store self.old self.new result (λ s. Represents S.Store self.new s) }
+        ensures keeps_state { KeepsState S.Store self.old self.new }
+        ensures crash { WritesNothing S.Store self.old self.new }
+        ensures commits_nothing { CommitsNothing S.Store self.old.conn self.new.conn }
+        ensures doubt { self.new.in_doubt ≡ self.old.in_doubt }
+        ensures limits { self.new.limits ≡ self.old.limits }
+    {
+        asking::sentences(self.alloc, &mut self.conn, name)
     }
 }
 
@@ -435,6 +489,7 @@ impl<S: Alter> Desk<S> {
         ensures crash { WritesNothing S.Store self.old self.new }
         ensures commits_nothing { CommitsNothing S.Store self.old.conn self.new.conn }
         ensures limits { self.new.limits ≡ self.old.limits }
+        ensures doubt { self.new.in_doubt ≡ self.old.in_doubt }
     {
         exporting::released(self.alloc, &mut self.conn, out)
     }
@@ -460,6 +515,7 @@ impl<S: Alter> Desk<S> {
         ensures crash { WritesNothing S.Store self.old self.new }
         ensures commits_nothing { CommitsNothing S.Store self.old.conn self.new.conn }
         ensures limits { self.new.limits ≡ self.old.limits }
+        ensures doubt { self.new.in_doubt ≡ self.old.in_doubt }
     {
         exporting::batch(self.alloc, &mut self.conn, name, out)
     }
@@ -487,6 +543,7 @@ impl<S: Alter> Desk<S> {
         ensures crash { WritesNothing S.Store self.old self.new }
         ensures commits_nothing { CommitsNothing S.Store self.old.conn self.new.conn }
         ensures limits { self.new.limits ≡ self.old.limits }
+        ensures doubt { self.new.in_doubt ≡ self.old.in_doubt }
     {
         finding::number(
             self.alloc,
@@ -529,6 +586,7 @@ impl<S: Alter> Desk<S> {
         ensures crash { WritesNothing S.Store self.old self.new }
         ensures commits_nothing { CommitsNothing S.Store self.old.conn self.new.conn }
         ensures limits { self.new.limits ≡ self.old.limits }
+        ensures doubt { self.new.in_doubt ≡ self.old.in_doubt }
     {
         finding::search(self.alloc, &mut self.conn, query, strategy, context, out)
     }
@@ -549,6 +607,7 @@ impl<S: Alter> Desk<S> {
         ensures crash { WritesNothing S.Store self.old self.new }
         ensures commits_nothing { CommitsNothing S.Store self.old.conn self.new.conn }
         ensures limits { self.new.limits ≡ self.old.limits }
+        ensures doubt { self.new.in_doubt ≡ self.old.in_doubt }
     {
         finding::count(self.alloc, &mut self.conn, query, strategy, column)
     }
@@ -575,6 +634,7 @@ impl<S: Alter> Desk<S> {
             HasRoomIfWritten self.old.limits s (correct_it number base user.now body.now) body.now 1
             (state S.Store self.old.conn) → so) }
         ensures doubt { DoubtsOnDevice self.old self.new result }
+        ensures remains { IsTrue self.old.in_doubt → IsTrue self.new.in_doubt }
         ensures missing { RefusesMissing S.Store self.old number result }
         ensures crash { CrashesWhole S.Store self.old self.new (correct_it number base user.now body.now) }
         ensures limits { self.new.limits ≡ self.old.limits }
@@ -591,23 +651,6 @@ impl<S: Alter> Desk<S> {
             }
             Ok((reply, None)) => Ok(reply),
             Err(fault) => Err(certain(&mut self.conn, &mut self.in_doubt, fault)),
-        }
-    }
-}
-
-impl Desk<MemStore> {
-    /// A desk in memory. It is refused for want of memory, or because the store fails, which a store in memory is not known to do.
-    pub fn in_memory(alloc: Global, limits: Limits) -> Result<Desk<MemStore>, Fault>
-        requires { IsWithin limits }
-        ensures represents { IfOk result (λ d. Represents over_memory d empty_machine) }
-        ensures known { IfErr result (λ e. (e ≡ Fault.Memory) ⊎ (e ≡ Fault.Device)) }
-        ensures no_step_limit { IfOk result (λ d. (state over_memory d.conn).step_limit ≡ None) }
-        ensures limits { IfOk result (λ d. d.limits ≡ limits) }
-    {
-        let conn = Connection::open_in_memory(alloc)?;
-        match Desk::make(alloc, conn, limits) {
-            Ok(desk) => Ok(desk),
-            Err(Unmade { fault, conn: _ }) => Err(fault),
         }
     }
 }
@@ -633,6 +676,7 @@ impl<S: Alter> Desk<S> {
         ensures ends { EndsAs S.Store self.old self.new result (event_on name.now event user.now) moved_on }
         ensures cause { BlamesInDoubtAlone S.Store self.old self.new result (λ s so. so) }
         ensures doubt { DoubtsOnDevice self.old self.new result }
+        ensures remains { IsTrue self.old.in_doubt → IsTrue self.new.in_doubt }
         ensures crash { CrashesWhole S.Store self.old self.new (event_on name.now event user.now) }
         ensures limits { self.new.limits ≡ self.old.limits }
     {
@@ -656,6 +700,7 @@ impl<S: Alter> Desk<S> {
         ensures ends { EndsAs S.Store self.old self.new result (pull_it number user.now) pulled_out }
         ensures cause { BlamesInDoubtAlone S.Store self.old self.new result (λ s so. so) }
         ensures doubt { DoubtsOnDevice self.old self.new result }
+        ensures remains { IsTrue self.old.in_doubt → IsTrue self.new.in_doubt }
         ensures missing { RefusesMissing S.Store self.old number result }
         ensures crash { CrashesWhole S.Store self.old self.new (pull_it number user.now) }
         ensures limits { self.new.limits ≡ self.old.limits }
@@ -683,6 +728,7 @@ impl<S: Alter> Desk<S> {
         ensures ends { EndsAs S.Store self.old self.new result (restore_it number user.now) restored_to }
         ensures cause { BlamesInDoubtAlone S.Store self.old self.new result (λ s so. so) }
         ensures doubt { DoubtsOnDevice self.old self.new result }
+        ensures remains { IsTrue self.old.in_doubt → IsTrue self.new.in_doubt }
         ensures missing { RefusesMissing S.Store self.old number result }
         ensures crash { CrashesWhole S.Store self.old self.new (restore_it number user.now) }
         ensures limits { self.new.limits ≡ self.old.limits }
@@ -727,6 +773,7 @@ impl<S: Alter> Desk<S> {
             HasRoomIfWritten self.old.limits s (import_file name.now user.now body.now) body.now
             (length body.now) (state S.Store self.old.conn) → so) }
         ensures doubt { DoubtsOnDevice self.old self.new result }
+        ensures remains { IsTrue self.old.in_doubt → IsTrue self.new.in_doubt }
         ensures crash { CrashesWhole S.Store self.old self.new (import_file name.now user.now body.now) }
         ensures limits { self.new.limits ≡ self.old.limits }
     {

@@ -1,6 +1,6 @@
 //! Whether the store is open: a command ends for want of memory only there.
 
-ghost use Rattle.std.specs.Prelude.{◌≡◌, ◌≢◌, ◌⊎◌, false, IfErr};
+ghost use Rattle.std.specs.Prelude.{◌≡◌, ◌≢◌, ◌⊎◌, false, IfErr, IsTrue};
 ghost use Rattle.sqlite.specs.State.{Survives};
 ghost use Rattle.sqlite.specs.Held.{state};
 ghost use Rattle.tb_tables.specs.Leaving.{KeepsRecords};
@@ -52,6 +52,7 @@ fn memory_or_device<S: Alter>(conn: &mut Connection<S>, in_doubt: &mut bool) -> 
     ensures open { IsOpenOnMemory S.Store conn.new result }
     ensures cause { BlamesForWant S.Store conn.old conn.new in_doubt.new result }
     ensures doubt { PutsInDoubt S.Store conn.old conn.new in_doubt.old in_doubt.new result }
+    ensures remains { IsTrue in_doubt.old → IsTrue in_doubt.new }
     ensures was_open { WasOpen S.Store conn.old conn.new }
     ensures keeps_records { KeepsRecords S.Store conn.old conn.new }
     ensures autocommit { conn.old.in_transaction ≡ false → conn.new.in_transaction ≡ false }
@@ -81,6 +82,7 @@ pub(crate) fn certain<S: Alter>(
     ensures output { result ≢ Fault.Output }
     ensures cause { fault ≢ Fault.Device → BlamesForWant S.Store conn.old conn.new in_doubt.new result }
     ensures doubt { PutsInDoubt S.Store conn.old conn.new in_doubt.old in_doubt.new result }
+    ensures remains { IsTrue in_doubt.old → IsTrue in_doubt.new }
     ensures open { IsOpenOnMemory S.Store conn.new result }
     ensures was_open { WasOpen S.Store conn.old conn.new }
     ensures keeps_records { KeepsRecords S.Store conn.old conn.new }

@@ -1,5 +1,5 @@
 -- A text and its lexemes: what is wrong with one that is no query, and what one says that is a query.
-use Rattle.std.proofs.Common.{◌≡◌, ℕ, ◌≤◌, List, length, map, sym, ap, subst, ◌∙◌, arith}
+use Rattle.std.proofs.Common.{◌≡◌, ℕ, ◌<◌, ◌≤◌, List, [], ◌∷◌, length, map, refl, sym, ap, subst, ◌∙◌, arith, true}
 use Rattle.std.proofs.lemmas.List.{length-map}
 use Rattle.tb_match.specs.Trees.{Tree}
 use Rattle.tb_match.specs.Weight.{Fits}
@@ -7,14 +7,16 @@ use Rattle.tb_syntax.specs.declared.expr.Literal.{Literal}
 use Rattle.tb_syntax.specs.declared.expr.Expr.{Expr}
 use Rattle.tb_syntax.specs.declared.lexeme.Lexeme.{Lexeme}
 use Rattle.tb_syntax.specs.declared.lexing.Span.{Span}
-use Rattle.tb_syntax.specs.declared.fault.Fault.TheVariants.{Syntax}
+use Rattle.tb_syntax.specs.declared.fault.Fault.{Fault}
+use Rattle.tb_syntax.specs.declared.fault.Fault.TheVariants.{TooLong, Syntax, TooMany, TooDeep, Repeat, Memory}
+use Rattle.tb_syntax.specs.Grammar.{Query, query_text}
 use Rattle.tb_syntax.specs.Lexing.{Lexes}
 use Rattle.tb_syntax.specs.Exprs.{test}
-use Rattle.tb_syntax.specs.Limits.{query_count}
+use Rattle.tb_syntax.specs.Limits.{query_count, query_nests, query_repeats}
 use Rattle.tb_syntax.specs.Parsing.{ReadsQuery}
 use Rattle.tb_syntax.specs.Pattern.{query_tree, query_tests}
 use Rattle.tb_syntax.specs.Tests.{Test}
-use Rattle.tb_syntax.specs.Reading.{IsAccepted, IsWrongAt, IsFault, byte_of}
+use Rattle.tb_syntax.specs.Reading.{IsAccepted, IsWrongAt, IsFault, IsPastLimit, byte_of}
 use Rattle.tb_syntax.specs.Saying.{IsSaid, Says}
 use Rattle.tb_syntax.proofs.Fitting.{query_fits}
 use Rattle.tb_syntax.proofs.Lexings.{few}
@@ -33,6 +35,26 @@ wrong text bytes ls ms ss ts i b same le h e f w at = (
   (omega (arith, ap length same), subst (λ t. Lexes 0 0 t ls ss) same h),
   (i, subst (λ xs. IsWrongAt xs i) e w, at ∙ ap (λ x. byte_of x i (length bytes)) f ∙ ap (λ t. byte_of ss i (length t)) same),
 )
+
+-- the lexemes of a query that passes a limit
+pub past : (text bytes : List ℕ) (ls ms : List Lexeme) (ss : List Span) (q : Query) (e : Fault) → bytes ≡ text → length bytes ≤ 2000 → Lexes 0 0 bytes ls ss → ms ≡ ls → query_text q ≡ ms →
+    IsPastLimit q e → IsFault text e
+past text bytes ls ms ss q TooMany same le h f w p = (ls, ss, (omega (arith, ap length same), subst (λ t. Lexes 0 0 t ls ss) same h), (q, w ∙ f, p))
+past text bytes ls ms ss q TooDeep same le h f w p = (ls, ss, (omega (arith, ap length same), subst (λ t. Lexes 0 0 t ls ss) same h), (q, w ∙ f, p.0, p.1))
+past text bytes ls ms ss q Repeat same le h f w p = (ls, ss, (omega (arith, ap length same), subst (λ t. Lexes 0 0 t ls ss) same h), (q, w ∙ f, p.0, p.1, p.2))
+past text bytes ls ms ss q TooLong same le h f w p = absurd p
+past text bytes ls ms ss q (Syntax b) same le h f w p = absurd p
+past text bytes ls ms ss q Memory same le h f w p = absurd p
+
+-- the lexemes of a query within the limits
+pub accepted : (text bytes : List ℕ) (ls ms : List Lexeme) (ss : List Span) (q : Query) → bytes ≡ text → length bytes ≤ 2000 → Lexes 0 0 bytes ls ss → ms ≡ ls → query_text q ≡ ms →
+    (query_count q ≤ 32) × (query_nests 16 q ≡ true) × (query_repeats 32 q ≡ true) → IsAccepted text ls ss
+accepted text bytes ls ms ss q same le h f w p = (q, ((omega (arith, ap length same), subst (λ t. Lexes 0 0 t ls ss) same h), w ∙ f, p.0, p.1, p.2))
+
+-- a text for whose lexemes memory was wanting is not empty
+pub some_byte : (text bytes : List ℕ) → bytes ≡ text → (bytes ≡ [] → ⊥) → 0 < length text
+some_byte text [] same h = absurd (h refl)
+some_byte text (b ∷ bs) same h = omega (arith, ap length same)
 
 -- what is read of the lexemes of a query within the limits
 read_off : (text : List ℕ) (ls ms : List Lexeme) (ss : List Span) (t : Tree) (es : List (Test Literal)) (h : IsAccepted text ls ss) → ms ≡ ls → ReadsQuery ms t es →

@@ -41,6 +41,15 @@ IsWrongAt ls i = (IsQuery ls → ⊥) × (i ≤ length ls) × IsBeginning (take 
 abbrev pub byte_of : List Span → ℕ → ℕ → ℕ
 byte_of ss i n = unwrap_or (option_map (λ (s : Span). s.start) (slice_get ss i)) n
 
+-- the first limit that a query passes
+abbrev pub IsPastLimit : Query → Fault → Type 0
+IsPastLimit q TooMany = 32 < query_count q
+IsPastLimit q TooDeep = (query_count q ≤ 32) × (query_nests 16 q ≡ false)
+IsPastLimit q Repeat = (query_count q ≤ 32) × (query_nests 16 q ≡ true) × (query_repeats 32 q ≡ false)
+IsPastLimit q TooLong = ⊥
+IsPastLimit q (Syntax b) = ⊥
+IsPastLimit q Memory = ⊥
+
 -- The fault of a text, the first in this order that holds.
 abbrev pub IsFault : List ℕ → Fault → Type 0
 IsFault text TooLong = 2000 < length text

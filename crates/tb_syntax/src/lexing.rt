@@ -1,7 +1,7 @@
 //! Splits the text of a query into lexemes.
 
 ghost use Rattle.std.specs.Prelude.{◌≡◌, ◌∷◌, ◌++◌, ◌<◌, ◌≤◌, ◌+◌, ◌-◌, ◌^◌, []};
-ghost use Rattle.std.specs.Prelude.{length, IfOk, OnOk};
+ghost use Rattle.std.specs.Prelude.{length, IfOk, IsOk, OnOk};
 ghost use Rattle.tb_syntax.specs.Lexing.{is_white, literals_after, Lexes};
 
 use crate::lexeme::Lexeme;
@@ -68,7 +68,8 @@ fn literals_after(literals: u16, lexeme: Lexeme) -> u16
 /// The lexemes of the text, up to the first place with no lexeme, for which a stray lexeme is the last.
 pub(crate) fn lex(alloc: Global, text: &[u8]) -> Result<Lexed, AllocError>
     requires { length text.now < 2 ^ 16 }
-    ensures { IfOk result (λ x. Lexes 0 0 text.now x.lexemes.items x.spans.items) }
+    ensures lexemes { IfOk result (λ x. Lexes 0 0 text.now x.lexemes.items x.spans.items) }
+    ensures sure { text.now ≡ [] → IsOk result }
 {
     let mut lexed = Lexed::new(alloc);
     let mut at = 0;

@@ -1,15 +1,18 @@
 //! Reads the text of a query.
 
-ghost use Rattle.std.specs.Prelude.{length, map, IfOk, IfErr, ◌≡◌, ◌≤◌};
+ghost use Rattle.std.specs.Prelude.{length, map, IfOk, IfErr, OnOk, ◌≡◌, ◌<◌, ◌≤◌, ◌^◌, true};
 ghost use Rattle.std.specs.String.{string_bytes};
 ghost use Rattle.tb_match.specs.Trees.{tree};
 ghost use Rattle.tb_match.specs.Weight.{Fits};
-ghost use Rattle.tb_syntax.specs.Reading.{IsAccepted, IsFault, byte_of};
+ghost use Rattle.tb_syntax.specs.Grammar.{Query as AnyQuery, query_text};
+ghost use Rattle.tb_syntax.specs.Limits.{query_count, query_nests, query_repeats};
+ghost use Rattle.tb_syntax.specs.Reading.{IsAccepted, IsFault, IsPastLimit, byte_of};
 ghost use Rattle.tb_syntax.specs.Saying.{Says};
 ghost use Rattle.tb_syntax.specs.declared.fault.Fault.TheVariants.{Memory};
 ghost use Rattle.tb_syntax.specs.Exprs.{test};
 
 use crate::fault::Fault;
+use crate::lexeme::Lexeme;
 use crate::lexing::{Lexed, Span, lex};
 use crate::limits::{count_expressions, nests_within, repeats_within};
 use crate::parsing::{Parsed, parse_lexemes};
@@ -39,15 +42,38 @@ fn byte_of(spans: &[Span], place: usize, end: usize) -> usize
     }
 }
 
+/// Whether the lexemes of a query are within its limits. Takes no memory.
+///
+/// # Errors
+///
+/// The first limit that they pass, which is one of `TooMany`, `TooDeep` and `Repeat`.
+fn test_limits(lexemes: &[Lexeme]) -> Result<(), Fault>
+    requires { length lexemes.now < 2 ^ 32 }
+    ensures within { OnOk result ((q : AnyQuery) → query_text q ≡ lexemes.now
+        → (query_count q ≤ 32) × (query_nests 16 q ≡ true) × (query_repeats 32 q ≡ true)) }
+    ensures passed { IfErr result (λ e. (q : AnyQuery) → query_text q ≡ lexemes.now → IsPastLimit q e) }
+{
+    if count_expressions(lexemes) > MOST_EXPRESSIONS {
+        return Err(Fault::TooMany);
+    }
+    if !nests_within(lexemes, MOST_PARENTHESES) {
+        return Err(Fault::TooDeep);
+    }
+    if !repeats_within(lexemes, MOST_TIMES) {
+        return Err(Fault::Repeat);
+    }
+    Ok(())
+}
+
 /// The lexemes of a query.
 ///
 /// # Errors
 ///
-/// The first fault of the text. `Memory` comes only for a text within the limit of length.
+/// The first fault of the text. `Memory` comes only for a text within the limit of length that is not empty.
 pub fn read(alloc: Global, text: &str) -> Result<Lexed, Fault>
     ensures query { IfOk result (λ x. IsAccepted text.now x.lexemes.items x.spans.items) }
     ensures fault { IfErr result (λ e. IsFault text.now e) }
-    ensures memory { IfErr result (λ e. e ≡ Memory → length text.now ≤ 2000) }
+    ensures memory { IfErr result (λ e. e ≡ Memory → (0 < length text.now) × (length text.now ≤ 2000)) }
 {
     let bytes = text.as_bytes();
     if bytes.len() > LONGEST {
@@ -58,15 +84,7 @@ pub fn read(alloc: Global, text: &str) -> Result<Lexed, Fault>
     if let Err(place) = scan(lexemes) {
         return Err(Fault::Syntax(byte_of(lexed.spans.as_slice(), place, bytes.len())));
     }
-    if count_expressions(lexemes) > MOST_EXPRESSIONS {
-        return Err(Fault::TooMany);
-    }
-    if !nests_within(lexemes, MOST_PARENTHESES) {
-        return Err(Fault::TooDeep);
-    }
-    if !repeats_within(lexemes, MOST_TIMES) {
-        return Err(Fault::Repeat);
-    }
+    test_limits(lexemes)?;
     Ok(lexed)
 }
 

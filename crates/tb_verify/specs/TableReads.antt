@@ -1,4 +1,4 @@
--- Inner: no contract beyond this crate cites a definition of this module.
+-- Between crates: no contract of a front door cites a definition of this module.
 -- A read of tables: what it says of them, and what it leaves of the connection.
 use Rattle.std.specs.Prelude.{◌≡◌, ◌≢◌, false, Result, Err, IfOk, IsTrue, is_ok}
 use Rattle.sqlite.specs.Store.{Ghosts}

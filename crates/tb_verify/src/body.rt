@@ -1,6 +1,6 @@
 //! The text of a revision, parsed back into its sentence.
 
-ghost use Rattle.std.specs.Prelude.{◌≡◌, ◌∷◌, [], List, length, IfOk, Err, MatchOption, map, string_bytes};
+ghost use Rattle.std.specs.Prelude.{◌≡◌, ◌≢◌, ◌∷◌, [], List, length, IfOk, IfErr, Err, map, string_bytes};
 ghost use Rattle.std.specs.List.{AllByRecursion};
 ghost use Rattle.tb_conllu.specs.Text.{BlockText};
 ghost use Rattle.tb_core.specs.Machine.{IsLawful};
@@ -15,17 +15,18 @@ use tb_conllu::{BlockRef, read_ref};
 use tb_rules::check;
 use tb_tables::RevisionRow;
 
-/// The sentence, if there is exactly one.
-fn only_of<'a>(mut blocks: Vec<BlockRef<'a>>) -> Option<BlockRef<'a>>
-    ensures { MatchOption result (length blocks.entry.items ≡ 1 → ⊥) (λ b. blocks.entry.items ≡ b ∷ []) }
+/// The sentence, if there is exactly one; else `NotADesk`.
+fn only_of<'a>(mut blocks: Vec<BlockRef<'a>>) -> Result<BlockRef<'a>, Unfit>
+    ensures one { IfOk result (λ b. blocks.entry.items ≡ b ∷ []) }
+    ensures other { IfErr result (λ e. (e ≡ NotADesk) × (length blocks.entry.items ≢ 1)) }
 {
     let Some(last) = blocks.pop() else {
-        return None;
+        return Err(Unfit::NotADesk);
     };
     if !blocks.is_empty() {
-        return None;
+        return Err(Unfit::NotADesk);
     }
-    Some(last)
+    Ok(last)
 }
 
 /// The sentence that has this text and keeps rules 1 to 11.
@@ -34,9 +35,7 @@ fn sentence_in<'a>(alloc: Global, body: &'a str) -> Result<BlockRef<'a>, Unfit>
     ensures unfit { result ≡ Err NotADesk → (b : BlockText) → IsLawful b → own_text b ≡ body.now → ⊥ }
 {
     let blocks = read_ref(alloc, body.as_bytes())?;
-    let Some(block) = only_of(blocks) else {
-        return Err(Unfit::NotADesk);
-    };
+    let block = only_of(blocks)?;
     check(alloc, &block)?;
     Ok(block)
 }

@@ -8,7 +8,7 @@ ghost use Rattle.tb_verify.specs.File.{AreReadBack, is_next, after_next};
 ghost use Rattle.tb_verify.specs.declared.unfit.Unfit.TheVariants.{NotADesk};
 
 use crate::entry::entry_in;
-use crate::unfit::Unfit;
+use crate::unfit::{Unfit, fit};
 use std::alloc::Global;
 use tb_replay::SentenceSummary;
 use tb_tables::{RevisionRow, SentenceRow};
@@ -82,11 +82,7 @@ pub fn entries_in<'a>(
         rest = later_rows(rest, row.rev);
         left = later_pulled(number, left);
     }
-    if !rest.is_empty() {
-        return Err(Unfit::NotADesk);
-    }
-    if !left.is_empty() {
-        return Err(Unfit::NotADesk);
-    }
+    fit(rest.is_empty())?;
+    fit(left.is_empty())?;
     Ok(entries)
 }

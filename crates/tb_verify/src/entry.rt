@@ -9,7 +9,7 @@ ghost use Rattle.tb_verify.specs.declared.unfit.Unfit.TheVariants.{NotADesk};
 
 use crate::body::sentences_in;
 use crate::course::is_course_right;
-use crate::unfit::Unfit;
+use crate::unfit::{Unfit, fit};
 use std::alloc::{AllocError, Global};
 use tb_conllu::{BlockRef, one_list_has_a_text, words};
 use tb_replay::{Revision, SentenceSummary};
@@ -56,9 +56,7 @@ pub fn entry_in<'a>(
     // A text is that of at most one list of sentences, by this law.
     one_list_has_a_text();
     let blocks = sentences_in(alloc, revisions)?;
-    if !is_course_right(number, row, revisions, &blocks) {
-        return Err(Unfit::NotADesk);
-    }
+    fit(is_course_right(number, row, revisions, &blocks))?;
     let reported = reported_revisions(alloc, revisions, &blocks)?;
     Ok(SentenceSummary {
         batch: row.batch as u64,

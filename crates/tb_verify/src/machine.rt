@@ -53,7 +53,8 @@ pub(crate) fn batches_in<'a>(
 
 /// Why rows of moves cannot be read back.
 fn unfit_of(fault: Fault) -> Unfit
-    ensures { result ≡ NotADesk → fault ≡ Fault.NotADesk }
+    ensures form { result ≡ NotADesk → fault ≡ Fault.NotADesk }
+    ensures desk { fault ≡ Fault.NotADesk → result ≡ NotADesk }
 {
     match fault {
         Fault::NotADesk => Unfit::NotADesk,

@@ -15,7 +15,7 @@ use crate::entries::entries_in;
 use crate::laws::{rows_tell_names_apart, rows_tell_sentences};
 use crate::machine::{batches_in, moves_in};
 use crate::totals::totals_in;
-use crate::unfit::Unfit;
+use crate::unfit::{Unfit, fit};
 use std::alloc::{AllocError, Global};
 use tb_core::{Move, Totals};
 use tb_replay::{SentenceSummary, reached_states_are_fine, replays};
@@ -72,9 +72,7 @@ fn reached_totals(
     ensures unfit { result ≡ Err NotADesk → (f : Machine) → IsShownBy batches.now entries.now moves.now f
         → IsReachable f → map total_of totals.now ≡ map (total_record f) six_states → ⊥ }
 {
-    if !replays(alloc, batches, entries, moves)? {
-        return Err(Unfit::NotADesk);
-    }
+    fit(replays(alloc, batches, entries, moves)?)?;
     totals_in(batches, entries, totals)
 }
 
@@ -122,9 +120,7 @@ pub(crate) fn summary_of_rows(alloc: Global, rows: &TableRows) -> Result<DeskSum
     rows_tell_sentences();
     let names = rows.batches.as_slice();
     let sentences = rows.sentences.as_slice();
-    if !are_apart(alloc, names, sentences)? {
-        return Err(Unfit::NotADesk);
-    }
+    fit(are_apart(alloc, names, sentences)?)?;
     let batches = batches_in(alloc, names)?;
     let revisions = rows.revisions.as_slice();
     let entries = entries_in(alloc, sentences, rows.pulled.as_slice(), revisions)?;

@@ -1,8 +1,8 @@
 //! Why rows cannot be read back.
 
-ghost use Rattle.std.specs.Prelude.{◌≡◌};
+ghost use Rattle.std.specs.Prelude.{◌≡◌, true, false, IfErr, OnOk};
 ghost use Rattle.tb_verify.specs.Unfit.{unfit_of_reading, unfit_of_rules};
-ghost use Rattle.tb_verify.specs.declared.unfit.Unfit.TheVariants.{Memory};
+ghost use Rattle.tb_verify.specs.declared.unfit.Unfit.TheVariants.{Memory, NotADesk};
 
 use std::alloc::{AllocError, AllocFailed};
 use tb_conllu::ReadFault;
@@ -53,4 +53,15 @@ impl<T: Drop> From<AllocFailed<T>> for Unfit {
     fn from(_: AllocFailed<T>) -> Self {
         Unfit::Memory
     }
+}
+
+/// Nothing where the rows are right, and `NotADesk` where they are not. This needs no memory.
+pub(crate) fn fit(are_right: bool) -> Result<(), Unfit>
+    ensures right { OnOk result (are_right ≡ true) }
+    ensures wrong { IfErr result (λ e. (e ≡ NotADesk) × (are_right ≡ false)) }
+{
+    if !are_right {
+        return Err(Unfit::NotADesk);
+    }
+    Ok(())
 }

@@ -44,6 +44,8 @@ pub(crate) fn summary_without_pulls(alloc: Global, rows: &TableRows) -> Result<D
         → tables_in rows.now ≡ tables_of s → ⊥ }
     ensures never_refuses { (r : AnyRefusal) → result ≢ Err (Fault.Refused r) }
     ensures cause { IfErr result (λ (fault : AnyFault). fault ≢ Fault.Device) }
+    ensures wants { result ≡ Err Fault.Memory
+        → All (λ (m : AnyMoveRow). (m.kind ≢ 11) × (m.kind ≢ 12)) rows.now.moves.items }
 {
     if !has_no_pull(rows.moves.as_slice()) {
         return Err(Fault::NotADesk);

@@ -1,10 +1,11 @@
 //! Frequency tables, totals and moves as CSV.
 
-use crate::cases::assert_bytes;
+use crate::cases::{assert_bytes, assert_same};
 use crate::reading::number;
 use crate::rows::move_reported;
-use std::test::Fail;
-use tb_core::Totals;
+use std::alloc::Global;
+use std::process::Abort;
+use tb_core::{Move, Totals};
 use tb_report::{Freq, csv_freq, csv_moves, csv_totals};
 
 /// Keys, separated by bars.
@@ -16,26 +17,33 @@ const KEYS: &str =
 const TABLE: &str =
     "key,count\nдостопримечательность,5\n,4\n_,4\ntwo words,4\nж,4\n=1+1,3\n\"a,b\",3\né,3\nкнига,3\n\ttab,2\nfifteen letters,2\n\"say \"\"x\"\"\",2\n\"sixteen, letters\",2\n\"ü,ß\",2\n北京,2\n lead,1\n\"\"\"\",1\nfifteen letter,1\n\"line\nfeed\",1\nplain,1\n\"sixteen, letterz\",1\nשלום,1\n";
 
-#[test]
-fn keys_of_many_scripts(rt: HostRuntime) -> Result<(), Fail> {
-    let alloc = rt.alloc();
+/// How often each key comes.
+fn keys_counted(rt: &impl Abort, alloc: Global) -> Freq {
     let mut freq = Freq::new(alloc);
-    let mut added: u64 = 0;
     for key in KEYS.split('|') {
         assert!(rt; freq.total() < 1000);
-        freq.add(key)?;
-        added = added.saturating_add(1);
+        freq.add(key).expect(rt, key);
     }
-    let mut out = Vec::new(alloc);
-    csv_freq(&freq, &mut out)?;
-    assert_bytes(&rt, &out, TABLE);
-    assert!(rt; freq.total() == added);
+    freq
+}
+
+fn sum_of_rows(rt: &impl Abort, freq: &Freq) -> u64 {
     let mut sum: u64 = 0;
-    for (_key, count) in freq.rows()? {
+    for (_key, count) in freq.rows().expect(rt, "rows") {
         sum = sum.saturating_add(count);
     }
-    assert!(rt; sum == added);
-    Ok(())
+    sum
+}
+
+#[test]
+fn keys_of_many_scripts(rt: HostRuntime) {
+    let freq = keys_counted(&rt, rt.alloc());
+    let added = KEYS.split('|').count() as u64;
+    let mut out = Vec::new(rt.alloc());
+    csv_freq(&freq, &mut out).expect(&rt, "a table");
+    assert_bytes(&rt, &out, TABLE, "keys");
+    assert_same(&rt, &freq.total(), &added, "the total");
+    assert_same(&rt, &sum_of_rows(&rt, &freq), &added, "the sum of the rows");
 }
 
 /// Totals, as the same module wrote them. All of them are in a batch that was withdrawn.
@@ -57,23 +65,27 @@ const MOVES: &str =
 const MOVES_WRITTEN: &str =
     "no,kind,batch,sentence,from,to,sentences,words_out,words_in,who\n1,import,1,0,none,open,2,0,4,ann\n2,pull,1,2,open,withdrawn,1,1,1,dan\n3,assign,1,0,open,assigned,1,3,3,ann\n4,restore,1,2,withdrawn,assigned,1,1,1,dan\n5,pull,1,2,assigned,withdrawn,1,1,1,dan\n6,withdraw,1,0,assigned,withdrawn,1,3,3,cem\n7,reopen,1,0,withdrawn,open,1,3,3,ben\n8,pull,1,1,open,withdrawn,1,3,3,dan\n9,assign,1,0,open,assigned,0,0,0,ben\n10,unassign,1,0,assigned,open,0,0,0,ben\n11,correct,2,3,assigned,assigned,1,3,4,ann\n12,submit,2,0,assigned,submitted,1,4,4,ann\n13,send-back,2,0,submitted,assigned,1,4,4,ben\n14,adjudicate,2,0,submitted,adjudicated,1,4,4,ben\n15,release,2,0,adjudicated,released,1,4,4,cem\n18446744073709551615,submit,1,0,assigned,submitted,1,18446744073709551615,0,\"a,b\"\n18446744073709551615,submit,1,0,assigned,submitted,1,18446744073709551615,0,\"say \"\"x\"\"\"\n18446744073709551615,submit,1,0,assigned,submitted,1,18446744073709551615,0,\"line\nfeed\"\n18446744073709551615,submit,1,0,assigned,submitted,1,18446744073709551615,0,книга\n18446744073709551615,submit,1,0,assigned,submitted,1,18446744073709551615,0,北京\n18446744073709551615,submit,1,0,assigned,submitted,1,18446744073709551615,0,שלום\n18446744073709551615,submit,1,0,assigned,submitted,1,18446744073709551615,0,=1+1\n18446744073709551615,submit,1,0,assigned,submitted,1,18446744073709551615,0,-\n18446744073709551615,submit,1,0,assigned,submitted,1,18446744073709551615,0, lead\n18446744073709551615,submit,1,0,assigned,submitted,1,18446744073709551615,0,\ttab\n18446744073709551615,submit,1,0,assigned,submitted,1,18446744073709551615,0,\"\"\"\"\n18446744073709551615,submit,1,0,assigned,submitted,1,18446744073709551615,0,\n18446744073709551615,submit,1,0,assigned,submitted,1,18446744073709551615,0,\"é, ü\"\n";
 
+fn moves_numbered(rt: &impl Abort, alloc: Global) -> Vec<Move> {
+    let mut moves = Vec::new(alloc);
+    for row in MOVES.split('|') {
+        let (no, rest) = row.split_once(" ").expect(rt, row);
+        let change = move_reported(rt, alloc, number(rt, no), rest);
+        moves.push(change).expect(rt, row);
+    }
+    moves
+}
+
 #[test]
-fn totals_and_moves(rt: HostRuntime) -> Result<(), Fail> {
+fn totals_and_moves(rt: HostRuntime) {
     let alloc = rt.alloc();
     let totals = Totals {
         sentences: [0, 0, 0, 0, 0, 2],
         words: [0, 0, 0, 0, 0, 4],
     };
     let mut out = Vec::new(alloc);
-    csv_totals(alloc, &totals, &mut out)?;
-    assert_bytes(&rt, &out, TOTALS);
-    let mut moves = Vec::new(alloc);
-    for row in MOVES.split('|') {
-        let (no, rest) = row.split_once(" ").ok_or("a move")?;
-        moves.push(move_reported(alloc, number(no)?, rest)?)?;
-    }
+    csv_totals(alloc, &totals, &mut out).expect(&rt, "a table");
+    assert_bytes(&rt, &out, TOTALS, "totals");
     let mut out = Vec::new(alloc);
-    csv_moves(alloc, &moves, &mut out)?;
-    assert_bytes(&rt, &out, MOVES_WRITTEN);
-    Ok(())
+    csv_moves(alloc, &moves_numbered(&rt, alloc), &mut out).expect(&rt, "a table");
+    assert_bytes(&rt, &out, MOVES_WRITTEN, "moves");
 }

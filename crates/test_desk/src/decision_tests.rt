@@ -1,11 +1,13 @@
 //! Decisions compared with the table of events, for the worker and for another user: 8 events, 6 states. Another
 //! program made the expected answers from the table.
 
-use crate::cases::{Question, assert_answers};
+use crate::cases::{Question, assert_answers, said, shown};
 use crate::reading::{event_named, number, state_named, word_at};
 use std::alloc::Global;
-use std::test::Fail;
-use tb_core::{Refusal, decide_correct, decide_event, decide_pull, decide_restore, good_name};
+use std::process::Abort;
+use tb_core::{
+    Event, Refusal, decide_correct, decide_event, decide_pull, decide_restore, good_name,
+};
 
 /// The decision for the words of a case. The worker of an event's batch is `ann`.
 ///
@@ -13,38 +15,62 @@ use tb_core::{Refusal, decide_correct, decide_event, decide_pull, decide_restore
 /// a current number; a pull or a restore, in a state, of a sentence that is `pulled` or not; or a name.
 struct Decision;
 
-fn done_or(alloc: Global, decision: Result<(), Refusal>) -> Result<String, Fail> {
+fn done_or(rt: &impl Abort, alloc: Global, decision: Result<(), Refusal>) -> String {
     match decision {
-        Ok(()) => Ok(String::from_str(alloc, "done")?),
-        Err(refusal) => Ok(refusal.to_string(alloc)?),
+        Ok(()) => said(rt, alloc, "done"),
+        Err(refusal) => shown(rt, alloc, &refusal),
+    }
+}
+
+fn name_decided(rt: &impl Abort, alloc: Global, name: &str) -> String {
+    said(rt, alloc, if good_name(name) { "yes" } else { "no" })
+}
+
+/// `STATE WORKER USER BASE CURRENT`.
+fn correction_decided(rt: &impl Abort, alloc: Global, asked: &str) -> String {
+    let state = state_named(rt, word_at(asked, 0));
+    let base = number(rt, word_at(asked, 3));
+    let current = number(rt, word_at(asked, 4));
+    let decision = decide_correct(state, word_at(asked, 1), word_at(asked, 2), base, current);
+    done_or(rt, alloc, decision)
+}
+
+/// Whether the sentence of a case `STATE pulled` or `STATE in` is pulled.
+fn is_pulled(asked: &str) -> bool {
+    *word_at(asked, 1) == *"pulled"
+}
+
+fn pull_decided(rt: &impl Abort, alloc: Global, asked: &str) -> String {
+    let state = state_named(rt, word_at(asked, 0));
+    done_or(rt, alloc, decide_pull(state, is_pulled(asked)))
+}
+
+fn restore_decided(rt: &impl Abort, alloc: Global, asked: &str) -> String {
+    let state = state_named(rt, word_at(asked, 0));
+    match decide_restore(state, is_pulled(asked)) {
+        Ok(to) => said(rt, alloc, to.word()),
+        Err(refusal) => shown(rt, alloc, &refusal),
+    }
+}
+
+/// `STATE USER`.
+fn event_decided(rt: &impl Abort, alloc: Global, event: Event, asked: &str) -> String {
+    let state = state_named(rt, word_at(asked, 0));
+    match decide_event(state, "ann", event, word_at(asked, 1)) {
+        Ok((to, worker)) => format!(in alloc; "{} {worker:?}", to.word()).expect(rt, "a state"),
+        Err(refusal) => shown(rt, alloc, &refusal),
     }
 }
 
 impl Question for Decision {
-    fn answer(&self, alloc: Global, asked: &str) -> Result<String, Fail> {
-        let (verb, rest) = asked.split_once(" ").ok_or("a decision")?;
-        if verb == "name" {
-            let word = if good_name(rest) { "yes" } else { "no" };
-            return Ok(String::from_str(alloc, word)?);
-        }
-        let state = state_named(word_at(rest, 0))?;
-        let second = word_at(rest, 1);
+    fn answer(&self, rt: &impl Abort, alloc: Global, asked: &str) -> String {
+        let (verb, rest) = asked.split_once(" ").expect(rt, asked);
         match verb {
-            "correct" => {
-                let base = number(word_at(rest, 3))?;
-                let current = number(word_at(rest, 4))?;
-                let user = word_at(rest, 2);
-                done_or(alloc, decide_correct(state, second, user, base, current))
-            }
-            "pull" => done_or(alloc, decide_pull(state, second == "pulled")),
-            "restore" => match decide_restore(state, second == "pulled") {
-                Ok(to) => Ok(String::from_str(alloc, to.word())?),
-                Err(refusal) => Ok(refusal.to_string(alloc)?),
-            },
-            event => match decide_event(state, "ann", event_named(event)?, second) {
-                Ok((to, worker)) => Ok(format!(in alloc; "{} {worker:?}", to.word())?),
-                Err(refusal) => Ok(refusal.to_string(alloc)?),
-            },
+            "name" => name_decided(rt, alloc, rest),
+            "correct" => correction_decided(rt, alloc, rest),
+            "pull" => pull_decided(rt, alloc, rest),
+            "restore" => restore_decided(rt, alloc, rest),
+            event => event_decided(rt, alloc, event_named(rt, event), rest),
         }
     }
 }
@@ -216,6 +242,6 @@ const CASES: &str = "\
     name é => no\n";
 
 #[test]
-fn decisions_are_those_of_the_table(rt: HostRuntime) -> Result<(), Fail> {
+fn decisions_are_those_of_the_table(rt: HostRuntime) {
     assert_answers(&rt, rt.alloc(), &Decision, CASES, 162)
 }

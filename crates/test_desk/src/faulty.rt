@@ -1,10 +1,10 @@
 //! Commands that are accepted without the faults that a case names. The parts of the machine judge them, in the order
 //! in which a desk asks these parts.
 
-use crate::cases::Question;
+use crate::cases::{Question, joined, said, shown};
 use crate::reading::{event_named, word_at};
-use std::alloc::{AllocError, Global};
-use std::test::Fail;
+use std::alloc::Global;
+use std::process::Abort;
 use tb_conllu::read;
 use tb_core::{
     BatchFound, CurrentFound, Event, Imported, Judged, Limits, NameFound, SentenceFound, State,
@@ -28,20 +28,21 @@ const STANDING: &str = "# sent_id = go\n# text = Go\n1\tGo\tgo\tVERB\t_\t_\t0\tr
 pub(crate) struct Faulty;
 
 impl Question for Faulty {
-    fn answer(&self, alloc: Global, asked: &str) -> Result<String, Fail> {
-        let body = body_text(alloc, asked)?;
+    fn answer(&self, rt: &impl Abort, alloc: Global, asked: &str) -> String {
+        let body = body_text(rt, alloc, asked);
         match word_at(asked, 0) {
-            "import" => import_reported(alloc, asked, body.as_bytes()),
-            "correct" => correction_reported(alloc, asked, body.as_bytes()),
-            "pull" | "restore" => pull_reported(alloc, asked),
-            _ => event_reported(alloc, asked),
+            "import" => import_reported(rt, alloc, asked, body.as_bytes()),
+            "correct" => correction_reported(rt, alloc, asked, body.as_bytes()),
+            "pull" => pull_reported(rt, alloc, asked),
+            "restore" => restore_reported(rt, alloc, asked),
+            event => event_reported(rt, alloc, asked, event_named(rt, event)),
         }
     }
 }
 
 /// Whether the case names the fault.
 fn has(asked: &str, fault: &str) -> bool {
-    asked.split(' ').any(|word| word == fault)
+    asked.split(' ').any(|word| *word == *fault)
 }
 
 /// The first value where the case names the fault, else the second.
@@ -50,33 +51,45 @@ fn either<T: Copy>(asked: &str, fault: &str, faulty: T, fine: T) -> T {
 }
 
 /// The one sentence of the body. Without a fault it differs from the stored one only in its lemma.
-fn sentence_text(alloc: Global, asked: &str) -> Result<String, AllocError> {
+fn sentence_text(rt: &impl Abort, alloc: Global, asked: &str) -> String {
     let name = either(asked, "id", "gone", "go");
     let form = either(asked, "text", "Went", "Go");
     let lemma = either(asked, "same", "go", "going");
     let tag = either(asked, "rule", "VERBS", "VERB");
-    format!(in alloc;
-        "# sent_id = {name}\n# text = {form}\n1\t{form}\t{lemma}\t{tag}\t_\t_\t0\troot\t_\t_\n\n"
-    )
+    let heading = joined(
+        rt,
+        alloc,
+        &["# sent_id = ", name, "\n# text = ", form, "\n"],
+    );
+    let row = joined(
+        rt,
+        alloc,
+        &[
+            "1\t",
+            form,
+            "\t",
+            lemma,
+            "\t",
+            tag,
+            "\t_\t_\t0\troot\t_\t_\n",
+        ],
+    );
+    joined(rt, alloc, &[heading.as_str(), row.as_str(), "\n"])
 }
 
-fn body_text(alloc: Global, asked: &str) -> Result<String, Fail> {
-    let mut body = String::new(alloc);
-    if !has(asked, "empty") {
-        body.push_str(sentence_text(alloc, asked)?.as_str())?;
-    }
-    if has(asked, "two") {
-        body.push_str(SECOND)?;
-    }
-    if has(asked, "line") {
-        body.push_str("x\n")?;
-    }
-    Ok(body)
+fn body_text(rt: &impl Abort, alloc: Global, asked: &str) -> String {
+    let first = if has(asked, "empty") {
+        String::new(alloc)
+    } else {
+        sentence_text(rt, alloc, asked)
+    };
+    let second = either(asked, "two", SECOND, "");
+    let line = either(asked, "line", "x\n", "");
+    joined(rt, alloc, &[first.as_str(), second, line])
 }
 
 /// An event on a batch. Either only its worker may ask for it, or only others may.
-fn event_reported(alloc: Global, asked: &str) -> Result<String, Fail> {
-    let event = event_named(word_at(asked, 0))?;
+fn event_reported(rt: &impl Abort, alloc: Global, asked: &str, event: Event) -> String {
     let by_worker = event == Event::Submit;
     let state = if by_worker {
         State::Assigned
@@ -97,8 +110,8 @@ fn event_reported(alloc: Global, asked: &str) -> Result<String, Fail> {
     let user = either(asked, "user", "a b", "ann");
     let moves = either(asked, "full", 3, 2);
     match judge_event(&LIMITS, name, event, user, batch, moves) {
-        Ok((to, _)) => Ok(String::from_str(alloc, to.word())?),
-        Err(refusal) => Ok(refusal.to_string(alloc)?),
+        Ok((to, _)) => said(rt, alloc, to.word()),
+        Err(refusal) => shown(rt, alloc, &refusal),
     }
 }
 
@@ -116,25 +129,38 @@ fn name_found(asked: &str) -> NameFound {
     }
 }
 
-fn import_reported(alloc: Global, asked: &str, body: &[u8]) -> Result<String, Fail> {
+fn import_reported(rt: &impl Abort, alloc: Global, asked: &str, body: &[u8]) -> String {
     let name = either(asked, "name", "b/1", "b1");
     let user = either(asked, "user", "a b", "ann");
     let found = name_found(asked);
     match judge_import_before(name, user, found) {
-        Ok(Judged::Repeat(_)) => return Ok(String::from_str(alloc, "repeat")?),
-        Ok(Judged::Continue) => {}
-        Err(refusal) => return Ok(refusal.to_string(alloc)?),
+        Ok(Judged::Repeat(_)) => said(rt, alloc, "repeat"),
+        Ok(Judged::Continue) => import_body_reported(rt, alloc, asked, body, found),
+        Err(refusal) => shown(rt, alloc, &refusal),
     }
-    let new = match judge_import_body(alloc, body, found) {
-        Ok(taken) => taken.len() as u64,
-        Err(fault) => return Ok(fault.to_string(alloc)?),
-    };
+}
+
+fn import_body_reported(
+    rt: &impl Abort,
+    alloc: Global,
+    asked: &str,
+    body: &[u8],
+    found: NameFound,
+) -> String {
+    match judge_import_body(alloc, body, found) {
+        Ok(taken) => import_after_reported(rt, alloc, asked, taken.len() as u64),
+        Err(fault) => shown(rt, alloc, &fault),
+    }
+}
+
+/// An import of so many sentences, whose body is taken.
+fn import_after_reported(rt: &impl Abort, alloc: Global, asked: &str, new: u64) -> String {
     let standing = either(asked, "stands", Some(1), None);
     let sentences = either(asked, "crowded", 9, 8);
     let moves = either(asked, "full", 3, 2);
     match judge_import_after(&LIMITS, new, standing, sentences, moves) {
-        Ok(()) => Ok(String::from_str(alloc, "imported")?),
-        Err(refusal) => Ok(refusal.to_string(alloc)?),
+        Ok(()) => said(rt, alloc, "imported"),
+        Err(refusal) => shown(rt, alloc, &refusal),
     }
 }
 
@@ -158,51 +184,55 @@ fn current_found<'a>(asked: &str, body: &'a [u8]) -> CurrentFound<'a> {
     }
 }
 
-fn correction_reported(alloc: Global, asked: &str, body: &[u8]) -> Result<String, Fail> {
+fn correction_reported(rt: &impl Abort, alloc: Global, asked: &str, body: &[u8]) -> String {
     let found = current_found(asked, body);
     let sentence = either(asked, "sentence", None, Some(&found));
     let user = either(asked, "user", "a b", "ann");
     match judge_correction_before(7, 2, user, body, sentence) {
-        Ok(Judged::Repeat(_)) => return Ok(String::from_str(alloc, "repeat")?),
-        Ok(Judged::Continue) => {}
-        Err(refusal) => return Ok(refusal.to_string(alloc)?),
-    }
-    let blocks = read(alloc, STANDING.as_bytes())?;
-    let current = blocks.first().ok_or("a sentence")?;
-    let moves = either(asked, "full", 3, 2);
-    match judge_correction_body(alloc, &LIMITS, body, current, moves) {
-        Ok(_) => Ok(String::from_str(alloc, "corrected")?),
-        Err(fault) => Ok(fault.to_string(alloc)?),
+        Ok(Judged::Repeat(_)) => said(rt, alloc, "repeat"),
+        Ok(Judged::Continue) => correction_body_reported(rt, alloc, asked, body),
+        Err(refusal) => shown(rt, alloc, &refusal),
     }
 }
 
-/// A pull or a restore of a sentence. The fault `here` of a restore is that the sentence is not pulled.
-fn pull_reported(alloc: Global, asked: &str) -> Result<String, Fail> {
-    let restores = has(asked, "restore");
+fn correction_body_reported(rt: &impl Abort, alloc: Global, asked: &str, body: &[u8]) -> String {
+    let blocks = read(alloc, STANDING.as_bytes()).expect(rt, "a file");
+    let current = blocks.first().expect(rt, "a sentence");
+    let moves = either(asked, "full", 3, 2);
+    match judge_correction_body(alloc, &LIMITS, body, current, moves) {
+        Ok(_) => said(rt, alloc, "corrected"),
+        Err(fault) => shown(rt, alloc, &fault),
+    }
+}
+
+/// The sentence of a pull or a restore, if there is one.
+fn sentence_found(asked: &str, pulled: bool) -> Option<SentenceFound> {
     let state = either(asked, "state", State::Withdrawn, State::Submitted);
-    let pulled = if restores {
-        !has(asked, "here")
-    } else {
-        has(asked, "pulled")
-    };
-    let found = either(
+    either(
         asked,
         "sentence",
         None,
         Some(SentenceFound { state, pulled }),
-    );
+    )
+}
+
+fn pull_reported(rt: &impl Abort, alloc: Global, asked: &str) -> String {
+    let found = sentence_found(asked, has(asked, "pulled"));
     let user = either(asked, "user", "a b", "ann");
     let moves = either(asked, "full", 3, 2);
-    let refusal = if restores {
-        match judge_restore(&LIMITS, 7, user, found, moves) {
-            Ok(state) => return Ok(String::from_str(alloc, state.word())?),
-            Err(refusal) => refusal,
-        }
-    } else {
-        match judge_pull(&LIMITS, 7, user, found, moves) {
-            Ok(()) => return Ok(String::from_str(alloc, "pulled")?),
-            Err(refusal) => refusal,
-        }
-    };
-    Ok(refusal.to_string(alloc)?)
+    match judge_pull(&LIMITS, 7, user, found, moves) {
+        Ok(()) => said(rt, alloc, "pulled"),
+        Err(refusal) => shown(rt, alloc, &refusal),
+    }
+}
+
+/// The fault `here` of a restore is that the sentence is not pulled.
+fn restore_reported(rt: &impl Abort, alloc: Global, asked: &str) -> String {
+    let found = sentence_found(asked, !has(asked, "here"));
+    let user = either(asked, "user", "a b", "ann");
+    let moves = either(asked, "full", 3, 2);
+    match judge_restore(&LIMITS, 7, user, found, moves) {
+        Ok(state) => said(rt, alloc, state.word()),
+        Err(refusal) => shown(rt, alloc, &refusal),
+    }
 }

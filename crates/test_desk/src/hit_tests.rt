@@ -4,7 +4,6 @@ use crate::cases::assert_bytes;
 use crate::reading::word_at;
 use std::alloc::Global;
 use std::process::Abort;
-use std::test::Fail;
 use tb_conllu::{Block, read, words};
 use tb_report::{Freq, csv_freq, key, kwic};
 use tb_rules::check;
@@ -61,20 +60,19 @@ fn report(
     asked: &str,
     lines: &mut Vec<u8>,
     freq: &mut Freq,
-) -> Result<(), Fail> {
-    let start = word_at(asked, 1).parse::<u32>()?;
-    let end = word_at(asked, 2).parse::<u32>()?;
-    let context = word_at(asked, 3).parse::<u8>()?;
+) {
+    let start = word_at(asked, 1).parse::<u32>().ok().expect(rt, asked);
+    let end = word_at(asked, 2).parse::<u32>().ok().expect(rt, asked);
+    let context = word_at(asked, 3).parse::<u8>().ok().expect(rt, asked);
     let hit = (start, end);
     assert!(rt; start < end);
     assert!(rt; end as usize <= words(block));
     assert!(rt; context <= 20);
     assert!(rt; freq.total() < 1000);
-    check(alloc, block)?;
-    kwic(block, hit, context, lines)?;
-    let key = key(alloc, block, hit, Attr::Lemma)?;
-    freq.add(&key)?;
-    Ok(())
+    check(alloc, block).expect(rt, asked);
+    kwic(block, hit, context, lines).expect(rt, asked);
+    let key = key(alloc, block, hit, Attr::Lemma).expect(rt, asked);
+    freq.add(&key).expect(rt, asked);
 }
 
 /// Hits as `TEXT START END CONTEXT`.
@@ -107,25 +105,29 @@ const LINES: &str = "\
 const TABLE: &str =
     "key,count\na,2\nb,2\na el,1\nbook,1\n\"c,\"\"d\"\"\",1\ngo,1\nroom,1\ntable,1\nthe old book on the table in the room,1\n";
 
+/// The sentence with this name.
+fn sentence_named(name: &str) -> &'static str {
+    match name {
+        "book" => BOOK,
+        "go" => GO,
+        "sea" => SEA,
+        _ => LEMMAS,
+    }
+}
+
 #[test]
-fn hits_are_reported_and_counted(rt: HostRuntime) -> Result<(), Fail> {
+fn hits_are_reported_and_counted(rt: HostRuntime) {
     let alloc = rt.alloc();
     let mut lines = Vec::new(alloc);
     let mut freq = Freq::new(alloc);
     for asked in HITS.lines() {
-        let text = match word_at(asked, 0) {
-            "book" => BOOK,
-            "go" => GO,
-            "sea" => SEA,
-            _ => LEMMAS,
-        };
-        let blocks = read(alloc, text.as_bytes())?;
-        let block = blocks.first().ok_or("a sentence")?;
-        report(&rt, alloc, block, asked, &mut lines, &mut freq)?;
+        let text = sentence_named(word_at(asked, 0));
+        let blocks = read(alloc, text.as_bytes()).expect(&rt, asked);
+        let block = blocks.first().expect(&rt, asked);
+        report(&rt, alloc, block, asked, &mut lines, &mut freq);
     }
-    assert_bytes(&rt, &lines, LINES);
+    assert_bytes(&rt, &lines, LINES, "hits");
     let mut table = Vec::new(alloc);
-    csv_freq(&freq, &mut table)?;
-    assert_bytes(&rt, &table, TABLE);
-    Ok(())
+    csv_freq(&freq, &mut table).expect(&rt, "a table");
+    assert_bytes(&rt, &table, TABLE, "hits");
 }

@@ -1,31 +1,64 @@
 //! What the words of the command line say.
 
-use crate::cases::{Question, assert_answers};
+use crate::cases::{Question, assert_answers, said};
 use std::alloc::Global;
-use std::test::Fail;
-use tb_cli::{Line, LineFault};
+use std::fmt::Debug;
+use std::process::Abort;
+use tb_cli::{Line, LineFault, ViewLine};
 
-/// What words say, without the program's name. Spaces separate the words; `␣` represents a space in a word, and `∅` an
-/// empty word.
+/// The words of a case, after the program's name. Spaces separate the words; `␣` represents a space in a word, and `∅`
+/// an empty word.
+fn words_of(rt: &impl Abort, alloc: Global, program: &str, asked: &str) -> Vec<String> {
+    let mut words: Vec<String> = Vec::new(alloc);
+    words.push(said(rt, alloc, program)).expect(rt, asked);
+    for word in asked.split_whitespace() {
+        words.push(word_of(rt, alloc, word)).expect(rt, asked);
+    }
+    words
+}
+
+fn word_of(rt: &impl Abort, alloc: Global, word: &str) -> String {
+    let spaced = word.replace(alloc, '␣', " ").expect(rt, word);
+    spaced.replace(alloc, '∅', "").expect(rt, word)
+}
+
+/// The line, or why the words are none.
+fn told<L: Debug + Drop>(rt: &impl Abort, alloc: Global, read: Result<L, LineFault>) -> String {
+    match read {
+        Ok(line) => format!(in alloc; "{line:?}").expect(rt, "a line"),
+        Err(fault) => fault_told(rt, alloc, fault),
+    }
+}
+
+fn fault_told(rt: &impl Abort, alloc: Global, fault: LineFault) -> String {
+    match fault {
+        LineFault::Clap(error) => {
+            let kind = error.kind();
+            let status = error.exit_code();
+            format!(in alloc; "{kind:?} {status}").expect(rt, "a fault")
+        }
+        LineFault::Usage => said(rt, alloc, "usage"),
+        LineFault::Memory => said(rt, alloc, "memory"),
+    }
+}
+
+/// What words say to treedesk.
 struct Words;
 
 impl Question for Words {
-    fn answer(&self, alloc: Global, asked: &str) -> Result<String, Fail> {
-        let mut words: Vec<String> = Vec::new(alloc);
-        words.push(String::from_str(alloc, "treedesk")?)?;
-        for word in asked.split_whitespace() {
-            words.push(word.replace(alloc, '␣', " ")?.replace(alloc, '∅', "")?)?;
-        }
-        match Line::read(alloc, &words) {
-            Ok(line) => Ok(format!(in alloc; "{line:?}")?),
-            Err(LineFault::Clap(error)) => {
-                let kind = error.kind();
-                let status = error.exit_code();
-                Ok(format!(in alloc; "{kind:?} {status}")?)
-            }
-            Err(LineFault::Usage) => Ok(String::from_str(alloc, "usage")?),
-            Err(LineFault::Memory) => Ok(String::from_str(alloc, "memory")?),
-        }
+    fn answer(&self, rt: &impl Abort, alloc: Global, asked: &str) -> String {
+        let words = words_of(rt, alloc, "treedesk", asked);
+        told(rt, alloc, Line::read(alloc, &words))
+    }
+}
+
+/// What words say to deskview.
+struct ViewWords;
+
+impl Question for ViewWords {
+    fn answer(&self, rt: &impl Abort, alloc: Global, asked: &str) -> String {
+        let words = words_of(rt, alloc, "deskview", asked);
+        told(rt, alloc, ViewLine::read(alloc, &words))
     }
 }
 
@@ -135,6 +168,57 @@ const LINES: &str = "\
     \x20=> usage\n";
 
 #[test]
-fn words_are_read(rt: HostRuntime) -> Result<(), Fail> {
+fn words_are_read(rt: HostRuntime) {
     assert_answers(&rt, rt.alloc(), &Words, LINES, 102)
+}
+
+/// Each list; values without their form, and no file; words that clap refuses; help and the version; no word at all.
+const VIEW_LINES: &str = "\
+    batches --db F => Batches { db: \"F\" }\n\
+    batches --db=F => Batches { db: \"F\" }\n\
+    batches --db a␣b => Batches { db: \"a b\" }\n\
+    sentences --db F b1 => Sentences { db: \"F\", name: \"b1\" }\n\
+    sentences a␣b --db=F => Sentences { db: \"F\", name: \"a b\" }\n\
+    revisions --db F 7 => Revisions { db: \"F\", no: 7 }\n\
+    revisions 9999999999 --db=F => Revisions { db: \"F\", no: 9999999999 }\n\
+    batches => usage\n\
+    sentences b1 => usage\n\
+    sentences --db F b/1 => usage\n\
+    sentences --db F ∅ => usage\n\
+    revisions 7 => usage\n\
+    revisions --db F 0 => usage\n\
+    revisions --db F 07 => usage\n\
+    revisions --db F +7 => usage\n\
+    revisions --db F x => usage\n\
+    revisions --db F ∅ => usage\n\
+    revisions --db F 10000000000 => usage\n\
+    list => InvalidSubcommand 2\n\
+    totals --db F => InvalidSubcommand 2\n\
+    --bad => UnknownArgument 2\n\
+    --db F batches => UnknownArgument 2\n\
+    batches b1 --db F => UnknownArgument 2\n\
+    batches --user ann --db F => UnknownArgument 2\n\
+    batches --db F --db G => ArgumentConflict 2\n\
+    batches --db => InvalidValue 2\n\
+    sentences => MissingRequiredArgument 2\n\
+    sentences --db F => MissingRequiredArgument 2\n\
+    sentences --db F b1 b2 => UnknownArgument 2\n\
+    revisions => MissingRequiredArgument 2\n\
+    revisions --db F => MissingRequiredArgument 2\n\
+    revisions --db F 7 8 => UnknownArgument 2\n\
+    revisions --db F -7 => UnknownArgument 2\n\
+    revisions --db F --rev 1 7 => UnknownArgument 2\n\
+    revisions 7 --db F --db F => ArgumentConflict 2\n\
+    revisions 7 --db => InvalidValue 2\n\
+    --help => DisplayHelp 0\n\
+    -h => DisplayHelp 0\n\
+    help => DisplayHelp 0\n\
+    help revisions => DisplayHelp 0\n\
+    batches --help => DisplayHelp 0\n\
+    --version => DisplayVersion 0\n\
+    \x20=> usage\n";
+
+#[test]
+fn words_of_deskview_are_read(rt: HostRuntime) {
+    assert_answers(&rt, rt.alloc(), &ViewWords, VIEW_LINES, 43)
 }

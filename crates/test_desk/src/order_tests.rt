@@ -3,7 +3,6 @@
 
 use crate::cases::assert_answers;
 use crate::faulty::Faulty;
-use std::test::Fail;
 
 /// An event that only the worker may ask for, and one that only others may; `worker` is the wrong user. An import and
 /// a correction, in whose body a line that cannot be read follows the sentences, and the first sentence breaks the
@@ -238,6 +237,6 @@ const CASES: &str = "\
     restore here full => refused 21 NotPulled\n";
 
 #[test]
-fn commands_tell_the_first_fault(rt: HostRuntime) -> Result<(), Fail> {
+fn commands_tell_the_first_fault(rt: HostRuntime) {
     assert_answers(&rt, rt.alloc(), &Faulty, CASES, 226)
 }

@@ -1,8 +1,10 @@
 //! Requests that are cut short, and readers that give one byte a read and then fail.
 
+use crate::cases::{assert_same, assert_text};
 use crate::requests::reported_by;
+use std::alloc::Global;
 use std::io::{self, ErrorKind, Read};
-use std::test::Fail;
+use std::process::Abort;
 
 /// Gives one byte a read, and fails after the last one.
 #[derive(Drop)]
@@ -37,25 +39,33 @@ const REQUEST: &str = "\
 
 const TAKEN: &str = "Import { name: \"b1\" } by \"ann\" with 150";
 
-/// The reader would fail at the read after its last byte, but nothing is read after the body.
+/// A reader that ends after a part of the request.
+fn assert_cut_short(rt: &impl Abort, alloc: Global, part: &str) {
+    let wanted = if part.len() < 75 {
+        "BadRequest refused head"
+    } else if part.len() < 225 {
+        "BadRequest refused body"
+    } else {
+        TAKEN
+    };
+    let reported = reported_by(rt, alloc, &mut part.as_bytes());
+    assert_text(rt, reported.as_str(), wanted, part);
+}
+
+/// A reader that fails after a part of the request. After the body it would fail too, but nothing is read there.
+fn assert_broken_off(rt: &impl Abort, alloc: Global, part: &str) {
+    let wanted = if part.len() < 225 { "broken" } else { TAKEN };
+    let rest = part.as_bytes();
+    let reported = reported_by(rt, alloc, &mut Drip { rest });
+    assert_text(rt, reported.as_str(), wanted, part);
+}
+
 #[test]
-fn requests_cut_short_or_broken_off(rt: HostRuntime) -> Result<(), Fail> {
-    let alloc = rt.alloc();
-    assert_eq!(rt; REQUEST.len(), 225);
-    for n in 0..=225 {
-        let mut rest = REQUEST.as_bytes().get(..n).ok_or("a prefix")?;
-        let mut drip = Drip { rest };
-        let (short, broken) = if n < 75 {
-            ("BadRequest refused head", "broken")
-        } else if n < 225 {
-            ("BadRequest refused body", "broken")
-        } else {
-            (TAKEN, TAKEN)
-        };
-        let reported = reported_by(alloc, &mut rest)?;
-        assert_eq!(rt; reported.as_str(), short, "at {n}");
-        let reported = reported_by(alloc, &mut drip)?;
-        assert_eq!(rt; reported.as_str(), broken, "at {n}");
+fn requests_cut_short_or_broken_off(rt: HostRuntime) {
+    assert_same(&rt, &REQUEST.len(), &225, "the request");
+    for bytes in 0..=225 {
+        let part = REQUEST.get(..bytes).expect(&rt, "a part");
+        assert_cut_short(&rt, rt.alloc(), part);
+        assert_broken_off(&rt, rt.alloc(), part);
     }
-    Ok(())
 }

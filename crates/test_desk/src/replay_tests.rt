@@ -3,27 +3,32 @@
 use crate::cases::{Question, assert_answers};
 use crate::rows::{batches_reported, entries_reported, moves_reported};
 use std::alloc::Global;
-use std::test::Fail;
+use std::process::Abort;
+use tb_core::Totals;
 use tb_replay::{replays, totals_of};
 
 /// Whether the desk replays, and its totals by state.
 struct Desk;
 
 impl Question for Desk {
-    fn answer(&self, alloc: Global, asked: &str) -> Result<String, Fail> {
-        let (batches, rest) = asked.split_once(" | ").ok_or("a desk")?;
-        let (entries, moves) = rest.split_once(" | ").ok_or("a desk")?;
-        let batches = batches_reported(alloc, batches)?;
-        let entries = entries_reported(alloc, entries)?;
-        let moves = moves_reported(alloc, moves)?;
-        let reached = replays(alloc, &batches, &entries, &moves)?;
-        match totals_of(&batches, &entries) {
-            Some(totals) => Ok(format!(in alloc;
-                "{reached} {:?} {:?}",
-                totals.sentences, totals.words
-            )?),
-            None => Ok(format!(in alloc; "{reached} no totals")?),
-        }
+    fn answer(&self, rt: &impl Abort, alloc: Global, asked: &str) -> String {
+        let (batches, rest) = asked.split_once(" | ").expect(rt, asked);
+        let (entries, moves) = rest.split_once(" | ").expect(rt, asked);
+        let batches = batches_reported(rt, alloc, batches);
+        let entries = entries_reported(rt, alloc, entries);
+        let moves = moves_reported(rt, alloc, moves);
+        let reached = replays(alloc, &batches, &entries, &moves).expect(rt, asked);
+        totals_told(rt, alloc, reached, totals_of(&batches, &entries))
+    }
+}
+
+fn totals_told(rt: &impl Abort, alloc: Global, reached: bool, totals: Option<Totals>) -> String {
+    match totals {
+        Some(totals) => format!(in alloc;
+            "{reached} {:?} {:?}",
+            totals.sentences, totals.words
+        ).expect(rt, "totals"),
+        None => format!(in alloc; "{reached} no totals").expect(rt, "totals"),
     }
 }
 
@@ -50,6 +55,6 @@ const DESKS: &str = "\
     a open | 1 in bob:18446744073709551615; 1 in bob:1 | import 1 0 none open 2 0 18446744073709551615 bob => false no totals\n";
 
 #[test]
-fn desks_replay(rt: HostRuntime) -> Result<(), Fail> {
+fn desks_replay(rt: HostRuntime) {
     assert_answers(&rt, rt.alloc(), &Desk, DESKS, 16)
 }

@@ -3,13 +3,13 @@
 use crate::cases::{Question, assert_answers};
 use crate::reading::refusal_named;
 use std::alloc::Global;
-use std::test::Fail;
+use std::process::Abort;
 use tb_core::{Corrected, Imported, Moved, Pulled, Restored, State};
 use tb_http::{Allow, Extra, Reply, RequestFault, Status, head_of_reply, response_head};
 
 /// A reply, by a name, or by the number and the words of a refusal.
-fn reply_named(name: &str) -> Result<Reply, Fail> {
-    Ok(match name {
+fn reply_named(rt: &impl Abort, name: &str) -> Reply {
+    match name {
         "imported" => Reply::Imported(Imported {
             batch: 1,
             first: 2,
@@ -45,41 +45,45 @@ fn reply_named(name: &str) -> Result<Reply, Fail> {
         "memory" => Reply::Memory,
         "device" => Reply::Device,
         "desk" => Reply::Desk,
-        number => Reply::Refused(refusal_named(number)?),
-    })
+        number => Reply::Refused(refusal_named(rt, number)),
+    }
 }
 
 /// The text with `¶` in the place of each CR LF.
-fn folded(alloc: Global, text: &str) -> Result<String, Fail> {
-    Ok(text.replace(alloc, '\r', "¶")?.replace(alloc, '\n', "")?)
+fn folded(rt: &impl Abort, alloc: Global, text: &str) -> String {
+    let marked = text.replace(alloc, '\r', "¶").expect(rt, text);
+    marked.replace(alloc, '\n', "").expect(rt, text)
 }
 
 /// The status over HTTP, the exit status and the line of a reply.
-fn line_reported(alloc: Global, reply: Reply) -> Result<String, Fail> {
+fn line_reported(rt: &impl Abort, alloc: Global, reply: Reply) -> String {
     let code = reply.status().code().as_u16();
     let exit = reply.exit();
     let line = reply.line();
-    let line = line.as_str().strip_suffix('\n').ok_or("a line")?;
-    Ok(format!(in alloc; "{code} {exit} {line}")?)
+    let line = line.as_str().strip_suffix('\n').expect(rt, "a line");
+    format!(in alloc; "{code} {exit} {line}").expect(rt, line)
+}
+
+/// The head of a response: of a revision, of a search, or of a reply.
+fn head_reported(rt: &impl Abort, alloc: Global, name: &str) -> String {
+    let head = match name {
+        "revision" => response_head(Status::Ok, Some(9), Extra::Revision(2)),
+        "search" => response_head(Status::Ok, None, Extra::Nothing),
+        name => head_of_reply(reply_named(rt, name)),
+    };
+    folded(rt, alloc, head.as_str())
 }
 
 /// The line of a reply with its statuses, or the head of a response.
 struct Reported;
 
 impl Question for Reported {
-    fn answer(&self, alloc: Global, asked: &str) -> Result<String, Fail> {
-        let (part, name) = asked.split_once(" ").ok_or("a reply")?;
-        match (part, name) {
-            ("head", "revision") => folded(
-                alloc,
-                response_head(Status::Ok, Some(9), Extra::Revision(2)).as_str(),
-            ),
-            ("head", "search") => folded(
-                alloc,
-                response_head(Status::Ok, None, Extra::Nothing).as_str(),
-            ),
-            ("head", name) => folded(alloc, head_of_reply(reply_named(name)?).as_str()),
-            (_, name) => line_reported(alloc, reply_named(name)?),
+    fn answer(&self, rt: &impl Abort, alloc: Global, asked: &str) -> String {
+        let (part, name) = asked.split_once(" ").expect(rt, asked);
+        if part == "head" {
+            head_reported(rt, alloc, name)
+        } else {
+            line_reported(rt, alloc, reply_named(rt, name))
         }
     }
 }
@@ -135,6 +139,6 @@ const CASES: &str = "\
     head 17 => HTTP/1.1 507 Insufficient Storage¶Content-Type: text/plain; charset=utf-8¶Content-Length: 16¶Connection: close¶¶\n";
 
 #[test]
-fn lines_statuses_and_heads(rt: HostRuntime) -> Result<(), Fail> {
+fn lines_statuses_and_heads(rt: HostRuntime) {
     assert_answers(&rt, rt.alloc(), &Reported, CASES, 48)
 }

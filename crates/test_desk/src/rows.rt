@@ -7,90 +7,95 @@
 
 use crate::reading::{event_named, number, state_named, word_at};
 use std::alloc::Global;
-use std::test::Fail;
+use std::process::Abort;
 use tb_core::{Kind, Move};
 use tb_replay::{BatchRow, Revision, SentenceSummary};
 
-pub(crate) fn kind_named(word: &str) -> Result<Kind, Fail> {
+pub(crate) fn kind_named(rt: &impl Abort, word: &str) -> Kind {
     match word {
-        "import" => Ok(Kind::Import),
-        "correct" => Ok(Kind::Correct),
-        "pull" => Ok(Kind::Pull),
-        "restore" => Ok(Kind::Restore),
-        other => Ok(Kind::Step(event_named(other)?)),
+        "import" => Kind::Import,
+        "correct" => Kind::Correct,
+        "pull" => Kind::Pull,
+        "restore" => Kind::Restore,
+        other => Kind::Step(event_named(rt, other)),
     }
 }
 
 pub(crate) fn batches_reported<'a>(
+    rt: &impl Abort,
     alloc: Global,
     text: &'a str,
-) -> Result<Vec<BatchRow<'a>>, Fail> {
+) -> Vec<BatchRow<'a>> {
     let mut batches = Vec::new(alloc);
     for row in text.split("; ") {
-        batches.push(BatchRow {
+        let batch = BatchRow {
             name: word_at(row, 0),
-            state: state_named(word_at(row, 1))?,
+            state: state_named(rt, word_at(row, 1)),
             worker: word_at(row, 2),
-        })?;
+        };
+        batches.push(batch).expect(rt, row);
     }
-    Ok(batches)
+    batches
 }
 
-fn revisions_reported<'a>(alloc: Global, row: &'a str) -> Result<Vec<Revision<'a>>, Fail> {
+fn revisions_reported<'a>(rt: &impl Abort, alloc: Global, row: &'a str) -> Vec<Revision<'a>> {
     let mut revisions = Vec::new(alloc);
     for word in row.split(' ').skip(2) {
-        let Some((who, words)) = word.split_once(":") else {
-            return Err("a revision")?;
-        };
-        revisions.push(Revision {
-            who,
-            words: number(words)?,
-        })?;
+        let (who, words) = word.split_once(":").expect(rt, word);
+        let words = number(rt, words);
+        revisions.push(Revision { who, words }).expect(rt, word);
     }
-    Ok(revisions)
+    revisions
+}
+
+fn entry_reported<'a>(rt: &impl Abort, alloc: Global, row: &'a str) -> SentenceSummary<'a> {
+    SentenceSummary {
+        batch: number(rt, word_at(row, 0)),
+        pulled: word_at(row, 1) == "out",
+        revisions: revisions_reported(rt, alloc, row),
+    }
 }
 
 pub(crate) fn entries_reported<'a>(
+    rt: &impl Abort,
     alloc: Global,
     text: &'a str,
-) -> Result<Vec<SentenceSummary<'a>>, Fail> {
+) -> Vec<SentenceSummary<'a>> {
     let mut entries = Vec::new(alloc);
     for row in text.split("; ") {
-        entries.push(SentenceSummary {
-            batch: number(word_at(row, 0))?,
-            pulled: word_at(row, 1) == "out",
-            revisions: revisions_reported(alloc, row)?,
-        })?;
+        entries.push(entry_reported(rt, alloc, row)).expect(rt, row);
     }
-    Ok(entries)
+    entries
 }
 
 /// The move with this number, from the words of a row.
-pub(crate) fn move_reported(alloc: Global, no: u64, row: &str) -> Result<Move, Fail> {
+pub(crate) fn move_reported(rt: &impl Abort, alloc: Global, no: u64, row: &str) -> Move {
     let from = match word_at(row, 3) {
         "none" => None,
-        word => Some(state_named(word)?),
+        word => Some(state_named(rt, word)),
     };
-    Ok(Move {
+    Move {
         no,
-        kind: kind_named(word_at(row, 0))?,
-        batch: number(word_at(row, 1))?,
-        sent: number(word_at(row, 2))?,
+        kind: kind_named(rt, word_at(row, 0)),
+        batch: number(rt, word_at(row, 1)),
+        sent: number(rt, word_at(row, 2)),
         from,
-        to: state_named(word_at(row, 4))?,
-        sentences: number(word_at(row, 5))?,
-        words_out: number(word_at(row, 6))?,
-        words_in: number(word_at(row, 7))?,
-        who: word_at(row, 8).replace(alloc, '␣', " ")?,
-    })
+        to: state_named(rt, word_at(row, 4)),
+        sentences: number(rt, word_at(row, 5)),
+        words_out: number(rt, word_at(row, 6)),
+        words_in: number(rt, word_at(row, 7)),
+        who: word_at(row, 8).replace(alloc, '␣', " ").expect(rt, row),
+    }
 }
 
-pub(crate) fn moves_reported(alloc: Global, text: &str) -> Result<Vec<Move>, Fail> {
+pub(crate) fn moves_reported(rt: &impl Abort, alloc: Global, text: &str) -> Vec<Move> {
     let mut moves = Vec::new(alloc);
     let mut no: u64 = 0;
     for row in text.split("; ") {
         no = no.wrapping_add(1);
-        moves.push(move_reported(alloc, no, row)?)?;
+        moves
+            .push(move_reported(rt, alloc, no, row))
+            .expect(rt, row);
     }
-    Ok(moves)
+    moves
 }

@@ -1,7 +1,8 @@
 //! Files and corrections, read into sentences that own their texts.
 
+use crate::cases::{assert_bytes, assert_same};
 use std::alloc::Global;
-use std::test::Fail;
+use std::process::Abort;
 use tb_conllu::{Block, write};
 use tb_core::{take_file, take_one};
 
@@ -24,27 +25,25 @@ const CORRECTION: &str = "\
     2\tbark\tbark\tVERB\t_\t_\t0\troot\t_\t_\n\
     \n";
 
-/// The sentences as a file.
-fn written(alloc: Global, blocks: &[Block]) -> Result<String, Fail> {
-    let bytes = write(alloc, blocks)?;
-    Ok(String::from_utf8(bytes)?)
+/// Asserts that the sentences are a file with this text.
+fn assert_written(rt: &impl Abort, alloc: Global, blocks: &[Block], file: &str) {
+    let bytes = write(alloc, blocks).expect(rt, "a file");
+    assert_bytes(rt, &bytes, file, "a file");
 }
 
 #[test]
-fn a_file_is_taken(rt: HostRuntime) -> Result<(), Fail> {
+fn a_file_is_taken(rt: HostRuntime) {
     let alloc = rt.alloc();
-    let blocks = take_file(alloc, FILE.as_bytes())?;
-    assert_eq!(rt; blocks.len(), 2);
-    assert_eq!(rt; written(alloc, blocks.as_slice())?.as_str(), FILE);
-    Ok(())
+    let blocks = take_file(alloc, FILE.as_bytes()).expect(&rt, "a file");
+    assert_same(&rt, &blocks.len(), &2, "the number of sentences");
+    assert_written(&rt, alloc, &blocks, FILE);
 }
 
 #[test]
-fn a_correction_is_taken(rt: HostRuntime) -> Result<(), Fail> {
+fn a_correction_is_taken(rt: HostRuntime) {
     let alloc = rt.alloc();
-    let blocks = take_file(alloc, FILE.as_bytes())?;
-    let current = blocks.first().ok_or("a sentence")?;
-    let corrected = take_one(alloc, CORRECTION.as_bytes(), current)?;
-    assert_eq!(rt; written(alloc, &[corrected])?.as_str(), CORRECTION);
-    Ok(())
+    let blocks = take_file(alloc, FILE.as_bytes()).expect(&rt, "a file");
+    let current = blocks.first().expect(&rt, "a sentence");
+    let corrected = take_one(alloc, CORRECTION.as_bytes(), current).expect(&rt, "a correction");
+    assert_written(&rt, alloc, &[corrected], CORRECTION);
 }

@@ -1,33 +1,33 @@
 //! The texts of refusals and faults, and the words for states, events and kinds, as replies and tables have them.
 
-use crate::cases::{Question, assert_answers};
+use crate::cases::{Question, assert_answers, said};
 use crate::reading::{refusal_named, word_at};
 use crate::rows::kind_named;
 use std::alloc::Global;
-use std::test::Fail;
+use std::process::Abort;
 use tb_core::Fault;
 
 /// The text of a fault, after the number of a refusal; and the word of a kind.
 struct Texts;
 
 impl Question for Texts {
-    fn answer(&self, alloc: Global, asked: &str) -> Result<String, Fail> {
-        let (number, fault) = match word_at(asked, 0) {
-            "kind" => {
-                let kind = kind_named(word_at(asked, 1))?;
-                return Ok(String::from_str(alloc, kind.word())?);
-            }
-            "memory" => (0, Fault::Memory),
-            "device" => (0, Fault::Device),
-            "desk" => (0, Fault::NotADesk),
-            "output" => (0, Fault::Output),
+    fn answer(&self, rt: &impl Abort, alloc: Global, asked: &str) -> String {
+        match word_at(asked, 0) {
+            "kind" => said(rt, alloc, kind_named(rt, word_at(asked, 1)).word()),
+            "memory" => fault_told(rt, alloc, 0, Fault::Memory),
+            "device" => fault_told(rt, alloc, 0, Fault::Device),
+            "desk" => fault_told(rt, alloc, 0, Fault::NotADesk),
+            "output" => fault_told(rt, alloc, 0, Fault::Output),
             _ => {
-                let refusal = refusal_named(asked)?;
-                (refusal.number(), Fault::Refused(refusal))
+                let refusal = refusal_named(rt, asked);
+                fault_told(rt, alloc, refusal.number(), Fault::Refused(refusal))
             }
-        };
-        Ok(format!(in alloc; "{number}: {fault}")?)
+        }
     }
+}
+
+fn fault_told(rt: &impl Abort, alloc: Global, number: u8, fault: Fault) -> String {
+    format!(in alloc; "{number}: {fault}").expect(rt, "a fault")
 }
 
 const TEXTS: &str = "\
@@ -73,6 +73,6 @@ const TEXTS: &str = "\
     kind restore => restore\n";
 
 #[test]
-fn refusals_faults_and_kinds_have_their_texts(rt: HostRuntime) -> Result<(), Fail> {
+fn refusals_faults_and_kinds_have_their_texts(rt: HostRuntime) {
     assert_answers(&rt, rt.alloc(), &Texts, TEXTS, 40)
 }

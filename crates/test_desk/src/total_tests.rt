@@ -1,9 +1,9 @@
 //! Totals that are kept from move to move.
 
-use crate::cases::{Question, assert_answers};
+use crate::cases::{Question, assert_answers, said};
 use crate::rows::move_reported;
 use std::alloc::Global;
-use std::test::Fail;
+use std::process::Abort;
 use tb_core::{
     State, Totals, commands_lead_on, commands_stay_within_limits, corrections_repeat,
     each_command_ends, each_command_ends_one_way, each_sentence_is_in_one_state, imports_repeat,
@@ -17,20 +17,30 @@ use tb_replay::{reached_states_are_fine, replay_is_exact};
 struct After;
 
 impl Question for After {
-    fn answer(&self, alloc: Global, asked: &str) -> Result<String, Fail> {
-        let mut totals = Totals {
-            sentences: [0; 6],
-            words: [0; 6],
-        };
-        for text in asked.split("; ") {
-            let change = move_reported(alloc, 1, text)?;
-            if !totals.takes(&change) {
-                return Ok(String::from_str(alloc, "not taken")?);
-            }
-            totals.apply(&change);
+    fn answer(&self, rt: &impl Abort, alloc: Global, asked: &str) -> String {
+        match totals_after(rt, alloc, asked) {
+            Some(totals) => format!(in alloc; "{:?} {:?}", totals.sentences, totals.words).expect(
+                rt, asked,
+            ),
+            None => said(rt, alloc, "not taken"),
         }
-        Ok(format!(in alloc; "{:?} {:?}", totals.sentences, totals.words)?)
     }
+}
+
+/// The totals after the moves; `None` where a move is not accepted.
+fn totals_after(rt: &impl Abort, alloc: Global, moves: &str) -> Option<Totals> {
+    let mut totals = Totals {
+        sentences: [0; 6],
+        words: [0; 6],
+    };
+    for text in moves.split("; ") {
+        let change = move_reported(rt, alloc, 1, text);
+        if !totals.takes(&change) {
+            return None;
+        }
+        totals.apply(&change);
+    }
+    Some(totals)
 }
 
 /// A file of three words through its states to release; a correction that adds a word; a pull and a restore; a
@@ -51,13 +61,13 @@ const TOTALS: &str = "\
     import 1 0 none open 1 0 18446744073709551615 ann; import 1 0 open open 1 5 5 ann => [1, 0, 0, 0, 0, 0] [18446744073709551615, 0, 0, 0, 0, 0]\n";
 
 #[test]
-fn totals_follow_moves(rt: HostRuntime) -> Result<(), Fail> {
+fn totals_follow_moves(rt: HostRuntime) {
     assert_answers(&rt, rt.alloc(), &After, TOTALS, 12)
 }
 
 /// The laws run no code; each is called once.
 #[test]
-fn laws_are_called(rt: HostRuntime) -> Result<(), Fail> {
+fn laws_are_called(rt: HostRuntime) {
     reached_states_are_well();
     later_states_extend();
     totals_are_nets();
@@ -75,5 +85,4 @@ fn laws_are_called(rt: HostRuntime) -> Result<(), Fail> {
     replay_is_exact();
     reached_states_are_fine();
     assert!(rt; State::Opened != State::Withdrawn);
-    Ok(())
 }

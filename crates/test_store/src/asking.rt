@@ -8,7 +8,7 @@ use std::test::Fail;
 use tb_answer::{DeskCommand, obey};
 use tb_core::{Move, Totals};
 use tb_http::{attribute_of, event_of, strategy_of};
-use tb_lists::csv_batches;
+use tb_lists::{csv_batches, csv_revisions, csv_sentences};
 use tb_query::{Query, parse};
 use tb_report::{csv_freq, csv_moves, csv_totals};
 use tb_store::Desk;
@@ -146,6 +146,40 @@ fn listed<S: Alter>(alloc: Global, desk: &mut Desk<S>) -> Result<String, Fail> {
     shown(alloc, count, out.as_slice())
 }
 
+/// `sentences NAME`: how many a batch has, and their list.
+fn sentences_listed<S: Alter>(
+    alloc: Global,
+    desk: &mut Desk<S>,
+    line: &str,
+) -> Result<String, Fail> {
+    let mut out: Vec<u8> = Vec::new(alloc);
+    let answer = match desk.sentences(word_at(line, 1)) {
+        Ok(sentences) => {
+            csv_sentences(alloc, sentences.as_slice(), &mut out)?;
+            format!(in alloc; "{}", sentences.len())?
+        }
+        Err(fault) => format!(in alloc; "{fault}")?,
+    };
+    shown(alloc, answer, out.as_slice())
+}
+
+/// `revisions NUMBER`: how many a sentence has, and their list.
+fn revisions_listed<S: Alter>(
+    alloc: Global,
+    desk: &mut Desk<S>,
+    line: &str,
+) -> Result<String, Fail> {
+    let mut out: Vec<u8> = Vec::new(alloc);
+    let answer = match desk.revisions(number_at(line, 1)?) {
+        Ok(revisions) => {
+            csv_revisions(alloc, revisions.as_slice(), &mut out)?;
+            format!(in alloc; "{}", revisions.len())?
+        }
+        Err(fault) => format!(in alloc; "{fault}")?,
+    };
+    shown(alloc, answer, out.as_slice())
+}
+
 /// The answer to a command or a question.
 pub(crate) fn obeyed<S: Alter>(
     alloc: Global,
@@ -159,6 +193,8 @@ pub(crate) fn obeyed<S: Alter>(
         "count" => counted(alloc, desk, line),
         "number" => numbered(alloc, desk, line),
         "batches" => listed(alloc, desk),
+        "sentences" => sentences_listed(alloc, desk, line),
+        "revisions" => revisions_listed(alloc, desk, line),
         "standing" => standing(alloc, desk),
         _ => commanded(alloc, desk, line),
     }

@@ -14,6 +14,10 @@ pub(crate) const WORK: &str = "\
     revision 1 1 => refused 3 NoSuchSentence\n\
     search longest 5 [] => 0 hits 0;\n\
     batches => 0 no,name,state,worker,first,sentences,words,pulled;\n\
+    revisions 1 => refused 3 NoSuchSentence \n\
+    sentences b1 => refused 2 NoSuchBatch \n\
+    sentences b/1 => refused 1 BadName \n\
+    sentences  => refused 1 BadName \n\
     standing => desk\n\
     \n\
     1000 1000 1000\n\
@@ -48,16 +52,33 @@ pub(crate) const WORK: &str = "\
     correct 1 1 ann cannot => refused 7 Stale 2\n\
     correct 1 2 ann can_not => refused 14 NothingChanged\n\
     correct 1 1 ben can_not => refused 5 NotYours\n\
+    revisions 1 => 2 rev,who,kind,move;1,ann,import,1;2,ann,correct,3;\n\
     correct 1 2 ann dogs => refused 12 SentIdChanged\n\
     correct 1 2 ann can_not:.:! => refused 13 TextChanged\n\
     correct 1 2 ann can_not+dogs => refused 11 NotOne\n\
     revision 1 3 => refused 18 NoSuchRevision\n\
     revision 2 1 => refused 3 NoSuchSentence\n\
+    revisions 0 => refused 3 NoSuchSentence \n\
+    revisions 2 => refused 3 NoSuchSentence \n\
     submit b4 ann => moved batch=1 state=submitted sentences=1 words=4\n\
     correct 1 1 ann can_not => corrected sentence=1 rev=2 words=4\n\
     import b4 ann cannot => imported batch=1 first=1 sentences=1 words=3\n\
     standing => desk submitted,1,4 1,import,1,0,none,open,1,0,3,ann 2,assign,1,0,open,assigned,1,3,3,ann 3,correct,1,1,assigned,assigned,1,3,4,ann \
     4,submit,1,0,assigned,submitted,1,4,4,ann\n\
+    correct 1 2 ben cannot => corrected sentence=1 rev=3 words=3\n\
+    import b7 ann go+dogs => imported batch=2 first=2 sentences=2 words=4\n\
+    assign b7 cem => moved batch=2 state=assigned sentences=2 words=4\n\
+    correct 3 1 cem dogs:dog:cat => corrected sentence=3 rev=2 words=3\n\
+    pull 3 dan => pulled sentence=3 words=3\n\
+    sentences b7 => 2 no,sent_id,rev,words,pulled;2,s7,1,1,no;3,s1,2,3,yes;\n\
+    restore 3 dan => restored sentence=3 state=assigned words=3\n\
+    revisions 1 => 3 rev,who,kind,move;1,ann,import,1;2,ann,correct,3;3,ben,correct,5;\n\
+    revisions 2 => 1 rev,who,kind,move;1,ann,import,6;\n\
+    revisions 3 => 2 rev,who,kind,move;1,ann,import,6;2,cem,correct,8;\n\
+    revisions 4 => refused 3 NoSuchSentence \n\
+    sentences b4 => 1 no,sent_id,rev,words,pulled;1,s4,3,3,no;\n\
+    sentences b7 => 2 no,sent_id,rev,words,pulled;2,s7,1,1,no;3,s1,2,3,no;\n\
+    sentences b1 => refused 2 NoSuchBatch \n\
     \n\
     1000 1000 1000\n\
     import b1 ann dogs+go => imported batch=1 first=1 sentences=2 words=4\n\

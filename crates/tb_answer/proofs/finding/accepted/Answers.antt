@@ -12,3 +12,8 @@ returns-in-Ok-clause-reported g c clean = if_err c.within_limit.result (c.within
 
 pub returns-in-Err-clause-reported : goal.returns-in-Err-clause-reported
 returns-in-Err-clause-reported g c clean s stands = inl c.in-Err.ensures.reported
+
+pub returns-in-Ok-clause-unasked : goal.returns-in-Ok-clause-unasked
+returns-in-Ok-clause-unasked g c other =
+    let none = c.within_limit.ensures.unasked other in
+    (none.0, if_err c.within_limit.result none.1 (λ r no. absurd no))

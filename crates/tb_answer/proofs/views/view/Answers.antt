@@ -1,6 +1,26 @@
-use Rattle.std.proofs.Common.{inr}
+use Rattle.std.proofs.Common.{◌≡◌, IfErr, Some, inr, subst, sym, rules, string_bytes}
+use Rattle.tb_core.specs.Machine.{Machine}
+use Rattle.tb_store.specs.Represents.{Represents}
+use Rattle.tb_cli.specs.View.{viewed_by}
+use Rattle.tb_answer.specs.Commanded.{HasFailed}
+use Rattle.tb_answer.specs.Exported.{IsReportedOfExport}
+use Rattle.tb_answer.specs.Viewed.{IsViewReported, ViewsNone}
 use Rattle.tb_answer.proofs.Failing.{if_err}
 use Rattle.tb_answer.proofs.views.view.Goals as goal
 
-pub returns-clause-reported : goal.returns-clause-reported
-returns-clause-reported g c clean = if_err c.batches.result (c.batches.ensures.failed clean) (λ r failed s stands. inr (failed s stands))
+pub returns-in-Batches-clause-reported : goal.returns-in-Batches-clause-reported
+returns-in-Batches-clause-reported g c clean = if_err c.batches.result (c.batches.ensures.failed clean) (λ r failed s stands. inr (failed s stands))
+
+pub returns-in-Sentences-clause-reported : goal.returns-in-Sentences-clause-reported
+returns-in-Sentences-clause-reported g c clean =
+    let name : c.as_str.result.now ≡ string_bytes c.in-Sentences.name = search rules in
+    subst (λ l. IfErr c.sentences.result (λ r. (s : Machine) → Represents g.S.Store c.args.desk.now s → IsViewReported (HasFailed g.S.Store c.args.desk.now c.sentences.new.desk) s (viewed_by l) r)) (sym c.in-Sentences.is)
+    (subst (λ n. IfErr c.sentences.result (λ r. (s : Machine) → Represents g.S.Store c.args.desk.now s → IsReportedOfExport (HasFailed g.S.Store c.args.desk.now c.sentences.new.desk) s (Some n) r)) name (c.sentences.ensures.reported clean))
+
+pub returns-in-Revisions-clause-missing : goal.returns-in-Revisions-clause-missing
+returns-in-Revisions-clause-missing g c s stands lacks = c.revisions.ensures.missing s stands (subst (λ l. ViewsNone s (viewed_by l)) c.in-Revisions.is lacks)
+
+pub returns-in-Revisions-clause-reported : goal.returns-in-Revisions-clause-reported
+returns-in-Revisions-clause-reported g c clean =
+    subst (λ l. IfErr c.revisions.result (λ r. (s : Machine) → Represents g.S.Store c.args.desk.now s → IsViewReported (HasFailed g.S.Store c.args.desk.now c.revisions.new.desk) s (viewed_by l) r)) (sym c.in-Revisions.is)
+    (c.revisions.ensures.reported clean)

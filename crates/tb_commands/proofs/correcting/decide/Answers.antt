@@ -52,3 +52,16 @@ returns-in_err-reply-in-Continue-clause-fails c within s x reachable counted the
     let found = subst (λ (f : CurrentSeen). FindsCurrent s c.args.number (Some f)) (sym c.found_of-found.ensures) (current_found s c.args.number x c.args.read.now c.requires there read) in
     let goes = rw (c.from.ensures, c.in-Continue.is) at c.in_ok-reply.ensures.goes in
     c.plan_body.ensures.fails within s c.args.base x reachable counted read (goes s (c.args.number - 1) x found (numbered s c.args.number x c.requires there)) failed
+
+pub returns-in_err-reply-clause-wants : goal.returns-in_err-reply-clause-wants
+returns-in_err-reply-clause-wants c want s x there read =
+    let reported = err_from_is_err_and c.from_residual.result c.from_residual.ensures.1 in
+    let one = reported.1 in
+    let two = reported.2 in
+    absurd cc
+
+pub returns-in_err-reply-in-Continue-clause-wants : goal.returns-in_err-reply-in-Continue-clause-wants
+returns-in_err-reply-in-Continue-clause-wants c want s x there read =
+    let found = subst (λ (f : CurrentSeen). FindsCurrent s c.args.number (Some f)) (sym c.found_of-found.ensures) (current_found s c.args.number x c.args.read.now c.requires there read) in
+    let goes = rw (c.from.ensures, c.in-Continue.is) at c.in_ok-reply.ensures.goes in
+    goes s (c.args.number - 1) x found (numbered s c.args.number x c.requires there)

@@ -12,7 +12,7 @@ returns-in-Err-clause-refused c r is s x reached counted there read =
     let n = c.args.number in
     let user = c.args.user.now in
     let refuses = rw c.from.ensures at c.in-Err.ensures.refused in
-    let same : c.in-Err.refusal ≡ r = cc in
+    let same : c.in-Err.refused ≡ r = cc in
     subst (λ (q : Refusal). Steps c.args.counts.now.limits s (pull n user) (refused q) s) same (refuses s (sentence_found s n x c.args.read.now c.requires there read) (c.from-2.ensures ∙ counted.moves))
 
 pub returns-in-Ok-clause-answered : goal.returns-in-Ok-clause-answered
@@ -39,3 +39,8 @@ returns-in-Ok-clause-fails c s x reachable counted within there read bad =
     let got = accepts s (sentence_found s n x c.args.read.now c.requires there read) (c.from-2.ensures ∙ counted.moves) in
     let next = c.commands_stay_within_limits.ensures limits s (after s act) (pull n user) (replied (reply_to s act)) within.sentences within.moves reachable got.1 in
     c.plan_pull.ensures.fails s x reachable got.0 next counted there read bad
+
+pub returns-in-Ok-clause-wants : goal.returns-in-Ok-clause-wants
+returns-in-Ok-clause-wants c want s x reached counted there read =
+    let accepts = rw c.from.ensures at c.in-Ok.ensures.accepted in
+    (accepts s (sentence_found s c.args.number x c.args.read.now c.requires there read) (c.from-2.ensures ∙ counted.moves)).0

@@ -39,3 +39,8 @@ returns-in-Ok-clause-fails c s x reachable counted within there read bad =
     let got = accepts s (sentence_found s n x c.args.read.now c.requires there read) (c.from-2.ensures ∙ counted.moves) in
     let next = c.commands_stay_within_limits.ensures limits s (after s act) (restore n user) (replied (reply_to s act)) within.sentences within.moves reachable got.2 in
     c.plan_restore.ensures.fails s x reachable got.1 next counted there read bad
+
+pub returns-in-Ok-clause-wants : goal.returns-in-Ok-clause-wants
+returns-in-Ok-clause-wants c want s x reached counted there read =
+    let accepts = rw c.from.ensures at c.in-Ok.ensures.accepted in
+    (accepts s (sentence_found s c.args.number x c.args.read.now c.requires there read) (c.from-2.ensures ∙ counted.moves)).1

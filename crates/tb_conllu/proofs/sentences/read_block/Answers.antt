@@ -1,10 +1,11 @@
-use Rattle.std.proofs.Common.{◌≡◌, ◌+◌, ◌∷◌, ◌++◌, [], List, ℕ, sym, ◌∙◌, ap, true}
+use Rattle.std.proofs.Common.{◌≡◌, ◌+◌, ◌∷◌, ◌++◌, [], List, ℕ, sym, ◌∙◌, ap, true, inl, inr}
 use Rattle.std.proofs.lemmas.Result.{err_from_is_err_and}
 use Rattle.tb_conllu.specs.Begun.{has_rows}
-use Rattle.tb_conllu.specs.Lines.{is_empty}
+use Rattle.tb_conllu.specs.Lines.{is_empty, line_code}
 use Rattle.tb_conllu.specs.declared.fault.ReadFault.TheVariants.{At}
 use Rattle.tb_conllu.specs.Refusal.{lines_begun}
 use Rattle.tb_conllu.proofs.Reading.{line_read, line_reported, blank_refused, end_reported}
+use Rattle.tb_conllu.proofs.Shortage.{line_wants}
 use Rattle.tb_conllu.proofs.Held.{line_holds, after_holds}
 use Rattle.tb_conllu.proofs.PartedLines.{rows_read, rows_hold}
 use Rattle.tb_conllu.proofs.sentences.read_block.Goals as goal
@@ -48,3 +49,20 @@ loop-raw-preserved c =
       read = rw (c.count_rows.ensures, c.count_rows-before.ensures) (rows_read c.args.bytes.now c.args.line c.take_line.new.block c.quick_rows.new.block c.in-Some.after.now c.in_ok-rest.rest.now (c.loop-raw.at + 1) rows.0 one rows.1 rows.2 rows.3);
       tested = rows_hold c.args.tested rows.0 c.in-Some.after.now c.in_ok-rest.rest.now holds rows.3;
     }
+
+pub returns-in_err-text-clause-memory : goal.returns-in_err-text-clause-memory
+returns-in_err-text-clause-memory c =
+    let p = err_from_is_err_and c.from_residual.result c.from_residual.ensures.1 in
+    rw (p.1, p.2) (λ memory. line_wants c.args.bytes.now c.args.line c.loop-raw.block c.loop-raw.rest.now c.in-Some.raw.now c.in-Some.after.now c.loop-raw.at c.loop-raw.invariant.read c.in-Some.ensures.1 c.in-Some.ensures.0 (inr (c.in_err-text.ensures.memory memory)))
+
+pub returns-in_err-take_line-clause-memory : goal.returns-in_err-take_line-clause-memory
+returns-in_err-take_line-clause-memory c =
+    let text = c.in_ok-text.ensures.ok in
+    let p = err_from_is_err_and c.from_residual-in_err-take_line.result c.from_residual-in_err-take_line.ensures.1 in
+    rw (p.1, p.2) (λ memory. line_wants c.args.bytes.now c.args.line c.loop-raw.block c.loop-raw.rest.now c.in-Some.raw.now c.in-Some.after.now c.loop-raw.at c.loop-raw.invariant.read c.in-Some.ensures.1 c.in-Some.ensures.0 (inl (ap (line_code (has_rows c.loop-raw.block.rows)) (sym text.0) ∙ c.in_err-take_line.ensures.memory memory)))
+
+pub returns-in_err-rest-clause-memory : goal.returns-in_err-rest-clause-memory
+returns-in_err-rest-clause-memory c =
+    let text = c.in_ok-text.ensures.ok in
+    let p = err_from_is_err_and c.from_residual-in_err-rest.result c.from_residual-in_err-rest.ensures.1 in
+    rw p.1 (λ _. line_wants c.args.bytes.now c.args.line c.loop-raw.block c.loop-raw.rest.now c.in-Some.raw.now c.in-Some.after.now c.loop-raw.at c.loop-raw.invariant.read c.in-Some.ensures.1 c.in-Some.ensures.0 (inl (ap (line_code (has_rows c.loop-raw.block.rows)) (sym text.0) ∙ c.in_ok-take_line.ensures.clean)))

@@ -1,5 +1,6 @@
 use Rattle.std.proofs.lemmas.Result.{err_from_is_err_and}
 use Rattle.tb_conllu.proofs.Files.{read_fault, only_memory, read_all, only_these}
+use Rattle.tb_conllu.proofs.Shortage.{next_wants, rest_wants}
 use Rattle.tb_conllu.proofs.whole.read.Goals as goal
 
 pub returns-in_err-block-clause-reported : goal.returns-in_err-block-clause-reported
@@ -16,3 +17,18 @@ pub returns-clause-only : goal.returns-clause-only
 returns-clause-only c =
     let none = rw c.in_default.is at c.in_ok-block.ensures.next in
     only_these c.args.bytes.now c.loop-all.all.items (read_all c.args.bytes.now c.loop-all.all.items c.loop-all.left c.loop-all.invariant none.0)
+
+pub returns-in_err-block-clause-memory : goal.returns-in_err-block-clause-memory
+returns-in_err-block-clause-memory c =
+    let p = err_from_is_err_and c.from_residual.result c.from_residual.ensures.1 in
+    rw (p.1, p.2) (λ memory. rest_wants c.args.bytes.now c.loop-all.all.items c.loop-all.left.rest c.loop-all.invariant.shaped c.loop-all.invariant.whole (c.in_err-block.ensures.memory memory))
+
+pub returns-in_err-own_block-clause-memory : goal.returns-in_err-own_block-clause-memory
+returns-in_err-own_block-clause-memory c =
+    let p = err_from_is_err_and c.from_residual-in_err-own_block.result c.from_residual-in_err-own_block.ensures.1 in
+    rw p.1 (λ _. rest_wants c.args.bytes.now c.loop-all.all.items c.loop-all.left.rest c.loop-all.invariant.shaped c.loop-all.invariant.whole (next_wants c.loop-all.left c.read_next.new.self c.in-Some.block (rw c.in-Some.is at c.in_ok-block.ensures.next)))
+
+pub returns-in_err-push-clause-memory : goal.returns-in_err-push-clause-memory
+returns-in_err-push-clause-memory c =
+    let p = err_from_is_err_and c.from_residual-in_err-push.result c.from_residual-in_err-push.ensures.1 in
+    rw p.1 (λ _. rest_wants c.args.bytes.now c.loop-all.all.items c.loop-all.left.rest c.loop-all.invariant.shaped c.loop-all.invariant.whole (next_wants c.loop-all.left c.read_next.new.self c.in-Some.block (rw c.in-Some.is at c.in_ok-block.ensures.next)))

@@ -44,3 +44,23 @@ returns-in_err-judge_import_after-clause-cause g c good clean unlimited has =
     let reported = err_from_is_err_and c.from_residual-in_err-judge_import_after.result c.from_residual-in_err-judge_import_after.ensures.1 in
     let two = reported.2 in
     rw reported.1 (λ bad. absurd cc)
+
+pub returns-in_err-standing-clause-fresh : goal.returns-in_err-standing-clause-fresh
+returns-in_err-standing-clause-fresh g c none bad =
+    let told = c.first_standing.ensures.fresh none in
+    let was = c.in_err-standing.was in
+    absurd cc
+
+pub returns-in_err-judge_import_after-clause-fresh : goal.returns-in_err-judge_import_after-clause-fresh
+returns-in_err-judge_import_after-clause-fresh g c none bad =
+    let reported = err_from_is_err_and c.from_residual-in_err-judge_import_after.result c.from_residual-in_err-judge_import_after.ensures.1 in
+    let one = reported.1 in
+    let two = reported.2 in
+    absurd cc
+
+pub returns-in_err-judge_import_after-clause-output : goal.returns-in_err-judge_import_after-clause-output
+returns-in_err-judge_import_after-clause-output g c bad =
+    let reported = err_from_is_err_and c.from_residual-in_err-judge_import_after.result c.from_residual-in_err-judge_import_after.ensures.1 in
+    let one = reported.1 in
+    let two = reported.2 in
+    absurd cc

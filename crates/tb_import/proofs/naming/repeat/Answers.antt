@@ -1,5 +1,5 @@
 use Rattle.tb_import.proofs.Bounds.{firsts_small}
-use Rattle.tb_core.specs.declared.refusals.Fault.TheVariants.{NotADesk}
+use Rattle.tb_core.specs.declared.refusals.Fault.TheVariants.{NotADesk, Memory}
 use Rattle.std.proofs.lemmas.Result.{err_from_is_err_and}
 use Rattle.std.proofs.Common.{List, subst, sym, ◌≡◌, Err}
 use Rattle.tb_core.specs.Tests.{first_bodies}
@@ -25,3 +25,9 @@ returns-in_err-words-clause-fails g c clean unlimited s desk above within read b
 
 pub returns-clause-fails : goal.returns-clause-fails
 returns-clause-fails g c clean unlimited s desk above within read bad = c.reply_again.ensures.fails s desk.reachable.reached above within read bad
+
+pub returns-in_err-words-clause-current : goal.returns-in_err-words-clause-current
+returns-in_err-words-clause-current g c all bad =
+    let reported = err_from_is_err_and c.from_residual.result c.from_residual.ensures.1 in
+    let failed : c.words_again.result ≡ Err Memory = let was = c.in_err-words.was in let one = reported.1 in let two = reported.2 in cc in
+    c.words_again.ensures.current all failed

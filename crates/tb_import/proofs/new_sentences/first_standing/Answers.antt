@@ -1,4 +1,4 @@
-use Rattle.std.proofs.Common.{◌≡◌, length, arith}
+use Rattle.std.proofs.Common.{arith}
 use Rattle.tb_reads.proofs.Shown.{if_ok}
 use Rattle.tb_import.proofs.Left.{left_same, stays_same}
 use Rattle.tb_import.proofs.Takes.{none_standing}

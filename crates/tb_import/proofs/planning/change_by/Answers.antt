@@ -31,3 +31,17 @@ returns-clause-fails c s name bs reachable allowed next known at many summed bad
     let who : string_bytes c.in_ok-who.who ≡ user = search rules in
     let step = c.move_by.ensures ∙ ap (import_move c.in_ok-no.no c.args.number c.args.sentences c.args.words) who ∙ import_is s name user bs c.in_ok-no.no c.args.number c.args.sentences c.args.words no at many summed in
     c.prepare.ensures.fails s (importing name user bs) reachable allowed next known.counted step bad
+
+pub returns-in_err-no-clause-no_move_left : goal.returns-in_err-no-clause-no_move_left
+returns-in_err-no-clause-no_move_left c past =
+    let reported = err_from_is_err_and c.from_residual.result c.from_residual.ensures.1 in
+    let fault = c.in_err-no.ensures.fault in
+    let one = reported.1 in
+    let two = reported.2 in
+    cc
+
+pub returns-in_err-who-clause-no_move_left : goal.returns-in_err-who-clause-no_move_left
+returns-in_err-who-clause-no_move_left c past = let next = c.in_ok-no.ensures.next in absurd (omega (arith, past, next.0, next.1))
+
+pub returns-clause-no_move_left : goal.returns-clause-no_move_left
+returns-clause-no_move_left c past = let next = c.in_ok-no.ensures.next in absurd (omega (arith, past, next.0, next.1))

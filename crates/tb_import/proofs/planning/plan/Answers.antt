@@ -58,3 +58,21 @@ returns-in_err-prepared-clause-fails c s name bs reachable allowed next known is
     let many : length c.args.taken.now ≡ length bs = ap length is ∙ length-map bs taken_of in
     let summed : c.in_ok-words.words ≡ sum_by its_words (map taken_of bs) = c.in_ok-words.ensures.value ∙ ap (sum_by its_words) is in
     c.change_by.ensures.fails s name bs reachable allowed next known number many summed failed
+
+pub returns-in_err-prepared-clause-no_move_left : goal.returns-in_err-prepared-clause-no_move_left
+returns-in_err-prepared-clause-no_move_left c past =
+    let reported = err_from_is_err_and c.from_residual-in_err-prepared.result c.from_residual-in_err-prepared.ensures.1 in
+    let told = c.change_by.ensures.no_move_left past in
+    let was = c.in_err-prepared.was in
+    let one = reported.1 in
+    let two = reported.2 in
+    cc
+
+pub returns-clause-no_move_left : goal.returns-clause-no_move_left
+returns-clause-no_move_left c past = let room = c.in_ok-prepared.ensures.room in absurd (omega (arith, past, room))
+
+pub returns-in_err-prepared-clause-no_sentence_left : goal.returns-in_err-prepared-clause-no_sentence_left
+returns-in_err-prepared-clause-no_sentence_left c past = let next = c.in_ok-first.ensures.next in absurd (omega (arith, past, next.1))
+
+pub returns-clause-no_sentence_left : goal.returns-clause-no_sentence_left
+returns-clause-no_sentence_left c past = let next = c.in_ok-first.ensures.next in absurd (omega (arith, past, next.1))

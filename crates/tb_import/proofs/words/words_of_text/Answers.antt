@@ -1,7 +1,7 @@
 use Rattle.tb_import.proofs.Counting.{its_words, words_are}
 use Rattle.tb_core.specs.Taking.{taken_of}
 use Rattle.std.specs.Prelude.{sum_by}
-use Rattle.std.proofs.Common.{rules, ◌≡◌, ◌^◌, ◌<◌, map, subst, sym, ap, ◌∙◌}
+use Rattle.std.proofs.Common.{◌≡◌, ◌^◌, ◌<◌, map, subst, sym, ap, ◌∙◌}
 use Rattle.tb_core.specs.declared.refusals.Fault.TheVariants.{Memory}
 use Rattle.tb_import.proofs.words.words_of_text.Goals as goal
 
@@ -12,5 +12,6 @@ returns-in-Ok-clause-fails c bs body small bad =
 
 pub returns-in-Err-clause-fails : goal.returns-in-Err-clause-fails
 returns-in-Err-clause-fails c bs body small bad =
-    let is : c.in-Err.field-0 ≡ Memory = c.in-Err.ensures.only bs body in
-    absurd (search rules)
+    let is : c.in-Err.fault ≡ Memory = c.in-Err.ensures.only bs body in
+    let want = c.of_body.ensures.memory is in
+    absurd cc

@@ -6,7 +6,7 @@ use Rattle.tb_rules.specs.Places.{place_test}
 use Rattle.tb_rules.proofs.Placed.{fault_same}
 use Rattle.tb_rules.proofs.deps.dependency_fault.Goals as goal
 
-pub returns : goal.returns
-returns g c =
+pub returns-clause-value : goal.returns-clause-value
+returns-clause-value g c =
     fault_same c.args.rows.now c.first_fault.result c.requires.in_place c.rows_are_few.ensures
     (subst (λ (rs : List RowText). MatchOption c.first_fault.result (EachRowPasses (place_test rs) rs) (IsFirstFault (place_test rs) rs)) c.in_ok-heads.ensures.rows c.first_fault.ensures)

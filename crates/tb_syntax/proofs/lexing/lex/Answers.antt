@@ -21,11 +21,11 @@ loop-at-preserved c =
           c.literals_after-literals.ensures.value c.in_ok-push-2.ensures.lexemes c.in_ok-push-2.ensures.spans;
     }
 
-pub returns-in_default : goal.returns-in_default
-returns-in_default c =
+pub returns-in_default-clause-lexemes : goal.returns-in_default-clause-lexemes
+returns-in_default-clause-lexemes c =
     let none = rw (to_end c.args.text.now c.loop-at.at) at c.in_default.ensures.lexeme in
     stray_last c.args.text.now c.loop-at.at c.loop-at.literals _ _ _ _ c.loop-at.invariant.read c.loop-at-test.true
     (sym c.is_white.ensures ∙ c.if-is_white.false) none c.in_ok-push.ensures.lexemes c.in_ok-push.ensures.spans
 
-pub returns : goal.returns
-returns c = all_read c.args.text.now c.loop-at.at c.loop-at.literals _ _ c.loop-at.invariant.read c.loop-at-test.false
+pub returns-clause-lexemes : goal.returns-clause-lexemes
+returns-clause-lexemes c = all_read c.args.text.now c.loop-at.at c.loop-at.literals _ _ c.loop-at.invariant.read c.loop-at-test.false

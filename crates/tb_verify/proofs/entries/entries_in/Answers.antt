@@ -33,22 +33,22 @@ loop-i-preserved c =
     (ap (map revision_of) c.later_rows-rest.ensures ∙ map_dropped revision_of row.rev c.loop-i.rest.now) (c.in_ok-push.ensures.items ∙ ap (λ z. c.loop-i.entries.items ++ z ∷ []) read.2) c.loop-i.invariant
     (read_with (i + 1) (sentence_of row) c.is_pulled_next.result (is_next (i + 1) c.loop-i.left.now) (map revision_of c.first_rows-own.result.now) (take row.rev rest) read.0 c.is_pulled_next.ensures own read.1)
 
-pub returns-then-not-is_empty-clause-unfit : goal.returns-then-not-is_empty-clause-unfit
-returns-then-not-is_empty-clause-unfit c = λ q xs h.
+pub returns-in_err-fit-clause-unfit : goal.returns-in_err-fit-clause-unfit
+returns-in_err-fit-clause-unfit c = λ q xs h.
     let led = c.loop-i.invariant.0 xs h in
     let none = nothing_left revision_of (c.loop-i.i + 1) (map sentence_of (drop c.loop-i.i c.args.sentences.now)) c.loop-i.left.now c.loop-i.rest.now led.0 (no_more sentence_of c.args.sentences.now c.loop-i.i (omega (arith, c.loop-i-test.false))) led.1 in
-    let t : false ≡ true = sym c.if-not-is_empty.true ∙ c.is_empty.ensures ∙ (Decides-eqb (length c.loop-i.rest.now) 0).1 none.0 in cc
+    let t : false ≡ true = sym c.in_err-fit.ensures.wrong.1 ∙ c.is_empty.ensures ∙ (Decides-eqb (length c.loop-i.rest.now) 0).1 none.0 in cc
 
-pub returns-then-not-is_empty-2-clause-unfit : goal.returns-then-not-is_empty-2-clause-unfit
-returns-then-not-is_empty-2-clause-unfit c = λ q xs h.
+pub returns-in_err-fit-2-clause-unfit : goal.returns-in_err-fit-2-clause-unfit
+returns-in_err-fit-2-clause-unfit c = λ q xs h.
     let led = c.loop-i.invariant.0 xs h in
     let none = nothing_left revision_of (c.loop-i.i + 1) (map sentence_of (drop c.loop-i.i c.args.sentences.now)) c.loop-i.left.now c.loop-i.rest.now led.0 (no_more sentence_of c.args.sentences.now c.loop-i.i (omega (arith, c.loop-i-test.false))) led.1 in
-    let t : false ≡ true = sym c.if-not-is_empty-2.true ∙ c.is_empty-2.ensures ∙ (Decides-eqb (length c.loop-i.left.now) 0).1 none.1 in cc
+    let t : false ≡ true = sym c.in_err-fit-2.ensures.wrong.1 ∙ c.is_empty-2.ensures ∙ (Decides-eqb (length c.loop-i.left.now) 0).1 none.1 in cc
 
 pub returns-clause-fine : goal.returns-clause-fine
 returns-clause-fine c =
-    let no_rows = (Decides-eqb (length c.loop-i.rest.now) 0).0 (sym c.is_empty.ensures ∙ c.if-not-is_empty.false) in
-    let no_flags = (Decides-eqb (length c.loop-i.left.now) 0).0 (sym c.is_empty-2.ensures ∙ c.if-not-is_empty-2.false) in
+    let no_rows = (Decides-eqb (length c.loop-i.rest.now) 0).0 (sym c.is_empty.ensures ∙ c.in_ok-fit.ensures.right) in
+    let no_flags = (Decides-eqb (length c.loop-i.left.now) 0).0 (sym c.is_empty-2.ensures ∙ c.in_ok-fit-2.ensures.right) in
     let none = no_more sentence_of c.args.sentences.now c.loop-i.i (omega (arith, c.loop-i-test.false)) in
     let all = c.loop-i.invariant.1 [] (all_read revision_of (c.loop-i.i + 1) (map sentence_of (drop c.loop-i.i c.args.sentences.now)) c.loop-i.left.now c.loop-i.rest.now none no_rows no_flags) in
     (all.0, all.1, sym (all.2 ∙ append-nil c.loop-i.entries.items))

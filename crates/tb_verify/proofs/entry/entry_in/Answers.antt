@@ -15,16 +15,16 @@ returns-in_err-blocks-clause-unfit c = λ q x h.
     c.in_err-blocks.ensures.unfit (passed_on_as c.from_residual.result p.0 c.in_err-blocks.field-0.0 p.1 p.2 q) (bodies_of x) h.fine.lawful
     (texts_back c.args.number (sentence_of c.args.row.now) c.args.pulled (map revision_of c.args.revisions.now) x h ∙ bodies_reported c.args.revisions.now)
 
-pub returns-then-not-is_course_right-clause-unfit : goal.returns-then-not-is_course_right-clause-unfit
-returns-then-not-is_course_right-clause-unfit c = λ q x h.
+pub returns-in_err-fit-clause-unfit : goal.returns-in_err-fit-clause-unfit
+returns-in_err-fit-clause-unfit c = λ q x h.
     let met = course_of c.one_list_has_a_text.ensures c.args.number (sentence_of c.args.row.now) c.args.pulled (map revision_of c.args.revisions.now) x h
     c.in_ok-blocks.blocks.items c.in_ok-blocks.ensures.lawful (c.in_ok-blocks.ensures.texts ∙ sym (bodies_reported c.args.revisions.now)) in
-    let t : false ≡ true = sym c.if-not-is_course_right.true ∙ c.is_course_right.ensures ∙ ap (is_course c.args.number (sentence_of c.args.row.now) (map revision_of c.args.revisions.now)) c.deref.ensures.value ∙ met in cc
+    let t : false ≡ true = sym c.in_err-fit.ensures.wrong.1 ∙ c.is_course_right.ensures ∙ ap (is_course c.args.number (sentence_of c.args.row.now) (map revision_of c.args.revisions.now)) c.deref.ensures.value ∙ met in cc
 
 pub returns-clause-fine : goal.returns-clause-fine
 returns-clause-fine c =
     let texts = c.in_ok-blocks.ensures.texts ∙ sym (bodies_reported c.args.revisions.now) in
-    let course = ap (is_course c.args.number (sentence_of c.args.row.now) (map revision_of c.args.revisions.now)) (sym c.deref.ensures.value) ∙ sym c.is_course_right.ensures ∙ c.if-not-is_course_right.false in
+    let course = ap (is_course c.args.number (sentence_of c.args.row.now) (map revision_of c.args.revisions.now)) (sym c.deref.ensures.value) ∙ sym c.is_course_right.ensures ∙ c.in_ok-fit.ensures.right in
     let back = read_back c.args.number (sentence_of c.args.row.now) c.args.pulled (map revision_of c.args.revisions.now) c.in_ok-blocks.blocks.items c.in_ok-blocks.ensures.lawful texts course in
     let reported = c.in_ok-reported.ensures ∙ ap (rows_reported (map revision_of c.args.revisions.now)) c.deref-2.ensures.value ∙ reported_joined (map revision_of c.args.revisions.now) c.in_ok-blocks.blocks.items ∙ ap (map row_of) (sym back.3) in
     (back.0, back.1, entry_is back.0 c.args.row.now.batch c.args.pulled c.in_ok-reported.reported.items back.2 back.1.pulled reported)

@@ -46,7 +46,7 @@ returns-clause-summary c =
     let m : c.deref-3.result.now ≡ c.in_ok-moves.moves.items = search rules in
     let read = c.in_ok-entries.ensures.fine in
     let f : Machine = record { batches = c.in_ok-batches.batches.items; sentences = read.0; moves = c.in_ok-moves.moves.items } in
-    let apart = c.in_ok-are_apart.ensures.0 c.if-not-branch.false in
+    let apart = c.in_ok-are_apart.ensures.0 c.in_ok-fit.ensures.right in
     let fine = c.rows_tell_names_apart.ensures.fine f (map batch_of bs) (map sentence_of ss) c.in_ok-batches.ensures.records read.1.sentences apart.0 apart.1 read.1.fine in
     let shown : IsShownBy c.deref.result.now c.deref-2.result.now c.deref-3.result.now f = record { batches_are = b; entries_are = e ∙ read.2; moves_are = m; fine = fine } in
     let reported = c.in_ok-totals.ensures.reached f shown in

@@ -1,6 +1,7 @@
 use Rattle.std.proofs.Common.{◌∷◌, ◌++◌, []}
 use Rattle.std.proofs.lemmas.Result.{err_from_is_err_and}
 use Rattle.tb_conllu.proofs.Files.{from_next, from_fault, next_shorter}
+use Rattle.tb_conllu.proofs.Shortage.{rest_wants}
 use Rattle.tb_conllu.proofs.sentences.Sentences.read_rest.Goals as goal
 
 pub returns-in_err-block-clause-fault : goal.returns-in_err-block-clause-fault
@@ -14,3 +15,8 @@ loop-block-smaller c = next_shorter c.loop-block.self c.read_next.new.self c.in-
 pub loop-block-preserved : goal.loop-block-preserved
 loop-block-preserved c =
     (c.loop-block.invariant.0 ++ c.in-Some.block ∷ [], from_next c.args.self.now c.loop-block.self c.read_next.new.self c.loop-block.invariant.0 c.in-Some.block c.loop-block.invariant.1 (rw c.in-Some.is at c.in_ok-block.ensures.next))
+
+pub returns-in_err-block-clause-memory : goal.returns-in_err-block-clause-memory
+returns-in_err-block-clause-memory c =
+    let p = err_from_is_err_and c.from_residual.result c.from_residual.ensures.1 in
+    rw (p.1, p.2) (λ memory. rest_wants c.args.self.now.rest c.loop-block.invariant.0 c.loop-block.self.rest c.loop-block.invariant.1.shaped c.loop-block.invariant.1.whole (c.in_err-block.ensures.memory memory))

@@ -1,0 +1,21 @@
+use Rattle.std.proofs.Common.{ℕ, List, Result, inl, inr}
+use Rattle.tb_check.specs.Check.{file_limit}
+use Rattle.tb_http.specs.declared.replies.Reply.{Reply}
+use Rattle.tb_cli.specs.Lines.{said_by}
+use Rattle.tb_answer.specs.Taken.{IsTaken}
+use Rattle.tb_desk.specs.Running.{taken_of}
+use Rattle.tb_desk.proofs.Ran.{taken_so}
+use Rattle.tb_desk.proofs.running.run_on_file.Goals as goal
+
+pub returns-in-Ok : goal.returns-in-Ok
+returns-in-Ok g c =
+    let taken : Result (List ℕ) Reply → Type 0 = λ t. IsTaken g.R.Source.IsFailure g.R.Source.left file_limit (said_by c.args.line.now) c.args.reader.now c.read_body-body.new.reader t in
+    elim c.run_on_desk-outcome.ensures [
+      | inl served ↦ inl served
+      | inr ran ↦ inr (inr record {
+        opened = c.in-Ok.opened;
+        ended = c.run_on_desk-outcome.new.opened;
+        is = c.in-Ok.ensures;
+        ran = (taken_of (λ v. v.items) c.read_body-body.result, taken_so (λ v. v.items) c.read_body-body.result taken c.read_body-body.ensures, ran);
+      })
+    ]

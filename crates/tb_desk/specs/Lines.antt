@@ -1,0 +1,66 @@
+-- How a command line ends: what is written, the exit status, and what was taken of the input. Lines of `serve` are left
+-- out: what a server answers is said request by request.
+use Rattle.std.specs.Prelude.{◌≡◌, ◌≢◌, ◌⊎◌, ℕ, List, codes, true, Option, Some, None}
+use Rattle.sqlite_trees.specs.declared.memory.MemStore.{MemStore}
+use Rattle.sqlite.specs.Store.{Ghosts}
+use Rattle.sqlite.specs.Files.{over_files}
+use Rattle.sqlite.specs.Steps.{over_memory}
+use Rattle.clap.specs.Words.{takes, subcommand_of}
+use Rattle.tb_check.specs.Check.{file_limit}
+use Rattle.tb_http.specs.declared.replies.Reply.TheVariants as reply
+use Rattle.tb_cli.specs.Fault.{ComesOnly}
+use Rattle.tb_cli.specs.Lines.{Said, said_of}
+use Rattle.tb_cli.specs.Tree.{desk_app}
+use Rattle.tb_cli.specs.declared.lines.LineFault.{LineFault}
+use Rattle.tb_store.specs.Kept.{Kept}
+use Rattle.tb_answer.specs.Output.{IsWritten}
+use Rattle.tb_answer.specs.Taken.{WithTaken}
+use Rattle.tb_desk.specs.Opened.{IsEmptyDesk, IsSomeDesk}
+use Rattle.tb_desk.specs.Replies.{IsFaultWritten, IsFileRefused, IsReplyWritten}
+use Rattle.tb_desk.specs.Running.{IsRunOn}
+use Rattle.tb_desk.specs.declared.files.FileDesk.{FileDesk}
+use Rattle.tb_desk.specs.Targets.{Place, made_in, migrated_in, in_file, in_memory, place_in, serves}
+
+module _ {R Why Reason : Type 0} (is_failure : R → Why → Type 0) (unread : R → Option (List ℕ)) (before after : R)
+    (held holds : Option (List ℕ)) (is_refusal : Reason → Type 0) (status : ℕ) where
+  -- the body of the line was taken, and the line ran on this desk
+  abbrev pub IsRunWithBody : {S : Type 0} → Ghosts S → (opened ended : Kept S) → Said → Type 0
+  IsRunWithBody g opened ended said = WithTaken is_failure unread file_limit said before after
+      (λ taken. IsRunOn g held holds is_refusal status opened ended said taken)
+
+  -- there was a desk in the file, and the line ran on it
+  pub record IsRunInFile (said : Said) : Type 0 where
+    pub opened : FileDesk
+    pub ended : FileDesk
+    pub is : IsSomeDesk over_files opened.desk
+    pub ran : IsRunWithBody over_files opened.desk ended.desk said
+
+  -- the line ran on a desk in memory
+  pub record IsRunInMemory (said : Said) : Type 0 where
+    pub opened : Kept MemStore
+    pub ended : Kept MemStore
+    pub is : IsEmptyDesk over_memory opened
+    pub ran : IsRunWithBody over_memory opened ended said
+
+  -- a desk in a file was opened, and this is written; or the line of a fault of the file is
+  abbrev pub IsOpenedOrRefused : (text : List ℕ) → Type 0
+  IsOpenedOrRefused text = IsWritten held holds text 0 is_refusal status ⊎ IsFileRefused held holds is_refusal status
+
+  -- How a line ends, by what it works on. On a file it runs on the desk there, or the line of a fault of the file is
+  -- written. Without a file it runs on a desk without a batch, or memory runs out for that.
+  abbrev pub IsLineRun : Said → Place → Type 0
+  IsLineRun said (made_in path) = IsOpenedOrRefused (codes "made\n")
+  IsLineRun said (migrated_in path) = IsOpenedOrRefused (codes "migrated\n")
+  IsLineRun said (in_file path) = IsFileRefused held holds is_refusal status ⊎ IsRunInFile said
+  IsLineRun said in_memory = IsReplyWritten held holds is_refusal status reply.Memory ⊎ IsRunInMemory said
+
+  -- a line of `serve`, or a line that ends so
+  abbrev pub IsServedOrRun : Said → Place → Type 0
+  IsServedOrRun said place = (serves said ≡ true) ⊎ IsLineRun said place
+
+  -- what the words say is run, or why they say nothing is written
+  abbrev pub AreWordsRun : (words : List (List ℕ)) → Type 0
+  AreWordsRun words =
+      ((said : Said) × (said_of (subcommand_of desk_app words) ≡ Some said) × IsServedOrRun said (place_in said))
+      ⊎ ((e : LineFault) × ComesOnly e (takes desk_app words ≢ true) (said_of (subcommand_of desk_app words) ≡ None)
+      × IsFaultWritten held holds is_refusal status e)

@@ -1,0 +1,22 @@
+-- A desk that the program has opened in a file, or made in memory.
+use Rattle.std.specs.Prelude.{◌≡◌}
+use Rattle.sqlite.specs.Store.{Ghosts}
+use Rattle.sqlite.specs.Held.{state}
+use Rattle.sqlite.specs.State.{HasCleanDisk}
+use Rattle.tb_core.specs.declared.limits.Limits.{Limits}
+use Rattle.tb_core.specs.Machine.{Machine, empty_machine}
+use Rattle.tb_store.specs.Kept.{Kept}
+use Rattle.tb_store.specs.Represents.{Represents}
+
+-- the limits of every desk of the program
+abbrev pub desk_limits : Limits
+desk_limits = record { sentences = 1000000; moves = 1000000000; hits = 1000000 }
+
+-- a desk of the program, without a batch
+abbrev pub IsEmptyDesk : {S : Type 0} → Ghosts S → Kept S → Type 0
+IsEmptyDesk g d = (d.limits ≡ desk_limits) × Represents g d empty_machine
+
+-- a desk of the program, which represents a state that accepted commands reach
+abbrev pub IsSomeDesk : {S : Type 0} → Ghosts S → Kept S → Type 0
+IsSomeDesk g d = (d.limits ≡ desk_limits)
+    × (HasCleanDisk (state g d.conn) → (s : Machine) × Represents g d s)

@@ -1,0 +1,37 @@
+-- How a command line is answered on an open desk, and what is read of the desk after the answer, to explain it.
+use Rattle.std.specs.Prelude.{ℕ, List, Option, Result, Ok, Err, IsTrue}
+use Rattle.sqlite.specs.Store.{Ghosts}
+use Rattle.sqlite.specs.Held.{state}
+use Rattle.sqlite.specs.State.{Survives}
+use Rattle.tb_http.specs.declared.replies.Reply.{Reply}
+use Rattle.tb_cli.specs.Lines.{Said}
+use Rattle.tb_store.specs.Calls.{InState}
+use Rattle.tb_store.specs.Kept.{Kept}
+use Rattle.tb_store.specs.Represents.{Represents}
+use Rattle.tb_answer.specs.Calls.{ForgetsNothing}
+use Rattle.tb_answer.specs.Ran.{IsRanAs, IsLineSafe}
+use Rattle.tb_answer.specs.declared.written.Written.{Written}
+
+-- What a read leaves of a desk: the same state while the store is open, and for a crash what it could leave before. A
+-- disk that was doubted stays so.
+abbrev pub IsRead : {S : Type 0} → Ghosts S → (old new : Kept S) → Type 0
+IsRead g old new = ForgetsNothing g old new × InState g old new (λ s.
+    Survives (state g old.conn) (state g new.conn) (λ _. ⊥)
+    × (IsTrue (state g new.conn).is_open → Represents g new s))
+
+-- the body that came, or the reply in its place
+abbrev pub taken_of : {V E : Type 0} → (V → List ℕ) → Result V E → Result (List ℕ) E
+taken_of items (Ok v) = Ok (items v)
+taken_of items (Err e) = Err e
+
+module _ {Reason S : Type 0} (g : Ghosts S) (held holds : Option (List ℕ)) (is_refusal : Reason → Type 0)
+    (status : ℕ) where
+  -- A line with this body is answered as the machine answers in the state that the desk represents, and a crash leaves
+  -- what it may leave of the line. After the answer the desk is only read.
+  pub record IsRunOn (old new : Kept S) (said : Said) (taken : Result (List ℕ) Reply) : Type 0 where
+    pub answered : Kept S
+    pub written : Written
+    pub ran : InState g old answered
+        (λ s. IsRanAs g old.limits s said taken old answered held holds is_refusal written status)
+    pub safe : IsLineSafe g said taken old answered
+    pub explained : IsRead g answered new

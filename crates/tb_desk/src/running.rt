@@ -1,0 +1,227 @@
+//! Does a command line: makes a desk in a file, or works on the desk in a file or in memory.
+
+ghost use Rattle.std.specs.Prelude.{◌≡◌, ◌⊎◌, true};
+ghost use Rattle.sqlite.specs.Files.{over_files};
+ghost use Rattle.tb_conllu.specs.declared.fault.WriteFault.{WriteFault};
+ghost use Rattle.tb_cli.specs.Lines.{said_by};
+ghost use Rattle.tb_answer.specs.Output.{IsWritten};
+ghost use Rattle.tb_desk.specs.Replies.{IsFileRefused};
+ghost use Rattle.tb_desk.specs.Lines.{IsServedOrRun};
+ghost use Rattle.tb_desk.specs.Running.{IsRunOn, taken_of};
+ghost use Rattle.tb_desk.specs.Targets.{in_file, in_memory, place_in, serves};
+
+use crate::causes::{Cause, FileCause};
+use crate::diagnostics::{Diagnostic, Outcome, put_memory, wants_words};
+use crate::explaining::run_reported;
+use crate::files::{self, FileDesk};
+use crate::place::Place;
+use crate::serving::serve;
+use crate::targets::Target;
+use crate::words::{TREEDESK, put_file_cause};
+use sqlite::Alter;
+use std::io::Write;
+use tb_answer::read_body;
+use tb_cli::Line;
+use tb_conllu::{Sink, Source};
+use tb_http::Reply;
+use tb_store::Desk;
+
+/// How many pages beyond those of its file a line keeps in memory.
+fn room_of(line: &Line) -> u64 {
+    match line {
+        Line::Import { .. } | Line::Correct { .. } => files::ROOM_TO_GROW,
+        Line::Serve { .. } => files::ROOM_TO_SERVE,
+        _ => files::ROOM,
+    }
+}
+
+/// Prints the line for a desk that was opened in the file at this path, and closes it.
+fn put_opened<W: Sink>(
+    rt: &HostRuntime,
+    path: &str,
+    opened: Result<FileDesk, FileCause>,
+    line: &str,
+    out: &mut W,
+) -> Outcome
+    ensures { IsWritten (W.held out.old) (W.held out.new) line.now 0 (W.IsRefusal out.new) result.status
+        ⊎ IsFileRefused (W.held out.old) (W.held out.new) (W.IsRefusal out.new) result.status }
+{
+    match opened {
+        Ok(opened) => {
+            opened.close();
+            Outcome::from(tb_check::put_reply(out, line, 0))
+        }
+        Err(cause) => put_file_cause(rt, path, cause, out),
+    }
+}
+
+/// Does a line on the desk of a file, with its body.
+fn run_on_desk<W: Write>(
+    rt: &HostRuntime,
+    path: &str,
+    line: &Line,
+    body: &Result<Vec<u8>, Reply>,
+    opened: &mut FileDesk,
+    out: &mut W,
+) -> Outcome
+    ensures { (serves (said_by line.now) ≡ true)
+        ⊎ IsRunOn over_files (W.contents out.old) (W.contents out.new) (λ (_ : WriteFault). Unit {0}) result.status
+        opened.old.desk opened.new.desk (said_by line.now) (taken_of (λ v. v.items) body.now) }
+{
+    match line {
+        Line::Serve {
+            db: _,
+            port,
+            requests,
+        } => match Place::new(rt, path) {
+            Ok(place) => serve(rt, &mut opened.desk, Some(&place), *port, *requests, out),
+            Err(cause) => put_file_cause(rt, path, cause, out),
+        },
+        _ => run_reported(rt, line, body, &mut opened.desk, out),
+    }
+}
+
+/// Does a line on the desk of the file at this path.
+///
+/// The body is read before the file is opened, and so before it is locked for others. So in `show | correct` on one
+/// file each command has its turn. A fault of the file is still reported before one of the body.
+fn run_on_file<R: Source, W: Write>(
+    rt: &HostRuntime,
+    path: &str,
+    line: &Line,
+    reader: &mut R,
+    out: &mut W,
+) -> Outcome
+    ensures { IsServedOrRun R.IsFailure R.left reader.old reader.new (W.contents out.old) (W.contents out.new)
+        (λ (_ : WriteFault). Unit {0}) result.status (said_by line.now) (in_file path.now) }
+{
+    if let Err(cause) = files::look(rt, path) {
+        return put_file_cause(rt, path, cause, out);
+    }
+    let body = read_body(rt.alloc(), line, reader);
+    match files::open(rt, TREEDESK, path, room_of(line)) {
+        Ok(mut opened) => {
+            let outcome = run_on_desk(rt, path, line, &body, &mut opened, out);
+            opened.close();
+            outcome
+        }
+        Err(cause) => put_file_cause(rt, path, cause, out),
+    }
+}
+
+/// Whether a line that is done changes the desk.
+pub(crate) fn changes_desk(line: &Line) -> bool {
+    matches!(
+        line,
+        Line::Import { .. }
+            | Line::Event { .. }
+            | Line::Correct { .. }
+            | Line::Pull { .. }
+            | Line::Restore { .. }
+    )
+}
+
+/// What a user has to know of a line that was done on a desk in memory. What it changed is not kept, and there was
+/// nothing to read.
+fn cause_in_memory(line: &Line) -> Option<Cause> {
+    match line {
+        Line::Search { .. } | Line::Count { .. } | Line::Export { name: None, .. } => {
+            Some(Cause::NothingThere)
+        }
+        _ if changes_desk(line) => Some(Cause::NothingKept),
+        _ => None,
+    }
+}
+
+/// What there is to say of a line that ended with this status on a desk in memory.
+fn reported_in_memory(line: &Line, status: u8, reported: Option<Diagnostic>) -> Option<Diagnostic> {
+    match cause_in_memory(line) {
+        Some(cause) if status == 0 => Some(Diagnostic::from(cause)),
+        _ => reported,
+    }
+}
+
+/// Serves a desk in memory. A warning that nothing is kept comes before the first request.
+fn serve_in_memory<S: Alter, W: Write>(
+    rt: &HostRuntime,
+    desk: &mut Desk<S>,
+    port: u16,
+    requests: u64,
+    out: &mut W,
+) -> Outcome {
+    if wants_words(rt) {
+        let _reported = eprintln!(rt; "{}: {}", TREEDESK, Cause::NothingWillBeKept);
+    }
+    serve(rt, desk, None, port, requests, out)
+}
+
+/// Does a line on a desk in memory, with its body.
+fn run_on_desk_in_memory<S: Alter, W: Write>(
+    rt: &HostRuntime,
+    line: &Line,
+    body: &Result<Vec<u8>, Reply>,
+    desk: &mut Desk<S>,
+    out: &mut W,
+) -> Outcome
+    ensures { (serves (said_by line.now) ≡ true)
+        ⊎ IsRunOn S.Store (W.contents out.old) (W.contents out.new) (λ (_ : WriteFault). Unit {0}) result.status
+        desk.old desk.new (said_by line.now) (taken_of (λ v. v.items) body.now) }
+{
+    match line {
+        Line::Serve {
+            db: _,
+            port,
+            requests,
+        } => serve_in_memory(rt, desk, *port, *requests, out),
+        _ => {
+            let Outcome { status, reported } = run_reported(rt, line, body, desk, out);
+            Outcome {
+                status,
+                reported: reported_in_memory(line, status, reported),
+            }
+        }
+    }
+}
+
+/// Does a line without a file. The desk is in memory, for this run.
+fn run_in_memory<R: Source, W: Write>(
+    rt: &HostRuntime,
+    line: &Line,
+    reader: &mut R,
+    out: &mut W,
+) -> Outcome
+    ensures { IsServedOrRun R.IsFailure R.left reader.old reader.new (W.contents out.old) (W.contents out.new)
+        (λ (_ : WriteFault). Unit {0}) result.status (said_by line.now) in_memory }
+{
+    match files::in_memory(rt) {
+        Ok(mut desk) => {
+            let body = read_body(rt.alloc(), line, reader);
+            run_on_desk_in_memory(rt, line, &body, &mut desk, out)
+        }
+        Err(_) => put_memory(out),
+    }
+}
+
+/// Does a line with the input that the reader gives, and prints the answer.
+pub(crate) fn run<R: Source, W: Write>(
+    rt: &HostRuntime,
+    line: &Line,
+    reader: &mut R,
+    out: &mut W,
+) -> Outcome
+    ensures { IsServedOrRun R.IsFailure R.left reader.old reader.new (W.contents out.old) (W.contents out.new)
+        (λ (_ : WriteFault). Unit {0}) result.status (said_by line.now) (place_in (said_by line.now)) }
+{
+    match Target::of_line(line) {
+        Target::New(path) => {
+            let made = files::make(rt, TREEDESK, path);
+            put_opened(rt, path, made, "made\n", out)
+        }
+        Target::Migrate(path) => {
+            let migrated = files::migrate(rt, TREEDESK, path);
+            put_opened(rt, path, migrated, "migrated\n", out)
+        }
+        Target::File(path) => run_on_file(rt, path, line, reader, out),
+        Target::Memory => run_in_memory(rt, line, reader, out),
+    }
+}
