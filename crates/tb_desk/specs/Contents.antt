@@ -2,6 +2,8 @@
 -- What the bytes of a file and of its log show of its tables (the file format of SQLite, sections 1.3, 1.6 and 4.1).
 use Rattle.std.specs.Prelude.{◌≡◌, ◌≢◌, ◌++◌, ◌+◌, ◌*◌, ◌⊎◌, ◌≤◌, ◌<◌, ℕ, List, [], ◌∷◌, All, codes, length, take, drop, slice_get, Option, None, Some}
 use Rattle.memchr.specs.Find.{OccursAt}
+use Rattle.sqlite_wal.specs.Format.{be32}
+use Rattle.sqlite_wal.specs.Recovery.{AreFramesOf, IsIgnored}
 use Rattle.tb_desk.specs.declared.contents.Version.{Version}
 use Rattle.tb_desk.specs.declared.contents.Version.TheVariants.{One, Two}
 use Rattle.tb_desk.specs.declared.place.Numbers.{Numbers}
@@ -55,6 +57,17 @@ IsUnwritten log = BeginsWith (drop 1 log) (127 ∷ 6 ∷ []) ⊎ AreZero (take 4
 -- A log that has only the first page (after a header of 32 bytes and one of 24), which lists no table.
 abbrev pub AreBegun : (log : List ℕ) → (pages : List ℕ) → Type 0
 AreBegun log pages = (56 ≤ length log) × (pages ≡ 1 ∷ []) × IsBlank (drop 56 log)
+
+-- A log with pages of this size has no commits, or those of the first page alone, which lists no table.
+pub record HasBegunAlone (size : ℕ) (log : List ℕ) : Type 0 where
+  pub pages : List ℕ
+  pub are : AreFramesOf size log pages
+  pub begun : (pages ≡ []) ⊎ AreBegun log pages
+
+-- A log that `new` may have left, and may write over: its header is not written, or by the page size in its header it has
+-- begun alone.
+abbrev pub MayBeOwnLog : List ℕ → Type 0
+MayBeOwnLog log = IsUnwritten log ⊎ ((¬ IsIgnored log) × HasBegunAlone (be32 log 8) log)
 
 -- the number that four bytes are, the greatest first (section 1.3)
 abbrev pub number_in : List ℕ → ℕ

@@ -1,3 +1,4 @@
+pub mod Causes
 pub mod Contents
 pub mod Lines
 pub mod Opened

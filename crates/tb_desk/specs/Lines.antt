@@ -15,11 +15,30 @@ use Rattle.tb_cli.specs.declared.lines.LineFault.{LineFault}
 use Rattle.tb_store.specs.Kept.{Kept}
 use Rattle.tb_answer.specs.Output.{IsWritten}
 use Rattle.tb_answer.specs.Taken.{WithTaken}
-use Rattle.tb_desk.specs.Opened.{IsEmptyDesk, IsSomeDesk}
+use Rattle.tb_desk.specs.Opened.{IsEmptyDesk, IsMadeDesk, IsSomeDesk}
 use Rattle.tb_desk.specs.Replies.{IsFaultWritten, IsFileRefused, IsReplyWritten}
 use Rattle.tb_desk.specs.Running.{IsRunOn}
 use Rattle.tb_desk.specs.declared.files.FileDesk.{FileDesk}
 use Rattle.tb_desk.specs.Targets.{Place, made_in, migrated_in, in_file, in_memory, place_in, serves}
+
+module _ {Reason : Type 0} (held holds : Option (List ℕ)) (is_refusal : Reason → Type 0) (status : ℕ) where
+  -- a desk without a batch was made in the file, and `made` is written
+  pub record IsMadeInFile : Type 0 where
+    pub made : FileDesk
+    pub is : IsMadeDesk over_files made.desk
+    pub written : IsWritten held holds (codes "made\n") 0 is_refusal status
+
+  abbrev pub IsMadeOrRefused : Type 0
+  IsMadeOrRefused = IsFileRefused held holds is_refusal status ⊎ IsMadeInFile
+
+  -- the desk in the file was brought to version 2, and `migrated` is written
+  pub record IsMigratedInFile : Type 0 where
+    pub migrated : FileDesk
+    pub is : IsSomeDesk over_files migrated.desk
+    pub written : IsWritten held holds (codes "migrated\n") 0 is_refusal status
+
+  abbrev pub IsMigratedOrRefused : Type 0
+  IsMigratedOrRefused = IsFileRefused held holds is_refusal status ⊎ IsMigratedInFile
 
 module _ {R Why Reason : Type 0} (is_failure : R → Why → Type 0) (unread : R → Option (List ℕ)) (before after : R)
     (held holds : Option (List ℕ)) (is_refusal : Reason → Type 0) (status : ℕ) where
@@ -42,15 +61,12 @@ module _ {R Why Reason : Type 0} (is_failure : R → Why → Type 0) (unread : R
     pub is : IsEmptyDesk over_memory opened
     pub ran : IsRunWithBody over_memory opened ended said
 
-  -- a desk in a file was opened, and this is written; or the line of a fault of the file is
-  abbrev pub IsOpenedOrRefused : (text : List ℕ) → Type 0
-  IsOpenedOrRefused text = IsWritten held holds text 0 is_refusal status ⊎ IsFileRefused held holds is_refusal status
-
-  -- How a line ends, by what it works on. On a file it runs on the desk there, or the line of a fault of the file is
-  -- written. Without a file it runs on a desk without a batch, or memory runs out for that.
+  -- How a line ends, by what it works on. In a file a desk is made or migrated, or the line runs on the desk there, or
+  -- the line for the cause at the file is written. Without a file it runs on a desk without a batch, or memory runs out
+  -- for that.
   abbrev pub IsLineRun : Said → Place → Type 0
-  IsLineRun said (made_in path) = IsOpenedOrRefused (codes "made\n")
-  IsLineRun said (migrated_in path) = IsOpenedOrRefused (codes "migrated\n")
+  IsLineRun said (made_in path) = IsMadeOrRefused held holds is_refusal status
+  IsLineRun said (migrated_in path) = IsMigratedOrRefused held holds is_refusal status
   IsLineRun said (in_file path) = IsFileRefused held holds is_refusal status ⊎ IsRunInFile said
   IsLineRun said in_memory = IsReplyWritten held holds is_refusal status reply.Memory ⊎ IsRunInMemory said
 

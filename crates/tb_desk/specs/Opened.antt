@@ -20,3 +20,7 @@ IsEmptyDesk g d = (d.limits ≡ desk_limits) × Represents g d empty_machine
 abbrev pub IsSomeDesk : {S : Type 0} → Ghosts S → Kept S → Type 0
 IsSomeDesk g d = (d.limits ≡ desk_limits)
     × (HasCleanDisk (state g d.conn) → (s : Machine) × Represents g d s)
+
+-- a desk of the program that was just made, without a batch
+abbrev pub IsMadeDesk : {S : Type 0} → Ghosts S → Kept S → Type 0
+IsMadeDesk g d = (d.limits ≡ desk_limits) × (HasCleanDisk (state g d.conn) → Represents g d empty_machine)

@@ -9,10 +9,20 @@ use Rattle.tb_http.specs.Replies.{reply_text, exit_of}
 use Rattle.tb_cli.specs.declared.lines.LineFault.{LineFault}
 use Rattle.tb_cli.specs.declared.lines.LineFault.TheVariants.{Clap, Usage, Memory}
 use Rattle.tb_answer.specs.Output.{IsWritten}
+use Rattle.tb_desk.specs.declared.causes.FileCause.{FileCause}
+use Rattle.tb_desk.specs.declared.causes.FileCause.TheVariants as file
 
--- the replies for a file that is no desk's, and for a fault that keeps it from being opened or made
-abbrev pub IsFileReply : Reply → Type 0
-IsFileReply r = (r ≡ reply.Desk) ⊎ (r ≡ reply.Device) ⊎ (r ≡ reply.Memory)
+-- The line for a file in which no desk is opened or made: memory runs out, the device fails, or it is no desk.
+abbrev pub reply_of : FileCause → Reply
+reply_of file.Memory = reply.Memory
+reply_of file.Busy = reply.Device
+reply_of file.Full = reply.Device
+reply_of file.Quota = reply.Device
+reply_of file.TooLarge = reply.Device
+reply_of (file.Short shortage) = reply.Device
+reply_of file.Failed = reply.Device
+reply_of file.NoRandom = reply.Device
+reply_of _ = reply.Desk
 
 -- the exit status of clap's text: 0 for help and the version, 2 for an error
 abbrev pub IsExitOf : ErrorKind → ℕ → Type 0
@@ -24,9 +34,9 @@ module _ {Reason : Type 0} (held holds : Option (List ℕ)) (is_refusal : Reason
   abbrev pub IsReplyWritten : Reply → Type 0
   IsReplyWritten r = IsWritten held holds (reply_text r) (exit_of r) is_refusal status
 
-  -- the line of a reply for a file is written
+  -- no desk was opened or made in a file, and the line for the cause is written
   abbrev pub IsFileRefused : Type 0
-  IsFileRefused = (r : Reply) × IsFileReply r × IsReplyWritten r
+  IsFileRefused = (c : FileCause) × IsReplyWritten (reply_of c)
 
   -- a text of clap's for an error of this kind is written, or memory runs out for it
   abbrev pub IsClapWritten : ErrorKind → Type 0

@@ -1,5 +1,5 @@
 -- How a command line is answered on an open desk, and what is read of the desk after the answer, to explain it.
-use Rattle.std.specs.Prelude.{ℕ, List, Option, Result, Ok, Err, IsTrue}
+use Rattle.std.specs.Prelude.{◌≡◌, ◌⊎◌, ℕ, List, Option, Result, Ok, Err, IsTrue}
 use Rattle.sqlite.specs.Store.{Ghosts}
 use Rattle.sqlite.specs.Held.{state}
 use Rattle.sqlite.specs.State.{Survives}
@@ -10,7 +10,10 @@ use Rattle.tb_store.specs.Kept.{Kept}
 use Rattle.tb_store.specs.Represents.{Represents}
 use Rattle.tb_answer.specs.Calls.{ForgetsNothing}
 use Rattle.tb_answer.specs.Ran.{IsRanAs, IsLineSafe}
+use Rattle.tb_answer.specs.declared.ending.Ending.TheVariants as ending
+use Rattle.tb_answer.specs.declared.written.Ran.{Ran}
 use Rattle.tb_answer.specs.declared.written.Written.{Written}
+use Rattle.tb_answer.specs.declared.written.Written.TheVariants as written
 
 -- What a read leaves of a desk: the same state while the store is open, and for a crash what it could leave before. A
 -- disk that was doubted stays so.
@@ -35,3 +38,8 @@ module _ {Reason S : Type 0} (g : Ghosts S) (held holds : Option (List ℕ)) (is
         (λ s. IsRanAs g old.limits s said taken old answered held holds is_refusal written status)
     pub safe : IsLineSafe g said taken old answered
     pub explained : IsRead g answered new
+
+-- The answer is whole, and has no sentence, no row or no hit.
+abbrev pub FoundNothing : Ran → Type 0
+FoundNothing ran = (ran.status ≡ 0) × ((ran.written ≡ written.Text 0) ⊎ (ran.written ≡ written.Table 0)
+    ⊎ (ran.written ≡ written.Found (ending.Whole 0)))

@@ -47,3 +47,20 @@ place_in (serve db port requests) = place_of db
 abbrev pub serves : Said → Bool
 serves (serve db port requests) = true
 serves _ = false
+
+-- whether a line changes the desk where it is accepted
+abbrev pub changes : Said → Bool
+changes (import_batch db user name) = true
+changes (step_batch db user name event) = true
+changes (correct db user n base) = true
+changes (pull db user n) = true
+changes (restore db user n) = true
+changes _ = false
+
+-- How many pages beyond those of its file a line keeps in memory: few, 2,000 where the file may grow, and 84 MiB for a
+-- server.
+abbrev pub room_for : Said → ℕ
+room_for (import_batch db user name) = 2000
+room_for (correct db user n base) = 2000
+room_for (serve db port requests) = 21504
+room_for _ = 64

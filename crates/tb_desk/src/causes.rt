@@ -1,6 +1,10 @@
 //! Why the program does not do what it was asked, in words. Each cause has one sentence, and all sentences are here.
 
-ghost use Rattle.tb_desk.specs.Replies.{IsFileReply};
+ghost use Rattle.std.specs.Prelude.{◌≡◌, ◌↔◌, IsTrue};
+ghost use Rattle.std.specs.IoError.{raw_os_error};
+ghost use Rattle.tb_desk.specs.Causes.{IsDeviceCause, IsFileCause, IsPortCause, IsShort};
+ghost use Rattle.tb_desk.specs.Causes.{cause_of_new, input_cause, output_cause};
+ghost use Rattle.tb_desk.specs.Replies.{reply_of};
 
 use crate::misfit::Misfit;
 use std::fmt::{self, Display, Formatter};
@@ -19,11 +23,13 @@ pub enum Shortage {
 impl Shortage {
     /// What the system is short of where a call fails with this error: ENFILE, EMFILE or ENOBUFS. These have no kind
     /// of their own, so they are compared by their numbers on Linux.
-    fn of_system(error: io::Error) -> Option<Shortage> {
-        match error.raw_os_error()? {
-            23 => Some(Shortage::AllFiles),
-            24 => Some(Shortage::OwnFiles),
-            105 => Some(Shortage::Buffers),
+    fn of_system(error: io::Error) -> Option<Shortage>
+        ensures { IsShort (raw_os_error error) result }
+    {
+        match error.raw_os_error() {
+            Some(23) => Some(Shortage::AllFiles),
+            Some(24) => Some(Shortage::OwnFiles),
+            Some(105) => Some(Shortage::Buffers),
             _ => None,
         }
     }
@@ -81,7 +87,9 @@ pub enum FileCause {
 
 impl FileCause {
     /// The cause for a file that the system refuses.
-    pub(crate) fn of_system(error: io::Error) -> FileCause {
+    pub(crate) fn of_system(error: io::Error) -> FileCause
+        ensures { IsFileCause error result }
+    {
         if let Some(shortage) = Shortage::of_system(error) {
             return FileCause::Short(shortage);
         }
@@ -109,7 +117,9 @@ impl FileCause {
 
     /// The cause for a file that is to be made. A missing path means that its folder is missing; a read-only file
     /// system has nothing that could be copied.
-    pub(crate) fn of_new(self) -> FileCause {
+    pub(crate) fn of_new(self) -> FileCause
+        ensures { result ≡ cause_of_new self }
+    {
         match self {
             FileCause::Missing => FileCause::NoFolder,
             FileCause::ReadOnly => FileCause::NewReadOnly,
@@ -120,7 +130,9 @@ impl FileCause {
     /// The cause for a file whose device failed just now. The database reports only that it failed, so this asks for
     /// the error number of the last failed call of the system. Where that says nothing either, the cause is
     /// `otherwise`.
-    pub(crate) fn of_device(otherwise: FileCause) -> FileCause {
+    pub(crate) fn of_device(otherwise: FileCause) -> FileCause
+        ensures { IsDeviceCause otherwise result }
+    {
         match io::Error::from_raw_os_error(os::errno()).kind() {
             ErrorKind::StorageFull => FileCause::Full,
             ErrorKind::QuotaExceeded => FileCause::Quota,
@@ -131,7 +143,7 @@ impl FileCause {
 
     /// The line that is printed: memory or a device fails, or the file is no desk.
     pub(crate) fn reply(self) -> Reply
-        ensures { IsFileReply result }
+        ensures { result ≡ reply_of self }
     {
         match self {
             FileCause::Memory => Reply::Memory,
@@ -155,7 +167,9 @@ impl FileCause {
     }
 
     /// Whether the file is no desk, and is therefore left as it was.
-    pub(crate) fn is_no_desk(self) -> bool {
+    pub(crate) fn is_no_desk(self) -> bool
+        ensures { IsTrue result ↔ (reply_of self ≡ Reply.Desk) }
+    {
         matches!(self.reply(), Reply::Desk)
     }
 
@@ -281,7 +295,9 @@ const OPEN_TO_ALL: u16 = 1024;
 
 impl PortCause {
     /// The cause for a port that the system refuses.
-    pub(crate) fn of_system(error: io::Error, port: u16) -> PortCause {
+    pub(crate) fn of_system(error: io::Error, port: u16) -> PortCause
+        ensures { IsPortCause error port result }
+    {
         if let Some(shortage) = Shortage::of_system(error) {
             return PortCause::Short(shortage);
         }
@@ -329,7 +345,9 @@ pub enum StreamCause {
 
 impl StreamCause {
     /// The cause for an input that failed with this error.
-    pub fn of_input(kind: ErrorKind) -> StreamCause {
+    pub fn of_input(kind: ErrorKind) -> StreamCause
+        ensures { result ≡ input_cause kind }
+    {
         match kind {
             ErrorKind::IsADirectory => StreamCause::InputFolder,
             _ => StreamCause::InputFailed,
@@ -337,7 +355,9 @@ impl StreamCause {
     }
 
     /// The cause for an output that failed with this error.
-    pub fn of_output(kind: ErrorKind) -> StreamCause {
+    pub fn of_output(kind: ErrorKind) -> StreamCause
+        ensures { result ≡ output_cause kind }
+    {
         match kind {
             ErrorKind::BrokenPipe => StreamCause::OutputPipe,
             ErrorKind::StorageFull => StreamCause::OutputFull,

@@ -1,9 +1,10 @@
 //! Does command lines on a desk, and explains their answers. An explanation is made from the value that was answered,
 //! while the input that it is about is at hand.
 
+ghost use Rattle.std.specs.Prelude.{◌↔◌, IsTrue};
 ghost use Rattle.tb_conllu.specs.declared.fault.WriteFault.{WriteFault};
 ghost use Rattle.tb_cli.specs.Lines.{said_by};
-ghost use Rattle.tb_desk.specs.Running.{IsRead, IsRunOn, taken_of};
+ghost use Rattle.tb_desk.specs.Running.{FoundNothing, IsRead, IsRunOn, taken_of};
 
 use crate::causes::{Cause, FileCause};
 use crate::diagnostics::{Diagnostic, Outcome, wants_words};
@@ -89,7 +90,9 @@ fn cause_at_file(rt: &HostRuntime, line: &Line, ran: Ran) -> Option<Diagnostic> 
 }
 
 /// Whether an answer is whole, and has no sentence, no row or no hit.
-fn is_empty(ran: Ran) -> bool {
+fn is_empty(ran: Ran) -> bool
+    ensures { IsTrue result ↔ FoundNothing ran }
+{
     ran.status == 0
         && matches!(
             ran.written,

@@ -1,9 +1,12 @@
 //! Desks in files. This module is tested, not proved: no contract ties a file to its path.
 
 ghost use Rattle.std.specs.Prelude.{◌≡◌, ◌+◌, ◌/◌, false, min, IfOk, IsTrue};
-ghost use Rattle.sqlite.specs.Files.{over_files};
+ghost use Rattle.sqlite.specs.Files.{IsOpened, file_state, over_files};
+ghost use Rattle.sqlite.specs.State.{HasCleanDisk};
 ghost use Rattle.sqlite.specs.Steps.{over_memory};
-ghost use Rattle.tb_desk.specs.Opened.{IsEmptyDesk, IsSomeDesk};
+ghost use Rattle.tb_desk.specs.Causes.{reply_of_error, reply_of_fault};
+ghost use Rattle.tb_desk.specs.Opened.{IsEmptyDesk, IsMadeDesk, IsSomeDesk};
+ghost use Rattle.tb_desk.specs.Replies.{reply_of};
 
 use crate::causes::FileCause;
 use crate::contents::{PAGE_BYTES, Version};
@@ -18,6 +21,7 @@ use std::fs::OpenOptions;
 use std::hash::{BuildHasher, RandomState};
 use std::{fs, io};
 use tb_core::{Fault, Limits};
+use tb_http::Reply;
 use tb_store::{Desk, Unmade};
 
 /// A desk in a file.
@@ -42,7 +46,9 @@ const LIMITS: Limits = Limits {
 };
 
 /// The cause for a file that the database does not open.
-fn cause_of_error(error: Error) -> FileCause {
+fn cause_of_error(error: Error) -> FileCause
+    ensures { reply_of result ≡ reply_of_error error }
+{
     match error {
         Error::SqliteFailure(ErrorCode::OutOfMemory) => FileCause::Memory,
         Error::SqliteFailure(ErrorCode::DiskFull) => FileCause::of_device(FileCause::Full),
@@ -63,7 +69,9 @@ fn cause_of_path(error: OpenError) -> FileCause {
 }
 
 /// The cause for a database that cannot be opened as a desk; `not_a_desk` where its tables or rows do not allow it.
-fn cause_of_fault(fault: Fault, not_a_desk: FileCause) -> FileCause {
+fn cause_of_fault(fault: Fault, not_a_desk: FileCause) -> FileCause
+    ensures { reply_of not_a_desk ≡ Reply.Desk → reply_of result ≡ reply_of_fault fault }
+{
     match fault {
         Fault::Memory => FileCause::Memory,
         Fault::Device | Fault::Output => FileCause::of_device(FileCause::Failed),
@@ -162,7 +170,8 @@ fn over<D: Disk + Drop>(
 ) -> Result<Connection<FileStore<D>>, FileCause>
     requires log { IsTrue (D.Disk.is_usable files.log) }
     requires db { IsTrue (D.Disk.is_usable files.db) }
-    ensures { IfOk result (λ c. c.in_transaction ≡ false) }
+    ensures new { IfOk result (λ c. c.in_transaction ≡ false) }
+    ensures opened { IfOk result (λ c. HasCleanDisk (file_state c) → IsOpened c) }
 {
     match Connection::open_files(rt.alloc(), files, options) {
         Ok(conn) => Ok(conn),
@@ -186,7 +195,8 @@ fn connect(
     log: &mut Log,
     room: u64,
 ) -> Result<Connection<FileStore<File>>, FileCause>
-    ensures { IfOk result (λ c. c.in_transaction ≡ false) }
+    ensures new { IfOk result (λ c. c.in_transaction ≡ false) }
+    ensures opened { IfOk result (λ c. HasCleanDisk (file_state c) → IsOpened c) }
 {
     let options = options(rt, path, room)?;
     let mut turn = Turn::new(rt, program, path)?;
@@ -219,7 +229,9 @@ fn given_up(
     fault: Fault,
     conn: Connection<FileStore<File>>,
     not_a_desk: FileCause,
-) -> FileCause {
+) -> FileCause
+    ensures { reply_of not_a_desk ≡ Reply.Desk → reply_of result ≡ reply_of_fault fault }
+{
     let cause = cause_of_fault(fault, not_a_desk);
     if cause.is_no_desk() {
         let _ = log.undo(rt);
@@ -267,7 +279,9 @@ pub(crate) fn open(
 }
 
 /// Migrates the desk of version 1 in the file at this path to version 2.
-pub(crate) fn migrate(rt: &HostRuntime, program: &str, path: &str) -> Result<FileDesk, FileCause> {
+pub(crate) fn migrate(rt: &HostRuntime, program: &str, path: &str) -> Result<FileDesk, FileCause>
+    ensures { IfOk result (λ migrated. IsSomeDesk over_files migrated.desk) }
+{
     let not_a_desk = match version_of(rt, path)? {
         Version::One => FileCause::Rows(None),
         Version::Two => FileCause::Version2,
@@ -281,7 +295,9 @@ pub(crate) fn migrate(rt: &HostRuntime, program: &str, path: &str) -> Result<Fil
 }
 
 /// Makes a desk in the file at this path. The file is missing, empty or a blank database.
-pub(crate) fn make(rt: &HostRuntime, program: &str, path: &str) -> Result<FileDesk, FileCause> {
+pub(crate) fn make(rt: &HostRuntime, program: &str, path: &str) -> Result<FileDesk, FileCause>
+    ensures { IfOk result (λ made. IsMadeDesk over_files made.desk) }
+{
     may_become_desk(rt, path)?;
     let mut log = Log::before(rt, path)?;
     let conn = match connect(rt, program, path, &mut log, ROOM) {

@@ -1,6 +1,5 @@
 //! The front door of the desk: it answers requests over HTTP and command lines, and runs the whole program. Read
-//! `words.rt` first, with `run_words`, then `running.rt` and `serving.rt`. `specs/Program.antt` says what the program
-//! answers.
+//! `words.rt` first, with `run_words`, then `running.rt` and `serving.rt`. `specs/Lines.antt` says how a command line ends.
 //!
 //! `answer` does what the bytes of one request over HTTP ask, and `answer_all` what a list of requests asks. A `Line`
 //! is read from the words of a command line, and `run_line` does it on a desk. `run_check` checks a file. `run_words`
@@ -18,6 +17,7 @@ mod contents;
 mod diagnostics;
 mod explaining;
 mod files;
+mod logs;
 mod looking;
 mod misfit;
 mod nothing;

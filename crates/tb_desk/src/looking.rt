@@ -2,13 +2,11 @@
 //! the file is no desk.
 
 ghost use Rattle.std.specs.Prelude.{◌≡◌, ◌↔◌, ◌⊎◌, IsTrue, codes};
-ghost use Rattle.tb_desk.specs.Contents.{BeginsWith};
+ghost use Rattle.tb_desk.specs.Contents.{BeginsWith, ListsTables};
 
 use crate::causes::FileCause;
-use crate::contents::{Version, are_begun, is_blank, is_unwritten, listed_in};
-use sqlite_disk::{Disk, Files, Memory};
-use sqlite_wal::{Error, probe_frames, probe_page_size};
-use std::alloc::Global;
+use crate::contents::{Version, is_blank, listed_in};
+use crate::logs::has_commits;
 use std::fs;
 use std::io::{ErrorKind, Read};
 use std::path::PathBuf;
@@ -93,11 +91,7 @@ fn listed_now(rt: &HostRuntime, path: &str) -> Result<Version, FileCause> {
         return Err(FileCause::Empty);
     }
     let log = beginning(rt, log_path.as_str(), LOG_LOOKED_AT)?;
-    match (listed_in(&log), in_file) {
-        (Some(Version::Two), _) => Ok(Version::Two),
-        (Some(Version::One), _) | (None, Some(Version::One)) => Ok(Version::One),
-        _ => Err(FileCause::OtherDatabase),
-    }
+    listed_in(&log).or(in_file).ok_or(FileCause::OtherDatabase)
 }
 
 /// The version of desk that a file may be. While another command closes a desk, its tables move from the log into the
@@ -142,27 +136,6 @@ pub(crate) fn version_of(rt: &HostRuntime, path: &str) -> Result<Version, FileCa
     listed(rt, real.as_str())
 }
 
-/// Whether a log has commits other than the first page that `new` writes. Bytes that are no log count as commits,
-/// unless they may be a log whose header was not written yet.
-fn has_commits(alloc: Global, bytes: &[u8]) -> Result<bool, FileCause> {
-    let mut files = Files {
-        log: Memory::new(alloc),
-        db: Memory::new(alloc),
-    };
-    if files.log.write_at(0, bytes).is_err() {
-        return Err(FileCause::Memory);
-    }
-    match probe_page_size(&mut files) {
-        Ok(Some(size)) => match probe_frames(alloc, &mut files.log, size) {
-            Ok(pages) => Ok(!pages.is_empty() && !are_begun(bytes, &pages)),
-            Err(Error::OutOfMemory) => Err(FileCause::Memory),
-            Err(_) => Ok(true),
-        },
-        Ok(None) => Ok(!is_unwritten(bytes)),
-        Err(_) => Err(FileCause::Memory),
-    }
-}
-
 /// Whether there is a log that a new desk would take for its own, though it holds commits of another desk.
 fn has_log_of_another(rt: &HostRuntime, path: &str) -> Result<bool, FileCause> {
     let log = beside(rt, path, "-wal")?;
@@ -179,7 +152,10 @@ fn has_log_of_another(rt: &HostRuntime, path: &str) -> Result<bool, FileCause> {
 }
 
 /// The cause for a file that is not blank, by what it holds.
-fn held_by(head: &[u8]) -> FileCause {
+fn held_by(head: &[u8]) -> FileCause
+    ensures desk { ListsTables head.now → result ≡ FileCause.DeskAlready }
+    ensures other { ¬ ListsTables head.now → result ≡ FileCause.NotBlank }
+{
     if listed_in(head).is_some() {
         FileCause::DeskAlready
     } else {

@@ -5,12 +5,11 @@ ghost use Rattle.sqlite.specs.Files.{over_files};
 ghost use Rattle.tb_conllu.specs.declared.fault.WriteFault.{WriteFault};
 ghost use Rattle.tb_cli.specs.Lines.{said_by};
 ghost use Rattle.tb_answer.specs.Output.{IsWritten};
-ghost use Rattle.tb_desk.specs.Replies.{IsFileRefused};
-ghost use Rattle.tb_desk.specs.Lines.{IsServedOrRun};
+ghost use Rattle.tb_desk.specs.Lines.{IsMadeOrRefused, IsMigratedOrRefused, IsServedOrRun};
 ghost use Rattle.tb_desk.specs.Running.{IsRunOn, taken_of};
-ghost use Rattle.tb_desk.specs.Targets.{in_file, in_memory, place_in, serves};
+ghost use Rattle.tb_desk.specs.Targets.{changes, in_file, in_memory, place_in, room_for, serves};
 
-use crate::causes::{Cause, FileCause};
+use crate::causes::Cause;
 use crate::diagnostics::{Diagnostic, Outcome, put_memory, wants_words};
 use crate::explaining::run_reported;
 use crate::files::{self, FileDesk};
@@ -27,7 +26,9 @@ use tb_http::Reply;
 use tb_store::Desk;
 
 /// How many pages beyond those of its file a line keeps in memory.
-fn room_of(line: &Line) -> u64 {
+fn room_of(line: &Line) -> u64
+    ensures { result ≡ room_for (said_by line.now) }
+{
     match line {
         Line::Import { .. } | Line::Correct { .. } => files::ROOM_TO_GROW,
         Line::Serve { .. } => files::ROOM_TO_SERVE,
@@ -35,22 +36,30 @@ fn room_of(line: &Line) -> u64 {
     }
 }
 
-/// Prints the line for a desk that was opened in the file at this path, and closes it.
-fn put_opened<W: Sink>(
-    rt: &HostRuntime,
-    path: &str,
-    opened: Result<FileDesk, FileCause>,
-    line: &str,
-    out: &mut W,
-) -> Outcome
-    ensures { IsWritten (W.held out.old) (W.held out.new) line.now 0 (W.IsRefusal out.new) result.status
-        ⊎ IsFileRefused (W.held out.old) (W.held out.new) (W.IsRefusal out.new) result.status }
+/// Closes a desk that was made or migrated, and prints the line that says so.
+fn put_opened<W: Sink>(opened: FileDesk, line: &str, out: &mut W) -> Outcome
+    ensures { IsWritten (W.held out.old) (W.held out.new) line.now 0 (W.IsRefusal out.new) result.status }
 {
-    match opened {
-        Ok(opened) => {
-            opened.close();
-            Outcome::from(tb_check::put_reply(out, line, 0))
-        }
+    opened.close();
+    Outcome::from(tb_check::put_reply(out, line, 0))
+}
+
+/// Makes a desk in the file at this path.
+fn run_new<W: Sink>(rt: &HostRuntime, path: &str, out: &mut W) -> Outcome
+    ensures { IsMadeOrRefused (W.held out.old) (W.held out.new) (W.IsRefusal out.new) result.status }
+{
+    match files::make(rt, TREEDESK, path) {
+        Ok(made) => put_opened(made, "made\n", out),
+        Err(cause) => put_file_cause(rt, path, cause, out),
+    }
+}
+
+/// Brings the desk in the file at this path to version 2.
+fn run_migration<W: Sink>(rt: &HostRuntime, path: &str, out: &mut W) -> Outcome
+    ensures { IsMigratedOrRefused (W.held out.old) (W.held out.new) (W.IsRefusal out.new) result.status }
+{
+    match files::migrate(rt, TREEDESK, path) {
+        Ok(migrated) => put_opened(migrated, "migrated\n", out),
         Err(cause) => put_file_cause(rt, path, cause, out),
     }
 }
@@ -110,7 +119,9 @@ fn run_on_file<R: Source, W: Write>(
 }
 
 /// Whether a line that is done changes the desk.
-pub(crate) fn changes_desk(line: &Line) -> bool {
+pub(crate) fn changes_desk(line: &Line) -> bool
+    ensures { result ≡ changes (said_by line.now) }
+{
     matches!(
         line,
         Line::Import { .. }
@@ -213,14 +224,8 @@ pub(crate) fn run<R: Source, W: Write>(
         (λ (_ : WriteFault). Unit {0}) result.status (said_by line.now) (place_in (said_by line.now)) }
 {
     match Target::of_line(line) {
-        Target::New(path) => {
-            let made = files::make(rt, TREEDESK, path);
-            put_opened(rt, path, made, "made\n", out)
-        }
-        Target::Migrate(path) => {
-            let migrated = files::migrate(rt, TREEDESK, path);
-            put_opened(rt, path, migrated, "migrated\n", out)
-        }
+        Target::New(path) => run_new(rt, path, out),
+        Target::Migrate(path) => run_migration(rt, path, out),
         Target::File(path) => run_on_file(rt, path, line, reader, out),
         Target::Memory => run_in_memory(rt, line, reader, out),
     }

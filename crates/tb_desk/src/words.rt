@@ -7,7 +7,7 @@ ghost use Rattle.tb_check.specs.Words.{asks_check};
 ghost use Rattle.tb_conllu.specs.declared.fault.WriteFault.{WriteFault};
 ghost use Rattle.tb_answer.specs.Output.{IsWritten};
 ghost use Rattle.tb_desk.specs.Lines.{AreWordsRun};
-ghost use Rattle.tb_desk.specs.Replies.{IsClapWritten, IsExitOf, IsFaultWritten, IsFileRefused};
+ghost use Rattle.tb_desk.specs.Replies.{IsClapWritten, IsExitOf, IsFaultWritten, IsReplyWritten, reply_of};
 
 use crate::causes::{Cause, FileCause};
 use crate::checking::check_reported;
@@ -38,7 +38,7 @@ pub(crate) fn put_file_cause<W: Sink>(
     cause: FileCause,
     out: &mut W,
 ) -> Outcome
-    ensures { IsFileRefused (W.held out.old) (W.held out.new) (W.IsRefusal out.new) result.status }
+    ensures { IsReplyWritten (W.held out.old) (W.held out.new) (W.IsRefusal out.new) result.status (reply_of cause) }
 {
     Outcome {
         status: put_reply(out, cause.reply()),
