@@ -43,6 +43,7 @@ pub(crate) fn correct<S: Alter>(
         → IsWritten s (correcting (number - 1) who.now body) change.now
         → IsDeskOf S.Store conn.new (after s (correcting (number - 1) who.now body))) }
     ensures never_refuses { (r : AnyRefusal) → result ≢ Err (Fault.Refused r) }
+    ensures output { result ≢ Err Fault.Output }
     ensures fails { HasCleanDisk (state S.Store conn.new) → (state S.Store conn.old).step_limit ≡ None
         → (s : Machine) (body : BlockText) (x : Sentence) → IsDeskOf S.Store conn.old s
         → IsMadeRevision s number body x rev words text.now → IsAllowed s (correcting (number - 1) who.now body)
@@ -79,6 +80,7 @@ pub(crate) fn pull<S: Alter>(
         → IsReachable (after s (pulling (number - 1) user)) → IsWritten s (pulling (number - 1) user) change.now
         → IsDeskOf S.Store conn.new (after s (pulling (number - 1) user))) }
     ensures never_refuses { (r : AnyRefusal) → result ≢ Err (Fault.Refused r) }
+    ensures output { result ≢ Err Fault.Output }
     ensures fails { HasCleanDisk (state S.Store conn.new) → (state S.Store conn.old).step_limit ≡ None
         → (s : Machine) (user : List ℕ) → IsDeskOf S.Store conn.old s → IsAllowed s (pulling (number - 1) user)
         → IsWritten s (pulling (number - 1) user) change.now → result ≢ Err Fault.NotADesk }
@@ -111,6 +113,7 @@ pub(crate) fn restore<S: Alter>(
         → IsReachable (after s (restoring (number - 1) user)) → IsWritten s (restoring (number - 1) user) change.now
         → IsDeskOf S.Store conn.new (after s (restoring (number - 1) user))) }
     ensures never_refuses { (r : AnyRefusal) → result ≢ Err (Fault.Refused r) }
+    ensures output { result ≢ Err Fault.Output }
     ensures fails { HasCleanDisk (state S.Store conn.new) → (state S.Store conn.old).step_limit ≡ None
         → (s : Machine) (user : List ℕ) → IsDeskOf S.Store conn.old s
         → IsAllowed s (restoring (number - 1) user) → IsWritten s (restoring (number - 1) user) change.now

@@ -87,6 +87,7 @@ fn current_row<S: Alter>(
         → slice_get s.sentences (number - 1) ≡ Some x → rev ≡ rev_of x
         → (string_bytes f.who ≡ x.current.who) × (string_bytes f.body ≡ text_of (x.current.body ∷ []))) }
     ensures never_refuses { (r : AnyRefusal) → result ≢ Err (Fault.Refused r) }
+    ensures output { result ≢ Err Fault.Output }
     ensures fails { KnowsDeskWhere S.Store conn.old conn.new result (λ s so. (x : Sentence)
         → slice_get s.sentences (number - 1) ≡ Some x → rev ≡ rev_of x → so) }
     ensures cause { IsFaultless S.Store conn.old conn.new → FailsOnlyAs IsNoDevice S.Store conn.old conn.new result }
@@ -106,6 +107,7 @@ fn find_current<S: Alter>(conn: &mut Connection<S>, number: u32) -> Result<Curre
     ensures answered { Tells S.Store conn.old conn.new result (λ s f. (x : Sentence)
         → slice_get s.sentences (number - 1) ≡ Some x → IsCurrentRead s x f) }
     ensures never_refuses { (r : AnyRefusal) → result ≢ Err (Fault.Refused r) }
+    ensures output { result ≢ Err Fault.Output }
     ensures fails { KnowsDeskWhere S.Store conn.old conn.new result (λ s so. (x : Sentence)
         → slice_get s.sentences (number - 1) ≡ Some x → so) }
     ensures cause { IsFaultless S.Store conn.old conn.new → FailsOnlyAs IsNoDevice S.Store conn.old conn.new result }
@@ -138,6 +140,7 @@ fn found_of(read: &CurrentRead) -> CurrentFound<'_>
 /// A stored text that cannot be read is not that of a desk.
 fn fault_of_text(fault: ReadFault) -> Fault
     ensures never_refuses { (r : AnyRefusal) → result ≢ Fault.Refused r }
+    ensures output { result ≢ Fault.Output }
     ensures fails { fault ≡ ReadFault.Memory → result ≢ Fault.NotADesk }
     ensures cause { IsNoDevice result }
     ensures value { result ≡ fault_of_stored fault }
@@ -167,6 +170,7 @@ fn take<'a>(
         → let act = correcting place user p.block in
         IsAllowed s act × Steps counts.now.limits s (correct_it n base user body.now) (replied
         (reply_to s act)) (after s act) × (p.text.now ≡ text_of (p.block ∷ []))) }
+    ensures output { result ≢ Err Fault.Output }
     ensures fails { (s : Machine) (n base : ℕ) (user : List ℕ) (place : ℕ) (x : Sentence) → Reached s
         → IsNamedCorrection s n base user body.now place x
         → text.now ≡ text_of (x.current.body ∷ []) → result ≢ Err Fault.NotADesk }
@@ -193,6 +197,7 @@ fn take<'a>(
 fn next_revision(rev: u32) -> Result<u32, Fault>
     ensures next { IfOk result (λ n. n ≡ rev + 1) }
     ensures never_refuses { (r : AnyRefusal) → result ≢ Err (Fault.Refused r) }
+    ensures output { result ≢ Err Fault.Output }
     ensures fails { rev + 1 < 2 ^ 32 → result ≢ Err Fault.NotADesk }
     ensures cause { IfErr result IsNoDevice }
     ensures fault { IfErr result (λ e. e ≡ Fault.NotADesk) }
@@ -239,6 +244,7 @@ fn plan<'a>(
     ensures room { IfOk result (λ _. counts.now.moves + 1 ≤ 1000000000) }
     ensures text { IfOk result (λ p. p.text ≡ passage.now.text.now) }
     ensures never_refuses { (r : AnyRefusal) → result ≢ Err (Fault.Refused r) }
+    ensures output { result ≢ Err Fault.Output }
     ensures fails { (s : Machine) (x : Sentence) → IsReachable s
         → IsAllowed s (correcting (number - 1) user.now passage.now.block)
         → IsReachable (after s (correcting (number - 1) user.now passage.now.block)) → IsCounted counts.now s
@@ -290,6 +296,7 @@ fn plan_body<'a>(
         → (s : Machine) (base : ℕ) (x : Sentence) → Reached s → IsCounted counts.now s
         → IsCurrentRead s x read.now → IsNamedCorrection s number base user.now body.now (number - 1) x
         → Steps counts.now.limits s (correct_it number base user.now body.now) (refused_by r) s }
+    ensures output { result ≢ Err Fault.Output }
     ensures fails { IsWithin counts.now.limits → (s : Machine) (base : ℕ) (x : Sentence) → IsReachable s
         → IsCounted counts.now s → IsCurrentRead s x read.now
         → IsNamedCorrection s number base user.now body.now (number - 1) x → result ≢ Err Fault.NotADesk }
@@ -325,6 +332,7 @@ fn decide<'a>(
     ensures wants { result ≡ Err Fault.Memory → (s : Machine) (x : Sentence)
         → slice_get s.sentences (number - 1) ≡ Some x → IsCurrentRead s x read.now
         → IsNamedCorrection s number base user.now body.now (number - 1) x }
+    ensures output { result ≢ Err Fault.Output }
     ensures fails { IsWithin counts.now.limits → (s : Machine) (x : Sentence) → IsReachable s
         → IsCounted counts.now s → slice_get s.sentences (number - 1) ≡ Some x → IsCurrentRead s x read.now
         → result ≢ Err Fault.NotADesk }
@@ -360,6 +368,7 @@ fn planned<'a, S: Alter>(
         → number ≤ length s.sentences
         → Steps counts.now.limits s (correct_it number base user.now body.now) (refused_by r) s
         × IsDeskOf S.Store conn.new s) }
+    ensures output { result ≢ Err Fault.Output }
     ensures fails { HasCleanDisk (state S.Store conn.new) → (state S.Store conn.old).step_limit ≡ None
         → IsWithin counts.now.limits → (s : Machine) → IsDeskOf S.Store conn.old s → IsCounted counts.now s
         → number ≤ length s.sentences → result ≢ Err Fault.NotADesk }
@@ -399,6 +408,7 @@ pub fn correct<S: Alter>(
         → number ≤ length s.sentences
         → Steps counts.now.limits s (correct_it number base user.now body.now) (refused_by r) s
         × IsDeskOf S.Store conn.new s) }
+    ensures output { result ≢ Err Fault.Output }
     ensures fails { KnowsDeskWhere S.Store conn.old conn.new result (λ s so. IsCounted counts.now s
         → number ≤ length s.sentences → so) }
     ensures cause { BlamesNoDevice S.Store conn.old conn.new result (λ s so. IsCounted counts.now s

@@ -37,6 +37,7 @@ fn read_batch(row: BatchRow, number: u32) -> Result<BatchRead, Fault>
     ensures batch { IfOk result (λ f. (st : AnyState) → row.state ≡ state_number st → (f.number ≡ number)
         × (f.state ≡ st) × (f.worker ≡ row.worker)) }
     ensures never_refuses { (r : AnyRefusal) → result ≢ Err (Fault.Refused r) }
+    ensures output { result ≢ Err Fault.Output }
     ensures fails { (st : AnyState) → row.state ≡ state_number st → result ≢ Err Fault.NotADesk }
     ensures cause { IfErr result IsNoDevice }
     ensures fault { IfErr result (λ e. e ≡ Fault.NotADesk) }
@@ -56,6 +57,7 @@ fn batch<S: Alter>(conn: &mut Connection<S>, number: u32) -> Result<BatchRead, F
     ensures answered { Tells S.Store conn.old conn.new result (λ s f. (b : Batch) → slice_get s.batches (number - 1)
         ≡ Some b → (f.number ≡ number) × (f.state ≡ b.state) × (string_bytes f.worker ≡ b.worker)) }
     ensures never_refuses { (r : AnyRefusal) → result ≢ Err (Fault.Refused r) }
+    ensures output { result ≢ Err Fault.Output }
     ensures fails { KnowsDeskWhere S.Store conn.old conn.new result (λ s so. 0 < number → (b : Batch)
         → slice_get s.batches (number - 1) ≡ Some b → so) }
     ensures cause { IsFaultless S.Store conn.old conn.new → FailsOnlyAs IsNoDevice S.Store conn.old conn.new result }
@@ -84,6 +86,7 @@ pub fn find_batch<S: Alter>(
     ensures answered { Tells S.Store conn.old conn.new result (λ s found. FindsBatch s name.now (option_map (λ f.
         record { number = f.number; state = f.state; worker = string_bytes f.worker }) found)) }
     ensures never_refuses { (r : AnyRefusal) → result ≢ Err (Fault.Refused r) }
+    ensures output { result ≢ Err Fault.Output }
     ensures fails { KnowsDesk S.Store conn.old conn.new result }
     ensures cause { IsFaultless S.Store conn.old conn.new → FailsOnlyAs IsNoDevice S.Store conn.old conn.new result }
     ensures read_only { IsReadOnly S.Store conn.old conn.new (is_ok result) }
@@ -116,6 +119,7 @@ fn sentence_row<S: Alter>(conn: &mut Connection<S>, number: u32) -> Result<Sente
     ensures answered { Tells S.Store conn.old conn.new result (λ s f. (x : Sentence)
         → slice_get s.sentences (number - 1) ≡ Some x → sentence_of f ≡ sentence_record x) }
     ensures never_refuses { (r : AnyRefusal) → result ≢ Err (Fault.Refused r) }
+    ensures output { result ≢ Err Fault.Output }
     ensures fails { KnowsDeskWhere S.Store conn.old conn.new result (λ s so. (x : Sentence)
         → slice_get s.sentences (number - 1) ≡ Some x → so) }
     ensures cause { IsFaultless S.Store conn.old conn.new → FailsOnlyAs IsNoDevice S.Store conn.old conn.new result }
@@ -135,6 +139,7 @@ fn is_pulled<S: Alter>(conn: &mut Connection<S>, number: u32) -> Result<bool, Fa
     ensures answered { Tells S.Store conn.old conn.new result (λ s pulled. (x : Sentence)
         → slice_get s.sentences (number - 1) ≡ Some x → pulled ≡ x.pulled) }
     ensures never_refuses { (r : AnyRefusal) → result ≢ Err (Fault.Refused r) }
+    ensures output { result ≢ Err Fault.Output }
     ensures fails { KnowsDesk S.Store conn.old conn.new result }
     ensures cause { IsFaultless S.Store conn.old conn.new → FailsOnlyAs IsNoDevice S.Store conn.old conn.new result }
     ensures read_only { IsReadOnly S.Store conn.old conn.new (is_ok result) }
@@ -156,6 +161,7 @@ pub fn find_sentence<S: Alter>(conn: &mut Connection<S>, number: u32) -> Result<
     ensures answered { Tells S.Store conn.old conn.new result (λ s f. (x : Sentence)
         → slice_get s.sentences (number - 1) ≡ Some x → IsSentenceRead s x f) }
     ensures never_refuses { (r : AnyRefusal) → result ≢ Err (Fault.Refused r) }
+    ensures output { result ≢ Err Fault.Output }
     ensures fails { KnowsDeskWhere S.Store conn.old conn.new result (λ s so. (x : Sentence)
         → slice_get s.sentences (number - 1) ≡ Some x → so) }
     ensures cause { IsFaultless S.Store conn.old conn.new → FailsOnlyAs IsNoDevice S.Store conn.old conn.new result }

@@ -69,6 +69,7 @@ fn plan_pull(
         × (pulled_out r.0 ≡ reply_to s (pulling (number - 1) user.now))) }
     ensures room { IfOk result (λ _. counts.now.moves + 1 ≤ 1000000000) }
     ensures never_refuses { (r : AnyRefusal) → result ≢ Err (Fault.Refused r) }
+    ensures output { result ≢ Err Fault.Output }
     ensures fails { (s : Machine) (x : Sentence) → IsReachable s → IsAllowed s (pulling (number - 1) user.now)
         → IsReachable (after s (pulling (number - 1) user.now)) → IsCounted counts.now s
         → slice_get s.sentences (number - 1) ≡ Some x → IsSentenceRead s x read.now
@@ -107,6 +108,7 @@ fn decide_pull(
     ensures wants { result ≡ Err Fault.Memory → (s : Machine) (x : Sentence) → Reached s
         → IsCounted counts.now s → slice_get s.sentences (number - 1) ≡ Some x → IsSentenceRead s x read.now
         → IsAllowed s (pulling (number - 1) user.now) }
+    ensures output { result ≢ Err Fault.Output }
     ensures fails { (s : Machine) (x : Sentence) → IsReachable s → IsCounted counts.now s
         → IsWithin counts.now.limits → slice_get s.sentences (number - 1) ≡ Some x → IsSentenceRead s x read.now
         → result ≢ Err Fault.NotADesk }
@@ -146,6 +148,7 @@ fn pull_planned<S: Alter>(
     ensures refused { RefusesAs S.Store conn.old conn.new result (λ s r. IsCounted counts.now s
         → number ≤ length s.sentences
         → Steps counts.now.limits s (pull_it number user.now) (refused_by r) s × IsDeskOf S.Store conn.new s) }
+    ensures output { result ≢ Err Fault.Output }
     ensures fails { KnowsDeskWhere S.Store conn.old conn.new result (λ s so. IsCounted counts.now s
         → IsWithin counts.now.limits
         → number ≤ length s.sentences → so) }
@@ -178,6 +181,7 @@ pub fn pull<S: Alter>(
     ensures refused { RefusesAs S.Store conn.old conn.new result (λ s r. IsCounted counts.now s
         → number ≤ length s.sentences
         → Steps counts.now.limits s (pull_it number user.now) (refused_by r) s × IsDeskOf S.Store conn.new s) }
+    ensures output { result ≢ Err Fault.Output }
     ensures fails { KnowsDeskWhere S.Store conn.old conn.new result (λ s so. IsCounted counts.now s
         → number ≤ length s.sentences → so) }
     ensures cause { BlamesNoDevice S.Store conn.old conn.new result (λ s so. IsCounted counts.now s
@@ -247,6 +251,7 @@ fn plan_restore(
         × (restored_to r.0 ≡ reply_to s (restoring (number - 1) user.now))) }
     ensures room { IfOk result (λ _. counts.now.moves + 1 ≤ 1000000000) }
     ensures never_refuses { (r : AnyRefusal) → result ≢ Err (Fault.Refused r) }
+    ensures output { result ≢ Err Fault.Output }
     ensures fails { (s : Machine) (x : Sentence) → IsReachable s → IsAllowed s (restoring (number - 1) user.now)
         → IsReachable (after s (restoring (number - 1) user.now)) → IsCounted counts.now s
         → slice_get s.sentences (number - 1) ≡ Some x → IsSentenceRead s x read.now
@@ -286,6 +291,7 @@ fn decide_restore(
     ensures wants { result ≡ Err Fault.Memory → (s : Machine) (x : Sentence) → Reached s
         → IsCounted counts.now s → slice_get s.sentences (number - 1) ≡ Some x → IsSentenceRead s x read.now
         → IsAllowed s (restoring (number - 1) user.now) }
+    ensures output { result ≢ Err Fault.Output }
     ensures fails { (s : Machine) (x : Sentence) → IsReachable s → IsCounted counts.now s
         → IsWithin counts.now.limits → slice_get s.sentences (number - 1) ≡ Some x → IsSentenceRead s x read.now
         → result ≢ Err Fault.NotADesk }
@@ -325,6 +331,7 @@ fn restore_planned<S: Alter>(
     ensures refused { RefusesAs S.Store conn.old conn.new result (λ s r. IsCounted counts.now s
         → number ≤ length s.sentences
         → Steps counts.now.limits s (restore_it number user.now) (refused_by r) s × IsDeskOf S.Store conn.new s) }
+    ensures output { result ≢ Err Fault.Output }
     ensures fails { KnowsDeskWhere S.Store conn.old conn.new result (λ s so. IsCounted counts.now s
         → IsWithin counts.now.limits
         → number ≤ length s.sentences → so) }
@@ -357,6 +364,7 @@ pub fn restore<S: Alter>(
     ensures refused { RefusesAs S.Store conn.old conn.new result (λ s r. IsCounted counts.now s
         → number ≤ length s.sentences
         → Steps counts.now.limits s (restore_it number user.now) (refused_by r) s × IsDeskOf S.Store conn.new s) }
+    ensures output { result ≢ Err Fault.Output }
     ensures fails { KnowsDeskWhere S.Store conn.old conn.new result (λ s so. IsCounted counts.now s
         → number ≤ length s.sentences → so) }
     ensures cause { BlamesNoDevice S.Store conn.old conn.new result (λ s so. IsCounted counts.now s

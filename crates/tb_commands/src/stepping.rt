@@ -99,6 +99,7 @@ fn judge(
     ensures refused { (r : AnyRefusal) → result ≡ Err (Fault.Refused r) → (s : Machine) → Reached s
         → FindsBatch s name.now (option_map seen_of found) → counts.now.moves ≡ length s.moves
         → Steps counts.now.limits s (event_on name.now event user.now) (refused_by r) s }
+    ensures output { result ≢ Err Fault.Output }
     ensures fails { (s : Machine) → Reached s → FindsBatch s name.now (option_map seen_of found)
         → counts.now.moves ≡ length s.moves → result ≢ Err Fault.NotADesk }
     ensures cause { IfErr result IsNoDevice }
@@ -130,6 +131,7 @@ fn judge(
 fn worker_after(alloc: Global, makes: Worker, user: &str, worker: String) -> Result<String, Fault>
     ensures value { IfOk result (λ name. string_bytes name ≡ with_worker makes user.now (string_bytes worker)) }
     ensures never_refuses { (r : AnyRefusal) → result ≢ Err (Fault.Refused r) }
+    ensures output { result ≢ Err Fault.Output }
     ensures fails { result ≢ Err Fault.NotADesk }
     ensures cause { IfErr result IsNoDevice }
 {
@@ -151,6 +153,7 @@ fn event_step(
 ) -> Result<Move, Fault>
     ensures step { IfOk result (λ m. m ≡ event_move number event found.now sums user.now) }
     ensures never_refuses { (r : AnyRefusal) → result ≢ Err (Fault.Refused r) }
+    ensures output { result ≢ Err Fault.Output }
     ensures fails { result ≢ Err Fault.NotADesk }
     ensures cause { IfErr result IsNoDevice }
 {
@@ -187,6 +190,7 @@ fn plan(
         → IsPlanned s place event user.now p) }
     ensures room { IfOk result (λ _. counts.now.moves + 1 ≤ 1000000000) }
     ensures never_refuses { (r : AnyRefusal) → result ≢ Err (Fault.Refused r) }
+    ensures output { result ≢ Err Fault.Output }
     ensures fails { (s : Machine) → (place : ℕ) → (b : Batch) → IsReachable s
         → IsAllowed s (stepping place event user.now) → IsReachable (after s (stepping place event user.now))
         → IsCounted counts.now s
@@ -229,6 +233,7 @@ fn planned<S: Alter>(
     ensures refused { RefusesAs S.Store conn.old conn.new result (λ s r. IsCounted counts.now s
         → Steps counts.now.limits s (event_on name.now event user.now) (refused_by r) s
         × IsDeskOf S.Store conn.new s) }
+    ensures output { result ≢ Err Fault.Output }
     ensures fails { KnowsDeskWhere S.Store conn.old conn.new result (λ s so. IsCounted counts.now s
         → IsWithin counts.now.limits → so) }
     ensures cause { IsFaultless S.Store conn.old conn.new → FailsOnlyAs IsNoDevice S.Store conn.old conn.new result }
@@ -249,6 +254,7 @@ fn write<S: Alter>(conn: &mut Connection<S>, plan: &EventPlan) -> Result<(), Fau
         → IsPlanned s place event user plan.now → IsAllowed s (stepping place event user)
         → Holds S.Store conn.new (tables_of (after s (stepping place event user)))) }
     ensures never_refuses { (r : AnyRefusal) → result ≢ Err (Fault.Refused r) }
+    ensures output { result ≢ Err Fault.Output }
     ensures fails { KnowsDeskWhere S.Store conn.old conn.new result (λ s so.
         (place : ℕ) (event : AnyEvent) (user : List ℕ)
         → IsPlanned s place event user plan.now → IsAllowed s (stepping place event user) → so) }
@@ -298,6 +304,7 @@ pub fn event<S: Alter>(
     ensures refused { RefusesAs S.Store conn.old conn.new result (λ s r. IsCounted counts.now s
         → Steps counts.now.limits s (event_on name.now event user.now) (refused_by r) s
         × IsDeskOf S.Store conn.new s) }
+    ensures output { result ≢ Err Fault.Output }
     ensures fails { KnowsDeskWhere S.Store conn.old conn.new result (λ s so. IsCounted counts.now s → so) }
     ensures cause { BlamesNoDevice S.Store conn.old conn.new result (λ s so. IsCounted counts.now s → so) }
     ensures room { IfOk result (λ _. counts.now.moves + 1 ≤ 1000000000) }

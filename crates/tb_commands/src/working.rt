@@ -31,6 +31,7 @@ fn with_one(sums: Sums, item: &BatchSentence) -> Result<Sums, Fault>
     ensures value { IfOk result (λ r. (r.sentences ≡ sums.sentences + 1)
         × (r.words ≡ sums.words + item.now.words)) }
     ensures never_refuses { (r : AnyRefusal) → result ≢ Err (Fault.Refused r) }
+    ensures output { result ≢ Err Fault.Output }
     ensures fails { sums.sentences + 1 < 2 ^ 32 → sums.words + item.now.words < 2 ^ 32
         → result ≢ Err Fault.NotADesk }
     ensures cause { IfErr result IsNoDevice }
@@ -53,6 +54,7 @@ fn with_work(sums: Sums, item: &BatchSentence, pulled: &[u32]) -> Result<Sums, F
     ensures bound { IfOk result (λ r. (r.sentences ≤ sums.sentences + 1)
         × (r.words ≤ sums.words + item.now.words)) }
     ensures never_refuses { (r : AnyRefusal) → result ≢ Err (Fault.Refused r) }
+    ensures output { result ≢ Err Fault.Output }
     ensures fails { sums.sentences + 1 < 2 ^ 32 → sums.words + item.now.words < 2 ^ 32
         → result ≢ Err Fault.NotADesk }
     ensures cause { IfErr result IsNoDevice }
@@ -70,6 +72,7 @@ fn sums_of(work: &[BatchSentence], pulled: &[u32]) -> Result<Sums, Fault>
         → (r.sentences ≡ sum_by (unless_pulled pulled.now each_one) work.now)
         × (r.words ≡ sum_by (unless_pulled pulled.now its_words) work.now)) }
     ensures never_refuses { (r : AnyRefusal) → result ≢ Err (Fault.Refused r) }
+    ensures output { result ≢ Err Fault.Output }
     ensures fails { length work.now < 2 ^ 32 → sum_by its_words work.now < 2 ^ 32 → result ≢ Err Fault.NotADesk }
     ensures cause { IfErr result IsNoDevice }
     ensures fault { IfErr result (λ e. e ≡ Fault.NotADesk) }
@@ -93,6 +96,7 @@ fn read_work<S: Alter>(
     ensures answered { Tells S.Store conn.old conn.new result (λ s v.
         v.items ≡ work_of number 1 (map sentence_record s.sentences)) }
     ensures never_refuses { (r : AnyRefusal) → result ≢ Err (Fault.Refused r) }
+    ensures output { result ≢ Err Fault.Output }
     ensures fails { KnowsDesk S.Store conn.old conn.new result }
     ensures cause { IsFaultless S.Store conn.old conn.new → FailsOnlyAs IsNoDevice S.Store conn.old conn.new result }
     ensures read_only { IsReadOnly S.Store conn.old conn.new (is_ok result) }
@@ -115,6 +119,7 @@ pub(crate) fn find_work<S: Alter>(
         (r.sentences ≡ weigh (at_work number one) s.sentences)
         × (r.words ≡ weigh (at_work number words) s.sentences)) }
     ensures never_refuses { (r : AnyRefusal) → result ≢ Err (Fault.Refused r) }
+    ensures output { result ≢ Err Fault.Output }
     ensures fails { KnowsDesk S.Store conn.old conn.new result }
     ensures cause { IsFaultless S.Store conn.old conn.new → FailsOnlyAs IsNoDevice S.Store conn.old conn.new result }
     ensures read_only { IsReadOnly S.Store conn.old conn.new (is_ok result) }
