@@ -8,3 +8,4 @@ pub mod Corrected
 pub mod Pulled
 pub mod Replied
 pub mod Short
+pub mod Told

@@ -18,9 +18,9 @@ ghost use Rattle.tb_tables.specs.Failing.{IsShort};
 ghost use Rattle.tb_tables.specs.Leaving.{KeepsRecordsOnErr};
 ghost use Rattle.tb_refine.specs.Calls.{BlamesNoDevice};
 
+use crate::telling::written;
 use sqlite::{Alter, Connection};
 use tb_core::{Fault, reached_states_are_well};
-use tb_refine::faults;
 use tb_tables::{MoveWrite, write_correction, write_pull, write_restore};
 
 /// Writes a correction of the sentence with this number, from 1. Its new current revision has so many words, by this
@@ -61,10 +61,7 @@ pub(crate) fn correct<S: Alter>(
     ensures autocommit { conn.new.in_transaction ≡ false }
 {
     reached_states_are_well();
-    match write_correction(conn, number, rev, words, who, text, change) {
-        Ok(()) => Ok(()),
-        Err(error) => Err(faults::of_error(error)),
-    }
+    written(write_correction(conn, number, rev, words, who, text, change))
 }
 
 /// Writes a pull of the sentence with this number, from 1.
@@ -94,10 +91,7 @@ pub(crate) fn pull<S: Alter>(
     ensures autocommit { conn.new.in_transaction ≡ false }
 {
     reached_states_are_well();
-    match write_pull(conn, number, change) {
-        Ok(()) => Ok(()),
-        Err(error) => Err(faults::of_error(error)),
-    }
+    written(write_pull(conn, number, change))
 }
 
 /// Writes a restore of the pulled sentence with this number, from 1.
@@ -128,8 +122,5 @@ pub(crate) fn restore<S: Alter>(
     ensures autocommit { conn.new.in_transaction ≡ false }
 {
     reached_states_are_well();
-    match write_restore(conn, number, change) {
-        Ok(()) => Ok(()),
-        Err(error) => Err(faults::of_error(error)),
-    }
+    written(write_restore(conn, number, change))
 }

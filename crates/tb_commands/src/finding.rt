@@ -7,9 +7,9 @@ ghost use Rattle.sqlite.specs.Held.{state};
 ghost use Rattle.tb_core.specs.declared.refusals.Refusal.{Refusal as AnyRefusal};
 ghost use Rattle.tb_core.specs.declared.kinds.State.{State as AnyState};
 ghost use Rattle.tb_core.specs.Machine.{Batch, Sentence};
-ghost use Rattle.tb_tables.specs.Values.{sentence_of};
+ghost use Rattle.tb_tables.specs.Values.{batch_of, sentence_of};
 ghost use Rattle.tb_refine.specs.Numbers.{state_number};
-ghost use Rattle.tb_refine.specs.DeskTables.{sentence_record};
+ghost use Rattle.tb_refine.specs.DeskTables.{batch_record, sentence_record};
 ghost use Rattle.tb_core.specs.Found.{FindsBatch};
 ghost use Rattle.tb_commands.specs.ReadOf.{IsSentenceRead};
 ghost use Rattle.tb_refine.specs.Calls.{KnowsDesk, KnowsDeskWhere, Tells};
@@ -17,9 +17,10 @@ ghost use Rattle.tb_tables.specs.Leaving.{IsFaultless, FailsOnlyAs};
 ghost use Rattle.tb_reads.specs.ReadOnly.{IsReadOnly};
 ghost use Rattle.tb_refine.specs.Faults.{IsNoDevice};
 
+use crate::telling::{there, told};
 use sqlite::{Alter, Connection};
 use tb_core::{Fault, State, reached_states_are_well};
-use tb_refine::{batch_number, desk_rows_are_readable, faults, state_numbered};
+use tb_refine::{batch_number, desk_rows_are_readable, state_numbered};
 use tb_tables::{BatchRow, SentenceRow};
 
 /// A batch, as read from the tables.
@@ -52,6 +53,22 @@ fn read_batch(row: BatchRow, number: u32) -> Result<BatchRead, Fault>
     })
 }
 
+/// The row of the batch with this number, from 1, which exists.
+fn batch_row<S: Alter>(conn: &mut Connection<S>, number: u32) -> Result<BatchRow, Fault>
+    requires { 0 < number }
+    ensures answered { Tells S.Store conn.old conn.new result (λ s f. (b : Batch)
+        → slice_get s.batches (number - 1) ≡ Some b → batch_of f ≡ batch_record b) }
+    ensures never_refuses { (r : AnyRefusal) → result ≢ Err (Fault.Refused r) }
+    ensures output { result ≢ Err Fault.Output }
+    ensures fails { KnowsDeskWhere S.Store conn.old conn.new result (λ s so. (b : Batch)
+        → slice_get s.batches (number - 1) ≡ Some b → so) }
+    ensures cause { IsFaultless S.Store conn.old conn.new → FailsOnlyAs IsNoDevice S.Store conn.old conn.new result }
+    ensures read_only { IsReadOnly S.Store conn.old conn.new (is_ok result) }
+{
+    desk_rows_are_readable();
+    there(tb_reads::batch(conn, number))
+}
+
 /// The batch with this number, from 1, which exists.
 fn batch<S: Alter>(conn: &mut Connection<S>, number: u32) -> Result<BatchRead, Fault>
     ensures answered { Tells S.Store conn.old conn.new result (λ s f. (b : Batch) → slice_get s.batches (number - 1)
@@ -63,15 +80,11 @@ fn batch<S: Alter>(conn: &mut Connection<S>, number: u32) -> Result<BatchRead, F
     ensures cause { IsFaultless S.Store conn.old conn.new → FailsOnlyAs IsNoDevice S.Store conn.old conn.new result }
     ensures read_only { IsReadOnly S.Store conn.old conn.new (is_ok result) }
 {
-    desk_rows_are_readable();
     if number == 0 {
         return Err(Fault::NotADesk);
     }
-    match tb_reads::batch(conn, number) {
-        Ok(Some(row)) => read_batch(row, number),
-        Ok(None) => Err(Fault::NotADesk),
-        Err(error) => Err(faults::of_read(error)),
-    }
+    let row = batch_row(conn, number)?;
+    read_batch(row, number)
 }
 
 /// The batch with this name, or `None` where no batch has it. Nothing is refused.
@@ -126,11 +139,7 @@ fn sentence_row<S: Alter>(conn: &mut Connection<S>, number: u32) -> Result<Sente
     ensures read_only { IsReadOnly S.Store conn.old conn.new (is_ok result) }
 {
     desk_rows_are_readable();
-    match tb_reads::sentence(conn, number) {
-        Ok(Some(row)) => Ok(row),
-        Ok(None) => Err(Fault::NotADesk),
-        Err(error) => Err(faults::of_read(error)),
-    }
+    there(tb_reads::sentence(conn, number))
 }
 
 /// Whether the sentence with this number, from 1, which exists, is pulled.
@@ -144,10 +153,7 @@ fn is_pulled<S: Alter>(conn: &mut Connection<S>, number: u32) -> Result<bool, Fa
     ensures cause { IsFaultless S.Store conn.old conn.new → FailsOnlyAs IsNoDevice S.Store conn.old conn.new result }
     ensures read_only { IsReadOnly S.Store conn.old conn.new (is_ok result) }
 {
-    match tb_reads::is_pulled(conn, number) {
-        Ok(pulled) => Ok(pulled),
-        Err(error) => Err(faults::of_read(error)),
-    }
+    told(tb_reads::is_pulled(conn, number))
 }
 
 /// The sentence with this number, from 1, which exists, with the state and the worker of its batch. Nothing is

@@ -10,6 +10,7 @@ mod correcting;
 mod finding;
 mod pulling;
 mod stepping;
+mod telling;
 mod working;
 
 pub use correcting::{correct, no_correction};

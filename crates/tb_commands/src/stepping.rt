@@ -26,6 +26,7 @@ ghost use Rattle.tb_reads.specs.ReadOnly.{IsReadOnly};
 ghost use Rattle.tb_refine.specs.Faults.{IsNoDevice};
 
 use crate::finding::{BatchRead, find_batch};
+use crate::telling::written;
 use crate::working::{Sums, find_work};
 use sqlite::{Alter, Connection};
 use std::alloc::Global;
@@ -33,9 +34,7 @@ use tb_core::{
     BatchFound, Event, Fault, Kind, Move, Moved, Refusal, Totals, Worker,
     commands_stay_within_limits, judge_event, reached_states_are_well,
 };
-use tb_refine::{
-    Counters, PreparedMove, events_are_stored, faults, next_move, number_of_state, prepare,
-};
+use tb_refine::{Counters, PreparedMove, events_are_stored, next_move, number_of_state, prepare};
 use tb_tables::write_event;
 
 /// The reply to an accepted event, and what the event writes.
@@ -272,16 +271,13 @@ fn write<S: Alter>(conn: &mut Connection<S>, plan: &EventPlan) -> Result<(), Fau
     if plan.number == 0 {
         return Err(Fault::NotADesk);
     }
-    match write_event(
+    written(write_event(
         conn,
         plan.number,
         plan.in_state,
         plan.worker.as_str(),
         &plan.prepared.change,
-    ) {
-        Ok(()) => Ok(()),
-        Err(error) => Err(faults::of_error(error)),
-    }
+    ))
 }
 
 /// Makes an event on the batch with this name. Returns the reply and the totals afterwards.

@@ -1,42 +1,33 @@
-use Rattle.std.proofs.Common.{◌≡◌, ◌-◌, Err, sym, ap, ◌∙◌}
-use Rattle.tb_core.specs.declared.refusals.Fault.TheVariants.{NotADesk, Device}
+use Rattle.std.proofs.Common.{◌≡◌, Err, ap, string_bytes, ◌∙◌}
+use Rattle.std.proofs.lemmas.Result.{err_from_is_err_and}
+use Rattle.tb_core.specs.declared.refusals.Fault.TheVariants.{NotADesk}
 use Rattle.tb_tables.specs.Records.{Batch}
-use Rattle.tb_reads.specs.Readable.{IsBatch}
-use Rattle.tb_refine.specs.DeskTables.{tables_of, batch_record}
-use Rattle.tb_refine.specs.Fitting.{IsReadableBatch}
-use Rattle.tb_refine.proofs.Faultless.{read_reported, fit, want_reported}
-use Rattle.tb_commands.proofs.Finds.{row_reported, none_lacks}
-use Rattle.tb_reads.proofs.ReadOnly.{read_on, read_none}
+use Rattle.tb_reads.proofs.ReadOnly.{read_none, read_failed, read_on}
+use Rattle.tb_reads.proofs.Shown.{if_ok}
 use Rattle.tb_commands.proofs.finding.batch.Goals as goal
 
-pub returns-in-Ok-Some-clause-fails : goal.returns-in-Ok-Some-clause-fails
-returns-in-Ok-Some-clause-fails g c clean unlimited s desk above b there bad =
-    let read = rw c.in-Ok-Some.field-0-is at c.in-Ok-Some.ensures.ok in
-    let row = row_reported batch_record s.batches (c.args.number - 1) b _ (read clean desk.holds.schema (tables_of s).batches desk.holds.stands.batches) there in
-    c.read_batch.ensures.fails b.state (ap (λ (r : Batch). r.state) row) bad
-
-pub returns-in-Ok-None-clause-fails : goal.returns-in-Ok-None-clause-fails
-returns-in-Ok-None-clause-fails g c clean unlimited s desk above b there bad =
-    let read = rw c.in-Ok-None.field-0-is at c.in-Ok-None.ensures.ok in
-    none_lacks batch_record s.batches (c.args.number - 1) b there (read clean desk.holds.schema (tables_of s).batches desk.holds.stands.batches)
-
-pub returns-in-Err-clause-fails : goal.returns-in-Err-clause-fails
-returns-in-Err-clause-fails g c clean unlimited s desk above b there bad =
-    let reported : c.of_read.result ≡ NotADesk = cc in
-    let readable = c.desk_rows_are_readable.ensures s desk.reachable in
-    let fits = fit IsReadableBatch IsBatch (λ y h. record { name_fits = h.name_fits; state_fits = h.state_fits; worker_fits = h.worker_fits }) (tables_of s).batches readable.batches in
-    read_reported c.in-Err.error (c.in-Err.ensures.fails clean unlimited desk.holds.schema) (λ unfit. c.in-Err.ensures.form clean (ap Err unfit) desk.holds.schema (tables_of s).batches fits desk.holds.stands.batches) (sym c.of_read.ensures.value ∙ reported)
-
-pub returns-in-Err-clause-cause : goal.returns-in-Err-clause-cause
-returns-in-Err-clause-cause g c good clean unlimited has bad =
-    let reported : c.of_read.result ≡ Device = cc in
-    want_reported c.in-Err.error (c.in-Err.ensures.cause good clean unlimited has) (sym c.of_read.ensures.value ∙ reported)
+pub returns-clause-answered : goal.returns-clause-answered
+returns-clause-answered g c clean = if_ok c.read_batch.result c.read_batch.ensures.batch (λ f read s desk b there.
+    let row = c.in_ok-row.ensures.answered clean s desk b there in
+    let it = read b.state (ap (λ (r : Batch). r.state) row) in
+    (it.0, it.1, ap string_bytes it.2 ∙ ap (λ (r : Batch). r.worker) row))
 
 pub returns-then-number-eq0-clause-read_only : goal.returns-then-number-eq0-clause-read_only
 returns-then-number-eq0-clause-read_only g c = read_none
 
-pub returns-in-Ok-Some-clause-read_only : goal.returns-in-Ok-Some-clause-read_only
-returns-in-Ok-Some-clause-read_only g c = read_on _ c.in-Ok-Some.ensures.read_only
+pub returns-in_err-row-clause-fails : goal.returns-in_err-row-clause-fails
+returns-in_err-row-clause-fails g c clean unlimited s desk above b there bad =
+    let reported = err_from_is_err_and c.from_residual.result c.from_residual.ensures.1 in
+    let failed : c.batch_row.result ≡ Err NotADesk = let was = c.in_err-row.was in let one = reported.1 in let two = reported.2 in cc in
+    c.batch_row.ensures.fails clean unlimited s desk b there failed
 
-pub returns-in-Ok-None-clause-read_only : goal.returns-in-Ok-None-clause-read_only
-returns-in-Ok-None-clause-read_only g c = read_on _ c.in-Ok-None.ensures.read_only
+pub returns-in_err-row-clause-read_only : goal.returns-in_err-row-clause-read_only
+returns-in_err-row-clause-read_only g c = read_failed c.from_residual.result _ c.from_residual.ensures.1 c.batch_row.ensures.read_only
+
+pub returns-clause-fails : goal.returns-clause-fails
+returns-clause-fails g c clean unlimited s desk above b there bad =
+    let row = c.in_ok-row.ensures.answered clean s desk b there in
+    c.read_batch.ensures.fails b.state (ap (λ (r : Batch). r.state) row) bad
+
+pub returns-clause-read_only : goal.returns-clause-read_only
+returns-clause-read_only g c = read_on _ c.in_ok-row.ensures.read_only
