@@ -1,3 +1,4 @@
+pub mod Located
 pub mod Makers
 pub mod Summed
 pub mod Told

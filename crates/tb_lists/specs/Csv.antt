@@ -4,6 +4,7 @@ use Rattle.std.specs.Fmt.{decimal}
 use Rattle.tb_core.specs.Words.{kind_word, state_word}
 use Rattle.tb_report.specs.Csv.{csv_of}
 use Rattle.tb_lists.specs.Batches.{BatchText}
+use Rattle.tb_lists.specs.Found.{FoundText}
 use Rattle.tb_lists.specs.Revisions.{RevisionText}
 use Rattle.tb_lists.specs.Sentences.{SentenceText}
 
@@ -47,3 +48,15 @@ sentence_fields x = decimal x.no ∷ x.sent_id ∷ decimal x.rev ∷ decimal x.w
 -- a line for each sentence
 abbrev pub sentences_csv : List SentenceText → List ℕ
 sentences_csv sentences = csv_of (sentences_head ∷ map sentence_fields sentences)
+
+-- ---- the sentence with a `sent_id`
+
+abbrev pub found_head : List (List ℕ)
+found_head = codes "no" ∷ codes "batch" ∷ codes "rev" ∷ codes "words" ∷ codes "pulled" ∷ []
+
+abbrev pub found_fields : FoundText → List (List ℕ)
+found_fields x = decimal x.no ∷ x.batch ∷ decimal x.rev ∷ decimal x.words ∷ yes_or_no x.pulled ∷ []
+
+-- one line
+abbrev pub found_csv : FoundText → List ℕ
+found_csv found = csv_of (found_head ∷ found_fields found ∷ [])

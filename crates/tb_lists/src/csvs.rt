@@ -7,10 +7,12 @@ ghost use Rattle.tb_conllu.specs.Sunk.{AppendsPart};
 ghost use Rattle.tb_core.specs.Words.{kind_word, state_word};
 ghost use Rattle.tb_report.specs.Csv.{IsBetweenRows, IsRefused, PutsRows};
 ghost use Rattle.tb_lists.specs.Csv.{batch_fields, batches_csv, batches_head};
+ghost use Rattle.tb_lists.specs.Csv.{found_csv, found_fields, found_head};
 ghost use Rattle.tb_lists.specs.Csv.{revision_fields, revisions_csv, revisions_head};
 ghost use Rattle.tb_lists.specs.Csv.{sentence_fields, sentences_csv, sentences_head, yes_or_no};
 
 use crate::batches::BatchLine;
+use crate::found::FoundLine;
 use crate::revisions::RevisionLine;
 use crate::sentences::SentenceLine;
 use csv::{Writer, WriterBuilder};
@@ -138,10 +140,11 @@ fn put_revisions_head<W: Write + Drop>(rows: &mut Writer<W>) -> Result<(), Repor
     put_row(rows, &head)
 }
 
-fn word_of_pulled(sentence: &SentenceLine) -> &str
-    ensures { result.now ≡ yes_or_no sentence.now.pulled }
+/// By reference, since texts of one array have one lifetime.
+fn word_of_pulled(is_pulled: &bool) -> &str
+    ensures { result.now ≡ yes_or_no is_pulled.now }
 {
-    if sentence.pulled { "yes" } else { "no" }
+    if *is_pulled { "yes" } else { "no" }
 }
 
 fn put_sentence<W: Write + Drop>(
@@ -160,7 +163,7 @@ fn put_sentence<W: Write + Drop>(
             sentence.sent_id.as_bytes(),
             rev.format(sentence.rev).as_bytes(),
             words.format(sentence.words).as_bytes(),
-            word_of_pulled(sentence).as_bytes(),
+            word_of_pulled(&sentence.pulled).as_bytes(),
         ],
     )
 }
@@ -183,6 +186,37 @@ fn put_sentences_head<W: Write + Drop>(rows: &mut Writer<W>) -> Result<(), Repor
     let head = [
         "no".as_bytes(),
         "sent_id".as_bytes(),
+        "rev".as_bytes(),
+        "words".as_bytes(),
+        "pulled".as_bytes(),
+    ];
+    put_row(rows, &head)
+}
+
+fn put_found<W: Write + Drop>(rows: &mut Writer<W>, found: &FoundLine) -> Result<(), ReportFault>
+    ensures { OnOk result (PutsRows W.contents rows.old rows.new (found_fields found.now ∷ [])) }
+{
+    let mut no = Buffer::new();
+    let mut rev = Buffer::new();
+    let mut words = Buffer::new();
+    put_row(
+        rows,
+        &[
+            no.format(found.no).as_bytes(),
+            found.batch.as_bytes(),
+            rev.format(found.rev).as_bytes(),
+            words.format(found.words).as_bytes(),
+            word_of_pulled(&found.pulled).as_bytes(),
+        ],
+    )
+}
+
+fn put_found_head<W: Write + Drop>(rows: &mut Writer<W>) -> Result<(), ReportFault>
+    ensures { OnOk result (PutsRows W.contents rows.old rows.new (found_head ∷ [])) }
+{
+    let head = [
+        "no".as_bytes(),
+        "batch".as_bytes(),
         "rev".as_bytes(),
         "words".as_bytes(),
         "pulled".as_bytes(),
@@ -232,6 +266,15 @@ fn sentences_text(alloc: Global, sentences: &[SentenceLine]) -> Result<Vec<u8>, 
     let mut rows = new_rows(alloc);
     put_sentences_head(&mut rows)?;
     put_sentences(&mut rows, sentences)?;
+    finish(rows)
+}
+
+fn found_text(alloc: Global, found: &FoundLine) -> Result<Vec<u8>, ReportFault>
+    ensures { IfOk result (λ v. v.items ≡ found_csv found.now) }
+{
+    let mut rows = new_rows(alloc);
+    put_found_head(&mut rows)?;
+    put_found(&mut rows, found)?;
     finish(rows)
 }
 
@@ -311,6 +354,25 @@ pub fn csv_sentences<S: Sink>(
     ensures part { OnErr result (AppendsPart (S.held out.old) (S.held out.new) (sentences_csv sentences.now)) }
 {
     let Ok(text) = sentences_text(alloc, sentences) else {
+        return Err(ReportFault::Memory);
+    };
+    put_text(&text, out)
+}
+
+/// Writes what was found by a `sent_id`: the header line `no,batch,rev,words,pulled` and the line of the sentence. `pulled`
+/// is `yes` or `no`.
+///
+/// # Errors
+///
+/// `Memory`: no memory is left, and nothing was written. `Write`: the sink refused the text, and may have taken a
+/// first part of it. Over a sink that never refuses, `Write` never comes.
+pub fn csv_found<S: Sink>(alloc: Global, found: &FoundLine, out: &mut S) -> Result<(), ReportFault>
+    ensures written { OnOk result (Appends (S.held out.old) (S.held out.new) (found_csv found.now)) }
+    ensures memory { IfErr result (λ e. e ≡ ReportFault.Memory → out.new ≡ out.old) }
+    ensures refused { result ≡ Err ReportFault.Write → IsRefused S.IsRefusal out.new }
+    ensures part { OnErr result (AppendsPart (S.held out.old) (S.held out.new) (found_csv found.now)) }
+{
+    let Ok(text) = found_text(alloc, found) else {
         return Err(ReportFault::Memory);
     };
     put_text(&text, out)

@@ -127,7 +127,10 @@ pub fn list_batches<S: Alter>(
 }
 
 /// The row of the sentence with this number, which exists.
-fn read_sentence<S: Alter>(conn: &mut Connection<S>, number: u32) -> Result<SentenceRow, Fault>
+pub(crate) fn read_sentence<S: Alter>(
+    conn: &mut Connection<S>,
+    number: u32,
+) -> Result<SentenceRow, Fault>
     requires { 0 < number }
     ensures answered { Tells S.Store conn.old conn.new result (λ s row. (x : Sentence)
         → slice_get s.sentences (number - 1) ≡ Some x → sentence_of row ≡ sentence_record x) }
