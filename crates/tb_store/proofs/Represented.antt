@@ -1,13 +1,15 @@
 -- What a desk that stands for a state knows, and what a read leaves of it.
-use Rattle.std.proofs.Common.{◌≡◌, ℕ, Bool, ◌<◌, ◌≤◌, length, refl, sym, subst, arith, inr, Result, Ok, Err, IfErr, OnOk}
+use Rattle.std.proofs.Common.{◌≡◌, ℕ, List, Bool, ◌<◌, ◌≤◌, length, refl, sym, subst, arith, inr, Result, Ok, Err, IfErr, OnOk}
 use Rattle.std.proofs.lemmas.Option.{slice_get_within}
 use Rattle.sqlite.specs.Store.{Ghosts}
 use Rattle.sqlite.specs.Held.{Held}
 use Rattle.tb_core.specs.declared.refusals.Refusal.{Refusal}
-use Rattle.tb_core.specs.declared.refusals.Refusal.TheVariants.{NoSuchRevision}
+use Rattle.tb_core.specs.declared.refusals.Refusal.TheVariants.{NoSuchRevision, NoSuchSentence}
 use Rattle.tb_core.specs.declared.refusals.Fault.{Fault}
 use Rattle.tb_core.specs.declared.refusals.Fault.TheVariants.{Refused, Memory, Device, NotADesk, Output}
+use Rattle.tb_core.specs.Names.{Lacks}
 use Rattle.tb_core.specs.Machine.{Machine, Sentence}
+use Rattle.tb_core.specs.Acts.{ids_of}
 use Rattle.tb_core.specs.declared.limits.Limits.{Limits}
 use Rattle.tb_core.specs.Commands.{HasSentence, Command, Answer}
 use Rattle.tb_core.specs.Steps.{Steps}
@@ -16,7 +18,7 @@ use Rattle.tb_import.specs.declared.counters.ImportCounters.{ImportCounters}
 use Rattle.tb_import.specs.Planned.{IsKnown}
 use Rattle.tb_store.specs.Kept.{Kept, known_of}
 use Rattle.tb_store.specs.Represents.{Represents}
-use Rattle.tb_store.specs.Answers.{HasNoRevision, RefusesRevision}
+use Rattle.tb_store.specs.Answers.{HasNoRevision, RefusesId, RefusesRevision}
 
 module _ {S : Type 0} (g : Ghosts S) where
   pub still_stands : (d : Kept S) (conn : Held S) (s : Machine) → IsDeskOf g conn s → Represents g d s → Represents g (record d { conn = conn }) s
@@ -42,6 +44,17 @@ refuses_revision s n k Memory h = tt
 refuses_revision s n k Device h = tt
 refuses_revision s n k NotADesk h = tt
 refuses_revision s n k Output h = tt
+
+-- what is no refusal may come
+pub refuses_id : (s : Machine) (id : List ℕ) (e : Fault) → ((r : Refusal) → e ≡ Refused r → ⊥) → RefusesId s id e
+refuses_id s id (Refused r) none = absurd (none r refl)
+refuses_id s id Memory none = tt
+refuses_id s id Device none = tt
+refuses_id s id NotADesk none = tt
+refuses_id s id Output none = tt
+
+pub lacks_id : (s : Machine) (id : List ℕ) (e : Fault) → e ≡ Refused NoSuchSentence → Lacks (ids_of s.sentences) id → RefusesId s id e
+lacks_id s id e is lacks = subst (RefusesId s id) (sym is) (refl, lacks)
 
 -- the same limits, and the same number
 pub same_numbered : (command : ℕ → Command) (l k : Limits) (s : Machine) (m n : ℕ) (a : Answer) (t : Machine) → l ≡ k → m ≡ n → Steps l s (command m) a t → Steps k s (command n) a t

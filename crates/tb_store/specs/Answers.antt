@@ -9,6 +9,8 @@ use Rattle.tb_core.specs.declared.sums.Totals.{Totals}
 use Rattle.tb_core.specs.Machine.{Machine, Sentence, Revision, rev}
 use Rattle.tb_core.specs.Moves.{MoveText}
 use Rattle.tb_core.specs.Totals.{at_state, sum_moves, out_of, into}
+use Rattle.tb_core.specs.Names.{Lacks}
+use Rattle.tb_core.specs.Acts.{ids_of}
 use Rattle.tb_core.specs.Commands.{HasSentence}
 use Rattle.tb_refine.specs.Revisions.{HasRevision}
 
@@ -51,3 +53,8 @@ abbrev pub RefusesRevision : Machine → ℕ → ℕ → Fault → Type 0
 RefusesRevision s n k (Refused r) = ((r ≡ NoSuchSentence) × HasNoSentence s n) ⊎ ((r ≡ NoSuchRevision)
     × HasNoRevision s n k)
 RefusesRevision s n k _ = ⊤
+
+-- a refusal says that no sentence has the `sent_id`; any fault of the store is possible
+abbrev pub RefusesId : Machine → (sent_id : List ℕ) → Fault → Type 0
+RefusesId s id (Refused r) = (r ≡ NoSuchSentence) × Lacks (ids_of s.sentences) id
+RefusesId s id _ = ⊤

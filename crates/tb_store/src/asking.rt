@@ -16,14 +16,16 @@ ghost use Rattle.tb_refine.specs.Calls.{KnowsDesk, KnowsDeskWhere, Tells, TellsO
 ghost use Rattle.tb_tables.specs.Leaving.{FailsOnlyAs, IsFaultless};
 ghost use Rattle.tb_reads.specs.ReadOnly.{IsReadOnly};
 ghost use Rattle.tb_refine.specs.Faults.{IsNoDevice};
+ghost use Rattle.tb_lists.specs.Found.{IsFound};
 ghost use Rattle.tb_lists.specs.Sentences.{AreSentences};
+ghost use Rattle.tb_store.specs.Answers.{RefusesId};
 ghost use Rattle.tb_store.specs.Exports.{RefusesBatch};
 
 use crate::answers::Current;
 use sqlite::{Alter, Connection};
 use std::alloc::Global;
 use tb_core::{Fault, Move, Refusal, Totals, good_name};
-use tb_lists::{SentenceLine, list_sentences};
+use tb_lists::{FoundLine, SentenceLine, find_sentence, list_sentences};
 use tb_refine::{batch_number, desk_rows_are_readable, faults, read_moves};
 use tb_tables::TotalRow;
 
@@ -214,4 +216,39 @@ pub(crate) fn sentences<S: Alter>(
         return Err(Fault::Refused(Refusal::NoSuchBatch));
     };
     list_sentences(alloc, conn, number)
+}
+
+/// The sentence that was found.
+///
+/// # Errors
+///
+/// `NoSuchSentence`, where none was.
+fn there(found: Option<FoundLine>) -> Result<FoundLine, Fault>
+    ensures line { IfOk result (λ line. found ≡ Some line) }
+    ensures none { IfErr result (λ e. (e ≡ Fault.Refused Refusal.NoSuchSentence) × (found ≡ None)) }
+{
+    match found {
+        Some(line) => Ok(line),
+        None => Err(Fault::Refused(Refusal::NoSuchSentence)),
+    }
+}
+
+/// The sentence with this `sent_id`, pulled or not, with the name of its batch.
+///
+/// # Errors
+///
+/// `NoSuchSentence`, where no sentence has it.
+pub(crate) fn found<S: Alter>(conn: &mut Connection<S>, sent_id: &str) -> Result<FoundLine, Fault>
+    ensures answered { Tells S.Store conn.old conn.new result (λ s line. IsFound s sent_id.now line) }
+    ensures refused { TellsOnErr S.Store conn.old conn.new result (λ s e. RefusesId s sent_id.now e) }
+    ensures alone { (r : AnyRefusal) → result ≡ Err (Fault.Refused r) → r ≡ Refusal.NoSuchSentence }
+    ensures output { result ≢ Err Fault.Output }
+    ensures fails { KnowsDesk S.Store conn.old conn.new result }
+    ensures cause { IsFaultless S.Store conn.old conn.new → FailsOnlyAs IsNoDevice S.Store conn.old conn.new result }
+    ensures read_only { IsReadOnly S.Store conn.old conn.new (is_ok result) }
+{
+    match find_sentence(conn, sent_id) {
+        Ok(found) => there(found),
+        Err(fault) => Err(fault),
+    }
 }

@@ -34,6 +34,8 @@ ghost use Rattle.tb_store.specs.Handing.{IsNoDeviceIfFaultless, SeesTheSame, Sta
 ghost use Rattle.tb_store.specs.Handing.{TellsOpen, TellsShut, TellsWant};
 ghost use Rattle.tb_tables.specs.Leaving.{CommitsNothing};
 
+mod naming;
+
 use crate::answers::Current;
 use crate::wanting::certain;
 use crate::{asking, exporting, finding, wanting};
@@ -519,9 +521,7 @@ impl<S: Alter> Desk<S> {
     {
         exporting::batch(self.alloc, &mut self.conn, name, out)
     }
-}
 
-impl<S: Alter> Desk<S> {
     /// How many hits the query has in released text: in the current revisions of the sentences that are released. One sentence
     /// is in memory at a time.
     ///

@@ -1,0 +1,41 @@
+//! The question for the sentence that has a `sent_id`.
+
+ghost use Rattle.std.specs.Prelude.{◌≡◌, ◌≢◌, Err};
+ghost use Rattle.tb_core.specs.declared.refusals.Refusal.{Refusal as AnyRefusal};
+ghost use Rattle.tb_lists.specs.Found.{IsFound};
+ghost use Rattle.tb_store.specs.Answers.{RefusesId};
+ghost use Rattle.tb_store.specs.Blaming.{BlamesNoDevice};
+ghost use Rattle.tb_store.specs.Calls.{Does, Gives, GivesOnErr, KeepsState, KnowsItself, WritesNothing};
+ghost use Rattle.tb_store.specs.Represents.{Represents};
+ghost use Rattle.tb_tables.specs.Leaving.{CommitsNothing};
+
+use crate::asking;
+use crate::desk::Desk;
+use sqlite::Alter;
+use tb_core::{Fault, Refusal};
+use tb_lists::FoundLine;
+
+impl<S: Alter> Desk<S> {
+    /// The sentence with this `sent_id`, pulled or not: its number, the name of its batch and its current revision. It reads
+    /// no text of a revision.
+    ///
+    /// # Errors
+    ///
+    /// `NoSuchSentence`, where no sentence has it.
+    pub fn find(&mut self, sent_id: &str) -> Result<FoundLine, Fault>
+        ensures answered { Gives S.Store self.old self.new result (λ s line. IsFound s sent_id.now line) }
+        ensures refused { GivesOnErr S.Store self.old self.new result (λ s e. RefusesId s sent_id.now e) }
+        ensures alone { (r : AnyRefusal) → result ≡ Err (Fault.Refused r) → r ≡ Refusal.NoSuchSentence }
+        ensures output { result ≢ Err Fault.Output }
+        ensures fails { KnowsItself S.Store self.old self.new result }
+        ensures cause { BlamesNoDevice S.Store self.old self.new result }
+        ensures stays { Does S.Store self.old self.new result (λ s. Represents S.Store self.new s) }
+        ensures keeps_state { KeepsState S.Store self.old self.new }
+        ensures crash { WritesNothing S.Store self.old self.new }
+        ensures commits_nothing { CommitsNothing S.Store self.old.conn self.new.conn }
+        ensures doubt { self.new.in_doubt ≡ self.old.in_doubt }
+        ensures limits { self.new.limits ≡ self.old.limits }
+    {
+        asking::found(&mut self.conn, sent_id)
+    }
+}
