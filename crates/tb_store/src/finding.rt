@@ -1,6 +1,6 @@
 //! What queries find in released text.
 
-ghost use Rattle.std.specs.Prelude.{◌≡◌, ◌≢◌, ◌↔◌, List, length, Err, false, IsTrue, is_ok};
+ghost use Rattle.std.specs.Prelude.{◌≡◌, ◌≢◌, ◌↔◌, List, length, Err, false, IfErr, IfOk, IsTrue, is_ok};
 ghost use Rattle.std.specs.Io.KnownBytes.{Appends};
 ghost use Rattle.sqlite.specs.State.{HasCleanDisk};
 ghost use Rattle.sqlite.specs.Held.{state};
@@ -33,6 +33,19 @@ fn is_above(strategy: Strategy, limit: u64, number: u64) -> bool
         Strategy::Every => number > limit,
         Strategy::Shortest | Strategy::Longest => false,
     }
+}
+
+/// This number of hits, where it is not above the limit. It takes no memory.
+fn within(strategy: Strategy, limit: u64, number: u64) -> Result<u64, Fault>
+    ensures below { IfOk result (λ n. (n ≡ number) × (IsAbove strategy limit n → ⊥)) }
+    ensures above { (r : AnyRefusal) → result ≡ Err (Fault.Refused r)
+        → (r ≡ Refusal.TooManyHits) × IsAbove strategy limit number }
+    ensures fault { IfErr result (λ e. e ≡ Fault.Refused Refusal.TooManyHits) }
+{
+    if is_above(strategy, limit, number) {
+        return Err(Fault::Refused(Refusal::TooManyHits));
+    }
+    Ok(number)
 }
 
 /// How many hits the query has in released text.
@@ -78,10 +91,7 @@ pub(crate) fn number<S: Alter>(
     ensures read_only { IsReadOnly S.Store conn.old conn.new (is_ok result) }
 {
     let number = whole_number(alloc, conn, query, strategy)?;
-    if is_above(strategy, limit, number) {
-        return Err(Fault::Refused(Refusal::TooManyHits));
-    }
-    Ok(number)
+    within(strategy, limit, number)
 }
 
 /// Writes a keyword line for each hit of the query in released text, then the line with their number.

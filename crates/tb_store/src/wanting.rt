@@ -68,8 +68,8 @@ fn memory_or_device<S: Alter>(conn: &mut Connection<S>, in_doubt: &mut bool) -> 
     }
 }
 
-/// The fault of a command. It is want of memory only where the store is open, and never a sink's. The desk is in doubt
-/// where the store could not be asked.
+/// The fault of a command. It is want of memory only where the store is open. The desk is in doubt where the store could
+/// not be asked. Any other fault is handed on.
 pub(crate) fn certain<S: Alter>(
     conn: &mut Connection<S>,
     in_doubt: &mut bool,
@@ -77,9 +77,9 @@ pub(crate) fn certain<S: Alter>(
 ) -> Fault
     ensures refused { HandsOnRefusal conn.old conn.new fault result }
     ensures desk { result ≡ Fault.NotADesk → fault ≡ Fault.NotADesk }
-    ensures device { result ≡ Fault.Device → (fault ≡ Fault.Device) ⊎ ((fault ≡ Fault.Memory)
-        ⊎ (fault ≡ Fault.Output)) }
-    ensures output { result ≢ Fault.Output }
+    ensures other { fault ≢ Fault.Memory → result ≡ fault }
+    ensures device { result ≡ Fault.Device → (fault ≡ Fault.Device) ⊎ (fault ≡ Fault.Memory) }
+    ensures output { result ≡ Fault.Output → fault ≡ Fault.Output }
     ensures cause { fault ≢ Fault.Device → BlamesForWant S.Store conn.old conn.new in_doubt.new result }
     ensures doubt { PutsInDoubt S.Store conn.old conn.new in_doubt.old in_doubt.new result }
     ensures remains { IsTrue in_doubt.old → IsTrue in_doubt.new }
@@ -90,10 +90,7 @@ pub(crate) fn certain<S: Alter>(
     ensures crash { Survives (state S.Store conn.old) (state S.Store conn.new) (λ _. ⊥) }
 {
     match fault {
-        // no command has a sink that could refuse a piece
-        Fault::Memory | Fault::Output => memory_or_device(conn, in_doubt),
-        Fault::Refused(refusal) => Fault::Refused(refusal),
-        Fault::Device => Fault::Device,
-        Fault::NotADesk => Fault::NotADesk,
+        Fault::Memory => memory_or_device(conn, in_doubt),
+        other => other,
     }
 }

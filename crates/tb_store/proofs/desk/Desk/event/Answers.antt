@@ -75,7 +75,7 @@ returns-in-Err-clause-ends g c clean s stands =
     let mid = desk_kept g.S.Store c.self.inside.conn c.event.new.conn (c.in-Err.ensures.keeps_records before (c.certain.ensures.was_open clean opened)) s here.desk in
     stands_in_doubt g.S.Store _ c.certain.new.conn c.certain.new.in_doubt s (desk_kept g.S.Store c.event.new.conn c.certain.new.conn (c.certain.ensures.keeps_records clean opened) s mid) here)
     (λ none. c.event.ensures.fails before c.self.invariant.unlimited s here.desk counted (c.in-Err.is ∙ ap Err (c.certain.ensures.desk none)))
-    c.certain.ensures.output
+    (λ none. c.event.ensures.output (c.in-Err.is ∙ ap Err (c.certain.ensures.output none)))
 
 pub returns-in-Err-clause-cause : goal.returns-in-Err-clause-cause
 returns-in-Err-clause-cause g c clean s stands good is =

@@ -81,7 +81,7 @@ returns-in-Err-clause-ends g c clean s stands =
     let mid = desk_kept g.S.Store c.self.inside.conn c.import.new.conn (c.in-Err.ensures.keeps_records before (c.certain.ensures.was_open clean opened)) s here.desk in
     stands_in_doubt g.S.Store _ c.certain.new.conn c.certain.new.in_doubt s (desk_kept g.S.Store c.import.new.conn c.certain.new.conn (c.certain.ensures.keeps_records clean opened) s mid) here)
     (λ none. c.import.ensures.fails before c.self.invariant.unlimited s here.desk known (c.in-Err.is ∙ ap Err (c.certain.ensures.desk none)))
-    c.certain.ensures.output
+    (λ none. c.import.ensures.output (c.in-Err.is ∙ ap Err (c.certain.ensures.output none)))
 
 pub returns-in-Err-clause-cause : goal.returns-in-Err-clause-cause
 returns-in-Err-clause-cause g c clean s stands good room is =
