@@ -9,3 +9,4 @@ mod Surviving
 mod Rounds
 mod InMemory
 mod Joined
+mod Sought

@@ -6,12 +6,13 @@ use Rattle.tb_core.specs.declared.refusals.Refusal.TheVariants.{NoSuchSentence}
 use Rattle.tb_core.specs.Machine.{Machine}
 use Rattle.tb_http.specs.declared.replies.Reply.{Reply}
 use Rattle.tb_http.specs.declared.replies.Reply.TheVariants as reply
-use Rattle.tb_cli.specs.View.{Viewed, batches, sentences, revisions}
+use Rattle.tb_cli.specs.View.{Viewed, batches, sentences, revisions, find}
 use Rattle.tb_lists.specs.Batches.{batch_lines}
-use Rattle.tb_lists.specs.Csv.{batches_csv, revisions_csv, sentences_csv}
+use Rattle.tb_lists.specs.Csv.{batches_csv, found_csv, revisions_csv, sentences_csv}
+use Rattle.tb_lists.specs.Found.{FoundText, IsFound}
 use Rattle.tb_lists.specs.Revisions.{RevisionText, AreRevisions}
 use Rattle.tb_lists.specs.Sentences.{SentenceText, AreSentences}
-use Rattle.tb_store.specs.Answers.{HasNoSentence}
+use Rattle.tb_store.specs.Answers.{HasNoSentence, RefusesId}
 use Rattle.tb_store.specs.Exports.{RefusesBatch}
 use Rattle.tb_answer.specs.Commanded.{IsFailure}
 
@@ -23,25 +24,36 @@ IsSentencesText s name text = (lines : List SentenceText) × AreSentences s name
 abbrev pub IsRevisionsText : Machine → ℕ → List ℕ → Type 0
 IsRevisionsText s n text = (lines : List RevisionText) × AreRevisions s n lines × (text ≡ revisions_csv lines)
 
+-- the text of the sentence with this `sent_id`
+abbrev pub IsFoundText : Machine → (sent_id : List ℕ) → List ℕ → Type 0
+IsFoundText s id text = (line : FoundText) × IsFound s id line × (text ≡ found_csv line)
+
 -- the text of a list in a state
 abbrev pub IsView : Machine → Viewed → List ℕ → Type 0
 IsView s (batches db) text = text ≡ batches_csv (batch_lines s)
 IsView s (sentences db name) text = IsSentencesText s name text
 IsView s (revisions db n) text = IsRevisionsText s n text
+IsView s (find db id) text = IsFoundText s id text
 
 -- the refusal of a list in a state
 abbrev pub RefusesView : Machine → Viewed → Refusal → Type 0
 RefusesView s (batches db) r = ⊥
 RefusesView s (sentences db name) r = RefusesBatch s name (Refused r)
 RefusesView s (revisions db n) r = (r ≡ NoSuchSentence) × HasNoSentence s n
+RefusesView s (find db id) r = RefusesId s id (Refused r)
 
--- the list is one of a sentence that does not exist
+-- the list is one of a sentence whose number no sentence has
 abbrev pub ViewsNone : Machine → Viewed → Type 0
 ViewsNone s (batches db) = ⊥
 ViewsNone s (sentences db name) = ⊥
 ViewsNone s (revisions db n) = HasNoSentence s n
+ViewsNone s (find db id) = ⊥
 
--- the answer in place of a list: the refusal, or a failure of the call with this cause
-abbrev pub IsViewReported : (cause : Type 0) → Machine → Viewed → Reply → Type 0
-IsViewReported cause s v reported = ((r : Refusal) × (reported ≡ reply.Refused r) × RefusesView s v r)
+-- the answer in place of a list: a refusal that is so, or a failure of the call with this cause
+abbrev pub IsReportedAs : (cause : Type 0) → (Refusal → Type 0) → Reply → Type 0
+IsReportedAs cause IsSo reported = ((r : Refusal) × (reported ≡ reply.Refused r) × IsSo r)
     ⊎ IsFailure cause reported
+
+-- the same, with the refusal of this list
+abbrev pub IsViewReported : (cause : Type 0) → Machine → Viewed → Reply → Type 0
+IsViewReported cause s v reported = IsReportedAs cause (RefusesView s v) reported

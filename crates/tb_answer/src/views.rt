@@ -1,16 +1,18 @@
 //! The lists that `deskview` shows, as CSV.
 
 ghost use Rattle.std.specs.Prelude.{◌≡◌, Err, IfOk, IfErr, Some};
+ghost use Rattle.tb_core.specs.declared.refusals.Fault.TheVariants.{Refused};
 ghost use Rattle.tb_core.specs.Machine.{Machine};
 ghost use Rattle.tb_cli.specs.View.{viewed_by};
 ghost use Rattle.tb_lists.specs.Batches.{batch_lines};
-ghost use Rattle.tb_lists.specs.Csv.{batches_csv, revisions_csv, sentences_csv};
+ghost use Rattle.tb_lists.specs.Csv.{batches_csv, found_csv, revisions_csv, sentences_csv};
 ghost use Rattle.tb_answer.specs.Asked.{IsReportedOf};
 ghost use Rattle.tb_answer.specs.Commanded.{HasFailed, IsFailure};
 ghost use Rattle.tb_answer.specs.Exported.{IsReportedOfExport};
 ghost use Rattle.tb_answer.specs.Calls.{ReadsOnly};
-ghost use Rattle.tb_answer.specs.Viewed.{IsRevisionsText, IsSentencesText, IsView, IsViewReported, ViewsNone};
-ghost use Rattle.tb_store.specs.Answers.{HasNoSentence};
+ghost use Rattle.tb_answer.specs.Viewed.{IsFoundText, IsReportedAs, IsRevisionsText, IsSentencesText, IsView};
+ghost use Rattle.tb_answer.specs.Viewed.{IsViewReported, ViewsNone};
+ghost use Rattle.tb_store.specs.Answers.{HasNoSentence, RefusesId};
 ghost use Rattle.tb_store.specs.Calls.{Gives, GivesOnErr, KeepsState};
 ghost use Rattle.tb_store.specs.Represents.{Represents};
 
@@ -21,7 +23,10 @@ use std::alloc::Global;
 use tb_cli::ViewLine;
 use tb_core::Refusal;
 use tb_http::Reply;
-use tb_lists::{BatchLine, RevisionLine, SentenceLine, csv_batches, csv_revisions, csv_sentences};
+use tb_lists::{
+    BatchLine, FoundLine, RevisionLine, SentenceLine, csv_batches, csv_found, csv_revisions,
+    csv_sentences,
+};
 use tb_store::Desk;
 
 /// Batches as CSV.
@@ -115,6 +120,37 @@ fn revisions<S: Alter>(alloc: Global, desk: &mut Desk<S>, number: u64) -> Result
     }
 }
 
+/// What was found as CSV.
+fn found_text(alloc: Global, found: &FoundLine) -> Result<Vec<u8>, Reply>
+    ensures text { IfOk result (λ v. v.items ≡ found_csv found.now) }
+    ensures failed { IfErr result (λ r. r ≡ Reply.Memory) }
+{
+    let mut text = Vec::new(alloc);
+    match csv_found(alloc, found, &mut text) {
+        Ok(()) => Ok(text),
+        Err(_) => Err(Reply::Memory),
+    }
+}
+
+/// The sentence with this `sent_id`, pulled or not, with the name of its batch.
+///
+/// # Errors
+///
+/// `NoSuchSentence`, or a failure.
+fn find<S: Alter>(alloc: Global, desk: &mut Desk<S>, sent_id: &str) -> Result<Vec<u8>, Reply>
+    ensures answered { Gives S.Store desk.old desk.new result (λ s v. IsFoundText s sent_id.now v.items) }
+    ensures reported { GivesOnErr S.Store desk.old desk.new result (λ s r.
+        IsReportedAs (HasFailed S.Store desk.old desk.new) (λ why. RefusesId s sent_id.now (Refused why)) r) }
+    ensures keeps_state { KeepsState S.Store desk.old desk.new }
+    ensures crash { ReadsOnly S.Store desk.old desk.new }
+    ensures limits { desk.new.limits ≡ desk.old.limits }
+{
+    match desk.find(sent_id) {
+        Ok(found) => found_text(alloc, &found),
+        Err(why) => Err(reply_for_fault(why)),
+    }
+}
+
 /// The list that a line of `deskview` asks for.
 ///
 /// # Errors
@@ -134,5 +170,6 @@ pub fn view<S: Alter>(alloc: Global, line: &ViewLine, desk: &mut Desk<S>) -> Res
         ViewLine::Batches { db: _ } => batches(alloc, desk),
         ViewLine::Sentences { db: _, name } => sentences(alloc, desk, name.as_str()),
         ViewLine::Revisions { db: _, no } => revisions(alloc, desk, *no),
+        ViewLine::Find { db: _, sent_id } => find(alloc, desk, sent_id.as_str()),
     }
 }

@@ -21,16 +21,24 @@ sentences_app = with_rule (with_db (new_app (codes "sentences"))) (word_rule (co
 abbrev pub revisions_app : App
 revisions_app = with_rule (with_db (new_app (codes "revisions"))) (word_rule (codes "no"))
 
+abbrev pub find_app : App
+find_app = with_rule (with_db (new_app (codes "find"))) (word_rule (codes "sent_id"))
+
+-- the commands that list
+abbrev pub lists_app : App
+lists_app =
+    with_subcommand (with_subcommand (with_subcommand view_top batches_app.top) sentences_app.top) revisions_app.top
+
 -- the whole command
 unfoldable pub view_app : App
-view_app =
-    with_subcommand (with_subcommand (with_subcommand view_top batches_app.top) sentences_app.top) revisions_app.top
+view_app = with_subcommand lists_app find_app.top
 
 -- a command line as plain data; the first text is the value of --db
 pub data Viewed : Type 0 where
   batches : Text → Viewed
   sentences : Text → Text → Viewed
   revisions : Text → ℕ → Viewed
+  find : Text → Text → Viewed
 
 -- what the command `sentences` says with its values
 abbrev pub sentences_with : List Row → Option Viewed
@@ -40,12 +48,17 @@ sentences_with rows = with_two sentences (first_of (codes "db") rows) (formed ba
 abbrev pub revisions_with : List Row → Option Viewed
 revisions_with rows = with_two revisions (first_of (codes "db") rows) (formed number_of (first_of (codes "no") rows))
 
+-- what the command `find` says with its values
+abbrev pub find_with : List Row → Option Viewed
+find_with rows = with_two find (first_of (codes "db") rows) (first_of (codes "sent_id") rows)
+
 -- what the command with this word says with its values
 abbrev pub viewed_with : Text → List Row → Option Viewed
 viewed_with word rows =
     if bytes_eq word (codes "batches") then with_one batches (first_of (codes "db") rows)
     else if bytes_eq word (codes "sentences") then sentences_with rows
     else if bytes_eq word (codes "revisions") then revisions_with rows
+    else if bytes_eq word (codes "find") then find_with rows
     else None
 
 -- what the subcommand that clap finds says, with its values
@@ -57,3 +70,4 @@ abbrev pub viewed_by : ViewLine → Viewed
 viewed_by (line.Batches db) = batches (string_bytes db)
 viewed_by (line.Sentences db name) = sentences (string_bytes db) (string_bytes name)
 viewed_by (line.Revisions db n) = revisions (string_bytes db) n
+viewed_by (line.Find db sent_id) = find (string_bytes db) (string_bytes sent_id)

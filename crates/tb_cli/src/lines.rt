@@ -82,6 +82,7 @@ pub enum ViewLine {
     Batches { db: String },
     Sentences { db: String, name: String },
     Revisions { db: String, no: u64 },
+    Find { db: String, sent_id: String },
 }
 
 /// Why words are no line.

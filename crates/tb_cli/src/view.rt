@@ -4,7 +4,8 @@ ghost use Rattle.std.specs.Prelude.{◌≡◌, ◌≢◌, IfOk, IfErr, codes, tr
 ghost use Rattle.std.specs.String.{string_bytes};
 ghost use Rattle.clap.specs.Words.{takes, fault_of, subcommand_of, subcommand_rows_of, rows_of, found_of, first_of};
 ghost use Rattle.tb_cli.specs.Fault.{AnswersAs, ComesOnly, ReadsAs};
-ghost use Rattle.tb_cli.specs.View.{revisions_with, sentences_with, view_app, viewed_by, viewed_of, viewed_with};
+ghost use Rattle.tb_cli.specs.View.{find_with, revisions_with, sentences_with, view_app, viewed_by, viewed_of};
+ghost use Rattle.tb_cli.specs.View.{viewed_with};
 
 use crate::lines::{LineFault, ViewLine};
 use crate::reading::{entered, found_by};
@@ -47,6 +48,16 @@ fn revisions(alloc: Global, values: &ArgMatches<'_>) -> Result<ViewLine, LineFau
     Ok(ViewLine::Revisions { db, no })
 }
 
+/// A `sent_id` may be any text.
+fn find(alloc: Global, values: &ArgMatches<'_>) -> Result<ViewLine, LineFault>
+    ensures { ReadsAs (find_with (rows_of (found_of values.now))) viewed_by result }
+{
+    let sent_id = given(value(values, "sent_id"))?;
+    let db = file_in(alloc, values)?;
+    let sent_id = String::from_str(alloc, sent_id)?;
+    Ok(ViewLine::Find { db, sent_id })
+}
+
 /// The line of the command with this word, and with these values.
 fn line_of(alloc: Global, word: &str, values: &ArgMatches<'_>) -> Result<ViewLine, LineFault>
     ensures { ReadsAs (viewed_with word.now (rows_of (found_of values.now))) viewed_by result }
@@ -58,6 +69,8 @@ fn line_of(alloc: Global, word: &str, values: &ArgMatches<'_>) -> Result<ViewLin
         sentences(alloc, values)
     } else if is_word(word, "revisions") {
         revisions(alloc, values)
+    } else if is_word(word, "find") {
+        find(alloc, values)
     } else {
         Err(LineFault::Usage)
     }

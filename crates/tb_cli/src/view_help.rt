@@ -6,6 +6,7 @@ Examples:
   deskview batches --db desk.db
   deskview sentences --db desk.db news
   deskview revisions --db desk.db 7
+  deskview find --db desk.db en-7
 
 Each command reads the desk in the file that --db names, and prints a list as CSV. It changes nothing of the desk.
 `deskview help COMMAND` shows what a command takes and prints, with an example.
@@ -43,5 +44,14 @@ Columns: rev, who, kind, move. `rev` counts from 1, `who` wrote the revision, an
 the move that made it, as `treedesk moves` lists it: the import of the batch, then a correction for each.
 
 Example: deskview revisions --db desk.db 7
+
+Exit status: 0 done, 1 refused, 2 wrong words, 3 out of memory or an I/O error.";
+
+/// The end of the help of `find`.
+pub const FIND: &str = "\
+Columns: no, batch, rev, words, pulled. `no` is the number that `treedesk show` takes and `batch` the name of
+the batch, `rev` is the number of the current revision, `words` counts its words, and `pulled` is `yes` or `no`.
+
+Example: deskview find --db desk.db en-7
 
 Exit status: 0 done, 1 refused, 2 wrong words, 3 out of memory or an I/O error.";

@@ -3,10 +3,11 @@
 ghost use Rattle.std.specs.Prelude.{◌≡◌, IfOk};
 ghost use Rattle.clap.specs.Words.{app_of, new_app};
 ghost use Rattle.tb_cli.specs.Tree.{with_db, IsKnownAs};
-ghost use Rattle.tb_cli.specs.View.{batches_app, revisions_app, sentences_app, view_app, view_top};
+ghost use Rattle.tb_cli.specs.View.{batches_app, find_app, lists_app, revisions_app, sentences_app, view_app};
+ghost use Rattle.tb_cli.specs.View.{view_top};
 
 use crate::tree::{VERSION, option, with, with_sub, word};
-use crate::view_help::{BATCHES, ENDING, REVISIONS, SENTENCES};
+use crate::view_help::{BATCHES, ENDING, FIND, REVISIONS, SENTENCES};
 use clap::Command;
 use std::alloc::{AllocError, Global};
 
@@ -63,12 +64,31 @@ fn revisions<'a>(alloc: Global) -> Result<Command<'a>, AllocError>
     with(command, word(alloc, "no", "The number of the sentence"))
 }
 
-/// The whole command, with its subcommands in the order of help.
-pub fn deskview<'a>(alloc: Global) -> Result<Command<'a>, AllocError>
-    ensures { IfOk result (λ r. app_of r ≡ view_app) }
+fn find<'a>(alloc: Global) -> Result<Command<'a>, AllocError>
+    ensures { IfOk result (IsKnownAs find_app) }
+{
+    let about = "Find the sentence with a sent_id: its number, its batch and its current revision";
+    let command = reading(alloc, "find", about, FIND)?;
+    with(
+        command,
+        word(alloc, "sent_id", "The sent_id, as hits have it"),
+    )
+}
+
+/// The command with the subcommands that list.
+fn lists<'a>(alloc: Global) -> Result<Command<'a>, AllocError>
+    ensures { IfOk result (IsKnownAs lists_app) }
 {
     let command = with_sub(top(alloc), batches(alloc)?)?;
     let command = with_sub(command, sentences(alloc)?)?;
     let command = with_sub(command, revisions(alloc)?)?;
+    Ok(command)
+}
+
+/// The whole command, with its subcommands in the order of help.
+pub fn deskview<'a>(alloc: Global) -> Result<Command<'a>, AllocError>
+    ensures { IfOk result (λ r. app_of r ≡ view_app) }
+{
+    let command = with_sub(lists(alloc)?, find(alloc)?)?;
     Ok(command)
 }

@@ -25,7 +25,16 @@ fn file_of(line: &ViewLine) -> &str {
     match line {
         ViewLine::Batches { db }
         | ViewLine::Sentences { db, .. }
-        | ViewLine::Revisions { db, .. } => db.as_str(),
+        | ViewLine::Revisions { db, .. }
+        | ViewLine::Find { db, .. } => db.as_str(),
+    }
+}
+
+/// What a line asks, as far as the words for a refusal depend on it.
+fn asked_of(line: &ViewLine) -> Asked<'_> {
+    match line {
+        ViewLine::Find { sent_id, .. } => Asked::SentId(sent_id.as_str()),
+        _ => Asked::Other,
     }
 }
 
@@ -64,7 +73,7 @@ fn show<W: Sink>(rt: &HostRuntime, line: &ViewLine, opened: &mut FileDesk, out: 
         },
         Err(reply) => Outcome {
             status: put_reply(out, reply),
-            reported: reported_of_reply(rt, reply, &[], Asked::Other),
+            reported: reported_of_reply(rt, reply, &[], asked_of(line)),
         },
     }
 }

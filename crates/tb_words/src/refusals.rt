@@ -4,7 +4,7 @@ use crate::codes::words_of_line;
 use crate::queries::words_of_query;
 use crate::rules::words_of_rule;
 use crate::sentences as reported;
-use crate::words::{Page, Words};
+use crate::words::{Page, Words, shown};
 use std::alloc::Global;
 use tb_core::{Refusal, State};
 use tb_http::{Reply, RequestFault};
@@ -20,6 +20,8 @@ pub enum Asked<'a> {
     Pull,
     /// A search or a count of what this query finds.
     Query(&'a str),
+    /// The sentence with this `sent_id`.
+    SentId(&'a str),
     Other,
 }
 
@@ -80,7 +82,9 @@ fn wrong_state(alloc: Global, state: State, asked: Asked<'_>) -> Words {
             format!(in alloc; "the batch is {word}"),
             reported::PULL_STATE,
         ),
-        Asked::Event | Asked::Query(_) | Asked::Other => words_of_move(alloc, state),
+        Asked::Event | Asked::Query(_) | Asked::SentId(_) | Asked::Other => {
+            words_of_move(alloc, state)
+        }
     };
     words.on(Page::Batches)
 }
@@ -88,12 +92,26 @@ fn wrong_state(alloc: Global, state: State, asked: Asked<'_>) -> Words {
 fn stale(alloc: Global, current: u64, asked: Asked<'_>) -> Words {
     let base = match asked {
         Asked::Correction(base) => base,
-        Asked::Event | Asked::Pull | Asked::Query(_) | Asked::Other => 0,
+        Asked::Event | Asked::Pull | Asked::Query(_) | Asked::SentId(_) | Asked::Other => 0,
     };
     Words::at(
         format!(in alloc; "made on revision {base}, the current one is {current}"),
         reported::STALE,
     )
+}
+
+/// The words for a sentence that does not exist: it was asked for by its `sent_id`, or by its number.
+fn no_such_sentence(alloc: Global, asked: Asked<'_>) -> Words {
+    match asked {
+        Asked::SentId(sent_id) => {
+            let sent_id = shown(sent_id);
+            Words::at(
+                format!(in alloc; "<sent_id> {sent_id}"),
+                reported::NO_SUCH_SENT_ID,
+            )
+        }
+        _ => Words::alone(reported::NO_SUCH_SENTENCE),
+    }
 }
 
 /// The fault of a query with this code, at this place.
@@ -132,6 +150,7 @@ fn of_refusal(alloc: Global, refusal: Refusal, asked: Asked<'_>) -> Words {
         Refusal::Query(code, at) => of_query(alloc, code, at, asked),
         Refusal::WrongState(state) => wrong_state(alloc, state, asked),
         Refusal::Stale(current) => stale(alloc, current, asked),
+        Refusal::NoSuchSentence => no_such_sentence(alloc, asked),
         Refusal::SentIdTaken(sentence) => Words::at(
             format!(in alloc; "sentence {sentence} of the input"),
             reported::SENT_ID_TAKEN,

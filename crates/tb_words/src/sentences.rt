@@ -329,6 +329,9 @@ pub(crate) const NO_SUCH_BATCH: &str =
 pub(crate) const NO_SUCH_SENTENCE: &str =
     "no sentence has this number; they are counted from 1, in the order in which they were imported";
 
+pub(crate) const NO_SUCH_SENT_ID: &str =
+    "no sentence has this sent_id; copy it from the comment of the sentence, or from the start of a keyword line";
+
 pub(crate) const CORRECT_STATE: &str =
     "a sentence is corrected while it is assigned, by its worker, or submitted, by anyone else";
 

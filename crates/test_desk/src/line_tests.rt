@@ -181,6 +181,11 @@ const VIEW_LINES: &str = "\
     sentences a␣b --db=F => Sentences { db: \"F\", name: \"a b\" }\n\
     revisions --db F 7 => Revisions { db: \"F\", no: 7 }\n\
     revisions 9999999999 --db=F => Revisions { db: \"F\", no: 9999999999 }\n\
+    find --db F en-1 => Find { db: \"F\", sent_id: \"en-1\" }\n\
+    find a␣b/c --db=F => Find { db: \"F\", sent_id: \"a b/c\" }\n\
+    find --db F -- -1 => Find { db: \"F\", sent_id: \"-1\" }\n\
+    find --db F ∅ => Find { db: \"F\", sent_id: \"\" }\n\
+    find s1 => usage\n\
     batches => usage\n\
     sentences b1 => usage\n\
     sentences --db F b/1 => usage\n\
@@ -210,15 +215,20 @@ const VIEW_LINES: &str = "\
     revisions --db F --rev 1 7 => UnknownArgument 2\n\
     revisions 7 --db F --db F => ArgumentConflict 2\n\
     revisions 7 --db => InvalidValue 2\n\
+    find => MissingRequiredArgument 2\n\
+    find --db F => MissingRequiredArgument 2\n\
+    find --db F s1 s2 => UnknownArgument 2\n\
+    find --db F -1 => UnknownArgument 2\n\
     --help => DisplayHelp 0\n\
     -h => DisplayHelp 0\n\
     help => DisplayHelp 0\n\
     help revisions => DisplayHelp 0\n\
+    help find => DisplayHelp 0\n\
     batches --help => DisplayHelp 0\n\
     --version => DisplayVersion 0\n\
     \x20=> usage\n";
 
 #[test]
 fn words_of_deskview_are_read(rt: HostRuntime) {
-    assert_answers(&rt, rt.alloc(), &ViewWords, VIEW_LINES, 43)
+    assert_answers(&rt, rt.alloc(), &ViewWords, VIEW_LINES, 53)
 }

@@ -8,7 +8,7 @@ use std::test::Fail;
 use tb_answer::{DeskCommand, obey};
 use tb_core::{Move, Totals};
 use tb_http::{attribute_of, event_of, strategy_of};
-use tb_lists::{csv_batches, csv_revisions, csv_sentences};
+use tb_lists::{csv_batches, csv_found, csv_revisions, csv_sentences};
 use tb_query::{Query, parse};
 use tb_report::{csv_freq, csv_moves, csv_totals};
 use tb_store::Desk;
@@ -180,6 +180,19 @@ fn revisions_listed<S: Alter>(
     shown(alloc, answer, out.as_slice())
 }
 
+/// `find SENT_ID`: the number of the sentence, and its line.
+fn found<S: Alter>(alloc: Global, desk: &mut Desk<S>, line: &str) -> Result<String, Fail> {
+    let mut out: Vec<u8> = Vec::new(alloc);
+    let answer = match desk.find(word_at(line, 1)) {
+        Ok(found) => {
+            csv_found(alloc, &found, &mut out)?;
+            format!(in alloc; "{}", found.no)?
+        }
+        Err(fault) => format!(in alloc; "{fault}")?,
+    };
+    shown(alloc, answer, out.as_slice())
+}
+
 /// The answer to a command or a question.
 pub(crate) fn obeyed<S: Alter>(
     alloc: Global,
@@ -195,6 +208,7 @@ pub(crate) fn obeyed<S: Alter>(
         "batches" => listed(alloc, desk),
         "sentences" => sentences_listed(alloc, desk, line),
         "revisions" => revisions_listed(alloc, desk, line),
+        "find" => found(alloc, desk, line),
         "standing" => standing(alloc, desk),
         _ => commanded(alloc, desk, line),
     }

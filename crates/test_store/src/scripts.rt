@@ -18,6 +18,7 @@ pub(crate) const WORK: &str = "\
     sentences b1 => refused 2 NoSuchBatch \n\
     sentences b/1 => refused 1 BadName \n\
     sentences  => refused 1 BadName \n\
+    find s1 => refused 3 NoSuchSentence \n\
     standing => desk\n\
     \n\
     1000 1000 1000\n\
@@ -71,12 +72,16 @@ pub(crate) const WORK: &str = "\
     correct 3 1 cem dogs:dog:cat => corrected sentence=3 rev=2 words=3\n\
     pull 3 dan => pulled sentence=3 words=3\n\
     sentences b7 => 2 no,sent_id,rev,words,pulled;2,s7,1,1,no;3,s1,2,3,yes;\n\
+    find s1 => 3 no,batch,rev,words,pulled;3,b7,2,3,yes;\n\
     restore 3 dan => restored sentence=3 state=assigned words=3\n\
     revisions 1 => 3 rev,who,kind,move;1,ann,import,1;2,ann,correct,3;3,ben,correct,5;\n\
     revisions 2 => 1 rev,who,kind,move;1,ann,import,6;\n\
     revisions 3 => 2 rev,who,kind,move;1,ann,import,6;2,cem,correct,8;\n\
     revisions 4 => refused 3 NoSuchSentence \n\
     sentences b4 => 1 no,sent_id,rev,words,pulled;1,s4,3,3,no;\n\
+    find s4 => 1 no,batch,rev,words,pulled;1,b4,3,3,no;\n\
+    find s7 => 2 no,batch,rev,words,pulled;2,b7,1,1,no;\n\
+    find s9 => refused 3 NoSuchSentence \n\
     sentences b7 => 2 no,sent_id,rev,words,pulled;2,s7,1,1,no;3,s1,2,3,no;\n\
     sentences b1 => refused 2 NoSuchBatch \n\
     \n\

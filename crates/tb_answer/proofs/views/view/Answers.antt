@@ -1,10 +1,12 @@
-use Rattle.std.proofs.Common.{◌≡◌, IfErr, Some, inr, subst, sym, rules, string_bytes}
+use Rattle.std.proofs.Common.{◌≡◌, IfErr, IfOk, Some, inr, subst, sym, rules, string_bytes}
+use Rattle.tb_core.specs.declared.refusals.Fault.TheVariants.{Refused}
 use Rattle.tb_core.specs.Machine.{Machine}
+use Rattle.tb_store.specs.Answers.{RefusesId}
 use Rattle.tb_store.specs.Represents.{Represents}
 use Rattle.tb_cli.specs.View.{viewed_by}
 use Rattle.tb_answer.specs.Commanded.{HasFailed}
 use Rattle.tb_answer.specs.Exported.{IsReportedOfExport}
-use Rattle.tb_answer.specs.Viewed.{IsViewReported, ViewsNone}
+use Rattle.tb_answer.specs.Viewed.{IsFoundText, IsReportedAs, IsView, IsViewReported, ViewsNone}
 use Rattle.tb_answer.proofs.Failing.{if_err}
 use Rattle.tb_answer.proofs.views.view.Goals as goal
 
@@ -24,3 +26,15 @@ pub returns-in-Revisions-clause-reported : goal.returns-in-Revisions-clause-repo
 returns-in-Revisions-clause-reported g c clean =
     subst (λ l. IfErr c.revisions.result (λ r. (s : Machine) → Represents g.S.Store c.args.desk.now s → IsViewReported (HasFailed g.S.Store c.args.desk.now c.revisions.new.desk) s (viewed_by l) r)) (sym c.in-Revisions.is)
     (c.revisions.ensures.reported clean)
+
+pub returns-in-Find-clause-answered : goal.returns-in-Find-clause-answered
+returns-in-Find-clause-answered g c clean =
+    let id : c.as_str-in-Find.result.now ≡ string_bytes c.in-Find.sent_id = search rules in
+    subst (λ l. IfOk c.find.result (λ v. (s : Machine) → Represents g.S.Store c.args.desk.now s → IsView s (viewed_by l) v.items)) (sym c.in-Find.is)
+    (subst (λ n. IfOk c.find.result (λ v. (s : Machine) → Represents g.S.Store c.args.desk.now s → IsFoundText s n v.items)) id (c.find.ensures.answered clean))
+
+pub returns-in-Find-clause-reported : goal.returns-in-Find-clause-reported
+returns-in-Find-clause-reported g c clean =
+    let id : c.as_str-in-Find.result.now ≡ string_bytes c.in-Find.sent_id = search rules in
+    subst (λ l. IfErr c.find.result (λ r. (s : Machine) → Represents g.S.Store c.args.desk.now s → IsViewReported (HasFailed g.S.Store c.args.desk.now c.find.new.desk) s (viewed_by l) r)) (sym c.in-Find.is)
+    (subst (λ n. IfErr c.find.result (λ r. (s : Machine) → Represents g.S.Store c.args.desk.now s → IsReportedAs (HasFailed g.S.Store c.args.desk.now c.find.new.desk) (λ why. RefusesId s n (Refused why)) r)) id (c.find.ensures.reported clean))
