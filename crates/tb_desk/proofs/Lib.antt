@@ -1,2 +1,3 @@
+mod Awaiting
 mod Ran
 mod Shown

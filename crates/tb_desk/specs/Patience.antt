@@ -17,6 +17,11 @@ abbrev pub IsReadTime : (each whole elapsed : ℕ) → Option Duration → Type 
 IsReadTime each whole elapsed left =
     MatchOption left (whole ≤ elapsed) (λ d. (elapsed < whole) × (as_nanos d ≡ min (whole - elapsed) each))
 
+-- For how long the program still waits for a client, where so much time has passed since it looked last. More than a
+-- tenth of a second between two looks is time in which it answers another.
+abbrev pub wait_left : (left passed : ℕ) → ℕ
+wait_left left passed = left - min passed (milliseconds 100)
+
 -- What is left for the rest of an answer after a write of `count` bytes that took so long. Each 1,024 bytes earn a
 -- millisecond, and three seconds at most are left.
 abbrev pub answer_time : (left took count : ℕ) → ℕ

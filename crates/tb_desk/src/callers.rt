@@ -1,55 +1,68 @@
 //! Connections, and what each of them has sent of its request so far.
 
-use crate::patience::{Patient, REQUEST};
+ghost use Rattle.std.specs.Prelude.{◌≡◌, ◌≢◌, ◌↔◌, ◌≤◌, ◌<◌, ◌-◌, IsTrue, true, false, max, take, length, vec_len, Ok};
+ghost use Rattle.std.specs.Duration.{as_nanos};
+ghost use Rattle.tb_desk.specs.Arriving.{awaited_at};
+ghost use Rattle.tb_desk.specs.Patience.{wait_left};
+ghost use Rattle.tb_desk.specs.declared.arriving.Awaited.TheVariants.{Head, Nothing};
+
+use crate::arriving::{Awaited, awaited_after, next_size};
+use crate::patience::{Patient, REQUEST, left_after};
 use crate::place::Place;
-use httparse::Status;
-use httparse::spans::{EMPTY_HEADER_SPAN, parse_request};
 use std::alloc::Global;
 use std::io::{self, ErrorKind, Read};
 use std::net::TcpStream;
-use std::time::{Duration, Instant};
-use tb_http::HEAD_BYTES;
+use std::time::Duration;
+use tb_http::{HEAD_BYTES, Routes};
 
-/// The most headers that a head may have. A head with more is not accepted.
-const HEADERS: usize = 32;
+/// How many times in a row a connection is read, so that one that sends without end keeps nobody waiting. Its buffer
+/// doubles each time, so that a whole body may be taken at once.
+const READS: u32 = 12;
 
 /// A connection, and the beginning of its request, which is read as it arrives. So a client that sends its request
 /// slowly keeps nobody from the desk.
 #[derive(Drop)]
 pub(crate) struct Caller {
     stream: TcpStream,
-    since: Instant,
     room: Vec<u8>,
     /// How many bytes of the buffer are filled.
     filled: usize,
+    awaited: Awaited,
     /// Whether the connection sends nothing more.
     has_ended: bool,
-    /// Whether the request may be read without waiting for the head.
-    is_ready: bool,
-}
-
-/// Whether the head is complete, or these bytes cannot begin one.
-fn is_decided(bytes: &[u8]) -> bool {
-    let mut headers = [EMPTY_HEADER_SPAN; HEADERS];
-    !matches!(parse_request(bytes, &mut headers), Ok(Status::Partial))
+    /// For how long the desk still waits for the part that is awaited.
+    left: Duration,
+    /// Whether the desk has no room for more of the body now. Then it does not wait for the client.
+    is_held: bool,
 }
 
 /// Whether nothing has arrived yet, and the connection has no fault.
-fn is_none_yet(error: &io::Error) -> bool {
+pub(crate) fn is_none_yet(error: &io::Error) -> bool {
     error.kind() == ErrorKind::WouldBlock
         || error.kind() == ErrorKind::TimedOut
         || error.kind() == ErrorKind::Interrupted
 }
 
+/// Reads into the part of a buffer after its first bytes.
+fn read_after(mut stream: &TcpStream, room: &mut [u8], filled: usize) -> io::Result<usize>
+    ensures { length room.new ≡ length room.old }
+{
+    match room.get_mut(filled..) {
+        Some(rest) => stream.read(rest),
+        None => Ok(0),
+    }
+}
+
 impl Caller {
-    pub(crate) fn new(alloc: Global, stream: TcpStream, since: Instant) -> Caller {
+    pub(crate) fn new(alloc: Global, stream: TcpStream) -> Caller {
         Caller {
             stream,
-            since,
             room: Vec::new(alloc),
             filled: 0,
+            awaited: Awaited::Head,
             has_ended: false,
-            is_ready: false,
+            left: Duration::from_secs(REQUEST),
+            is_held: false,
         }
     }
 
@@ -57,51 +70,129 @@ impl Caller {
         &self.stream
     }
 
-    pub(crate) fn is_ready(&self) -> bool {
-        self.is_ready
+    /// The connection alone, once its request is answered.
+    pub(crate) fn into_stream(self) -> TcpStream {
+        let Caller { stream, .. } = self;
+        stream
     }
 
-    /// How long the connection has existed.
-    pub(crate) fn waited(&self, rt: &HostRuntime) -> io::Result<Duration> {
-        self.since.elapsed(rt)
+    /// Whether the request can be read without waiting.
+    pub(crate) fn is_ready(&self) -> bool
+        ensures { IsTrue result ↔ (self.now.awaited ≡ Nothing) }
+    {
+        self.awaited == Awaited::Nothing
+    }
+
+    /// Whether the head of the request has not come yet.
+    pub(crate) fn awaits_head(&self) -> bool
+        ensures { IsTrue result ↔ (self.now.awaited ≡ Head) }
+    {
+        self.awaited == Awaited::Head
+    }
+
+    /// How many bytes its buffer has beyond those for a head.
+    pub(crate) fn kept(&self) -> usize
+        ensures { result ≡ vec_len self.now.room - 8192 }
+    {
+        self.room.len().saturating_sub(HEAD_BYTES)
+    }
+
+    /// Counts the time that has passed, and returns whether the time for what is awaited is over.
+    pub(crate) fn is_late(&mut self, passed: Duration) -> bool
+        ensures late { IsTrue result ↔ (as_nanos self.new.left ≡ 0) }
+        ensures waits { self.old.is_held ≡ false
+            → as_nanos self.new.left ≡ wait_left (as_nanos self.old.left) (as_nanos passed) }
+        ensures held { self.old.is_held ≡ true → self.new.left ≡ self.old.left }
+    {
+        if !self.is_held {
+            self.left = left_after(self.left, passed);
+        }
+        self.left.is_zero()
+    }
+
+    /// Makes room for more of the request, in a buffer of at most so many bytes. Returns whether there is room. Without
+    /// memory for it, the rest is read when the connection is served.
+    fn make_room(&mut self, most: usize) -> bool
+        ensures room { IsTrue result → self.new.filled < vec_len self.new.room }
+        ensures most { vec_len self.new.room ≤ max (vec_len self.old.room) most }
+    {
+        self.is_held = false;
+        if self.filled < self.room.len() {
+            return true;
+        }
+        let size = next_size(self.room.len(), self.awaited);
+        if size > most {
+            self.is_held = true;
+            return false;
+        }
+        if self.room.resize(size, 0).is_err() {
+            self.awaited = Awaited::Nothing;
+        }
+        self.filled < self.room.len()
+    }
+
+    /// Notes that so many bytes have come. The time for a body begins when its head has come.
+    fn add(&mut self, alloc: Global, routes: &Routes, count: usize)
+        ensures body { self.old.awaited ≢ Head → self.new.awaited ≡ awaited_at self.old.awaited self.new.filled }
+        ensures room { self.new.room ≡ self.old.room }
+    {
+        self.filled = self.filled.saturating_add(count);
+        if self.awaited == Awaited::Head {
+            self.awaited = awaited_after(alloc, routes, self.said());
+            if self.awaited != Awaited::Head {
+                self.left = Duration::from_secs(REQUEST);
+            }
+        }
+        self.awaited = self.awaited.at(self.filled);
     }
 
     /// Notes the result of one read.
-    fn note(&mut self, came: io::Result<usize>) {
+    fn note(&mut self, alloc: Global, routes: &Routes, came: io::Result<usize>)
+        ensures ended { came ≡ Ok 0 → (self.new.has_ended ≡ true) × (self.new.awaited ≡ Nothing) }
+        ensures room { self.new.room ≡ self.old.room }
+    {
         match came {
             Ok(0) => {
                 self.has_ended = true;
-                self.is_ready = true;
+                self.awaited = Awaited::Nothing;
             }
-            Ok(count) => {
-                self.filled = self.filled.saturating_add(count);
-                let said = self.said();
-                self.is_ready = said.len() >= HEAD_BYTES || is_decided(said);
+            Ok(count) => self.add(alloc, routes, count),
+            Err(error) => {
+                // A connection that fails is served, and fails there.
+                if !is_none_yet(&error) {
+                    self.awaited = Awaited::Nothing;
+                }
             }
-            // A connection that fails is served, and fails there.
-            Err(error) => self.is_ready = !is_none_yet(&error),
         }
     }
 
-    /// Reads on, once, until the head is there. Without memory for the head, it is read when the connection is served.
-    pub(crate) fn hear(&mut self) {
-        if self.is_ready {
-            return;
+    /// Reads once, into a buffer of at most so many bytes. Returns whether the buffer is full, so that more may be there.
+    fn hear_once(&mut self, alloc: Global, routes: &Routes, most: usize) -> bool
+        ensures { vec_len self.new.room ≤ max (vec_len self.old.room) most }
+    {
+        if self.is_ready() || !self.make_room(most) {
+            return false;
         }
-        if self.room.is_empty() && self.room.resize(HEAD_BYTES, 0).is_err() {
-            self.is_ready = true;
-            return;
+        let came = read_after(&self.stream, self.room.as_mut_slice(), self.filled);
+        self.note(alloc, routes, came);
+        self.filled == self.room.len()
+    }
+
+    /// Reads what has come of the request, into a buffer of at most so many bytes.
+    pub(crate) fn hear(&mut self, alloc: Global, routes: &Routes, most: usize)
+        ensures { vec_len self.new.room ≤ max (vec_len self.old.room) most }
+    {
+        for _ in 0..READS {
+            if !self.hear_once(alloc, routes, most) {
+                return;
+            }
         }
-        let mut stream = &self.stream;
-        let came = match self.room.as_mut_slice().get_mut(self.filled..) {
-            Some(rest) => stream.read(rest),
-            None => Ok(0),
-        };
-        self.note(came);
     }
 
     /// What the connection has sent so far.
-    fn said(&self) -> &[u8] {
+    fn said(&self) -> &[u8]
+        ensures { result.now ≡ take self.now.filled self.now.room.items }
+    {
         self.room.get(..self.filled).unwrap_or(self.room.as_slice())
     }
 

@@ -10,6 +10,7 @@
 //! link these answers.
 #![tactic(auto)]
 
+mod arriving;
 mod callers;
 mod causes;
 mod checking;
@@ -17,6 +18,7 @@ mod contents;
 mod diagnostics;
 mod explaining;
 mod files;
+mod leaving;
 mod logs;
 mod looking;
 mod misfit;

@@ -2,15 +2,19 @@
 
 ghost use Rattle.std.specs.Prelude.{◌≡◌, ◌↔◌, ◌≤◌, IsTrue, min};
 ghost use Rattle.std.specs.Duration.{as_nanos};
-ghost use Rattle.tb_desk.specs.Patience.{IsReadTime, answer_time, seconds};
+ghost use Rattle.tb_desk.specs.Patience.{IsReadTime, answer_time, seconds, wait_left};
 
 use crate::place::Place;
 use std::io::{self, ErrorKind, Read, Write};
 use std::net::TcpStream;
 use std::time::{Duration, Instant};
 
-/// How many seconds the reads of a request may take together.
+/// How many seconds a client may take for the head of its request, and then for the body.
 pub(crate) const REQUEST: u64 = 10;
+
+/// The most milliseconds between two looks at the waiting clients that count as time of theirs. In the rest the desk
+/// answers another.
+const LOOK: u64 = 100;
 
 /// How many seconds longer a client may take for an answer than its bytes need.
 const ANSWER: u64 = 3;
@@ -44,6 +48,13 @@ fn read_time(each: Duration, whole: Duration, elapsed: Duration) -> Option<Durat
         Some(left) if !left.is_zero() => Some(shorter(left, each)),
         _ => None,
     }
+}
+
+/// For how long the desk still waits for a client, where so much time has passed since it looked last.
+pub(crate) fn left_after(left: Duration, passed: Duration) -> Duration
+    ensures { as_nanos result ≡ wait_left (as_nanos left) (as_nanos passed) }
+{
+    left.saturating_sub(shorter(passed, Duration::from_millis(LOOK)))
 }
 
 /// How long a client may take for the rest of an answer, after a write of `count` bytes that took so long.

@@ -3,87 +3,64 @@
 use crate::callers::Caller;
 use crate::causes::{Cause, PortCause};
 use crate::diagnostics::{Diagnostic, Outcome, put_memory};
-use crate::patience::{Answer, Patient, has_changed};
+use crate::patience::{Answer, has_changed};
 use crate::place::Place;
 use crate::waiting::Waiting;
 use sqlite::Alter;
 use std::alloc::Global;
-use std::io::{self, BufWriter, Read, Write};
-use std::net::{Ipv4Addr, Shutdown, TcpListener, TcpStream};
+use std::io::{BufWriter, Write};
+use std::net::{Ipv4Addr, TcpListener, TcpStream};
 use tb_answer::{Broken, answer, put_reply, respond_reply};
-use tb_http::{BODY_BYTES, Reply, Routes, Status};
+use tb_http::{Reply, Routes, Status};
 use tb_store::Desk;
 
-/// The time limits for a client after its answer, in seconds: between two pieces that it still sends, and in all.
-const FAREWELL: u64 = 1;
-
-const WHOLE_FAREWELL: u64 = 2;
-
 const BUFFER: usize = 65_536;
-
-/// Reads what a client still sends after its answer. If the connection were closed at once, bytes on their way would
-/// make the system discard the answer.
-fn take_rest<'a>(rt: &'a HostRuntime, stream: &'a TcpStream) -> io::Result<()> {
-    stream.shutdown(Shutdown::Write)?;
-    let mut rest = [0; 4096];
-    let patient = Patient::new(rt, stream, None, FAREWELL, WHOLE_FAREWELL)?;
-    let mut reader = patient.take(BODY_BYTES as u64 * 2);
-    for _ in 0..u64::MAX {
-        if reader.read(&mut rest)? == 0 {
-            return Ok(());
-        }
-    }
-    Ok(())
-}
-
-/// Ends the connection of a client that has its answer. A connection that fails meanwhile has ended too.
-fn part<'a>(rt: &'a HostRuntime, stream: &'a TcpStream) {
-    let _ = take_rest(rt, stream);
-}
 
 /// Answers that a request is not done. This needs no memory.
 fn refuse<'a>(rt: &'a HostRuntime, stream: &'a TcpStream, reply: Reply) {
     let mut out = Answer::new(rt, stream);
     let _ = respond_reply(&mut out, reply);
-    part(rt, stream);
 }
 
-/// Reads one request of a connection and answers it. Returns the cause if the desk cannot be served any further.
+/// Reads one request of a connection and answers it. Returns whether the client has a whole answer.
 ///
 /// Where the desk's files are no longer in their place, nothing is done. A connection that fails counts as served.
+///
+/// # Errors
+///
+/// The cause, if the desk cannot be served any further. The client has an answer then.
 fn serve_one<'a, S: Alter>(
     rt: &'a HostRuntime,
     routes: &Routes,
     desk: &mut Desk<S>,
     place: Option<&'a Place>,
     caller: &'a Caller,
-) -> Option<Cause> {
+) -> Result<bool, Cause> {
     let stream = caller.stream();
     if has_changed(rt, place) {
         refuse(rt, stream, Reply::Device);
-        return Some(Cause::FilesMoved);
+        return Err(Cause::FilesMoved);
     }
     let Ok(mut reader) = caller.request(rt, place) else {
-        return None;
+        return Ok(false);
     };
     let Ok(mut out) = BufWriter::with_capacity(rt.alloc(), BUFFER, Answer::new(rt, stream)) else {
         refuse(rt, stream, Reply::Memory);
-        return None;
+        return Ok(true);
     };
     let answered = answer(rt.alloc(), routes, desk, &mut reader, &mut out);
     let _ = out.flush();
     match answered {
         Err(Broken::Read) if has_changed(rt, place) => {
             refuse(rt, stream, Reply::Device);
-            Some(Cause::FilesMoved)
+            Err(Cause::FilesMoved)
         }
-        Err(_) => None,
+        Err(_) => Ok(false),
         Ok(status) => {
-            part(rt, stream);
             if status == Status::ServiceUnavailable && matches!(desk.is_open(), Ok(false)) {
-                Some(Cause::FileShut)
+                Err(Cause::FileShut)
             } else {
-                None
+                Ok(true)
             }
         }
     }
@@ -121,14 +98,20 @@ fn serve_all<S: Alter>(
     requests: u64,
 ) -> Result<(), Cause> {
     for _ in 0..requests {
-        let Ok(next) = waiting.next(rt, &listener) else {
+        let Ok(next) = waiting.next(rt, &routes, &listener) else {
             return Err(Cause::NoConnections);
         };
         let Some(caller) = next else { continue };
-        if let Some(cause) = serve_one(rt, &routes, desk, place, &caller) {
+        let served = serve_one(rt, &routes, desk, place, &caller);
+        if !matches!(served, Ok(false)) {
+            waiting.part(caller);
+        }
+        if let Err(cause) = served {
+            waiting.part_all(rt);
             return Err(cause);
         }
     }
+    waiting.part_all(rt);
     Ok(())
 }
 

@@ -1,0 +1,66 @@
+//! Connections whose client has its answer. Their end keeps nobody from the desk.
+
+use crate::callers::is_none_yet;
+use crate::patience::left_after;
+use std::io::{self, Read};
+use std::net::{Shutdown, TcpStream};
+use std::time::Duration;
+use tb_http::BODY_BYTES;
+
+/// How many seconds a client has after its answer, for what it still sends.
+const FAREWELL: u64 = 2;
+
+/// How many milliseconds the server waits for the client's end at once. Nearly every client ends when it has its
+/// answer.
+const FIRST: u64 = 20;
+
+/// How many times in a row a connection is read.
+const READS: u32 = 4;
+
+/// A connection whose client has its answer. What the client still sends is read and thrown away. If the connection were
+/// closed at once, bytes on their way would make the system discard the answer.
+#[derive(Drop)]
+pub(crate) struct Leaver {
+    stream: TcpStream,
+    left: Duration,
+    /// How many bytes more are read.
+    most: usize,
+}
+
+impl Leaver {
+    /// Ends the answer. Returns `None` where the client has ended the connection too.
+    pub(crate) fn new(stream: TcpStream) -> io::Result<Option<Leaver>> {
+        stream.shutdown(Shutdown::Write)?;
+        stream.set_read_timeout(Some(Duration::from_millis(FIRST)))?;
+        let mut leaver = Leaver {
+            stream,
+            left: Duration::from_secs(FAREWELL),
+            most: BODY_BYTES * 2,
+        };
+        if leaver.has_ended() {
+            return Ok(None);
+        }
+        leaver.stream.set_nonblocking(true)?;
+        Ok(Some(leaver))
+    }
+
+    /// Reads some of what the client still sends. Returns whether it sends nothing more, or more than a request has.
+    fn has_ended(&mut self) -> bool {
+        let mut rest = [0; 16_384];
+        for _ in 0..READS {
+            let mut stream = &self.stream;
+            match stream.read(&mut rest) {
+                Ok(0) => return true,
+                Ok(count) => self.most = self.most.saturating_sub(count),
+                Err(error) => return !is_none_yet(&error),
+            }
+        }
+        self.most == 0
+    }
+
+    /// Whether the connection is to be closed, where so much time has passed since the last look.
+    pub(crate) fn has_gone(&mut self, passed: Duration) -> bool {
+        self.left = left_after(self.left, passed);
+        self.has_ended() || self.left.is_zero()
+    }
+}
