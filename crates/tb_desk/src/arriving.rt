@@ -23,7 +23,7 @@ const HEADERS: usize = 32;
 const BODIES: usize = 12_582_912;
 
 /// What a connection still has to send before its request can be read without waiting.
-#[derive(Clone, Copy, Debug, PartialEq, Eq)]
+#[derive(Clone, Copy, PartialEq, Eq)]
 pub(crate) enum Awaited {
     /// The rest of the head.
     Head,

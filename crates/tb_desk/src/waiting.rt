@@ -80,7 +80,11 @@ impl Waiting {
 
     /// Drops the oldest connection that has sent no head, to make room for another. Where all have, it drops the oldest.
     fn let_one_go(&mut self) {
-        let at = self.callers.iter().position(Caller::awaits_head).unwrap_or(0);
+        let at = self
+            .callers
+            .iter()
+            .position(Caller::awaits_head)
+            .unwrap_or(0);
         if at < self.callers.len() {
             let _ = self.callers.remove(at);
         }
