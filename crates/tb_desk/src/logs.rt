@@ -1,6 +1,6 @@
 //! Whether a log holds commits of another desk, by its bytes. Then `new` does not write over it.
 
-ghost use Rattle.std.specs.Prelude.{◌≡◌, ◌⊎◌, [], false, IfOk, IsTrue};
+ghost use Rattle.std.specs.Prelude.{◌≡◌, ◌⊎◌, [], false, IfErr, IfOk, IsTrue};
 ghost use Rattle.sqlite_disk.specs.Memory.{memory_bytes, memory_is_usable};
 ghost use Rattle.sqlite_wal.specs.PageSize.{bytes_of};
 ghost use Rattle.tb_desk.specs.Contents.{AreBegun, HasBegunAlone, MayBeOwnLog};
@@ -15,6 +15,7 @@ use std::alloc::Global;
 fn log_of(alloc: Global, bytes: &[u8]) -> Result<Memory, FileCause>
     ensures usable { IfOk result (λ log. IsTrue (memory_is_usable log)) }
     ensures holds { IfOk result (λ log. memory_bytes log ≡ bytes.now) }
+    ensures failed { IfErr result (λ cause. cause ≡ FileCause.Memory) }
 {
     let mut log = Memory::new(alloc);
     match log.write_at(0, bytes) {
@@ -43,7 +44,8 @@ fn has_other_pages(
 ) -> Result<bool, FileCause>
     requires usable { IsTrue (memory_is_usable log.old) }
     requires holds { memory_bytes log.old ≡ bytes.now }
-    ensures { IfOk result (λ has. has ≡ false → HasBegunAlone (bytes_of size) bytes.now) }
+    ensures none { IfOk result (λ has. has ≡ false → HasBegunAlone (bytes_of size) bytes.now) }
+    ensures failed { IfErr result (λ cause. cause ≡ FileCause.Memory) }
 {
     match probe_frames(alloc, log, size) {
         Ok(pages) => Ok(are_others(bytes, &pages)),
@@ -55,7 +57,8 @@ fn has_other_pages(
 /// Whether a log has commits other than the first page that `new` writes. Bytes that are no log count as commits,
 /// unless they may be a log whose header was not written yet.
 pub(crate) fn has_commits(alloc: Global, bytes: &[u8]) -> Result<bool, FileCause>
-    ensures { IfOk result (λ has. has ≡ false → MayBeOwnLog bytes.now) }
+    ensures none { IfOk result (λ has. has ≡ false → MayBeOwnLog bytes.now) }
+    ensures failed { IfErr result (λ cause. cause ≡ FileCause.Memory) }
 {
     let mut files = Files {
         log: log_of(alloc, bytes)?,
