@@ -1,5 +1,5 @@
 -- Names that rise strictly are in order, and none comes twice.
-use Rattle.std.proofs.Common.{◌≡◌, ℕ, suc, zero, ◌<◌, ◌≤◌, get_or, List, [], ◌∷◌, length, drop, map, Bool, true, false, ◌&&◌, ◌||◌, refl, sym, ◌∙◌, ap, arith, inl, inr, Option, Some, None, Bor}
+use Rattle.std.proofs.Common.{◌≡◌, ℕ, suc, zero, ◌<◌, ◌≤◌, get_or, List, [], ◌∷◌, length, drop, map, Bool, true, false, not, ◌&&◌, ◌||◌, refl, sym, ◌∙◌, ap, arith, inl, inr, Option, Some, None, Bor}
 use Rattle.std.specs.Prelude.{◌==◌, nat_lt, IfSome, is_some}
 use Rattle.std.specs.Char.{to_ascii_lowercase}
 use Rattle.std.specs.List.{list_any, list_all, position_or_len, before_first, after_first, slice_split, onto_first}
@@ -27,6 +27,16 @@ not_after [] ys h = refl
 not_after (x ∷ xs) [] h = h
 not_after (x ∷ xs) (y ∷ ys) h =
     weaken (nat_lt (to_ascii_lowercase x) (to_ascii_lowercase y)) (to_ascii_lowercase x == to_ascii_lowercase y) (is_below xs ys) (is_not_after xs ys) (not_after xs ys) h
+
+otherwise : (a b : ℕ) (p q : Bool) → p ≡ not q → (nat_lt a b || (a == b && p)) ≡ not (nat_lt b a || (b == a && q))
+otherwise a b p true h = rw h (grind (arith, nat_tests))
+otherwise a b p false h = rw h (grind (arith, nat_tests))
+
+pub not_after_by : (xs ys : List ℕ) → is_not_after xs ys ≡ not (is_below ys xs)
+not_after_by [] [] = refl
+not_after_by [] (y ∷ ys) = refl
+not_after_by (x ∷ xs) [] = refl
+not_after_by (x ∷ xs) (y ∷ ys) = otherwise (to_ascii_lowercase x) (to_ascii_lowercase y) (is_not_after xs ys) (is_below ys xs) (not_after_by xs ys)
 
 not_below_itself : (a : ℕ) (p : Bool) → p ≡ false → (nat_lt a a || (a == a && p)) ≡ false
 not_below_itself a true h = absurd (let e : true ≡ false = h in cc)

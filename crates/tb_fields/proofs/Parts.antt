@@ -1,10 +1,9 @@
 -- one part of a text after another, as a loop over `split_once` meets them
-use Rattle.std.proofs.Common.{◌≡◌, ℕ, suc, ◌<◌, ◌≤◌, List, [], ◌∷◌, length, drop, get_or, map, Bool, true, false, not, ◌&&◌, ◌||◌, refl, sym, ◌∙◌, ap, arith}
+use Rattle.std.proofs.Common.{◌≡◌, ℕ, ◌<◌, List, [], ◌∷◌, length, drop, get_or, map, Bool, true, false, not, ◌&&◌, ◌||◌, refl, sym, ◌∙◌, ap, arith}
 use Rattle.std.specs.List.{list_any, list_all, position_or_len, before_first}
 use Rattle.std.specs.Str.{bytes_eq}
-use Rattle.std.proofs.Math.Seq.{take-length, drop-cons}
-use Rattle.std.proofs.lemmas.List.{drop_all}
-use Rattle.tb_fields.specs.Feats.{is_label, is_capital_or_digit, is_letter_or_digit, is_layer, is_closing, is_opening, is_name, are_distinct, are_values, is_feature, feature_name, precedes, are_in_order, are_features, is_not_after}
+use Rattle.std.proofs.Math.Seq.{take-length}
+use Rattle.tb_fields.specs.Feats.{is_label, is_capital_or_digit, is_letter_or_digit, is_layer, is_closing, is_opening, is_name, are_distinct, are_values, is_feature, feature_name, precedes, are_in_order, are_features}
 use Rattle.tb_fields.proofs.Places.{list_any-from_no_place}
 
 pub and_true : (b : Bool) → (b && true) ≡ b
@@ -75,10 +74,3 @@ is_name-plain bs none =
 pub is_label-cons : (bs : List ℕ) → 0 < length bs → is_label bs ≡ (is_capital_or_digit (get_or bs 0 0) && list_all is_letter_or_digit (drop 1 bs))
 is_label-cons [] h = absurd (omega arith)
 is_label-cons (b ∷ bs) h = refl
-
--- what is longer is after what it begins with
-longer : (x : ℕ) (xs ys : List ℕ) → ys ≡ [] → is_not_after (x ∷ xs) ys ≡ false
-longer x xs ys e = ap (is_not_after (x ∷ xs)) e
-
-pub is_not_after-shorter : (xs ys : List ℕ) (i : ℕ) → i < length xs → length ys ≤ i → is_not_after (drop i xs) (drop i ys) ≡ false
-is_not_after-shorter xs ys i l h = rw (drop-cons xs i 0 l) (longer (get_or xs i 0) (drop (suc i) xs) (drop i ys) (drop_all i ys h))

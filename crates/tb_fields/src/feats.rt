@@ -7,7 +7,7 @@ ghost use Rattle.tb_fields.specs.Feats.{is_not_after, precedes, are_features, is
 
 use crate::blank::is_blank_field;
 use crate::repeats::comes_first;
-use crate::rising::holds_rising_features;
+use crate::rising::{holds_rising_features, is_below};
 use std::alloc::{AllocError, Global};
 use std::collections::BTreeSet;
 
@@ -181,26 +181,6 @@ fn name_of(item: &str) -> &str
     }
 }
 
-/// Whether the first is before the second in the order of bytes, or equal to it. ASCII case does not matter.
-fn is_in_order(first: &[u8], second: &[u8]) -> bool
-    ensures { result ≡ is_not_after first.now second.now }
-{
-    for (i, byte) in first.iter().enumerate() {
-        if i >= second.len() {
-            return false;
-        }
-        let here = byte.to_ascii_lowercase();
-        let there = second[i].to_ascii_lowercase();
-        if here < there {
-            return true;
-        }
-        if there < here {
-            return false;
-        }
-    }
-    true
-}
-
 /// Whether a feature of the text has the name.
 fn has_name(name: &str, text: &str) -> bool
     ensures { result ≡ list_any (bytes_eq name.now) (map feature_name (slice_split is_bar text.now)) }
@@ -218,7 +198,7 @@ fn has_name(name: &str, text: &str) -> bool
 fn are_names_in_order(name: &str, item: &str) -> bool
     ensures { result ≡ is_not_after name.now (feature_name item.now) }
 {
-    is_in_order(name.as_bytes(), name_of(item).as_bytes())
+    !is_below(name_of(item).as_bytes(), name.as_bytes())
 }
 
 /// Whether the name is before that of the first feature of the text, or equal to it.

@@ -8,7 +8,7 @@ ghost use Rattle.tb_fields.specs.Rising.{is_below};
 use crate::feats::{is_label_text, is_name_text};
 
 /// Whether the first is strictly before the second in the order of bytes. ASCII case does not matter.
-fn is_below(first: &[u8], second: &[u8]) -> bool
+pub(crate) fn is_below(first: &[u8], second: &[u8]) -> bool
     ensures { result ≡ is_below first.now second.now }
 {
     for (i, byte) in first.iter().enumerate() {
