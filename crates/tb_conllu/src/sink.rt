@@ -10,7 +10,7 @@ ghost use Rattle.tb_conllu.specs.Tries.{Answers, HasGivenUp, HasStopped, HasTake
 
 use crate::fault::WriteFault;
 use std::alloc::AllocError;
-use std::io::{ErrorKind, Write};
+use std::io::{self, ErrorKind, Write};
 
 /// Takes bytes, one piece after another.
 ///
@@ -45,6 +45,17 @@ pub(crate) enum Stop {
     Interrupted,
     /// It failed.
     Failed,
+}
+
+impl Stop {
+    /// Why a call of std failed.
+    pub(crate) fn of(error: io::Error) -> Stop {
+        if error.kind() == ErrorKind::Interrupted {
+            Stop::Interrupted
+        } else {
+            Stop::Failed
+        }
+    }
 }
 
 /// Takes bytes, some at a time.
@@ -82,13 +93,7 @@ impl<W: Write> PartWriter for W {
     fn write_once(&mut self, bytes: &[u8]) -> Result<usize, Stop> {
         match self.write(bytes) {
             Ok(count) => Ok(count),
-            Err(error) => {
-                if error.kind() == ErrorKind::Interrupted {
-                    Err(Stop::Interrupted)
-                } else {
-                    Err(Stop::Failed)
-                }
-            }
+            Err(error) => Err(Stop::of(error)),
         }
     }
 }

@@ -9,7 +9,7 @@ ghost use Rattle.tb_conllu.specs.Tries.{Answers, HasFailed, HasRead};
 
 use crate::sink::Stop;
 use std::convert::Infallible;
-use std::io::{ErrorKind, Read};
+use std::io::Read;
 
 /// Gives bytes, some at a time.
 ///
@@ -74,13 +74,7 @@ impl<R: Read> PartReader for R {
     fn read_once(&mut self, buf: &mut [u8]) -> Result<usize, Stop> {
         match self.read(buf) {
             Ok(count) => Ok(count),
-            Err(error) => {
-                if error.kind() == ErrorKind::Interrupted {
-                    Err(Stop::Interrupted)
-                } else {
-                    Err(Stop::Failed)
-                }
-            }
+            Err(error) => Err(Stop::of(error)),
         }
     }
 }
