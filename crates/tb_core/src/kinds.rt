@@ -12,8 +12,9 @@ pub enum State {
 }
 
 impl State {
-    ghost use Rattle.std.specs.Prelude.{◌≡◌};
+    ghost use Rattle.std.specs.Prelude.{◌≡◌, ◌<◌};
     ghost use Rattle.tb_core.specs.Words.{state_word};
+    ghost use Rattle.tb_core.specs.Events.{state_place};
 
     /// The word for the state. Takes no memory.
     pub fn word(self) -> &'static str
@@ -26,6 +27,21 @@ impl State {
             State::Adjudicated => "adjudicated",
             State::Released => "released",
             State::Withdrawn => "withdrawn",
+        }
+    }
+
+    /// Its place among the six, from 0. Takes no memory.
+    pub fn place(self) -> usize
+        ensures place { result ≡ state_place self }
+        ensures bound { result < 6 }
+    {
+        match self {
+            State::Opened => 0,
+            State::Assigned => 1,
+            State::Submitted => 2,
+            State::Adjudicated => 3,
+            State::Released => 4,
+            State::Withdrawn => 5,
         }
     }
 }

@@ -1,7 +1,7 @@
 //! Totals of the six states, updated with each move. Nothing here takes memory.
 
 ghost use Rattle.std.specs.Prelude.{◌≡◌, ◌↔◌, ◌<◌, ◌+◌, ◌-◌, ◌^◌, IsTrue};
-ghost use Rattle.tb_core.specs.Events.{state_place, is_state};
+ghost use Rattle.tb_core.specs.Events.{is_state};
 ghost use Rattle.tb_core.specs.Machine.{when};
 ghost use Rattle.tb_core.specs.Totals.{is_from, at_state, HasEnough, HasSpace, Shifts};
 ghost use Rattle.tb_core.specs.declared.kinds.State.{State as AnyState};
@@ -53,28 +53,13 @@ impl Totals {
     }
 }
 
-/// The place of a state among the six, from 0.
-fn place_of(state: State) -> usize
-    ensures place { result ≡ state_place state }
-    ensures bound { result < 6 }
-{
-    match state {
-        State::Opened => 0,
-        State::Assigned => 1,
-        State::Submitted => 2,
-        State::Adjudicated => 3,
-        State::Released => 4,
-        State::Withdrawn => 5,
-    }
-}
-
 /// Whether the state that is left has as much as leaves it.
 fn has_enough(sums: &[u64; 6], from: Option<State>, leaving: u64) -> bool
     ensures { IsTrue result ↔ HasEnough sums.now from leaving }
 {
     match from {
         None => true,
-        Some(state) => leaving <= sums[place_of(state)],
+        Some(state) => leaving <= sums[state.place()],
     }
 }
 
@@ -93,7 +78,7 @@ fn has_space(sums: &[u64; 6], from: Option<State>, to: State, leaving: u64, comi
     requires { HasEnough sums.now from leaving }
     ensures { IsTrue result ↔ HasSpace sums.now from to leaving coming }
 {
-    let rest = sums[place_of(to)] - leaving_it(from, to, leaving);
+    let rest = sums[to.place()] - leaving_it(from, to, leaving);
     coming <= u64::MAX - rest
 }
 
@@ -102,7 +87,7 @@ fn take_out(sums: &mut [u64; 6], from: Option<State>, leaving: u64)
     ensures { (st : AnyState) → at_state sums.new st ≡ at_state sums.old st - when (is_from from st) leaving }
 {
     if let Some(state) = from {
-        sums[place_of(state)] -= leaving;
+        sums[state.place()] -= leaving;
     }
 }
 
@@ -110,7 +95,7 @@ fn put_in(sums: &mut [u64; 6], to: State, coming: u64)
     requires { at_state sums.old to + coming < 2 ^ 64 }
     ensures { (st : AnyState) → at_state sums.new st ≡ at_state sums.old st + when (is_state to st) coming }
 {
-    sums[place_of(to)] += coming;
+    sums[to.place()] += coming;
 }
 
 fn shift(sums: &mut [u64; 6], from: Option<State>, to: State, leaving: u64, coming: u64)

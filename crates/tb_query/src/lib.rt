@@ -22,6 +22,7 @@ pub use laws::{
     a_query_has_no_fault, a_text_asks_one_thing, a_text_has_one_fault, a_text_has_one_reading,
     each_text_is_reported, literals_are_in_order,
 };
+pub use prepared::value_of;
 pub use query::Query;
 pub use reading::parse;
 pub use searcher::Searcher;

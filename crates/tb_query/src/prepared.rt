@@ -80,7 +80,7 @@ pub(crate) fn prepare_exprs(
 }
 
 /// The value of a column.
-fn value_of<T: Text>(attr: Attr, row: &RowOf<T>) -> &str
+pub fn value_of<T: Text>(attr: Attr, row: &RowOf<T>) -> &str
     ensures { result.now ≡ value_of attr row.now }
 {
     match attr {

@@ -3,7 +3,7 @@
 ghost use Rattle.std.specs.Prelude.{◌≡◌, ◌↔◌, ◌+◌, ◌<◌, ◌≤◌, ◌^◌, length, IsTrue, IsSome};
 ghost use Rattle.std.specs.Prelude.{IfSome};
 ghost use Rattle.tb_core.specs.declared.kinds.State.{State as AnyState};
-ghost use Rattle.tb_core.specs.Events.{state_place, is_state};
+ghost use Rattle.tb_core.specs.Events.{is_state};
 ghost use Rattle.tb_core.specs.Machine.{Machine, when};
 ghost use Rattle.tb_core.specs.Totals.{at_state, AreTotalsOf};
 ghost use Rattle.tb_replay.specs.Summaries.{entries_of};
@@ -12,21 +12,6 @@ ghost use Rattle.tb_replay.specs.Sums.{entry_state, last_count};
 
 use crate::rows::{BatchRow, Revision, SentenceSummary};
 use tb_core::{State, Totals};
-
-/// The place of a state among the six, from 0.
-fn place_of(state: State) -> usize
-    ensures place { result ≡ state_place state }
-    ensures bound { result < 6 }
-{
-    match state {
-        State::Opened => 0,
-        State::Assigned => 1,
-        State::Submitted => 2,
-        State::Adjudicated => 3,
-        State::Released => 4,
-        State::Withdrawn => 5,
-    }
-}
 
 /// The state of a sentence: withdrawn where it is pulled, else that of its batch.
 fn state_of(batches: &[BatchRow<'_>], entry: &SentenceSummary<'_>) -> State
@@ -58,7 +43,7 @@ fn add(sums: &mut [u64; 6], state: State, more: u64) -> bool
     ensures added { IsTrue result → (st : AnyState) → at_state sums.new st ≡ at_state sums.old st + when
         (is_state state st) more }
 {
-    let place = place_of(state);
+    let place = state.place();
     let Some(sum) = sums[place].checked_add(more) else {
         return false;
     };

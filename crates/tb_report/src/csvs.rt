@@ -4,7 +4,6 @@ ghost use Rattle.std.specs.Prelude.{◌≡◌, [], ◌∷◌, Err, IfErr, IfOk, 
 ghost use Rattle.std.specs.Io.KnownBytes.{Appends, Keeps};
 ghost use Rattle.csv.specs.Writing.{text_written};
 ghost use Rattle.tb_conllu.specs.Sunk.{AppendsPart};
-ghost use Rattle.tb_core.specs.Events.{state_place};
 ghost use Rattle.tb_core.specs.Words.{kind_word, state_word};
 ghost use Rattle.tb_report.specs.Csv.{IsBetweenRows, IsRefused, PutsRows, freq_csv, freq_fields, from_word};
 ghost use Rattle.tb_report.specs.Csv.{move_fields, moves_csv, moves_head, totals_csv, totals_fields};
@@ -51,20 +50,6 @@ fn put_ranks<W: Write + Drop>(rows: &mut Writer<W>, ranks: &[Rank<'_>]) -> Resul
     Ok(())
 }
 
-/// The place of a state among the six, from 0.
-fn place(state: State) -> usize
-    ensures { result ≡ state_place state }
-{
-    match state {
-        State::Opened => 0,
-        State::Assigned => 1,
-        State::Submitted => 2,
-        State::Adjudicated => 3,
-        State::Released => 4,
-        State::Withdrawn => 5,
-    }
-}
-
 fn put_state<W: Write + Drop>(
     rows: &mut Writer<W>,
     totals: &Totals,
@@ -72,7 +57,7 @@ fn put_state<W: Write + Drop>(
 ) -> Result<(), ReportFault>
     ensures { OnOk result (PutsRows W.contents rows.old rows.new (totals_fields totals.now state ∷ [])) }
 {
-    let place = place(state);
+    let place = state.place();
     let mut sentences = Buffer::new();
     let mut words = Buffer::new();
     put_row(

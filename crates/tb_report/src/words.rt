@@ -9,6 +9,7 @@ ghost use Rattle.tb_report.specs.Keywords.{joined};
 
 use std::alloc::AllocError;
 use tb_conllu::{RowOf, Sink, Text, is_word_row};
+use tb_query::value_of;
 use tb_syntax::Attr;
 
 /// The rows after the first `words` words.
@@ -27,20 +28,6 @@ pub(crate) fn after_words<T: Text>(rows: &[RowOf<T>], words: usize) -> &[RowOf<T
         rest = more;
     }
     rest
-}
-
-/// The value of a column.
-fn value_of<T: Text>(column: Attr, row: &RowOf<T>) -> &str
-    ensures { result.now ≡ value_of column row.now }
-{
-    match column {
-        Attr::Form => row.form.text(),
-        Attr::Lemma => row.lemma.text(),
-        Attr::Upos => row.upos.text(),
-        Attr::Xpos => row.xpos.text(),
-        Attr::Feats => row.feats.text(),
-        Attr::Deprel => row.deprel.text(),
-    }
 }
 
 /// Writes a text, after a space if it is not the first.
