@@ -22,6 +22,26 @@ pub struct TenFields<'a> {
     pub misc: &'a str,
 }
 
+/// The ten fields: the first, each of the next eight, and the last. The reader goes on by one field each time.
+macro_rules! fields_by {
+    ($first:expr, $next:expr, $last:expr) => {
+        TenFields {
+            id: $first,
+            form: $next,
+            lemma: $next,
+            upos: $next,
+            xpos: $next,
+            feats: $next,
+            head: $next,
+            deprel: $next,
+            deps: $next,
+            misc: $last,
+        }
+    };
+}
+
+pub(crate) use fields_by;
+
 /// The first field of a line, and the text after its tab; `None` where no tab is left.
 fn next_field(line: &str) -> Option<(&str, &str)>
     ensures { MatchOption result (fields line.now ≡ line.now ∷ []) (λ p.

@@ -11,7 +11,7 @@ ghost use Rattle.tb_conllu.specs.TenFields.{list_of};
 ghost use Rattle.tb_conllu.specs.Text.{RowText, BlockText, ended, fields_of, row_line};
 ghost use Rattle.tb_conllu.specs.Reported.{IsFile, IsLine};
 
-use crate::fields::{TenFields, is_empty_text};
+use crate::fields::{TenFields, fields_by, is_empty_text};
 use crate::growing::{add_comment, add_row, is_hashed};
 use crate::ids::{head_of, id_of};
 use crate::rowline::row_from;
@@ -63,27 +63,7 @@ fn fields_after<'a>(id: &'a str, cutter: &mut FieldScanner<'a>) -> Option<TenFie
     ensures { MatchOption result (nat_le (length (parts cutter.old)) 9 ≡ true) (λ p. id.now ∷ parts cutter.old
         ≡ list_of p ++ parts cutter.new) }
 {
-    let form = next_part(cutter)?;
-    let lemma = next_part(cutter)?;
-    let upos = next_part(cutter)?;
-    let xpos = next_part(cutter)?;
-    let feats = next_part(cutter)?;
-    let head = next_part(cutter)?;
-    let deprel = next_part(cutter)?;
-    let deps = next_part(cutter)?;
-    let misc = next_part(cutter)?;
-    Some(TenFields {
-        id,
-        form,
-        lemma,
-        upos,
-        xpos,
-        feats,
-        head,
-        deprel,
-        deps,
-        misc,
-    })
+    Some(fields_by!(id, next_part(cutter)?, next_part(cutter)?))
 }
 
 /// The row whose first field is `id`.

@@ -13,7 +13,7 @@ ghost use Rattle.tb_conllu.specs.Tested.{HoldsOf};
 ghost use Rattle.tb_conllu.specs.Text.{RowText, ended, row_line};
 ghost use Rattle.tb_conllu.specs.Reported.{IsLine};
 
-use crate::fields::TenFields;
+use crate::fields::{TenFields, fields_by};
 use crate::growing::add_row;
 use crate::ids::{head_of, id_of};
 use crate::linetext::{Tested, is_composed};
@@ -43,28 +43,11 @@ fn fields_next<'a>(cutter: &mut FieldScanner<'a>) -> Option<TenFields<'a>>
     ensures { IfSome result (λ p. AllByRecursion IsParted (list_of p)
         × (cutter.old ≡ join_with_byte 9 (list_of p) ++ 10 ∷ cutter.new)) }
 {
-    let id = field_before(cutter, b'\t')?;
-    let form = field_before(cutter, b'\t')?;
-    let lemma = field_before(cutter, b'\t')?;
-    let upos = field_before(cutter, b'\t')?;
-    let xpos = field_before(cutter, b'\t')?;
-    let feats = field_before(cutter, b'\t')?;
-    let head = field_before(cutter, b'\t')?;
-    let deprel = field_before(cutter, b'\t')?;
-    let deps = field_before(cutter, b'\t')?;
-    let misc = field_before(cutter, b'\n')?;
-    Some(TenFields {
-        id,
-        form,
-        lemma,
-        upos,
-        xpos,
-        feats,
-        head,
-        deprel,
-        deps,
-        misc,
-    })
+    Some(fields_by!(
+        field_before(cutter, b'\t')?,
+        field_before(cutter, b'\t')?,
+        field_before(cutter, b'\n')?
+    ))
 }
 
 /// The text before the line feed at `end`.
