@@ -41,19 +41,12 @@ pub fn push_number<const N: usize>(line: &mut ArrayString<N>, n: u64)
     line.push_str(buffer.format(n));
 }
 
-/// The word for a state.
+/// The word for a state, which has at most eleven letters.
 fn word(state: State) -> &'static str
     ensures value { result.now ≡ state_word state }
     ensures short { length result.now ≤ 11 }
 {
-    match state {
-        State::Opened => "open",
-        State::Assigned => "assigned",
-        State::Submitted => "submitted",
-        State::Adjudicated => "adjudicated",
-        State::Released => "released",
-        State::Withdrawn => "withdrawn",
-    }
+    state.word()
 }
 
 /// Appends a text, or a number.
