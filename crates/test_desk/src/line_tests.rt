@@ -159,11 +159,7 @@ const LINES: &str = "\
     serve => MissingRequiredArgument 2\n\
     serve --port 80 --port 81 => ArgumentConflict 2\n\
     serve --port 80 90 => UnknownArgument 2\n\
-    --help => DisplayHelp 0\n\
-    -h => DisplayHelp 0\n\
-    help => DisplayHelp 0\n\
-    help search => DisplayHelp 0\n\
-    search --help => DisplayHelp 0\n\
+    (--help|-h|help|help search|search --help) => DisplayHelp 0\n\
     --version => DisplayVersion 0\n\
     \x20=> usage\n";
 
@@ -219,12 +215,7 @@ const VIEW_LINES: &str = "\
     find --db F => MissingRequiredArgument 2\n\
     find --db F s1 s2 => UnknownArgument 2\n\
     find --db F -1 => UnknownArgument 2\n\
-    --help => DisplayHelp 0\n\
-    -h => DisplayHelp 0\n\
-    help => DisplayHelp 0\n\
-    help revisions => DisplayHelp 0\n\
-    help find => DisplayHelp 0\n\
-    batches --help => DisplayHelp 0\n\
+    (--help|-h|help|help revisions|help find|batches --help) => DisplayHelp 0\n\
     --version => DisplayVersion 0\n\
     \x20=> usage\n";
 

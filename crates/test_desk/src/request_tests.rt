@@ -15,7 +15,7 @@ impl Question for Request {
     }
 }
 
-/// Heads and users; lengths and bodies; paths and methods; no header, 32 and 33. Then all 64 sets of six faults, of
+/// Heads and users; lengths and bodies; paths and methods; no header, 32 and 33. Then all 48 sets of faults, of
 /// which the first is reported: two users, a coding, an unknown path, a wrong method, a body too long, a body too
 /// short.
 const REQUESTS: &str = "\
@@ -121,71 +121,14 @@ const REQUESTS: &str = "\
     GET /moves HTTP/1.1¶X-0: y¶X-1: y¶X-2: y¶X-3: y¶X-4: y¶X-5: y¶X-6: y¶X-7: y¶X-8: y¶X-9: y¶X-10: y¶X-11: y¶X-12: y¶X-13: y¶X-14: y¶X-15: y¶X-16: y¶X-17: y¶X-18: y¶X-19: y¶X-20: y¶X-21: y¶X-22: y¶X-23: y¶X-24: y¶X-25: y¶X-26: y¶X-27: y¶X-28: y¶X-29: y¶X-30: y¶X-31: y¶¶ => Moves by \"\" with 0\n\
     GET /moves HTTP/1.1¶X-0: y¶X-1: y¶X-2: y¶X-3: y¶X-4: y¶X-5: y¶X-6: y¶X-7: y¶X-8: y¶X-9: y¶X-10: y¶X-11: y¶X-12: y¶X-13: y¶X-14: y¶X-15: y¶X-16: y¶X-17: y¶X-18: y¶X-19: y¶X-20: y¶X-21: y¶X-22: y¶X-23: y¶X-24: y¶X-25: y¶X-26: y¶X-27: y¶X-28: y¶X-29: y¶X-30: y¶X-31: y¶X-32: y¶¶ => BadRequest refused head\n\
     POST /batches/b1 HTTP/1.1¶Desk-User: a¶Content-Length: 3¶¶abc => Import { name: \"b1\" } by \"a\" with 3\n\
-    POST /batches/b1 HTTP/1.1¶Desk-User: a¶Desk-User: b¶Content-Length: 3¶¶abc => BadRequest refused head\n\
-    POST /batches/b1 HTTP/1.1¶Desk-User: a¶Transfer-Encoding: chunked¶Content-Length: 3¶¶abc => BadRequest refused length\n\
-    POST /batches/b1 HTTP/1.1¶Desk-User: a¶Desk-User: b¶Transfer-Encoding: chunked¶Content-Length: 3¶¶abc => BadRequest refused head\n\
-    POST /batch/b1 HTTP/1.1¶Desk-User: a¶Content-Length: 3¶¶abc => NotFound refused path\n\
-    POST /batch/b1 HTTP/1.1¶Desk-User: a¶Desk-User: b¶Content-Length: 3¶¶abc => BadRequest refused head\n\
-    POST /batch/b1 HTTP/1.1¶Desk-User: a¶Transfer-Encoding: chunked¶Content-Length: 3¶¶abc => BadRequest refused length\n\
-    POST /batch/b1 HTTP/1.1¶Desk-User: a¶Desk-User: b¶Transfer-Encoding: chunked¶Content-Length: 3¶¶abc => BadRequest refused head\n\
-    PUT /batches/b1 HTTP/1.1¶Desk-User: a¶Content-Length: 3¶¶abc => MethodNotAllowed refused method GetAndPost\n\
-    PUT /batches/b1 HTTP/1.1¶Desk-User: a¶Desk-User: b¶Content-Length: 3¶¶abc => BadRequest refused head\n\
-    PUT /batches/b1 HTTP/1.1¶Desk-User: a¶Transfer-Encoding: chunked¶Content-Length: 3¶¶abc => BadRequest refused length\n\
-    PUT /batches/b1 HTTP/1.1¶Desk-User: a¶Desk-User: b¶Transfer-Encoding: chunked¶Content-Length: 3¶¶abc => BadRequest refused head\n\
-    PUT /batch/b1 HTTP/1.1¶Desk-User: a¶Content-Length: 3¶¶abc => NotFound refused path\n\
-    PUT /batch/b1 HTTP/1.1¶Desk-User: a¶Desk-User: b¶Content-Length: 3¶¶abc => BadRequest refused head\n\
-    PUT /batch/b1 HTTP/1.1¶Desk-User: a¶Transfer-Encoding: chunked¶Content-Length: 3¶¶abc => BadRequest refused length\n\
-    PUT /batch/b1 HTTP/1.1¶Desk-User: a¶Desk-User: b¶Transfer-Encoding: chunked¶Content-Length: 3¶¶abc => BadRequest refused head\n\
+    (POST|PUT) /(batches|batch)/b1 HTTP/1.1¶Desk-User: a¶Desk-User: b¶(|Transfer-Encoding: chunked¶)Content-Length: (3|4|4194305)¶¶abc => BadRequest refused head\n\
+    (POST|PUT) /(batches|batch)/b1 HTTP/1.1¶Desk-User: a¶Transfer-Encoding: chunked¶Content-Length: (3|4|4194305)¶¶abc => BadRequest refused length\n\
+    (POST|PUT) /batch/b1 HTTP/1.1¶Desk-User: a¶Content-Length: (3|4|4194305)¶¶abc => NotFound refused path\n\
+    PUT /batches/b1 HTTP/1.1¶Desk-User: a¶Content-Length: (3|4|4194305)¶¶abc => MethodNotAllowed refused method GetAndPost\n\
     POST /batches/b1 HTTP/1.1¶Desk-User: a¶Content-Length: 4194305¶¶abc => PayloadTooLarge refused long\n\
-    POST /batches/b1 HTTP/1.1¶Desk-User: a¶Desk-User: b¶Content-Length: 4194305¶¶abc => BadRequest refused head\n\
-    POST /batches/b1 HTTP/1.1¶Desk-User: a¶Transfer-Encoding: chunked¶Content-Length: 4194305¶¶abc => BadRequest refused length\n\
-    POST /batches/b1 HTTP/1.1¶Desk-User: a¶Desk-User: b¶Transfer-Encoding: chunked¶Content-Length: 4194305¶¶abc => BadRequest refused head\n\
-    POST /batch/b1 HTTP/1.1¶Desk-User: a¶Content-Length: 4194305¶¶abc => NotFound refused path\n\
-    POST /batch/b1 HTTP/1.1¶Desk-User: a¶Desk-User: b¶Content-Length: 4194305¶¶abc => BadRequest refused head\n\
-    POST /batch/b1 HTTP/1.1¶Desk-User: a¶Transfer-Encoding: chunked¶Content-Length: 4194305¶¶abc => BadRequest refused length\n\
-    POST /batch/b1 HTTP/1.1¶Desk-User: a¶Desk-User: b¶Transfer-Encoding: chunked¶Content-Length: 4194305¶¶abc => BadRequest refused head\n\
-    PUT /batches/b1 HTTP/1.1¶Desk-User: a¶Content-Length: 4194305¶¶abc => MethodNotAllowed refused method GetAndPost\n\
-    PUT /batches/b1 HTTP/1.1¶Desk-User: a¶Desk-User: b¶Content-Length: 4194305¶¶abc => BadRequest refused head\n\
-    PUT /batches/b1 HTTP/1.1¶Desk-User: a¶Transfer-Encoding: chunked¶Content-Length: 4194305¶¶abc => BadRequest refused length\n\
-    PUT /batches/b1 HTTP/1.1¶Desk-User: a¶Desk-User: b¶Transfer-Encoding: chunked¶Content-Length: 4194305¶¶abc => BadRequest refused head\n\
-    PUT /batch/b1 HTTP/1.1¶Desk-User: a¶Content-Length: 4194305¶¶abc => NotFound refused path\n\
-    PUT /batch/b1 HTTP/1.1¶Desk-User: a¶Desk-User: b¶Content-Length: 4194305¶¶abc => BadRequest refused head\n\
-    PUT /batch/b1 HTTP/1.1¶Desk-User: a¶Transfer-Encoding: chunked¶Content-Length: 4194305¶¶abc => BadRequest refused length\n\
-    PUT /batch/b1 HTTP/1.1¶Desk-User: a¶Desk-User: b¶Transfer-Encoding: chunked¶Content-Length: 4194305¶¶abc => BadRequest refused head\n\
-    POST /batches/b1 HTTP/1.1¶Desk-User: a¶Content-Length: 4¶¶abc => BadRequest refused body\n\
-    POST /batches/b1 HTTP/1.1¶Desk-User: a¶Desk-User: b¶Content-Length: 4¶¶abc => BadRequest refused head\n\
-    POST /batches/b1 HTTP/1.1¶Desk-User: a¶Transfer-Encoding: chunked¶Content-Length: 4¶¶abc => BadRequest refused length\n\
-    POST /batches/b1 HTTP/1.1¶Desk-User: a¶Desk-User: b¶Transfer-Encoding: chunked¶Content-Length: 4¶¶abc => BadRequest refused head\n\
-    POST /batch/b1 HTTP/1.1¶Desk-User: a¶Content-Length: 4¶¶abc => NotFound refused path\n\
-    POST /batch/b1 HTTP/1.1¶Desk-User: a¶Desk-User: b¶Content-Length: 4¶¶abc => BadRequest refused head\n\
-    POST /batch/b1 HTTP/1.1¶Desk-User: a¶Transfer-Encoding: chunked¶Content-Length: 4¶¶abc => BadRequest refused length\n\
-    POST /batch/b1 HTTP/1.1¶Desk-User: a¶Desk-User: b¶Transfer-Encoding: chunked¶Content-Length: 4¶¶abc => BadRequest refused head\n\
-    PUT /batches/b1 HTTP/1.1¶Desk-User: a¶Content-Length: 4¶¶abc => MethodNotAllowed refused method GetAndPost\n\
-    PUT /batches/b1 HTTP/1.1¶Desk-User: a¶Desk-User: b¶Content-Length: 4¶¶abc => BadRequest refused head\n\
-    PUT /batches/b1 HTTP/1.1¶Desk-User: a¶Transfer-Encoding: chunked¶Content-Length: 4¶¶abc => BadRequest refused length\n\
-    PUT /batches/b1 HTTP/1.1¶Desk-User: a¶Desk-User: b¶Transfer-Encoding: chunked¶Content-Length: 4¶¶abc => BadRequest refused head\n\
-    PUT /batch/b1 HTTP/1.1¶Desk-User: a¶Content-Length: 4¶¶abc => NotFound refused path\n\
-    PUT /batch/b1 HTTP/1.1¶Desk-User: a¶Desk-User: b¶Content-Length: 4¶¶abc => BadRequest refused head\n\
-    PUT /batch/b1 HTTP/1.1¶Desk-User: a¶Transfer-Encoding: chunked¶Content-Length: 4¶¶abc => BadRequest refused length\n\
-    PUT /batch/b1 HTTP/1.1¶Desk-User: a¶Desk-User: b¶Transfer-Encoding: chunked¶Content-Length: 4¶¶abc => BadRequest refused head\n\
-    POST /batches/b1 HTTP/1.1¶Desk-User: a¶Content-Length: 4194305¶¶abc => PayloadTooLarge refused long\n\
-    POST /batches/b1 HTTP/1.1¶Desk-User: a¶Desk-User: b¶Content-Length: 4194305¶¶abc => BadRequest refused head\n\
-    POST /batches/b1 HTTP/1.1¶Desk-User: a¶Transfer-Encoding: chunked¶Content-Length: 4194305¶¶abc => BadRequest refused length\n\
-    POST /batches/b1 HTTP/1.1¶Desk-User: a¶Desk-User: b¶Transfer-Encoding: chunked¶Content-Length: 4194305¶¶abc => BadRequest refused head\n\
-    POST /batch/b1 HTTP/1.1¶Desk-User: a¶Content-Length: 4194305¶¶abc => NotFound refused path\n\
-    POST /batch/b1 HTTP/1.1¶Desk-User: a¶Desk-User: b¶Content-Length: 4194305¶¶abc => BadRequest refused head\n\
-    POST /batch/b1 HTTP/1.1¶Desk-User: a¶Transfer-Encoding: chunked¶Content-Length: 4194305¶¶abc => BadRequest refused length\n\
-    POST /batch/b1 HTTP/1.1¶Desk-User: a¶Desk-User: b¶Transfer-Encoding: chunked¶Content-Length: 4194305¶¶abc => BadRequest refused head\n\
-    PUT /batches/b1 HTTP/1.1¶Desk-User: a¶Content-Length: 4194305¶¶abc => MethodNotAllowed refused method GetAndPost\n\
-    PUT /batches/b1 HTTP/1.1¶Desk-User: a¶Desk-User: b¶Content-Length: 4194305¶¶abc => BadRequest refused head\n\
-    PUT /batches/b1 HTTP/1.1¶Desk-User: a¶Transfer-Encoding: chunked¶Content-Length: 4194305¶¶abc => BadRequest refused length\n\
-    PUT /batches/b1 HTTP/1.1¶Desk-User: a¶Desk-User: b¶Transfer-Encoding: chunked¶Content-Length: 4194305¶¶abc => BadRequest refused head\n\
-    PUT /batch/b1 HTTP/1.1¶Desk-User: a¶Content-Length: 4194305¶¶abc => NotFound refused path\n\
-    PUT /batch/b1 HTTP/1.1¶Desk-User: a¶Desk-User: b¶Content-Length: 4194305¶¶abc => BadRequest refused head\n\
-    PUT /batch/b1 HTTP/1.1¶Desk-User: a¶Transfer-Encoding: chunked¶Content-Length: 4194305¶¶abc => BadRequest refused length\n\
-    PUT /batch/b1 HTTP/1.1¶Desk-User: a¶Desk-User: b¶Transfer-Encoding: chunked¶Content-Length: 4194305¶¶abc => BadRequest refused head\n";
+    POST /batches/b1 HTTP/1.1¶Desk-User: a¶Content-Length: 4¶¶abc => BadRequest refused body\n";
 
 #[test]
 fn requests_are_read(rt: HostRuntime) {
-    assert_answers(&rt, rt.alloc(), &Request, REQUESTS, 165)
+    assert_answers(&rt, rt.alloc(), &Request, REQUESTS, 149)
 }
