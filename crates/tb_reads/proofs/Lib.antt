@@ -1,4 +1,5 @@
 pub mod Columns
+pub mod Unread
 pub mod Reading
 pub mod Queries
 pub mod Order

@@ -1,5 +1,5 @@
 -- What one turn of a loop over rows reads.
-use Rattle.std.proofs.Common.{◌≡◌, ◌≢◌, ℕ, zero, suc, ◌+◌, ◌<◌, List, [], ◌∷◌, ◌++◌, map, length, take, get_or, refl, sym, ap, ap₂, ◌∙◌, arith, All}
+use Rattle.std.proofs.Common.{◌≡◌, ◌≢◌, ℕ, zero, suc, ◌+◌, ◌<◌, List, [], ◌∷◌, ◌++◌, map, length, take, get_or, Some, slice_get, refl, sym, ap, ap₂, ◌∙◌, arith, All}
 use Rattle.std.proofs.Math.Seq.{take-suc}
 use Rattle.std.proofs.lemmas.List.{map-append, length-map}
 use Rattle.sqlite.specs.Order.{Row}
@@ -32,6 +32,14 @@ module _ {X : Type 0} (row : ℕ → X → Row) where
       let is = sym at ∙ ap (λ rs. get_or rs k r) e ∙ numbered_at 1 k (x ∷ xs) r x within in
       let no_is : 1 + k ≡ k + 1 = omega arith in
       apart (get_or (x ∷ xs) k x) (each k x within) (is ∙ ap (λ m. row m (get_or (x ∷ xs) k x)) no_is)
+
+  -- a row that was read, or the rows before it, tell of the first row that it is a record's
+  pub first_read : {S : Type 0} (of : S → X) (rows : List Row) (found : List S) (k : ℕ) (r : Row) (x : X) → k < length rows → length found ≡ k → take k rows ≡ numbered row 1 (map of found)
+      → get_or rows k r ≡ r → r ≡ row (k + 1) x → (y : X) × (slice_get rows 0 ≡ Some (row 1 y))
+  first_read of [] found k r x low len so at is = absurd (omega (arith, low))
+  first_read of (first ∷ rows) found zero r x low len so at is = (x, ap Some (at ∙ is))
+  first_read of (first ∷ rows) [] (suc k) r x low len so at is = absurd (omega (arith, len))
+  first_read of (first ∷ rows) (s ∷ found) (suc k) r x low len so at is = (of s, ap (λ rs. slice_get rs 0) so)
 
 -- rows that show no number
 pub numbered_flat : {X : Type 0} (row : X → Row) (k : ℕ) (xs : List X) → numbered (λ _. row) k xs ≡ map row xs

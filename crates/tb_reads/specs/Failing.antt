@@ -27,6 +27,11 @@ abbrev pub IsReadWant : ReadError → Type 0
 IsReadWant (Store e) = IsWant e
 IsReadWant Form = ⊤
 
+-- Why what is in memory was not copied as texts: it is no text in UTF-8 (`Form`), or it is, and memory was wanting.
+abbrev pub IsUnread : Type 0 → ReadError → Type 0
+IsUnread AreTexts Form = ¬ AreTexts
+IsUnread AreTexts (Store e) = IsWant e × AreTexts
+
 -- on tables of a desk, `Form` comes only where the trees show nothing that could be read (`IsNone`)
 abbrev pub HasNoForm : {S X : Type 0} → Ghosts S → Held S → Held S → Result X ReadError → (Trees → Type 0)
     → Type 0

@@ -1,9 +1,15 @@
 -- Between crates: no contract of a front door cites a definition of this module.
 -- Records that can be read back from columns: texts in UTF-8, numbers of 32 bits.
-use Rattle.std.specs.Prelude.{◌≡◌, ◌⊎◌, ◌<◌, ◌^◌, IsUtf8}
+use Rattle.std.specs.Prelude.{◌≡◌, ◌⊎◌, ◌<◌, ◌^◌, ℕ, List, IsUtf8}
+use Rattle.sqlite.specs.declared.types.Value.{Value}
+use Rattle.sqlite.specs.declared.types.Value.TheVariants.{Text}
 use Rattle.tb_tables.specs.Records.{Batch, Sentence, Revision, Move, Total}
 use Rattle.tb_reads.specs.declared.stream.CurrentRev.{CurrentRev}
 use Rattle.tb_reads.specs.declared.work.BatchSentence.{BatchSentence}
+
+-- the value is a text in UTF-8
+abbrev pub ShowsText : Value → Type 0
+ShowsText value = (text : List ℕ) × IsUtf8 text × (value ≡ Text text)
 
 pub record IsBatch (x : Batch) : Type 0 where
   pub name_fits : IsUtf8 x.name

@@ -31,11 +31,11 @@ pub struct Body<'a> {
     pub body: &'a [u8],
 }
 
+/// The body in a row. This needs no memory.
 fn body_in(row: &Row) -> Result<Body<'_>, ReadError>
     ensures ok { IfOk result (λ b. row.now ≡ lent_shown b) }
     ensures form { result ≡ Err ReadError.Form → (x : Revision) → IsRevision x → row.now ≢ body_shown x }
-    ensures fails { IfErr result IsReadFault }
-    ensures cause { IfErr result IsReadWant }
+    ensures fault { IfErr result (λ e. e ≡ ReadError.Form) }
 {
     if row.column_count() != 3 {
         return Err(ReadError::Form);
@@ -72,13 +72,12 @@ pub fn bodies<S: Alter>(conn: &mut Connection<S>) -> Result<Rows<'_, S>, Error>
     )
 }
 
-// The body in the current row.
+// The body in the current row. This needs no memory.
 fn body_at<'a, S: Alter>(rows: &'a Rows<'_, S>) -> Result<Option<Body<'a>>, ReadError>
     ensures ok { IfOk result (λ found. option_map lent_shown found ≡ row_if rows.now.has_row rows.now.conn.now) }
     ensures form { result ≡ Err ReadError.Form → (row_if rows.now.has_row rows.now.conn.now ≢ None)
         × ((x : Revision) → IsRevision x → row_if rows.now.has_row rows.now.conn.now ≢ Some (body_shown x)) }
-    ensures fails { IfErr result IsReadFault }
-    ensures cause { IfErr result IsReadWant }
+    ensures fault { IfErr result (λ e. e ≡ ReadError.Form) }
 {
     match rows.get() {
         Some(row) => Ok(Some(body_in(row)?)),

@@ -1,18 +1,20 @@
 //! Rows as records, and which rows are no records.
 
 ghost use Rattle.std.specs.Prelude.{ℕ, ◌≡◌, ◌≢◌, ◌+◌, ◌<◌, ◌^◌, length, map, pos, List, All, []};
-ghost use Rattle.std.specs.Prelude.{Err, IfOk, IsUtf8, string_bytes, IfErr};
+ghost use Rattle.std.specs.Prelude.{◌↔◌, ⊤, Some, slice_get, Err, IfOk, IsTrue, cond, string_bytes, IfErr};
 ghost use Rattle.sqlite.specs.Order.{column};
+ghost use Rattle.sqlite.specs.declared.error.ErrorCode.TheVariants.{OutOfMemory};
 ghost use Rattle.sqlite.specs.declared.types.Value.TheVariants.{Int, Text};
 ghost use Rattle.tb_tables.specs.Records.{Batch, Sentence, Revision, Move, Total, numbered, batch_shown};
 ghost use Rattle.tb_tables.specs.Records.{sentence_shown, revision_shown, move_shown, total_shown};
 ghost use Rattle.tb_tables.specs.Values.{batch_of, sentence_of, revision_of, move_of, total_of};
-ghost use Rattle.tb_reads.specs.Readable.{IsBatch, IsSentence, IsRevision, IsMove, IsTotal};
+ghost use Rattle.tb_reads.specs.Readable.{IsBatch, IsSentence, IsRevision, IsMove, IsTotal, ShowsText};
 ghost use Rattle.tb_reads.specs.Found.{HasUnreadable, ShowsFirst};
-ghost use Rattle.tb_reads.specs.Failing.{IsReadFault, IsReadWant};
+ghost use Rattle.tb_reads.specs.Failing.{IsReadFault, IsReadWant, IsUnread};
 
 use crate::error::ReadError;
 use crate::work::BatchSentence;
+use sqlite::types::ValueRef;
 use sqlite::{Error, ErrorCode, Row};
 use std::alloc::Global;
 use tb_tables::{BatchRow, MoveRow, RevisionRow, SentenceRow, TotalRow};
@@ -34,10 +36,15 @@ pub(crate) trait FromRow: Sized + Drop {
     // the columns can be read back
     ghost Fits: { Plain → Type 0 };
 
+    // it has texts, which take memory
+    ghost HasTexts: { Type 0 };
+
     /// The record of a row that has this number.
     fn from_row(row: &Row, number: u64) -> Result<Self, ReadError>
         ensures ok { IfOk result (λ x. row.now ≡ shown number (plain x)) }
         ensures form { result ≡ Err ReadError.Form → (x : Plain) → Fits x → row.now ≢ shown number x }
+        ensures want { IfErr result (λ e. e ≢ ReadError.Form
+            → HasTexts × (x : Plain) × Fits x × (row.now ≡ shown number x)) }
         ensures fails { IfErr result IsReadFault }
         ensures cause { IfErr result IsReadWant };
 }
@@ -48,6 +55,8 @@ pub(crate) fn all_in<T: FromRow>(alloc: Global, rows: &[Row]) -> Result<Vec<T>, 
     ensures ok { IfOk result (λ v. rows.now ≡ numbered T.shown 1 (map T.plain v.items)) }
     ensures form { result ≡ Err ReadError.Form → (xs : List T.Plain) → All T.Fits xs
         → rows.now ≢ numbered T.shown 1 xs }
+    ensures want { IfErr result (λ e. e ≢ ReadError.Form
+        → (x : T.Plain) × (slice_get rows.now 0 ≡ Some (T.shown 1 x))) }
     ensures fails { IfErr result IsReadFault }
     ensures cause { IfErr result IsReadWant }
 {
@@ -64,6 +73,8 @@ pub(crate) fn all_in<T: FromRow>(alloc: Global, rows: &[Row]) -> Result<Vec<T>, 
 pub(crate) fn first_in<T: FromRow>(rows: &[Row], number: u64) -> Result<Option<T>, ReadError>
     ensures first { IfOk result (ShowsFirst (λ x. T.shown number (T.plain x)) rows.now) }
     ensures form { result ≡ Err ReadError.Form → HasUnreadable T.Fits (T.shown number) rows.now }
+    ensures want { IfErr result (λ e. e ≢ ReadError.Form
+        → T.HasTexts × (x : T.Plain) × T.Fits x × (slice_get rows.now 0 ≡ Some (T.shown number x))) }
     ensures fails { IfErr result IsReadFault }
     ensures cause { IfErr result IsReadWant }
 {
@@ -73,53 +84,87 @@ pub(crate) fn first_in<T: FromRow>(rows: &[Row], number: u64) -> Result<Option<T
     }
 }
 
+/// The number in a column. This needs no memory.
 pub(crate) fn number_at(row: &Row, at: usize) -> Result<u32, ReadError>
     requires { at < length row.now }
     ensures ok { IfOk result (λ n. column row.now at ≡ Int (pos n)) }
     ensures form { result ≡ Err ReadError.Form → (n : ℕ) → n < 2 ^ 32 → column row.now at ≢ Int (pos n) }
-    ensures fails { IfErr result IsReadFault }
-    ensures cause { IfErr result IsReadWant }
+    ensures fault { IfErr result (λ e. e ≡ ReadError.Form) }
 {
-    match row.get::<u32>(at) {
-        Ok(n) => Ok(n),
-        Err(Error::SqliteFailure(ErrorCode::OutOfMemory)) => Err(ReadError::Store(
-            Error::SqliteFailure(ErrorCode::OutOfMemory),
-        )),
-        Err(_) => Err(ReadError::Form),
+    match row.get_ref(at) {
+        Ok(ValueRef::Int(n)) => match u32::try_from(n) {
+            Ok(n) => Ok(n),
+            Err(_) => Err(ReadError::Form),
+        },
+        _ => Err(ReadError::Form),
     }
 }
 
-/// The number of the row itself, which is its first column.
+/// The number of the row itself, which is its first column. This needs no memory.
 fn key_at(row: &Row) -> Result<u64, ReadError>
     requires { 0 < length row.now }
     ensures ok { IfOk result (λ n. column row.now 0 ≡ Int (pos n)) }
     ensures form { result ≡ Err ReadError.Form → (n : ℕ) → column row.now 0 ≢ Int (pos n) }
-    ensures fails { IfErr result IsReadFault }
-    ensures cause { IfErr result IsReadWant }
+    ensures fault { IfErr result (λ e. e ≡ ReadError.Form) }
 {
-    match row.get::<u64>(0) {
-        Ok(n) => Ok(n),
-        Err(Error::SqliteFailure(ErrorCode::OutOfMemory)) => Err(ReadError::Store(
-            Error::SqliteFailure(ErrorCode::OutOfMemory),
-        )),
-        Err(_) => Err(ReadError::Form),
+    match row.get_ref(0) {
+        Ok(ValueRef::Int(n)) => match u64::try_from(n) {
+            Ok(n) => Ok(n),
+            Err(_) => Err(ReadError::Form),
+        },
+        _ => Err(ReadError::Form),
     }
 }
 
+/// Whether a column is a text in UTF-8.
+fn is_text(row: &Row, at: usize) -> bool
+    requires { at < length row.now }
+    ensures { IsTrue result ↔ ShowsText (column row.now at) }
+{
+    match row.get_ref(at) {
+        Ok(ValueRef::Text(bytes)) => str::from_utf8(bytes).is_ok(),
+        _ => false,
+    }
+}
+
+/// Why columns were not copied as texts: memory was wanting if they are texts, else they are no record's.
+fn unread(are_texts: bool) -> ReadError
+    ensures value { result ≡ cond are_texts (ReadError.Store (Error.SqliteFailure OutOfMemory)) ReadError.Form }
+{
+    if are_texts {
+        ReadError::Store(Error::SqliteFailure(ErrorCode::OutOfMemory))
+    } else {
+        ReadError::Form
+    }
+}
+
+/// The text in a column.
 fn text_at(row: &Row, at: usize) -> Result<String, ReadError>
     requires { at < length row.now }
     ensures ok { IfOk result (λ s. column row.now at ≡ Text (string_bytes s)) }
-    ensures form { result ≡ Err ReadError.Form → (t : List ℕ) → IsUtf8 t → column row.now at ≢ Text t }
-    ensures fails { IfErr result IsReadFault }
-    ensures cause { IfErr result IsReadWant }
+    ensures fault { IfErr result (IsUnread (ShowsText (column row.now at))) }
 {
     match row.get::<String>(at) {
         Ok(text) => Ok(text),
-        Err(Error::SqliteFailure(ErrorCode::OutOfMemory)) => Err(ReadError::Store(
-            Error::SqliteFailure(ErrorCode::OutOfMemory),
-        )),
-        Err(_) => Err(ReadError::Form),
+        Err(_) => Err(unread(is_text(row, at))),
     }
+}
+
+/// The texts in two columns.
+fn texts_at(row: &Row, first: usize, second: usize) -> Result<(String, String), ReadError>
+    requires first { first < length row.now }
+    requires second { second < length row.now }
+    ensures ok { IfOk result (λ p. (column row.now first ≡ Text (string_bytes p.0))
+        × (column row.now second ≡ Text (string_bytes p.1))) }
+    ensures fault { IfErr result (IsUnread (ShowsText (column row.now first) × ShowsText (column row.now second))) }
+{
+    let Ok(text) = row.get::<String>(first) else {
+        return Err(unread(is_text(row, first) && is_text(row, second)));
+    };
+    let Ok(next) = row.get::<String>(second) else {
+        return Err(unread(is_text(row, first) && is_text(row, second)));
+    };
+    Ok((text, next))
 }
 
 impl FromRow for BatchRow {
@@ -135,6 +180,8 @@ impl FromRow for BatchRow {
 
     ghost Fits = { IsBatch };
 
+    ghost HasTexts = { ⊤ };
+
     fn from_row(row: &Row, number: u64) -> Result<BatchRow, ReadError> {
         if row.column_count() != 4 {
             return Err(ReadError::Form);
@@ -142,9 +189,8 @@ impl FromRow for BatchRow {
         if key_at(row)? != number {
             return Err(ReadError::Form);
         }
-        let name = text_at(row, 1)?;
         let state = number_at(row, 2)?;
-        let worker = text_at(row, 3)?;
+        let (name, worker) = texts_at(row, 1, 3)?;
         Ok(BatchRow {
             name,
             state,
@@ -166,6 +212,8 @@ impl FromRow for SentenceRow {
 
     ghost Fits = { IsSentence };
 
+    ghost HasTexts = { ⊤ };
+
     fn from_row(row: &Row, number: u64) -> Result<SentenceRow, ReadError> {
         if row.column_count() != 5 {
             return Err(ReadError::Form);
@@ -173,10 +221,10 @@ impl FromRow for SentenceRow {
         if key_at(row)? != number {
             return Err(ReadError::Form);
         }
-        let sent_id = text_at(row, 1)?;
         let batch = number_at(row, 2)?;
         let rev = number_at(row, 3)?;
         let words = number_at(row, 4)?;
+        let sent_id = text_at(row, 1)?;
         Ok(SentenceRow {
             sent_id,
             batch,
@@ -198,6 +246,8 @@ impl FromRow for MoveRow {
     ghost shown = { move_shown };
 
     ghost Fits = { IsMove };
+
+    ghost HasTexts = { ⊤ };
 
     fn from_row(row: &Row, number: u64) -> Result<MoveRow, ReadError> {
         if row.column_count() != 10 {
@@ -242,6 +292,8 @@ impl FromRow for TotalRow {
 
     ghost Fits = { IsTotal };
 
+    ghost HasTexts = { ⊥ };
+
     fn from_row(row: &Row, number: u64) -> Result<TotalRow, ReadError> {
         if row.column_count() != 3 {
             return Err(ReadError::Form);
@@ -268,14 +320,15 @@ impl FromRow for RevisionRow {
 
     ghost Fits = { IsRevision };
 
+    ghost HasTexts = { ⊤ };
+
     fn from_row(row: &Row, _number: u64) -> Result<RevisionRow, ReadError> {
         if row.column_count() != 4 {
             return Err(ReadError::Form);
         }
         let sent = number_at(row, 0)?;
         let rev = number_at(row, 1)?;
-        let who = text_at(row, 2)?;
-        let body = text_at(row, 3)?;
+        let (who, body) = texts_at(row, 2, 3)?;
         Ok(RevisionRow {
             sent,
             rev,
@@ -297,6 +350,8 @@ impl FromRow for u32 {
 
     ghost Fits = { λ n. n < 2 ^ 32 };
 
+    ghost HasTexts = { ⊥ };
+
     fn from_row(row: &Row, _number: u64) -> Result<u32, ReadError> {
         if row.column_count() != 1 {
             return Err(ReadError::Form);
@@ -317,6 +372,8 @@ impl FromRow for BatchSentence {
     ghost shown = { λ _. work_shown };
 
     ghost Fits = { IsWork };
+
+    ghost HasTexts = { ⊥ };
 
     fn from_row(row: &Row, _number: u64) -> Result<BatchSentence, ReadError> {
         if row.column_count() != 3 {

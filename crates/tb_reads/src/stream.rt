@@ -23,11 +23,11 @@ pub struct CurrentRev {
     pub rev: u32,
 }
 
+/// The record of a row. This needs no memory.
 fn head_in(row: &Row) -> Result<CurrentRev, ReadError>
     ensures ok { IfOk result (λ x. row.now ≡ head_shown x) }
     ensures form { result ≡ Err ReadError.Form → (x : CurrentRev) → IsHead x → row.now ≢ head_shown x }
-    ensures fails { IfErr result IsReadFault }
-    ensures cause { IfErr result IsReadWant }
+    ensures fault { IfErr result (λ e. e ≡ ReadError.Form) }
 {
     if row.column_count() != 2 {
         return Err(ReadError::Form);

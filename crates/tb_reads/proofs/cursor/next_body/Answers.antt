@@ -26,8 +26,8 @@ returns g c =
           form = λ clean failed xs left.
               let none = c.body_at.ensures.form failed in
               always_readable g.S.Store old now.conn.now row xs left (stands_at g.S.Store old now.conn.now (moved.same clean) row xs left (moved.ok clean)) none.0 none.1;
-          fails = λ clean unlimited. if_err found c.body_at.ensures.fails (λ e fault xs left. fault);
-          cause = λ good clean unlimited. if_err found c.body_at.ensures.cause (λ e want xs left. want);
+          fails = λ clean unlimited. if_err found c.body_at.ensures.fault (λ e form xs left. subst IsReadFault (sym form) tt);
+          cause = λ good clean unlimited. if_err found c.body_at.ensures.fault (λ e form xs left. subst IsReadWant (sym form) tt);
           same = λ clean. on_ok found (moved.same clean);
           mode = moved.mode;
           kept = λ clean opened d holds. unchanged_holds g.S.Store old now.conn.now d holds (moved.same clean);
