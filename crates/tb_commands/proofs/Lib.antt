@@ -8,4 +8,3 @@ pub mod Corrected
 pub mod Pulled
 pub mod Replied
 pub mod Short
-pub mod Told

@@ -3,4 +3,3 @@ pub mod Working
 pub mod Stepping
 pub mod Correcting
 pub mod Pulling
-pub mod Telling

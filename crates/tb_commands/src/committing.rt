@@ -18,9 +18,9 @@ ghost use Rattle.tb_tables.specs.Failing.{IsShort};
 ghost use Rattle.tb_tables.specs.Leaving.{KeepsRecordsOnErr};
 ghost use Rattle.tb_refine.specs.Calls.{BlamesNoDevice};
 
-use crate::telling::written;
 use sqlite::{Alter, Connection};
 use tb_core::{Fault, reached_states_are_well};
+use tb_refine::faults;
 use tb_tables::{MoveWrite, write_correction, write_pull, write_restore};
 
 /// Writes a correction of the sentence with this number, from 1. Its new current revision has so many words, by this
@@ -61,7 +61,7 @@ pub(crate) fn correct<S: Alter>(
     ensures autocommit { conn.new.in_transaction ≡ false }
 {
     reached_states_are_well();
-    written(write_correction(conn, number, rev, words, who, text, change))
+    faults::reported_write(write_correction(conn, number, rev, words, who, text, change))
 }
 
 /// Writes a pull of the sentence with this number, from 1.
@@ -91,7 +91,7 @@ pub(crate) fn pull<S: Alter>(
     ensures autocommit { conn.new.in_transaction ≡ false }
 {
     reached_states_are_well();
-    written(write_pull(conn, number, change))
+    faults::reported_write(write_pull(conn, number, change))
 }
 
 /// Writes a restore of the pulled sentence with this number, from 1.
@@ -122,5 +122,5 @@ pub(crate) fn restore<S: Alter>(
     ensures autocommit { conn.new.in_transaction ≡ false }
 {
     reached_states_are_well();
-    written(write_restore(conn, number, change))
+    faults::reported_write(write_restore(conn, number, change))
 }

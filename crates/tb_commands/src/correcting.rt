@@ -31,7 +31,6 @@ ghost use Rattle.tb_refine.specs.Faults.{IsNoDevice};
 
 use crate::committing;
 use crate::finding::{SentenceRead, find_sentence};
-use crate::telling::there;
 use sqlite::{Alter, Connection};
 use std::alloc::Global;
 use std::marker::Model;
@@ -40,7 +39,7 @@ use tb_core::{
     Corrected, CurrentFound, Fault, Judged, Kind, Move, Totals, commands_stay_within_limits,
     judge_correction_before, judge_correction_body, revisions_read_back,
 };
-use tb_refine::{Counters, desk_rows_are_readable, narrow, next_move, prepare};
+use tb_refine::{Counters, desk_rows_are_readable, faults, narrow, next_move, prepare};
 use tb_tables::{MoveWrite, RevisionRow};
 
 /// A sentence and its current revision, as read from the tables.
@@ -95,7 +94,7 @@ fn current_row<S: Alter>(
     ensures read_only { IsReadOnly S.Store conn.old conn.new (is_ok result) }
 {
     desk_rows_are_readable();
-    there(tb_reads::revision(conn, number, rev))
+    faults::reported_row(tb_reads::revision(conn, number, rev))
 }
 
 /// The sentence with this number, from 1, which exists, and its current revision.

@@ -17,10 +17,9 @@ ghost use Rattle.tb_tables.specs.Leaving.{IsFaultless, FailsOnlyAs};
 ghost use Rattle.tb_reads.specs.ReadOnly.{IsReadOnly};
 ghost use Rattle.tb_refine.specs.Faults.{IsNoDevice};
 
-use crate::telling::{there, told};
 use sqlite::{Alter, Connection};
 use tb_core::{Fault, State, reached_states_are_well};
-use tb_refine::{batch_number, desk_rows_are_readable, state_numbered};
+use tb_refine::{batch_number, desk_rows_are_readable, faults, state_numbered};
 use tb_tables::{BatchRow, SentenceRow};
 
 /// A batch, as read from the tables.
@@ -66,7 +65,7 @@ fn batch_row<S: Alter>(conn: &mut Connection<S>, number: u32) -> Result<BatchRow
     ensures read_only { IsReadOnly S.Store conn.old conn.new (is_ok result) }
 {
     desk_rows_are_readable();
-    there(tb_reads::batch(conn, number))
+    faults::reported_row(tb_reads::batch(conn, number))
 }
 
 /// The batch with this number, from 1, which exists.
@@ -139,7 +138,7 @@ fn sentence_row<S: Alter>(conn: &mut Connection<S>, number: u32) -> Result<Sente
     ensures read_only { IsReadOnly S.Store conn.old conn.new (is_ok result) }
 {
     desk_rows_are_readable();
-    there(tb_reads::sentence(conn, number))
+    faults::reported_row(tb_reads::sentence(conn, number))
 }
 
 /// Whether the sentence with this number, from 1, which exists, is pulled.
@@ -153,7 +152,7 @@ fn is_pulled<S: Alter>(conn: &mut Connection<S>, number: u32) -> Result<bool, Fa
     ensures cause { IsFaultless S.Store conn.old conn.new → FailsOnlyAs IsNoDevice S.Store conn.old conn.new result }
     ensures read_only { IsReadOnly S.Store conn.old conn.new (is_ok result) }
 {
-    told(tb_reads::is_pulled(conn, number))
+    faults::reported(tb_reads::is_pulled(conn, number))
 }
 
 /// The sentence with this number, from 1, which exists, with the state and the worker of its batch. Nothing is

@@ -10,7 +10,6 @@ mod correcting;
 mod finding;
 mod pulling;
 mod stepping;
-mod telling;
 mod working;
 
 pub use correcting::{correct, no_correction};

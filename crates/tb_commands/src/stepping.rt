@@ -26,7 +26,6 @@ ghost use Rattle.tb_reads.specs.ReadOnly.{IsReadOnly};
 ghost use Rattle.tb_refine.specs.Faults.{IsNoDevice};
 
 use crate::finding::{BatchRead, find_batch};
-use crate::telling::written;
 use crate::working::{Sums, find_work};
 use sqlite::{Alter, Connection};
 use std::alloc::Global;
@@ -34,7 +33,9 @@ use tb_core::{
     BatchFound, Event, Fault, Kind, Move, Moved, Refusal, Totals, Worker,
     commands_stay_within_limits, judge_event, reached_states_are_well,
 };
-use tb_refine::{Counters, PreparedMove, events_are_stored, next_move, number_of_state, prepare};
+use tb_refine::{
+    Counters, PreparedMove, events_are_stored, faults, next_move, number_of_state, prepare,
+};
 use tb_tables::write_event;
 
 /// The reply to an accepted event, and what the event writes.
@@ -271,7 +272,7 @@ fn write<S: Alter>(conn: &mut Connection<S>, plan: &EventPlan) -> Result<(), Fau
     if plan.number == 0 {
         return Err(Fault::NotADesk);
     }
-    written(write_event(
+    faults::reported_write(write_event(
         conn,
         plan.number,
         plan.in_state,

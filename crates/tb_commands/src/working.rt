@@ -13,12 +13,11 @@ ghost use Rattle.tb_refine.specs.Calls.{KnowsDesk, Tells};
 ghost use Rattle.tb_tables.specs.Leaving.{IsFaultless, FailsOnlyAs};
 ghost use Rattle.tb_refine.specs.Faults.{IsNoDevice};
 
-use crate::telling::told;
 use sqlite::{Alter, Connection};
 use std::alloc::Global;
 use tb_core::{Fault, reached_states_are_well};
 use tb_reads::BatchSentence;
-use tb_refine::{desk_rows_are_readable, desk_rows_fit, is_among, read_pulled};
+use tb_refine::{desk_rows_are_readable, desk_rows_fit, faults, is_among, read_pulled};
 
 /// How many sentences, and the words of their current revisions.
 #[derive(Clone, Copy, Debug)]
@@ -104,7 +103,7 @@ fn read_work<S: Alter>(
 {
     desk_rows_fit();
     desk_rows_are_readable();
-    told(tb_reads::sentences_of(alloc, conn, number))
+    faults::reported(tb_reads::sentences_of(alloc, conn, number))
 }
 
 /// How many sentences of the batch with this number, from 1, are not pulled, and their words.

@@ -1,5 +1,4 @@
 pub mod Left
-pub mod Told
 pub mod Takes
 pub mod Follows
 pub mod Ordered

@@ -1,4 +1,3 @@
 pub mod Leaving
-pub mod Told
 pub mod Firsts
 pub mod Planned

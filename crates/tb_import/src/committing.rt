@@ -13,29 +13,15 @@ ghost use Rattle.tb_core.specs.Reaching.{IsReachable};
 ghost use Rattle.tb_refine.specs.DeskTables.{tables_of, IsDeskOf};
 ghost use Rattle.tb_refine.specs.Recorded.{IsWritten};
 ghost use Rattle.tb_refine.specs.Calls.{BlamesNoDevice};
-ghost use Rattle.tb_refine.specs.Faults.{fault_of_error};
 ghost use Rattle.tb_tables.specs.Changes.{HasRevisionRowids};
 ghost use Rattle.tb_tables.specs.Failing.{IsShort};
 ghost use Rattle.tb_import.specs.Planned.{IsMadeBatch};
-ghost use Rattle.tb_import.specs.Told.{told_by};
 ghost use Rattle.tb_tables.specs.Leaving.{KeepsRecordsOnErr};
 
-use sqlite::{Alter, Connection, Error};
+use sqlite::{Alter, Connection};
 use tb_core::{Fault, reached_states_are_well};
 use tb_refine::faults;
 use tb_tables::{MoveWrite, NewSentenceRow, write_import};
-
-/// What is told of a write.
-fn told(written: Result<(), Error>) -> Result<(), Fault>
-    ensures value { result ≡ told_by fault_of_error written }
-    ensures never_refuses { (r : AnyRefusal) → result ≢ Err (Fault.Refused r) }
-    ensures output { result ≢ Err Fault.Output }
-{
-    match written {
-        Ok(()) => Ok(()),
-        Err(error) => Err(faults::of_error(error)),
-    }
-}
 
 /// Writes an import in one transaction: the batch with this number, and its sentences from the number `first` on. Both
 /// count from 1.
@@ -81,5 +67,5 @@ pub(crate) fn commit_import<S: Alter>(
     ensures autocommit { conn.new.in_transaction ≡ false }
 {
     reached_states_are_well();
-    told(write_import(conn, number, first, name, who, items, change))
+    faults::reported_write(write_import(conn, number, first, name, who, items, change))
 }

@@ -12,26 +12,12 @@ ghost use Rattle.tb_tables.specs.Leaving.{IsFaultless, FailsOnlyAs};
 ghost use Rattle.tb_refine.specs.Faults.{IsNoDevice};
 ghost use Rattle.tb_import.specs.Leaving.{IsLeft, Stays};
 ghost use Rattle.tb_import.specs.Firsts.{IsFirst, AreFirsts, DecidesSame};
-ghost use Rattle.tb_import.specs.Told.{told_of_row};
 
 use sqlite::{Alter, Connection};
 use tb_core::Fault;
-use tb_reads::{BatchSentence, ReadError};
+use tb_reads::BatchSentence;
 use tb_refine::{desk_rows_are_readable, faults, records_determine_the_state};
 use tb_tables::RevisionRow;
-
-/// What was read of a revision that exists.
-fn there(read: Result<Option<RevisionRow>, ReadError>) -> Result<RevisionRow, Fault>
-    ensures value { result ≡ told_of_row read }
-    ensures never_refuses { (r : AnyRefusal) → result ≢ Err (Fault.Refused r) }
-    ensures output { result ≢ Err Fault.Output }
-{
-    match read {
-        Ok(Some(row)) => Ok(row),
-        Ok(None) => Err(Fault::NotADesk),
-        Err(error) => Err(faults::of_read(error)),
-    }
-}
 
 /// The first revision of the sentence with this number, which exists.
 pub(crate) fn read_first<S: Alter>(
@@ -51,7 +37,7 @@ pub(crate) fn read_first<S: Alter>(
 {
     records_determine_the_state();
     desk_rows_are_readable();
-    there(tb_reads::revision(conn, number, 1))
+    faults::reported_row(tb_reads::revision(conn, number, 1))
 }
 
 /// The rest of a text after the first revision of the sentence with this number, which exists; none where the text does

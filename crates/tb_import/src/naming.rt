@@ -16,10 +16,9 @@ ghost use Rattle.tb_refine.specs.DeskTables.{IsDeskOf, sentence_record};
 ghost use Rattle.tb_reads.specs.Found.{work_of};
 ghost use Rattle.tb_core.specs.Found.{FindsName};
 ghost use Rattle.tb_tables.specs.Leaving.{IsFaultless, FailsOnlyAs};
-ghost use Rattle.tb_refine.specs.Faults.{IsNoDevice, fault_of_read};
+ghost use Rattle.tb_refine.specs.Faults.{IsNoDevice};
 ghost use Rattle.tb_import.specs.Firsts.{IsAtFirst};
 ghost use Rattle.tb_import.specs.Leaving.{IsLeft, Stays};
-ghost use Rattle.tb_import.specs.Told.{told_by};
 ghost use Rattle.tb_refine.specs.Calls.{KnowsDesk, KnowsDeskWhere, Tells};
 
 use crate::again::words_again;
@@ -27,20 +26,8 @@ use crate::firsts::are_firsts;
 use sqlite::{Alter, Connection};
 use std::alloc::Global;
 use tb_core::{Fault, Imported, NameFound, reached_states_are_well};
-use tb_reads::{BatchSentence, ReadError};
+use tb_reads::BatchSentence;
 use tb_refine::{batch_number, desk_rows_are_readable, faults};
-
-/// What is told of a read of sentences.
-fn told(read: Result<Vec<BatchSentence>, ReadError>) -> Result<Vec<BatchSentence>, Fault>
-    ensures value { result ≡ told_by fault_of_read read }
-    ensures never_refuses { (r : AnyRefusal) → result ≢ Err (Fault.Refused r) }
-    ensures output { result ≢ Err Fault.Output }
-{
-    match read {
-        Ok(work) => Ok(work),
-        Err(error) => Err(faults::of_read(error)),
-    }
-}
 
 /// The sentences of the batch with this number, pulled ones too.
 fn read_work<S: Alter>(
@@ -58,7 +45,7 @@ fn read_work<S: Alter>(
     ensures left { IsLeft S.Store conn.old conn.new }
 {
     desk_rows_are_readable();
-    told(tb_reads::sentences_of(alloc, conn, number))
+    faults::reported(tb_reads::sentences_of(alloc, conn, number))
 }
 
 /// The reply to the import that made the batch with this number. `work` are its sentences, and `words` the number of

@@ -5,6 +5,7 @@ pub mod Revised
 pub mod Names
 pub mod Written
 pub mod Faultless
+pub mod Reported
 pub mod Unique
 pub mod Bounded
 pub mod Short

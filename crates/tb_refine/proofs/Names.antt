@@ -1,5 +1,5 @@
 -- What is found by a name.
-use Rattle.std.proofs.Common.{◌≡◌, ◌≢◌, ℕ, zero, suc, ◌-◌, List, [], ◌∷◌, map, Option, Some, None, slice_get, refl, sym, ap, ◌∙◌}
+use Rattle.std.proofs.Common.{◌≡◌, ◌≢◌, ℕ, zero, suc, ◌-◌, List, [], ◌∷◌, map, Option, Some, None, is_some, MatchBool, slice_get, refl, sym, ap, ◌∙◌}
 use Rattle.std.specs.List.{AllByRecursion}
 use Rattle.std.proofs.lemmas.Option.{slice_get-map}
 use Rattle.tb_core.specs.Names.{Lacks}
@@ -31,10 +31,10 @@ number_reported s name (Some n) h =
     let it = got_of batch_record s.batches (n - 1) h.0 h.2 in
     (it.0, h.1, it.1, ap (λ (x : Batch). x.name) it.2 ∙ h.3)
 
-pub id_free : (s : Machine) (id : List ℕ) → IsNumberOf (λ (x : Sentence). x.sent_id) id (map sentence_record s.sentences) None → Lacks (ids_of s.sentences) id
+id_free : (s : Machine) (id : List ℕ) → IsNumberOf (λ (x : Sentence). x.sent_id) id (map sentence_record s.sentences) None → Lacks (ids_of s.sentences) id
 id_free s id h = lacks_all sentence_record (λ (x : Sentence). x.sent_id) s.sentences id h
 
-pub id_taken : (s : Machine) (id : List ℕ) (n : ℕ) → IsNumberOf (λ (x : Sentence). x.sent_id) id (map sentence_record s.sentences) (Some n) → Lacks (ids_of s.sentences) id → ⊥
+id_taken : (s : Machine) (id : List ℕ) (n : ℕ) → IsNumberOf (λ (x : Sentence). x.sent_id) id (map sentence_record s.sentences) (Some n) → Lacks (ids_of s.sentences) id → ⊥
 id_taken s id n h lacks =
     let it = got_of sentence_record s.sentences (n - 1) h.0 h.2 in
     lacks_none (ids_of s.sentences) (n - 1) it.0.sent_id id (slice_get-map (λ (x : machine.Sentence). x.sent_id) s.sentences (n - 1) ∙ ap (λ o. some_id o) it.1) (ap (λ (x : Sentence). x.sent_id) it.2 ∙ h.3) lacks
@@ -42,3 +42,8 @@ id_taken s id n h lacks =
     some_id : Option machine.Sentence → Option (List ℕ)
     some_id None = None
     some_id (Some x) = Some x.sent_id
+
+pub id_reported : (s : Machine) (id : List ℕ) (found : Option ℕ) → IsNumberOf (λ (x : Sentence). x.sent_id) id (map sentence_record s.sentences) found
+    → MatchBool (is_some found) (Lacks (ids_of s.sentences) id → ⊥) (Lacks (ids_of s.sentences) id)
+id_reported s id None h = id_free s id h
+id_reported s id (Some n) h = id_taken s id n h

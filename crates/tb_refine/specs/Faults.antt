@@ -1,5 +1,5 @@
 -- The faults that callers see for errors of the database and of reads.
-use Rattle.std.specs.Prelude.{◌≢◌}
+use Rattle.std.specs.Prelude.{◌≢◌, Option, Some, None, Result, Ok, Err}
 use Rattle.sqlite.specs.declared.error.Error.{Error}
 use Rattle.sqlite.specs.declared.error.Error.TheVariants.{SqliteFailure}
 use Rattle.sqlite.specs.declared.error.ErrorCode.{ErrorCode}
@@ -38,6 +38,17 @@ making_fault_of_code _ = Device
 abbrev pub fault_of_making : Error → Fault
 fault_of_making (SqliteFailure code) = making_fault_of_code code
 fault_of_making _ = Device
+
+-- the answer of the database, or the fault for its error
+abbrev pub reported_by : {X E : Type 0} → (E → Fault) → Result X E → Result X Fault
+reported_by fault_of (Ok x) = Ok x
+reported_by fault_of (Err error) = Err (fault_of error)
+
+-- the same of a read of one row that exists: without the row, the tables are not a desk's
+abbrev pub reported_of_row : {X : Type 0} → Result (Option X) ReadError → Result X Fault
+reported_of_row (Ok (Some row)) = Ok row
+reported_of_row (Ok None) = Err NotADesk
+reported_of_row (Err error) = Err (fault_of_read error)
 
 -- the fault is not the device's
 abbrev pub IsNoDevice : Fault → Type 0

@@ -1,8 +1,9 @@
 //! The faults that callers see for errors of the database and of reads.
 
-ghost use Rattle.std.specs.Prelude.{◌≡◌, ◌≢◌, ◌⊎◌};
+ghost use Rattle.std.specs.Prelude.{◌≡◌, ◌≢◌, ◌⊎◌, Err};
 ghost use Rattle.tb_core.specs.declared.refusals.Refusal.{Refusal};
 ghost use Rattle.tb_refine.specs.Faults.{fault_of_code, fault_of_error, fault_of_read, fault_of_making};
+ghost use Rattle.tb_refine.specs.Faults.{reported_by, reported_of_row};
 
 use sqlite::{Error, ErrorCode};
 use tb_core::Fault;
@@ -61,5 +62,42 @@ pub fn of_making(error: Error) -> Fault
     match error {
         Error::SqliteFailure(ErrorCode::OutOfMemory) => Fault::Memory,
         _ => Fault::Device,
+    }
+}
+
+/// A read, with the fault for its error.
+pub fn reported<T>(read: Result<T, ReadError>) -> Result<T, Fault>
+    ensures value { result ≡ reported_by fault_of_read read }
+    ensures never_refuses { (r : Refusal) → result ≢ Err (Fault.Refused r) }
+    ensures output { result ≢ Err Fault.Output }
+{
+    match read {
+        Ok(found) => Ok(found),
+        Err(error) => Err(of_read(error)),
+    }
+}
+
+/// A read of a row that exists, with the fault for its error. Tables without the row are not a desk's.
+pub fn reported_row<T>(read: Result<Option<T>, ReadError>) -> Result<T, Fault>
+    ensures value { result ≡ reported_of_row read }
+    ensures never_refuses { (r : Refusal) → result ≢ Err (Fault.Refused r) }
+    ensures output { result ≢ Err Fault.Output }
+{
+    match read {
+        Ok(Some(row)) => Ok(row),
+        Ok(None) => Err(Fault::NotADesk),
+        Err(error) => Err(of_read(error)),
+    }
+}
+
+/// A write, with the fault for its error.
+pub fn reported_write(write: Result<(), Error>) -> Result<(), Fault>
+    ensures value { result ≡ reported_by fault_of_error write }
+    ensures never_refuses { (r : Refusal) → result ≢ Err (Fault.Refused r) }
+    ensures output { result ≢ Err Fault.Output }
+{
+    match write {
+        Ok(()) => Ok(()),
+        Err(error) => Err(of_error(error)),
     }
 }

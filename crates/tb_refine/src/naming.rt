@@ -1,6 +1,6 @@
 //! Finds what has a name that a command gives.
 
-ghost use Rattle.std.specs.Prelude.{◌≡◌, ◌≢◌, Err, MatchBool, false, is_ok};
+ghost use Rattle.std.specs.Prelude.{◌≡◌, ◌≢◌, Err, MatchBool, false, is_ok, is_some};
 ghost use Rattle.tb_core.specs.declared.refusals.Refusal.{Refusal as AnyRefusal};
 ghost use Rattle.tb_core.specs.Names.{Lacks};
 ghost use Rattle.tb_core.specs.Acts.{ids_of};
@@ -24,10 +24,22 @@ pub fn batch_number<S: Alter>(conn: &mut Connection<S>, name: &str) -> Result<Op
     ensures read_only { IsReadOnly S.Store conn.old conn.new (is_ok result) }
 {
     desk_rows_fit();
-    match tb_reads::batch_named(conn, name) {
-        Ok(found) => Ok(found),
-        Err(error) => Err(faults::of_read(error)),
-    }
+    faults::reported(tb_reads::batch_named(conn, name))
+}
+
+/// The number of the sentence with this `sent_id`, pulled or not, or none where no sentence has it.
+fn sentence_number<S: Alter>(conn: &mut Connection<S>, sent_id: &str) -> Result<Option<u32>, Fault>
+    ensures answered { Tells S.Store conn.old conn.new result (λ s found.
+        MatchBool (is_some found) (Lacks (ids_of s.sentences) sent_id.now → ⊥)
+        (Lacks (ids_of s.sentences) sent_id.now)) }
+    ensures never_refuses { (r : AnyRefusal) → result ≢ Err (Fault.Refused r) }
+    ensures output { result ≢ Err Fault.Output }
+    ensures fails { KnowsDesk S.Store conn.old conn.new result }
+    ensures cause { IsFaultless S.Store conn.old conn.new → FailsOnlyAs IsNoDevice S.Store conn.old conn.new result }
+    ensures read_only { IsReadOnly S.Store conn.old conn.new (is_ok result) }
+{
+    desk_rows_fit();
+    faults::reported(tb_reads::sentence_named(conn, sent_id))
 }
 
 /// Whether a sentence, pulled or not, has this `sent_id`. It is never refused.
@@ -40,10 +52,6 @@ pub fn is_taken<S: Alter>(conn: &mut Connection<S>, sent_id: &str) -> Result<boo
     ensures cause { IsFaultless S.Store conn.old conn.new → FailsOnlyAs IsNoDevice S.Store conn.old conn.new result }
     ensures read_only { IsReadOnly S.Store conn.old conn.new (is_ok result) }
 {
-    desk_rows_fit();
-    match tb_reads::sentence_named(conn, sent_id) {
-        Ok(Some(_)) => Ok(true),
-        Ok(None) => Ok(false),
-        Err(error) => Err(faults::of_read(error)),
-    }
+    let found = sentence_number(conn, sent_id)?;
+    Ok(found.is_some())
 }

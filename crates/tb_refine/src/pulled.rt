@@ -32,8 +32,5 @@ pub fn read_pulled<S: Alter>(alloc: Global, conn: &mut Connection<S>) -> Result<
     ensures read_only { IsReadOnly S.Store conn.old conn.new (is_ok result) }
 {
     desk_rows_are_readable();
-    match tb_reads::pulled(alloc, conn) {
-        Ok(numbers) => Ok(numbers),
-        Err(error) => Err(faults::of_read(error)),
-    }
+    faults::reported(tb_reads::pulled(alloc, conn))
 }

@@ -11,11 +11,11 @@ use Rattle.tb_refine.proofs.Written.{follows}
 use Rattle.tb_commands.proofs.Committed.{pull_stands}
 use Rattle.tb_core.specs.Acts.{pulling}
 use Rattle.tb_commands.proofs.Short.{short_mover}
-use Rattle.tb_commands.proofs.Told.{told_on, told_err, told_not}
+use Rattle.tb_refine.proofs.Reported.{reported_on, reported_err, reported_not}
 use Rattle.tb_commands.proofs.committing.pull.Goals as goal
 
 pub returns-clause-made : goal.returns-clause-made
-returns-clause-made g c clean = rw c.written.ensures.value (told_on fault_of_error c.write_pull.result (c.write_pull.ensures.ok clean) (λ ok s user desk allowed reachable written.
+returns-clause-made g c clean = rw c.reported_write.ensures.value (reported_on fault_of_error c.write_pull.result (c.write_pull.ensures.ok clean) (λ ok s user desk allowed reachable written.
     let holds = ok (tables_of s) desk.holds (follows s (pulling (c.args.number - 1) user) c.args.change.now written) in
     let well = c.reached_states_are_well.ensures s desk.reachable.reached in
     record {
@@ -30,7 +30,7 @@ returns-clause-made g c clean = rw c.written.ensures.value (told_on fault_of_err
     }))
 
 pub returns-clause-keeps_records : goal.returns-clause-keeps_records
-returns-clause-keeps_records g c clean opened = rw c.written.ensures.value (told_err fault_of_error _ c.write_pull.result (c.write_pull.ensures.err clean opened))
+returns-clause-keeps_records g c clean opened = rw c.reported_write.ensures.value (reported_err fault_of_error _ c.write_pull.result (c.write_pull.ensures.err clean opened))
 
 pub returns-clause-crash : goal.returns-clause-crash
 returns-clause-crash g c = survives_weaker (state g.S.Store c.args.conn.now) (state g.S.Store c.write_pull.new.conn) _ _ (λ _ db whole s user desk allowed written.
@@ -41,11 +41,11 @@ pub returns-clause-fails : goal.returns-clause-fails
 returns-clause-fails g c clean unlimited s user desk allowed written bad =
     let well = c.reached_states_are_well.ensures s desk.reachable.reached in
     let fault = c.write_pull.ensures.fails clean unlimited (tables_of s) desk.holds (follows s (pulling (c.args.number - 1) user) c.args.change.now written) (unpulled_lacks s c.args.number user c.requires.row allowed) (unique_tables s well) in
-    told_not fault_of_error NotADesk c.write_pull.result (λ e failed. error_reported e (rw failed at fault)) (sym c.written.ensures.value ∙ bad)
+    reported_not fault_of_error NotADesk c.write_pull.result (λ e failed. error_reported e (rw failed at fault)) (sym c.reported_write.ensures.value ∙ bad)
 
 pub returns-clause-cause : goal.returns-clause-cause
 returns-clause-cause g c good clean unlimited s desk user allowed written bad =
     let well = c.reached_states_are_well.ensures s desk.reachable.reached in
     let a = pulling (c.args.number - 1) user in
     let want = c.write_pull.ensures.wants good clean unlimited (tables_of s) desk.holds (follows s a c.args.change.now written) (unpulled_lacks s c.args.number user c.requires.row allowed) (unique_tables s well) (short_mover s a c.args.change.now written allowed.by) in
-    told_not fault_of_error Device c.write_pull.result (λ e failed. memory_reported e (rw failed at want)) (sym c.written.ensures.value ∙ bad)
+    reported_not fault_of_error Device c.write_pull.result (λ e failed. memory_reported e (rw failed at want)) (sym c.reported_write.ensures.value ∙ bad)

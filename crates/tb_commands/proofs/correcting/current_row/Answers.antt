@@ -8,12 +8,12 @@ use Rattle.tb_core.specs.Machine.{Revision}
 use Rattle.tb_tables.specs.Values.{revision_of}
 use Rattle.tb_refine.specs.DeskTables.{tables_of}
 use Rattle.tb_refine.proofs.RowsOfState.{revision_reported, current_is}
-use Rattle.tb_commands.proofs.Told.{row_if, row_known, row_clear, row_read}
+use Rattle.tb_refine.proofs.Reported.{row_if, row_known, row_clear, row_only}
 use Rattle.tb_commands.proofs.correcting.current_row.Goals as goal
 
 pub returns-clause-answered : goal.returns-clause-answered
 returns-clause-answered g c clean =
-    rw c.there.ensures.value (row_if _ c.revision.result (λ row read s desk x there is.
+    rw c.reported_row.ensures.value (row_if _ c.revision.result (λ row read s desk x there is.
     let ok = rw read at c.revision.ensures.ok in
     let found = ok clean desk.holds.schema (tables_of s).revisions desk.holds.stands.revisions in
     let it = revision_reported s x c.args.number c.args.rev (revision_of row) c.requires there found in
@@ -30,13 +30,13 @@ returns-clause-fails g c clean unlimited s desk x there is bad =
     let fits = fit IsReadableRevision IsRevision (λ r h. record { sent_fits = h.sent_fits; rev_fits = h.rev_fits; who_fits = h.who_fits; body_fits = h.body_fits }) (tables_of s).revisions readable.revisions in
     let fails = rw failed at c.revision.ensures.fails in
     read_reported e (fails clean unlimited desk.holds.schema) (λ unfit. c.revision.ensures.form clean (failed ∙ ap Err unfit) desk.holds.schema (tables_of s).revisions fits desk.holds.stands.revisions))
-    (sym c.there.ensures.value ∙ bad)
+    (sym c.reported_row.ensures.value ∙ bad)
 
 pub returns-clause-cause : goal.returns-clause-cause
 returns-clause-cause g c good clean unlimited has =
-    rw c.there.ensures.value (row_clear c.revision.result (λ e failed.
+    rw c.reported_row.ensures.value (row_clear c.revision.result (λ e failed.
     let want = rw failed at c.revision.ensures.cause in
     want_reported e (want good clean unlimited has)))
 
 pub returns-clause-read_only : goal.returns-clause-read_only
-returns-clause-read_only g c = rw c.there.ensures.value (row_read g.S.Store c.args.conn.now c.revision.new.conn c.revision.result c.revision.ensures.read_only)
+returns-clause-read_only g c = rw c.reported_row.ensures.value (row_only g.S.Store c.args.conn.now c.revision.new.conn c.revision.result c.revision.ensures.read_only)

@@ -5,12 +5,12 @@ use Rattle.tb_refine.specs.DeskTables.{tables_of, batch_record}
 use Rattle.tb_refine.specs.Fitting.{IsReadableBatch}
 use Rattle.tb_refine.proofs.Faultless.{read_reported, fit, want_reported}
 use Rattle.tb_commands.proofs.Finds.{row_reported, none_lacks}
-use Rattle.tb_commands.proofs.Told.{row_if, row_known, row_clear, row_read}
+use Rattle.tb_refine.proofs.Reported.{row_if, row_known, row_clear, row_only}
 use Rattle.tb_commands.proofs.finding.batch_row.Goals as goal
 
 pub returns-clause-answered : goal.returns-clause-answered
 returns-clause-answered g c clean =
-    rw c.there.ensures.value (row_if _ c.batch.result (λ row read s desk x there.
+    rw c.reported_row.ensures.value (row_if _ c.batch.result (λ row read s desk x there.
     let ok = rw read at c.batch.ensures.ok in
     row_reported batch_record s.batches (c.args.number - 1) x (batch_of row) (ok clean desk.holds.schema (tables_of s).batches desk.holds.stands.batches) there))
 
@@ -24,13 +24,13 @@ returns-clause-fails g c clean unlimited s desk x there bad =
     let fits = fit IsReadableBatch IsBatch (λ y h. record { name_fits = h.name_fits; state_fits = h.state_fits; worker_fits = h.worker_fits }) (tables_of s).batches readable.batches in
     let fails = rw failed at c.batch.ensures.fails in
     read_reported e (fails clean unlimited desk.holds.schema) (λ unfit. c.batch.ensures.form clean (failed ∙ ap Err unfit) desk.holds.schema (tables_of s).batches fits desk.holds.stands.batches))
-    (sym c.there.ensures.value ∙ bad)
+    (sym c.reported_row.ensures.value ∙ bad)
 
 pub returns-clause-cause : goal.returns-clause-cause
 returns-clause-cause g c good clean unlimited has =
-    rw c.there.ensures.value (row_clear c.batch.result (λ e failed.
+    rw c.reported_row.ensures.value (row_clear c.batch.result (λ e failed.
     let want = rw failed at c.batch.ensures.cause in
     want_reported e (want good clean unlimited has)))
 
 pub returns-clause-read_only : goal.returns-clause-read_only
-returns-clause-read_only g c = rw c.there.ensures.value (row_read g.S.Store c.args.conn.now c.batch.new.conn c.batch.result c.batch.ensures.read_only)
+returns-clause-read_only g c = rw c.reported_row.ensures.value (row_only g.S.Store c.args.conn.now c.batch.new.conn c.batch.result c.batch.ensures.read_only)

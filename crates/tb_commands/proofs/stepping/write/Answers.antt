@@ -11,11 +11,11 @@ use Rattle.tb_refine.proofs.Unique.{unique_tables}
 use Rattle.tb_commands.proofs.Stepped.{event_stands, row_there, prepared_written}
 use Rattle.tb_tables.specs.Failing.{IsShort}
 use Rattle.tb_commands.proofs.Short.{short_batch, short_mover, short_worker}
-use Rattle.tb_commands.proofs.Told.{told_on, told_err, told_not}
+use Rattle.tb_refine.proofs.Reported.{reported_on, reported_err, reported_not}
 use Rattle.tb_commands.proofs.stepping.write.Goals as goal
 
 pub returns-clause-done : goal.returns-clause-done
-returns-clause-done g c clean = rw c.written.ensures.value (told_on fault_of_error c.write_event.result (c.write_event.ensures.ok clean) (λ ok s desk place event user plan allowed.
+returns-clause-done g c clean = rw c.reported_write.ensures.value (reported_on fault_of_error c.write_event.result (c.write_event.ensures.ok clean) (λ ok s desk place event user plan allowed.
     let who : c.as_str.result.now ≡ string_bytes c.args.plan.now.worker = search rules in
     let holds = ok (tables_of s) desk.holds (batch_record plan.batch) (row_there s place event user c.args.plan.now plan) (follows s (stepping place event user) c.args.plan.now.prepared.change (prepared_written s place event user c.args.plan.now plan)) in
     record {
@@ -27,7 +27,7 @@ returns-clause-done g c clean = rw c.written.ensures.value (told_on fault_of_err
     }))
 
 pub returns-clause-keeps_records : goal.returns-clause-keeps_records
-returns-clause-keeps_records g c clean opened = rw c.written.ensures.value (told_err fault_of_error _ c.write_event.result (c.write_event.ensures.err clean opened))
+returns-clause-keeps_records g c clean opened = rw c.reported_write.ensures.value (reported_err fault_of_error _ c.write_event.result (c.write_event.ensures.err clean opened))
 
 pub returns-clause-crash : goal.returns-clause-crash
 returns-clause-crash g c = survives_weaker (state g.S.Store c.args.conn.now) (state g.S.Store c.write_event.new.conn) _ _ (λ _ db whole s desk place event user plan allowed.
@@ -40,7 +40,7 @@ returns-clause-fails g c clean unlimited s desk place event user plan allowed ba
     let well = c.reached_states_are_well.ensures s desk.reachable.reached in
     let fault = c.write_event.ensures.fails clean unlimited (tables_of s) desk.holds (batch_record plan.batch) (row_there s place event user c.args.plan.now plan)
     (follows s (stepping place event user) c.args.plan.now.prepared.change (prepared_written s place event user c.args.plan.now plan)) (unique_tables s well) in
-    told_not fault_of_error NotADesk c.write_event.result (λ e failed. error_reported e (rw failed at fault)) (sym c.written.ensures.value ∙ bad)
+    reported_not fault_of_error NotADesk c.write_event.result (λ e failed. error_reported e (rw failed at fault)) (sym c.reported_write.ensures.value ∙ bad)
 
 pub returns-clause-cause : goal.returns-clause-cause
 returns-clause-cause g c good clean unlimited s desk place event user plan allowed bad =
@@ -52,4 +52,4 @@ returns-clause-cause g c good clean unlimited s desk place event user plan allow
     let worker : IsShort c.as_str.result.now = subst IsShort (sym (who ∙ plan.worker)) (short_worker s place event user plan.batch desk.reachable.reached plan.there allowed.by) in
     let want = c.write_event.ensures.wants good clean unlimited (tables_of s) desk.holds (batch_record plan.batch) (row_there s place event user c.args.plan.now plan)
     (follows s a change written) (unique_tables s well) (short_batch s place plan.batch well plan.there) worker (short_mover s a change written allowed.by) in
-    told_not fault_of_error Device c.write_event.result (λ e failed. memory_reported e (rw failed at want)) (sym c.written.ensures.value ∙ bad)
+    reported_not fault_of_error Device c.write_event.result (λ e failed. memory_reported e (rw failed at want)) (sym c.reported_write.ensures.value ∙ bad)

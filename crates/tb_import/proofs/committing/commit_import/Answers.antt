@@ -18,11 +18,11 @@ use Rattle.tb_tables.specs.Changes.{HasRevisionRowids}
 use Rattle.tb_tables.specs.Premises.{IsShortItem}
 use Rattle.tb_import.proofs.Committed.{import_stands, next_batch}
 use Rattle.tb_import.proofs.Sized.{short_items}
-use Rattle.tb_import.proofs.Told.{told_on, told_err, told_not}
+use Rattle.tb_refine.proofs.Reported.{reported_on, reported_err, reported_not}
 use Rattle.tb_import.proofs.committing.commit_import.Goals as goal
 
 pub returns-clause-made : goal.returns-clause-made
-returns-clause-made g c clean = rw c.told.ensures.value (told_on fault_of_error c.write_import.result (c.write_import.ensures.ok clean) (λ ok s bodies desk is allowed reachable written.
+returns-clause-made g c clean = rw c.reported_write.ensures.value (reported_on fault_of_error c.write_import.result (c.write_import.ensures.ok clean) (λ ok s bodies desk is allowed reachable written.
     let act = importing c.args.name.now c.args.who.now bodies in
     let next = next_batch s c.args.number c.args.first bodies c.args.items.now is in
     let holds = ok (tables_of s) desk.holds next.0 next.1 (follows s act c.args.change.now written) in
@@ -30,7 +30,7 @@ returns-clause-made g c clean = rw c.told.ensures.value (told_on fault_of_error 
     record { reachable = reachable; holds = subst (λ (d : Tables). Holds g.S.Store c.write_import.new.conn d) same holds }))
 
 pub returns-clause-keeps_records : goal.returns-clause-keeps_records
-returns-clause-keeps_records g c clean opened = rw c.told.ensures.value (told_err fault_of_error _ c.write_import.result (c.write_import.ensures.err clean opened))
+returns-clause-keeps_records g c clean opened = rw c.reported_write.ensures.value (reported_err fault_of_error _ c.write_import.result (c.write_import.ensures.err clean opened))
 
 pub returns-clause-crash : goal.returns-clause-crash
 returns-clause-crash g c = survives_weaker (state g.S.Store c.args.conn.now) (state g.S.Store c.write_import.new.conn) _ _ (λ _ db whole s bodies desk is allowed written.
@@ -45,7 +45,7 @@ returns-clause-fails g c clean unlimited s bodies desk is allowed reachable writ
     let same = import_stands s c.args.name.now c.args.who.now bodies c.args.number c.args.first c.args.items.now c.args.change.now desk.reachable.reached is allowed written in
     let apart = subst AreUnique (sym same) (unique_tables (after s act) (c.reached_states_are_well.ensures (after s act) reachable.reached)) in
     let fails = c.write_import.ensures.fails clean unlimited (tables_of s) desk.holds next.0 next.1 (follows s act c.args.change.now written) apart in
-    told_not fault_of_error NotADesk c.write_import.result (λ e failed. room_reported e (rw failed at fails)) (sym c.told.ensures.value ∙ bad)
+    reported_not fault_of_error NotADesk c.write_import.result (λ e failed. room_reported e (rw failed at fails)) (sym c.reported_write.ensures.value ∙ bad)
 
 pub returns-clause-cause : goal.returns-clause-cause
 returns-clause-cause g c good clean unlimited s desk bodies is allowed reachable written short free bad =
@@ -58,4 +58,4 @@ returns-clause-cause g c good clean unlimited s desk bodies is allowed reachable
     let left = subst (HasRevisionRowids (state g.S.Store c.args.conn.now)) (sym many) free in
     let wants = c.write_import.ensures.wants good clean unlimited (tables_of s) desk.holds next.0 next.1 (follows s act c.args.change.now written) apart
     (short_name c.args.name.now allowed.named) (short_name c.args.who.now allowed.by) items (short_mover s act c.args.change.now written allowed.by) left in
-    told_not fault_of_error Device c.write_import.result (λ e failed. memory_reported e (rw failed at wants)) (sym c.told.ensures.value ∙ bad)
+    reported_not fault_of_error Device c.write_import.result (λ e failed. memory_reported e (rw failed at wants)) (sym c.reported_write.ensures.value ∙ bad)
