@@ -1,5 +1,5 @@
 -- What one read tells, and several in a row.
-use Rattle.std.proofs.Common.{◌≡◌, ◌≢◌, true, false, None, Result, Ok, Err, sym, ap, subst, ◌∙◌}
+use Rattle.std.proofs.Common.{◌≡◌, ◌≢◌, true, false, None, Result, Ok, Err, IfOk, IfErr, OnOk, is_ok, sym, ap, subst, ◌∙◌}
 use Rattle.sqlite.specs.Store.{Ghosts}
 use Rattle.sqlite.specs.Effect.{Database}
 use Rattle.sqlite.specs.Held.{Held, state}
@@ -13,14 +13,19 @@ use Rattle.tb_core.specs.Machine.{Machine}
 use Rattle.tb_core.specs.Reaching.{IsReachable}
 use Rattle.tb_tables.specs.Layout.{desk_schema}
 use Rattle.tb_tables.specs.Records.{Tables, AreStored}
-use Rattle.tb_tables.specs.Leaving.{IsFaultless}
+use Rattle.tb_tables.specs.Leaving.{IsFaultless, FailsOnlyAs}
 use Rattle.tb_tables.proofs.Causes.{faultless_next}
 use Rattle.tb_refine.specs.DeskTables.{tables_of}
-use Rattle.tb_reads.specs.Failing.{SeesAsBefore}
+use Rattle.tb_refine.specs.Faults.{reported_by}
+use Rattle.tb_refine.proofs.Reported.{reported_if, reported_only}
+use Rattle.tb_reads.specs.declared.error.ReadError.{ReadError}
+use Rattle.tb_reads.specs.declared.error.ReadError.TheVariants.{Form}
+use Rattle.tb_reads.specs.Failing.{SeesAsBefore, IsUnchangedOnForm, IsReadWant}
 use Rattle.tb_reads.specs.ReadOnly.{IsReadOnly}
-use Rattle.tb_reads.proofs.ReadOnly.{read_then, was_clean}
+use Rattle.tb_reads.proofs.ReadOnly.{read_then, read_on, was_clean}
 use Rattle.tb_reads.proofs.Staying.{still_settled}
 use Rattle.tb_verify.specs.TableReads.{HasReadTable}
+use Rattle.tb_verify.specs.Unfit.{fault_of_rows}
 use Rattle.tb_verify.proofs.Results.{ok_is_no_err, err_is, both_shown, if_ok_under}
 
 -- where the trees stand for a reachable state
@@ -57,6 +62,32 @@ module _ {S : Type 0} (g : Ghosts S) (old new : Held S) (sees : SeesAsBefore g o
     refused = λ r q. refused r (err_is X e (Refused r) q);
     cause = cause;
     read_only = read;
+  }
+
+-- ---- a read, with the fault for its error
+
+module _ {S X : Type 0} (g : Ghosts S) (old new : Held S) (r : Result X ReadError) (result : Result X Fault) (IsShown : X → Trees → Type 0) (IsHeld : X → Tables → Type 0) where
+  no_device : result ≢ Err Device → IfErr result (λ (fault : Fault). fault ≢ Device)
+  no_device other = by result other
+    where
+      by : (s : Result X Fault) → s ≢ Err Device → IfErr s (λ (fault : Fault). fault ≢ Device)
+      by (Ok x) never = tt
+      by (Err e) never = λ is. never (ap (λ f. Err f) is)
+
+  pub read_reported : result ≡ reported_by fault_of_rows r → (result ≡ Err NotADesk → r ≡ Err Form) → (IfErr r IsReadWant → result ≢ Err Device) → ((q : Refusal) → result ≢ Err (Refused q)) → SeesAsBefore g old new
+      → (HasCleanDisk (state g new) → IfOk r (λ x. (state g old).now.schema ≡ desk_schema → IsShown x (state g old).now.trees))
+      → (HasCleanDisk (state g new) → IfOk r (λ x. (state g old).now.schema ≡ desk_schema → (s : Machine) → IsReachable s → AreStored (tables_of s) (state g old).now.trees → IsHeld x (tables_of s)))
+      → (HasCleanDisk (state g new) → r ≡ Err Form → (state g old).now.schema ≡ desk_schema → Unstood (state g old).now.trees) → IsUnchangedOnForm g old new r
+      → (IsFaultless g old new → FailsOnlyAs IsReadWant g old new r) → IsReadOnly g old new (is_ok r) → HasReadTable g old new result IsShown IsHeld
+  read_reported value form want never sees shown held unfit untouched cause read = record {
+    shown = λ clean. rw value (reported_if fault_of_rows _ r (shown clean));
+    reported = λ clean. rw value (reported_if fault_of_rows _ r (held clean));
+    unfit = λ clean failed. unfit clean (form failed);
+    untouched = λ clean failed. untouched clean (form failed);
+    sees = sees;
+    refused = never;
+    cause = λ good clean unlimited has. no_device (want (cause good clean unlimited has));
+    read_only = rw value (reported_only fault_of_rows g old new r read);
   }
 
 -- ---- a read after another
@@ -96,6 +127,15 @@ read_failed {X = X} g a b e f r P I Q J made is h =
     (read_badly g a b h.sees f Q J (λ clean q. h.unfit clean (ap (λ (k : Fault). let w : Result X Fault = Err k in w) (sym is ∙ q)))
     (λ clean q. h.untouched clean (ap (λ (k : Fault). let w : Result X Fault = Err k in w) (sym is ∙ q))) (λ r q. h.refused r (ap (λ (k : Fault). let w : Result X Fault = Err k in w) (sym is ∙ q)))
     (λ good clean unlimited has q. h.cause good clean unlimited has (sym is ∙ q)) h.read_only)
+
+-- it is tested, and what is no desk's does not pass
+pub read_tested : {S X : Type 0} (g : Ghosts S) (a b : Held S) (x : X) (r : Result (Unit {0}) Fault) (A : Type 0) (P : X → Trees → Type 0) (I : X → Tables → Type 0) (Q : Trees → Type 0) → HasReadTable g a b (Ok x) P I → OnOk r A
+    → IfErr r (λ (e : Fault). (e ≡ NotADesk) × ¬ A) → ((t : Trees) → P x t → A → Q t) → ((d : Tables) → I x d → A) → HasReadTable g a b r (λ _ t. Q t) (λ _ _. Unit {0})
+read_tested g a b x (Ok done) A P I Q h right wrong shown held = read_well g a b h.sees done _ _ (λ clean has. shown (state g a).now.trees (h.shown clean has) right) (λ clean has s reach stands. tt) h.read_only
+read_tested g a b x (Err e) A P I Q h right wrong shown held =
+    let is = wrong.0 in
+    read_badly g a b h.sees e _ _ (λ clean q has s reach stands. wrong.1 (held (tables_of s) (h.reported clean has s reach stands)))
+    (λ clean q has. h.read_only.unchanged clean has) (λ r q. absurd cc) (λ good clean unlimited has q. absurd cc) (read_on false h.read_only)
 
 -- another value is made
 pub read_as : {S X Y : Type 0} (g : Ghosts S) (a b : Held S) (x : X) (y : Y) (P : X → Trees → Type 0) (I : X → Tables → Type 0) (Q : Y → Trees → Type 0) (J : Y → Tables → Type 0) → ((t : Trees) → P x t → Q y t)

@@ -1,10 +1,10 @@
 //! Errors of the database and of reads, and unfit rows, as faults for a caller.
 
-ghost use Rattle.std.specs.Prelude.{◌≡◌, ◌≢◌};
+ghost use Rattle.std.specs.Prelude.{◌≡◌, ◌≢◌, Err, IfErr};
 ghost use Rattle.tb_core.specs.declared.refusals.Refusal.{Refusal};
 ghost use Rattle.tb_tables.specs.Failing.{IsWant};
 ghost use Rattle.tb_reads.specs.Failing.{IsReadWant};
-ghost use Rattle.tb_refine.specs.Faults.{fault_of_making};
+ghost use Rattle.tb_refine.specs.Faults.{fault_of_making, reported_by};
 ghost use Rattle.tb_verify.specs.Unfit.{fault_of_rows, fault_of_unfit};
 
 use crate::unfit::Unfit;
@@ -36,6 +36,19 @@ pub(crate) fn of_read(error: ReadError) -> Fault
     match error {
         ReadError::Store(error) => of_error(error),
         ReadError::Form => Fault::NotADesk,
+    }
+}
+
+/// A read, with the fault for its error.
+pub(crate) fn reported<T>(read: Result<T, ReadError>) -> Result<T, Fault>
+    ensures value { result ≡ reported_by fault_of_rows read }
+    ensures form { result ≡ Err Fault.NotADesk → read ≡ Err ReadError.Form }
+    ensures cause { IfErr read IsReadWant → result ≢ Err Fault.Device }
+    ensures never_refuses { (r : Refusal) → result ≢ Err (Fault.Refused r) }
+{
+    match read {
+        Ok(found) => Ok(found),
+        Err(error) => Err(of_read(error)),
     }
 }
 

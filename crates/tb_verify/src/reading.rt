@@ -1,6 +1,6 @@
 //! The rows of all tables of a desk, read one table after another. No read changes anything, also after an error.
 
-ghost use Rattle.std.specs.Prelude.{◌≡◌, ◌↔◌, [], ◌∷◌, map, IsTrue};
+ghost use Rattle.std.specs.Prelude.{◌≡◌, ◌≢◌, ◌↔◌, [], ◌∷◌, map, IsTrue, OnOk, IfErr};
 ghost use Rattle.tb_tables.specs.Records.{AreStored, Shows, numbered, batch_shown, sentence_shown, revision_shown};
 ghost use Rattle.tb_tables.specs.Records.{move_shown, total_shown, number_shown, meta_view, batch_view, sentence_view};
 ghost use Rattle.tb_tables.specs.Records.{revision_view, move_view, total_view, number_view};
@@ -8,7 +8,7 @@ ghost use Rattle.tb_tables.specs.Values.{batch_of, sentence_of, revision_of, mov
 ghost use Rattle.tb_verify.specs.Summary.{tables_in};
 ghost use Rattle.tb_verify.specs.TableReads.{HasReadTable};
 
-use crate::faults::of_read;
+use crate::faults::reported;
 use crate::summary::TableRows;
 use sqlite::{Alter, Connection};
 use std::alloc::Global;
@@ -25,20 +25,32 @@ fn is_second(versions: &[u32]) -> bool
     }
 }
 
+/// Nothing where 2 is the only version, and `NotADesk` where it is not. This needs no memory.
+fn test_version(versions: &[u32]) -> Result<(), Fault>
+    ensures right { OnOk result (versions.now ≡ 2 ∷ []) }
+    ensures wrong { IfErr result (λ e. (e ≡ Fault.NotADesk) × (versions.now ≢ 2 ∷ [])) }
+{
+    if !is_second(versions) {
+        return Err(Fault::NotADesk);
+    }
+    Ok(())
+}
+
+/// The versions that the file names.
+fn read_versions<S: Alter>(alloc: Global, conn: &mut Connection<S>) -> Result<Vec<u32>, Fault>
+    ensures { HasReadTable S.Store conn.old conn.new result (λ v trees. Shows meta_view (map number_shown v.items)
+        (trees 0)) (λ v d. v.items ≡ 2 ∷ []) }
+{
+    reported(tb_reads::versions(alloc, conn))
+}
+
 /// Tests that the file names one version, 2.
 fn read_version<S: Alter>(alloc: Global, conn: &mut Connection<S>) -> Result<(), Fault>
     ensures { HasReadTable S.Store conn.old conn.new result (λ _ trees. Shows meta_view (number_shown 2 ∷ [])
         (trees 0)) (λ _ _. Unit {0}) }
 {
-    match tb_reads::versions(alloc, conn) {
-        Ok(versions) => {
-            if !is_second(versions.as_slice()) {
-                return Err(Fault::NotADesk);
-            }
-            Ok(())
-        }
-        Err(error) => Err(of_read(error)),
-    }
+    let versions = read_versions(alloc, conn)?;
+    test_version(versions.as_slice())
 }
 
 /// The rows of batches, by number.
@@ -47,10 +59,7 @@ fn read_batches<S: Alter>(alloc: Global, conn: &mut Connection<S>) -> Result<Vec
         Shows batch_view (numbered batch_shown 1 (map batch_of v.items)) (trees 1)) (λ v d. Unit {0}) }
 {
     desk_rows_are_readable();
-    match tb_reads::batches(alloc, conn) {
-        Ok(rows) => Ok(rows),
-        Err(error) => Err(of_read(error)),
-    }
+    reported(tb_reads::batches(alloc, conn))
 }
 
 /// The rows of sentences, by number.
@@ -62,10 +71,7 @@ fn read_sentences<S: Alter>(
         Shows sentence_view (numbered sentence_shown 1 (map sentence_of v.items)) (trees 3)) (λ v d. Unit {0}) }
 {
     desk_rows_are_readable();
-    match tb_reads::sentences(alloc, conn) {
-        Ok(rows) => Ok(rows),
-        Err(error) => Err(of_read(error)),
-    }
+    reported(tb_reads::sentences(alloc, conn))
 }
 
 /// The rows of revisions, by sentence and number.
@@ -78,10 +84,7 @@ fn read_revisions<S: Alter>(
         ≡ d.revisions) }
 {
     desk_rows_are_readable();
-    match tb_reads::revisions(alloc, conn) {
-        Ok(rows) => Ok(rows),
-        Err(error) => Err(of_read(error)),
-    }
+    reported(tb_reads::revisions(alloc, conn))
 }
 
 /// The rows of moves, by number.
@@ -90,10 +93,7 @@ fn read_moves<S: Alter>(alloc: Global, conn: &mut Connection<S>) -> Result<Vec<M
         Shows move_view (numbered move_shown 1 (map move_of v.items)) (trees 7)) (λ v d. Unit {0}) }
 {
     desk_rows_are_readable();
-    match tb_reads::moves(alloc, conn) {
-        Ok(rows) => Ok(rows),
-        Err(error) => Err(of_read(error)),
-    }
+    reported(tb_reads::moves(alloc, conn))
 }
 
 /// The rows of totals, by the number of the state.
@@ -102,10 +102,7 @@ fn read_totals<S: Alter>(alloc: Global, conn: &mut Connection<S>) -> Result<Vec<
         Shows total_view (numbered total_shown 1 (map total_of v.items)) (trees 8)) (λ v d. Unit {0}) }
 {
     desk_rows_are_readable();
-    match tb_reads::totals(alloc, conn) {
-        Ok(rows) => Ok(rows),
-        Err(error) => Err(of_read(error)),
-    }
+    reported(tb_reads::totals(alloc, conn))
 }
 
 /// The numbers of pulled sentences, ascending.
@@ -114,10 +111,7 @@ fn read_pulled<S: Alter>(alloc: Global, conn: &mut Connection<S>) -> Result<Vec<
         (trees 9)) (λ v d. v.items ≡ d.pulled) }
 {
     desk_rows_are_readable();
-    match tb_reads::pulled(alloc, conn) {
-        Ok(rows) => Ok(rows),
-        Err(error) => Err(of_read(error)),
-    }
+    reported(tb_reads::pulled(alloc, conn))
 }
 
 /// The rows of all tables.

@@ -1,18 +1,12 @@
-use Rattle.std.proofs.Common.{Err, ap}
 use Rattle.tb_refine.specs.DeskTables.{tables_of}
-use Rattle.tb_verify.proofs.TableReads.{read_well, read_badly}
+use Rattle.tb_reads.proofs.Shown.{if_ok}
+use Rattle.tb_verify.proofs.TableReads.{read_reported}
 use Rattle.tb_verify.proofs.Rises.{pulled_rise}
 use Rattle.tb_verify.proofs.reading.read_pulled.Goals as goal
 
-pub returns-in-Ok : goal.returns-in-Ok
-returns-in-Ok g c = read_well g.S.Store c.args.conn.now c.pulled.new.conn c.pulled.ensures.sees c.in-Ok.rows _ _ c.in-Ok.ensures.ok
-    (λ clean has s reach stands. c.in-Ok.ensures.order clean has (tables_of s).pulled (pulled_rise 1 s.sentences) stands.pulled)
-    c.in-Ok.ensures.read_only
-
-pub returns-in-Err : goal.returns-in-Err
-returns-in-Err g c = read_badly g.S.Store c.args.conn.now c.pulled.new.conn c.pulled.ensures.sees c.of_read.result _ _
-    (λ clean q has s reach stands. c.in-Err.ensures.form clean (ap (λ e. Err e) (c.of_read.ensures.form q)) has (tables_of s).pulled (c.desk_rows_are_readable.ensures s reach).pulled (pulled_rise 1 s.sentences) stands.pulled)
-    (λ clean q. c.in-Err.ensures.untouched clean (ap (λ e. Err e) (c.of_read.ensures.form q)))
-    c.of_read.ensures.never_refuses
-    (λ good clean unlimited has. c.of_read.ensures.cause (c.in-Err.ensures.cause good clean unlimited has))
-    c.in-Err.ensures.read_only
+pub returns : goal.returns
+returns g c = read_reported g.S.Store c.args.conn.now c.pulled.new.conn c.pulled.result c.reported.result _ _ c.reported.ensures.value c.reported.ensures.form c.reported.ensures.cause c.reported.ensures.never_refuses c.pulled.ensures.sees
+    c.pulled.ensures.ok
+    (λ clean. if_ok c.pulled.result (c.pulled.ensures.order clean) (λ v read has s reach stands. read has (tables_of s).pulled (pulled_rise 1 s.sentences) stands.pulled))
+    (λ clean failed has s reach stands. c.pulled.ensures.form clean failed has (tables_of s).pulled (c.desk_rows_are_readable.ensures s reach).pulled (pulled_rise 1 s.sentences) stands.pulled)
+    c.pulled.ensures.untouched c.pulled.ensures.cause c.pulled.ensures.read_only

@@ -1,16 +1,12 @@
-use Rattle.std.proofs.Common.{Err, ap}
 use Rattle.tb_refine.specs.DeskTables.{tables_of}
-use Rattle.tb_verify.proofs.TableReads.{read_well, read_badly}
+use Rattle.tb_reads.proofs.Shown.{if_ok}
+use Rattle.tb_verify.proofs.TableReads.{read_reported}
 use Rattle.tb_verify.proofs.Rises.{totals_fit}
 use Rattle.tb_verify.proofs.reading.read_totals.Goals as goal
 
-pub returns-in-Ok : goal.returns-in-Ok
-returns-in-Ok g c = read_well g.S.Store c.args.conn.now c.totals.new.conn c.totals.ensures.sees c.in-Ok.rows _ _ c.in-Ok.ensures.ok (λ clean has s reach stands. tt) c.in-Ok.ensures.read_only
-
-pub returns-in-Err : goal.returns-in-Err
-returns-in-Err g c = read_badly g.S.Store c.args.conn.now c.totals.new.conn c.totals.ensures.sees c.of_read.result _ _
-    (λ clean q has s reach stands. c.in-Err.ensures.form clean (ap (λ e. Err e) (c.of_read.ensures.form q)) has (tables_of s).totals (totals_fit (tables_of s).totals (c.desk_rows_are_readable.ensures s reach).totals) stands.totals)
-    (λ clean q. c.in-Err.ensures.untouched clean (ap (λ e. Err e) (c.of_read.ensures.form q)))
-    c.of_read.ensures.never_refuses
-    (λ good clean unlimited has. c.of_read.ensures.cause (c.in-Err.ensures.cause good clean unlimited has))
-    c.in-Err.ensures.read_only
+pub returns : goal.returns
+returns g c = read_reported g.S.Store c.args.conn.now c.totals.new.conn c.totals.result c.reported.result _ _ c.reported.ensures.value c.reported.ensures.form c.reported.ensures.cause c.reported.ensures.never_refuses c.totals.ensures.sees
+    c.totals.ensures.ok
+    (λ clean. if_ok c.totals.result (c.totals.ensures.ok clean) (λ v read has s reach stands. tt))
+    (λ clean failed has s reach stands. c.totals.ensures.form clean failed has (tables_of s).totals (totals_fit (tables_of s).totals (c.desk_rows_are_readable.ensures s reach).totals) stands.totals)
+    c.totals.ensures.untouched c.totals.ensures.cause c.totals.ensures.read_only

@@ -1,24 +1,17 @@
-use Rattle.std.proofs.Common.{◌≡◌, false, true, [], ◌∷◌, Err, sym, ap, ◌∙◌, rules}
-use Rattle.tb_verify.proofs.TableReads.{read_badly}
-use Rattle.tb_verify.proofs.Rises.{second_fits, second_rises}
-use Rattle.tb_reads.proofs.ReadOnly.{read_on}
+use Rattle.std.proofs.Common.{◌≡◌, [], ◌∷◌, map, subst, sym, ◌∙◌}
+use Rattle.std.proofs.lemmas.Result.{err_from_is_err_and}
+use Rattle.tb_tables.specs.Records.{Shows, number_shown, meta_view}
+use Rattle.tb_verify.proofs.TableReads.{read_failed, read_tested}
 use Rattle.tb_verify.proofs.reading.read_version.Goals as goal
 
-pub returns-then-not-is_second : goal.returns-then-not-is_second
-returns-then-not-is_second g c =
-    let read : c.as_slice.result.now ≡ c.in-Ok.versions.items = search rules in
-    read_badly g.S.Store c.args.conn.now c.versions.new.conn c.versions.ensures.sees _ _ _
-    (λ clean q has s reach stands.
-    let is = c.is_second.ensures.1 (read ∙ c.in-Ok.ensures.order clean has (2 ∷ []) second_rises stands.meta) in
-    absurd (let d : false ≡ true = sym c.if-not-is_second.true ∙ is in cc))
-    (λ clean q has. c.in-Ok.ensures.read_only.unchanged clean has)
-    (λ r q. cc) (λ good clean unlimited has q. cc)
-    (read_on false c.in-Ok.ensures.read_only)
+pub returns-in_err-versions : goal.returns-in_err-versions
+returns-in_err-versions g c =
+    let p = err_from_is_err_and c.from_residual.result c.from_residual.ensures.1 in
+    read_failed g.S.Store c.args.conn.now c.read_versions.new.conn c.in_err-versions.field-0.0 p.0 c.from_residual.result _ _ _ _ p.1 p.2 c.in_err-versions.ensures
 
-pub returns-in-Err : goal.returns-in-Err
-returns-in-Err g c = read_badly g.S.Store c.args.conn.now c.versions.new.conn c.versions.ensures.sees c.of_read.result _ _
-    (λ clean q has s reach stands. c.in-Err.ensures.form clean (ap (λ e. Err e) (c.of_read.ensures.form q)) has (2 ∷ []) second_fits second_rises stands.meta)
-    (λ clean q. c.in-Err.ensures.untouched clean (ap (λ e. Err e) (c.of_read.ensures.form q)))
-    c.of_read.ensures.never_refuses
-    (λ good clean unlimited has. c.of_read.ensures.cause (c.in-Err.ensures.cause good clean unlimited has))
-    c.in-Err.ensures.read_only
+pub returns : goal.returns
+returns g c =
+    let slice = c.as_slice.ensures.value in
+    read_tested g.S.Store c.args.conn.now c.read_versions.new.conn c.in_ok-versions.versions c.test_version.result _ _ _ _ c.in_ok-versions.ensures c.test_version.ensures.right c.test_version.ensures.wrong
+    (λ t shown second. subst (λ items. Shows meta_view (map number_shown items) (t 0)) (sym slice ∙ second) shown)
+    (λ d second. slice ∙ second)
