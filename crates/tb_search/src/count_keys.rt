@@ -1,7 +1,8 @@
 //! Counts the keys of hits.
 
-ghost use Rattle.std.specs.Prelude.{◌≡◌, ◌≢◌, ◌<◌, ◌≤◌, ◌++◌, ◌∷◌, [], ℕ, All, List};
+ghost use Rattle.std.specs.Prelude.{◌≡◌, ◌≢◌, ◌<◌, ◌≤◌, ◌-◌, ◌^◌, ◌++◌, ◌∷◌, [], ℕ, All, List};
 ghost use Rattle.std.specs.Prelude.{Err, IfErr, OnOk, map};
+ghost use Rattle.sqlite.specs.declared.error.ErrorCode.TheVariants.{OutOfMemory};
 ghost use Rattle.tb_conllu.specs.Words.{words_of};
 ghost use Rattle.tb_report.specs.Keywords.{key_of};
 ghost use Rattle.tb_report.specs.Tables.{IsTableOf};
@@ -16,6 +17,19 @@ use tb_conllu::BlockRef;
 use tb_query::Attr;
 use tb_reads::ReadError;
 use tb_report::{Freq, key};
+
+/// Nothing where one more key can be counted. A number past 64 bits is reported as want of memory: no memory holds so
+/// many hits.
+fn has_room(total: u64) -> Result<(), Stopped>
+    ensures room { OnOk result (total < 2 ^ 64 - 1) }
+    ensures full { IfErr result (λ e. (e ≡ Stopped.Read (ReadError.Store (Error.SqliteFailure OutOfMemory)))
+        × (total ≡ 2 ^ 64 - 1)) }
+{
+    if total == u64::MAX {
+        return Err(Stopped::Read(ReadError::Store(Error::SqliteFailure(ErrorCode::OutOfMemory))));
+    }
+    Ok(())
+}
 
 /// Counts the key of one hit.
 fn count_hit(
@@ -34,9 +48,7 @@ fn count_hit(
     ensures fails { IfErr result IsStopFault }
     ensures cause { IfErr result IsStopWant }
 {
-    if table.total() == u64::MAX {
-        return Err(Stopped::Read(ReadError::Store(Error::SqliteFailure(ErrorCode::OutOfMemory))));
-    }
+    has_room(table.total())?;
     let key = key(alloc, block, hit, column)?;
     table.add(key.as_str())?;
     Ok(())

@@ -1,7 +1,7 @@
 //! Reads sentences back from their texts, and finds hits in them.
 
 ghost use Rattle.std.specs.Prelude.{◌≡◌, ◌≢◌, ◌<◌, ◌≤◌, ◌+◌, ◌^◌, false, All, Err, IfErr, IfOk};
-ghost use Rattle.std.specs.Prelude.{[], ◌∷◌};
+ghost use Rattle.std.specs.Prelude.{[], ◌∷◌, Some, None};
 ghost use Rattle.tb_conllu.specs.Text.{BlockText};
 ghost use Rattle.tb_conllu.specs.Reported.{IsFile};
 ghost use Rattle.tb_conllu.specs.Words.{words_of};
@@ -17,6 +17,17 @@ use tb_prefilter::PrefilteredSearcher;
 use tb_query::Query;
 use tb_reads::ReadError;
 
+/// The sentence that was found in a text. A text in which there is none is no desk's.
+fn found_in(found: Option<BlockRef<'_>>) -> Result<BlockRef<'_>, Stopped>
+    ensures sentence { IfOk result (λ b. found.entry ≡ Some b) }
+    ensures none { IfErr result (λ e. (e ≡ Stopped.Read ReadError.Form) × (found.entry ≡ None)) }
+{
+    match found {
+        Some(block) => Ok(block),
+        None => Err(Stopped::Read(ReadError::Form)),
+    }
+}
+
 /// The sentence with this text. It borrows from the text, which is only split into fields and tested for UTF-8.
 pub(crate) fn sentence_in<'a>(alloc: Global, body: &'a [u8]) -> Result<BlockRef<'a>, Stopped>
     ensures read { IfOk result (λ b. (x : BlockText) → IsFile body.now (x ∷ []) → b ≡ x) }
@@ -25,10 +36,8 @@ pub(crate) fn sentence_in<'a>(alloc: Global, body: &'a [u8]) -> Result<BlockRef<
     ensures fails { IfErr result IsStopFault }
     ensures cause { IfErr result IsStopWant }
 {
-    let Some(block) = known_block(alloc, body)? else {
-        return Err(Stopped::Read(ReadError::Form));
-    };
-    Ok(block)
+    let found = known_block(alloc, body)?;
+    found_in(found)
 }
 
 /// The sum of a count and a length. A sum past 64 bits is reported as want of memory: no memory holds so many hits.
@@ -88,6 +97,7 @@ impl<'q> SentenceSearcher<'q> {
         ensures hits { IfOk result (λ v. AreHitsIn self.old.strategy self.old.searcher block.now v.items) }
         ensures lie { IfOk result (λ v. All (λ h. (h.0 < h.1) × (h.1 ≤ words_of block.now)) v.items) }
         ensures never_refuses { result ≢ Err Stopped.Output }
+        ensures long { 1000 < words_of block.now → result ≡ Err (Stopped.Read ReadError.Form) }
         ensures fault { IfErr result (λ e. words_of block.now ≤ 1000 → IsFault e) }
         ensures fails { IfErr result IsStopFault }
         ensures cause { IfErr result IsStopWant }
