@@ -161,6 +161,7 @@ export function meaning(line, path = '') {
   if (!told) return '';
   const [first, second, third] = told.values;
   switch (told.what) {
+    case '2': return path.startsWith('/page/batches/') ? 'no batch has this number' : WORDS['2 NoSuchBatch'];
     case '3': return path.startsWith('/page/sent-id/') ? NO_SUCH_SENT_ID : WORDS['3 NoSuchSentence'];
     case '4': return wrongState(first, path);
     case '7': return `${WORDS['7 Stale']}; revision ${first} is the current one`;

@@ -250,6 +250,7 @@ class Sentence {
   #hints = el('ul', { class: 'hints', 'aria-label': 'Hints' });
   #stale = el('section', { id: 'stale', 'aria-label': 'A newer revision' });
   #history = el('section', { id: 'history', 'aria-label': 'Revisions' });
+  #undo = button({ id: 'undo', onclick: () => this.#giveUp() }, 'Give my changes up');
   #save = button({ id: 'save', class: 'main', onclick: () => this.save() });
   #isEnhanced = false;
   #timer = 0;
@@ -292,8 +293,7 @@ class Sentence {
 
   #tools() {
     const enhanced = el('input', { id: 'enhanced', type: 'checkbox', onchange: () => { this.#isEnhanced = enhanced.checked; this.#draw(); } });
-    return el('div', { class: 'tools' }, this.#save,
-      button({ id: 'undo', onclick: () => this.#giveUp() }, 'Give my changes up'),
+    return el('div', { class: 'tools' }, this.#save, this.#undo,
       button({ id: 'pull', onclick: () => this.#pull() }, this.isPulled ? 'Restore' : 'Pull'),
       button({ id: 'revisions', onclick: () => this.#showHistory() }, 'Revisions'),
       el('label', {}, enhanced, 'Enhanced relations (DEPS)'));
@@ -327,7 +327,7 @@ class Sentence {
   /** Shows which revision is edited, and whether it can be saved. */
   tell() {
     const why = this.home ? mayCorrect(this.isPulled ? 'pulled' : this.home.state, this.home.worker, me()) : '';
-    this.#save.disabled = !this.isChanged && this.base === this.revision;
+    this.#save.disabled = this.#undo.disabled = !this.isChanged && this.base === this.revision;
     this.#save.textContent = `Save as revision ${this.base + 1}`;
     this.#save.title = why;
     this.#save.classList.toggle('unlikely', why !== '');

@@ -1,0 +1,158 @@
+"""How the page looks: narrow and dark windows, names for a screen reader, and how long large things take."""
+
+import time
+
+from page_tests.desk import Desk, STEPS, holds, same, sample
+from page_tests.driver import ELEMENT
+from page_tests.page import at_board, at_sentence, is_quiet, say_who, says, shot
+
+# Texts with too little contrast to what is behind them, but for disabled buttons. Colors are those that are shown.
+PALE = """
+const parts = color => color.match(/[\\d.]+/g).map(Number);
+const light = ([r, g, b]) => [r, g, b].map(v => (v /= 255) <= 0.03928 ? v / 12.92 : ((v + 0.055) / 1.055) ** 2.4).reduce((sum, v, i) => sum + v * [0.2126, 0.7152, 0.0722][i], 0);
+const behind = node => {
+  const color = parts(getComputedStyle(node).backgroundColor);
+  return color.length === 4 && color[3] === 0 && node.parentElement ? behind(node.parentElement) : color;
+};
+const backOf = node => {
+  const rect = node.closest('.word')?.querySelector('rect');
+  const fill = rect && node.matches('.form') ? parts(getComputedStyle(rect).fill) : null;
+  return fill && !(fill.length === 4 && fill[3] === 0) ? fill : behind(node);
+};
+const found = [], walk = document.createTreeWalker(document.body, NodeFilter.SHOW_TEXT);
+while (walk.nextNode()) {
+  const node = walk.currentNode.parentElement, text = walk.currentNode.data.trim();
+  if (!text || !node.checkVisibility() || node.closest(':disabled, noscript, datalist')) continue;
+  const style = getComputedStyle(node), front = parts(node instanceof SVGElement ? style.fill : style.color), back = backOf(node);
+  const [x, y] = [light(front), light(back)].sort((p, q) => q - p), ratio = (x + 0.05) / (y + 0.05);
+  if (ratio < 4.5) found.push(`${text.slice(0, 30)}: ${ratio.toFixed(2)} ${style.color} on ${back}`);
+}
+return found;
+"""
+NAMED = "button, input, select, textarea, a, [role=grid], [role=list], svg [role=listitem], [role=group], section[aria-label]"
+
+
+def views(desk):
+    return [f"{desk.url}/#/{view}" for view in ("", "batch/1", "sentence/1", "search", "moves")]
+
+
+def filled(desk):
+    """A desk on which every view has something to show."""
+    desk.put("news", sample("english"), STEPS[0])
+    desk.put("verse", sample("russian"), *STEPS)
+    desk.put("gone", sample("hindi"), ("ann", "withdraw"))
+    assert desk.ask("POST /pull/2")[0] == 200
+
+
+def shows(browser, view, wait="h1"):
+    """Loads a view, and has a search on it that finds something."""
+    browser.go("about:blank")
+    browser.go(view)
+    browser.see("main " + wait)
+    if view.endswith("search"):
+        browser.type("#query", '[upos="NOUN"]')
+        browser.keys("enter")
+        browser.see("#hits", "hits 3")
+    if view.endswith("sentence/1"):
+        browser.see(".word .form", "Small")
+
+
+def narrow_and_dark(driver):
+    """No view is wider than a narrow window, and every text has enough contrast, light and dark."""
+    desk, browser = Desk(), driver.browser()
+    filled(desk)
+    for is_dark in (False, True):
+        browser.is_dark(is_dark)
+        for view in views(desk):
+            shows(browser, view)
+            if not view.endswith("search"):
+                browser.run("document.querySelector('#revisions')?.click()")
+            same(f"texts with little contrast, {view}, dark {is_dark}", [], browser.run(PALE))
+            shot(browser, f"{'dark' if is_dark else 'light'}-{view.split('/#/')[1].replace('/', '-') or 'board'}")
+        at_board(browser, desk)
+        say_who(browser, "eve")
+        browser.click("#e-1-submit")
+        says(browser, "refused 5 NotYours")
+        same(f"texts with little contrast, a refusal, dark {is_dark}", [], browser.run(PALE))
+        browser.click("#e-1-withdraw")
+        same(f"texts with little contrast, a question, dark {is_dark}", [], browser.run(PALE))
+    browser.is_dark(False)
+    browser.resize(400, 800)
+    for view in views(desk):
+        shows(browser, view)
+        holds(f"{view} is no wider than its window", browser.run("return document.documentElement.scrollWidth <= innerWidth"))
+        shot(browser, f"narrow-{view.split('/#/')[1].replace('/', '-') or 'board'}")
+    is_quiet(browser)
+    desk.close()
+
+
+def for_screen_readers(driver):
+    """Everything that can be used has a name; the tree is a list of words; the focus goes as the page is read."""
+    desk, browser = Desk(), driver.browser()
+    filled(desk)
+    for view in views(desk):
+        shows(browser, view)
+        for element in browser.run("return [...document.querySelectorAll(arguments[0])].filter(node => node.checkVisibility())", NAMED):
+            name, role = browser.name_and_role(element[ELEMENT])
+            holds(f"{view}: a {role} has a name", name)
+        same("headings of the first rank", 1, len(browser.all("h1")))
+        places = browser.run("""
+            const nodes = [...document.querySelectorAll('a, button, input, select, textarea, [tabindex="0"]')].filter(n => n.checkVisibility() && n.tabIndex >= 0 && !n.disabled);
+            return [nodes.some(n => n.tabIndex > 0), document.documentElement.lang]""")
+        same("the order of focus is that of the page, and its language is known", [False, "en"], places)
+    at_sentence(browser, desk, 1, "Small")
+    same("the tree", ("Dependency tree, 6 words", "list"), browser.name_and_role(browser.find(".tree-picture")))
+    names = [browser.name_and_role(element) for element in browser.all(".tree-picture .word")]
+    same("words of the tree", [(name, "listitem") for name in (
+        "1 Small, ADJ, amod of 2 dogs", "2 dogs, NOUN, nsubj of 5 bark", "3 do, AUX, aux of 5 bark", "4 n't, PART, advmod of 5 bark", "5 bark, VERB, root", "6 ., PUNCT, punct of 5 bark")], names)
+    same("the message is read out", ("polite", "status"), tuple(browser.run("const told = document.getElementById('told'); return [told.ariaLive, told.role]")))
+    shows(browser, desk.url + "/")
+    browser.keys("tab")
+    same("the first stop", "skip", browser.run("return document.activeElement.id"))
+    browser.keys("enter")
+    same("it leads to the content", "main", browser.run("return document.activeElement.id"))
+    browser.click("header nav a", "Moves")
+    browser.until("return document.activeElement.matches('h1') && document.activeElement.textContent === 'Moves'")
+    same("the view that is shown is marked", ["Moves"], browser.texts("header nav a[aria-current]"))
+    is_quiet(browser)
+    desk.close()
+
+
+def long_sentence(words):
+    rows = [f"{n}\tword{n % 97}\tword\tNOUN\t_\t_\t{0 if n == 1 else max(1, n - 1 - n * 7 % 13)}\t{'root' if n == 1 else 'dep'}\t_\t_" for n in range(1, words + 1)]
+    return "\n".join([f"# sent_id = long{words}", "# text = " + " ".join(row.split("\t")[1] for row in rows), *rows, "", ""]).encode()
+
+
+def sizes_and_stops(driver):
+    """A tree of 1,000 words and 12,000 keyword lines are shown soon. A search can be stopped, and is no number then."""
+    desk, browser = Desk(), driver.browser()
+    desk.put("long", long_sentence(1000), *STEPS)
+    desk.put("many", b"".join(sample("english").replace(b"en-", f"m{n}-".encode()) for n in range(3000)), *STEPS)
+    begun = time.monotonic()
+    at_board(browser, desk)
+    board = time.monotonic() - begun
+    begun = time.monotonic()
+    browser.go(f"{desk.url}/#/sentence/1")
+    browser.see(".tree-picture .word:last-of-type .form", "word")
+    tree = time.monotonic() - begun
+    same("words of the tree", 1000, len(browser.all(".tree-picture .word")))
+    browser.go(desk.url + "/#/search")
+    begun = time.monotonic()
+    browser.type("#query", '[upos="NOUN"]')
+    browser.keys("enter")
+    browser.see("#hits", "hits 10000")
+    lines = time.monotonic() - begun
+    same("keyword lines", 10000, len(browser.all(".line")))
+    print(f"board {board:.2f} s, tree of 1,000 words {tree:.2f} s, 10,000 keyword lines {lines:.2f} s", flush=True)
+    holds("the first view is shown within three seconds, a tree too, and lines within ten", board < 3 and tree < 3 and lines < 10)
+    browser.type("#query", "[]{1,32} [upos=\"PUNCT\"]")
+    browser.run("document.getElementById('strategy').value = 'every'")
+    browser.click("#search")
+    browser.run("document.getElementById('stop').click()")
+    browser.see("#hits", "Stopped after")
+    same("a number to cite", None, browser.text("#cite"))
+    is_quiet(browser)
+    desk.close()
+
+
+PARTS = [narrow_and_dark, for_screen_readers, sizes_and_stops]
