@@ -146,6 +146,26 @@ export function faultLine(bytes, { what, values }) {
   return { number: at + 1, text: decoder().decode(lines[at] ?? new Uint8Array()) };
 }
 
+// ---- repairs
+
+/** What can be put right in a file without a choice, by the code of its first faulty line. */
+const REPAIRS = {
+  2: { label: 'Import it in normalization form C', change: text => text.normalize('NFC') },
+  3: { label: 'Import it with line feeds alone', change: text => text.replaceAll('\r\n', '\n') },
+};
+
+/** How a file can be put right that was refused: a label, and its bytes then. Null where that is not known. */
+export function repaired(bytes, { what, values }) {
+  const repair = what === '8' ? REPAIRS[values[1]] : undefined;
+  if (!repair) return null;
+  try {
+    const text = new TextDecoder('utf-8', { ignoreBOM: true, fatal: true }).decode(bytes), after = repair.change(text);
+    return after === text ? null : { label: repair.label, bytes: new TextEncoder().encode(after) };
+  } catch {
+    return null;                       // it is no UTF-8
+  }
+}
+
 // ---- two texts
 
 const linesOf = text => text.replace(/\n+$/, '').split('\n');

@@ -3,10 +3,10 @@
 // The page decides nothing. It asks the desk, and shows each answer as its line and in words.
 
 import {
-  EVENTS, LONGEST_BODY, RELATIONS, STATES, TAGS, ask, button, el, heads, isName, isStep, lastMove, mayAsk, mayCorrect, meaning,
-  number, own, pages, plain, plural, prose, refusal, table, wide,
+  COLUMNS, EVENTS, LONGEST_BODY, RELATIONS, STATES, TAGS, ask, button, el, heads, isName, isStep, lastMove, mayAsk, mayCorrect,
+  meaning, number, own, pages, plain, plural, prose, refusal, table, wide,
 } from './desk.js';
-import { comment, faultLine, hints, merged, rowsOf } from './conllu.js';
+import { comment, faultLine, hints, merged, repaired, rowsOf, withField } from './conllu.js';
 import { drawTree } from './tree.js';
 import { Editor, besides } from './edit.js';
 import { Finder } from './find.js';
@@ -98,30 +98,36 @@ const importer = (() => {
     if (file) name.value = file;
   }
 
-  /** Shows the line of the file that a refusal is about. */
-  function showLine(file, bytes, answer) {
-    const why = refusal(answer.line), line = why && faultLine(bytes, why);
-    if (!line) return;
-    told.append(el('p', {}, own(file.name), `, line ${plain(line.number)}:`),
-      el('pre', { class: 'fault', dir: 'ltr', tabindex: 0 }, line.text || '(an empty line)'));
+  /** Shows the line of a file that a refusal is about, and puts the file right where that takes no choice. */
+  function explain(file, bytes, why) {
+    const line = why && faultLine(bytes, why), repair = why && repaired(bytes, why);
+    if (line) {
+      told.append(el('p', {}, own(file.name), `, line ${plain(line.number)}:`),
+        el('pre', { class: 'fault', dir: 'ltr', tabindex: 0 }, line.text || '(an empty line)'));
+    }
+    if (repair) told.append(button({ id: 'repair', onclick: () => send(file, repair.bytes) }, repair.label));
   }
 
-  async function send() {
+  async function send(file, bytes) {
+    told.replaceChildren();
+    const answer = await ask('POST', `/batches/${name.value}`, { user: me(), body: bytes });
+    say(answer);
+    if (!answer.ok) return explain(file, bytes, refusal(answer.line));
+    chooser.value = name.value = '';
+    await board();
+  }
+
+  async function sendChosen() {
     const file = chooser.files[0];
     told.replaceChildren();
     if (!file) return sayRefused('no file', 'choose a file first');
     if (!isName(name.value)) return sayRefused('refused 1 BadName');
     if (isStep(name.value)) return sayRefused(name.value, 'a browser cannot send this name: choose another');
     if (file.size > LONGEST_BODY) return sayRefused('refused long');
-    const bytes = new Uint8Array(await file.arrayBuffer());
-    const answer = await ask('POST', `/batches/${name.value}`, { user: me(), body: bytes });
-    say(answer);
-    if (!answer.ok) return showLine(file, bytes, answer);
-    chooser.value = name.value = '';
-    await board();
+    await send(file, new Uint8Array(await file.arrayBuffer()));
   }
 
-  const box = el('form', { id: 'import', onsubmit: event => { event.preventDefault(); send(); } },
+  const box = el('form', { id: 'import', onsubmit: event => { event.preventDefault(); sendChosen(); } },
     el('h2', {}, 'Import a file as a batch'),
     el('div', { class: 'tools' },
       el('label', {}, 'CoNLL-U file, or drop one here ', chooser), el('label', {}, 'Name of the batch ', name),
@@ -309,10 +315,16 @@ class Sentence {
   /** Draws the tree and the hints of what is typed. */
   #draw() {
     const rows = rowsOf(this.editor.text), scroll = this.#tree.firstChild?.scrollLeft;
-    this.#tree.replaceChildren(drawTree(rows, { isEnhanced: this.#isEnhanced, hit: this.hit, onPick: line => this.editor.pick(line) }));
+    this.#tree.replaceChildren(drawTree(rows, {
+      isEnhanced: this.#isEnhanced, hit: this.hit, onPick: line => this.editor.pick(line), onHead: (line, id) => this.#setHead(line, id),
+    }));
     if (scroll !== undefined) this.#tree.firstChild.scrollLeft = scroll;
     const all = hints(this.editor.text);
     this.#hints.replaceChildren(...all.slice(0, 8).map(hint => el('li', {}, hint)), ...(all.length > 8 ? [el('li', {}, `and ${all.length - 8} more`)] : []));
+  }
+
+  #setHead(line, id) {
+    this.editor.text = withField(this.editor.text, line, COLUMNS.indexOf('HEAD'), id);
   }
 
   #changed() {

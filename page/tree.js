@@ -181,7 +181,7 @@ function nameOf({ nodes, at }, { kind, id, fields }) {
 
 function drawWord(place, row, i, isHit) {
   const { x, width } = place.columns[i], { base, form } = place;
-  const group = svg('g', { class: `word ${row.kind}${isHit ? ' hit' : ''}`, role: 'listitem', 'aria-label': nameOf(place, row), 'data-line': row.at, 'data-at': i });
+  const group = svg('g', { class: `word ${row.kind}${isHit ? ' hit' : ''}`, role: 'listitem', 'aria-label': nameOf(place, row), 'data-line': row.at, 'data-at': i, 'data-id': row.id });
   group.append(svg('rect', { x: x - width / 2 + 2, y: form - 18, width: width - 4, height: 24, rx: 4 }));
   if (row.kind === 'word') group.append(svg('text', { x, y: base + 13, class: 'relation' }, row.fields[7]));
   group.append(
@@ -241,13 +241,26 @@ function lifting(lines) {
   };
 }
 
+/** Lets a word be dragged onto the word that shall be its head. A finger scrolls instead. */
+function dragging(picture, onHead) {
+  let held = null;
+  const wordAt = event => event.target.closest('.word:not(.empty)');
+  picture.addEventListener('pointerdown', event => { held = event.pointerType === 'mouse' ? wordAt(event) : null; });
+  picture.addEventListener('pointerup', event => {
+    const head = wordAt(event);
+    if (held && head && held !== head) onHead(Number(held.dataset.line), head.dataset.id);
+    held = null;
+  });
+}
+
 /**
  * The tree of a sentence's rows. `isEnhanced` draws DEPS below the words, `hit` marks the words from one number to
- * another, `onPick` is given the line of a word that is clicked.
+ * another. `onPick` is given the line of a word that is clicked, `onHead` the line of a word that is dragged onto
+ * another, and the ID of that.
  */
-export function drawTree(rows, { isEnhanced = false, hit = null, onPick = null } = {}) {
+export function drawTree(rows, { isEnhanced, hit, onPick, onHead }) {
   const place = layout(rows, isEnhanced);
-  const isHit = row => hit !== null && row.kind === 'word' && row.first >= hit[0] && row.first <= hit[1];
+  const isHit = row => hit && row.kind === 'word' && row.first >= hit[0] && row.first <= hit[1];
   const picture = svg('svg', {
     width: Math.ceil(place.width), height: Math.ceil(place.height), class: 'tree-picture',
     role: 'list', 'aria-label': `Dependency tree, ${place.nodes.length} words`,
@@ -260,8 +273,9 @@ export function drawTree(rows, { isEnhanced = false, hit = null, onPick = null }
   picture.addEventListener('pointerleave', lifting(lines));
   picture.addEventListener('click', event => {
     const word = event.target.closest('.word');
-    if (word) onPick?.(Number(word.dataset.line));
+    if (word) onPick(Number(word.dataset.line));
   });
+  dragging(picture, onHead);
   return framed(picture, place.isLeftward);
 }
 

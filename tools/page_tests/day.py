@@ -54,6 +54,10 @@ def imports(ann, desk, folder):
         says(ann, line, words)
         ann.until("return document.getElementById('import-told').textContent.includes(arguments[0])", shown)
     shot(ann, "import-refused")
+    for name, body, line in (("windows", english.replace(b"\n", b"\r\n"), "refused 8 Read 1 3"), ("apart", english.replace(b"dog\t", "do\u0301g\t".encode()), "refused 8 Read 4 2")):
+        import_chosen(ann, written(folder, name + ".conllu", body))
+        says(ann, line)
+        ann.see("#repair")
     ann.type("#import-name", "..")
     ann.click("#import button", "Import")
     says(ann, "..", "a browser cannot send this name")
@@ -61,6 +65,21 @@ def imports(ann, desk, folder):
     ann.see("#import-name", "dropped-file")
     ann.click("#import button", "Import")
     says(ann, "imported batch=2 first=3 sentences=2 words=12")
+
+
+def repairs(driver, desk, folder):
+    """A file with other line ends, and one whose accents are apart, are put right and imported."""
+    browser = driver.browser()
+    at_board(browser, desk)
+    say_who(browser, "dan")
+    chinese, arabic = sample("chinese"), sample("arabic").replace("\u0643\u062a\u0628".encode(), "e\u0301".encode())
+    for number, name, body, wanted in ((3, "lines", chinese.replace(b"\n", b"\r\n"), chinese), (4, "accents", arabic, arabic.decode().replace("e\u0301", "\u00e9").encode())):
+        import_chosen(browser, written(folder, name + ".conllu", body))
+        says(browser, "refused 8 Read")
+        browser.click("#repair")
+        says(browser, f"imported batch={number}")
+        same(f"the batch {name}", wanted.decode(), desk.ask(f"GET /batches/{name}")[1])
+    is_quiet(browser)
 
 
 def corrects(driver, ann, desk):
@@ -78,6 +97,9 @@ def corrects(driver, ann, desk):
     ann.until(drawn + " !== arguments[0]", arcs)
     edit(ann, 0, 6, "9")
     ann.see(".hints", "HEAD of Small is no other word")
+    edit(ann, 0, 6, "2")
+    ann.drag(*ann.all(".word .form")[:1], ann.all(".word .form")[4])
+    ann.until("return document.querySelector('.grid tbody').rows[0].cells[6].textContent === '5'")
     edit(ann, 0, 6, "2")
     edit(ann, 0, 4, "JJR")
     ann.see("#rev", "not saved yet")
@@ -102,7 +124,7 @@ def looks_back(ann):
     """The revisions with their writers and differences; and a word more and a word less, which all numbers follow."""
     ann.click("#revisions")
     ann.see("#history .diff", "JJR")
-    same("revisions", ["revision 1 by ann, move 1", "revision 2 by ann, move 4"], ann.texts("#history li"))
+    same("revisions", ["revision 1 by ann, move 1", "revision 2 by ann, move 6"], ann.texts("#history li"))
     same("what differs", ["JJ", "JJR"], ann.texts("#history mark"))
     shot(ann, "history")
     ann.run("document.querySelector('.grid tbody').rows[0].cells[1].focus()")
@@ -221,6 +243,7 @@ def a_day(driver):
         at_board(ann, desk)
         totals_agree(ann, desk)
         imports(ann, desk, folder)
+        repairs(driver, desk, folder)
         at_board(ben, desk)
         say_who(ben, "ben")
         ann.click("#e-1-assign")
