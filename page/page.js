@@ -242,6 +242,9 @@ async function batch(no) {
 // What was typed and not saved, by the number of the sentence, and the revision on which it was typed.
 const drafts = new Map();
 
+/** The number of a batch's last sentence. Those of a batch have numbers one after the other, pulled ones too. */
+const lastOf = batch => Number(batch.first) + Number(batch.sentences) + Number(batch.pulled) - 1;
+
 /** Who wrote each revision of a sentence, and by which move. The first came with the import of its batch. */
 async function writers(no, batchNo) {
   const { rows } = await table('/moves');
@@ -286,15 +289,14 @@ class Sentence {
     main.onkeydown = event => this.#press(event);
   }
 
-  /** Links to the batch, and to the sentences before and after. Those of a batch have numbers one after the other. */
+  /** Links to the batch, and to the sentences before and after. */
   #way(home) {
     const state = this.isPulled ? 'withdrawn' : home.state, at = Number(this.no);
-    const first = Number(home.first), last = first + Number(home.sentences) + Number(home.pulled) - 1;
     return el('nav', { class: 'tools', 'aria-label': 'In the batch' },
       link(`#/batch/${home.no}`, home.name), el('span', { class: `badge ${state}` }, this.isPulled ? 'pulled' : state),
       home.worker ? el('span', {}, 'worker ', own(home.worker)) : '',
-      at > first ? el('a', { href: `#/sentence/${at - 1}`, rel: 'prev' }, '\u2190 previous') : '',
-      at < last ? el('a', { href: `#/sentence/${at + 1}`, rel: 'next' }, 'next \u2192') : '');
+      at > Number(home.first) ? el('a', { href: `#/sentence/${at - 1}`, rel: 'prev' }, '\u2190 previous') : '',
+      at < lastOf(home) ? el('a', { href: `#/sentence/${at + 1}`, rel: 'next' }, 'next \u2192') : '');
   }
 
   #tools() {
@@ -437,7 +439,7 @@ async function sentence(no, hit = null) {
   if (!answer.ok) return put('Sentence', heading(`Sentence ${no}`), failure(answer));
   const list = await batches(), found = await table(`/page/sent-id/${encodeURIComponent(comment(answer.text, 'sent_id'))}`);
   if (mine !== turn) return;
-  const home = list.rows.find(row => row.name === found.rows[0]?.batch);
+  const home = list.rows.find(row => Number(no) >= Number(row.first) && Number(no) <= lastOf(row));
   shown = new Sentence(no, answer, home, found.rows[0]?.pulled === 'yes', hit);
   shown.show();
 }

@@ -109,7 +109,10 @@ class Browser:
 
     def see(self, css, text=""):
         """Waits for an element with this text, and gives its text."""
-        return self.until(FOUND + "return found && (textOf(found) || ' ')", css, text)
+        try:
+            return self.until(FOUND + "return found && (textOf(found) || ' ')", css, text)
+        except AssertionError:
+            raise AssertionError(f"never seen: {css} with {text!r}") from None
 
     def click(self, css, text=""):
         """Clicks the first element with this text. It may have been drawn anew just now, so a few times."""

@@ -128,9 +128,9 @@ def hostile_text(driver):
 
 
 def names_that_are_steps(driver):
-    """A batch named `..` is shown, and no button of it sends another path."""
+    """A batch named `..` is shown, and so is a sentence of this name. No button sends another path than it says."""
     desk, browser = Desk(), driver.browser()
-    desk.put("..", sample("english"))
+    desk.put("..", sample("english").replace(b"= en-1", b"= .."))
     at_board(browser, desk)
     browser.see(".card .fault", "A browser cannot send this name")
     same("buttons", [], browser.texts(".card button"))
@@ -138,6 +138,8 @@ def names_that_are_steps(driver):
     browser.see("h1", "Batch ..")
     browser.click("td a", "en-2")
     browser.see(".word .form", "Anna")
+    at_sentence(browser, desk, 1, "Small")
+    same("the batch and the next sentence", ["..", "next \u2192"], browser.texts("main nav a"))
     is_quiet(browser)
     desk.close()
 
