@@ -133,7 +133,9 @@ export class Editor {
   /** Opens a cell. `typed` is the letter with which the user began; without it the old value is there, and is marked. */
   #edit(td, typed) {
     const [row, column] = [td.parentNode.sectionRowIndex, td.cellIndex], before = td.textContent;
-    const input = el('input', { value: typed ?? before, list: LISTS[COLUMNS[column]], dir: 'auto', spellcheck: 'false', 'aria-label': `${COLUMNS[column]} of row ${row + 1}` });
+    const input = el('input', {
+      value: typed ?? before, list: LISTS[COLUMNS[column]], dir: 'auto', spellcheck: 'false', 'aria-label': `${COLUMNS[column]} of row ${row + 1}`,
+    });
     let isOpen = true;                  // an element that is removed loses the focus, which closes the cell once more
     const close = isKept => {
       if (!isOpen) return;

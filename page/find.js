@@ -31,7 +31,8 @@ function saving(text, name, label) {
 
 /** A line of a search. It is mirrored as a whole where its text runs from right to left. */
 function keyword([sentId, first, last, left, match, right], isFirst) {
-  return el('div', { class: 'line', role: 'listitem', dir: runsLeft(left + match + right) ? 'rtl' : 'ltr', 'data-id': sentId, 'data-words': `${first}-${last}` },
+  const dir = runsLeft(left + match + right) ? 'rtl' : 'ltr';
+  return el('div', { class: 'line', role: 'listitem', dir, 'data-id': sentId, 'data-words': `${first}-${last}` },
     button({ class: 'id', tabindex: isFirst ? 0 : -1, title: `${sentId}, words ${first} to ${last}` }, own(sentId)),
     el('span', { class: 'left' }, el('span', {}, own(left))),
     el('span', { class: 'right' }, el('mark', {}, own(match)), ' ', own(right)));
@@ -176,8 +177,9 @@ export class Finder {
   /** Tells that lines are missing. They are no number to cite. */
   #showCut(head, { count }, isStopped) {
     head.classList.add('fault');
-    head.textContent = isStopped ? `Stopped after ${plural(count, 'line')}. There may be more.`
-      : `The answer broke off after ${plural(count, 'line')}: its last line, with the number of hits, did not come. Do not count these lines; search again.`;
+    const lines = plural(count, 'line');
+    head.textContent = isStopped ? `Stopped after ${lines}. There may be more.` : `The answer broke off after ${lines}: its last `
+      + 'line, with the number of hits, did not come. Do not count these lines; search again.';
   }
 
   #remarks({ hits }, text) {
@@ -192,8 +194,8 @@ export class Finder {
     const asked = await this.#ask(`/count/${this.#value('strategy')}/${by}`, 'Counting ..');
     if (!asked) return;
     const { answer, isStopped } = asked;
-    if (isStopped) return this.#found.replaceChildren(el('p', { id: 'hits', class: 'fault' }, 'Stopped. The desk counts on, and answers others when it is done.'));
-    if (answer.broken) return this.#found.replaceChildren(el('p', { id: 'hits', class: 'fault' }, 'The answer broke off: count again.'));
+    if (isStopped) return this.#showFault('Stopped. The desk counts on, and answers others when it is done.');
+    if (answer.broken) return this.#showFault('The answer broke off: count again.');
     if (!answer.ok) return this.#refuse(asked);
     const rows = csv(answer.text), most = Number(rows[0]?.count ?? 1), sum = rows.reduce((all, row) => all + Number(row.count), 0);
     const body = el('tbody');
@@ -204,6 +206,10 @@ export class Finder {
         el('span', { class: 'quiet' }, ' In a spreadsheet import it as text: a key may begin with "=".')),
       wide(el('table', { class: 'counts' }, heads([by, 'count', 'share', '']), body)));
     pages(body, rows, 500, row => countRow(row, most, sum), 4);
+  }
+
+  #showFault(words) {
+    this.#found.replaceChildren(el('p', { id: 'hits', class: 'fault' }, words));
   }
 
   /** Tells why a query was refused, and puts the cursor where it is at fault. */

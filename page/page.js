@@ -82,7 +82,8 @@ function eventButton(event, batch, again) {
 
 function eventButtons(batch, again) {
   if (isStep(batch.name)) return el('p', { class: 'fault' }, 'A browser cannot send this name; use ', el('code', {}, 'treedesk event'), '.');
-  return el('div', { class: 'events', role: 'group', 'aria-label': `Events of ${batch.name}` }, EVENTS[batch.state].map(event => eventButton(event, batch, again)));
+  const buttons = EVENTS[batch.state].map(event => eventButton(event, batch, again));
+  return el('div', { class: 'events', role: 'group', 'aria-label': `Events of ${batch.name}` }, buttons);
 }
 
 // ---- import
@@ -239,6 +240,9 @@ async function batch(no) {
 
 // ---- a sentence
 
+// How many hints are shown.
+const HINTS = 8;
+
 // What was typed and not saved, by the number of the sentence, and the revision on which it was typed.
 const drafts = new Map();
 
@@ -321,8 +325,8 @@ class Sentence {
       isEnhanced: this.#isEnhanced, hit: this.hit, onPick: line => this.editor.pick(line), onHead: (line, id) => this.#setHead(line, id),
     }));
     if (scroll !== undefined) this.#tree.firstChild.scrollLeft = scroll;
-    const all = hints(this.editor.text);
-    this.#hints.replaceChildren(...all.slice(0, 8).map(hint => el('li', {}, hint)), ...(all.length > 8 ? [el('li', {}, `and ${all.length - 8} more`)] : []));
+    const all = hints(this.editor.text), more = all.length > HINTS ? [`and ${all.length - HINTS} more`] : [];
+    this.#hints.replaceChildren(...[...all.slice(0, HINTS), ...more].map(hint => el('li', {}, hint)));
   }
 
   #setHead(line, id) {
@@ -390,7 +394,8 @@ class Sentence {
     this.#stale.replaceChildren(
       el('h2', {}, `Revision ${this.revision} came in between`, who ? [', by ', own(who)] : ''),
       el('p', {}, `You edited revision ${this.base}. Nothing was saved; your text is still in the editor. `,
-        both === null ? 'You both changed the same field, or one of you changed the rows, so choose one text.' : 'The two changes touch different fields.'),
+        both === null ? 'You both changed the same field, or one of you changed the rows, so choose one text.'
+          : 'The two changes touch different fields.'),
       besides(theirs.text, mine, `revision ${this.revision}, the current one`, `yours, on revision ${this.base}`),
       el('div', { class: 'tools' },
         both === null ? '' : this.#choice('both', 'Put both changes together', both),
@@ -412,7 +417,8 @@ class Sentence {
   async #showHistory() {
     const wrote = await writers(this.no, this.home?.no), box = el('div');
     const items = Array.from({ length: this.revision }, (_, i) => el('li', {},
-      button({ onclick: () => this.#showRevision(i + 1, box) }, `revision ${i + 1}`), ' by ', own(wrote[i]?.who ?? '?'), `, move ${wrote[i]?.no ?? '?'}`));
+      button({ onclick: () => this.#showRevision(i + 1, box) }, `revision ${i + 1}`),
+      ' by ', own(wrote[i]?.who ?? '?'), `, move ${wrote[i]?.no ?? '?'}`));
     this.#history.replaceChildren(el('h2', {}, 'Revisions'), el('ol', { class: 'revisions' }, items), box);
     await this.#showRevision(this.revision, box);
   }
@@ -446,6 +452,8 @@ async function sentence(no, hit = null) {
 
 // ---- moves
 
+const MOVE_COLUMNS = ['no', 'kind', 'batch', 'sentence', 'from', 'to', 'sentences', 'words out', 'words in', 'who'];
+
 function moveRow(move, names) {
   return el('tr', {}, number(move.no), el('td', {}, move.kind), el('td', {}, link(`#/batch/${move.batch}`, names.get(move.batch) ?? move.batch)),
     number(move.sentence === '0' ? '' : link(`#/sentence/${move.sentence}`, move.sentence)), el('td', {}, move.from), el('td', {}, move.to),
@@ -454,7 +462,8 @@ function moveRow(move, names) {
 
 /** A choice between all and one of some values, as pairs of a value and its text. */
 function oneOf(id, values, chosen) {
-  return el('select', { id }, el('option', { value: '' }, 'all'), values.map(([value, text]) => el('option', { value, selected: value === chosen }, text)));
+  const options = values.map(([value, text]) => el('option', { value, selected: value === chosen }, text));
+  return el('select', { id }, el('option', { value: '' }, 'all'), options);
 }
 
 async function moves(onlyBatch) {
@@ -476,7 +485,7 @@ async function moves(onlyBatch) {
   fill();
   put('Moves', heading('Moves'),
     el('div', { class: 'tools' }, el('label', {}, 'Batch ', byBatch), el('label', {}, 'User ', byUser), count),
-    wide(el('table', { class: 'moves' }, heads(['no', 'kind', 'batch', 'sentence', 'from', 'to', 'sentences', 'words out', 'words in', 'who']), body)));
+    wide(el('table', { class: 'moves' }, heads(MOVE_COLUMNS), body)));
 }
 
 // ---- the way between the views

@@ -181,7 +181,10 @@ function nameOf({ nodes, at }, { kind, id, fields }) {
 
 function drawWord(place, row, i, isHit) {
   const { x, width } = place.columns[i], { base, form } = place;
-  const group = svg('g', { class: `word ${row.kind}${isHit ? ' hit' : ''}`, role: 'listitem', 'aria-label': nameOf(place, row), 'data-line': row.at, 'data-at': i, 'data-id': row.id });
+  const group = svg('g', {
+    class: `word ${row.kind}${isHit ? ' hit' : ''}`, role: 'listitem', 'aria-label': nameOf(place, row),
+    'data-line': row.at, 'data-at': i, 'data-id': row.id,
+  });
   group.append(svg('rect', { x: x - width / 2 + 2, y: form - 18, width: width - 4, height: 24, rx: 4 }));
   if (row.kind === 'word') group.append(svg('text', { x, y: base + 13, class: 'relation' }, row.fields[7]));
   group.append(
