@@ -26,7 +26,7 @@ function step(key, row, column) {
 const isOneCharacter = key => [...key].length === 1 && key !== ' ';
 const between = (least, value, most) => Math.max(least, Math.min(value, most));
 
-/** An editor. `node` is its element, `text` what is in it. `onChange` is called after each change. */
+/** An editor. `node` is its element, which `show` fills, and `text` what is in it. `onChange` is called after each change. */
 export class Editor {
   #onChange;
   #text;
@@ -51,6 +51,10 @@ export class Editor {
     this.#grid.addEventListener('focusin', event => { if (event.target.matches('td')) this.#enter(event.target); });
     this.#grid.addEventListener('dblclick', event => { if (event.target.matches('td')) this.#edit(event.target); });
     this.#grid.addEventListener('keydown', event => { if (event.target.matches('td')) this.#press(event); });
+  }
+
+  /** Fills the editor. A thousand rows take a fifth of a second, so this is left for when the tree is there. */
+  show() {
     this.#showAs('table');
   }
 

@@ -278,6 +278,11 @@ class Sentence {
     this.tell();
   }
 
+  /** Whether its tree and its table take a while. */
+  get #isLong() {
+    return this.editor.text.length > 10000;
+  }
+
   get isChanged() {
     return this.editor.text !== this.current;
   }
@@ -287,10 +292,17 @@ class Sentence {
     put(sentId, heading(own(sentId), ' ', el('span', { class: 'quiet' }, `sentence ${this.no}`)),
       home ? this.#way(home) : '',
       el('p', { class: 'text', dir: 'auto' }, comment(this.current, 'text')),
-      this.#tree, this.#tools(), this.#status, this.#hints, this.#stale, this.editor.node, this.#history);
+      this.#tree, this.#tools(), this.#status, this.#hints, this.#stale, this.#history);
+    if (this.#isLong) requestAnimationFrame(() => setTimeout(() => this.#addEditor()));
+    else this.#addEditor();
     this.#tree.querySelector('.hit')?.scrollIntoView({ block: 'nearest', inline: 'center' });
     if (this.base !== this.revision) this.#showStale();
     main.onkeydown = event => this.#press(event);
+  }
+
+  #addEditor() {
+    this.#stale.after(this.editor.node);
+    this.editor.show();
   }
 
   /** Links to the batch, and to the sentences before and after. */
@@ -338,8 +350,7 @@ class Sentence {
     else drafts.set(this.no, { base: this.base, text: this.editor.text });
     this.tell();
     clearTimeout(this.#timer);
-    const isLong = this.editor.text.length > 10000;       // a tree of a thousand words takes a fifth of a second
-    this.#timer = setTimeout(() => this.#draw(), isLong ? 300 : 20);
+    this.#timer = setTimeout(() => this.#draw(), this.#isLong ? 300 : 20);
   }
 
   /** Shows which revision is edited, and whether it can be saved. */

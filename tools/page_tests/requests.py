@@ -1,11 +1,16 @@
 """What the server of the page answers, without a browser: its files and lists, who may ask, and the desk's own answers."""
 
+import csv
+import importlib.machinery
+import io
 import pathlib
 import socket
 import subprocess
 import time
+import types
+import urllib.parse
 
-from page_tests.desk import Desk, ROOT, STEPS, asked, holds, same, sample
+from page_tests.desk import Desk, ROOT, STEPS, asked, holds, same, sample, tally
 
 TYPES = {".html": "text/html", ".css": "text/css", ".js": "text/javascript"}
 FILES = {"/": "index.html", **{f"/page/{name}": name for name in ("page.css", "desk.js", "conllu.js", "tree.js", "edit.js", "find.js", "page.js")}}
@@ -194,4 +199,45 @@ def silent_clients():
     desk.close()
 
 
-PARTS = [files_and_lists, guard, the_same_bytes, silent_clients]
+def table(head, rows):
+    """The bytes of a list."""
+    text = io.StringIO()
+    csv.writer(text, lineterminator="\n").writerows([head.split(","), *rows])
+    return text.getvalue().encode()
+
+
+def yes(truth):
+    return "yes" if truth else "no"
+
+
+def lists_of(model):
+    """The lists of the page, as the plain model of tools/model-test has them: each path with its bytes."""
+    yield "/page/now", table("batches,sentences,moves", [[len(model.batches), len(model.sentences), len(model.moves)]])
+    lines = []
+    for batch in model.batches:
+        inside, pulled = ([it for it in batch.sentences if it.pulled == which] for which in (False, True))
+        lines.append([batch.number, batch.name, batch.state, batch.worker, batch.sentences[0].number,
+                      len(inside), sum(it.words for it in inside), len(pulled), sum(it.words for it in pulled)])
+        yield f"/page/batches/{batch.number}", table("no,sent_id,rev,who,words,pulled,text", [
+            [it.number, it.text.sent_id, len(it.revisions), it.revisions[-1][0], it.words, yes(it.pulled), *it.text.values("text")] for it in batch.sentences])
+    yield "/page/batches", table("no,name,state,worker,first,sentences,words,pulled,pulled_words", lines)
+    for it in model.sentences:
+        yield "/page/sent-id/" + urllib.parse.quote(it.text.sent_id, safe=""), table("no,batch,rev,words,pulled", [[it.number, it.batch.name, len(it.revisions), it.words, yes(it.pulled)]])
+
+
+def random_requests():
+    """Random requests of tools/model-test have the answers of its model, and the lists are those of the model's state."""
+    loader = importlib.machinery.SourceFileLoader("model_test", str(ROOT / "tools/model-test"))
+    model = types.ModuleType("model_test")
+    loader.exec_module(model)
+    desk, walk = Desk(), model.Walk(41)
+    for _ in range(6):
+        walk.go(100, desk.port)
+        for path, body in lists_of(walk.desk):
+            has(path, desk.raw(desk.request(f"GET {path}")), 200, "text/plain", body)
+    same("moves", walk.desk.tell_moves(), desk.moves())
+    tally["compared"] += model.compared
+    desk.close()
+
+
+PARTS = [files_and_lists, guard, the_same_bytes, random_requests, silent_clients]
