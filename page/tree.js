@@ -33,6 +33,7 @@ const RIGHT_TO_LEFT = /[\u0590-\u08ff\ufb1d-\ufdff\ufe70-\ufefc\u{10800}-\u{10ff
 
 /** Whether most letters of a text are of scripts that run from right to left. */
 export function runsLeft(text) {
+  if (!RIGHT_TO_LEFT.test(text)) return false;
   const letters = text.match(/\p{L}/gu) ?? [];
   return letters.filter(letter => RIGHT_TO_LEFT.test(letter)).length * 2 > letters.length;
 }
