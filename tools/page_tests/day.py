@@ -54,7 +54,8 @@ def imports(ann, desk, folder):
         says(ann, line, words)
         ann.until("return document.getElementById('import-told').textContent.includes(arguments[0])", shown)
     shot(ann, "import-refused")
-    for name, body, line in (("windows", english.replace(b"\n", b"\r\n"), "refused 8 Read 1 3"), ("apart", english.replace(b"dog\t", "do\u0301g\t".encode()), "refused 8 Read 4 2")):
+    for name, body, line in (("windows", english.replace(b"\n", b"\r\n"), "refused 8 Read 1 3"),
+                             ("apart", english.replace(b"dog\t", "do\u0301g\t".encode()), "refused 8 Read 4 2")):
         import_chosen(ann, written(folder, name + ".conllu", body))
         says(ann, line)
         ann.see("#repair")
@@ -73,7 +74,8 @@ def repairs(driver, desk, folder):
     at_board(browser, desk)
     say_who(browser, "dan")
     chinese, arabic = sample("chinese"), sample("arabic").replace("\u0643\u062a\u0628".encode(), "e\u0301".encode())
-    for number, name, body, wanted in ((3, "lines", chinese.replace(b"\n", b"\r\n"), chinese), (4, "accents", arabic, arabic.decode().replace("e\u0301", "\u00e9").encode())):
+    for number, name, body, wanted in ((3, "lines", chinese.replace(b"\n", b"\r\n"), chinese),
+                                       (4, "accents", arabic, arabic.decode().replace("e\u0301", "\u00e9").encode())):
         import_chosen(browser, written(folder, name + ".conllu", body))
         says(browser, "refused 8 Read")
         browser.click("#repair")
@@ -107,7 +109,8 @@ def corrects(driver, ann, desk):
     says(ann, "corrected sentence=1 rev=2 words=6")
     ann.see("#rev", "revision 2 is the current one")
     second.click(".tab", "CoNLL-U")
-    second.run("const area = document.querySelector('textarea.conllu'); area.value = area.value.replace('\\tJJ\\t', '\\tJJS\\t'); area.dispatchEvent(new Event('input'))")
+    second.run("const area = document.querySelector('textarea.conllu'); area.value = area.value.replace('\\tJJ\\t', '\\tJJS\\t');"
+               "area.dispatchEvent(new Event('input'))")
     second.click("#save")
     says(second, "refused 7 Stale 2", "it was corrected since; revision 2 is the current one")
     second.see("#stale h2", "Revision 2 came in between, by ann")

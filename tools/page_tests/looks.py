@@ -9,7 +9,8 @@ from page_tests.page import at_board, at_sentence, is_quiet, say_who, says, shot
 # Texts with too little contrast to what is behind them, but for disabled buttons. Colors are those that are shown.
 PALE = """
 const parts = color => color.match(/[\\d.]+/g).map(Number);
-const light = ([r, g, b]) => [r, g, b].map(v => (v /= 255) <= 0.03928 ? v / 12.92 : ((v + 0.055) / 1.055) ** 2.4).reduce((sum, v, i) => sum + v * [0.2126, 0.7152, 0.0722][i], 0);
+const linear = v => v <= 0.03928 ? v / 12.92 : ((v + 0.055) / 1.055) ** 2.4;
+const light = ([r, g, b]) => 0.2126 * linear(r / 255) + 0.7152 * linear(g / 255) + 0.0722 * linear(b / 255);
 const behind = node => {
   const color = parts(getComputedStyle(node).backgroundColor);
   return color.length === 4 && color[3] === 0 && node.parentElement ? behind(node.parentElement) : color;
@@ -97,14 +98,15 @@ def for_screen_readers(driver):
             holds(f"{view}: a {role} has a name", name)
         same("headings of the first rank", 1, len(browser.all("h1")))
         places = browser.run("""
-            const nodes = [...document.querySelectorAll('a, button, input, select, textarea, [tabindex="0"]')].filter(n => n.checkVisibility() && n.tabIndex >= 0 && !n.disabled);
+            const nodes = [...document.querySelectorAll('a, button, input, select, textarea, [tabindex="0"]')];
             return [nodes.some(n => n.tabIndex > 0), document.documentElement.lang]""")
         same("the order of focus is that of the page, and its language is known", [False, "en"], places)
     at_sentence(browser, desk, 1, "Small")
     same("the tree", ("Dependency tree, 6 words", "list"), browser.name_and_role(browser.find(".tree-picture")))
     names = [browser.name_and_role(element) for element in browser.all(".tree-picture .word")]
     same("words of the tree", [(name, "listitem") for name in (
-        "1 Small, ADJ, amod of 2 dogs", "2 dogs, NOUN, nsubj of 5 bark", "3 do, AUX, aux of 5 bark", "4 n't, PART, advmod of 5 bark", "5 bark, VERB, root", "6 ., PUNCT, punct of 5 bark")], names)
+        "1 Small, ADJ, amod of 2 dogs", "2 dogs, NOUN, nsubj of 5 bark", "3 do, AUX, aux of 5 bark", "4 n't, PART, advmod of 5 bark",
+        "5 bark, VERB, root", "6 ., PUNCT, punct of 5 bark")], names)
     same("the message is read out", ("polite", "status"), tuple(browser.run("const told = document.getElementById('told'); return [told.ariaLive, told.role]")))
     shows(browser, desk.url + "/")
     browser.keys("tab")

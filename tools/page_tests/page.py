@@ -40,7 +40,8 @@ def totals_agree(browser, desk):
     """The board shows what GET /totals answers, and its batches sum up to that."""
     counts = [line.split(",")[1:] for line in desk.ask("GET /totals")[1].splitlines()[1:]]
     wanted = [", ".join(f"{count} {noun}{'' if count == '1' else 's'}" for count, noun in zip(row, ("sentence", "word"))) for row in counts]
-    browser.until("return JSON.stringify([...document.querySelectorAll('.total')].map(n => n.textContent)) === arguments[0]", json.dumps(wanted, separators=(",", ":")))
+    browser.until("return JSON.stringify([...document.querySelectorAll('.total')].map(n => n.textContent)) === arguments[0]",
+                  json.dumps(wanted, separators=(",", ":")))
     same("faults of the board", [], browser.texts(".state > .fault"))
 
 

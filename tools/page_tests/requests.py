@@ -23,6 +23,10 @@ OWN_FIELDS = [
     "Cross-Origin-Opener-Policy: same-origin",
     "Cache-Control: no-store",
 ]
+COUNTS = "batches,sentences,moves"
+BATCHES = "no,name,state,worker,first,sentences,words,pulled,pulled_words"
+SENTENCES = "no,sent_id,rev,who,words,pulled,text"
+SENTENCE = "no,batch,rev,words,pulled"
 
 
 def split(answer):
@@ -55,27 +59,51 @@ def files_and_lists():
     def lists(path, *lines):
         has(path, desk.raw(desk.request(f"GET {path}")), 200, "text/plain", "".join(f"{line}\n" for line in lines).encode())
         refuses(path, desk.raw(desk.request(f"HEAD {path}")), 405, "method", "Allow: GET")
-    batches = "no,name,state,worker,first,sentences,words,pulled,pulled_words"
-    sentences = "no,sent_id,rev,who,words,pulled,text"
-    lists("/page/now", "batches,sentences,moves", "0,0,0")
-    lists("/page/batches", batches)
+    lists("/page/now", COUNTS, "0,0,0")
+    lists("/page/batches", BATCHES)
     desk.put("news", sample("english"), STEPS[0])
     desk.put("verse", sample("russian").replace(b"ru-1", 'p"r,\u00fc/#%?'.encode()))
-    same("a correction", (200, "corrected sentence=1 rev=2 words=6\n"), desk.ask("POST /sentences/1/after/1", desk.ask("GET /sentences/1")[1].replace("\tJJ\t", "\tJJR\t").encode()))
+    corrected = desk.ask("GET /sentences/1")[1].replace("\tJJ\t", "\tJJR\t").encode()
+    same("a correction", (200, "corrected sentence=1 rev=2 words=6\n"), desk.ask("POST /sentences/1/after/1", corrected))
     same("a pull", (200, "pulled sentence=4 words=5\n"), desk.ask("POST /pull/4", user="ben"))
-    lists("/page/now", "batches,sentences,moves", "2,4,5")
-    lists("/page/batches", batches, "1,news,assigned,ann,1,2,13,0,0", "2,verse,open,,3,1,6,1,5")
-    lists("/page/batches/1", sentences, "1,en-1,2,ann,6,no,Small dogs don't bark.", "2,en-2,1,ann,7,no,Anna reads books and Tom newspapers.")
-    lists("/page/batches/2", sentences, '3,"p""r,\u00fc/#%?",1,ann,6,no,\u041a\u043e\u0448\u043a\u0430 \u0441\u043f\u0438\u0442 \u043d\u0430 \u0441\u0442\u0430\u0440\u043e\u043c \u0441\u0442\u0443\u043b\u0435.',
-          "4,ru-2,1,ann,5,yes,\u042f \u0447\u0438\u0442\u0430\u044e \u043d\u043e\u0432\u0443\u044e \u043a\u043d\u0438\u0433\u0443.")
-    lists("/page/sent-id/en-1", "no,batch,rev,words,pulled", "1,news,2,6,no")
-    lists("/page/sent-id/ru-2", "no,batch,rev,words,pulled", "4,verse,1,5,yes")
-    lists("/page/sent-id/%72u%2D2", "no,batch,rev,words,pulled", "4,verse,1,5,yes")
-    lists("/page/sent-id/p%22r%2C%C3%BC%2F%23%25%3F", "no,batch,rev,words,pulled", "3,verse,1,6,no")
-    for path, line in (("/page/batches/3", "2 NoSuchBatch"), ("/page/batches/9999999999", "2 NoSuchBatch"), ("/page/sent-id/ru-1", "3 NoSuchSentence"),
-                       ("/page/sent-id/EN-1", "3 NoSuchSentence"), ("/page/sent-id/en-1%20", "3 NoSuchSentence"), ("/page/sent-id/%FF", "3 NoSuchSentence")):
-        refuses(path, desk.raw(desk.request(f"GET {path}")), 404, line)
+    lists("/page/now", COUNTS, "2,4,5")
+    lists("/page/batches", BATCHES, "1,news,assigned,ann,1,2,13,0,0", "2,verse,open,,3,1,6,1,5")
+    lists("/page/batches/1", SENTENCES, "1,en-1,2,ann,6,no,Small dogs don't bark.", "2,en-2,1,ann,7,no,Anna reads books and Tom newspapers.")
+    lists("/page/batches/2", SENTENCES, '3,"p""r,\u00fc/#%?",1,ann,6,no,Кошка спит на старом стуле.', "4,ru-2,1,ann,5,yes,Я читаю новую книгу.")
+    for escaped, line in (("en-1", "1,news,2,6,no"), ("ru-2", "4,verse,1,5,yes"), ("%72u%2D2", "4,verse,1,5,yes"), ("p%22r%2C%C3%BC%2F%23%25%3F", "3,verse,1,6,no")):
+        lists(f"/page/sent-id/{escaped}", SENTENCE, line)
+    for no in ("3", "9999999999"):
+        refuses(no, desk.raw(desk.request(f"GET /page/batches/{no}")), 404, "2 NoSuchBatch")
+    for escaped in ("ru-1", "EN-1", "", "en-1/", "en-1%20", "%FF"):
+        refuses(escaped, desk.raw(desk.request(f"GET /page/sent-id/{escaped}")), 404, "3 NoSuchSentence")
     desk.close()
+
+
+def hosts_of_strangers(port):
+    """Values of Host that are no name of this machine with this port."""
+    here = f"127.0.0.1:{port}"
+    return ["127.0.0.1", "localhost", "", f"127.0.0.1:{port % 65535 + 1}", f"evil.test:{port}", f"127.0.0.1.evil.test:{port}", f"evil.test@{here}",
+            f"127.0.0.2:{port}", f"0.0.0.0:{port}", f"::1:{port}", f"localhost.:{port}", f"{here}0", f"{here},{here}", f"http://{here}"]
+
+
+def fields_of_nobody(port):
+    """Headers that do not have one Host, or another one."""
+    here = f"Host: 127.0.0.1:{port}"
+    yield from ([f"Host: {host}"] for host in hosts_of_strangers(port))
+    yield from ([], [here, here], [here, "Host: evil.test"], ["Host: evil.test", here])
+    yield from (["Host: evil.test", "Origin: http://evil.test"], ["Host: evil.test", f"Origin: http://127.0.0.1:{port}"])
+
+
+def fields_of_others(host, hosts, port):
+    """Headers with a right Host, that come from another page, or say twice where they come from."""
+    own = f"Origin: http://{host}"
+    origins = ["null", "", f"https://{host}", f"http://{host}/", "http://evil.test", f"http://localhost.evil.test:{port}"]
+    for origin in origins + [f"http://{it}" for it in hosts if it.lower() != host.lower()]:
+        yield [f"Origin: {origin}"]
+    for site in ("same-site", "cross-site", "", "same-origin, none"):
+        yield [f"Sec-Fetch-Site: {site}"]
+    yield from ([own, own], [own, "origin: http://evil.test"], ["Origin: http://evil.test", own], [own, "Sec-Fetch-Site: cross-site"])
+    yield from (["Sec-Fetch-Site: none"] * 2, ["Sec-Fetch-Site: none", "Sec-Fetch-Site: cross-site"])
 
 
 def guard():
@@ -83,104 +111,111 @@ def guard():
     desk = Desk()
     desk.put("news", sample("english"))
     before, port = desk.moves(), desk.port
-    here, other = f"127.0.0.1:{port}", f"127.0.0.1:{port % 65535 + 1}"
-    hosts = [here, f"localhost:{port}", f"LocalHost:{port}", f"[::1]:{port}"]
-    strangers = ["127.0.0.1", "localhost", "", other, f"evil.test:{port}", f"127.0.0.1.evil.test:{port}", f"evil.test@127.0.0.1:{port}", f"127.0.0.2:{port}", f"0.0.0.0:{port}",
-                 f"::1:{port}", f"localhost.:{port}", f"{here}0", f"{here},{here}", f"http://{here}"]
-    right, nobody, elsewhere = [], [], []
-    for host in hosts:
-        right += [[f"Host: {host}"], [f"host:{host}  "], [f"Host: {host}", f"Origin: http://{host}"]]
-        right += [[f"Host: {host}", f"Sec-Fetch-Site: {site}"] for site in ("same-origin", "none")]
-        elsewhere += [[f"Host: {host}", f"Origin: {origin}"] for origin in ("null", "", f"https://{host}", f"http://{host}/", "http://evil.test", f"http://{host.split(':')[0]}.evil.test:{port}")]
-        elsewhere += [[f"Host: {host}", f"Origin: http://{it}"] for it in hosts if it.lower() != host.lower()]
-        elsewhere += [[f"Host: {host}", f"Sec-Fetch-Site: {site}"] for site in ("same-site", "cross-site", "", "same-origin, none")]
-        elsewhere += [[f"Host: {host}", *[f"{name}: {value}"] * 2] for name, value in (("Origin", f"http://{host}"), ("Sec-Fetch-Site", "none"))]
-        elsewhere += [[f"Host: {host}", f"Origin: http://{host}", "origin: http://evil.test"], [f"Host: {host}", "Origin: http://evil.test", f"Origin: http://{host}"],
-                      [f"Host: {host}", "Sec-Fetch-Site: none", "Sec-Fetch-Site: cross-site"], [f"Host: {host}", f"Origin: http://{host}", "Sec-Fetch-Site: cross-site"]]
-    nobody += [[f"Host: {host}"] for host in strangers] + [[], [f"Host: {here}", f"Host: {here}"], [f"Host: {here}", "Host: evil.test"], ["Host: evil.test", f"Host: {here}"],
-                                                             ["Host: evil.test", "Origin: http://evil.test"], ["Host: evil.test", f"Origin: http://{here}"]]
+    hosts = [f"127.0.0.1:{port}", f"localhost:{port}", f"LocalHost:{port}", f"[::1]:{port}"]
+
+    def answer(line, fields):
+        return desk.raw(desk.request(line, *fields, "Desk-User: eve", host=False))
     for line in ("GET /totals", "GET /page/now", "GET /page/page.js", "GET /nowhere", "POST /batches/news/assign"):
-        def answer(fields):
-            return desk.raw(desk.request(line, *fields, "Desk-User: eve", host=False))
-        for fields in nobody:
-            refuses(f"{line} {fields}", answer(fields), 403, "host")
-        for fields in elsewhere:
-            refuses(f"{line} {fields}", answer(fields), 403, "origin")
+        for fields in fields_of_nobody(port):
+            refuses(f"{line} {fields}", answer(line, fields), 403, "host")
+        for host in hosts:
+            for fields in fields_of_others(host, hosts, port):
+                refuses(f"{line} {host} {fields}", answer(line, [f"Host: {host}", *fields]), 403, "origin")
     same("what was refused is not done", before, desk.moves())
     for line, status in (("GET /totals", "200"), ("GET /page/now", "200"), ("GET /page/page.js", "200"), ("GET /nowhere", "404"), ("POST /totals", "405")):
-        for fields in right:
-            same(f"{line} {fields}", status, split(desk.raw(desk.request(line, *fields, host=False)))[0][0].split()[1])
+        for host in hosts:
+            own = [f"Host: {host}"]
+            for fields in (own, [f"host:{host}  "], [*own, f"Origin: http://{host}"], [*own, "Sec-Fetch-Site: same-origin"], [*own, "Sec-Fetch-Site: none"]):
+                same(f"{line} {fields}", status, split(answer(line, fields))[0][0].split()[1])
     # A link from elsewhere leads to the page, since it is the same for all. It has the right Host, and no Origin.
-    for site in ("cross-site", "same-site"):
-        same(site, "200", split(desk.raw(desk.request("GET /", f"Sec-Fetch-Site: {site}")))[0][0].split()[1])
-        refuses(site, desk.raw(desk.request("POST /", f"Sec-Fetch-Site: {site}")), 403, "origin")
-    refuses("GET /", desk.raw(desk.request("GET /", "Host: evil.test", "Sec-Fetch-Site: cross-site", host=False)), 403, "host")
+    for site in ("Sec-Fetch-Site: cross-site", "Sec-Fetch-Site: same-site"):
+        same(site, "200", split(desk.raw(desk.request("GET /", site)))[0][0].split()[1])
+        refuses(site, desk.raw(desk.request("POST /", site)), 403, "origin")
+        refuses(site, desk.raw(desk.request("GET /", "Host: evil.test", site, host=False)), 403, "host")
     refuses("GET /", desk.raw(desk.request("GET /", "Origin: http://evil.test")), 403, "origin")
     desk.close()
 
 
-def the_same_bytes():
-    """Whatever is not the page's has the answer of `treedesk serve`, byte by byte, and leaves the same desk."""
-    desks = [Desk(), Desk(asked.program, "serve")]
+class Both:
+    """A desk with the page, and one that `treedesk serve` serves. The same is asked of both."""
+
+    def __init__(self):
+        self.desks = [Desk(), Desk(asked.program, "serve")]
+
+    def exchange(self, what, request):
+        """The request is a function, since a right Host has the port."""
+        found, wanted = (desk.raw(*request(desk)) for desk in self.desks)
+        same(what, wanted, found)
+
+    def asks(self, lines, body=b"", *fields):
+        for line in filter(None, map(str.strip, lines.splitlines())):
+            self.exchange(line, lambda desk: [desk.request(line, *(fields or ["Desk-User: ann"]), body=body)])
+
+
+def work(both):
+    """Commands and questions, done and refused."""
     english, query = sample("english"), b'[upos="NOUN"]'
     corrected = english.split(b"\n\n")[0].replace(b"\tJJ\t", b"\tJJR\t") + b"\n\n"
-
-    def both(line, body=b"", fields=("Desk-User: ann",)):
-        exchange(line, lambda desk: desk.request(line, *fields, body=body))
-
-    def exchange(what, request):
-        found, wanted = (desk.raw(request(desk)) for desk in desks)
-        same(what, wanted, found)
-    for line in ("GET /totals", "GET /moves", "GET /released", "GET /batches/news", "GET /sentences/1", "POST /batches/news/assign", "POST /pull/1"):
-        both(line)
-    both("POST /batches/news", english)
-    both("POST /batches/news", english)
-    both("POST /batches/more", english)
-    both("POST /batches/..", sample("hindi"))
-    both("POST /batches/a%20b", sample("hindi"))
-    both("POST /batches/cut", english[:100])
-    both("POST /batches/news/assign")
-    both("POST /sentences/1/after/1", corrected)
-    both("POST /sentences/1/after/1", corrected)
-    both("POST /sentences/1/after/1", corrected.replace(b"\tJJR\t", b"\tJJS\t"))
-    for line in ("GET /sentences/1", "GET /sentences/1/1", "GET /sentences/1/3", "GET /sentences/01", "GET /sentences/99", "GET /batches/news", "POST /pull/2", "POST /pull/2", "POST /restore/2"):
-        both(line)
-    both("POST /batches/news/submit")
-    both("POST /batches/news/adjudicate")
-    both("POST /batches/news/adjudicate", fields=("Desk-User: ben",))
-    both("POST /batches/news/release", fields=("desk-user:\tcem ",))
-    for line in ("POST /search/longest/5", "POST /search/every/0", "POST /search/longest/21", "POST /count/longest/lemma", "POST /count/longest/form"):
-        both(line, query)
+    both.asks("GET /totals\nGET /moves\nGET /released\nGET /batches/news\nGET /sentences/1\nPOST /batches/news/assign\nPOST /pull/1")
+    both.asks("POST /batches/news\nPOST /batches/news\nPOST /batches/more", english)
+    both.asks("POST /batches/..\nPOST /batches/a%20b", sample("hindi"))
+    both.asks("POST /batches/cut", english[:100])
+    both.asks("POST /batches/news/assign")
+    both.asks("POST /sentences/1/after/1\nPOST /sentences/1/after/1", corrected)
+    both.asks("POST /sentences/1/after/1", corrected.replace(b"\tJJR\t", b"\tJJS\t"))
+    both.asks("GET /sentences/1\nGET /sentences/1/1\nGET /sentences/1/3\nGET /sentences/01\nGET /sentences/99\nGET /batches/news")
+    both.asks("POST /pull/2\nPOST /pull/2\nPOST /restore/2\nPOST /batches/news/submit\nPOST /batches/news/adjudicate")
+    both.asks("POST /batches/news/adjudicate", b"", "Desk-User: ben")
+    both.asks("POST /batches/news/release", b"", "desk-user:\tcem ")
+    both.asks("POST /search/longest/5\nPOST /search/every/0\nPOST /search/longest/21\nPOST /count/longest/lemma\nPOST /count/longest/form", query)
     for body in (b"[upos=", b"", b"\xff", b'"("', b"[" * 2001):
-        both("POST /search/longest/2", body)
-    for line in ("GET /totals", "GET /moves", "GET /released", "GET /batches/..", "HEAD /totals", "OPTIONS /totals", "get /totals", "PUT /batches/news", "DELETE /sentences/1", "GET /totals?x=1",
-                 "GET /nowhere", "GET /?x", "GET //", "GET /page", "GET /page/", "GET /page/nowhere", "GET /page/page.css/", "GET /page/Page.css", "GET /page/../totals", "GET /page/..%2ftotals",
-                 "GET /page/batches/01", "GET /page/batches/0", "GET /page/batches/+1", "GET /page/batches/1/", "GET /page/batches/12345678901", "GET /page/sent-id/", "GET /page/sent-id/a/b",
-                 "GET /page/now/", "GET /page/now?x", "GET /Page/now", "GET http://127.0.0.1/totals", "GET *", "OPTIONS *"):
-        both(line)
-    for field in ("Content-Length: +1", "Content-Length: 1, 1", "Content-Length: 4194305", "Transfer-Encoding: chunked", "Content-Length: 3\r\nContent-Length: 3", "Desk-User: ben",
-                  "X: " + "y" * 8000, "Expect: 100-continue", "Desk-User : ben", " folded"):
-        both("POST /batches/news/withdraw", fields=("Desk-User: ann", field))
-    for user in ("", "b\u00e9n", "a b", "x" * 33):
-        both("POST /batches/news/withdraw", fields=(f"Desk-User: {user}",))
+        both.asks("POST /search/longest/2", body)
+
+
+def odd_targets(both):
+    """Other methods, and paths that are nearly the page's or the desk's."""
+    both.asks("GET /totals\nGET /moves\nGET /released\nGET /batches/..\nHEAD /totals\nOPTIONS /totals\nget /totals\nPUT /batches/news\nDELETE /sentences/1")
+    both.asks("GET /totals?x=1\nGET /nowhere\nGET /?x\nGET //\nGET /page\nGET /page/\nGET /page/nowhere\nGET /page/page.css/\nGET /page/Page.css")
+    both.asks("GET /page/../totals\nGET /page/..%2ftotals\nGET /page/now/\nGET /page/now?x\nGET /Page/now\nGET /page/sent-id\nGET /page/sent-id?x")
+    both.asks("GET /page/batches/01\nGET /page/batches/0\nGET /page/batches/+1\nGET /page/batches/1/\nGET /page/batches/12345678901")
+    both.asks("GET http://127.0.0.1/totals\nGET *\nOPTIONS *")
+
+
+def odd_heads(both):
+    """Fields that are refused, heads that are broken, and heads that are unusual."""
+    for field in ("Content-Length: +1", "Content-Length: 1, 1", "Content-Length: 4194305", "Content-Length: 3\r\nContent-Length: 3", "Transfer-Encoding: chunked",
+                  "Desk-User: ben", "X: " + "y" * 8000, "Expect: 100-continue", "Desk-User : ben", " folded"):
+        both.asks("POST /batches/news/withdraw", b"", "Desk-User: ann", field)
+    for user in ("", "bén", "a b", "x" * 33):
+        both.asks("POST /batches/news/withdraw", b"", f"Desk-User: {user}")
     for count in (30, 31, 32, 33, 40):
-        both("GET /totals", fields=[f"X{n}: y" for n in range(count)])
-    for request in (b"\r\n\r\n", b"GET\r\n\r\n", b"NONSENSE\r\n\r\n", b"GET /totals HTTP/3\r\n\r\n", b"G\xc3\x89T /totals HTTP/1.1\r\n\r\n", b"GET /totals HTTP/1.1\r\nno colon\r\n\r\n",
-                    b"GET /to tals HTTP/1.1\r\n\r\n", b"GET /" + b"x" * 9000 + b" HTTP/1.1\r\n\r\n", b"GET /totals HTTP/1.1\r\nHost : x\r\n\r\n"):
-        exchange(request[:40], lambda _: request)
-    exchange("empty lines before a head", lambda desk: b"\r\n\r\n" + desk.request("GET /totals"))
-    exchange("lone line feeds", lambda desk: desk.request("GET /totals").replace(b"\r\n", b"\n"))
-    exchange("two requests at once", lambda desk: desk.request("GET /totals") * 2)
-    # The head is read once, however it comes, and all that follows it goes on to the desk.
+        both.asks("GET /totals", b"", *(f"X{n}: y" for n in range(count)))
+    for request in (b"\r\n\r\n", b"GET\r\n\r\n", b"NONSENSE\r\n\r\n", b"GET /totals HTTP/3\r\n\r\n", b"G\xc3\x89T /totals HTTP/1.1\r\n\r\n",
+                    b"GET /to tals HTTP/1.1\r\n\r\n", b"GET /totals HTTP/1.1\r\nno colon\r\n\r\n", b"GET /" + b"x" * 9000 + b" HTTP/1.1\r\n\r\n", b"GET /totals HTTP/1.1\r\nHost : x\r\n\r\n"):
+        both.exchange(request[:40], lambda _: [request])
+    both.exchange("empty lines before a head", lambda desk: [b"\r\n\r\n" + desk.request("GET /totals")])
+    both.exchange("lone line feeds", lambda desk: [desk.request("GET /totals").replace(b"\r\n", b"\n")])
+    both.exchange("two requests at once", lambda desk: [desk.request("GET /totals") * 2])
+
+
+def pieces(both):
+    """The head is read once, however it comes, and all that follows it goes on to the desk."""
     for n, step in enumerate((7, 60, 400)):
-        requests = [desk.request(f"POST /batches/pieces{n}", "Desk-User: ann", body=english.replace(b"en-", b"piece%d-" % n)) for desk in desks]
-        pieces = [[*(request[at:at + step] for at in range(0, 20 * step, step)), request[20 * step:]] for request in requests]
-        found, wanted = (desk.raw(*its) for desk, its in zip(desks, pieces))
-        same(f"pieces of {step} bytes", wanted, found)
-    for desk in desks:
+        def request(desk):
+            whole = desk.request(f"POST /batches/pieces{n}", "Desk-User: ann", body=sample("english").replace(b"en-", b"piece%d-" % n))
+            return [*(whole[at:at + step] for at in range(0, 20 * step, step)), whole[20 * step:]]
+        both.exchange(f"pieces of {step} bytes", request)
+
+
+def the_same_bytes():
+    """Whatever is not the page's has the answer of `treedesk serve`, byte by byte, and leaves the same desk."""
+    both = Both()
+    for part in (work, odd_targets, odd_heads, pieces):
+        part(both)
+    for desk in both.desks:
         desk.close()
-    totals = [subprocess.run([asked.program, "moves", "--db", desk.path], capture_output=True, check=True).stdout for desk in desks]
-    same("moves of both desks", totals[1], totals[0])
+    moves = [subprocess.run([asked.program, "moves", "--db", desk.path], capture_output=True, check=True).stdout for desk in both.desks]
+    same("moves of both desks", moves[1], moves[0])
 
 
 def silent_clients():
@@ -212,17 +247,18 @@ def yes(truth):
 
 def lists_of(model):
     """The lists of the page, as the plain model of tools/model-test has them: each path with its bytes."""
-    yield "/page/now", table("batches,sentences,moves", [[len(model.batches), len(model.sentences), len(model.moves)]])
+    yield "/page/now", table(COUNTS, [[len(model.batches), len(model.sentences), len(model.moves)]])
     lines = []
     for batch in model.batches:
         inside, pulled = ([it for it in batch.sentences if it.pulled == which] for which in (False, True))
         lines.append([batch.number, batch.name, batch.state, batch.worker, batch.sentences[0].number,
                       len(inside), sum(it.words for it in inside), len(pulled), sum(it.words for it in pulled)])
-        yield f"/page/batches/{batch.number}", table("no,sent_id,rev,who,words,pulled,text", [
+        yield f"/page/batches/{batch.number}", table(SENTENCES, [
             [it.number, it.text.sent_id, len(it.revisions), it.revisions[-1][0], it.words, yes(it.pulled), *it.text.values("text")] for it in batch.sentences])
-    yield "/page/batches", table("no,name,state,worker,first,sentences,words,pulled,pulled_words", lines)
+    yield "/page/batches", table(BATCHES, lines)
     for it in model.sentences:
-        yield "/page/sent-id/" + urllib.parse.quote(it.text.sent_id, safe=""), table("no,batch,rev,words,pulled", [[it.number, it.batch.name, len(it.revisions), it.words, yes(it.pulled)]])
+        line = [it.number, it.batch.name, len(it.revisions), it.words, yes(it.pulled)]
+        yield "/page/sent-id/" + urllib.parse.quote(it.text.sent_id, safe=""), table(SENTENCE, [line])
 
 
 def random_requests():
