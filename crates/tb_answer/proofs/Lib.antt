@@ -1,5 +1,6 @@
 pub mod Failing
 pub mod Texts
+pub mod Numbering
 pub mod Parts
 pub mod Exporting
 pub mod SearchTexts

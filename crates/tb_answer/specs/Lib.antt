@@ -9,4 +9,5 @@ pub mod Taken
 pub mod Ran
 pub mod Served
 pub mod Turns
+pub mod Numbered
 pub mod Viewed

@@ -6,7 +6,7 @@ use Rattle.tb_core.specs.declared.refusals.Refusal.TheVariants.{NoSuchSentence}
 use Rattle.tb_core.specs.Machine.{Machine}
 use Rattle.tb_http.specs.declared.replies.Reply.{Reply}
 use Rattle.tb_http.specs.declared.replies.Reply.TheVariants as reply
-use Rattle.tb_cli.specs.View.{Viewed, batches, sentences, revisions, find}
+use Rattle.tb_cli.specs.View.{Listed, batches, sentences, revisions, find}
 use Rattle.tb_lists.specs.Batches.{batch_lines}
 use Rattle.tb_lists.specs.Csv.{batches_csv, found_csv, revisions_csv, sentences_csv}
 use Rattle.tb_lists.specs.Found.{FoundText, IsFound}
@@ -29,25 +29,25 @@ abbrev pub IsFoundText : Machine → (sent_id : List ℕ) → List ℕ → Type 
 IsFoundText s id text = (line : FoundText) × IsFound s id line × (text ≡ found_csv line)
 
 -- the text of a list in a state
-abbrev pub IsView : Machine → Viewed → List ℕ → Type 0
-IsView s (batches db) text = text ≡ batches_csv (batch_lines s)
-IsView s (sentences db name) text = IsSentencesText s name text
-IsView s (revisions db n) text = IsRevisionsText s n text
-IsView s (find db id) text = IsFoundText s id text
+abbrev pub IsView : Machine → Listed → List ℕ → Type 0
+IsView s batches text = text ≡ batches_csv (batch_lines s)
+IsView s (sentences name) text = IsSentencesText s name text
+IsView s (revisions n) text = IsRevisionsText s n text
+IsView s (find id) text = IsFoundText s id text
 
 -- the refusal of a list in a state
-abbrev pub RefusesView : Machine → Viewed → Refusal → Type 0
-RefusesView s (batches db) r = ⊥
-RefusesView s (sentences db name) r = RefusesBatch s name (Refused r)
-RefusesView s (revisions db n) r = (r ≡ NoSuchSentence) × HasNoSentence s n
-RefusesView s (find db id) r = RefusesId s id (Refused r)
+abbrev pub RefusesView : Machine → Listed → Refusal → Type 0
+RefusesView s batches r = ⊥
+RefusesView s (sentences name) r = RefusesBatch s name (Refused r)
+RefusesView s (revisions n) r = (r ≡ NoSuchSentence) × HasNoSentence s n
+RefusesView s (find id) r = RefusesId s id (Refused r)
 
 -- the list is one of a sentence whose number no sentence has
-abbrev pub ViewsNone : Machine → Viewed → Type 0
-ViewsNone s (batches db) = ⊥
-ViewsNone s (sentences db name) = ⊥
-ViewsNone s (revisions db n) = HasNoSentence s n
-ViewsNone s (find db id) = ⊥
+abbrev pub ViewsNone : Machine → Listed → Type 0
+ViewsNone s batches = ⊥
+ViewsNone s (sentences name) = ⊥
+ViewsNone s (revisions n) = HasNoSentence s n
+ViewsNone s (find id) = ⊥
 
 -- the answer in place of a list: a refusal that is so, or a failure of the call with this cause
 abbrev pub IsReportedAs : (cause : Type 0) → (Refusal → Type 0) → Reply → Type 0
@@ -55,5 +55,5 @@ IsReportedAs cause IsSo reported = ((r : Refusal) × (reported ≡ reply.Refused
     ⊎ IsFailure cause reported
 
 -- the same, with the refusal of this list
-abbrev pub IsViewReported : (cause : Type 0) → Machine → Viewed → Reply → Type 0
+abbrev pub IsViewReported : (cause : Type 0) → Machine → Listed → Reply → Type 0
 IsViewReported cause s v reported = IsReportedAs cause (RefusesView s v) reported

@@ -25,7 +25,7 @@ pub enum Broken {
 }
 
 /// The result for a response: its status, or `Write` where the sink refused a part.
-fn outcome(sent: Option<Status>) -> Result<Status, Broken>
+pub fn outcome(sent: Option<Status>) -> Result<Status, Broken>
     ensures { result ≡ outcome sent }
 {
     match sent {

@@ -25,7 +25,12 @@ pub(crate) fn put_piece<W: Sink>(out: &mut W, bytes: &[u8]) -> bool
 }
 
 /// Writes a head and a body. Returns the status, or none where the sink refused a part of them.
-fn put_response<W: Sink>(out: &mut W, head: &[u8], body: &[u8], status: Status) -> Option<Status>
+pub fn put_response<W: Sink>(
+    out: &mut W,
+    head: &[u8],
+    body: &[u8],
+    status: Status,
+) -> Option<Status>
     ensures { IsSent (W.held out.old) (W.held out.new) (head.now ++ body.now) status (W.IsRefusal out.new) result }
 {
     if !put_piece(out, head) {

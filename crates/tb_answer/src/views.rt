@@ -3,7 +3,7 @@
 ghost use Rattle.std.specs.Prelude.{◌≡◌, Err, IfOk, IfErr, Some};
 ghost use Rattle.tb_core.specs.declared.refusals.Fault.TheVariants.{Refused};
 ghost use Rattle.tb_core.specs.Machine.{Machine};
-ghost use Rattle.tb_cli.specs.View.{viewed_by};
+ghost use Rattle.tb_cli.specs.View.{listed_by};
 ghost use Rattle.tb_lists.specs.Batches.{batch_lines};
 ghost use Rattle.tb_lists.specs.Csv.{batches_csv, found_csv, revisions_csv, sentences_csv};
 ghost use Rattle.tb_answer.specs.Asked.{IsReportedOf};
@@ -15,12 +15,13 @@ ghost use Rattle.tb_answer.specs.Viewed.{IsViewReported, ViewsNone};
 ghost use Rattle.tb_store.specs.Answers.{HasNoSentence, RefusesId};
 ghost use Rattle.tb_store.specs.Calls.{Gives, GivesOnErr, KeepsState};
 ghost use Rattle.tb_store.specs.Represents.{Represents};
+ghost use Rattle.tb_tables.specs.Leaving.{CommitsNothing};
 
 use crate::commands::reply_for_fault;
 use crate::questions::Question;
 use sqlite::Alter;
 use std::alloc::Global;
-use tb_cli::ViewLine;
+use tb_cli::ViewList;
 use tb_core::Refusal;
 use tb_http::Reply;
 use tb_lists::{
@@ -42,7 +43,7 @@ fn batches_text(alloc: Global, batches: &[BatchLine]) -> Result<Vec<u8>, Reply>
 }
 
 /// The batches by number, each with its state, its worker and its counts. It is never refused.
-fn batches<S: Alter>(alloc: Global, desk: &mut Desk<S>) -> Result<Vec<u8>, Reply>
+pub fn view_batches<S: Alter>(alloc: Global, desk: &mut Desk<S>) -> Result<Vec<u8>, Reply>
     ensures answered { Gives S.Store desk.old desk.new result (λ s v. v.items ≡ batches_csv (batch_lines s)) }
     ensures failed { GivesOnErr S.Store desk.old desk.new result (λ s r.
         IsFailure (HasFailed S.Store desk.old desk.new) r) }
@@ -73,10 +74,15 @@ fn sentences_text(alloc: Global, sentences: &[SentenceLine]) -> Result<Vec<u8>, 
 /// # Errors
 ///
 /// The first of `BadName`, `NoSuchBatch`, or a failure.
-fn sentences<S: Alter>(alloc: Global, desk: &mut Desk<S>, name: &str) -> Result<Vec<u8>, Reply>
+pub(crate) fn view_sentences<S: Alter>(
+    alloc: Global,
+    desk: &mut Desk<S>,
+    name: &str,
+) -> Result<Vec<u8>, Reply>
     ensures answered { Gives S.Store desk.old desk.new result (λ s v. IsSentencesText s name.now v.items) }
     ensures reported { GivesOnErr S.Store desk.old desk.new result (λ s r.
         IsReportedOfExport (HasFailed S.Store desk.old desk.new) s (Some name.now) r) }
+    ensures commits_nothing { CommitsNothing S.Store desk.old.conn desk.new.conn }
     ensures keeps_state { KeepsState S.Store desk.old desk.new }
     ensures crash { ReadsOnly S.Store desk.old desk.new }
     ensures limits { desk.new.limits ≡ desk.old.limits }
@@ -137,7 +143,11 @@ fn found_text(alloc: Global, found: &FoundLine) -> Result<Vec<u8>, Reply>
 /// # Errors
 ///
 /// `NoSuchSentence`, or a failure.
-fn find<S: Alter>(alloc: Global, desk: &mut Desk<S>, sent_id: &str) -> Result<Vec<u8>, Reply>
+pub fn view_found<S: Alter>(
+    alloc: Global,
+    desk: &mut Desk<S>,
+    sent_id: &str,
+) -> Result<Vec<u8>, Reply>
     ensures answered { Gives S.Store desk.old desk.new result (λ s v. IsFoundText s sent_id.now v.items) }
     ensures reported { GivesOnErr S.Store desk.old desk.new result (λ s r.
         IsReportedAs (HasFailed S.Store desk.old desk.new) (λ why. RefusesId s sent_id.now (Refused why)) r) }
@@ -151,25 +161,25 @@ fn find<S: Alter>(alloc: Global, desk: &mut Desk<S>, sent_id: &str) -> Result<Ve
     }
 }
 
-/// The list that a line of `deskview` asks for.
+/// A list that `deskview` prints.
 ///
 /// # Errors
 ///
 /// The refusals of the list, or a failure.
-pub fn view<S: Alter>(alloc: Global, line: &ViewLine, desk: &mut Desk<S>) -> Result<Vec<u8>, Reply>
-    ensures answered { Gives S.Store desk.old desk.new result (λ s v. IsView s (viewed_by line.now) v.items) }
-    ensures missing { (s : Machine) → Represents S.Store desk.old s → ViewsNone s (viewed_by line.now)
+pub fn view<S: Alter>(alloc: Global, list: &ViewList, desk: &mut Desk<S>) -> Result<Vec<u8>, Reply>
+    ensures answered { Gives S.Store desk.old desk.new result (λ s v. IsView s (listed_by list.now) v.items) }
+    ensures missing { (s : Machine) → Represents S.Store desk.old s → ViewsNone s (listed_by list.now)
         → result ≡ Err (Reply.Refused Refusal.NoSuchSentence) }
     ensures reported { GivesOnErr S.Store desk.old desk.new result (λ s r.
-        IsViewReported (HasFailed S.Store desk.old desk.new) s (viewed_by line.now) r) }
+        IsViewReported (HasFailed S.Store desk.old desk.new) s (listed_by list.now) r) }
     ensures keeps_state { KeepsState S.Store desk.old desk.new }
     ensures crash { ReadsOnly S.Store desk.old desk.new }
     ensures limits { desk.new.limits ≡ desk.old.limits }
 {
-    match line {
-        ViewLine::Batches { db: _ } => batches(alloc, desk),
-        ViewLine::Sentences { db: _, name } => sentences(alloc, desk, name.as_str()),
-        ViewLine::Revisions { db: _, no } => revisions(alloc, desk, *no),
-        ViewLine::Find { db: _, sent_id } => find(alloc, desk, sent_id.as_str()),
+    match list {
+        ViewList::Batches => view_batches(alloc, desk),
+        ViewList::Sentences { name } => view_sentences(alloc, desk, name.as_str()),
+        ViewList::Revisions { no } => revisions(alloc, desk, *no),
+        ViewList::Find { sent_id } => view_found(alloc, desk, sent_id.as_str()),
     }
 }

@@ -2,11 +2,13 @@
 use Rattle.std.specs.Prelude.{ℕ, List, true, [], codes, Option, None, option_and_then, bytes_eq, if◌then◌else◌}
 use Rattle.std.specs.String.{string_bytes}
 use Rattle.clap.specs.Words.{App, Row, Text, first_of, new_app, with_rule, with_subcommand}
-use Rattle.tb_http.specs.Forms.{number_of}
+use Rattle.tb_http.specs.Forms.{number_of, port_of}
 use Rattle.tb_cli.specs.Lines.{batch_of, formed, with_one, with_two}
-use Rattle.tb_cli.specs.Tree.{with_db, word_rule}
+use Rattle.tb_cli.specs.Tree.{needed_rule, with_db, word_rule}
 use Rattle.tb_cli.specs.declared.lines.ViewLine.{ViewLine}
 use Rattle.tb_cli.specs.declared.lines.ViewLine.TheVariants as line
+use Rattle.tb_cli.specs.declared.lines.ViewList.{ViewList}
+use Rattle.tb_cli.specs.declared.lines.ViewList.TheVariants as list
 
 -- the program's name and version
 abbrev pub view_top : App
@@ -29,45 +31,78 @@ abbrev pub lists_app : App
 lists_app =
     with_subcommand (with_subcommand (with_subcommand view_top batches_app.top) sentences_app.top) revisions_app.top
 
+-- the page needs a port
+abbrev pub page_app : App
+page_app = with_rule (with_db (new_app (codes "page"))) (needed_rule (codes "port"))
+
 -- the whole command
 unfoldable pub view_app : App
-view_app = with_subcommand lists_app find_app.top
+view_app = with_subcommand (with_subcommand lists_app find_app.top) page_app.top
+
+-- a list, as plain data: the batches, the sentences of the batch with a name, the revisions of the sentence with a
+-- number, or the sentence with a `sent_id`
+pub data Listed : Type 0 where
+  batches : Listed
+  sentences : Text → Listed
+  revisions : ℕ → Listed
+  find : Text → Listed
 
 -- a command line as plain data; the first text is the value of --db
 pub data Viewed : Type 0 where
-  batches : Text → Viewed
-  sentences : Text → Text → Viewed
-  revisions : Text → ℕ → Viewed
-  find : Text → Text → Viewed
+  lists : Text → Listed → Viewed
+  page : Text → (port : ℕ) → Viewed
+
+abbrev pub batches_of : Text → Viewed
+batches_of db = lists db batches
+
+abbrev pub sentences_of : Text → Text → Viewed
+sentences_of db name = lists db (sentences name)
+
+abbrev pub revisions_of : Text → ℕ → Viewed
+revisions_of db n = lists db (revisions n)
+
+abbrev pub find_of : Text → Text → Viewed
+find_of db id = lists db (find id)
 
 -- what the command `sentences` says with its values
 abbrev pub sentences_with : List Row → Option Viewed
-sentences_with rows = with_two sentences (first_of (codes "db") rows) (formed batch_of (first_of (codes "name") rows))
+sentences_with rows =
+    with_two sentences_of (first_of (codes "db") rows) (formed batch_of (first_of (codes "name") rows))
 
 -- what the command `revisions` says with its values
 abbrev pub revisions_with : List Row → Option Viewed
-revisions_with rows = with_two revisions (first_of (codes "db") rows) (formed number_of (first_of (codes "no") rows))
+revisions_with rows = with_two revisions_of (first_of (codes "db") rows) (formed number_of (first_of (codes "no") rows))
 
 -- what the command `find` says with its values
 abbrev pub find_with : List Row → Option Viewed
-find_with rows = with_two find (first_of (codes "db") rows) (first_of (codes "sent_id") rows)
+find_with rows = with_two find_of (first_of (codes "db") rows) (first_of (codes "sent_id") rows)
+
+-- what the command `page` says with its values
+abbrev pub page_with : List Row → Option Viewed
+page_with rows = with_two page (first_of (codes "db") rows) (formed port_of (first_of (codes "port") rows))
 
 -- what the command with this word says with its values
 abbrev pub viewed_with : Text → List Row → Option Viewed
 viewed_with word rows =
-    if bytes_eq word (codes "batches") then with_one batches (first_of (codes "db") rows)
+    if bytes_eq word (codes "batches") then with_one batches_of (first_of (codes "db") rows)
     else if bytes_eq word (codes "sentences") then sentences_with rows
     else if bytes_eq word (codes "revisions") then revisions_with rows
     else if bytes_eq word (codes "find") then find_with rows
+    else if bytes_eq word (codes "page") then page_with rows
     else None
 
 -- what the subcommand that clap finds says, with its values
 abbrev pub viewed_of : Option (Text × List Row) → Option Viewed
 viewed_of found = option_and_then (λ p. viewed_with p.0 p.1) found
 
+-- the list of the code, as plain data
+abbrev pub listed_by : ViewList → Listed
+listed_by list.Batches = batches
+listed_by (list.Sentences name) = sentences (string_bytes name)
+listed_by (list.Revisions n) = revisions n
+listed_by (list.Find sent_id) = find (string_bytes sent_id)
+
 -- the line of the code, as plain data
 abbrev pub viewed_by : ViewLine → Viewed
-viewed_by (line.Batches db) = batches (string_bytes db)
-viewed_by (line.Sentences db name) = sentences (string_bytes db) (string_bytes name)
-viewed_by (line.Revisions db n) = revisions (string_bytes db) n
-viewed_by (line.Find db sent_id) = find (string_bytes db) (string_bytes sent_id)
+viewed_by (line.List db l) = lists (string_bytes db) (listed_by l)
+viewed_by (line.Page db port) = page (string_bytes db) port

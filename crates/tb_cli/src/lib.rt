@@ -14,4 +14,4 @@ mod view;
 mod view_help;
 mod view_tree;
 
-pub use lines::{Line, LineFault, ViewLine};
+pub use lines::{Line, LineFault, ViewLine, ViewList};

@@ -76,13 +76,24 @@ pub enum Line {
     },
 }
 
+/// A list that `deskview` prints.
+#[derive(Debug, Drop)]
+pub enum ViewList {
+    Batches,
+    /// The sentences of the batch with this name.
+    Sentences { name: String },
+    /// The revisions of the sentence with this number.
+    Revisions { no: u64 },
+    /// The sentence with this `sent_id`.
+    Find { sent_id: String },
+}
+
 /// A command of `deskview` with its values. Each reads the desk in a file.
 #[derive(Debug, Drop)]
 pub enum ViewLine {
-    Batches { db: String },
-    Sentences { db: String, name: String },
-    Revisions { db: String, no: u64 },
-    Find { db: String, sent_id: String },
+    List { db: String, list: ViewList },
+    /// Serves the page, and the desk beside it.
+    Page { db: String, port: u16 },
 }
 
 /// Why words are no line.

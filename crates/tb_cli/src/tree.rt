@@ -21,7 +21,7 @@ pub(crate) fn option<'a>(alloc: Global, name: &'a str, help: &'a str) -> Arg<'a>
 }
 
 /// An option that is required.
-fn needed<'a>(alloc: Global, name: &'a str, help: &'a str) -> Arg<'a>
+pub(crate) fn needed<'a>(alloc: Global, name: &'a str, help: &'a str) -> Arg<'a>
     ensures { HasRule (needed_rule name.entry.now) result }
 {
     Arg::new(alloc, name).long(name).required(true).help(help)

@@ -4,12 +4,12 @@ ghost use Rattle.std.specs.Prelude.{◌≡◌, ◌≢◌, IfOk, IfErr, codes, tr
 ghost use Rattle.std.specs.String.{string_bytes};
 ghost use Rattle.clap.specs.Words.{takes, fault_of, subcommand_of, subcommand_rows_of, rows_of, found_of, first_of};
 ghost use Rattle.tb_cli.specs.Fault.{AnswersAs, ComesOnly, ReadsAs};
-ghost use Rattle.tb_cli.specs.View.{find_with, revisions_with, sentences_with, view_app, viewed_by, viewed_of};
-ghost use Rattle.tb_cli.specs.View.{viewed_with};
+ghost use Rattle.tb_cli.specs.View.{find_with, page_with, revisions_with, sentences_with, view_app, viewed_by};
+ghost use Rattle.tb_cli.specs.View.{viewed_of, viewed_with};
 
-use crate::lines::{LineFault, ViewLine};
+use crate::lines::{LineFault, ViewLine, ViewList};
 use crate::reading::{entered, found_by};
-use crate::values::{batch_in, given, number_in, text_of, value};
+use crate::values::{batch_in, given, number_in, port_in, text_of, value};
 use crate::verbs::is_word;
 use crate::view_tree::deskview;
 use clap::ArgMatches;
@@ -37,7 +37,10 @@ fn sentences(alloc: Global, values: &ArgMatches<'_>) -> Result<ViewLine, LineFau
     let name = given(batch_in(values, "name"))?;
     let db = file_in(alloc, values)?;
     let name = String::from_str(alloc, name)?;
-    Ok(ViewLine::Sentences { db, name })
+    Ok(ViewLine::List {
+        db,
+        list: ViewList::Sentences { name },
+    })
 }
 
 fn revisions(alloc: Global, values: &ArgMatches<'_>) -> Result<ViewLine, LineFault>
@@ -45,7 +48,10 @@ fn revisions(alloc: Global, values: &ArgMatches<'_>) -> Result<ViewLine, LineFau
 {
     let no = given(number_in(values, "no"))?;
     let db = file_in(alloc, values)?;
-    Ok(ViewLine::Revisions { db, no })
+    Ok(ViewLine::List {
+        db,
+        list: ViewList::Revisions { no },
+    })
 }
 
 /// A `sent_id` may be any text.
@@ -55,7 +61,18 @@ fn find(alloc: Global, values: &ArgMatches<'_>) -> Result<ViewLine, LineFault>
     let sent_id = given(value(values, "sent_id"))?;
     let db = file_in(alloc, values)?;
     let sent_id = String::from_str(alloc, sent_id)?;
-    Ok(ViewLine::Find { db, sent_id })
+    Ok(ViewLine::List {
+        db,
+        list: ViewList::Find { sent_id },
+    })
+}
+
+fn page(alloc: Global, values: &ArgMatches<'_>) -> Result<ViewLine, LineFault>
+    ensures { ReadsAs (page_with (rows_of (found_of values.now))) viewed_by result }
+{
+    let port = given(port_in(values, "port"))?;
+    let db = file_in(alloc, values)?;
+    Ok(ViewLine::Page { db, port })
 }
 
 /// The line of the command with this word, and with these values.
@@ -64,13 +81,18 @@ fn line_of(alloc: Global, word: &str, values: &ArgMatches<'_>) -> Result<ViewLin
 {
     if is_word(word, "batches") {
         let db = file_in(alloc, values)?;
-        Ok(ViewLine::Batches { db })
+        Ok(ViewLine::List {
+            db,
+            list: ViewList::Batches,
+        })
     } else if is_word(word, "sentences") {
         sentences(alloc, values)
     } else if is_word(word, "revisions") {
         revisions(alloc, values)
     } else if is_word(word, "find") {
         find(alloc, values)
+    } else if is_word(word, "page") {
+        page(alloc, values)
     } else {
         Err(LineFault::Usage)
     }

@@ -7,8 +7,10 @@ Examples:
   deskview sentences --db desk.db news
   deskview revisions --db desk.db 7
   deskview find --db desk.db en-7
+  deskview page --db desk.db --port 8080
 
-Each command reads the desk in the file that --db names, and prints a list as CSV. It changes nothing of the desk.
+Each command reads the desk in the file that --db names. `page` shows it in a browser until you end the program; the others
+print a list as CSV, and change nothing of the desk.
 `deskview help COMMAND` shows what a command takes and prints, with an example.
 
 Exit status:
@@ -55,3 +57,12 @@ the batch, `rev` is the number of the current revision, `words` counts its words
 Example: deskview find --db desk.db en-7
 
 Exit status: 0 done, 1 refused, 2 wrong words, 3 out of memory or an I/O error.";
+
+/// The end of the help of `page`.
+pub const PAGE: &str = "\
+Prints `listening PORT`, and serves a page for browsers at http://127.0.0.1:PORT/ beside what `treedesk serve` serves. On
+port 0 the system chooses the port. There is no password: every user of this machine can read and change the desk.
+
+Example: deskview page --db desk.db --port 8080
+
+Exit status: 1 refused, 2 wrong words, 3 out of memory or an I/O error.";

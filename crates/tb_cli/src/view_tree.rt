@@ -3,11 +3,11 @@
 ghost use Rattle.std.specs.Prelude.{◌≡◌, IfOk};
 ghost use Rattle.clap.specs.Words.{app_of, new_app};
 ghost use Rattle.tb_cli.specs.Tree.{with_db, IsKnownAs};
-ghost use Rattle.tb_cli.specs.View.{batches_app, find_app, lists_app, revisions_app, sentences_app, view_app};
-ghost use Rattle.tb_cli.specs.View.{view_top};
+ghost use Rattle.tb_cli.specs.View.{batches_app, find_app, lists_app, page_app, revisions_app, sentences_app};
+ghost use Rattle.tb_cli.specs.View.{view_app, view_top};
 
-use crate::tree::{VERSION, option, with, with_sub, word};
-use crate::view_help::{BATCHES, ENDING, FIND, REVISIONS, SENTENCES};
+use crate::tree::{VERSION, needed, option, with, with_sub, word};
+use crate::view_help::{BATCHES, ENDING, FIND, PAGE, REVISIONS, SENTENCES};
 use clap::Command;
 use std::alloc::{AllocError, Global};
 
@@ -17,7 +17,7 @@ fn top<'a>(alloc: Global) -> Command<'a>
 {
     Command::new(alloc, "deskview")
         .version(VERSION)
-        .about("Lists of what a treebank desk holds, as CSV")
+        .about("Lists of what a treebank desk holds, and the desk in a browser")
         .after_help(ENDING)
 }
 
@@ -75,6 +75,17 @@ fn find<'a>(alloc: Global) -> Result<Command<'a>, AllocError>
     )
 }
 
+fn page<'a>(alloc: Global) -> Result<Command<'a>, AllocError>
+    ensures { IfOk result (IsKnownAs page_app) }
+{
+    let about = "Serve the desk and a page for browsers on loopback, until the program is ended";
+    let command = reading(alloc, "page", about, PAGE)?;
+    with(
+        command,
+        needed(alloc, "port", "The port; 0 lets the system choose"),
+    )
+}
+
 /// The command with the subcommands that list.
 fn lists<'a>(alloc: Global) -> Result<Command<'a>, AllocError>
     ensures { IfOk result (IsKnownAs lists_app) }
@@ -90,5 +101,6 @@ pub fn deskview<'a>(alloc: Global) -> Result<Command<'a>, AllocError>
     ensures { IfOk result (λ r. app_of r ≡ view_app) }
 {
     let command = with_sub(lists(alloc)?, find(alloc)?)?;
+    let command = with_sub(command, page(alloc)?)?;
     Ok(command)
 }

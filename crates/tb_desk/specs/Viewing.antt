@@ -1,11 +1,11 @@
 -- What `deskview` shows of a desk, and its exit status.
-use Rattle.std.specs.Prelude.{◌≡◌, ◌≢◌, ◌⊎◌, ℕ, List, true, Option, Some, None}
+use Rattle.std.specs.Prelude.{◌≡◌, ◌≢◌, ◌⊎◌, ℕ, List, true, Option, Some, None, ⊤}
 use Rattle.clap.specs.Words.{takes, subcommand_of}
 use Rattle.sqlite.specs.Files.{over_files}
 use Rattle.sqlite.specs.Store.{Ghosts}
 use Rattle.tb_http.specs.declared.replies.Reply.{Reply}
 use Rattle.tb_cli.specs.Fault.{ComesOnly}
-use Rattle.tb_cli.specs.View.{Viewed, view_app, viewed_of}
+use Rattle.tb_cli.specs.View.{Listed, Viewed, lists, page, view_app, viewed_of}
 use Rattle.tb_cli.specs.declared.lines.LineFault.{LineFault}
 use Rattle.tb_store.specs.Calls.{InState}
 use Rattle.tb_store.specs.Kept.{Kept}
@@ -19,22 +19,27 @@ use Rattle.tb_desk.specs.Replies.{IsFaultWritten, IsFileRefused, IsReplyWritten}
 module _ {Reason S : Type 0} (g : Ghosts S) (held holds : Option (List ℕ)) (is_refusal : Reason → Type 0)
     (status : ℕ) where
   -- The list of the state that the desk represents is written, or the line of why there is none.
-  abbrev pub IsShown : (old new : Kept S) → Viewed → Type 0
-  IsShown old new viewed = InState g old new (λ s.
-      ((text : List ℕ) × IsView s viewed text × IsWritten held holds text 0 is_refusal status)
-      ⊎ ((r : Reply) × IsViewReported (HasFailed g old new) s viewed r × IsReplyWritten held holds is_refusal status r))
+  abbrev pub IsShown : (old new : Kept S) → Listed → Type 0
+  IsShown old new list = InState g old new (λ s.
+      ((text : List ℕ) × IsView s list text × IsWritten held holds text 0 is_refusal status)
+      ⊎ ((r : Reply) × IsViewReported (HasFailed g old new) s list r × IsReplyWritten held holds is_refusal status r))
 
 module _ {Reason : Type 0} (held holds : Option (List ℕ)) (is_refusal : Reason → Type 0) (status : ℕ) where
   -- there was a desk in the file, and its list is shown
-  pub record IsShownInFile (viewed : Viewed) : Type 0 where
+  pub record IsShownInFile (list : Listed) : Type 0 where
     pub opened : FileDesk
     pub ended : FileDesk
     pub is : IsSomeDesk over_files opened.desk
-    pub shown : IsShown over_files held holds is_refusal status opened.desk ended.desk viewed
+    pub shown : IsShown over_files held holds is_refusal status opened.desk ended.desk list
 
   -- the list is shown, or the line of a fault of the file is written
+  abbrev pub IsListRun : Listed → Type 0
+  IsListRun list = IsFileRefused held holds is_refusal status ⊎ IsShownInFile list
+
+  -- how a line ends; what a server answers is said request by request
   abbrev pub IsViewRun : Viewed → Type 0
-  IsViewRun viewed = IsFileRefused held holds is_refusal status ⊎ IsShownInFile viewed
+  IsViewRun (lists db list) = IsListRun list
+  IsViewRun (page db port) = ⊤
 
   -- what the words ask to see is shown, or why they ask nothing is written
   abbrev pub AreWordsShown : (words : List (List ℕ)) → Type 0

@@ -190,7 +190,7 @@ impl Caller {
     }
 
     /// What the connection has sent so far.
-    fn said(&self) -> &[u8]
+    pub(crate) fn said(&self) -> &[u8]
         ensures { result.now ≡ take self.now.filled self.now.room.items }
     {
         self.room.get(..self.filled).unwrap_or(self.room.as_slice())

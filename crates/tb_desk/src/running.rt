@@ -14,7 +14,7 @@ use crate::diagnostics::{Diagnostic, Outcome, put_memory, wants_words};
 use crate::explaining::run_reported;
 use crate::files::{self, FileDesk};
 use crate::place::Place;
-use crate::serving::serve;
+use crate::serving::{Beside, serve};
 use crate::targets::Target;
 use crate::words::{TREEDESK, put_file_cause};
 use sqlite::Alter;
@@ -83,7 +83,15 @@ fn run_on_desk<W: Write>(
             port,
             requests,
         } => match Place::new(rt, path) {
-            Ok(place) => serve(rt, &mut opened.desk, Some(&place), *port, *requests, out),
+            Ok(place) => serve(
+                rt,
+                &mut opened.desk,
+                Some(&place),
+                Beside::Nothing,
+                *port,
+                *requests,
+                out,
+            ),
             Err(cause) => put_file_cause(rt, path, cause, out),
         },
         _ => run_reported(rt, line, body, &mut opened.desk, out),
@@ -163,7 +171,7 @@ fn serve_in_memory<S: Alter, W: Write>(
     if wants_words(rt) {
         let _reported = eprintln!(rt; "{}: {}", TREEDESK, Cause::NothingWillBeKept);
     }
-    serve(rt, desk, None, port, requests, out)
+    serve(rt, desk, None, Beside::Nothing, port, requests, out)
 }
 
 /// Does a line on a desk in memory, with its body.

@@ -12,9 +12,28 @@ use std::io::{BufWriter, Write};
 use std::net::{Ipv4Addr, TcpListener, TcpStream};
 use tb_answer::{Broken, answer, put_reply, respond_reply};
 use tb_http::{Reply, Routes, Status};
+use tb_page::answer_with_page;
 use tb_store::Desk;
 
 const BUFFER: usize = 65_536;
+
+/// What a server answers beside the desk's paths.
+#[derive(Clone, Copy, PartialEq, Eq)]
+pub(crate) enum Beside {
+    Nothing,
+    /// The page for browsers.
+    Page,
+}
+
+impl Beside {
+    /// The port of the page, if there is one, for a server at this port.
+    fn page_at(self, port: u16) -> Option<u16> {
+        match self {
+            Beside::Nothing => None,
+            Beside::Page => Some(port),
+        }
+    }
+}
 
 /// Answers that a request is not done. This needs no memory.
 fn refuse<'a>(rt: &'a HostRuntime, stream: &'a TcpStream, reply: Reply) {
@@ -34,6 +53,7 @@ fn serve_one<'a, S: Alter>(
     routes: &Routes,
     desk: &mut Desk<S>,
     place: Option<&'a Place>,
+    page: Option<u16>,
     caller: &'a Caller,
 ) -> Result<bool, Cause> {
     let stream = caller.stream();
@@ -48,7 +68,18 @@ fn serve_one<'a, S: Alter>(
         refuse(rt, stream, Reply::Memory);
         return Ok(true);
     };
-    let answered = answer(rt.alloc(), routes, desk, &mut reader, &mut out);
+    let answered = match page {
+        Some(port) => answer_with_page(
+            rt.alloc(),
+            routes,
+            port,
+            caller.said(),
+            desk,
+            &mut reader,
+            &mut out,
+        ),
+        None => answer(rt.alloc(), routes, desk, &mut reader, &mut out),
+    };
     let _ = out.flush();
     match answered {
         Err(Broken::Read) if has_changed(rt, place) => {
@@ -93,6 +124,7 @@ fn serve_all<S: Alter>(
     routes: Routes,
     desk: &mut Desk<S>,
     place: Option<&Place>,
+    page: Option<u16>,
     mut waiting: Waiting,
     listener: TcpListener,
     requests: u64,
@@ -102,7 +134,7 @@ fn serve_all<S: Alter>(
             return Err(Cause::NoConnections);
         };
         let Some(caller) = next else { continue };
-        let served = serve_one(rt, &routes, desk, place, &caller);
+        let served = serve_one(rt, &routes, desk, place, page, &caller);
         if !matches!(served, Ok(false)) {
             waiting.part(caller);
         }
@@ -126,13 +158,15 @@ fn put_port_cause<W: Write>(rt: &HostRuntime, port: u16, cause: PortCause, out: 
     }
 }
 
-/// Serves so many connections on this port of loopback; for port 0 the system chooses one.
+/// Serves so many connections on this port of loopback; for port 0 the system chooses one. The page is served beside the
+/// desk, if it is wanted.
 ///
 /// It ends early where the desk's files are no longer in their place, or where a fault has shut the store.
 pub(crate) fn serve<S: Alter, W: Write>(
     rt: &HostRuntime,
     desk: &mut Desk<S>,
     place: Option<&Place>,
+    beside: Beside,
     port: u16,
     requests: u64,
     out: &mut W,
@@ -152,7 +186,8 @@ pub(crate) fn serve<S: Alter, W: Write>(
         Err(Reply::Memory) => return put_memory(out),
         Err(reply) => return Outcome::from(put_reply(out, reply)),
     }
-    match serve_all(rt, routes, desk, place, waiting, listener, requests) {
+    let page = beside.page_at(chosen);
+    match serve_all(rt, routes, desk, place, page, waiting, listener, requests) {
         Ok(()) => Outcome::from(0),
         Err(cause) => Outcome {
             status: put_reply(out, Reply::Device),

@@ -1,39 +1,34 @@
-//! Does what the words of a command line of `deskview` ask: it shows a list of the desk in a file.
+//! Does what the words of a command line of `deskview` ask: it shows a list of the desk in a file, or serves the page over
+//! it.
 
 ghost use Rattle.std.specs.Prelude.{map, string_bytes};
 ghost use Rattle.sqlite.specs.Files.{over_files};
-ghost use Rattle.tb_cli.specs.View.{viewed_by};
+ghost use Rattle.tb_cli.specs.View.{listed_by, viewed_by};
+ghost use Rattle.tb_conllu.specs.declared.fault.WriteFault.{WriteFault};
 ghost use Rattle.tb_desk.specs.Replies.{IsFaultWritten};
-ghost use Rattle.tb_desk.specs.Viewing.{AreWordsShown, IsShown, IsViewRun};
+ghost use Rattle.tb_desk.specs.Viewing.{AreWordsShown, IsListRun, IsShown, IsViewRun};
 
 use crate::causes::Cause;
 use crate::diagnostics::{Diagnostic, Outcome, put_memory};
 use crate::explaining::reported_of_reply;
 use crate::files::{self, FileDesk};
+use crate::place::Place;
+use crate::serving::{Beside, serve};
 use crate::words::{put_clap, put_file_cause, put_usage};
 use crate::wrong::wrong_value;
+use std::io::Write;
 use tb_answer::{put_body, put_reply, view};
-use tb_cli::{LineFault, ViewLine};
+use tb_cli::{LineFault, ViewLine, ViewList};
 use tb_conllu::Sink;
 use tb_words::Asked;
 
 /// The name of the program.
 pub const DESKVIEW: &str = "deskview";
 
-/// The file that a line reads.
-fn file_of(line: &ViewLine) -> &str {
-    match line {
-        ViewLine::Batches { db }
-        | ViewLine::Sentences { db, .. }
-        | ViewLine::Revisions { db, .. }
-        | ViewLine::Find { db, .. } => db.as_str(),
-    }
-}
-
-/// What a line asks, as far as the words for a refusal depend on it.
-fn asked_of(line: &ViewLine) -> Asked<'_> {
-    match line {
-        ViewLine::Find { sent_id, .. } => Asked::SentId(sent_id.as_str()),
+/// What a list is of, as far as the words for a refusal depend on it.
+fn asked_of(list: &ViewList) -> Asked<'_> {
+    match list {
+        ViewList::Find { sent_id } => Asked::SentId(sent_id.as_str()),
         _ => Asked::Other,
     }
 }
@@ -61,31 +56,30 @@ fn put_fault<W: Sink>(rt: &HostRuntime, words: &[String], fault: LineFault, out:
     }
 }
 
-/// Prints what a line shows of a desk.
-fn show<W: Sink>(rt: &HostRuntime, line: &ViewLine, opened: &mut FileDesk, out: &mut W) -> Outcome
+/// Prints a list of a desk.
+fn show<W: Sink>(rt: &HostRuntime, list: &ViewList, opened: &mut FileDesk, out: &mut W) -> Outcome
     ensures { IsShown over_files (W.held out.old) (W.held out.new) (W.IsRefusal out.new) result.status opened.old.desk
-        opened.new.desk (viewed_by line.now) }
+        opened.new.desk (listed_by list.now) }
 {
-    match view(rt.alloc(), line, &mut opened.desk) {
+    match view(rt.alloc(), list, &mut opened.desk) {
         Ok(text) => Outcome {
             status: put_body(out, text.as_slice()),
             reported: None,
         },
         Err(reply) => Outcome {
             status: put_reply(out, reply),
-            reported: reported_of_reply(rt, reply, &[], asked_of(line)),
+            reported: reported_of_reply(rt, reply, &[], asked_of(list)),
         },
     }
 }
 
-/// Does a line on the desk of its file, as the desk's own questions are done.
-fn run<W: Sink>(rt: &HostRuntime, line: &ViewLine, out: &mut W) -> Outcome
-    ensures { IsViewRun (W.held out.old) (W.held out.new) (W.IsRefusal out.new) result.status (viewed_by line.now) }
+/// Prints a list of the desk in the file at this path, which is opened as for the desk's own questions.
+fn run_list<W: Sink>(rt: &HostRuntime, path: &str, list: &ViewList, out: &mut W) -> Outcome
+    ensures { IsListRun (W.held out.old) (W.held out.new) (W.IsRefusal out.new) result.status (listed_by list.now) }
 {
-    let path = file_of(line);
     match files::open(rt, DESKVIEW, path, files::ROOM) {
         Ok(mut opened) => {
-            let outcome = show(rt, line, &mut opened, out);
+            let outcome = show(rt, list, &mut opened, out);
             opened.close();
             outcome
         }
@@ -93,9 +87,54 @@ fn run<W: Sink>(rt: &HostRuntime, line: &ViewLine, out: &mut W) -> Outcome
     }
 }
 
+/// Serves an opened desk, and the page beside it, until the program is ended.
+fn serve_page<W: Write>(
+    rt: &HostRuntime,
+    path: &str,
+    port: u16,
+    opened: &mut FileDesk,
+    out: &mut W,
+) -> Outcome {
+    match Place::new(rt, path) {
+        Ok(place) => serve(
+            rt,
+            &mut opened.desk,
+            Some(&place),
+            Beside::Page,
+            port,
+            u64::MAX,
+            out,
+        ),
+        Err(cause) => put_file_cause(rt, path, cause, out),
+    }
+}
+
+/// Serves the desk in the file at this path, and the page beside it.
+fn run_page<W: Write>(rt: &HostRuntime, path: &str, port: u16, out: &mut W) -> Outcome {
+    match files::open(rt, DESKVIEW, path, files::ROOM_TO_SERVE) {
+        Ok(mut opened) => {
+            let outcome = serve_page(rt, path, port, &mut opened, out);
+            opened.close();
+            outcome
+        }
+        Err(cause) => put_file_cause(rt, path, cause, out),
+    }
+}
+
+/// Does a line on the desk of its file.
+fn run<W: Write>(rt: &HostRuntime, line: &ViewLine, out: &mut W) -> Outcome
+    ensures { IsViewRun (W.contents out.old) (W.contents out.new) (λ (_ : WriteFault). Unit {0}) result.status
+        (viewed_by line.now) }
+{
+    match line {
+        ViewLine::List { db, list } => run_list(rt, db.as_str(), list, out),
+        ViewLine::Page { db, port } => run_page(rt, db.as_str(), *port, out),
+    }
+}
+
 /// Does what the words of `deskview` ask, the program's name first. Returns the exit status, and what to say beside it.
-pub fn run_view<W: Sink>(rt: &HostRuntime, words: &[String], out: &mut W) -> Outcome
-    ensures { AreWordsShown (W.held out.old) (W.held out.new) (W.IsRefusal out.new) result.status
+pub fn run_view<W: Write>(rt: &HostRuntime, words: &[String], out: &mut W) -> Outcome
+    ensures { AreWordsShown (W.contents out.old) (W.contents out.new) (λ (_ : WriteFault). Unit {0}) result.status
         (map string_bytes words.now) }
 {
     match ViewLine::read(rt.alloc(), words) {

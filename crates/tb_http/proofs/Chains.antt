@@ -42,7 +42,7 @@ front h user rest = record { head = h; user = user; rest = rest }
 fewer : (headers : List HeaderSpan) (n : ℕ) → length (take n headers) ≤ length headers
 fewer headers n = grind (arith, common_steps)
 
-begins : (buf later : List ℕ) (headers : List HeaderSpan) (spans : RequestSpans) (h : RequestHead) → IsSet buf headers spans h
+pub begins : (buf later : List ℕ) (headers : List HeaderSpan) (spans : RequestSpans) (h : RequestHead) → IsSet buf headers spans h
     → BeginsWithHead (buf ++ later) h (drop spans.len buf ++ later)
 begins buf later headers spans h s =
     let count : length (take spans.headers headers) ≡ length h.fields =

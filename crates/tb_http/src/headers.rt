@@ -110,7 +110,7 @@ pub fn body_length(
 }
 
 /// The value if it is UTF-8, else the empty text.
-fn text_of(value: &[u8]) -> &str
+pub fn text_of(value: &[u8]) -> &str
     ensures { result.now ≡ text_of value.now }
 {
     match from_utf8(value) {

@@ -20,7 +20,8 @@ pub use forms::{
     attribute_of, base_of, context_of, event_of, name_of, number_of, port_of, requests_of,
     strategy_of,
 };
-pub use head::HEAD_BYTES;
+pub use head::{BrokenRead, HEAD_BYTES, HEADERS, Head, read_head};
+pub use headers::{Repeated, text_of, value_of};
 pub use heads::{Extra, head_of_reply, response_head};
 pub use replies::{Reply, push_number};
 pub use routes::{Route, Routes};

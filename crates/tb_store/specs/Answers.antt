@@ -1,5 +1,5 @@
 -- What a desk answers from its state.
-use Rattle.std.specs.Prelude.{◌≡◌, ◌⊎◌, ◌+◌, ℕ, List, [], ◌∷◌, ⊤}
+use Rattle.std.specs.Prelude.{◌≡◌, ◌⊎◌, ◌+◌, ℕ, List, [], ◌∷◌, length, ⊤}
 use Rattle.tb_conllu.specs.Text.{text_of}
 use Rattle.tb_core.specs.declared.refusals.Refusal.TheVariants.{NoSuchSentence, NoSuchRevision}
 use Rattle.tb_core.specs.declared.refusals.Fault.{Fault}
@@ -13,6 +13,11 @@ use Rattle.tb_core.specs.Names.{Lacks}
 use Rattle.tb_core.specs.Acts.{ids_of}
 use Rattle.tb_core.specs.Commands.{HasSentence}
 use Rattle.tb_refine.specs.Revisions.{HasRevision}
+use Rattle.tb_store.specs.declared.answers.DeskCounts.{DeskCounts}
+
+-- how many batches, sentences and moves there are
+abbrev pub counts_in : Machine → DeskCounts
+counts_in s = record { batches = length s.batches; sentences = length s.sentences; moves = length s.moves }
 
 -- The totals are the net of the moves: in each state, what is there and what left make up what came in.
 pub record AreNet (t : Totals) (moves : List MoveText) : Type 0 where

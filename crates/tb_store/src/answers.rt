@@ -8,3 +8,11 @@ pub struct Current {
     /// The text of the sentence, its blank line included.
     pub body: String,
 }
+
+/// How many batches, sentences and moves a desk has.
+#[derive(Clone, Copy, Debug, PartialEq, Eq)]
+pub struct DeskCounts {
+    pub batches: u64,
+    pub sentences: u64,
+    pub moves: u64,
+}

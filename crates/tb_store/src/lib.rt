@@ -16,7 +16,7 @@ mod reopening;
 mod stopping;
 mod wanting;
 
-pub use answers::Current;
+pub use answers::{Current, DeskCounts};
 pub use desk::{Desk, Unmade, left_by_a_crash};
 pub use reopening::left_to_the_next_run;
 pub use tb_core::{

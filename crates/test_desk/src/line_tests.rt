@@ -170,17 +170,21 @@ fn words_are_read(rt: HostRuntime) {
 
 /// Each list; values without their form, and no file; words that clap refuses; help and the version; no word at all.
 const VIEW_LINES: &str = "\
-    batches --db F => Batches { db: \"F\" }\n\
-    batches --db=F => Batches { db: \"F\" }\n\
-    batches --db a␣b => Batches { db: \"a b\" }\n\
-    sentences --db F b1 => Sentences { db: \"F\", name: \"b1\" }\n\
-    sentences a␣b --db=F => Sentences { db: \"F\", name: \"a b\" }\n\
-    revisions --db F 7 => Revisions { db: \"F\", no: 7 }\n\
-    revisions 9999999999 --db=F => Revisions { db: \"F\", no: 9999999999 }\n\
-    find --db F en-1 => Find { db: \"F\", sent_id: \"en-1\" }\n\
-    find a␣b/c --db=F => Find { db: \"F\", sent_id: \"a b/c\" }\n\
-    find --db F -- -1 => Find { db: \"F\", sent_id: \"-1\" }\n\
-    find --db F ∅ => Find { db: \"F\", sent_id: \"\" }\n\
+    batches --db F => List { db: \"F\", list: Batches }\n\
+    batches --db=F => List { db: \"F\", list: Batches }\n\
+    batches --db a␣b => List { db: \"a b\", list: Batches }\n\
+    sentences --db F b1 => List { db: \"F\", list: Sentences { name: \"b1\" } }\n\
+    sentences a␣b --db=F => List { db: \"F\", list: Sentences { name: \"a b\" } }\n\
+    revisions --db F 7 => List { db: \"F\", list: Revisions { no: 7 } }\n\
+    revisions 9999999999 --db=F => List { db: \"F\", list: Revisions { no: 9999999999 } }\n\
+    find --db F en-1 => List { db: \"F\", list: Find { sent_id: \"en-1\" } }\n\
+    find a␣b/c --db=F => List { db: \"F\", list: Find { sent_id: \"a b/c\" } }\n\
+    find --db F -- -1 => List { db: \"F\", list: Find { sent_id: \"-1\" } }\n\
+    find --db F ∅ => List { db: \"F\", list: Find { sent_id: \"\" } }\n\
+    page --db F --port 8080 => Page { db: \"F\", port: 8080 }\n\
+    page --port=0 --db=F => Page { db: \"F\", port: 0 }\n\
+    page --db F --port 65536 => usage\n\
+    page --db F --port 08 => usage\n\
     find s1 => usage\n\
     batches => usage\n\
     sentences b1 => usage\n\
@@ -221,5 +225,5 @@ const VIEW_LINES: &str = "\
 
 #[test]
 fn words_of_deskview_are_read(rt: HostRuntime) {
-    assert_answers(&rt, rt.alloc(), &ViewWords, VIEW_LINES, 53)
+    assert_answers(&rt, rt.alloc(), &ViewWords, VIEW_LINES, 57)
 }

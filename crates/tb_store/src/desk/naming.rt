@@ -1,14 +1,16 @@
-//! The question for the sentence that has a `sent_id`.
+//! What a page asks of a desk: how much there is, and the sentence that has a `sent_id`.
 
 ghost use Rattle.std.specs.Prelude.{◌≡◌, ◌≢◌, Err};
 ghost use Rattle.tb_core.specs.declared.refusals.Refusal.{Refusal as AnyRefusal};
 ghost use Rattle.tb_lists.specs.Found.{IsFound};
-ghost use Rattle.tb_store.specs.Answers.{RefusesId};
+ghost use Rattle.tb_store.specs.Answers.{RefusesId, counts_in};
+ghost use Rattle.tb_core.specs.Machine.{Machine};
 ghost use Rattle.tb_store.specs.Blaming.{BlamesNoDevice};
 ghost use Rattle.tb_store.specs.Calls.{Does, Gives, GivesOnErr, KeepsState, KnowsItself, WritesNothing};
 ghost use Rattle.tb_store.specs.Represents.{Represents};
 ghost use Rattle.tb_tables.specs.Leaving.{CommitsNothing};
 
+use crate::answers::DeskCounts;
 use crate::asking;
 use crate::desk::Desk;
 use sqlite::Alter;
@@ -16,6 +18,17 @@ use tb_core::{Fault, Refusal};
 use tb_lists::FoundLine;
 
 impl<S: Alter> Desk<S> {
+    /// How many batches, sentences and moves there are. It asks nothing of the database.
+    pub fn row_counts(&self) -> DeskCounts
+        ensures { (s : Machine) → Represents S.Store self.now s → result ≡ counts_in s }
+    {
+        DeskCounts {
+            batches: u64::from(self.batches),
+            sentences: u64::from(self.sentences),
+            moves: u64::from(self.moves),
+        }
+    }
+
     /// The sentence with this `sent_id`, pulled or not: its number, the name of its batch and its current revision. It reads
     /// no text of a revision.
     ///

@@ -3,7 +3,7 @@ use Rattle.tb_core.specs.declared.refusals.Fault.TheVariants.{Refused}
 use Rattle.tb_core.specs.Machine.{Machine}
 use Rattle.tb_store.specs.Answers.{RefusesId}
 use Rattle.tb_store.specs.Represents.{Represents}
-use Rattle.tb_cli.specs.View.{viewed_by}
+use Rattle.tb_cli.specs.View.{listed_by}
 use Rattle.tb_answer.specs.Commanded.{HasFailed}
 use Rattle.tb_answer.specs.Exported.{IsReportedOfExport}
 use Rattle.tb_answer.specs.Viewed.{IsFoundText, IsReportedAs, IsView, IsViewReported, ViewsNone}
@@ -11,30 +11,30 @@ use Rattle.tb_answer.proofs.Failing.{if_err}
 use Rattle.tb_answer.proofs.views.view.Goals as goal
 
 pub returns-in-Batches-clause-reported : goal.returns-in-Batches-clause-reported
-returns-in-Batches-clause-reported g c clean = if_err c.batches.result (c.batches.ensures.failed clean) (λ r failed s stands. inr (failed s stands))
+returns-in-Batches-clause-reported g c clean = if_err c.view_batches.result (c.view_batches.ensures.failed clean) (λ r failed s stands. inr (failed s stands))
 
 pub returns-in-Sentences-clause-reported : goal.returns-in-Sentences-clause-reported
 returns-in-Sentences-clause-reported g c clean =
     let name : c.as_str.result.now ≡ string_bytes c.in-Sentences.name = search rules in
-    subst (λ l. IfErr c.sentences.result (λ r. (s : Machine) → Represents g.S.Store c.args.desk.now s → IsViewReported (HasFailed g.S.Store c.args.desk.now c.sentences.new.desk) s (viewed_by l) r)) (sym c.in-Sentences.is)
-    (subst (λ n. IfErr c.sentences.result (λ r. (s : Machine) → Represents g.S.Store c.args.desk.now s → IsReportedOfExport (HasFailed g.S.Store c.args.desk.now c.sentences.new.desk) s (Some n) r)) name (c.sentences.ensures.reported clean))
+    subst (λ l. IfErr c.view_sentences.result (λ r. (s : Machine) → Represents g.S.Store c.args.desk.now s → IsViewReported (HasFailed g.S.Store c.args.desk.now c.view_sentences.new.desk) s (listed_by l) r)) (sym c.in-Sentences.is)
+    (subst (λ n. IfErr c.view_sentences.result (λ r. (s : Machine) → Represents g.S.Store c.args.desk.now s → IsReportedOfExport (HasFailed g.S.Store c.args.desk.now c.view_sentences.new.desk) s (Some n) r)) name (c.view_sentences.ensures.reported clean))
 
 pub returns-in-Revisions-clause-missing : goal.returns-in-Revisions-clause-missing
-returns-in-Revisions-clause-missing g c s stands lacks = c.revisions.ensures.missing s stands (subst (λ l. ViewsNone s (viewed_by l)) c.in-Revisions.is lacks)
+returns-in-Revisions-clause-missing g c s stands lacks = c.revisions.ensures.missing s stands (subst (λ l. ViewsNone s (listed_by l)) c.in-Revisions.is lacks)
 
 pub returns-in-Revisions-clause-reported : goal.returns-in-Revisions-clause-reported
 returns-in-Revisions-clause-reported g c clean =
-    subst (λ l. IfErr c.revisions.result (λ r. (s : Machine) → Represents g.S.Store c.args.desk.now s → IsViewReported (HasFailed g.S.Store c.args.desk.now c.revisions.new.desk) s (viewed_by l) r)) (sym c.in-Revisions.is)
+    subst (λ l. IfErr c.revisions.result (λ r. (s : Machine) → Represents g.S.Store c.args.desk.now s → IsViewReported (HasFailed g.S.Store c.args.desk.now c.revisions.new.desk) s (listed_by l) r)) (sym c.in-Revisions.is)
     (c.revisions.ensures.reported clean)
 
 pub returns-in-Find-clause-answered : goal.returns-in-Find-clause-answered
 returns-in-Find-clause-answered g c clean =
     let id : c.as_str-in-Find.result.now ≡ string_bytes c.in-Find.sent_id = search rules in
-    subst (λ l. IfOk c.find.result (λ v. (s : Machine) → Represents g.S.Store c.args.desk.now s → IsView s (viewed_by l) v.items)) (sym c.in-Find.is)
-    (subst (λ n. IfOk c.find.result (λ v. (s : Machine) → Represents g.S.Store c.args.desk.now s → IsFoundText s n v.items)) id (c.find.ensures.answered clean))
+    subst (λ l. IfOk c.view_found.result (λ v. (s : Machine) → Represents g.S.Store c.args.desk.now s → IsView s (listed_by l) v.items)) (sym c.in-Find.is)
+    (subst (λ n. IfOk c.view_found.result (λ v. (s : Machine) → Represents g.S.Store c.args.desk.now s → IsFoundText s n v.items)) id (c.view_found.ensures.answered clean))
 
 pub returns-in-Find-clause-reported : goal.returns-in-Find-clause-reported
 returns-in-Find-clause-reported g c clean =
     let id : c.as_str-in-Find.result.now ≡ string_bytes c.in-Find.sent_id = search rules in
-    subst (λ l. IfErr c.find.result (λ r. (s : Machine) → Represents g.S.Store c.args.desk.now s → IsViewReported (HasFailed g.S.Store c.args.desk.now c.find.new.desk) s (viewed_by l) r)) (sym c.in-Find.is)
-    (subst (λ n. IfErr c.find.result (λ r. (s : Machine) → Represents g.S.Store c.args.desk.now s → IsReportedAs (HasFailed g.S.Store c.args.desk.now c.find.new.desk) (λ why. RefusesId s n (Refused why)) r)) id (c.find.ensures.reported clean))
+    subst (λ l. IfErr c.view_found.result (λ r. (s : Machine) → Represents g.S.Store c.args.desk.now s → IsViewReported (HasFailed g.S.Store c.args.desk.now c.view_found.new.desk) s (listed_by l) r)) (sym c.in-Find.is)
+    (subst (λ n. IfErr c.view_found.result (λ r. (s : Machine) → Represents g.S.Store c.args.desk.now s → IsReportedAs (HasFailed g.S.Store c.args.desk.now c.view_found.new.desk) (λ why. RefusesId s n (Refused why)) r)) id (c.view_found.ensures.reported clean))

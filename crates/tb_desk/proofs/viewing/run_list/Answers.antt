@@ -1,5 +1,5 @@
 use Rattle.std.proofs.Common.{inr}
-use Rattle.tb_desk.proofs.viewing.run.Goals as goal
+use Rattle.tb_desk.proofs.viewing.run_list.Goals as goal
 
 pub returns-in-Ok : goal.returns-in-Ok
 returns-in-Ok g c = inr record {

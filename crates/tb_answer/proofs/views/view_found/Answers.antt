@@ -4,7 +4,7 @@ use Rattle.tb_store.specs.Answers.{RefusesId}
 use Rattle.tb_answer.specs.Viewed.{IsReportedAs}
 use Rattle.tb_answer.proofs.Failing.{if_err}
 use Rattle.tb_answer.proofs.Sought.{reported_of_id}
-use Rattle.tb_answer.proofs.views.find.Goals as goal
+use Rattle.tb_answer.proofs.views.view_found.Goals as goal
 
 pub returns-in-Ok-clause-reported : goal.returns-in-Ok-clause-reported
 returns-in-Ok-clause-reported g c clean = if_err c.found_text.result c.found_text.ensures.failed (λ r is s stands. inr (inl is))

@@ -1,7 +1,7 @@
 use Rattle.std.proofs.Common.{Err, ap, inl, subst, sym}
 use Rattle.tb_answer.specs.Commanded.{IsFailure}
 use Rattle.tb_answer.proofs.Failing.{if_err, is_failure}
-use Rattle.tb_answer.proofs.views.batches.Goals as goal
+use Rattle.tb_answer.proofs.views.view_batches.Goals as goal
 
 pub returns-in-Ok-clause-failed : goal.returns-in-Ok-clause-failed
 returns-in-Ok-clause-failed g c clean = if_err c.batches_text.result c.batches_text.ensures.failed (λ r is s stands. inl is)

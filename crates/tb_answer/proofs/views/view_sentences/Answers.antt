@@ -4,7 +4,7 @@ use Rattle.tb_answer.specs.Commanded.{reply_for_fault}
 use Rattle.tb_answer.specs.Exported.{IsReportedOfExport}
 use Rattle.tb_answer.proofs.Exporting.{reported_of_export}
 use Rattle.tb_answer.proofs.Failing.{if_err, is_failure}
-use Rattle.tb_answer.proofs.views.sentences.Goals as goal
+use Rattle.tb_answer.proofs.views.view_sentences.Goals as goal
 
 pub returns-in-Ok-clause-reported : goal.returns-in-Ok-clause-reported
 returns-in-Ok-clause-reported g c clean = if_err c.sentences_text.result c.sentences_text.ensures.failed (λ r is s stands. inr (inl is))

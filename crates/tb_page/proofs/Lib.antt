@@ -1,0 +1,3 @@
+pub mod Begun
+pub mod Identified
+pub mod Pushed

@@ -1,0 +1,7 @@
+pub mod Answered
+pub mod Files
+pub mod Guard
+pub mod Heads
+pub mod Lists
+pub mod Paths
+pub mod Visits

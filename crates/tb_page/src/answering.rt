@@ -1,0 +1,70 @@
+//! Serving one request with the page: the page answers what is its own, and the desk all else.
+
+ghost use Rattle.std.specs.Prelude.{◌≡◌};
+ghost use Rattle.tb_page.specs.Answered.{AnswersVisit, SendsList};
+ghost use Rattle.tb_page.specs.Paths.{list_by};
+ghost use Rattle.tb_page.specs.Visits.{VisitText, Visits};
+
+use crate::lists::list_text;
+use crate::paths::PageList;
+use crate::responses::{
+    respond_file, respond_foreign, respond_no_method, respond_refusal, respond_text,
+};
+use crate::visits::{Visit, read_visit};
+use sqlite::Alter;
+use std::alloc::Global;
+use tb_answer::{Broken, answer, outcome};
+use tb_conllu::{Sink, SliceSource, Source};
+use tb_http::{HEAD_BYTES, Routes, Status};
+use tb_store::Desk;
+
+/// Answers with a list.
+fn send_list<S: Alter, W: Sink>(
+    alloc: Global,
+    desk: &mut Desk<S>,
+    list: PageList<'_>,
+    out: &mut W,
+) -> Result<Status, Broken>
+    ensures sends { SendsList S.Store desk.old desk.new (W.held out.old) (W.held out.new) (W.IsRefusal out.new) result
+        (list_by list.entry) }
+    ensures limits { desk.new.limits ≡ desk.old.limits }
+{
+    match list_text(alloc, desk, list) {
+        Ok(text) => outcome(respond_text(out, text.as_slice())),
+        Err(reply) => outcome(respond_refusal(out, reply)),
+    }
+}
+
+/// Reads one request, does what it asks, and answers it, on a server with the page at this port. Returns the status of a
+/// response that was written whole.
+///
+/// `came` has the first bytes that the reader gives: the whole head, if there is one. By it the page's requests are told
+/// from the desk's. The page's are answered here, and those from elsewhere are refused. All others go to `answer` with
+/// the same reader.
+///
+/// # Errors
+///
+/// As `answer`.
+pub fn answer_with_page<S: Alter, R: Source, W: Sink>(
+    alloc: Global,
+    routes: &Routes,
+    port: u16,
+    came: &[u8],
+    desk: &mut Desk<S>,
+    reader: &mut R,
+    out: &mut W,
+) -> Result<Status, Broken>
+    ensures answered { (v : VisitText) × Visits port came.now v × AnswersVisit S.Store desk.old desk.new
+        (W.held out.old) (W.held out.new) (W.IsRefusal out.new) result came.now (R.left reader.old) v }
+    ensures limits { desk.new.limits ≡ desk.old.limits }
+{
+    let mut buf = [0; HEAD_BYTES];
+    match read_visit(port, came, &mut buf) {
+        Visit::NoHead => answer(alloc, routes, desk, &mut SliceSource { bytes: came }, out),
+        Visit::Foreign(why) => outcome(respond_foreign(out, why)),
+        Visit::File(file) => outcome(respond_file(out, file)),
+        Visit::List(list) => send_list(alloc, desk, list, out),
+        Visit::NoMethod => outcome(respond_no_method(out)),
+        Visit::Desk => answer(alloc, routes, desk, reader, out),
+    }
+}

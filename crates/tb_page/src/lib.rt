@@ -1,0 +1,21 @@
+//! The page: the desk in a browser. It serves the page's files and the lists that they read, beside the desk's own paths.
+//!
+//! Read `answer_with_page` in `answering.rt` first, and then `specs/Visits.antt`, which says what is the page's to answer,
+//! and `specs/Guard.antt`, which says who may ask.
+#![tactic(auto)]
+
+mod answering;
+mod assets;
+mod files;
+mod guard;
+mod heads;
+mod lists;
+mod paths;
+mod responses;
+mod visits;
+
+pub use answering::answer_with_page;
+pub use guard::Foreign;
+pub use heads::Kind;
+pub use paths::{File, PageList};
+pub use visits::{Visit, read_visit};

@@ -1,0 +1,117 @@
+//! The paths of the page.
+
+ghost use Rattle.std.specs.Prelude.{◌≡◌, option_map};
+ghost use Rattle.std.specs.Option.{option_copied};
+ghost use Rattle.tb_page.specs.Paths.{file_at, list_at, list_by, rest_after, sent_id_at, sentences_at, value_at};
+
+use tb_http::{number_of, text_of};
+
+/// A file of the page.
+#[derive(Clone, Copy, Debug, PartialEq, Eq)]
+pub enum File {
+    /// `/`
+    Index,
+    /// `/page/page.css`
+    Style,
+    /// `/page/desk.js`
+    Desk,
+    /// `/page/conllu.js`
+    Conllu,
+    /// `/page/tree.js`
+    Tree,
+    /// `/page/edit.js`
+    Edit,
+    /// `/page/find.js`
+    Find,
+    /// `/page/page.js`
+    Page,
+}
+
+/// What the page reads of the desk, beside the desk's own paths.
+#[derive(Clone, Copy, Debug)]
+pub enum PageList<'b> {
+    /// `/page/now`: how many batches, sentences and moves there are.
+    Counts,
+    /// `/page/batches`: all batches.
+    Batches,
+    /// `/page/batches/{no}`: the sentences of the batch with this number.
+    Sentences(u64),
+    /// `/page/sent-id/{sent_id}`: the sentence with this `sent_id`, in which percent escapes stand for bytes.
+    SentId(&'b [u8]),
+}
+
+/// The file at a path.
+pub(crate) fn file_at(path: &[u8]) -> Option<File>
+    ensures { result ≡ file_at path.now }
+{
+    if path == b"/".as_slice() {
+        Some(File::Index)
+    } else if path == b"/page/page.css".as_slice() {
+        Some(File::Style)
+    } else if path == b"/page/desk.js".as_slice() {
+        Some(File::Desk)
+    } else if path == b"/page/conllu.js".as_slice() {
+        Some(File::Conllu)
+    } else if path == b"/page/tree.js".as_slice() {
+        Some(File::Tree)
+    } else if path == b"/page/edit.js".as_slice() {
+        Some(File::Edit)
+    } else if path == b"/page/find.js".as_slice() {
+        Some(File::Find)
+    } else if path == b"/page/page.js".as_slice() {
+        Some(File::Page)
+    } else {
+        None
+    }
+}
+
+/// The rest of a text, where it begins with `front`.
+pub(crate) fn rest_after<'b>(text: &'b [u8], front: &[u8]) -> Option<&'b [u8]>
+    ensures { option_copied result ≡ rest_after front.now text.now }
+{
+    text.strip_prefix(front)
+}
+
+fn sentences_at(path: &[u8]) -> Option<PageList<'_>>
+    ensures { option_map list_by result ≡ sentences_at path.now }
+{
+    let Some(no) = rest_after(path, b"/page/batches/") else {
+        return None;
+    };
+    let Some(no) = number_of(text_of(no)) else {
+        return None;
+    };
+    Some(PageList::Sentences(no))
+}
+
+fn sent_id_at(path: &[u8]) -> Option<PageList<'_>>
+    ensures { option_map list_by result ≡ sent_id_at path.now }
+{
+    let Some(sent_id) = rest_after(path, b"/page/sent-id/") else {
+        return None;
+    };
+    Some(PageList::SentId(sent_id))
+}
+
+/// A list that a path with a value names.
+fn value_at(path: &[u8]) -> Option<PageList<'_>>
+    ensures { option_map list_by result ≡ value_at path.now }
+{
+    let Some(sentences) = sentences_at(path) else {
+        return sent_id_at(path);
+    };
+    Some(sentences)
+}
+
+/// The list that a path names.
+pub(crate) fn list_at(path: &[u8]) -> Option<PageList<'_>>
+    ensures { option_map list_by result ≡ list_at path.now }
+{
+    if path == b"/page/now".as_slice() {
+        Some(PageList::Counts)
+    } else if path == b"/page/batches".as_slice() {
+        Some(PageList::Batches)
+    } else {
+        value_at(path)
+    }
+}
