@@ -45,6 +45,7 @@ pub use tb_answer::{
     the_check_counts_what_is_taken, view,
 };
 pub use tb_check::run_check;
-pub use tb_cli::{Line, LineFault, ViewLine};
+pub use tb_cli::{Line, LineFault, ViewLine, ViewList};
+pub use tb_page::{answer_with_page, one_visit_is_asked};
 pub use viewing::{DESKVIEW, run_view};
 pub use words::{TREEDESK, run_words, run_words_reported};

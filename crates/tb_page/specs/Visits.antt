@@ -54,6 +54,10 @@ abbrev pub Visits : (port : ℕ) → List ℕ → VisitText → Type 0
 Visits port bytes v = (HasNoHead bytes × (v ≡ no_head)) ⊎ ((head : RequestHead) × (rest : List ℕ)
     × BeginsWithHead bytes head rest × (v ≡ visit_of port head.method head.target (headers_of head)))
 
+-- bytes ask exactly one thing of a server
+abbrev pub AsksOneVisit : Type 0
+AsksOneVisit = (port : ℕ) (bytes : List ℕ) (v w : VisitText) → Visits port bytes v → Visits port bytes w → v ≡ w
+
 -- the code's value, as plain data
 abbrev pub visit_by : Visit → VisitText
 visit_by visit.NoHead = no_head

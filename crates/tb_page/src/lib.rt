@@ -18,4 +18,4 @@ pub use answering::answer_with_page;
 pub use guard::Foreign;
 pub use heads::Kind;
 pub use paths::{File, PageList};
-pub use visits::{Visit, read_visit};
+pub use visits::{Visit, one_visit_is_asked, read_visit};

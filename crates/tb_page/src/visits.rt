@@ -2,7 +2,7 @@
 
 ghost use Rattle.std.specs.Prelude.{◌≡◌, ◌≤◌, ◌++◌, ℕ, List, length, map, take};
 ghost use Rattle.httparse.specs.Spans.{IsRequestOf, IsRequestWithin, header_bytes, span_bytes};
-ghost use Rattle.tb_page.specs.Visits.{Visits, asked_of, is_get, is_linkable, visit_by, visit_of};
+ghost use Rattle.tb_page.specs.Visits.{AsksOneVisit, Visits, asked_of, is_get, is_linkable, visit_by, visit_of};
 ghost use Rattle.tb_page.specs.Paths.{file_at, list_at};
 
 use crate::guard::{Foreign, guard};
@@ -27,6 +27,11 @@ pub enum Visit<'b> {
     /// It is the desk's to answer.
     Desk,
 }
+
+/// A law: bytes ask exactly one thing of a server.
+pub fn one_visit_is_asked()
+    ensures { AsksOneVisit }
+{}
 
 /// Whether the method is GET.
 fn is_get(method: &[u8]) -> bool

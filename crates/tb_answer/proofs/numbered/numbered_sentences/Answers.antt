@@ -15,7 +15,7 @@ returns-in-Some-clause-answered g c clean =
     let mid : HasCleanDisk (state g.S.Store c.batches.new.self.conn) = omega (arith, clean, c.view_sentences.ensures.commits_nothing.clean) in
     if_ok c.view_sentences.result (c.view_sentences.ensures.answered clean) (λ v all s stands.
     let named : name_of s c.args.no ≡ Some c.in-Some.name.now = ap (name_in c.args.no) (sym (c.as_slice.ensures.value ∙ c.in-Ok.ensures.answered mid s stands))
-        ∙ (sym c.name_in.ensures ∙ ap (option_map (λ n. n.now)) c.in-Some.is) in
+    ∙ (sym c.name_in.ensures ∙ ap (option_map (λ n. n.now)) c.in-Some.is) in
     (c.in-Some.name.now, named, all s (c.in-Ok.ensures.stays mid s stands)))
 
 pub returns-in-Some-clause-reported : goal.returns-in-Some-clause-reported
@@ -26,5 +26,5 @@ returns-in-Some-clause-reported g c clean =
     let later : HasFailed g.S.Store c.batches.new.self c.view_sentences.new.desk → HasFailed g.S.Store c.args.desk.now c.view_sentences.new.desk = λ bad good. bad (faultless_next (state g.S.Store c.args.desk.now.conn) (state g.S.Store c.batches.new.self.conn) (state g.S.Store c.view_sentences.new.desk.conn) good one mid two.counts) in
     if_err c.view_sentences.result (c.view_sentences.ensures.reported clean) (λ r all s stands.
     let named : name_of s c.args.no ≡ Some c.in-Some.name.now = ap (name_in c.args.no) (sym (c.as_slice.ensures.value ∙ c.in-Ok.ensures.answered mid s stands))
-        ∙ (sym c.name_in.ensures ∙ ap (option_map (λ n. n.now)) c.in-Some.is) in
+    ∙ (sym c.name_in.ensures ∙ ap (option_map (λ n. n.now)) c.in-Some.is) in
     numbered s c.args.no c.in-Some.name.now r named later (all s (c.in-Ok.ensures.stays mid s stands)))
