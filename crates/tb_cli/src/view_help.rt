@@ -24,8 +24,8 @@ Environment:
 
 /// The end of the help of `batches`.
 pub const BATCHES: &str = "\
-Columns: no, name, state, worker, first, sentences, words, pulled. `first` is the number of the first
-sentence; `sentences` and `words` leave out pulled sentences, which `pulled` counts.
+Columns: no, name, state, worker, first, sentences, words, pulled, pulled_words. `first` is the number of the
+first sentence. `sentences` and `words` leave out pulled sentences, which `pulled` and `pulled_words` count.
 
 Example: deskview batches --db desk.db
 
@@ -33,8 +33,8 @@ Exit status: 0 done, 1 refused, 2 wrong words, 3 out of memory or an I/O error."
 
 /// The end of the help of `sentences`.
 pub const SENTENCES: &str = "\
-Columns: no, sent_id, rev, words, pulled. `rev` is the number of the current revision, `words` counts its
-words, and `pulled` is `yes` or `no`.
+Columns: no, sent_id, rev, who, words, pulled, text. `rev` is the number of the current revision, `who` wrote
+it, `words` counts its words, and `text` is its comment `# text`. `pulled` is `yes` or `no`.
 
 Example: deskview sentences --db desk.db news
 

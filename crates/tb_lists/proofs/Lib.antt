@@ -1,4 +1,5 @@
 pub mod Located
 pub mod Makers
 pub mod Summed
+pub mod Sums
 pub mod Told

@@ -14,7 +14,7 @@ use Rattle.tb_refine.specs.DeskTables.{sentence_record, batch_record}
 use Rattle.tb_refine.specs.Listed.{is_listed}
 use Rattle.tb_refine.proofs.Listing.{listed_pulled, pulled_ascends}
 use Rattle.tb_lists.specs.declared.counting.Count.{Count}
-use Rattle.tb_lists.specs.Batches.{BatchText, first_from, is_out, batch_line, lines_from}
+use Rattle.tb_lists.specs.Batches.{BatchText, first_from, taken_out, batch_line, lines_from}
 use Rattle.tb_lists.specs.Counted.{no_count, first_seen, counted, change_of, count_all, IsOfSoMany, count_on, AreCounts, line_with, lines_with}
 
 -- ---- lists
@@ -40,7 +40,7 @@ put_is f (d ∷ cs) (suc i) c is = ap (λ l. d ∷ l) (put_is f cs i c is)
 -- ---- how many were counted
 
 pub none_many : (n : ℕ) → IsOfSoMany n no_count
-none_many n = record { sentences = omega arith; words = omega arith; pulled = omega arith }
+none_many n = record { sentences = omega arith; words = omega arith; pulled = omega arith; pulled_words = omega arith }
 
 pub many_at : (n : ℕ) (cs : List Count) (i : ℕ) → AllByRecursion (IsOfSoMany n) cs → IsOfSoMany n (slice_index_or cs i no_count)
 many_at n [] i h = none_many n
@@ -52,7 +52,8 @@ one_more n c h =
     let a = h.sentences in
     let b = h.words in
     let d = h.pulled in
-    record { sentences = omega (arith, a); words = omega (arith, b); pulled = omega (arith, d) }
+    let e = h.pulled_words in
+    record { sentences = omega (arith, a); words = omega (arith, b); pulled = omega (arith, d); pulled_words = omega (arith, e) }
 
 pub many_more : (n : ℕ) (cs : List Count) → AllByRecursion (IsOfSoMany n) cs → AllByRecursion (IsOfSoMany (n + 1)) cs
 many_more n [] h = tt
@@ -78,8 +79,9 @@ length_none (suc n) = ap suc (length_none n)
 
 -- ---- one sentence
 
-same_count : (a b c d e f g h : ℕ) → a ≡ e → b ≡ f → c ≡ g → d ≡ h → (let x : Count = record { first = a; sentences = b; words = c; pulled = d } in x) ≡ record { first = e; sentences = f; words = g; pulled = h }
-same_count a b c d e f g h p q r s = λ i. record { first = p i; sentences = q i; words = r i; pulled = s i }
+same_count : (a b c d e f g h k l : ℕ) → a ≡ f → b ≡ g → c ≡ h → d ≡ k → e ≡ l
+    → (let x : Count = record { first = a; sentences = b; words = c; pulled = d; pulled_words = e } in x) ≡ record { first = f; sentences = g; words = h; pulled = k; pulled_words = l }
+same_count a b c d e f g h k l p q r s t = λ i. record { first = p i; sentences = q i; words = r i; pulled = s i; pulled_words = t i }
 
 seen_once : (n rest first : ℕ) → 0 < n → first_seen rest (first_seen n first) ≡ first_seen n first
 seen_once n rest zero low =
@@ -100,19 +102,19 @@ seen_now : (n : ℕ) → first_seen n 0 ≡ n
 seen_now n = let none : nat_eq 0 0 ≡ true = grind (arith, nat_tests) in ap (λ t. cond t n 0) none
 
 -- what one sentence adds to a batch, and the others after it
-module _ (n first s w o many_words later_first later_s later_w later_o : ℕ) (low : 0 < n) where
+module _ (n first s w o v many_words later_first later_s later_w later_o later_v : ℕ) (low : 0 < n) where
   abbrev before : Count
-  before = record { first = first; sentences = s; words = w; pulled = o }
+  before = record { first = first; sentences = s; words = w; pulled = o; pulled_words = v }
 
   abbrev after : Count → Count
-  after c = record { first = first_seen later_first c.first; sentences = c.sentences + later_s; words = c.words + later_w; pulled = c.pulled + later_o }
+  after c = record { first = first_seen later_first c.first; sentences = c.sentences + later_s; words = c.words + later_w; pulled = c.pulled + later_o; pulled_words = c.pulled_words + later_v }
 
   one_on : (t p : Bool) → after (cond t (counted n many_words p before) before)
-      ≡ record { first = first_seen (cond t n later_first) first; sentences = s + (cond p 0 (when t 1) + later_s); words = w + (cond p 0 (when t many_words) + later_w); pulled = o + (when p (when t 1) + later_o) }
-  one_on true true = same_count _ _ _ _ _ _ _ _ (seen_once n later_first first low) (omega arith) (omega arith) (omega arith)
-  one_on true false = same_count _ _ _ _ _ _ _ _ (seen_once n later_first first low) (omega arith) (omega arith) (omega arith)
-  one_on false true = same_count _ _ _ _ _ _ _ _ refl (omega arith) (omega arith) (omega arith)
-  one_on false false = same_count _ _ _ _ _ _ _ _ refl (omega arith) (omega arith) (omega arith)
+      ≡ record { first = first_seen (cond t n later_first) first; sentences = s + (cond p 0 (when t 1) + later_s); words = w + (cond p 0 (when t many_words) + later_w); pulled = o + (when p (when t 1) + later_o); pulled_words = v + (when p (when t many_words) + later_v) }
+  one_on true true = same_count _ _ _ _ _ _ _ _ _ _ (seen_once n later_first first low) (omega arith) (omega arith) (omega arith) (omega arith)
+  one_on true false = same_count _ _ _ _ _ _ _ _ _ _ (seen_once n later_first first low) (omega arith) (omega arith) (omega arith) (omega arith)
+  one_on false true = same_count _ _ _ _ _ _ _ _ _ _ refl (omega arith) (omega arith) (omega arith) (omega arith)
+  one_on false false = same_count _ _ _ _ _ _ _ _ _ _ refl (omega arith) (omega arith) (omega arith) (omega arith)
 
 -- ---- one place
 
@@ -147,7 +149,7 @@ below f (suc place) cs some = let at : suc place - 1 ≡ place = omega arith in 
 -- ---- all sentences
 
 count_none : (batch n : ℕ) (c : Count) → count_on batch n [] c ≡ c
-count_none batch n c = same_count _ _ _ _ _ _ _ _ (seen_none c.first) (omega arith) (omega arith) (omega arith)
+count_none batch n c = same_count _ _ _ _ _ _ _ _ _ _ (seen_none c.first) (omega arith) (omega arith) (omega arith) (omega arith)
 
 pub counted_are : (pulled : List ℕ) (n : ℕ) (rows : List SentenceRow) (xs : List Sentence) → 0 < n → map sentence_of rows ≡ map sentence_record xs
     → ((i : ℕ) (x : Sentence) → slice_get xs i ≡ Some x → is_listed (n + i) pulled ≡ x.pulled)
@@ -173,7 +175,8 @@ counted_are pulled n (r ∷ rows) (x ∷ xs) low same flags cs i within =
     ∙ ap (λ m. cond (nat_eq x.batch (i + 1)) (counted n m (is_listed n pulled) c) c) its_words
     ∙ ap (λ p. cond (nat_eq x.batch (i + 1)) (counted n (words x) p c) c) flag in
     rest ∙ ap (count_on (i + 1) (n + 1) xs) here
-    ∙ one_on n c.first c.sentences c.words c.pulled (words x) (first_from (i + 1) (n + 1) xs) (weigh (at_work (i + 1) one) xs) (weigh (at_work (i + 1) words) xs) (weigh (is_out (i + 1)) xs) low (nat_eq x.batch (i + 1)) x.pulled
+    ∙ one_on n c.first c.sentences c.words c.pulled c.pulled_words (words x) (first_from (i + 1) (n + 1) xs) (weigh (at_work (i + 1) one) xs) (weigh (at_work (i + 1) words) xs) (weigh (taken_out (i + 1) one) xs)
+    (weigh (taken_out (i + 1) words) xs) low (nat_eq x.batch (i + 1)) x.pulled
 
 pub are_counts : (batches : ℕ) (pulled : List ℕ) (rows : List SentenceRow) (xs : List Sentence) (cs : List Count) → map sentence_of rows ≡ map sentence_record xs → pulled ≡ pulled_from 1 xs
     → (IsAscending (λ a b. a < b) pulled → cs ≡ count_all pulled 1 rows (replicate batches no_count)) → AreCounts batches xs cs
@@ -187,10 +190,10 @@ are_counts batches pulled rows xs cs same pulled_is reported place within =
 
 -- ---- the lines
 
-same_line : (n : ℕ) (b : Batch) (f s w o g t v p : ℕ) → f ≡ g → s ≡ t → w ≡ v → o ≡ p
-    → (let x : BatchText = record { no = n; name = b.name; state = b.state; worker = b.worker; first = f; sentences = s; words = w; pulled = o } in x)
-    ≡ record { no = n; name = b.name; state = b.state; worker = b.worker; first = g; sentences = t; words = v; pulled = p }
-same_line n b f s w o g t v p d e h k = λ i. record { no = n; name = b.name; state = b.state; worker = b.worker; first = d i; sentences = e i; words = h i; pulled = k i }
+same_line : (n : ℕ) (b : Batch) (f s w o q g t v p r : ℕ) → f ≡ g → s ≡ t → w ≡ v → o ≡ p → q ≡ r
+    → (let x : BatchText = record { no = n; name = b.name; state = b.state; worker = b.worker; first = f; sentences = s; words = w; pulled = o; pulled_words = q } in x)
+    ≡ record { no = n; name = b.name; state = b.state; worker = b.worker; first = g; sentences = t; words = v; pulled = p; pulled_words = r }
+same_line n b f s w o q g t v p r d e h k l = λ i. record { no = n; name = b.name; state = b.state; worker = b.worker; first = d i; sentences = e i; words = h i; pulled = k i; pulled_words = l i }
 
 pub lines_are : (cs : List Count) (xs : List Sentence) (m : ℕ) (bs : List Batch) → ((place : ℕ) → place < m + length bs → slice_index_or cs place no_count ≡ count_on (place + 1) 1 xs no_count)
     → lines_with cs (m + 1) bs ≡ lines_from xs (m + 1) bs
@@ -198,7 +201,7 @@ lines_are cs xs m [] h = refl
 lines_are cs xs m (b ∷ bs) h =
     let at : m + 1 - 1 ≡ m = omega arith in
     let here = ap (λ k. slice_index_or cs k no_count) at ∙ h m (omega arith) in
-    let line : line_with (m + 1) b (slice_index_or cs (m + 1 - 1) no_count) ≡ batch_line xs (m + 1) b = ap (line_with (m + 1) b) here ∙ same_line (m + 1) b _ _ _ _ _ _ _ _ (seen_now (first_from (m + 1) 1 xs)) (omega arith) (omega arith) (omega arith) in
+    let line : line_with (m + 1) b (slice_index_or cs (m + 1 - 1) no_count) ≡ batch_line xs (m + 1) b = ap (line_with (m + 1) b) here ∙ same_line (m + 1) b _ _ _ _ _ _ _ _ _ _ (seen_now (first_from (m + 1) 1 xs)) (omega arith) (omega arith) (omega arith) (omega arith) in
     ap₂ (λ l ls. l ∷ ls) line (lines_are cs xs (m + 1) bs (λ place within. h place (omega (arith, within))))
 
 pub batch_there : (rows : List BatchRow) (bs : List Batch) (i : ℕ) (row : BatchRow) → i < length rows → row ≡ get_or rows i row → map batch_of rows ≡ map batch_record bs → (b : Batch) × (drop i bs ≡ b ∷ drop (i + 1) bs) × (batch_of row ≡ batch_record b)

@@ -6,10 +6,10 @@ use Rattle.tb_core.specs.Machine.{Batch, Sentence, change_at, weigh, at_work, on
 use Rattle.tb_tables.specs.declared.rows.SentenceRow.{SentenceRow}
 use Rattle.tb_refine.specs.Listed.{is_listed}
 use Rattle.tb_lists.specs.declared.counting.Count.{Count}
-use Rattle.tb_lists.specs.Batches.{BatchText, first_from, is_out}
+use Rattle.tb_lists.specs.Batches.{BatchText, first_from, taken_out}
 
 abbrev pub no_count : Count
-no_count = record { first = 0; sentences = 0; words = 0; pulled = 0 }
+no_count = record { first = 0; sentences = 0; words = 0; pulled = 0; pulled_words = 0 }
 
 -- the number of the first sentence that was seen
 abbrev pub first_seen : ℕ → ℕ → ℕ
@@ -22,12 +22,14 @@ counted number words true c = record {
   sentences = c.sentences;
   words = c.words;
   pulled = c.pulled + 1;
+  pulled_words = c.pulled_words + words;
 }
 counted number words false c = record {
   first = first_seen number c.first;
   sentences = c.sentences + 1;
   words = c.words + words;
   pulled = c.pulled;
+  pulled_words = c.pulled_words;
 }
 
 -- the counts, with that of the batch with this number changed
@@ -46,6 +48,7 @@ pub record IsOfSoMany (n : ℕ) (c : Count) : Type 0 where
   pub sentences : c.sentences ≤ n
   pub words : c.words ≤ n * 2 ^ 32
   pub pulled : c.pulled ≤ n
+  pub pulled_words : c.pulled_words ≤ n * 2 ^ 32
 
 -- The count of a batch after these sentences, the first of which has the number n, from this count on.
 abbrev pub count_on : ℕ → ℕ → List Sentence → Count → Count
@@ -53,7 +56,8 @@ count_on batch n xs c = record {
   first = first_seen (first_from batch n xs) c.first;
   sentences = c.sentences + weigh (at_work batch one) xs;
   words = c.words + weigh (at_work batch words) xs;
-  pulled = c.pulled + weigh (is_out batch) xs;
+  pulled = c.pulled + weigh (taken_out batch one) xs;
+  pulled_words = c.pulled_words + weigh (taken_out batch words) xs;
 }
 
 -- the counts of so many batches, by number
@@ -72,6 +76,7 @@ line_with n b c = record {
   sentences = c.sentences;
   words = c.words;
   pulled = c.pulled;
+  pulled_words = c.pulled_words;
 }
 
 -- batches, the first of which has this number

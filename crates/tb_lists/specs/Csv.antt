@@ -11,12 +11,12 @@ use Rattle.tb_lists.specs.Sentences.{SentenceText}
 abbrev pub batches_head : List (List ℕ)
 batches_head =
     codes "no" ∷ codes "name" ∷ codes "state" ∷ codes "worker" ∷ codes "first" ∷ codes "sentences"
-    ∷ codes "words" ∷ codes "pulled" ∷ []
+    ∷ codes "words" ∷ codes "pulled" ∷ codes "pulled_words" ∷ []
 
 abbrev pub batch_fields : BatchText → List (List ℕ)
 batch_fields b =
     decimal b.no ∷ b.name ∷ state_word b.state ∷ b.worker ∷ decimal b.first ∷ decimal b.sentences
-    ∷ decimal b.words ∷ decimal b.pulled ∷ []
+    ∷ decimal b.words ∷ decimal b.pulled ∷ decimal b.pulled_words ∷ []
 
 -- a line for each batch
 abbrev pub batches_csv : List BatchText → List ℕ
@@ -37,13 +37,15 @@ revisions_csv revisions = csv_of (revisions_head ∷ map revision_fields revisio
 -- ---- the sentences of a batch
 
 abbrev pub sentences_head : List (List ℕ)
-sentences_head = codes "no" ∷ codes "sent_id" ∷ codes "rev" ∷ codes "words" ∷ codes "pulled" ∷ []
+sentences_head =
+    codes "no" ∷ codes "sent_id" ∷ codes "rev" ∷ codes "who" ∷ codes "words" ∷ codes "pulled" ∷ codes "text" ∷ []
 
 abbrev pub yes_or_no : Bool → List ℕ
 yes_or_no b = cond b (codes "yes") (codes "no")
 
 abbrev pub sentence_fields : SentenceText → List (List ℕ)
-sentence_fields x = decimal x.no ∷ x.sent_id ∷ decimal x.rev ∷ decimal x.words ∷ yes_or_no x.pulled ∷ []
+sentence_fields x =
+    decimal x.no ∷ x.sent_id ∷ decimal x.rev ∷ x.who ∷ decimal x.words ∷ yes_or_no x.pulled ∷ x.text ∷ []
 
 -- a line for each sentence
 abbrev pub sentences_csv : List SentenceText → List ℕ

@@ -34,6 +34,8 @@ pub struct BatchLine {
     pub words: u64,
     /// How many of its sentences are pulled.
     pub pulled: u64,
+    /// The words of the current revisions of the pulled ones.
+    pub pulled_words: u64,
 }
 
 impl Model for BatchLine {
@@ -48,6 +50,7 @@ impl Model for BatchLine {
       sentences = b.sentences;
       words = b.words;
       pulled = b.pulled;
+      pulled_words = b.pulled_words;
     } };
 }
 
@@ -74,6 +77,7 @@ fn line_of(alloc: Global, no: u64, row: &BatchRow, count: Count) -> Result<Batch
         sentences: count.sentences,
         words: count.words,
         pulled: count.pulled,
+        pulled_words: count.pulled_words,
     })
 }
 

@@ -22,6 +22,8 @@ pub(crate) struct Count {
     pub words: u64,
     /// How many of its sentences are pulled.
     pub pulled: u64,
+    /// The words of the pulled ones.
+    pub pulled_words: u64,
 }
 
 /// The count before the first sentence.
@@ -30,6 +32,7 @@ const NONE: Count = Count {
     sentences: 0,
     words: 0,
     pulled: 0,
+    pulled_words: 0,
 };
 
 /// The count at a place.
@@ -71,6 +74,7 @@ fn with_one(count: Count, seen: u64, words: u32, is_pulled: bool) -> Count
             sentences: count.sentences,
             words: count.words,
             pulled: count.pulled + 1,
+            pulled_words: count.pulled_words + u64::from(words),
         };
     }
     Count {
@@ -78,6 +82,7 @@ fn with_one(count: Count, seen: u64, words: u32, is_pulled: bool) -> Count
         sentences: count.sentences + 1,
         words: count.words + u64::from(words),
         pulled: count.pulled,
+        pulled_words: count.pulled_words,
     }
 }
 

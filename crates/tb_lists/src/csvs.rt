@@ -48,6 +48,7 @@ fn put_batch<W: Write + Drop>(rows: &mut Writer<W>, batch: &BatchLine) -> Result
     let mut sentences = Buffer::new();
     let mut words = Buffer::new();
     let mut pulled = Buffer::new();
+    let mut pulled_words = Buffer::new();
     put_row(
         rows,
         &[
@@ -59,6 +60,7 @@ fn put_batch<W: Write + Drop>(rows: &mut Writer<W>, batch: &BatchLine) -> Result
             sentences.format(batch.sentences).as_bytes(),
             words.format(batch.words).as_bytes(),
             pulled.format(batch.pulled).as_bytes(),
+            pulled_words.format(batch.pulled_words).as_bytes(),
         ],
     )
 }
@@ -87,6 +89,7 @@ fn put_batches_head<W: Write + Drop>(rows: &mut Writer<W>) -> Result<(), ReportF
         "sentences".as_bytes(),
         "words".as_bytes(),
         "pulled".as_bytes(),
+        "pulled_words".as_bytes(),
     ];
     put_row(rows, &head)
 }
@@ -162,8 +165,10 @@ fn put_sentence<W: Write + Drop>(
             no.format(sentence.no).as_bytes(),
             sentence.sent_id.as_bytes(),
             rev.format(sentence.rev).as_bytes(),
+            sentence.who.as_bytes(),
             words.format(sentence.words).as_bytes(),
             word_of_pulled(&sentence.pulled).as_bytes(),
+            sentence.text.as_bytes(),
         ],
     )
 }
@@ -187,8 +192,10 @@ fn put_sentences_head<W: Write + Drop>(rows: &mut Writer<W>) -> Result<(), Repor
         "no".as_bytes(),
         "sent_id".as_bytes(),
         "rev".as_bytes(),
+        "who".as_bytes(),
         "words".as_bytes(),
         "pulled".as_bytes(),
+        "text".as_bytes(),
     ];
     put_row(rows, &head)
 }
@@ -291,8 +298,8 @@ fn put_text<S: Sink>(text: &[u8], out: &mut S) -> Result<(), ReportFault>
     }
 }
 
-/// Writes a list of batches: the header line `no,name,state,worker,first,sentences,words,pulled` and a line for each
-/// batch. The worker is empty where nobody works on the batch.
+/// Writes a list of batches: the header line `no,name,state,worker,first,sentences,words,pulled,pulled_words` and a line
+/// for each batch. The worker is empty where nobody works on the batch.
 ///
 /// # Errors
 ///
@@ -336,8 +343,8 @@ pub fn csv_revisions<S: Sink>(
     put_text(&text, out)
 }
 
-/// Writes the sentences of a batch: the header line `no,sent_id,rev,words,pulled` and a line for each sentence. `pulled` is
-/// `yes` or `no`.
+/// Writes the sentences of a batch: the header line `no,sent_id,rev,who,words,pulled,text` and a line for each sentence.
+/// `pulled` is `yes` or `no`.
 ///
 /// # Errors
 ///

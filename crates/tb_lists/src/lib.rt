@@ -7,8 +7,10 @@
 mod batches;
 mod counting;
 mod csvs;
+mod current;
 mod finding;
 mod found;
+mod laws;
 mod reading;
 mod revisions;
 mod sentences;
@@ -17,6 +19,7 @@ pub use batches::BatchLine;
 pub use csvs::{csv_batches, csv_found, csv_revisions, csv_sentences};
 pub use finding::find_sentence;
 pub use found::FoundLine;
+pub use laws::batches_add_up;
 pub use reading::{list_batches, list_revisions, list_sentences};
 pub use revisions::RevisionLine;
 pub use sentences::SentenceLine;

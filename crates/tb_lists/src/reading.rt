@@ -15,12 +15,13 @@ ghost use Rattle.tb_refine.specs.Faults.{IsNoDevice};
 ghost use Rattle.tb_lists.specs.Batches.{batch_lines};
 ghost use Rattle.tb_lists.specs.Counted.{AreCounts};
 ghost use Rattle.tb_lists.specs.Revisions.{revision_lines};
-ghost use Rattle.tb_lists.specs.Sentences.{sentence_lines, sentences_from};
+ghost use Rattle.tb_lists.specs.Sentences.{sentence_lines};
 
 use crate::batches::{BatchLine, lines_of};
 use crate::counting::{Count, count_rows};
+use crate::current::read_lines;
 use crate::revisions::{RevisionLine, lines_by};
-use crate::sentences::{self, SentenceLine};
+use crate::sentences::SentenceLine;
 use sqlite::{Alter, Connection};
 use std::alloc::Global;
 use tb_core::{Fault, Move};
@@ -198,30 +199,32 @@ pub fn list_revisions<S: Alter>(
     )
 }
 
-/// The sentences of the batch with this number, from rows that were read.
-fn sentences_of(
+/// The sentences of the batch with this number, among the rows of all sentences.
+fn sentences_of<S: Alter>(
     alloc: Global,
+    conn: &mut Connection<S>,
     rows: &[SentenceRow],
-    pulled: &[u32],
     batch: u32,
 ) -> Result<Vec<SentenceLine>, Fault>
-    ensures answered { IfOk result (λ v. (xs : List Sentence) → map sentence_of rows.now ≡ map sentence_record xs
-        → pulled.now ≡ pulled_from 1 xs → v.items ≡ sentences_from batch 1 xs) }
+    ensures answered { Tells S.Store conn.old conn.new result (λ s v.
+        map sentence_of rows.now ≡ map sentence_record s.sentences → v.items ≡ sentence_lines s batch) }
     ensures never_refuses { (r : AnyRefusal) → result ≢ Err (Fault.Refused r) }
     ensures output { result ≢ Err Fault.Output }
-    ensures fails { result ≡ Err Fault.NotADesk → length rows.now < 2 ^ 32 → ⊥ }
-    ensures cause { IfErr result IsNoDevice }
+    ensures fails { KnowsDeskWhere S.Store conn.old conn.new result (λ s so.
+        map sentence_of rows.now ≡ map sentence_record s.sentences → so) }
+    ensures cause { IsFaultless S.Store conn.old conn.new → FailsOnlyAs IsNoDevice S.Store conn.old conn.new result }
+    ensures read_only { IsReadOnly S.Store conn.old conn.new (is_ok result) }
     ensures many { 2 ^ 32 ≤ length rows.now → result ≡ Err Fault.NotADesk }
 {
     if rows.len() > u32::MAX as usize {
         Err(Fault::NotADesk)
     } else {
-        sentences::lines_of(alloc, rows, pulled, batch)
+        read_lines(alloc, conn, rows, batch)
     }
 }
 
 /// The sentences of the batch with this number, pulled ones too, by number. Nothing is refused: a number that no batch has
-/// gives none. The rows of all sentences are in memory once, beside the list.
+/// gives none. The rows of all sentences are in memory once, beside the list, and one revision at a time.
 ///
 /// # Errors
 ///
@@ -239,6 +242,5 @@ pub fn list_sentences<S: Alter>(
     ensures read_only { IsReadOnly S.Store conn.old conn.new (is_ok result) }
 {
     let rows = read_sentences(alloc, conn)?;
-    let pulled = read_pulled(alloc, conn)?;
-    sentences_of(alloc, rows.as_slice(), pulled.as_slice(), batch)
+    sentences_of(alloc, conn, rows.as_slice(), batch)
 }

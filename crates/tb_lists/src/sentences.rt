@@ -1,16 +1,20 @@
-//! The sentences of a batch, as a list shows them.
+//! A sentence, as a list shows it.
 
-ghost use Rattle.std.specs.Prelude.{◌≡◌, ◌<◌, ◌^◌, IfErr, IfOk, length, map, string_bytes};
-ghost use Rattle.sqlite_trees.specs.Tree.{IsAscending};
+ghost use Rattle.std.specs.Prelude.{◌≡◌, ◌≢◌, ◌∷◌, [], Err, IfErr, IfOk, string_bytes};
+ghost use Rattle.tb_conllu.specs.Reported.{IsFile};
+ghost use Rattle.tb_conllu.specs.Text.{BlockText};
+ghost use Rattle.tb_core.specs.declared.refusals.Refusal.{Refusal as AnyRefusal};
+ghost use Rattle.tb_core.specs.Machine.{text_value_of};
 ghost use Rattle.tb_tables.specs.Values.{sentence_of};
+ghost use Rattle.tb_refine.specs.Faults.{IsNoDevice};
 ghost use Rattle.tb_lists.specs.Sentences.{SentenceText};
-ghost use Rattle.tb_lists.specs.Told.{told, told_from};
+ghost use Rattle.tb_lists.specs.Told.{told};
 
 use std::alloc::Global;
 use std::marker::Model;
+use tb_conllu::{BlockRef, known_block};
 use tb_core::Fault;
-use tb_refine::is_among;
-use tb_tables::SentenceRow;
+use tb_tables::{RevisionRow, SentenceRow};
 
 /// A sentence, and its current revision.
 #[derive(Drop)]
@@ -20,10 +24,14 @@ pub struct SentenceLine {
     pub sent_id: String,
     /// The number of its current revision, from 1.
     pub rev: u64,
+    /// The user who wrote its current revision.
+    pub who: String,
     /// The words of its current revision.
     pub words: u64,
     /// Whether it is pulled.
     pub pulled: bool,
+    /// The value of the comment `text` of its current revision.
+    pub text: String,
 }
 
 impl Model for SentenceLine {
@@ -33,51 +41,60 @@ impl Model for SentenceLine {
       no = x.no;
       sent_id = string_bytes x.sent_id;
       rev = x.rev;
+      who = string_bytes x.who;
       words = x.words;
       pulled = x.pulled;
+      text = string_bytes x.text;
     } };
 }
 
-/// The sentence of a row, with its number.
-fn line_of(
+/// The value of the comment `text` of a sentence; every sentence of a desk has one.
+fn value_of<'b>(block: &'b BlockRef<'_>) -> &'b str
+    ensures { result.now ≡ text_value_of block.now }
+{
+    tb_rules::text(block).unwrap_or("")
+}
+
+/// The value of the comment `text` of the sentence that has these bytes.
+fn text_in(alloc: Global, body: &str) -> Result<String, Fault>
+    ensures text { IfOk result (λ t. (b : BlockText) → IsFile body.now (b ∷ [])
+        → string_bytes t ≡ text_value_of b) }
+    ensures known { result ≡ Err Fault.NotADesk → (b : BlockText) → IsFile body.now (b ∷ []) → ⊥ }
+    ensures never_refuses { (r : AnyRefusal) → result ≢ Err (Fault.Refused r) }
+    ensures cause { IfErr result IsNoDevice }
+    ensures output { result ≢ Err Fault.Output }
+{
+    let Some(block) = known_block(alloc, body.as_bytes())? else {
+        return Err(Fault::NotADesk);
+    };
+    Ok(String::from_str(alloc, value_of(&block))?)
+}
+
+/// The sentence of a row, with its number and its current revision.
+pub(crate) fn line_of(
     alloc: Global,
     no: u32,
     row: &SentenceRow,
     is_pulled: bool,
+    current: RevisionRow,
 ) -> Result<SentenceLine, Fault>
-    ensures line { IfOk result (λ x. x ≡ told no (sentence_of row.now) is_pulled) }
-    ensures fault { IfErr result (λ e. e ≡ Fault.Memory) }
+    ensures line { IfOk result (λ line. (b : BlockText) → IsFile (string_bytes current.body) (b ∷ [])
+        → line ≡ told no (sentence_of row.now) is_pulled (string_bytes current.who) (text_value_of b)) }
+    ensures known { result ≡ Err Fault.NotADesk → (b : BlockText) → IsFile (string_bytes current.body) (b ∷ [])
+        → ⊥ }
+    ensures never_refuses { (r : AnyRefusal) → result ≢ Err (Fault.Refused r) }
+    ensures cause { IfErr result IsNoDevice }
+    ensures output { result ≢ Err Fault.Output }
 {
+    let text = text_in(alloc, current.body.as_str())?;
     let sent_id = String::from_str(alloc, row.sent_id.as_str())?;
     Ok(SentenceLine {
         no: u64::from(no),
         sent_id,
         rev: u64::from(row.rev),
+        who: current.who,
         words: u64::from(row.words),
         pulled: is_pulled,
+        text,
     })
-}
-
-/// The sentences of the batch with this number, among the rows of all sentences. Only its own are copied.
-pub(crate) fn lines_of(
-    alloc: Global,
-    rows: &[SentenceRow],
-    pulled: &[u32],
-    batch: u32,
-) -> Result<Vec<SentenceLine>, Fault>
-    requires { length rows.now < 2 ^ 32 }
-    ensures lines { IfOk result (λ v. IsAscending (λ a b. a < b) pulled.now
-        → v.items ≡ told_from batch pulled.now 1 (map sentence_of rows.now)) }
-    ensures fault { IfErr result (λ e. e ≡ Fault.Memory) }
-{
-    let mut lines = Vec::new(alloc);
-    let mut no = 0u32;
-    for row in rows {
-        no += 1;
-        if row.batch == batch {
-            let is_pulled = is_among(no, pulled);
-            lines.push(line_of(alloc, no, row, is_pulled)?)?;
-        }
-    }
-    Ok(lines)
 }

@@ -446,7 +446,8 @@ impl<S: Alter> Desk<S> {
         list_revisions(self.alloc, &mut self.conn, number)
     }
 
-    /// The sentences of the batch with this name, pulled ones too, by number. It reads no text of a revision.
+    /// The sentences of the batch with this name, pulled ones too, by number, each with its current revision. One text of a
+    /// revision is in memory at a time.
     ///
     /// # Errors
     ///

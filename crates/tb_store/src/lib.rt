@@ -25,6 +25,6 @@ pub use tb_core::{
     each_command_ends_one_way, each_sentence_is_in_one_state, imports_repeat, later_states_extend,
     reached_states_are_well, totals_are_nets,
 };
-pub use tb_lists::{BatchLine, FoundLine, RevisionLine, SentenceLine};
+pub use tb_lists::{BatchLine, FoundLine, RevisionLine, SentenceLine, batches_add_up};
 pub use tb_query::{Attr, Query, QueryFault, Strategy, parse};
 pub use tb_report::Freq;

@@ -13,7 +13,7 @@ pub(crate) const WORK: &str = "\
     correct 1 1 ann go => refused 3 NoSuchSentence\n\
     revision 1 1 => refused 3 NoSuchSentence\n\
     search longest 5 [] => 0 hits 0;\n\
-    batches => 0 no,name,state,worker,first,sentences,words,pulled;\n\
+    batches => 0 no,name,state,worker,first,sentences,words,pulled,pulled_words;\n\
     revisions 1 => refused 3 NoSuchSentence \n\
     sentences b1 => refused 2 NoSuchBatch \n\
     sentences b/1 => refused 1 BadName \n\
@@ -71,18 +71,18 @@ pub(crate) const WORK: &str = "\
     assign b7 cem => moved batch=2 state=assigned sentences=2 words=4\n\
     correct 3 1 cem dogs:dog:cat => corrected sentence=3 rev=2 words=3\n\
     pull 3 dan => pulled sentence=3 words=3\n\
-    sentences b7 => 2 no,sent_id,rev,words,pulled;2,s7,1,1,no;3,s1,2,3,yes;\n\
+    sentences b7 => 2 no,sent_id,rev,who,words,pulled,text;2,s7,1,ann,1,no,Go;3,s1,2,cem,3,yes,Dogs bark.;\n\
     find s1 => 3 no,batch,rev,words,pulled;3,b7,2,3,yes;\n\
     restore 3 dan => restored sentence=3 state=assigned words=3\n\
     revisions 1 => 3 rev,who,kind,move;1,ann,import,1;2,ann,correct,3;3,ben,correct,5;\n\
     revisions 2 => 1 rev,who,kind,move;1,ann,import,6;\n\
     revisions 3 => 2 rev,who,kind,move;1,ann,import,6;2,cem,correct,8;\n\
     revisions 4 => refused 3 NoSuchSentence \n\
-    sentences b4 => 1 no,sent_id,rev,words,pulled;1,s4,3,3,no;\n\
+    sentences b4 => 1 no,sent_id,rev,who,words,pulled,text;1,s4,3,ben,3,no,I cannot.;\n\
     find s4 => 1 no,batch,rev,words,pulled;1,b4,3,3,no;\n\
     find s7 => 2 no,batch,rev,words,pulled;2,b7,1,1,no;\n\
     find s9 => refused 3 NoSuchSentence \n\
-    sentences b7 => 2 no,sent_id,rev,words,pulled;2,s7,1,1,no;3,s1,2,3,no;\n\
+    sentences b7 => 2 no,sent_id,rev,who,words,pulled,text;2,s7,1,ann,1,no,Go;3,s1,2,cem,3,no,Dogs bark.;\n\
     sentences b1 => refused 2 NoSuchBatch \n\
     \n\
     1000 1000 1000\n\
@@ -90,7 +90,7 @@ pub(crate) const WORK: &str = "\
     pull 2 dan => pulled sentence=2 words=1\n\
     pull 2 dan => refused 20 Pulled\n\
     assign b1 ann => moved batch=1 state=assigned sentences=1 words=3\n\
-    batches => 1 no,name,state,worker,first,sentences,words,pulled;1,b1,assigned,ann,1,1,3,1;\n\
+    batches => 1 no,name,state,worker,first,sentences,words,pulled,pulled_words;1,b1,assigned,ann,1,1,3,1,1;\n\
     correct 2 1 ann go => refused 4 WrongState withdrawn\n\
     restore 2 dan => restored sentence=2 state=assigned words=1\n\
     restore 2 dan => refused 21 NotPulled\n\
@@ -101,7 +101,7 @@ pub(crate) const WORK: &str = "\
     reopen b1 ben => moved batch=1 state=open sentences=1 words=3\n\
     pull 1 dan => pulled sentence=1 words=3\n\
     assign b1 ben => moved batch=1 state=assigned sentences=0 words=0\n\
-    batches => 1 no,name,state,worker,first,sentences,words,pulled;1,b1,assigned,ben,1,0,0,2;\n\
+    batches => 1 no,name,state,worker,first,sentences,words,pulled,pulled_words;1,b1,assigned,ben,1,0,0,2,4;\n\
     \n\
     1 2 1000\n\
     import b1 ann dogs => imported batch=1 first=1 sentences=1 words=3\n\
@@ -125,7 +125,7 @@ pub(crate) const SEARCHES: &str = "\
     1000 1000 15\n\
     import b6 ann book => imported batch=1 first=1 sentences=1 words=9\n\
     import b7 ann go => imported batch=2 first=2 sentences=1 words=1\n\
-    batches => 2 no,name,state,worker,first,sentences,words,pulled;1,b6,open,,1,1,9,0;2,b7,open,,2,1,1,0;\n\
+    batches => 2 no,name,state,worker,first,sentences,words,pulled,pulled_words;1,b6,open,,1,1,9,0,0;2,b7,open,,2,1,1,0,0;\n\
     search longest 5 []* => 0 hits 0;\n\
     assign b6 ann => moved batch=1 state=assigned sentences=1 words=9\n\
     search longest 5 []* => 0 hits 0;\n\

@@ -17,7 +17,8 @@ returns g c =
     let sentences = c.as_bytes-6.ensures.value ∙ c.format-3.ensures.text ∙ ap (λ (m : BatchText). decimal m.sentences) view in
     let words = c.as_bytes-7.ensures.value ∙ c.format-4.ensures.text ∙ ap (λ (m : BatchText). decimal m.words) view in
     let pulled = c.as_bytes-8.ensures.value ∙ c.format-5.ensures.text ∙ ap (λ (m : BatchText). decimal m.pulled) view in
+    let pulled_words = c.as_bytes-9.ensures.value ∙ c.format-6.ensures.text ∙ ap (λ (m : BatchText). decimal m.pulled_words) view in
     let fields : c.as_bytes.result.now ∷ c.as_bytes-2.result.now ∷ c.as_bytes-3.result.now ∷ c.as_bytes-4.result.now ∷ c.as_bytes-5.result.now ∷ c.as_bytes-6.result.now ∷ c.as_bytes-7.result.now
-    ∷ c.as_bytes-8.result.now ∷ [] ≡ batch_fields c.args.batch.now =
-    λ i. no i ∷ name i ∷ state i ∷ worker i ∷ first i ∷ sentences i ∷ words i ∷ pulled i ∷ [] in
+    ∷ c.as_bytes-8.result.now ∷ c.as_bytes-9.result.now ∷ [] ≡ batch_fields c.args.batch.now =
+    λ i. no i ∷ name i ∷ state i ∷ worker i ∷ first i ∷ sentences i ∷ words i ∷ pulled i ∷ pulled_words i ∷ [] in
     subst (λ (row : List (List ℕ)). OnOk c.put_row.result (PutsRows g.W.Write.contents c.args.rows.now c.put_row.new.rows (row ∷ []))) fields c.put_row.ensures

@@ -1,6 +1,15 @@
-use Rattle.std.proofs.lemmas.Result.{IfOk-weaker}
-use Rattle.tb_lists.proofs.Told.{are_sentences}
+use Rattle.std.proofs.Common.{◌≡◌, length, sym, ap, ◌∙◌, arith}
+use Rattle.std.proofs.lemmas.List.{length-map}
+use Rattle.tb_tables.specs.Values.{sentence_of}
+use Rattle.tb_reads.proofs.ReadOnly.{read_none}
+use Rattle.tb_refine.specs.DeskTables.{sentence_record}
 use Rattle.tb_lists.proofs.reading.sentences_of.Goals as goal
 
-pub returns-else-rows-clause-answered : goal.returns-else-rows-clause-answered
-returns-else-rows-clause-answered c = IfOk-weaker c.lines_of.result _ _ (λ v reported xs same pulled_is. are_sentences c.args.batch c.args.pulled.now c.args.rows.now xs v.items same pulled_is reported) c.lines_of.ensures.lines
+pub returns-then-rows-clause-fails : goal.returns-then-rows-clause-fails
+returns-then-rows-clause-fails g c clean unlimited s desk same bad =
+    let size : length c.args.rows.now ≡ length s.sentences = sym (length-map c.args.rows.now sentence_of) ∙ ap length same ∙ length-map s.sentences sentence_record in
+    let few = desk.reachable.sentences in
+    omega (arith, few, size, c.if-rows.true)
+
+pub returns-then-rows-clause-read_only : goal.returns-then-rows-clause-read_only
+returns-then-rows-clause-read_only g c = read_none
