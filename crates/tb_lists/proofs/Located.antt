@@ -1,7 +1,7 @@
 -- What the rows tell of the sentence with a `sent_id` is what the state has of it.
 use Rattle.std.proofs.Common.{◌≡◌, ◌≢◌, ℕ, zero, suc, ◌+◌, ◌-◌, ◌<◌, List, [], ◌∷◌, map, length, Bool, true, false, cond, Option, Some, None, slice_get, slice_index_or, option_map, IsTrue, ◌↔◌, Contains, refl, sym, ap, subst, ◌∙◌, arith, inl, inr}
 use Rattle.std.specs.List.{AllByRecursion}
-use Rattle.std.proofs.lemmas.Option.{slice_get-map}
+use Rattle.std.proofs.lemmas.Option.{slice_get-map, same_Some}
 use Rattle.tb_core.specs.Names.{Lacks}
 use Rattle.tb_core.specs.Machine.{Batch, Sentence, Machine, batch_with, no_batch}
 use Rattle.tb_core.specs.Acts.{ids_of}
@@ -47,6 +47,9 @@ pub none_lacks : {X Y : Type 0} (f : X → Y) (xs : List X) (i : ℕ) (x : X) �
 none_lacks f xs i x there lacks =
     let both : None ≡ Some (f x) = lacks ∙ slice_get-map f xs i ∙ ap (option_map f) there in
     absurd cc
+
+pub row_reported : {X Y : Type 0} (f : X → Y) (xs : List X) (i : ℕ) (x : X) (row : Y) → Some row ≡ slice_get (map f xs) i → slice_get xs i ≡ Some x → row ≡ f x
+row_reported f xs i x row read there = same_Some row (f x) (read ∙ slice_get-map f xs i ∙ ap (option_map f) there)
 
 -- ---- the batch of a sentence
 

@@ -31,10 +31,7 @@ fn number_of<S: Alter>(conn: &mut Connection<S>, sent_id: &str) -> Result<Option
     ensures read_only { IsReadOnly S.Store conn.old conn.new (is_ok result) }
 {
     desk_rows_fit();
-    match tb_reads::sentence_named(conn, sent_id) {
-        Ok(found) => Ok(found),
-        Err(error) => Err(faults::of_read(error)),
-    }
+    faults::reported(tb_reads::sentence_named(conn, sent_id))
 }
 
 /// The row of the batch with this number, from 1, which exists.
@@ -52,11 +49,7 @@ fn read_batch<S: Alter>(conn: &mut Connection<S>, number: u32) -> Result<BatchRo
     if number == 0 {
         return Err(Fault::NotADesk);
     }
-    match tb_reads::batch(conn, number) {
-        Ok(Some(row)) => Ok(row),
-        Ok(None) => Err(Fault::NotADesk),
-        Err(error) => Err(faults::of_read(error)),
-    }
+    faults::reported_row(tb_reads::batch(conn, number))
 }
 
 /// Whether the sentence with this number, from 1, which exists, is pulled.
@@ -70,10 +63,7 @@ fn is_pulled<S: Alter>(conn: &mut Connection<S>, number: u32) -> Result<bool, Fa
     ensures cause { IsFaultless S.Store conn.old conn.new → FailsOnlyAs IsNoDevice S.Store conn.old conn.new result }
     ensures read_only { IsReadOnly S.Store conn.old conn.new (is_ok result) }
 {
-    match tb_reads::is_pulled(conn, number) {
-        Ok(pulled) => Ok(pulled),
-        Err(error) => Err(faults::of_read(error)),
-    }
+    faults::reported(tb_reads::is_pulled(conn, number))
 }
 
 /// The sentence with this number, from 1, which exists, with the name of its batch.

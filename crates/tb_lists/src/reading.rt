@@ -40,10 +40,7 @@ fn read_batches<S: Alter>(alloc: Global, conn: &mut Connection<S>) -> Result<Vec
 {
     desk_rows_are_readable();
     one_list_for_the_rows();
-    match tb_reads::batches(alloc, conn) {
-        Ok(rows) => Ok(rows),
-        Err(error) => Err(faults::of_read(error)),
-    }
+    faults::reported(tb_reads::batches(alloc, conn))
 }
 
 /// The rows of all sentences, by number.
@@ -61,10 +58,7 @@ fn read_sentences<S: Alter>(
 {
     desk_rows_are_readable();
     one_list_for_the_rows();
-    match tb_reads::sentences(alloc, conn) {
-        Ok(rows) => Ok(rows),
-        Err(error) => Err(faults::of_read(error)),
-    }
+    faults::reported(tb_reads::sentences(alloc, conn))
 }
 
 /// The counts of so many batches, from rows that were read.
@@ -143,11 +137,7 @@ pub(crate) fn read_sentence<S: Alter>(
     ensures read_only { IsReadOnly S.Store conn.old conn.new (is_ok result) }
 {
     desk_rows_are_readable();
-    match tb_reads::sentence(conn, number) {
-        Ok(Some(row)) => Ok(row),
-        Ok(None) => Err(Fault::NotADesk),
-        Err(error) => Err(faults::of_read(error)),
-    }
+    faults::reported_row(tb_reads::sentence(conn, number))
 }
 
 /// All moves, in their order.

@@ -1,23 +1,33 @@
 use Rattle.std.proofs.Common.{◌≡◌, ◌+◌, ◌-◌, ◌↔◌, IsTrue, Err, sym, ap, ◌∙◌, arith, subst, Contains}
-use Rattle.tb_core.specs.declared.refusals.Fault.TheVariants.{NotADesk, Device}
+use Rattle.tb_core.specs.declared.refusals.Fault.TheVariants.{NotADesk}
 use Rattle.tb_core.specs.Rows.{pulled_from}
+use Rattle.tb_reads.proofs.Shown.{if_ok}
 use Rattle.tb_refine.specs.DeskTables.{tables_of}
+use Rattle.tb_refine.specs.Faults.{fault_of_read}
 use Rattle.tb_refine.proofs.Faultless.{read_reported, want_reported}
 use Rattle.tb_lists.proofs.Located.{pulled_reported}
+use Rattle.tb_refine.proofs.Reported.{reported_if, reported_not, reported_clear, reported_only}
 use Rattle.tb_lists.proofs.finding.is_pulled.Goals as goal
 
-pub returns-in-Ok-clause-answered : goal.returns-in-Ok-clause-answered
-returns-in-Ok-clause-answered g c clean s desk x there =
-    let found = c.in-Ok.ensures.ok clean desk.holds.schema (tables_of s).pulled desk.holds.stands.pulled in
+pub returns-clause-answered : goal.returns-clause-answered
+returns-clause-answered g c clean =
+    rw c.reported.ensures.value (reported_if fault_of_read _ c.is_pulled.result (if_ok c.is_pulled.result (c.is_pulled.ensures.ok clean) (λ pulled read s desk x there.
+    let found = read desk.holds.schema (tables_of s).pulled desk.holds.stands.pulled in
     let at : c.args.number ≡ 1 + (c.args.number - 1) = (let above = c.requires in omega (arith, above)) in
-    pulled_reported 1 (c.args.number - 1) s.sentences x c.in-Ok.pulled there (subst (λ n. IsTrue c.in-Ok.pulled ↔ Contains (pulled_from 1 s.sentences) n) at found)
+    pulled_reported 1 (c.args.number - 1) s.sentences x pulled there (subst (λ n. IsTrue pulled ↔ Contains (pulled_from 1 s.sentences) n) at found))))
 
-pub returns-in-Err-clause-fails : goal.returns-in-Err-clause-fails
-returns-in-Err-clause-fails g c clean unlimited s desk bad =
-    let reported : c.of_read.result ≡ NotADesk = cc in
-    read_reported c.in-Err.error (c.in-Err.ensures.fails clean unlimited desk.holds.schema) (λ unfit. c.in-Err.ensures.form (ap Err unfit)) (sym c.of_read.ensures.value ∙ reported)
+pub returns-clause-fails : goal.returns-clause-fails
+returns-clause-fails g c clean unlimited s desk bad =
+    reported_not fault_of_read NotADesk c.is_pulled.result (λ e failed.
+    let fails = rw failed at c.is_pulled.ensures.fails in
+    read_reported e (fails clean unlimited desk.holds.schema) (λ unfit. c.is_pulled.ensures.form (failed ∙ ap Err unfit)))
+    (sym c.reported.ensures.value ∙ bad)
 
-pub returns-in-Err-clause-cause : goal.returns-in-Err-clause-cause
-returns-in-Err-clause-cause g c good clean unlimited has bad =
-    let reported : c.of_read.result ≡ Device = cc in
-    want_reported c.in-Err.error (c.in-Err.ensures.cause good clean unlimited has) (sym c.of_read.ensures.value ∙ reported)
+pub returns-clause-cause : goal.returns-clause-cause
+returns-clause-cause g c good clean unlimited has =
+    rw c.reported.ensures.value (reported_clear fault_of_read c.is_pulled.result (λ e failed.
+    let want = rw failed at c.is_pulled.ensures.cause in
+    want_reported e (want good clean unlimited has)))
+
+pub returns-clause-read_only : goal.returns-clause-read_only
+returns-clause-read_only g c = rw c.reported.ensures.value (reported_only fault_of_read g.S.Store c.args.conn.now c.is_pulled.new.conn c.is_pulled.result c.is_pulled.ensures.read_only)
