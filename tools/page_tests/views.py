@@ -308,4 +308,26 @@ def by_keyboard(driver):
     desk.close()
 
 
-PARTS = [scripts_of_the_world, hostile_text, names_that_are_steps, other_origins, broken_answers, by_keyboard]
+def follows_others(driver):
+    """A view shows what others do. What is typed in it stays, and it waits while somebody types."""
+    desk, browser = Desk(), driver.browser()
+    desk.put("news", sample("english"))
+    browser.go(desk.url + "/#/batch/1")
+    browser.see("td a", "en-2")
+    browser.type("#filter", "newspapers")
+    browser.until("return document.querySelectorAll('.sentences tbody tr').length === 1")
+    same("assigned", 200, desk.ask("POST /batches/news/assign")[0])
+    time.sleep(6)
+    same("the view while somebody types", "open", browser.text(".badge"))
+    browser.run("document.activeElement.blur()")
+    browser.see(".badge", "assigned")
+    same("the filter", ("newspapers", ["en-2"]), (browser.run("return document.getElementById('filter').value"), browser.texts("td a")))
+    browser.go(desk.url + "/#/moves")
+    browser.see(".moves td", "assign")
+    same("submitted", 200, desk.ask("POST /batches/news/submit")[0])
+    browser.see(".moves td", "submit")
+    is_quiet(browser)
+    desk.close()
+
+
+PARTS = [follows_others, scripts_of_the_world, hostile_text, names_that_are_steps, other_origins, broken_answers, by_keyboard]
