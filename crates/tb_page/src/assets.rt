@@ -1566,9 +1566,12 @@ function say({ ok, line, words }, more = '') {
 
 const sayRefused = (line, words = meaning(line)) => say({ ok: false, line, words });
 
+/** Shows a view. The focus stays where it was, if the view has that place too. */
 function put(title, ...nodes) {
+  const focus = main.contains(document.activeElement) ? document.activeElement.id : '';
   document.title = `${title} \u2013 treedesk`;
   main.replaceChildren(...nodes.flat());
+  if (focus) document.getElementById(focus)?.focus();
 }
 
 /** All batches. They are asked for again only where a command was done since. */
@@ -1583,6 +1586,17 @@ const batches = (() => {
     return { ...list, at };
   };
 })();
+
+// What was typed or chosen in a field of a view, by the address and the field: a view is drawn anew when others do something.
+const typed = new Map();
+
+/** Gives a field what was in it before. */
+function keeping(field) {
+  const key = `${location.hash} ${field.id}`;
+  if (typed.has(key)) field.value = typed.get(key);
+  field.addEventListener('input', () => typed.set(key, field.value));
+  return field;
+}
 
 const removed = batch => (batch.pulled === '0' ? '' : ` \u00b7 ${plain(batch.pulled)} pulled`);
 
@@ -1714,10 +1728,8 @@ async function board() {
   shownMove = list.at;
   const failed = [list, totals].find(answer => !answer.ok);
   if (failed) return put('Board', heading('Board'), failure(failed));
-  const focus = document.activeElement?.id;
   const columns = STATES.map(state => stateColumn(state, list.rows, totals.rows.find(row => row.state === state)));
   put('Board', heading('Board'), el('div', { class: 'board' }, columns), importer);
-  if (focus) document.getElementById(focus)?.focus();
 }
 
 // ---- a batch
@@ -1740,8 +1752,8 @@ function sentenceRow(row) {
 /** The sentences of a batch, with what filters them. */
 function sentencesTable(all) {
   const body = el('tbody'), count = el('span', { class: 'quiet' });
-  const filter = el('input', { id: 'filter', type: 'search', placeholder: 'part of the text or of a sent_id' });
-  const kind = el('select', { id: 'some' }, Object.keys(KINDS).map(name => el('option', {}, name)));
+  const filter = keeping(el('input', { id: 'filter', type: 'search', placeholder: 'part of the text or of a sent_id' }));
+  const kind = keeping(el('select', { id: 'some' }, Object.keys(KINDS).map(name => el('option', {}, name))));
   const fill = () => {
     const part = filter.value.toLowerCase(), has = value => value.toLowerCase().includes(part);
     const rows = all.filter(row => KINDS[kind.value](row) && (has(row.text) || has(row.sent_id)));
@@ -2007,7 +2019,7 @@ function moveRow(move, names) {
 /** A choice between all and one of some values, as pairs of a value and its text. */
 function oneOf(id, values, chosen) {
   const options = values.map(([value, text]) => el('option', { value, selected: value === chosen }, text));
-  return el('select', { id }, el('option', { value: '' }, 'all'), options);
+  return keeping(el('select', { id }, el('option', { value: '' }, 'all'), options));
 }
 
 async function moves(onlyBatch) {
@@ -2070,9 +2082,9 @@ async function show() {
   else await board();
 }
 
-/** Shows what others did, within some seconds. Nothing moves under a hand that holds a button or is asked whether it is sure. */
+/** Shows what others did, within some seconds. Nothing moves under a hand that types, holds a button or is asked whether it is sure. */
 async function follow() {
-  const isBusy = () => shownMove === null || main.matches(':active') || main.querySelector('[data-sure]');
+  const isBusy = () => shownMove === null || main.matches(':active') || main.querySelector('[data-sure], input:focus');
   if (document.visibilityState !== 'visible' || isBusy()) return;
   const now = await lastMove();
   if (now !== null && !isBusy() && now !== shownMove) await show();
