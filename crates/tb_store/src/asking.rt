@@ -1,6 +1,6 @@
 //! Reads of a desk's tables, stated as facts of the state that the desk represents. A read leaves the desk as it is.
 
-ghost use Rattle.std.specs.Prelude.{◌≡◌, ◌≢◌, ◌-◌, ◌<◌, map, [], ◌∷◌, Some, Err, is_ok};
+ghost use Rattle.std.specs.Prelude.{◌≡◌, ◌≢◌, ◌⊎◌, ◌-◌, ◌<◌, ◌≤◌, map, [], ◌∷◌, Some, Err, is_ok};
 ghost use Rattle.std.specs.Prelude.{slice_get, string_bytes, IfOk, None, length, false};
 ghost use Rattle.std.specs.Prelude.{IfErr};
 ghost use Rattle.sqlite.specs.State.{HasCleanDisk};
@@ -145,6 +145,22 @@ pub(crate) fn sentence<S: Alter>(conn: &mut Connection<S>, number: u32) -> Resul
     })
 }
 
+/// The number of a revision, where a sentence has so many.
+///
+/// # Errors
+///
+/// `NoSuchRevision`, where it has no revision with this number.
+fn known_revision(rev: u64, last: u32) -> Result<u32, Fault>
+    ensures same { IfOk result (λ n. (n ≡ rev) × (0 < rev) × (rev ≤ last)) }
+    ensures none { IfErr result (λ e. (e ≡ Fault.Refused Refusal.NoSuchRevision)
+        × ((rev ≡ 0) ⊎ (last < rev))) }
+{
+    if rev == 0 || rev > u64::from(last) {
+        return Err(Fault::Refused(Refusal::NoSuchRevision));
+    }
+    Ok(rev as u32)
+}
+
 /// The text of a revision of the sentence with this number, which exists.
 ///
 /// # Errors
@@ -169,10 +185,8 @@ pub(crate) fn revision<S: Alter>(
     ensures read_only { IsReadOnly S.Store conn.old conn.new (is_ok result) }
 {
     let last = current(conn, number)?;
-    if rev == 0 || rev > u64::from(last) {
-        return Err(Fault::Refused(Refusal::NoSuchRevision));
-    }
-    text(conn, number, rev as u32)
+    let counted = known_revision(rev, last)?;
+    text(conn, number, counted)
 }
 
 /// The moves, in their order.
@@ -188,6 +202,21 @@ pub(crate) fn moves<S: Alter>(alloc: Global, conn: &mut Connection<S>) -> Result
     match tb_reads::moves(alloc, conn) {
         Ok(rows) => read_moves(alloc, rows.as_slice()),
         Err(error) => Err(faults::of_read(error)),
+    }
+}
+
+/// The batch that was found.
+///
+/// # Errors
+///
+/// `NoSuchBatch`, where none was.
+pub(crate) fn known_batch(found: Option<u32>) -> Result<u32, Fault>
+    ensures number { IfOk result (λ n. found ≡ Some n) }
+    ensures none { IfErr result (λ e. (e ≡ Fault.Refused Refusal.NoSuchBatch) × (found ≡ None)) }
+{
+    match found {
+        Some(number) => Ok(number),
+        None => Err(Fault::Refused(Refusal::NoSuchBatch)),
     }
 }
 
@@ -212,9 +241,8 @@ pub(crate) fn sentences<S: Alter>(
     if !good_name(name) {
         return Err(Fault::Refused(Refusal::BadName));
     }
-    let Some(number) = batch_number(conn, name)? else {
-        return Err(Fault::Refused(Refusal::NoSuchBatch));
-    };
+    let found = batch_number(conn, name)?;
+    let number = known_batch(found)?;
     list_sentences(alloc, conn, number)
 }
 

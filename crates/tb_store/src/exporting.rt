@@ -12,6 +12,7 @@ ghost use Rattle.tb_store.specs.Blaming.{FailsWithoutDevice};
 ghost use Rattle.tb_refine.specs.Calls.{KnowsDesk, TellsOnErr, TellsOnOk};
 ghost use Rattle.tb_reads.specs.ReadOnly.{IsReadOnly};
 
+use crate::asking::known_batch;
 use crate::stopping::fault_of;
 use sqlite::{Alter, Connection};
 use std::alloc::Global;
@@ -91,8 +92,7 @@ pub(crate) fn batch<S: Alter, W: Sink>(
     if !good_name(name) {
         return Err(Fault::Refused(Refusal::BadName));
     }
-    let Some(number) = batch_number(conn, name)? else {
-        return Err(Fault::Refused(Refusal::NoSuchBatch));
-    };
+    let found = batch_number(conn, name)?;
+    let number = known_batch(found)?;
     numbered(alloc, conn, number, out)
 }
