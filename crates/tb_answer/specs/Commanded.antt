@@ -35,6 +35,11 @@ reply_for_fault Device = reply.Device
 reply_for_fault NotADesk = reply.Desk
 reply_for_fault Output = reply.Device
 
+-- the same for an export into memory, whose sink fails only for want of memory
+abbrev pub reply_for_export : Fault → Reply
+reply_for_export Output = reply.Memory
+reply_for_export fault = reply_for_fault fault
+
 -- a fault that is no refusal
 abbrev pub IsNoRefusal : Fault → Type 0
 IsNoRefusal fault = (r : Refusal) → fault ≢ Refused r

@@ -8,7 +8,7 @@ ghost use Rattle.tb_core.specs.declared.refusals.Refusal.{Refusal as AnyRefusal}
 ghost use Rattle.tb_core.specs.Machine.{Machine};
 ghost use Rattle.tb_http.specs.declared.status.Status.{Status as AnyStatus};
 ghost use Rattle.tb_store.specs.Represents.{Represents};
-ghost use Rattle.tb_answer.specs.Commanded.{HasFailed, IsFailure, IsNoRefusal};
+ghost use Rattle.tb_answer.specs.Commanded.{HasFailed, IsFailure, IsNoRefusal, reply_for_export};
 ghost use Rattle.tb_answer.specs.Output.{IsWritten};
 ghost use Rattle.tb_answer.specs.Responses.{IsSent};
 ghost use Rattle.tb_answer.specs.Exported.{HasExport, RefusesExport, IsExportOutput, IsReportedOfExport};
@@ -55,6 +55,7 @@ fn export<S: Alter, W: Sink>(
 
 /// The reply for a fault of an export into memory, whose sink fails only for want of memory.
 fn reply_for_export(fault: Fault) -> Reply
+    ensures value { result ≡ reply_for_export fault }
     ensures refused { (r : AnyRefusal) → fault ≡ Fault.Refused r → result ≡ Reply.Refused r }
     ensures failed { IsNoRefusal fault → fault ≢ Fault.NotADesk → IsFailure (fault ≡ Fault.Device) result }
 {
