@@ -38,6 +38,22 @@ pub(crate) fn assert_same<T: Debug + PartialEq>(rt: &impl Abort, found: &T, want
     assert_eq!(rt; *found, *wanted, "of {of}");
 }
 
+/// Asserts the exit status of a check, and the line that it printed.
+pub(crate) fn assert_replied(
+    rt: &impl Abort,
+    alloc: Global,
+    status: u8,
+    printed: &[u8],
+    wanted: &str,
+) {
+    let line = str::from_utf8(printed)
+        .expect(rt, "error")
+        .strip_suffix('\n')
+        .expect(rt, "error: a line");
+    let replied = format!(in alloc; "{status} {line}").expect(rt, "error");
+    assert_text(rt, replied.as_str(), wanted, "a check");
+}
+
 /// The text with a line feed in the place of each `¶`, since a case is one line.
 pub(crate) fn unfolded(rt: &impl Abort, alloc: Global, text: &str) -> String {
     text.replace(alloc, '¶', "\n").expect(rt, "error")

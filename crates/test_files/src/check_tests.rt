@@ -1,20 +1,9 @@
 //! What `check` answers within a limit of bytes, and where a reader or a writer fails.
 
 use crate::broken::{BrokenReader, BrokenWriter};
-use crate::cases::{assert_same, assert_text};
+use crate::cases::{assert_replied, assert_same};
 use crate::files::DOGS_BARK;
-use std::alloc::Global;
-use std::process::Abort;
 use tb_check::{check_within, run_check};
-
-/// The status, and the line that was printed.
-fn reported(rt: &impl Abort, alloc: Global, status: u8, out: &[u8]) -> String {
-    let line = str::from_utf8(out)
-        .expect(rt, "error")
-        .strip_suffix('\n')
-        .expect(rt, "error: a line");
-    format!(in alloc; "{status} {line}").expect(rt, "error")
-}
 
 #[test]
 fn takes_so_many_bytes(rt: HostRuntime) {
@@ -23,12 +12,7 @@ fn takes_so_many_bytes(rt: HostRuntime) {
         let mut reader = DOGS_BARK.as_bytes();
         let mut out = Vec::new(alloc);
         let status = check_within(alloc, &mut reader, &mut out, limit);
-        assert_text(
-            &rt,
-            reported(&rt, alloc, status, &out).as_str(),
-            wanted,
-            "check_tests",
-        );
+        assert_replied(&rt, alloc, status, &out, wanted);
     }
 }
 
@@ -41,12 +25,7 @@ fn answers_where_a_read_or_a_write_fails(rt: HostRuntime) {
         };
         let mut out = Vec::new(alloc);
         let status = run_check(alloc, &mut reader, &mut out);
-        assert_text(
-            &rt,
-            reported(&rt, alloc, status, &out).as_str(),
-            "3 refused device",
-            "check_tests",
-        );
+        assert_replied(&rt, alloc, status, &out, "3 refused device");
     }
     for room in [0, 1, 19] {
         let mut reader = DOGS_BARK.as_bytes();

@@ -4,10 +4,9 @@ ghost use Rattle.std.specs.Prelude.{◌≡◌, ◌≤◌, [], length, map, vec_i
 ghost use Rattle.tb_check.specs.Check.{Answers, file_limit};
 ghost use Rattle.tb_check.specs.declared.reply.CheckReply.TheVariants.{Device};
 
-use crate::cases::{assert_same, assert_text};
+use crate::cases::{assert_replied, assert_same};
 use crate::files::DOGS_BARK;
 use std::alloc::Global;
-use std::process::Abort;
 use tb_check::{check_bytes, check_within, run_check};
 use tb_conllu::{Sink, Source, SourceFault};
 
@@ -76,15 +75,6 @@ fn check_cut<S: Sink>(alloc: Global, bytes: &[u8], out: &mut S) -> u8
     run_check(alloc, &mut Cut { bytes }, out)
 }
 
-/// The status, and the line that was printed.
-fn reported(rt: &impl Abort, alloc: Global, status: u8, out: &[u8]) -> String {
-    let line = str::from_utf8(out)
-        .expect(rt, "error")
-        .strip_suffix('\n')
-        .expect(rt, "error: a line");
-    format!(in alloc; "{status} {line}").expect(rt, "error")
-}
-
 /// A file that is cut off is a failed device, unless it is above the limit.
 #[test]
 fn a_source_that_is_cut_off(rt: HostRuntime) {
@@ -92,28 +82,13 @@ fn a_source_that_is_cut_off(rt: HostRuntime) {
     let file = DOGS_BARK.as_bytes();
     let mut out = Vec::new(alloc);
     let status = check_cut(alloc, file, &mut out);
-    assert_text(
-        &rt,
-        reported(&rt, alloc, status, &out).as_str(),
-        "3 refused device",
-        "source_tests",
-    );
+    assert_replied(&rt, alloc, status, &out, "3 refused device");
     let mut out = Vec::new(alloc);
     let status = check_within(alloc, &mut Cut { bytes: file }, &mut out, 149);
-    assert_text(
-        &rt,
-        reported(&rt, alloc, status, &out).as_str(),
-        "1 refused long",
-        "source_tests",
-    );
+    assert_replied(&rt, alloc, status, &out, "1 refused long");
     let mut out = Vec::new(alloc);
     let status = check_bytes(alloc, file, &mut out);
-    assert_text(
-        &rt,
-        reported(&rt, alloc, status, &out).as_str(),
-        "0 sentences 1 words 3",
-        "source_tests",
-    );
+    assert_replied(&rt, alloc, status, &out, "0 sentences 1 words 3");
 }
 
 /// A file is read to its end. A file above the limit is read up to the first byte above it.
@@ -133,12 +108,7 @@ fn a_source_that_counts_its_pieces(rt: HostRuntime) {
         };
         let mut out = Vec::new(alloc);
         let status = check_within(alloc, &mut source, &mut out, limit);
-        assert_text(
-            &rt,
-            reported(&rt, alloc, status, &out).as_str(),
-            wanted,
-            "source_tests",
-        );
+        assert_replied(&rt, alloc, status, &out, wanted);
         assert_same(&rt, &source.given.len(), &pieces, "source_tests");
     }
 }
