@@ -126,7 +126,7 @@ def long_sentence(words):
 
 
 def sizes_and_stops(driver):
-    """A tree of 1,000 words and 12,000 keyword lines are shown soon. A search can be stopped, and is no number then."""
+    """A tree of 1,000 words and 10,000 keyword lines are shown soon. A search can be stopped, and is no number then."""
     desk, browser = Desk(), driver.browser()
     desk.put("long", long_sentence(1000), *STEPS)
     desk.put("many", b"".join(sample("english").replace(b"en-", f"m{n}-".encode()) for n in range(3000)), *STEPS)
@@ -135,7 +135,7 @@ def sizes_and_stops(driver):
     board = time.monotonic() - begun
     begun = time.monotonic()
     browser.go(f"{desk.url}/#/sentence/1")
-    browser.see(".tree-picture .word:last-of-type .form", "word")
+    browser.see(".word[data-at='999'] .form", "word")
     tree = time.monotonic() - begun
     same("words of the tree", 1000, len(browser.all(".tree-picture .word")))
     browser.go(desk.url + "/#/search")
