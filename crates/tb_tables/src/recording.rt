@@ -1,6 +1,6 @@
 //! The last writes of every command: a move, and the totals that it changes.
 
-ghost use Rattle.std.specs.Prelude.{◌≡◌, ◌≤◌, length};
+ghost use Rattle.std.specs.Prelude.{◌≡◌, ◌≤◌, IsOk, length};
 ghost use Rattle.sqlite.specs.State.{Survives};
 ghost use Rattle.sqlite.specs.Held.{state};
 ghost use Rattle.tb_tables.specs.Values.{move_of, total_of};
@@ -26,13 +26,14 @@ pub struct MoveWrite {
     pub reached: TotalRow,
 }
 
-/// Writes the totals of a state. State 0 is none, and nothing is written for it.
+/// Writes the totals of a state. State 0 is none: nothing is written for it, which needs no memory.
 fn write_total<S: Alter>(
     tx: &mut Transaction<'_, S>,
     in_state: u32,
     total: &TotalRow,
 ) -> Result<(), Error>
     ensures same_reference { tx.new.conn.ghost_name ≡ tx.old.conn.ghost_name }
+    ensures none { in_state ≡ 0 → IsOk result }
     ensures ok { Turns S.Store tx.old.conn.now tx.new.conn.now result (λ d into. in_state ≤ length d.totals
         → AreStoredIn S.Store tx.old.conn.now d → into (with_total d in_state (total_of total.now))) }
     ensures fails { FailsInside IsStoreFault S.Store tx.old.conn.now tx.new.conn.now result (λ d fails.
