@@ -100,7 +100,7 @@ def corrects(driver, ann, desk):
     edit(ann, 0, 6, "9")
     ann.see(".hints", "HEAD of Small is no other word")
     edit(ann, 0, 6, "2")
-    ann.drag(*ann.all(".word .form")[:1], ann.all(".word .form")[4])
+    ann.drag(".word .form", 0, 4)
     ann.until("return document.querySelector('.grid tbody').rows[0].cells[6].textContent === '5'")
     edit(ann, 0, 6, "2")
     edit(ann, 0, 4, "JJR")

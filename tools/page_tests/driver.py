@@ -135,12 +135,22 @@ class Browser:
     def choose_file(self, css, path):
         self.call("POST", f"/element/{self.find(css)}/value", {"text": str(path)})
 
-    def drag(self, start, end):
-        """Drags with the mouse from one element to another."""
-        moves = [{"type": "pointerMove", "duration": 50, "x": 0, "y": 0, "origin": {ELEMENT: it}} for it in (start, end)]
-        actions = [moves[0], {"type": "pointerDown", "button": 0}, moves[1], {"type": "pointerUp", "button": 0}]
-        self.call("POST", "/actions", {"actions": [{"type": "pointer", "id": "mouse", "actions": actions}]})
-        self.call("DELETE", "/actions")
+    def drag(self, css, start, end):
+        """Drags with the mouse from one of these elements to another. They may have been drawn anew just now, so a few
+        times.
+        """
+        for attempt in range(5):
+            elements = self.all(css)
+            moves = [{"type": "pointerMove", "duration": 50, "x": 0, "y": 0, "origin": {ELEMENT: elements[at]}} for at in (start, end)]
+            actions = [moves[0], {"type": "pointerDown", "button": 0}, moves[1], {"type": "pointerUp", "button": 0}]
+            try:
+                self.call("POST", "/actions", {"actions": [{"type": "pointer", "id": "mouse", "actions": actions}]})
+                return self.call("DELETE", "/actions")
+            except Faulty:
+                if attempt == 4:
+                    raise
+                self.call("DELETE", "/actions")
+                time.sleep(0.5)
 
     def keys(self, *keys):
         """Presses keys one after the other where the focus is. `control+s` presses two together."""
