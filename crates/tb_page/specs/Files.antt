@@ -1,7 +1,13 @@
 -- The files of the page, as the folder page/ has them.
 use Rattle.std.specs.Prelude.{ℕ, List}
-use Rattle.tb_page.specs.declared.assets.TheConstants.{INDEX_HTML, PAGE_CSS, DESK_JS, CONLLU_JS, TREE_JS, EDIT_JS}
-use Rattle.tb_page.specs.declared.assets.TheConstants.{FIND_JS, PAGE_JS}
+use Rattle.tb_page.specs.declared.assets.conllu.TheConstants.{CONLLU_JS}
+use Rattle.tb_page.specs.declared.assets.desk.TheConstants.{DESK_JS}
+use Rattle.tb_page.specs.declared.assets.edit.TheConstants.{EDIT_JS}
+use Rattle.tb_page.specs.declared.assets.find.TheConstants.{FIND_JS}
+use Rattle.tb_page.specs.declared.assets.index.TheConstants.{INDEX_HTML}
+use Rattle.tb_page.specs.declared.assets.page.TheConstants.{PAGE_JS}
+use Rattle.tb_page.specs.declared.assets.style.TheConstants.{PAGE_CSS}
+use Rattle.tb_page.specs.declared.assets.tree.TheConstants.{TREE_JS}
 use Rattle.tb_page.specs.declared.heads.Kind.{Kind}
 use Rattle.tb_page.specs.declared.heads.Kind.TheVariants.{Html, Css, JavaScript}
 use Rattle.tb_page.specs.declared.paths.File.{File}
