@@ -2,9 +2,10 @@
 
 use crate::callers::Caller;
 use crate::causes::{Cause, PortCause};
-use crate::diagnostics::{Diagnostic, Outcome, put_memory};
+use crate::diagnostics::{Diagnostic, Outcome, put_memory, wants_words};
 use crate::patience::{Answer, has_changed};
 use crate::place::Place;
+use crate::viewing::DESKVIEW;
 use crate::waiting::Waiting;
 use sqlite::Alter;
 use std::alloc::Global;
@@ -108,6 +109,13 @@ fn announce<W: Write>(alloc: Global, port: u16, out: &mut W) -> Result<(), Reply
     }
 }
 
+/// Tells at a terminal where the page is, which a user opens next. A failure to print it is ignored.
+fn tell_address(rt: &HostRuntime, port: u16) {
+    if wants_words(rt) {
+        let _told = eprintln!(rt; "{}: open http://127.0.0.1:{}/ in a browser", DESKVIEW, port);
+    }
+}
+
 /// Listens on this port of loopback; for port 0 the system chooses one. Returns the port.
 fn listen(rt: &HostRuntime, port: u16) -> Result<(TcpListener, u16), PortCause> {
     match TcpListener::bind(rt, (Ipv4Addr::LOCALHOST, port)) {
@@ -187,6 +195,9 @@ pub(crate) fn serve<S: Alter, W: Write>(
         Err(reply) => return Outcome::from(put_reply(out, reply)),
     }
     let page = beside.page_at(chosen);
+    if let Some(port) = page {
+        tell_address(rt, port);
+    }
     match serve_all(rt, routes, desk, place, page, waiting, listener, requests) {
         Ok(()) => Outcome::from(0),
         Err(cause) => Outcome {
