@@ -112,7 +112,10 @@ fn announce<W: Write>(alloc: Global, port: u16, out: &mut W) -> Result<(), Reply
 /// Tells at a terminal where the page is, which a user opens next. A failure to print it is ignored.
 fn tell_address(rt: &HostRuntime, port: u16) {
     if wants_words(rt) {
-        let _told = eprintln!(rt; "{}: open http://127.0.0.1:{}/ in a browser", DESKVIEW, port);
+        let _told = eprintln!(rt;
+            "{}: open http://127.0.0.1:{}/ in a browser",
+            DESKVIEW, port
+        );
     }
 }
 
