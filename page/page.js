@@ -6,7 +6,8 @@ import {
   COLUMNS, EVENTS, LONGEST_BODY, RELATIONS, STATES, TAGS, ask, button, el, heads, isName, isStep, lastMove, mayAsk, mayCorrect,
   meaning, number, own, pages, plain, plural, prose, refusal, table, wide,
 } from './desk.js';
-import { comment, faultLine, hints, merged, repaired, rowsOf, withField } from './conllu.js';
+import { faultLine, hints, merged, repaired, withField } from './conllu.js';
+import { comment, rowsOf } from './rows.js';
 import { drawTree } from './tree.js';
 import { Editor, besides } from './edit.js';
 import { Finder } from './find.js';

@@ -267,6 +267,7 @@ export function drawTree(rows, { isEnhanced, hit, onPick, onHead }) {
   const isHit = row => hit && row.kind === 'word' && row.first >= hit[0] && row.first <= hit[1];
   const picture = svg('svg', {
     width: Math.ceil(place.width), height: Math.ceil(place.height), class: 'tree-picture',
+    viewBox: `0 0 ${Math.ceil(place.width)} ${Math.ceil(place.height)}`,
     role: 'list', 'aria-label': `Dependency tree, ${place.nodes.length} words`,
   });
   const lines = svg('g', { class: 'arcs', 'aria-hidden': 'true' }), labels = svg('g', { 'aria-hidden': 'true' });

@@ -1,8 +1,10 @@
 """How the page looks: narrow and dark windows, names for a screen reader, and how long large things take."""
 
+import pathlib
+import subprocess
 import time
 
-from page_tests.desk import Desk, STEPS, holds, same, sample
+from page_tests.desk import Desk, STEPS, asked, holds, same, sample
 from page_tests.driver import ELEMENT
 from page_tests.page import at_board, at_sentence, is_quiet, say_who, says, shot
 
@@ -157,4 +159,32 @@ def sizes_and_stops(driver):
     desk.close()
 
 
-PARTS = [narrow_and_dark, for_screen_readers, sizes_and_stops]
+HOSTILE = (b"# sent_id = tags\n# text = a </pre><script>document.title='run'</script> &lt;\n"
+           b"1\ta\ta\tX\t_\t_\t0\troot\t0:root\t_\n2\t</pre><script>document.title='run'</script>\t_\tSYM\t_\t_\t1\tdep\t1:dep\t_\n"
+           b"3\t&lt;\t&amp;\tSYM\t_\t_\t1\tdep\t1:dep\t_\n\n")
+
+
+def handouts(driver):
+    """What `deskview tree` prints is a page that stands alone: a tree, and no text that runs."""
+    desk, browser = Desk(), driver.browser()
+    desk.put("tags", HOSTILE)
+    desk.put("news", sample("english"))
+    desk.put("rtl", sample("arabic"))
+    desk.process.terminate()
+    desk.process.wait(10)
+    for number, forms in (1, ["a", "</pre><script>document.title='run'</script>", "&lt;"]), (2, ["Small", "dogs", "do", "n't", "bark", "."]):
+        page = pathlib.Path(desk.folder.name) / f"{number}.html"
+        page.write_bytes(subprocess.run([asked.view, "tree", "--db", desk.path, str(number)], check=True, capture_output=True).stdout)
+        browser.go(page.as_uri())
+        browser.see(".word .form", forms[0])
+        same("forms of the tree", forms, browser.texts(".word .form"))
+        same("its title", "Dependency trees", browser.run("return document.title"))
+        same("arcs, one for each word but the root", len(forms) - 1, len(browser.all(".arcs path[data-from]")))
+        same("the button for enhanced relations is there where there are any", number == 1, browser.run("return document.getElementById('enhanced').checkVisibility()"))
+        same("texts with little contrast", [], browser.run(PALE))
+        shot(browser, f"handout-{number}")
+    browser.run("document.getElementById('enhanced').click()")
+    Desk.open.remove(desk)
+
+
+PARTS = [narrow_and_dark, for_screen_readers, sizes_and_stops, handouts]

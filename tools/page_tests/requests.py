@@ -13,7 +13,7 @@ import urllib.parse
 from page_tests.desk import Desk, ROOT, STEPS, asked, holds, same, sample, tally
 
 TYPES = {".html": "text/html", ".css": "text/css", ".js": "text/javascript"}
-FILES = {"/": "index.html", **{f"/page/{name}": name for name in ("page.css", "desk.js", "conllu.js", "tree.js", "edit.js", "find.js", "page.js")}}
+FILES = {"/": "index.html", **{f"/page/{name}": name for name in ("page.css", "desk.js", "rows.js", "conllu.js", "tree.js", "edit.js", "find.js", "page.js")}}
 OWN_FIELDS = [
     "Content-Security-Policy: default-src 'none'; script-src 'self'; style-src 'self'; connect-src 'self'; img-src data:; base-uri 'none'; "
     "form-action 'none'; frame-ancestors 'none'; require-trusted-types-for 'script'; trusted-types 'none'",

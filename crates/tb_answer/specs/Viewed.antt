@@ -6,13 +6,14 @@ use Rattle.tb_core.specs.declared.refusals.Refusal.TheVariants.{NoSuchSentence}
 use Rattle.tb_core.specs.Machine.{Machine}
 use Rattle.tb_http.specs.declared.replies.Reply.{Reply}
 use Rattle.tb_http.specs.declared.replies.Reply.TheVariants as reply
-use Rattle.tb_cli.specs.View.{Listed, batches, sentences, revisions, find}
+use Rattle.tb_cli.specs.View.{Listed, batches, sentences, revisions, find, tree}
 use Rattle.tb_lists.specs.Batches.{batch_lines}
 use Rattle.tb_lists.specs.Csv.{batches_csv, found_csv, revisions_csv, sentences_csv}
 use Rattle.tb_lists.specs.Found.{FoundText, IsFound}
 use Rattle.tb_lists.specs.Revisions.{RevisionText, AreRevisions}
 use Rattle.tb_lists.specs.Sentences.{SentenceText, AreSentences}
-use Rattle.tb_store.specs.Answers.{HasNoSentence, RefusesId}
+use Rattle.tb_report.specs.Trees.{trees_page}
+use Rattle.tb_store.specs.Answers.{HasNoSentence, IsCurrent, RefusesId}
 use Rattle.tb_store.specs.Exports.{RefusesBatch}
 use Rattle.tb_answer.specs.Commanded.{IsFailure}
 
@@ -28,12 +29,17 @@ IsRevisionsText s n text = (lines : List RevisionText) × AreRevisions s n lines
 abbrev pub IsFoundText : Machine → (sent_id : List ℕ) → List ℕ → Type 0
 IsFoundText s id text = (line : FoundText) × IsFound s id line × (text ≡ found_csv line)
 
+-- the page of the tree of this sentence's current revision
+abbrev pub IsTreeText : Machine → ℕ → List ℕ → Type 0
+IsTreeText s n text = (k : ℕ) × (body : List ℕ) × IsCurrent s n k body × (text ≡ trees_page body)
+
 -- the text of a list in a state
 abbrev pub IsView : Machine → Listed → List ℕ → Type 0
 IsView s batches text = text ≡ batches_csv (batch_lines s)
 IsView s (sentences name) text = IsSentencesText s name text
 IsView s (revisions n) text = IsRevisionsText s n text
 IsView s (find id) text = IsFoundText s id text
+IsView s (tree n) text = IsTreeText s n text
 
 -- the refusal of a list in a state
 abbrev pub RefusesView : Machine → Listed → Refusal → Type 0
@@ -41,6 +47,7 @@ RefusesView s batches r = ⊥
 RefusesView s (sentences name) r = RefusesBatch s name (Refused r)
 RefusesView s (revisions n) r = (r ≡ NoSuchSentence) × HasNoSentence s n
 RefusesView s (find id) r = RefusesId s id (Refused r)
+RefusesView s (tree n) r = (r ≡ NoSuchSentence) × HasNoSentence s n
 
 -- the list is one of a sentence whose number no sentence has
 abbrev pub ViewsNone : Machine → Listed → Type 0
@@ -48,6 +55,7 @@ ViewsNone s batches = ⊥
 ViewsNone s (sentences name) = ⊥
 ViewsNone s (revisions n) = HasNoSentence s n
 ViewsNone s (find id) = ⊥
+ViewsNone s (tree n) = HasNoSentence s n
 
 -- the answer in place of a list: a refusal that is so, or a failure of the call with this cause
 abbrev pub IsReportedAs : (cause : Type 0) → (Refusal → Type 0) → Reply → Type 0

@@ -1,4 +1,4 @@
-//! The lists that `deskview` shows, as CSV.
+//! The lists that `deskview` shows, as CSV, and the tree of a sentence.
 
 ghost use Rattle.std.specs.Prelude.{◌≡◌, Err, IfOk, IfErr, Some};
 ghost use Rattle.tb_core.specs.declared.refusals.Fault.TheVariants.{Refused};
@@ -10,13 +10,15 @@ ghost use Rattle.tb_answer.specs.Asked.{IsReportedOf};
 ghost use Rattle.tb_answer.specs.Commanded.{HasFailed, IsFailure};
 ghost use Rattle.tb_answer.specs.Exported.{IsReportedOfExport};
 ghost use Rattle.tb_answer.specs.Calls.{ReadsOnly};
-ghost use Rattle.tb_answer.specs.Viewed.{IsFoundText, IsReportedAs, IsRevisionsText, IsSentencesText, IsView};
-ghost use Rattle.tb_answer.specs.Viewed.{IsViewReported, ViewsNone};
+ghost use Rattle.tb_answer.specs.Viewed.{IsFoundText, IsReportedAs, IsRevisionsText, IsSentencesText, IsTreeText};
+ghost use Rattle.tb_answer.specs.Viewed.{IsView, IsViewReported, ViewsNone};
+ghost use Rattle.tb_report.specs.Trees.{trees_page};
 ghost use Rattle.tb_store.specs.Answers.{HasNoSentence, RefusesId};
 ghost use Rattle.tb_store.specs.Calls.{Gives, GivesOnErr, KeepsState};
 ghost use Rattle.tb_store.specs.Represents.{Represents};
 ghost use Rattle.tb_tables.specs.Leaving.{CommitsNothing};
 
+use crate::bodies::sentence;
 use crate::commands::reply_for_fault;
 use crate::questions::Question;
 use sqlite::Alter;
@@ -28,6 +30,7 @@ use tb_lists::{
     BatchLine, FoundLine, RevisionLine, SentenceLine, csv_batches, csv_found, csv_revisions,
     csv_sentences,
 };
+use tb_report::trees_page;
 use tb_store::Desk;
 
 /// Batches as CSV.
@@ -161,7 +164,39 @@ pub fn view_found<S: Alter>(
     }
 }
 
-/// A list that `deskview` prints.
+/// The page of a sentence's tree.
+fn tree_text(alloc: Global, conllu: &str) -> Result<Vec<u8>, Reply>
+    ensures text { IfOk result (λ v. v.items ≡ trees_page conllu.now) }
+    ensures failed { IfErr result (λ r. r ≡ Reply.Memory) }
+{
+    match trees_page(alloc, conllu.as_bytes()) {
+        Ok(page) => Ok(page),
+        Err(_) => Err(Reply::Memory),
+    }
+}
+
+/// The tree of the current revision of the sentence with this number, from 1, as a page that stands alone.
+///
+/// # Errors
+///
+/// `NoSuchSentence`, or a failure.
+fn tree<S: Alter>(alloc: Global, desk: &mut Desk<S>, number: u64) -> Result<Vec<u8>, Reply>
+    ensures answered { Gives S.Store desk.old desk.new result (λ s v. IsTreeText s number v.items) }
+    ensures missing { (s : Machine) → Represents S.Store desk.old s → HasNoSentence s number
+        → result ≡ Err (Reply.Refused Refusal.NoSuchSentence) }
+    ensures reported { GivesOnErr S.Store desk.old desk.new result (λ s r.
+        IsReportedOf (HasFailed S.Store desk.old desk.new) s (Question.Sentence number) r) }
+    ensures keeps_state { KeepsState S.Store desk.old desk.new }
+    ensures crash { ReadsOnly S.Store desk.old desk.new }
+    ensures limits { desk.new.limits ≡ desk.old.limits }
+{
+    match sentence(desk, number) {
+        Ok(current) => tree_text(alloc, current.body.as_str()),
+        Err(reply) => Err(reply),
+    }
+}
+
+/// What `deskview` prints of a desk: a list or a tree.
 ///
 /// # Errors
 ///
@@ -181,5 +216,6 @@ pub fn view<S: Alter>(alloc: Global, list: &ViewList, desk: &mut Desk<S>) -> Res
         ViewList::Sentences { name } => view_sentences(alloc, desk, name.as_str()),
         ViewList::Revisions { no } => revisions(alloc, desk, *no),
         ViewList::Find { sent_id } => view_found(alloc, desk, sent_id.as_str()),
+        ViewList::Tree { no } => tree(alloc, desk, *no),
     }
 }

@@ -31,21 +31,25 @@ abbrev pub lists_app : App
 lists_app =
     with_subcommand (with_subcommand (with_subcommand view_top batches_app.top) sentences_app.top) revisions_app.top
 
+abbrev pub tree_app : App
+tree_app = with_rule (with_db (new_app (codes "tree"))) (word_rule (codes "no"))
+
 -- the page needs a port
 abbrev pub page_app : App
 page_app = with_rule (with_db (new_app (codes "page"))) (needed_rule (codes "port"))
 
 -- the whole command
 unfoldable pub view_app : App
-view_app = with_subcommand (with_subcommand lists_app find_app.top) page_app.top
+view_app = with_subcommand (with_subcommand (with_subcommand lists_app find_app.top) tree_app.top) page_app.top
 
 -- a list, as plain data: the batches, the sentences of the batch with a name, the revisions of the sentence with a
--- number, or the sentence with a `sent_id`
+-- number, the sentence with a `sent_id`, or the tree of the sentence with a number
 pub data Listed : Type 0 where
   batches : Listed
   sentences : Text → Listed
   revisions : ℕ → Listed
   find : Text → Listed
+  tree : ℕ → Listed
 
 -- a command line as plain data; the first text is the value of --db
 pub data Viewed : Type 0 where
@@ -64,6 +68,9 @@ revisions_of db n = lists db (revisions n)
 abbrev pub find_of : Text → Text → Viewed
 find_of db id = lists db (find id)
 
+abbrev pub tree_of : Text → ℕ → Viewed
+tree_of db n = lists db (tree n)
+
 -- what the command `sentences` says with its values
 abbrev pub sentences_with : List Row → Option Viewed
 sentences_with rows =
@@ -77,6 +84,10 @@ revisions_with rows = with_two revisions_of (first_of (codes "db") rows) (formed
 abbrev pub find_with : List Row → Option Viewed
 find_with rows = with_two find_of (first_of (codes "db") rows) (first_of (codes "sent_id") rows)
 
+-- what the command `tree` says with its values
+abbrev pub tree_with : List Row → Option Viewed
+tree_with rows = with_two tree_of (first_of (codes "db") rows) (formed number_of (first_of (codes "no") rows))
+
 -- what the command `page` says with its values
 abbrev pub page_with : List Row → Option Viewed
 page_with rows = with_two page (first_of (codes "db") rows) (formed port_of (first_of (codes "port") rows))
@@ -88,6 +99,7 @@ viewed_with word rows =
     else if bytes_eq word (codes "sentences") then sentences_with rows
     else if bytes_eq word (codes "revisions") then revisions_with rows
     else if bytes_eq word (codes "find") then find_with rows
+    else if bytes_eq word (codes "tree") then tree_with rows
     else if bytes_eq word (codes "page") then page_with rows
     else None
 
@@ -101,6 +113,7 @@ listed_by list.Batches = batches
 listed_by (list.Sentences name) = sentences (string_bytes name)
 listed_by (list.Revisions n) = revisions n
 listed_by (list.Find sent_id) = find (string_bytes sent_id)
+listed_by (list.Tree n) = tree n
 
 -- the line of the code, as plain data
 abbrev pub viewed_by : ViewLine → Viewed

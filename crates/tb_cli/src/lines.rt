@@ -86,6 +86,8 @@ pub enum ViewList {
     Revisions { no: u64 },
     /// The sentence with this `sent_id`.
     Find { sent_id: String },
+    /// The tree of the sentence with this number.
+    Tree { no: u64 },
 }
 
 /// A command of `deskview` with its values. Each reads the desk in a file.

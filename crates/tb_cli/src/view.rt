@@ -4,8 +4,8 @@ ghost use Rattle.std.specs.Prelude.{◌≡◌, ◌≢◌, IfOk, IfErr, codes, tr
 ghost use Rattle.std.specs.String.{string_bytes};
 ghost use Rattle.clap.specs.Words.{takes, fault_of, subcommand_of, subcommand_rows_of, rows_of, found_of, first_of};
 ghost use Rattle.tb_cli.specs.Fault.{AnswersAs, ComesOnly, ReadsAs};
-ghost use Rattle.tb_cli.specs.View.{find_with, page_with, revisions_with, sentences_with, view_app, viewed_by};
-ghost use Rattle.tb_cli.specs.View.{viewed_of, viewed_with};
+ghost use Rattle.tb_cli.specs.View.{find_with, page_with, revisions_with, sentences_with, tree_with, view_app};
+ghost use Rattle.tb_cli.specs.View.{viewed_by, viewed_of, viewed_with};
 
 use crate::lines::{LineFault, ViewLine, ViewList};
 use crate::reading::{entered, found_by};
@@ -67,6 +67,17 @@ fn find(alloc: Global, values: &ArgMatches<'_>) -> Result<ViewLine, LineFault>
     })
 }
 
+fn tree(alloc: Global, values: &ArgMatches<'_>) -> Result<ViewLine, LineFault>
+    ensures { ReadsAs (tree_with (rows_of (found_of values.now))) viewed_by result }
+{
+    let number = given(number_in(values, "no"))?;
+    let db = file_in(alloc, values)?;
+    Ok(ViewLine::List {
+        db,
+        list: ViewList::Tree { no: number },
+    })
+}
+
 fn page(alloc: Global, values: &ArgMatches<'_>) -> Result<ViewLine, LineFault>
     ensures { ReadsAs (page_with (rows_of (found_of values.now))) viewed_by result }
 {
@@ -91,6 +102,8 @@ fn line_of(alloc: Global, word: &str, values: &ArgMatches<'_>) -> Result<ViewLin
         revisions(alloc, values)
     } else if is_word(word, "find") {
         find(alloc, values)
+    } else if is_word(word, "tree") {
+        tree(alloc, values)
     } else if is_word(word, "page") {
         page(alloc, values)
     } else {

@@ -7,10 +7,11 @@ Examples:
   deskview sentences --db desk.db news
   deskview revisions --db desk.db 7
   deskview find --db desk.db en-7
+  deskview tree --db desk.db 7 > tree.html
   deskview page --db desk.db --port 8080
 
-Each command reads the desk in the file that --db names. `page` shows it in a browser until you end the program; the others
-print a list as CSV, and change nothing of the desk.
+Each command reads the desk in the file that --db names. `page` shows it in a browser until you end the program, and
+`tree` prints a page for a browser. The others print a list as CSV. All but `page` change nothing of the desk.
 `deskview help COMMAND` shows what a command takes and prints, with an example.
 
 Exit status:
@@ -55,6 +56,15 @@ Columns: no, batch, rev, words, pulled. `no` is the number that `treedesk show` 
 the batch, `rev` is the number of the current revision, `words` counts its words, and `pulled` is `yes` or `no`.
 
 Example: deskview find --db desk.db en-7
+
+Exit status: 0 done, 1 refused, 2 wrong words, 3 out of memory or an I/O error.";
+
+/// The end of the help of `tree`.
+pub const TREE: &str = "\
+Prints a page of HTML, which stands alone: it draws the dependency tree of the sentence's current revision, and asks no
+other file or computer for anything. Print it from a browser, as a handout.
+
+Example: deskview tree --db desk.db 7 > tree.html
 
 Exit status: 0 done, 1 refused, 2 wrong words, 3 out of memory or an I/O error.";
 

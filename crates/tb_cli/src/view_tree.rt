@@ -1,13 +1,13 @@
 //! The commands of `deskview`, declared to clap.
 
-ghost use Rattle.std.specs.Prelude.{◌≡◌, IfOk};
-ghost use Rattle.clap.specs.Words.{app_of, new_app};
-ghost use Rattle.tb_cli.specs.Tree.{with_db, IsKnownAs};
+ghost use Rattle.std.specs.Prelude.{◌≡◌, IfOk, codes};
+ghost use Rattle.clap.specs.Words.{app_of, new_app, with_rule};
+ghost use Rattle.tb_cli.specs.Tree.{with_db, word_rule, IsKnownAs};
 ghost use Rattle.tb_cli.specs.View.{batches_app, find_app, lists_app, page_app, revisions_app, sentences_app};
-ghost use Rattle.tb_cli.specs.View.{view_app, view_top};
+ghost use Rattle.tb_cli.specs.View.{tree_app, view_app, view_top};
 
 use crate::tree::{VERSION, needed, option, with, with_sub, word};
-use crate::view_help::{BATCHES, ENDING, FIND, PAGE, REVISIONS, SENTENCES};
+use crate::view_help::{BATCHES, ENDING, FIND, PAGE, REVISIONS, SENTENCES, TREE};
 use clap::Command;
 use std::alloc::{AllocError, Global};
 
@@ -17,7 +17,7 @@ fn top<'a>(alloc: Global) -> Command<'a>
 {
     Command::new(alloc, "deskview")
         .version(VERSION)
-        .about("Lists of what a treebank desk holds, and the desk in a browser")
+        .about("Lists and trees of what a treebank desk holds, and the desk in a browser")
         .after_help(ENDING)
 }
 
@@ -41,6 +41,19 @@ fn reading<'a>(
     )
 }
 
+/// A command that reads the sentence with a number.
+fn reading_one<'a>(
+    alloc: Global,
+    name: &'a str,
+    about: &'a str,
+    ending: &'a str,
+) -> Result<Command<'a>, AllocError>
+    ensures { IfOk result (IsKnownAs (with_rule (with_db (new_app name.entry.now)) (word_rule (codes "no")))) }
+{
+    let command = reading(alloc, name, about, ending)?;
+    with(command, word(alloc, "no", "The number of the sentence"))
+}
+
 fn batches<'a>(alloc: Global) -> Result<Command<'a>, AllocError>
     ensures { IfOk result (IsKnownAs batches_app) }
 {
@@ -60,8 +73,7 @@ fn revisions<'a>(alloc: Global) -> Result<Command<'a>, AllocError>
     ensures { IfOk result (IsKnownAs revisions_app) }
 {
     let about = "List the revisions of a sentence, each with its user and the move that made it";
-    let command = reading(alloc, "revisions", about, REVISIONS)?;
-    with(command, word(alloc, "no", "The number of the sentence"))
+    reading_one(alloc, "revisions", about, REVISIONS)
 }
 
 fn find<'a>(alloc: Global) -> Result<Command<'a>, AllocError>
@@ -73,6 +85,13 @@ fn find<'a>(alloc: Global) -> Result<Command<'a>, AllocError>
         command,
         word(alloc, "sent_id", "The sent_id, as hits have it"),
     )
+}
+
+fn tree<'a>(alloc: Global) -> Result<Command<'a>, AllocError>
+    ensures { IfOk result (IsKnownAs tree_app) }
+{
+    let about = "Draw the dependency tree of a sentence, as a page for a browser";
+    reading_one(alloc, "tree", about, TREE)
 }
 
 fn page<'a>(alloc: Global) -> Result<Command<'a>, AllocError>
@@ -101,6 +120,7 @@ pub fn deskview<'a>(alloc: Global) -> Result<Command<'a>, AllocError>
     ensures { IfOk result (λ r. app_of r ≡ view_app) }
 {
     let command = with_sub(lists(alloc)?, find(alloc)?)?;
+    let command = with_sub(command, tree(alloc)?)?;
     let command = with_sub(command, page(alloc)?)?;
     Ok(command)
 }

@@ -1,13 +1,14 @@
 -- The files of the page, as the folder page/ has them.
 use Rattle.std.specs.Prelude.{ℕ, List}
+use Rattle.tb_report.specs.declared.assets.rows.TheConstants.{ROWS_JS}
+use Rattle.tb_report.specs.declared.assets.style.TheConstants.{PAGE_CSS}
+use Rattle.tb_report.specs.declared.assets.tree.TheConstants.{TREE_JS}
 use Rattle.tb_page.specs.declared.assets.conllu.TheConstants.{CONLLU_JS}
 use Rattle.tb_page.specs.declared.assets.desk.TheConstants.{DESK_JS}
 use Rattle.tb_page.specs.declared.assets.edit.TheConstants.{EDIT_JS}
 use Rattle.tb_page.specs.declared.assets.find.TheConstants.{FIND_JS}
 use Rattle.tb_page.specs.declared.assets.index.TheConstants.{INDEX_HTML}
 use Rattle.tb_page.specs.declared.assets.page.TheConstants.{PAGE_JS}
-use Rattle.tb_page.specs.declared.assets.style.TheConstants.{PAGE_CSS}
-use Rattle.tb_page.specs.declared.assets.tree.TheConstants.{TREE_JS}
 use Rattle.tb_page.specs.declared.heads.Kind.{Kind}
 use Rattle.tb_page.specs.declared.heads.Kind.TheVariants.{Html, Css, JavaScript}
 use Rattle.tb_page.specs.declared.paths.File.{File}
@@ -18,6 +19,7 @@ abbrev pub file_text : File → List ℕ
 file_text file.Index = INDEX_HTML.now
 file_text file.Style = PAGE_CSS.now
 file_text file.Desk = DESK_JS.now
+file_text file.Rows = ROWS_JS.now
 file_text file.Conllu = CONLLU_JS.now
 file_text file.Tree = TREE_JS.now
 file_text file.Edit = EDIT_JS.now

@@ -23,6 +23,7 @@ file_at path =
     if bytes_eq path (codes "/") then Some file.Index
     else if bytes_eq path (codes "/page/page.css") then Some file.Style
     else if bytes_eq path (codes "/page/desk.js") then Some file.Desk
+    else if bytes_eq path (codes "/page/rows.js") then Some file.Rows
     else if bytes_eq path (codes "/page/conllu.js") then Some file.Conllu
     else if bytes_eq path (codes "/page/tree.js") then Some file.Tree
     else if bytes_eq path (codes "/page/edit.js") then Some file.Edit

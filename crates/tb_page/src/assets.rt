@@ -1,5 +1,5 @@
 //! The files of the page, each as a constant in a module of its own. `tools/page --write` makes these from the folder
-//! page/.
+//! page/. Those of the tree are in tb_report.
 
 mod conllu;
 mod desk;
@@ -7,8 +7,6 @@ mod edit;
 mod find;
 mod index;
 mod page;
-mod style;
-mod tree;
 
 pub(crate) use conllu::CONLLU_JS;
 pub(crate) use desk::DESK_JS;
@@ -16,5 +14,3 @@ pub(crate) use edit::EDIT_JS;
 pub(crate) use find::FIND_JS;
 pub(crate) use index::INDEX_HTML;
 pub(crate) use page::PAGE_JS;
-pub(crate) use style::PAGE_CSS;
-pub(crate) use tree::TREE_JS;

@@ -1,8 +1,9 @@
 //! The files of the page.
 
-use crate::assets::{CONLLU_JS, DESK_JS, EDIT_JS, FIND_JS, INDEX_HTML, PAGE_CSS, PAGE_JS, TREE_JS};
+use crate::assets::{CONLLU_JS, DESK_JS, EDIT_JS, FIND_JS, INDEX_HTML, PAGE_JS};
 use crate::heads::Kind;
 use crate::paths::File;
+use tb_report::{PAGE_CSS, ROWS_JS, TREE_JS};
 
 impl File {
     ghost use Rattle.std.specs.Prelude.{◌≡◌};
@@ -16,6 +17,7 @@ impl File {
             File::Index => INDEX_HTML,
             File::Style => PAGE_CSS,
             File::Desk => DESK_JS,
+            File::Rows => ROWS_JS,
             File::Conllu => CONLLU_JS,
             File::Tree => TREE_JS,
             File::Edit => EDIT_JS,

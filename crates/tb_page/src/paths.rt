@@ -15,6 +15,8 @@ pub enum File {
     Style,
     /// `/page/desk.js`
     Desk,
+    /// `/page/rows.js`
+    Rows,
     /// `/page/conllu.js`
     Conllu,
     /// `/page/tree.js`
@@ -50,6 +52,8 @@ pub(crate) fn file_at(path: &[u8]) -> Option<File>
         Some(File::Style)
     } else if path == b"/page/desk.js".as_slice() {
         Some(File::Desk)
+    } else if path == b"/page/rows.js".as_slice() {
+        Some(File::Rows)
     } else if path == b"/page/conllu.js".as_slice() {
         Some(File::Conllu)
     } else if path == b"/page/tree.js".as_slice() {

@@ -12,3 +12,5 @@ pub mod HitTexts
 pub mod CsvRows
 pub mod Parts
 pub mod Unwrapped
+pub mod Escapes
+pub mod Grown

@@ -1,7 +1,8 @@
-//! Laws of frequency tables. Each function does nothing: its contract is the law.
+//! Laws of frequency tables, and of pages of trees. Each function does nothing: its contract is the law.
 
 ghost use Rattle.std.specs.Prelude.{◌≡◌, ℕ, ◌+◌, List, ◌++◌, length};
 ghost use Rattle.std.specs.List.Sorted.{IsPermutation};
+ghost use Rattle.tb_report.specs.Trees.{BeginsNoTag, escaped};
 ghost use Rattle.tb_report.specs.Tables.{IsRankingOf, IsTable, IsTableOf, Row, count_in, total_of};
 
 /// A list of keys has exactly one table.
@@ -32,4 +33,9 @@ pub fn counts_sum_to_keys()
 pub fn table_has_one_ranking()
     ensures { (table rows others : List Row) → IsRankingOf table rows → IsRankingOf table others
         → rows ≡ others }
+{}
+
+/// In a page of trees no text of a sentence begins a tag, so a browser runs none of it.
+pub fn sentences_begin_no_tag()
+    ensures { (text : List ℕ) → BeginsNoTag (escaped text) }
 {}

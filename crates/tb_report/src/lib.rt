@@ -1,22 +1,27 @@
-//! Reports what a search found: keyword lines, keys of hits, frequency tables and CSV.
+//! Reports what a search found: keyword lines, keys of hits, frequency tables and CSV. It also makes the page of a
+//! sentence's tree.
 //!
 //! Read `specs/Keywords.antt` and `specs/Tables.antt` first. Then read `kwic` in `keyword.rt` and `Freq` in
 //! `freq.rt`.
 #![tactic(auto)]
 
+mod assets;
 mod counts;
 mod csvs;
 mod fault;
 mod freq;
 mod keyword;
 mod laws;
+mod trees;
 mod words;
 
+pub use assets::{PAGE_CSS, ROWS_JS, TREE_JS};
 pub use csvs::{csv_freq, csv_moves, csv_totals};
 pub use fault::ReportFault;
 pub use freq::Freq;
 pub use keyword::{key, kwic, kwic_named};
 pub use laws::{
-    counts_sum_to_keys, keys_have_one_table, order_of_keys_is_nothing, table_has_one_ranking,
-    tables_add_up,
+    counts_sum_to_keys, keys_have_one_table, order_of_keys_is_nothing, sentences_begin_no_tag,
+    table_has_one_ranking, tables_add_up,
 };
+pub use trees::trees_page;

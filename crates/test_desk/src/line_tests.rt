@@ -177,6 +177,8 @@ const VIEW_LINES: &str = "\
     sentences a␣b --db=F => List { db: \"F\", list: Sentences { name: \"a b\" } }\n\
     revisions --db F 7 => List { db: \"F\", list: Revisions { no: 7 } }\n\
     revisions 9999999999 --db=F => List { db: \"F\", list: Revisions { no: 9999999999 } }\n\
+    tree --db F 7 => List { db: \"F\", list: Tree { no: 7 } }\n\
+    tree 9999999999 --db=F => List { db: \"F\", list: Tree { no: 9999999999 } }\n\
     find --db F en-1 => List { db: \"F\", list: Find { sent_id: \"en-1\" } }\n\
     find a␣b/c --db=F => List { db: \"F\", list: Find { sent_id: \"a b/c\" } }\n\
     find --db F -- -1 => List { db: \"F\", list: Find { sent_id: \"-1\" } }\n\

@@ -8,7 +8,8 @@ pub const EDIT_JS: &str = r##"// The editor of a sentence: as a table, and as te
 // There is one text. The table shows its rows, and each change of a cell is a change of the text.
 
 import { COLUMNS, button, el, heads } from './desk.js';
-import { diff, rowsOf, withField, withWord, withoutRow } from './conllu.js';
+import { diff, withField, withWord, withoutRow } from './conllu.js';
+import { rowsOf } from './rows.js';
 
 const LISTS = { UPOS: 'tags', DEPREL: 'relations' };
 const PAGE = 15;

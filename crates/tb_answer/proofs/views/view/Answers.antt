@@ -38,3 +38,16 @@ returns-in-Find-clause-reported g c clean =
     let id : c.as_str-in-Find.result.now ≡ string_bytes c.in-Find.sent_id = search rules in
     subst (λ l. IfErr c.view_found.result (λ r. (s : Machine) → Represents g.S.Store c.args.desk.now s → IsViewReported (HasFailed g.S.Store c.args.desk.now c.view_found.new.desk) s (listed_by l) r)) (sym c.in-Find.is)
     (subst (λ n. IfErr c.view_found.result (λ r. (s : Machine) → Represents g.S.Store c.args.desk.now s → IsReportedAs (HasFailed g.S.Store c.args.desk.now c.view_found.new.desk) (λ why. RefusesId s n (Refused why)) r)) id (c.view_found.ensures.reported clean))
+
+pub returns-in-Tree-clause-answered : goal.returns-in-Tree-clause-answered
+returns-in-Tree-clause-answered g c clean =
+    subst (λ l. IfOk c.tree.result (λ v. (s : Machine) → Represents g.S.Store c.args.desk.now s → IsView s (listed_by l) v.items)) (sym c.in-Tree.is)
+    (c.tree.ensures.answered clean)
+
+pub returns-in-Tree-clause-missing : goal.returns-in-Tree-clause-missing
+returns-in-Tree-clause-missing g c s stands lacks = c.tree.ensures.missing s stands (subst (λ l. ViewsNone s (listed_by l)) c.in-Tree.is lacks)
+
+pub returns-in-Tree-clause-reported : goal.returns-in-Tree-clause-reported
+returns-in-Tree-clause-reported g c clean =
+    subst (λ l. IfErr c.tree.result (λ r. (s : Machine) → Represents g.S.Store c.args.desk.now s → IsViewReported (HasFailed g.S.Store c.args.desk.now c.tree.new.desk) s (listed_by l) r)) (sym c.in-Tree.is)
+    (c.tree.ensures.reported clean)

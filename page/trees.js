@@ -1,0 +1,45 @@
+// A page of trees, as a handout.
+//
+// Each sentence of the CoNLL-U in the page becomes a tree. A tree is drawn when it comes near the window, or before all is printed. Without a script the page shows the CoNLL-U.
+
+const source = document.getElementById('conllu'), enhanced = document.getElementById('enhanced');
+
+const hasDeps = row => row.fields.length === COLUMN_COUNT && row.fields[DEPS] !== '_';
+
+/** A sentence of the page: its section, and what draws its tree there. */
+class Sentence {
+  section = document.createElement('section');
+  #rows;
+
+  constructor(text) {
+    const title = document.createElement('h2'), words = document.createElement('p');
+    this.#rows = rowsOf(text);
+    this.hasDeps = this.#rows.some(hasDeps);
+    title.textContent = comment(text, 'sent_id');
+    words.textContent = comment(text, 'text');
+    words.className = 'text';
+    words.dir = 'auto';
+    this.section.append(title, words);
+    this.section.sentence = this;
+  }
+
+  get isDrawn() {
+    return this.section.querySelector('.tree') !== null;
+  }
+
+  draw() {
+    this.section.querySelector('.tree')?.remove();
+    this.section.append(drawTree(this.#rows, { isEnhanced: enhanced.checked, onPick() {}, onHead() {} }));
+  }
+}
+
+const sentences = source.textContent.split('\n\n').filter(text => rowsOf(text).length > 0).map(text => new Sentence(text));
+const watcher = new IntersectionObserver(seen => {
+  for (const { isIntersecting, target } of seen) if (isIntersecting && !target.sentence.isDrawn) target.sentence.draw();
+}, { rootMargin: '100%' });
+
+source.replaceWith(...sentences.map(sentence => sentence.section));
+sentences.forEach(sentence => watcher.observe(sentence.section));
+enhanced.closest('.tools').hidden = !sentences.some(sentence => sentence.hasDeps);
+enhanced.addEventListener('change', () => sentences.filter(sentence => sentence.isDrawn).forEach(sentence => sentence.draw()));
+window.addEventListener('beforeprint', () => sentences.filter(sentence => !sentence.isDrawn).forEach(sentence => sentence.draw()));
