@@ -1,11 +1,10 @@
 //! Lists as CSV.
 
-ghost use Rattle.std.specs.Prelude.{◌≡◌, [], ◌∷◌, Err, IfErr, IfOk, OnErr, OnOk, Some, map};
-ghost use Rattle.std.specs.Io.KnownBytes.{Appends, Keeps};
-ghost use Rattle.csv.specs.Writing.{text_written};
+ghost use Rattle.std.specs.Prelude.{◌≡◌, [], ◌∷◌, Err, IfErr, IfOk, OnErr, OnOk, map};
+ghost use Rattle.std.specs.Io.KnownBytes.{Appends};
 ghost use Rattle.tb_conllu.specs.Sunk.{AppendsPart};
 ghost use Rattle.tb_core.specs.Words.{kind_word, state_word};
-ghost use Rattle.tb_report.specs.Csv.{IsBetweenRows, IsRefused, PutsRows};
+ghost use Rattle.tb_report.specs.Csv.{IsRefused, PutsRows};
 ghost use Rattle.tb_lists.specs.Csv.{batch_fields, batches_csv, batches_head};
 ghost use Rattle.tb_lists.specs.Csv.{found_csv, found_fields, found_head};
 ghost use Rattle.tb_lists.specs.Csv.{revision_fields, revisions_csv, revisions_head};
@@ -15,24 +14,12 @@ use crate::batches::BatchLine;
 use crate::found::FoundLine;
 use crate::revisions::RevisionLine;
 use crate::sentences::SentenceLine;
-use csv::{Writer, WriterBuilder};
+use csv::Writer;
 use itoa::Buffer;
 use std::alloc::Global;
 use std::io::Write;
 use tb_conllu::Sink;
-use tb_report::ReportFault;
-
-/// A table that grows in memory; only want of memory stops it.
-type Rows = Writer<Vec<u8>>;
-
-fn put_row<W: Write + Drop>(rows: &mut Writer<W>, fields: &[&[u8]]) -> Result<(), ReportFault>
-    ensures { OnOk result (PutsRows W.contents rows.old rows.new (map (λ f. f.now) fields.now ∷ [])) }
-{
-    match rows.write_fields(fields) {
-        Ok(()) => Ok(()),
-        Err(_) => Err(ReportFault::Memory),
-    }
-}
+use tb_report::{ReportFault, finish, new_rows, put_row, put_text};
 
 fn word_of_state(batch: &BatchLine) -> &str
     ensures { result.now ≡ state_word batch.now.state }
@@ -231,24 +218,6 @@ fn put_found_head<W: Write + Drop>(rows: &mut Writer<W>) -> Result<(), ReportFau
     put_row(rows, &head)
 }
 
-/// A table without rows.
-fn new_rows(alloc: Global) -> Rows
-    ensures between { IsBetweenRows result }
-    ensures empty { text_written (λ w. Some w.items) result ≡ Some [] }
-{
-    WriterBuilder::new().from_writer(Vec::new(alloc))
-}
-
-/// The bytes of the rows.
-fn finish(rows: Rows) -> Result<Vec<u8>, ReportFault>
-    ensures { IfOk result (λ v. Keeps (text_written (λ w. Some w.items) rows) (Some v.items)) }
-{
-    match rows.into_inner() {
-        Ok(text) => Ok(text),
-        Err(_) => Err(ReportFault::Memory),
-    }
-}
-
 fn batches_text(alloc: Global, batches: &[BatchLine]) -> Result<Vec<u8>, ReportFault>
     ensures { IfOk result (λ v. v.items ≡ batches_csv batches.now) }
 {
@@ -283,19 +252,6 @@ fn found_text(alloc: Global, found: &FoundLine) -> Result<Vec<u8>, ReportFault>
     put_found_head(&mut rows)?;
     put_found(&mut rows, found)?;
     finish(rows)
-}
-
-/// Writes a finished text.
-fn put_text<S: Sink>(text: &[u8], out: &mut S) -> Result<(), ReportFault>
-    ensures written { OnOk result (Appends (S.held out.old) (S.held out.new) text.now) }
-    ensures part { OnErr result (AppendsPart (S.held out.old) (S.held out.new) text.now) }
-    ensures fault { IfErr result (λ e. e ≡ ReportFault.Write) }
-    ensures refused { result ≡ Err ReportFault.Write → IsRefused S.IsRefusal out.new }
-{
-    match out.put(text) {
-        Ok(()) => Ok(()),
-        Err(_) => Err(ReportFault::Write),
-    }
 }
 
 /// Writes a list of batches: the header line `no,name,state,worker,first,sentences,words,pulled,pulled_words` and a line

@@ -1,36 +1,24 @@
 //! Frequency tables, totals and moves as CSV.
 
-ghost use Rattle.std.specs.Prelude.{◌≡◌, [], ◌∷◌, Err, IfErr, IfOk, List, OnErr, OnOk, Some, map};
-ghost use Rattle.std.specs.Io.KnownBytes.{Appends, Keeps};
-ghost use Rattle.csv.specs.Writing.{text_written};
+ghost use Rattle.std.specs.Prelude.{◌≡◌, [], ◌∷◌, Err, IfErr, IfOk, List, OnErr, OnOk, map};
+ghost use Rattle.std.specs.Io.KnownBytes.{Appends};
 ghost use Rattle.tb_conllu.specs.Sunk.{AppendsPart};
 ghost use Rattle.tb_core.specs.Words.{kind_word, state_word};
-ghost use Rattle.tb_report.specs.Csv.{IsBetweenRows, IsRefused, PutsRows, freq_csv, freq_fields, from_word};
+ghost use Rattle.tb_report.specs.Csv.{IsRefused, PutsRows, freq_csv, freq_fields, from_word};
 ghost use Rattle.tb_report.specs.Csv.{move_fields, moves_csv, moves_head, totals_csv, totals_fields};
 ghost use Rattle.tb_report.specs.Kept.{ranked_row};
 ghost use Rattle.tb_report.specs.Tables.{IsRankingOf, Row};
 
 use crate::fault::ReportFault;
 use crate::freq::{Freq, Rank};
-use csv::{Writer, WriterBuilder};
+use crate::table::{finish, new_rows, put_row, put_text};
+use csv::Writer;
 use itoa::Buffer;
 use std::alloc::Global;
 use std::cmp::Reverse;
 use std::io::Write;
 use tb_conllu::Sink;
 use tb_core::{Move, State, Totals};
-
-/// A table that grows in memory. Only want of memory stops it.
-type Rows = Writer<Vec<u8>>;
-
-fn put_row<W: Write + Drop>(rows: &mut Writer<W>, fields: &[&[u8]]) -> Result<(), ReportFault>
-    ensures { OnOk result (PutsRows W.contents rows.old rows.new (map (λ f. f.now) fields.now ∷ [])) }
-{
-    match rows.write_fields(fields) {
-        Ok(()) => Ok(()),
-        Err(_) => Err(ReportFault::Memory),
-    }
-}
 
 fn put_rank<W: Write + Drop>(rows: &mut Writer<W>, rank: &Rank<'_>) -> Result<(), ReportFault>
     ensures { OnOk result (PutsRows W.contents rows.old rows.new (freq_fields (ranked_row rank.now) ∷ [])) }
@@ -141,24 +129,6 @@ fn put_moves<W: Write + Drop>(rows: &mut Writer<W>, moves: &[Move]) -> Result<()
     Ok(())
 }
 
-/// A table without rows.
-fn new_rows(alloc: Global) -> Rows
-    ensures between { IsBetweenRows result }
-    ensures empty { text_written (λ w. Some w.items) result ≡ Some [] }
-{
-    WriterBuilder::new().from_writer(Vec::new(alloc))
-}
-
-/// The bytes of the rows.
-fn finish(rows: Rows) -> Result<Vec<u8>, ReportFault>
-    ensures { IfOk result (λ v. Keeps (text_written (λ w. Some w.items) rows) (Some v.items)) }
-{
-    match rows.into_inner() {
-        Ok(text) => Ok(text),
-        Err(_) => Err(ReportFault::Memory),
-    }
-}
-
 fn freq_text(freq: &Freq) -> Result<Vec<u8>, ReportFault>
     ensures { IfOk result (λ v. (rows : List Row) × IsRankingOf freq.now rows × (v.items ≡ freq_csv rows)) }
 {
@@ -216,19 +186,6 @@ fn moves_text(alloc: Global, moves: &[Move]) -> Result<Vec<u8>, ReportFault>
     put_moves_head(&mut rows)?;
     put_moves(&mut rows, moves)?;
     finish(rows)
-}
-
-/// Appends a text that is complete.
-fn put_text<S: Sink>(text: &[u8], out: &mut S) -> Result<(), ReportFault>
-    ensures written { OnOk result (Appends (S.held out.old) (S.held out.new) text.now) }
-    ensures part { OnErr result (AppendsPart (S.held out.old) (S.held out.new) text.now) }
-    ensures fault { IfErr result (λ e. e ≡ ReportFault.Write) }
-    ensures refused { result ≡ Err ReportFault.Write → IsRefused S.IsRefusal out.new }
-{
-    match out.put(text) {
-        Ok(()) => Ok(()),
-        Err(_) => Err(ReportFault::Write),
-    }
 }
 
 /// Appends a frequency table as CSV (RFC 4180): the head line `key,count`, and a line for each key.

@@ -12,6 +12,7 @@ mod fault;
 mod freq;
 mod keyword;
 mod laws;
+mod table;
 mod trees;
 mod words;
 
@@ -24,4 +25,5 @@ pub use laws::{
     counts_sum_to_keys, keys_have_one_table, order_of_keys_is_nothing, sentences_begin_no_tag,
     table_has_one_ranking, tables_add_up,
 };
+pub use table::{finish, new_rows, put_row, put_text};
 pub use trees::trees_page;
