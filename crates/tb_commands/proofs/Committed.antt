@@ -22,7 +22,7 @@ use Rattle.tb_refine.proofs.Next.{correction_next, pull_next, restore_next}
 use Rattle.tb_refine.specs.Recorded.{IsWritten}
 use Rattle.tb_commands.specs.Correcting.{IsMadeRevision}
 use Rattle.tb_refine.proofs.Written.{total_reported}
-use Rattle.tb_commands.proofs.Finds.{own_batch, own_state}
+use Rattle.tb_refine.proofs.Finds.{own_batch, own_state}
 
 sentence_reported : (s : Machine) (place : ℕ) (x : machine.Sentence) → slice_get s.sentences place ≡ Some x → slice_get (tables_of s).sentences place ≡ Some (sentence_record x)
 sentence_reported s place x there = slice_get-map sentence_record s.sentences place ∙ ap (option_map sentence_record) there

@@ -25,7 +25,7 @@ use Rattle.tb_core.specs.Found.{FindsCurrent}
 use Rattle.tb_commands.specs.Correcting.{IsCurrentRead, current_seen, correction_move}
 use Rattle.tb_refine.specs.Faults.{IsNoDevice}
 use Rattle.tb_refine.proofs.RowsOfState.{ReadsBack}
-use Rattle.tb_commands.proofs.Finds.{own_state}
+use Rattle.tb_refine.proofs.Finds.{own_state}
 
 -- ---- the text that stands reads back
 

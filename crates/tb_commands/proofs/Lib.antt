@@ -1,4 +1,3 @@
-pub mod Finds
 pub mod Revised
 pub mod Unpulled
 pub mod Committed

@@ -14,7 +14,7 @@ use Rattle.tb_refine.specs.declared.preparing.PreparedMove.{PreparedMove}
 use Rattle.tb_commands.specs.ReadOf.{IsSentenceRead}
 use Rattle.tb_refine.specs.Recorded.{IsWritten}
 use Rattle.tb_commands.specs.Pulling.{pull_move, restore_move, IsJudged}
-use Rattle.tb_commands.proofs.Finds.{own_state}
+use Rattle.tb_refine.proofs.Finds.{own_state}
 
 -- what was read, as it is judged
 pub sentence_found : (s : Machine) (n : ℕ) (x : Sentence) (f : SentenceRead) → 0 < n → slice_get s.sentences (n - 1) ≡ Some x → IsSentenceRead s x f → FindsSentence s n (Some (record { state = f.state; pulled = f.pulled }))

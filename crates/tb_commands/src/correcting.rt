@@ -9,7 +9,7 @@ ghost use Rattle.tb_conllu.specs.Text.{text_of};
 ghost use Rattle.tb_tables.specs.Records.{AreStored};
 ghost use Rattle.tb_core.specs.declared.limits.Limits.{Limits as AnyLimits};
 ghost use Rattle.tb_core.specs.declared.refusals.Refusal.{Refusal as AnyRefusal};
-ghost use Rattle.tb_core.specs.Machine.{Machine, Sentence, rev as rev_of};
+ghost use Rattle.tb_core.specs.Machine.{Machine, Sentence};
 ghost use Rattle.tb_core.specs.Acts.{correcting, IsAllowed, after};
 ghost use Rattle.tb_core.specs.Reaching.{Reached, IsReachable};
 ghost use Rattle.tb_core.specs.Commands.{Answer, correct as correct_it, replied, refused as refused_by, reply_to};
@@ -39,8 +39,8 @@ use tb_core::{
     Corrected, CurrentFound, Fault, Judged, Kind, Move, Totals, commands_stay_within_limits,
     judge_correction_before, judge_correction_body, revisions_read_back,
 };
-use tb_refine::{Counters, desk_rows_are_readable, faults, narrow, next_move, prepare};
-use tb_tables::{MoveWrite, RevisionRow};
+use tb_refine::{Counters, narrow, next_move, prepare, revision_row};
+use tb_tables::MoveWrite;
 
 /// A sentence and its current revision, as read from the tables.
 #[derive(Debug, Drop)]
@@ -76,27 +76,6 @@ impl<'a> Model for CorrectionPlan<'a> {
     } };
 }
 
-/// The current revision of the sentence with this number, from 1, which exists.
-fn current_row<S: Alter>(
-    conn: &mut Connection<S>,
-    number: u32,
-    rev: u32,
-) -> Result<RevisionRow, Fault>
-    requires { 0 < number }
-    ensures answered { Tells S.Store conn.old conn.new result (λ s f. (x : Sentence)
-        → slice_get s.sentences (number - 1) ≡ Some x → rev ≡ rev_of x
-        → (string_bytes f.who ≡ x.current.who) × (string_bytes f.body ≡ text_of (x.current.body ∷ []))) }
-    ensures never_refuses { (r : AnyRefusal) → result ≢ Err (Fault.Refused r) }
-    ensures output { result ≢ Err Fault.Output }
-    ensures fails { KnowsDeskWhere S.Store conn.old conn.new result (λ s so. (x : Sentence)
-        → slice_get s.sentences (number - 1) ≡ Some x → rev ≡ rev_of x → so) }
-    ensures cause { IsFaultless S.Store conn.old conn.new → FailsOnlyAs IsNoDevice S.Store conn.old conn.new result }
-    ensures read_only { IsReadOnly S.Store conn.old conn.new (is_ok result) }
-{
-    desk_rows_are_readable();
-    faults::reported_row(tb_reads::revision(conn, number, rev))
-}
-
 /// The sentence with this number, from 1, which exists, and its current revision.
 fn find_current<S: Alter>(conn: &mut Connection<S>, number: u32) -> Result<CurrentRead, Fault>
     requires { 0 < number }
@@ -110,7 +89,7 @@ fn find_current<S: Alter>(conn: &mut Connection<S>, number: u32) -> Result<Curre
     ensures read_only { IsReadOnly S.Store conn.old conn.new (is_ok result) }
 {
     let sentence = find_sentence(conn, number)?;
-    let row = current_row(conn, number, sentence.rev)?;
+    let row = revision_row(conn, number, sentence.rev)?;
     Ok(CurrentRead {
         sentence,
         who: row.who,

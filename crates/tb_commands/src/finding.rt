@@ -7,9 +7,7 @@ ghost use Rattle.sqlite.specs.Held.{state};
 ghost use Rattle.tb_core.specs.declared.refusals.Refusal.{Refusal as AnyRefusal};
 ghost use Rattle.tb_core.specs.declared.kinds.State.{State as AnyState};
 ghost use Rattle.tb_core.specs.Machine.{Batch, Sentence};
-ghost use Rattle.tb_tables.specs.Values.{batch_of, sentence_of};
 ghost use Rattle.tb_refine.specs.Numbers.{state_number};
-ghost use Rattle.tb_refine.specs.DeskTables.{batch_record, sentence_record};
 ghost use Rattle.tb_core.specs.Found.{FindsBatch};
 ghost use Rattle.tb_commands.specs.ReadOf.{IsSentenceRead};
 ghost use Rattle.tb_refine.specs.Calls.{KnowsDesk, KnowsDeskWhere, Tells};
@@ -19,8 +17,8 @@ ghost use Rattle.tb_refine.specs.Faults.{IsNoDevice};
 
 use sqlite::{Alter, Connection};
 use tb_core::{Fault, State, reached_states_are_well};
-use tb_refine::{batch_number, desk_rows_are_readable, faults, state_numbered};
-use tb_tables::{BatchRow, SentenceRow};
+use tb_refine::{batch_number, batch_row, is_pulled, sentence_row, state_numbered};
+use tb_tables::BatchRow;
 
 /// A batch, as read from the tables.
 #[derive(Debug, Drop)]
@@ -52,22 +50,6 @@ fn read_batch(row: BatchRow, number: u32) -> Result<BatchRead, Fault>
     })
 }
 
-/// The row of the batch with this number, from 1, which exists.
-fn batch_row<S: Alter>(conn: &mut Connection<S>, number: u32) -> Result<BatchRow, Fault>
-    requires { 0 < number }
-    ensures answered { Tells S.Store conn.old conn.new result (λ s f. (b : Batch)
-        → slice_get s.batches (number - 1) ≡ Some b → batch_of f ≡ batch_record b) }
-    ensures never_refuses { (r : AnyRefusal) → result ≢ Err (Fault.Refused r) }
-    ensures output { result ≢ Err Fault.Output }
-    ensures fails { KnowsDeskWhere S.Store conn.old conn.new result (λ s so. (b : Batch)
-        → slice_get s.batches (number - 1) ≡ Some b → so) }
-    ensures cause { IsFaultless S.Store conn.old conn.new → FailsOnlyAs IsNoDevice S.Store conn.old conn.new result }
-    ensures read_only { IsReadOnly S.Store conn.old conn.new (is_ok result) }
-{
-    desk_rows_are_readable();
-    faults::reported_row(tb_reads::batch(conn, number))
-}
-
 /// The batch with this number, from 1, which exists.
 fn batch<S: Alter>(conn: &mut Connection<S>, number: u32) -> Result<BatchRead, Fault>
     ensures answered { Tells S.Store conn.old conn.new result (λ s f. (b : Batch) → slice_get s.batches (number - 1)
@@ -79,9 +61,6 @@ fn batch<S: Alter>(conn: &mut Connection<S>, number: u32) -> Result<BatchRead, F
     ensures cause { IsFaultless S.Store conn.old conn.new → FailsOnlyAs IsNoDevice S.Store conn.old conn.new result }
     ensures read_only { IsReadOnly S.Store conn.old conn.new (is_ok result) }
 {
-    if number == 0 {
-        return Err(Fault::NotADesk);
-    }
     let row = batch_row(conn, number)?;
     read_batch(row, number)
 }
@@ -123,36 +102,6 @@ pub struct SentenceRead {
     /// The number of its current revision, and the words of that revision.
     pub rev: u32,
     pub words: u32,
-}
-
-/// The row of the sentence with this number, from 1, which exists.
-fn sentence_row<S: Alter>(conn: &mut Connection<S>, number: u32) -> Result<SentenceRow, Fault>
-    requires { 0 < number }
-    ensures answered { Tells S.Store conn.old conn.new result (λ s f. (x : Sentence)
-        → slice_get s.sentences (number - 1) ≡ Some x → sentence_of f ≡ sentence_record x) }
-    ensures never_refuses { (r : AnyRefusal) → result ≢ Err (Fault.Refused r) }
-    ensures output { result ≢ Err Fault.Output }
-    ensures fails { KnowsDeskWhere S.Store conn.old conn.new result (λ s so. (x : Sentence)
-        → slice_get s.sentences (number - 1) ≡ Some x → so) }
-    ensures cause { IsFaultless S.Store conn.old conn.new → FailsOnlyAs IsNoDevice S.Store conn.old conn.new result }
-    ensures read_only { IsReadOnly S.Store conn.old conn.new (is_ok result) }
-{
-    desk_rows_are_readable();
-    faults::reported_row(tb_reads::sentence(conn, number))
-}
-
-/// Whether the sentence with this number, from 1, which exists, is pulled.
-fn is_pulled<S: Alter>(conn: &mut Connection<S>, number: u32) -> Result<bool, Fault>
-    requires { 0 < number }
-    ensures answered { Tells S.Store conn.old conn.new result (λ s pulled. (x : Sentence)
-        → slice_get s.sentences (number - 1) ≡ Some x → pulled ≡ x.pulled) }
-    ensures never_refuses { (r : AnyRefusal) → result ≢ Err (Fault.Refused r) }
-    ensures output { result ≢ Err Fault.Output }
-    ensures fails { KnowsDesk S.Store conn.old conn.new result }
-    ensures cause { IsFaultless S.Store conn.old conn.new → FailsOnlyAs IsNoDevice S.Store conn.old conn.new result }
-    ensures read_only { IsReadOnly S.Store conn.old conn.new (is_ok result) }
-{
-    faults::reported(tb_reads::is_pulled(conn, number))
 }
 
 /// The sentence with this number, from 1, which exists, with the state and the worker of its batch. Nothing is

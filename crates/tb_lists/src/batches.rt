@@ -1,11 +1,13 @@
 //! A batch, as a list shows it.
 
 ghost use Rattle.std.specs.Prelude.{◌≡◌, ◌≢◌, Err, IfErr, IfOk, List, map, string_bytes};
+ghost use Rattle.tb_core.specs.declared.kinds.State.{State as AnyState};
 ghost use Rattle.tb_core.specs.declared.refusals.Refusal.{Refusal as AnyRefusal};
 ghost use Rattle.tb_core.specs.Machine.{Batch};
 ghost use Rattle.tb_tables.specs.Values.{batch_of};
 ghost use Rattle.tb_refine.specs.DeskTables.{batch_record};
 ghost use Rattle.tb_refine.specs.Faults.{IsNoDevice};
+ghost use Rattle.tb_refine.specs.Numbers.{state_number};
 ghost use Rattle.tb_lists.specs.Batches.{BatchText};
 ghost use Rattle.tb_lists.specs.Counted.{line_with, lines_with};
 
@@ -54,11 +56,12 @@ impl Model for BatchLine {
     } };
 }
 
-/// The batch of a row, with its number and its count.
+/// The batch of a row, with its number and its count. A row without a state needs no memory.
 fn line_of(alloc: Global, no: u64, row: &BatchRow, count: Count) -> Result<BatchLine, Fault>
     ensures line { IfOk result (λ x. (b : Batch) → batch_of row.now ≡ batch_record b
         → x ≡ line_with no b count) }
     ensures known { result ≡ Err Fault.NotADesk → (b : Batch) → batch_of row.now ≢ batch_record b }
+    ensures no_state { ((st : AnyState) → row.now.state ≢ state_number st) → result ≡ Err Fault.NotADesk }
     ensures never_refuses { (r : AnyRefusal) → result ≢ Err (Fault.Refused r) }
     ensures cause { IfErr result IsNoDevice }
     ensures output { result ≢ Err Fault.Output }

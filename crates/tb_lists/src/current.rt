@@ -1,10 +1,8 @@
 //! Sentences with their current revisions, read from the tables one at a time.
 
-ghost use Rattle.std.specs.Prelude.{◌≡◌, ◌≢◌, ◌-◌, ◌<◌, ◌^◌, ◌∷◌, [], Err, Some, is_ok, length, map, slice_get};
-ghost use Rattle.std.specs.Prelude.{string_bytes};
-ghost use Rattle.tb_conllu.specs.Text.{text_of};
+ghost use Rattle.std.specs.Prelude.{◌≡◌, ◌≢◌, ◌-◌, ◌<◌, ◌^◌, Err, Some, is_ok, length, map, slice_get};
 ghost use Rattle.tb_core.specs.declared.refusals.Refusal.{Refusal as AnyRefusal};
-ghost use Rattle.tb_core.specs.Machine.{Sentence, rev as rev_of};
+ghost use Rattle.tb_core.specs.Machine.{Sentence};
 ghost use Rattle.tb_tables.specs.Values.{sentence_of};
 ghost use Rattle.tb_tables.specs.Leaving.{FailsOnlyAs, IsFaultless};
 ghost use Rattle.tb_reads.specs.ReadOnly.{IsReadOnly};
@@ -17,33 +15,8 @@ use crate::sentences::{SentenceLine, line_of};
 use sqlite::{Alter, Connection};
 use std::alloc::Global;
 use tb_core::{Fault, revisions_read_back};
-use tb_refine::{desk_rows_are_readable, faults, is_among, read_pulled};
-use tb_tables::{RevisionRow, SentenceRow};
-
-/// The current revision of the sentence with this number, from 1, which exists.
-fn read_current<S: Alter>(
-    conn: &mut Connection<S>,
-    number: u32,
-    rev: u32,
-) -> Result<RevisionRow, Fault>
-    requires { 0 < number }
-    ensures answered { Tells S.Store conn.old conn.new result (λ s row. (x : Sentence)
-        → slice_get s.sentences (number - 1) ≡ Some x → rev ≡ rev_of x
-        → (string_bytes row.who ≡ x.current.who) × (string_bytes row.body ≡ text_of (x.current.body ∷ []))) }
-    ensures never_refuses { (r : AnyRefusal) → result ≢ Err (Fault.Refused r) }
-    ensures output { result ≢ Err Fault.Output }
-    ensures fails { KnowsDeskWhere S.Store conn.old conn.new result (λ s so. (x : Sentence)
-        → slice_get s.sentences (number - 1) ≡ Some x → rev ≡ rev_of x → so) }
-    ensures cause { IsFaultless S.Store conn.old conn.new → FailsOnlyAs IsNoDevice S.Store conn.old conn.new result }
-    ensures read_only { IsReadOnly S.Store conn.old conn.new (is_ok result) }
-{
-    desk_rows_are_readable();
-    match tb_reads::revision(conn, number, rev) {
-        Ok(Some(row)) => Ok(row),
-        Ok(None) => Err(Fault::NotADesk),
-        Err(error) => Err(faults::of_read(error)),
-    }
-}
+use tb_refine::{is_among, read_pulled, revision_row};
+use tb_tables::SentenceRow;
 
 /// The sentence of a row, with its number, from 1, and its current revision. One revision is in memory at a time.
 fn read_line<S: Alter>(
@@ -65,7 +38,7 @@ fn read_line<S: Alter>(
     ensures read_only { IsReadOnly S.Store conn.old conn.new (is_ok result) }
 {
     revisions_read_back();
-    let current = read_current(conn, no, row.rev)?;
+    let current = revision_row(conn, no, row.rev)?;
     line_of(alloc, no, row, is_pulled, current)
 }
 

@@ -3,68 +3,17 @@
 
 ghost use Rattle.std.specs.Prelude.{◌≡◌, ◌≢◌, ◌-◌, ◌<◌, Err, Some, is_ok, slice_get};
 ghost use Rattle.tb_core.specs.declared.refusals.Refusal.{Refusal as AnyRefusal};
-ghost use Rattle.tb_core.specs.Machine.{Batch, Sentence};
-ghost use Rattle.tb_tables.specs.Values.{batch_of};
+ghost use Rattle.tb_core.specs.Machine.{Sentence};
 ghost use Rattle.tb_tables.specs.Leaving.{FailsOnlyAs, IsFaultless};
-ghost use Rattle.tb_reads.specs.Found.{IsNumberOf};
 ghost use Rattle.tb_reads.specs.ReadOnly.{IsReadOnly};
 ghost use Rattle.tb_refine.specs.Calls.{KnowsDesk, KnowsDeskWhere, Tells};
-ghost use Rattle.tb_refine.specs.DeskTables.{batch_record};
 ghost use Rattle.tb_refine.specs.Faults.{IsNoDevice};
 ghost use Rattle.tb_lists.specs.Found.{Finds, found_line};
 
 use crate::found::{FoundLine, line_of};
-use crate::reading::read_sentence;
 use sqlite::{Alter, Connection};
 use tb_core::{Fault, reached_states_are_well};
-use tb_refine::{desk_rows_are_readable, desk_rows_fit, faults};
-use tb_tables::BatchRow;
-
-/// The number of the sentence with this `sent_id`, from 1, or none where no sentence has it.
-fn number_of<S: Alter>(conn: &mut Connection<S>, sent_id: &str) -> Result<Option<u32>, Fault>
-    ensures answered { Tells S.Store conn.old conn.new result (λ s found.
-        IsNumberOf (λ (x : Sentence). x.sent_id) sent_id.now s.sentences found) }
-    ensures never_refuses { (r : AnyRefusal) → result ≢ Err (Fault.Refused r) }
-    ensures output { result ≢ Err Fault.Output }
-    ensures fails { KnowsDesk S.Store conn.old conn.new result }
-    ensures cause { IsFaultless S.Store conn.old conn.new → FailsOnlyAs IsNoDevice S.Store conn.old conn.new result }
-    ensures read_only { IsReadOnly S.Store conn.old conn.new (is_ok result) }
-{
-    desk_rows_fit();
-    faults::reported(tb_reads::sentence_named(conn, sent_id))
-}
-
-/// The row of the batch with this number, from 1, which exists.
-fn read_batch<S: Alter>(conn: &mut Connection<S>, number: u32) -> Result<BatchRow, Fault>
-    ensures answered { Tells S.Store conn.old conn.new result (λ s row. (b : Batch)
-        → slice_get s.batches (number - 1) ≡ Some b → batch_of row ≡ batch_record b) }
-    ensures never_refuses { (r : AnyRefusal) → result ≢ Err (Fault.Refused r) }
-    ensures output { result ≢ Err Fault.Output }
-    ensures fails { KnowsDeskWhere S.Store conn.old conn.new result (λ s so. 0 < number → (b : Batch)
-        → slice_get s.batches (number - 1) ≡ Some b → so) }
-    ensures cause { IsFaultless S.Store conn.old conn.new → FailsOnlyAs IsNoDevice S.Store conn.old conn.new result }
-    ensures read_only { IsReadOnly S.Store conn.old conn.new (is_ok result) }
-{
-    desk_rows_are_readable();
-    if number == 0 {
-        return Err(Fault::NotADesk);
-    }
-    faults::reported_row(tb_reads::batch(conn, number))
-}
-
-/// Whether the sentence with this number, from 1, which exists, is pulled.
-fn is_pulled<S: Alter>(conn: &mut Connection<S>, number: u32) -> Result<bool, Fault>
-    requires { 0 < number }
-    ensures answered { Tells S.Store conn.old conn.new result (λ s pulled. (x : Sentence)
-        → slice_get s.sentences (number - 1) ≡ Some x → pulled ≡ x.pulled) }
-    ensures never_refuses { (r : AnyRefusal) → result ≢ Err (Fault.Refused r) }
-    ensures output { result ≢ Err Fault.Output }
-    ensures fails { KnowsDesk S.Store conn.old conn.new result }
-    ensures cause { IsFaultless S.Store conn.old conn.new → FailsOnlyAs IsNoDevice S.Store conn.old conn.new result }
-    ensures read_only { IsReadOnly S.Store conn.old conn.new (is_ok result) }
-{
-    faults::reported(tb_reads::is_pulled(conn, number))
-}
+use tb_refine::{batch_row, is_pulled, sentence_number, sentence_row};
 
 /// The sentence with this number, from 1, which exists, with the name of its batch.
 fn line_at<S: Alter>(conn: &mut Connection<S>, number: u32) -> Result<FoundLine, Fault>
@@ -81,8 +30,8 @@ fn line_at<S: Alter>(conn: &mut Connection<S>, number: u32) -> Result<FoundLine,
     if number == 0 {
         return Err(Fault::NotADesk);
     }
-    let row = read_sentence(conn, number)?;
-    let batch = read_batch(conn, row.batch)?;
+    let row = sentence_row(conn, number)?;
+    let batch = batch_row(conn, row.batch)?;
     let pulled = is_pulled(conn, number)?;
     Ok(line_of(number, &row, batch, pulled))
 }
@@ -104,7 +53,7 @@ pub fn find_sentence<S: Alter>(
     ensures cause { IsFaultless S.Store conn.old conn.new → FailsOnlyAs IsNoDevice S.Store conn.old conn.new result }
     ensures read_only { IsReadOnly S.Store conn.old conn.new (is_ok result) }
 {
-    let Some(number) = number_of(conn, sent_id)? else {
+    let Some(number) = sentence_number(conn, sent_id)? else {
         return Ok(None);
     };
     let line = line_at(conn, number)?;

@@ -24,8 +24,10 @@ use crate::revisions::{RevisionLine, lines_by};
 use crate::sentences::SentenceLine;
 use sqlite::{Alter, Connection};
 use std::alloc::Global;
-use tb_core::{Fault, Move};
-use tb_refine::{desk_rows_are_readable, faults, one_list_for_the_rows, read_moves, read_pulled};
+use tb_core::Fault;
+use tb_refine::{
+    all_moves, desk_rows_are_readable, faults, one_list_for_the_rows, read_pulled, sentence_row,
+};
 use tb_tables::{BatchRow, SentenceRow};
 
 /// The rows of all batches, by number.
@@ -121,42 +123,6 @@ pub fn list_batches<S: Alter>(
     lines_of(alloc, batches.as_slice(), counts.as_slice())
 }
 
-/// The row of the sentence with this number, which exists.
-pub(crate) fn read_sentence<S: Alter>(
-    conn: &mut Connection<S>,
-    number: u32,
-) -> Result<SentenceRow, Fault>
-    requires { 0 < number }
-    ensures answered { Tells S.Store conn.old conn.new result (λ s row. (x : Sentence)
-        → slice_get s.sentences (number - 1) ≡ Some x → sentence_of row ≡ sentence_record x) }
-    ensures never_refuses { (r : AnyRefusal) → result ≢ Err (Fault.Refused r) }
-    ensures output { result ≢ Err Fault.Output }
-    ensures fails { KnowsDeskWhere S.Store conn.old conn.new result (λ s so. (x : Sentence)
-        → slice_get s.sentences (number - 1) ≡ Some x → so) }
-    ensures cause { IsFaultless S.Store conn.old conn.new → FailsOnlyAs IsNoDevice S.Store conn.old conn.new result }
-    ensures read_only { IsReadOnly S.Store conn.old conn.new (is_ok result) }
-{
-    desk_rows_are_readable();
-    faults::reported_row(tb_reads::sentence(conn, number))
-}
-
-/// All moves, in their order.
-fn read_steps<S: Alter>(alloc: Global, conn: &mut Connection<S>) -> Result<Vec<Move>, Fault>
-    ensures answered { Tells S.Store conn.old conn.new result (λ s v. v.items ≡ s.moves) }
-    ensures never_refuses { (r : AnyRefusal) → result ≢ Err (Fault.Refused r) }
-    ensures output { result ≢ Err Fault.Output }
-    ensures fails { KnowsDesk S.Store conn.old conn.new result }
-    ensures cause { IsFaultless S.Store conn.old conn.new → FailsOnlyAs IsNoDevice S.Store conn.old conn.new result }
-    ensures read_only { IsReadOnly S.Store conn.old conn.new (is_ok result) }
-{
-    desk_rows_are_readable();
-    one_list_for_the_rows();
-    match tb_reads::moves(alloc, conn) {
-        Ok(rows) => read_moves(alloc, rows.as_slice()),
-        Err(error) => Err(faults::of_read(error)),
-    }
-}
-
 /// The revisions of the sentence with this number, which exists, each with the move that made it. No text of a revision is
 /// read: the user who wrote a revision is the one who made its move. Nothing is refused.
 ///
@@ -179,8 +145,8 @@ pub fn list_revisions<S: Alter>(
     ensures cause { IsFaultless S.Store conn.old conn.new → FailsOnlyAs IsNoDevice S.Store conn.old conn.new result }
     ensures read_only { IsReadOnly S.Store conn.old conn.new (is_ok result) }
 {
-    let row = read_sentence(conn, number)?;
-    let steps = read_steps(alloc, conn)?;
+    let row = sentence_row(conn, number)?;
+    let steps = all_moves(alloc, conn)?;
     lines_by(
         alloc,
         steps.as_slice(),

@@ -1,5 +1,6 @@
 pub mod Unchanged
 pub mod There
+pub mod Finds
 pub mod RowsOfState
 pub mod Revised
 pub mod Names

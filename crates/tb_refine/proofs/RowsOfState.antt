@@ -68,10 +68,6 @@ revision_reported s x number k r above there at = reported (in_revisions 1 s.sen
           text,
         )
 
-pub text_reported : (s : Machine) (x : machine.Sentence) (number k : ℕ) (r : Revision) → 0 < number → slice_get s.sentences (number - 1) ≡ Some x
-    → IsRevisionAt number k (map revision_record (revisions_from 1 s.sentences)) (Some r) → (q : machine.Revision) × HasRevision x k q × (r.body ≡ text_of (q.body ∷ []))
-text_reported s x number k r above there at = let it = revision_reported s x number k r above there at in (it.0, it.1, it.2.0)
-
 last_got : {R : Type 0} (rs : List R) (r q : R) → slice_get (rs ++ r ∷ []) (length rs) ≡ Some q → q ≡ r
 last_got [] r q e = let same : Some r ≡ Some q = e in cc
 last_got (p ∷ rs) r q e = last_got rs r q e

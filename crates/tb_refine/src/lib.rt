@@ -1,19 +1,19 @@
 //! The refinement: which records of the tables represent a state of the machine, and what each command makes of them.
 //!
 //! Read `specs/DeskTables.antt` first, which relates tables and states, and then the laws in `laws.rt`. The rest is
-//! what all commands share: the counts that a desk keeps in memory, the next move, the totals, names and faults; rows
-//! of moves as moves, and the pulled sentences.
+//! what commands and questions share: the counts that a desk keeps in memory, the next move, the totals, names and
+//! faults; rows by their numbers, moves, and the pulled sentences.
 #![tactic(auto)]
 
 mod counters;
 pub mod faults;
 mod laws;
 mod moving;
-mod naming;
 mod numbers;
 mod preparing;
-mod pulled;
+mod reading;
 mod recording;
+mod totals;
 
 pub use counters::{Counters, next_move};
 pub use laws::{
@@ -22,10 +22,13 @@ pub use laws::{
     pulls_are_stored, records_determine_the_state, restores_are_stored,
 };
 pub use moving::read_moves;
-pub use naming::{batch_number, is_taken};
 pub use numbers::{
     kind_numbered, number_before, number_of_kind, number_of_state, state_before, state_numbered,
 };
 pub use preparing::{PreparedMove, prepare};
-pub use pulled::{is_among, read_pulled};
+pub use reading::{
+    all_moves, batch_number, batch_row, is_among, is_pulled, is_taken, read_pulled, revision_row,
+    sentence_number, sentence_row,
+};
 pub use recording::{narrow, record};
+pub use totals::stored_totals;

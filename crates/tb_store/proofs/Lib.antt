@@ -1,5 +1,4 @@
 pub mod Beginning
-pub mod Alike
 pub mod SixTotals
 pub mod Represented
 pub mod Adopted

@@ -10,7 +10,8 @@ ghost use Rattle.tb_core.specs.declared.refusals.Refusal.{Refusal as AnyRefusal}
 ghost use Rattle.tb_core.specs.Names.{is_name};
 ghost use Rattle.tb_core.specs.Machine.{Machine, Sentence, Revision, rev as rev_of};
 ghost use Rattle.tb_core.specs.Totals.{AreTotalsOf};
-ghost use Rattle.tb_refine.specs.DeskTables.{IsDeskOf};
+ghost use Rattle.tb_tables.specs.Values.{total_of};
+ghost use Rattle.tb_refine.specs.DeskTables.{IsDeskOf, tables_of};
 ghost use Rattle.tb_refine.specs.Revisions.{HasRevision};
 ghost use Rattle.tb_refine.specs.Calls.{KnowsDesk, KnowsDeskWhere, Tells, TellsOnErr};
 ghost use Rattle.tb_tables.specs.Leaving.{FailsOnlyAs, IsFaultless};
@@ -24,9 +25,12 @@ ghost use Rattle.tb_store.specs.Exports.{RefusesBatch};
 use crate::answers::Current;
 use sqlite::{Alter, Connection};
 use std::alloc::Global;
-use tb_core::{Fault, Move, Refusal, Totals, good_name};
+use tb_core::{Fault, Refusal, Totals, good_name};
 use tb_lists::{FoundLine, SentenceLine, find_sentence, list_sentences};
-use tb_refine::{batch_number, desk_rows_are_readable, faults, read_moves};
+use tb_refine::{
+    batch_number, desk_rows_are_readable, faults, one_list_for_the_rows, revision_row,
+    sentence_row, stored_totals,
+};
 use tb_tables::TotalRow;
 
 /// The totals of six rows.
@@ -39,27 +43,24 @@ fn six_totals(rows: &[TotalRow]) -> Result<Totals, Fault>
     ensures never_refuses { (r : AnyRefusal) → result ≢ Err (Fault.Refused r) }
     ensures fault { IfErr result (λ e. e ≡ Fault.NotADesk) }
 {
-    match rows {
-        [a, b, c, d, e, f] => Ok(Totals {
-            sentences: [
-                u64::from(a.sentences),
-                u64::from(b.sentences),
-                u64::from(c.sentences),
-                u64::from(d.sentences),
-                u64::from(e.sentences),
-                u64::from(f.sentences),
-            ],
-            words: [
-                u64::from(a.words),
-                u64::from(b.words),
-                u64::from(c.words),
-                u64::from(d.words),
-                u64::from(e.words),
-                u64::from(f.words),
-            ],
-        }),
-        _ => Err(Fault::NotADesk),
+    match stored_totals(rows) {
+        Some(totals) => Ok(totals),
+        None => Err(Fault::NotADesk),
     }
+}
+
+/// The rows of the totals, by the number of the state.
+fn total_rows<S: Alter>(alloc: Global, conn: &mut Connection<S>) -> Result<Vec<TotalRow>, Fault>
+    ensures answered { Tells S.Store conn.old conn.new result (λ s v. map total_of v.items ≡ (tables_of s).totals) }
+    ensures never_refuses { (r : AnyRefusal) → result ≢ Err (Fault.Refused r) }
+    ensures fails { KnowsDesk S.Store conn.old conn.new result }
+    ensures cause { IsFaultless S.Store conn.old conn.new → FailsOnlyAs IsNoDevice S.Store conn.old conn.new result }
+    ensures output { result ≢ Err Fault.Output }
+    ensures read_only { IsReadOnly S.Store conn.old conn.new (is_ok result) }
+{
+    desk_rows_are_readable();
+    one_list_for_the_rows();
+    faults::reported(tb_reads::totals(alloc, conn))
 }
 
 /// The totals of the six states.
@@ -71,11 +72,8 @@ pub(crate) fn totals<S: Alter>(alloc: Global, conn: &mut Connection<S>) -> Resul
     ensures output { result ≢ Err Fault.Output }
     ensures read_only { IsReadOnly S.Store conn.old conn.new (is_ok result) }
 {
-    desk_rows_are_readable();
-    match tb_reads::totals(alloc, conn) {
-        Ok(rows) => six_totals(rows.as_slice()),
-        Err(error) => Err(faults::of_read(error)),
-    }
+    let rows = total_rows(alloc, conn)?;
+    six_totals(rows.as_slice())
 }
 
 /// The number of the current revision of the sentence with this number, which exists.
@@ -90,12 +88,8 @@ pub(crate) fn current<S: Alter>(conn: &mut Connection<S>, number: u32) -> Result
     ensures output { result ≢ Err Fault.Output }
     ensures read_only { IsReadOnly S.Store conn.old conn.new (is_ok result) }
 {
-    desk_rows_are_readable();
-    match tb_reads::sentence(conn, number) {
-        Ok(Some(row)) => Ok(row.rev),
-        Ok(None) => Err(Fault::NotADesk),
-        Err(error) => Err(faults::of_read(error)),
-    }
+    let row = sentence_row(conn, number)?;
+    Ok(row.rev)
 }
 
 /// The text of a revision of the sentence with this number. Both exist.
@@ -116,12 +110,8 @@ pub(crate) fn text<S: Alter>(
     ensures output { result ≢ Err Fault.Output }
     ensures read_only { IsReadOnly S.Store conn.old conn.new (is_ok result) }
 {
-    desk_rows_are_readable();
-    match tb_reads::revision(conn, number, rev) {
-        Ok(Some(row)) => Ok(row.body),
-        Ok(None) => Err(Fault::NotADesk),
-        Err(error) => Err(faults::of_read(error)),
-    }
+    let row = revision_row(conn, number, rev)?;
+    Ok(row.body)
 }
 
 /// The current revision of the sentence with this number, which exists.
@@ -187,22 +177,6 @@ pub(crate) fn revision<S: Alter>(
     let last = current(conn, number)?;
     let counted = known_revision(rev, last)?;
     text(conn, number, counted)
-}
-
-/// The moves, in their order.
-pub(crate) fn moves<S: Alter>(alloc: Global, conn: &mut Connection<S>) -> Result<Vec<Move>, Fault>
-    ensures answered { Tells S.Store conn.old conn.new result (λ s v. v.items ≡ s.moves) }
-    ensures never_refuses { (r : AnyRefusal) → result ≢ Err (Fault.Refused r) }
-    ensures fails { KnowsDesk S.Store conn.old conn.new result }
-    ensures cause { IsFaultless S.Store conn.old conn.new → FailsOnlyAs IsNoDevice S.Store conn.old conn.new result }
-    ensures output { result ≢ Err Fault.Output }
-    ensures read_only { IsReadOnly S.Store conn.old conn.new (is_ok result) }
-{
-    desk_rows_are_readable();
-    match tb_reads::moves(alloc, conn) {
-        Ok(rows) => read_moves(alloc, rows.as_slice()),
-        Err(error) => Err(faults::of_read(error)),
-    }
 }
 
 /// The batch that was found.

@@ -51,7 +51,7 @@ use tb_import::ImportCounters;
 use tb_lists::{BatchLine, RevisionLine, SentenceLine, list_batches, list_revisions};
 use tb_match::Strategy;
 use tb_query::{Attr, Query};
-use tb_refine::{Counters, faults, one_state_for_the_file};
+use tb_refine::{Counters, all_moves, faults, one_state_for_the_file};
 use tb_report::Freq;
 use tb_verify::{DeskSummary, read_desk};
 
@@ -101,10 +101,9 @@ pub(crate) fn without_limit<S: Alter>(mut conn: Connection<S>) -> Connection<S>
 }
 
 impl<S: Alter> Desk<S> {
-    /// The desk of a blank database, in which it makes the tables of a desk without a batch, and whose step limit it
-    /// takes off. A database that is not blank is `NotADesk`, and is not touched. A fault gives the connection back
-    /// without its step limit, over a database that is as blank as before where the store is still open; a crash on
-    /// the way leaves it blank, or the whole tables.
+    /// The desk without a batch of a blank database, in which it makes the tables, and whose step limit it takes off. A
+    /// database that is not blank is `NotADesk`, and is not touched. A fault gives the connection back without its step
+    /// limit, over a database as blank as before where the store is open; a crash leaves it blank, or the whole tables.
     pub fn make(alloc: Global, conn: Connection<S>, limits: Limits) -> Result<Desk<S>, Unmade<S>>
         requires autocommit { conn.in_transaction ≡ false }
         requires within { IsWithin limits }
@@ -345,7 +344,7 @@ impl<S: Alter> Desk<S> {
         ensures limits { self.new.limits ≡ self.old.limits }
         ensures doubt { self.new.in_doubt ≡ self.old.in_doubt }
     {
-        asking::moves(self.alloc, &mut self.conn)
+        all_moves(self.alloc, &mut self.conn)
     }
 
     /// The batches by number, each with its state, its worker and what is in it. Nothing is refused.

@@ -1,6 +1,6 @@
 //! Whether stored totals are the sums of the rows.
 
-ghost use Rattle.std.specs.Prelude.{◌≡◌, ◌≢◌, ◌↔◌, ◌≤◌, length, map, None, Err, IsTrue, IfOk, IfSome};
+ghost use Rattle.std.specs.Prelude.{◌≡◌, ◌≢◌, ◌↔◌, ◌≤◌, length, map, Err, IsTrue, IfOk};
 ghost use Rattle.tb_core.specs.Machine.{Machine};
 ghost use Rattle.tb_core.specs.Totals.{AreTotalsOf};
 ghost use Rattle.tb_replay.specs.Summaries.{entries_of};
@@ -12,37 +12,9 @@ ghost use Rattle.tb_verify.specs.Summary.{six_totals};
 
 use crate::unfit::Unfit;
 use tb_core::Totals;
+use tb_refine::stored_totals;
 use tb_replay::{SentenceSummary, totals_of};
 use tb_tables::TotalRow;
-
-/// The totals that six rows hold.
-fn stored_in(rows: &[TotalRow]) -> Option<Totals>
-    ensures six { IfSome result (λ t. (length rows.now ≡ 6) × (t.sentences ≡ map (λ r. r.sentences) rows.now)
-        × (t.words ≡ map (λ r. r.words) rows.now)) }
-    ensures lacks { result ≡ None → length rows.now ≡ 6 → ⊥ }
-{
-    match rows {
-        [a, b, c, d, e, f] => Some(Totals {
-            sentences: [
-                u64::from(a.sentences),
-                u64::from(b.sentences),
-                u64::from(c.sentences),
-                u64::from(d.sentences),
-                u64::from(e.sentences),
-                u64::from(f.sentences),
-            ],
-            words: [
-                u64::from(a.words),
-                u64::from(b.words),
-                u64::from(c.words),
-                u64::from(d.words),
-                u64::from(e.words),
-                u64::from(f.words),
-            ],
-        }),
-        _ => None,
-    }
-}
 
 fn are_same(a: &[u64], b: &[u64]) -> bool
     ensures { IsTrue result ↔ a.now ≡ b.now }
@@ -54,7 +26,7 @@ fn are_same(a: &[u64], b: &[u64]) -> bool
 fn are_sums(rows: &[TotalRow], totals: &Totals) -> bool
     ensures { IsTrue result ↔ map total_of rows.now ≡ six_totals totals.now }
 {
-    let Some(stored) = stored_in(rows) else {
+    let Some(stored) = stored_totals(rows) else {
         return false;
     };
     are_same(&stored.sentences, &totals.sentences) && are_same(&stored.words, &totals.words)

@@ -1,11 +1,10 @@
 use Rattle.std.proofs.Common.{◌≡◌, ◌-◌, ap, arith, sym, subst, slice_get, Some, Err, ◌∙◌}
 use Rattle.std.proofs.lemmas.Result.{err_from_is_err_and}
-use Rattle.sqlite.specs.Held.{state}
 use Rattle.tb_core.specs.declared.refusals.Fault.TheVariants.{NotADesk}
 use Rattle.tb_core.specs.Machine.{batch_with}
 use Rattle.tb_tables.specs.Records.{Sentence}
 use Rattle.tb_refine.proofs.Unchanged.{second_clear, desk_after}
-use Rattle.tb_commands.proofs.Finds.{own_batch, placed_above}
+use Rattle.tb_refine.proofs.Finds.{own_batch, placed_above}
 use Rattle.tb_reads.proofs.ReadOnly.{read_then, read_failed, was_clean}
 use Rattle.tb_commands.proofs.finding.find_sentence.Goals as goal
 

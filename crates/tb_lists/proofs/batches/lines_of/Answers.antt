@@ -1,4 +1,4 @@
-use Rattle.std.proofs.Common.{◌≡◌, ◌+◌, ◌++◌, ◌<◌, [], length, map, drop, Err, refl, sym, ap, ◌∙◌, arith, append-nil, slice_index_or}
+use Rattle.std.proofs.Common.{◌≡◌, ◌+◌, ◌++◌, ◌<◌, length, Err, sym, ap, ◌∙◌, arith, append-nil, slice_index_or}
 use Rattle.std.proofs.lemmas.Result.{err_from_is_err_and}
 use Rattle.std.proofs.lemmas.List.{length-map}
 use Rattle.tb_core.specs.declared.refusals.Fault.TheVariants.{NotADesk}

@@ -1,8 +1,7 @@
-use Rattle.std.proofs.Common.{◌≡◌, ◌+◌, ◌<◌, [], length, drop, replicate, refl, sym, ap, subst, ◌∙◌, arith}
+use Rattle.std.proofs.Common.{◌≡◌, ◌+◌, ◌<◌, length, drop, refl, sym, ap, subst, ◌∙◌, arith}
 use Rattle.std.specs.List.{AllByRecursion}
-use Rattle.sqlite_trees.specs.Tree.{IsAscending}
 use Rattle.tb_refine.specs.Listed.{is_listed}
-use Rattle.tb_lists.specs.Counted.{IsOfSoMany, change_of, counted, count_all, no_count}
+use Rattle.tb_lists.specs.Counted.{IsOfSoMany, change_of, counted, count_all}
 use Rattle.tb_lists.proofs.Summed.{drop_here, drop_end, many_none}
 use Rattle.tb_lists.proofs.counting.count_rows.Goals as goal
 

@@ -12,7 +12,7 @@ use Rattle.tb_lists.proofs.reading.list_revisions.Goals as goal
 
 pub returns-clause-answered : goal.returns-clause-answered
 returns-clause-answered g c clean = if_ok c.lines_by.result c.lines_by.ensures.lines (λ v reported s desk x there.
-    let mid = was_clean c.read_steps.ensures.read_only clean in
+    let mid = was_clean c.all_moves.ensures.read_only clean in
     let first = desk_after c.in_ok-row.ensures.read_only mid desk in
     let row = c.in_ok-row.ensures.answered mid s desk x there in
     let steps : c.as_slice.result.now ≡ s.moves = search rules ∙ c.in_ok-steps.ensures.answered clean s first in
@@ -26,26 +26,26 @@ returns-clause-answered g c clean = if_ok c.lines_by.result c.lines_by.ensures.l
 pub returns-in_err-row-clause-fails : goal.returns-in_err-row-clause-fails
 returns-in_err-row-clause-fails g c clean unlimited s desk x there bad =
     let reported = err_from_is_err_and c.from_residual.result c.from_residual.ensures.1 in
-    let failed : c.read_sentence.result ≡ Err NotADesk = let was = c.in_err-row.was in let one = reported.1 in let two = reported.2 in cc in
-    c.read_sentence.ensures.fails clean unlimited s desk x there failed
+    let failed : c.sentence_row.result ≡ Err NotADesk = let was = c.in_err-row.was in let one = reported.1 in let two = reported.2 in cc in
+    c.sentence_row.ensures.fails clean unlimited s desk x there failed
 
 pub returns-in_err-steps-clause-fails : goal.returns-in_err-steps-clause-fails
 returns-in_err-steps-clause-fails g c clean unlimited s desk x there bad =
     let reported = err_from_is_err_and c.from_residual-in_err-steps.result c.from_residual-in_err-steps.ensures.1 in
-    let failed : c.read_steps.result ≡ Err NotADesk = let was = c.in_err-steps.was in let one = reported.1 in let two = reported.2 in cc in
-    let mid = was_clean c.read_steps.ensures.read_only clean in
+    let failed : c.all_moves.result ≡ Err NotADesk = let was = c.in_err-steps.was in let one = reported.1 in let two = reported.2 in cc in
+    let mid = was_clean c.all_moves.ensures.read_only clean in
     let first = desk_after c.in_ok-row.ensures.read_only mid desk in
-    c.read_steps.ensures.fails clean (c.read_sentence.ensures.read_only.commits_nothing.limit ∙ unlimited) s first failed
+    c.all_moves.ensures.fails clean (c.sentence_row.ensures.read_only.commits_nothing.limit ∙ unlimited) s first failed
 
 pub returns-in_err-steps-clause-cause : goal.returns-in_err-steps-clause-cause
 returns-in_err-steps-clause-cause g c =
-    second_clear c.from_residual-in_err-steps.result c.in_err-steps.field-0.0 c.from_residual-in_err-steps.ensures.1 c.in_ok-row.ensures.read_only c.read_steps.ensures.read_only c.in_err-steps.ensures.cause
+    second_clear c.from_residual-in_err-steps.result c.in_err-steps.field-0.0 c.from_residual-in_err-steps.ensures.1 c.in_ok-row.ensures.read_only c.all_moves.ensures.read_only c.in_err-steps.ensures.cause
 
 pub returns-in_err-row-clause-read_only : goal.returns-in_err-row-clause-read_only
-returns-in_err-row-clause-read_only g c = read_failed c.from_residual.result _ c.from_residual.ensures.1 c.read_sentence.ensures.read_only
+returns-in_err-row-clause-read_only g c = read_failed c.from_residual.result _ c.from_residual.ensures.1 c.sentence_row.ensures.read_only
 
 pub returns-in_err-steps-clause-read_only : goal.returns-in_err-steps-clause-read_only
-returns-in_err-steps-clause-read_only g c = read_failed c.from_residual-in_err-steps.result _ c.from_residual-in_err-steps.ensures.1 (read_then c.in_ok-row.ensures.read_only c.read_steps.ensures.read_only)
+returns-in_err-steps-clause-read_only g c = read_failed c.from_residual-in_err-steps.result _ c.from_residual-in_err-steps.ensures.1 (read_then c.in_ok-row.ensures.read_only c.all_moves.ensures.read_only)
 
 pub returns-clause-read_only : goal.returns-clause-read_only
 returns-clause-read_only g c = read_on _ (read_then c.in_ok-row.ensures.read_only c.in_ok-steps.ensures.read_only)

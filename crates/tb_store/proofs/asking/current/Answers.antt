@@ -1,29 +1,21 @@
-use Rattle.std.proofs.Common.{◌≡◌, ◌-◌, Err, sym, ap, ◌∙◌}
-use Rattle.tb_core.specs.declared.refusals.Fault.TheVariants.{Device, NotADesk}
-use Rattle.tb_reads.specs.Readable.{IsSentence}
-use Rattle.tb_refine.specs.DeskTables.{tables_of, sentence_record}
-use Rattle.tb_refine.specs.Fitting.{IsReadableSentence}
-use Rattle.tb_refine.proofs.Faultless.{read_reported, want_reported, fit}
-use Rattle.tb_commands.proofs.Finds.{none_lacks}
-use Rattle.tb_reads.proofs.ReadOnly.{read_on}
+use Rattle.std.proofs.Common.{◌≡◌, Err, ap}
+use Rattle.std.proofs.lemmas.Result.{err_from_is_err_and}
+use Rattle.tb_core.specs.declared.refusals.Fault.TheVariants.{NotADesk}
+use Rattle.tb_tables.specs.Records.{Sentence}
+use Rattle.tb_reads.proofs.ReadOnly.{read_failed}
 use Rattle.tb_store.proofs.asking.current.Goals as goal
 
-pub returns-in-Ok-None-clause-fails : goal.returns-in-Ok-None-clause-fails
-returns-in-Ok-None-clause-fails g c clean unlimited s desk x there bad =
-    let read = rw c.in-Ok-None.field-0-is at c.in-Ok-None.ensures.ok in
-    none_lacks sentence_record s.sentences (c.args.number - 1) x there (read clean desk.holds.schema (tables_of s).sentences desk.holds.stands.sentences)
+pub returns-clause-answered : goal.returns-clause-answered
+returns-clause-answered g c clean s desk x there = ap (λ (r : Sentence). r.rev) (c.in_ok-row.ensures.answered clean s desk x there)
 
-pub returns-in-Err-clause-fails : goal.returns-in-Err-clause-fails
-returns-in-Err-clause-fails g c clean unlimited s desk x there bad =
-    let reported : c.of_read.result ≡ NotADesk = cc in
-    let readable = c.desk_rows_are_readable.ensures s desk.reachable in
-    let fits = fit IsReadableSentence IsSentence (λ y h. record { sent_id_fits = h.sent_id_fits; batch_fits = h.batch_fits; rev_fits = h.rev_fits; words_fits = h.words_fits }) (tables_of s).sentences readable.sentences in
-    read_reported c.in-Err.error (c.in-Err.ensures.fails clean unlimited desk.holds.schema) (λ unfit. c.in-Err.ensures.form clean (ap Err unfit) desk.holds.schema (tables_of s).sentences fits desk.holds.stands.sentences) (sym c.of_read.ensures.value ∙ reported)
+pub returns-in_err-row-clause-fails : goal.returns-in_err-row-clause-fails
+returns-in_err-row-clause-fails g c clean unlimited s desk x there bad =
+    let reported = err_from_is_err_and c.from_residual.result c.from_residual.ensures.1 in
+    let failed : c.sentence_row.result ≡ Err NotADesk = let was = c.in_err-row.was in let one = reported.1 in let two = reported.2 in cc in
+    c.sentence_row.ensures.fails clean unlimited s desk x there failed
 
-pub returns-in-Err-clause-cause : goal.returns-in-Err-clause-cause
-returns-in-Err-clause-cause g c good clean unlimited has bad =
-    let reported : c.of_read.result ≡ Device = cc in
-    want_reported c.in-Err.error (c.in-Err.ensures.cause good clean unlimited has) (sym c.of_read.ensures.value ∙ reported)
+pub returns-in_err-row-clause-read_only : goal.returns-in_err-row-clause-read_only
+returns-in_err-row-clause-read_only g c = read_failed c.from_residual.result _ c.from_residual.ensures.1 c.sentence_row.ensures.read_only
 
-pub returns-in-Ok-None-clause-read_only : goal.returns-in-Ok-None-clause-read_only
-returns-in-Ok-None-clause-read_only g c = read_on _ c.in-Ok-None.ensures.read_only
+pub returns-clause-read_only : goal.returns-clause-read_only
+returns-clause-read_only g c = c.in_ok-row.ensures.read_only

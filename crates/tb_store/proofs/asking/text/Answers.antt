@@ -1,37 +1,22 @@
-use Rattle.std.proofs.Common.{◌≡◌, Err, sym, ap, ◌∙◌}
-use Rattle.tb_core.specs.declared.refusals.Fault.TheVariants.{Device, NotADesk}
-use Rattle.tb_tables.specs.Values.{revision_of}
-use Rattle.tb_reads.specs.Readable.{IsRevision}
-use Rattle.tb_refine.specs.DeskTables.{tables_of}
-use Rattle.tb_refine.specs.Fitting.{IsReadableRevision}
-use Rattle.tb_refine.proofs.RowsOfState.{text_reported}
-use Rattle.tb_refine.proofs.Faultless.{read_reported, want_reported, fit}
-use Rattle.tb_refine.proofs.Revised.{revision_found}
-use Rattle.tb_reads.proofs.ReadOnly.{read_on}
+use Rattle.std.proofs.Common.{◌≡◌, Err}
+use Rattle.std.proofs.lemmas.Result.{err_from_is_err_and}
+use Rattle.tb_core.specs.declared.refusals.Fault.TheVariants.{NotADesk}
+use Rattle.tb_reads.proofs.ReadOnly.{read_failed}
 use Rattle.tb_store.proofs.asking.text.Goals as goal
 
-pub returns-in-Ok-Some-clause-answered : goal.returns-in-Ok-Some-clause-answered
-returns-in-Ok-Some-clause-answered g c clean s desk x there =
-    let read = rw c.in-Ok-Some.field-0-is at c.in-Ok-Some.ensures.ok in
-    let found = read clean desk.holds.schema (tables_of s).revisions desk.holds.stands.revisions in
-    text_reported s x c.args.number c.args.rev (revision_of c.in-Ok-Some.row) c.requires there found
+pub returns-clause-answered : goal.returns-clause-answered
+returns-clause-answered g c clean s desk x there =
+    let it = c.in_ok-row.ensures.answered clean s desk x there in
+    (it.0, it.1, it.2)
 
-pub returns-in-Ok-None-clause-fails : goal.returns-in-Ok-None-clause-fails
-returns-in-Ok-None-clause-fails g c clean unlimited s desk x there q has bad =
-    let read = rw c.in-Ok-None.field-0-is at c.in-Ok-None.ensures.ok in
-    revision_found s c.args.number c.args.rev x q c.requires there has (read clean desk.holds.schema (tables_of s).revisions desk.holds.stands.revisions)
+pub returns-in_err-row-clause-fails : goal.returns-in_err-row-clause-fails
+returns-in_err-row-clause-fails g c clean unlimited s desk x there q has bad =
+    let reported = err_from_is_err_and c.from_residual.result c.from_residual.ensures.1 in
+    let failed : c.revision_row.result ≡ Err NotADesk = let was = c.in_err-row.was in let one = reported.1 in let two = reported.2 in cc in
+    c.revision_row.ensures.fails clean unlimited s desk x there q has failed
 
-pub returns-in-Err-clause-fails : goal.returns-in-Err-clause-fails
-returns-in-Err-clause-fails g c clean unlimited s desk x there q has bad =
-    let reported : c.of_read.result ≡ NotADesk = cc in
-    let readable = c.desk_rows_are_readable.ensures s desk.reachable in
-    let fits = fit IsReadableRevision IsRevision (λ r h. record { sent_fits = h.sent_fits; rev_fits = h.rev_fits; who_fits = h.who_fits; body_fits = h.body_fits }) (tables_of s).revisions readable.revisions in
-    read_reported c.in-Err.error (c.in-Err.ensures.fails clean unlimited desk.holds.schema) (λ unfit. c.in-Err.ensures.form clean (ap Err unfit) desk.holds.schema (tables_of s).revisions fits desk.holds.stands.revisions) (sym c.of_read.ensures.value ∙ reported)
+pub returns-in_err-row-clause-read_only : goal.returns-in_err-row-clause-read_only
+returns-in_err-row-clause-read_only g c = read_failed c.from_residual.result _ c.from_residual.ensures.1 c.revision_row.ensures.read_only
 
-pub returns-in-Err-clause-cause : goal.returns-in-Err-clause-cause
-returns-in-Err-clause-cause g c good clean unlimited has bad =
-    let reported : c.of_read.result ≡ Device = cc in
-    want_reported c.in-Err.error (c.in-Err.ensures.cause good clean unlimited has) (sym c.of_read.ensures.value ∙ reported)
-
-pub returns-in-Ok-None-clause-read_only : goal.returns-in-Ok-None-clause-read_only
-returns-in-Ok-None-clause-read_only g c = read_on _ c.in-Ok-None.ensures.read_only
+pub returns-clause-read_only : goal.returns-clause-read_only
+returns-clause-read_only g c = c.in_ok-row.ensures.read_only

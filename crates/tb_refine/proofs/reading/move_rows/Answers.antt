@@ -1,0 +1,54 @@
+use Rattle.std.proofs.Common.{Err, map, sym, ap, ◌∙◌}
+use Rattle.sqlite.specs.Held.{state}
+use Rattle.tb_core.specs.declared.refusals.Fault.TheVariants.{NotADesk}
+use Rattle.tb_tables.specs.Values.{move_of}
+use Rattle.tb_reads.specs.Readable.{IsMove}
+use Rattle.tb_reads.proofs.Shown.{if_ok}
+use Rattle.tb_refine.specs.DeskTables.{tables_of}
+use Rattle.tb_refine.specs.Faults.{fault_of_read}
+use Rattle.tb_refine.specs.Fitting.{IsReadableMove}
+use Rattle.tb_refine.proofs.Faultless.{read_reported, fit, want_reported}
+use Rattle.tb_refine.proofs.Reported.{reported_if, reported_not, reported_clear, reported_only}
+use Rattle.tb_refine.proofs.reading.move_rows.Goals as goal
+
+pub returns-clause-answered : goal.returns-clause-answered
+returns-clause-answered g c clean = rw c.reported.ensures.value (reported_if fault_of_read _ c.moves.result (if_ok c.moves.result (c.moves.ensures.ok clean) (λ v read s desk.
+    let stands = desk.holds.stands in
+    (c.one_list_for_the_rows.ensures (record (tables_of s) { moves = map move_of v.items }) (tables_of s) ((state g.S.Store c.args.conn.now).now.trees) (record {
+      meta = stands.meta;
+      batches = stands.batches;
+      sentences = stands.sentences;
+      revisions = stands.revisions;
+      moves = read desk.holds.schema;
+      totals = stands.totals;
+      pulled = stands.pulled;
+    }) stands).moves)))
+
+pub returns-clause-fails : goal.returns-clause-fails
+returns-clause-fails g c clean unlimited s desk bad =
+    let readable = c.desk_rows_are_readable.ensures s desk.reachable in
+    let fits = fit IsReadableMove IsMove (λ x h. record {
+      kind_fits = h.kind_fits;
+      batch_fits = h.batch_fits;
+      sent_fits = h.sent_fits;
+      from_fits = h.from_fits;
+      to_fits = h.to_fits;
+      sentences_fits = h.sentences_fits;
+      words_out_fits = h.words_out_fits;
+      words_in_fits = h.words_in_fits;
+      who_fits = h.who_fits;
+    }) (tables_of s).moves readable.moves in
+    reported_not fault_of_read NotADesk c.moves.result (λ e failed.
+    let fails = rw failed at c.moves.ensures.fails in
+    read_reported e (fails clean unlimited desk.holds.schema) (λ unfit. c.moves.ensures.form clean (failed ∙ ap Err unfit) desk.holds.schema (tables_of s).moves fits desk.holds.stands.moves))
+    (sym c.reported.ensures.value ∙ bad)
+
+pub returns-clause-cause : goal.returns-clause-cause
+returns-clause-cause g c good clean unlimited has =
+    rw c.reported.ensures.value (reported_clear fault_of_read c.moves.result (λ e failed.
+    let want = rw failed at c.moves.ensures.cause in
+    want_reported e (want good clean unlimited has)))
+
+pub returns-clause-read_only : goal.returns-clause-read_only
+returns-clause-read_only g c =
+    rw c.reported.ensures.value (reported_only fault_of_read g.S.Store c.args.conn.now c.moves.new.conn c.moves.result c.moves.ensures.read_only)
