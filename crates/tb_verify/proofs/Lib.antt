@@ -7,7 +7,8 @@ mod Seen
 mod Reported
 mod Six
 mod Joined
-mod Results
+pub mod Results
+mod Opened
 mod TableReads
 mod Rises
 mod Upgraded

@@ -1,5 +1,5 @@
 -- What one read tells, and several in a row.
-use Rattle.std.proofs.Common.{◌≡◌, ◌≢◌, None, List, Result, Ok, Err, IsPermutation, map, sym, ap, subst, ◌∙◌, arith}
+use Rattle.std.proofs.Common.{◌≡◌, ◌≢◌, None, List, Result, Ok, Err, IfOk, IfErr, OnOk, IsPermutation, map, sym, ap, subst, ◌∙◌, arith}
 use Rattle.std.proofs.lemmas.List.Sorted.{IsPermutation-sym}
 use Rattle.sqlite.specs.declared.error.Error.{Error}
 use Rattle.sqlite.specs.Order.{Row}
@@ -14,9 +14,16 @@ use Rattle.tb_core.specs.declared.refusals.Fault.{Fault}
 use Rattle.tb_core.specs.declared.refusals.Fault.TheVariants.{Refused, Device, NotADesk}
 use Rattle.tb_core.specs.declared.refusals.Refusal.{Refusal}
 use Rattle.tb_tables.specs.Layout.{version_one_schema}
+use Rattle.tb_tables.specs.Failing.{IsWant}
 use Rattle.tb_tables.specs.Records.{Shows}
 use Rattle.tb_tables.specs.Leaving.{IsFaultless}
 use Rattle.tb_tables.proofs.Causes.{faultless_next}
+use Rattle.tb_reads.specs.declared.error.ReadError.{ReadError}
+use Rattle.tb_reads.specs.declared.error.ReadError.TheVariants.{Form}
+use Rattle.tb_reads.specs.Failing.{IsReadWant}
+use Rattle.tb_refine.specs.Faults.{fault_of_making, reported_by}
+use Rattle.tb_refine.proofs.Reported.{reported_if}
+use Rattle.tb_verify.specs.Unfit.{fault_of_rows}
 use Rattle.tb_verify.proofs.Version1Selected.{HasSelected}
 use Rattle.tb_verify.specs.Version1Reads.{HasReadVersion1, AreOfNoState}
 use Rattle.tb_verify.proofs.Begun.{first_unchanged}
@@ -50,6 +57,50 @@ module _ {S R : Type 0} (g : Ghosts S) (old new : Held S) (selection : Result R 
     refused = λ r q. refused r (err_is X e (Refused r) q);
     cause = cause;
     same = λ clean. tt;
+    mode = h.mode;
+    kept = h.kept;
+    commits_nothing = h.commits_nothing;
+  }
+
+-- ---- a statement, with the fault for its error
+
+answer_back : {X E : Type 0} (f : E → Fault) (r : Result X E) (x : X) → reported_by f r ≡ Ok x → r ≡ Ok x
+answer_back f (Ok y) x is = let same : y ≡ x = cc in ap (λ z. Ok z) same
+answer_back f (Err e) x is = absurd cc
+
+module _ {S R : Type 0} (g : Ghosts S) (old new : Held S) (selection : Result R Error) (Shown : R → Trees → Type 0) (h : HasSelected g old new selection Shown) (answer : Result R Fault) where
+  pub selected_rows : (rows : R) → answer ≡ reported_by fault_of_making selection → answer ≡ Ok rows → HasSelected g old new (Ok rows) Shown
+  selected_rows rows value is = subst (λ r. HasSelected g old new r Shown) (answer_back fault_of_making selection rows (sym value ∙ is)) h
+
+  -- its error is handed on
+  pub selected_none : {X : Type 0} (e f : Fault) (r : Result X Fault) (Are : X → Trees → Type 0) → answer ≡ Err e → r ≡ Err f → f ≡ e → answer ≢ Err NotADesk → ((q : Refusal) → answer ≢ Err (Refused q)) → (IfErr selection IsWant → answer ≢ Err Device)
+      → HasReadVersion1 g old new r Are
+  selected_none e f r Are was made is no_form never want =
+      let failed : (k : Fault) → f ≡ k → answer ≡ Err k = λ k q. was ∙ ap (λ (j : Fault). let w : Result R Fault = Err j in w) (sym is ∙ q) in
+      subst (λ w. HasReadVersion1 g old new w Are) (sym made)
+      (read_badly g old new selection Shown h f Are (λ clean q has. absurd (no_form (failed NotADesk q))) (λ q same. never q (failed (Refused q) same)) (λ good clean unlimited has q. want (h.cause good clean unlimited has) (failed Device q)))
+
+-- ---- the records that its rows are, with the fault where they are none
+
+module _ {S R : Type 0} (g : Ghosts S) (old new : Held S) (selection : Result R Error) (Shown : R → Trees → Type 0) (h : HasSelected g old new selection Shown) where
+  on_ok : {X : Type 0} {A : Type 0} (r : Result X Fault) → A → OnOk r A
+  on_ok (Ok x) a = a
+  on_ok (Err e) a = tt
+
+  no_device : {X : Type 0} (r : Result X Fault) → r ≢ Err Device → IfErr r (λ (fault : Fault). fault ≢ Device)
+  no_device (Ok x) other = tt
+  no_device {X = X} (Err e) other = λ is. other (ap (λ (j : Fault). let w : Result X Fault = Err j in w) is)
+
+  pub read_told : {X : Type 0} (told : Result X ReadError) (result : Result X Fault) (Are : X → Trees → Type 0) → result ≡ reported_by fault_of_rows told → (result ≡ Err NotADesk → told ≡ Err Form) → (IfErr told IsReadWant → result ≢ Err Device) → ((q : Refusal) → result ≢ Err (Refused q)) → IfErr told IsReadWant
+      → (HasCleanDisk (state g new) → IfOk told (λ x. (state g old).now.schema ≡ version_one_schema → Are x (state g old).now.trees))
+      → (HasCleanDisk (state g new) → (state g old).now.schema ≡ version_one_schema → told ≡ Err Form → AreOfNoState (state g old).now.trees)
+      → (HasCleanDisk (state g new) → (state g old).now.schema ≡ version_one_schema → IsUnchanged (state g old) (state g new)) → HasReadVersion1 g old new result Are
+  read_told told result Are value form want never wants are unfit same = record {
+    are = λ clean. rw value (reported_if fault_of_rows _ told (are clean));
+    unfit = λ clean q has. (unfit clean has (form q), same clean has);
+    refused = never;
+    cause = λ good clean unlimited has. no_device result (want wants);
+    same = λ clean. on_ok result (same clean);
     mode = h.mode;
     kept = h.kept;
     commits_nothing = h.commits_nothing;

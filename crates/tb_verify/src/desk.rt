@@ -19,9 +19,8 @@ ghost use Rattle.tb_verify.specs.Summary.{IsSummaryOf};
 ghost use Rattle.tb_verify.specs.TableReads.{LooksLikeDesk};
 ghost use Rattle.tb_tables.specs.Leaving.{KeepsRecords, BlamesNoDisk};
 
-use crate::faults::of_unfit;
 use crate::reading::read_rows;
-use crate::summary::{DeskSummary, summary_of_rows};
+use crate::summary::{DeskSummary, summary_of_desk};
 use sqlite::{Alter, Connection};
 use std::alloc::Global;
 use tb_core::Fault;
@@ -71,8 +70,5 @@ pub fn read_desk<S: Alter>(alloc: Global, conn: &mut Connection<S>) -> Result<De
         return Err(Fault::NotADesk);
     }
     let rows = read_rows(alloc, conn)?;
-    match summary_of_rows(alloc, &rows) {
-        Ok(summary) => Ok(summary),
-        Err(unfit) => Err(of_unfit(unfit)),
-    }
+    summary_of_desk(alloc, &rows)
 }

@@ -4,7 +4,7 @@ ghost use Rattle.std.specs.Prelude.{◌≡◌, ◌≢◌, Err, IfErr};
 ghost use Rattle.tb_core.specs.declared.refusals.Refusal.{Refusal};
 ghost use Rattle.tb_tables.specs.Failing.{IsWant};
 ghost use Rattle.tb_reads.specs.Failing.{IsReadWant};
-ghost use Rattle.tb_refine.specs.Faults.{fault_of_making, reported_by};
+ghost use Rattle.tb_refine.specs.Faults.{IsNoDevice, fault_of_making, reported_by};
 ghost use Rattle.tb_verify.specs.Unfit.{fault_of_rows, fault_of_unfit};
 
 use crate::unfit::Unfit;
@@ -52,6 +52,19 @@ pub(crate) fn reported<T>(read: Result<T, ReadError>) -> Result<T, Fault>
     }
 }
 
+/// An answer of the database, with the fault for its error.
+pub(crate) fn answered<T>(answer: Result<T, Error>) -> Result<T, Fault>
+    ensures value { result ≡ reported_by fault_of_making answer }
+    ensures no_form { result ≢ Err Fault.NotADesk }
+    ensures cause { IfErr answer IsWant → result ≢ Err Fault.Device }
+    ensures never_refuses { (r : Refusal) → result ≢ Err (Fault.Refused r) }
+{
+    match answer {
+        Ok(found) => Ok(found),
+        Err(error) => Err(of_error(error)),
+    }
+}
+
 /// The fault of rows that a test calls unfit.
 pub(crate) fn of_unfit(unfit: Unfit) -> Fault
     ensures form { result ≡ Fault.NotADesk → unfit ≡ Unfit.NotADesk }
@@ -62,5 +75,18 @@ pub(crate) fn of_unfit(unfit: Unfit) -> Fault
     match unfit {
         Unfit::NotADesk => Fault::NotADesk,
         Unfit::Memory => Fault::Memory,
+    }
+}
+
+/// What rows tell, with the fault where a test calls them unfit.
+pub(crate) fn fitting<T>(told: Result<T, Unfit>) -> Result<T, Fault>
+    ensures value { result ≡ reported_by fault_of_unfit told }
+    ensures form { result ≡ Err Fault.NotADesk → told ≡ Err Unfit.NotADesk }
+    ensures cause { IfErr result IsNoDevice }
+    ensures never_refuses { (r : Refusal) → result ≢ Err (Fault.Refused r) }
+{
+    match told {
+        Ok(found) => Ok(found),
+        Err(unfit) => Err(of_unfit(unfit)),
     }
 }

@@ -1,23 +1,26 @@
 //! Whether the rows of all tables are those of a state that accepted commands reach. This module uses no database.
 
-ghost use Rattle.std.specs.Prelude.{◌≡◌, ◌≢◌, ◌≤◌, map, Err, Decides, IfOk};
+ghost use Rattle.std.specs.Prelude.{◌≡◌, ◌≢◌, ◌≤◌, map, Err, Decides, IfErr, IfOk};
+ghost use Rattle.tb_core.specs.declared.refusals.Refusal.{Refusal as AnyRefusal};
 ghost use Rattle.tb_core.specs.Machine.{Machine};
 ghost use Rattle.tb_core.specs.Reaching.{IsReachable};
 ghost use Rattle.tb_core.specs.Totals.{AreTotalsOf};
 ghost use Rattle.tb_tables.specs.Values.{batch_of, sentence_of, total_of};
 ghost use Rattle.tb_refine.specs.DeskTables.{tables_of, total_record, six_states};
+ghost use Rattle.tb_refine.specs.Faults.{IsNoDevice};
 ghost use Rattle.tb_verify.specs.Apart.{AreNamed, AreTitled};
 ghost use Rattle.tb_verify.specs.declared.unfit.Unfit.TheVariants.{NotADesk};
 ghost use Rattle.tb_verify.specs.Summary.{IsShownBy, IsSummaryOf, tables_in};
 
 use crate::apart::{are_batches_apart, are_sentences_apart};
 use crate::entries::entries_in;
+use crate::faults::fitting;
 use crate::laws::{rows_tell_names_apart, rows_tell_sentences};
 use crate::machine::{batches_in, moves_in};
 use crate::totals::totals_in;
 use crate::unfit::{Unfit, fit};
 use std::alloc::{AllocError, Global};
-use tb_core::{Move, Totals};
+use tb_core::{Fault, Move, Totals};
 use tb_replay::{SentenceSummary, reached_states_are_fine, replays};
 use tb_tables::{BatchRow, MoveRow, RevisionRow, SentenceRow, TotalRow};
 
@@ -107,7 +110,7 @@ fn counted(
 /// # Errors
 ///
 /// `NotADesk`, where no such state has these rows; or want of memory.
-pub(crate) fn summary_of_rows(alloc: Global, rows: &TableRows) -> Result<DeskSummary, Unfit>
+fn summary_of_rows(alloc: Global, rows: &TableRows) -> Result<DeskSummary, Unfit>
     ensures summary { IfOk result (λ x. (s : Machine) × IsReachable s × (tables_in rows.now ≡ tables_of s)
         × IsSummaryOf x s) }
     ensures counts { IfOk result (λ x. (x.batches ≤ x.moves) × (x.sentences ≤ 1000000)
@@ -127,4 +130,22 @@ pub(crate) fn summary_of_rows(alloc: Global, rows: &TableRows) -> Result<DeskSum
     let moves = moves_in(alloc, rows.moves.as_slice())?;
     let totals = reached_totals(alloc, &batches, &entries, &moves, rows.totals.as_slice())?;
     counted(batches.len(), entries.len(), moves.len(), totals)
+}
+
+/// The same, with the fault of a desk where no such state has these rows.
+///
+/// # Errors
+///
+/// `NotADesk`, where no such state has these rows; or want of memory.
+pub(crate) fn summary_of_desk(alloc: Global, rows: &TableRows) -> Result<DeskSummary, Fault>
+    ensures summary { IfOk result (λ x. (s : Machine) × IsReachable s × (tables_in rows.now ≡ tables_of s)
+        × IsSummaryOf x s) }
+    ensures counts { IfOk result (λ x. (x.batches ≤ x.moves) × (x.sentences ≤ 1000000)
+        × (x.moves ≤ 1000000000)) }
+    ensures unfit { result ≡ Err Fault.NotADesk → (s : Machine) → IsReachable s
+        → tables_in rows.now ≡ tables_of s → ⊥ }
+    ensures never_refuses { (r : AnyRefusal) → result ≢ Err (Fault.Refused r) }
+    ensures cause { IfErr result IsNoDevice }
+{
+    fitting(summary_of_rows(alloc, rows))
 }

@@ -1,19 +1,20 @@
 //! Whether a store is a desk of version 1, and the change of one into a desk.
 
-ghost use Rattle.std.specs.Prelude.{◌≡◌, ◌≢◌, ◌≤◌, false, None, Err, IsTrue, IfOk, OnOk, OnErr};
+ghost use Rattle.std.specs.Prelude.{◌≡◌, ◌≢◌, ◌≤◌, [], false, None, Err, IsTrue, IfOk, OnOk, OnErr};
 ghost use Rattle.sqlite.specs.State.{HasCleanDisk, IsUnchanged, Survives};
 ghost use Rattle.sqlite.specs.Held.{state};
 ghost use Rattle.tb_core.specs.declared.refusals.Refusal.{Refusal as AnyRefusal};
 ghost use Rattle.tb_core.specs.declared.refusals.Fault.{Fault as AnyFault};
 ghost use Rattle.tb_core.specs.Machine.{Machine};
 ghost use Rattle.tb_tables.specs.Records.{Tables, AreStored};
+ghost use Rattle.tb_tables.specs.Changes.{Holds};
 ghost use Rattle.tb_tables.specs.Leaving.{BlamesNoDisk};
 ghost use Rattle.tb_refine.specs.DeskTables.{tables_of, IsDeskOf};
 ghost use Rattle.tb_verify.specs.Summary.{IsSummaryOf};
 ghost use Rattle.tb_verify.specs.Version1.{HoldsFirst, AreStoredInVersion1};
 ghost use Rattle.tb_verify.specs.Version1Desk.{IsFirstDesk, LooksFirst};
 
-use crate::faults::of_error;
+use crate::faults::answered;
 use crate::summary::DeskSummary;
 use crate::upgrading::upgrade;
 use crate::version1_reading::read_version1_rows;
@@ -60,6 +61,22 @@ fn read_first_desk<S: Alter>(alloc: Global, conn: &mut Connection<S>) -> Result<
     summary_without_pulls(alloc, &rows)
 }
 
+/// Converts the tables of version 1 into those of a desk, with the fault for an error. That is never `NotADesk`.
+fn convert<S: Alter>(conn: &mut Connection<S>) -> Result<(), Fault>
+    requires autocommit { conn.old.in_transaction ≡ false }
+    ensures ok { HasCleanDisk (state S.Store conn.new) → OnOk result ((d : Tables) → d.pulled ≡ []
+        → HoldsFirst S.Store conn.old d → Holds S.Store conn.new d) }
+    ensures err { HasCleanDisk (state S.Store conn.new) → IsTrue (state S.Store conn.new).is_open
+        → OnErr result ((d : Tables) → HoldsFirst S.Store conn.old d → HoldsFirst S.Store conn.new d) }
+    ensures no_form { result ≢ Err Fault.NotADesk }
+    ensures never_refuses { (r : AnyRefusal) → result ≢ Err (Fault.Refused r) }
+    ensures autocommit { conn.new.in_transaction ≡ false }
+    ensures crash { Survives (state S.Store conn.old) (state S.Store conn.new) (λ db. (d : Tables) → d.pulled ≡ []
+        → HoldsFirst S.Store conn.old d → AreStored d db) }
+{
+    answered(upgrade(conn))
+}
+
 /// Makes a desk of a store that is one of version 1 without pulls. Returns the counts and totals of the state that its
 /// tables represent.
 ///
@@ -91,10 +108,8 @@ pub fn migrate<S: Alter>(alloc: Global, conn: &mut Connection<S>) -> Result<Desk
         → IsFirstDesk S.Store conn.old s → AreStored (tables_of s) db) }
 {
     let summary = read_first_desk(alloc, conn)?;
-    match upgrade(conn) {
-        Ok(()) => Ok(summary),
-        Err(error) => Err(of_error(error)),
-    }
+    convert(conn)?;
+    Ok(summary)
 }
 
 /// What a crash may leave of a desk of version 1 whose connection is open and in no transaction: its tables, whole.

@@ -9,7 +9,7 @@ ghost use Rattle.tb_tables.specs.Values.{batch_of, sentence_of, move_of, total_o
 ghost use Rattle.tb_verify.specs.Version1.{TellsFirst};
 ghost use Rattle.tb_verify.specs.Version1Reads.{HasReadVersion1, AreTheRevisions, AreTheRows};
 
-use crate::faults::{of_error, of_read};
+use crate::faults::{answered, reported};
 use crate::summary::TableRows;
 use sqlite::types::ValueRef;
 use sqlite::{Alter, Connection, Row};
@@ -47,15 +47,11 @@ fn is_first_version(rows: &[Row]) -> bool
 fn read_version1<S: Alter>(conn: &mut Connection<S>) -> Result<(), Fault>
     ensures { HasReadVersion1 S.Store conn.old conn.new result (λ _ trees. TellsFirst trees) }
 {
-    match conn.query_all("SELECT rowid, version FROM meta", &[]) {
-        Ok(rows) => {
-            if !is_first_version(rows.as_slice()) {
-                return Err(Fault::NotADesk);
-            }
-            Ok(())
-        }
-        Err(error) => Err(of_error(error)),
+    let rows = answered(conn.query_all("SELECT rowid, version FROM meta", &[]))?;
+    if !is_first_version(rows.as_slice()) {
+        return Err(Fault::NotADesk);
     }
+    Ok(())
 }
 
 /// The rows of batches, by number.
@@ -67,16 +63,11 @@ fn read_version1_batches<S: Alter>(
         Shows batch_view (numbered batch_shown 1 (map batch_of v.items)) (trees 1)) }
 {
     desk_rows_are_readable();
-    match conn.query_all(
+    let rows = answered(conn.query_all(
         "SELECT no, name, state, worker FROM batches ORDER BY no",
         &[],
-    ) {
-        Ok(rows) => match batches_in(alloc, rows.as_slice()) {
-            Ok(batches) => Ok(batches),
-            Err(error) => Err(of_read(error)),
-        },
-        Err(error) => Err(of_error(error)),
-    }
+    ))?;
+    reported(batches_in(alloc, rows.as_slice()))
 }
 
 /// The rows of sentences, by number.
@@ -88,16 +79,11 @@ fn read_version1_sentences<S: Alter>(
         Shows sentence_view (numbered sentence_shown 1 (map sentence_of v.items)) (trees 3)) }
 {
     desk_rows_are_readable();
-    match conn.query_all(
+    let rows = answered(conn.query_all(
         "SELECT no, sent_id, batch, rev, words FROM sentences ORDER BY no",
         &[],
-    ) {
-        Ok(rows) => match sentences_in(alloc, rows.as_slice()) {
-            Ok(sentences) => Ok(sentences),
-            Err(error) => Err(of_read(error)),
-        },
-        Err(error) => Err(of_error(error)),
-    }
+    ))?;
+    reported(sentences_in(alloc, rows.as_slice()))
 }
 
 /// The rows of revisions, by sentence and number.
@@ -108,16 +94,11 @@ fn read_version1_revisions<S: Alter>(
     ensures { HasReadVersion1 S.Store conn.old conn.new result (λ v trees. AreTheRevisions v.items trees) }
 {
     desk_rows_are_readable();
-    match conn.query_all(
+    let rows = answered(conn.query_all(
         "SELECT sent, rev, who, body FROM revisions ORDER BY sent, rev",
         &[],
-    ) {
-        Ok(rows) => match revisions_in(alloc, rows.as_slice()) {
-            Ok(revisions) => Ok(revisions),
-            Err(error) => Err(of_read(error)),
-        },
-        Err(error) => Err(of_error(error)),
-    }
+    ))?;
+    reported(revisions_in(alloc, rows.as_slice()))
 }
 
 /// The rows of moves, by number.
@@ -129,16 +110,11 @@ fn read_version1_moves<S: Alter>(
         Shows move_view (numbered move_shown 1 (map move_of v.items)) (trees 7)) }
 {
     desk_rows_are_readable();
-    match conn.query_all(
+    let rows = answered(conn.query_all(
         "SELECT no, kind, batch, sent, from_state, to_state, sentences, words_out, words_in, who FROM moves ORDER BY no",
         &[],
-    ) {
-        Ok(rows) => match moves_in(alloc, rows.as_slice()) {
-            Ok(moves) => Ok(moves),
-            Err(error) => Err(of_read(error)),
-        },
-        Err(error) => Err(of_error(error)),
-    }
+    ))?;
+    reported(moves_in(alloc, rows.as_slice()))
 }
 
 /// The rows of totals, by the number of the state.
@@ -150,16 +126,11 @@ fn read_version1_totals<S: Alter>(
         Shows total_view (numbered total_shown 1 (map total_of v.items)) (trees 8)) }
 {
     desk_rows_are_readable();
-    match conn.query_all(
+    let rows = answered(conn.query_all(
         "SELECT state, sentences, words FROM totals ORDER BY state",
         &[],
-    ) {
-        Ok(rows) => match totals_in(alloc, rows.as_slice()) {
-            Ok(totals) => Ok(totals),
-            Err(error) => Err(of_read(error)),
-        },
-        Err(error) => Err(of_error(error)),
-    }
+    ))?;
+    reported(totals_in(alloc, rows.as_slice()))
 }
 
 /// The rows of all tables of version 1, and no pulled sentence.

@@ -10,8 +10,7 @@ ghost use Rattle.tb_refine.specs.DeskTables.{tables_of};
 ghost use Rattle.tb_verify.specs.Summary.{IsSummaryOf, tables_in};
 ghost use Rattle.tb_verify.specs.Version1Desk.{HasNoPull};
 
-use crate::faults::of_unfit;
-use crate::summary::{DeskSummary, TableRows, summary_of_rows};
+use crate::summary::{DeskSummary, TableRows, summary_of_desk};
 use std::alloc::Global;
 use tb_core::Fault;
 use tb_tables::MoveRow;
@@ -50,8 +49,5 @@ pub(crate) fn summary_without_pulls(alloc: Global, rows: &TableRows) -> Result<D
     if !has_no_pull(rows.moves.as_slice()) {
         return Err(Fault::NotADesk);
     }
-    match summary_of_rows(alloc, rows) {
-        Ok(summary) => Ok(summary),
-        Err(unfit) => Err(of_unfit(unfit)),
-    }
+    summary_of_desk(alloc, rows)
 }

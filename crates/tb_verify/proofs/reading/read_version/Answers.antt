@@ -1,4 +1,4 @@
-use Rattle.std.proofs.Common.{◌≡◌, [], ◌∷◌, map, subst, sym, ◌∙◌}
+use Rattle.std.proofs.Common.{map, subst, sym, ◌∙◌}
 use Rattle.std.proofs.lemmas.Result.{err_from_is_err_and}
 use Rattle.tb_tables.specs.Records.{Shows, number_shown, meta_view}
 use Rattle.tb_verify.proofs.TableReads.{read_failed, read_tested}
