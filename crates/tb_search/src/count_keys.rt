@@ -1,11 +1,11 @@
 //! Counts the keys of hits.
 
 ghost use Rattle.std.specs.Prelude.{◌≡◌, ◌≢◌, ◌<◌, ◌≤◌, ◌-◌, ◌^◌, ◌++◌, ◌∷◌, [], ℕ, All, List};
-ghost use Rattle.std.specs.Prelude.{Err, IfErr, OnOk, map};
+ghost use Rattle.std.specs.Prelude.{Err, IfErr, IsOk, OnOk, map};
 ghost use Rattle.sqlite.specs.declared.error.ErrorCode.TheVariants.{OutOfMemory};
 ghost use Rattle.tb_conllu.specs.Words.{words_of};
 ghost use Rattle.tb_report.specs.Keywords.{key_of};
-ghost use Rattle.tb_report.specs.Tables.{IsTableOf};
+ghost use Rattle.tb_report.specs.Tables.{IsTableOf, count_in, total_of};
 ghost use Rattle.tb_search.specs.Visited.{IsFault, IsStopFault, IsStopWant};
 
 use crate::searcher::{SentenceSearcher, sentence_in};
@@ -31,6 +31,21 @@ fn has_room(total: u64) -> Result<(), Stopped>
     Ok(())
 }
 
+/// Counts a key. One that was counted before takes no memory.
+fn count_key(key: &str, table: &mut Freq) -> Result<(), Stopped>
+    requires { total_of table.old < 2 ^ 64 - 1 }
+    ensures counted { OnOk result ((keys : List (List ℕ)) → IsTableOf keys table.old
+        → IsTableOf (keys ++ key.now ∷ []) table.new) }
+    ensures known { 0 < count_in table.old key.now → IsOk result }
+    ensures never_refuses { result ≢ Err Stopped.Output }
+    ensures fault { IfErr result IsFault }
+    ensures fails { IfErr result IsStopFault }
+    ensures cause { IfErr result IsStopWant }
+{
+    table.add(key)?;
+    Ok(())
+}
+
 /// Counts the key of one hit.
 fn count_hit(
     alloc: Global,
@@ -50,7 +65,7 @@ fn count_hit(
 {
     has_room(table.total())?;
     let key = key(alloc, block, hit, column)?;
-    table.add(key.as_str())?;
+    count_key(key.as_str(), table)?;
     Ok(())
 }
 
