@@ -1,4 +1,5 @@
-pub mod Inputs
-pub mod Counted
 pub mod Asked
+pub mod Counted
+pub mod Inputs
+pub mod Read
 pub mod Replies

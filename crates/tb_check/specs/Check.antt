@@ -2,17 +2,23 @@
 use Rattle.std.specs.Prelude.{◌≡◌, ◌≤◌, ◌<◌, ◌⊎◌, ℕ, List, ◌++◌, length, codes, decimal}
 use Rattle.std.specs.Prelude.{Bool, true, false, Option, IfSome, MatchOption}
 use Rattle.std.specs.List.{sum_by}
+use Rattle.std.specs.Option.{option_map_or}
 use Rattle.std.specs.Io.KnownBytes.{Appends}
 use Rattle.tb_conllu.specs.Sunk.{AppendsPart}
 use Rattle.tb_conllu.specs.Text.{BlockText}
 use Rattle.tb_conllu.specs.Reported.{IsFile, IsReported}
 use Rattle.tb_conllu.specs.Words.{words_of}
+use Rattle.tb_conllu.specs.declared.fault.ReadFault.{ReadFault}
+use Rattle.tb_conllu.specs.declared.fault.ReadFault.TheVariants as read
 use Rattle.tb_rules.specs.File.{IsValid, IsFaultAt, IsCutShort, HasTaken}
 use Rattle.tb_rules.specs.declared.filefault.FileFault.{FileFault}
 use Rattle.tb_rules.specs.declared.filefault.FileFault.TheVariants.{At}
 use Rattle.tb_rules.specs.declared.filefault.FileFault.TheVariants as rules
 use Rattle.tb_check.specs.Input.{IsBrokenWithin}
 use Rattle.tb_check.specs.declared.check.Survey.{Survey}
+use Rattle.tb_check.specs.declared.input.Input.{Input}
+use Rattle.tb_check.specs.declared.input.Input.TheVariants.{Whole}
+use Rattle.tb_check.specs.declared.input.Input.TheVariants as input
 use Rattle.tb_check.specs.declared.reply.CheckReply.{CheckReply}
 use Rattle.tb_check.specs.declared.reply.CheckReply.TheVariants.{Counts, Read, Rule, Long, Memory, Device}
 
@@ -34,6 +40,18 @@ IsAsked names reported bs = MatchOption reported (HasTaken names bs) (IsReported
 abbrev pub IsSurvey : List BlockText → Survey → Type 0
 IsSurvey bs s = (s.sentences ≡ length bs) × (s.words ≡ words_in bs)
     × MatchOption s.fault (IsValid bs) (IsReportedFault bs)
+
+-- the reply for a survey, and for bytes that are no file
+abbrev pub reply_of_fault : FileFault → CheckReply
+reply_of_fault (At sentence rule row) = Rule sentence rule row
+reply_of_fault rules.Memory = Memory
+
+abbrev pub reply_of : Survey → CheckReply
+reply_of s = option_map_or reply_of_fault s.fault (Counts s.sentences s.words)
+
+abbrev pub reply_for : ReadFault → CheckReply
+reply_for (read.At line code) = Read line code
+reply_for read.Memory = Memory
 
 -- the greatest size of a file, in bytes
 abbrev pub file_limit : ℕ
@@ -100,3 +118,10 @@ abbrev pub IsReplyToRead : {Why : Type 0} → (Why → Type 0) → ℕ → Optio
     → CheckReply → Type 0
 IsReplyToRead is_failure limit old new Device = IsBrokenWithin is_failure limit old new
 IsReplyToRead is_failure limit old new reply = IfSome old (λ bytes. IsReplyTo limit bytes reply)
+
+-- The reply to what was read of an input: true of the whole input, or why that did not come.
+abbrev pub IsReplyToInput : ℕ → Input → CheckReply → Type 0
+IsReplyToInput limit (Whole bytes) reply = IsReplyTo limit bytes.items reply
+IsReplyToInput limit input.TooLong reply = reply ≡ Long
+IsReplyToInput limit input.Memory reply = reply ≡ Memory
+IsReplyToInput limit input.Broken reply = reply ≡ Device

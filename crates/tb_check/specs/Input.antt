@@ -1,5 +1,5 @@
 -- What was read from an input.
-use Rattle.std.specs.Prelude.{◌≡◌, ◌≤◌, ◌<◌, ◌+◌, ℕ, List, length, Option}
+use Rattle.std.specs.Prelude.{◌≡◌, ◌≤◌, ◌<◌, ◌+◌, ℕ, List, length, Option, ⊤}
 use Rattle.std.specs.Io.KnownBytes.{Consumes, IsAtEnd}
 use Rattle.tb_check.specs.declared.input.Input.{Input}
 use Rattle.tb_check.specs.declared.input.Input.TheVariants.{Whole, TooLong, Memory, Broken}
@@ -21,3 +21,8 @@ IsInput is_failure limit old new (Whole bytes) =
 IsInput is_failure limit old new TooLong = TakenSome old new (λ n. n ≡ limit + 1)
 IsInput is_failure limit old new Memory = TakenSome old new (λ n. (0 < n) × (n ≤ limit + 1))
 IsInput is_failure limit old new Broken = IsBrokenWithin is_failure limit old new
+
+-- what was read whole has at most so many bytes
+abbrev pub IsWithin : (limit : ℕ) → Input → Type 0
+IsWithin limit (Whole bytes) = length bytes.items ≤ limit
+IsWithin limit _ = ⊤

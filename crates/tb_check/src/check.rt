@@ -1,11 +1,13 @@
 //! Checks a file.
 
-ghost use Rattle.std.specs.Prelude.{◌<◌, ◌≤◌, ◌^◌, ℕ, List, [], ◌∷◌, ◌++◌, length, IfOk};
+ghost use Rattle.std.specs.Prelude.{◌≡◌, ◌<◌, ◌≤◌, ◌^◌, ℕ, List, [], ◌∷◌, ◌++◌, length, IfOk};
 ghost use Rattle.std.specs.Prelude.{IfErr};
 ghost use Rattle.tb_conllu.specs.Fault.{IsReadFault};
 ghost use Rattle.tb_conllu.specs.Text.{BlockText};
 ghost use Rattle.tb_conllu.specs.Reported.{IsFile};
-ghost use Rattle.tb_check.specs.Check.{Answers, IsAsked, IsReplyTo, IsReplyToRead, IsSurvey, file_limit};
+ghost use Rattle.tb_check.specs.Check.{Answers, IsAsked, IsReplyTo, IsReplyToInput, IsReplyToRead, IsSurvey, file_limit};
+ghost use Rattle.tb_check.specs.Check.{reply_for};
+ghost use Rattle.tb_check.specs.Input.{IsWithin};
 
 use crate::input::{Input, read_all};
 use crate::output::put_reply;
@@ -30,13 +32,14 @@ pub struct Survey {
 }
 
 impl Survey {
-    ghost use Rattle.std.specs.Prelude.{◌≤◌, ℕ, List, length};
+    ghost use Rattle.std.specs.Prelude.{◌≡◌, ◌≤◌, ℕ, List, length};
     ghost use Rattle.tb_conllu.specs.Text.{BlockText};
     ghost use Rattle.tb_conllu.specs.Reported.{IsFile};
-    ghost use Rattle.tb_check.specs.Check.{IsReplyTo, IsSurvey};
+    ghost use Rattle.tb_check.specs.Check.{IsReplyTo, IsSurvey, reply_of};
 
     /// The reply of the check for the file.
     fn reply(self) -> CheckReply
+        ensures value { result ≡ reply_of self }
         ensures reply { (limit : ℕ) (input : List ℕ) (bs : List BlockText) → length input ≤ limit
             → IsFile input bs → IsSurvey bs self → IsReplyTo limit input result }
     {
@@ -106,6 +109,19 @@ pub fn survey_file(alloc: Global, file: &[u8]) -> Result<Survey, ReadFault>
     Ok(found)
 }
 
+/// The reply for bytes that are no file.
+fn reply_for(fault: ReadFault) -> CheckReply
+    ensures { result ≡ reply_for fault }
+{
+    match fault {
+        ReadFault::At { line, code } => CheckReply::Read {
+            line: line as u64,
+            code,
+        },
+        ReadFault::Memory => CheckReply::Memory,
+    }
+}
+
 /// The reply of the check for a file in memory. It is never `Device`.
 pub fn check_file(alloc: Global, file: &[u8], limit: u64) -> CheckReply
     requires { length file.now ≤ limit }
@@ -113,11 +129,20 @@ pub fn check_file(alloc: Global, file: &[u8], limit: u64) -> CheckReply
 {
     match survey_file(alloc, file) {
         Ok(found) => found.reply(),
-        Err(ReadFault::At { line, code }) => CheckReply::Read {
-            line: line as u64,
-            code,
-        },
-        Err(ReadFault::Memory) => CheckReply::Memory,
+        Err(fault) => reply_for(fault),
+    }
+}
+
+/// The reply of the check for what was read of an input.
+pub fn check_input(alloc: Global, input: &Input, limit: u64) -> CheckReply
+    requires { IsWithin limit input.now }
+    ensures { IsReplyToInput limit input.now result }
+{
+    match input {
+        Input::Whole(file) => check_file(alloc, file.as_slice(), limit),
+        Input::TooLong => CheckReply::Long,
+        Input::Memory => CheckReply::Memory,
+        Input::Broken => CheckReply::Device,
     }
 }
 
@@ -126,12 +151,8 @@ fn check_source<R: Source>(alloc: Global, source: &mut R, limit: u64) -> CheckRe
     requires { limit < 2 ^ 32 }
     ensures { IsReplyToRead (R.IsFailure source.new) limit (R.left source.old) (R.left source.new) result }
 {
-    match read_all(alloc, source, limit) {
-        Input::Whole(file) => check_file(alloc, &file, limit),
-        Input::TooLong => CheckReply::Long,
-        Input::Memory => CheckReply::Memory,
-        Input::Broken => CheckReply::Device,
-    }
+    let input = read_all(alloc, source, limit);
+    check_input(alloc, &input, limit)
 }
 
 /// Checks at most `limit` bytes, writes the reply, and returns the exit status.

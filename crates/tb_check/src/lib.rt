@@ -11,7 +11,7 @@ mod reply;
 mod words;
 
 pub use check::{
-    FILE_LIMIT, Survey, check_bytes, check_file, check_within, run_check, survey_file,
+    FILE_LIMIT, Survey, check_bytes, check_file, check_input, check_within, run_check, survey_file,
 };
 pub use input::{Input, read_all};
 pub use laws::{one_reply_is_true, valid_sentences_are_counted};
