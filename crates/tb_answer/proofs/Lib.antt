@@ -2,6 +2,7 @@ pub mod Failing
 pub mod Texts
 pub mod Numbering
 pub mod Parts
+pub mod Bodied
 pub mod Exporting
 pub mod SearchTexts
 mod Causeless

@@ -11,3 +11,7 @@ pub numbered : {cause later : Type 0} (s : Machine) (n : ℕ) (name : List ℕ) 
     → IsReportedAs later (RefusesNumber s n) r
 numbered s n name r named why (inl (refusal, is, so)) = inl (refusal, is, inr (name, named, so))
 numbered s n name r named why (inr failed) = inr (fails_for r why failed)
+
+pub reported_later : {cause later : Type 0} (s : Machine) (n : ℕ) (r : Reply) → (cause → later) → IsReportedAs cause (RefusesNumber s n) r → IsReportedAs later (RefusesNumber s n) r
+reported_later s n r why (inl refused) = inl refused
+reported_later s n r why (inr failed) = inr (fails_for r why failed)

@@ -3,6 +3,8 @@ use Rattle.std.specs.Prelude.{◌≡◌, ◌≤◌, ◌<◌, ◌+◌, ◌⊎◌,
 use Rattle.std.specs.Prelude.{false, Option, Result, Ok, Err}
 use Rattle.std.specs.Io.KnownBytes.{Consumes, IsAtEnd}
 use Rattle.tb_check.specs.Input.{TakenSome, IsBrokenWithin}
+use Rattle.tb_check.specs.declared.input.Input.{Input}
+use Rattle.tb_check.specs.declared.input.Input.TheVariants as input
 use Rattle.tb_http.specs.declared.asks.RequestFault.TheVariants.{Long}
 use Rattle.tb_http.specs.declared.replies.Reply.{Reply}
 use Rattle.tb_http.specs.declared.replies.Reply.TheVariants as reply
@@ -13,6 +15,13 @@ abbrev pub has_body : Said → Bool
 has_body (import_batch db user name) = true
 has_body (correct db user n base) = true
 has_body _ = false
+
+-- the body in what was read of an input, or the reply that says why there is none
+abbrev pub body_in : Input → Result (List ℕ) Reply
+body_in (input.Whole body) = Ok body.items
+body_in input.TooLong = Err (reply.Faulty Long)
+body_in input.Memory = Err reply.Memory
+body_in input.Broken = Err reply.Device
 
 -- The body is the whole input, of at most `limit` bytes. Or the input is longer, and one byte more is taken. Or memory
 -- ran out for bytes that came. Or a read failed, as the reader's failure says.

@@ -1,6 +1,6 @@
 //! Counts of what is found in released text, as CSV.
 
-ghost use Rattle.std.specs.Prelude.{◌≡◌, ℕ, List, IfOk, IfErr};
+ghost use Rattle.std.specs.Prelude.{◌≡◌, ℕ, List, IfOk, IfErr, MatchResult, None};
 ghost use Rattle.tb_report.specs.Csv.{freq_csv};
 ghost use Rattle.tb_report.specs.Tables.{Row, IsTableOf, IsRankingOf, total_of};
 ghost use Rattle.tb_search.specs.Searched.{Occurrence, keys};
@@ -8,7 +8,8 @@ ghost use Rattle.tb_http.specs.declared.status.Status.{Status as AnyStatus};
 ghost use Rattle.tb_store.specs.Found.{AreReleasedHits};
 ghost use Rattle.tb_answer.specs.Commanded.{HasFailed, IsFailure};
 ghost use Rattle.tb_answer.specs.Output.{IsWritten};
-ghost use Rattle.tb_answer.specs.Responses.{IsSent};
+ghost use Rattle.tb_answer.specs.Responses.{IsSent, body_response, reply_response};
+ghost use Rattle.tb_http.specs.Replies.{status_of};
 ghost use Rattle.tb_answer.specs.Found.{count_by, IsCounted, IsCountOutput, IsCountResponse, IsReportedOfQuery};
 ghost use Rattle.tb_answer.specs.Calls.{ReadsOnly};
 ghost use Rattle.tb_store.specs.Calls.{Gives, GivesOnErr, InState, KeepsState};
@@ -113,9 +114,19 @@ pub fn run_count<S: Alter, W: Sink>(
     ensures crash { ReadsOnly S.Store desk.old desk.new }
     ensures limits { desk.new.limits ≡ desk.old.limits }
 {
-    match count_text(alloc, desk, count) {
-        Ok(counted) => Ran::by_table(out, &counted),
-        Err(reply) => Ran::by_reply(out, reply),
+    Ran::by_count(out, count_text(alloc, desk, count))
+}
+
+/// Writes the response with a table, or with the line of why there is none. Returns its status if it was written whole.
+fn respond_table<W: Sink>(out: &mut W, counted: Result<CountTable, Reply>) -> Option<Status>
+    ensures { MatchResult counted
+        (λ t. IsSent (W.held out.old) (W.held out.new) (body_response None t.text.items) Status.Ok
+        (W.IsRefusal out.new) result)
+        (λ r. IsSent (W.held out.old) (W.held out.new) (reply_response r) (status_of r) (W.IsRefusal out.new) result) }
+{
+    match counted {
+        Ok(table) => respond_body(out, &body_of(table.text)),
+        Err(reply) => respond_reply(out, reply),
     }
 }
 
@@ -135,8 +146,5 @@ pub fn respond_count<S: Alter, W: Sink>(
     ensures crash { ReadsOnly S.Store desk.old desk.new }
     ensures limits { desk.new.limits ≡ desk.old.limits }
 {
-    match count_text(alloc, desk, count) {
-        Ok(counted) => respond_body(out, &body_of(counted.text)),
-        Err(reply) => respond_reply(out, reply),
-    }
+    respond_table(out, count_text(alloc, desk, count))
 }

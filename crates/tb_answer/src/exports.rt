@@ -20,7 +20,7 @@ ghost use Rattle.tb_store.specs.Calls.{Does, Gives, GivesOnErr, InState, KnowsIt
 use crate::bodies::body_of;
 use crate::commands::reply_for_fault;
 use crate::questions::Body;
-use crate::responses::{respond_body, respond_reply};
+use crate::responses::respond_result;
 use crate::written::Ran;
 use sqlite::Alter;
 use std::alloc::Global;
@@ -106,10 +106,7 @@ pub fn run_export<S: Alter, W: Sink>(
     ensures crash { ReadsOnly S.Store desk.old desk.new }
     ensures limits { desk.new.limits ≡ desk.old.limits }
 {
-    match export_body(alloc, desk, name) {
-        Ok(body) => Ran::by_text(out, body.text.as_slice()),
-        Err(reply) => Ran::by_reply(out, reply),
-    }
+    Ran::by_body(out, export_body(alloc, desk, name))
 }
 
 /// Writes the response of an export. Returns its status if it was written whole.
@@ -128,8 +125,5 @@ pub fn respond_export<S: Alter, W: Sink>(
     ensures crash { ReadsOnly S.Store desk.old desk.new }
     ensures limits { desk.new.limits ≡ desk.old.limits }
 {
-    match export_body(alloc, desk, name) {
-        Ok(body) => respond_body(out, &body),
-        Err(reply) => respond_reply(out, reply),
-    }
+    respond_result(out, export_body(alloc, desk, name))
 }

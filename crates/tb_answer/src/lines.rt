@@ -4,7 +4,7 @@ ghost use Rattle.std.specs.Prelude.{◌≡◌, MatchResult, Ok as Taken, Err as 
 ghost use Rattle.tb_check.specs.Check.{file_limit};
 ghost use Rattle.tb_cli.specs.Lines.{said_by};
 ghost use Rattle.tb_answer.specs.Commanded.{HasFailed};
-ghost use Rattle.tb_answer.specs.Taken.{IsTaken, WithTaken, has_body};
+ghost use Rattle.tb_answer.specs.Taken.{IsTaken, WithTaken, body_in, has_body};
 ghost use Rattle.tb_answer.specs.Calls.{call_by, call_in, ReadsOnly};
 ghost use Rattle.tb_answer.specs.Ran.{reading_by, reading_in, IsReadingRun, IsCalled, IsDone, IsRan, IsRanAs};
 ghost use Rattle.tb_answer.specs.Ran.{IsCallSafe, IsDoneSafe, IsLineSafe};
@@ -32,6 +32,18 @@ fn has_body(line: &Line) -> bool
     matches!(line, Line::Import { .. } | Line::Correct { .. })
 }
 
+/// The body in what was read of an input, or the reply that says why there is none.
+fn body_of(input: Input) -> Result<Vec<u8>, Reply>
+    ensures { MatchResult result (λ v. body_in input ≡ Taken v.items) (λ r. body_in input ≡ Untaken r) }
+{
+    match input {
+        Input::Whole(body) => Ok(body),
+        Input::TooLong => Err(Reply::Faulty(RequestFault::Long)),
+        Input::Memory => Err(Reply::Memory),
+        Input::Broken => Err(Reply::Device),
+    }
+}
+
 /// The body of a line: all that the reader gives, up to 4,194,304 bytes.
 ///
 /// Only an import and a correction have a body. For other lines it is empty, and the reader is unchanged.
@@ -47,12 +59,7 @@ pub fn read_body<R: Source>(alloc: Global, line: &Line, reader: &mut R) -> Resul
     if !has_body(line) {
         return Ok(Vec::new(alloc));
     }
-    match read_all(alloc, reader, FILE_LIMIT) {
-        Input::Whole(body) => Ok(body),
-        Input::TooLong => Err(Reply::Faulty(RequestFault::Long)),
-        Input::Memory => Err(Reply::Memory),
-        Input::Broken => Err(Reply::Device),
-    }
+    body_of(read_all(alloc, reader, FILE_LIMIT))
 }
 
 /// What a line reads from a desk.

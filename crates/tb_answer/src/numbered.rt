@@ -1,11 +1,17 @@
 //! The list of the sentences of a batch that is named by its number, as the page asks for it.
 
-ghost use Rattle.std.specs.Prelude.{◌≡◌, option_map};
+ghost use Rattle.std.specs.Prelude.{◌≡◌, Err, IfErr, IfOk, None, option_map};
+ghost use Rattle.sqlite.specs.Held.{state};
+ghost use Rattle.sqlite.specs.State.{HasCleanDisk};
+ghost use Rattle.tb_core.specs.Machine.{Machine};
 ghost use Rattle.tb_answer.specs.Calls.{ReadsOnly};
 ghost use Rattle.tb_answer.specs.Commanded.{HasFailed};
 ghost use Rattle.tb_answer.specs.Numbered.{IsNumberedText, RefusesNumber, name_in};
 ghost use Rattle.tb_answer.specs.Viewed.{IsReportedAs};
+ghost use Rattle.tb_lists.specs.Batches.{batch_lines};
 ghost use Rattle.tb_store.specs.Calls.{Gives, GivesOnErr, KeepsState};
+ghost use Rattle.tb_store.specs.Represents.{Represents};
+ghost use Rattle.tb_tables.specs.Leaving.{CommitsNothing};
 
 use crate::commands::reply_for_fault;
 use crate::views::view_sentences;
@@ -28,6 +34,30 @@ fn name_in(batches: &[BatchLine], no: u64) -> Option<&str>
     None
 }
 
+/// The sentences of the batch with this number among these, which are all batches of the desk.
+fn sentences_among<S: Alter>(
+    alloc: Global,
+    desk: &mut Desk<S>,
+    batches: &[BatchLine],
+    no: u64,
+) -> Result<Vec<u8>, Reply>
+    ensures answered { HasCleanDisk (state S.Store desk.new.conn) → IfOk result (λ v. (s : Machine)
+        → Represents S.Store desk.old s → batches.now ≡ batch_lines s → IsNumberedText s no v.items) }
+    ensures reported { HasCleanDisk (state S.Store desk.new.conn) → IfErr result (λ r. (s : Machine)
+        → Represents S.Store desk.old s → batches.now ≡ batch_lines s
+        → IsReportedAs (HasFailed S.Store desk.old desk.new) (RefusesNumber s no) r) }
+    ensures missing { name_in no batches.now ≡ None → result ≡ Err (Reply.Refused Refusal.NoSuchBatch) }
+    ensures commits_nothing { CommitsNothing S.Store desk.old.conn desk.new.conn }
+    ensures keeps_state { KeepsState S.Store desk.old desk.new }
+    ensures crash { ReadsOnly S.Store desk.old desk.new }
+    ensures limits { desk.new.limits ≡ desk.old.limits }
+{
+    match name_in(batches, no) {
+        Some(name) => view_sentences(alloc, desk, name),
+        None => Err(Reply::Refused(Refusal::NoSuchBatch)),
+    }
+}
+
 /// The sentences of the batch with this number, from 1, as `view` lists those of its name.
 ///
 /// # Errors
@@ -46,10 +76,7 @@ pub fn numbered_sentences<S: Alter>(
     ensures limits { desk.new.limits ≡ desk.old.limits }
 {
     match desk.batches() {
-        Ok(batches) => match name_in(batches.as_slice(), no) {
-            Some(name) => view_sentences(alloc, desk, name),
-            None => Err(Reply::Refused(Refusal::NoSuchBatch)),
-        },
+        Ok(batches) => sentences_among(alloc, desk, batches.as_slice(), no),
         Err(fault) => Err(reply_for_fault(fault)),
     }
 }

@@ -8,7 +8,7 @@ ghost use Rattle.tb_store.specs.Calls.{InState};
 
 use crate::bodies;
 use crate::calls::DeskCall;
-use crate::responses::{respond_body, respond_reply};
+use crate::responses::{respond_reply, respond_result};
 use crate::running::obey;
 use sqlite::Alter;
 use std::alloc::Global;
@@ -31,9 +31,6 @@ pub fn respond_call<S: Alter, W: Sink>(
 {
     match call {
         DeskCall::Command(command) => respond_reply(out, obey(desk, command)),
-        DeskCall::Question(question) => match bodies::ask(alloc, desk, question) {
-            Ok(body) => respond_body(out, &body),
-            Err(reply) => respond_reply(out, reply),
-        },
+        DeskCall::Question(question) => respond_result(out, bodies::ask(alloc, desk, question)),
     }
 }

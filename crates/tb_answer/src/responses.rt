@@ -1,6 +1,6 @@
 //! Writes responses over HTTP to any sink.
 
-ghost use Rattle.std.specs.Prelude.{◌≡◌, ◌++◌, true, false};
+ghost use Rattle.std.specs.Prelude.{◌≡◌, ◌++◌, MatchResult, true, false};
 ghost use Rattle.std.specs.Io.KnownBytes.{Appends};
 ghost use Rattle.tb_conllu.specs.Sunk.{AppendsPart};
 ghost use Rattle.tb_http.specs.Replies.{status_of};
@@ -90,4 +90,18 @@ pub fn respond_body<W: Sink>(out: &mut W, body: &Body) -> Option<Status>
         body.text.as_slice(),
         Status::Ok,
     )
+}
+
+/// Writes the response with the text that was asked for, or with the line of why there is none. Returns its status, or none
+/// where the sink refused a part.
+pub(crate) fn respond_result<W: Sink>(out: &mut W, asked: Result<Body, Reply>) -> Option<Status>
+    ensures { MatchResult asked
+        (λ b. IsSent (W.held out.old) (W.held out.new) (body_response b.rev b.text.items) Status.Ok
+        (W.IsRefusal out.new) result)
+        (λ r. IsSent (W.held out.old) (W.held out.new) (reply_response r) (status_of r) (W.IsRefusal out.new) result) }
+{
+    match asked {
+        Ok(body) => respond_body(out, &body),
+        Err(reply) => respond_reply(out, reply),
+    }
 }

@@ -51,9 +51,6 @@ pub fn run_call<S: Alter, W: Sink>(
 {
     match call {
         DeskCall::Command(command) => Ran::by_reply(out, obey(desk, command)),
-        DeskCall::Question(question) => match bodies::ask(alloc, desk, question) {
-            Ok(body) => Ran::by_text(out, body.text.as_slice()),
-            Err(reply) => Ran::by_reply(out, reply),
-        },
+        DeskCall::Question(question) => Ran::by_body(out, bodies::ask(alloc, desk, question)),
     }
 }

@@ -1,6 +1,6 @@
 //! What a line was answered, as a value.
 
-ghost use Rattle.std.specs.Prelude.{◌≡◌, length};
+ghost use Rattle.std.specs.Prelude.{◌≡◌, MatchResult, length};
 ghost use Rattle.tb_http.specs.Replies.{reply_text, exit_of};
 ghost use Rattle.tb_answer.specs.Found.{exit_of_ending};
 ghost use Rattle.tb_answer.specs.Output.{IsWritten};
@@ -8,6 +8,7 @@ ghost use Rattle.tb_answer.specs.Output.{IsWritten};
 use crate::counts::CountTable;
 use crate::ending::{Ending, exit_of};
 use crate::output::{put_body, put_reply};
+use crate::questions::Body;
 use tb_conllu::Sink;
 use tb_http::Reply;
 
@@ -58,6 +59,20 @@ impl Ran {
         }
     }
 
+    /// Writes the text that was asked for, or the line of why there is none.
+    pub(crate) fn by_body<W: Sink>(out: &mut W, asked: Result<Body, Reply>) -> Ran
+        ensures { MatchResult asked
+            (λ b. IsWritten (W.held out.old) (W.held out.new) b.text.items 0 (W.IsRefusal out.new) result.status
+            × (result.written ≡ Written.Text (length b.text.items)))
+            (λ r. IsWritten (W.held out.old) (W.held out.new) (reply_text r) (exit_of r) (W.IsRefusal out.new)
+            result.status × (result.written ≡ Written.Reply r)) }
+    {
+        match asked {
+            Ok(body) => Ran::by_text(out, body.text.as_slice()),
+            Err(why) => Ran::by_reply(out, why),
+        }
+    }
+
     /// Writes the table of a count.
     pub(crate) fn by_table<W: Sink>(out: &mut W, counted: &CountTable) -> Ran
         ensures status { IsWritten (W.held out.old) (W.held out.new) counted.now.text.items 0
@@ -67,6 +82,20 @@ impl Ran {
         Ran {
             status: put_body(out, counted.text.as_slice()),
             written: Written::Table(counted.hits),
+        }
+    }
+
+    /// Writes the table of a count, or the line of why there is none.
+    pub(crate) fn by_count<W: Sink>(out: &mut W, counted: Result<CountTable, Reply>) -> Ran
+        ensures { MatchResult counted
+            (λ t. IsWritten (W.held out.old) (W.held out.new) t.text.items 0 (W.IsRefusal out.new) result.status
+            × (result.written ≡ Written.Table t.hits))
+            (λ r. IsWritten (W.held out.old) (W.held out.new) (reply_text r) (exit_of r) (W.IsRefusal out.new)
+            result.status × (result.written ≡ Written.Reply r)) }
+    {
+        match counted {
+            Ok(table) => Ran::by_table(out, &table),
+            Err(reply) => Ran::by_reply(out, reply),
         }
     }
 

@@ -1,10 +1,12 @@
-use Rattle.std.proofs.Common.{◌∙◌, ℕ, List, Option, None, refl, ap, inl}
-use Rattle.tb_http.specs.declared.status.Status.TheVariants.{Ok}
-use Rattle.tb_answer.specs.Responses.{body_response}
+use Rattle.tb_answer.specs.Commanded.{HasFailed}
+use Rattle.tb_answer.specs.Found.{count_by}
+use Rattle.tb_answer.proofs.Bodied.{count_response}
+use Rattle.tb_answer.proofs.Failing.{if_err, if_ok}
 use Rattle.tb_answer.proofs.counts.respond_count.Goals as goal
 
-pub returns-in-Ok-clause-written : goal.returns-in-Ok-clause-written
-returns-in-Ok-clause-written g c clean s stands =
-    let table = c.in-Ok.counted in
-    let plain = ap (λ (rev : Option ℕ). body_response rev c.body_of.result.text.items) c.body_of.ensures.rev ∙ ap (λ (text : List ℕ). body_response None text) c.body_of.ensures.text in
-    (_, Ok, inl (table.text.items, table.hits, c.in-Ok.ensures.counted clean s stands, plain, refl), c.respond_body.ensures)
+pub returns-clause-written : goal.returns-clause-written
+returns-clause-written g c clean s stands =
+    count_response (HasFailed g.S.Store c.args.desk.now c.count_text.new.desk) c.args.desk.now.limits s (count_by c.args.count) (g.W.Sink.held c.args.out.now) (g.W.Sink.held c.respond_table.new.out) (g.W.Sink.IsRefusal c.respond_table.new.out) c.respond_table.result c.count_text.result
+    (if_ok c.count_text.result (c.count_text.ensures.counted clean) (λ t all. all s stands))
+    (if_err c.count_text.result (c.count_text.ensures.reported clean) (λ r all. all s stands))
+    c.respond_table.ensures

@@ -1,6 +1,12 @@
-use Rattle.std.proofs.Common.{refl, inl}
+use Rattle.tb_answer.specs.Commanded.{HasFailed}
+use Rattle.tb_answer.specs.Found.{count_by}
+use Rattle.tb_answer.proofs.Bodied.{count_output}
+use Rattle.tb_answer.proofs.Failing.{if_err, if_ok}
 use Rattle.tb_answer.proofs.counts.run_count.Goals as goal
 
-pub returns-in-Ok-clause-written : goal.returns-in-Ok-clause-written
-returns-in-Ok-clause-written g c clean s stands =
-    (c.in-Ok.counted.text.items, 0, inl (c.in-Ok.counted.hits, c.in-Ok.ensures.counted clean s stands, refl, c.by_table.ensures.written), c.by_table.ensures.status)
+pub returns-clause-written : goal.returns-clause-written
+returns-clause-written g c clean s stands =
+    count_output (HasFailed g.S.Store c.args.desk.now c.count_text.new.desk) c.args.desk.now.limits s (count_by c.args.count) (g.W.Sink.held c.args.out.now) (g.W.Sink.held c.by_count.new.out) (g.W.Sink.IsRefusal c.by_count.new.out) c.by_count.result.status c.by_count.result.written c.count_text.result
+    (if_ok c.count_text.result (c.count_text.ensures.counted clean) (λ t all. all s stands))
+    (if_err c.count_text.result (c.count_text.ensures.reported clean) (λ r all. all s stands))
+    c.by_count.ensures

@@ -1,11 +1,13 @@
-use Rattle.std.proofs.Common.{ℕ, Option, refl, ap, inl, inr}
-use Rattle.tb_answer.specs.Responses.{body_response}
+use Rattle.std.proofs.Common.{option_map}
+use Rattle.tb_answer.specs.Commanded.{HasFailed}
+use Rattle.tb_answer.proofs.Bodied.{export_response}
+use Rattle.tb_answer.proofs.Failing.{if_err, if_ok}
 use Rattle.tb_answer.proofs.exports.respond_export.Goals as goal
 
-pub returns-in-Ok-clause-written : goal.returns-in-Ok-clause-written
-returns-in-Ok-clause-written g c clean s stands =
-    let plain = ap (λ (rev : Option ℕ). body_response rev c.in-Ok.body.text.items) c.in-Ok.ensures.plain in
-    (_, _, inl (c.in-Ok.body.text.items, c.in-Ok.ensures.answered clean s stands, plain, refl), c.respond_body.ensures)
-
-pub returns-in-Err-clause-written : goal.returns-in-Err-clause-written
-returns-in-Err-clause-written g c clean s stands = (_, _, inr (c.in-Err.reply, c.in-Err.ensures.reported clean s stands, refl, refl), c.respond_reply.ensures)
+pub returns-clause-written : goal.returns-clause-written
+returns-clause-written g c clean s stands =
+    export_response (HasFailed g.S.Store c.args.desk.now c.export_body.new.desk) s (option_map (λ n. n.now) c.args.name) (g.W.Sink.held c.args.out.now) (g.W.Sink.held c.respond_result.new.out) (g.W.Sink.IsRefusal c.respond_result.new.out) c.respond_result.result c.export_body.result
+    (if_ok c.export_body.result (c.export_body.ensures.answered clean) (λ b all. all s stands))
+    c.export_body.ensures.plain
+    (if_err c.export_body.result (c.export_body.ensures.reported clean) (λ r all. all s stands))
+    c.respond_result.ensures
