@@ -72,3 +72,12 @@ module _ {S Reason : Type 0} (g : Ghosts S) (old new : Kept S) (before after : O
   AnswersVisit came bytes (list l) = SendsList l
   AnswersVisit came bytes no_method = Sends method_response MethodNotAllowed
   AnswersVisit came bytes desk = Passes bytes
+
+-- The reader is read for the desk alone, and then as this says. Otherwise it is left as it was.
+abbrev pub ReadsFor : {R : Type 0} → (old new : R) → VisitText → (as_the_desk : Type 0) → Type 0
+ReadsFor old new no_head as_the_desk = new ≡ old
+ReadsFor old new (foreign why) as_the_desk = new ≡ old
+ReadsFor old new (file f) as_the_desk = new ≡ old
+ReadsFor old new (list l) as_the_desk = new ≡ old
+ReadsFor old new no_method as_the_desk = new ≡ old
+ReadsFor old new desk as_the_desk = as_the_desk

@@ -1,7 +1,10 @@
 //! Serving one request with the page: the page answers what is its own, and the desk all else.
 
-ghost use Rattle.std.specs.Prelude.{◌≡◌};
-ghost use Rattle.tb_page.specs.Answered.{AnswersVisit, SendsList};
+ghost use Rattle.std.specs.Prelude.{◌≡◌, ◌≢◌, ℕ, List, [], Err as ErrOf};
+ghost use Rattle.tb_conllu.specs.Pieces.{AskedFor};
+ghost use Rattle.tb_http.specs.Asks.{body_limit};
+ghost use Rattle.tb_http.specs.Faults.{AwaitsMore, IsAtMostOne, TakenAfter};
+ghost use Rattle.tb_page.specs.Answered.{AnswersVisit, ReadsFor, SendsList};
 ghost use Rattle.tb_page.specs.Paths.{list_by};
 ghost use Rattle.tb_page.specs.Visits.{VisitText, Visits};
 
@@ -27,6 +30,7 @@ fn send_list<S: Alter, W: Sink>(
 ) -> Result<Status, Broken>
     ensures sends { SendsList S.Store desk.old desk.new (W.held out.old) (W.held out.new) (W.IsRefusal out.new) result
         (list_by list.entry) }
+    ensures reads_none { result ≢ ErrOf Broken.Read }
     ensures limits { desk.new.limits ≡ desk.old.limits }
 {
     match list_text(alloc, desk, list) {
@@ -44,7 +48,8 @@ fn send_list<S: Alter, W: Sink>(
 ///
 /// # Errors
 ///
-/// As `answer`.
+/// As `answer`. The reader fails only where the desk reads it: for what the page answers, and for a request without a
+/// head, it is left as it was.
 pub fn answer_with_page<S: Alter, R: Source, W: Sink>(
     alloc: Global,
     routes: &Routes,
@@ -56,6 +61,12 @@ pub fn answer_with_page<S: Alter, R: Source, W: Sink>(
 ) -> Result<Status, Broken>
     ensures answered { (v : VisitText) × Visits port came.now v × AnswersVisit S.Store desk.old desk.new
         (W.held out.old) (W.held out.new) (W.IsRefusal out.new) result came.now (R.left reader.old) v }
+    ensures asked { (v : VisitText) × Visits port came.now v × ReadsFor reader.old reader.new v
+        ((result ≢ ErrOf Broken.Read → (taken : List ℕ)
+        × AskedFor (AwaitsMore body_limit) [] (R.pieces reader.old) (R.pieces reader.new) taken)
+        × TakenAfter [] (R.left reader.old) (R.left reader.new) (IsAtMostOne body_limit)) }
+    ensures cause { result ≡ ErrOf Broken.Read → ((why : R.Failure) × R.IsFailure reader.new why)
+        × TakenAfter [] (R.left reader.old) (R.left reader.new) (AwaitsMore body_limit) }
     ensures limits { desk.new.limits ≡ desk.old.limits }
 {
     let mut buf = [0; HEAD_BYTES];
