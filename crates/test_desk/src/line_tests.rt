@@ -192,13 +192,13 @@ const VIEW_LINES: &str = "\
     sentences b1 => usage\n\
     sentences --db F b/1 => usage\n\
     sentences --db F ∅ => usage\n\
-    revisions 7 => usage\n\
-    revisions --db F 0 => usage\n\
-    revisions --db F 07 => usage\n\
-    revisions --db F +7 => usage\n\
-    revisions --db F x => usage\n\
-    revisions --db F ∅ => usage\n\
-    revisions --db F 10000000000 => usage\n\
+    (revisions|tree) 7 => usage\n\
+    (revisions|tree) --db F 0 => usage\n\
+    (revisions|tree) --db F 07 => usage\n\
+    (revisions|tree) --db F +7 => usage\n\
+    (revisions|tree) --db F x => usage\n\
+    (revisions|tree) --db F ∅ => usage\n\
+    (revisions|tree) --db F 10000000000 => usage\n\
     list => InvalidSubcommand 2\n\
     totals --db F => InvalidSubcommand 2\n\
     --bad => UnknownArgument 2\n\
@@ -210,9 +210,9 @@ const VIEW_LINES: &str = "\
     sentences => MissingRequiredArgument 2\n\
     sentences --db F => MissingRequiredArgument 2\n\
     sentences --db F b1 b2 => UnknownArgument 2\n\
-    revisions => MissingRequiredArgument 2\n\
-    revisions --db F => MissingRequiredArgument 2\n\
-    revisions --db F 7 8 => UnknownArgument 2\n\
+    (revisions|tree) => MissingRequiredArgument 2\n\
+    (revisions|tree) --db F => MissingRequiredArgument 2\n\
+    (revisions|tree) --db F 7 8 => UnknownArgument 2\n\
     revisions --db F -7 => UnknownArgument 2\n\
     revisions --db F --rev 1 7 => UnknownArgument 2\n\
     revisions 7 --db F --db F => ArgumentConflict 2\n\
@@ -221,11 +221,11 @@ const VIEW_LINES: &str = "\
     find --db F => MissingRequiredArgument 2\n\
     find --db F s1 s2 => UnknownArgument 2\n\
     find --db F -1 => UnknownArgument 2\n\
-    (--help|-h|help|help revisions|help find|batches --help) => DisplayHelp 0\n\
+    (--help|-h|help|help revisions|help find|help tree|batches --help) => DisplayHelp 0\n\
     --version => DisplayVersion 0\n\
     \x20=> usage\n";
 
 #[test]
 fn words_of_deskview_are_read(rt: HostRuntime) {
-    assert_answers(&rt, rt.alloc(), &ViewWords, VIEW_LINES, 57)
+    assert_answers(&rt, rt.alloc(), &ViewWords, VIEW_LINES, 70)
 }
