@@ -8,6 +8,8 @@ use Rattle.sqlite.specs.declared.error.Error.{Error as DatabaseError}
 use Rattle.sqlite.specs.declared.error.Error.TheVariants.{SqliteFailure}
 use Rattle.sqlite.specs.declared.error.ErrorCode.{ErrorCode}
 use Rattle.sqlite.specs.declared.error.ErrorCode.TheVariants as code
+use Rattle.sqlite_std_file.specs.declared.pair.OpenError.{OpenError}
+use Rattle.sqlite_std_file.specs.declared.pair.OpenError.TheVariants as unopened
 use Rattle.tb_core.specs.declared.refusals.Fault.{Fault}
 use Rattle.tb_core.specs.declared.refusals.Fault.TheVariants as fault
 use Rattle.tb_http.specs.declared.replies.Reply.{Reply}
@@ -60,6 +62,13 @@ IsFileCause e c =
 abbrev pub IsDeviceCause : (otherwise result : FileCause) → Type 0
 IsDeviceCause otherwise result =
     (result ≡ file.Full) ⊎ (result ≡ file.Quota) ⊎ (result ≡ file.TooLarge) ⊎ (result ≡ otherwise)
+
+-- for a file that the system does not open as a database
+abbrev pub IsPathCause : OpenError → FileCause → Type 0
+IsPathCause unopened.OutOfMemory c = c ≡ file.Memory
+IsPathCause unopened.Busy c = c ≡ file.Busy
+IsPathCause unopened.HotJournal c = c ≡ file.Journal
+IsPathCause (unopened.Io e) c = IsFileCause e c
 
 -- for a file that is to be made
 abbrev pub cause_of_new : FileCause → FileCause

@@ -1,11 +1,16 @@
 -- Inner: no contract beyond this crate cites a definition of this module.
 -- What the bytes of a file and of its log show of its tables (the file format of SQLite, sections 1.3, 1.6 and 4.1).
 use Rattle.std.specs.Prelude.{◌≡◌, ◌≢◌, ◌++◌, ◌+◌, ◌*◌, ◌⊎◌, ◌≤◌, ◌<◌, ℕ, List, [], ◌∷◌, All, codes, length, take, drop, slice_get, Option, None, Some}
+use Rattle.std.specs.Prelude.{Bool, true, false, min, nat_eq, not}
+use Rattle.std.specs.declared.io.ErrorKind.{ErrorKind}
+use Rattle.std.specs.declared.io.ErrorKind.TheVariants.{NotFound, NotADirectory}
 use Rattle.memchr.specs.Find.{OccursAt}
 use Rattle.sqlite_wal.specs.Format.{be32}
 use Rattle.sqlite_wal.specs.Recovery.{AreFramesOf, IsIgnored}
 use Rattle.tb_desk.specs.declared.contents.Version.{Version}
 use Rattle.tb_desk.specs.declared.contents.Version.TheVariants.{One, Two}
+use Rattle.tb_desk.specs.declared.files.Undoing.{Undoing}
+use Rattle.tb_desk.specs.declared.files.Undoing.TheVariants as undoing_of
 use Rattle.tb_desk.specs.declared.place.Numbers.{Numbers}
 
 -- The text is somewhere in the bytes.
@@ -77,3 +82,28 @@ number_in _ = 0
 -- What is found at a path, of this size, is another file than the one that was there, or was cut off.
 abbrev pub IsAnother : (found : Numbers) → (size : ℕ) → (then : Numbers) → Type 0
 IsAnother found size then = (found.device ≢ then.device) ⊎ (found.file ≢ then.file) ⊎ (size < then.least)
+
+-- A journal has to be played back: its first byte is written, and is not zero.
+abbrev pub is_hot : (first : List ℕ) → Bool
+is_hot [] = false
+is_hot (byte ∷ bytes) = not (nat_eq byte 0)
+
+-- the greatest length of a log that a stopped `new` leaves: one mebibyte
+abbrev pub own_log_limit : ℕ
+own_log_limit = 1048576
+
+-- What there is to undo at a log. One that is empty was emptied, or made, by opening the file.
+abbrev pub what_to_undo : (is_empty was_there : Bool) → Undoing
+what_to_undo false there = undoing_of.Nothing
+what_to_undo true true = undoing_of.Emptying
+what_to_undo true false = undoing_of.Removing
+
+-- How many bytes a file of this size, whose header gives so many pages, has to keep.
+abbrev pub kept_of : (size pages : ℕ) → ℕ
+kept_of size pages = min size (pages * 4096)
+
+-- nothing is at a path any more, by the kind of the error there
+abbrev pub is_gone : ErrorKind → Bool
+is_gone NotFound = true
+is_gone NotADirectory = true
+is_gone _ = false

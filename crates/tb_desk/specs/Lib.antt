@@ -1,10 +1,14 @@
 pub mod Arriving
 pub mod Causes
 pub mod Contents
+pub mod Explaining
 pub mod Lines
 pub mod Opened
 pub mod Patience
 pub mod Replies
 pub mod Running
+pub mod Sentences
+pub mod Serving
+pub mod Streams
 pub mod Targets
 pub mod Viewing

@@ -43,6 +43,11 @@ place_in (search db strategy context query) = place_of db
 place_in (count db strategy column query) = place_of db
 place_in (serve db port requests) = place_of db
 
+-- the file of a desk that is there
+abbrev pub file_of : Place → Option (List ℕ)
+file_of (in_file path) = Some path
+file_of _ = None
+
 -- whether a line serves the desk
 abbrev pub serves : Said → Bool
 serves (serve db port requests) = true

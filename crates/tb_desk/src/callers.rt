@@ -1,9 +1,10 @@
 //! Connections, and what each of them has sent of its request so far.
 
-ghost use Rattle.std.specs.Prelude.{◌≡◌, ◌≢◌, ◌↔◌, ◌≤◌, ◌<◌, ◌-◌, IsTrue, true, false, max, take, length, vec_len, Ok};
+ghost use Rattle.std.specs.Prelude.{◌≡◌, ◌≢◌, ◌↔◌, ◌≤◌, ◌<◌, ◌-◌, IsTrue, true, false, max, take, length, vec_len, IfOk, Ok};
 ghost use Rattle.std.specs.Duration.{as_nanos};
 ghost use Rattle.tb_desk.specs.Arriving.{awaited_at};
-ghost use Rattle.tb_desk.specs.Patience.{wait_left};
+ghost use Rattle.tb_desk.specs.Patience.{seconds, wait_left};
+ghost use Rattle.tb_desk.specs.Serving.{is_no_byte};
 ghost use Rattle.tb_desk.specs.declared.arriving.Awaited.TheVariants.{Head, Nothing};
 
 use crate::arriving::{Awaited, awaited_after, next_size};
@@ -37,10 +38,15 @@ pub(crate) struct Caller {
 }
 
 /// Whether nothing has arrived yet, and the connection has no fault.
-pub(crate) fn is_none_yet(error: &io::Error) -> bool {
-    error.kind() == ErrorKind::WouldBlock
-        || error.kind() == ErrorKind::TimedOut
-        || error.kind() == ErrorKind::Interrupted
+pub(crate) fn is_none_yet(kind: ErrorKind) -> bool
+    ensures { result ≡ is_no_byte kind }
+{
+    match kind {
+        ErrorKind::WouldBlock => true,
+        ErrorKind::TimedOut => true,
+        ErrorKind::Interrupted => true,
+        _ => false,
+    }
 }
 
 /// Reads into the part of a buffer after its first bytes.
@@ -54,7 +60,9 @@ fn read_after(mut stream: &TcpStream, room: &mut [u8], filled: usize) -> io::Res
 }
 
 impl Caller {
-    pub(crate) fn new(alloc: Global, stream: TcpStream) -> Caller {
+    pub(crate) fn new(alloc: Global, stream: TcpStream) -> Caller
+        ensures { (result.awaited ≡ Head) × (as_nanos result.left ≡ seconds 10) }
+    {
         Caller {
             stream,
             room: Vec::new(alloc),
@@ -159,7 +167,7 @@ impl Caller {
             Ok(count) => self.add(alloc, routes, count),
             Err(error) => {
                 // A connection that fails is served, and fails there.
-                if !is_none_yet(&error) {
+                if !is_none_yet(error.kind()) {
                     self.awaited = Awaited::Nothing;
                 }
             }
@@ -201,7 +209,12 @@ impl Caller {
         &'a self,
         rt: &'a HostRuntime,
         place: Option<&'a Place>,
-    ) -> io::Result<Request<'a>> {
+    ) -> io::Result<Request<'a>>
+        ensures said { IfOk result (λ r. r.said.now ≡ take self.now.filled self.now.room.items) }
+        ensures ended { IfOk result (λ r. r.has_ended ≡ self.now.has_ended) }
+        ensures time { IfOk result (λ r. (as_nanos r.later.each ≡ seconds 10)
+            × (as_nanos r.later.whole ≡ seconds 10)) }
+    {
         Ok(Request {
             said: self.said(),
             has_ended: self.has_ended,

@@ -5,6 +5,7 @@ ghost use Rattle.std.specs.IoError.{raw_os_error};
 ghost use Rattle.tb_desk.specs.Causes.{IsDeviceCause, IsFileCause, IsPortCause, IsShort};
 ghost use Rattle.tb_desk.specs.Causes.{cause_of_new, input_cause, output_cause};
 ghost use Rattle.tb_desk.specs.Replies.{reply_of};
+ghost use Rattle.tb_desk.specs.Sentences.{cause_text, file_text, form_text, port_text, short_text, stream_text};
 
 use crate::misfit::Misfit;
 use std::fmt::{self, Display, Formatter};
@@ -34,7 +35,9 @@ impl Shortage {
         }
     }
 
-    fn text(self) -> &'static str {
+    fn text(self) -> &'static str
+        ensures { result.now ≡ short_text self }
+    {
         match self {
             Shortage::OwnFiles =>
                 "the command may have no more files open; raise the limit (`ulimit -n`) and try again",
@@ -173,7 +176,9 @@ impl FileCause {
         matches!(self.reply(), Reply::Desk)
     }
 
-    fn text(self) -> &'static str {
+    fn text(self) -> &'static str
+        ensures { result.now ≡ file_text self }
+    {
         match self {
             FileCause::Missing => "there is no such file; `new` makes a desk",
             FileCause::NoFolder =>
@@ -261,7 +266,9 @@ impl Form {
         }
     }
 
-    fn text(self) -> &'static str {
+    fn text(self) -> &'static str
+        ensures { result.now ≡ form_text self }
+    {
         match self {
             Form::Batch => "the name of a batch is not empty and has no slash",
             Form::Event =>
@@ -311,7 +318,9 @@ impl PortCause {
         }
     }
 
-    fn text(self) -> &'static str {
+    fn text(self) -> &'static str
+        ensures { result.now ≡ port_text self }
+    {
         match self {
             PortCause::Taken =>
                 "another program listens on it; choose another port, or 0 for a free one",
@@ -367,7 +376,9 @@ impl StreamCause {
         }
     }
 
-    fn text(self) -> &'static str {
+    fn text(self) -> &'static str
+        ensures { result.now ≡ stream_text self }
+    {
         match self {
             StreamCause::InputClosed =>
                 "standard input: it is closed, so nothing was read; give a file by `< FILE`",
@@ -423,7 +434,9 @@ pub enum Cause {
 
 impl Cause {
     /// The sentence of a cause that is defined here.
-    fn text(&self) -> &'static str {
+    fn text(&self) -> &'static str
+        ensures { result.now ≡ cause_text self.now }
+    {
         match self {
             Cause::Words(_) | Cause::NoCommand(_) => "",
             Cause::File(cause) => cause.text(),

@@ -2,11 +2,12 @@
 
 ghost use Rattle.std.specs.Prelude.{◌≡◌};
 ghost use Rattle.tb_check.specs.Check.{Answers, IsReplyToRead, file_limit};
+ghost use Rattle.tb_desk.specs.Explaining.{reply_as_the_desk};
 
 use crate::diagnostics::{Diagnostic, Outcome};
 use crate::explaining::reported_of_reply;
 use std::alloc::Global;
-use tb_check::{CheckReply, FILE_LIMIT, Input, check_file, put_reply, read_all};
+use tb_check::{CheckReply, FILE_LIMIT, Input, check_input, put_reply, read_all};
 use tb_conllu::{Sink, Source};
 use tb_core::Refusal;
 use tb_http::{Reply, RequestFault};
@@ -19,28 +20,29 @@ struct Checked {
     file: Option<Vec<u8>>,
 }
 
-fn without_file(reply: CheckReply) -> Checked
-    ensures { result.reply ≡ reply }
-{
-    Checked { reply, file: None }
+/// The bytes of an input that was read whole.
+fn whole(input: Input) -> Option<Vec<u8>> {
+    match input {
+        Input::Whole(file) => Some(file),
+        Input::TooLong | Input::Memory | Input::Broken => None,
+    }
 }
 
 fn check_source<R: Source>(alloc: Global, source: &mut R) -> Checked
     ensures { IsReplyToRead (R.IsFailure source.new) file_limit (R.left source.old) (R.left source.new) result.reply }
 {
-    match read_all(alloc, source, FILE_LIMIT) {
-        Input::Whole(file) => Checked {
-            reply: check_file(alloc, &file, FILE_LIMIT),
-            file: Some(file),
-        },
-        Input::TooLong => without_file(CheckReply::Long),
-        Input::Memory => without_file(CheckReply::Memory),
-        Input::Broken => without_file(CheckReply::Device),
+    let input = read_all(alloc, source, FILE_LIMIT);
+    let reply = check_input(alloc, &input, FILE_LIMIT);
+    Checked {
+        reply,
+        file: whole(input),
     }
 }
 
 /// The desk's reply that says the same. Counts need no words. The reader of an input explains how it failed.
-fn reply_for(reply: CheckReply) -> Option<Reply> {
+fn reply_for(reply: CheckReply) -> Option<Reply>
+    ensures { result ≡ reply_as_the_desk reply }
+{
     match reply {
         CheckReply::Counts { .. } | CheckReply::Device => None,
         CheckReply::Read { line, code } => Some(Reply::Refused(Refusal::Read(line, code))),

@@ -4,7 +4,8 @@ ghost use Rattle.std.specs.Prelude.{◌≡◌, ◌+◌, ◌/◌, false, min, IfO
 ghost use Rattle.sqlite.specs.Files.{IsOpened, file_state, over_files};
 ghost use Rattle.sqlite.specs.State.{HasCleanDisk};
 ghost use Rattle.sqlite.specs.Steps.{over_memory};
-ghost use Rattle.tb_desk.specs.Causes.{reply_of_error, reply_of_fault};
+ghost use Rattle.tb_desk.specs.Causes.{IsPathCause, reply_of_error, reply_of_fault};
+ghost use Rattle.tb_desk.specs.Contents.{what_to_undo};
 ghost use Rattle.tb_desk.specs.Opened.{IsEmptyDesk, IsMadeDesk, IsSomeDesk};
 ghost use Rattle.tb_desk.specs.Replies.{reply_of};
 
@@ -59,7 +60,9 @@ fn cause_of_error(error: Error) -> FileCause
 }
 
 /// The cause for a file that the system does not open.
-fn cause_of_path(error: OpenError) -> FileCause {
+fn cause_of_path(error: OpenError) -> FileCause
+    ensures { IsPathCause error result }
+{
     match error {
         OpenError::OutOfMemory => FileCause::Memory,
         OpenError::Busy => FileCause::Busy,
@@ -76,6 +79,31 @@ fn cause_of_fault(fault: Fault, not_a_desk: FileCause) -> FileCause
         Fault::Memory => FileCause::Memory,
         Fault::Device | Fault::Output => FileCause::of_device(FileCause::Failed),
         Fault::NotADesk | Fault::Refused(_) => not_a_desk,
+    }
+}
+
+/// What there is to undo at a log, once opening a file that is no desk has written there.
+#[derive(Clone, Copy, PartialEq, Eq)]
+enum Undoing {
+    /// It had commits, and opening the file wrote nothing.
+    Nothing,
+    /// It was an empty file, and becomes one again.
+    Emptying,
+    /// There was none, and it is removed.
+    Removing,
+}
+
+/// What there is to undo at a log that was empty when the file was locked, or was not, and that was there before, or was
+/// not.
+fn what_to_undo(is_empty: bool, was_there: bool) -> Undoing
+    ensures { result ≡ what_to_undo is_empty was_there }
+{
+    if !is_empty {
+        Undoing::Nothing
+    } else if was_there {
+        Undoing::Emptying
+    } else {
+        Undoing::Removing
     }
 }
 
@@ -111,14 +139,14 @@ impl Log {
 
     /// Undoes what opening a file that is no desk has written there. The file is still locked.
     fn undo(&self, rt: &HostRuntime) -> io::Result<()> {
-        if !self.is_empty {
-            return Ok(());
+        match what_to_undo(self.is_empty, self.was_there) {
+            Undoing::Nothing => Ok(()),
+            Undoing::Emptying => {
+                let log = OpenOptions::new().write(true).open(rt, self.path.as_str())?;
+                log.set_len(0)
+            }
+            Undoing::Removing => fs::remove_file(rt, self.path.as_str()),
         }
-        if self.was_there {
-            let log = OpenOptions::new().write(true).open(rt, self.path.as_str())?;
-            return log.set_len(0);
-        }
-        fs::remove_file(rt, self.path.as_str())
     }
 }
 

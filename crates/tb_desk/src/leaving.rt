@@ -1,5 +1,10 @@
 //! Connections whose client has its answer. Their end keeps nobody from the desk.
 
+ghost use Rattle.std.specs.Prelude.{◌≡◌, ◌≤◌, ◌*◌, IfOk, IfSome, IsTrue};
+ghost use Rattle.std.specs.Duration.{as_nanos};
+ghost use Rattle.tb_desk.specs.Patience.{seconds, wait_left};
+ghost use Rattle.tb_http.specs.Asks.{body_limit};
+
 use crate::callers::is_none_yet;
 use crate::patience::left_after;
 use std::io::{self, Read};
@@ -29,7 +34,10 @@ pub(crate) struct Leaver {
 
 impl Leaver {
     /// Ends the answer. Returns `None` where the client has ended the connection too.
-    pub(crate) fn new(stream: TcpStream) -> io::Result<Option<Leaver>> {
+    pub(crate) fn new(stream: TcpStream) -> io::Result<Option<Leaver>>
+        ensures left { IfOk result (λ made. IfSome made (λ leaver. as_nanos leaver.left ≡ seconds 2)) }
+        ensures most { IfOk result (λ made. IfSome made (λ leaver. leaver.most ≤ body_limit * 2)) }
+    {
         stream.shutdown(Shutdown::Write)?;
         stream.set_read_timeout(Some(Duration::from_millis(FIRST)))?;
         let mut leaver = Leaver {
@@ -45,21 +53,27 @@ impl Leaver {
     }
 
     /// Reads some of what the client still sends. Returns whether it sends nothing more, or more than a request has.
-    fn has_ended(&mut self) -> bool {
+    fn has_ended(&mut self) -> bool
+        ensures left { self.new.left ≡ self.old.left }
+        ensures most { self.new.most ≤ self.old.most }
+    {
         let mut rest = [0; 16_384];
         for _ in 0..READS {
             let mut stream = &self.stream;
             match stream.read(&mut rest) {
                 Ok(0) => return true,
                 Ok(count) => self.most = self.most.saturating_sub(count),
-                Err(error) => return !is_none_yet(&error),
+                Err(error) => return !is_none_yet(error.kind()),
             }
         }
         self.most == 0
     }
 
     /// Whether the connection is to be closed, where so much time has passed since the last look.
-    pub(crate) fn has_gone(&mut self, passed: Duration) -> bool {
+    pub(crate) fn has_gone(&mut self, passed: Duration) -> bool
+        ensures left { as_nanos self.new.left ≡ wait_left (as_nanos self.old.left) (as_nanos passed) }
+        ensures late { as_nanos self.new.left ≡ 0 → IsTrue result }
+    {
         self.left = left_after(self.left, passed);
         self.has_ended() || self.left.is_zero()
     }

@@ -1,8 +1,8 @@
 //! What a file is, by its own bytes, before the database opens it. Opening a file writes a log beside it, even where
 //! the file is no desk.
 
-ghost use Rattle.std.specs.Prelude.{◌≡◌, ◌↔◌, ◌⊎◌, IsTrue, codes};
-ghost use Rattle.tb_desk.specs.Contents.{BeginsWith, ListsTables};
+ghost use Rattle.std.specs.Prelude.{◌≡◌, ◌↔◌, ◌⊎◌, ◌<◌, IsTrue, codes};
+ghost use Rattle.tb_desk.specs.Contents.{BeginsWith, ListsTables, is_hot, own_log_limit};
 
 use crate::causes::FileCause;
 use crate::contents::{Version, is_blank, listed_in};
@@ -61,6 +61,16 @@ fn is_odd(rt: &HostRuntime, path: &str) -> Result<bool, FileCause> {
     }
 }
 
+/// Whether a journal with this beginning has to be played back.
+fn is_hot(first: &[u8]) -> bool
+    ensures { result ≡ is_hot first.now }
+{
+    match first {
+        [byte, ..] => *byte != 0,
+        [] => false,
+    }
+}
+
 /// Whether another program has left a journal that has to be played back.
 fn has_journal(rt: &HostRuntime, path: &str) -> Result<bool, FileCause> {
     let journal = beside(rt, path, "-journal")?;
@@ -68,7 +78,7 @@ fn has_journal(rt: &HostRuntime, path: &str) -> Result<bool, FileCause> {
         return Ok(true);
     }
     let first = beginning(rt, journal.as_str(), 1)?;
-    Ok(first.first().is_some_and(|byte| *byte != 0))
+    Ok(is_hot(&first))
 }
 
 /// The version of desk that a file may be, by the first bytes of it and its log, read once. The log has tables that
@@ -136,12 +146,19 @@ pub(crate) fn version_of(rt: &HostRuntime, path: &str) -> Result<Version, FileCa
     listed(rt, real.as_str())
 }
 
+/// Whether a log is longer than one that a stopped `new` leaves.
+fn is_long_log(bytes: u64) -> bool
+    ensures { IsTrue result ↔ own_log_limit < bytes }
+{
+    bytes > HALF_MADE_LOG
+}
+
 /// Whether there is a log that a new desk would take for its own, though it holds commits of another desk.
 fn has_log_of_another(rt: &HostRuntime, path: &str) -> Result<bool, FileCause> {
     let log = beside(rt, path, "-wal")?;
     match fs::symlink_metadata(rt, log.as_str()) {
         Ok(found) if !found.is_file() => Err(FileCause::OddLog),
-        Ok(found) if found.len() > HALF_MADE_LOG => Ok(true),
+        Ok(found) if is_long_log(found.len()) => Ok(true),
         Ok(_) => {
             let bytes = beginning(rt, log.as_str(), HALF_MADE_LOG)?;
             has_commits(rt.alloc(), &bytes)

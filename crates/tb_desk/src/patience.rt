@@ -1,6 +1,6 @@
 //! Time limits for clients, so that none keeps the desk to itself.
 
-ghost use Rattle.std.specs.Prelude.{◌≡◌, ◌↔◌, ◌≤◌, IsTrue, min};
+ghost use Rattle.std.specs.Prelude.{◌≡◌, ◌↔◌, ◌≤◌, IfOk, IsTrue, min};
 ghost use Rattle.std.specs.Duration.{as_nanos};
 ghost use Rattle.tb_desk.specs.Patience.{IsReadTime, answer_time, seconds, wait_left};
 
@@ -90,7 +90,9 @@ impl<'a> Patient<'a> {
         place: Option<&'a Place>,
         each: u64,
         whole: u64,
-    ) -> io::Result<Patient<'a>> {
+    ) -> io::Result<Patient<'a>>
+        ensures { IfOk result (λ p. (as_nanos p.each ≡ seconds each) × (as_nanos p.whole ≡ seconds whole)) }
+    {
         Ok(Patient {
             rt,
             stream,

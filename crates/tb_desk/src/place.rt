@@ -1,7 +1,7 @@
 //! Where a desk's files are, while the desk is served.
 
 ghost use Rattle.std.specs.Prelude.{◌≡◌, ◌↔◌, ◌≤◌, IsTrue, length, take, drop};
-ghost use Rattle.tb_desk.specs.Contents.{IsAnother, number_in};
+ghost use Rattle.tb_desk.specs.Contents.{IsAnother, is_gone, kept_of, number_in};
 
 use crate::causes::FileCause;
 use crate::contents::PAGE_BYTES;
@@ -71,13 +71,31 @@ fn is_another(found: Numbers, size: u64, numbers: Numbers) -> bool
     found.device != numbers.device || found.file != numbers.file || size < numbers.least
 }
 
+/// How many bytes a file of this size with so many pages has to keep.
+fn kept_of(size: u64, pages: u64) -> u64
+    ensures { result ≡ kept_of size pages }
+{
+    size.min(pages.saturating_mul(PAGE_BYTES))
+}
+
 /// How many bytes a desk's file has to keep: those of its pages that exist. Bytes after them are not part of the
 /// database.
 fn kept_bytes(rt: &HostRuntime, path: &str) -> Result<u64, FileCause> {
     let pages = pages_of(&beginning(rt, path, 100)?);
     match fs::metadata(rt, path) {
-        Ok(found) => Ok(found.len().min(pages.saturating_mul(PAGE_BYTES))),
+        Ok(found) => Ok(kept_of(found.len(), pages)),
         Err(error) => Err(FileCause::of_system(error)),
+    }
+}
+
+/// Whether an error at a path says that nothing is there any more.
+fn is_gone(kind: ErrorKind) -> bool
+    ensures { result ≡ is_gone kind }
+{
+    match kind {
+        ErrorKind::NotFound => true,
+        ErrorKind::NotADirectory => true,
+        _ => false,
     }
 }
 
@@ -85,8 +103,7 @@ fn kept_bytes(rt: &HostRuntime, path: &str) -> Result<u64, FileCause> {
 fn has_another(rt: &HostRuntime, path: &str, numbers: Numbers) -> bool {
     match fs::metadata(rt, path) {
         Ok(found) => is_another(numbers_in(&found), found.len(), numbers),
-        Err(error) => error.kind() == ErrorKind::NotFound
-            || error.kind() == ErrorKind::NotADirectory,
+        Err(error) => is_gone(error.kind()),
     }
 }
 

@@ -1,6 +1,8 @@
 //! A whole program: it takes the words of the command line and the standard streams, and ends with a status. At its end
 //! standard error gets the cause that was returned, with the place, and what happened to the streams.
 
+ghost use Rattle.std.specs.Prelude.{◌≡◌, MatchResult};
+
 use crate::causes::{Cause, StreamCause};
 use crate::diagnostics::{Diagnostic, Outcome, wants_words};
 use crate::streams::{Heard, Held, Typed};
@@ -83,6 +85,16 @@ fn words(rt: &HostRuntime) -> io::Result<Vec<String>> {
     Ok(env::args(rt)?.collect(rt.alloc())?)
 }
 
+/// The exit status of a run that ended with this status, once its output was flushed. An output that failed is lost.
+fn status_after(flushed: io::Result<()>, status: u8) -> u8
+    ensures { MatchResult flushed (λ _. result ≡ status) (λ _. result ≡ 3) }
+{
+    match flushed {
+        Ok(()) => status,
+        Err(_) => 3,
+    }
+}
+
 /// Does what the words ask on standard input and output, and returns the exit status. Where words are wanted on
 /// standard error, it prints the reason there. A failure to print it is ignored.
 fn run<P: Program>(rt: &HostRuntime, program: &P, held: &Held) -> io::Result<u8> {
@@ -90,10 +102,7 @@ fn run<P: Program>(rt: &HostRuntime, program: &P, held: &Held) -> io::Result<u8>
     let mut out = Heard::new(BufWriter::with_capacity(rt.alloc(), BUFFER, rt.stdout())?);
     let mut input = Typed::new(rt, program.name());
     let outcome = program.run(rt, &words, &mut input, &mut out);
-    let status = match out.flush() {
-        Ok(()) => outcome.status,
-        Err(_) => 3,
-    };
+    let status = status_after(out.flush(), outcome.status);
     if wants_words(rt) {
         let ended = Ended {
             program: program.name(),

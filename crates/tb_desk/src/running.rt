@@ -7,6 +7,7 @@ ghost use Rattle.tb_cli.specs.Lines.{said_by};
 ghost use Rattle.tb_answer.specs.Output.{IsWritten};
 ghost use Rattle.tb_desk.specs.Lines.{IsMadeOrRefused, IsMigratedOrRefused, IsServedOrRun};
 ghost use Rattle.tb_desk.specs.Running.{IsRunOn, taken_of};
+ghost use Rattle.tb_desk.specs.Explaining.{cause_in_memory};
 ghost use Rattle.tb_desk.specs.Targets.{changes, in_file, in_memory, place_in, room_for, serves};
 
 use crate::causes::Cause;
@@ -142,12 +143,18 @@ pub(crate) fn changes_desk(line: &Line) -> bool
 
 /// What a user has to know of a line that was done on a desk in memory. What it changed is not kept, and there was
 /// nothing to read.
-fn cause_in_memory(line: &Line) -> Option<Cause> {
+fn cause_in_memory(line: &Line) -> Option<Cause>
+    ensures { result ≡ cause_in_memory (said_by line.now) }
+{
     match line {
-        Line::Search { .. } | Line::Count { .. } | Line::Export { name: None, .. } => {
-            Some(Cause::NothingThere)
-        }
-        _ if changes_desk(line) => Some(Cause::NothingKept),
+        Line::Search { .. } => Some(Cause::NothingThere),
+        Line::Count { .. } => Some(Cause::NothingThere),
+        Line::Export { db: _, name: None } => Some(Cause::NothingThere),
+        Line::Import { .. } => Some(Cause::NothingKept),
+        Line::Event { .. } => Some(Cause::NothingKept),
+        Line::Correct { .. } => Some(Cause::NothingKept),
+        Line::Pull { .. } => Some(Cause::NothingKept),
+        Line::Restore { .. } => Some(Cause::NothingKept),
         _ => None,
     }
 }

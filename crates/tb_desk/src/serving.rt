@@ -1,5 +1,13 @@
 //! Serves the desk over HTTP on loopback: one connection after another, with one request each.
 
+ghost use Rattle.std.specs.Prelude.{◌≡◌, ◌≢◌, ◌++◌, IsTrue, codes, false};
+ghost use Rattle.std.specs.Net.Addr.{ipv4_octets};
+ghost use Rattle.sqlite.specs.Held.{state};
+ghost use Rattle.sqlite.specs.State.{HasCleanDisk};
+ghost use Rattle.tb_desk.specs.Replies.{IsReplyWritten};
+ghost use Rattle.tb_desk.specs.Serving.{listening, loopback, page_at};
+ghost use Rattle.tb_tables.specs.Leaving.{IsFaultless};
+
 use crate::callers::Caller;
 use crate::causes::{Cause, PortCause};
 use crate::diagnostics::{Diagnostic, Outcome, put_memory, wants_words};
@@ -7,12 +15,13 @@ use crate::patience::{Answer, has_changed};
 use crate::place::Place;
 use crate::viewing::DESKVIEW;
 use crate::waiting::Waiting;
+use arrayvec::ArrayString;
 use sqlite::Alter;
-use std::alloc::Global;
 use std::io::{BufWriter, Write};
 use std::net::{Ipv4Addr, TcpListener, TcpStream};
 use tb_answer::{Broken, answer, put_reply, respond_reply};
-use tb_http::{Reply, Routes, Status};
+use tb_conllu::Sink;
+use tb_http::{Reply, Routes, Status, push_number};
 use tb_page::answer_with_page;
 use tb_store::Desk;
 
@@ -27,8 +36,13 @@ pub(crate) enum Beside {
 }
 
 impl Beside {
+    ghost use Rattle.std.specs.Prelude.{◌≡◌};
+    ghost use Rattle.tb_desk.specs.Serving.{page_at};
+
     /// The port of the page, if there is one, for a server at this port.
-    fn page_at(self, port: u16) -> Option<u16> {
+    fn page_at(self, port: u16) -> Option<u16>
+        ensures { result ≡ page_at self port }
+    {
         match self {
             Beside::Nothing => None,
             Beside::Page => Some(port),
@@ -89,7 +103,7 @@ fn serve_one<'a, S: Alter>(
         }
         Err(_) => Ok(false),
         Ok(status) => {
-            if status == Status::ServiceUnavailable && matches!(desk.is_open(), Ok(false)) {
+            if has_shut(desk, status) {
                 Err(Cause::FileShut)
             } else {
                 Ok(true)
@@ -98,12 +112,37 @@ fn serve_one<'a, S: Alter>(
     }
 }
 
+/// Whether a fault has shut the desk's store. Only a response that says that something failed is a reason to ask.
+fn has_shut<S: Alter>(desk: &mut Desk<S>, status: Status) -> bool
+    ensures unasked { status ≢ Status.ServiceUnavailable → (result ≡ false) × (desk.new ≡ desk.old) }
+    ensures shut { HasCleanDisk (state S.Store desk.new.conn) → IsTrue result
+        → IsFaultless S.Store desk.old.conn desk.new.conn → ⊥ }
+    ensures limits { desk.new.limits ≡ desk.old.limits }
+{
+    if status != Status::ServiceUnavailable {
+        return false;
+    }
+    matches!(desk.is_open(), Ok(false))
+}
+
+/// The line with the port that a server listens on.
+fn listening(port: u16) -> ArrayString<32>
+    ensures { result.bytes ≡ listening port }
+{
+    let mut line = ArrayString::new();
+    line.push_str("listening ");
+    push_number(&mut line, u64::from(port));
+    line.push_str("\n");
+    line
+}
+
 /// Prints the port at once, for programs that wait to connect to it.
-fn announce<W: Write>(alloc: Global, port: u16, out: &mut W) -> Result<(), Reply> {
-    let Ok(line) = format!(in alloc; "listening {port}\n") else {
-        return Err(Reply::Memory);
-    };
-    match out.write_all(line.as_bytes()).and_then(|()| out.flush()) {
+fn announce<W: Write>(port: u16, out: &mut W) -> Result<(), Reply> {
+    let line = listening(port);
+    match out
+        .write_all(line.as_str().as_bytes())
+        .and_then(|()| out.flush())
+    {
         Ok(()) => Ok(()),
         Err(_) => Err(Reply::Device),
     }
@@ -119,9 +158,16 @@ fn tell_address(rt: &HostRuntime, port: u16) {
     }
 }
 
+/// The address at which programs of this machine alone find a server.
+fn loopback() -> Ipv4Addr
+    ensures { ipv4_octets result ≡ loopback }
+{
+    Ipv4Addr::new(127, 0, 0, 1)
+}
+
 /// Listens on this port of loopback; for port 0 the system chooses one. Returns the port.
 fn listen(rt: &HostRuntime, port: u16) -> Result<(TcpListener, u16), PortCause> {
-    match TcpListener::bind(rt, (Ipv4Addr::LOCALHOST, port)) {
+    match TcpListener::bind(rt, (loopback(), port)) {
         Ok(listener) => match listener.local_addr() {
             Ok(address) => Ok((listener, address.port())),
             Err(error) => Err(PortCause::of_system(error, port)),
@@ -159,13 +205,25 @@ fn serve_all<S: Alter>(
 }
 
 /// Reports that the program cannot listen on a port.
-fn put_port_cause<W: Write>(rt: &HostRuntime, port: u16, cause: PortCause, out: &mut W) -> Outcome {
+fn put_port_cause<W: Sink>(rt: &HostRuntime, port: u16, cause: PortCause, out: &mut W) -> Outcome
+    ensures { IsReplyWritten (W.held out.old) (W.held out.new) (W.IsRefusal out.new) result.status Reply.Device }
+{
     Outcome {
         status: put_reply(out, Reply::Device),
         reported: Some(Diagnostic {
             place: format!(in rt.alloc(); "port {port}").ok(),
             cause: Cause::Port(cause),
         }),
+    }
+}
+
+/// Reports why a server ended early.
+fn put_ended<W: Sink>(cause: Cause, out: &mut W) -> Outcome
+    ensures { IsReplyWritten (W.held out.old) (W.held out.new) (W.IsRefusal out.new) result.status Reply.Device }
+{
+    Outcome {
+        status: put_reply(out, Reply::Device),
+        reported: Some(Diagnostic::from(cause)),
     }
 }
 
@@ -192,10 +250,8 @@ pub(crate) fn serve<S: Alter, W: Write>(
         Ok(both) => both,
         Err(cause) => return put_port_cause(rt, port, cause, out),
     };
-    match announce(rt.alloc(), chosen, out) {
-        Ok(()) => {}
-        Err(Reply::Memory) => return put_memory(out),
-        Err(reply) => return Outcome::from(put_reply(out, reply)),
+    if let Err(reply) = announce(chosen, out) {
+        return Outcome::from(put_reply(out, reply));
     }
     let page = beside.page_at(chosen);
     if let Some(port) = page {
@@ -203,9 +259,6 @@ pub(crate) fn serve<S: Alter, W: Write>(
     }
     match serve_all(rt, routes, desk, place, page, waiting, listener, requests) {
         Ok(()) => Outcome::from(0),
-        Err(cause) => Outcome {
-            status: put_reply(out, Reply::Device),
-            reported: Some(Diagnostic::from(cause)),
-        },
+        Err(cause) => put_ended(cause, out),
     }
 }

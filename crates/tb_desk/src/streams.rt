@@ -1,5 +1,8 @@
 //! The standard streams of a program: what is known of them where they fail or are closed.
 
+ghost use Rattle.std.specs.Prelude.{◌≡◌};
+ghost use Rattle.tb_desk.specs.Streams.{first_failure, input_cause_of, output_cause_of};
+
 use crate::causes::StreamCause;
 use std::fs::File;
 use std::io::{self, ErrorKind, IsTerminal, Read, Write};
@@ -9,6 +12,44 @@ use std::os::fd::AsRawFd;
 const INPUT: i32 = 0;
 
 const OUTPUT: i32 = 1;
+
+/// The cause for an output that failed with this error.
+fn output_cause(failed: Option<ErrorKind>, was_closed: bool) -> Option<StreamCause>
+    ensures { result ≡ output_cause_of failed was_closed }
+{
+    let Some(kind) = failed else {
+        return None;
+    };
+    if was_closed {
+        return Some(StreamCause::OutputClosed);
+    }
+    Some(StreamCause::of_output(kind))
+}
+
+/// The cause for an input that failed with this error, or that was closed when it was read.
+fn input_cause(failed: Option<ErrorKind>, was_read: bool, was_closed: bool) -> Option<StreamCause>
+    ensures { result ≡ input_cause_of failed was_read was_closed }
+{
+    match failed {
+        Some(kind) => Some(StreamCause::of_input(kind)),
+        None if was_read && was_closed => Some(StreamCause::InputClosed),
+        None => None,
+    }
+}
+
+/// The first failure of a stream, of one before and this one. A write that a signal interrupted is tried again, and is
+/// none.
+fn first_failure(before: Option<ErrorKind>, kind: ErrorKind) -> Option<ErrorKind>
+    ensures { result ≡ first_failure before kind }
+{
+    if let Some(first) = before {
+        return Some(first);
+    }
+    match kind {
+        ErrorKind::Interrupted => None,
+        kind => Some(kind),
+    }
+}
 
 /// Files that take the place of standard streams that are closed. Otherwise the file of a desk would get the
 /// descriptor of a stream, and what is printed would be written into it.
@@ -44,11 +85,7 @@ impl Held {
 
     /// The cause for an output that failed with this error.
     pub(crate) fn output_cause(&self, failed: Option<ErrorKind>) -> Option<StreamCause> {
-        match failed {
-            Some(_) if self.stands_for(OUTPUT) => Some(StreamCause::OutputClosed),
-            Some(kind) => Some(StreamCause::of_output(kind)),
-            None => None,
-        }
+        output_cause(failed, self.stands_for(OUTPUT))
     }
 }
 
@@ -73,11 +110,7 @@ impl<'a> Typed<'a> {
 
     /// Why the input failed, or that it was closed, if it was.
     pub(crate) fn cause(&self, held: &Held) -> Option<StreamCause> {
-        match self.failed {
-            Some(kind) => Some(StreamCause::of_input(kind)),
-            None if self.was_read && held.stands_for(INPUT) => Some(StreamCause::InputClosed),
-            None => None,
-        }
+        input_cause(self.failed, self.was_read, held.stands_for(INPUT))
     }
 }
 
@@ -119,11 +152,9 @@ impl<W> Heard<W> {
         self.failed
     }
 
-    /// Notes how a write failed. A write that a signal interrupted is tried again, and is not noted.
+    /// Notes how a write failed.
     fn note(&mut self, error: io::Error) -> io::Error {
-        if self.failed.is_none() && error.kind() != ErrorKind::Interrupted {
-            self.failed = Some(error.kind());
-        }
+        self.failed = first_failure(self.failed, error.kind());
         error
     }
 }

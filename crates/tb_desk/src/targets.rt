@@ -3,7 +3,7 @@
 
 ghost use Rattle.std.specs.Prelude.{◌≡◌, option_map, string_bytes};
 ghost use Rattle.tb_cli.specs.Lines.{said_by};
-ghost use Rattle.tb_desk.specs.Targets.{place_by, place_in, place_of};
+ghost use Rattle.tb_desk.specs.Targets.{file_of, place_by, place_in, place_of};
 
 use tb_cli::Line;
 
@@ -55,7 +55,9 @@ impl<'a> Target<'a> {
     }
 
     /// The file of the desk.
-    pub(crate) fn file(self) -> Option<&'a str> {
+    pub(crate) fn file(self) -> Option<&'a str>
+        ensures { option_map (λ path. path.now) result ≡ file_of (place_by self.entry) }
+    {
         match self {
             Target::File(path) => Some(path),
             Target::New(_) | Target::Migrate(_) | Target::Memory => None,

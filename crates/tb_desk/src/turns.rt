@@ -1,7 +1,8 @@
 //! Waits for a file that another command has open.
 
+ghost use Rattle.std.specs.Prelude.{◌≡◌, ◌↔◌, ◌≤◌, IsTrue, MatchResult, None, Some};
 ghost use Rattle.std.specs.Duration.{as_nanos};
-ghost use Rattle.tb_desk.specs.Patience.{IsPause};
+ghost use Rattle.tb_desk.specs.Patience.{IsPause, milliseconds};
 
 use crate::causes::FileCause;
 use crate::diagnostics::wants_words;
@@ -34,6 +35,24 @@ fn pause_after(waited: Duration) -> Option<Duration>
         return Some(Duration::from_millis(EAGER_PAUSE));
     }
     Some(Duration::from_millis(PAUSE))
+}
+
+/// The pause before the next attempt, or that the file is busy, where the command has waited long enough.
+fn pause_or_busy(waited: Duration) -> Result<Duration, FileCause>
+    ensures { MatchResult result (λ pause. IsPause (as_nanos waited) (Some pause))
+        (λ cause. IsPause (as_nanos waited) None × (cause ≡ FileCause.Busy)) }
+{
+    match pause_after(waited) {
+        Some(pause) => Ok(pause),
+        None => Err(FileCause::Busy),
+    }
+}
+
+/// Whether a command has waited so long that the program says so.
+fn is_long(waited: Duration) -> bool
+    ensures { IsTrue result ↔ milliseconds 500 ≤ as_nanos waited }
+{
+    is_at_least(waited, Duration::from_millis(QUIET))
 }
 
 /// A command of a program that waits for the file at a path.
@@ -94,10 +113,8 @@ impl<'a> Turn<'a> {
     /// `Busy`, where the command has waited long enough; or the clock's fault.
     pub(crate) fn wait(&mut self) -> Result<(), FileCause> {
         let waited = self.waited()?;
-        let Some(pause) = pause_after(waited) else {
-            return Err(FileCause::Busy);
-        };
-        if waited >= Duration::from_millis(QUIET) {
+        let pause = pause_or_busy(waited)?;
+        if is_long(waited) {
             self.tell();
         }
         thread::sleep(self.rt, pause);

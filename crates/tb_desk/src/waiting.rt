@@ -1,5 +1,8 @@
 //! Connections that wait to be served. One that sends nothing, or sends slowly, keeps nobody from the desk.
 
+ghost use Rattle.std.specs.Prelude.{◌≡◌, ◌↔◌, ◌≤◌, IsTrue};
+ghost use Rattle.tb_desk.specs.Serving.{IsWantOfRoom, is_no_connection, most_waiting};
+
 use crate::arriving::most_size;
 use crate::callers::Caller;
 use crate::leaving::Leaver;
@@ -20,9 +23,6 @@ const PAUSE: u64 = 2;
 /// How many connections may wait.
 const MOST: usize = 256;
 
-/// The errors for want of room: ENOMEM, ENFILE, EMFILE and ENOBUFS, by their numbers on Linux.
-const NO_ROOM: [i32; 4] = [12, 23, 24, 105];
-
 /// The connections that the server does not serve now.
 #[derive(Drop)]
 pub(crate) struct Waiting {
@@ -35,18 +35,36 @@ pub(crate) struct Waiting {
 }
 
 /// Whether there is no connection yet, or one that has closed again. Then the listener has no fault.
-fn is_none_yet(error: &io::Error) -> bool {
-    error.kind() == ErrorKind::WouldBlock
-        || error.kind() == ErrorKind::Interrupted
-        || error.kind() == ErrorKind::ConnectionAborted
+fn is_none_yet(kind: ErrorKind) -> bool
+    ensures { result ≡ is_no_connection kind }
+{
+    match kind {
+        ErrorKind::WouldBlock => true,
+        ErrorKind::Interrupted => true,
+        ErrorKind::ConnectionAborted => true,
+        _ => false,
+    }
 }
 
-/// Whether the system has no room for another connection now: no memory, or too many open files.
-fn wants_room(error: &io::Error) -> bool {
-    match error.raw_os_error() {
-        Some(code) => NO_ROOM.contains(&code),
-        None => false,
+/// Whether the system has no room for another connection now, by the error number on Linux: no memory (ENOMEM, ENOBUFS),
+/// or too many open files (ENFILE, EMFILE).
+fn wants_room(number: Option<i32>) -> bool
+    ensures { IsWantOfRoom number result }
+{
+    match number {
+        Some(12) => true,
+        Some(23) => true,
+        Some(24) => true,
+        Some(105) => true,
+        _ => false,
     }
+}
+
+/// Whether no other connection may wait, where so many do.
+fn is_full(connections: usize) -> bool
+    ensures { IsTrue result ↔ most_waiting ≤ connections }
+{
+    connections >= MOST
 }
 
 /// A new connection. Where no other waits, the server waits a moment for its request.
@@ -99,7 +117,7 @@ impl Waiting {
         listener: &TcpListener,
     ) -> io::Result<bool> {
         let is_alone = self.callers.is_empty() && self.leavers.is_empty();
-        if self.callers.len() >= MOST {
+        if is_full(self.callers.len()) {
             return Ok(false);
         }
         listener.set_nonblocking(!is_alone)?;
@@ -111,8 +129,8 @@ impl Waiting {
                 }
                 Ok(true)
             }
-            Err(error) if is_none_yet(&error) => Ok(false),
-            Err(error) if wants_room(&error) => {
+            Err(error) if is_none_yet(error.kind()) => Ok(false),
+            Err(error) if wants_room(error.raw_os_error()) => {
                 self.let_one_go();
                 Ok(false)
             }
@@ -176,7 +194,7 @@ impl Waiting {
         let Ok(Some(leaver)) = Leaver::new(caller.into_stream()) else {
             return;
         };
-        if self.leavers.len() >= MOST {
+        if is_full(self.leavers.len()) {
             let _ = self.leavers.remove(0);
         }
         let _ = self.leavers.push(leaver);
@@ -199,7 +217,7 @@ impl Waiting {
     /// Waits a little. Where all places are taken, drops a connection at once to make room for those that the system
     /// queues.
     fn rest(&mut self, rt: &HostRuntime, has_come: bool) {
-        if self.callers.len() >= MOST {
+        if is_full(self.callers.len()) {
             self.let_one_go();
         } else if !has_come {
             thread::sleep(rt, Duration::from_millis(PAUSE));

@@ -1,0 +1,5 @@
+use Rattle.std.proofs.Common.{◌≡◌, ◌≤◌}
+use Rattle.tb_desk.proofs.leaving.Leaver.has_ended.Given as goal
+
+abbrev pub invariant-loop : goal.invariant-loop
+invariant-loop l = (l.self.left ≡ l.fn.self.left) × (l.self.most ≤ l.fn.self.most)

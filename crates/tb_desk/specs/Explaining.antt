@@ -1,0 +1,35 @@
+-- Inner: no contract beyond this crate cites a definition of this module.
+-- What is explained beside an answer.
+use Rattle.std.specs.Prelude.{◌≡◌, List, ℕ, Option, Some, None}
+use Rattle.tb_check.specs.declared.input.Input.{Input}
+use Rattle.tb_check.specs.declared.input.Input.TheVariants.{Whole}
+use Rattle.tb_check.specs.declared.reply.CheckReply.{CheckReply}
+use Rattle.tb_check.specs.declared.reply.CheckReply.TheVariants as check
+use Rattle.tb_cli.specs.Lines.{Said, import_batch, step_batch, correct, pull, restore, export, search, count}
+use Rattle.tb_core.specs.declared.refusals.Refusal.TheVariants as refusal
+use Rattle.tb_desk.specs.declared.causes.Cause.{Cause}
+use Rattle.tb_desk.specs.declared.causes.Cause.TheVariants.{NothingKept, NothingThere}
+use Rattle.tb_http.specs.declared.asks.RequestFault.TheVariants as request
+use Rattle.tb_http.specs.declared.replies.Reply.{Reply}
+use Rattle.tb_http.specs.declared.replies.Reply.TheVariants as reply
+
+-- What a user has to know of a line that was done on a desk in memory: nothing was there to read, or nothing is kept.
+abbrev pub cause_in_memory : Said → Option Cause
+cause_in_memory (search db strategy context query) = Some NothingThere
+cause_in_memory (count db strategy column query) = Some NothingThere
+cause_in_memory (export db None) = Some NothingThere
+cause_in_memory (import_batch db user name) = Some NothingKept
+cause_in_memory (step_batch db user name event) = Some NothingKept
+cause_in_memory (correct db user n base) = Some NothingKept
+cause_in_memory (pull db user n) = Some NothingKept
+cause_in_memory (restore db user n) = Some NothingKept
+cause_in_memory _ = None
+
+-- the desk's reply that says the same as the check's, where there are words for it
+abbrev pub reply_as_the_desk : CheckReply → Option Reply
+reply_as_the_desk (check.Counts sentences words) = None
+reply_as_the_desk check.Device = None
+reply_as_the_desk (check.Read line code) = Some (reply.Refused (refusal.Read line code))
+reply_as_the_desk (check.Rule sentence rule row) = Some (reply.Refused (refusal.Rule sentence rule row))
+reply_as_the_desk check.Long = Some (reply.Faulty request.Long)
+reply_as_the_desk check.Memory = Some reply.Memory
