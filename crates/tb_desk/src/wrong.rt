@@ -39,7 +39,7 @@ fn place_of(command: &str, before: usize) -> (&'static str, Option<Form>) {
     match (command, before) {
         ("import" | "event" | "export" | "sentences", 0) => ("<name>", Some(Form::Batch)),
         ("event", 1) => ("<event>", Some(Form::Event)),
-        ("correct" | "pull" | "restore" | "show" | "revisions", 0) => {
+        ("correct" | "pull" | "restore" | "show" | "revisions" | "tree", 0) => {
             ("<no>", Some(Form::Number))
         }
         ("correct", 1) => ("<base>", Some(Form::Base)),
