@@ -160,8 +160,8 @@ def sizes_and_stops(driver):
 
 
 HOSTILE = (b"# sent_id = tags\n# text = a </pre><script>document.title='run'</script> &lt;\n"
-           b"1\ta\ta\tX\t_\t_\t0\troot\t0:root\t_\n2\t</pre><script>document.title='run'</script>\t_\tSYM\t_\t_\t1\tdep\t1:dep\t_\n"
-           b"3\t&lt;\t&amp;\tSYM\t_\t_\t1\tdep\t1:dep\t_\n\n")
+           b"1\ta\ta\tX\t_\t_\t0\troot\t_\t_\n2\t</pre><script>document.title='run'</script>\t_\tSYM\t_\t_\t1\tdep\t_\t_\n"
+           b"3\t&lt;\t&amp;\tSYM\t_\t_\t1\tdep\t_\t_\n\n")
 
 
 def handouts(driver):
@@ -180,7 +180,7 @@ def handouts(driver):
         same("forms of the tree", forms, browser.texts(".word .form"))
         same("its title", "Dependency trees", browser.run("return document.title"))
         same("arcs, one for each word but the root", len(forms) - 1, len(browser.all(".arcs path[data-from]")))
-        same("the button for enhanced relations is there where there are any", number == 1, browser.run("return document.getElementById('enhanced').checkVisibility()"))
+        same("the button for enhanced relations is there where there are any", number == 2, browser.run("return document.getElementById('enhanced').checkVisibility()"))
         same("texts with little contrast", [], browser.run(PALE))
         shot(browser, f"handout-{number}")
     browser.run("document.getElementById('enhanced').click()")
