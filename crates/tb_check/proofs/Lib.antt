@@ -1,5 +1,7 @@
 pub mod Asked
 pub mod Counted
+pub mod Found
 pub mod Inputs
 pub mod Read
 pub mod Replies
+pub mod Reports

@@ -1,3 +1,4 @@
 pub mod Check
 pub mod Input
 pub mod Words
+pub mod Faults

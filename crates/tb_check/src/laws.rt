@@ -1,15 +1,23 @@
-//! Laws of replies. Each function states a fact about the definitions, and runs nothing.
+//! Laws of replies and of faults. Each function states a fact about the definitions, and runs nothing.
 
-ghost use Rattle.std.specs.Prelude.{◌≡◌, ◌≤◌, ◌⊎◌, ℕ, List, length, true};
+ghost use Rattle.std.specs.Prelude.{◌≡◌, ◌≤◌, ◌⊎◌, ℕ, List, [], ◌∷◌, length, true};
 ghost use Rattle.tb_conllu.specs.Text.{BlockText};
-ghost use Rattle.tb_conllu.specs.Reported.{IsFile};
-ghost use Rattle.tb_rules.specs.File.{IsValid};
+ghost use Rattle.tb_conllu.specs.Reported.{IsFile, IsReported};
+ghost use Rattle.tb_rules.specs.File.{IsFaultAt, IsValid};
 ghost use Rattle.tb_check.specs.Check.{IsReplyTo, tells_of_input, words_in};
+ghost use Rattle.tb_check.specs.Faults.{AreFaults};
+ghost use Rattle.tb_check.specs.declared.fault.Fault.{Fault};
+ghost use Rattle.tb_check.specs.declared.fault.Fault.TheVariants.{Line, Rule};
 ghost use Rattle.tb_check.specs.declared.reply.CheckReply.{CheckReply};
 ghost use Rattle.tb_check.specs.declared.reply.CheckReply.TheVariants.{Counts, Memory};
 
-use tb_conllu::{one_fault_is_reported, one_list_has_a_text, reported_bytes_are_no_file};
-use tb_rules::{faulty_sentences_are_not_valid, one_sentence_is_reported};
+use tb_conllu::{
+    faulty_lines_are_reported, one_fault_is_reported, one_list_has_a_text,
+    reported_bytes_are_no_file,
+};
+use tb_rules::{
+    broken_rules_of_a_file_are_reported, faulty_sentences_are_not_valid, one_sentence_is_reported,
+};
 
 /// At most one reply is true of an input, want of memory and a failed device aside.
 pub fn one_reply_is_true()
@@ -31,4 +39,22 @@ pub fn valid_sentences_are_counted()
         → (reply ≡ Counts (length bs) (words_in bs)) ⊎ (reply ≡ Memory) }
 {
     one_reply_is_true();
+}
+
+/// A file has no fault exactly where it can be read and its sentences are valid. Else the first fault is the one that a
+/// check reports.
+pub fn the_first_fault_is_reported()
+    ensures line { (f : List ℕ) (line code : ℕ) (more : List Fault) → AreFaults f (Line line code ∷ more)
+        → IsReported f line code }
+    ensures rule { (f : List ℕ) (sentence rule row : ℕ) (more : List Fault)
+        → AreFaults f (Rule sentence rule row ∷ more)
+        → (bs : List BlockText) × IsFile f bs × IsFaultAt bs sentence rule row }
+    ensures none { (f : List ℕ) → AreFaults f [] → (bs : List BlockText) × IsFile f bs × IsValid bs }
+    ensures valid { (f : List ℕ) (bs : List BlockText) (faults : List Fault) → IsFile f bs → IsValid bs
+        → AreFaults f faults → faults ≡ [] }
+{
+    faulty_lines_are_reported();
+    one_list_has_a_text();
+    broken_rules_of_a_file_are_reported();
+    faulty_sentences_are_not_valid();
 }

@@ -35,7 +35,7 @@ line_reported f b reported rest code h cut whole least some =
 
 -- ---- at the end
 
-begun_filled : (cs : List (List ℕ)) (rs : List RowText) → AllByRecursion IsCommentText cs → AllByRecursion IsRowShaped rs → AllByRecursion (λ l. is_empty l ≡ false) (cs ++ map row_line rs)
+pub begun_filled : (cs : List (List ℕ)) (rs : List RowText) → AllByRecursion IsCommentText cs → AllByRecursion IsRowShaped rs → AllByRecursion (λ l. is_empty l ≡ false) (cs ++ map row_line rs)
 begun_filled [] [] h k = tt
 begun_filled [] (r ∷ rs) h k = ((row_begins r k.0).0, begun_filled [] rs tt k.1)
 begun_filled (c ∷ cs) rs h k = ((hash_is c h.0.hash).0, begun_filled cs rs h.1 k)

@@ -47,7 +47,7 @@ read_fault bytes done left (At line code) h f =
     let same : length (lines_of done) + f.0 ≡ line = omega (arith, place, here) in
     subst P (sym h.whole) (subst Q same (reported_after done left.rest f.0 code h.shaped f.2))
 
-reported_no_file : (f : List ℕ) (line code : ℕ) → IsReported f line code → IsNoFile f
+pub reported_no_file : (f : List ℕ) (line code : ℕ) → IsReported f line code → IsNoFile f
 reported_no_file f line code (inl h) bs shaped e = h.dead bs h.rest shaped (sym e ∙ h.whole)
 reported_no_file f line code (inr h) bs shaped e = h.0.no_file bs shaped e
 

@@ -1,6 +1,7 @@
 pub mod Cuts
 pub mod Tabs
 pub mod Tights
+pub mod Told
 pub mod Parts
 pub mod Decimals
 pub mod RowLines
@@ -10,6 +11,7 @@ pub mod Faults
 pub mod Appended
 pub mod Ends
 pub mod FirstMark
+pub mod Grown
 pub mod MarkBits
 pub mod MarkedBytes
 pub mod IdTexts

@@ -85,7 +85,7 @@ two_texts p q mark (a ∷ []) h = absurd (true≢false (sym h))
 two_texts p q mark (a ∷ b ∷ []) h = let both = and_parts (p a) (q b) h in (a, b, refl, both.0, both.1)
 two_texts p q mark (a ∷ b ∷ c ∷ rest) h = absurd (true≢false (sym h))
 
-id_text_is : (t : List ℕ) → is_id t ≡ true → IsIdText t
+pub id_text_is : (t : List ℕ) → is_id t ≡ true → IsIdText t
 id_text_is t h = elim (either_true (is_positive t || is_span t) (is_node t) h) [
   | inl first ↦ elim (either_true (is_positive t) (is_span t) first) [
     | inl word ↦ let n = positive_text t word in (Word n.0, (n.1, n.2), n.3)
@@ -105,7 +105,7 @@ id_text_is t h = elim (either_true (is_positive t || is_span t) (is_node t) h) [
 id_decides : (t : List ℕ) → Decides (is_id t) (IsIdText t)
 id_decides t = (id_text_is t, λ h. ap is_id h.2 ∙ id_passes h.0 h.1)
 
-head_text_is : (t : List ℕ) → is_head t ≡ true → IsHeadText t
+pub head_text_is : (t : List ℕ) → is_head t ≡ true → IsHeadText t
 head_text_is t h = elim (either_true (bytes_eq t (95 ∷ [])) (is_number t) h) [
   | inl none ↦ (None, tt, (bytes_eq-Decides t (95 ∷ [])).0 none)
   | inr some ↦ let n = decimal-is_number t some in (Some _, n.1, sym n.0)

@@ -16,3 +16,4 @@ pub mod Marks
 pub mod Pieces
 pub mod Tries
 pub mod NineCodes
+pub mod FaultyLines

@@ -5,7 +5,9 @@ ghost use Rattle.std.specs.Prelude.{length, false};
 ghost use Rattle.tb_conllu.specs.Fault.{IsFaultAfter, IsReadFault};
 ghost use Rattle.tb_conllu.specs.Left.{Left, IsNext, IsReadTo};
 ghost use Rattle.tb_conllu.specs.declared.fault.ReadFault.{ReadFault};
+ghost use Rattle.tb_conllu.specs.declared.faulty.FaultyLine.{FaultyLine};
 ghost use Rattle.tb_conllu.specs.Begun.{BegunText, IsSound, lines_so_far};
+ghost use Rattle.tb_conllu.specs.FaultyLines.{AreFaultyLines};
 ghost use Rattle.tb_conllu.specs.Lines.{line_code, came_through};
 ghost use Rattle.tb_conllu.specs.NineCodes.{HasLeastCode, HasNoCode};
 ghost use Rattle.tb_conllu.specs.Shape.{AllShaped};
@@ -70,4 +72,13 @@ pub fn a_file_is_read_in_order()
         → IsFile left.rest more → IsFile f (bs ++ more) }
     ensures fault { (f : List ℕ) (bs : List BlockText) (left : Left) (e : ReadFault) → IsReadTo f bs left
         → IsFaultAfter left.line left.rest e → IsReadFault f e }
+{}
+
+/// Bytes are a file exactly where no line is faulty. Else the first faulty line is the fault that is reported.
+pub fn faulty_lines_are_reported()
+    ensures none { (f : List ℕ) → AreFaultyLines f [] → (bs : List BlockText) × IsFile f bs }
+    ensures file { (f : List ℕ) (bs : List BlockText) (faults : List FaultyLine) → IsFile f bs
+        → AreFaultyLines f faults → faults ≡ [] }
+    ensures first { (f : List ℕ) (x : FaultyLine) (more : List FaultyLine) → AreFaultyLines f (x ∷ more)
+        → IsReported f x.line x.code }
 {}

@@ -7,6 +7,7 @@
 
 mod counts;
 mod fault;
+mod faulty;
 mod fields;
 mod growing;
 mod id;
@@ -32,13 +33,14 @@ mod writer;
 
 pub use counts::{is_word_row, words};
 pub use fault::{ReadFault, WriteFault};
+pub use faulty::{FaultyLine, faulty_lines, push_within};
 pub use id::LineId;
 pub use ids::{head_of, id_of};
 pub use known::known_block;
 pub use laws::{
     a_file_begins_one_way, a_file_is_read_in_order, a_line_has_its_least_code,
-    fault_after_sentences, faulty_line_is_dead, one_fault_is_reported, one_list_has_a_text,
-    read_lines_are_alive, reported_bytes_are_no_file,
+    fault_after_sentences, faulty_line_is_dead, faulty_lines_are_reported, one_fault_is_reported,
+    one_list_has_a_text, read_lines_are_alive, reported_bytes_are_no_file,
 };
 pub use owned::{own_block, own_row};
 pub use round::{reread, rewrite};

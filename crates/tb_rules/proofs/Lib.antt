@@ -1,4 +1,5 @@
 pub mod Trims
+pub mod Twice
 pub mod Values
 pub mod Keys
 pub mod RowSteps
@@ -10,11 +11,13 @@ pub mod Refolds
 pub mod Numerals
 pub mod Walks
 pub mod Numbered
+pub mod Reports
 pub mod Spelt
 pub mod Placed
 pub mod Covers
 pub mod Compare
 pub mod Kept
+pub mod Broken
 pub mod ByNumber
 pub mod OneRule
 pub mod Valid

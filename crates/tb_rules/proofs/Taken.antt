@@ -42,10 +42,10 @@ only_one b name other e d = let same : name ∷ [] ≡ other ∷ [] = sym e ∙ 
 names_next : (bs : List BlockText) (b : BlockText) (name : List ℕ) → IsNamed b name → names_of (bs ++ b ∷ []) ≡ names_of bs ++ name ∷ []
 names_next bs b name e = flat_map-append sent_ids bs (b ∷ []) ∙ ap (λ l. names_of bs ++ l) (append-nil (sent_ids b) ∙ e)
 
-same_bytes : (name : List ℕ) → bytes_eq name name ≡ true
+pub same_bytes : (name : List ℕ) → bytes_eq name name ≡ true
 same_bytes name = (bytes_eq-Decides name name).1 refl
 
-equal_bytes : (name other : List ℕ) → bytes_eq name other ≡ true → name ≡ other
+pub equal_bytes : (name other : List ℕ) → bytes_eq name other ≡ true → name ≡ other
 equal_bytes name other h = (bytes_eq-Decides name other).0 h
 
 any_next : (name : List ℕ) (b : BlockText) (bs : List BlockText) → list_any (bytes_eq name) (names_of (b ∷ bs)) ≡ (list_any (bytes_eq name) (sent_ids b) || list_any (bytes_eq name) (names_of bs))
@@ -96,7 +96,7 @@ taken_none names e = record { valid = valid_none; counted = ap length e; known =
 abbrev pub Adds : List (List ℕ) → List ℕ → List (List ℕ) → Type 0
 Adds old name new = (length new ≡ length old + 1) × ((q : List ℕ) → list_any (bytes_eq q) new ≡ cond (bytes_eq name q) true (list_any (bytes_eq q) old))
 
-or_last : (here there : Bool) → cond here true there ≡ (there || (here || false))
+pub or_last : (here there : Bool) → cond here true there ≡ (there || (here || false))
 or_last true true = refl
 or_last true false = refl
 or_last false true = refl
@@ -158,17 +158,22 @@ key_is k keys names name t e is h =
     let there = sym (text_known (string_bytes k) keys) ∙ h in
     subst (λ n. list_any (bytes_eq n) names ≡ t) is (subst (λ l. list_any (bytes_eq (string_bytes k)) l ≡ t) e there)
 
+-- the names after one was put in
+pub key_known : {Y : Type 0} (k : String Y) (old new : BTreeSet (String Y)) (name : List ℕ) → string_bytes k ≡ name → Updates string_cmp old new k true
+    → (q : List ℕ) → list_any (bytes_eq q) (map string_bytes new.keys) ≡ cond (bytes_eq name q) true (list_any (bytes_eq q) (map string_bytes old.keys))
+key_known k old new name is more q =
+    sym (text_known q new.keys) ∙ btree_set_updates_text (string_bytes k) old new true more q
+    ∙ ap (λ n. cond (bytes_eq n q) true (contains_text old q)) is
+    ∙ ap (λ t. cond (bytes_eq name q) true t) (text_known q old.keys)
+
 pub key_added : {Y : Type 0} (k : String Y) (old new : BTreeSet (String Y)) (names : List (List ℕ)) (name : List ℕ) → map string_bytes old.keys ≡ names → string_bytes k ≡ name
     → Updates string_cmp old new k true → (added : Bool) → added ≡ true → length new.keys ≡ length old.keys + cond added 1 0 → Adds names name (map string_bytes new.keys)
 key_added k old new names name e is more added new_key grown =
     let count = grown ∙ ap (λ t. length old.keys + cond t 1 0) new_key in
     let sizes = key_count old.keys names e in
-    let after = key_count new.keys (map string_bytes new.keys) refl in
-    let found = btree_set_updates_text (string_bytes k) old new true more in (
+    let after = key_count new.keys (map string_bytes new.keys) refl in (
       omega (arith, sizes, after, count),
-      λ q. sym (text_known q new.keys) ∙ found q
-          ∙ ap (λ n. cond (bytes_eq n q) true (contains_text old q)) is
-          ∙ ap (λ t. cond (bytes_eq name q) true t) (text_known q old.keys ∙ ap (list_any (bytes_eq q)) e),
+      λ q. key_known k old new name is more q ∙ ap (λ t. cond (bytes_eq name q) true t) (ap (list_any (bytes_eq q)) e),
     )
 
 pub not_false : (t : Bool) → false ≡ not t → t ≡ true

@@ -16,3 +16,4 @@ pub mod Places
 pub mod Rules
 pub mod File
 pub mod FaultText
+pub mod Broken

@@ -29,25 +29,29 @@ use crate::words::word_fault;
 use std::alloc::{AllocError, Global};
 use tb_conllu::{BlockOf, Text, words};
 
-fn word_row<T: Text>(alloc: Global, accepted: &mut Accepted, block: &BlockOf<T>) -> Option<usize>
+pub(crate) fn word_row<T: Text>(
+    alloc: Global,
+    accepted: &mut Accepted,
+    block: &BlockOf<T>,
+) -> Option<usize>
     ensures { MatchOption result (HasWords block.now) (IsFirstFault (word_test (words_of block.now)) block.now.rows) }
 {
     word_fault(alloc, accepted, &block.rows, words(block))
 }
 
-fn span_row<T: Text>(block: &BlockOf<T>) -> Option<usize>
+pub(crate) fn span_row<T: Text>(block: &BlockOf<T>) -> Option<usize>
     ensures { MatchOption result (HasSpans block.now) (IsFirstFault (span_test (words_of block.now)) block.now.rows) }
 {
     span_fault(&block.rows, words(block))
 }
 
-fn node_row<T: Text>(block: &BlockOf<T>) -> Option<usize>
+pub(crate) fn node_row<T: Text>(block: &BlockOf<T>) -> Option<usize>
     ensures { MatchOption result (HasNodes block.now) (IsFirstFault node_test block.now.rows) }
 {
     node_fault(&block.rows)
 }
 
-fn feature_row<T: Text>(
+pub(crate) fn feature_row<T: Text>(
     alloc: Global,
     accepted: &mut Accepted,
     block: &BlockOf<T>,
@@ -59,7 +63,10 @@ fn feature_row<T: Text>(
     feature_fault(alloc, accepted, &block.rows)
 }
 
-fn dependency_row<T: Text>(alloc: Global, block: &BlockOf<T>) -> Result<Option<usize>, AllocError>
+pub(crate) fn dependency_row<T: Text>(
+    alloc: Global,
+    block: &BlockOf<T>,
+) -> Result<Option<usize>, AllocError>
     requires { HasIds block.now }
     ensures value { IfOk result (λ r. MatchOption r (HasDependencies block.now)
         (IsFirstFault (dependency_test block.now.rows) block.now.rows)) }

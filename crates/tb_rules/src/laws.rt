@@ -1,9 +1,11 @@
 //! Laws of valid sentences and of faults. Each function states a fact about the definitions, and runs nothing.
 
-ghost use Rattle.std.specs.Prelude.{◌≡◌, ◌++◌, ℕ, List};
+ghost use Rattle.std.specs.Prelude.{◌≡◌, ◌+◌, [], ◌∷◌, ◌++◌, ℕ, List, length};
 ghost use Rattle.tb_conllu.specs.Text.{BlockText};
+ghost use Rattle.tb_rules.specs.Broken.{AreBroken, AreBrokenAfter};
 ghost use Rattle.tb_rules.specs.File.{IsValid, IsFaultAt};
 ghost use Rattle.tb_rules.specs.Rules.{KeepsRules, IsBroken};
+ghost use Rattle.tb_rules.specs.declared.breaking.BrokenRule.{BrokenRule};
 
 /// A sentence that breaks a rule does not keep the rules.
 pub fn a_broken_rule_is_not_kept()
@@ -33,4 +35,21 @@ pub fn one_sentence_is_reported()
 pub fn a_fault_stays()
     ensures { (bs more : List BlockText) (sentence rule row : ℕ) → IsFaultAt bs sentence rule row
         → IsFaultAt (bs ++ more) sentence rule row }
+{}
+
+/// A sentence has no broken rule exactly where it keeps the rules. Else the first one is the fault that is reported.
+pub fn broken_rules_are_reported()
+    ensures none { (b : BlockText) → AreBroken b [] → KeepsRules b }
+    ensures first { (b : BlockText) (x : BrokenRule) (more : List BrokenRule) → AreBroken b (x ∷ more)
+        → IsBroken b x.rule x.row }
+{}
+
+/// The same of a sentence that comes after valid ones.
+pub fn broken_rules_of_a_file_are_reported()
+    ensures none { (before : List BlockText) (b : BlockText) → IsValid before → AreBrokenAfter before b []
+        → IsValid (before ++ b ∷ []) }
+    ensures first { (before : List BlockText) (b : BlockText) (after : List BlockText) (x : BrokenRule)
+        (more : List BrokenRule) → IsValid before → AreBrokenAfter before b (x ∷ more)
+        → IsFaultAt (before ++ b ∷ after) (length before + 1) x.rule x.row }
+    ensures begin { IsValid [] }
 {}

@@ -3,7 +3,7 @@
 use crate::broken::{BrokenReader, BrokenWriter};
 use crate::cases::{assert_replied, assert_same};
 use crate::files::DOGS_BARK;
-use tb_check::{check_within, run_check};
+use tb_check::{CheckReply, Input, check_input, check_within, read_all, run_check};
 
 #[test]
 fn takes_so_many_bytes(rt: HostRuntime) {
@@ -37,4 +37,29 @@ fn answers_where_a_read_or_a_write_fails(rt: HostRuntime) {
             "check_tests",
         );
     }
+}
+
+/// The replies of an input that is not whole, and those of a whole one.
+#[test]
+fn answers_for_what_was_read(rt: HostRuntime) {
+    let alloc = rt.alloc();
+    for (input, wanted) in [
+        (Input::TooLong, CheckReply::Long),
+        (Input::Memory, CheckReply::Memory),
+        (Input::Broken, CheckReply::Device),
+    ] {
+        assert_same(
+            &rt,
+            &check_input(alloc, &input, 150),
+            &wanted,
+            "an input that is not whole",
+        );
+    }
+    let mut reader = DOGS_BARK.as_bytes();
+    let input = read_all(alloc, &mut reader, 150);
+    let wanted = CheckReply::Counts {
+        sentences: 1,
+        words: 3,
+    };
+    assert_same(&rt, &check_input(alloc, &input, 150), &wanted, "a file");
 }

@@ -10,6 +10,8 @@ mod cases;
 #[cfg(test)]
 mod check_tests;
 #[cfg(test)]
+mod fault_tests;
+#[cfg(test)]
 mod field_tests;
 #[cfg(test)]
 mod files;
