@@ -20,9 +20,8 @@ use Rattle.tb_core.specs.Steps.{Steps}
 use Rattle.tb_core.proofs.Chains.{Replied, replied_repeat, replied_new, correct_replied}
 use Rattle.tb_core.proofs.Weights.{weight_there, weight_changed, changed_there, all_there}
 use Rattle.tb_commands.specs.declared.correcting.CurrentRead.{CurrentRead}
-use Rattle.tb_commands.specs.Correcting.{IsMadeRevision}
+use Rattle.tb_commands.specs.Correcting.{IsMadeRevision, IsCurrentRead, current_seen, correction_move}
 use Rattle.tb_core.specs.Found.{FindsCurrent}
-use Rattle.tb_commands.specs.Correcting.{IsCurrentRead, current_seen, correction_move}
 use Rattle.tb_refine.specs.Faults.{IsNoDevice}
 use Rattle.tb_refine.proofs.RowsOfState.{ReadsBack}
 use Rattle.tb_refine.proofs.Finds.{own_state}

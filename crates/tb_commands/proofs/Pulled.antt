@@ -1,19 +1,21 @@
 -- Pulls and restores as they are judged and planned.
-use Rattle.std.proofs.Common.{◌≡◌, ℕ, ◌+◌, ◌-◌, ◌<◌, List, length, Some, slice_get, sym, ◌∙◌, arith}
+use Rattle.std.proofs.Common.{◌≡◌, ℕ, ◌+◌, ◌-◌, ◌<◌, List, length, Some, slice_get, true, false, refl, sym, ◌∙◌, arith}
 use Rattle.tb_core.specs.declared.kinds.State.TheVariants.{Withdrawn}
-use Rattle.tb_core.specs.declared.kinds.Kind.TheVariants.{Pull, Restore}
+use Rattle.tb_core.specs.declared.kinds.Kind.TheVariants as kinds
 use Rattle.tb_core.specs.declared.limits.Limits.{Limits}
 use Rattle.tb_core.specs.Machine.{Machine, Sentence, one, words}
-use Rattle.tb_core.specs.Acts.{Act, pulling, restoring, state_at, batch_at}
+use Rattle.tb_core.specs.Acts.{Act, pulling, flagged, after, state_at, batch_at}
 use Rattle.tb_core.specs.Acts.{move_of as move_made}
 use Rattle.tb_core.specs.Commands.{Command, Reply, pulled_out, restored_to, reply_to}
-use Rattle.tb_core.proofs.Weights.{weight_there}
+use Rattle.tb_core.proofs.Weights.{weight_there, length-changed}
 use Rattle.tb_core.specs.Found.{FindsSentence}
 use Rattle.tb_commands.specs.declared.finding.SentenceRead.{SentenceRead}
+use Rattle.tb_commands.specs.declared.pulling.PullOrRestore.{PullOrRestore}
+use Rattle.tb_commands.specs.declared.pulling.PullOrRestore.TheVariants.{Pull, Restore}
 use Rattle.tb_refine.specs.declared.preparing.PreparedMove.{PreparedMove}
 use Rattle.tb_commands.specs.ReadOf.{IsSentenceRead}
 use Rattle.tb_refine.specs.Recorded.{IsWritten}
-use Rattle.tb_commands.specs.Pulling.{pull_move, restore_move, IsJudged}
+use Rattle.tb_commands.specs.Pulling.{act_of, reply_of, sentence_move, IsJudged}
 use Rattle.tb_refine.proofs.Finds.{own_state}
 
 -- what was read, as it is judged
@@ -36,25 +38,24 @@ module _ (s : Machine) (n : ℕ) (user : List ℕ) (f : SentenceRead) (x : Sente
   its_words : f.words ≡ (move_made s (pulling (n - 1) user)).words_out
   its_words = read.words ∙ sym (weight_there words s.sentences (n - 1) x there)
 
-  -- the moves
-  pub pull_moves : (counted : ℕ) → counted ≡ length s.moves + 1 → pull_move counted n f user ≡ move_made s (pulling (n - 1) user)
-  pull_moves counted next = λ j. record { no = next j; kind = Pull; batch = in_batch j; sent = at j; from = Some (own j); to = Withdrawn; sentences = single j; words_out = its_words j; words_in = its_words j; who = user }
+  -- the move
+  pub moves_as : (asked : PullOrRestore) (counted : ℕ) → counted ≡ length s.moves + 1 → sentence_move asked counted n f user ≡ move_made s (act_of asked n user)
+  moves_as Pull counted next = λ j. record { no = next j; kind = kinds.Pull; batch = in_batch j; sent = at j; from = Some (own j); to = Withdrawn; sentences = single j; words_out = its_words j; words_in = its_words j; who = user }
+  moves_as Restore counted next = λ j. record { no = next j; kind = kinds.Restore; batch = in_batch j; sent = at j; from = Some Withdrawn; to = own j; sentences = single j; words_out = its_words j; words_in = its_words j; who = user }
 
-  pub restore_moves : (counted : ℕ) → counted ≡ length s.moves + 1 → restore_move counted n f user ≡ move_made s (restoring (n - 1) user)
-  restore_moves counted next = λ j. record { no = next j; kind = Restore; batch = in_batch j; sent = at j; from = Some Withdrawn; to = own j; sentences = single j; words_out = its_words j; words_in = its_words j; who = user }
+  -- the reply
+  pub replies_as : (asked : PullOrRestore) → reply_of asked n f ≡ reply_to s (act_of asked n user)
+  replies_as Pull = λ j. pulled_out (record { sentence = at j; words = its_words j })
+  replies_as Restore = λ j. restored_to (record { sentence = at j; state = own j; words = its_words j })
 
-  -- the replies
-  pub pull_replies : (number sum : ℕ) → number ≡ n → sum ≡ f.words → pulled_out (record { sentence = number; words = sum }) ≡ reply_to s (pulling (n - 1) user)
-  pull_replies number sum is reported =
-      let sent = is ∙ at in
-      let all = reported ∙ its_words in
-      λ j. pulled_out (record { sentence = sent j; words = all j })
+-- there are as many batches and sentences afterwards
+pub same_batches : (asked : PullOrRestore) (s : Machine) (n : ℕ) (user : List ℕ) → length (after s (act_of asked n user)).batches ≡ length s.batches
+same_batches Pull s n user = refl
+same_batches Restore s n user = refl
 
-  pub restore_replies : (number sum : ℕ) → number ≡ n → sum ≡ f.words → restored_to (record { sentence = number; state = f.state; words = sum }) ≡ reply_to s (restoring (n - 1) user)
-  restore_replies number sum is reported =
-      let sent = is ∙ at in
-      let all = reported ∙ its_words in
-      λ j. restored_to (record { sentence = sent j; state = own j; words = all j })
+pub same_sentences : (asked : PullOrRestore) (s : Machine) (n : ℕ) (user : List ℕ) → length (after s (act_of asked n user)).sentences ≡ length s.sentences
+same_sentences Pull s n user = length-changed (flagged true) s.sentences (n - 1)
+same_sentences Restore s n user = length-changed (flagged false) s.sentences (n - 1)
 
 -- what is written of a judged act
 pub judged_written : (l : Limits) (s : Machine) (c : Command) (a : Act) (reply : Reply) (p : PreparedMove) → IsJudged l s c a reply p → IsWritten s a p.change

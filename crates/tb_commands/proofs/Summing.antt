@@ -4,9 +4,8 @@ use Rattle.std.specs.Prelude.{sum_by}
 use Rattle.std.proofs.Math.Seq.{take-suc}
 use Rattle.std.proofs.lemmas.List.Sums.{sum_by-cons, sum_by-append, sum_by-take-drop}
 use Rattle.sqlite_trees.specs.Tree.{IsAscending}
-use Rattle.tb_core.specs.Machine.{Sentence, weigh, when, at_work, one, rev, words}
+use Rattle.tb_core.specs.Machine.{Sentence, weigh, when, at_work, one, rev, words, Machine}
 use Rattle.tb_core.specs.Rows.{pulled_from}
-use Rattle.tb_core.specs.Machine.{Machine}
 use Rattle.tb_core.specs.Keeping.{IsWell}
 use Rattle.tb_reads.specs.declared.work.BatchSentence.{BatchSentence}
 use Rattle.tb_reads.specs.Found.{work_of}

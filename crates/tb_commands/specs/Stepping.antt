@@ -1,6 +1,6 @@
 -- Inner: no contract beyond this crate cites a definition of this module.
 -- The reply to an accepted event, and what the event writes.
-use Rattle.std.specs.Prelude.{◌≡◌, ℕ, ◌+◌, List, Some, string_bytes}
+use Rattle.std.specs.Prelude.{◌≡◌, ℕ, ◌+◌, List, Some, string_bytes, slice_get}
 use Rattle.tb_core.specs.declared.kinds.Event.{Event}
 use Rattle.tb_core.specs.declared.kinds.Kind.TheVariants.{Step}
 use Rattle.tb_core.specs.Events.{goes_to, makes_worker}
@@ -8,7 +8,6 @@ use Rattle.tb_core.specs.Moves.{MoveText}
 use Rattle.tb_core.specs.Machine.{Machine, Batch}
 use Rattle.tb_core.specs.Acts.{stepping, with_worker}
 use Rattle.tb_core.specs.Commands.{moved_on, reply_to}
-use Rattle.std.specs.Prelude.{slice_get}
 use Rattle.tb_refine.specs.Numbers.{state_number}
 use Rattle.tb_core.specs.Found.{BatchSeen}
 use Rattle.tb_commands.specs.declared.finding.BatchRead.{BatchRead}

@@ -1,14 +1,13 @@
-//! The writes of accepted acts. Each is one transaction. Afterwards the tables represent the state that the act leads
-//! to.
+//! The write of an accepted correction, in one transaction. Afterwards the tables represent the state that it leads to.
 
-ghost use Rattle.std.specs.Prelude.{◌≡◌, ◌≢◌, ◌-◌, ◌<◌, ℕ, List, Err, None, false, OnOk};
+ghost use Rattle.std.specs.Prelude.{◌≡◌, ◌≢◌, ◌-◌, ◌<◌, Err, None, false, OnOk};
 ghost use Rattle.sqlite.specs.State.{HasCleanDisk, Survives};
 ghost use Rattle.sqlite.specs.Held.{state};
 ghost use Rattle.tb_tables.specs.Records.{AreStored};
 ghost use Rattle.tb_core.specs.declared.refusals.Refusal.{Refusal as AnyRefusal};
 ghost use Rattle.tb_core.specs.Machine.{Machine, Sentence};
 ghost use Rattle.tb_conllu.specs.Text.{BlockText};
-ghost use Rattle.tb_core.specs.Acts.{IsAllowed, correcting, pulling, restoring, after};
+ghost use Rattle.tb_core.specs.Acts.{IsAllowed, correcting, after};
 ghost use Rattle.tb_core.specs.Reaching.{IsReachable};
 ghost use Rattle.tb_refine.specs.DeskTables.{tables_of, IsDeskOf};
 ghost use Rattle.tb_refine.specs.Recorded.{IsWritten};
@@ -21,7 +20,7 @@ ghost use Rattle.tb_refine.specs.Calls.{BlamesNoDevice};
 use sqlite::{Alter, Connection};
 use tb_core::{Fault, reached_states_are_well};
 use tb_refine::faults;
-use tb_tables::{MoveWrite, write_correction, write_pull, write_restore};
+use tb_tables::{MoveWrite, write_correction};
 
 /// Writes a correction of the sentence with this number, from 1. Its new current revision has so many words, by this
 /// user.
@@ -62,65 +61,4 @@ pub(crate) fn correct<S: Alter>(
 {
     reached_states_are_well();
     faults::reported_write(write_correction(conn, number, rev, words, who, text, change))
-}
-
-/// Writes a pull of the sentence with this number, from 1.
-pub(crate) fn pull<S: Alter>(
-    conn: &mut Connection<S>,
-    number: u32,
-    change: &MoveWrite,
-) -> Result<(), Fault>
-    requires autocommit { conn.old.in_transaction ≡ false }
-    requires row { 0 < number }
-    ensures made { HasCleanDisk (state S.Store conn.new) → OnOk result ((s : Machine) (user : List ℕ)
-        → IsDeskOf S.Store conn.old s → IsAllowed s (pulling (number - 1) user)
-        → IsReachable (after s (pulling (number - 1) user)) → IsWritten s (pulling (number - 1) user) change.now
-        → IsDeskOf S.Store conn.new (after s (pulling (number - 1) user))) }
-    ensures never_refuses { (r : AnyRefusal) → result ≢ Err (Fault.Refused r) }
-    ensures output { result ≢ Err Fault.Output }
-    ensures fails { HasCleanDisk (state S.Store conn.new) → (state S.Store conn.old).step_limit ≡ None
-        → (s : Machine) (user : List ℕ) → IsDeskOf S.Store conn.old s → IsAllowed s (pulling (number - 1) user)
-        → IsWritten s (pulling (number - 1) user) change.now → result ≢ Err Fault.NotADesk }
-    ensures cause { BlamesNoDevice S.Store conn.old conn.new result (λ s so. (user : List ℕ)
-        → IsAllowed s (pulling (number - 1) user) → IsWritten s (pulling (number - 1) user) change.now → so) }
-    ensures keeps_records { KeepsRecordsOnErr S.Store conn.old conn.new result }
-    ensures crash { Survives (state S.Store conn.old) (state S.Store conn.new) (λ db. (s : Machine) (user : List ℕ)
-        → IsDeskOf S.Store conn.old s → IsAllowed s (pulling (number - 1) user)
-        → IsWritten s (pulling (number - 1) user) change.now
-        → AreStored (tables_of (after s (pulling (number - 1) user))) db) }
-    ensures autocommit { conn.new.in_transaction ≡ false }
-{
-    reached_states_are_well();
-    faults::reported_write(write_pull(conn, number, change))
-}
-
-/// Writes a restore of the pulled sentence with this number, from 1.
-pub(crate) fn restore<S: Alter>(
-    conn: &mut Connection<S>,
-    number: u32,
-    change: &MoveWrite,
-) -> Result<(), Fault>
-    requires autocommit { conn.old.in_transaction ≡ false }
-    requires row { 0 < number }
-    ensures made { HasCleanDisk (state S.Store conn.new) → OnOk result ((s : Machine) (user : List ℕ)
-        → IsDeskOf S.Store conn.old s → IsAllowed s (restoring (number - 1) user)
-        → IsReachable (after s (restoring (number - 1) user)) → IsWritten s (restoring (number - 1) user) change.now
-        → IsDeskOf S.Store conn.new (after s (restoring (number - 1) user))) }
-    ensures never_refuses { (r : AnyRefusal) → result ≢ Err (Fault.Refused r) }
-    ensures output { result ≢ Err Fault.Output }
-    ensures fails { HasCleanDisk (state S.Store conn.new) → (state S.Store conn.old).step_limit ≡ None
-        → (s : Machine) (user : List ℕ) → IsDeskOf S.Store conn.old s
-        → IsAllowed s (restoring (number - 1) user) → IsWritten s (restoring (number - 1) user) change.now
-        → result ≢ Err Fault.NotADesk }
-    ensures cause { BlamesNoDevice S.Store conn.old conn.new result (λ s so. (user : List ℕ)
-        → IsAllowed s (restoring (number - 1) user) → IsWritten s (restoring (number - 1) user) change.now → so) }
-    ensures keeps_records { KeepsRecordsOnErr S.Store conn.old conn.new result }
-    ensures crash { Survives (state S.Store conn.old) (state S.Store conn.new) (λ db. (s : Machine) (user : List ℕ)
-        → IsDeskOf S.Store conn.old s → IsAllowed s (restoring (number - 1) user)
-        → IsWritten s (restoring (number - 1) user) change.now
-        → AreStored (tables_of (after s (restoring (number - 1) user))) db) }
-    ensures autocommit { conn.new.in_transaction ≡ false }
-{
-    reached_states_are_well();
-    faults::reported_write(write_restore(conn, number, change))
 }

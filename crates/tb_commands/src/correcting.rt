@@ -1,8 +1,7 @@
 //! A correction of a sentence.
 
-ghost use Rattle.std.specs.Prelude.{◌≡◌, ◌≢◌, ℕ, ◌+◌, ◌-◌, ◌^◌, ◌<◌, ◌≤◌, List, [], is_ok};
-ghost use Rattle.std.specs.Prelude.{◌∷◌, length, None, Some, Err};
-ghost use Rattle.std.specs.Prelude.{slice_get, string_bytes, false, IfOk, IfSome, IfErr};
+ghost use Rattle.std.specs.Prelude.{◌≡◌, ◌≢◌, ℕ, ◌+◌, ◌-◌, ◌^◌, ◌<◌, ◌≤◌, List, [], is_ok, ◌∷◌, length, None, Some};
+ghost use Rattle.std.specs.Prelude.{Err, slice_get, string_bytes, false, IfOk, IfSome, IfErr};
 ghost use Rattle.sqlite.specs.State.{HasCleanDisk};
 ghost use Rattle.sqlite.specs.Held.{state};
 ghost use Rattle.tb_conllu.specs.Text.{text_of};
@@ -21,11 +20,9 @@ ghost use Rattle.tb_refine.specs.Counted.{IsWithin, IsCounted};
 ghost use Rattle.tb_commands.specs.Correcting.{PlanText, IsCurrentRead, IsPlannedCorrection, Decides, Corrects};
 ghost use Rattle.tb_commands.specs.Correcting.{current_seen, correction_move};
 ghost use Rattle.tb_commands.specs.ReadOf.{fault_of_stored};
-ghost use Rattle.tb_refine.specs.Calls.{CrashesTo, KnowsDeskWhere, RefusesAs, Tells};
-ghost use Rattle.tb_refine.specs.Calls.{BlamesNoDevice};
+ghost use Rattle.tb_refine.specs.Calls.{CrashesTo, KnowsDeskWhere, RefusesAs, Tells, BlamesNoDevice};
 ghost use Rattle.tb_refine.specs.Room.{HasRoomIfWritten};
-ghost use Rattle.tb_tables.specs.Leaving.{KeepsRecordsOnErr};
-ghost use Rattle.tb_tables.specs.Leaving.{IsFaultless, FailsOnlyAs};
+ghost use Rattle.tb_tables.specs.Leaving.{KeepsRecordsOnErr, IsFaultless, FailsOnlyAs};
 ghost use Rattle.tb_reads.specs.ReadOnly.{IsReadOnly};
 ghost use Rattle.tb_refine.specs.Faults.{IsNoDevice};
 

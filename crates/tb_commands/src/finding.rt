@@ -1,8 +1,7 @@
 //! What a command reads of a desk before it is judged.
 
-ghost use Rattle.std.specs.Prelude.{◌≡◌, ◌≢◌, ◌-◌, ◌<◌, Some, None, Err, slice_get, option_map, is_ok};
-ghost use Rattle.std.specs.Prelude.{string_bytes, IfOk};
-ghost use Rattle.std.specs.Prelude.{IfErr};
+ghost use Rattle.std.specs.Prelude.{◌≡◌, ◌≢◌, ◌-◌, ◌<◌, Some, None, Err, slice_get, option_map, is_ok, string_bytes};
+ghost use Rattle.std.specs.Prelude.{IfOk, IfErr};
 ghost use Rattle.sqlite.specs.Held.{state};
 ghost use Rattle.tb_core.specs.declared.refusals.Refusal.{Refusal as AnyRefusal};
 ghost use Rattle.tb_core.specs.declared.kinds.State.{State as AnyState};

@@ -18,10 +18,8 @@ ghost use Rattle.tb_core.specs.Found.{FindsBatch};
 ghost use Rattle.tb_refine.specs.Counted.{IsWithin, IsCounted};
 ghost use Rattle.tb_commands.specs.Working.{IsDone};
 ghost use Rattle.tb_commands.specs.Stepping.{seen_of, event_move, IsPlanned};
-ghost use Rattle.tb_refine.specs.Calls.{CrashesTo, KnowsDeskWhere, RefusesAs, Tells, TellsOnOk};
-ghost use Rattle.tb_refine.specs.Calls.{BlamesNoDevice};
-ghost use Rattle.tb_tables.specs.Leaving.{KeepsRecordsOnErr};
-ghost use Rattle.tb_tables.specs.Leaving.{IsFaultless, FailsOnlyAs};
+ghost use Rattle.tb_refine.specs.Calls.{CrashesTo, KnowsDeskWhere, RefusesAs, Tells, TellsOnOk, BlamesNoDevice};
+ghost use Rattle.tb_tables.specs.Leaving.{KeepsRecordsOnErr, IsFaultless, FailsOnlyAs};
 ghost use Rattle.tb_reads.specs.ReadOnly.{IsReadOnly};
 ghost use Rattle.tb_refine.specs.Faults.{IsNoDevice};
 

@@ -7,7 +7,7 @@ use Rattle.tb_match.specs.declared.strategy.Strategy.TheVariants.{Shortest, Long
 use Rattle.tb_match.specs.Hits.{ComesBefore, IsHit, IsFound, IsWord, AreHits}
 use Rattle.tb_match.specs.Trees.{tok}
 use Rattle.tb_match.specs.Facts.{Facts, Holds}
-use Rattle.tb_match.proofs.Ordered.{none_in_empty, push_ascending, cons_ascending, Contains-pushed, Contains-cons}
+use Rattle.tb_match.proofs.Ordered.{push_ascending, cons_ascending, Contains-pushed, Contains-cons}
 
 abbrev pair : ℕ → ℕ → ℕ × ℕ
 pair i j = (i, j)
@@ -284,12 +284,3 @@ words_are_hits t e Every i j = (λ r. r, λ h. h)
 
 pub words_are_found : (t : Facts) (e i j : ℕ) → IsWord t e i j ↔ IsFound t (tok e) i j
 words_are_found t e i j = (λ r. (omega (arith, r.0), r.1.1, r), λ f. f.2)
-
--- where a relation holds nowhere, there is no hit
-pub no_hits : (s : Strategy) (R : ℕ → ℕ → Type 0) → ((i j : ℕ) → R i j → ⊥) → AreHits s R []
-no_hits s R none = (λ i j d _ lt. absurd (omega arith), λ i j. (λ c. absurd (none_in_empty (i, j) c), λ h. absurd (none i j (holds s i j h))))
-  where
-    holds : (s : Strategy) (i j : ℕ) → IsHit s R i j → R i j
-    holds Shortest i j h = h.0
-    holds Longest i j h = h.0
-    holds Every i j h = h

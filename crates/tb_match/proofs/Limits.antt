@@ -2,9 +2,8 @@
 use Rattle.std.proofs.Common.{◌≡◌, ◌+◌, ◌-◌, ◌*◌, ◌<◌, ◌≤◌, ◌≢◌, ◌↔◌, ◌⊎◌, ℕ, zero, suc, List, Option, Some, None, IsTrue, Bool, true, false, true≢false, ◌&&◌, arith, sym, subst, inl, inr, ⊎_elim, refl}
 use Rattle.std.proofs.lemmas.Bool.{cases_lt, cases_eq}
 use Rattle.tb_match.specs.Bits.{InRow, InTable, IsClosed, IsForward, HasLinksOf, Link, Within, triangle}
-use Rattle.std.proofs.Math.Nat.{mul-le-mul_right}
 use Rattle.tb_match.specs.Match.{Chain, IsAtMost}
-use Rattle.tb_match.specs.Weight.{IsBetween, turns}
+use Rattle.tb_match.specs.Weight.{IsBetween}
 use Rattle.tb_match.proofs.Chains.{chain_join, chain_split}
 use Rattle.tb_match.proofs.Sweeps.{chain_goes_on, triangle_step}
 
@@ -18,13 +17,6 @@ module _ (L : List ℕ) (w last : ℕ) where
 
   pub within_from : (t i j : ℕ) → Within L w last t i j → i ≤ j
   within_from t i j (k, small, c) = chain_goes_on L w last k i j c
-
-  pub within_none : (i j : ℕ) → (IsTrue true × (j ≡ i)) ↔ Within L w last 0 i j
-  within_none i j = (λ p. (0, omega arith, sym p.1), back)
-    where
-      back : Within L w last 0 i j → IsTrue true × (j ≡ i)
-      back (zero, small, c) = (refl, sym c)
-      back (suc k, small, c) = absurd (omega arith)
 
   -- a chain of one link more ends in a link from where one of no more links ends
   pub within_next : (t i j : ℕ) → IsForward L w last → i ≤ last → j ≤ last →
@@ -94,26 +86,9 @@ module _ (L : List ℕ) (w last : ℕ) where
 pub turns_step : (times m n : ℕ) → m ≡ n + 1 → times * triangle m ≡ times * m + times * triangle n
 turns_step times m n e = rw (triangle_step m n e) (omega arith)
 
--- the limits of a repetition, and those of one with a lower least number
-pub between_less : (a : ℕ) (b : Option ℕ) → 1 ≤ a → IsBetween a b → IsBetween (a - 1) b
-between_less a None some h = omega arith
-between_less a (Some b) some (small, le, one, most) = (omega arith, omega arith, one, most)
-
 pub one_more : (a : ℕ) (b : Option ℕ) → 1 ≤ a → IsBetween a b → IsAtMost (a - 1 + 1) b
 one_more a None some h = tt
 one_more a (Some b) some (small, le, one, most) = omega arith
-
-pub turns_less : (a : ℕ) (b : Option ℕ) (T : ℕ) → 1 ≤ a → turns (a - 1) b * T ≤ turns a b * T
-turns_less a None T some = let le : a - 1 + 2 ≤ a + 2 = omega arith in mul-le-mul_right T le
-turns_less a (Some b) T some = omega arith
-
-pub turns_fewer : (a c : ℕ) (b : Option ℕ) (T : ℕ) → c ≤ a → turns c b * T ≤ turns a b * T
-turns_fewer a c None T few = let le : c + 2 ≤ a + 2 = omega arith in mul-le-mul_right T le
-turns_fewer a c (Some b) T few = omega arith
-
-pub between_fewer : (a c : ℕ) (b : Option ℕ) → c ≤ a → IsBetween a b → IsBetween c b
-between_fewer a c None few h = omega arith
-between_fewer a c (Some b) few (small, le, one, most) = (omega arith, omega arith, one, most)
 
 at_most : (a : ℕ) (b : Option ℕ) → IsBetween a b → IsAtMost a b
 at_most a None h = tt
@@ -164,15 +139,6 @@ some_unlimited L V T w last a b i j here some order = some_least L V T w last a 
     small : (b : Option ℕ) → IsBetween a b → IsBetween a None
     small None h = h
     small (Some b) (low, le, one, most) = low
-
--- the same where the least number is none
-pub any_least : (L T : List ℕ) (w last : ℕ) (b : Option ℕ) (i j : ℕ) →
-    (InTable T w i j ↔ ((k : ℕ) × IsAtMost (0 + k) b × Chain (Link L w last) k i j)) →
-    InTable T w i j ↔ ((k : ℕ) × (0 ≤ 0 - 1 + k) × IsAtMost (0 - 1 + k) b × Chain (Link L w last) k i j)
-any_least L T w last b i j rows = (
-  λ h. let r = rows.0 h in (r.0, omega arith, subst (λ x. IsAtMost x b) (let e : 0 + r.0 ≡ 0 - 1 + r.0 = omega arith in e) r.1, r.2),
-  λ (k, le, most, c). rows.1 (k, subst (λ x. IsAtMost x b) (let e : 0 - 1 + k ≡ 0 + k = omega arith in e) most, c),
-)
 
 -- at most so many links, where so many are left
 pub within_limit : (L : List ℕ) (w last a b i j : ℕ) → a ≤ b →

@@ -1,7 +1,7 @@
 -- Links put before a relation many times are chains.
-use Rattle.std.proofs.Common.{◌≡◌, ◌+◌, ◌-◌, ◌*◌, ◌≤◌, ◌↔◌, ℕ, add-one, zero, suc, List, Option, arith, sym, ap, subst, refl, add-mul, take, drop, ◌++◌, length}
+use Rattle.std.proofs.Common.{◌≡◌, ◌+◌, ◌-◌, ◌*◌, ◌≤◌, ◌↔◌, ℕ, zero, suc, List, Option, arith, sym, ap, subst, refl, add-mul, take, drop, ◌++◌, length}
 use Rattle.std.proofs.lemmas.List.{take_at}
-use Rattle.tb_match.specs.Bits.{InTable, Link, Repeated, Through}
+use Rattle.tb_match.specs.Bits.{InTable, Link, Repeated}
 use Rattle.tb_match.specs.Match.{Chain, IsAtMost}
 use Rattle.tb_match.proofs.Chains.{chain_join, chain_split}
 use Rattle.tb_match.proofs.Limits.{chain_ends}
@@ -17,17 +17,6 @@ module _ (L T : List ℕ) (w last : ℕ) where
   pub after_from : (t i j m : ℕ) → Chain link t i m → InTable T w m j → Repeated L T w last t i j
   after_from zero i j m e h = subst (λ x. InTable T w x j) (sym e) h
   after_from (suc t) i j m (k, l, rest) h = (k, l, after_from t k j m rest h)
-
--- one turn more
-pub one_turn : (L T0 T T' : List ℕ) (w last t i j : ℕ) → j ≤ last → (InTable T' w i j ↔ Through L T w i (last + 1) j) →
-    ((m : ℕ) → m ≤ last → InTable T w m j ↔ Repeated L T0 w last t m j) → InTable T' w i j ↔ Repeated L T0 w last (t + 1) i j
-one_turn L T0 T T' w last t i j here made rows = rw add-one (
-  λ h. there (made.0 h),
-  λ (m, (le, most, link), rest). made.1 (m, le, omega arith, link, (rows m most).1 rest),
-)
-  where
-    there : Through L T w i (last + 1) j → Repeated L T0 w last (suc t) i j
-    there (m, le, lt, link, rest) = let most : m ≤ last = omega arith in (m, (le, most, link), (rows m most).0 rest)
 
 -- in turn: a fixed number of links, and then a chain of some more
 module _ (L T : List ℕ) (w last m a : ℕ) (b : Option ℕ) (least : m ≤ a)
@@ -49,9 +38,6 @@ module _ (L T : List ℕ) (w last m a : ℕ) (b : Option ℕ) (least : m ≤ a)
 
 pub turns_some : (a b t : ℕ) → a ≤ b → (b - a + 1) * t + a * t ≡ (b + 1) * t
 turns_some a b t le = let e : b ≡ a + (b - a) = omega arith in rw (← add-mul) (ap (λ x. x * t) (let f : b - a + 1 + a ≡ b + 1 = omega arith in f))
-
-pub turns_none : (a t : ℕ) → t + a * t ≤ (a + 2) * t
-turns_none a t = omega arith
 
 -- a slice that was lent whole by a vector, and handed back
 pub lent : (n : ℕ) (new old : List ℕ) → n ≡ length new → take n (new ++ drop (length new) old) ≡ new

@@ -99,14 +99,6 @@ gather_over L T spare0 spare w i k n j le known so_far = (λ h. widen (so_far.0 
     narrow (inl p) = so_far.1 (inl p)
     narrow (inr (m, a, b, c, d)) = ⊎_elim (λ lt. so_far.1 (inr (m, a, lt, c, d))) (λ ge. known m ge b c d) (cases_lt m k)
 
--- nothing is gathered yet
-pub gather_none : (L T spare0 : List ℕ) (w i j : ℕ) → InRow spare0 0 j ↔ (InRow spare0 0 j ⊎ Through L T w i i j)
-gather_none L T spare0 w i j = (λ h. inl h, back)
-  where
-    back : (InRow spare0 0 j ⊎ Through L T w i i j) → InRow spare0 0 j
-    back (inl p) = p
-    back (inr (m, a, b, c, d)) = absurd (omega arith)
-
 -- the union with row k of a table
 pub united_row : (spare spare' T : List ℕ) (w k j n : ℕ) → length spare ≡ w → n ≡ w → j / 64 < w → k * w + w ≤ length T → spare' ≡ zip2 bit_or spare (take n (drop (k * w) T)) → InRow spare' 0 j ↔ (InRow spare 0 j ⊎ InTable T w k j)
 united_row spare spare' T w k j n wide size short room e =

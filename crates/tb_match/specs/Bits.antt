@@ -1,8 +1,7 @@
 -- Inner: no contract beyond this crate cites a definition of this module.
 -- Rows of bits, kept in words of 64 bits, and tables of such rows. The bit of place j is bit j % 64 of word j / 64 of
 -- its row.
-use Rattle.std.specs.Prelude.{◌≡◌, ℕ, zero, suc, ◌+◌, ◌*◌, ◌/◌, ◌%◌, ◌<◌, ◌≤◌, List}
-use Rattle.std.specs.Prelude.{slice_index}
+use Rattle.std.specs.Prelude.{◌≡◌, ℕ, zero, suc, ◌+◌, ◌*◌, ◌/◌, ◌%◌, ◌<◌, ◌≤◌, List, slice_index}
 use Rattle.std.specs.Int.{bit_at}
 use Rattle.tb_match.specs.Match.{Chain}
 

@@ -1,6 +1,5 @@
 -- Which expressions hold of which words of a sentence.
-use Rattle.std.specs.Prelude.{◌≡◌, ℕ, ◌+◌, ◌-◌, ◌*◌, ◌≤◌, List, Bool, true, false}
-use Rattle.std.specs.Prelude.{slice_index_or}
+use Rattle.std.specs.Prelude.{◌≡◌, ℕ, ◌+◌, ◌-◌, ◌*◌, ◌≤◌, List, Bool, true, false, slice_index_or}
 
 -- a table of truths: the cells of expression 0, word by word, then those of expression 1, and so on
 pub record Facts : Type 0 where

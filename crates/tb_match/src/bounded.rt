@@ -1,7 +1,6 @@
 //! Chains of at most a given number of links: in each turn, from each place, the links of the places that are new.
 
-ghost use Rattle.std.specs.Prelude.{◌≡◌, ◌+◌, ◌-◌, ◌*◌, ◌/◌, ◌<◌, ◌≤◌, ◌^◌};
-ghost use Rattle.std.specs.Prelude.{◌↔◌, ◌⊎◌, ◌≢◌, ℕ, IsTrue, length};
+ghost use Rattle.std.specs.Prelude.{◌≡◌, ◌+◌, ◌-◌, ◌*◌, ◌/◌, ◌<◌, ◌≤◌, ◌^◌, ◌↔◌, ◌⊎◌, ◌≢◌, ℕ, IsTrue, length};
 ghost use Rattle.tb_match.specs.Bits.{InRow, InTable, IsForward, Link, Within, triangle};
 ghost use Rattle.tb_match.specs.Match.{Chain};
 
@@ -167,42 +166,6 @@ fn limit_place(
     same
 }
 
-/// Makes the rows of any number of links those of at most `times`, place by place. Returns whether they are the same.
-fn limit_places(
-    table: &mut [u64],
-    spare: &mut [u64],
-    before: &mut [u64],
-    done: &mut [u64],
-    links: &[u64],
-    shape: Shape,
-    times: usize,
-    steps: &mut u64,
-) -> bool
-    requires spare { length spare.old ≡ shape.width }
-    requires before { length before.old ≡ shape.width }
-    requires done { length done.old ≡ shape.width }
-    requires links { length links.now ≡ (shape.last + 1) * shape.width }
-    requires table { length table.old ≡ (shape.last + 1) * shape.width }
-    requires forward { IsForward links.now shape.width shape.last }
-    requires closed { (i j : ℕ) → i ≤ shape.last → j ≤ shape.last → (InTable table.old shape.width i j
-        ↔ ((k : ℕ) × Chain (Link links.now shape.width shape.last) k i j)) }
-    requires countable { steps.old + times * triangle (shape.last + 1) < 2 ^ 64 }
-    ensures rows { (i j : ℕ) → i ≤ shape.last → j ≤ shape.last → (InTable table.new shape.width i j
-        ↔ Within links.now shape.width shape.last times i j) }
-    ensures unchanged { IsTrue result → (i j : ℕ) → i ≤ shape.last → j ≤ shape.last
-        → (InTable table.new shape.width i j ↔ InTable table.old shape.width i j) }
-    ensures more { steps.old ≤ steps.new }
-    ensures bound { steps.new ≤ steps.old + times * triangle (shape.last + 1) }
-{
-    let mut same = true;
-    for place in 0..shape.last + 1 {
-        same &= limit_place(
-            table, spare, before, done, links, shape, place, times, steps,
-        );
-    }
-    same
-}
-
 /// Makes the rows of any number of links those of at most `times`. Returns whether they are the same.
 pub(crate) fn limit(
     table: &mut [u64],
@@ -228,16 +191,15 @@ pub(crate) fn limit(
 {
     let mut before = [0; WIDEST];
     let mut done = [0; WIDEST];
-    limit_places(
-        table,
-        spare,
-        &mut before[..shape.width],
-        &mut done[..shape.width],
-        links,
-        shape,
-        times,
-        steps,
-    )
+    let before = &mut before[..shape.width];
+    let done = &mut done[..shape.width];
+    let mut same = true;
+    for place in 0..shape.last + 1 {
+        same &= limit_place(
+            table, spare, before, done, links, shape, place, times, steps,
+        );
+    }
+    same
 }
 
 /// Removes the place from the row.

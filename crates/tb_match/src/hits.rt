@@ -1,7 +1,6 @@
 //! Chooses the hits among the pairs of places in a table of bit rows.
 
-ghost use Rattle.std.specs.Prelude.{◌≡◌, ◌+◌, ◌*◌, ◌<◌, ◌≤◌, ◌↔◌, ◌⊎◌, ℕ, IfOk};
-ghost use Rattle.std.specs.Prelude.{OnOk, length};
+ghost use Rattle.std.specs.Prelude.{◌≡◌, ◌+◌, ◌*◌, ◌<◌, ◌≤◌, ◌↔◌, ◌⊎◌, ℕ, IfOk, OnOk, length};
 ghost use Rattle.std.specs.List.{AllPairs, Contains};
 ghost use Rattle.tb_match.specs.Bits.{Forward};
 ghost use Rattle.tb_match.specs.Hits.{AreHits, ComesBefore, IsWord};

@@ -1,8 +1,7 @@
 //! Rows of one machine word, which sentences of fewer than 64 words have. All places of a row step over a word at once,
 //! and links are chained in their own table.
 
-ghost use Rattle.std.specs.Prelude.{◌≡◌, ◌+◌, ◌-◌, ◌^◌, ◌<◌, ◌≤◌, ◌≢◌, ◌↔◌};
-ghost use Rattle.std.specs.Prelude.{◌⊎◌, ℕ, length};
+ghost use Rattle.std.specs.Prelude.{◌≡◌, ◌+◌, ◌-◌, ◌^◌, ◌<◌, ◌≤◌, ◌≢◌, ◌↔◌, ◌⊎◌, ℕ, length};
 ghost use Rattle.std.specs.Int.{bit_at};
 ghost use Rattle.tb_match.specs.Bits.{InRow, InTable, Link, triangle};
 ghost use Rattle.tb_match.specs.Facts.{Holds};

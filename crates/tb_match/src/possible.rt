@@ -1,7 +1,7 @@
 //! Whether a pattern can match at all in a sentence. The test is far cheaper than the matches.
 
 ghost use Rattle.std.specs.Prelude.{◌≡◌, ℕ, false};
-ghost use Rattle.tb_match.specs.Facts.{Facts, Holds};
+ghost use Rattle.tb_match.specs.Facts.{Holds};
 ghost use Rattle.tb_match.specs.Match.{AnyOf, EachInTurn, Match};
 ghost use Rattle.tb_match.specs.Trees.{tree, trees};
 ghost use Rattle.tb_match.specs.Weight.{AllProper, IsProper};

@@ -1,7 +1,6 @@
 //! Computes the relation of a pattern as a table of bit rows.
 
-ghost use Rattle.std.specs.Prelude.{◌≡◌, ◌+◌, ◌-◌, ◌*◌, ◌<◌, ◌≤◌, ◌^◌, ◌↔◌};
-ghost use Rattle.std.specs.Prelude.{◌⊎◌, ℕ, IfOk, IsTrue, length, None};
+ghost use Rattle.std.specs.Prelude.{◌≡◌, ◌+◌, ◌-◌, ◌*◌, ◌<◌, ◌≤◌, ◌^◌, ◌↔◌, ◌⊎◌, ℕ, IfOk, IsTrue, length, None};
 ghost use Rattle.tb_match.specs.Bits.{InTable, IsForward, Link, triangle};
 ghost use Rattle.tb_match.specs.Match.{AnyOf, Chain, EachInTurn, IsAtMost, Match};
 ghost use Rattle.tb_match.specs.Trees.{tree, trees};

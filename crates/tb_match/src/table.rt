@@ -1,7 +1,6 @@
 //! Tables of bit rows, one row after another in one slice.
 
-ghost use Rattle.std.specs.Prelude.{◌≡◌, ◌+◌, ◌-◌, ◌*◌, ◌/◌, ◌<◌, ◌≤◌, ◌^◌};
-ghost use Rattle.std.specs.Prelude.{◌↔◌, ◌⊎◌, ◌≢◌, ℕ, IsTrue, IfOk, length};
+ghost use Rattle.std.specs.Prelude.{◌≡◌, ◌+◌, ◌-◌, ◌*◌, ◌/◌, ◌<◌, ◌≤◌, ◌^◌, ◌↔◌, ◌⊎◌, ◌≢◌, ℕ, IsTrue, IfOk, length};
 ghost use Rattle.tb_match.specs.Bits.{InRow, InTable, Through, Link, IsClosed, IsForward, HasRowsOf, triangle};
 ghost use Rattle.tb_match.specs.Match.{Chain};
 

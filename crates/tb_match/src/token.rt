@@ -1,8 +1,7 @@
 //! Parts of a pattern that are one word, an optional word or a run of words. They need no table of their own: the
 //! places of a row step over the words.
 
-ghost use Rattle.std.specs.Prelude.{◌≡◌, ◌+◌, ◌*◌, ◌<◌, ◌≤◌, ◌↔◌, ◌⊎◌, ◌≢◌};
-ghost use Rattle.std.specs.Prelude.{ℕ, IsTrue, IfOk, length, Some, None};
+ghost use Rattle.std.specs.Prelude.{◌≡◌, ◌+◌, ◌*◌, ◌<◌, ◌≤◌, ◌↔◌, ◌⊎◌, ◌≢◌, ℕ, IsTrue, IfOk, length, Some, None};
 ghost use Rattle.tb_match.specs.Bits.{InTable};
 ghost use Rattle.tb_match.specs.Facts.{Facts, Holds};
 ghost use Rattle.tb_match.specs.Hits.{IsWord};
@@ -267,22 +266,6 @@ fn run_row(table: &mut [u64], row: usize, expr: u16, truth: &Truth, shape: Shape
     }
 }
 
-/// Makes the table's relation its own followed by any number of words of which the expression holds, walked place by
-/// place.
-fn walk_on(table: &mut [u64], expr: u16, truth: &Truth, shape: Shape)
-    requires expr { expr < truth.now.exprs }
-    requires words { shape.last ≡ truth.now.words }
-    requires table { length table.old ≡ (truth.now.words + 1) * shape.width }
-    ensures rows { (i j : ℕ) → i ≤ truth.now.words → j ≤ truth.now.words
-        → (InTable table.new shape.width i j ↔
-        ((k : ℕ) × (k ≤ truth.now.words) × InTable table.old shape.width i k
-        × ((n : ℕ) × Chain (IsWord truth.now expr) n k j))) }
-{
-    for row in 0..shape.last + 1 {
-        run_row(table, row, expr, truth, shape);
-    }
-}
-
 /// Makes the table's relation its own followed by any number of words of which the expression holds.
 pub(crate) fn run_on(table: &mut [u64], expr: u16, truth: &Truth, shape: Shape)
     requires expr { expr < truth.now.exprs }
@@ -295,7 +278,9 @@ pub(crate) fn run_on(table: &mut [u64], expr: u16, truth: &Truth, shape: Shape)
 {
     if shape.width == 1 {
         run_words(table, ends_of(expr, truth));
-    } else {
-        walk_on(table, expr, truth, shape);
+        return;
+    }
+    for row in 0..shape.last + 1 {
+        run_row(table, row, expr, truth, shape);
     }
 }

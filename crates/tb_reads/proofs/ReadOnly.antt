@@ -1,6 +1,5 @@
 -- Calls that only read, one after another.
-use Rattle.std.proofs.Common.{◌≡◌, Bool, true, false, MatchBool, ℕ, List, Result, Ok, Err, IfOk, OnOk, OnErr, is_ok, IsErrAnd, arith}
-use Rattle.std.proofs.Common.{[], inl, refl, sym, ap, subst, ◌∙◌}
+use Rattle.std.proofs.Common.{◌≡◌, Bool, true, false, MatchBool, ℕ, List, Result, Ok, Err, IfOk, OnOk, OnErr, is_ok, IsErrAnd, arith, [], inl, refl, sym, ap, subst, ◌∙◌}
 use Rattle.sqlite.specs.Order.{Row}
 use Rattle.sqlite.specs.Listing.{understood}
 use Rattle.sqlite.specs.Store.{Ghosts}

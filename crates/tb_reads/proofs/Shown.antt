@@ -1,5 +1,5 @@
 -- What a read leaves of the connection.
-use Rattle.std.proofs.Common.{◌≡◌, ℕ, List, Result, Ok, Err, IfOk, OnOk, OnErr, subst, sym}
+use Rattle.std.proofs.Common.{◌≡◌, ℕ, List, Result, Ok, Err, IfOk, OnOk, subst, sym}
 use Rattle.sqlite.specs.Order.{Row}
 use Rattle.sqlite.specs.Listing.{understood}
 use Rattle.sqlite.specs.Clock.{timed}
@@ -14,10 +14,6 @@ if_ok (Err e) h f = tt
 pub on_ok : {T E X : Type 0} (r : Result T E) → X → OnOk r X
 on_ok (Ok t) x = x
 on_ok (Err e) x = tt
-
-pub on_err_then : {T E X Y : Type 0} (r : Result T E) → OnErr r X → (X → Y) → OnErr r Y
-on_err_then (Ok t) h f = tt
-on_err_then (Err e) h f = f h
 
 pub when_ok : {T E X : Type 0} {P : T → Type 0} (r : Result T E) → IfOk r P → ((x : T) → P x → X) → OnOk r X
 when_ok (Ok x) h f = f x h

@@ -1,7 +1,7 @@
 -- Between crates: no contract of a front door cites a definition of this module.
 -- Which record a read by name or number finds.
-use Rattle.std.specs.Prelude.{◌≡◌, ◌≢◌, ℕ, suc, ◌-◌, ◌<◌, ◌&&◌, true, Bool, cond, nat_eq, pos}
-use Rattle.std.specs.Prelude.{List, [], ◌∷◌, Option, Some, None, slice_get, Contains}
+use Rattle.std.specs.Prelude.{◌≡◌, ◌≢◌, ℕ, suc, ◌-◌, ◌<◌, ◌&&◌, true, Bool, cond, nat_eq, pos, List, [], ◌∷◌, Option}
+use Rattle.std.specs.Prelude.{Some, None, slice_get, Contains}
 use Rattle.std.specs.List.{AllByRecursion}
 use Rattle.sqlite.specs.declared.types.Value.{Value}
 use Rattle.sqlite.specs.declared.types.Value.TheVariants.{Int, Text}

@@ -1,7 +1,7 @@
 -- Between crates: no contract of a front door cites a definition of this module.
 -- Rows that are read one at a time.
-use Rattle.std.specs.Prelude.{◌≡◌, ◌≢◌, ℕ, pos, codes, List, [], ◌∷◌, ◌++◌, map, All, Option}
-use Rattle.std.specs.Prelude.{Some, None, false, Result, Err, IfOk, IfErr, OnOk, IsTrue}
+use Rattle.std.specs.Prelude.{◌≡◌, ℕ, pos, codes, List, [], ◌∷◌, ◌++◌, map, All, Option, Some, None, false, Result, Err}
+use Rattle.std.specs.Prelude.{IfOk, IfErr, OnOk, IsTrue}
 use Rattle.std.specs.Borrow.{Fml, RattleType, MutBor}
 use Rattle.std.specs.Io.BufRead.{Rests}
 use mir.Syntax.{named}

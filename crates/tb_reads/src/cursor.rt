@@ -1,7 +1,6 @@
 //! The bodies of all revisions, lent one at a time.
 
-ghost use Rattle.std.specs.Prelude.{◌≡◌, ◌≢◌, true, List, map, All, Err, IfOk, IfErr, option_map};
-ghost use Rattle.std.specs.Prelude.{Some, None};
+ghost use Rattle.std.specs.Prelude.{◌≡◌, ◌≢◌, true, List, map, All, Err, IfOk, IfErr, option_map, Some, None};
 ghost use Rattle.std.specs.Borrow.{sem, RestsIfErr};
 ghost use Rattle.sqlite.specs.contracts.connection.Connection.{the_row};
 ghost use Rattle.sqlite.specs.State.{HasCleanDisk};
@@ -11,7 +10,6 @@ ghost use Rattle.sqlite_trees.specs.Tree.{IsAscending};
 ghost use Rattle.tb_tables.specs.Layout.{desk_schema};
 ghost use Rattle.tb_tables.specs.Records.{Revision, Shows, revision_shown, revision_view};
 ghost use Rattle.tb_reads.specs.Readable.{IsRevision, ComesBefore};
-ghost use Rattle.tb_reads.specs.Failing.{IsReadFault, IsReadWant};
 ghost use Rattle.tb_reads.specs.ReadOnly.{IsReadOnly};
 ghost use Rattle.tb_reads.specs.Streams.{AreToCome, EndsAs, IsLeft, body_shown, lent_shown};
 

@@ -1,7 +1,7 @@
 //! Rows as records, and which rows are no records.
 
-ghost use Rattle.std.specs.Prelude.{ℕ, ◌≡◌, ◌≢◌, ◌+◌, ◌<◌, ◌^◌, length, map, pos, List, All, []};
-ghost use Rattle.std.specs.Prelude.{◌↔◌, ⊤, Some, slice_get, Err, IfOk, IsTrue, cond, string_bytes, IfErr};
+ghost use Rattle.std.specs.Prelude.{ℕ, ◌≡◌, ◌≢◌, ◌+◌, ◌<◌, ◌^◌, length, map, pos, List, All, ◌↔◌, ⊤, Some, slice_get};
+ghost use Rattle.std.specs.Prelude.{Err, IfOk, IsTrue, cond, string_bytes, IfErr};
 ghost use Rattle.sqlite.specs.Order.{column};
 ghost use Rattle.sqlite.specs.declared.error.ErrorCode.TheVariants.{OutOfMemory};
 ghost use Rattle.sqlite.specs.declared.types.Value.TheVariants.{Int, Text};

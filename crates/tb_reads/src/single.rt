@@ -1,7 +1,7 @@
 //! Single records, by their number or their name.
 
-ghost use Rattle.std.specs.Prelude.{ℕ, ◌≡◌, ◌<◌, ◌^◌, ◌-◌, ◌↔◌, map, length, is_ok};
-ghost use Rattle.std.specs.Prelude.{IsTrue, List, Contains, All, Err, option_map, slice_get};
+ghost use Rattle.std.specs.Prelude.{ℕ, ◌≡◌, ◌<◌, ◌^◌, ◌-◌, ◌↔◌, map, length, is_ok, IsTrue, List, Contains, All, Err};
+ghost use Rattle.std.specs.Prelude.{option_map, slice_get};
 ghost use Rattle.tb_tables.specs.Records.{Batch, Sentence, Revision, Shows, numbered, batch_shown, sentence_shown};
 ghost use Rattle.tb_tables.specs.Records.{revision_shown, number_shown, batch_view, sentence_view, revision_view};
 ghost use Rattle.tb_tables.specs.Records.{number_view};
@@ -10,8 +10,7 @@ ghost use Rattle.tb_reads.specs.Readable.{IsBatch, IsSentence, IsRevision};
 ghost use Rattle.tb_reads.specs.Found.{IsNumberOf, IsRevisionAt};
 ghost use Rattle.tb_reads.specs.Failing.{HasNoForm, IsReadFault, IsReadWant};
 ghost use Rattle.tb_reads.specs.ReadOnly.{IsReadOnly};
-ghost use Rattle.tb_tables.specs.Leaving.{FailsOnlyAs};
-ghost use Rattle.tb_tables.specs.Leaving.{Reads, IsFaultless};
+ghost use Rattle.tb_tables.specs.Leaving.{FailsOnlyAs, Reads, IsFaultless};
 
 use crate::error::ReadError;
 use crate::fetch::{fetch_first, fetch_rows};

@@ -6,8 +6,7 @@ ghost use Rattle.tb_reads.specs.Readable.{IsSentence, IsHead};
 ghost use Rattle.tb_reads.specs.Failing.{HasNoForm, IsReadFault, IsReadWant};
 ghost use Rattle.tb_reads.specs.Streams.{head_of, head_shown};
 ghost use Rattle.tb_reads.specs.ReadOnly.{IsReadOnly};
-ghost use Rattle.tb_tables.specs.Leaving.{FailsOnlyAs, Reads};
-ghost use Rattle.tb_tables.specs.Leaving.{IsFaultless};
+ghost use Rattle.tb_tables.specs.Leaving.{FailsOnlyAs, Reads, IsFaultless};
 
 use crate::error::ReadError;
 use crate::records::number_at;

@@ -1,6 +1,6 @@
 //! Whole tables, in the order of their keys, as typed records: what the opening of a file reads.
 
-ghost use Rattle.std.specs.Prelude.{ℕ, ◌≡◌, ◌<◌, ◌^◌, length, map, List, All, is_ok};
+ghost use Rattle.std.specs.Prelude.{ℕ, ◌≡◌, ◌<◌, ◌^◌, map, List, All, is_ok};
 ghost use Rattle.sqlite_trees.specs.Tree.{IsAscending};
 ghost use Rattle.tb_tables.specs.Records.{Batch, Sentence, Revision, Move, Total, Shows, numbered, batch_shown};
 ghost use Rattle.tb_tables.specs.Records.{sentence_shown, revision_shown, move_shown, total_shown, number_shown};
@@ -10,8 +10,7 @@ ghost use Rattle.tb_tables.specs.Values.{batch_of, sentence_of, revision_of, mov
 ghost use Rattle.tb_reads.specs.Readable.{IsBatch, IsSentence, IsRevision, IsMove, IsTotal, ComesBefore};
 ghost use Rattle.tb_reads.specs.Failing.{HasNoForm, IsReadFault, IsUnchangedOnForm, SeesAsBefore, IsReadWant};
 ghost use Rattle.tb_reads.specs.ReadOnly.{IsReadOnly};
-ghost use Rattle.tb_tables.specs.Leaving.{FailsOnlyAs};
-ghost use Rattle.tb_tables.specs.Leaving.{Reads, IsFaultless};
+ghost use Rattle.tb_tables.specs.Leaving.{FailsOnlyAs, Reads, IsFaultless};
 
 use crate::error::ReadError;
 use crate::fetch::fetch_all;

@@ -6,8 +6,7 @@ ghost use Rattle.tb_reads.specs.Readable.{IsSentence};
 ghost use Rattle.tb_reads.specs.Found.{work_of};
 ghost use Rattle.tb_reads.specs.Failing.{HasNoForm, IsReadFault, IsReadWant};
 ghost use Rattle.tb_reads.specs.ReadOnly.{IsReadOnly};
-ghost use Rattle.tb_tables.specs.Leaving.{FailsOnlyAs};
-ghost use Rattle.tb_tables.specs.Leaving.{Reads, IsFaultless};
+ghost use Rattle.tb_tables.specs.Leaving.{FailsOnlyAs, Reads, IsFaultless};
 
 use crate::error::ReadError;
 use crate::fetch::fetch_all;

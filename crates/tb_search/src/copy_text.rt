@@ -1,6 +1,6 @@
 //! Writes texts as they are stored.
 
-ghost use Rattle.std.specs.Prelude.{◌≡◌, Err, OnErr, OnOk};
+ghost use Rattle.std.specs.Prelude.{◌≡◌, Err};
 ghost use Rattle.std.specs.Io.KnownBytes.{Appends};
 ghost use Rattle.tb_conllu.specs.Sunk.{AppendsPart};
 

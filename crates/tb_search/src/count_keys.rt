@@ -1,7 +1,7 @@
 //! Counts the keys of hits.
 
-ghost use Rattle.std.specs.Prelude.{◌≡◌, ◌≢◌, ◌<◌, ◌≤◌, ◌-◌, ◌^◌, ◌++◌, ◌∷◌, [], ℕ, All, List};
-ghost use Rattle.std.specs.Prelude.{Err, IfErr, IsOk, OnOk, map};
+ghost use Rattle.std.specs.Prelude.{◌≡◌, ◌≢◌, ◌<◌, ◌≤◌, ◌-◌, ◌^◌, ◌++◌, ◌∷◌, [], ℕ, All, List, Err, IfErr, IsOk, OnOk};
+ghost use Rattle.std.specs.Prelude.{map};
 ghost use Rattle.sqlite.specs.declared.error.ErrorCode.TheVariants.{OutOfMemory};
 ghost use Rattle.tb_conllu.specs.Words.{words_of};
 ghost use Rattle.tb_report.specs.Keywords.{key_of};

@@ -1,6 +1,6 @@
 //! Searches released text: its keyword lines, the table of its keys, or the number of hits.
 
-ghost use Rattle.std.specs.Prelude.{◌≡◌, ◌≢◌, ℕ, List, length, Err, is_ok};
+ghost use Rattle.std.specs.Prelude.{◌≡◌, ◌≢◌, List, length, Err, is_ok};
 ghost use Rattle.std.specs.Io.KnownBytes.{Appends};
 ghost use Rattle.tb_conllu.specs.Text.{BlockText};
 ghost use Rattle.tb_match.specs.declared.strategy.Strategy.{Strategy as AnyStrategy};

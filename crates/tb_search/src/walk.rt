@@ -1,7 +1,6 @@
 //! The walk over the bodies of all revisions, which visits some of them.
 
-ghost use Rattle.std.specs.Prelude.{◌≡◌, ◌≤◌, List, map, All, IfOk, IfErr, OnOk, MatchBool, true, is_ok};
-ghost use Rattle.std.specs.Prelude.{None, Err};
+ghost use Rattle.std.specs.Prelude.{◌≡◌, ◌≤◌, List, map, All, IfOk, IfErr, OnOk, MatchBool, true, is_ok, None, Err};
 ghost use Rattle.sqlite.specs.State.{HasCleanDisk};
 ghost use Rattle.sqlite.specs.Held.{state};
 ghost use Rattle.sqlite_trees.specs.Tree.{IsAscending};

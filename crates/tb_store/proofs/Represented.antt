@@ -1,5 +1,5 @@
 -- What a desk that stands for a state knows, and what a read leaves of it.
-use Rattle.std.proofs.Common.{◌≡◌, ℕ, List, Bool, ◌<◌, ◌≤◌, length, refl, sym, subst, arith, inr, Result, Ok, Err, IfErr, OnOk}
+use Rattle.std.proofs.Common.{◌≡◌, ℕ, List, Bool, ◌<◌, ◌≤◌, length, refl, sym, subst, arith, inr, Result, Ok, Err, IfErr}
 use Rattle.std.proofs.lemmas.Option.{slice_get_within}
 use Rattle.sqlite.specs.Store.{Ghosts}
 use Rattle.sqlite.specs.Held.{Held}
@@ -64,7 +64,3 @@ same_numbered command l k s m n a t same is h =
 -- what it knows for an import is that of the state
 pub is_known : {S : Type 0} (g : Ghosts S) (d : Kept S) (k : ImportCounters) (s : Machine) → k ≡ known_of d → Represents g d s → IsKnown k s
 is_known g d k s is stands = subst (λ (j : ImportCounters). IsKnown j s) (sym is) (record { counted = record { moves = stands.moves; totals = stands.totals }; batches = stands.batches; sentences = stands.sentences })
-
-pub on_ok_then : {T E X Y : Type 0} (r : Result T E) → OnOk r X → (X → Y) → OnOk r Y
-on_ok_then (Ok t) h f = f h
-on_ok_then (Err e) h f = tt

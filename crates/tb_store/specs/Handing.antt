@@ -14,7 +14,6 @@ use Rattle.tb_core.specs.declared.refusals.Fault.TheVariants.{Memory, Device, Re
 use Rattle.tb_core.specs.Machine.{Machine}
 use Rattle.tb_tables.specs.Leaving.{IsFaultless}
 use Rattle.tb_tables.specs.Making.{IsBlank}
-use Rattle.tb_tables.specs.Leaving.{IsFaultless}
 use Rattle.tb_refine.specs.DeskTables.{IsDeskOf}
 use Rattle.tb_refine.specs.Faults.{IsNoDevice}
 

@@ -1,8 +1,7 @@
 //! Reads of a desk's tables, stated as facts of the state that the desk represents. A read leaves the desk as it is.
 
-ghost use Rattle.std.specs.Prelude.{◌≡◌, ◌≢◌, ◌⊎◌, ◌-◌, ◌<◌, ◌≤◌, map, [], ◌∷◌, Some, Err, is_ok};
-ghost use Rattle.std.specs.Prelude.{slice_get, string_bytes, IfOk, None, length, false};
-ghost use Rattle.std.specs.Prelude.{IfErr};
+ghost use Rattle.std.specs.Prelude.{◌≡◌, ◌≢◌, ◌⊎◌, ◌-◌, ◌<◌, ◌≤◌, map, [], ◌∷◌, Some, Err, is_ok, slice_get, IfErr};
+ghost use Rattle.std.specs.Prelude.{string_bytes, IfOk, None, length, false};
 ghost use Rattle.sqlite.specs.State.{HasCleanDisk};
 ghost use Rattle.sqlite.specs.Held.{state};
 ghost use Rattle.tb_conllu.specs.Text.{text_of};

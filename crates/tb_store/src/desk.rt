@@ -1,6 +1,5 @@
-ghost use Rattle.std.specs.Prelude.{◌≡◌, ◌≢◌, ◌↔◌, ◌⊎◌, ◌<◌, ◌≤◌, ℕ, List, length};
-ghost use Rattle.std.specs.Prelude.{true, false, None, Some, Err, string_bytes, IsTrue, IfOk, IfErr, IfSome};
-ghost use Rattle.std.specs.Io.KnownBytes.{Appends};
+ghost use Rattle.std.specs.Prelude.{◌≡◌, ◌≢◌, ◌↔◌, ◌⊎◌, ◌<◌, ◌≤◌, length};
+ghost use Rattle.std.specs.Prelude.{false, None, Some, Err, string_bytes, IsTrue, IfOk, IfErr, IfSome};
 ghost use Rattle.sqlite.specs.State.{HasCleanDisk, IsUnchanged, Survives};
 ghost use Rattle.sqlite.specs.Held.{state};
 ghost use Rattle.tb_tables.specs.Records.{AreStored};
@@ -14,19 +13,13 @@ ghost use Rattle.tb_core.specs.Commands.{restore as restore_it, moved_on, correc
 ghost use Rattle.tb_lists.specs.Batches.{batch_lines};
 ghost use Rattle.tb_lists.specs.Revisions.{AreRevisions};
 ghost use Rattle.tb_lists.specs.Sentences.{AreSentences};
-ghost use Rattle.tb_report.specs.Tables.{IsTableOf};
-ghost use Rattle.tb_search.specs.Released.{released, in_batch, current_text};
-ghost use Rattle.tb_search.specs.Searched.{Occurrence, answer, keys};
-ghost use Rattle.tb_search.specs.Visited.{HasReason};
-ghost use Rattle.tb_refine.specs.Finding.{HasNumber};
 ghost use Rattle.tb_refine.specs.Counted.{IsWithin};
 ghost use Rattle.tb_refine.specs.DeskTables.{tables_of, IsDeskOf};
 ghost use Rattle.tb_refine.specs.Room.{HasRoomIfWritten};
 ghost use Rattle.tb_store.specs.Kept.{Kept, counts_of, known_of};
 ghost use Rattle.tb_store.specs.Represents.{Represents, RepresentsEach, unlimited, no_totals};
 ghost use Rattle.tb_store.specs.Answers.{AreNet, IsCurrent, IsRevisionText, HasNoSentence, RefusesRevision};
-ghost use Rattle.tb_store.specs.Exports.{IsExportBrokenOff, IsPartOfBatch, RefusesBatch};
-ghost use Rattle.tb_store.specs.Found.{AreReleasedHits, HasTooMany, IsNumber, IsPartFound};
+ghost use Rattle.tb_store.specs.Exports.{RefusesBatch};
 ghost use Rattle.tb_store.specs.Calls.{CrashesWhole, Does, EndsAs, Gives, GivesOnErr, KnowsItself, LeavesOnly};
 ghost use Rattle.tb_store.specs.Blaming.{BlamesInDoubtAlone, BlamesNoDevice, DoubtsOnDevice};
 ghost use Rattle.tb_store.specs.Calls.{KeepsState, RefusesMissing, WritesNothing};
@@ -35,24 +28,21 @@ ghost use Rattle.tb_store.specs.Handing.{TellsOpen, TellsShut, TellsWant};
 ghost use Rattle.tb_tables.specs.Leaving.{CommitsNothing};
 
 mod naming;
+mod releasing;
 
 use crate::answers::Current;
 use crate::wanting::certain;
-use crate::{asking, exporting, finding, wanting};
+use crate::{asking, wanting};
 use sqlite::{Alter, Connection};
 use std::alloc::Global;
 use std::marker::Model;
-use tb_conllu::Sink;
 use tb_core::{
     Corrected, Event, Fault, Imported, Limits, Move, Moved, Pulled, Refusal, Restored, Totals,
     totals_are_nets,
 };
 use tb_import::ImportCounters;
 use tb_lists::{BatchLine, RevisionLine, SentenceLine, list_batches, list_revisions};
-use tb_match::Strategy;
-use tb_query::{Attr, Query};
 use tb_refine::{Counters, all_moves, faults, one_state_for_the_file};
-use tb_report::Freq;
 use tb_verify::{DeskSummary, read_desk};
 
 /// A desk: the connection that holds its tables, its limits, and the counts and totals that it read or wrote last. So the
@@ -466,150 +456,6 @@ impl<S: Alter> Desk<S> {
         ensures limits { self.new.limits ≡ self.old.limits }
     {
         asking::sentences(self.alloc, &mut self.conn, name)
-    }
-}
-
-impl<S: Alter> Desk<S> {
-    /// Puts the text of all released sentences, by number: the current revision of each, as it is stored. One sentence is in
-    /// memory at a time, and two numbers of each. Nothing is refused.
-    ///
-    /// # Errors
-    ///
-    /// `Output`, where the sink refuses a piece: it may then hold a first part of the text. After any other fault it holds whole
-    /// sentences.
-    pub fn export_released<W: Sink>(&mut self, out: &mut W) -> Result<(), Fault>
-        ensures put { Does S.Store self.old self.new result (λ s. Appends (W.held out.old) (W.held out.new)
-            (current_text (released s))) }
-        ensures part { GivesOnErr S.Store self.old self.new result (λ s e. IsExportBrokenOff e (W.held out.old)
-            (W.held out.new) (released s)) }
-        ensures never_refuses { (r : AnyRefusal) → result ≢ Err (Fault.Refused r) }
-        ensures output { result ≡ Err Fault.Output → HasReason (W.IsRefusal out.new) }
-        ensures fails { KnowsItself S.Store self.old self.new result }
-        ensures cause { BlamesNoDevice S.Store self.old self.new result }
-        ensures stays { Does S.Store self.old self.new result (λ s. Represents S.Store self.new s) }
-        ensures keeps_state { KeepsState S.Store self.old self.new }
-        ensures crash { WritesNothing S.Store self.old self.new }
-        ensures commits_nothing { CommitsNothing S.Store self.old.conn self.new.conn }
-        ensures limits { self.new.limits ≡ self.old.limits }
-        ensures doubt { self.new.in_doubt ≡ self.old.in_doubt }
-    {
-        exporting::released(self.alloc, &mut self.conn, out)
-    }
-
-    /// Puts the text of all sentences of the batch with this name, pulled ones too, as `export_released` does.
-    ///
-    /// # Errors
-    ///
-    /// The first of `BadName`, `NoSuchBatch`; `Output`, as in `export_released`.
-    pub fn export_batch<W: Sink>(&mut self, name: &str, out: &mut W) -> Result<(), Fault>
-        ensures put { Does S.Store self.old self.new result (λ s. (n : ℕ) × HasNumber s name.now (Some n)
-            × Appends (W.held out.old) (W.held out.new) (current_text (in_batch s n))) }
-        ensures part { GivesOnErr S.Store self.old self.new result (λ s e. IsPartOfBatch s name.now e (W.held out.old)
-            (W.held out.new)) }
-        ensures bad_name { is_name name.now ≡ false → result ≡ Err (Fault.Refused Refusal.BadName) }
-        ensures refused { GivesOnErr S.Store self.old self.new result (λ s e. RefusesBatch s name.now e) }
-        ensures output { result ≡ Err Fault.Output → HasReason (W.IsRefusal out.new) }
-        ensures fails { KnowsItself S.Store self.old self.new result }
-        ensures cause { BlamesNoDevice S.Store self.old self.new result }
-        ensures none { (r : AnyRefusal) → result ≡ Err (Fault.Refused r) → W.held out.new ≡ W.held out.old }
-        ensures stays { Does S.Store self.old self.new result (λ s. Represents S.Store self.new s) }
-        ensures keeps_state { KeepsState S.Store self.old self.new }
-        ensures crash { WritesNothing S.Store self.old self.new }
-        ensures commits_nothing { CommitsNothing S.Store self.old.conn self.new.conn }
-        ensures limits { self.new.limits ≡ self.old.limits }
-        ensures doubt { self.new.in_doubt ≡ self.old.in_doubt }
-    {
-        exporting::batch(self.alloc, &mut self.conn, name, out)
-    }
-
-    /// How many hits the query has in released text: in the current revisions of the sentences that are released. One sentence
-    /// is in memory at a time.
-    ///
-    /// # Errors
-    ///
-    /// `TooManyHits`, where the strategy is `Every` and there are more than `limits.hits`.
-    pub fn number(&mut self, query: &Query, strategy: Strategy) -> Result<u64, Fault>
-        ensures answered { Gives S.Store self.old self.new result (λ s n.
-            IsNumber s query.now strategy self.old.limits.hits n) }
-        ensures refused { HasCleanDisk (state S.Store self.new.conn) → (r : AnyRefusal)
-            → result ≡ Err (Fault.Refused r) → (r ≡ Refusal.TooManyHits)
-            × ((s : Machine) → Represents S.Store self.old s
-            → HasTooMany s query.now strategy self.old.limits.hits) }
-        ensures output { result ≢ Err Fault.Output }
-        ensures fails { KnowsItself S.Store self.old self.new result }
-        ensures cause { BlamesNoDevice S.Store self.old self.new result }
-        ensures stays { Does S.Store self.old self.new result (λ s. Represents S.Store self.new s) }
-        ensures keeps_state { KeepsState S.Store self.old self.new }
-        ensures crash { WritesNothing S.Store self.old self.new }
-        ensures commits_nothing { CommitsNothing S.Store self.old.conn self.new.conn }
-        ensures limits { self.new.limits ≡ self.old.limits }
-        ensures doubt { self.new.in_doubt ≡ self.old.in_doubt }
-    {
-        finding::number(
-            self.alloc,
-            &mut self.conn,
-            query,
-            strategy,
-            self.limits.hits,
-        )
-    }
-
-    /// Writes a keyword line for each hit of the query in released text, with `context` words on each side, then the line
-    /// `hits N`. Returns how many hits there are.
-    ///
-    /// Sentences come by their numbers, and the hits of a sentence as the strategy lists them. One sentence is in memory at
-    /// a time. Nothing is refused: `number` says whether the hits are within the limit.
-    ///
-    /// # Errors
-    ///
-    /// `Output`, where the sink refuses a piece: it may then hold a first part of the answer. After any other fault it holds
-    /// whole keyword lines, those of the first hits.
-    pub fn search<W: Sink>(
-        &mut self,
-        query: &Query,
-        strategy: Strategy,
-        context: u8,
-        out: &mut W,
-    ) -> Result<u64, Fault>
-        ensures answered { Gives S.Store self.old self.new result (λ s n. (found : List Occurrence)
-            × AreReleasedHits s query.now strategy found × (n ≡ length found)
-            × Appends (W.held out.old) (W.held out.new) (answer context found)) }
-        ensures broken { GivesOnErr S.Store self.old self.new result (λ s e. (found : List Occurrence)
-            → AreReleasedHits s query.now strategy found
-            → IsPartFound e (W.held out.old) (W.held out.new) context found) }
-        ensures never_refuses { (r : AnyRefusal) → result ≢ Err (Fault.Refused r) }
-        ensures output { result ≡ Err Fault.Output → HasReason (W.IsRefusal out.new) }
-        ensures fails { KnowsItself S.Store self.old self.new result }
-        ensures cause { BlamesNoDevice S.Store self.old self.new result }
-        ensures stays { Does S.Store self.old self.new result (λ s. Represents S.Store self.new s) }
-        ensures keeps_state { KeepsState S.Store self.old self.new }
-        ensures crash { WritesNothing S.Store self.old self.new }
-        ensures commits_nothing { CommitsNothing S.Store self.old.conn self.new.conn }
-        ensures limits { self.new.limits ≡ self.old.limits }
-        ensures doubt { self.new.in_doubt ≡ self.old.in_doubt }
-    {
-        finding::search(self.alloc, &mut self.conn, query, strategy, context, out)
-    }
-
-    /// The frequency table of the hits of the query in released text, by their values in one column.
-    ///
-    /// One sentence is in memory at a time, beside the table. Nothing is refused: `number` says whether the hits are within
-    /// the limit.
-    pub fn count(&mut self, query: &Query, strategy: Strategy, column: Attr) -> Result<Freq, Fault>
-        ensures answered { Gives S.Store self.old self.new result (λ s table. (found : List Occurrence)
-            × AreReleasedHits s query.now strategy found × IsTableOf (keys column found) table) }
-        ensures never_refuses { (r : AnyRefusal) → result ≢ Err (Fault.Refused r) }
-        ensures output { result ≢ Err Fault.Output }
-        ensures fails { KnowsItself S.Store self.old self.new result }
-        ensures cause { BlamesNoDevice S.Store self.old self.new result }
-        ensures stays { Does S.Store self.old self.new result (λ s. Represents S.Store self.new s) }
-        ensures keeps_state { KeepsState S.Store self.old self.new }
-        ensures crash { WritesNothing S.Store self.old self.new }
-        ensures commits_nothing { CommitsNothing S.Store self.old.conn self.new.conn }
-        ensures limits { self.new.limits ≡ self.old.limits }
-        ensures doubt { self.new.in_doubt ≡ self.old.in_doubt }
-    {
-        finding::count(self.alloc, &mut self.conn, query, strategy, column)
     }
 }
 

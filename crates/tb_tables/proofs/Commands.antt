@@ -1,18 +1,15 @@
 -- From the calls inside a transaction to the command.
-use Rattle.std.proofs.Common.{◌≡◌, true, false, IsTrue, refl, sym, ap, subst, ◌∙◌}
-use Rattle.std.proofs.Common.{Result, Ok, Err, OnErr, IfOk, List, ℕ}
+use Rattle.std.proofs.Common.{◌≡◌, true, false, IsTrue, refl, sym, ap, subst, ◌∙◌, Result, Ok, Err, OnErr, IfOk, List, ℕ, inl, inr}
 use Rattle.sqlite.specs.Order.{Row}
 use Rattle.sqlite.specs.Listing.{understood}
 use Rattle.sqlite.specs.Clock.{timed}
 use Rattle.sqlite.proofs.Callers.{IsPlain}
-use Rattle.sqlite.specs.State.{Shown, ShowsRows, IsUnchanged}
+use Rattle.sqlite.specs.State.{Shown, ShowsRows, IsUnchanged, State, KeepsCommit, IsRolledBack, Shows}
 use Rattle.sqlite.specs.Store.{Ghosts}
 use Rattle.sqlite.specs.Effect.{Database}
 use Rattle.sqlite.specs.Held.{Held, state}
-use Rattle.sqlite.specs.State.{State, KeepsCommit, IsRolledBack, Shows}
 use Rattle.sqlite.specs.Steps.{FailsToCommit}
 use Rattle.sqlite.specs.declared.error.Error.{Error}
-use Rattle.std.proofs.Common.{inl, inr}
 use Rattle.tb_tables.specs.Records.{Tables, AreStored}
 use Rattle.tb_tables.specs.Changes.{IsInside, Changes, Holds}
 use Rattle.tb_tables.specs.Making.{no_schema, IsBlank, IsBare}

@@ -2,13 +2,13 @@
 use Rattle.std.proofs.Common.{◌≡◌, ℕ, suc, ◌+◌, pos, List, [], ◌∷◌, ◌++◌, length, map, true, false, not, slice_get, slice_set, Some, refl, sym, ap, subst, ◌∙◌, arith, if◌then◌else◌, ◌&&◌, filter, inl, inr, ◌==◌}
 use Rattle.std.specs.Prelude.{IsPermutation}
 use Rattle.std.specs.Ordering.{is_eq}
-use Rattle.std.proofs.lemmas.Bool.{cases_Bool}
+use Rattle.std.proofs.lemmas.Bool.{cases_Bool, cases_lt}
 use Rattle.std.proofs.lemmas.Option.{slice_get_within}
-use Rattle.std.proofs.lemmas.List.Sorted.{IsPermutation-sym, IsPermutation-trans, IsPermutation-cons, IsPermutation-append_comm, IsPermutation-map}
+use Rattle.std.proofs.lemmas.List.Sorted.{IsPermutation-sym, IsPermutation-trans, IsPermutation-cons, IsPermutation-append_comm, IsPermutation-map, All-permutation, length_permutation}
 use Rattle.sqlite.specs.declared.types.Value.TheVariants.{Int}
 use Rattle.sqlite.specs.Order.{Row, column, value_cmp}
 use Rattle.sqlite.specs.Tree.{rowid, put_row, without_rowid}
-use Rattle.sqlite_rules.specs.Edit.{is_taken, without_all}
+use Rattle.sqlite_rules.specs.Edit.{is_taken, without_all, id_in}
 use Rattle.sqlite_rules.specs.Calls.{ids_of}
 use Rattle.sqlite_trees.specs.Tree.{has_rowid}
 use Rattle.sqlite_trees.proofs.ListLemmas.{IsPermutation-filter, IsPermutation-flat_map, filter-filter}
@@ -17,11 +17,8 @@ use Rattle.tb_tables.specs.Records.{numbered, Shows, number_view, number_shown}
 use Rattle.tb_tables.proofs.Lists.{put_moves, replaced, found, found_one, equals, differs_below, differs_above, equals_same}
 use Rattle.std.specs.List.{AllByRecursion}
 use Rattle.std.proofs.lemmas.Int.{ints}
-use Rattle.std.proofs.lemmas.Bool.{cases_lt}
 use Rattle.std.proofs.lemmas.Bool.Decides.{nat_tests}
 use Rattle.std.proofs.lemmas.List.Elements.{All-from_recursion, recursion_from_All}
-use Rattle.std.proofs.lemmas.List.Sorted.{All-permutation, length_permutation}
-use Rattle.sqlite_rules.specs.Edit.{id_in}
 use Rattle.sqlite_value.proofs.OrderLemmas.{value_cmp-Int}
 
 -- the record after the last has the next number

@@ -1,5 +1,5 @@
 -- From the calls inside a transaction to the command.
-use Rattle.std.proofs.Common.{◌≡◌, true, false, IsTrue, refl, sym, ap, subst, ◌∙◌, inl, inr, arith}
+use Rattle.std.proofs.Common.{◌≡◌, true, false, IsTrue, refl, sym, ap, subst, ◌∙◌, inl, inr, arith, Result, Ok, Err, OnErr}
 use Rattle.sqlite.specs.Store.{Ghosts}
 use Rattle.sqlite.specs.Effect.{Database}
 use Rattle.sqlite.specs.Tree.{Trees}
@@ -9,7 +9,6 @@ use Rattle.sqlite.specs.Steps.{FailsToCommit}
 use Rattle.sqlite.specs.declared.error.Error.{Error}
 use Rattle.sqlite.proofs.StateLemmas.{survives_then}
 use Rattle.sqlite.proofs.Callers.{survives_begin}
-use Rattle.std.proofs.Common.{Result, Ok, Err, OnErr}
 use Rattle.tb_tables.specs.Records.{Tables, AreStored}
 use Rattle.tb_tables.specs.Changes.{IsInside, Changes, Holds}
 
@@ -25,10 +24,6 @@ kept_then a b c p q = record {
 
 pub changes_then : (a b c : State) (d e f : Tables) → Changes a b d e → Changes b c e f → Changes a c d f
 changes_then a b c d e f p q = record { inside = q.inside; committed = q.committed ∙ p.committed; stands = λ s. q.stands (p.stands s); rowids = λ n h. q.rowids n (p.rowids n h) }
-
--- nothing is done
-pub changes_none : (a : State) (d : Tables) → IsInside a → Changes a a d d
-changes_none a d inside = record { inside = inside; committed = refl; stands = λ s. s; rowids = λ n h. h }
 
 module _ {S : Type 0} (g : Ghosts S) (old begun last end : Held S) (begins : begun ≡ record old { in_transaction = true }) where
   -- as `transaction` leaves it

@@ -1,6 +1,5 @@
 -- What a statement changes in the records.
-use Rattle.std.specs.Prelude.{◌≡◌, ◌-◌, ◌==◌, ℕ, length, not, false, [], ◌∷◌, ◌++◌, filter}
-use Rattle.std.specs.Prelude.{slice_set, IsTrue}
+use Rattle.std.specs.Prelude.{◌≡◌, ◌-◌, ◌==◌, ℕ, length, not, false, [], ◌∷◌, ◌++◌, filter, slice_set, IsTrue}
 use Rattle.sqlite.specs.Store.{Ghosts}
 use Rattle.sqlite.specs.Held.{Held, state}
 use Rattle.sqlite.specs.State.{State}

@@ -1,10 +1,9 @@
 -- What a call on the tables of a desk answers, and what it leaves of them. Facts of records assume a disk that kept
 -- what it took (`HasCleanDisk`).
-use Rattle.std.specs.Prelude.{◌≡◌, ◌≢◌, ◌-◌, ◌^◌, ◌<◌, ◌≤◌, Result, IfOk, IfErr, OnOk}
-use Rattle.std.specs.Prelude.{OnErr, IsTrue, None}
+use Rattle.std.specs.Prelude.{◌≡◌, ◌≢◌, ◌-◌, ◌^◌, ◌<◌, ◌≤◌, Result, IfOk, IfErr, OnOk, OnErr, IsTrue, None}
 use Rattle.sqlite.specs.Store.{Ghosts}
 use Rattle.sqlite.specs.Held.{Held, state}
-use Rattle.sqlite.specs.State.{HasCleanDisk, IsUnchanged, KeepsCommit, Survives}
+use Rattle.sqlite.specs.State.{HasCleanDisk, KeepsCommit, Survives}
 use Rattle.sqlite.specs.declared.error.Error.{Error}
 use Rattle.sqlite_trees.specs.Tree.{Trees}
 use Rattle.tb_tables.specs.Layout.{desk_schema}
@@ -36,11 +35,6 @@ abbrev pub BlamesNoDisk : {S X E : Type 0} → (E → Type 0) → Ghosts S → H
 BlamesNoDisk NeedsNone g old new result = HasCleanDisk (state g new) → IsFaultless g old new
     → IfErr result NeedsNone
 
--- a call that succeeds changes nothing
-abbrev pub ChangesNothing : {S X E : Type 0} → Ghosts S → Held S → Held S → Result X E → Type 0
-ChangesNothing g old new result = HasCleanDisk (state g new) → OnOk result ((state g old).now.schema ≡ desk_schema
-    → IsUnchanged (state g old) (state g new))
-
 -- while the store is open, the tables hold the same records
 abbrev pub KeepsRecords : {S : Type 0} → Ghosts S → Held S → Held S → Type 0
 KeepsRecords g old new = HasCleanDisk (state g new) → IsTrue (state g new).is_open → (d : Tables) → Holds g old d
@@ -54,11 +48,6 @@ KeepsRecordsOnErr g old new result = HasCleanDisk (state g new) → IsTrue (stat
 -- a crash leaves what it could leave before; nothing is said of tables that are not a desk's
 abbrev pub CommitsNothing : {S : Type 0} → Ghosts S → Held S → Held S → Type 0
 CommitsNothing g old new = Survives (state g old) (state g new) (λ _. (state g old).now.schema ≢ desk_schema)
-
--- the same, in a form that assumes the tables of a desk
-abbrev pub CommitsNothingOnDesk : {S : Type 0} → Ghosts S → Held S → Held S → Type 0
-CommitsNothingOnDesk g old new = (state g old).now.schema ≡ desk_schema
-    → Survives (state g old) (state g new) (λ _. ⊥)
 
 -- in a transaction: a statement that succeeds does not end it
 abbrev pub StaysInside : {S X E : Type 0} → Ghosts S → Held S → Held S → Result X E → Type 0

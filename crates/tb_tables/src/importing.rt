@@ -6,12 +6,10 @@ ghost use Rattle.sqlite.specs.Held.{state};
 ghost use Rattle.tb_tables.specs.Changes.{with_batch, HasRevisionRowids};
 ghost use Rattle.tb_tables.specs.Values.{move_of, total_of};
 ghost use Rattle.tb_tables.specs.Commands.{NewSentenceRecord as NewSentenceRecord, with_item, with_items, after_import};
-ghost use Rattle.tb_tables.specs.Failing.{IsRoomFault, AreUnique, NeedsNoFaultOnRevisions};
-ghost use Rattle.tb_tables.specs.Failing.{IsShort};
+ghost use Rattle.tb_tables.specs.Failing.{IsRoomFault, AreUnique, NeedsNoFaultOnRevisions, IsShort};
 ghost use Rattle.tb_tables.specs.Premises.{Follows, IsShortItem};
-ghost use Rattle.tb_tables.specs.Leaving.{CrashesInto, FailsInside, FailsOn, KeepsCommitted, KeepsRecordsOnErr};
-ghost use Rattle.tb_tables.specs.Leaving.{Leads, AreStoredIn, StaysInside, Turns, BlamesNoDisk};
-ghost use Rattle.tb_tables.specs.Leaving.{WantsInside, WantsOn};
+ghost use Rattle.tb_tables.specs.Leaving.{CrashesInto, FailsInside, FailsOn, KeepsCommitted, KeepsRecordsOnErr, Leads};
+ghost use Rattle.tb_tables.specs.Leaving.{AreStoredIn, StaysInside, Turns, BlamesNoDisk, WantsInside, WantsOn};
 
 use crate::recording::{MoveWrite, record};
 use crate::{insert_batch, insert_revision, insert_sentence};

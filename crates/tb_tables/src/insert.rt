@@ -1,12 +1,12 @@
 //! Inserts rows. Each takes the number after those that are there.
 
-ghost use Rattle.std.specs.Prelude.{◌≡◌, ◌≢◌, ◌⊎◌, ◌+◌, ◌<◌, ◌^◌, length, string_bytes};
+ghost use Rattle.std.specs.Prelude.{◌≡◌, ◌≢◌, ◌⊎◌, ◌+◌, ◌<◌, length};
 ghost use Rattle.sqlite.specs.State.{Survives};
 ghost use Rattle.sqlite.specs.Held.{state};
 ghost use Rattle.tb_tables.specs.Changes.{with_batch, with_sentence, with_revision, with_move, with_pulled};
 ghost use Rattle.tb_tables.specs.Changes.{HasRevisionRowids};
-ghost use Rattle.tb_tables.specs.Failing.{IsStoreFault, IsRoomFault, Lacks, AreUnique, NeedsNoFault};
-ghost use Rattle.tb_tables.specs.Failing.{IsShort, NeedsNoFaultOnRevisions};
+ghost use Rattle.tb_tables.specs.Failing.{IsStoreFault, IsRoomFault, Lacks, AreUnique, NeedsNoFault, IsShort};
+ghost use Rattle.tb_tables.specs.Failing.{NeedsNoFaultOnRevisions};
 ghost use Rattle.tb_tables.specs.Values.{move_of};
 ghost use Rattle.tb_tables.specs.Leaving.{BlamesNoDisk, FailsInside, KeepsCommitted, AreStoredIn, StaysInside, Turns};
 ghost use Rattle.tb_tables.specs.Leaving.{WantsInside};

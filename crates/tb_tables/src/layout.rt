@@ -1,7 +1,6 @@
 //! Whether a database has exactly the tables and indexes of a desk.
 
-ghost use Rattle.std.specs.Prelude.{◌≡◌, ◌↔◌, true, false, [], ◌∷◌, Some, None, codes, IsTrue};
-ghost use Rattle.std.specs.Prelude.{MatchOption, ◌≢◌, List};
+ghost use Rattle.std.specs.Prelude.{◌≡◌, ◌↔◌, true, false, [], ◌∷◌, Some, None, codes, IsTrue, MatchOption, ◌≢◌, List};
 ghost use Rattle.sqlite.specs.Held.{state};
 ghost use Rattle.sqlite.specs.Collation.TheVariants.{Binary};
 ghost use Rattle.sqlite.specs.declared.types.Value.TheVariants.{Null};

@@ -5,12 +5,10 @@ ghost use Rattle.sqlite.specs.State.{Survives};
 ghost use Rattle.sqlite.specs.Held.{state};
 ghost use Rattle.tb_tables.specs.Values.{move_of, total_of};
 ghost use Rattle.tb_tables.specs.Commands.{after_pull, after_restore};
-ghost use Rattle.tb_tables.specs.Failing.{IsStoreFault, Lacks, AreUnique, NeedsNoFault};
-ghost use Rattle.tb_tables.specs.Failing.{IsShort};
+ghost use Rattle.tb_tables.specs.Failing.{IsStoreFault, Lacks, AreUnique, NeedsNoFault, IsShort};
 ghost use Rattle.tb_tables.specs.Premises.{Follows};
-ghost use Rattle.tb_tables.specs.Leaving.{CrashesInto, FailsInside, FailsOn, KeepsCommitted, KeepsRecordsOnErr};
-ghost use Rattle.tb_tables.specs.Leaving.{Leads, AreStoredIn, StaysInside, Turns, BlamesNoDisk};
-ghost use Rattle.tb_tables.specs.Leaving.{WantsInside, WantsOn};
+ghost use Rattle.tb_tables.specs.Leaving.{CrashesInto, FailsInside, FailsOn, KeepsCommitted, KeepsRecordsOnErr, Leads};
+ghost use Rattle.tb_tables.specs.Leaving.{AreStoredIn, StaysInside, Turns, BlamesNoDisk, WantsInside, WantsOn};
 
 use crate::recording::{MoveWrite, record};
 use crate::{delete_pulled, insert_pulled};

@@ -1,9 +1,9 @@
 -- The transaction, from its begin to its end.
-use Rattle.std.proofs.Common.{◌≡◌, [], true, false, IsTrue, refl, sym, ap, subst, ◌∙◌}
+use Rattle.std.proofs.Common.{◌≡◌, [], true, IsTrue, refl, sym, ap, subst, ◌∙◌}
 use Rattle.sqlite.specs.Store.{Ghosts}
 use Rattle.sqlite.specs.Effect.{Database}
 use Rattle.sqlite.specs.Held.{Held, state}
-use Rattle.sqlite.specs.State.{HasCleanDisk, KeepsCommit, IsRolledBack, IsUnchanged, Survives}
+use Rattle.sqlite.specs.State.{HasCleanDisk, IsRolledBack, IsUnchanged, Survives}
 use Rattle.sqlite.proofs.Callers.{survives_begin}
 use Rattle.sqlite.proofs.StateLemmas.{survives_then}
 use Rattle.sqlite_trees.specs.Tree.{Trees}
@@ -14,19 +14,6 @@ module _ {S : Type 0} (g : Ghosts S) where
   -- as `transaction` leaves it
   pub first_begins : (old begun : Held S) (d : Tables) → begun ≡ record old { in_transaction = true } → HoldsFirst g old d → IsInsideFirst (state g begun) × AreStoredInVersion1 d (state g begun).now.trees
   first_begins old begun d is h = rw is (record { begun = refl; schema = h.schema }, h.stands)
-
-  -- a transaction that is rolled back leaves what was there
-  pub first_again : (old last end : Held S) (d : Tables) → HoldsFirst g old d → KeepsCommit (state g old) (state g last) → end.in_transaction ≡ false → IsTrue (state g end).is_open
-      → IsRolledBack (state g last) (state g end) → HoldsFirst g end d
-  first_again old last end d h kept ended opened back =
-      let before = back.undone opened in
-      let same : (state g last).committed ≡ (state g old).now = kept.committed (back.was_open opened) ∙ h.settled in record {
-        autocommit = ended;
-        is_open = opened;
-        schema = ap (λ (b : Database). b.schema) (before.0 ∙ same) ∙ h.schema;
-        settled = before.1 ∙ sym before.0;
-        stands = subst (λ (b : Database). AreStoredInVersion1 d b.trees) (sym (before.0 ∙ same)) h.stands;
-      }
 
   pub first_unchanged : (old new : Held S) (d : Tables) → HoldsFirst g old d → IsUnchanged (state g old) (state g new) → HoldsFirst g new d
   first_unchanged old new d h same = record {

@@ -31,16 +31,6 @@ pub record IsPassed (all seen rest : List (List ℕ)) : Type 0 where
   pub onward : AreApart all → AreApart rest × Unseen seen rest
   pub back : AreApart rest → Unseen seen rest → AreApart all
 
-unseen_none : (texts : List (List ℕ)) → Unseen [] texts
-unseen_none [] = tt
-unseen_none (t ∷ ts) = (refl, unseen_none ts)
-
-pub none_passed : (all seen rest : List (List ℕ)) → seen ≡ [] → rest ≡ all → IsPassed all seen rest
-none_passed all seen rest e f = record {
-  onward = λ h. (subst AreApart (sym f) h, subst (λ s. Unseen s rest) (sym e) (unseen_none rest));
-  back = λ h u. subst AreApart f h;
-}
-
 clash : {X : Type 0} (b : Bool) → b ≡ true → b ≡ false → X
 clash b t f = let e : true ≡ false = sym t ∙ f in absurd (cc)
 

@@ -70,9 +70,6 @@ many : (rows : List TotalRow) → length (map total_of rows) ≡ length rows
 many [] = refl
 many (r ∷ rows) = ap (λ n. suc n) (many rows)
 
-pub six_rows : (rows : List TotalRow) (t : Totals) → map total_of rows ≡ six_totals t → length rows ≡ 6
-six_rows rows t e = sym (many rows) ∙ ap length e
-
 mapped : {X Y : Type 0} (f g : X → Y) → ((x : X) → f x ≡ g x) → (xs : List X) → map f xs ≡ map g xs
 mapped f g h [] = refl
 mapped f g h (x ∷ xs) = ap₂ (λ a b. a ∷ b) (h x) (mapped f g h xs)

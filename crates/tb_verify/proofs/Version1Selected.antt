@@ -1,6 +1,5 @@
 -- The rows that SELECT shows of a table of version 1.
-use Rattle.std.specs.Prelude.{◌≡◌, ◌≢◌, ℕ, false, List, All, map, Result, IfOk, OnOk, IsTrue}
-use Rattle.std.specs.Prelude.{IsPermutation}
+use Rattle.std.specs.Prelude.{◌≡◌, ◌≢◌, ℕ, false, List, All, map, Result, IfOk, OnOk, IsTrue, IsPermutation}
 use Rattle.sqlite.specs.Order.{Row}
 use Rattle.sqlite.specs.Store.{Ghosts}
 use Rattle.sqlite.specs.Held.{Held, state}

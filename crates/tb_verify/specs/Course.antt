@@ -1,7 +1,7 @@
 -- Between crates: no contract of a front door cites a definition of this module.
 -- What the rows of one sentence say, and when they are those of a sentence.
-use Rattle.std.specs.Prelude.{◌≡◌, ℕ, ◌+◌, ◌-◌, List, [], ◌∷◌, length, map, Bool, true, false}
-use Rattle.std.specs.Prelude.{◌&&◌, not, nat_eq, bytes_eq, Option, Some, None, slice_get}
+use Rattle.std.specs.Prelude.{◌≡◌, ℕ, ◌+◌, ◌-◌, List, [], ◌∷◌, length, map, Bool, true, false, ◌&&◌, not, nat_eq}
+use Rattle.std.specs.Prelude.{bytes_eq, Option, Some, None, slice_get}
 use Rattle.std.specs.List.{list_all}
 use Rattle.tb_conllu.specs.Text.{BlockText, text_of}
 use Rattle.tb_conllu.specs.Words.{words_of}

@@ -4,8 +4,6 @@ ghost use Rattle.std.specs.Prelude.{◌≡◌, ◌≢◌, ◌∷◌, [], List, l
 ghost use Rattle.std.specs.List.{AllByRecursion};
 ghost use Rattle.tb_conllu.specs.Text.{BlockText};
 ghost use Rattle.tb_core.specs.Machine.{IsLawful};
-ghost use Rattle.tb_tables.specs.Records.{Revision};
-ghost use Rattle.tb_tables.specs.Values.{revision_of};
 ghost use Rattle.tb_verify.specs.Course.{own_text};
 ghost use Rattle.tb_verify.specs.declared.unfit.Unfit.TheVariants.{NotADesk};
 

@@ -1,7 +1,6 @@
 //! Whether the rows of one sentence agree with what its revisions hold.
 
-ghost use Rattle.std.specs.Prelude.{◌≡◌, ◌+◌, ◌-◌, ◌&&◌, length, map, nat_eq, bytes_eq, slice_get};
-ghost use Rattle.std.specs.Prelude.{string_bytes};
+ghost use Rattle.std.specs.Prelude.{◌≡◌, ◌+◌, ◌-◌, ◌&&◌, length, map, nat_eq, bytes_eq, slice_get, string_bytes};
 ghost use Rattle.std.specs.List.{list_all};
 ghost use Rattle.tb_conllu.specs.Words.{words_of};
 ghost use Rattle.tb_core.specs.Machine.{sent_id_of, text_value_of};

@@ -1,7 +1,7 @@
 //! The rows of the six tables of version 1, read one table after another. No read changes anything, also after an
 //! error.
 
-ghost use Rattle.std.specs.Prelude.{◌≡◌, ◌≢◌, ℤ, false, pos, [], ◌∷◌, map, List, All, IsTrue};
+ghost use Rattle.std.specs.Prelude.{◌≡◌, ◌≢◌, ℤ, false, pos, [], ◌∷◌, map, IsTrue};
 ghost use Rattle.sqlite.specs.declared.types.Value.TheVariants.{Int};
 ghost use Rattle.tb_tables.specs.Records.{Shows, numbered, batch_shown, sentence_shown, move_shown, total_shown};
 ghost use Rattle.tb_tables.specs.Records.{batch_view, sentence_view, move_view, total_view};

@@ -1,6 +1,6 @@
 use Rattle.std.proofs.Common.{◌≡◌, ◌+◌, ◌*◌, ◌<◌, ◌≤◌, ◌-◌, ℕ, length, ◌↔◌, IsTrue}
 use Rattle.tb_match.specs.Bits.{InTable, Within, triangle}
-use Rattle.tb_match.proofs.bounded.limit_places.Given as goal
+use Rattle.tb_match.proofs.bounded.limit.Given as goal
 
 abbrev pub invariant-loop-place : goal.invariant-loop-place
 invariant-loop-place l = record {

@@ -1,7 +1,7 @@
 use Rattle.std.proofs.Common.{◌≡◌, ◌<◌, ◌≤◌, ◌↔◌, ℕ, length}
 use Rattle.tb_match.specs.Bits.{InTable}
 use Rattle.tb_match.proofs.Runs.{Run}
-use Rattle.tb_match.proofs.token.walk_on.Given as goal
+use Rattle.tb_match.proofs.token.run_on.Given as goal
 
 abbrev pub invariant-loop-row : goal.invariant-loop-row
 invariant-loop-row l = record {

@@ -2,7 +2,7 @@ use Rattle.std.proofs.Common.{arith, ◌≡◌, ◌+◌, ◌-◌, ◌<◌, ◌�
 use Rattle.std.proofs.lemmas.Bool.{cases_lt}
 use Rattle.tb_match.specs.Bits.{InTable, Within}
 use Rattle.tb_match.proofs.Limits.{both_true, turns_step}
-use Rattle.tb_match.proofs.bounded.limit_places.Goals as goal
+use Rattle.tb_match.proofs.bounded.limit.Goals as goal
 
 pub limit_place-same-requires-clause-countable : goal.limit_place-same-requires-clause-countable
 limit_place-same-requires-clause-countable c =
