@@ -17,11 +17,11 @@ use Rattle.tb_answer.proofs.Failing.{fails_for}
 module _ {one other : Type 0} (f : one → other) where
   pub reported_for : (s : Machine) (q : Question) (r : Reply) → IsReportedOf one s q r → IsReportedOf other s q r
   reported_for s q r (inl refused) = inl refused
-  reported_for s q r (inr failed) = inr (fails_for r f failed)
+  reported_for s q r (inr (failed, there)) = inr (fails_for r f failed, there)
 
   export_for : (s : Machine) (name : Option (List ℕ)) (r : Reply) → IsReportedOfExport one s name r → IsReportedOfExport other s name r
   export_for s name r (inl refused) = inl refused
-  export_for s name r (inr failed) = inr (fails_for r f failed)
+  export_for s name r (inr (failed, good)) = inr (fails_for r f failed, good)
 
   export_response_for : (s : Machine) (name : Option (List ℕ)) (text : List ℕ) (code : Status) → IsExportResponse one s name text code → IsExportResponse other s name text code
   export_response_for s name text code (inl whole) = inl whole

@@ -25,8 +25,8 @@ use Rattle.tb_answer.specs.Turns.{EndsWith, HasResponse, HasAnswer, LeadsBy, Lea
 module _ {S : Type 0} (g : Ghosts S) (l : Limits) (s : Machine) (old new : Kept S) (is_open : IsTrue (state g new.conn).is_open) where
   after_command : (c : Command) (r : Reply) → commanded.IsAnswered g l s c old new r → (t : Machine) × Represents g new t × EndsWith l s t c r
   after_command c r (inl (a, t, steps, durable, is)) = (t, durable.0, inl (a, steps, is))
-  after_command c r (inr (inl (wanted, durable))) = (s, durable.0, inr (inl wanted, refl))
-  after_command c r (inr (inr (failed, kept, why))) = (s, (kept is_open).0, inr (inr (failed, tt), refl))
+  after_command c r (inr (inl (wanted, durable, there))) = (s, durable.0, inr (inl wanted, there, refl))
+  after_command c r (inr (inr (failed, kept, why, there))) = (s, (kept is_open).0, inr (inr (failed, tt), there, refl))
 
   module _ {Reason : Type 0} (before after : Option (List ℕ)) (is_refusal : Reason → Type 0) where
     after_call : (sent : Option Status) (call : Option CallText) (act : Act) (body : List ℕ) → IsCallSent before after is_refusal sent g l s call act body old new
@@ -58,6 +58,9 @@ is_read (Err Write) = false
 
 pub ok_is_no_read : (code : Status) → ◌≡◌ {A = Result Status Broken} (Ok code) (Err Read) → ⊥
 ok_is_no_read code e = let t : false ≡ true = ap is_read e in cc
+
+pub write_is_no_read : ◌≡◌ {A = Result Status Broken} (Err Write) (Err Read) → ⊥
+write_is_no_read e = let t : false ≡ true = ap is_read e in cc
 
 pub only_write : (why : Broken) → (why ≡ Read → ⊥) → why ≡ Write
 only_write Read never = absurd (never refl)

@@ -10,7 +10,7 @@ use Rattle.tb_answer.proofs.Failing.{fails_for}
 pub numbered : {cause later : Type 0} (s : Machine) (n : ℕ) (name : List ℕ) (r : Reply) → name_of s n ≡ Some name → (cause → later) → IsReportedOfExport cause s (Some name) r
     → IsReportedAs later (RefusesNumber s n) r
 numbered s n name r named why (inl (refusal, is, so)) = inl (refusal, is, inr (name, named, so))
-numbered s n name r named why (inr failed) = inr (fails_for r why failed)
+numbered s n name r named why (inr (failed, good)) = inr (fails_for r why failed)
 
 pub reported_later : {cause later : Type 0} (s : Machine) (n : ℕ) (r : Reply) → (cause → later) → IsReportedAs cause (RefusesNumber s n) r → IsReportedAs later (RefusesNumber s n) r
 reported_later s n r why (inl refused) = inl refused

@@ -1,5 +1,5 @@
 -- What a query is answered, and what a search leaves at its sink and in the store.
-use Rattle.std.proofs.Common.{◌≡◌, ◌≢◌, ◌⊎◌, ◌∙◌, ℕ, List, [], length, Option, refl, sym, ap, subst, inl, inr, arith, le_trans}
+use Rattle.std.proofs.Common.{◌≡◌, ◌≢◌, ◌⊎◌, ◌∙◌, ◌≤◌, ℕ, List, [], length, Option, Result, Ok, Err, IfOk, IfErr, MatchResult, refl, sym, ap, subst, inl, inr, arith, le_trans}
 use Rattle.std.specs.Io.KnownBytes.{Appends}
 use Rattle.std.proofs.KnownBytes.{Appends-trans}
 use Rattle.sqlite.specs.Store.{Ghosts}
@@ -10,6 +10,9 @@ use Rattle.tb_conllu.specs.Text.{BlockText}
 use Rattle.tb_conllu.specs.Sunk.{AppendsPart}
 use Rattle.tb_match.specs.declared.strategy.Strategy.{Strategy}
 use Rattle.tb_match.specs.declared.strategy.Strategy.TheVariants.{Shortest, Longest}
+use Rattle.tb_query.specs.declared.fault.QueryFault.{QueryFault}
+use Rattle.tb_query.specs.declared.fault.QueryFault.TheVariants as faults
+use Rattle.tb_query.specs.Reading.{IsFault}
 use Rattle.tb_query.specs.Search.{Asked}
 use Rattle.tb_tables.specs.Layout.{desk_schema}
 use Rattle.tb_core.specs.declared.limits.Limits.{Limits}
@@ -18,7 +21,12 @@ use Rattle.tb_core.specs.declared.refusals.Refusal.TheVariants.{TooManyHits}
 use Rattle.tb_core.specs.declared.refusals.Fault.{Fault}
 use Rattle.tb_core.specs.declared.refusals.Fault.TheVariants as fault
 use Rattle.tb_core.specs.Machine.{Machine}
+use Rattle.tb_http.specs.declared.replies.Reply.{Reply}
 use Rattle.tb_http.specs.declared.replies.Reply.TheVariants as reply
+use Rattle.tb_http.specs.Replies.{reply_text, exit_of, status_of}
+use Rattle.tb_refine.specs.Faults.{IsNoDevice}
+use Rattle.tb_http.specs.declared.status.Status.{Status}
+use Rattle.tb_search.specs.Visited.{HasReason}
 use Rattle.tb_search.specs.Searched.{AreFound, Occurrence, answer, lines, searched}
 use Rattle.tb_store.specs.Kept.{Kept}
 use Rattle.tb_store.specs.Represents.{Represents}
@@ -26,22 +34,49 @@ use Rattle.tb_store.specs.Found.{HasTooMany, IsAbove, IsNumber}
 use Rattle.tb_answer.specs.declared.ending.Ending.{Ending}
 use Rattle.tb_answer.specs.declared.ending.Ending.TheVariants.{Whole, BrokenOff, Refused}
 use Rattle.tb_answer.specs.Calls.{ReadsOnly}
+use Rattle.tb_answer.specs.declared.written.Written.{Written}
+use Rattle.tb_answer.specs.declared.written.Written.TheVariants as written
+use Rattle.tb_answer.specs.Asked.{or_reply}
 use Rattle.tb_answer.specs.Commanded.{reply_for_fault}
-use Rattle.tb_answer.specs.Found.{IsAllowed, IsLimitReply, IsStreamed}
+use Rattle.tb_answer.specs.Found.{IsAllowed, IsAskedQuery, IsLimitReply, IsQueryReply, IsReportedOfQuery, IsSearchResponse, IsSearchRun, IsStreamed, SearchText, exit_of_ending, query_reply, reported_of_ending, search_head}
+use Rattle.tb_answer.specs.Output.{IsWritten}
+use Rattle.tb_answer.specs.Responses.{IsSent, reply_response}
 use Rattle.tb_answer.proofs.Parts.{part_of_first, part_of_second}
 
 -- what is found in released text is one list
 abbrev pub OneList : Type 0
 OneList = (s : Strategy) (q : Asked) (bs : List BlockText) (found others : List Occurrence) → AreFound s q bs found → AreFound s q bs others → found ≡ others
 
-pub limit_reported : {cause : Type 0} (l : Limits) (s : Machine) (q : Asked) (strategy : Strategy) (e : Fault)
-    → ((r : Refusal) → e ≡ fault.Refused r → (r ≡ TooManyHits) × HasTooMany s q strategy l.hits) → (e ≡ fault.NotADesk → ⊥) → (e ≡ fault.Device → cause)
-    → (e ≡ fault.Output → ⊥) → IsLimitReply cause l s q strategy (reply_for_fault e)
-limit_reported l s q strategy (fault.Refused r) h k why quiet = let it = h r refl in inl (it.1, ap reply.Refused it.0)
-limit_reported l s q strategy fault.Memory h k why quiet = inr (inl refl)
-limit_reported l s q strategy fault.Device h k why quiet = inr (inr (refl, why refl))
-limit_reported l s q strategy fault.NotADesk h k why quiet = absurd (k refl)
-limit_reported l s q strategy fault.Output h k why quiet = absurd (quiet refl)
+-- ---- the query
+
+pub query_read : (P : Asked → Type 0) (read : Result Asked QueryFault) (result : Result Asked Reply) → MatchResult read (λ q. result ≡ Ok q) (λ e. result ≡ Err (query_reply e)) → IfOk read P → IfOk result P
+query_read P (Ok q) result is h = subst (λ r. IfOk r P) (sym is) h
+query_read P (Err e) result is h = subst (λ r. IfOk r P) (sym is) tt
+
+pub fault_read : (text : List ℕ) (read : Result Asked QueryFault) (result : Result Asked Reply) → MatchResult read (λ q. result ≡ Ok q) (λ e. result ≡ Err (query_reply e)) → IfErr read (λ e. IsFault text e)
+    → IfErr read (λ e. e ≡ faults.Memory → length text ≤ 2000) → IfErr result (λ r. IsQueryReply text r)
+fault_read text (Ok q) result is at short = subst (λ r. IfErr r (IsQueryReply text)) (sym is) tt
+fault_read text (Err e) result is at short = subst (λ r. IfErr r (IsQueryReply text)) (sym is) (e, at, refl, short)
+
+-- the query, where its hits were counted
+pub query_allowed : (Q : Type 0) (number : Result ℕ Fault) (result : Result Asked Reply) (q : Asked) → MatchResult number (λ _. result ≡ Ok q) (λ e. result ≡ Err (reply_for_fault e)) → IfOk number (λ _. Q)
+    → IfOk result (λ x. (x ≡ q) × Q)
+query_allowed Q (Ok n) result q is h = subst (λ r. IfOk r (λ x. (x ≡ q) × Q)) (sym is) (refl, h)
+query_allowed Q (Err e) result q is h = subst (λ r. IfOk r (λ x. (x ≡ q) × Q)) (sym is) tt
+
+pub query_refused : (P : Reply → Type 0) (number : Result ℕ Fault) (result : Result Asked Reply) (q : Asked) → MatchResult number (λ _. result ≡ Ok q) (λ e. result ≡ Err (reply_for_fault e)) → IfErr (or_reply number) P → IfErr result P
+query_refused P (Ok n) result q is h = subst (λ r. IfErr r P) (sym is) tt
+query_refused P (Err e) result q is h = subst (λ r. IfErr r P) (sym is) h
+
+pub limit_told : {good : Type 0} (l : Limits) (s : Machine) (q : Asked) (strategy : Strategy) (number : Result ℕ Fault)
+    → ((r : Refusal) → number ≡ Err (fault.Refused r) → (r ≡ TooManyHits) × HasTooMany s q strategy l.hits) → number ≢ Err fault.NotADesk → (good → IfErr number IsNoDevice) → number ≢ Err fault.Output
+    → IfErr (or_reply number) (IsLimitReply (good → ⊥) l s q strategy)
+limit_told l s q strategy (Ok n) refused knows cause quiet = tt
+limit_told l s q strategy (Err (fault.Refused r)) refused knows cause quiet = let it = refused r refl in inl (it.1, ap reply.Refused it.0)
+limit_told l s q strategy (Err fault.Memory) refused knows cause quiet = inr (inl refl)
+limit_told l s q strategy (Err fault.Device) refused knows cause quiet = inr (inr (refl, λ good. cause good refl))
+limit_told l s q strategy (Err fault.NotADesk) refused knows cause quiet = absurd (knows refl)
+limit_told l s q strategy (Err fault.Output) refused knows cause quiet = absurd (quiet refl)
 
 pub allowed : OneList → (l : Limits) (s : Machine) (q : Asked) (strategy : Strategy) (n : ℕ) → IsNumber s q strategy l.hits n → IsAllowed l s q strategy
 allowed one l s q strategy n (mine, are, is, within) found finds above =
@@ -69,6 +104,21 @@ module _ (s : Machine) (q : Asked) (strategy : Strategy) (n : ℕ) where
   -- the head itself was refused
   pub head_refused : (head bytes : List ℕ) (old new : Option (List ℕ)) → bytes ≡ head → AppendsPart old new bytes → IsStreamed s q strategy n head old new Refused
   head_refused head bytes old new is part = λ found are. part_of_first old new head (answer n found) (subst (AppendsPart old new) is part)
+
+-- ---- the answer of a search
+
+module _ {Reason : Type 0} (Z cause : Type 0) (l : Limits) (s : Machine) (x : SearchText) (held holds : Option (List ℕ)) (is_refusal : Reason → Type 0) where
+  pub search_run : (asked : Result Asked Reply) (w : Written) (status : ℕ) → IfOk asked (λ q. IsAskedQuery l s x.query x.strategy q) → IfErr asked (λ r. IsReportedOfQuery cause l s x.query x.strategy r)
+      → IfOk asked (λ q. (e : Ending) × (status ≡ exit_of_ending e) × (w ≡ written.Found e) × (e ≡ Refused → HasReason is_refusal) × IsStreamed s q x.strategy x.context [] held holds e)
+      → IfErr asked (λ r. (w ≡ written.Reply r) × Z × IsWritten held holds (reply_text r) (exit_of r) is_refusal status) → IsSearchRun cause l s x held holds is_refusal w status
+  search_run (Ok q) w status is none found refused = inl (found.0, (q, is, found.4, found.3), found.1, found.2)
+  search_run (Err r) w status is none found refused = inr (r, none, refused.2, refused.0)
+
+  pub search_sent : (asked : Result Asked Reply) (sent : Option Status) → IfOk asked (λ q. IsAskedQuery l s x.query x.strategy q) → IfErr asked (λ r. IsReportedOfQuery cause l s x.query x.strategy r)
+      → IfOk asked (λ q. (e : Ending) × (sent ≡ reported_of_ending e) × (e ≡ Refused → HasReason is_refusal) × IsStreamed s q x.strategy x.context search_head held holds e)
+      → IfErr asked (λ r. Z × IsSent held holds (reply_response r) (status_of r) is_refusal sent) → IsSearchResponse cause l s x held holds is_refusal sent
+  search_sent (Ok q) sent is none found refused = inl (found.0, (q, is, found.3, found.2), found.1)
+  search_sent (Err r) sent is none found refused = inr (r, none, refused.1)
 
 module _ {S : Type 0} (g : Ghosts S) (a b : Kept S) (one : Survives (state g a.conn) (state g b.conn) (λ _. (state g a.conn).now.schema ≢ desk_schema)) where
   -- one read

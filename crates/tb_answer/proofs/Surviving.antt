@@ -54,7 +54,7 @@ module _ {S : Type 0} (g : Ghosts S) (d m : Kept S) (s : Machine) (stands : Repr
 -- the state after a request is that of before, or one in which its command ends
 response_ends : (l : Limits) (s t : Machine) {Reason : Type 0} (before after : Option (List ℕ)) (is_refusal : Reason → Type 0) (sent : Option Status) (o : Option CallText) (act : Act) (body : List ℕ)
     → HasResponse l s t before after is_refusal sent o act body → (t ≡ s) ⊎ ((c : Command) × (command_in o ≡ Some c) × (a : Answer) × Steps l s c a t)
-response_ends l s t before after is_refusal sent (Some (commands c)) act body h = elim (h.2.1) [ inl (a, steps, is) ↦ inr (c, refl, a, steps) | inr (failed, same) ↦ inl same ]
+response_ends l s t before after is_refusal sent (Some (commands c)) act body h = elim (h.2.1) [ inl (a, steps, is) ↦ inr (c, refl, a, steps) | inr (failed, there, same) ↦ inl same ]
 response_ends l s t before after is_refusal sent (Some (asks q)) act body h = inl h.2.0
 response_ends l s t before after is_refusal sent None act body h = inl h.0
 

@@ -1,6 +1,8 @@
 -- What a question has as its answer in each state: a text, or why there is none.
-use Rattle.std.specs.Prelude.{◌≡◌, ◌⊎◌, ℕ, List, [], ◌∷◌, map, Option, Some, None, decimal}
+use Rattle.std.specs.Prelude.{◌≡◌, ◌⊎◌, ℕ, List, [], ◌∷◌, map, Option, Some, None, decimal, Result, Ok, Err}
+use Rattle.std.specs.Prelude.{MatchResult}
 use Rattle.tb_core.specs.declared.kinds.State.{State}
+use Rattle.tb_core.specs.declared.refusals.Fault.{Fault}
 use Rattle.tb_core.specs.declared.refusals.Refusal.{Refusal}
 use Rattle.tb_core.specs.declared.refusals.Refusal.TheVariants.{NoSuchSentence, NoSuchRevision}
 use Rattle.tb_core.specs.Machine.{Machine, one, words}
@@ -12,7 +14,17 @@ use Rattle.tb_http.specs.declared.replies.Reply.TheVariants as reply
 use Rattle.tb_store.specs.Answers.{IsCurrent, IsRevisionText, HasNoSentence, HasNoRevision}
 use Rattle.tb_answer.specs.declared.questions.Question.{Question}
 use Rattle.tb_answer.specs.declared.questions.Question.TheVariants as question
-use Rattle.tb_answer.specs.Commanded.{IsFailure}
+use Rattle.tb_answer.specs.Commanded.{IsFailure, reply_for_fault}
+
+-- what was read of a desk, or the reply for its fault
+abbrev pub or_reply : {X : Type 0} → Result X Fault → Result X Reply
+or_reply (Ok x) = Ok x
+or_reply (Err fault) = Err (reply_for_fault fault)
+
+-- What stands for what was read, or want of memory for it. Or the reply for the fault of the read.
+abbrev pub IsMadeOf : {X V : Type 0} → Result X Fault → Result V Reply → (X → V → Type 0) → Type 0
+IsMadeOf (Ok x) made StandsFor = MatchResult made (StandsFor x) (λ r. r ≡ reply.Memory)
+IsMadeOf (Err fault) made StandsFor = made ≡ Err (reply_for_fault fault)
 
 -- a line of the totals: the state, its sentences and their words
 abbrev pub total_row : Machine → State → List (List ℕ)
@@ -44,7 +56,9 @@ AsksForNone s (question.Revision n k) = HasNoSentence s n
 AsksForNone s question.Totals = ⊥
 AsksForNone s question.Moves = ⊥
 
--- The answer in place of a text: the refusal, or a failure of the call with this cause.
+-- The answer in place of a text: the refusal, or a failure of the call with this cause. A question for a sentence that
+-- does not exist never fails.
 abbrev pub IsReportedOf : (cause : Type 0) → Machine → Question → Reply → Type 0
-IsReportedOf cause s q reported = ((r : Refusal) × (reported ≡ reply.Refused r) × Refuses s q r)
-    ⊎ IsFailure cause reported
+IsReportedOf cause s q reported =
+    ((r : Refusal) × (reported ≡ reply.Refused r) × Refuses s q r)
+    ⊎ (IsFailure cause reported × (AsksForNone s q → ⊥))

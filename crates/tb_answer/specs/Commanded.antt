@@ -1,5 +1,5 @@
 -- What a command of a user is answered over a connection, as a line, and what it leaves.
-use Rattle.std.specs.Prelude.{◌≡◌, ◌≢◌, ◌⊎◌, IsTrue, ⊤, length}
+use Rattle.std.specs.Prelude.{◌≡◌, ◌≢◌, ◌⊎◌, IsTrue, ⊤, length, Result, Ok, Err}
 use Rattle.sqlite.specs.Store.{Ghosts}
 use Rattle.sqlite.specs.Held.{state}
 use Rattle.tb_core.specs.declared.limits.Limits.{Limits}
@@ -8,13 +8,14 @@ use Rattle.tb_core.specs.declared.refusals.Fault.{Fault}
 use Rattle.tb_core.specs.declared.refusals.Fault.TheVariants.{Refused, Memory, Device, NotADesk, Output}
 use Rattle.tb_core.specs.Machine.{Machine}
 use Rattle.tb_core.specs.Commands.{Command, Answer, replied, refused, imported, moved_on, corrected_to, pulled_out}
-use Rattle.tb_core.specs.Commands.{import_file, correct}
+use Rattle.tb_core.specs.Commands.{import_file, correct, pull, restore}
 use Rattle.tb_core.specs.Commands.{restored_to}
 use Rattle.tb_core.specs.Steps.{Steps}
 use Rattle.tb_http.specs.declared.replies.Reply.{Reply}
 use Rattle.tb_http.specs.declared.replies.Reply.TheVariants as reply
 use Rattle.tb_tables.specs.Leaving.{IsFaultless}
 use Rattle.tb_refine.specs.Room.{HasRoomIfWritten}
+use Rattle.tb_store.specs.Answers.{HasNoSentence}
 use Rattle.tb_store.specs.Kept.{Kept}
 use Rattle.tb_store.specs.Calls.{IsDurable}
 
@@ -34,6 +35,11 @@ reply_for_fault Memory = reply.Memory
 reply_for_fault Device = reply.Device
 reply_for_fault NotADesk = reply.Desk
 reply_for_fault Output = reply.Device
+
+-- the reply for how a command ended, which this reply tells where it was accepted
+abbrev pub reply_of : {X : Type 0} → (accepted : X → Reply) → Result X Fault → Reply
+reply_of accepted (Ok x) = accepted x
+reply_of accepted (Err fault) = reply_for_fault fault
 
 -- the same for an export into memory, whose sink fails only for want of memory
 abbrev pub reply_for_export : Fault → Reply
@@ -70,11 +76,20 @@ HasRoom g l s _ old = ⊤
 abbrev pub BlamesFor : {S : Type 0} → Ghosts S → Limits → Machine → Command → (old new : Kept S) → Type 0
 BlamesFor g l s c old new = HasRoom g l s c old → IsFaultless g old.conn new.conn → IsTrue new.in_doubt
 
+-- the command is for a sentence that does not exist
+abbrev pub IsForNone : Machine → Command → Type 0
+IsForNone s (correct n base user body) = HasNoSentence s n
+IsForNone s (pull n user) = HasNoSentence s n
+IsForNone s (restore n user) = HasNoSentence s n
+IsForNone s _ = ⊥
+
 -- In this state the command has the machine's answer, and its next state outlasts a crash. Or memory ran out, and the
 -- state outlasts a crash unchanged. Or the device failed, for a cause; then the same holds while the store is open.
+-- A command for a sentence that does not exist never fails.
 abbrev pub IsAnswered : {S : Type 0} → Ghosts S → Limits → Machine → Command → (old new : Kept S) → Reply
     → Type 0
 IsAnswered g l s c old new r =
     ((a : Answer) × (t : Machine) × Steps l s c a t × IsDurable g new t × (r ≡ reply_for a))
-    ⊎ ((r ≡ reply.Memory) × IsDurable g new s)
-    ⊎ ((r ≡ reply.Device) × (IsTrue (state g new.conn).is_open → IsDurable g new s) × BlamesFor g l s c old new)
+    ⊎ ((r ≡ reply.Memory) × IsDurable g new s × (IsForNone s c → ⊥))
+    ⊎ ((r ≡ reply.Device) × (IsTrue (state g new.conn).is_open → IsDurable g new s) × BlamesFor g l s c old new
+    × (IsForNone s c → ⊥))

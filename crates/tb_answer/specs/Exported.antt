@@ -1,8 +1,9 @@
 -- What an export has in a state: the batch with the given name, or released text where there is no name.
-use Rattle.std.specs.Prelude.{◌≡◌, ◌⊎◌, ℕ, List, length, Option, Some, None, Result, Ok, Err}
+use Rattle.std.specs.Prelude.{◌≡◌, ◌⊎◌, ℕ, List, length, Option, Some, None, Result, Ok, Err, false}
 use Rattle.tb_core.specs.declared.refusals.Refusal.{Refusal}
 use Rattle.tb_core.specs.declared.refusals.Fault.TheVariants.{Refused}
 use Rattle.tb_core.specs.Machine.{Machine, Sentence}
+use Rattle.tb_core.specs.Names.{is_name}
 use Rattle.tb_search.specs.Released.{released, in_batch, current_text}
 use Rattle.tb_refine.specs.Finding.{HasNumber}
 use Rattle.tb_store.specs.Exports.{RefusesBatch}
@@ -31,10 +32,17 @@ abbrev pub HasExport : Machine → (name : Option (List ℕ)) → Result (List �
 HasExport s name (Ok text) = (xs : List Sentence) × AreExported s name xs × (text ≡ current_text xs)
 HasExport s name (Err r) = RefusesExport s name r
 
--- the answer in place of the text: the refusal, or a failure of the call with this cause
+-- the export is of a batch by what is no name
+abbrev pub IsNamedBadly : (name : Option (List ℕ)) → Type 0
+IsNamedBadly None = ⊥
+IsNamedBadly (Some name) = is_name name ≡ false
+
+-- The answer in place of the text: the refusal, or a failure of the call with this cause. An export by a bad name
+-- never fails.
 abbrev pub IsReportedOfExport : (cause : Type 0) → Machine → (name : Option (List ℕ)) → Reply → Type 0
-IsReportedOfExport cause s name reported = ((r : Refusal) × (reported ≡ reply.Refused r) × HasExport s name (Err r))
-    ⊎ IsFailure cause reported
+IsReportedOfExport cause s name reported =
+    ((r : Refusal) × (reported ≡ reply.Refused r) × HasExport s name (Err r))
+    ⊎ (IsFailure cause reported × (IsNamedBadly name → ⊥))
 
 -- The text of an export on the command line, its own exit status, and the value that says what it is.
 abbrev pub IsExportOutput : (cause : Type 0) → Machine → (name : Option (List ℕ)) → (text : List ℕ)

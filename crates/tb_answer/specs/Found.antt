@@ -1,5 +1,5 @@
 -- The answers of a search and of a count of released text, on the command line and over HTTP.
-use Rattle.std.specs.Prelude.{◌≡◌, ◌⊎◌, ◌++◌, ℕ, List, [], length, Option, Some, None}
+use Rattle.std.specs.Prelude.{◌≡◌, ◌⊎◌, ◌++◌, ◌≤◌, ℕ, List, [], length, Option, Some, None}
 use Rattle.std.specs.Io.KnownBytes.{Appends}
 use Rattle.tb_conllu.specs.Sunk.{AppendsPart}
 use Rattle.tb_match.specs.declared.strategy.Strategy.{Strategy}
@@ -64,9 +64,10 @@ query_reply fault.Repeat = reply.Refused (refusal.Query 5 0)
 query_reply (fault.Pattern literal) = reply.Refused (refusal.Query 6 literal)
 query_reply fault.Memory = reply.Memory
 
--- the reply names a fault of the text
+-- The reply names a fault of the text. Memory runs out only for a text of at most 2,000 bytes.
 abbrev pub IsQueryReply : List ℕ → Reply → Type 0
 IsQueryReply text reported = (e : QueryFault) × IsFault text e × (reported ≡ query_reply e)
+    × (e ≡ fault.Memory → length text ≤ 2000)
 
 -- the reply says that there are too many hits, or is a failure of the call with this cause
 abbrev pub IsLimitReply : (cause : Type 0) → Limits → Machine → Asked → Strategy → Reply → Type 0

@@ -24,7 +24,7 @@ use Rattle.tb_store.specs.Kept.{Kept}
 use Rattle.tb_store.specs.Represents.{Represents}
 use Rattle.tb_answer.specs.Asked.{IsBody, IsReportedOf}
 use Rattle.tb_answer.specs.Calls.{CallText, commands, asks, call_asked}
-use Rattle.tb_answer.specs.Commanded.{reply_for, IsFailure}
+use Rattle.tb_answer.specs.Commanded.{reply_for, IsFailure, IsForNone}
 use Rattle.tb_answer.specs.Responses.{reply_response, body_response}
 use Rattle.tb_answer.specs.declared.answering.Broken.{Broken}
 use Rattle.tb_answer.specs.declared.answering.Broken.TheVariants.{Write}
@@ -33,9 +33,12 @@ use Rattle.tb_answer.specs.Served.{IsSentAs, IsReplySent, IsTextSent, IsSafeOf, 
 -- ---- one request, in terms of states alone
 
 module _ (l : Limits) (s t : Machine) where
-  -- a command made in s has this reply, and t is the state after it; or it failed, and t is s
+  -- A command made in s has this reply, and t is the state after it. Or it failed, and t is s; it was for no sentence
+  -- that does not exist.
   abbrev pub EndsWith : Command → Reply → Type 0
-  EndsWith c r = ((a : Answer) × Steps l s c a t × (r ≡ reply_for a)) ⊎ (IsFailure ⊤ r × (t ≡ s))
+  EndsWith c r =
+      ((a : Answer) × Steps l s c a t × (r ≡ reply_for a))
+      ⊎ (IsFailure ⊤ r × (IsForNone s c → ⊥) × (t ≡ s))
 
   -- the response of a call made in s, and its status; t is the state after it
   abbrev pub IsResponseTo : CallText → (text : List ℕ) → Status → Type 0

@@ -1,9 +1,10 @@
 -- What deskview shows of a state, or why it shows nothing.
-use Rattle.std.specs.Prelude.{◌≡◌, ◌⊎◌, ℕ, List}
+use Rattle.std.specs.Prelude.{◌≡◌, ◌⊎◌, ℕ, List, false}
 use Rattle.tb_core.specs.declared.refusals.Refusal.{Refusal}
 use Rattle.tb_core.specs.declared.refusals.Fault.TheVariants.{Refused}
 use Rattle.tb_core.specs.declared.refusals.Refusal.TheVariants.{NoSuchSentence}
 use Rattle.tb_core.specs.Machine.{Machine}
+use Rattle.tb_core.specs.Names.{is_name}
 use Rattle.tb_http.specs.declared.replies.Reply.{Reply}
 use Rattle.tb_http.specs.declared.replies.Reply.TheVariants as reply
 use Rattle.tb_cli.specs.View.{Listed, batches, sentences, revisions, find, tree}
@@ -57,6 +58,14 @@ ViewsNone s (revisions n) = HasNoSentence s n
 ViewsNone s (find id) = ⊥
 ViewsNone s (tree n) = HasNoSentence s n
 
+-- the list is refused whatever fails: it is of a sentence that does not exist, or of a batch by what is no name
+abbrev pub NeverFails : Machine → Listed → Type 0
+NeverFails s batches = ⊥
+NeverFails s (sentences name) = is_name name ≡ false
+NeverFails s (revisions n) = HasNoSentence s n
+NeverFails s (find id) = ⊥
+NeverFails s (tree n) = HasNoSentence s n
+
 -- the answer in place of a list: a refusal that is so, or a failure of the call with this cause
 abbrev pub IsReportedAs : (cause : Type 0) → (Refusal → Type 0) → Reply → Type 0
 IsReportedAs cause IsSo reported = ((r : Refusal) × (reported ≡ reply.Refused r) × IsSo r)
@@ -64,4 +73,6 @@ IsReportedAs cause IsSo reported = ((r : Refusal) × (reported ≡ reply.Refused
 
 -- the same, with the refusal of this list
 abbrev pub IsViewReported : (cause : Type 0) → Machine → Listed → Reply → Type 0
-IsViewReported cause s v reported = IsReportedAs cause (RefusesView s v) reported
+IsViewReported cause s v reported =
+    ((r : Refusal) × (reported ≡ reply.Refused r) × RefusesView s v r)
+    ⊎ (IsFailure cause reported × (NeverFails s v → ⊥))

@@ -1,18 +1,20 @@
 //! Serving one request: reads it, does what it asks, and writes the response.
 
-ghost use Rattle.std.specs.Prelude.{◌≡◌, ◌≢◌, ◌+◌, ℕ, List, [], IfErr, Err as ErrOf, map, vec_items};
+ghost use Rattle.std.specs.Prelude.{◌≡◌, ◌≢◌, ◌+◌, ℕ, List, [], Option, IfErr, IfOk, Err as ErrOf, map, vec_items};
 ghost use Rattle.tb_conllu.specs.Pieces.{AskedFor};
-ghost use Rattle.tb_http.specs.Asks.{body_limit};
+ghost use Rattle.tb_http.specs.Asks.{body_limit, reported_by};
+ghost use Rattle.tb_http.specs.declared.status.Status.{Status as AnyStatus};
 ghost use Rattle.tb_http.specs.Faults.{AwaitsMore, IsAtMostOne, TakenAfter, TakesAtMost};
-ghost use Rattle.tb_answer.specs.Served.{IsSafeOf, Serves, outcome};
+ghost use Rattle.tb_answer.specs.Served.{IsReplied, IsReplySent, IsSafeFor, IsSafeOf, Serves, outcome};
 ghost use Rattle.tb_answer.specs.Turns.{AreServed};
+ghost use Rattle.tb_store.specs.Calls.{InState};
 
 use crate::asks::respond_ask;
 use crate::responses::respond_reply;
 use sqlite::Alter;
 use std::alloc::Global;
 use tb_conllu::{Sink, SliceSource, Source};
-use tb_http::{AskFault, HEAD_BYTES, Reply, Routes, Status, read_ask};
+use tb_http::{Ask, AskFault, HEAD_BYTES, Reply, Routes, Status, read_ask};
 use tb_store::Desk;
 
 /// Why a request has no whole response.
@@ -31,6 +33,32 @@ pub fn outcome(sent: Option<Status>) -> Result<Status, Broken>
     match sent {
         Some(status) => Ok(status),
         None => Err(Broken::Write),
+    }
+}
+
+/// Answers what was read of a request: does what it asks, or says that memory ran out. After a failed read it writes
+/// nothing.
+fn answer_read<'b, S: Alter, W: Sink>(
+    read: Result<Ask<'b>, AskFault>,
+    alloc: Global,
+    desk: &mut Desk<S>,
+    out: &mut W,
+) -> Result<Status, Broken>
+    ensures asked { IfOk read.entry (λ ask. (sent : Option AnyStatus) × (result ≡ outcome sent)
+        × InState S.Store desk.old desk.new (λ s. IsReplied (W.held out.old) (W.held out.new) (W.IsRefusal out.new)
+        sent S.Store desk.old.limits s (reported_by ask) desk.old desk.new)) }
+    ensures crash { IfOk read.entry (λ ask. IsSafeFor S.Store (reported_by ask) desk.old desk.new) }
+    ensures unknown { IfErr read.entry (λ _. desk.new ≡ desk.old) }
+    ensures memory { read.entry ≡ ErrOf AskFault.Memory → (sent : Option AnyStatus) × (result ≡ outcome sent)
+        × IsReplySent (W.held out.old) (W.held out.new) (W.IsRefusal out.new) sent Reply.Memory }
+    ensures broken { read.entry ≡ ErrOf AskFault.Broken → (result ≡ ErrOf Broken.Read)
+        × (W.held out.new ≡ W.held out.old) }
+    ensures limits { desk.new.limits ≡ desk.old.limits }
+{
+    match read {
+        Ok(ask) => outcome(respond_ask(alloc, desk, ask, out)),
+        Err(AskFault::Memory) => outcome(respond_reply(out, Reply::Memory)),
+        Err(AskFault::Broken) => Err(Broken::Read),
     }
 }
 
@@ -62,11 +90,7 @@ pub fn answer<S: Alter, R: Source, W: Sink>(
     ensures limits { desk.new.limits ≡ desk.old.limits }
 {
     let mut buf = [0; HEAD_BYTES];
-    match read_ask(alloc, routes, reader, &mut buf) {
-        Ok(ask) => outcome(respond_ask(alloc, desk, ask, out)),
-        Err(AskFault::Memory) => outcome(respond_reply(out, Reply::Memory)),
-        Err(AskFault::Broken) => Err(Broken::Read),
-    }
+    answer_read(read_ask(alloc, routes, reader, &mut buf), alloc, desk, out)
 }
 
 /// Answers a list of requests in turn, and stops at the first without a whole response.

@@ -1,12 +1,12 @@
 //! The texts that answer what a desk is asked.
 
-ghost use Rattle.std.specs.Prelude.{◌≡◌, Some, None, Err, string_bytes, IfOk, IfErr};
+ghost use Rattle.std.specs.Prelude.{◌≡◌, Some, None, Err, string_bytes, IfOk, IfErr, MatchResult};
 ghost use Rattle.tb_core.specs.Machine.{Machine};
 ghost use Rattle.tb_report.specs.Csv.{totals_csv, moves_csv};
 ghost use Rattle.tb_store.specs.Represents.{Represents};
 ghost use Rattle.tb_store.specs.Answers.{IsCurrent, IsRevisionText, HasNoSentence};
 ghost use Rattle.tb_answer.specs.Commanded.{HasFailed, IsFailure, IsStoreFailure};
-ghost use Rattle.tb_answer.specs.Asked.{totals_text, AsksForNone, IsBody, IsReportedOf};
+ghost use Rattle.tb_answer.specs.Asked.{or_reply, totals_text, AsksForNone, IsBody, IsMadeOf, IsReportedOf};
 ghost use Rattle.tb_answer.specs.Calls.{ReadsOnly};
 ghost use Rattle.tb_store.specs.Calls.{Gives, GivesOnErr, KeepsState};
 
@@ -14,7 +14,7 @@ use crate::commands::reply_for_fault;
 use crate::questions::{Body, Question};
 use sqlite::Alter;
 use std::alloc::Global;
-use tb_core::{Move, Refusal, Totals};
+use tb_core::{Fault, Move, Refusal, Totals};
 use tb_http::Reply;
 use tb_report::{csv_moves, csv_totals};
 use tb_store::{Current, Desk};
@@ -43,6 +43,16 @@ fn moves_text(alloc: Global, moves: &[Move]) -> Result<Vec<u8>, Reply>
     }
 }
 
+/// The text of the totals that were read, or the reply for the fault of the read.
+fn totals_or_reply(alloc: Global, read: Result<Totals, Fault>) -> Result<Vec<u8>, Reply>
+    ensures { IsMadeOf read result (λ totals v. v.items ≡ totals_csv totals) }
+{
+    match read {
+        Ok(totals) => totals_text(alloc, &totals),
+        Err(fault) => Err(reply_for_fault(fault)),
+    }
+}
+
 /// Sentences and words of the six states, as CSV. It is never refused.
 pub fn totals<S: Alter>(alloc: Global, desk: &mut Desk<S>) -> Result<Vec<u8>, Reply>
     ensures answered { Gives S.Store desk.old desk.new result (λ s v. v.items ≡ totals_text s) }
@@ -53,8 +63,15 @@ pub fn totals<S: Alter>(alloc: Global, desk: &mut Desk<S>) -> Result<Vec<u8>, Re
     ensures crash { ReadsOnly S.Store desk.old desk.new }
     ensures limits { desk.new.limits ≡ desk.old.limits }
 {
-    match desk.totals() {
-        Ok(totals) => totals_text(alloc, &totals),
+    totals_or_reply(alloc, desk.totals())
+}
+
+/// The text of the moves that were read, or the reply for the fault of the read.
+fn moves_or_reply(alloc: Global, read: Result<Vec<Move>, Fault>) -> Result<Vec<u8>, Reply>
+    ensures { IsMadeOf read result (λ moves v. v.items ≡ moves_csv moves.items) }
+{
+    match read {
+        Ok(moves) => moves_text(alloc, moves.as_slice()),
         Err(fault) => Err(reply_for_fault(fault)),
     }
 }
@@ -69,8 +86,15 @@ pub fn moves<S: Alter>(alloc: Global, desk: &mut Desk<S>) -> Result<Vec<u8>, Rep
     ensures crash { ReadsOnly S.Store desk.old desk.new }
     ensures limits { desk.new.limits ≡ desk.old.limits }
 {
-    match desk.moves() {
-        Ok(moves) => moves_text(alloc, moves.as_slice()),
+    moves_or_reply(alloc, desk.moves())
+}
+
+/// What was read of a desk, or the reply for the fault of the read.
+pub(crate) fn or_reply<T>(read: Result<T, Fault>) -> Result<T, Reply>
+    ensures { result ≡ or_reply read }
+{
+    match read {
+        Ok(read) => Ok(read),
         Err(fault) => Err(reply_for_fault(fault)),
     }
 }
@@ -90,10 +114,7 @@ pub fn sentence<S: Alter>(desk: &mut Desk<S>, number: u64) -> Result<Current, Re
     ensures crash { ReadsOnly S.Store desk.old desk.new }
     ensures limits { desk.new.limits ≡ desk.old.limits }
 {
-    match desk.sentence(number) {
-        Ok(current) => Ok(current),
-        Err(fault) => Err(reply_for_fault(fault)),
-    }
+    or_reply(desk.sentence(number))
 }
 
 /// The text of a revision of a sentence. Both numbers count from 1.
@@ -111,10 +132,7 @@ pub fn revision<S: Alter>(desk: &mut Desk<S>, number: u64, rev: u64) -> Result<S
     ensures crash { ReadsOnly S.Store desk.old desk.new }
     ensures limits { desk.new.limits ≡ desk.old.limits }
 {
-    match desk.revision(number, rev) {
-        Ok(text) => Ok(text),
-        Err(fault) => Err(reply_for_fault(fault)),
-    }
+    or_reply(desk.revision(number, rev))
 }
 
 /// A text without a revision number.
@@ -137,6 +155,39 @@ fn body_of_current(current: Current) -> Body
     }
 }
 
+/// The body with a sentence that was read, or the reply for why it was not.
+fn current_body(read: Result<Current, Reply>) -> Result<Body, Reply>
+    ensures { MatchResult read (λ c. MatchResult result
+        (λ b. (b.text.items ≡ string_bytes c.body) × (b.rev ≡ Some c.rev)) (λ _. ⊥)) (λ r. result ≡ Err r) }
+{
+    match read {
+        Ok(current) => Ok(body_of_current(current)),
+        Err(reply) => Err(reply),
+    }
+}
+
+/// The body with a revision that was read, or the reply for why it was not.
+fn revision_body(read: Result<String, Reply>) -> Result<Body, Reply>
+    ensures { MatchResult read (λ t. MatchResult result
+        (λ b. (b.text.items ≡ string_bytes t) × (b.rev ≡ None)) (λ _. ⊥)) (λ r. result ≡ Err r) }
+{
+    match read {
+        Ok(text) => Ok(body_of(text.into_bytes())),
+        Err(reply) => Err(reply),
+    }
+}
+
+/// The body with a text that was made, or the reply for why it was not.
+fn text_body(made: Result<Vec<u8>, Reply>) -> Result<Body, Reply>
+    ensures { MatchResult made (λ v. MatchResult result
+        (λ b. (b.text.items ≡ v.items) × (b.rev ≡ None)) (λ _. ⊥)) (λ r. result ≡ Err r) }
+{
+    match made {
+        Ok(text) => Ok(body_of(text)),
+        Err(reply) => Err(reply),
+    }
+}
+
 /// The text that answers a question.
 ///
 /// # Errors
@@ -153,21 +204,9 @@ pub fn ask<S: Alter>(alloc: Global, desk: &mut Desk<S>, question: Question) -> R
     ensures limits { desk.new.limits ≡ desk.old.limits }
 {
     match question {
-        Question::Sentence { number } => match sentence(desk, number) {
-            Ok(current) => Ok(body_of_current(current)),
-            Err(reply) => Err(reply),
-        },
-        Question::Revision { number, rev } => match revision(desk, number, rev) {
-            Ok(text) => Ok(body_of(text.into_bytes())),
-            Err(reply) => Err(reply),
-        },
-        Question::Totals => match totals(alloc, desk) {
-            Ok(text) => Ok(body_of(text)),
-            Err(reply) => Err(reply),
-        },
-        Question::Moves => match moves(alloc, desk) {
-            Ok(text) => Ok(body_of(text)),
-            Err(reply) => Err(reply),
-        },
+        Question::Sentence { number } => current_body(sentence(desk, number)),
+        Question::Revision { number, rev } => revision_body(revision(desk, number, rev)),
+        Question::Totals => text_body(totals(alloc, desk)),
+        Question::Moves => text_body(moves(alloc, desk)),
     }
 }

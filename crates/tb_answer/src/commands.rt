@@ -3,11 +3,11 @@
 ghost use Rattle.std.specs.Prelude.{◌≡◌};
 ghost use Rattle.tb_core.specs.Commands.{import_file, event_on, correct as correct_it, pull as pull_it};
 ghost use Rattle.tb_core.specs.Commands.{restore as restore_it};
-ghost use Rattle.tb_answer.specs.Commanded.{reply_for_fault, IsAnswered};
+ghost use Rattle.tb_answer.specs.Commanded.{reply_for_fault, reply_of, IsAnswered};
 ghost use Rattle.tb_store.specs.Calls.{CrashesWhole, InState};
 
 use sqlite::Alter;
-use tb_core::{Event, Fault};
+use tb_core::{Corrected, Event, Fault, Imported, Moved, Pulled, Restored};
 use tb_http::Reply;
 use tb_store::Desk;
 
@@ -23,6 +23,16 @@ pub fn reply_for_fault(fault: Fault) -> Reply
     }
 }
 
+/// The reply for how an import ended.
+fn reply_to_import(ended: Result<Imported, Fault>) -> Reply
+    ensures { result ≡ reply_of (λ r. Reply.Imported r) ended }
+{
+    match ended {
+        Ok(reply) => Reply::Imported(reply),
+        Err(fault) => reply_for_fault(fault),
+    }
+}
+
 /// The answer of an import: the sentences of the body as a batch of this name.
 pub fn import<S: Alter>(desk: &mut Desk<S>, name: &str, user: &str, body: &[u8]) -> Reply
     ensures answered { InState S.Store desk.old desk.new (λ s. IsAnswered S.Store desk.old.limits s
@@ -30,8 +40,15 @@ pub fn import<S: Alter>(desk: &mut Desk<S>, name: &str, user: &str, body: &[u8])
     ensures crash { CrashesWhole S.Store desk.old desk.new (import_file name.now user.now body.now) }
     ensures limits { desk.new.limits ≡ desk.old.limits }
 {
-    match desk.import(name, user, body) {
-        Ok(reply) => Reply::Imported(reply),
+    reply_to_import(desk.import(name, user, body))
+}
+
+/// The reply for how an event ended.
+fn reply_to_event(ended: Result<Moved, Fault>) -> Reply
+    ensures { result ≡ reply_of (λ r. Reply.Moved r) ended }
+{
+    match ended {
+        Ok(reply) => Reply::Moved(reply),
         Err(fault) => reply_for_fault(fault),
     }
 }
@@ -43,8 +60,15 @@ pub fn event<S: Alter>(desk: &mut Desk<S>, name: &str, event: Event, user: &str)
     ensures crash { CrashesWhole S.Store desk.old desk.new (event_on name.now event user.now) }
     ensures limits { desk.new.limits ≡ desk.old.limits }
 {
-    match desk.event(name, event, user) {
-        Ok(reply) => Reply::Moved(reply),
+    reply_to_event(desk.event(name, event, user))
+}
+
+/// The reply for how a correction ended.
+fn reply_to_correct(ended: Result<Corrected, Fault>) -> Reply
+    ensures { result ≡ reply_of (λ r. Reply.Corrected r) ended }
+{
+    match ended {
+        Ok(reply) => Reply::Corrected(reply),
         Err(fault) => reply_for_fault(fault),
     }
 }
@@ -62,8 +86,15 @@ pub fn correct<S: Alter>(
     ensures crash { CrashesWhole S.Store desk.old desk.new (correct_it number base user.now body.now) }
     ensures limits { desk.new.limits ≡ desk.old.limits }
 {
-    match desk.correct(number, base, user, body) {
-        Ok(reply) => Reply::Corrected(reply),
+    reply_to_correct(desk.correct(number, base, user, body))
+}
+
+/// The reply for how a pull ended.
+fn reply_to_pull(ended: Result<Pulled, Fault>) -> Reply
+    ensures { result ≡ reply_of (λ r. Reply.Pulled r) ended }
+{
+    match ended {
+        Ok(reply) => Reply::Pulled(reply),
         Err(fault) => reply_for_fault(fault),
     }
 }
@@ -75,8 +106,15 @@ pub fn pull<S: Alter>(desk: &mut Desk<S>, number: u64, user: &str) -> Reply
     ensures crash { CrashesWhole S.Store desk.old desk.new (pull_it number user.now) }
     ensures limits { desk.new.limits ≡ desk.old.limits }
 {
-    match desk.pull(number, user) {
-        Ok(reply) => Reply::Pulled(reply),
+    reply_to_pull(desk.pull(number, user))
+}
+
+/// The reply for how a restore ended.
+fn reply_to_restore(ended: Result<Restored, Fault>) -> Reply
+    ensures { result ≡ reply_of (λ r. Reply.Restored r) ended }
+{
+    match ended {
+        Ok(reply) => Reply::Restored(reply),
         Err(fault) => reply_for_fault(fault),
     }
 }
@@ -88,8 +126,5 @@ pub fn restore<S: Alter>(desk: &mut Desk<S>, number: u64, user: &str) -> Reply
     ensures crash { CrashesWhole S.Store desk.old desk.new (restore_it number user.now) }
     ensures limits { desk.new.limits ≡ desk.old.limits }
 {
-    match desk.restore(number, user) {
-        Ok(reply) => Reply::Restored(reply),
-        Err(fault) => reply_for_fault(fault),
-    }
+    reply_to_restore(desk.restore(number, user))
 }

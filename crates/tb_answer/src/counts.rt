@@ -1,11 +1,12 @@
 //! Counts of what is found in released text, as CSV.
 
-ghost use Rattle.std.specs.Prelude.{◌≡◌, ℕ, List, IfOk, IfErr, MatchResult, None};
+ghost use Rattle.std.specs.Prelude.{◌≡◌, ℕ, List, Err, IfOk, IfErr, MatchResult, None};
 ghost use Rattle.tb_report.specs.Csv.{freq_csv};
 ghost use Rattle.tb_report.specs.Tables.{Row, IsTableOf, IsRankingOf, total_of};
 ghost use Rattle.tb_search.specs.Searched.{Occurrence, keys};
 ghost use Rattle.tb_http.specs.declared.status.Status.{Status as AnyStatus};
 ghost use Rattle.tb_store.specs.Found.{AreReleasedHits};
+ghost use Rattle.tb_answer.specs.Asked.{IsMadeOf};
 ghost use Rattle.tb_answer.specs.Commanded.{HasFailed, IsFailure};
 ghost use Rattle.tb_answer.specs.Output.{IsWritten};
 ghost use Rattle.tb_answer.specs.Responses.{IsSent, body_response, reply_response};
@@ -23,6 +24,7 @@ use crate::written::Ran;
 use sqlite::Alter;
 use std::alloc::Global;
 use tb_conllu::Sink;
+use tb_core::Fault;
 use tb_http::{Reply, Status};
 use tb_query::Query;
 use tb_report::{Freq, csv_freq};
@@ -51,6 +53,17 @@ fn table_text(alloc: Global, table: &Freq) -> Result<CountTable, Reply>
     }
 }
 
+/// The text of the table that was counted, or the reply for the fault of the count.
+fn table_or_reply(alloc: Global, read: Result<Freq, Fault>) -> Result<CountTable, Reply>
+    ensures { IsMadeOf read result (λ table v. (rows : List Row) × IsRankingOf table rows
+        × (v.text.items ≡ freq_csv rows) × (v.hits ≡ total_of table)) }
+{
+    match read {
+        Ok(table) => table_text(alloc, &table),
+        Err(fault) => Err(reply_for_fault(fault)),
+    }
+}
+
 /// The table of the hits of a query, as CSV.
 fn counted<S: Alter>(
     alloc: Global,
@@ -68,9 +81,30 @@ fn counted<S: Alter>(
     ensures commits_nothing { CommitsNothing S.Store desk.old.conn desk.new.conn }
     ensures limits { desk.new.limits ≡ desk.old.limits }
 {
-    match desk.count(query, count.strategy, count.column) {
-        Ok(table) => table_text(alloc, &table),
-        Err(fault) => Err(reply_for_fault(fault)),
+    table_or_reply(alloc, desk.count(query, count.strategy, count.column))
+}
+
+/// The table of the hits of a query that was accepted. Else returns the reply for why there is none.
+fn counted_if<S: Alter>(
+    accepted: Result<Query, Reply>,
+    alloc: Global,
+    desk: &mut Desk<S>,
+    count: Count<'_>,
+) -> Result<CountTable, Reply>
+    ensures counted { IfOk accepted (λ q. Gives S.Store desk.old desk.new result (λ s v. (found : List Occurrence)
+        × AreReleasedHits s q count.entry.strategy found × (table : List Row) × (rows : List Row)
+        × IsTableOf (keys count.entry.column found) table × IsRankingOf table rows
+        × (v.text.items ≡ freq_csv rows) × (v.hits ≡ total_of table))) }
+    ensures failed { IfOk accepted (λ _. GivesOnErr S.Store desk.old desk.new result (λ s r.
+        IsFailure (HasFailed S.Store desk.old desk.new) r)) }
+    ensures refused { IfErr accepted (λ r. (result ≡ Err r) × (desk.new ≡ desk.old)) }
+    ensures keeps_state { KeepsState S.Store desk.old desk.new }
+    ensures commits_nothing { CommitsNothing S.Store desk.old.conn desk.new.conn }
+    ensures limits { desk.new.limits ≡ desk.old.limits }
+{
+    match accepted {
+        Ok(query) => counted(alloc, desk, &query, count),
+        Err(reply) => Err(reply),
     }
 }
 
@@ -93,10 +127,12 @@ fn count_text<S: Alter>(
     ensures crash { ReadsOnly S.Store desk.old desk.new }
     ensures limits { desk.new.limits ≡ desk.old.limits }
 {
-    match accepted(alloc, desk, count.query, count.strategy) {
-        Ok(query) => counted(alloc, desk, &query, count),
-        Err(reply) => Err(reply),
-    }
+    counted_if(
+        accepted(alloc, desk, count.query, count.strategy),
+        alloc,
+        desk,
+        count,
+    )
 }
 
 /// Counts what a query finds in released text, and writes the table or the line of a reply.

@@ -1,6 +1,7 @@
 //! Exports, made whole in memory before their first byte is written: with an exit status, or as responses over HTTP.
 
 ghost use Rattle.std.specs.Prelude.{◌≡◌, ◌≢◌, ℕ, List, None, Ok as OkOf, Err as ErrOf, IfOk, option_map};
+ghost use Rattle.std.specs.Prelude.{MatchResult};
 ghost use Rattle.std.specs.Io.KnownBytes.{Appends};
 ghost use Rattle.sqlite.specs.State.{HasCleanDisk};
 ghost use Rattle.sqlite.specs.Held.{state};
@@ -12,7 +13,7 @@ ghost use Rattle.tb_answer.specs.Commanded.{HasFailed, IsFailure, IsNoRefusal, r
 ghost use Rattle.tb_answer.specs.Output.{IsWritten};
 ghost use Rattle.tb_answer.specs.Responses.{IsSent};
 ghost use Rattle.tb_answer.specs.Exported.{HasExport, RefusesExport, IsExportOutput, IsReportedOfExport};
-ghost use Rattle.tb_answer.specs.Exported.{IsExportResponse};
+ghost use Rattle.tb_answer.specs.Exported.{IsExportResponse, IsNamedBadly};
 ghost use Rattle.tb_answer.specs.Calls.{ReadsOnly};
 ghost use Rattle.tb_store.specs.Blaming.{BlamesNoDevice};
 ghost use Rattle.tb_store.specs.Calls.{Does, Gives, GivesOnErr, InState, KnowsItself, KeepsState};
@@ -25,7 +26,7 @@ use crate::written::Ran;
 use sqlite::Alter;
 use std::alloc::Global;
 use tb_conllu::Sink;
-use tb_core::Fault;
+use tb_core::{Fault, Refusal};
 use tb_http::{Reply, Status};
 use tb_store::Desk;
 
@@ -41,6 +42,8 @@ fn export<S: Alter, W: Sink>(
     ensures refused { HasCleanDisk (state S.Store desk.new.conn) → (r : AnyRefusal)
         → result ≡ ErrOf (Fault.Refused r) → (s : Machine) → Represents S.Store desk.old s
         → RefusesExport s (option_map (λ n. n.now) name.entry) r }
+    ensures bad_name { IsNamedBadly (option_map (λ n. n.now) name.entry)
+        → result ≡ ErrOf (Fault.Refused Refusal.BadName) }
     ensures fails { KnowsItself S.Store desk.old desk.new result }
     ensures cause { BlamesNoDevice S.Store desk.old desk.new result }
     ensures keeps_state { KeepsState S.Store desk.old desk.new }
@@ -67,6 +70,18 @@ fn reply_for_export(fault: Fault) -> Reply
     }
 }
 
+/// The text of an export that ended so, or the reply for its fault.
+fn body_of_export(ended: Result<(), Fault>, text: Vec<u8>) -> Result<Body, Reply>
+    ensures { MatchResult ended
+        (λ _. MatchResult result (λ b. (b.text.items ≡ text.items) × (b.rev ≡ None)) (λ _. ⊥))
+        (λ e. result ≡ ErrOf (reply_for_export e)) }
+{
+    match ended {
+        Ok(()) => Ok(body_of(text)),
+        Err(fault) => Err(reply_for_export(fault)),
+    }
+}
+
 /// The text of an export, made whole in memory.
 fn export_body<S: Alter>(
     alloc: Global,
@@ -83,10 +98,7 @@ fn export_body<S: Alter>(
     ensures limits { desk.new.limits ≡ desk.old.limits }
 {
     let mut text = Vec::new(alloc);
-    match export(desk, name, &mut text) {
-        Ok(()) => Ok(body_of(text)),
-        Err(fault) => Err(reply_for_export(fault)),
-    }
+    body_of_export(export(desk, name, &mut text), text)
 }
 
 /// Writes the text of an export, or the line of a reply.

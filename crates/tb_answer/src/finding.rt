@@ -1,12 +1,12 @@
 //! Searches and counts of released text, and whether their queries are accepted.
 
-ghost use Rattle.std.specs.Prelude.{◌≡◌, ◌≢◌, IfOk, IfErr};
+ghost use Rattle.std.specs.Prelude.{◌≡◌, ◌≢◌, Ok as OkOf, Err as ErrOf, IfOk, IfErr, MatchResult};
 ghost use Rattle.sqlite.specs.State.{HasCleanDisk};
 ghost use Rattle.sqlite.specs.Held.{state};
 ghost use Rattle.tb_core.specs.Machine.{Machine};
 ghost use Rattle.tb_query.specs.Reading.{IsQuery};
 ghost use Rattle.tb_store.specs.Represents.{Represents};
-ghost use Rattle.tb_answer.specs.Commanded.{HasFailed};
+ghost use Rattle.tb_answer.specs.Commanded.{HasFailed, reply_for_fault};
 ghost use Rattle.tb_answer.specs.Found.{query_reply, IsAskedQuery, IsAllowed, IsLimitReply, IsQueryReply};
 ghost use Rattle.tb_answer.specs.Found.{IsReportedOfQuery};
 ghost use Rattle.tb_store.specs.Calls.{Does, Gives, GivesOnErr, KeepsState};
@@ -15,7 +15,7 @@ ghost use Rattle.tb_tables.specs.Leaving.{CommitsNothing};
 use crate::commands::reply_for_fault;
 use sqlite::Alter;
 use std::alloc::Global;
-use tb_core::Refusal;
+use tb_core::{Fault, Refusal};
 use tb_http::Reply;
 use tb_match::Strategy;
 use tb_query::{Attr, Query, QueryFault, parse};
@@ -56,14 +56,31 @@ fn reply_for_query(fault: QueryFault) -> Reply
     }
 }
 
+/// The query that was read, or the reply that names its fault.
+fn query_or_reply(read: Result<Query, QueryFault>) -> Result<Query, Reply>
+    ensures { MatchResult read (λ q. result ≡ OkOf q) (λ e. result ≡ ErrOf (query_reply e)) }
+{
+    match read {
+        Ok(query) => Ok(query),
+        Err(fault) => Err(reply_for_query(fault)),
+    }
+}
+
 /// Parses a query, or returns the reply that names its fault.
 fn read_query(alloc: Global, text: &str) -> Result<Query, Reply>
     ensures query { IfOk result (λ q. IsQuery text.now q) }
     ensures reported { IfErr result (λ r. IsQueryReply text.now r) }
 {
-    match parse(alloc, text) {
-        Ok(query) => Ok(query),
-        Err(fault) => Err(reply_for_query(fault)),
+    query_or_reply(parse(alloc, text))
+}
+
+/// The query if its hits were counted, which are then within the limit. Else the reply for why they were not.
+fn counted_query(number: Result<u64, Fault>, query: Query) -> Result<Query, Reply>
+    ensures { MatchResult number (λ _. result ≡ OkOf query) (λ e. result ≡ ErrOf (reply_for_fault e)) }
+{
+    match number {
+        Ok(_) => Ok(query),
+        Err(fault) => Err(reply_for_fault(fault)),
     }
 }
 
@@ -83,10 +100,7 @@ fn counted_within<S: Alter>(
     ensures limits { desk.new.limits ≡ desk.old.limits }
 {
     one_list_is_found();
-    match desk.number(&query, strategy) {
-        Ok(_) => Ok(query),
-        Err(fault) => Err(reply_for_fault(fault)),
-    }
+    counted_query(desk.number(&query, strategy), query)
 }
 
 /// Returns the query if its hits are within the limit of the desk. It counts them for `Every` alone: only there is a
@@ -104,11 +118,35 @@ fn within_limit<S: Alter>(
     ensures keeps_state { KeepsState S.Store desk.old desk.new }
     ensures commits_nothing { CommitsNothing S.Store desk.old.conn desk.new.conn }
     ensures limits { desk.new.limits ≡ desk.old.limits }
-    ensures unasked { strategy ≢ Strategy.Every → (desk.new ≡ desk.old) × IfErr result (λ _. ⊥) }
+    ensures unasked { strategy ≢ Strategy.Every → (desk.new ≡ desk.old) × (result ≡ OkOf query) }
 {
     match strategy {
         Strategy::Every => counted_within(desk, query, strategy),
         Strategy::Shortest | Strategy::Longest => Ok(query),
+    }
+}
+
+/// Returns a query that was read if its hits are within the limit of the desk. Else returns the reply for why there is
+/// none.
+fn limited<S: Alter>(
+    read: Result<Query, Reply>,
+    desk: &mut Desk<S>,
+    strategy: Strategy,
+) -> Result<Query, Reply>
+    ensures allowed { HasCleanDisk (state S.Store desk.new.conn) → IfOk result (λ q. (read ≡ OkOf q)
+        × ((s : Machine) → Represents S.Store desk.old s → IsAllowed desk.old.limits s q strategy)) }
+    ensures reported { IfOk read (λ q. GivesOnErr S.Store desk.old desk.new result (λ s r.
+        IsLimitReply (HasFailed S.Store desk.old desk.new) desk.old.limits s q strategy r)) }
+    ensures unread { IfErr read (λ r. (result ≡ ErrOf r) × (desk.new ≡ desk.old)) }
+    ensures stays { Does S.Store desk.old desk.new result (λ s. Represents S.Store desk.new s) }
+    ensures keeps_state { KeepsState S.Store desk.old desk.new }
+    ensures commits_nothing { CommitsNothing S.Store desk.old.conn desk.new.conn }
+    ensures limits { desk.new.limits ≡ desk.old.limits }
+    ensures unasked { strategy ≢ Strategy.Every → (desk.new ≡ desk.old) × (result ≡ read) }
+{
+    match read {
+        Ok(query) => within_limit(desk, query, strategy),
+        Err(reply) => Err(reply),
     }
 }
 
@@ -134,8 +172,5 @@ pub(crate) fn accepted<S: Alter>(
     ensures unasked { strategy ≢ Strategy.Every → (desk.new ≡ desk.old)
         × IfErr result (λ r. IsQueryReply text.now r) }
 {
-    match read_query(alloc, text) {
-        Ok(query) => within_limit(desk, query, strategy),
-        Err(reply) => Err(reply),
-    }
+    limited(read_query(alloc, text), desk, strategy)
 }

@@ -36,7 +36,7 @@ pub use finding::{Count, Search};
 pub use laws::{requests_in_memory_lead_on, requests_lead_on, the_check_counts_what_is_taken};
 pub use lines::{read_body, run_line, run_line_from, run_line_reported};
 pub use numbered::numbered_sentences;
-pub use output::{put_body, put_reply};
+pub use output::{put_body, put_reply, put_text};
 pub use questions::{Body, Question};
 pub use responding::respond_call;
 pub use responses::{put_response, respond_body, respond_reply};

@@ -5,7 +5,7 @@ ghost use Rattle.sqlite.specs.Held.{state};
 ghost use Rattle.sqlite.specs.State.{HasCleanDisk};
 ghost use Rattle.tb_core.specs.Machine.{Machine};
 ghost use Rattle.tb_answer.specs.Calls.{ReadsOnly};
-ghost use Rattle.tb_answer.specs.Commanded.{HasFailed};
+ghost use Rattle.tb_answer.specs.Commanded.{HasFailed, reply_for_fault};
 ghost use Rattle.tb_answer.specs.Numbered.{IsNumberedText, RefusesNumber, name_in};
 ghost use Rattle.tb_answer.specs.Viewed.{IsReportedAs};
 ghost use Rattle.tb_lists.specs.Batches.{batch_lines};
@@ -17,7 +17,7 @@ use crate::commands::reply_for_fault;
 use crate::views::view_sentences;
 use sqlite::Alter;
 use std::alloc::Global;
-use tb_core::Refusal;
+use tb_core::{Fault, Refusal};
 use tb_http::Reply;
 use tb_lists::BatchLine;
 use tb_store::Desk;
@@ -58,6 +58,29 @@ fn sentences_among<S: Alter>(
     }
 }
 
+/// The sentences of the batch with this number among all batches. Returns the reply for the fault where these were not
+/// read.
+fn sentences_in<S: Alter>(
+    read: Result<Vec<BatchLine>, Fault>,
+    alloc: Global,
+    desk: &mut Desk<S>,
+    no: u64,
+) -> Result<Vec<u8>, Reply>
+    ensures answered { IfOk read (λ all. Gives S.Store desk.old desk.new result (λ s v.
+        all.items ≡ batch_lines s → IsNumberedText s no v.items)) }
+    ensures reported { IfOk read (λ all. GivesOnErr S.Store desk.old desk.new result (λ s r.
+        all.items ≡ batch_lines s → IsReportedAs (HasFailed S.Store desk.old desk.new) (RefusesNumber s no) r)) }
+    ensures unread { IfErr read (λ e. (result ≡ Err (reply_for_fault e)) × (desk.new ≡ desk.old)) }
+    ensures commits_nothing { CommitsNothing S.Store desk.old.conn desk.new.conn }
+    ensures keeps_state { KeepsState S.Store desk.old desk.new }
+    ensures limits { desk.new.limits ≡ desk.old.limits }
+{
+    match read {
+        Ok(batches) => sentences_among(alloc, desk, batches.as_slice(), no),
+        Err(fault) => Err(reply_for_fault(fault)),
+    }
+}
+
 /// The sentences of the batch with this number, from 1, as `view` lists those of its name.
 ///
 /// # Errors
@@ -75,8 +98,5 @@ pub fn numbered_sentences<S: Alter>(
     ensures crash { ReadsOnly S.Store desk.old desk.new }
     ensures limits { desk.new.limits ≡ desk.old.limits }
 {
-    match desk.batches() {
-        Ok(batches) => sentences_among(alloc, desk, batches.as_slice(), no),
-        Err(fault) => Err(reply_for_fault(fault)),
-    }
+    sentences_in(desk.batches(), alloc, desk, no)
 }

@@ -7,7 +7,7 @@ use tb_conllu::Sink;
 use tb_http::Reply;
 
 /// Writes a text. Returns its status, or 3 where the sink refused a part of it.
-fn put_text<W: Sink>(out: &mut W, text: &[u8], status: u8) -> u8
+pub fn put_text<W: Sink>(out: &mut W, text: &[u8], status: u8) -> u8
     ensures { IsWritten (W.held out.old) (W.held out.new) text.now status (W.IsRefusal out.new) result }
 {
     match out.put(text) {

@@ -1,9 +1,14 @@
 //! Searches of released text, whose keyword lines are written as they are found.
 
-ghost use Rattle.std.specs.Prelude.{◌≡◌, []};
+ghost use Rattle.std.specs.Prelude.{◌≡◌, [], IfErr, IfOk};
 ghost use Rattle.tb_search.specs.Visited.{HasReason};
 ghost use Rattle.tb_answer.specs.Commanded.{HasFailed};
-ghost use Rattle.tb_answer.specs.Found.{search_by, search_head, IsSearchResponse, IsSearchRun, IsStreamed};
+ghost use Rattle.tb_http.specs.Replies.{exit_of, reply_text, status_of};
+ghost use Rattle.tb_answer.specs.declared.ending.Ending.{Ending as AnyEnding};
+ghost use Rattle.tb_answer.specs.Found.{exit_of_ending, reported_of_ending, search_by, search_head, IsSearchResponse};
+ghost use Rattle.tb_answer.specs.Found.{IsSearchRun, IsStreamed};
+ghost use Rattle.tb_answer.specs.Output.{IsWritten};
+ghost use Rattle.tb_answer.specs.Responses.{reply_response, IsSent};
 ghost use Rattle.tb_answer.specs.Calls.{ReadsOnly};
 ghost use Rattle.tb_store.specs.Calls.{InState, KeepsState};
 ghost use Rattle.tb_tables.specs.Leaving.{CommitsNothing};
@@ -11,12 +16,12 @@ ghost use Rattle.tb_tables.specs.Leaving.{CommitsNothing};
 use crate::ending::{Ending, ending_of, reported_of};
 use crate::finding::{Search, accepted};
 use crate::responses::{put_piece, respond_reply};
-use crate::written::Ran;
+use crate::written::{Ran, Written};
 use arrayvec::ArrayString;
 use sqlite::Alter;
 use std::alloc::Global;
 use tb_conllu::Sink;
-use tb_http::{Extra, Status, response_head};
+use tb_http::{Extra, Reply, Status, response_head};
 use tb_query::Query;
 use tb_store::Desk;
 
@@ -40,6 +45,29 @@ fn put_found<S: Alter, W: Sink>(
     }
 }
 
+/// Writes what a query finds that was accepted. Else writes the line of the reply for why there is none.
+fn run_found<S: Alter, W: Sink>(
+    accepted: Result<Query, Reply>,
+    desk: &mut Desk<S>,
+    search: Search<'_>,
+    out: &mut W,
+) -> Ran
+    ensures found { IfOk accepted (λ q. (e : AnyEnding) × (result.status ≡ exit_of_ending e)
+        × (result.written ≡ Written.Found e) × (e ≡ Ending.Refused → HasReason (W.IsRefusal out.new))
+        × InState S.Store desk.old desk.new (λ s. IsStreamed s q search.entry.strategy search.entry.context []
+        (W.held out.old) (W.held out.new) e)) }
+    ensures refused { IfErr accepted (λ r. (result.written ≡ Written.Reply r) × (desk.new ≡ desk.old)
+        × IsWritten (W.held out.old) (W.held out.new) (reply_text r) (exit_of r) (W.IsRefusal out.new) result.status) }
+    ensures keeps_state { KeepsState S.Store desk.old desk.new }
+    ensures commits_nothing { CommitsNothing S.Store desk.old.conn desk.new.conn }
+    ensures limits { desk.new.limits ≡ desk.old.limits }
+{
+    match accepted {
+        Ok(query) => Ran::by_search(put_found(desk, &query, search, out)),
+        Err(reply) => Ran::by_reply(out, reply),
+    }
+}
+
 /// Searches released text, and writes the keyword lines or the line of a reply.
 ///
 /// A search that ends with its last line has status 0. One that breaks off has 3, and nothing more is written.
@@ -56,10 +84,12 @@ pub fn run_search<S: Alter, W: Sink>(
     ensures crash { ReadsOnly S.Store desk.old desk.new }
     ensures limits { desk.new.limits ≡ desk.old.limits }
 {
-    match accepted(alloc, desk, search.query, search.strategy) {
-        Ok(query) => Ran::by_search(put_found(desk, &query, search, out)),
-        Err(reply) => Ran::by_reply(out, reply),
-    }
+    run_found(
+        accepted(alloc, desk, search.query, search.strategy),
+        desk,
+        search,
+        out,
+    )
 }
 
 /// The head of a search, whose length is unknown.
@@ -91,6 +121,29 @@ fn send_found<S: Alter, W: Sink>(
     put_found(desk, query, search, out)
 }
 
+/// Writes the response with what a query finds that was accepted. Else writes that of the reply for why there is none.
+fn respond_found<S: Alter, W: Sink>(
+    accepted: Result<Query, Reply>,
+    desk: &mut Desk<S>,
+    search: Search<'_>,
+    out: &mut W,
+) -> Option<Status>
+    ensures found { IfOk accepted (λ q. (e : AnyEnding) × (result ≡ reported_of_ending e)
+        × (e ≡ Ending.Refused → HasReason (W.IsRefusal out.new))
+        × InState S.Store desk.old desk.new (λ s. IsStreamed s q search.entry.strategy search.entry.context
+        search_head (W.held out.old) (W.held out.new) e)) }
+    ensures refused { IfErr accepted (λ r. (desk.new ≡ desk.old)
+        × IsSent (W.held out.old) (W.held out.new) (reply_response r) (status_of r) (W.IsRefusal out.new) result) }
+    ensures keeps_state { KeepsState S.Store desk.old desk.new }
+    ensures commits_nothing { CommitsNothing S.Store desk.old.conn desk.new.conn }
+    ensures limits { desk.new.limits ≡ desk.old.limits }
+{
+    match accepted {
+        Ok(query) => reported_of(send_found(desk, &query, search, out)),
+        Err(reply) => respond_reply(out, reply),
+    }
+}
+
 /// Searches released text, and writes the response. Returns its status, or none where the sink refused a piece.
 ///
 /// Once the query is accepted, a head without a length is written, and then each keyword line as it is found. A search
@@ -107,8 +160,10 @@ pub fn respond_search<S: Alter, W: Sink>(
     ensures crash { ReadsOnly S.Store desk.old desk.new }
     ensures limits { desk.new.limits ≡ desk.old.limits }
 {
-    match accepted(alloc, desk, search.query, search.strategy) {
-        Ok(query) => reported_of(send_found(desk, &query, search, out)),
-        Err(reply) => respond_reply(out, reply),
-    }
+    respond_found(
+        accepted(alloc, desk, search.query, search.strategy),
+        desk,
+        search,
+        out,
+    )
 }

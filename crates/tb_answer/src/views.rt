@@ -1,12 +1,12 @@
 //! The lists that `deskview` shows, as CSV, and the tree of a sentence.
 
-ghost use Rattle.std.specs.Prelude.{◌≡◌, Err, IfOk, IfErr, Some};
+ghost use Rattle.std.specs.Prelude.{◌≡◌, Err, IfOk, IfErr, Some, string_bytes};
 ghost use Rattle.tb_core.specs.declared.refusals.Fault.TheVariants.{Refused};
 ghost use Rattle.tb_core.specs.Machine.{Machine};
 ghost use Rattle.tb_cli.specs.View.{listed_by};
 ghost use Rattle.tb_lists.specs.Batches.{batch_lines};
 ghost use Rattle.tb_lists.specs.Csv.{batches_csv, found_csv, revisions_csv, sentences_csv};
-ghost use Rattle.tb_answer.specs.Asked.{IsReportedOf};
+ghost use Rattle.tb_answer.specs.Asked.{IsMadeOf, IsReportedOf};
 ghost use Rattle.tb_answer.specs.Commanded.{HasFailed, IsFailure};
 ghost use Rattle.tb_answer.specs.Exported.{IsReportedOfExport};
 ghost use Rattle.tb_answer.specs.Calls.{ReadsOnly};
@@ -18,20 +18,19 @@ ghost use Rattle.tb_store.specs.Calls.{Gives, GivesOnErr, KeepsState};
 ghost use Rattle.tb_store.specs.Represents.{Represents};
 ghost use Rattle.tb_tables.specs.Leaving.{CommitsNothing};
 
-use crate::bodies::sentence;
 use crate::commands::reply_for_fault;
 use crate::questions::Question;
 use sqlite::Alter;
 use std::alloc::Global;
 use tb_cli::ViewList;
-use tb_core::Refusal;
+use tb_core::{Fault, Refusal};
 use tb_http::Reply;
 use tb_lists::{
     BatchLine, FoundLine, RevisionLine, SentenceLine, csv_batches, csv_found, csv_revisions,
     csv_sentences,
 };
 use tb_report::trees_page;
-use tb_store::Desk;
+use tb_store::{Current, Desk};
 
 /// Batches as CSV.
 fn batches_text(alloc: Global, batches: &[BatchLine]) -> Result<Vec<u8>, Reply>
@@ -45,6 +44,16 @@ fn batches_text(alloc: Global, batches: &[BatchLine]) -> Result<Vec<u8>, Reply>
     }
 }
 
+/// The text of the batches that were read, or the reply for the fault of the read.
+fn batches_or_reply(alloc: Global, read: Result<Vec<BatchLine>, Fault>) -> Result<Vec<u8>, Reply>
+    ensures { IsMadeOf read result (λ batches v. v.items ≡ batches_csv batches.items) }
+{
+    match read {
+        Ok(batches) => batches_text(alloc, batches.as_slice()),
+        Err(fault) => Err(reply_for_fault(fault)),
+    }
+}
+
 /// The batches by number, each with its state, its worker and its counts. It is never refused.
 pub fn view_batches<S: Alter>(alloc: Global, desk: &mut Desk<S>) -> Result<Vec<u8>, Reply>
     ensures answered { Gives S.Store desk.old desk.new result (λ s v. v.items ≡ batches_csv (batch_lines s)) }
@@ -54,10 +63,7 @@ pub fn view_batches<S: Alter>(alloc: Global, desk: &mut Desk<S>) -> Result<Vec<u
     ensures crash { ReadsOnly S.Store desk.old desk.new }
     ensures limits { desk.new.limits ≡ desk.old.limits }
 {
-    match desk.batches() {
-        Ok(batches) => batches_text(alloc, batches.as_slice()),
-        Err(fault) => Err(reply_for_fault(fault)),
-    }
+    batches_or_reply(alloc, desk.batches())
 }
 
 /// Sentences as CSV.
@@ -69,6 +75,19 @@ fn sentences_text(alloc: Global, sentences: &[SentenceLine]) -> Result<Vec<u8>, 
     match csv_sentences(alloc, sentences, &mut text) {
         Ok(()) => Ok(text),
         Err(_) => Err(Reply::Memory),
+    }
+}
+
+/// The text of the sentences that were read, or the reply for the fault of the read.
+fn sentences_or_reply(
+    alloc: Global,
+    read: Result<Vec<SentenceLine>, Fault>,
+) -> Result<Vec<u8>, Reply>
+    ensures { IsMadeOf read result (λ sentences v. v.items ≡ sentences_csv sentences.items) }
+{
+    match read {
+        Ok(sentences) => sentences_text(alloc, sentences.as_slice()),
+        Err(fault) => Err(reply_for_fault(fault)),
     }
 }
 
@@ -90,10 +109,7 @@ pub(crate) fn view_sentences<S: Alter>(
     ensures crash { ReadsOnly S.Store desk.old desk.new }
     ensures limits { desk.new.limits ≡ desk.old.limits }
 {
-    match desk.sentences(name) {
-        Ok(sentences) => sentences_text(alloc, sentences.as_slice()),
-        Err(error) => Err(reply_for_fault(error)),
-    }
+    sentences_or_reply(alloc, desk.sentences(name))
 }
 
 /// Revisions as CSV.
@@ -105,6 +121,19 @@ fn revisions_text(alloc: Global, revisions: &[RevisionLine]) -> Result<Vec<u8>, 
     match csv_revisions(alloc, revisions, &mut text) {
         Ok(()) => Ok(text),
         Err(_) => Err(Reply::Memory),
+    }
+}
+
+/// The text of the revisions that were read, or the reply for the fault of the read.
+fn revisions_or_reply(
+    alloc: Global,
+    read: Result<Vec<RevisionLine>, Fault>,
+) -> Result<Vec<u8>, Reply>
+    ensures { IsMadeOf read result (λ revisions v. v.items ≡ revisions_csv revisions.items) }
+{
+    match read {
+        Ok(revisions) => revisions_text(alloc, revisions.as_slice()),
+        Err(fault) => Err(reply_for_fault(fault)),
     }
 }
 
@@ -123,10 +152,7 @@ fn revisions<S: Alter>(alloc: Global, desk: &mut Desk<S>, number: u64) -> Result
     ensures crash { ReadsOnly S.Store desk.old desk.new }
     ensures limits { desk.new.limits ≡ desk.old.limits }
 {
-    match desk.revisions(number) {
-        Ok(revisions) => revisions_text(alloc, revisions.as_slice()),
-        Err(why) => Err(reply_for_fault(why)),
-    }
+    revisions_or_reply(alloc, desk.revisions(number))
 }
 
 /// What was found as CSV.
@@ -138,6 +164,16 @@ fn found_text(alloc: Global, found: &FoundLine) -> Result<Vec<u8>, Reply>
     match csv_found(alloc, found, &mut text) {
         Ok(()) => Ok(text),
         Err(_) => Err(Reply::Memory),
+    }
+}
+
+/// The text of the sentence that was read, or the reply for the fault of the read.
+fn found_or_reply(alloc: Global, read: Result<FoundLine, Fault>) -> Result<Vec<u8>, Reply>
+    ensures { IsMadeOf read result (λ found v. v.items ≡ found_csv found) }
+{
+    match read {
+        Ok(found) => found_text(alloc, &found),
+        Err(fault) => Err(reply_for_fault(fault)),
     }
 }
 
@@ -158,10 +194,7 @@ pub fn view_found<S: Alter>(
     ensures crash { ReadsOnly S.Store desk.old desk.new }
     ensures limits { desk.new.limits ≡ desk.old.limits }
 {
-    match desk.find(sent_id) {
-        Ok(found) => found_text(alloc, &found),
-        Err(why) => Err(reply_for_fault(why)),
-    }
+    found_or_reply(alloc, desk.find(sent_id))
 }
 
 /// The page of a sentence's tree.
@@ -172,6 +205,16 @@ fn tree_text(alloc: Global, conllu: &str) -> Result<Vec<u8>, Reply>
     match trees_page(alloc, conllu.as_bytes()) {
         Ok(page) => Ok(page),
         Err(_) => Err(Reply::Memory),
+    }
+}
+
+/// The tree of the sentence that was read, or the reply for the fault of the read.
+fn tree_or_reply(alloc: Global, read: Result<Current, Fault>) -> Result<Vec<u8>, Reply>
+    ensures { IsMadeOf read result (λ current v. v.items ≡ trees_page (string_bytes current.body)) }
+{
+    match read {
+        Ok(current) => tree_text(alloc, current.body.as_str()),
+        Err(fault) => Err(reply_for_fault(fault)),
     }
 }
 
@@ -190,10 +233,7 @@ fn tree<S: Alter>(alloc: Global, desk: &mut Desk<S>, number: u64) -> Result<Vec<
     ensures crash { ReadsOnly S.Store desk.old desk.new }
     ensures limits { desk.new.limits ≡ desk.old.limits }
 {
-    match sentence(desk, number) {
-        Ok(current) => tree_text(alloc, current.body.as_str()),
-        Err(reply) => Err(reply),
-    }
+    tree_or_reply(alloc, desk.sentence(number))
 }
 
 /// What `deskview` prints of a desk: a list or a tree.

@@ -1,15 +1,17 @@
-use Rattle.std.proofs.Common.{Err, ap, inl, subst, sym}
-use Rattle.tb_answer.specs.Commanded.{IsFailure}
-use Rattle.tb_answer.proofs.Failing.{if_err, is_failure}
+use Rattle.std.proofs.Common.{◌≡◌, ◌∙◌, ap, inl, refl}
+use Rattle.tb_report.specs.Csv.{moves_csv}
+use Rattle.tb_answer.proofs.OrReply.{err_each, failure_told, made_err, made_ok, store_failure_told}
 use Rattle.tb_answer.proofs.bodies.moves.Goals as goal
 
-pub returns-in-Ok-clause-failed : goal.returns-in-Ok-clause-failed
-returns-in-Ok-clause-failed g c clean = if_err c.moves_text.result c.moves_text.ensures.failed (λ r is s stands. inl is)
+pub returns-clause-answered : goal.returns-clause-answered
+returns-clause-answered g c clean =
+    made_ok c.moves.result c.moves_or_reply.result c.moves_or_reply.ensures (c.moves.ensures.answered clean) (λ moves v are is s stands. is ∙ ap moves_csv (are s stands))
 
-pub returns-in-Ok-clause-unrefused : goal.returns-in-Ok-clause-unrefused
-returns-in-Ok-clause-unrefused g c = if_err c.moves_text.result c.moves_text.ensures.failed (λ r is. inl (inl is))
+pub returns-clause-failed : goal.returns-clause-failed
+returns-clause-failed g c clean = err_each _ _ c.moves_or_reply.result (λ s stands.
+    made_err _ _ c.moves.result c.moves_or_reply.result c.moves_or_reply.ensures
+    (failure_told c.moves.result c.moves.ensures.never_refuses (c.moves.ensures.fails clean s stands) (c.moves.ensures.cause clean s stands) c.moves.ensures.output) (λ moves is. inl refl))
 
-pub returns-in-Err-clause-failed : goal.returns-in-Err-clause-failed
-returns-in-Err-clause-failed g c clean s stands =
-    subst (IsFailure _) (sym c.reply_for_fault.ensures) (is_failure c.in-Err.fault (λ r is. c.in-Err.ensures.never_refuses r (ap Err is)) (λ is. c.in-Err.ensures.fails clean s stands (ap Err is))
-    (λ is good. c.in-Err.ensures.cause clean s stands good is) (λ is. c.in-Err.ensures.output (ap Err is)))
+pub returns-clause-unrefused : goal.returns-clause-unrefused
+returns-clause-unrefused g c =
+    made_err _ _ c.moves.result c.moves_or_reply.result c.moves_or_reply.ensures (store_failure_told c.moves.result c.moves.ensures.never_refuses) (λ moves is. inl (inl refl))

@@ -1,20 +1,17 @@
-use Rattle.std.proofs.Common.{◌∙◌, Err, ap, inl, subst, sym}
-use Rattle.tb_answer.specs.Commanded.{IsFailure}
-use Rattle.tb_answer.proofs.Failing.{if_err, if_ok, is_failure}
+use Rattle.std.proofs.Common.{◌∙◌, inl, refl}
 use Rattle.tb_answer.proofs.Texts.{totals_are}
+use Rattle.tb_answer.proofs.OrReply.{err_each, failure_told, made_err, made_ok, store_failure_told}
 use Rattle.tb_answer.proofs.bodies.totals.Goals as goal
 
-pub returns-in-Ok-clause-answered : goal.returns-in-Ok-clause-answered
-returns-in-Ok-clause-answered g c clean = if_ok c.totals_text.result c.totals_text.ensures.text (λ text same s stands.
-    same ∙ totals_are c.in-Ok.totals s (c.in-Ok.ensures.answered clean s stands))
+pub returns-clause-answered : goal.returns-clause-answered
+returns-clause-answered g c clean =
+    made_ok c.totals.result c.totals_or_reply.result c.totals_or_reply.ensures (c.totals.ensures.answered clean) (λ totals v are is s stands. is ∙ totals_are totals s (are s stands))
 
-pub returns-in-Ok-clause-failed : goal.returns-in-Ok-clause-failed
-returns-in-Ok-clause-failed g c clean = if_err c.totals_text.result c.totals_text.ensures.failed (λ r is s stands. inl is)
+pub returns-clause-failed : goal.returns-clause-failed
+returns-clause-failed g c clean = err_each _ _ c.totals_or_reply.result (λ s stands.
+    made_err _ _ c.totals.result c.totals_or_reply.result c.totals_or_reply.ensures
+    (failure_told c.totals.result c.totals.ensures.never_refuses (c.totals.ensures.fails clean s stands) (c.totals.ensures.cause clean s stands) c.totals.ensures.output) (λ totals is. inl refl))
 
-pub returns-in-Ok-clause-unrefused : goal.returns-in-Ok-clause-unrefused
-returns-in-Ok-clause-unrefused g c = if_err c.totals_text.result c.totals_text.ensures.failed (λ r is. inl (inl is))
-
-pub returns-in-Err-clause-failed : goal.returns-in-Err-clause-failed
-returns-in-Err-clause-failed g c clean s stands =
-    subst (IsFailure _) (sym c.reply_for_fault.ensures) (is_failure c.in-Err.fault (λ r is. c.in-Err.ensures.never_refuses r (ap Err is)) (λ is. c.in-Err.ensures.fails clean s stands (ap Err is))
-    (λ is good. c.in-Err.ensures.cause clean s stands good is) (λ is. c.in-Err.ensures.output (ap Err is)))
+pub returns-clause-unrefused : goal.returns-clause-unrefused
+returns-clause-unrefused g c =
+    made_err _ _ c.totals.result c.totals_or_reply.result c.totals_or_reply.ensures (store_failure_told c.totals.result c.totals.ensures.never_refuses) (λ totals is. inl (inl refl))

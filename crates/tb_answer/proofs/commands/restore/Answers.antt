@@ -1,17 +1,13 @@
-use Rattle.std.proofs.Common.{sym, refl, subst, inl}
-use Rattle.tb_core.specs.Commands.{restore, replied, restored_to}
+use Rattle.std.proofs.Common.{refl, subst, sym}
+use Rattle.tb_core.specs.Commands.{restore, restored_to}
+use Rattle.tb_http.specs.declared.replies.Reply.TheVariants as reply
 use Rattle.tb_answer.specs.Commanded.{IsAnswered}
-use Rattle.tb_answer.proofs.Failing.{answered_by_fault}
+use Rattle.tb_answer.proofs.Failing.{answered_by}
 use Rattle.tb_answer.proofs.commands.restore.Goals as goal
 
-pub returns-in-Ok-clause-answered : goal.returns-in-Ok-clause-answered
-returns-in-Ok-clause-answered g c clean s stands =
-    let made = c.in-Ok.ensures.ends clean s stands in
-    inl (replied (restored_to c.in-Ok.reply), made.0, made.1, made.2, refl)
-
-pub returns-in-Err-clause-answered : goal.returns-in-Err-clause-answered
-returns-in-Err-clause-answered g c clean s stands =
+pub returns-clause-answered : goal.returns-clause-answered
+returns-clause-answered g c clean s stands =
     let act = restore c.args.number c.args.user.now in
-    subst (IsAnswered g.S.Store c.args.desk.now.limits s act c.args.desk.now c.restore.new.self) (sym c.reply_for_fault.ensures)
-    (answered_by_fault g.S.Store c.args.desk.now c.restore.new.self act restored_to s c.in-Err.fault (c.in-Err.ensures.ends clean s stands)
-    (λ is room good. (c.in-Err.ensures.cause clean s stands good is).0))
+    subst (IsAnswered g.S.Store c.args.desk.now.limits s act c.args.desk.now c.restore.new.self) (sym c.reply_to_restore.ensures)
+    (answered_by g.S.Store c.args.desk.now c.restore.new.self act restored_to (λ r. reply.Restored r) s c.restore.result (λ r. refl) (c.restore.ensures.ends clean s stands)
+    (λ room good. c.restore.ensures.cause clean s stands good) (λ none. c.restore.ensures.missing s stands none))

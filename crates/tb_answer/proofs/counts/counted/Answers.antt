@@ -1,17 +1,14 @@
-use Rattle.std.proofs.Common.{Err, ap, inl, subst, sym}
-use Rattle.tb_answer.specs.Commanded.{IsFailure}
-use Rattle.tb_answer.proofs.Failing.{if_err, if_ok, is_failure}
+use Rattle.std.proofs.Common.{inl, refl}
+use Rattle.tb_answer.proofs.OrReply.{err_each, failure_told, made_err, made_ok}
 use Rattle.tb_answer.proofs.counts.counted.Goals as goal
 
-pub returns-in-Ok-clause-counted : goal.returns-in-Ok-clause-counted
-returns-in-Ok-clause-counted g c clean = if_ok c.table_text.result c.table_text.ensures.text (λ v reported s stands.
-    let it = c.in-Ok.ensures.answered clean s stands in
-    (it.0, it.1, c.in-Ok.table, reported.0, it.2, reported.1, reported.2, reported.3))
+pub returns-clause-counted : goal.returns-clause-counted
+returns-clause-counted g c clean =
+    made_ok c.count.result c.table_or_reply.result c.table_or_reply.ensures (c.count.ensures.answered clean) (λ table v are is s stands.
+    let it = are s stands in
+    (it.0, it.1, table, is.0, it.2, is.1, is.2, is.3))
 
-pub returns-in-Ok-clause-failed : goal.returns-in-Ok-clause-failed
-returns-in-Ok-clause-failed g c clean = if_err c.table_text.result c.table_text.ensures.failed (λ r is s stands. inl is)
-
-pub returns-in-Err-clause-failed : goal.returns-in-Err-clause-failed
-returns-in-Err-clause-failed g c clean s stands =
-    subst (IsFailure _) (sym c.reply_for_fault.ensures) (is_failure c.in-Err.fault (λ r is. c.in-Err.ensures.never_refuses r (ap Err is)) (λ is. c.in-Err.ensures.fails clean s stands (ap Err is))
-    (λ is good. c.in-Err.ensures.cause clean s stands good is) (λ is. c.in-Err.ensures.output (ap Err is)))
+pub returns-clause-failed : goal.returns-clause-failed
+returns-clause-failed g c clean = err_each _ _ c.table_or_reply.result (λ s stands.
+    made_err _ _ c.count.result c.table_or_reply.result c.table_or_reply.ensures
+    (failure_told c.count.result c.count.ensures.never_refuses (c.count.ensures.fails clean s stands) (c.count.ensures.cause clean s stands) c.count.ensures.output) (λ table is. inl refl))

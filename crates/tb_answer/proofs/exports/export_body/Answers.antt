@@ -1,8 +1,22 @@
-use Rattle.std.proofs.Common.{Err, ap}
-use Rattle.tb_answer.proofs.Exporting.{reported_of_export}
+use Rattle.std.proofs.Common.{◌++◌, ◌∙◌, Ok, ap, option_map}
+use Rattle.tb_core.specs.Machine.{Machine}
+use Rattle.tb_store.specs.Represents.{Represents}
+use Rattle.tb_answer.specs.Exported.{HasExport}
+use Rattle.tb_answer.proofs.Failing.{on_then}
+use Rattle.tb_answer.proofs.OrReply.{err_each, export_made, export_plain, export_told}
 use Rattle.tb_answer.proofs.exports.export_body.Goals as goal
 
-pub returns-in-Err-clause-reported : goal.returns-in-Err-clause-reported
-returns-in-Err-clause-reported g c clean s stands =
-    reported_of_export s _ c.in-Err.fault c.reply_for_export.result c.reply_for_export.ensures.refused c.reply_for_export.ensures.failed
-    (λ is good. c.in-Err.ensures.cause clean s stands good is) (λ r is. c.in-Err.ensures.refused clean r (ap Err is) s stands) (λ is. c.in-Err.ensures.fails clean s stands (ap Err is))
+pub returns-clause-answered : goal.returns-clause-answered
+returns-clause-answered g c clean =
+    export_made (λ items. (s : Machine) → Represents g.S.Store c.args.desk.now s → HasExport s (option_map (λ n. n.now) c.args.name) (Ok items)) c.export.result c.body_of_export.result _ c.body_of_export.ensures
+    (on_then _ _ c.export.result (c.export.ensures.put clean) (λ put s stands.
+    let it = put s stands in
+    (it.1.0, it.1.1, it.2 ∙ (ap (λ before. before ++ it.0) c.new-text.ensures.items ∙ it.1.2))))
+
+pub returns-clause-plain : goal.returns-clause-plain
+returns-clause-plain g c = export_plain c.export.result c.body_of_export.result _ c.body_of_export.ensures
+
+pub returns-clause-reported : goal.returns-clause-reported
+returns-clause-reported g c clean = err_each _ _ c.body_of_export.result (λ s stands.
+    export_told s (option_map (λ n. n.now) c.args.name) c.export.result c.body_of_export.result _ c.body_of_export.ensures
+    (λ r is. c.export.ensures.refused clean r is s stands) c.export.ensures.bad_name (c.export.ensures.fails clean s stands) (c.export.ensures.cause clean s stands))

@@ -1,19 +1,21 @@
-use Rattle.std.proofs.Common.{subst, sym, inl, inr}
-use Rattle.tb_answer.specs.Found.{IsAskedQuery}
-use Rattle.tb_answer.proofs.Failing.{if_ok, if_err}
+use Rattle.std.proofs.Common.{Err, IfErr, IfOk, inl, inr, subst, sym}
+use Rattle.tb_query.specs.Reading.{IsQuery}
+use Rattle.tb_answer.specs.Found.{IsQueryReply}
+use Rattle.tb_answer.proofs.Failing.{at_err, if_err, if_ok}
+use Rattle.tb_answer.proofs.Handed.{then_err}
+use Rattle.tb_answer.proofs.OrReply.{err_each}
 use Rattle.tb_answer.proofs.finding.accepted.Goals as goal
 
-pub returns-in-Ok-clause-accepted : goal.returns-in-Ok-clause-accepted
-returns-in-Ok-clause-accepted g c clean = if_ok c.within_limit.result (c.within_limit.ensures.allowed clean) (λ q reported s stands.
-    subst (IsAskedQuery c.args.desk.now.limits s c.args.text.now c.args.strategy) (sym reported.0) (c.in-Ok.ensures.query, reported.1 s stands))
+pub returns-clause-accepted : goal.returns-clause-accepted
+returns-clause-accepted g c clean = if_ok c.limited.result (c.limited.ensures.allowed clean) (λ q it s stands.
+    (subst (λ r. IfOk r (λ x. IsQuery c.args.text.now x)) it.0 c.read_query.ensures.query, it.1 s stands))
 
-pub returns-in-Ok-clause-reported : goal.returns-in-Ok-clause-reported
-returns-in-Ok-clause-reported g c clean = if_err c.within_limit.result (c.within_limit.ensures.reported clean) (λ r reported s stands. inr (c.in-Ok.query, c.in-Ok.ensures.query, reported s stands))
+pub returns-clause-reported : goal.returns-clause-reported
+returns-clause-reported g c clean = err_each _ _ c.limited.result (λ s stands.
+    then_err c.read_query.result c.limited.result (if_err c.read_query.result c.limited.ensures.unread (λ r it. it.0)) (if_err c.read_query.result c.read_query.ensures.reported (λ r it. inl it))
+    c.read_query.ensures.query (if_ok c.read_query.result c.limited.ensures.reported (λ q h. at_err _ _ c.limited.result (h clean) s stands)) (λ q r is it. inr (q, is, it)))
 
-pub returns-in-Err-clause-reported : goal.returns-in-Err-clause-reported
-returns-in-Err-clause-reported g c clean s stands = inl c.in-Err.ensures.reported
-
-pub returns-in-Ok-clause-unasked : goal.returns-in-Ok-clause-unasked
-returns-in-Ok-clause-unasked g c other =
-    let none = c.within_limit.ensures.unasked other in
-    (none.0, if_err c.within_limit.result none.1 (λ r no. absurd no))
+pub returns-clause-unasked : goal.returns-clause-unasked
+returns-clause-unasked g c other =
+    let none = c.limited.ensures.unasked other in
+    (none.0, subst (λ r. IfErr r (λ x. IsQueryReply c.args.text.now x)) (sym none.1) c.read_query.ensures.reported)

@@ -1,24 +1,29 @@
-use Rattle.std.proofs.Common.{inl, inr, arith}
+use Rattle.std.proofs.Common.{arith, subst, sym}
 use Rattle.sqlite.specs.Held.{state}
 use Rattle.sqlite.specs.State.{HasCleanDisk}
-use Rattle.tb_answer.proofs.SearchTexts.{read_here, read_then}
+use Rattle.tb_answer.specs.Commanded.{HasFailed}
+use Rattle.tb_answer.specs.Found.{IsReportedOfQuery, search_by}
+use Rattle.tb_answer.proofs.Failing.{at_err, both_err, both_ok, if_err, if_ok, on_ok}
+use Rattle.tb_answer.proofs.Handed.{keeps_then, reads_then}
+use Rattle.tb_answer.proofs.SearchTexts.{search_sent}
 use Rattle.tb_answer.proofs.searches.respond_search.Goals as goal
 
-pub returns-in-Ok-clause-written : goal.returns-in-Ok-clause-written
-returns-in-Ok-clause-written g c clean s stands =
-    let mid : HasCleanDisk (state g.S.Store c.accepted.new.desk.conn) = omega (arith, clean, c.send_found.ensures.commits_nothing.clean) in
-    inl (c.send_found.result, (c.in-Ok.query, c.in-Ok.ensures.accepted mid s stands, c.send_found.ensures.put clean s (c.in-Ok.ensures.stays mid s stands), c.send_found.ensures.reason), c.reported_of.ensures)
+pub returns-clause-written : goal.returns-clause-written
+returns-clause-written g c clean s stands =
+    let mid : HasCleanDisk (state g.S.Store c.accepted.new.desk.conn) = omega (arith, clean, c.respond_found.ensures.commits_nothing.clean) in
+    search_sent _ (HasFailed g.S.Store c.args.desk.now c.respond_found.new.desk) c.args.desk.now.limits s (search_by c.args.search) (g.W.Sink.held c.args.out.now) (g.W.Sink.held c.respond_found.new.out) (g.W.Sink.IsRefusal c.respond_found.new.out) c.accepted.result c.respond_found.result
+    (if_ok c.accepted.result (c.accepted.ensures.accepted mid) (λ q is. is s stands))
+    (both_err c.accepted.result (at_err _ _ c.accepted.result (c.accepted.ensures.reported mid) s stands) c.respond_found.ensures.refused (λ r why it.
+    subst (λ d. IsReportedOfQuery (HasFailed g.S.Store c.args.desk.now d) c.args.desk.now.limits s c.args.search.query.now c.args.search.strategy r) (sym it.0) why))
+    (both_ok c.accepted.result c.respond_found.ensures.found (on_ok _ c.accepted.result (c.accepted.ensures.stays mid)) (λ q it stays. (it.0, it.1, it.2, it.3 clean s (stays s stands))))
+    c.respond_found.ensures.refused
 
-pub returns-in-Ok-clause-keeps_state : goal.returns-in-Ok-clause-keeps_state
-returns-in-Ok-clause-keeps_state g c clean opened s stands =
-    let mid : HasCleanDisk (state g.S.Store c.accepted.new.desk.conn) = omega (arith, clean, c.send_found.ensures.commits_nothing.clean) in
-    c.send_found.ensures.keeps_state clean opened s (c.in-Ok.ensures.stays mid s stands)
+pub returns-clause-keeps_state : goal.returns-clause-keeps_state
+returns-clause-keeps_state g c =
+    keeps_then g.S.Store c.args.desk.now c.accepted.new.desk c.respond_found.new.desk c.accepted.result (if_err c.accepted.result c.respond_found.ensures.refused (λ r it. it.0))
+    c.accepted.ensures.stays c.accepted.ensures.keeps_state c.respond_found.ensures.keeps_state (λ clean. omega (arith, clean, c.respond_found.ensures.commits_nothing.clean))
 
-pub returns-in-Ok-clause-crash : goal.returns-in-Ok-clause-crash
-returns-in-Ok-clause-crash g c = read_then g.S.Store c.args.desk.now c.accepted.new.desk c.accepted.ensures.commits_nothing c.send_found.new.desk c.in-Ok.ensures.stays c.send_found.ensures.commits_nothing
-
-pub returns-in-Err-clause-written : goal.returns-in-Err-clause-written
-returns-in-Err-clause-written g c clean s stands = inr (c.in-Err.reply, c.in-Err.ensures.reported clean s stands, c.respond_reply.ensures)
-
-pub returns-in-Err-clause-crash : goal.returns-in-Err-clause-crash
-returns-in-Err-clause-crash g c = read_here g.S.Store c.args.desk.now c.accepted.new.desk c.accepted.ensures.commits_nothing
+pub returns-clause-crash : goal.returns-clause-crash
+returns-clause-crash g c =
+    reads_then g.S.Store c.args.desk.now c.accepted.new.desk c.respond_found.new.desk c.accepted.result (if_err c.accepted.result c.respond_found.ensures.refused (λ r it. it.0))
+    c.accepted.ensures.stays c.accepted.ensures.commits_nothing c.respond_found.ensures.commits_nothing

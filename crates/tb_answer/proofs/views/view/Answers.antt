@@ -8,10 +8,13 @@ use Rattle.tb_answer.specs.Commanded.{HasFailed}
 use Rattle.tb_answer.specs.Exported.{IsReportedOfExport}
 use Rattle.tb_answer.specs.Viewed.{IsFoundText, IsReportedAs, IsView, IsViewReported, ViewsNone}
 use Rattle.tb_answer.proofs.Failing.{if_err}
+use Rattle.tb_answer.proofs.OrReply.{found_viewed}
 use Rattle.tb_answer.proofs.views.view.Goals as goal
 
 pub returns-in-Batches-clause-reported : goal.returns-in-Batches-clause-reported
-returns-in-Batches-clause-reported g c clean = if_err c.view_batches.result (c.view_batches.ensures.failed clean) (λ r failed s stands. inr (failed s stands))
+returns-in-Batches-clause-reported g c clean =
+    subst (λ l. IfErr c.view_batches.result (λ r. (s : Machine) → Represents g.S.Store c.args.desk.now s → IsViewReported (HasFailed g.S.Store c.args.desk.now c.view_batches.new.desk) s (listed_by l) r)) (sym c.in-Batches.is)
+    (if_err c.view_batches.result (c.view_batches.ensures.failed clean) (λ r failed s stands. inr (failed s stands, λ none. none)))
 
 pub returns-in-Sentences-clause-reported : goal.returns-in-Sentences-clause-reported
 returns-in-Sentences-clause-reported g c clean =
@@ -37,7 +40,8 @@ pub returns-in-Find-clause-reported : goal.returns-in-Find-clause-reported
 returns-in-Find-clause-reported g c clean =
     let id : c.as_str-in-Find.result.now ≡ string_bytes c.in-Find.sent_id = search rules in
     subst (λ l. IfErr c.view_found.result (λ r. (s : Machine) → Represents g.S.Store c.args.desk.now s → IsViewReported (HasFailed g.S.Store c.args.desk.now c.view_found.new.desk) s (listed_by l) r)) (sym c.in-Find.is)
-    (subst (λ n. IfErr c.view_found.result (λ r. (s : Machine) → Represents g.S.Store c.args.desk.now s → IsReportedAs (HasFailed g.S.Store c.args.desk.now c.view_found.new.desk) (λ why. RefusesId s n (Refused why)) r)) id (c.view_found.ensures.reported clean))
+    (if_err c.view_found.result (subst (λ n. IfErr c.view_found.result (λ r. (s : Machine) → Represents g.S.Store c.args.desk.now s → IsReportedAs (HasFailed g.S.Store c.args.desk.now c.view_found.new.desk) (λ why. RefusesId s n (Refused why)) r)) id (c.view_found.ensures.reported clean))
+    (λ r all s stands. found_viewed s (string_bytes c.in-Find.sent_id) r (all s stands)))
 
 pub returns-in-Tree-clause-answered : goal.returns-in-Tree-clause-answered
 returns-in-Tree-clause-answered g c clean =

@@ -1,12 +1,13 @@
-use Rattle.std.proofs.Common.{Err, ap, inl, subst, sym}
-use Rattle.tb_answer.specs.Commanded.{IsFailure}
-use Rattle.tb_answer.proofs.Failing.{if_err, is_failure}
+use Rattle.std.proofs.Common.{◌∙◌, ap, inl, refl}
+use Rattle.tb_lists.specs.Csv.{batches_csv}
+use Rattle.tb_answer.proofs.OrReply.{err_each, failure_told, made_err, made_ok}
 use Rattle.tb_answer.proofs.views.view_batches.Goals as goal
 
-pub returns-in-Ok-clause-failed : goal.returns-in-Ok-clause-failed
-returns-in-Ok-clause-failed g c clean = if_err c.batches_text.result c.batches_text.ensures.failed (λ r is s stands. inl is)
+pub returns-clause-answered : goal.returns-clause-answered
+returns-clause-answered g c clean =
+    made_ok c.batches.result c.batches_or_reply.result c.batches_or_reply.ensures (c.batches.ensures.answered clean) (λ batches v are is s stands. is ∙ ap batches_csv (are s stands))
 
-pub returns-in-Err-clause-failed : goal.returns-in-Err-clause-failed
-returns-in-Err-clause-failed g c clean s stands =
-    subst (IsFailure _) (sym c.reply_for_fault.ensures) (is_failure c.in-Err.fault (λ r is. c.in-Err.ensures.never_refuses r (ap Err is)) (λ is. c.in-Err.ensures.fails clean s stands (ap Err is))
-    (λ is good. c.in-Err.ensures.cause clean s stands good is) (λ is. c.in-Err.ensures.output (ap Err is)))
+pub returns-clause-failed : goal.returns-clause-failed
+returns-clause-failed g c clean = err_each _ _ c.batches_or_reply.result (λ s stands.
+    made_err _ _ c.batches.result c.batches_or_reply.result c.batches_or_reply.ensures
+    (failure_told c.batches.result c.batches.ensures.never_refuses (c.batches.ensures.fails clean s stands) (c.batches.ensures.cause clean s stands) c.batches.ensures.output) (λ batches is. inl refl))

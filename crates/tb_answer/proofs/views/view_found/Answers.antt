@@ -1,17 +1,14 @@
-use Rattle.std.proofs.Common.{Err, ap, inl, inr, subst, sym}
-use Rattle.tb_core.specs.declared.refusals.Fault.TheVariants.{Refused}
-use Rattle.tb_store.specs.Answers.{RefusesId}
-use Rattle.tb_answer.specs.Viewed.{IsReportedAs}
-use Rattle.tb_answer.proofs.Failing.{if_err}
-use Rattle.tb_answer.proofs.Sought.{reported_of_id}
+use Rattle.std.proofs.Common.{inl, inr, refl}
+use Rattle.tb_answer.proofs.Failing.{at_err}
+use Rattle.tb_answer.proofs.OrReply.{err_each, id_told, made_err, made_ok}
 use Rattle.tb_answer.proofs.views.view_found.Goals as goal
 
-pub returns-in-Ok-clause-reported : goal.returns-in-Ok-clause-reported
-returns-in-Ok-clause-reported g c clean = if_err c.found_text.result c.found_text.ensures.failed (λ r is s stands. inr (inl is))
+pub returns-clause-answered : goal.returns-clause-answered
+returns-clause-answered g c clean =
+    made_ok c.find.result c.found_or_reply.result c.found_or_reply.ensures (c.find.ensures.answered clean) (λ found v are is s stands. (found, are s stands, is))
 
-pub returns-in-Err-clause-reported : goal.returns-in-Err-clause-reported
-returns-in-Err-clause-reported g c clean s stands =
-    let why = c.in-Err.why in
-    subst (IsReportedAs _ (λ r. RefusesId s c.args.sent_id.now (Refused r))) (sym c.reply_for_fault.ensures)
-    (reported_of_id s c.args.sent_id.now why (c.in-Err.ensures.refused clean s stands) (λ is. c.in-Err.ensures.fails clean s stands (ap Err is))
-    (λ is good. c.in-Err.ensures.cause clean s stands good is) (λ is. c.in-Err.ensures.output (ap Err is)))
+pub returns-clause-reported : goal.returns-clause-reported
+returns-clause-reported g c clean = err_each _ _ c.found_or_reply.result (λ s stands.
+    made_err _ _ c.find.result c.found_or_reply.result c.found_or_reply.ensures
+    (id_told s c.args.sent_id.now c.find.result (at_err _ _ c.find.result (c.find.ensures.refused clean) s stands) (c.find.ensures.fails clean s stands) (c.find.ensures.cause clean s stands) c.find.ensures.output)
+    (λ found is. inr (inl refl)))

@@ -1,19 +1,15 @@
-use Rattle.std.proofs.Common.{Err, Some, ap, inl, inr, subst, sym}
-use Rattle.tb_store.specs.Exports.{RefusesBatch}
-use Rattle.tb_answer.specs.Commanded.{reply_for_fault}
-use Rattle.tb_answer.specs.Exported.{IsReportedOfExport}
-use Rattle.tb_answer.proofs.Exporting.{reported_of_export}
-use Rattle.tb_answer.proofs.Failing.{if_err, is_failure}
+use Rattle.std.proofs.Common.{inl, inr, refl}
+use Rattle.tb_answer.proofs.Failing.{at_err}
+use Rattle.tb_answer.proofs.OrReply.{batch_there, batch_told, err_each, made_err, made_ok}
 use Rattle.tb_answer.proofs.views.view_sentences.Goals as goal
 
-pub returns-in-Ok-clause-reported : goal.returns-in-Ok-clause-reported
-returns-in-Ok-clause-reported g c clean = if_err c.sentences_text.result c.sentences_text.ensures.failed (λ r is s stands. inr (inl is))
+pub returns-clause-answered : goal.returns-clause-answered
+returns-clause-answered g c clean =
+    made_ok c.sentences.result c.sentences_or_reply.result c.sentences_or_reply.ensures (c.sentences.ensures.answered clean) (λ sentences v are is s stands. (sentences.items, are s stands, is))
 
-pub returns-in-Err-clause-reported : goal.returns-in-Err-clause-reported
-returns-in-Err-clause-reported g c clean s stands =
-    let why = c.in-Err.error in
-    subst (IsReportedOfExport _ s (Some c.args.name.now)) (sym c.reply_for_fault.ensures)
-    (reported_of_export s (Some c.args.name.now) why (reply_for_fault why) (λ r is. ap reply_for_fault is)
-    (λ none knows. is_failure why none knows (λ is. is) (λ is. c.in-Err.ensures.output (ap Err is)))
-    (λ is good. c.in-Err.ensures.cause clean s stands good is) (λ r is. subst (RefusesBatch s c.args.name.now) is (c.in-Err.ensures.refused clean s stands))
-    (λ is. c.in-Err.ensures.fails clean s stands (ap Err is)))
+pub returns-clause-reported : goal.returns-clause-reported
+returns-clause-reported g c clean = err_each _ _ c.sentences_or_reply.result (λ s stands.
+    let bad = c.sentences.ensures.bad_name in
+    made_err _ _ c.sentences.result c.sentences_or_reply.result c.sentences_or_reply.ensures
+    (batch_told s c.args.name.now c.sentences.result (at_err _ _ c.sentences.result (c.sentences.ensures.refused clean) s stands) bad (c.sentences.ensures.fails clean s stands) (c.sentences.ensures.cause clean s stands) c.sentences.ensures.output)
+    (λ sentences is. inr (inl refl, batch_there c.args.name.now c.sentences.result sentences is bad)))

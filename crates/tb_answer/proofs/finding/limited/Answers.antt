@@ -1,0 +1,8 @@
+use Rattle.std.proofs.Common.{◌∙◌, Ok, ap, subst, sym}
+use Rattle.tb_answer.specs.Found.{IsAllowed}
+use Rattle.tb_answer.proofs.Failing.{if_ok}
+use Rattle.tb_answer.proofs.finding.limited.Goals as goal
+
+pub returns-in-Ok-clause-allowed : goal.returns-in-Ok-clause-allowed
+returns-in-Ok-clause-allowed g c clean = if_ok c.within_limit.result (c.within_limit.ensures.allowed clean) (λ q it.
+    (c.in-Ok.is ∙ ap (λ x. Ok x) (sym it.0), λ s stands. subst (λ x. IsAllowed c.args.desk.now.limits s x c.args.strategy) (sym it.0) (it.1 s stands)))
