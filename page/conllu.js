@@ -3,7 +3,7 @@
 // What is read here may be half written, so nothing is refused: the desk alone judges it.
 
 import { RELATIONS, TAGS, decoder } from './desk.js';
-import { COLUMN_COUNT, DEPREL, DEPS, FORM, HEAD, ID, UPOS, WORD, isRow, rowsOf } from './rows.js';
+import { COLUMN_COUNT, DEPREL, DEPS, FORM, HEAD, ID, UPOS, WORD, isRow } from './rows.js';
 
 // ---- changes of a text
 
@@ -70,9 +70,9 @@ function circles(words) {
   return found;
 }
 
-/** What is amiss, in words, while a sentence is typed. The desk judges it when it is saved, and only that counts. */
-export function hints(text) {
-  const rows = rowsOf(text), words = rows.filter(row => row.kind === 'word'), ids = new Set(words.map(word => word.id));
+/** What is amiss in rows, in words, while a sentence is typed. The desk judges it when it is saved, and only that counts. */
+export function hints(rows) {
+  const words = rows.filter(row => row.kind === 'word'), ids = new Set(words.map(word => word.id));
   const roots = words.filter(word => word.fields[HEAD] === '0');
   const at = (row, what) => `line ${row.at + 1}: ${what}`;
   return [

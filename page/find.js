@@ -30,18 +30,22 @@ function saving(text, name, label) {
 }
 
 // A line of a search without its texts. To copy it is twice as fast as to make one, and there may be ten thousand.
-const LINE = el('div', { class: 'line', role: 'listitem' },
-  button({ class: 'id', tabindex: -1 }, own('')),
-  el('span', { class: 'left' }, el('span', {}, own(''))),
-  el('span', { class: 'right' }, el('mark', {}, own('')), ' ', own('')));
+// page.css gives each text its own direction. A `bdi` would look for it in every line, and not only in those that are seen.
+const LINE = el('div', { class: 'line', role: 'listitem', dir: 'ltr' },
+  button({ class: 'id', tabindex: -1 }, ''),
+  el('span', { class: 'left' }, el('span', {}, '')),
+  el('span', { class: 'right' }, el('mark', {}, ''), ' ', el('span', {}, '')));
 
 /** A line of a search. It is mirrored as a whole where its text runs from right to left. */
 function keyword([sentId, first, last, left, match, right]) {
-  const line = LINE.cloneNode(true), places = line.getElementsByTagName('bdi');
-  [sentId, left, match, right].forEach((text, i) => { places[i].textContent = text; });
-  line.dir = runsLeft(left + match + right) ? 'rtl' : 'ltr';
-  Object.assign(line.dataset, { id: sentId, words: `${first}-${last}` });
-  line.firstChild.title = `${sentId}, words ${first} to ${last}`;
+  const line = LINE.cloneNode(true), id = line.firstChild, rest = line.lastChild;
+  id.firstChild.data = sentId;
+  id.title = `${sentId}, words ${first} to ${last}`;
+  id.nextSibling.firstChild.firstChild.data = left;
+  rest.firstChild.firstChild.data = match;
+  rest.lastChild.firstChild.data = right;
+  line.setAttribute('data-words', `${first}-${last}`);
+  if (runsLeft(left + match + right)) line.dir = 'rtl';
   return line;
 }
 
@@ -177,7 +181,7 @@ export class Finder {
     });
     if (!asked) return;
     if (!asked.isStopped && !asked.answer.ok && !asked.answer.broken) return this.#refuse(asked);
-    this.#found.replaceChildren(head, list);
+    if (!lines.count) this.#found.replaceChildren(head, list);
     if (!lines.isWhole) return this.#showCut(head, lines, asked.isStopped);
     head.textContent = `hits ${lines.hits}`;
     head.after(this.#citation(lines.hits, asked), ...this.#remarks(lines, asked.answer.text));
@@ -252,6 +256,6 @@ export class Finder {
   /** Opens the sentence of a line, but not where a text is marked, to be copied. */
   #show(event) {
     const line = event.target.closest('.line'), isMarking = !event.target.closest('.id') && getSelection().toString();
-    if (line && !isMarking) this.#open(line.dataset.id, line.dataset.words);
+    if (line && !isMarking) this.#open(line.querySelector('.id').textContent, line.dataset.words);
   }
 }

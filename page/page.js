@@ -308,7 +308,7 @@ class Sentence {
       this.#tree, this.#tools(), this.#status, this.#hints, this.#stale, this.#history);
     if (this.#isLong) requestAnimationFrame(() => setTimeout(() => this.#addEditor()));
     else this.#addEditor();
-    this.#tree.querySelector('.hit')?.scrollIntoView({ block: 'nearest', inline: 'center' });
+    this.#tree.querySelector('.hit .form')?.scrollIntoView({ block: 'nearest', inline: 'center' });
     if (this.base !== this.revision) this.#showStale();
     main.onkeydown = event => this.#press(event);
   }
@@ -350,7 +350,7 @@ class Sentence {
       isEnhanced: this.#isEnhanced, hit: this.hit, onPick: line => this.editor.pick(line), onHead: (line, id) => this.#setHead(line, id),
     }));
     if (scroll !== undefined) this.#tree.firstChild.scrollLeft = scroll;
-    const all = hints(this.editor.text), more = all.length > HINTS ? [`and ${all.length - HINTS} more`] : [];
+    const all = hints(rows), more = all.length > HINTS ? [`and ${all.length - HINTS} more`] : [];
     this.#hints.replaceChildren(...[...all.slice(0, HINTS), ...more].map(hint => el('li', {}, hint)));
   }
 
@@ -463,12 +463,12 @@ class Sentence {
 let shown = null;
 
 async function sentence(no, hit = null) {
-  const mine = ++turn, answer = await ask('GET', `/sentences/${no}`);
+  const mine = ++turn, asked = ask('GET', `/sentences/${no}`);
+  const line = asked.then(({ ok, text }) => (ok ? table(`/page/sent-id/${encodeURIComponent(comment(text, 'sent_id'))}`) : null));
+  const [answer, found, list] = await Promise.all([asked, line, batches()]);
   if (mine !== turn) return;
   shownMove = null;
   if (!answer.ok) return put('Sentence', heading(`Sentence ${no}`), failure(answer));
-  const list = await batches(), found = await table(`/page/sent-id/${encodeURIComponent(comment(answer.text, 'sent_id'))}`);
-  if (mine !== turn) return;
   const home = list.rows.find(row => Number(no) >= Number(row.first) && Number(no) <= lastOf(row));
   shown = new Sentence(no, answer, home, found.rows[0]?.pulled === 'yes', hit);
   shown.show();

@@ -199,7 +199,7 @@ def searches(cem, desk, folder):
     cem.type("#query", '[upos="NOUN"] [upos="AUX"]+')
     cem.click("#search")
     cem.see("#hits", "hits 1")
-    same("a keyword line", ["en-1", "Small", "dogs do", "n't bark"], cem.texts(".line bdi"))
+    same("a keyword line", ["en-1", "Small", "dogs do", "n't bark"], cem.texts(".line :is(.id, .left span, mark, .right > span)"))
     last = desk.moves().splitlines()[-1].split(",")[0]
     same("the citation", f'1 hit ([upos="NOUN"] [upos="AUX"]+, longest, after move {last})', cem.text("#cite"))
     cem.click(".line .id")

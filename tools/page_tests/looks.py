@@ -127,6 +127,32 @@ def long_sentence(words):
     return "\n".join([f"# sent_id = long{words}", "# text = " + " ".join(row.split("\t")[1] for row in rows), *rows, "", ""]).encode()
 
 
+# Whether the first of some elements is laid out, and the last of them is not: it is only there.
+NEAR_ALONE = """
+const found = [...document.querySelectorAll(arguments[0])], isLaidOut = node => node.checkVisibility({ contentVisibilityAuto: true });
+return isLaidOut(found.at(0)) && !isLaidOut(found.at(-1))"""
+
+
+def far_words(browser, desk):
+    """Of a long sentence only what is near the window is laid out. Words far off are marked, clicked and edited all the same."""
+    browser.run("document.querySelector('.tree').scrollIntoView()")
+    browser.until(NEAR_ALONE, ".word .form")
+    browser.until(NEAR_ALONE, ".grid tbody td")
+    browser.go(f"{desk.url}/#/sentence/1/900-901")
+    browser.until("const box = document.querySelector('.word.hit .form')?.getBoundingClientRect(); return box && box.left > 0 && box.right < innerWidth")
+    same("marked words", ["word27", "word28"], browser.texts(".word.hit .form"))
+    browser.click(".word.hit .form", "word28")
+    same("the row of the word that was clicked", ["901", "word28"], browser.run("return [...document.activeElement.parentNode.cells].slice(0, 2).map(cell => cell.textContent)"))
+    browser.keys("enter")
+    browser.until("return document.activeElement.matches('.grid input')")
+    browser.keys(*"other", "enter")
+    browser.see(".word[data-at='900'] .form", "other")
+    same("the next row, and the text", ["902", "901\tother"], browser.run(
+        "const next = document.activeElement; document.querySelector('[value=text]').click(); const text = document.querySelector('.conllu').value;"
+        "return [next.parentNode.cells[0].textContent, text.split('\\n')[902].split('\\t', 2).join('\\t')]"))
+    browser.click("#undo")
+
+
 def sizes_and_stops(driver):
     """A tree of 1,000 words and 10,000 keyword lines are shown soon. A search can be stopped, and is no number then."""
     desk, browser = Desk(), driver.browser()
@@ -140,6 +166,7 @@ def sizes_and_stops(driver):
     browser.see(".word[data-at='999'] .form", "word")
     tree = time.monotonic() - begun
     same("words of the tree", 1000, len(browser.all(".tree-picture .word")))
+    far_words(browser, desk)
     browser.go(desk.url + "/#/search")
     begun = time.monotonic()
     browser.type("#query", '[upos="NOUN"]')
@@ -156,6 +183,19 @@ def sizes_and_stops(driver):
     browser.see("#hits", "Stopped after")
     same("a number to cite", None, browser.text("#cite"))
     is_quiet(browser)
+    desk.close()
+
+
+def far_words_are_read(driver):
+    """A screen reader has all words and all cells of a long sentence, those too that are not laid out."""
+    desk, browser = Desk(), driver.browser("--force-renderer-accessibility")
+    desk.put("long", long_sentence(300))
+    at_sentence(browser, desk, 1, "word1")
+    browser.see(".grid tbody:last-child td", "300")
+    nodes = browser.devtools("Accessibility.getFullAXTree")["nodes"]
+    read = [(node["role"]["value"], node["name"]["value"]) for node in nodes if not node["ignored"] and "name" in node]
+    same("words", [f"{n} word{n % 97}, NOUN" for n in range(1, 301)], [name.rsplit(",", 1)[0] for role, name in read if role == "listitem" and " word" in name])
+    same("cells", 3000, sum(role == "gridcell" for role, _ in read))
     desk.close()
 
 
@@ -187,4 +227,4 @@ def handouts(driver):
     Desk.open.remove(desk)
 
 
-PARTS = [narrow_and_dark, for_screen_readers, sizes_and_stops, handouts]
+PARTS = [narrow_and_dark, for_screen_readers, far_words_are_read, sizes_and_stops, handouts]

@@ -10,9 +10,48 @@ pub const EDIT_JS: &str = r##"// The editor of a sentence: as a table, and as te
 import { COLUMNS, button, el, heads } from './desk.js';
 import { diff, withField, withWord, withoutRow } from './conllu.js';
 import { rowsOf } from './rows.js';
+import { measuring } from './tree.js';
 
 const LISTS = { UPOS: 'tags', DEPREL: 'relations' };
 const PAGE = 15;
+// Rows of a block, which is laid out only where it is seen.
+const BLOCK = 50;
+// What a cell has beside its text, and the bounds of its width. All in pixels.
+const PADDING = 15, NARROWEST = 42, WIDEST = 576;
+// Widths in the font of the table (page.css).
+const widthOf = measuring('13px ui-monospace, "DejaVu Sans Mono", "Noto Sans Mono", monospace');
+const ASCII = /^[ -~]*$/;
+
+// A row without its texts. To copy it is faster than to make one, and there may be a thousand.
+const ROW = el('tr', { role: 'row' }, COLUMNS.map(() => el('td', { role: 'gridcell', tabindex: -1, dir: 'auto' })));
+
+/** A row of the table. */
+function tableRow({ kind, at, fields }) {
+  const tr = ROW.cloneNode(true);
+  tr.className = kind;
+  tr.dataset.line = at;
+  COLUMNS.forEach((_, i) => { tr.children[i].textContent = fields[i] ?? ''; });
+  return tr;
+}
+
+/** The rows in blocks. */
+function blocks(rows) {
+  const found = [];
+  for (let from = 0; from < rows.length; from += BLOCK) {
+    found.push(el('tbody', { role: 'rowgroup' }, rows.slice(from, from + BLOCK).map(tableRow)));
+  }
+  return found;
+}
+
+/** How wide a column is: as its widest text, within bounds. ASCII letters are all of one width, so one such text is measured. */
+function columnWidth(rows, i) {
+  let longest = COLUMNS[i], widest = 0;
+  for (const { fields: { [i]: text = '' } } of rows) {
+    if (!ASCII.test(text)) widest = Math.max(widest, widthOf(text));
+    else if (text.length > longest.length) longest = text;
+  }
+  return between(NARROWEST, Math.ceil(Math.max(widest, widthOf(longest))) + PADDING, WIDEST);
+}
 
 /** Where a key leads from a cell, or undefined. */
 function step(key, row, column) {
@@ -29,6 +68,9 @@ function step(key, row, column) {
   }
 }
 
+/** The place of a row, from 0. The first row of the table is its head. */
+const placeOf = tr => tr.rowIndex - 1;
+
 const isOneCharacter = key => [...key].length === 1 && key !== ' ';
 const between = (least, value, most) => Math.max(least, Math.min(value, most));
 
@@ -37,9 +79,9 @@ export class Editor {
   #onChange;
   #text;
   #at = [0, 1];                         // row and column of the one cell that is in the order of the Tab key
-  #body = el('tbody');
+  #head = heads(COLUMNS);
   #grid = el('table', { class: 'grid', role: 'grid', 'aria-label': 'The sentence as a table. Arrows move, Enter or a letter edits, Escape gives up' },
-    heads(COLUMNS), this.#body);
+    this.#head);
   #area = el('textarea', { class: 'conllu', wrap: 'off', dir: 'ltr', spellcheck: 'false', rows: 12, 'aria-label': 'The sentence as CoNLL-U' });
   #note = el('p', { class: 'quiet' });
   #tools = el('span', { class: 'tools' },
@@ -59,7 +101,7 @@ export class Editor {
     this.#grid.addEventListener('keydown', event => { if (event.target.matches('td')) this.#press(event); });
   }
 
-  /** Fills the editor. A thousand rows take a fifth of a second, so this is left for when the tree is there. */
+  /** Fills the editor. */
   show() {
     this.#showAs('table');
   }
@@ -77,14 +119,19 @@ export class Editor {
 
   /** Goes to the row of a line of the text. */
   pick(line) {
-    const row = [...this.#body.rows].findIndex(tr => Number(tr.dataset.line) === line);
-    if (row < 0 || this.#grid.hidden) return;
-    this.#go(row, this.#at[1]);
+    const tr = this.#grid.querySelector(`tr[data-line="${line}"]`);
+    if (!tr || this.#grid.hidden) return;
+    this.#go(placeOf(tr), this.#at[1]);
     this.#cell.scrollIntoView({ block: 'nearest' });
   }
 
+  /** The row at a place, as `placeOf` counts. */
+  #row(place) {
+    return this.#grid.rows[place + 1];
+  }
+
   get #cell() {
-    return this.#body.rows[this.#at[0]]?.cells[this.#at[1]];
+    return this.#row(this.#at[0])?.cells[this.#at[1]];
   }
 
   #change(text) {
@@ -101,22 +148,29 @@ export class Editor {
 
   #fill() {
     const rows = rowsOf(this.#text), comments = this.#text.split('\n').filter(line => line.startsWith('#')).length;
-    this.#body.replaceChildren(...rows.map(row => el('tr', { class: row.kind, 'data-line': row.at },
-      COLUMNS.map((_, i) => el('td', { role: 'gridcell', tabindex: -1, dir: 'auto' }, row.fields[i] ?? '')))));
+    this.#grid.replaceChildren(this.#head, ...blocks(rows));
+    this.#fit(rows);
     this.#at[0] = between(0, this.#at[0], Math.max(0, rows.length - 1));
     this.#cell?.setAttribute('tabindex', 0);
     this.#note.textContent = `${rows.length} rows; ${comments} comment lines are in the text alone. sent_id and text may not change.`;
   }
 
+  /** Gives the columns their widths. The blocks are laid out one by one, and have to agree. */
+  #fit(rows) {
+    const widths = COLUMNS.map((_, i) => columnWidth(rows, i));
+    this.#grid.style.width = `${widths.reduce((all, width) => all + width, 0)}px`;
+    this.#grid.style.setProperty('--columns', widths.map(width => `minmax(0, ${width}fr)`).join(' '));
+  }
+
   #enter(td) {
     this.#cell?.setAttribute('tabindex', -1);
-    this.#at = [td.parentNode.sectionRowIndex, td.cellIndex];
+    this.#at = [placeOf(td.parentNode), td.cellIndex];
     td.setAttribute('tabindex', 0);
   }
 
   #go(row, column) {
     this.#cell?.setAttribute('tabindex', -1);
-    this.#at = [between(0, row, this.#body.rows.length - 1), between(0, column, COLUMNS.length - 1)];
+    this.#at = [between(0, row, this.#grid.rows.length - 2), between(0, column, COLUMNS.length - 1)];
     this.#cell?.setAttribute('tabindex', 0);
     this.#cell?.focus();
   }
@@ -137,12 +191,13 @@ export class Editor {
     const line = Number(td.parentNode.dataset.line);
     const text = withField(this.#text, line, td.cellIndex, value);
     td.textContent = text.split('\n')[line].split('\t')[td.cellIndex];
+    this.#fit(rowsOf(text));
     this.#change(text);
   }
 
   /** Opens a cell. `typed` is the letter with which the user began; without it the old value is there, and is marked. */
   #edit(td, typed) {
-    const [row, column] = [td.parentNode.sectionRowIndex, td.cellIndex], before = td.textContent;
+    const [row, column] = [placeOf(td.parentNode), td.cellIndex], before = td.textContent;
     const input = el('input', {
       value: typed ?? before, list: LISTS[COLUMNS[column]], dir: 'auto', spellcheck: 'false', 'aria-label': `${COLUMNS[column]} of row ${row + 1}`,
     });
@@ -169,12 +224,12 @@ export class Editor {
   }
 
   #addWord() {
-    const tr = this.#body.rows[this.#at[0]];
+    const tr = this.#row(this.#at[0]);
     if (tr?.classList.contains('word')) this.#reword(withWord(this.#text, Number(tr.dataset.line)), 1);
   }
 
   #removeRow() {
-    const tr = this.#body.rows[this.#at[0]];
+    const tr = this.#row(this.#at[0]);
     if (tr) this.#reword(withoutRow(this.#text, Number(tr.dataset.line)), 0);
   }
 

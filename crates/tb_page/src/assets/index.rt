@@ -12,6 +12,12 @@ pub const INDEX_HTML: &str = r##"<!doctype html>
 <title>treedesk</title>
 <link rel="icon" href="data:,">
 <link rel="stylesheet" href="/page/page.css">
+<link rel="modulepreload" href="/page/desk.js">
+<link rel="modulepreload" href="/page/rows.js">
+<link rel="modulepreload" href="/page/conllu.js">
+<link rel="modulepreload" href="/page/tree.js">
+<link rel="modulepreload" href="/page/edit.js">
+<link rel="modulepreload" href="/page/find.js">
 <script type="module" src="/page/page.js"></script>
 </head>
 <body>

@@ -102,7 +102,8 @@ tr.pulled td:last-child { text-decoration: none; color: var(--warn); }
 .block { content-visibility: auto; contain-intrinsic-height: auto 2600px; }
 .line { display: grid; grid-template-columns: 8rem calc(50% - 8rem) 50%; height: 26px; line-height: 26px; white-space: pre; }
 .line:hover, .line:focus-within { background: var(--done-paper); cursor: pointer; }
-.line .id { border: 0; background: none; color: var(--link); padding: 0 .6rem; text-align: start; overflow: hidden; text-overflow: ellipsis; font-size: .85rem; }
+.line :is(.id, .left span, mark, .right span) { unicode-bidi: plaintext; }
+.line .id { border: 0; background: none; color: var(--link); padding: 0 .6rem; text-align: match-parent; overflow: hidden; text-overflow: ellipsis; font-size: .85rem; }
 .line .left { display: flex; justify-content: flex-end; overflow: hidden; padding-inline-end: .5em; }
 .line .left span { flex: none; }
 .line .right { overflow: hidden; text-overflow: ellipsis; }
@@ -110,7 +111,10 @@ mark { background: var(--mark); color: inherit; border-radius: 2px; padding: 0 .
 
 .text { font-size: 1.15rem; margin: .2rem 0 .6rem; }
 .tree { overflow-x: auto; background: var(--sheet); border: 1px solid var(--rule); border-radius: 6px; }
-.tree-picture { display: block; margin-inline: auto; }
+.tree-picture { position: relative; margin-inline: auto; }
+.tree-picture svg { position: absolute; top: 0; height: 100%; }
+/* Marked words are laid out at once, since the window goes to them. */
+.tree-picture .words:not(:has(.hit)) { content-visibility: auto; }
 .tree-picture text { text-anchor: middle; fill: var(--ink); font: 11px var(--sans); unicode-bidi: plaintext; }
 .tree-picture .form { font-size: 16px; }
 .tree-picture .tag, .tree-picture .id { fill: var(--quiet); }
@@ -137,11 +141,16 @@ p.quiet { margin: .2rem 0; }
 .hints { color: var(--warn); margin: .3rem 0; padding-inline-start: 1.2rem; font-size: .92rem; }
 .editor { overflow-x: auto; }
 .tab { border: 1px solid var(--rule); border-radius: 5px; padding: .1rem .5rem; background: var(--sheet); }
-.grid { background: var(--sheet); min-width: 60rem; }
-.grid td, .grid th { border: 1px solid var(--rule); padding: .1rem .4rem; min-width: 2.6rem; max-width: 36rem; overflow: hidden; text-overflow: ellipsis; white-space: pre; }
+.grid { display: block; min-width: 60rem; background: var(--sheet); border: 1px solid var(--rule); border-width: 1px 0 0 1px; }
+.grid :is(thead, tbody) { display: block; }
+.grid tbody { content-visibility: auto; contain-intrinsic-height: auto 1190px; }
+.grid tr { display: grid; grid-template-columns: var(--columns); }
+.grid :is(td, th) { border: 1px solid var(--rule); border-width: 0 1px 1px 0; padding: .1rem .4rem; overflow: hidden; text-overflow: ellipsis; white-space: pre; }
 .grid td { cursor: cell; }
-.grid td:has(input) { padding: 0; overflow: visible; }
-.grid input { font: inherit; width: 100%; min-width: 6rem; border: 0; border-radius: 0; padding: .1rem .4rem; outline: 2px solid var(--accent); }
+.grid td:focus-visible { outline-offset: -2px; }
+.grid td:has(input) { padding: 0; overflow: visible; z-index: 1; min-width: 6rem; }
+.grid td:last-child { justify-self: end; width: 100%; }
+.grid input { font: inherit; width: 100%; border: 0; border-radius: 0; padding: .1rem .4rem; outline: 2px solid var(--accent); outline-offset: -2px; }
 .grid tr.span td, .grid tr.empty td { color: var(--quiet); background: light-dark(#f5f3ee, #23262b); }
 .grid tr.odd td { background: var(--warn-paper); }
 .conllu { width: 100%; tab-size: 12; white-space: pre; line-height: 1.45; }
@@ -152,4 +161,6 @@ p.quiet { margin: .2rem 0; }
 .diff .gone td:first-child, .diff .turned td:first-child { background: var(--gone); }
 .diff .new td:last-child, .diff .turned td:last-child { background: var(--new); }
 .revisions li { margin: .15rem 0; }
+
+@media print { .block, .tree-picture .words:not(:has(.hit)), .grid tbody { content-visibility: visible; } }
 "##;

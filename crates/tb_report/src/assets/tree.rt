@@ -7,32 +7,37 @@ pub const TREE_JS: &str = r##"// A dependency tree as a picture (SVG).
 //
 // Arcs are above the words. Each relation is right above its own dependent, where the arrow ends, so no label lies on
 // another. Each column is as wide as its widest text. Enhanced relations (DEPS) are drawn below the words.
+//
+// The picture is a stack of sheets: one has all arcs, and each of the others some words. A browser lays out a sheet of
+// words when it comes near the window (page.css), so a thousand words are shown as soon as fifty.
 
 const NS = 'http://www.w3.org/2000/svg';
 const FONT = 'system-ui, "Noto Sans", sans-serif';
-const LARGE = `16px ${FONT}`, SMALL = `11px ${FONT}`;
 // All in pixels: between two columns, at both ends, the highest arcs in all, one level of arcs above and below.
 const GAP = 14, EDGE = 16, TALLEST = 420, LEVEL = 20, LEVEL_BELOW = 14;
 // Line heights of enhanced relations, and of the ranges.
 const LINE = 13, RANGE_LINE = 30;
 // Where more arcs than this go from one head to one side, they share a height: a star would be one grey block.
 const FAN = 7;
+// Words of one sheet.
+const SHEET = 50;
 
 // ---- texts
 
-const pen = document.createElement('canvas').getContext('2d');
-const widths = new Map();
-
-/** How wide a text is. Measuring is slow, and the same words come again. */
-function wide(text, font) {
-  const key = font + text;
-  if (!widths.has(key)) {
-    if (widths.size > 20000) widths.clear();
-    pen.font = font;
-    widths.set(key, pen.measureText(text).width);
-  }
-  return widths.get(key);
+/** Measures texts in a font, in pixels. Measuring is slow, and the same words come again. */
+export function measuring(font) {
+  const pen = document.createElement('canvas').getContext('2d'), widths = new Map();
+  pen.font = font;
+  return text => {
+    if (!widths.has(text)) {
+      if (widths.size > 20000) widths.clear();
+      widths.set(text, pen.measureText(text).width);
+    }
+    return widths.get(text);
+  };
 }
+
+const large = measuring(`16px ${FONT}`), small = measuring(`11px ${FONT}`);
 
 const RIGHT_TO_LEFT = /[\u0590-\u08ff\ufb1d-\ufdff\ufe70-\ufefc\u{10800}-\u{10fff}\u{1e800}-\u{1efff}]/u;
 
@@ -43,9 +48,13 @@ export function runsLeft(text) {
   return letters.filter(letter => RIGHT_TO_LEFT.test(letter)).length * 2 > letters.length;
 }
 
+function setAll(node, attributes) {
+  for (const [key, value] of Object.entries(attributes)) node.setAttribute(key, value);
+}
+
 function svg(name, attributes, text) {
   const node = document.createElementNS(NS, name);
-  for (const [key, value] of Object.entries(attributes)) node.setAttribute(key, value);
+  setAll(node, attributes);
   if (text !== undefined) node.textContent = text;
   return node;
 }
@@ -57,14 +66,14 @@ const headOf = link => link.slice(0, link.indexOf(':'));
 
 /** The width of a row's column: that of its widest text. */
 function widthOf({ kind, fields }, links) {
-  const small = [fields[3], ...(kind === 'word' ? [fields[7]] : []), ...links.map(relationOf)];
-  return GAP + Math.max(20, wide(fields[1], LARGE), ...small.map(text => wide(text, SMALL)));
+  const labels = [fields[3], ...(kind === 'word' ? [fields[7]] : []), ...links.map(relationOf)];
+  return GAP + Math.max(20, large(fields[1]), ...labels.map(small));
 }
 
 /** Makes the columns of a range wide enough for its form. */
 function widen(columns, { fields, from, to }) {
   const inner = columns.slice(from, to + 1), sum = inner.reduce((all, column) => all + column.width, 0);
-  const missing = wide(fields[1], LARGE) + GAP - sum;
+  const missing = large(fields[1]) + GAP - sum;
   if (missing > 0) inner.forEach(column => { column.width += missing / inner.length; });
 }
 
@@ -162,7 +171,7 @@ function layout(rows, isEnhanced) {
   const links = nodes.map(row => (isEnhanced && row.fields[8] !== '_' ? row.fields[8].split('|') : []));
   const columns = nodes.map((row, i) => ({ width: widthOf(row, links[i]) })), ranges = rangesOf(rows, at);
   ranges.forEach(range => widen(columns, range));
-  const width = line(columns, isLeftward);
+  const width = Math.ceil(line(columns, isLeftward));
   const arcs = basicArcs(nodes, at), below = enhancedArcs(nodes, links, at);
   const levels = stack(arcs, nodes.length), levelsBelow = stack(below, nodes.length);
   spread(arcs, columns);
@@ -171,7 +180,7 @@ function layout(rows, isEnhanced) {
   const level = Math.min(LEVEL, TALLEST / Math.max(1, levels)), levelBelow = Math.min(LEVEL_BELOW, TALLEST / Math.max(1, levelsBelow));
   const base = 26 + levels * level, form = base + 36, foot = form + 34 + (ranges.length ? RANGE_LINE : 0);
   const floor = foot + Math.max(0, ...links.map(items => items.length)) * LINE + 6;
-  const height = isEnhanced ? floor + levelsBelow * levelBelow + 10 : foot + 4;
+  const height = Math.ceil(isEnhanced ? floor + levelsBelow * levelBelow + 10 : foot + 4);
   return { nodes, at, links, columns, ranges, arcs, below, isLeftward, width, height, level, levelBelow, base, form, foot, floor };
 }
 
@@ -185,27 +194,39 @@ function nameOf({ nodes, at }, { kind, id, fields }) {
   return `${tag}, ${fields[7]} of ${head ? `${head.id} ${head.fields[1]}` : 'no word'}`;
 }
 
-function drawWord(place, row, i, isHit) {
-  const { x, width } = place.columns[i], { base, form } = place;
-  const group = svg('g', {
-    class: `word ${row.kind}${isHit ? ' hit' : ''}`, role: 'listitem', 'aria-label': nameOf(place, row),
-    'data-line': row.at, 'data-at': i, 'data-id': row.id,
-  });
-  group.append(svg('rect', { x: x - width / 2 + 2, y: form - 18, width: width - 4, height: 24, rx: 4 }));
-  if (row.kind === 'word') group.append(svg('text', { x, y: base + 13, class: 'relation' }, row.fields[7]));
+/** A word without its texts, at the heights of the picture. To copy it is faster than to make one. */
+function wordAt({ base, form }) {
+  const group = svg('g', { role: 'listitem' });
   group.append(
-    svg('text', { x, y: form, class: 'form' }, row.fields[1]),
-    svg('text', { x, y: form + 17, class: 'tag' }, row.fields[3]),
-    svg('text', { x, y: form + 29, class: 'id' }, row.id));
+    svg('rect', { y: form - 18, height: 24, rx: 4 }),
+    svg('text', { y: form, class: 'form' }),
+    svg('text', { y: form + 17, class: 'tag' }),
+    svg('text', { y: form + 29, class: 'id' }),
+    svg('text', { y: base + 13, class: 'relation' }));
   return group;
 }
 
+/** Draws a word as a copy of `model`. */
+function drawWord(place, model, row, i, isHit) {
+  const { x, width } = place.columns[i], group = model.cloneNode(true), [box, ...texts] = group.children;
+  setAll(group, { class: `word ${row.kind}${isHit ? ' hit' : ''}`, 'aria-label': nameOf(place, row), 'data-at': i });
+  setAll(box, { x: x - width / 2 + 2, width: width - 4 });
+  [1, 3, 0, 7].forEach((field, k) => {
+    texts[k].setAttribute('x', x);
+    texts[k].textContent = row.fields[field];
+  });
+  if (row.kind === 'empty') texts[3].remove();
+  return group;
+}
+
+/** The left and the right edge of some columns. */
+const edges = columns => [Math.min(...columns.map(c => c.x - c.width / 2)), Math.max(...columns.map(c => c.x + c.width / 2))];
+
 /** A brace below the words of a range, with its form. */
 function drawRange({ columns, form }, { from, to, fields }) {
-  const ends = [columns[from], columns[to]], y = form + 36;
-  const left = Math.min(...ends.map(c => c.x - c.width / 2)) + 4, right = Math.max(...ends.map(c => c.x + c.width / 2)) - 4;
+  const [left, right] = edges([columns[from], columns[to]]), y = form + 36;
   return [
-    svg('path', { d: `M${left} ${y - 4}V${y}H${right}V${y - 4}`, class: 'brace' }),
+    svg('path', { d: `M${left + 4} ${y - 4}V${y}H${right - 4}V${y - 4}`, class: 'brace' }),
     svg('text', { x: (left + right) / 2, y: y + 17, class: 'form range' }, fields[1]),
   ];
 }
@@ -235,9 +256,36 @@ function drawArcsBelow({ columns, links, below, foot, floor, levelBelow }) {
   ];
 }
 
-function drawLinks({ columns, links, foot }) {
-  return links.flatMap((items, i) => items.map((link, k) =>
-    svg('text', { x: columns[i].x, y: foot + 11 + k * LINE, class: 'relation' }, relationOf(link))));
+function drawLinks({ columns, links, foot }, i) {
+  return links[i].map((link, k) => svg('text', { x: columns[i].x, y: foot + 11 + k * LINE, class: 'relation' }, relationOf(link)));
+}
+
+// ---- sheets
+
+/** A sheet of the picture. Its place is given in parts of the whole, so that all shrink together where it is printed. */
+function sheet({ width, height }, left, right, attributes) {
+  const node = svg('svg', { viewBox: `${left} 0 ${right - left} ${height}`, preserveAspectRatio: 'none', ...attributes });
+  node.style.left = `${100 * left / width}%`;
+  node.style.width = `${100 * (right - left) / width}%`;
+  return node;
+}
+
+/** The sheet of all arcs, with the ranges, which may belong to words of two sheets. */
+function arcSheet(place) {
+  const node = sheet(place, 0, place.width, { 'aria-hidden': 'true' }), arcs = svg('g', { class: 'arcs' });
+  arcs.append(...drawArcs(place), ...drawArcsBelow(place));
+  node.append(arcs, ...place.ranges.flatMap(range => drawRange(place, range)));
+  return node;
+}
+
+/** The sheet of the words from one place on. */
+function wordSheet(place, model, from, isHit) {
+  const rows = place.nodes.slice(from, from + SHEET), [left, right] = edges(place.columns.slice(from, from + SHEET));
+  const node = sheet(place, Math.floor(left), Math.ceil(right), { class: 'words', role: 'none' });
+  const labels = svg('g', { 'aria-hidden': 'true' });
+  labels.append(...rows.flatMap((_, i) => drawLinks(place, from + i)));
+  node.append(...rows.map((row, i) => drawWord(place, model, row, from + i, isHit(row))), labels);
+  return node;
 }
 
 /** Lifts the arcs of the word under the pointer. */
@@ -251,13 +299,13 @@ function lifting(lines) {
 }
 
 /** Lets a word be dragged onto the word that shall be its head. A finger scrolls instead. */
-function dragging(picture, onHead) {
+function dragging(picture, nodes, onHead) {
   let held = null;
   const wordAt = event => event.target.closest('.word:not(.empty)');
   picture.addEventListener('pointerdown', event => { held = event.pointerType === 'mouse' ? wordAt(event) : null; });
   picture.addEventListener('pointerup', event => {
     const head = wordAt(event);
-    if (held && head && held !== head) onHead(Number(held.dataset.line), head.dataset.id);
+    if (held && head && held !== head) onHead(nodes[held.dataset.at].at, nodes[head.dataset.at].id);
     held = null;
   });
 }
@@ -270,22 +318,19 @@ function dragging(picture, onHead) {
 export function drawTree(rows, { isEnhanced, hit, onPick, onHead }) {
   const place = layout(rows, isEnhanced);
   const isHit = row => hit && row.kind === 'word' && row.first >= hit[0] && row.first <= hit[1];
-  const picture = svg('svg', {
-    width: Math.ceil(place.width), height: Math.ceil(place.height), class: 'tree-picture',
-    viewBox: `0 0 ${Math.ceil(place.width)} ${Math.ceil(place.height)}`,
-    role: 'list', 'aria-label': `Dependency tree, ${place.nodes.length} words`,
-  });
-  const lines = svg('g', { class: 'arcs', 'aria-hidden': 'true' }), labels = svg('g', { 'aria-hidden': 'true' });
-  lines.append(...drawArcs(place), ...drawArcsBelow(place));
-  labels.append(...place.ranges.flatMap(range => drawRange(place, range)), ...drawLinks(place));
-  picture.append(lines, ...place.nodes.map((row, i) => drawWord(place, row, i, isHit(row))), labels);
-  picture.addEventListener('pointerover', lifting(lines));
-  picture.addEventListener('pointerleave', lifting(lines));
+  const picture = document.createElement('div'), arcs = arcSheet(place), model = wordAt(place);
+  setAll(picture, { class: 'tree-picture', role: 'list', 'aria-label': `Dependency tree, ${place.nodes.length} words` });
+  picture.style.width = `${place.width}px`;
+  picture.style.aspectRatio = `${place.width} / ${place.height}`;
+  picture.append(arcs);
+  for (let from = 0; from < place.nodes.length; from += SHEET) picture.append(wordSheet(place, model, from, isHit));
+  picture.addEventListener('pointerover', lifting(arcs.firstChild));
+  picture.addEventListener('pointerleave', lifting(arcs.firstChild));
   picture.addEventListener('click', event => {
     const word = event.target.closest('.word');
-    if (word) onPick(Number(word.dataset.line));
+    if (word) onPick(place.nodes[word.dataset.at].at);
   });
-  dragging(picture, onHead);
+  dragging(picture, place.nodes, onHead);
   return framed(picture, place.isLeftward);
 }
 
