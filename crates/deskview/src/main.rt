@@ -1,4 +1,5 @@
-//! The program `deskview`: lists of what a desk holds. `main` hands its words and standard output to tb_desk.
+//! The program `deskview`: lists of what a desk holds, and of the faults of a file. `main` hands its words and the
+//! standard streams to tb_desk.
 //!
 //! Read `run_view` in tb_desk next.
 #![tactic(auto)]
@@ -21,10 +22,10 @@ impl Program for Deskview {
         &self,
         rt: &HostRuntime,
         words: &[String],
-        _reader: &mut R,
+        reader: &mut R,
         out: &mut W,
     ) -> Outcome {
-        run_view(rt, words, out)
+        run_view(rt, words, reader, out)
     }
 }
 

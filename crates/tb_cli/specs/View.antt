@@ -2,9 +2,9 @@
 use Rattle.std.specs.Prelude.{ℕ, List, true, [], codes, Option, None, option_and_then, bytes_eq, if◌then◌else◌}
 use Rattle.std.specs.String.{string_bytes}
 use Rattle.clap.specs.Words.{App, Row, Text, first_of, new_app, with_rule, with_subcommand}
-use Rattle.tb_http.specs.Forms.{number_of, port_of}
+use Rattle.tb_http.specs.Forms.{most_of, number_of, port_of}
 use Rattle.tb_cli.specs.Lines.{batch_of, formed, with_one, with_two}
-use Rattle.tb_cli.specs.Tree.{needed_rule, with_db, word_rule}
+use Rattle.tb_cli.specs.Tree.{default_rule, needed_rule, with_db, word_rule}
 use Rattle.tb_cli.specs.declared.lines.ViewLine.{ViewLine}
 use Rattle.tb_cli.specs.declared.lines.ViewLine.TheVariants as line
 use Rattle.tb_cli.specs.declared.lines.ViewList.{ViewList}
@@ -34,13 +34,19 @@ lists_app =
 abbrev pub tree_app : App
 tree_app = with_rule (with_db (new_app (codes "tree"))) (word_rule (codes "no"))
 
+-- a file without a desk is checked
+abbrev pub check_app : App
+check_app = with_rule (new_app (codes "check")) (default_rule (codes "most") (codes "100"))
+
 -- the page needs a port
 abbrev pub page_app : App
 page_app = with_rule (with_db (new_app (codes "page"))) (needed_rule (codes "port"))
 
 -- the whole command
 unfoldable pub view_app : App
-view_app = with_subcommand (with_subcommand (with_subcommand lists_app find_app.top) tree_app.top) page_app.top
+view_app =
+    with_subcommand (with_subcommand (with_subcommand (with_subcommand lists_app find_app.top) tree_app.top)
+    check_app.top) page_app.top
 
 -- a list, as plain data: the batches, the sentences of the batch with a name, the revisions of the sentence with a
 -- number, the sentence with a `sent_id`, or the tree of the sentence with a number
@@ -51,9 +57,10 @@ pub data Listed : Type 0 where
   find : Text → Listed
   tree : ℕ → Listed
 
--- a command line as plain data; the first text is the value of --db
+-- a command line as plain data; a first text is the value of --db
 pub data Viewed : Type 0 where
   lists : Text → Listed → Viewed
+  check : (most : ℕ) → Viewed
   page : Text → (port : ℕ) → Viewed
 
 abbrev pub batches_of : Text → Viewed
@@ -88,6 +95,10 @@ find_with rows = with_two find_of (first_of (codes "db") rows) (first_of (codes 
 abbrev pub tree_with : List Row → Option Viewed
 tree_with rows = with_two tree_of (first_of (codes "db") rows) (formed number_of (first_of (codes "no") rows))
 
+-- what the command `check` says with its values
+abbrev pub check_with : List Row → Option Viewed
+check_with rows = with_one check (formed most_of (first_of (codes "most") rows))
+
 -- what the command `page` says with its values
 abbrev pub page_with : List Row → Option Viewed
 page_with rows = with_two page (first_of (codes "db") rows) (formed port_of (first_of (codes "port") rows))
@@ -100,6 +111,7 @@ viewed_with word rows =
     else if bytes_eq word (codes "revisions") then revisions_with rows
     else if bytes_eq word (codes "find") then find_with rows
     else if bytes_eq word (codes "tree") then tree_with rows
+    else if bytes_eq word (codes "check") then check_with rows
     else if bytes_eq word (codes "page") then page_with rows
     else None
 
@@ -118,4 +130,5 @@ listed_by (list.Tree n) = tree n
 -- the line of the code, as plain data
 abbrev pub viewed_by : ViewLine → Viewed
 viewed_by (line.List db l) = lists (string_bytes db) (listed_by l)
+viewed_by (line.Check most) = check most
 viewed_by (line.Page db port) = page (string_bytes db) port

@@ -5,7 +5,7 @@ ghost use Rattle.std.specs.List.{list_any};
 ghost use Rattle.std.specs.String.{string_bytes};
 ghost use Rattle.clap.specs.Words.{rows_of, found_of, first_of};
 ghost use Rattle.tb_http.specs.Forms.{is_slash, number_of, base_of, context_of, event_of, strategy_of, attribute_of};
-ghost use Rattle.tb_http.specs.Forms.{port_of, requests_of};
+ghost use Rattle.tb_http.specs.Forms.{most_of, port_of, requests_of};
 ghost use Rattle.tb_cli.specs.Fault.{ReadsAs};
 ghost use Rattle.tb_cli.specs.Lines.{batch_of, formed, maybe};
 
@@ -133,6 +133,16 @@ pub fn context_in(matches: &ArgMatches<'_>, id: &str) -> Option<u8>
 {
     match value(matches, id) {
         Some(text) => tb_http::context_of(text),
+        None => None,
+    }
+}
+
+/// The value as a number of faults.
+pub fn most_in(matches: &ArgMatches<'_>, id: &str) -> Option<u32>
+    ensures { result ≡ formed most_of (first_of id.now (rows_of (found_of matches.now))) }
+{
+    match value(matches, id) {
+        Some(text) => tb_http::most_of(text),
         None => None,
     }
 }

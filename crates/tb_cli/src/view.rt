@@ -4,12 +4,12 @@ ghost use Rattle.std.specs.Prelude.{◌≡◌, ◌≢◌, IfOk, IfErr, codes, tr
 ghost use Rattle.std.specs.String.{string_bytes};
 ghost use Rattle.clap.specs.Words.{takes, fault_of, subcommand_of, subcommand_rows_of, rows_of, found_of, first_of};
 ghost use Rattle.tb_cli.specs.Fault.{AnswersAs, ComesOnly, ReadsAs};
-ghost use Rattle.tb_cli.specs.View.{find_with, page_with, revisions_with, sentences_with, tree_with, view_app};
-ghost use Rattle.tb_cli.specs.View.{viewed_by, viewed_of, viewed_with};
+ghost use Rattle.tb_cli.specs.View.{check_with, find_with, page_with, revisions_with, sentences_with, tree_with};
+ghost use Rattle.tb_cli.specs.View.{view_app, viewed_by, viewed_of, viewed_with};
 
 use crate::lines::{LineFault, ViewLine, ViewList};
 use crate::reading::{entered, found_by};
-use crate::values::{batch_in, given, number_in, port_in, text_of, value};
+use crate::values::{batch_in, given, most_in, number_in, port_in, text_of, value};
 use crate::verbs::is_word;
 use crate::view_tree::deskview;
 use clap::ArgMatches;
@@ -24,7 +24,7 @@ fn parsed(alloc: Global, words: &[String]) -> Result<ArgMatches<'_>, LineFault>
     found_by(deskview(alloc)?, words)
 }
 
-/// The file that every list needs.
+/// The file of the desk, which each list needs.
 fn file_in(alloc: Global, values: &ArgMatches<'_>) -> Result<String, LineFault>
     ensures { ReadsAs (first_of (codes "db") (rows_of (found_of values.now))) string_bytes result }
 {
@@ -78,6 +78,13 @@ fn tree(alloc: Global, values: &ArgMatches<'_>) -> Result<ViewLine, LineFault>
     })
 }
 
+fn check(values: &ArgMatches<'_>) -> Result<ViewLine, LineFault>
+    ensures { ReadsAs (check_with (rows_of (found_of values.now))) viewed_by result }
+{
+    let most = given(most_in(values, "most"))?;
+    Ok(ViewLine::Check { most })
+}
+
 fn page(alloc: Global, values: &ArgMatches<'_>) -> Result<ViewLine, LineFault>
     ensures { ReadsAs (page_with (rows_of (found_of values.now))) viewed_by result }
 {
@@ -104,6 +111,8 @@ fn line_of(alloc: Global, word: &str, values: &ArgMatches<'_>) -> Result<ViewLin
         find(alloc, values)
     } else if is_word(word, "tree") {
         tree(alloc, values)
+    } else if is_word(word, "check") {
+        check(values)
     } else if is_word(word, "page") {
         page(alloc, values)
     } else {
@@ -133,7 +142,7 @@ impl ViewLine {
     /// # Errors
     ///
     /// `Clap`: clap's definition does not accept the words, and has an error of this kind for them. `Usage`: it
-    /// accepts them, but there is no command, or no file is named, or a value does not have its form. `Memory`: want of
+    /// accepts them, but there is no command, or no desk is named, or a value does not have its form. `Memory`: want of
     /// memory.
     pub fn read(alloc: Global, words: &[String]) -> Result<ViewLine, LineFault>
         ensures ok { IfOk result (λ line. viewed_of (subcommand_of view_app (map string_bytes words.now))

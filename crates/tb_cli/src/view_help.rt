@@ -8,15 +8,16 @@ Examples:
   deskview revisions --db desk.db 7
   deskview find --db desk.db en-7
   deskview tree --db desk.db 7 > tree.html
+  deskview check < news.conllu
   deskview page --db desk.db --port 8080
 
-Each command reads the desk in the file that --db names. `page` shows it in a browser until you end the program, and
-`tree` prints a page for a browser. The others print a list as CSV. All but `page` change nothing of the desk.
-`deskview help COMMAND` shows what a command takes and prints, with an example.
+`check` reads a file on standard input, and each other command the desk in the file that --db names. `page` shows the
+desk in a browser until you end the program, and `tree` prints a page for a browser. The others print a list as CSV. All
+but `page` change nothing of the desk. `deskview help COMMAND` shows what a command takes and prints, with an example.
 
 Exit status:
   0  done; help and the version too
-  1  refused
+  1  refused; a file that `check` finds at fault too
   2  wrong words on the command line
   3  out of memory, or an I/O error
 
@@ -67,6 +68,19 @@ other file or computer for anything. Print it from a browser, as a handout.
 Example: deskview tree --db desk.db 7 > tree.html
 
 Exit status: 0 done, 1 refused, 2 wrong words, 3 out of memory or an I/O error.";
+
+/// The end of the help of `check`.
+pub const CHECK: &str = "\
+Columns: line, code, sentence, rule, row, id, column, value, message. Where a line cannot be read, each such line is listed
+with the least of its codes, 1 to 10. Where all can be read, each sentence is listed with all rules that it breaks, of 1
+to 12. docs/guide/FORMAT.md has the codes and the rules. `row` is the first row at fault of rules 4 to 8, and `id` its ID.
+
+Where there are more faults than --most allows, a last row has the message alone, which says so. A file without faults
+gives the header line alone, so that every answer about a file is a table.
+
+Example: deskview check --most 20 < news.conllu
+
+Exit status: 0 no fault, 1 faults, or refused, 2 wrong words, 3 out of memory or an I/O error.";
 
 /// The end of the help of `page`.
 pub const PAGE: &str = "\

@@ -3,11 +3,11 @@
 ghost use Rattle.std.specs.Prelude.{◌≡◌, IfOk, codes};
 ghost use Rattle.clap.specs.Words.{app_of, new_app, with_rule};
 ghost use Rattle.tb_cli.specs.Tree.{with_db, word_rule, IsKnownAs};
-ghost use Rattle.tb_cli.specs.View.{batches_app, find_app, lists_app, page_app, revisions_app, sentences_app};
-ghost use Rattle.tb_cli.specs.View.{tree_app, view_app, view_top};
+ghost use Rattle.tb_cli.specs.View.{batches_app, check_app, find_app, lists_app, page_app, revisions_app};
+ghost use Rattle.tb_cli.specs.View.{sentences_app, tree_app, view_app, view_top};
 
-use crate::tree::{VERSION, needed, option, with, with_sub, word};
-use crate::view_help::{BATCHES, ENDING, FIND, PAGE, REVISIONS, SENTENCES, TREE};
+use crate::tree::{VERSION, defaulted, needed, option, with, with_sub, word};
+use crate::view_help::{BATCHES, CHECK, ENDING, FIND, PAGE, REVISIONS, SENTENCES, TREE};
 use clap::Command;
 use std::alloc::{AllocError, Global};
 
@@ -17,7 +17,9 @@ fn top<'a>(alloc: Global) -> Command<'a>
 {
     Command::new(alloc, "deskview")
         .version(VERSION)
-        .about("Lists and trees of what a treebank desk holds, and the desk in a browser")
+        .about(
+            "Lists and trees of what a treebank desk holds, the faults of a file, and the desk in a browser",
+        )
         .after_help(ENDING)
 }
 
@@ -36,7 +38,7 @@ fn reading<'a>(
         option(
             alloc,
             "db",
-            "The file of the desk, which every command needs",
+            "The file of the desk, which this command needs",
         ),
     )
 }
@@ -94,6 +96,15 @@ fn tree<'a>(alloc: Global) -> Result<Command<'a>, AllocError>
     reading_one(alloc, "tree", about, TREE)
 }
 
+fn check<'a>(alloc: Global) -> Result<Command<'a>, AllocError>
+    ensures { IfOk result (IsKnownAs check_app) }
+{
+    let about = "List the faults of the CoNLL-U file on standard input";
+    let command = Command::new(alloc, "check").about(about).after_help(CHECK);
+    let help = "How many faults are listed at most";
+    with(command, defaulted(alloc, "most", "100", help))
+}
+
 fn page<'a>(alloc: Global) -> Result<Command<'a>, AllocError>
     ensures { IfOk result (IsKnownAs page_app) }
 {
@@ -121,6 +132,7 @@ pub fn deskview<'a>(alloc: Global) -> Result<Command<'a>, AllocError>
 {
     let command = with_sub(lists(alloc)?, find(alloc)?)?;
     let command = with_sub(command, tree(alloc)?)?;
+    let command = with_sub(command, check(alloc)?)?;
     let command = with_sub(command, page(alloc)?)?;
     Ok(command)
 }

@@ -1,3 +1,4 @@
 mod Awaiting
+mod FirstFaults
 mod Ran
 mod Shown

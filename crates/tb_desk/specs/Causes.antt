@@ -16,6 +16,7 @@ use Rattle.tb_http.specs.declared.replies.Reply.{Reply}
 use Rattle.tb_http.specs.declared.replies.Reply.TheVariants as reply
 use Rattle.tb_desk.specs.declared.causes.FileCause.{FileCause}
 use Rattle.tb_desk.specs.declared.causes.FileCause.TheVariants as file
+use Rattle.tb_desk.specs.declared.misfit.Misfit.{Misfit}
 use Rattle.tb_desk.specs.declared.causes.PortCause.{PortCause}
 use Rattle.tb_desk.specs.declared.causes.PortCause.TheVariants as port
 use Rattle.tb_desk.specs.declared.causes.StreamCause.{StreamCause}
@@ -58,6 +59,10 @@ IsFileCause e c =
     ((shortage : Shortage) × IsShort (raw_os_error e) (Some shortage) × (c ≡ file.Short shortage))
     ⊎ (IsShort (raw_os_error e) None × (c ≡ file_cause (error_kind e)))
 
+-- the cause for some error of the system
+abbrev pub IsSystemCause : FileCause → Type 0
+IsSystemCause c = (e : Error) × IsFileCause e c
+
 -- the causes for a device that failed, where the database says no more than that
 abbrev pub IsDeviceCause : (otherwise result : FileCause) → Type 0
 IsDeviceCause otherwise result =
@@ -75,6 +80,11 @@ abbrev pub cause_of_new : FileCause → FileCause
 cause_of_new file.Missing = file.NoFolder
 cause_of_new file.ReadOnly = file.NewReadOnly
 cause_of_new other = other
+
+-- what is wrong first with the rows of a file, where that was looked for
+abbrev pub misfit_of : FileCause → Option Misfit
+misfit_of (file.Rows misfit) = misfit
+misfit_of _ = None
 
 -- the line for a file that the database does not open
 abbrev pub reply_of_code : ErrorCode → Reply

@@ -1,7 +1,7 @@
 -- Inner: no contract beyond this crate cites a definition of this module.
 -- What the bytes of a file and of its log show of its tables (the file format of SQLite, sections 1.3, 1.6 and 4.1).
 use Rattle.std.specs.Prelude.{◌≡◌, ◌≢◌, ◌++◌, ◌+◌, ◌*◌, ◌⊎◌, ◌≤◌, ◌<◌, ℕ, List, [], ◌∷◌, All, codes, length, take, drop, slice_get, Option, None, Some}
-use Rattle.std.specs.Prelude.{Bool, true, false, min, nat_eq, not}
+use Rattle.std.specs.Prelude.{Bool, true, false, min, nat_eq, not, Result, Ok, Err}
 use Rattle.std.specs.declared.io.ErrorKind.{ErrorKind}
 use Rattle.std.specs.declared.io.ErrorKind.TheVariants.{NotFound, NotADirectory}
 use Rattle.memchr.specs.Find.{OccursAt}
@@ -9,6 +9,8 @@ use Rattle.sqlite_wal.specs.Format.{be32}
 use Rattle.sqlite_wal.specs.Recovery.{AreFramesOf, IsIgnored}
 use Rattle.tb_desk.specs.declared.contents.Version.{Version}
 use Rattle.tb_desk.specs.declared.contents.Version.TheVariants.{One, Two}
+use Rattle.tb_desk.specs.declared.causes.FileCause.{FileCause}
+use Rattle.tb_desk.specs.declared.causes.FileCause.TheVariants as file
 use Rattle.tb_desk.specs.declared.files.Undoing.{Undoing}
 use Rattle.tb_desk.specs.declared.files.Undoing.TheVariants as undoing_of
 use Rattle.tb_desk.specs.declared.place.Numbers.{Numbers}
@@ -22,6 +24,14 @@ pub record Has (bytes text : List ℕ) : Type 0 where
 pub record BeginsWith (bytes text : List ℕ) : Type 0 where
   pub rest : List ℕ
   pub cut : bytes ≡ text ++ rest
+
+-- SQLite gives the name a meaning of its own.
+abbrev pub IsReserved : (path : List ℕ) → Type 0
+IsReserved path = (path ≡ codes ":memory:") ⊎ BeginsWith path (codes "file:")
+
+-- The file holds something, and does not begin as a database does.
+abbrev pub IsOtherFile : (head : List ℕ) → Type 0
+IsOtherFile head = (head ≢ []) × ¬ BeginsWith head (codes "SQLite format 3\0")
 
 -- A database lists each table in a row, which has the kind, the name, and the name of its table.
 pub record ListsTables (bytes : List ℕ) : Type 0 where
@@ -41,6 +51,23 @@ abbrev pub IsListed : List ℕ → Option Version → Type 0
 IsListed bytes None = ¬ ListsTables bytes
 IsListed bytes (Some One) = ListsTables bytes × ¬ ListsPulled bytes
 IsListed bytes (Some Two) = ListsTables bytes × ListsPulled bytes
+
+-- the version by the tables in the log, or by those in the file where the log has none
+abbrev pub version_by : (in_log in_file : Option Version) → Result Version FileCause
+version_by (Some version) in_file = Ok version
+version_by None (Some version) = Ok version
+version_by None None = Err file.OtherDatabase
+
+-- Whether a file is looked at a second time. Another command may have moved its tables from the log into the file.
+abbrev pub is_looked_at_again : (found : Result Version FileCause) → Bool
+is_looked_at_again (Err file.Empty) = true
+is_looked_at_again (Err file.OtherDatabase) = true
+is_looked_at_again _ = false
+
+-- the cause for a path that has a folder, or something else than a plain file
+abbrev pub odd_cause : (is_folder : Bool) → FileCause
+odd_cause true = file.Folder
+odd_cause false = file.NotPlain
 
 abbrev pub AreZero : List ℕ → Type 0
 AreZero bytes = All (λ b. b ≡ 0) bytes
@@ -91,6 +118,16 @@ is_hot (byte ∷ bytes) = not (nat_eq byte 0)
 -- the greatest length of a log that a stopped `new` leaves: one mebibyte
 abbrev pub own_log_limit : ℕ
 own_log_limit = 1048576
+
+-- whether a desk of this version is opened, or is of another version than today's
+abbrev pub may_be_opened : Version → Result (Unit {0}) FileCause
+may_be_opened Two = Ok tt
+may_be_opened One = Err file.Version1
+
+-- the cause for a desk of this version that cannot be migrated
+abbrev pub cause_to_migrate : Version → FileCause
+cause_to_migrate One = file.Rows None
+cause_to_migrate Two = file.Version2
 
 -- What there is to undo at a log. One that is empty was emptied, or made, by opening the file.
 abbrev pub what_to_undo : (is_empty was_there : Bool) → Undoing

@@ -7,6 +7,8 @@ use Rattle.tb_check.specs.declared.reply.CheckReply.{CheckReply}
 use Rattle.tb_check.specs.declared.reply.CheckReply.TheVariants as check
 use Rattle.tb_cli.specs.Lines.{Said, import_batch, step_batch, correct, pull, restore, export, search, count}
 use Rattle.tb_core.specs.declared.refusals.Refusal.TheVariants as refusal
+use Rattle.tb_words.specs.declared.refusals.Asked.{Asked}
+use Rattle.tb_words.specs.declared.refusals.Asked.TheVariants as asks
 use Rattle.tb_desk.specs.declared.causes.Cause.{Cause}
 use Rattle.tb_desk.specs.declared.causes.Cause.TheVariants.{NothingKept, NothingThere}
 use Rattle.tb_http.specs.declared.asks.RequestFault.TheVariants as request
@@ -24,6 +26,19 @@ cause_in_memory (correct db user n base) = Some NothingKept
 cause_in_memory (pull db user n) = Some NothingKept
 cause_in_memory (restore db user n) = Some NothingKept
 cause_in_memory _ = None
+
+-- What a line asks, as far as the words for a refusal depend on it: a step, a correction of a revision, a pull or a
+-- restore, or what a query finds.
+abbrev pub IsAskedBy : Said → Asked → Type 0
+IsAskedBy (step_batch db user name event) asked = asked ≡ asks.Event
+IsAskedBy (correct db user n base) asked = asked ≡ asks.Correction base
+IsAskedBy (pull db user n) asked = asked ≡ asks.Pull
+IsAskedBy (restore db user n) asked = asked ≡ asks.Pull
+IsAskedBy (search db strategy context query) (asks.Query text) = text.now ≡ query
+IsAskedBy (count db strategy column query) (asks.Query text) = text.now ≡ query
+IsAskedBy (search db strategy context query) _ = ⊥
+IsAskedBy (count db strategy column query) _ = ⊥
+IsAskedBy _ asked = asked ≡ asks.Other
 
 -- the desk's reply that says the same as the check's, where there are words for it
 abbrev pub reply_as_the_desk : CheckReply → Option Reply

@@ -1,4 +1,3 @@
--- Inner: no contract beyond this crate cites a definition of this module.
 -- The sentences for causes on standard error.
 use Rattle.std.specs.Prelude.{ℕ, List, [], codes}
 use Rattle.tb_words.specs.declared.sentences.TheConstants.{MEMORY}
@@ -72,6 +71,7 @@ form_text form.Base = codes "write the number of the revision that was corrected
 form_text form.Strategy = codes "write shortest, longest or every"
 form_text form.Context = codes "write a number of words from 0 to 20"
 form_text form.Attribute = codes "write word, lemma, upos, xpos, feats or deprel"
+form_text form.Most = codes "write a number of faults from 1 to 1000000"
 form_text form.Port = codes "write a port from 0 to 65535; 0 lets the system choose one"
 form_text form.Requests = codes "write a number of 1 to 10 digits"
 

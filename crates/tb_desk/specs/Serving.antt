@@ -1,9 +1,19 @@
 -- Inner: no contract beyond this crate cites a definition of this module.
 -- What a server decides without the system: where it listens, what it serves beside the desk, how many connections may
 -- wait, and which errors of a connection say that there is nothing yet.
-use Rattle.std.specs.Prelude.{◌≡◌, ◌≢◌, ◌⊎◌, ℕ, ℤ, pos, List, [], ◌∷◌, ◌++◌, codes, decimal, Bool, true, false, Option, Some, None}
+use Rattle.std.specs.Prelude.{◌≡◌, ◌≢◌, ◌⊎◌, ◌==◌, ℕ, ℤ, pos, List, [], ◌∷◌, ◌++◌, codes, decimal, Bool, true, false, not}
+use Rattle.std.specs.Prelude.{Option, Some, None, Result, Ok, Err, if◌then◌else◌}
+use Rattle.std.specs.IoError.{error_kind}
+use Rattle.std.specs.declared.io.Error.{Error}
 use Rattle.std.specs.declared.io.ErrorKind.{ErrorKind}
 use Rattle.std.specs.declared.io.ErrorKind.TheVariants as kind
+use Rattle.tb_http.specs.declared.status.Status.{Status}
+use Rattle.tb_answer.specs.declared.answering.Broken.{Broken}
+use Rattle.tb_answer.specs.declared.answering.Broken.TheVariants as broken
+use Rattle.tb_desk.specs.Causes.{IsPortCause}
+use Rattle.tb_desk.specs.declared.causes.Cause.{Cause}
+use Rattle.tb_desk.specs.declared.causes.Cause.TheVariants as cause
+use Rattle.tb_desk.specs.declared.causes.PortCause.{PortCause}
 use Rattle.tb_desk.specs.declared.serving.Beside.{Beside}
 use Rattle.tb_desk.specs.declared.serving.Beside.TheVariants as beside
 
@@ -14,6 +24,26 @@ loopback = 127 ∷ 0 ∷ 0 ∷ 1 ∷ []
 -- the line with which a server says that it listens
 abbrev pub listening : (port : ℕ) → List ℕ
 listening port = codes "listening " ++ decimal port ++ codes "\n"
+
+-- the line that says where the page is
+abbrev pub page_line : (port : ℕ) → List ℕ
+page_line port = codes "deskview: open http://127.0.0.1:" ++ decimal port ++ codes "/ in a browser"
+
+-- What follows from an answer: whether the client has it whole, or why the server ends.
+abbrev pub ended_by : Result Status Broken → (has_moved is_shut : Bool) → Result Bool Cause
+ended_by (Ok status) moved true = Err cause.FileShut
+ended_by (Ok status) moved false = Ok true
+ended_by (Err broken.Read) true shut = Err cause.FilesMoved
+ended_by (Err broken.Read) false shut = Ok false
+ended_by (Err broken.Write) moved shut = Ok false
+
+-- why a server ends before it has served as many connections as it was asked to
+abbrev pub IsServerEnd : Cause → Type 0
+IsServerEnd c = (c ≡ cause.FilesMoved) ⊎ (c ≡ cause.FileShut) ⊎ (c ≡ cause.NoConnections)
+
+-- the system refuses this port for an error of its own
+abbrev pub IsPortRefused : (port : ℕ) → PortCause → Type 0
+IsPortRefused port c = (e : Error) × IsPortCause e port c
 
 -- the port of the page, for a server at this port that has one
 abbrev pub page_at : Beside → (port : ℕ) → Option ℕ
@@ -37,6 +67,11 @@ is_no_byte kind.WouldBlock = true
 is_no_byte kind.TimedOut = true
 is_no_byte kind.Interrupted = true
 is_no_byte _ = false
+
+-- Whether a client sends nothing more, by a read of its connection. A read of some bytes says nothing.
+abbrev pub end_after : (came : Result ℕ Error) → Option Bool
+end_after (Ok count) = if count == 0 then Some true else None
+end_after (Err e) = Some (not (is_no_byte (error_kind e)))
 
 -- The system has no room for another connection, by the error number: ENOMEM, ENFILE, EMFILE or ENOBUFS.
 abbrev pub IsWantOfRoom : (number : Option ℤ) → Bool → Type 0

@@ -1,11 +1,11 @@
 -- What `deskview` shows of a desk, and its exit status.
-use Rattle.std.specs.Prelude.{◌≡◌, ◌≢◌, ◌⊎◌, ℕ, List, true, Option, Some, None, ⊤}
+use Rattle.std.specs.Prelude.{◌≡◌, ◌≢◌, ◌⊎◌, ℕ, List, true, Option, Some, None}
 use Rattle.clap.specs.Words.{takes, subcommand_of}
 use Rattle.sqlite.specs.Files.{over_files}
 use Rattle.sqlite.specs.Store.{Ghosts}
 use Rattle.tb_http.specs.declared.replies.Reply.{Reply}
 use Rattle.tb_cli.specs.Fault.{ComesOnly}
-use Rattle.tb_cli.specs.View.{Listed, Viewed, lists, page, view_app, viewed_of}
+use Rattle.tb_cli.specs.View.{Listed, Viewed, check, lists, page, view_app, viewed_of}
 use Rattle.tb_cli.specs.declared.lines.LineFault.{LineFault}
 use Rattle.tb_store.specs.Calls.{InState}
 use Rattle.tb_store.specs.Kept.{Kept}
@@ -13,6 +13,7 @@ use Rattle.tb_answer.specs.Commanded.{HasFailed}
 use Rattle.tb_answer.specs.Output.{IsWritten}
 use Rattle.tb_answer.specs.Viewed.{IsView, IsViewReported}
 use Rattle.tb_desk.specs.declared.files.FileDesk.{FileDesk}
+use Rattle.tb_desk.specs.Faults.{AreFaultsListed}
 use Rattle.tb_desk.specs.Opened.{IsSomeDesk}
 use Rattle.tb_desk.specs.Replies.{IsFaultWritten, IsFileRefused, IsReplyWritten}
 
@@ -36,14 +37,19 @@ module _ {Reason : Type 0} (held holds : Option (List ℕ)) (is_refusal : Reason
   abbrev pub IsListRun : Listed → Type 0
   IsListRun list = IsFileRefused held holds is_refusal status ⊎ IsShownInFile list
 
-  -- how a line ends; what a server answers is said request by request
+module _ {R Why Reason : Type 0} (is_failure : R → Why → Type 0) (unread : R → Option (List ℕ)) (before after : R)
+    (held holds : Option (List ℕ)) (is_refusal : Reason → Type 0) (status : ℕ) where
+  -- How a line ends: only a check reads the input. What a server answers is said request by request.
   abbrev pub IsViewRun : Viewed → Type 0
-  IsViewRun (lists db list) = IsListRun list
-  IsViewRun (page db port) = ⊤
+  IsViewRun (lists db list) = (after ≡ before) × IsListRun held holds is_refusal status list
+  IsViewRun (check most) =
+      AreFaultsListed (is_failure after) (unread before) (unread after) held holds is_refusal status most
+  IsViewRun (page db port) = after ≡ before
 
   -- what the words ask to see is shown, or why they ask nothing is written
   abbrev pub AreWordsShown : (words : List (List ℕ)) → Type 0
   AreWordsShown words =
       ((viewed : Viewed) × (viewed_of (subcommand_of view_app words) ≡ Some viewed) × IsViewRun viewed)
       ⊎ ((e : LineFault) × ComesOnly e (takes view_app words ≢ true)
-      (viewed_of (subcommand_of view_app words) ≡ None) × IsFaultWritten held holds is_refusal status e)
+      (viewed_of (subcommand_of view_app words) ≡ None) × (after ≡ before)
+      × IsFaultWritten held holds is_refusal status e)

@@ -1,8 +1,13 @@
 //! Connections, and what each of them has sent of its request so far.
 
-ghost use Rattle.std.specs.Prelude.{◌≡◌, ◌≢◌, ◌↔◌, ◌≤◌, ◌<◌, ◌-◌, IsTrue, true, false, max, take, length, vec_len, IfOk, Ok};
+ghost use Rattle.std.specs.Prelude.{◌≡◌, ◌≢◌, ◌↔◌, ◌⊎◌, ◌≤◌, ◌<◌, ◌+◌, ◌-◌, ◌++◌, ◌^◌, [], None, if◌then◌else◌};
+ghost use Rattle.std.specs.Prelude.{IsTrue, true, false, max, take, length, vec_len, IfOk, IfErr, MatchResult, Ok};
 ghost use Rattle.std.specs.Duration.{as_nanos};
+ghost use Rattle.std.specs.Io.{ReadsAtMost};
+ghost use Rattle.std.specs.Io.KnownBytes.{ReadConsumes};
+ghost use Rattle.std.specs.IoError.{error_kind};
 ghost use Rattle.tb_desk.specs.Arriving.{awaited_at};
+ghost use Rattle.tb_desk.specs.Callers.{GoesOn, said_by};
 ghost use Rattle.tb_desk.specs.Patience.{seconds, wait_left};
 ghost use Rattle.tb_desk.specs.Serving.{is_no_byte};
 ghost use Rattle.tb_desk.specs.declared.arriving.Awaited.TheVariants.{Head, Nothing};
@@ -49,19 +54,25 @@ pub(crate) fn is_none_yet(kind: ErrorKind) -> bool
     }
 }
 
-/// Reads into the part of a buffer after its first bytes.
+/// Reads into the part of a buffer after its first bytes, which stay.
 fn read_after(mut stream: &TcpStream, room: &mut [u8], filled: usize) -> io::Result<usize>
-    ensures { length room.new ≡ length room.old }
+    ensures length { length room.new ≡ length room.old }
+    ensures stays { take filled room.new ≡ take filled room.old }
+    ensures bound { filled ≤ length room.old → IfOk result (λ n. filled + n ≤ length room.old) }
 {
-    match room.get_mut(filled..) {
-        Some(rest) => stream.read(rest),
-        None => Ok(0),
+    if filled > room.len() {
+        return Ok(0);
     }
+    let (_, rest) = room.split_at_mut(filled);
+    stream.read(rest)
 }
 
 impl Caller {
     pub(crate) fn new(alloc: Global, stream: TcpStream) -> Caller
-        ensures { (result.awaited ≡ Head) × (as_nanos result.left ≡ seconds 10) }
+        ensures begins { (result.awaited ≡ Head) × (as_nanos result.left ≡ seconds 10) }
+        ensures said { (vec_len result.room ≡ 0) × (result.filled ≡ 0) }
+        ensures stream { result.stream ≡ stream }
+        ensures flags { (result.has_ended ≡ false) × (result.is_held ≡ false) }
     {
         Caller {
             stream,
@@ -74,12 +85,16 @@ impl Caller {
         }
     }
 
-    pub(crate) fn stream(&self) -> &TcpStream {
+    pub(crate) fn stream(&self) -> &TcpStream
+        ensures { result.now ≡ self.now.stream }
+    {
         &self.stream
     }
 
     /// The connection alone, once its request is answered.
-    pub(crate) fn into_stream(self) -> TcpStream {
+    pub(crate) fn into_stream(self) -> TcpStream
+        ensures { result ≡ self.stream }
+    {
         let Caller { stream, .. } = self;
         stream
     }
@@ -111,6 +126,9 @@ impl Caller {
         ensures waits { self.old.is_held ≡ false
             → as_nanos self.new.left ≡ wait_left (as_nanos self.old.left) (as_nanos passed) }
         ensures held { self.old.is_held ≡ true → self.new.left ≡ self.old.left }
+        ensures awaited { self.new.awaited ≡ self.old.awaited }
+        ensures said { (self.new.room ≡ self.old.room) × (self.new.filled ≡ self.old.filled) }
+        ensures stream { self.new.stream ≡ self.old.stream }
     {
         if !self.is_held {
             self.left = left_after(self.left, passed);
@@ -123,12 +141,15 @@ impl Caller {
     fn make_room(&mut self, most: usize) -> bool
         ensures room { IsTrue result → self.new.filled < vec_len self.new.room }
         ensures most { vec_len self.new.room ≤ max (vec_len self.old.room) most }
+        ensures filled { self.new.filled ≡ self.old.filled }
+        ensures said { GoesOn self.old self.new }
+        ensures held { self.new.is_held ≡ true → self.new.awaited ≡ self.old.awaited }
     {
         self.is_held = false;
         if self.filled < self.room.len() {
             return true;
         }
-        let size = next_size(self.room.len(), self.awaited);
+        let size = next_size(self.room.len(), self.awaited).max(self.filled);
         if size > most {
             self.is_held = true;
             return false;
@@ -142,7 +163,12 @@ impl Caller {
     /// Notes that so many bytes have come. The time for a body begins when its head has come.
     fn add(&mut self, alloc: Global, routes: &Routes, count: usize)
         ensures body { self.old.awaited ≢ Head → self.new.awaited ≡ awaited_at self.old.awaited self.new.filled }
+        ensures time { self.old.awaited ≡ Head → self.new.awaited ≢ Head
+            → as_nanos self.new.left ≡ seconds 10 }
+        ensures rest { (self.old.awaited ≢ Head) ⊎ (self.new.awaited ≡ Head) → self.new.left ≡ self.old.left }
+        ensures filled { self.old.filled + count < 2 ^ 64 → self.new.filled ≡ self.old.filled + count }
         ensures room { self.new.room ≡ self.old.room }
+        ensures same { (self.new.stream ≡ self.old.stream) × (self.new.has_ended ≡ self.old.has_ended) }
     {
         self.filled = self.filled.saturating_add(count);
         if self.awaited == Awaited::Head {
@@ -157,7 +183,14 @@ impl Caller {
     /// Notes the result of one read.
     fn note(&mut self, alloc: Global, routes: &Routes, came: io::Result<usize>)
         ensures ended { came ≡ Ok 0 → (self.new.has_ended ≡ true) × (self.new.awaited ≡ Nothing) }
+        ensures fault { IfErr came (λ e. self.new.awaited
+            ≡ (if is_no_byte (error_kind e) then self.old.awaited else Nothing)) }
+        ensures goes_on { came ≢ Ok 0 → self.new.has_ended ≡ self.old.has_ended }
+        ensures filled { MatchResult came
+            (λ count. self.old.filled + count < 2 ^ 64 → self.new.filled ≡ self.old.filled + count)
+            (λ _. self.new.filled ≡ self.old.filled) }
         ensures room { self.new.room ≡ self.old.room }
+        ensures stream { self.new.stream ≡ self.old.stream }
     {
         match came {
             Ok(0) => {
@@ -176,7 +209,9 @@ impl Caller {
 
     /// Reads once, into a buffer of at most so many bytes. Returns whether the buffer is full, so that more may be there.
     fn hear_once(&mut self, alloc: Global, routes: &Routes, most: usize) -> bool
-        ensures { vec_len self.new.room ≤ max (vec_len self.old.room) most }
+        ensures most { vec_len self.new.room ≤ max (vec_len self.old.room) most }
+        ensures said { GoesOn self.old self.new }
+        ensures whole { self.old.awaited ≡ Nothing → self.new ≡ self.old }
     {
         if self.is_ready() || !self.make_room(most) {
             return false;
@@ -188,7 +223,8 @@ impl Caller {
 
     /// Reads what has come of the request, into a buffer of at most so many bytes.
     pub(crate) fn hear(&mut self, alloc: Global, routes: &Routes, most: usize)
-        ensures { vec_len self.new.room ≤ max (vec_len self.old.room) most }
+        ensures most { vec_len self.new.room ≤ max (vec_len self.old.room) most }
+        ensures said { GoesOn self.old self.new }
     {
         for _ in 0..READS {
             if !self.hear_once(alloc, routes, most) {
@@ -199,7 +235,7 @@ impl Caller {
 
     /// What the connection has sent so far.
     pub(crate) fn said(&self) -> &[u8]
-        ensures { result.now ≡ take self.now.filled self.now.room.items }
+        ensures { result.now ≡ said_by self.now }
     {
         self.room.get(..self.filled).unwrap_or(self.room.as_slice())
     }
@@ -210,7 +246,7 @@ impl Caller {
         rt: &'a HostRuntime,
         place: Option<&'a Place>,
     ) -> io::Result<Request<'a>>
-        ensures said { IfOk result (λ r. r.said.now ≡ take self.now.filled self.now.room.items) }
+        ensures said { IfOk result (λ r. r.said.now ≡ said_by self.now) }
         ensures ended { IfOk result (λ r. r.has_ended ≡ self.now.has_ended) }
         ensures time { IfOk result (λ r. (as_nanos r.later.each ≡ seconds 10)
             × (as_nanos r.later.whole ≡ seconds 10)) }
@@ -232,7 +268,14 @@ pub(crate) struct Request<'a> {
 }
 
 impl Read for Request<'_> {
-    fn read(&mut self, buf: &mut [u8]) -> io::Result<usize> {
+    fn read(&mut self, buf: &mut [u8]) -> io::Result<usize>
+        ensures bound { ReadsAtMost result buf.new }
+        ensures bytes { ReadConsumes None None result buf.new }
+        ensures said { self.old.said.now ≢ [] → IfOk result (λ n.
+            self.old.said.now ≡ take n buf.new ++ self.new.said.now) }
+        ensures ended { self.old.said.now ≡ [] → self.old.has_ended ≡ true → result ≡ Ok 0 }
+        ensures end { self.new.has_ended ≡ self.old.has_ended }
+    {
         if !self.said.is_empty() {
             return self.said.read(buf);
         }

@@ -3,7 +3,8 @@
 ghost use Rattle.std.specs.Prelude.{◌≡◌, ◌↔◌, IsTrue};
 ghost use Rattle.std.specs.IoError.{raw_os_error};
 ghost use Rattle.tb_desk.specs.Causes.{IsDeviceCause, IsFileCause, IsPortCause, IsShort};
-ghost use Rattle.tb_desk.specs.Causes.{cause_of_new, input_cause, output_cause};
+ghost use Rattle.tb_desk.specs.Causes.{cause_of_new, input_cause, misfit_of, output_cause};
+ghost use Rattle.tb_desk.specs.Forms.{HasForm, HasSlash};
 ghost use Rattle.tb_desk.specs.Replies.{reply_of};
 ghost use Rattle.tb_desk.specs.Sentences.{cause_text, file_text, form_text, port_text, short_text, stream_text};
 
@@ -162,7 +163,9 @@ impl FileCause {
     }
 
     /// What is wrong first with the rows of the file, if that is known.
-    pub(crate) fn misfit(self) -> Option<Misfit> {
+    pub(crate) fn misfit(self) -> Option<Misfit>
+        ensures { result ≡ misfit_of self }
+    {
         match self {
             FileCause::Rows(misfit) => misfit,
             _ => None,
@@ -246,21 +249,32 @@ pub enum Form {
     Strategy,
     Context,
     Attribute,
+    Most,
     Port,
     Requests,
 }
 
+/// Whether a text has a slash.
+fn has_slash(text: &str) -> bool
+    ensures { IsTrue result ↔ HasSlash text.now }
+{
+    text.contains('/')
+}
+
 impl Form {
     /// Whether a text has this form.
-    pub(crate) fn takes(self, text: &str) -> bool {
+    pub(crate) fn takes(self, text: &str) -> bool
+        ensures { IsTrue result ↔ HasForm self text.now }
+    {
         match self {
-            Form::Batch => !text.is_empty() && !text.contains('/'),
+            Form::Batch => !text.is_empty() && !has_slash(text),
             Form::Event => tb_http::event_of(text).is_some(),
             Form::Number => tb_http::number_of(text).is_some(),
             Form::Base => tb_http::base_of(text).is_some(),
             Form::Strategy => tb_http::strategy_of(text).is_some(),
             Form::Context => tb_http::context_of(text).is_some(),
             Form::Attribute => tb_http::attribute_of(text).is_some(),
+            Form::Most => tb_http::most_of(text).is_some(),
             Form::Port => tb_http::port_of(text).is_some(),
             Form::Requests => tb_http::requests_of(text).is_some(),
         }
@@ -279,6 +293,7 @@ impl Form {
             Form::Strategy => "write shortest, longest or every",
             Form::Context => "write a number of words from 0 to 20",
             Form::Attribute => "write word, lemma, upos, xpos, feats or deprel",
+            Form::Most => "write a number of faults from 1 to 1000000",
             Form::Port => "write a port from 0 to 65535; 0 lets the system choose one",
             Form::Requests => "write a number of 1 to 10 digits",
         }
@@ -464,6 +479,10 @@ impl Cause {
 }
 
 impl Display for Cause {
+    ghost use Rattle.tb_desk.specs.Reported.{output_of_cause};
+
+    ghost output = { output_of_cause };
+
     fn fmt<W: fmt::Write>(&self, f: &mut Formatter<W>) -> fmt::Result {
         match self {
             Cause::Words(words) => write!(f, "{words}"),

@@ -1,7 +1,8 @@
 //! What the program says on standard error, beside the answer. It never changes what is printed, nor the exit status.
 
-ghost use Rattle.std.specs.Prelude.{◌≡◌};
+ghost use Rattle.std.specs.Prelude.{◌≡◌, ◌↔◌, IsTrue, IfSome, string_bytes};
 ghost use Rattle.tb_desk.specs.Replies.{IsReplyWritten};
+ghost use Rattle.tb_desk.specs.Reported.{IsOfAnswer, IsReported};
 
 use crate::causes::Cause;
 use std::env;
@@ -20,12 +21,17 @@ pub struct Diagnostic {
 
 impl Diagnostic {
     /// Whether it explains an answer of the desk or the check.
-    pub fn is_of_answer(&self) -> bool {
+    pub fn is_of_answer(&self) -> bool
+        ensures { IsTrue result ↔ IsOfAnswer self.now.cause }
+    {
         matches!(self.cause, Cause::Words(_))
     }
 
     /// A cause at a place. Without memory for the place it is the cause alone.
-    pub(crate) fn at(rt: &HostRuntime, place: &str, cause: Cause) -> Diagnostic {
+    pub(crate) fn at(rt: &HostRuntime, place: &str, cause: Cause) -> Diagnostic
+        ensures cause { result.cause ≡ cause }
+        ensures place { IfSome result.place (λ text. string_bytes text ≡ place.now) }
+    {
         Diagnostic {
             place: String::from_str(rt.alloc(), place).ok(),
             cause,
@@ -34,12 +40,20 @@ impl Diagnostic {
 }
 
 impl From<Cause> for Diagnostic {
+    ghost use Rattle.std.specs.Prelude.{◌≡◌, None};
+
+    ghost from_gives = { λ cause diagnostic. (diagnostic.cause ≡ cause) × (diagnostic.place ≡ None) };
+
     fn from(cause: Cause) -> Diagnostic {
         Diagnostic { place: None, cause }
     }
 }
 
 impl Display for Diagnostic {
+    ghost use Rattle.tb_desk.specs.Reported.{output_of_diagnostic};
+
+    ghost output = { output_of_diagnostic };
+
     fn fmt<W: fmt::Write>(&self, f: &mut Formatter<W>) -> fmt::Result {
         match &self.place {
             Some(place) => write!(f, "{place}: {}", self.cause),
@@ -56,9 +70,9 @@ pub struct Outcome {
 }
 
 impl From<u8> for Outcome {
-    ghost use Rattle.std.specs.Prelude.{◌≡◌};
+    ghost use Rattle.std.specs.Prelude.{◌≡◌, None};
 
-    ghost from_gives = { λ status outcome. outcome.status ≡ status };
+    ghost from_gives = { λ status outcome. (outcome.status ≡ status) × (outcome.reported ≡ None) };
 
     fn from(status: u8) -> Outcome {
         Outcome {
@@ -70,7 +84,9 @@ impl From<u8> for Outcome {
 
 /// Prints the line for a run that ran out of memory, and gives the reason.
 pub(crate) fn put_memory<W: Sink>(out: &mut W) -> Outcome
-    ensures { IsReplyWritten (W.held out.old) (W.held out.new) (W.IsRefusal out.new) result.status Reply.Memory }
+    ensures written { IsReplyWritten (W.held out.old) (W.held out.new) (W.IsRefusal out.new) result.status
+        Reply.Memory }
+    ensures reported { IsReported result.reported Cause.Memory }
 {
     Outcome {
         status: put_reply(out, Reply::Memory),

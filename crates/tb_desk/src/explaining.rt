@@ -1,9 +1,13 @@
 //! Does command lines on a desk, and explains their answers. An explanation is made from the value that was answered,
 //! while the input that it is about is at hand.
 
-ghost use Rattle.std.specs.Prelude.{◌↔◌, IsTrue};
+ghost use Rattle.std.specs.Prelude.{◌≡◌, ◌≢◌, ◌↔◌, [], IfSome, IsTrue, MatchResult, None};
 ghost use Rattle.tb_conllu.specs.declared.fault.WriteFault.{WriteFault};
 ghost use Rattle.tb_cli.specs.Lines.{said_by};
+ghost use Rattle.tb_answer.specs.declared.ending.Ending.TheVariants.{BrokenOff};
+ghost use Rattle.tb_answer.specs.declared.written.Written.TheVariants.{Found, Reply as Replied};
+ghost use Rattle.tb_desk.specs.Explaining.{IsAskedBy};
+ghost use Rattle.tb_desk.specs.Reported.{IsOfAnswer, IsReported};
 ghost use Rattle.tb_desk.specs.Running.{FoundNothing, IsRead, IsRunOn, taken_of};
 
 use crate::causes::{Cause, FileCause};
@@ -25,7 +29,9 @@ pub(crate) fn reported_of_reply(
     reply: Reply,
     body: &[u8],
     asked: Asked<'_>,
-) -> Option<Diagnostic> {
+) -> Option<Diagnostic>
+    ensures { IfSome result (λ d. IsOfAnswer d.cause) }
+{
     if !wants_words(rt) {
         return None;
     }
@@ -33,7 +39,10 @@ pub(crate) fn reported_of_reply(
     Some(Diagnostic::from(Cause::Words(words)))
 }
 
-fn asked_of(line: &Line) -> Asked<'_> {
+/// What a line asks, as far as the words for a refusal depend on it.
+fn asked_of(line: &Line) -> Asked<'_>
+    ensures { IsAskedBy (said_by line.now) result }
+{
     match line {
         Line::Event { .. } => Asked::Event,
         Line::Correct { base, .. } => Asked::Correction(*base),
@@ -79,7 +88,9 @@ fn reported_of_empty<S: Alter>(
 
 /// Why the device failed on a command just now, at the file of its desk, where the system says more than that it
 /// failed.
-fn cause_at_file(rt: &HostRuntime, line: &Line, ran: Ran) -> Option<Diagnostic> {
+fn cause_at_file(rt: &HostRuntime, line: &Line, ran: Ran) -> Option<Diagnostic>
+    ensures { ran.written ≢ Replied Reply.Device → result ≡ None }
+{
     if !matches!(ran.written, Written::Reply(Reply::Device)) {
         return None;
     }
@@ -108,7 +119,8 @@ fn reported_of<S: Alter>(
     desk: &mut Desk<S>,
     ran: Ran,
 ) -> Option<Diagnostic>
-    ensures { IsRead S.Store desk.old desk.new }
+    ensures read { IsRead S.Store desk.old desk.new }
+    ensures broken_off { ran.written ≡ Found BrokenOff → IsReported result Cause.BrokenOff }
 {
     match ran.written {
         Written::Reply(reply) => reported_of_reply(rt, reply, body, asked_of(line)),
@@ -119,7 +131,9 @@ fn reported_of<S: Alter>(
 }
 
 /// The bytes of a body, none where it was not read.
-fn bytes_of(body: &Result<Vec<u8>, Reply>) -> &[u8] {
+fn bytes_of(body: &Result<Vec<u8>, Reply>) -> &[u8]
+    ensures { MatchResult body.now (λ bytes. result.now ≡ bytes.items) (λ _. result.now ≡ []) }
+{
     match body {
         Ok(bytes) => bytes.as_slice(),
         Err(_) => &[],

@@ -1,11 +1,12 @@
 //! Desks in files. This module is tested, not proved: no contract ties a file to its path.
 
-ghost use Rattle.std.specs.Prelude.{◌≡◌, ◌+◌, ◌/◌, false, min, IfOk, IsTrue};
+ghost use Rattle.std.specs.Prelude.{◌≡◌, ◌≢◌, ◌+◌, ◌/◌, ℕ, false, min, IfErr, IfOk, IsTrue, None};
 ghost use Rattle.sqlite.specs.Files.{IsOpened, file_state, over_files};
 ghost use Rattle.sqlite.specs.State.{HasCleanDisk};
 ghost use Rattle.sqlite.specs.Steps.{over_memory};
 ghost use Rattle.tb_desk.specs.Causes.{IsPathCause, reply_of_error, reply_of_fault};
-ghost use Rattle.tb_desk.specs.Contents.{what_to_undo};
+ghost use Rattle.sqlite.specs.declared.error.Error.{Error as DatabaseError};
+ghost use Rattle.tb_desk.specs.Contents.{cause_to_migrate, may_be_opened, what_to_undo};
 ghost use Rattle.tb_desk.specs.Opened.{IsEmptyDesk, IsMadeDesk, IsSomeDesk};
 ghost use Rattle.tb_desk.specs.Replies.{reply_of};
 
@@ -117,7 +118,9 @@ struct Log {
 }
 
 impl Log {
-    fn before(rt: &HostRuntime, path: &str) -> Result<Log, FileCause> {
+    fn before(rt: &HostRuntime, path: &str) -> Result<Log, FileCause>
+        ensures { IfErr result (λ cause. cause ≡ FileCause.Memory) }
+    {
         let path = match fs::canonicalize(rt, path) {
             Ok(real) => beside(rt, real.as_str(), "-wal")?,
             Err(_) => beside(rt, path, "-wal")?,
@@ -130,7 +133,9 @@ impl Log {
     }
 
     /// Looks at the log again. The file is locked now, so nobody else writes the log.
-    fn look(&mut self, rt: &HostRuntime) {
+    fn look(&mut self, rt: &HostRuntime)
+        ensures { (self.new.path ≡ self.old.path) × (self.new.was_there ≡ self.old.was_there) }
+    {
         self.is_empty = match fs::metadata(rt, self.path.as_str()) {
             Ok(found) => found.len() == 0,
             Err(_) => false,
@@ -171,7 +176,9 @@ fn pages_kept(bytes: u64, room: u64) -> u64
 }
 
 /// How many pages are kept for the file at this path.
-fn pages_to_keep(rt: &HostRuntime, path: &str, room: u64) -> usize {
+fn pages_to_keep(rt: &HostRuntime, path: &str, room: u64) -> usize
+    ensures { (bytes : ℕ) × (result ≡ min (bytes / 4096 + room) 49152) }
+{
     let bytes = match fs::metadata(rt, path) {
         Ok(metadata) => metadata.len(),
         Err(_) => 0,
@@ -179,7 +186,10 @@ fn pages_to_keep(rt: &HostRuntime, path: &str, room: u64) -> usize {
     pages_kept(bytes, room) as usize
 }
 
-fn options(rt: &HostRuntime, path: &str, room: u64) -> Result<Options, FileCause> {
+fn options(rt: &HostRuntime, path: &str, room: u64) -> Result<Options, FileCause>
+    ensures pages { IfOk result (λ o. (bytes : ℕ) × (o.cache_pages ≡ min (bytes / 4096 + room) 49152)) }
+    ensures cause { IfErr result (λ cause. cause ≡ FileCause.NoRandom) }
+{
     let Ok(state) = RandomState::new(rt) else {
         return Err(FileCause::NoRandom);
     };
@@ -200,6 +210,7 @@ fn over<D: Disk + Drop>(
     requires db { IsTrue (D.Disk.is_usable files.db) }
     ensures new { IfOk result (λ c. c.in_transaction ≡ false) }
     ensures opened { IfOk result (λ c. HasCleanDisk (file_state c) → IsOpened c) }
+    ensures cause { IfErr result (λ cause. (e : DatabaseError) × (reply_of cause ≡ reply_of_error e)) }
 {
     match Connection::open_files(rt.alloc(), files, options) {
         Ok(conn) => Ok(conn),
@@ -242,7 +253,9 @@ fn connect(
 }
 
 /// What is wrong first with the rows of a file that is no desk, where words are wanted.
-fn misfit_of<S: Alter>(rt: &HostRuntime, fault: Fault, conn: &mut Connection<S>) -> Option<Misfit> {
+fn misfit_of<S: Alter>(rt: &HostRuntime, fault: Fault, conn: &mut Connection<S>) -> Option<Misfit>
+    ensures { fault ≢ Fault.NotADesk → (result ≡ None) × (conn.new ≡ conn.old) }
+{
     if fault == Fault::NotADesk && wants_words(rt) {
         first_misfit(rt.alloc(), conn)
     } else {
@@ -270,12 +283,29 @@ fn given_up(
     cause
 }
 
-/// Refuses a file that by its first bytes, and those of its log, is not a desk of version 2. The file is not changed.
-pub(crate) fn look(rt: &HostRuntime, path: &str) -> Result<(), FileCause> {
-    match version_of(rt, path)? {
+/// Refuses a desk of another version than today's.
+fn may_be_opened(version: Version) -> Result<(), FileCause>
+    ensures { result ≡ may_be_opened version }
+{
+    match version {
         Version::Two => Ok(()),
         Version::One => Err(FileCause::Version1),
     }
+}
+
+/// The cause for a desk of this version that cannot be migrated: its rows, or its version.
+fn cause_to_migrate(version: Version) -> FileCause
+    ensures { result ≡ cause_to_migrate version }
+{
+    match version {
+        Version::One => FileCause::Rows(None),
+        Version::Two => FileCause::Version2,
+    }
+}
+
+/// Refuses a file that by its first bytes, and those of its log, is not a desk of version 2. The file is not changed.
+pub(crate) fn look(rt: &HostRuntime, path: &str) -> Result<(), FileCause> {
+    may_be_opened(version_of(rt, path)?)
 }
 
 /// A desk in memory, without a batch.
@@ -310,10 +340,7 @@ pub(crate) fn open(
 pub(crate) fn migrate(rt: &HostRuntime, program: &str, path: &str) -> Result<FileDesk, FileCause>
     ensures { IfOk result (λ migrated. IsSomeDesk over_files migrated.desk) }
 {
-    let not_a_desk = match version_of(rt, path)? {
-        Version::One => FileCause::Rows(None),
-        Version::Two => FileCause::Version2,
-    };
+    let not_a_desk = cause_to_migrate(version_of(rt, path)?);
     let mut log = Log::before(rt, path)?;
     let conn = connect(rt, program, path, &mut log, ROOM)?;
     match Desk::migrate(rt.alloc(), conn, LIMITS) {

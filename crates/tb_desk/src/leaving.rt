@@ -1,8 +1,9 @@
 //! Connections whose client has its answer. Their end keeps nobody from the desk.
 
-ghost use Rattle.std.specs.Prelude.{◌≡◌, ◌≤◌, ◌*◌, IfOk, IfSome, IsTrue};
+ghost use Rattle.std.specs.Prelude.{◌≡◌, ◌≤◌, ◌-◌, ◌*◌, IfOk, IfSome, IsTrue, MatchResult};
 ghost use Rattle.std.specs.Duration.{as_nanos};
 ghost use Rattle.tb_desk.specs.Patience.{seconds, wait_left};
+ghost use Rattle.tb_desk.specs.Serving.{end_after};
 ghost use Rattle.tb_http.specs.Asks.{body_limit};
 
 use crate::callers::is_none_yet;
@@ -52,6 +53,23 @@ impl Leaver {
         Ok(Some(leaver))
     }
 
+    /// Notes the result of one read. Returns whether the client sends nothing more, where nothing more can be read now.
+    fn note(&mut self, came: io::Result<usize>) -> Option<bool>
+        ensures end { result ≡ end_after came }
+        ensures left { self.new.left ≡ self.old.left }
+        ensures most { MatchResult came (λ count. self.new.most ≡ self.old.most - count)
+            (λ _. self.new.most ≡ self.old.most) }
+    {
+        match came {
+            Ok(0) => Some(true),
+            Ok(count) => {
+                self.most = self.most.saturating_sub(count);
+                None
+            }
+            Err(error) => Some(!is_none_yet(error.kind())),
+        }
+    }
+
     /// Reads some of what the client still sends. Returns whether it sends nothing more, or more than a request has.
     fn has_ended(&mut self) -> bool
         ensures left { self.new.left ≡ self.old.left }
@@ -60,10 +78,9 @@ impl Leaver {
         let mut rest = [0; 16_384];
         for _ in 0..READS {
             let mut stream = &self.stream;
-            match stream.read(&mut rest) {
-                Ok(0) => return true,
-                Ok(count) => self.most = self.most.saturating_sub(count),
-                Err(error) => return !is_none_yet(error.kind()),
+            let came = stream.read(&mut rest);
+            if let Some(has_ended) = self.note(came) {
+                return has_ended;
             }
         }
         self.most == 0

@@ -17,6 +17,7 @@ mod checking;
 mod contents;
 mod diagnostics;
 mod explaining;
+mod faults;
 mod files;
 mod leaving;
 mod logs;

@@ -1,8 +1,10 @@
 //! What a file is, by its own bytes, before the database opens it. Opening a file writes a log beside it, even where
 //! the file is no desk.
 
-ghost use Rattle.std.specs.Prelude.{◌≡◌, ◌↔◌, ◌⊎◌, ◌<◌, IsTrue, codes};
-ghost use Rattle.tb_desk.specs.Contents.{BeginsWith, ListsTables, is_hot, own_log_limit};
+ghost use Rattle.std.specs.Prelude.{◌≡◌, ◌↔◌, ◌++◌, ◌<◌, IfErr, IfOk, IsTrue, Err as ErrOf, codes, string_bytes};
+ghost use Rattle.tb_desk.specs.Causes.{IsSystemCause};
+ghost use Rattle.tb_desk.specs.Contents.{BeginsWith, IsOtherFile, IsReserved, ListsTables, is_hot, is_looked_at_again};
+ghost use Rattle.tb_desk.specs.Contents.{odd_cause, own_log_limit, version_by};
 
 use crate::causes::FileCause;
 use crate::contents::{Version, is_blank, listed_in};
@@ -24,7 +26,10 @@ const LOG_LOOKED_AT: u64 = 4_194_304;
 const HALF_MADE_LOG: u64 = 1_048_576;
 
 /// The path of a file beside another, which has this ending.
-pub(crate) fn beside(rt: &HostRuntime, path: &str, ending: &str) -> Result<String, FileCause> {
+pub(crate) fn beside(rt: &HostRuntime, path: &str, ending: &str) -> Result<String, FileCause>
+    ensures name { IfOk result (λ name. string_bytes name ≡ path.now ++ ending.now) }
+    ensures cause { IfErr result (λ cause. cause ≡ FileCause.Memory) }
+{
     match format!(in rt.alloc(); "{path}{ending}") {
         Ok(beside) => Ok(beside),
         Err(_) => Err(FileCause::Memory),
@@ -32,7 +37,9 @@ pub(crate) fn beside(rt: &HostRuntime, path: &str, ending: &str) -> Result<Strin
 }
 
 /// The path without links: a log is beside the file to which a link leads.
-pub(crate) fn real(rt: &HostRuntime, path: &str) -> Result<PathBuf, FileCause> {
+pub(crate) fn real(rt: &HostRuntime, path: &str) -> Result<PathBuf, FileCause>
+    ensures { IfErr result IsSystemCause }
+{
     match fs::canonicalize(rt, path) {
         Ok(real) => Ok(real),
         Err(error) => Err(FileCause::of_system(error)),
@@ -40,7 +47,9 @@ pub(crate) fn real(rt: &HostRuntime, path: &str) -> Result<PathBuf, FileCause> {
 }
 
 /// The first bytes of a file, at most so many; empty for a missing file.
-pub(crate) fn beginning(rt: &HostRuntime, path: &str, most: u64) -> Result<Vec<u8>, FileCause> {
+pub(crate) fn beginning(rt: &HostRuntime, path: &str, most: u64) -> Result<Vec<u8>, FileCause>
+    ensures { IfErr result IsSystemCause }
+{
     let mut bytes = Vec::new(rt.alloc());
     match fs::File::open(rt, path) {
         Ok(file) => match file.take(most).read_to_end(&mut bytes) {
@@ -81,11 +90,32 @@ fn has_journal(rt: &HostRuntime, path: &str) -> Result<bool, FileCause> {
     Ok(is_hot(&first))
 }
 
+/// Whether a file begins as a database does.
+fn has_header(head: &[u8]) -> bool
+    ensures { IsTrue result ↔ BeginsWith head.now (codes "SQLite format 3\0") }
+{
+    head.starts_with(HEADER)
+}
+
+/// Whether a file holds something that is no database.
+fn is_other_file(head: &[u8]) -> bool
+    ensures { IsTrue result ↔ IsOtherFile head.now }
+{
+    !head.is_empty() && !has_header(head)
+}
+
+/// The version by the tables in the log, or by those in the file where the log has none.
+fn version_by(in_log: Option<Version>, in_file: Option<Version>) -> Result<Version, FileCause>
+    ensures { result ≡ version_by in_log in_file }
+{
+    in_log.or(in_file).ok_or(FileCause::OtherDatabase)
+}
+
 /// The version of desk that a file may be, by the first bytes of it and its log, read once. The log has tables that
 /// the file itself does not have yet.
 fn listed_now(rt: &HostRuntime, path: &str) -> Result<Version, FileCause> {
     let head = beginning(rt, path, LOOKED_AT)?;
-    if !head.is_empty() && !head.starts_with(HEADER) {
+    if is_other_file(&head) {
         return Err(FileCause::NotSqlite);
     }
     let in_file = listed_in(&head);
@@ -101,28 +131,42 @@ fn listed_now(rt: &HostRuntime, path: &str) -> Result<Version, FileCause> {
         return Err(FileCause::Empty);
     }
     let log = beginning(rt, log_path.as_str(), LOG_LOOKED_AT)?;
-    listed_in(&log).or(in_file).ok_or(FileCause::OtherDatabase)
+    version_by(listed_in(&log), in_file)
+}
+
+/// Whether a file is looked at a second time, by what the first look has found.
+fn is_looked_at_again(found: Result<Version, FileCause>) -> bool
+    ensures { result ≡ is_looked_at_again found }
+{
+    match found {
+        Err(FileCause::Empty) => true,
+        Err(FileCause::OtherDatabase) => true,
+        _ => false,
+    }
 }
 
 /// The version of desk that a file may be. While another command closes a desk, its tables move from the log into the
 /// file. If neither has them at the first look, the file has them at the second.
 fn listed(rt: &HostRuntime, path: &str) -> Result<Version, FileCause> {
-    match listed_now(rt, path) {
-        Err(FileCause::Empty | FileCause::OtherDatabase) => listed_now(rt, path),
-        found => found,
+    let found = listed_now(rt, path);
+    if is_looked_at_again(found) {
+        return listed_now(rt, path);
     }
+    found
 }
 
 /// Whether SQLite gives the name a meaning of its own, so that it is no file.
 pub(crate) fn is_no_path(path: &str) -> bool
-    ensures { IsTrue result ↔ (path.now ≡ codes ":memory:") ⊎ BeginsWith path.now (codes "file:") }
+    ensures { IsTrue result ↔ IsReserved path.now }
 {
     path == ":memory:" || path.starts_with("file:")
 }
 
-/// The cause for a path that has something other than a plain file.
-fn odd(found: &fs::Metadata) -> FileCause {
-    if found.is_dir() {
+/// The cause for a path that has a folder, or something else than a plain file.
+fn odd_cause(is_folder: bool) -> FileCause
+    ensures { result ≡ odd_cause is_folder }
+{
+    if is_folder {
         FileCause::Folder
     } else {
         FileCause::NotPlain
@@ -130,13 +174,15 @@ fn odd(found: &fs::Metadata) -> FileCause {
 }
 
 /// The version of the desk that a plain file may be, by its first bytes.
-pub(crate) fn version_of(rt: &HostRuntime, path: &str) -> Result<Version, FileCause> {
+pub(crate) fn version_of(rt: &HostRuntime, path: &str) -> Result<Version, FileCause>
+    ensures { IsReserved path.now → result ≡ ErrOf FileCause.ReservedName }
+{
     if is_no_path(path) {
         return Err(FileCause::ReservedName);
     }
     match fs::metadata(rt, path) {
         Ok(found) if found.is_file() => {}
-        Ok(found) => return Err(odd(&found)),
+        Ok(found) => return Err(odd_cause(found.is_dir())),
         Err(error) => return Err(FileCause::of_system(error)),
     }
     let real = real(rt, path)?;
@@ -197,13 +243,15 @@ fn look_at_new(rt: &HostRuntime, path: &str) -> Result<(), FileCause> {
 
 /// Refuses a path at which no desk may be made. One may be made where there is nothing, an empty file or a blank
 /// database, and no log of another desk.
-pub(crate) fn may_become_desk(rt: &HostRuntime, path: &str) -> Result<(), FileCause> {
+pub(crate) fn may_become_desk(rt: &HostRuntime, path: &str) -> Result<(), FileCause>
+    ensures { IsReserved path.now → result ≡ ErrOf FileCause.ReservedName }
+{
     if is_no_path(path) {
         return Err(FileCause::ReservedName);
     }
     match fs::metadata(rt, path) {
         Ok(found) if found.is_file() => look_at_new(rt, real(rt, path)?.as_str()),
-        Ok(found) => Err(odd(&found)),
+        Ok(found) => Err(odd_cause(found.is_dir())),
         Err(error) if error.kind() == ErrorKind::NotFound => look_at_new(rt, path),
         Err(error) => Err(FileCause::of_system(error)),
     }

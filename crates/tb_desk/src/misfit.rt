@@ -1,6 +1,9 @@
 //! Which row is wrong first in a file whose rows are not those of a desk, for the words about it. This decides nothing:
 //! it reads the tables once more, after the file was refused.
 
+ghost use Rattle.std.specs.Prelude.{◌≡◌, ◌≢◌, ◌↔◌, ◌≤◌, [], ◌∷◌, IsOk, IsTrue};
+ghost use Rattle.tb_desk.specs.Misfits.{query_of_numbers, table_name};
+
 use sqlite::types::ValueRef;
 use sqlite::{Alter, Connection, Row};
 use std::alloc::{AllocError, AllocFailed, Global};
@@ -22,7 +25,9 @@ pub enum Table {
 }
 
 impl Table {
-    fn name(self) -> &'static str {
+    fn name(self) -> &'static str
+        ensures { result.now ≡ table_name self }
+    {
         match self {
             Table::Batches => "batches",
             Table::Sentences => "sentences",
@@ -32,7 +37,9 @@ impl Table {
     }
 
     /// The query for the numbers of its rows.
-    fn numbers(self) -> &'static str {
+    fn numbers(self) -> &'static str
+        ensures { result.now ≡ query_of_numbers self }
+    {
         match self {
             Table::Batches => "SELECT no FROM batches ORDER BY no",
             Table::Sentences => "SELECT no FROM sentences ORDER BY no",
@@ -153,7 +160,9 @@ fn keyed_rows<T>(read: Result<Vec<T>, ReadError>, table: &'static str) -> Result
     }
 }
 
-fn look_at_version(versions: &[u32]) -> Result<(), Stop> {
+fn look_at_version(versions: &[u32]) -> Result<(), Stop>
+    ensures { IsOk result ↔ (versions.now ≡ 2 ∷ []) }
+{
     match versions {
         [2] => Ok(()),
         _ => Err(Stop::Found(Misfit::Version)),
@@ -234,7 +243,9 @@ impl<'a> Rest<'a> {
 }
 
 /// Whether a sentence is in a batch that is there, and has as many revisions as its row says.
-fn has_its_rows(row: &SentenceRow, batches: usize, revisions: usize) -> bool {
+fn has_its_rows(row: &SentenceRow, batches: usize, revisions: usize) -> bool
+    ensures { IsTrue result ↔ (row.now.batch ≢ 0) × (row.now.batch ≤ batches) × (row.now.rev ≡ revisions) }
+{
     row.batch != 0 && row.batch as usize <= batches && row.rev as usize == revisions
 }
 

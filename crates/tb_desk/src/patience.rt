@@ -1,6 +1,6 @@
 //! Time limits for clients, so that none keeps the desk to itself.
 
-ghost use Rattle.std.specs.Prelude.{◌≡◌, ◌↔◌, ◌≤◌, IfOk, IsTrue, min};
+ghost use Rattle.std.specs.Prelude.{◌≡◌, ◌↔◌, ◌≤◌, ℕ, IfOk, IsErr, IsTrue, MatchResult, None, Some, false, min};
 ghost use Rattle.std.specs.Duration.{as_nanos};
 ghost use Rattle.tb_desk.specs.Patience.{IsReadTime, answer_time, seconds, wait_left};
 
@@ -104,7 +104,10 @@ impl<'a> Patient<'a> {
     }
 
     /// How long the next read may take.
-    fn left(&self) -> io::Result<Duration> {
+    fn left(&self) -> io::Result<Duration>
+        ensures { IfOk result (λ d. (elapsed : ℕ)
+            × IsReadTime (as_nanos self.now.each) (as_nanos self.now.whole) elapsed (Some d)) }
+    {
         match read_time(self.each, self.whole, self.since.elapsed(self.rt)?) {
             Some(time) => Ok(time),
             None => Err(io::Error::from(ErrorKind::TimedOut)),
@@ -125,7 +128,9 @@ impl Read for Patient<'_> {
 }
 
 /// Whether the files of a desk are no longer in their place. A desk in memory has no files.
-pub(crate) fn has_changed(rt: &HostRuntime, place: Option<&Place>) -> bool {
+pub(crate) fn has_changed(rt: &HostRuntime, place: Option<&Place>) -> bool
+    ensures { place.entry ≡ None → result ≡ false }
+{
     match place {
         Some(place) => place.has_changed(rt),
         None => false,
@@ -144,7 +149,9 @@ pub(crate) struct Answer<'a> {
 }
 
 impl<'a> Answer<'a> {
-    pub(crate) fn new(rt: &'a HostRuntime, stream: &'a TcpStream) -> Answer<'a> {
+    pub(crate) fn new(rt: &'a HostRuntime, stream: &'a TcpStream) -> Answer<'a>
+        ensures { as_nanos result.left ≡ seconds 3 }
+    {
         Answer {
             rt,
             stream,
@@ -153,7 +160,9 @@ impl<'a> Answer<'a> {
     }
 
     /// Limits the next write to the time that is left. The write begins now.
-    fn begin(&self) -> io::Result<Instant> {
+    fn begin(&self) -> io::Result<Instant>
+        ensures { as_nanos self.now.left ≡ 0 → IsErr result }
+    {
         if self.left.is_zero() {
             return Err(io::Error::from(ErrorKind::TimedOut));
         }
@@ -162,19 +171,23 @@ impl<'a> Answer<'a> {
     }
 
     /// Notes that a write which began at `since` wrote `count` bytes.
-    fn note(&mut self, since: Instant, count: usize) {
+    fn count(&mut self, since: Instant, count: usize)
+        ensures { (took : ℕ) × (as_nanos self.new.left ≡ answer_time (as_nanos self.old.left) took count) }
+    {
         let took = since.elapsed(self.rt).unwrap_or(Duration::ZERO);
         self.left = answer_time(self.left, took, count);
     }
-}
 
-impl Write for Answer<'_> {
-    fn write(&mut self, buf: &[u8]) -> io::Result<usize> {
-        let since = self.begin()?;
-        let mut stream = self.stream;
-        match stream.write(buf) {
+    /// Notes the result of a write that began at `since`. After one that failed no time is left.
+    fn note(&mut self, since: Instant, taken: io::Result<usize>) -> io::Result<usize>
+        ensures taken { result ≡ taken }
+        ensures left { MatchResult taken
+            (λ count. (took : ℕ) × (as_nanos self.new.left ≡ answer_time (as_nanos self.old.left) took count))
+            (λ _. as_nanos self.new.left ≡ 0) }
+    {
+        match taken {
             Ok(count) => {
-                self.note(since, count);
+                self.count(since, count);
                 Ok(count)
             }
             Err(error) => {
@@ -182,6 +195,15 @@ impl Write for Answer<'_> {
                 Err(error)
             }
         }
+    }
+}
+
+impl Write for Answer<'_> {
+    fn write(&mut self, buf: &[u8]) -> io::Result<usize> {
+        let since = self.begin()?;
+        let mut stream = self.stream;
+        let taken = stream.write(buf);
+        self.note(since, taken)
     }
 
     fn flush(&mut self) -> io::Result<()> {

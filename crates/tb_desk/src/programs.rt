@@ -1,7 +1,8 @@
 //! A whole program: it takes the words of the command line and the standard streams, and ends with a status. At its end
 //! standard error gets the cause that was returned, with the place, and what happened to the streams.
 
-ghost use Rattle.std.specs.Prelude.{◌≡◌, MatchResult};
+ghost use Rattle.std.specs.Prelude.{◌≡◌, ◌⊎◌, ◌↔◌, IsTrue, MatchResult, None};
+ghost use Rattle.tb_desk.specs.Reported.{IsOfAnswer, IsUnbegun, also_reported};
 
 use crate::causes::{Cause, StreamCause};
 use crate::diagnostics::{Diagnostic, Outcome, wants_words};
@@ -45,25 +46,50 @@ fn tell(rt: &HostRuntime, program: &str, cause: Cause) -> io::Result<()> {
     eprintln!(rt; "{program}: {cause}")
 }
 
+/// What there is to report beside the cause that the program returns: an input that failed. If none did, that an answer
+/// is incomplete, though all of it was written.
+fn also_reported(
+    input: Option<StreamCause>,
+    output: Option<StreamCause>,
+    is_reported: bool,
+    status: u8,
+) -> Option<Cause>
+    ensures { result ≡ also_reported input output is_reported status }
+{
+    match (input, output) {
+        (Some(cause), _) => Some(Cause::Stream(cause)),
+        (None, Some(_)) => None,
+        (None, None) if is_reported => None,
+        (None, None) if status == 3 => Some(Cause::BrokenOff),
+        (None, None) => None,
+    }
+}
+
+/// Whether a cause is reported first. Where an input failed, no answer that followed from it is explained.
+fn comes_first(reported: &Diagnostic, input: Option<StreamCause>) -> bool
+    ensures { IsTrue result ↔ (input ≡ None) ⊎ (¬ IsOfAnswer reported.now.cause) }
+{
+    input.is_none() || !reported.is_of_answer()
+}
+
 impl Ended<'_> {
-    /// Reports an input that failed. If none did, reports that an answer is incomplete, though all of it was written.
+    /// Reports what there is beside the cause that the program returns.
     fn tell_rest(&self, rt: &HostRuntime) -> io::Result<()> {
-        match self.input {
-            Some(cause) => tell(rt, self.program, Cause::Stream(cause)),
-            None if self.status == 3 && self.output.is_none() && self.reported.is_none() => tell(
-                rt,
-                self.program,
-                Cause::BrokenOff,
-            ),
+        match also_reported(
+            self.input,
+            self.output,
+            self.reported.is_some(),
+            self.status,
+        ) {
+            Some(cause) => tell(rt, self.program, cause),
             None => Ok(()),
         }
     }
 
-    /// Prints why the answer is what it is. Where an input failed, that is reported, not the answer that followed from
-    /// it.
+    /// Prints why the answer is what it is.
     fn tell_cause(&self, rt: &HostRuntime) -> io::Result<()> {
         match &self.reported {
-            Some(reported) if self.input.is_none() || !reported.is_of_answer() => {
+            Some(reported) if comes_first(reported, self.input) => {
                 eprintln!(rt; "{}: {}", self.program, reported)
             }
             _ => self.tell_rest(rt),
@@ -116,11 +142,39 @@ fn run<P: Program>(rt: &HostRuntime, program: &P, held: &Held) -> io::Result<u8>
     Ok(status)
 }
 
+/// How a run ends that did not begin: the line that is printed, the exit status, and the reason.
+#[derive(Drop)]
+struct Unbegun {
+    line: &'static str,
+    status: u8,
+    cause: Cause,
+}
+
+/// How a run ends that did not begin for this error. Where there is memory, a word is not text.
+fn unbegun_for(kind: ErrorKind) -> Unbegun
+    ensures { IsUnbegun kind result }
+{
+    match kind {
+        ErrorKind::OutOfMemory => Unbegun {
+            line: "refused memory\n",
+            status: 3,
+            cause: Cause::Memory,
+        },
+        _ => Unbegun {
+            line: "refused usage\n",
+            status: 2,
+            cause: Cause::NotText,
+        },
+    }
+}
+
 /// Prints the line of a run that did not begin, and the reason.
-fn put_and_tell(rt: &HostRuntime, program: &str, line: &str, status: u8, cause: Cause) -> u8 {
-    let status = put_reply(&mut rt.stdout(), line, status);
+fn put_and_tell(rt: &HostRuntime, program: &str, unbegun: Unbegun) -> u8
+    ensures { (result ≡ unbegun.status) ⊎ (result ≡ 3) }
+{
+    let status = put_reply(&mut rt.stdout(), unbegun.line, unbegun.status);
     if wants_words(rt) {
-        let _reported = tell(rt, program, cause);
+        let _reported = tell(rt, program, unbegun.cause);
     }
     status
 }
@@ -130,13 +184,6 @@ pub fn run_program<P: Program>(rt: &HostRuntime, program: &P) -> u8 {
     let held = Held::new(rt);
     match run(rt, program, &held) {
         Ok(status) => status,
-        Err(error) if error.kind() == ErrorKind::OutOfMemory => put_and_tell(
-            rt,
-            program.name(),
-            "refused memory\n",
-            3,
-            Cause::Memory,
-        ),
-        Err(_) => put_and_tell(rt, program.name(), "refused usage\n", 2, Cause::NotText),
+        Err(error) => put_and_tell(rt, program.name(), unbegun_for(error.kind())),
     }
 }

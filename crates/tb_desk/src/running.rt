@@ -1,6 +1,6 @@
 //! Does a command line: makes a desk in a file, or works on the desk in a file or in memory.
 
-ghost use Rattle.std.specs.Prelude.{◌≡◌, ◌⊎◌, true};
+ghost use Rattle.std.specs.Prelude.{◌≡◌, ◌≢◌, ◌⊎◌, IfSome, None, true};
 ghost use Rattle.sqlite.specs.Files.{over_files};
 ghost use Rattle.tb_conllu.specs.declared.fault.WriteFault.{WriteFault};
 ghost use Rattle.tb_cli.specs.Lines.{said_by};
@@ -8,6 +8,7 @@ ghost use Rattle.tb_answer.specs.Output.{IsWritten};
 ghost use Rattle.tb_desk.specs.Lines.{IsMadeOrRefused, IsMigratedOrRefused, IsServedOrRun};
 ghost use Rattle.tb_desk.specs.Running.{IsRunOn, taken_of};
 ghost use Rattle.tb_desk.specs.Explaining.{cause_in_memory};
+ghost use Rattle.tb_desk.specs.Reported.{IsReported};
 ghost use Rattle.tb_desk.specs.Targets.{changes, in_file, in_memory, place_in, room_for, serves};
 
 use crate::causes::Cause;
@@ -160,7 +161,10 @@ fn cause_in_memory(line: &Line) -> Option<Cause>
 }
 
 /// What there is to say of a line that ended with this status on a desk in memory.
-fn reported_in_memory(line: &Line, status: u8, reported: Option<Diagnostic>) -> Option<Diagnostic> {
+fn reported_in_memory(line: &Line, status: u8, reported: Option<Diagnostic>) -> Option<Diagnostic>
+    ensures done { status ≡ 0 → IfSome (cause_in_memory (said_by line.now)) (IsReported result) }
+    ensures otherwise { (status ≢ 0) ⊎ (cause_in_memory (said_by line.now) ≡ None) → result ≡ reported }
+{
     match cause_in_memory(line) {
         Some(cause) if status == 0 => Some(Diagnostic::from(cause)),
         _ => reported,

@@ -1,11 +1,17 @@
 //! Serves the desk over HTTP on loopback: one connection after another, with one request each.
 
-ghost use Rattle.std.specs.Prelude.{◌≡◌, ◌≢◌, ◌++◌, IsTrue, codes, false};
+ghost use Rattle.std.specs.Prelude.{◌≡◌, ◌≢◌, ◌++◌, ◌↔◌, IfErr, IfOk, IfSome, IsTrue};
+ghost use Rattle.std.specs.Prelude.{None, Err as ErrOf, Ok as OkOf, OnOk, codes, false};
+ghost use Rattle.std.specs.Io.KnownBytes.{Appends};
 ghost use Rattle.std.specs.Net.Addr.{ipv4_octets};
 ghost use Rattle.sqlite.specs.Held.{state};
 ghost use Rattle.sqlite.specs.State.{HasCleanDisk};
 ghost use Rattle.tb_desk.specs.Replies.{IsReplyWritten};
-ghost use Rattle.tb_desk.specs.Serving.{listening, loopback, page_at};
+ghost use Rattle.tb_answer.specs.Served.{Serves};
+ghost use Rattle.tb_desk.specs.Reported.{IsReported};
+ghost use Rattle.tb_desk.specs.Serving.{IsPortRefused, IsServerEnd, ended_by, listening, loopback, page_at, page_line};
+ghost use Rattle.tb_page.specs.Answered.{AnswersVisit};
+ghost use Rattle.tb_page.specs.Visits.{VisitText, Visits};
 ghost use Rattle.tb_tables.specs.Leaving.{IsFaultless};
 
 use crate::callers::Caller;
@@ -13,14 +19,14 @@ use crate::causes::{Cause, PortCause};
 use crate::diagnostics::{Diagnostic, Outcome, put_memory, wants_words};
 use crate::patience::{Answer, has_changed};
 use crate::place::Place;
-use crate::viewing::DESKVIEW;
 use crate::waiting::Waiting;
 use arrayvec::ArrayString;
 use sqlite::Alter;
+use std::alloc::Global;
 use std::io::{BufWriter, Write};
 use std::net::{Ipv4Addr, TcpListener, TcpStream};
 use tb_answer::{Broken, answer, put_reply, respond_reply};
-use tb_conllu::Sink;
+use tb_conllu::{Sink, Source};
 use tb_http::{Reply, Routes, Status, push_number};
 use tb_page::answer_with_page;
 use tb_store::Desk;
@@ -56,6 +62,47 @@ fn refuse<'a>(rt: &'a HostRuntime, stream: &'a TcpStream, reply: Reply) {
     let _ = respond_reply(&mut out, reply);
 }
 
+/// Answers the request that a reader gives, with the page beside the desk where there is a port for it. `came` is what
+/// has come of the request.
+fn answer_at<S: Alter, R: Source, W: Sink>(
+    alloc: Global,
+    routes: &Routes,
+    page: Option<u16>,
+    came: &[u8],
+    desk: &mut Desk<S>,
+    reader: &mut R,
+    out: &mut W,
+) -> Result<Status, Broken>
+    ensures alone { page ≡ None → result ≢ ErrOf Broken.Read
+        → Serves S.Store (R.left reader.old) desk.old desk.new (W.held out.old) (W.held out.new)
+        (W.IsRefusal out.new) result }
+    ensures broken { page ≡ None → result ≡ ErrOf Broken.Read
+        → (desk.new ≡ desk.old) × (W.held out.new ≡ W.held out.old) }
+    ensures page { IfSome page (λ port. (v : VisitText) × Visits port came.now v
+        × AnswersVisit S.Store desk.old desk.new (W.held out.old) (W.held out.new) (W.IsRefusal out.new) result
+        came.now (R.left reader.old) v) }
+    ensures limits { desk.new.limits ≡ desk.old.limits }
+{
+    match page {
+        Some(port) => answer_with_page(alloc, routes, port, came, desk, reader, out),
+        None => answer(alloc, routes, desk, reader, out),
+    }
+}
+
+/// What follows from an answer: whether the client has it whole, or why the server ends. `has_moved` says whether the
+/// desk's files are no longer in their place, `is_shut` whether a fault has shut the store.
+fn ended_by(answered: Result<Status, Broken>, has_moved: bool, is_shut: bool) -> Result<bool, Cause>
+    ensures { result ≡ ended_by answered has_moved is_shut }
+{
+    match answered {
+        Ok(_) if is_shut => Err(Cause::FileShut),
+        Ok(_) => Ok(true),
+        Err(Broken::Read) if has_moved => Err(Cause::FilesMoved),
+        Err(Broken::Read) => Ok(false),
+        Err(Broken::Write) => Ok(false),
+    }
+}
+
 /// Reads one request of a connection and answers it. Returns whether the client has a whole answer.
 ///
 /// Where the desk's files are no longer in their place, nothing is done. A connection that fails counts as served.
@@ -70,7 +117,11 @@ fn serve_one<'a, S: Alter>(
     place: Option<&'a Place>,
     page: Option<u16>,
     caller: &'a Caller,
-) -> Result<bool, Cause> {
+) -> Result<bool, Cause>
+    ensures cause { IfErr result IsServerEnd }
+    ensures in_memory { place.entry ≡ None → result ≢ ErrOf Cause.FilesMoved }
+    ensures limits { desk.new.limits ≡ desk.old.limits }
+{
     let stream = caller.stream();
     if has_changed(rt, place) {
         refuse(rt, stream, Reply::Device);
@@ -83,33 +134,25 @@ fn serve_one<'a, S: Alter>(
         refuse(rt, stream, Reply::Memory);
         return Ok(true);
     };
-    let answered = match page {
-        Some(port) => answer_with_page(
-            rt.alloc(),
-            routes,
-            port,
-            caller.said(),
-            desk,
-            &mut reader,
-            &mut out,
-        ),
-        None => answer(rt.alloc(), routes, desk, &mut reader, &mut out),
-    };
+    let answered = answer_at(
+        rt.alloc(),
+        routes,
+        page,
+        caller.said(),
+        desk,
+        &mut reader,
+        &mut out,
+    );
     let _ = out.flush();
-    match answered {
-        Err(Broken::Read) if has_changed(rt, place) => {
-            refuse(rt, stream, Reply::Device);
-            Err(Cause::FilesMoved)
-        }
-        Err(_) => Ok(false),
-        Ok(status) => {
-            if has_shut(desk, status) {
-                Err(Cause::FileShut)
-            } else {
-                Ok(true)
-            }
-        }
+    let has_moved = answered == Err(Broken::Read) && has_changed(rt, place);
+    if has_moved {
+        refuse(rt, stream, Reply::Device);
     }
+    let is_shut = match answered {
+        Ok(status) => has_shut(desk, status),
+        Err(_) => false,
+    };
+    ended_by(answered, has_moved, is_shut)
 }
 
 /// Whether a fault has shut the desk's store. Only a response that says that something failed is a reason to ask.
@@ -137,24 +180,35 @@ fn listening(port: u16) -> ArrayString<32>
 }
 
 /// Prints the port at once, for programs that wait to connect to it.
-fn announce<W: Write>(port: u16, out: &mut W) -> Result<(), Reply> {
+fn announce<W: Write>(port: u16, out: &mut W) -> Result<(), Reply>
+    ensures told { OnOk result (Appends (W.contents out.old) (W.contents out.new) (listening port)) }
+    ensures failed { IfErr result (λ reply. reply ≡ Reply.Device) }
+{
     let line = listening(port);
-    match out
-        .write_all(line.as_str().as_bytes())
-        .and_then(|()| out.flush())
-    {
+    if out.write_all(line.as_str().as_bytes()).is_err() {
+        return Err(Reply::Device);
+    }
+    match out.flush() {
         Ok(()) => Ok(()),
         Err(_) => Err(Reply::Device),
     }
 }
 
+/// The line that says where the page is.
+fn page_line(port: u16) -> ArrayString<80>
+    ensures { result.bytes ≡ page_line port }
+{
+    let mut line = ArrayString::new();
+    line.push_str("deskview: open http://127.0.0.1:");
+    push_number(&mut line, u64::from(port));
+    line.push_str("/ in a browser");
+    line
+}
+
 /// Tells at a terminal where the page is, which a user opens next. A failure to print it is ignored.
 fn tell_address(rt: &HostRuntime, port: u16) {
     if wants_words(rt) {
-        let _told = eprintln!(rt;
-            "{}: open http://127.0.0.1:{}/ in a browser",
-            DESKVIEW, port
-        );
+        let _told = eprintln!(rt; "{}", page_line(port).as_str());
     }
 }
 
@@ -166,7 +220,9 @@ fn loopback() -> Ipv4Addr
 }
 
 /// Listens on this port of loopback; for port 0 the system chooses one. Returns the port.
-fn listen(rt: &HostRuntime, port: u16) -> Result<(TcpListener, u16), PortCause> {
+fn listen(rt: &HostRuntime, port: u16) -> Result<(TcpListener, u16), PortCause>
+    ensures { IfErr result (IsPortRefused port) }
+{
     match TcpListener::bind(rt, (loopback(), port)) {
         Ok(listener) => match listener.local_addr() {
             Ok(address) => Ok((listener, address.port())),
@@ -176,6 +232,18 @@ fn listen(rt: &HostRuntime, port: u16) -> Result<(TcpListener, u16), PortCause> 
     }
 }
 
+/// Whether a client has an answer, by what serving it led to. Then its connection is ended, and not just closed.
+fn has_answer(served: &Result<bool, Cause>) -> bool
+    ensures { IsTrue result ↔ (served.now ≢ OkOf false) }
+{
+    !matches!(served, Ok(false))
+}
+
+/// Serves one connection after another. Returns how many it took.
+///
+/// # Errors
+///
+/// The cause, if the desk cannot be served any further.
 fn serve_all<S: Alter>(
     rt: &HostRuntime,
     routes: Routes,
@@ -185,14 +253,21 @@ fn serve_all<S: Alter>(
     mut waiting: Waiting,
     listener: TcpListener,
     requests: u64,
-) -> Result<(), Cause> {
+) -> Result<u64, Cause>
+    ensures all { IfOk result (λ taken. taken ≡ requests) }
+    ensures cause { IfErr result IsServerEnd }
+    ensures in_memory { place.entry ≡ None → result ≢ ErrOf Cause.FilesMoved }
+    ensures limits { desk.new.limits ≡ desk.old.limits }
+{
+    let mut taken = 0u64;
     for _ in 0..requests {
         let Ok(next) = waiting.next(rt, &routes, &listener) else {
             return Err(Cause::NoConnections);
         };
+        taken += 1;
         let Some(caller) = next else { continue };
         let served = serve_one(rt, &routes, desk, place, page, &caller);
-        if !matches!(served, Ok(false)) {
+        if has_answer(&served) {
             waiting.part(caller);
         }
         if let Err(cause) = served {
@@ -201,12 +276,14 @@ fn serve_all<S: Alter>(
         }
     }
     waiting.part_all(rt);
-    Ok(())
+    Ok(taken)
 }
 
 /// Reports that the program cannot listen on a port.
 fn put_port_cause<W: Sink>(rt: &HostRuntime, port: u16, cause: PortCause, out: &mut W) -> Outcome
-    ensures { IsReplyWritten (W.held out.old) (W.held out.new) (W.IsRefusal out.new) result.status Reply.Device }
+    ensures written { IsReplyWritten (W.held out.old) (W.held out.new) (W.IsRefusal out.new) result.status
+        Reply.Device }
+    ensures reported { IsReported result.reported (Cause.Port cause) }
 {
     Outcome {
         status: put_reply(out, Reply::Device),
@@ -219,7 +296,9 @@ fn put_port_cause<W: Sink>(rt: &HostRuntime, port: u16, cause: PortCause, out: &
 
 /// Reports why a server ended early.
 fn put_ended<W: Sink>(cause: Cause, out: &mut W) -> Outcome
-    ensures { IsReplyWritten (W.held out.old) (W.held out.new) (W.IsRefusal out.new) result.status Reply.Device }
+    ensures written { IsReplyWritten (W.held out.old) (W.held out.new) (W.IsRefusal out.new) result.status
+        Reply.Device }
+    ensures reported { IsReported result.reported cause }
 {
     Outcome {
         status: put_reply(out, Reply::Device),
@@ -258,7 +337,7 @@ pub(crate) fn serve<S: Alter, W: Write>(
         tell_address(rt, port);
     }
     match serve_all(rt, routes, desk, place, page, waiting, listener, requests) {
-        Ok(()) => Outcome::from(0),
+        Ok(_) => Outcome::from(0),
         Err(cause) => put_ended(cause, out),
     }
 }

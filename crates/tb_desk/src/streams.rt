@@ -1,7 +1,11 @@
 //! The standard streams of a program: what is known of them where they fail or are closed.
 
-ghost use Rattle.std.specs.Prelude.{◌≡◌};
-ghost use Rattle.tb_desk.specs.Streams.{first_failure, input_cause_of, output_cause_of};
+ghost use Rattle.std.specs.Prelude.{◌≡◌, ◌↔◌, IsTrue, MatchResult, None, false, true};
+ghost use Rattle.std.specs.Io.{ReadsAtMost, WritesAtMost};
+ghost use Rattle.std.specs.Io.KnownBytes.{Keeps, ReadConsumes, WriteAppends};
+ghost use Rattle.std.specs.IoError.{error_kind};
+ghost use Rattle.tb_desk.specs.Streams.{HasDescriptor, IsInputCause, IsOutputCause, StandsFor};
+ghost use Rattle.tb_desk.specs.Streams.{first_failure, input_cause_of, last_failure, output_cause_of};
 
 use crate::causes::StreamCause;
 use std::fs::File;
@@ -51,40 +55,60 @@ fn first_failure(before: Option<ErrorKind>, kind: ErrorKind) -> Option<ErrorKind
     }
 }
 
+/// The last failure of a stream, of one before and this one. A read that a signal interrupted is tried again, and is
+/// none.
+fn last_failure(before: Option<ErrorKind>, kind: ErrorKind) -> Option<ErrorKind>
+    ensures { result ≡ last_failure before kind }
+{
+    match kind {
+        ErrorKind::Interrupted => before,
+        kind => Some(kind),
+    }
+}
+
+/// Whether an opened file has this descriptor.
+fn has_descriptor(file: &io::Result<File>, number: i32) -> bool
+    ensures { IsTrue result ↔ HasDescriptor number file.now }
+{
+    match file {
+        Ok(file) => file.as_raw_fd() == number,
+        Err(_) => false,
+    }
+}
+
 /// Files that take the place of standard streams that are closed. Otherwise the file of a desk would get the
 /// descriptor of a stream, and what is printed would be written into it.
 ///
 /// Such an input is empty, and such an output accepts nothing.
 #[derive(Drop)]
 pub(crate) struct Held {
-    files: [io::Result<File>; 3],
+    first: io::Result<File>,
+    second: io::Result<File>,
+    third: io::Result<File>,
 }
 
 impl Held {
     pub(crate) fn new(rt: &HostRuntime) -> Held {
         Held {
-            files: [
-                File::open(rt, "/dev/null"),
-                File::open(rt, "/dev/null"),
-                File::open(rt, "/dev/null"),
-            ],
+            first: File::open(rt, "/dev/null"),
+            second: File::open(rt, "/dev/null"),
+            third: File::open(rt, "/dev/null"),
         }
     }
 
     /// Whether the stream with this number was closed.
-    fn stands_for(&self, stream: i32) -> bool {
-        for file in &self.files {
-            if let Ok(file) = file {
-                if file.as_raw_fd() == stream {
-                    return true;
-                }
-            }
-        }
-        false
+    fn stands_for(&self, stream: i32) -> bool
+        ensures { IsTrue result ↔ StandsFor self.now stream }
+    {
+        has_descriptor(&self.first, stream)
+            || has_descriptor(&self.second, stream)
+            || has_descriptor(&self.third, stream)
     }
 
     /// The cause for an output that failed with this error.
-    pub(crate) fn output_cause(&self, failed: Option<ErrorKind>) -> Option<StreamCause> {
+    pub(crate) fn output_cause(&self, failed: Option<ErrorKind>) -> Option<StreamCause>
+        ensures { IsOutputCause self.now failed result }
+    {
         output_cause(failed, self.stands_for(OUTPUT))
     }
 }
@@ -99,7 +123,9 @@ pub(crate) struct Typed<'a> {
 }
 
 impl<'a> Typed<'a> {
-    pub(crate) fn new(rt: &'a HostRuntime, program: &'a str) -> Typed<'a> {
+    pub(crate) fn new(rt: &'a HostRuntime, program: &'a str) -> Typed<'a>
+        ensures { (result.was_read ≡ false) × (result.failed ≡ None) }
+    {
         Typed {
             rt,
             program,
@@ -109,29 +135,46 @@ impl<'a> Typed<'a> {
     }
 
     /// Why the input failed, or that it was closed, if it was.
-    pub(crate) fn cause(&self, held: &Held) -> Option<StreamCause> {
+    pub(crate) fn cause(&self, held: &Held) -> Option<StreamCause>
+        ensures { IsInputCause held.now self.now.failed self.now.was_read result }
+    {
         input_cause(self.failed, self.was_read, held.stands_for(INPUT))
+    }
+
+    /// Notes that the input was read, and how that failed.
+    fn note(&mut self, came: io::Result<usize>) -> io::Result<usize>
+        ensures came { result ≡ came }
+        ensures read { self.new.was_read ≡ true }
+        ensures failed { MatchResult came (λ _. self.new.failed ≡ self.old.failed)
+            (λ e. self.new.failed ≡ last_failure self.old.failed (error_kind e)) }
+    {
+        self.was_read = true;
+        match came {
+            Ok(count) => Ok(count),
+            Err(error) => {
+                self.failed = last_failure(self.failed, error.kind());
+                Err(error)
+            }
+        }
     }
 }
 
 impl Read for Typed<'_> {
-    fn read(&mut self, buf: &mut [u8]) -> io::Result<usize> {
+    fn read(&mut self, buf: &mut [u8]) -> io::Result<usize>
+        ensures bound { ReadsAtMost result buf.new }
+        ensures bytes { ReadConsumes None None result buf.new }
+        ensures read { self.new.was_read ≡ true }
+        ensures failed { MatchResult result (λ _. self.new.failed ≡ self.old.failed)
+            (λ e. self.new.failed ≡ last_failure self.old.failed (error_kind e)) }
+    {
         if !self.was_read && self.rt.stdin().is_terminal() {
             let _reported = eprintln!(self.rt;
                 "{}: reads standard input; Ctrl-D ends it",
                 self.program
             );
         }
-        self.was_read = true;
-        match self.rt.stdin().read(buf) {
-            Ok(count) => Ok(count),
-            Err(error) => {
-                if error.kind() != ErrorKind::Interrupted {
-                    self.failed = Some(error.kind());
-                }
-                Err(error)
-            }
-        }
+        let came = self.rt.stdin().read(buf);
+        self.note(came)
     }
 }
 
@@ -143,31 +186,50 @@ pub(crate) struct Heard<W> {
 }
 
 impl<W> Heard<W> {
-    pub(crate) fn new(out: W) -> Heard<W> {
+    pub(crate) fn new(out: W) -> Heard<W>
+        ensures { (result.out ≡ out) × (result.failed ≡ None) }
+    {
         Heard { out, failed: None }
     }
 
     /// The error of the first write that failed.
-    pub(crate) fn failed(&self) -> Option<ErrorKind> {
+    pub(crate) fn failed(&self) -> Option<ErrorKind>
+        ensures { result ≡ self.now.failed }
+    {
         self.failed
     }
 
     /// Notes how a write failed.
-    fn note(&mut self, error: io::Error) -> io::Error {
+    fn note(&mut self, error: io::Error) -> io::Error
+        ensures error { result ≡ error }
+        ensures out { self.new.out ≡ self.old.out }
+        ensures failed { self.new.failed ≡ first_failure self.old.failed (error_kind error) }
+    {
         self.failed = first_failure(self.failed, error.kind());
         error
     }
 }
 
 impl<W: Write> Write for Heard<W> {
-    fn write(&mut self, buf: &[u8]) -> io::Result<usize> {
+    ghost contents = { λ heard. W.contents heard.out };
+
+    fn write(&mut self, buf: &[u8]) -> io::Result<usize>
+        ensures bound { WritesAtMost result buf.now }
+        ensures bytes { WriteAppends (W.contents self.old.out) (W.contents self.new.out) result buf.now }
+        ensures failed { MatchResult result (λ _. self.new.failed ≡ self.old.failed)
+            (λ e. self.new.failed ≡ first_failure self.old.failed (error_kind e)) }
+    {
         match self.out.write(buf) {
             Ok(taken) => Ok(taken),
             Err(error) => Err(self.note(error)),
         }
     }
 
-    fn flush(&mut self) -> io::Result<()> {
+    fn flush(&mut self) -> io::Result<()>
+        ensures bytes { Keeps (W.contents self.old.out) (W.contents self.new.out) }
+        ensures failed { MatchResult result (λ _. self.new.failed ≡ self.old.failed)
+            (λ e. self.new.failed ≡ first_failure self.old.failed (error_kind e)) }
+    {
         match self.out.flush() {
             Ok(()) => Ok(()),
             Err(error) => Err(self.note(error)),

@@ -1,7 +1,8 @@
 //! Waits for a file that another command has open.
 
-ghost use Rattle.std.specs.Prelude.{◌≡◌, ◌↔◌, ◌≤◌, IsTrue, MatchResult, None, Some};
+ghost use Rattle.std.specs.Prelude.{◌≡◌, ◌⊎◌, ◌↔◌, ◌≤◌, ◌<◌, IsTrue, IfErr, IfOk, MatchResult, None, Some, false, true};
 ghost use Rattle.std.specs.Duration.{as_nanos};
+ghost use Rattle.tb_desk.specs.Causes.{IsSystemCause};
 ghost use Rattle.tb_desk.specs.Patience.{IsPause, milliseconds};
 
 use crate::causes::FileCause;
@@ -71,7 +72,11 @@ impl<'a> Turn<'a> {
         rt: &'a HostRuntime,
         program: &'a str,
         path: &'a str,
-    ) -> Result<Turn<'a>, FileCause> {
+    ) -> Result<Turn<'a>, FileCause>
+        ensures unreported { IfOk result (λ turn. turn.is_reported ≡ false) }
+        ensures names { IfOk result (λ turn. (turn.program.now ≡ program.now) × (turn.path.now ≡ path.now)) }
+        ensures cause { IfErr result IsSystemCause }
+    {
         match Instant::now(rt) {
             Ok(since) => Ok(Turn {
                 rt,
@@ -85,16 +90,22 @@ impl<'a> Turn<'a> {
     }
 
     /// How long the command has waited.
-    fn waited(&self) -> Result<Duration, FileCause> {
+    fn waited(&self) -> Result<Duration, FileCause>
+        ensures { IfErr result IsSystemCause }
+    {
         match self.since.elapsed(self.rt) {
             Ok(waited) => Ok(waited),
             Err(error) => Err(FileCause::of_system(error)),
         }
     }
 
-    /// Says once that the command waits. A failure to say so is ignored.
-    fn tell(&mut self) {
-        if self.is_reported {
+    /// Says once that the command waits, where it has waited so long. A failure to say so is ignored.
+    fn tell(&mut self, waited: Duration)
+        ensures long { milliseconds 500 ≤ as_nanos waited → self.new.is_reported ≡ true }
+        ensures short { as_nanos waited < milliseconds 500 → self.new.is_reported ≡ self.old.is_reported }
+        ensures since { self.new.since ≡ self.old.since }
+    {
+        if self.is_reported || !is_long(waited) {
             return;
         }
         self.is_reported = true;
@@ -111,12 +122,13 @@ impl<'a> Turn<'a> {
     /// # Errors
     ///
     /// `Busy`, where the command has waited long enough; or the clock's fault.
-    pub(crate) fn wait(&mut self) -> Result<(), FileCause> {
+    pub(crate) fn wait(&mut self) -> Result<(), FileCause>
+        ensures cause { IfErr result (λ c. (c ≡ FileCause.Busy) ⊎ IsSystemCause c) }
+        ensures since { self.new.since ≡ self.old.since }
+    {
         let waited = self.waited()?;
         let pause = pause_or_busy(waited)?;
-        if is_long(waited) {
-            self.tell();
-        }
+        self.tell(waited);
         thread::sleep(self.rt, pause);
         Ok(())
     }

@@ -1,5 +1,5 @@
-//! Does what the words of a command line of `deskview` ask: it shows a list of the desk in a file, or serves the page over
-//! it.
+//! Does what the words of a command line of `deskview` ask: it shows a list of the desk in a file, lists the faults of a
+//! file, or serves the page over a desk.
 
 ghost use Rattle.std.specs.Prelude.{map, string_bytes};
 ghost use Rattle.sqlite.specs.Files.{over_files};
@@ -11,6 +11,7 @@ ghost use Rattle.tb_desk.specs.Viewing.{AreWordsShown, IsListRun, IsShown, IsVie
 use crate::causes::Cause;
 use crate::diagnostics::{Diagnostic, Outcome, put_memory};
 use crate::explaining::reported_of_reply;
+use crate::faults::list_faults_of;
 use crate::files::{self, FileDesk};
 use crate::place::Place;
 use crate::serving::{Beside, serve};
@@ -19,7 +20,7 @@ use crate::wrong::wrong_value;
 use std::io::Write;
 use tb_answer::{put_body, put_reply, view};
 use tb_cli::{LineFault, ViewLine, ViewList};
-use tb_conllu::Sink;
+use tb_conllu::{Sink, Source};
 use tb_words::Asked;
 
 /// The name of the program.
@@ -33,7 +34,7 @@ fn asked_of(list: &ViewList) -> Asked<'_> {
     }
 }
 
-/// What is wrong with words that clap accepts: there is no command, or a value does not have its form, or no file is
+/// What is wrong with words that clap accepts: there is no command, or a value does not have its form, or no desk is
 /// named.
 fn wrong_word(rt: &HostRuntime, words: &[String]) -> Diagnostic {
     if words.len() < 2 {
@@ -121,24 +122,37 @@ fn run_page<W: Write>(rt: &HostRuntime, path: &str, port: u16, out: &mut W) -> O
     }
 }
 
-/// Does a line on the desk of its file.
-fn run<W: Write>(rt: &HostRuntime, line: &ViewLine, out: &mut W) -> Outcome
-    ensures { IsViewRun (W.contents out.old) (W.contents out.new) (λ (_ : WriteFault). Unit {0}) result.status
-        (viewed_by line.now) }
+/// Does a line on the desk of its file, or on what the reader gives.
+fn run<R: Source, W: Write>(
+    rt: &HostRuntime,
+    line: &ViewLine,
+    reader: &mut R,
+    out: &mut W,
+) -> Outcome
+    ensures { IsViewRun R.IsFailure R.left reader.old reader.new (W.contents out.old) (W.contents out.new)
+        (λ (_ : WriteFault). Unit {0}) result.status (viewed_by line.now) }
 {
     match line {
         ViewLine::List { db, list } => run_list(rt, db.as_str(), list, out),
+        ViewLine::Check { most } => list_faults_of(rt, reader, *most, out),
         ViewLine::Page { db, port } => run_page(rt, db.as_str(), *port, out),
     }
 }
 
 /// Does what the words of `deskview` ask, the program's name first. Returns the exit status, and what to say beside it.
-pub fn run_view<W: Write>(rt: &HostRuntime, words: &[String], out: &mut W) -> Outcome
-    ensures { AreWordsShown (W.contents out.old) (W.contents out.new) (λ (_ : WriteFault). Unit {0}) result.status
-        (map string_bytes words.now) }
+///
+/// `check` lists the faults of what the reader gives. Other commands read the desk in a file.
+pub fn run_view<R: Source, W: Write>(
+    rt: &HostRuntime,
+    words: &[String],
+    reader: &mut R,
+    out: &mut W,
+) -> Outcome
+    ensures { AreWordsShown R.IsFailure R.left reader.old reader.new (W.contents out.old) (W.contents out.new)
+        (λ (_ : WriteFault). Unit {0}) result.status (map string_bytes words.now) }
 {
     match ViewLine::read(rt.alloc(), words) {
-        Ok(line) => run(rt, &line, out),
+        Ok(line) => run(rt, &line, reader, out),
         Err(fault) => put_fault(rt, words, fault, out),
     }
 }

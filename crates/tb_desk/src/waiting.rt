@@ -1,7 +1,14 @@
 //! Connections that wait to be served. One that sends nothing, or sends slowly, keeps nobody from the desk.
 
-ghost use Rattle.std.specs.Prelude.{◌≡◌, ◌↔◌, ◌≤◌, IsTrue};
+ghost use Rattle.std.specs.Prelude.{◌≡◌, ◌≢◌, ◌↔◌, ◌≤◌, ◌<◌, ◌+◌, ◌++◌, [], ◌∷◌, IsTrue, IfErr, IfOk, IfSome};
+ghost use Rattle.std.specs.Prelude.{IsSomeAnd};
+ghost use Rattle.std.specs.Prelude.{MatchResult, None, Some, Err, Ok, true, false, drop, max, vec_capacity, vec_len};
+ghost use Rattle.std.specs.Duration.{as_nanos};
+ghost use Rattle.std.specs.IoError.{error_kind, raw_os_error};
 ghost use Rattle.tb_desk.specs.Serving.{IsWantOfRoom, is_no_connection, most_waiting};
+ghost use Rattle.std.specs.List.{HoldsAt};
+ghost use Rattle.tb_desk.specs.Waiting.{IsFirstToGo, LetsOneGo, time_since};
+ghost use Rattle.tb_desk.specs.declared.arriving.Awaited.TheVariants.{Nothing};
 
 use crate::arriving::most_size;
 use crate::callers::Caller;
@@ -67,13 +74,57 @@ fn is_full(connections: usize) -> bool
     connections >= MOST
 }
 
-/// A new connection. Where no other waits, the server waits a moment for its request.
-fn heard(
+/// How long ago the server looked, if it did.
+fn time_since(looked: Option<Instant>, now: Instant) -> Duration
+    ensures { as_nanos result ≡ time_since looked now }
+{
+    match looked {
+        Some(looked) => now.saturating_duration_since(looked),
+        None => Duration::ZERO,
+    }
+}
+
+/// The place of the oldest connection that has sent no head. Where all have, it is that of the oldest.
+fn first_to_go(callers: &[Caller]) -> usize
+    ensures { IsFirstToGo callers.now result }
+{
+    for at in 0..callers.len() {
+        if callers[at].awaits_head() {
+            return at;
+        }
+    }
+    0
+}
+
+/// Reads what has come of a request, and looks whether it is whole (`true`), or its time is over (`false`).
+fn look_at(
     rt: &HostRuntime,
     routes: &Routes,
-    stream: TcpStream,
-    is_alone: bool,
-) -> io::Result<Caller> {
+    caller: &mut Caller,
+    passed: Duration,
+    most: usize,
+) -> Option<bool>
+    ensures most { vec_len caller.new.room ≤ max (vec_len caller.old.room) most }
+    ensures whole { result ≡ Some true → caller.new.awaited ≡ Nothing }
+    ensures late { result ≡ Some false → (caller.new.awaited ≢ Nothing) × (as_nanos caller.new.left ≡ 0) }
+    ensures waits { result ≡ None → (caller.new.awaited ≢ Nothing) × (as_nanos caller.new.left ≢ 0) }
+    ensures stream { caller.new.stream ≡ caller.old.stream }
+{
+    caller.hear(rt.alloc(), routes, most);
+    if caller.is_ready() {
+        return Some(true);
+    }
+    if caller.is_late(passed) {
+        return Some(false);
+    }
+    None
+}
+
+/// A new connection. Where no other waits, the server waits a moment for its request.
+fn heard(rt: &HostRuntime, routes: &Routes, stream: TcpStream, is_alone: bool) -> io::Result<Caller>
+    ensures stream { IfOk result (λ caller. caller.stream ≡ stream) }
+    ensures room { IfOk result (λ caller. vec_len caller.room ≤ 8192) }
+{
     if is_alone {
         stream.set_read_timeout(Some(Duration::from_millis(FIRST)))?;
     } else {
@@ -88,7 +139,11 @@ fn heard(
 }
 
 impl Waiting {
-    pub(crate) fn new(alloc: Global) -> Result<Waiting, AllocError> {
+    pub(crate) fn new(alloc: Global) -> Result<Waiting, AllocError>
+        ensures none { IfOk result (λ w. (w.callers.items ≡ []) × (w.leavers.items ≡ []) × (w.looked ≡ None)) }
+        ensures room { IfOk result (λ w. (most_waiting ≤ vec_capacity w.callers)
+            × (most_waiting ≤ vec_capacity w.leavers)) }
+    {
         Ok(Waiting {
             callers: Vec::with_capacity(alloc, MOST)?,
             leavers: Vec::with_capacity(alloc, MOST)?,
@@ -97,15 +152,50 @@ impl Waiting {
     }
 
     /// Drops the oldest connection that has sent no head, to make room for another. Where all have, it drops the oldest.
-    fn let_one_go(&mut self) {
-        let at = self
-            .callers
-            .iter()
-            .position(Caller::awaits_head)
-            .unwrap_or(0);
+    fn let_one_go(&mut self)
+        ensures callers { LetsOneGo self.old.callers.items self.new.callers.items }
+        ensures others { (self.new.leavers ≡ self.old.leavers) × (self.new.looked ≡ self.old.looked) }
+    {
+        let at = first_to_go(&self.callers);
         if at < self.callers.len() {
             let _ = self.callers.remove(at);
         }
+    }
+
+    /// Adds a new connection as the youngest. One that cannot be read is dropped.
+    fn add(&mut self, new: io::Result<Caller>)
+        ensures added { MatchResult new
+            (λ caller. vec_len self.old.callers < vec_capacity self.old.callers
+            → self.new.callers.items ≡ self.old.callers.items ++ caller ∷ [])
+            (λ _. self.new.callers ≡ self.old.callers) }
+        ensures most { vec_len self.new.callers ≤ vec_len self.old.callers + 1 }
+        ensures others { (self.new.leavers ≡ self.old.leavers) × (self.new.looked ≡ self.old.looked) }
+    {
+        if let Ok(caller) = new {
+            let _ = self.callers.push(caller);
+        }
+    }
+
+    /// Goes on without a new connection, where that is possible after this error of the listener. Where the system has
+    /// no room for one, another is dropped.
+    fn go_without(&mut self, error: io::Error) -> io::Result<bool>
+        ensures none { is_no_connection (error_kind error) ≡ true
+            → (result ≡ Ok false) × (self.new.callers ≡ self.old.callers) }
+        ensures room { is_no_connection (error_kind error) ≡ false → IsWantOfRoom (raw_os_error error) true
+            → (result ≡ Ok false) × LetsOneGo self.old.callers.items self.new.callers.items }
+        ensures fault { is_no_connection (error_kind error) ≡ false → IsWantOfRoom (raw_os_error error) false
+            → (result ≡ Err error) × (self.new.callers ≡ self.old.callers) }
+        ensures most { vec_len self.new.callers ≤ vec_len self.old.callers }
+        ensures others { (self.new.leavers ≡ self.old.leavers) × (self.new.looked ≡ self.old.looked) }
+    {
+        if is_none_yet(error.kind()) {
+            return Ok(false);
+        }
+        if wants_room(error.raw_os_error()) {
+            self.let_one_go();
+            return Ok(false);
+        }
+        Err(error)
     }
 
     /// Accepts one more connection, and returns whether there was one. It waits for one only where no other connection
@@ -115,7 +205,12 @@ impl Waiting {
         rt: &HostRuntime,
         routes: &Routes,
         listener: &TcpListener,
-    ) -> io::Result<bool> {
+    ) -> io::Result<bool>
+        ensures full { most_waiting ≤ vec_len self.old.callers
+            → (result ≡ Ok false) × (self.new.callers ≡ self.old.callers) }
+        ensures most { vec_len self.new.callers ≤ max (vec_len self.old.callers) most_waiting }
+        ensures others { (self.new.leavers ≡ self.old.leavers) × (self.new.looked ≡ self.old.looked) }
+    {
         let is_alone = self.callers.is_empty() && self.leavers.is_empty();
         if is_full(self.callers.len()) {
             return Ok(false);
@@ -123,28 +218,22 @@ impl Waiting {
         listener.set_nonblocking(!is_alone)?;
         match listener.accept() {
             Ok((stream, _)) => {
-                // A connection that cannot be read is dropped.
-                if let Ok(caller) = heard(rt, routes, stream, is_alone) {
-                    let _ = self.callers.push(caller);
-                }
+                self.add(heard(rt, routes, stream, is_alone));
                 Ok(true)
             }
-            Err(error) if is_none_yet(error.kind()) => Ok(false),
-            Err(error) if wants_room(error.raw_os_error()) => {
-                self.let_one_go();
-                Ok(false)
-            }
-            Err(error) => Err(error),
+            Err(error) => self.go_without(error),
         }
     }
 
     /// How long ago the server last looked at the connections. It looks now.
-    fn passed(&mut self, rt: &HostRuntime) -> io::Result<Duration> {
+    fn passed(&mut self, rt: &HostRuntime) -> io::Result<Duration>
+        ensures passed { IfOk result (λ d. IsSomeAnd self.new.looked (λ now.
+            as_nanos d ≡ time_since self.old.looked now)) }
+        ensures failed { IfErr result (λ _. self.new.looked ≡ self.old.looked) }
+        ensures others { (self.new.callers ≡ self.old.callers) × (self.new.leavers ≡ self.old.leavers) }
+    {
         let now = Instant::now(rt)?;
-        let passed = match self.looked {
-            Some(looked) => now.saturating_duration_since(looked),
-            None => Duration::ZERO,
-        };
+        let passed = time_since(self.looked, now);
         self.looked = Some(now);
         Ok(passed)
     }
@@ -164,19 +253,22 @@ impl Waiting {
         rt: &HostRuntime,
         routes: &Routes,
         passed: Duration,
-    ) -> Option<(usize, bool)> {
+    ) -> Option<(usize, bool)>
+        ensures bound { IfSome result (λ found. found.0 < vec_len self.new.callers) }
+        ensures whole { IfSome result (λ found. found.1 ≡ true
+            → HoldsAt (λ caller. caller.awaited ≡ Nothing) self.new.callers.items found.0) }
+        ensures count { vec_len self.new.callers ≡ vec_len self.old.callers }
+        ensures others { (self.new.leavers ≡ self.old.leavers) × (self.new.looked ≡ self.old.looked) }
+    {
         let mut kept = self.kept();
         for at in 0..self.callers.len() {
             let Some(caller) = self.callers.get_mut(at) else {
                 return None;
             };
             let others = kept.saturating_sub(caller.kept());
-            caller.hear(rt.alloc(), routes, most_size(others, at == 0));
-            if caller.is_ready() {
-                return Some((at, true));
-            }
-            if caller.is_late(passed) {
-                return Some((at, false));
+            let seen = look_at(rt, routes, caller, passed, most_size(others, at == 0));
+            if let Some(is_whole) = seen {
+                return Some((at, is_whole));
             }
             kept = others.saturating_add(caller.kept());
         }
@@ -184,24 +276,42 @@ impl Waiting {
     }
 
     /// Closes the connections that their clients have ended, or whose time is over.
-    fn close_ended(&mut self, passed: Duration) {
+    fn close_ended(&mut self, passed: Duration)
+        ensures most { vec_len self.new.leavers ≤ vec_len self.old.leavers }
+        ensures others { (self.new.callers ≡ self.old.callers) × (self.new.looked ≡ self.old.looked) }
+    {
         self.leavers.retain_mut(|leaver| !leaver.has_gone(passed));
     }
 
-    /// Ends the connection of a client that has its answer. Where too many others end meanwhile, the first of them is
-    /// closed. A connection that fails has ended.
-    pub(crate) fn part(&mut self, caller: Caller) {
-        let Ok(Some(leaver)) = Leaver::new(caller.into_stream()) else {
-            return;
-        };
+    /// Adds a connection that ends. Where too many others end meanwhile, the first of them is closed.
+    fn leave(&mut self, leaver: Leaver)
+        ensures room { vec_len self.old.leavers < most_waiting
+            → vec_len self.old.leavers < vec_capacity self.old.leavers
+            → self.new.leavers.items ≡ self.old.leavers.items ++ leaver ∷ [] }
+        ensures full { most_waiting ≤ vec_len self.old.leavers
+            → self.new.leavers.items ≡ drop 1 self.old.leavers.items ++ leaver ∷ [] }
+        ensures others { (self.new.callers ≡ self.old.callers) × (self.new.looked ≡ self.old.looked) }
+    {
         if is_full(self.leavers.len()) {
             let _ = self.leavers.remove(0);
         }
         let _ = self.leavers.push(leaver);
     }
 
+    /// Ends the connection of a client that has its answer. A connection that fails has ended.
+    pub(crate) fn part(&mut self, caller: Caller)
+        ensures { (self.new.callers ≡ self.old.callers) × (self.new.looked ≡ self.old.looked) }
+    {
+        let Ok(Some(leaver)) = Leaver::new(caller.into_stream()) else {
+            return;
+        };
+        self.leave(leaver);
+    }
+
     /// Waits until all clients that have their answer have ended.
-    pub(crate) fn part_all(&mut self, rt: &HostRuntime) {
+    pub(crate) fn part_all(&mut self, rt: &HostRuntime)
+        ensures { self.new.callers ≡ self.old.callers }
+    {
         for _ in 0..u64::MAX {
             let Ok(passed) = self.passed(rt) else {
                 return;
@@ -216,7 +326,12 @@ impl Waiting {
 
     /// Waits a little. Where all places are taken, drops a connection at once to make room for those that the system
     /// queues.
-    fn rest(&mut self, rt: &HostRuntime, has_come: bool) {
+    fn rest(&mut self, rt: &HostRuntime, has_come: bool)
+        ensures full { most_waiting ≤ vec_len self.old.callers
+            → LetsOneGo self.old.callers.items self.new.callers.items }
+        ensures room { vec_len self.old.callers < most_waiting → self.new.callers ≡ self.old.callers }
+        ensures others { (self.new.leavers ≡ self.old.leavers) × (self.new.looked ≡ self.old.looked) }
+    {
         if is_full(self.callers.len()) {
             self.let_one_go();
         } else if !has_come {
@@ -230,18 +345,20 @@ impl Waiting {
         rt: &HostRuntime,
         routes: &Routes,
         listener: &TcpListener,
-    ) -> io::Result<Option<Caller>> {
+    ) -> io::Result<Option<Caller>>
+        ensures { IfOk result (λ next. IfSome next (λ caller. caller.awaited ≡ Nothing)) }
+    {
         for _ in 0..u64::MAX {
             let has_come = self.take(rt, routes, listener)?;
             let passed = self.passed(rt)?;
             self.close_ended(passed);
             match self.place(rt, routes, passed) {
-                Some((at, is_ready)) if at < self.callers.len() => {
+                Some((at, is_ready)) => {
                     let caller = self.callers.remove(at);
                     let is_served = is_ready && caller.stream().set_nonblocking(false).is_ok();
                     return Ok(if is_served { Some(caller) } else { None });
                 }
-                _ => self.rest(rt, has_come),
+                None => self.rest(rt, has_come),
             }
         }
         Ok(None)

@@ -1,12 +1,14 @@
 //! Does what the words of a command line ask.
 
-ghost use Rattle.std.specs.Prelude.{◌≡◌, map, string_bytes, true, false, codes};
+ghost use Rattle.std.specs.Prelude.{◌≡◌, map, string_bytes, true, false, codes, IfSome, None, Some};
 ghost use Rattle.clap.specs.Values.{kind_of};
 ghost use Rattle.tb_check.specs.Check.{Answers, IsReplyToRead, file_limit};
 ghost use Rattle.tb_check.specs.Words.{asks_check};
 ghost use Rattle.tb_conllu.specs.declared.fault.WriteFault.{WriteFault};
 ghost use Rattle.tb_answer.specs.Output.{IsWritten};
 ghost use Rattle.tb_desk.specs.Lines.{AreWordsRun};
+ghost use Rattle.tb_desk.specs.Causes.{misfit_of};
+ghost use Rattle.tb_desk.specs.Reported.{IsReported};
 ghost use Rattle.tb_desk.specs.Replies.{IsClapWritten, IsExitOf, IsFaultWritten, IsReplyWritten, reply_of};
 
 use crate::causes::{Cause, FileCause};
@@ -24,7 +26,9 @@ use tb_conllu::{Sink, Source};
 pub const TREEDESK: &str = "treedesk";
 
 /// The file, and the row of it that is wrong first, if that is known. `None` for want of memory.
-fn place_of(rt: &HostRuntime, path: &str, cause: FileCause) -> Option<String> {
+fn place_of(rt: &HostRuntime, path: &str, cause: FileCause) -> Option<String>
+    ensures { misfit_of cause ≡ None → IfSome result (λ place. string_bytes place ≡ path.now) }
+{
     match cause.misfit() {
         Some(misfit) => format!(in rt.alloc(); "{path}, {misfit}").ok(),
         None => String::from_str(rt.alloc(), path).ok(),
@@ -38,7 +42,9 @@ pub(crate) fn put_file_cause<W: Sink>(
     cause: FileCause,
     out: &mut W,
 ) -> Outcome
-    ensures { IsReplyWritten (W.held out.old) (W.held out.new) (W.IsRefusal out.new) result.status (reply_of cause) }
+    ensures written { IsReplyWritten (W.held out.old) (W.held out.new) (W.IsRefusal out.new) result.status
+        (reply_of cause) }
+    ensures reported { IsReported result.reported (Cause.File cause) }
 {
     Outcome {
         status: put_reply(out, cause.reply()),
@@ -68,8 +74,9 @@ pub(crate) fn put_clap<W: Sink>(rt: &HostRuntime, error: clap::Error, out: &mut 
 
 /// Prints the line for wrong words, and what is wrong.
 pub(crate) fn put_usage<W: Sink>(wrong: Diagnostic, out: &mut W) -> Outcome
-    ensures { IsWritten (W.held out.old) (W.held out.new) (codes "refused usage\n") 2 (W.IsRefusal out.new)
+    ensures written { IsWritten (W.held out.old) (W.held out.new) (codes "refused usage\n") 2 (W.IsRefusal out.new)
         result.status }
+    ensures reported { result.reported ≡ Some wrong }
 {
     Outcome {
         status: tb_check::put_reply(out, "refused usage\n", 2),

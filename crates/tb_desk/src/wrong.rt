@@ -1,5 +1,8 @@
 //! Which word of a command line does not have its form, where clap accepts the words but they are no command.
 
+ghost use Rattle.std.specs.Prelude.{IfSome};
+ghost use Rattle.tb_desk.specs.Forms.{HasForm, IsFormOfOption};
+
 use crate::causes::{Cause, Form};
 use crate::diagnostics::Diagnostic;
 
@@ -23,11 +26,14 @@ struct Values<'a> {
 }
 
 /// The form that the value of an option has to have. A path and a user may be any text.
-fn form_of_option(name: &str) -> Option<Form> {
+fn form_of_option(name: &str) -> Option<Form>
+    ensures { IsFormOfOption name.now result }
+{
     match name {
         "--strategy" => Some(Form::Strategy),
         "--context" => Some(Form::Context),
         "--rev" => Some(Form::Number),
+        "--most" => Some(Form::Most),
         "--port" => Some(Form::Port),
         "--requests" => Some(Form::Requests),
         _ => None,
@@ -100,7 +106,9 @@ impl<'a> Values<'a> {
 }
 
 /// The first value that does not have its form.
-fn first_wrong<'a>(command: &'a str, words: &'a [String]) -> Option<(Given<'a>, Form)> {
+fn first_wrong<'a>(command: &'a str, words: &'a [String]) -> Option<(Given<'a>, Form)>
+    ensures { IfSome result (λ wrong. ¬ HasForm wrong.1 wrong.0.value.now) }
+{
     let mut values = Values::new(command, words);
     for _ in 0..words.len() {
         let given = values.next()?;

@@ -46,6 +46,10 @@ base_of text = if bytes_eq text (codes "0") then Some 0 else number_of text
 abbrev pub context_of : List ℕ → Option ℕ
 context_of text = option_and_then (within 20) (base_of text)
 
+-- how many faults are listed at most: 1 to 1000000, without leading zeros
+abbrev pub most_of : List ℕ → Option ℕ
+most_of text = option_and_then (within 1000000) (number_of text)
+
 -- a port: 0 to 65535, without leading zeros
 abbrev pub port_of : List ℕ → Option ℕ
 port_of text = option_and_then (within 65535) (base_of text)

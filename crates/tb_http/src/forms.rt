@@ -5,7 +5,8 @@ ghost use Rattle.std.specs.Prelude.{IfSome};
 ghost use Rattle.std.specs.List.{before_first, after_first, list_all};
 ghost use Rattle.std.specs.Char.{is_ascii_digit};
 ghost use Rattle.tb_http.specs.Forms.{is_slash, segment_of, is_number as is_number_text, name_of, number_of, base_of};
-ghost use Rattle.tb_http.specs.Forms.{context_of, port_of, requests_of, event_of, strategy_of, attribute_of};
+ghost use Rattle.tb_http.specs.Forms.{context_of, most_of, port_of, requests_of, event_of, strategy_of};
+ghost use Rattle.tb_http.specs.Forms.{attribute_of};
 
 use tb_core::Event;
 use tb_match::Strategy;
@@ -101,6 +102,16 @@ pub fn context_of(text: &str) -> Option<u8>
 {
     match base_of(text) {
         Some(number) if number <= 20 => Some(number as u8),
+        _ => None,
+    }
+}
+
+/// How many faults to list at most: 1 to 1,000,000, without leading zeros.
+pub fn most_of(text: &str) -> Option<u32>
+    ensures { result ≡ most_of text.now }
+{
+    match number_of(text) {
+        Some(number) if number <= 1_000_000 => Some(number as u32),
         _ => None,
     }
 }

@@ -17,7 +17,7 @@ mod status;
 pub use actions::{Action, Allow, Resource, resource_of};
 pub use asks::{Ask, AskFault, BODY_BYTES, Call, RequestFault, bytes_ask_one_thing, read_ask};
 pub use forms::{
-    attribute_of, base_of, context_of, event_of, name_of, number_of, port_of, requests_of,
+    attribute_of, base_of, context_of, event_of, most_of, name_of, number_of, port_of, requests_of,
     strategy_of,
 };
 pub use head::{BrokenRead, HEAD_BYTES, HEADERS, Head, read_head};

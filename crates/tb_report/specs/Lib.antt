@@ -3,3 +3,4 @@ pub mod Kept
 pub mod Keywords
 pub mod Csv
 pub mod Trees
+pub mod FaultList

@@ -1,5 +1,5 @@
-//! Reports what a search found: keyword lines, keys of hits, frequency tables and CSV. It also makes the page of a
-//! sentence's tree.
+//! Reports what a search found: keyword lines, keys of hits, frequency tables and CSV. It also lists the faults of a
+//! file, and makes the page of a sentence's tree.
 //!
 //! Read `specs/Keywords.antt` and `specs/Tables.antt` first. Then read `kwic` in `keyword.rt` and `Freq` in
 //! `freq.rt`.
@@ -9,6 +9,7 @@ mod assets;
 mod counts;
 mod csvs;
 mod fault;
+mod faults;
 mod freq;
 mod keyword;
 mod laws;
@@ -19,6 +20,7 @@ mod words;
 pub use assets::{PAGE_CSS, ROWS_JS, TREE_JS};
 pub use csvs::{csv_freq, csv_moves, csv_totals};
 pub use fault::ReportFault;
+pub use faults::{FaultRow, faults_text};
 pub use freq::Freq;
 pub use keyword::{key, kwic, kwic_named};
 pub use laws::{

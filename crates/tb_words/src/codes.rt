@@ -1,9 +1,9 @@
 //! What is wrong with a line that cannot be read.
 
-use crate::columns::{FORM, HEAD, ID, LEMMA, MISC, field, name};
-use crate::places::{line_at, text_at};
+use crate::columns::{FORM, HEAD, ID, LEMMA, MISC, field};
+use crate::findings::{Detail, Finding, Value};
+use crate::places::NumberedLine;
 use crate::sentences as reported;
-use crate::words::{Page, Words, shown};
 use std::alloc::Global;
 use tb_chars::has_white_space;
 use unicode_normalization::is_nfc;
@@ -18,9 +18,9 @@ const BYTE_ORDER_MARK: char = '\u{FEFF}';
 /// The least number of words in a line whose columns are taken to be separated by spaces, not by tabs.
 const FEW_WORDS: usize = 5;
 
-fn not_utf8(alloc: Global, number: usize, raw: &[u8]) -> Words {
+fn not_utf8<'a>(number: usize, raw: &[u8]) -> Finding<'a> {
     if number == 1 && (raw.starts_with(LITTLE_UTF16) || raw.starts_with(BIG_UTF16)) {
-        return Words::at(format!(in alloc; "line {number}"), reported::UTF16);
+        return Finding::on(number, reported::UTF16);
     }
     let sound = match str::from_utf8(raw) {
         Ok(text) => text.len(),
@@ -28,46 +28,24 @@ fn not_utf8(alloc: Global, number: usize, raw: &[u8]) -> Words {
     };
     let byte = raw.get(sound).copied().unwrap_or(0);
     let place = sound.saturating_add(1);
-    Words::at(
-        format!(in alloc; "line {number}, byte {place}, hex {byte:02X}"),
-        reported::NOT_UTF8,
-    )
+    Finding::on(number, reported::NOT_UTF8).and(Detail::Byte(place, byte))
 }
 
 fn is_composed(alloc: Global, text: &str) -> bool {
     is_nfc(alloc, text).unwrap_or(true)
 }
 
-fn not_composed(alloc: Global, number: usize, line: &str) -> Words {
+fn not_composed<'a>(alloc: Global, number: usize, line: &'a str) -> Finding<'a> {
+    let found = Finding::on(number, reported::NOT_NFC);
     if line.starts_with('#') {
-        let comment = shown(line);
-        return Words::at(
-            format!(in alloc; "line {number}, `{comment}`"),
-            reported::NOT_NFC,
-        );
+        return found.with(Value::Text(line));
     }
     for (column, value) in line.split('\t').enumerate() {
         if !is_composed(alloc, value) {
-            return in_column(alloc, number, column, value, reported::NOT_NFC);
+            return found.in_column(column).with(Value::Text(value));
         }
     }
-    Words::at(format!(in alloc; "line {number}"), reported::NOT_NFC)
-}
-
-/// What is wrong with a value in a column of a line.
-fn in_column(
-    alloc: Global,
-    number: usize,
-    column: usize,
-    value: &str,
-    sentence: &'static str,
-) -> Words {
-    let name = name(column);
-    let value = shown(value);
-    Words::at(
-        format!(in alloc; "line {number}, {name} `{value}`"),
-        sentence,
-    )
+    found
 }
 
 fn is_stray(c: char) -> bool {
@@ -84,23 +62,13 @@ fn first_stray(line: &str) -> Option<(usize, char)> {
     None
 }
 
-fn control(alloc: Global, number: usize, line: &str) -> Words {
+fn control<'a>(number: usize, line: &str) -> Finding<'a> {
     let (before, c) = first_stray(line).unwrap_or((0, '\0'));
     let place = before.saturating_add(1);
-    let code = c as u32;
     match c {
-        '\r' => Words::at(
-            format!(in alloc; "line {number}"),
-            reported::CARRIAGE_RETURN,
-        ),
-        '\0' => Words::at(
-            format!(in alloc; "line {number}, character {place}"),
-            reported::NUL,
-        ),
-        _ => Words::at(
-            format!(in alloc; "line {number}, character {place}, U+{code:04X}"),
-            reported::CONTROL,
-        ),
+        '\r' => Finding::on(number, reported::CARRIAGE_RETURN),
+        '\0' => Finding::on(number, reported::NUL).and(Detail::Character(place)),
+        _ => Finding::on(number, reported::CONTROL).and(Detail::Control(place, c as u32)),
     }
 }
 
@@ -147,34 +115,23 @@ fn begins_wrong(line: &str) -> Option<&'static str> {
     }
 }
 
-fn columns(alloc: Global, number: usize, line: &str) -> Words {
+fn columns<'a>(number: usize, line: &'a str) -> Finding<'a> {
     if let Some(sentence) = begins_wrong(line) {
-        return Words::at(format!(in alloc; "line {number}"), sentence);
+        return Finding::on(number, sentence);
     }
     let count = line.split('\t').count();
     if count == 10 {
-        let name = name(empty_column(line));
-        return Words::at(
-            format!(in alloc; "line {number}, {name}"),
-            reported::EMPTY_FIELD,
-        );
+        return Finding::on(number, reported::EMPTY_FIELD).in_column(empty_column(line));
     }
     if count == 1 {
-        let value = shown(line);
-        return Words::at(
-            format!(in alloc; "line {number}, `{value}`"),
-            without_tab(line),
-        );
+        return Finding::on(number, without_tab(line)).with(Value::Text(line));
     }
     let sentence = if count < 10 {
         reported::FEW_FIELDS
     } else {
         with_more(line, count)
     };
-    Words::at(
-        format!(in alloc; "line {number}, {count} columns"),
-        sentence,
-    )
+    Finding::on(number, sentence).and(Detail::Columns(count))
 }
 
 /// What is wrong with one number of an ID, if anything is.
@@ -205,18 +162,27 @@ fn id_fault(value: &str) -> &'static str {
     }
 }
 
-fn id(alloc: Global, number: usize, line: &str) -> Words {
+fn id<'a>(number: usize, line: &'a str) -> Finding<'a> {
     let value = field(line, ID);
-    in_column(alloc, number, ID, value, id_fault(value))
+    Finding::on(number, id_fault(value))
+        .in_column(ID)
+        .with(Value::Text(value))
 }
 
-fn space(alloc: Global, number: usize, line: &str) -> Words {
+fn space<'a>(number: usize, line: &'a str) -> Finding<'a> {
+    let found = Finding::on(number, reported::SPACE);
     for (column, value) in line.split('\t').enumerate() {
         if !matches!(column, FORM | LEMMA | MISC) && has_white_space(value) {
-            return in_column(alloc, number, column, value, reported::SPACE);
+            return found.in_column(column).with(Value::Text(value));
         }
     }
-    Words::at(format!(in alloc; "line {number}"), reported::SPACE)
+    found
+}
+
+fn head<'a>(number: usize, line: &'a str) -> Finding<'a> {
+    Finding::on(number, reported::HEAD_FORM)
+        .in_column(HEAD)
+        .with(Value::Text(field(line, HEAD)))
 }
 
 /// Whether a comment is of the kind with which sentences begin.
@@ -228,57 +194,52 @@ fn begins_sentence(comment: &str) -> bool {
         || said.starts_with("newpar")
 }
 
-fn comment_place(alloc: Global, number: usize, line: &str) -> Words {
+fn comment_place<'a>(number: usize, line: &'a str) -> Finding<'a> {
     let sentence = if begins_sentence(line) {
         reported::BLANK_MISSING
     } else {
         reported::COMMENT_PLACE
     };
-    let comment = shown(line);
-    Words::at(format!(in alloc; "line {number}, `{comment}`"), sentence)
+    Finding::on(number, sentence).with(Value::Text(line))
 }
 
-fn blank_place(file: &[u8], number: usize) -> &'static str {
-    if number <= 1 {
+fn blank_place(line: &NumberedLine<'_>) -> &'static str {
+    if line.number <= 1 {
         reported::BLANK_FIRST
-    } else if line_at(file, number.saturating_sub(1)).is_empty() {
+    } else if line.before.is_empty() {
         reported::BLANK_TWICE
     } else {
         reported::BLANK_AFTER_COMMENTS
     }
 }
 
-/// What is wrong with the end of a file. Its last line feed ends the line before the one with this number.
-fn unended(file: &[u8], number: usize) -> &'static str {
-    let last = line_at(file, number);
-    if last.contains(&b'\r') {
+/// What is wrong with the end of a file. Its last line feed ends the line before this one.
+fn unended(line: &NumberedLine<'_>) -> &'static str {
+    if line.bytes.contains(&b'\r') {
         reported::LONE_RETURNS
-    } else if !last.is_empty() {
+    } else if !line.bytes.is_empty() {
         reported::NO_LINE_FEED
-    } else if line_at(file, number.saturating_sub(1)).starts_with(b"#".as_slice()) {
+    } else if line.before.starts_with(b"#".as_slice()) {
         reported::COMMENTS_AT_END
     } else {
         reported::NO_BLANK_AT_END
     }
 }
 
-/// What is wrong with the line that has this number, counted from 1, and this code.
-pub(crate) fn words_of_line(alloc: Global, file: &[u8], number: usize, code: u8) -> Words {
-    let line = text_at(file, number);
-    let words = match code {
-        1 => not_utf8(alloc, number, line_at(file, number)),
-        2 => not_composed(alloc, number, line),
-        3 => control(alloc, number, line),
-        4 => columns(alloc, number, line),
-        5 => id(alloc, number, line),
-        6 => space(alloc, number, line),
-        7 => in_column(alloc, number, HEAD, field(line, HEAD), reported::HEAD_FORM),
-        8 => comment_place(alloc, number, line),
-        9 => Words::at(
-            format!(in alloc; "line {number}"),
-            blank_place(file, number),
-        ),
-        _ => Words::at(format!(in alloc; "line {number}"), unended(file, number)),
-    };
-    words.on(Page::Code(code))
+/// What is wrong with a line that has this code.
+pub(crate) fn fault_of_line<'a>(alloc: Global, line: &NumberedLine<'a>, code: u8) -> Finding<'a> {
+    let number = line.number;
+    let text = line.text();
+    match code {
+        1 => not_utf8(number, line.bytes),
+        2 => not_composed(alloc, number, text),
+        3 => control(number, text),
+        4 => columns(number, text),
+        5 => id(number, text),
+        6 => space(number, text),
+        7 => head(number, text),
+        8 => comment_place(number, text),
+        9 => Finding::on(number, blank_place(line)),
+        _ => Finding::on(number, unended(line)),
+    }
 }

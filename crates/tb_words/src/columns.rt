@@ -1,5 +1,6 @@
 //! The ten columns of a word line.
 
+use crate::findings::Value;
 use tb_conllu::RowRef;
 
 const NAMES: [&str; 10] = [
@@ -35,6 +36,22 @@ pub(crate) fn name(column: usize) -> &'static str {
 /// The value in a column of a line.
 pub(crate) fn field(line: &str, column: usize) -> &str {
     line.split('\t').nth(column).unwrap_or("")
+}
+
+/// What a row has in a column.
+pub(crate) fn value_in<'a>(row: &RowRef<'a>, column: usize) -> Value<'a> {
+    match column {
+        ID => Value::Id(row.id),
+        FORM => Value::Text(row.form),
+        LEMMA => Value::Text(row.lemma),
+        UPOS => Value::Text(row.upos),
+        XPOS => Value::Text(row.xpos),
+        FEATS => Value::Text(row.feats),
+        HEAD => Value::Head(row.head),
+        DEPREL => Value::Text(row.deprel),
+        DEPS => Value::Text(row.deps),
+        _ => Value::Text(row.misc),
+    }
 }
 
 /// The first column of a range that is not `_`, though it has to be.

@@ -53,6 +53,11 @@ fn item_fault(alloc: Global, item: &str) -> Option<&'static str> {
     Some(reported::VALUE_TWICE)
 }
 
+/// Whether a feature may follow the one before it, but for names that differ in case alone.
+fn may_follow(alloc: Global, last: &str, item: &str) -> bool {
+    is_made_list(alloc, format!(in alloc; "{last}|{item}"))
+}
+
 /// Whether one of the first `before` features has the name of this one.
 fn is_named_before(feats: &str, before: usize, item: &str) -> bool {
     for earlier in feats.split('|').take(before) {
@@ -63,26 +68,42 @@ fn is_named_before(feats: &str, before: usize, item: &str) -> bool {
     false
 }
 
-/// Whether a feature may not follow the one before it. `before` features precede it.
-fn is_out_of_order(alloc: Global, feats: &str, before: usize, item: &str) -> bool {
-    match feats.split('|').nth(before.wrapping_sub(1)) {
-        Some(last) => !is_made_list(alloc, format!(in alloc; "{last}|{item}")),
-        None => false,
+/// What is wrong with a feature beside the earlier ones, which are in order. `before` of them precede it, and this one is
+/// the last.
+fn order_fault(
+    alloc: Global,
+    feats: &str,
+    before: usize,
+    last: &str,
+    item: &str,
+) -> Option<&'static str> {
+    let is_in_order = may_follow(alloc, last, item);
+    if is_in_order && !name_of(last).eq_ignore_ascii_case(name_of(item)) {
+        return None;
+    }
+    if is_named_before(feats, before, item) {
+        return Some(reported::FEATURE_TWICE);
+    }
+    if is_in_order {
+        None
+    } else {
+        Some(reported::FEATURE_ORDER)
     }
 }
 
 /// The first feature that is at fault, and what is wrong with it.
 pub(crate) fn feature_fault(alloc: Global, feats: &str) -> (&str, &'static str) {
+    let mut last: Option<&str> = None;
     for (before, item) in feats.split('|').enumerate().take(LOOKED_AT) {
         if let Some(sentence) = item_fault(alloc, item) {
             return (item, sentence);
         }
-        if is_named_before(feats, before, item) {
-            return (item, reported::FEATURE_TWICE);
+        if let Some(last) = last {
+            if let Some(sentence) = order_fault(alloc, feats, before, last, item) {
+                return (item, sentence);
+            }
         }
-        if is_out_of_order(alloc, feats, before, item) {
-            return (item, reported::FEATURE_ORDER);
-        }
+        last = Some(item);
     }
     (feats, reported::BROKEN)
 }

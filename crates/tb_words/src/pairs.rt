@@ -1,21 +1,42 @@
 //! Which of the pairs in DEPS is at fault.
 
 use crate::sentences as reported;
+use std::alloc::Global;
 use tb_conllu::{LineId, RowRef, id_of};
 
+/// How many empty nodes come after each word of a sentence, those before the first word first. The rows are numbered in
+/// order.
+fn nodes_after(alloc: Global, rows: &[RowRef<'_>]) -> Option<Vec<u32>> {
+    let mut counts = Vec::new(alloc);
+    let mut count: u32 = 0;
+    for row in rows {
+        match row.id {
+            LineId::Word(_) => {
+                counts.push(count).ok()?;
+                count = 0;
+            }
+            LineId::Empty(..) => count = count.saturating_add(1),
+            LineId::Span(..) => {}
+        }
+    }
+    counts.push(count).ok()?;
+    Some(counts)
+}
+
 /// The head that a text names in a sentence, as the numbers of its word and of its empty node.
-fn head_in(rows: &[RowRef<'_>], text: &str) -> Option<(u32, u32)> {
+fn head_in(nodes: &[u32], text: &str) -> Option<(u32, u32)> {
     if text == "0" {
         return Some((0, 0));
     }
-    let id = id_of(text)?;
-    if !rows.iter().any(|row| row.id == id) {
-        return None;
-    }
-    match id {
-        LineId::Word(word) => Some((word, 0)),
-        LineId::Empty(word, node) => Some((word, node)),
-        LineId::Span(..) => None,
+    let (word, node) = match id_of(text)? {
+        LineId::Word(word) => (word, 0),
+        LineId::Empty(word, node) => (word, node),
+        LineId::Span(..) => return None,
+    };
+    if node <= *nodes.get(word as usize)? {
+        Some((word, node))
+    } else {
+        None
     }
 }
 
@@ -23,14 +44,14 @@ fn is_before(first: (u32, u32), second: (u32, u32)) -> bool {
     first.0 < second.0 || (first.0 == second.0 && first.1 < second.1)
 }
 
-/// The first pair that is at fault, and what is wrong with it.
-pub(crate) fn pair_fault<'a>(rows: &[RowRef<'_>], deps: &'a str) -> (&'a str, &'static str) {
+/// The first pair that is at fault in a sentence with so many empty nodes after each word, and what is wrong with it.
+fn fault_with<'a>(nodes: &[u32], deps: &'a str) -> (&'a str, &'static str) {
     let mut before = (0, 0);
     for pair in deps.split('|') {
         let Some((front, relation)) = pair.split_once(':') else {
             return (pair, reported::PAIR_FORM);
         };
-        let Some(head) = head_in(rows, front) else {
+        let Some(head) = head_in(nodes, front) else {
             return (pair, reported::PAIR_HEAD);
         };
         if relation.is_empty() {
@@ -42,4 +63,14 @@ pub(crate) fn pair_fault<'a>(rows: &[RowRef<'_>], deps: &'a str) -> (&'a str, &'
         before = head;
     }
     (deps, reported::PAIR_FORM)
+}
+
+/// The first pair that is at fault, and what is wrong with it. `None` for want of memory.
+pub(crate) fn pair_fault<'a>(
+    alloc: Global,
+    rows: &[RowRef<'_>],
+    deps: &'a str,
+) -> Option<(&'a str, &'static str)> {
+    let nodes = nodes_after(alloc, rows)?;
+    Some(fault_with(nodes.as_slice(), deps))
 }

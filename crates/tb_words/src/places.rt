@@ -1,18 +1,74 @@
 //! Where something is in a file.
 
-use std::alloc::Global;
-use tb_conllu::{BlockRef, LineId, Sentences};
+use std::alloc::{AllocError, Global};
+use tb_conllu::{BlockRef, LineId, ReadFault, Sentences};
 
-/// The line with this number, counted from 1, without its line feed; empty where there is none.
-pub(crate) fn line_at(file: &[u8], number: usize) -> &[u8] {
-    file.split(|byte| *byte == b'\n')
-        .nth(number.saturating_sub(1))
-        .unwrap_or(&[])
+/// A line of a file and the line before it, without their line feeds. What is not there is empty.
+#[derive(Clone, Copy)]
+pub(crate) struct NumberedLine<'a> {
+    /// Its number, from 1.
+    pub(crate) number: usize,
+    pub(crate) bytes: &'a [u8],
+    pub(crate) before: &'a [u8],
 }
 
-/// The text of a line; empty where it is not UTF-8.
-pub(crate) fn text_at(file: &[u8], number: usize) -> &str {
-    str::from_utf8(line_at(file, number)).unwrap_or("")
+impl<'a> NumberedLine<'a> {
+    /// Its text; empty where it is not UTF-8.
+    pub(crate) fn text(&self) -> &'a str {
+        str::from_utf8(self.bytes).unwrap_or("")
+    }
+}
+
+/// The first line of bytes, and what comes after its line feed, if it has one.
+fn first_line(bytes: &[u8]) -> (&[u8], Option<&[u8]>) {
+    match bytes.iter().position(|byte| *byte == b'\n') {
+        Some(end) => (
+            bytes.get(..end).unwrap_or(bytes),
+            bytes.get(end.saturating_add(1)..),
+        ),
+        None => (bytes, None),
+    }
+}
+
+/// The lines of a file, one after another.
+#[derive(Drop)]
+pub(crate) struct Lines<'a> {
+    here: NumberedLine<'a>,
+    unread: Option<&'a [u8]>,
+}
+
+impl<'a> Lines<'a> {
+    pub(crate) fn new(file: &'a [u8]) -> Lines<'a> {
+        Lines {
+            here: NumberedLine {
+                number: 0,
+                bytes: &[],
+                before: &[],
+            },
+            unread: Some(file),
+        }
+    }
+
+    fn read_next(&mut self) {
+        let (bytes, unread) = match self.unread {
+            Some(unread) => first_line(unread),
+            None => (b"".as_slice(), None),
+        };
+        self.here = NumberedLine {
+            number: self.here.number.saturating_add(1),
+            bytes,
+            before: self.here.bytes,
+        };
+        self.unread = unread;
+    }
+
+    /// Reads on to the line with this number, from 1.
+    pub(crate) fn read_to(&mut self, number: usize) -> NumberedLine<'a> {
+        for _ in self.here.number..number {
+            self.read_next();
+        }
+        self.here
+    }
 }
 
 /// A sentence, and how many lines precede it.
@@ -71,14 +127,21 @@ impl<'a> Places<'a> {
         }
     }
 
-    /// The next sentence, if there is one and memory for it.
-    pub(crate) fn next(&mut self) -> Option<Placed<'a>> {
-        let Ok(Some(block)) = self.unread.read_next(self.alloc) else {
-            return None;
+    /// The next sentence, if there is one that can be read.
+    pub(crate) fn read_next(&mut self) -> Result<Option<Placed<'a>>, AllocError> {
+        let block = match self.unread.read_next(self.alloc) {
+            Ok(Some(block)) => block,
+            Ok(None) | Err(ReadFault::At { .. }) => return Ok(None),
+            Err(ReadFault::Memory) => return Err(AllocError),
         };
         let before = self.before;
         self.before = before.saturating_add(lines_of(&block));
-        Some(Placed { block, before })
+        Ok(Some(Placed { block, before }))
+    }
+
+    /// The next sentence, if there is one and memory for it.
+    pub(crate) fn next(&mut self) -> Option<Placed<'a>> {
+        self.read_next().unwrap_or(None)
     }
 }
 

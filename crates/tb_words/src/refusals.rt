@@ -1,9 +1,8 @@
 //! The words for a refused command, and for what may come next.
 
-use crate::codes::words_of_line;
 use crate::queries::words_of_query;
-use crate::rules::words_of_rule;
 use crate::sentences as reported;
+use crate::telling::{words_of_line, words_of_rule};
 use crate::words::{Page, Words, shown};
 use std::alloc::Global;
 use tb_core::{Refusal, State};

@@ -1,25 +1,16 @@
 //! Where a sentence breaks a rule, and by what.
 
 use crate::circles::{circle_text, heads_of, on_circle};
-use crate::columns::{DEPREL, DEPS, FEATS, HEAD, ID, UPOS, field, filled, name};
+use crate::columns::{DEPREL, DEPS, FEATS, HEAD, ID, UPOS, filled, value_in};
 use crate::features::feature_fault;
+use crate::findings::{Detail, Finding, Value};
 use crate::pairs::pair_fault;
-use crate::places::{Placed, Places, sentence_at, text_at};
+use crate::places::Placed;
 use crate::sentences as reported;
 use crate::spelling::difference;
-use crate::words::{Page, Words, named, shown};
 use std::alloc::Global;
 use tb_conllu::{BlockRef, LineId, RowRef, is_word_row, words};
 use tb_fields::{is_relation_text, is_tag};
-use tb_rules::sent_id_ref;
-
-/// What is wrong in a row: the column, its wrong value, and the sentence that says so.
-#[derive(Clone, Copy)]
-struct Fault<'a> {
-    column: usize,
-    value: &'a str,
-    sentence: &'static str,
-}
 
 /// The key and the value of a comment.
 fn key_and_value(comment: &str) -> Option<(&str, &str)> {
@@ -47,67 +38,61 @@ pub(crate) fn keyed<'a>(block: &BlockRef<'a>, key: &str, before: usize) -> Optio
 }
 
 /// What is wrong where two comments have one key, or none has it.
-fn key_fault(
-    alloc: Global,
-    placed: &Placed<'_>,
+fn key_fault<'a>(
+    placed: &Placed<'a>,
     key: &str,
     none: &'static str,
     two: &'static str,
-) -> Option<Words> {
-    let line = placed.comment_line(0);
+) -> Option<Finding<'a>> {
     let Some(first) = keyed(&placed.block, key, 0) else {
-        return Some(Words::at(format!(in alloc; "line {line}"), none));
+        return Some(Finding::on(placed.comment_line(0), none));
     };
     let second = keyed(&placed.block, key, first.at.saturating_add(1))?;
     let line = placed.comment_line(first.at);
     let again = placed.comment_line(second.at);
-    Some(Words::at(format!(in alloc; "lines {line} and {again}"), two))
+    Some(Finding::on(line, two).and(Detail::Again(again)))
 }
 
 /// What is wrong with the only name of a sentence.
-fn name_fault(alloc: Global, placed: &Placed<'_>) -> Option<Words> {
+fn name_fault<'a>(placed: &Placed<'a>) -> Option<Finding<'a>> {
     let name = keyed(&placed.block, "sent_id", 0)?;
     let line = placed.comment_line(name.at);
-    let value = shown(name.value);
     let sentence = if name.value.is_empty() {
         reported::SENT_ID_EMPTY
     } else {
         reported::SENT_ID_SPACE
     };
-    Some(Words::at(format!(in alloc; "line {line}, `{value}`"), sentence))
+    Some(Finding::on(line, sentence).with(Value::Text(name.value)))
 }
 
-fn sent_id_fault(alloc: Global, placed: &Placed<'_>) -> Option<Words> {
+fn sent_id_fault<'a>(placed: &Placed<'a>) -> Option<Finding<'a>> {
     let found = key_fault(
-        alloc,
         placed,
         "sent_id",
         reported::SENT_ID_MISSING,
         reported::SENT_ID_TWICE,
     );
     match found {
-        Some(words) => Some(words),
-        None => name_fault(alloc, placed),
+        Some(fault) => Some(fault),
+        None => name_fault(placed),
     }
 }
 
-/// The words for a row in the place of another.
-fn out_of_order(
-    alloc: Global,
+/// What is wrong with a row in the place of another.
+fn out_of_order<'a>(
     line: usize,
     found: LineId,
     wanted: LineId,
     sentence: &'static str,
-) -> Option<Words> {
-    let found = named(found);
-    let wanted = named(wanted);
-    Some(Words::at(
-        format!(in alloc; "line {line}, {found} where {wanted} has to stand"),
-        sentence,
-    ))
+) -> Option<Finding<'a>> {
+    Some(
+        Finding::on(line, sentence)
+            .of(found)
+            .and(Detail::Instead(wanted)),
+    )
 }
 
-fn order_fault(alloc: Global, placed: &Placed<'_>) -> Option<Words> {
+fn order_fault<'a>(placed: &Placed<'a>) -> Option<Finding<'a>> {
     let mut word: u32 = 0;
     let mut node: u32 = 0;
     for (at, row) in placed.block.rows.iter().enumerate() {
@@ -118,7 +103,7 @@ fn order_fault(alloc: Global, placed: &Placed<'_>) -> Option<Words> {
                 node = 0;
                 if number != word {
                     let wanted = LineId::Word(word);
-                    return out_of_order(alloc, line, row.id, wanted, reported::WORD_ORDER);
+                    return out_of_order(line, row.id, wanted, reported::WORD_ORDER);
                 }
             }
             LineId::Span(..) => {}
@@ -126,7 +111,7 @@ fn order_fault(alloc: Global, placed: &Placed<'_>) -> Option<Words> {
                 node = node.saturating_add(1);
                 if after != word || number != node {
                     let wanted = LineId::Empty(word, node);
-                    return out_of_order(alloc, line, row.id, wanted, reported::NODE_ORDER);
+                    return out_of_order(line, row.id, wanted, reported::NODE_ORDER);
                 }
             }
         }
@@ -134,18 +119,17 @@ fn order_fault(alloc: Global, placed: &Placed<'_>) -> Option<Words> {
     None
 }
 
-fn numbering_fault(alloc: Global, placed: &Placed<'_>) -> Option<Words> {
-    if let Some(words) = order_fault(alloc, placed) {
-        return Some(words);
+fn numbering_fault<'a>(placed: &Placed<'a>) -> Option<Finding<'a>> {
+    if let Some(fault) = order_fault(placed) {
+        return Some(fault);
     }
-    let line = placed.comment_line(0);
     let count = words(&placed.block);
     let sentence = if count == 0 {
         reported::NO_WORDS
     } else {
         reported::TOO_MANY_WORDS
     };
-    Some(Words::at(format!(in alloc; "line {line}, {count} words"), sentence))
+    Some(Finding::on(placed.comment_line(0), sentence).and(Detail::Words(count)))
 }
 
 fn head_fault(head: u32, word: u32, count: usize) -> Option<&'static str> {
@@ -232,53 +216,39 @@ fn node_fault(row: &RowRef<'_>) -> (usize, &'static str) {
     }
 }
 
-/// What is wrong with a row that has this line.
+/// What is wrong with a row by one of rules 4 to 8: the column, what is in it, and the sentence.
 fn row_fault<'a>(
     alloc: Global,
     block: &BlockRef<'a>,
     rule: u8,
     at: usize,
-    text: &'a str,
-) -> Option<Fault<'a>> {
+) -> Option<(usize, Value<'a>, &'static str)> {
     let row = block.rows.get(at)?;
     let (column, sentence) = match rule {
         4 => word_fault(row, words(block)),
         5 => range_fault(block.rows.as_slice(), at, row, words(block)),
         6 => node_fault(row),
         7 => {
-            let (value, sentence) = feature_fault(alloc, field(text, FEATS));
-            return Some(Fault {
-                column: FEATS,
-                value,
-                sentence,
-            });
+            let (feature, sentence) = feature_fault(alloc, row.feats);
+            return Some((FEATS, Value::Text(feature), sentence));
         }
         _ => {
-            let (value, sentence) = pair_fault(block.rows.as_slice(), field(text, DEPS));
-            return Some(Fault {
-                column: DEPS,
-                value,
-                sentence,
-            });
+            let (pair, sentence) = pair_fault(alloc, block.rows.as_slice(), row.deps)?;
+            return Some((DEPS, Value::Text(pair), sentence));
         }
     };
-    Some(Fault {
-        column,
-        value: field(text, column),
-        sentence,
-    })
+    Some((column, value_in(row, column), sentence))
 }
 
-fn in_row(alloc: Global, file: &[u8], placed: &Placed<'_>, rule: u8, at: usize) -> Option<Words> {
-    let line = placed.row_line(at);
-    let fault = row_fault(alloc, &placed.block, rule, at, text_at(file, line))?;
-    let row = named(placed.block.rows.get(at)?.id);
-    let name = name(fault.column);
-    let value = shown(fault.value);
-    Some(Words::at(
-        format!(in alloc; "line {line}, {row}, {name} `{value}`"),
-        fault.sentence,
-    ))
+fn in_row<'a>(alloc: Global, placed: &Placed<'a>, rule: u8, at: usize) -> Option<Finding<'a>> {
+    let (column, value, sentence) = row_fault(alloc, &placed.block, rule, at)?;
+    let id = placed.block.rows.get(at)?.id;
+    Some(
+        Finding::on(placed.row_line(at), sentence)
+            .of(id)
+            .in_column(column)
+            .with(value),
+    )
 }
 
 fn is_root(row: &RowRef<'_>) -> bool {
@@ -295,101 +265,60 @@ fn root_after(rows: &[RowRef<'_>], before: usize) -> Option<usize> {
     None
 }
 
-fn root_fault(alloc: Global, placed: &Placed<'_>) -> Option<Words> {
+fn root_fault<'a>(placed: &Placed<'a>) -> Option<Finding<'a>> {
     let rows = placed.block.rows.as_slice();
     let Some(first) = root_after(rows, 0) else {
-        let line = placed.comment_line(0);
-        return Some(Words::at(format!(in alloc; "line {line}"), reported::NO_ROOT));
+        return Some(Finding::on(placed.comment_line(0), reported::NO_ROOT));
     };
     let second = root_after(rows, first.saturating_add(1))?;
-    let one = named(rows.get(first)?.id);
-    let other = named(rows.get(second)?.id);
-    let line = placed.row_line(first);
-    let again = placed.row_line(second);
-    Some(Words::at(
-        format!(in alloc; "line {line}, {one}, and line {again}, {other}"),
-        reported::TWO_ROOTS,
-    ))
+    let other = Detail::And(placed.row_line(second), rows.get(second)?.id);
+    Some(
+        Finding::on(placed.row_line(first), reported::TWO_ROOTS)
+            .of(rows.get(first)?.id)
+            .and(other),
+    )
 }
 
-fn circle_fault(alloc: Global, placed: &Placed<'_>) -> Option<Words> {
+fn circle_fault<'a>(alloc: Global, placed: &Placed<'a>) -> Option<Finding<'a>> {
     let heads = heads_of(alloc, placed.block.rows.as_slice())?;
     let word = on_circle(heads.as_slice())?;
     let circle = circle_text(alloc, heads.as_slice(), word)?;
-    let line = placed.word_line(word);
-    Some(Words::at(
-        format!(in alloc; "line {line}, words {circle}"),
-        reported::CIRCLE,
-    ))
+    Some(
+        Finding::on(placed.word_line(word), reported::CIRCLE)
+            .of(LineId::Word(word))
+            .and(Detail::Circle(circle)),
+    )
 }
 
-/// The first of the sentences with this name.
-fn named_before(alloc: Global, file: &[u8], number: u64, name: &str) -> Option<(u64, usize)> {
-    let mut places = Places::new(alloc, file);
-    for earlier in 1..number {
-        let placed = places.next()?;
-        if matches!(sent_id_ref(&placed.block), Some(other) if other == name) {
-            return Some((earlier, placed.comment_line(0)));
-        }
-    }
-    None
-}
-
-fn name_taken(alloc: Global, file: &[u8], placed: &Placed<'_>, number: u64) -> Option<Words> {
+/// What is wrong with a sentence that has the name of an earlier one: its number, and its first line.
+pub(crate) fn name_taken<'a>(
+    placed: &Placed<'a>,
+    earlier: u64,
+    first: usize,
+) -> Option<Finding<'a>> {
     let name = keyed(&placed.block, "sent_id", 0)?;
-    let (earlier, first) = named_before(alloc, file, number, name.value)?;
-    let line = placed.comment_line(name.at);
-    let value = shown(name.value);
-    Some(Words::at(
-        format!(in alloc; "line {line}, `{value}`, as in sentence {earlier} from line {first}"),
-        reported::SENT_ID_AGAIN,
-    ))
+    Some(
+        Finding::on(placed.comment_line(name.at), reported::SENT_ID_AGAIN)
+            .with(Value::Text(name.value))
+            .and(Detail::Earlier(earlier, first)),
+    )
 }
 
-/// What is wrong with a sentence by this rule. The row is counted from 1.
-fn fault_of(
+/// What is wrong with a sentence by one of rules 1 to 11. The row, counted from 1, is that of rules 4 to 8, else 0.
+pub(crate) fn fault_by<'a>(
     alloc: Global,
-    file: &[u8],
-    placed: &Placed<'_>,
-    sentence: u64,
+    placed: &Placed<'a>,
     rule: u8,
-    row: u64,
-) -> Option<Words> {
+    row: usize,
+) -> Option<Finding<'a>> {
     match rule {
-        1 => sent_id_fault(alloc, placed),
-        2 => key_fault(
-            alloc,
-            placed,
-            "text",
-            reported::TEXT_MISSING,
-            reported::TEXT_TWICE,
-        ),
-        3 => numbering_fault(alloc, placed),
-        4..=8 => in_row(alloc, file, placed, rule, row.checked_sub(1)? as usize),
-        9 => root_fault(alloc, placed),
+        1 => sent_id_fault(placed),
+        2 => key_fault(placed, "text", reported::TEXT_MISSING, reported::TEXT_TWICE),
+        3 => numbering_fault(placed),
+        4..=8 => in_row(alloc, placed, rule, row.checked_sub(1)?),
+        9 => root_fault(placed),
         10 => circle_fault(alloc, placed),
         11 => difference(alloc, placed),
-        12 => name_taken(alloc, file, placed, sentence),
         _ => None,
     }
-}
-
-/// The words for a broken rule: where the sentence with this number, counted from 1, breaks it, and by what. The row
-/// is that of rules 4 to 8, else 0.
-pub(crate) fn words_of_rule(
-    alloc: Global,
-    file: &[u8],
-    sentence: u64,
-    rule: u8,
-    row: u64,
-) -> Words {
-    let found = match sentence_at(alloc, file, sentence) {
-        Some(placed) => fault_of(alloc, file, &placed, sentence, rule, row),
-        None => None,
-    };
-    let words = match found {
-        Some(words) => words,
-        None => Words::at(format!(in alloc; "sentence {sentence}"), reported::BROKEN),
-    };
-    words.on(Page::Rule(rule))
 }

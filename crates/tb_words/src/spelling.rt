@@ -1,9 +1,10 @@
 //! Where the forms of a sentence differ from its text.
 
+use crate::findings::{Detail, Finding};
 use crate::places::Placed;
 use crate::rules::keyed;
 use crate::sentences as reported;
-use crate::words::{Words, shown};
+use crate::words::shown;
 use std::alloc::Global;
 use tb_rules::restored;
 
@@ -51,7 +52,8 @@ fn sentence_of(text: &str, forms: &str) -> &'static str {
     }
 }
 
-pub(crate) fn difference(alloc: Global, placed: &Placed<'_>) -> Option<Words> {
+/// Where the text and the forms differ.
+pub(crate) fn difference<'a>(alloc: Global, placed: &Placed<'a>) -> Option<Finding<'a>> {
     let given = keyed(&placed.block, "text", 0)?;
     let text = folded(alloc, given.value)?;
     let forms = restored(alloc, &placed.block).ok()?;
@@ -60,9 +62,6 @@ pub(crate) fn difference(alloc: Global, placed: &Placed<'_>) -> Option<Words> {
     let sentence = sentence_of(rest(text.as_str(), at), rest(forms.as_str(), at));
     let written = shown(rest(text.as_str(), start));
     let spelled = shown(rest(forms.as_str(), start));
-    let line = placed.comment_line(given.at);
-    Some(Words::at(
-        format!(in alloc; "line {line}, the text has `{written}`, the forms `{spelled}`"),
-        sentence,
-    ))
+    let detail = format!(in alloc; "the text has `{written}`, the forms `{spelled}`").ok()?;
+    Some(Finding::on(placed.comment_line(given.at), sentence).and(Detail::Spelled(detail)))
 }

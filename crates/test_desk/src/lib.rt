@@ -37,3 +37,5 @@ mod taking_tests;
 mod text_tests;
 #[cfg(test)]
 mod total_tests;
+#[cfg(test)]
+mod tree_tests;

@@ -183,6 +183,10 @@ const VIEW_LINES: &str = "\
     find a␣b/c --db=F => List { db: \"F\", list: Find { sent_id: \"a b/c\" } }\n\
     find --db F -- -1 => List { db: \"F\", list: Find { sent_id: \"-1\" } }\n\
     find --db F ∅ => List { db: \"F\", list: Find { sent_id: \"\" } }\n\
+    check => Check { most: 100 }\n\
+    check --most 1 => Check { most: 1 }\n\
+    check --most=1000000 => Check { most: 1000000 }\n\
+    check --most (0|01|+1|1000001|10000000000|x|∅) => usage\n\
     page --db F --port 8080 => Page { db: \"F\", port: 8080 }\n\
     page --port=0 --db=F => Page { db: \"F\", port: 0 }\n\
     page --db F --port 65536 => usage\n\
@@ -217,15 +221,18 @@ const VIEW_LINES: &str = "\
     revisions --db F --rev 1 7 => UnknownArgument 2\n\
     revisions 7 --db F --db F => ArgumentConflict 2\n\
     revisions 7 --db => InvalidValue 2\n\
+    check (F|--db F) => UnknownArgument 2\n\
+    check --most => InvalidValue 2\n\
+    check --most 1 --most 2 => ArgumentConflict 2\n\
     find => MissingRequiredArgument 2\n\
     find --db F => MissingRequiredArgument 2\n\
     find --db F s1 s2 => UnknownArgument 2\n\
     find --db F -1 => UnknownArgument 2\n\
-    (--help|-h|help|help revisions|help find|help tree|batches --help) => DisplayHelp 0\n\
+    (--help|-h|help|help revisions|help find|help tree|help check|batches --help) => DisplayHelp 0\n\
     --version => DisplayVersion 0\n\
     \x20=> usage\n";
 
 #[test]
 fn words_of_deskview_are_read(rt: HostRuntime) {
-    assert_answers(&rt, rt.alloc(), &ViewWords, VIEW_LINES, 70)
+    assert_answers(&rt, rt.alloc(), &ViewWords, VIEW_LINES, 85)
 }
