@@ -1,3 +1,4 @@
+pub mod Prelude
 pub mod Leaving
 pub mod Firsts
 pub mod Planned

@@ -1,16 +1,8 @@
 //! Counts the words of first revisions.
 
 ghost use Rattle.std.specs.Prelude.{◌≡◌, ◌≢◌, ◌<◌, ◌^◌, List, sum_by, None, Ok, Err, IfOk, OnOk};
-ghost use Rattle.std.specs.List.{AllByRecursion};
-ghost use Rattle.sqlite.specs.State.{HasCleanDisk};
-ghost use Rattle.sqlite.specs.Held.{state};
-ghost use Rattle.tb_conllu.specs.Text.{BlockText};
-ghost use Rattle.tb_conllu.specs.Words.{words_of};
-ghost use Rattle.tb_core.specs.declared.refusals.Refusal.{Refusal as AnyRefusal};
-ghost use Rattle.tb_core.specs.Machine.{Machine};
-ghost use Rattle.tb_refine.specs.DeskTables.{IsDeskOf};
-ghost use Rattle.tb_tables.specs.Leaving.{IsFaultless, FailsOnlyAs};
-ghost use Rattle.tb_refine.specs.Faults.{IsNoDevice};
+ghost use Rattle.tb_import.specs.Prelude.{AllByRecursion, AnyRefusal, BlockText, FailsOnlyAs, HasCleanDisk, IsDeskOf};
+ghost use Rattle.tb_import.specs.Prelude.{IsFaultless, IsNoDevice, Machine, state, words_of};
 ghost use Rattle.tb_import.specs.Leaving.{IsLeft, Stays};
 ghost use Rattle.tb_import.specs.Firsts.{IsFirst, IsWorkOf, IsAtFirst, AreFirsts};
 

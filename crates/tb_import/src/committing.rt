@@ -2,21 +2,10 @@
 
 ghost use Rattle.std.specs.Prelude.{◌≡◌, ◌≢◌, ◌+◌, ◌^◌, ◌<◌, List, length, Err, None, false};
 ghost use Rattle.std.specs.Prelude.{OnOk};
-ghost use Rattle.sqlite.specs.State.{HasCleanDisk, Survives};
-ghost use Rattle.sqlite.specs.Held.{state};
-ghost use Rattle.tb_tables.specs.Records.{AreStored};
-ghost use Rattle.tb_core.specs.declared.refusals.Refusal.{Refusal as AnyRefusal};
-ghost use Rattle.tb_core.specs.Machine.{Machine};
-ghost use Rattle.tb_conllu.specs.Text.{BlockText, text_of};
-ghost use Rattle.tb_core.specs.Acts.{IsAllowed, importing, after};
-ghost use Rattle.tb_core.specs.Reaching.{IsReachable};
-ghost use Rattle.tb_refine.specs.DeskTables.{tables_of, IsDeskOf};
-ghost use Rattle.tb_refine.specs.Recorded.{IsWritten};
-ghost use Rattle.tb_refine.specs.Calls.{BlamesNoDevice};
-ghost use Rattle.tb_tables.specs.Changes.{HasRevisionRowids};
-ghost use Rattle.tb_tables.specs.Failing.{IsShort};
+ghost use Rattle.tb_import.specs.Prelude.{after, AnyRefusal, AreStored, BlamesNoDevice, BlockText, HasCleanDisk};
+ghost use Rattle.tb_import.specs.Prelude.{HasRevisionRowids, importing, IsAllowed, IsDeskOf, IsReachable, IsShort};
+ghost use Rattle.tb_import.specs.Prelude.{IsWritten, KeepsRecordsOnErr, Machine, state, Survives, tables_of, text_of};
 ghost use Rattle.tb_import.specs.Planned.{IsMadeBatch};
-ghost use Rattle.tb_tables.specs.Leaving.{KeepsRecordsOnErr};
 
 use sqlite::{Alter, Connection};
 use tb_core::{Fault, reached_states_are_well};

@@ -2,14 +2,8 @@
 
 ghost use Rattle.std.specs.Prelude.{◌≡◌, ◌≢◌, ◌++◌, ◌∷◌, [], ℕ, List, None, Err, IfOk, OnOk};
 ghost use Rattle.std.specs.Prelude.{MatchOption, string_bytes};
-ghost use Rattle.sqlite.specs.State.{HasCleanDisk};
-ghost use Rattle.sqlite.specs.Held.{state};
-ghost use Rattle.tb_conllu.specs.Text.{BlockText, text_of};
-ghost use Rattle.tb_core.specs.declared.refusals.Refusal.{Refusal as AnyRefusal};
-ghost use Rattle.tb_core.specs.Machine.{Machine};
-ghost use Rattle.tb_refine.specs.DeskTables.{IsDeskOf};
-ghost use Rattle.tb_tables.specs.Leaving.{IsFaultless, FailsOnlyAs};
-ghost use Rattle.tb_refine.specs.Faults.{IsNoDevice};
+ghost use Rattle.tb_import.specs.Prelude.{AnyRefusal, BlockText, FailsOnlyAs, HasCleanDisk, IsDeskOf, IsFaultless};
+ghost use Rattle.tb_import.specs.Prelude.{IsNoDevice, Machine, state, text_of};
 ghost use Rattle.tb_import.specs.Leaving.{IsLeft, Stays};
 ghost use Rattle.tb_import.specs.Firsts.{IsFirst, AreFirsts, DecidesSame};
 

@@ -2,31 +2,15 @@
 
 ghost use Rattle.std.specs.Prelude.{◌≡◌, ◌≢◌, ◌+◌, ◌≤◌, ℕ, List, length, map, None, Err, false};
 ghost use Rattle.std.specs.Prelude.{IfOk, IfSome, OnOk};
-ghost use Rattle.sqlite.specs.State.{HasCleanDisk, Survives};
-ghost use Rattle.sqlite.specs.Held.{state};
-ghost use Rattle.tb_conllu.specs.Text.{BlockText, text_of};
-ghost use Rattle.tb_tables.specs.Records.{AreStored};
-ghost use Rattle.tb_core.specs.declared.refusals.Refusal.{Refusal as AnyRefusal};
-ghost use Rattle.tb_core.specs.Machine.{Machine};
-ghost use Rattle.tb_core.specs.Acts.{importing, IsAllowed, after};
-ghost use Rattle.tb_core.specs.Reaching.{IsReachable};
-ghost use Rattle.tb_core.specs.Commands.{Answer, import_file, imported, replied, refused as refused_by, reply_to};
-ghost use Rattle.tb_core.specs.Steps.{Steps};
-ghost use Rattle.tb_core.specs.Taking.{taken_of};
-ghost use Rattle.tb_core.specs.Totals.{AreTotalsOf};
-ghost use Rattle.tb_refine.specs.DeskTables.{tables_of, IsDeskOf};
-ghost use Rattle.tb_core.specs.Found.{FindsName};
-ghost use Rattle.tb_core.specs.Parts.{IsNamedImport, IsTakenImport};
-ghost use Rattle.tb_refine.specs.Counted.{IsWithin};
-ghost use Rattle.tb_refine.specs.Faults.{IsNoDevice};
-ghost use Rattle.tb_refine.specs.Calls.{BlamesNoDevice};
-ghost use Rattle.tb_tables.specs.Changes.{HasRevisionRowids};
-ghost use Rattle.tb_tables.specs.Failing.{IsShort};
+ghost use Rattle.tb_import.specs.Prelude.{after, Answer, AnyRefusal, AreStored, AreTotalsOf, BlamesNoDevice, BlockText};
+ghost use Rattle.tb_import.specs.Prelude.{CrashesTo, FailsOnlyAs, FindsName, HasCleanDisk, HasRevisionRowids};
+ghost use Rattle.tb_import.specs.Prelude.{HasRoomIfWritten, import_file, imported, importing, IsAllowed, IsDeskOf};
+ghost use Rattle.tb_import.specs.Prelude.{IsFaultless, IsNamedImport, IsNoDevice, IsReachable, IsShort, IsTakenImport};
+ghost use Rattle.tb_import.specs.Prelude.{IsWithin, KeepsRecordsOnErr, KnowsDesk, KnowsDeskWhere, Machine, refused_by};
+ghost use Rattle.tb_import.specs.Prelude.{RefusesAs, replied, reply_to, state, Steps, Survives, tables_of, taken_of};
+ghost use Rattle.tb_import.specs.Prelude.{Tells, text_of};
 ghost use Rattle.tb_import.specs.Leaving.{IsLeft, Stays};
 ghost use Rattle.tb_import.specs.Planned.{IsKnown, HasImported, Imports};
-ghost use Rattle.tb_refine.specs.Room.{HasRoomIfWritten};
-ghost use Rattle.tb_refine.specs.Calls.{CrashesTo, KnowsDesk, KnowsDeskWhere, RefusesAs, Tells};
-ghost use Rattle.tb_tables.specs.Leaving.{KeepsRecordsOnErr, IsFaultless, FailsOnlyAs};
 
 use crate::committing::commit_import;
 use crate::counters::ImportCounters;

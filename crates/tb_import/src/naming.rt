@@ -3,23 +3,12 @@
 ghost use Rattle.std.specs.Prelude.{◌≡◌, ◌≢◌, ◌<◌, ◌≤◌, ◌+◌, ℕ, List, map, length, sum_by};
 ghost use Rattle.std.specs.Prelude.{None, Err, IfOk, OnOk};
 ghost use Rattle.std.specs.Prelude.{IfErr};
-ghost use Rattle.std.specs.List.{AllByRecursion};
-ghost use Rattle.sqlite.specs.State.{HasCleanDisk};
-ghost use Rattle.sqlite.specs.Held.{state};
-ghost use Rattle.tb_conllu.specs.Words.{words_of};
-ghost use Rattle.tb_core.specs.declared.refusals.Refusal.{Refusal as AnyRefusal};
-ghost use Rattle.tb_core.specs.Machine.{Machine, Batch};
-ghost use Rattle.tb_core.specs.Reaching.{Reached};
-ghost use Rattle.tb_core.specs.Commands.{imported, HasBatch};
-ghost use Rattle.tb_core.specs.Tests.{first_bodies, import_reply};
-ghost use Rattle.tb_refine.specs.DeskTables.{IsDeskOf, sentence_record};
-ghost use Rattle.tb_reads.specs.Found.{work_of};
-ghost use Rattle.tb_core.specs.Found.{FindsName};
-ghost use Rattle.tb_tables.specs.Leaving.{IsFaultless, FailsOnlyAs};
-ghost use Rattle.tb_refine.specs.Faults.{IsNoDevice};
+ghost use Rattle.tb_import.specs.Prelude.{AllByRecursion, AnyRefusal, Batch, FailsOnlyAs, FindsName, first_bodies};
+ghost use Rattle.tb_import.specs.Prelude.{HasBatch, HasCleanDisk, import_reply, imported, IsDeskOf, IsFaultless};
+ghost use Rattle.tb_import.specs.Prelude.{IsNoDevice, KnowsDesk, KnowsDeskWhere, Machine, Reached, sentence_record};
+ghost use Rattle.tb_import.specs.Prelude.{state, Tells, words_of, work_of};
 ghost use Rattle.tb_import.specs.Firsts.{IsAtFirst};
 ghost use Rattle.tb_import.specs.Leaving.{IsLeft, Stays};
-ghost use Rattle.tb_refine.specs.Calls.{KnowsDesk, KnowsDeskWhere, Tells};
 
 use crate::again::words_again;
 use crate::firsts::are_firsts;

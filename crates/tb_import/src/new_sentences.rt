@@ -1,19 +1,10 @@
 //! Finds the sentence of a file whose `sent_id` the desk already has.
 
 ghost use Rattle.std.specs.Prelude.{◌≡◌, ◌≢◌, List, map, None, Ok, Err, IfOk, OnOk};
-ghost use Rattle.sqlite.specs.State.{HasCleanDisk};
-ghost use Rattle.sqlite.specs.Held.{state};
-ghost use Rattle.tb_conllu.specs.Text.{BlockText};
-ghost use Rattle.tb_core.specs.declared.refusals.Refusal.{Refusal as AnyRefusal};
-ghost use Rattle.tb_core.specs.Machine.{Machine};
-ghost use Rattle.tb_core.specs.Taking.{taken_of};
-ghost use Rattle.tb_refine.specs.DeskTables.{IsDeskOf};
-ghost use Rattle.tb_core.specs.Found.{FindsId};
-ghost use Rattle.tb_tables.specs.Leaving.{IsFaultless, FailsOnlyAs};
-ghost use Rattle.tb_refine.specs.Faults.{IsNoDevice};
+ghost use Rattle.tb_import.specs.Prelude.{AnyRefusal, BlockText, FailsOnlyAs, FindsId, HasCleanDisk, IsDeskOf};
+ghost use Rattle.tb_import.specs.Prelude.{IsFaultless, IsNoDevice, KnowsDesk, Machine, state, taken_of};
 ghost use Rattle.tb_import.specs.Leaving.{IsLeft, Stays};
 ghost use Rattle.tb_import.specs.Planned.{IsKnown};
-ghost use Rattle.tb_refine.specs.Calls.{KnowsDesk};
 
 use crate::counters::ImportCounters;
 use sqlite::{Alter, Connection};

@@ -3,15 +3,9 @@
 ghost use Rattle.std.specs.Prelude.{◌≡◌, ◌≢◌, ◌+◌, ◌^◌, ◌≤◌, ◌<◌, List, ℕ, map, length};
 ghost use Rattle.std.specs.Prelude.{sum_by, string_bytes, Err, IfOk};
 ghost use Rattle.std.specs.Prelude.{IfErr};
-ghost use Rattle.std.specs.List.{AllByRecursion};
-ghost use Rattle.tb_conllu.specs.Text.{BlockText};
-ghost use Rattle.tb_core.specs.declared.refusals.Refusal.{Refusal as AnyRefusal};
-ghost use Rattle.tb_core.specs.Machine.{Machine};
-ghost use Rattle.tb_core.specs.Acts.{importing, IsAllowed, after};
-ghost use Rattle.tb_core.specs.Reaching.{Reached, IsReachable};
-ghost use Rattle.tb_core.specs.Taking.{NewSentenceText, taken_of};
-ghost use Rattle.tb_refine.specs.Counted.{IsPrepared};
-ghost use Rattle.tb_refine.specs.Faults.{IsNoDevice};
+ghost use Rattle.tb_import.specs.Prelude.{after, AllByRecursion, AnyRefusal, BlockText, importing, IsAllowed};
+ghost use Rattle.tb_import.specs.Prelude.{IsNoDevice, IsPrepared, IsReachable, Machine, NewSentenceText, Reached};
+ghost use Rattle.tb_import.specs.Prelude.{taken_of};
 ghost use Rattle.tb_import.specs.Planned.{IsKnown, IsPlannedImport, item_reported, import_move};
 
 use crate::counters::ImportCounters;

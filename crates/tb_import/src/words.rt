@@ -1,11 +1,7 @@
 //! Counts the words of sentences.
 
 ghost use Rattle.std.specs.Prelude.{◌≡◌, ◌≢◌, ◌+◌, ◌<◌, ◌^◌, List, sum_by, Err, IfOk, IfErr};
-ghost use Rattle.tb_conllu.specs.Text.{BlockText};
-ghost use Rattle.tb_conllu.specs.Words.{words_of};
-ghost use Rattle.tb_core.specs.declared.refusals.Refusal.{Refusal as AnyRefusal};
-ghost use Rattle.tb_core.specs.Taking.{IsBody, NewSentenceText};
-ghost use Rattle.tb_refine.specs.Faults.{IsNoDevice};
+ghost use Rattle.tb_import.specs.Prelude.{AnyRefusal, BlockText, IsBody, IsNoDevice, NewSentenceText, words_of};
 
 use std::alloc::Global;
 use tb_core::{Fault, NewSentence, take_file_ref};

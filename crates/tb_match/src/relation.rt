@@ -14,50 +14,11 @@ use crate::narrow::chain_words;
 use crate::pattern::Pat;
 use crate::shape::Shape;
 use crate::step::Step;
-use crate::table::{close, compose, diagonal, empty, mark, merge};
-use crate::token::{
-    optional_token_of, optional_token_rows, run_on, short_run_of, step_over, token_of,
-};
+use crate::table::{close, compose, diagonal, empty, merge};
+use crate::token::{optional_token_of, run_on, short_run_of, step_over, token_of, token_rows};
 use crate::truth::Truth;
 use crate::walk::next_place;
 use std::alloc::{AllocError, Global};
-
-/// The rows of one word of which the expression holds, marked one by one.
-fn marked_rows(
-    alloc: Global,
-    expr: u16,
-    truth: &Truth,
-    shape: Shape,
-) -> Result<Vec<u64>, AllocError>
-    requires expr { expr < truth.now.exprs }
-    requires words { shape.last ≡ truth.now.words }
-    ensures whole { IfOk result (λ v. length v.items ≡ (truth.now.words + 1) * shape.width) }
-    ensures rows { IfOk result (λ v. (i j : ℕ) → i ≤ truth.now.words → j ≤ truth.now.words →
-        (InTable v.items shape.width i j ↔ ((j ≡ i + 1) × Holds truth.now expr j))) }
-{
-    let mut table = empty(alloc, shape)?;
-    for place in 0..shape.last {
-        if truth.get(expr, place + 1) {
-            mark(&mut table, shape, place, place + 1);
-        }
-    }
-    Ok(table)
-}
-
-/// The rows of one word of which the expression holds.
-fn token_rows(alloc: Global, expr: u16, truth: &Truth, shape: Shape) -> Result<Vec<u64>, AllocError>
-    requires expr { expr < truth.now.exprs }
-    requires words { shape.last ≡ truth.now.words }
-    ensures whole { IfOk result (λ v. length v.items ≡ (truth.now.words + 1) * shape.width) }
-    ensures rows { IfOk result (λ v. (i j : ℕ) → i ≤ truth.now.words → j ≤ truth.now.words →
-        (InTable v.items shape.width i j ↔ ((j ≡ i + 1) × Holds truth.now expr j))) }
-{
-    if shape.width == 1 {
-        let places = diagonal(alloc, shape)?;
-        return step_over(alloc, places, expr, truth, shape, Step::Required);
-    }
-    marked_rows(alloc, expr, truth, shape)
-}
 
 /// The rows of chains of links, and whether they are the chains without a greatest number.
 #[derive(Drop)]
@@ -359,10 +320,10 @@ pub(crate) fn rows(
     ensures bound { steps.new ≤ steps.old + weight_of (tree pat.now) * triangle (truth.now.words + 1) }
 {
     if let Some(expr) = optional_token_of(pat) {
-        return optional_token_rows(alloc, expr, truth, shape);
+        return token_rows(alloc, expr, truth, shape, Step::Optional);
     }
     match pat {
-        Pat::Tok(expr) => token_rows(alloc, *expr, truth, shape),
+        Pat::Tok(expr) => token_rows(alloc, *expr, truth, shape, Step::Required),
         Pat::Cat(parts) => sequence(alloc, parts, truth, spare, shape, steps),
         Pat::Alt(parts) => choice(alloc, parts, truth, spare, shape, steps),
         Pat::Rep(inner, least, most) => {

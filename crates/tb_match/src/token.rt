@@ -138,26 +138,27 @@ fn mark_step(
     }
 }
 
-/// The rows of one word of which the expression holds, or of nothing.
-pub(crate) fn optional_token_rows(
+/// The rows of one word of which the expression holds. If the step is optional, they include those of no word.
+pub(crate) fn token_rows(
     alloc: Global,
     expr: u16,
     truth: &Truth,
     shape: Shape,
+    stay: Step,
 ) -> Result<Vec<u64>, AllocError>
     requires expr { expr < truth.now.exprs }
     requires words { shape.last ≡ truth.now.words }
     ensures whole { IfOk result (λ v. length v.items ≡ (truth.now.words + 1) * shape.width) }
     ensures rows { IfOk result (λ v. (i j : ℕ) → i ≤ truth.now.words → j ≤ truth.now.words →
-        (InTable v.items shape.width i j ↔ ((j ≡ i) ⊎ IsWord truth.now expr i j))) }
+        (InTable v.items shape.width i j ↔ ((MayStay stay × (j ≡ i)) ⊎ IsWord truth.now expr i j))) }
 {
     if shape.width == 1 {
         let places = diagonal(alloc, shape)?;
-        return step_over(alloc, places, expr, truth, shape, Step::Optional);
+        return step_over(alloc, places, expr, truth, shape, stay);
     }
     let mut table = empty(alloc, shape)?;
     for place in 0..shape.last + 1 {
-        mark_step(&mut table, place, place, expr, truth, shape, Step::Optional);
+        mark_step(&mut table, place, place, expr, truth, shape, stay);
     }
     Ok(table)
 }
