@@ -1,7 +1,8 @@
 -- Sentences that are examined one after another, and their faults.
-use Rattle.std.proofs.Common.{◌≡◌, ℕ, ◌+◌, ◌<◌, ◌≤◌, List, [], ◌∷◌, ◌++◌, length, map, take, refl, sym, ◌∙◌, ap, subst, arith, append_assoc, append-nil, length-append}
+use Rattle.std.proofs.Common.{◌≡◌, ℕ, ◌+◌, ◌<◌, ◌≤◌, List, [], ◌∷◌, ◌++◌, length, map, take, refl, sym, ◌∙◌, ap, subst, arith, append_assoc, append-nil, length-append, Result, Ok, Err, IfErr}
 use Rattle.std.proofs.lemmas.List.{take-map}
 use Rattle.tb_conllu.specs.Left.{Left, IsNext, IsReadTo}
+use Rattle.tb_conllu.specs.Reported.{IsNoFile}
 use Rattle.tb_conllu.specs.Text.{BlockText, block_lines, ended, lines_of, row_line, text_of}
 use Rattle.tb_conllu.specs.declared.faulty.FaultyLine.{FaultyLine}
 use Rattle.tb_rules.specs.Broken.{AreBrokenAfter}
@@ -65,6 +66,21 @@ next_found file old new sentence bs all b broken h next read k =
 
 pub next_shorter : (old new : Left) (b : BlockText) → IsNext old new b → length new.rest < length old.rest
 next_shorter old new b h = omega (arith, text_some b, ap length h.text, length-append (text_of (b ∷ [])) new.rest)
+
+-- a file in which a sentence is left has a byte
+pub found_some : (file : List ℕ) (old new : Left) (sentence : ℕ) (bs : List BlockText) (b : BlockText) (all : List Fault) → AreFound file old sentence bs all → IsNext old new b → 0 < length file
+found_some file old new sentence bs b all h next =
+    let room = h.room in
+    omega (arith, room, text_some b, ap length next.text, length-append (text_of (b ∷ [])) new.rest)
+
+-- the empty file is one
+pub no_file_some : (f : List ℕ) → IsNoFile f → 0 < length f
+no_file_some [] none = absurd (none [] tt refl)
+no_file_some (n ∷ f) none = omega arith
+
+pub err_so : {X E P : Type 0} (result : Result X E) → P → IfErr result (λ _. P)
+err_so (Ok x) p = tt
+err_so (Err e) p = p
 
 -- the first of the lines as faults
 pub first_listed : (most : ℕ) (all : List FaultyLine) → map at_line (take most all) ≡ take most (map at_line all)

@@ -1,10 +1,10 @@
 //! Finds the faults of a file.
 
-ghost use Rattle.std.specs.Prelude.{◌≡◌, ◌++◌, ℕ, [], IfErr, IfOk, List, OnOk, map, take};
+ghost use Rattle.std.specs.Prelude.{◌≡◌, ◌<◌, ◌++◌, [], IfErr, IfOk, IsOk, List, OnOk, length, map, take};
+ghost use Rattle.tb_conllu.specs.Fault.{IsReadFault};
 ghost use Rattle.tb_conllu.specs.FaultyLines.{AreFaultyLines};
-ghost use Rattle.tb_conllu.specs.Reported.{IsFile, IsNoFile};
+ghost use Rattle.tb_conllu.specs.Reported.{IsFile};
 ghost use Rattle.tb_conllu.specs.Text.{BlockText};
-ghost use Rattle.tb_conllu.specs.declared.fault.ReadFault.TheVariants.{At};
 ghost use Rattle.tb_conllu.specs.declared.faulty.FaultyLine.{FaultyLine};
 ghost use Rattle.tb_check.specs.Faults.{AreFaults, AreSentenceFaults, at_line, in_sentence};
 ghost use Rattle.tb_check.specs.declared.fault.Fault.{Fault};
@@ -19,7 +19,8 @@ use tb_rules::{BrokenRule, Examiner};
 
 /// The same lines as faults of their file.
 fn listed(alloc: Global, lines: &[FaultyLine]) -> Result<Vec<Fault>, AllocError>
-    ensures { IfOk result (λ v. v.items ≡ map at_line lines.now) }
+    ensures same { IfOk result (λ v. v.items ≡ map at_line lines.now) }
+    ensures sure { lines.now ≡ [] → IsOk result }
 {
     let mut found = Vec::new(alloc);
     for faulty in lines {
@@ -47,8 +48,9 @@ fn push_broken(
     broken: &[BrokenRule],
     most: usize,
 ) -> Result<(), AllocError>
-    ensures { OnOk result ((all : List Fault) → found.old.items ≡ take most all
+    ensures pushed { OnOk result ((all : List Fault) → found.old.items ≡ take most all
         → found.new.items ≡ take most (all ++ map (in_sentence sentence) broken.now)) }
+    ensures sure { broken.now ≡ [] → IsOk result }
 {
     for fault in broken {
         push_within(
@@ -72,11 +74,10 @@ fn push_broken(
 fn sentence_faults(alloc: Global, bytes: &[u8], most: usize) -> Result<Vec<Fault>, ReadFault>
     ensures found { IfOk result (λ v. (bs : List BlockText) × (all : List Fault) × IsFile bytes.now bs
         × AreSentenceFaults [] bs all × (v.items ≡ take most all)) }
-    ensures fault { IfErr result (λ e. (line code : ℕ) → e ≡ At line code → IsNoFile bytes.now) }
+    ensures fault { IfErr result (IsReadFault bytes.now) }
 {
-    // laws: what was read is the first part of the file, and a fault of the rest is the file's
+    // law: what was read is the first part of the file, and a fault of the rest is the file's
     a_file_is_read_in_order();
-    reported_bytes_are_no_file();
     let mut unread = Sentences::new(bytes);
     let mut examiner = Examiner::new(alloc);
     let mut found = Vec::new(alloc);
@@ -96,10 +97,13 @@ fn sentence_faults(alloc: Global, bytes: &[u8], most: usize) -> Result<Vec<Fault
 ///
 /// # Errors
 ///
-/// Memory was refused.
+/// Memory was refused, which comes only where there is a byte.
 pub fn faults_of(alloc: Global, bytes: &[u8], most: usize) -> Result<Vec<Fault>, AllocError>
-    ensures { IfOk result (λ v. (all : List Fault) × AreFaults bytes.now all × (v.items ≡ take most all)) }
+    ensures found { IfOk result (λ v. (all : List Fault) × AreFaults bytes.now all × (v.items ≡ take most all)) }
+    ensures memory { IfErr result (λ _. 0 < length bytes.now) }
 {
+    // law: bytes with a fault are no file
+    reported_bytes_are_no_file();
     match sentence_faults(alloc, bytes, most) {
         Ok(found) => Ok(found),
         Err(ReadFault::At { .. }) => line_faults(alloc, bytes, most),

@@ -49,6 +49,11 @@ none_first x xs none is =
     let gone : None ≡ Some x = none ∙ ap (λ l. slice_get l 0) is in
     absurd cc
 
+pub first_is : {X : Type 0} (x b : X) (xs : List X) → slice_get xs 0 ≡ Some b → xs ≡ x ∷ [] → b ≡ x
+first_is x b xs first is =
+    let here : Some b ≡ Some x = sym first ∙ ap (λ l. slice_get l 0) is in
+    cc
+
 -- ---- the body of an accepted correction is the text of its sentence
 
 pub body_is_text : (l : Limits) (s : Machine) (n base : ℕ) (user body : List ℕ) (place : ℕ) (x : machine.Sentence) (b : BlockText) → ((e : Ending) → RepeatsCorrection s n base user body e → ⊥) → HasSentence s n place x

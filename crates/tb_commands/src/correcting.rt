@@ -31,7 +31,7 @@ use crate::finding::{SentenceRead, find_sentence};
 use sqlite::{Alter, Connection};
 use std::alloc::Global;
 use std::marker::Model;
-use tb_conllu::{ReadFault, SourcedSentence, read_ref, words};
+use tb_conllu::{BlockRef, ReadFault, SourcedSentence, read_ref, words};
 use tb_core::{
     Corrected, CurrentFound, Fault, Judged, Kind, Move, Totals, commands_stay_within_limits,
     judge_correction_before, judge_correction_body, revisions_read_back,
@@ -123,6 +123,17 @@ fn fault_of_text(fault: ReadFault) -> Fault
     }
 }
 
+/// The first of the sentences of a stored text. A text without one is no desk's.
+fn first_of<'b, 'a>(blocks: &'b [BlockRef<'a>]) -> Result<&'b BlockRef<'a>, Fault>
+    ensures first { IfOk result (λ b. slice_get blocks.now 0 ≡ Some b.now) }
+    ensures none { IfErr result (λ e. (e ≡ Fault.NotADesk) × (slice_get blocks.now 0 ≡ None)) }
+{
+    match blocks.first() {
+        Some(first) => Ok(first),
+        None => Err(Fault::NotADesk),
+    }
+}
+
 /// The sentence of a body, which corrects the sentence with this text.
 fn take<'a>(
     alloc: Global,
@@ -153,9 +164,7 @@ fn take<'a>(
         Ok(blocks) => blocks,
         Err(fault) => return Err(fault_of_text(fault)),
     };
-    let Some(current) = blocks.first() else {
-        return Err(Fault::NotADesk);
-    };
+    let current = first_of(&blocks)?;
     judge_correction_body(
         alloc,
         &counts.limits,
@@ -223,6 +232,7 @@ fn plan<'a>(
         → slice_get s.sentences (number - 1) ≡ Some x → IsCurrentRead s x read.now
         → result ≢ Err Fault.NotADesk }
     ensures cause { IfErr result IsNoDevice }
+    ensures no_move_left { 1000000000 ≤ counts.now.moves → result ≡ Err Fault.NotADesk }
 {
     let rev = next_revision(read.sentence.rev)?;
     let new_words = narrow(words(&passage.block) as u64)?;

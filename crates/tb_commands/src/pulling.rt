@@ -130,6 +130,7 @@ fn plan(
         → slice_get s.sentences (number - 1) ≡ Some x → IsSentenceRead s x read.now
         → result ≢ Err Fault.NotADesk }
     ensures cause { IfErr result IsNoDevice }
+    ensures no_move_left { 1000000000 ≤ counts.now.moves → result ≡ Err Fault.NotADesk }
 {
     let no = next_move(counts)?;
     let who = String::from_str(alloc, user)?;

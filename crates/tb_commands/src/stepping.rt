@@ -1,12 +1,13 @@
 //! An event on a batch.
 
 ghost use Rattle.std.specs.Prelude.{ℕ, ◌≡◌, ◌≢◌, ◌+◌, ◌-◌, ◌≤◌, length, Some, None, Err, is_ok};
-ghost use Rattle.std.specs.Prelude.{slice_get, option_map, string_bytes, IfOk, IfErr, OnOk, false, List};
+ghost use Rattle.std.specs.Prelude.{slice_get, option_map, string_bytes, IfOk, IfErr, IsOk, OnOk, false, List};
 ghost use Rattle.sqlite.specs.Held.{state};
 ghost use Rattle.tb_tables.specs.Records.{AreStored};
 ghost use Rattle.tb_tables.specs.Changes.{Holds};
 ghost use Rattle.tb_core.specs.declared.refusals.Refusal.{Refusal as AnyRefusal};
 ghost use Rattle.tb_core.specs.declared.kinds.Event.{Event as AnyEvent};
+ghost use Rattle.tb_core.specs.declared.kinds.Worker.{Worker as AnyWorker};
 ghost use Rattle.tb_core.specs.Events.{makes_worker};
 ghost use Rattle.tb_core.specs.Machine.{Machine, Batch, weigh, at_work, one, words};
 ghost use Rattle.tb_core.specs.Acts.{stepping, with_worker, IsAllowed, after};
@@ -125,13 +126,14 @@ fn judge(
     }
 }
 
-/// The name of the batch's worker after the event.
+/// The name of the batch's worker after the event. Only the name of a new worker takes memory.
 fn worker_after(alloc: Global, makes: Worker, user: &str, worker: String) -> Result<String, Fault>
     ensures value { IfOk result (λ name. string_bytes name ≡ with_worker makes user.now (string_bytes worker)) }
     ensures never_refuses { (r : AnyRefusal) → result ≢ Err (Fault.Refused r) }
     ensures output { result ≢ Err Fault.Output }
     ensures fails { result ≢ Err Fault.NotADesk }
     ensures cause { IfErr result IsNoDevice }
+    ensures sure { makes ≢ AnyWorker.Caller → IsOk result }
 {
     match makes {
         Worker::Keep => Ok(worker),
@@ -197,6 +199,7 @@ fn plan(
         → sums.words ≡ weigh (at_work (place + 1) words) s.sentences
         → result ≢ Err Fault.NotADesk }
     ensures cause { IfErr result IsNoDevice }
+    ensures no_move_left { 1000000000 ≤ counts.now.moves → result ≡ Err Fault.NotADesk }
 {
     let step = event_step(alloc, next_move(counts)?, event, &found, sums, user)?;
     let prepared = prepare(counts, step)?;

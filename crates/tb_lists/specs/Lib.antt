@@ -1,3 +1,4 @@
+pub mod Prelude
 pub mod Batches
 pub mod Counted
 pub mod Csv

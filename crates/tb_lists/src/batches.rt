@@ -1,13 +1,8 @@
 //! A batch, as a list shows it.
 
 ghost use Rattle.std.specs.Prelude.{◌≡◌, ◌≢◌, Err, IfErr, IfOk, List, map, string_bytes};
-ghost use Rattle.tb_core.specs.declared.kinds.State.{State as AnyState};
-ghost use Rattle.tb_core.specs.declared.refusals.Refusal.{Refusal as AnyRefusal};
-ghost use Rattle.tb_core.specs.Machine.{Batch};
-ghost use Rattle.tb_tables.specs.Values.{batch_of};
-ghost use Rattle.tb_refine.specs.DeskTables.{batch_record};
-ghost use Rattle.tb_refine.specs.Faults.{IsNoDevice};
-ghost use Rattle.tb_refine.specs.Numbers.{state_number};
+ghost use Rattle.tb_lists.specs.Prelude.{AnyRefusal, Batch, batch_of, batch_record, IsNoDevice, State as AnyState};
+ghost use Rattle.tb_lists.specs.Prelude.{state_number};
 ghost use Rattle.tb_lists.specs.Batches.{BatchText};
 ghost use Rattle.tb_lists.specs.Counted.{line_with, lines_with};
 

@@ -2,8 +2,7 @@
 
 ghost use Rattle.std.specs.Prelude.{◌≡◌, ◌+◌, ◌<◌, ◌^◌, IfErr, IfOk, length, replicate, slice_index_or};
 ghost use Rattle.std.specs.Prelude.{◌-◌, slice_set};
-ghost use Rattle.std.specs.List.{AllByRecursion};
-ghost use Rattle.sqlite_trees.specs.Tree.{IsAscending};
+ghost use Rattle.tb_lists.specs.Prelude.{AllByRecursion, IsAscending};
 ghost use Rattle.tb_lists.specs.Counted.{IsOfSoMany, change_of, count_all, counted, first_seen, no_count};
 
 use std::alloc::Global;

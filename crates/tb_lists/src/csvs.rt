@@ -1,10 +1,7 @@
 //! Lists as CSV.
 
-ghost use Rattle.std.specs.Prelude.{◌≡◌, [], ◌∷◌, Err, IfErr, IfOk, OnErr, OnOk, map};
-ghost use Rattle.std.specs.Io.KnownBytes.{Appends};
-ghost use Rattle.tb_conllu.specs.Sunk.{AppendsPart};
-ghost use Rattle.tb_core.specs.Words.{kind_word, state_word};
-ghost use Rattle.tb_report.specs.Csv.{IsRefused, PutsRows};
+ghost use Rattle.std.specs.Prelude.{◌≡◌, [], ◌∷◌, Err, IfErr, IfOk, IsOk, OnErr, OnOk, map};
+ghost use Rattle.tb_lists.specs.Prelude.{Appends, AppendsPart, IsRefused, kind_word, PutsRows, state_word};
 ghost use Rattle.tb_lists.specs.Csv.{batch_fields, batches_csv, batches_head};
 ghost use Rattle.tb_lists.specs.Csv.{found_csv, found_fields, found_head};
 ghost use Rattle.tb_lists.specs.Csv.{revision_fields, revisions_csv, revisions_head};
@@ -16,7 +13,7 @@ use crate::revisions::RevisionLine;
 use crate::sentences::SentenceLine;
 use csv::Writer;
 use itoa::Buffer;
-use std::alloc::Global;
+use std::alloc::{AllocError, Global};
 use std::io::Write;
 use tb_conllu::Sink;
 use tb_report::{ReportFault, finish, new_rows, put_row, put_text};
@@ -27,7 +24,7 @@ fn word_of_state(batch: &BatchLine) -> &str
     batch.state.word()
 }
 
-fn put_batch<W: Write + Drop>(rows: &mut Writer<W>, batch: &BatchLine) -> Result<(), ReportFault>
+fn put_batch<W: Write + Drop>(rows: &mut Writer<W>, batch: &BatchLine) -> Result<(), AllocError>
     ensures { OnOk result (PutsRows W.contents rows.old rows.new (batch_fields batch.now ∷ [])) }
 {
     let mut no = Buffer::new();
@@ -55,8 +52,9 @@ fn put_batch<W: Write + Drop>(rows: &mut Writer<W>, batch: &BatchLine) -> Result
 fn put_batches<W: Write + Drop>(
     rows: &mut Writer<W>,
     batches: &[BatchLine],
-) -> Result<(), ReportFault>
-    ensures { OnOk result (PutsRows W.contents rows.old rows.new (map batch_fields batches.now)) }
+) -> Result<(), AllocError>
+    ensures put { OnOk result (PutsRows W.contents rows.old rows.new (map batch_fields batches.now)) }
+    ensures sure { batches.now ≡ [] → IsOk result }
 {
     for batch in batches {
         put_batch(rows, batch)?;
@@ -64,7 +62,7 @@ fn put_batches<W: Write + Drop>(
     Ok(())
 }
 
-fn put_batches_head<W: Write + Drop>(rows: &mut Writer<W>) -> Result<(), ReportFault>
+fn put_batches_head<W: Write + Drop>(rows: &mut Writer<W>) -> Result<(), AllocError>
     ensures { OnOk result (PutsRows W.contents rows.old rows.new (batches_head ∷ [])) }
 {
     let head = [
@@ -90,7 +88,7 @@ fn word_of_kind(revision: &RevisionLine) -> &str
 fn put_revision<W: Write + Drop>(
     rows: &mut Writer<W>,
     revision: &RevisionLine,
-) -> Result<(), ReportFault>
+) -> Result<(), AllocError>
     ensures { OnOk result (PutsRows W.contents rows.old rows.new (revision_fields revision.now ∷ [])) }
 {
     let mut rev = Buffer::new();
@@ -109,8 +107,9 @@ fn put_revision<W: Write + Drop>(
 fn put_revisions<W: Write + Drop>(
     rows: &mut Writer<W>,
     revisions: &[RevisionLine],
-) -> Result<(), ReportFault>
-    ensures { OnOk result (PutsRows W.contents rows.old rows.new (map revision_fields revisions.now)) }
+) -> Result<(), AllocError>
+    ensures put { OnOk result (PutsRows W.contents rows.old rows.new (map revision_fields revisions.now)) }
+    ensures sure { revisions.now ≡ [] → IsOk result }
 {
     for revision in revisions {
         put_revision(rows, revision)?;
@@ -118,7 +117,7 @@ fn put_revisions<W: Write + Drop>(
     Ok(())
 }
 
-fn put_revisions_head<W: Write + Drop>(rows: &mut Writer<W>) -> Result<(), ReportFault>
+fn put_revisions_head<W: Write + Drop>(rows: &mut Writer<W>) -> Result<(), AllocError>
     ensures { OnOk result (PutsRows W.contents rows.old rows.new (revisions_head ∷ [])) }
 {
     let head = [
@@ -140,7 +139,7 @@ fn word_of_pulled(is_pulled: &bool) -> &str
 fn put_sentence<W: Write + Drop>(
     rows: &mut Writer<W>,
     sentence: &SentenceLine,
-) -> Result<(), ReportFault>
+) -> Result<(), AllocError>
     ensures { OnOk result (PutsRows W.contents rows.old rows.new (sentence_fields sentence.now ∷ [])) }
 {
     let mut no = Buffer::new();
@@ -163,8 +162,9 @@ fn put_sentence<W: Write + Drop>(
 fn put_sentences<W: Write + Drop>(
     rows: &mut Writer<W>,
     sentences: &[SentenceLine],
-) -> Result<(), ReportFault>
-    ensures { OnOk result (PutsRows W.contents rows.old rows.new (map sentence_fields sentences.now)) }
+) -> Result<(), AllocError>
+    ensures put { OnOk result (PutsRows W.contents rows.old rows.new (map sentence_fields sentences.now)) }
+    ensures sure { sentences.now ≡ [] → IsOk result }
 {
     for sentence in sentences {
         put_sentence(rows, sentence)?;
@@ -172,7 +172,7 @@ fn put_sentences<W: Write + Drop>(
     Ok(())
 }
 
-fn put_sentences_head<W: Write + Drop>(rows: &mut Writer<W>) -> Result<(), ReportFault>
+fn put_sentences_head<W: Write + Drop>(rows: &mut Writer<W>) -> Result<(), AllocError>
     ensures { OnOk result (PutsRows W.contents rows.old rows.new (sentences_head ∷ [])) }
 {
     let head = [
@@ -187,7 +187,7 @@ fn put_sentences_head<W: Write + Drop>(rows: &mut Writer<W>) -> Result<(), Repor
     put_row(rows, &head)
 }
 
-fn put_found<W: Write + Drop>(rows: &mut Writer<W>, found: &FoundLine) -> Result<(), ReportFault>
+fn put_found<W: Write + Drop>(rows: &mut Writer<W>, found: &FoundLine) -> Result<(), AllocError>
     ensures { OnOk result (PutsRows W.contents rows.old rows.new (found_fields found.now ∷ [])) }
 {
     let mut no = Buffer::new();
@@ -205,7 +205,7 @@ fn put_found<W: Write + Drop>(rows: &mut Writer<W>, found: &FoundLine) -> Result
     )
 }
 
-fn put_found_head<W: Write + Drop>(rows: &mut Writer<W>) -> Result<(), ReportFault>
+fn put_found_head<W: Write + Drop>(rows: &mut Writer<W>) -> Result<(), AllocError>
     ensures { OnOk result (PutsRows W.contents rows.old rows.new (found_head ∷ [])) }
 {
     let head = [
@@ -218,7 +218,7 @@ fn put_found_head<W: Write + Drop>(rows: &mut Writer<W>) -> Result<(), ReportFau
     put_row(rows, &head)
 }
 
-fn batches_text(alloc: Global, batches: &[BatchLine]) -> Result<Vec<u8>, ReportFault>
+fn batches_text(alloc: Global, batches: &[BatchLine]) -> Result<Vec<u8>, AllocError>
     ensures { IfOk result (λ v. v.items ≡ batches_csv batches.now) }
 {
     let mut rows = new_rows(alloc);
@@ -227,7 +227,7 @@ fn batches_text(alloc: Global, batches: &[BatchLine]) -> Result<Vec<u8>, ReportF
     finish(rows)
 }
 
-fn revisions_text(alloc: Global, revisions: &[RevisionLine]) -> Result<Vec<u8>, ReportFault>
+fn revisions_text(alloc: Global, revisions: &[RevisionLine]) -> Result<Vec<u8>, AllocError>
     ensures { IfOk result (λ v. v.items ≡ revisions_csv revisions.now) }
 {
     let mut rows = new_rows(alloc);
@@ -236,7 +236,7 @@ fn revisions_text(alloc: Global, revisions: &[RevisionLine]) -> Result<Vec<u8>, 
     finish(rows)
 }
 
-fn sentences_text(alloc: Global, sentences: &[SentenceLine]) -> Result<Vec<u8>, ReportFault>
+fn sentences_text(alloc: Global, sentences: &[SentenceLine]) -> Result<Vec<u8>, AllocError>
     ensures { IfOk result (λ v. v.items ≡ sentences_csv sentences.now) }
 {
     let mut rows = new_rows(alloc);
@@ -245,7 +245,7 @@ fn sentences_text(alloc: Global, sentences: &[SentenceLine]) -> Result<Vec<u8>, 
     finish(rows)
 }
 
-fn found_text(alloc: Global, found: &FoundLine) -> Result<Vec<u8>, ReportFault>
+fn found_text(alloc: Global, found: &FoundLine) -> Result<Vec<u8>, AllocError>
     ensures { IfOk result (λ v. v.items ≡ found_csv found.now) }
 {
     let mut rows = new_rows(alloc);

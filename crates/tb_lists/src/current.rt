@@ -1,14 +1,8 @@
 //! Sentences with their current revisions, read from the tables one at a time.
 
 ghost use Rattle.std.specs.Prelude.{◌≡◌, ◌≢◌, ◌-◌, ◌<◌, ◌^◌, Err, Some, is_ok, length, map, slice_get};
-ghost use Rattle.tb_core.specs.declared.refusals.Refusal.{Refusal as AnyRefusal};
-ghost use Rattle.tb_core.specs.Machine.{Sentence};
-ghost use Rattle.tb_tables.specs.Values.{sentence_of};
-ghost use Rattle.tb_tables.specs.Leaving.{FailsOnlyAs, IsFaultless};
-ghost use Rattle.tb_reads.specs.ReadOnly.{IsReadOnly};
-ghost use Rattle.tb_refine.specs.Calls.{KnowsDeskWhere, Tells};
-ghost use Rattle.tb_refine.specs.DeskTables.{sentence_record};
-ghost use Rattle.tb_refine.specs.Faults.{IsNoDevice};
+ghost use Rattle.tb_lists.specs.Prelude.{AnyRefusal, FailsOnlyAs, IsFaultless, IsNoDevice, IsReadOnly, KnowsDeskWhere};
+ghost use Rattle.tb_lists.specs.Prelude.{Sentence, sentence_of, sentence_record, Tells};
 ghost use Rattle.tb_lists.specs.Sentences.{sentence_line, sentence_lines};
 
 use crate::sentences::{SentenceLine, line_of};

@@ -2,12 +2,8 @@
 //! read changes that state, also after an error.
 
 ghost use Rattle.std.specs.Prelude.{◌≡◌, ◌≢◌, ◌-◌, ◌<◌, Err, Some, is_ok, slice_get};
-ghost use Rattle.tb_core.specs.declared.refusals.Refusal.{Refusal as AnyRefusal};
-ghost use Rattle.tb_core.specs.Machine.{Sentence};
-ghost use Rattle.tb_tables.specs.Leaving.{FailsOnlyAs, IsFaultless};
-ghost use Rattle.tb_reads.specs.ReadOnly.{IsReadOnly};
-ghost use Rattle.tb_refine.specs.Calls.{KnowsDesk, KnowsDeskWhere, Tells};
-ghost use Rattle.tb_refine.specs.Faults.{IsNoDevice};
+ghost use Rattle.tb_lists.specs.Prelude.{AnyRefusal, FailsOnlyAs, IsFaultless, IsNoDevice, IsReadOnly, KnowsDesk};
+ghost use Rattle.tb_lists.specs.Prelude.{KnowsDeskWhere, Sentence, Tells};
 ghost use Rattle.tb_lists.specs.Found.{Finds, found_line};
 
 use crate::found::{FoundLine, line_of};

@@ -1,8 +1,6 @@
 //! A law of the list of batches. The function states a fact about the definitions, and runs nothing.
 
-ghost use Rattle.tb_core.specs.declared.kinds.State.{State};
-ghost use Rattle.tb_core.specs.Machine.{Machine};
-ghost use Rattle.tb_core.specs.Reaching.{Reached};
+ghost use Rattle.tb_lists.specs.Prelude.{Machine, Reached, State};
 ghost use Rattle.tb_lists.specs.Batches.{AddUp};
 
 use tb_core::reached_states_are_well;

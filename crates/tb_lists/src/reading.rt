@@ -3,15 +3,9 @@
 
 ghost use Rattle.std.specs.Prelude.{◌≡◌, ◌≢◌, ◌-◌, ◌<◌, ◌≤◌, ◌^◌, Err, IfErr, IfOk, List, Some, length, map};
 ghost use Rattle.std.specs.Prelude.{is_ok, slice_get};
-ghost use Rattle.tb_core.specs.declared.refusals.Refusal.{Refusal as AnyRefusal};
-ghost use Rattle.tb_core.specs.Machine.{Sentence, rev};
-ghost use Rattle.tb_core.specs.Rows.{pulled_from};
-ghost use Rattle.tb_tables.specs.Values.{batch_of, sentence_of};
-ghost use Rattle.tb_tables.specs.Leaving.{FailsOnlyAs, IsFaultless};
-ghost use Rattle.tb_reads.specs.ReadOnly.{IsReadOnly};
-ghost use Rattle.tb_refine.specs.Calls.{KnowsDesk, KnowsDeskWhere, Tells};
-ghost use Rattle.tb_refine.specs.DeskTables.{batch_record, sentence_record};
-ghost use Rattle.tb_refine.specs.Faults.{IsNoDevice};
+ghost use Rattle.tb_lists.specs.Prelude.{AnyRefusal, batch_of, batch_record, FailsOnlyAs, IsFaultless, IsNoDevice};
+ghost use Rattle.tb_lists.specs.Prelude.{IsReadOnly, KnowsDesk, KnowsDeskWhere, pulled_from, rev, Sentence};
+ghost use Rattle.tb_lists.specs.Prelude.{sentence_of, sentence_record, Tells};
 ghost use Rattle.tb_lists.specs.Batches.{batch_lines};
 ghost use Rattle.tb_lists.specs.Counted.{AreCounts};
 ghost use Rattle.tb_lists.specs.Revisions.{revision_lines};

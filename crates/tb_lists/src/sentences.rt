@@ -1,12 +1,7 @@
 //! A sentence, as a list shows it.
 
-ghost use Rattle.std.specs.Prelude.{◌≡◌, ◌≢◌, ◌∷◌, [], Err, IfErr, IfOk, string_bytes};
-ghost use Rattle.tb_conllu.specs.Reported.{IsFile};
-ghost use Rattle.tb_conllu.specs.Text.{BlockText};
-ghost use Rattle.tb_core.specs.declared.refusals.Refusal.{Refusal as AnyRefusal};
-ghost use Rattle.tb_core.specs.Machine.{text_value_of};
-ghost use Rattle.tb_tables.specs.Values.{sentence_of};
-ghost use Rattle.tb_refine.specs.Faults.{IsNoDevice};
+ghost use Rattle.std.specs.Prelude.{◌≡◌, ◌≢◌, ◌∷◌, [], Err, IfErr, IfOk, None, Some, string_bytes};
+ghost use Rattle.tb_lists.specs.Prelude.{AnyRefusal, BlockText, IsFile, IsNoDevice, sentence_of, text_value_of};
 ghost use Rattle.tb_lists.specs.Sentences.{SentenceText};
 ghost use Rattle.tb_lists.specs.Told.{told};
 
@@ -55,6 +50,29 @@ fn value_of<'b>(block: &'b BlockRef<'_>) -> &'b str
     tb_rules::text(block).unwrap_or("")
 }
 
+/// The sentence that was found in a text. A text in which there is none is no desk's.
+fn found_in(found: Option<BlockRef<'_>>) -> Result<BlockRef<'_>, Fault>
+    ensures sentence { IfOk result (λ b. found.entry ≡ Some b) }
+    ensures none { IfErr result (λ e. (e ≡ Fault.NotADesk) × (found.entry ≡ None)) }
+{
+    match found {
+        Some(block) => Ok(block),
+        None => Err(Fault::NotADesk),
+    }
+}
+
+/// The sentence that has these bytes.
+fn sentence_in(alloc: Global, body: &str) -> Result<BlockRef<'_>, Fault>
+    ensures read { IfOk result (λ b. (x : BlockText) → IsFile body.now (x ∷ []) → b ≡ x) }
+    ensures known { result ≡ Err Fault.NotADesk → (x : BlockText) → IsFile body.now (x ∷ []) → ⊥ }
+    ensures never_refuses { (r : AnyRefusal) → result ≢ Err (Fault.Refused r) }
+    ensures cause { IfErr result IsNoDevice }
+    ensures output { result ≢ Err Fault.Output }
+{
+    let found = known_block(alloc, body.as_bytes())?;
+    found_in(found)
+}
+
 /// The value of the comment `text` of the sentence that has these bytes.
 fn text_in(alloc: Global, body: &str) -> Result<String, Fault>
     ensures text { IfOk result (λ t. (b : BlockText) → IsFile body.now (b ∷ [])
@@ -64,9 +82,7 @@ fn text_in(alloc: Global, body: &str) -> Result<String, Fault>
     ensures cause { IfErr result IsNoDevice }
     ensures output { result ≢ Err Fault.Output }
 {
-    let Some(block) = known_block(alloc, body.as_bytes())? else {
-        return Err(Fault::NotADesk);
-    };
+    let block = sentence_in(alloc, body)?;
     Ok(String::from_str(alloc, value_of(&block))?)
 }
 

@@ -1,6 +1,6 @@
 //! Frequency tables, totals and moves as CSV.
 
-ghost use Rattle.std.specs.Prelude.{◌≡◌, [], ◌∷◌, Err, IfErr, IfOk, List, OnErr, OnOk, map};
+ghost use Rattle.std.specs.Prelude.{◌≡◌, [], ◌∷◌, Err, IfErr, IfOk, IsOk, List, OnErr, OnOk, map};
 ghost use Rattle.std.specs.Io.KnownBytes.{Appends};
 ghost use Rattle.tb_conllu.specs.Sunk.{AppendsPart};
 ghost use Rattle.tb_core.specs.Words.{kind_word, state_word};
@@ -14,13 +14,13 @@ use crate::freq::{Freq, Rank};
 use crate::table::{finish, new_rows, put_row, put_text};
 use csv::Writer;
 use itoa::Buffer;
-use std::alloc::Global;
+use std::alloc::{AllocError, Global};
 use std::cmp::Reverse;
 use std::io::Write;
 use tb_conllu::Sink;
 use tb_core::{Move, State, Totals};
 
-fn put_rank<W: Write + Drop>(rows: &mut Writer<W>, rank: &Rank<'_>) -> Result<(), ReportFault>
+fn put_rank<W: Write + Drop>(rows: &mut Writer<W>, rank: &Rank<'_>) -> Result<(), AllocError>
     ensures { OnOk result (PutsRows W.contents rows.old rows.new (freq_fields (ranked_row rank.now) ∷ [])) }
 {
     let (Reverse(count), key) = *rank;
@@ -28,9 +28,10 @@ fn put_rank<W: Write + Drop>(rows: &mut Writer<W>, rank: &Rank<'_>) -> Result<()
     put_row(rows, &[key.as_bytes(), digits.format(count).as_bytes()])
 }
 
-fn put_ranks<W: Write + Drop>(rows: &mut Writer<W>, ranks: &[Rank<'_>]) -> Result<(), ReportFault>
-    ensures { OnOk result (PutsRows W.contents rows.old rows.new (map (λ rank.
+fn put_ranks<W: Write + Drop>(rows: &mut Writer<W>, ranks: &[Rank<'_>]) -> Result<(), AllocError>
+    ensures put { OnOk result (PutsRows W.contents rows.old rows.new (map (λ rank.
         freq_fields (ranked_row rank)) ranks.now)) }
+    ensures sure { ranks.now ≡ [] → IsOk result }
 {
     for rank in ranks {
         put_rank(rows, rank)?;
@@ -42,7 +43,7 @@ fn put_state<W: Write + Drop>(
     rows: &mut Writer<W>,
     totals: &Totals,
     state: State,
-) -> Result<(), ReportFault>
+) -> Result<(), AllocError>
     ensures { OnOk result (PutsRows W.contents rows.old rows.new (totals_fields totals.now state ∷ [])) }
 {
     let place = state.place();
@@ -62,8 +63,9 @@ fn put_states<W: Write + Drop>(
     rows: &mut Writer<W>,
     totals: &Totals,
     states: &[State],
-) -> Result<(), ReportFault>
-    ensures { OnOk result (PutsRows W.contents rows.old rows.new (map (totals_fields totals.now) states.now)) }
+) -> Result<(), AllocError>
+    ensures put { OnOk result (PutsRows W.contents rows.old rows.new (map (totals_fields totals.now) states.now)) }
+    ensures sure { states.now ≡ [] → IsOk result }
 {
     for state in states {
         put_state(rows, totals, *state)?;
@@ -94,7 +96,7 @@ fn word_to(step: &Move) -> &str
     step.to.word()
 }
 
-fn put_move<W: Write + Drop>(rows: &mut Writer<W>, step: &Move) -> Result<(), ReportFault>
+fn put_move<W: Write + Drop>(rows: &mut Writer<W>, step: &Move) -> Result<(), AllocError>
     ensures { OnOk result (PutsRows W.contents rows.old rows.new (move_fields step.now ∷ [])) }
 {
     let mut no = Buffer::new();
@@ -120,8 +122,9 @@ fn put_move<W: Write + Drop>(rows: &mut Writer<W>, step: &Move) -> Result<(), Re
     )
 }
 
-fn put_moves<W: Write + Drop>(rows: &mut Writer<W>, moves: &[Move]) -> Result<(), ReportFault>
-    ensures { OnOk result (PutsRows W.contents rows.old rows.new (map move_fields moves.now)) }
+fn put_moves<W: Write + Drop>(rows: &mut Writer<W>, moves: &[Move]) -> Result<(), AllocError>
+    ensures put { OnOk result (PutsRows W.contents rows.old rows.new (map move_fields moves.now)) }
+    ensures sure { moves.now ≡ [] → IsOk result }
 {
     for step in moves {
         put_move(rows, step)?;
@@ -129,7 +132,7 @@ fn put_moves<W: Write + Drop>(rows: &mut Writer<W>, moves: &[Move]) -> Result<()
     Ok(())
 }
 
-fn freq_text(freq: &Freq) -> Result<Vec<u8>, ReportFault>
+fn freq_text(freq: &Freq) -> Result<Vec<u8>, AllocError>
     ensures { IfOk result (λ v. (rows : List Row) × IsRankingOf freq.now rows × (v.items ≡ freq_csv rows)) }
 {
     let ranks = freq.ranking()?;
@@ -139,7 +142,7 @@ fn freq_text(freq: &Freq) -> Result<Vec<u8>, ReportFault>
     finish(rows)
 }
 
-fn totals_text(alloc: Global, totals: &Totals) -> Result<Vec<u8>, ReportFault>
+fn totals_text(alloc: Global, totals: &Totals) -> Result<Vec<u8>, AllocError>
     ensures { IfOk result (λ v. v.items ≡ totals_csv totals.now) }
 {
     let mut rows = new_rows(alloc);
@@ -161,7 +164,7 @@ fn totals_text(alloc: Global, totals: &Totals) -> Result<Vec<u8>, ReportFault>
     finish(rows)
 }
 
-fn put_moves_head<W: Write + Drop>(rows: &mut Writer<W>) -> Result<(), ReportFault>
+fn put_moves_head<W: Write + Drop>(rows: &mut Writer<W>) -> Result<(), AllocError>
     ensures { OnOk result (PutsRows W.contents rows.old rows.new (moves_head ∷ [])) }
 {
     let head = [
@@ -179,7 +182,7 @@ fn put_moves_head<W: Write + Drop>(rows: &mut Writer<W>) -> Result<(), ReportFau
     put_row(rows, &head)
 }
 
-fn moves_text(alloc: Global, moves: &[Move]) -> Result<Vec<u8>, ReportFault>
+fn moves_text(alloc: Global, moves: &[Move]) -> Result<Vec<u8>, AllocError>
     ensures { IfOk result (λ v. v.items ≡ moves_csv moves.now) }
 {
     let mut rows = new_rows(alloc);

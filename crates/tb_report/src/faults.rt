@@ -1,11 +1,10 @@
 //! The list of faults as CSV.
 
-ghost use Rattle.std.specs.Prelude.{◌≡◌, [], ◌∷◌, IfOk, OnOk, map, string_bytes};
+ghost use Rattle.std.specs.Prelude.{◌≡◌, [], ◌∷◌, IfOk, IsOk, OnOk, false, map, string_bytes};
 ghost use Rattle.tb_report.specs.Csv.{PutsRows};
 ghost use Rattle.tb_report.specs.FaultList.{fault_fields, faults_csv, faults_head, last_rows, line_fields, more_fields};
 ghost use Rattle.tb_report.specs.FaultList.{FaultText, rule_fields};
 
-use crate::fault::ReportFault;
 use crate::table::{finish, new_rows, put_row};
 use csv::Writer;
 use itoa::Buffer;
@@ -58,7 +57,7 @@ fn put_line<W: Write + Drop>(
     line: usize,
     code: u8,
     listed: &FaultRow,
-) -> Result<(), ReportFault>
+) -> Result<(), AllocError>
     ensures { OnOk result (PutsRows W.contents rows.old rows.new (line_fields line code listed.now ∷ [])) }
 {
     let mut line_digits = Buffer::new();
@@ -85,7 +84,7 @@ fn put_rule<W: Write + Drop>(
     rule: u8,
     row: usize,
     listed: &FaultRow,
-) -> Result<(), ReportFault>
+) -> Result<(), AllocError>
     ensures { OnOk result (PutsRows W.contents rows.old rows.new (rule_fields sentence rule row listed.now ∷ [])) }
 {
     let mut line_digits = Buffer::new();
@@ -108,7 +107,7 @@ fn put_rule<W: Write + Drop>(
     )
 }
 
-fn put_fault<W: Write + Drop>(rows: &mut Writer<W>, listed: &FaultRow) -> Result<(), ReportFault>
+fn put_fault<W: Write + Drop>(rows: &mut Writer<W>, listed: &FaultRow) -> Result<(), AllocError>
     ensures { OnOk result (PutsRows W.contents rows.old rows.new (fault_fields listed.now ∷ [])) }
 {
     match listed.fault {
@@ -121,8 +120,9 @@ fn put_fault<W: Write + Drop>(rows: &mut Writer<W>, listed: &FaultRow) -> Result
     }
 }
 
-fn put_faults<W: Write + Drop>(rows: &mut Writer<W>, faults: &[FaultRow]) -> Result<(), ReportFault>
-    ensures { OnOk result (PutsRows W.contents rows.old rows.new (map fault_fields faults.now)) }
+fn put_faults<W: Write + Drop>(rows: &mut Writer<W>, faults: &[FaultRow]) -> Result<(), AllocError>
+    ensures put { OnOk result (PutsRows W.contents rows.old rows.new (map fault_fields faults.now)) }
+    ensures sure { faults.now ≡ [] → IsOk result }
 {
     for listed in faults {
         put_fault(rows, listed)?;
@@ -130,7 +130,7 @@ fn put_faults<W: Write + Drop>(rows: &mut Writer<W>, faults: &[FaultRow]) -> Res
     Ok(())
 }
 
-fn put_head<W: Write + Drop>(rows: &mut Writer<W>) -> Result<(), ReportFault>
+fn put_head<W: Write + Drop>(rows: &mut Writer<W>) -> Result<(), AllocError>
     ensures { OnOk result (PutsRows W.contents rows.old rows.new (faults_head ∷ [])) }
 {
     let head = [
@@ -147,7 +147,7 @@ fn put_head<W: Write + Drop>(rows: &mut Writer<W>) -> Result<(), ReportFault>
     put_row(rows, &head)
 }
 
-fn put_more<W: Write + Drop>(rows: &mut Writer<W>) -> Result<(), ReportFault>
+fn put_more<W: Write + Drop>(rows: &mut Writer<W>) -> Result<(), AllocError>
     ensures { OnOk result (PutsRows W.contents rows.old rows.new (more_fields ∷ [])) }
 {
     let last = [
@@ -165,23 +165,14 @@ fn put_more<W: Write + Drop>(rows: &mut Writer<W>) -> Result<(), ReportFault>
 }
 
 /// Puts the last row, if there are more faults.
-fn put_last<W: Write + Drop>(rows: &mut Writer<W>, more: bool) -> Result<(), ReportFault>
-    ensures { OnOk result (PutsRows W.contents rows.old rows.new (last_rows more)) }
+fn put_last<W: Write + Drop>(rows: &mut Writer<W>, more: bool) -> Result<(), AllocError>
+    ensures put { OnOk result (PutsRows W.contents rows.old rows.new (last_rows more)) }
+    ensures sure { more ≡ false → IsOk result }
 {
     if more {
         return put_more(rows);
     }
     Ok(())
-}
-
-fn table_of(alloc: Global, faults: &[FaultRow], more: bool) -> Result<Vec<u8>, ReportFault>
-    ensures { IfOk result (λ v. v.items ≡ faults_csv more faults.now) }
-{
-    let mut rows = new_rows(alloc);
-    put_head(&mut rows)?;
-    put_faults(&mut rows, faults)?;
-    put_last(&mut rows, more)?;
-    finish(rows)
 }
 
 /// A list of faults: the header line `line,code,sentence,rule,row,id,column,value,message` and a row for each fault. A
@@ -193,8 +184,9 @@ fn table_of(alloc: Global, faults: &[FaultRow], more: bool) -> Result<Vec<u8>, R
 pub fn faults_text(alloc: Global, faults: &[FaultRow], more: bool) -> Result<Vec<u8>, AllocError>
     ensures { IfOk result (λ v. v.items ≡ faults_csv more faults.now) }
 {
-    match table_of(alloc, faults, more) {
-        Ok(text) => Ok(text),
-        Err(_) => Err(AllocError),
-    }
+    let mut rows = new_rows(alloc);
+    put_head(&mut rows)?;
+    put_faults(&mut rows, faults)?;
+    put_last(&mut rows, more)?;
+    finish(rows)
 }

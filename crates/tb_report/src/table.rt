@@ -8,7 +8,7 @@ ghost use Rattle.tb_report.specs.Csv.{IsBetweenRows, IsRefused, PutsRows};
 
 use crate::fault::ReportFault;
 use csv::{Writer, WriterBuilder};
-use std::alloc::Global;
+use std::alloc::{AllocError, Global};
 use std::io::Write;
 use tb_conllu::Sink;
 
@@ -24,13 +24,13 @@ pub fn new_rows(alloc: Global) -> Writer<Vec<u8>>
 ///
 /// # Errors
 ///
-/// `Memory`: memory was refused.
-pub fn put_row<W: Write + Drop>(rows: &mut Writer<W>, fields: &[&[u8]]) -> Result<(), ReportFault>
+/// Memory was refused.
+pub fn put_row<W: Write + Drop>(rows: &mut Writer<W>, fields: &[&[u8]]) -> Result<(), AllocError>
     ensures { OnOk result (PutsRows W.contents rows.old rows.new (map (λ f. f.now) fields.now ∷ [])) }
 {
     match rows.write_fields(fields) {
         Ok(()) => Ok(()),
-        Err(_) => Err(ReportFault::Memory),
+        Err(_) => Err(AllocError),
     }
 }
 
@@ -38,13 +38,13 @@ pub fn put_row<W: Write + Drop>(rows: &mut Writer<W>, fields: &[&[u8]]) -> Resul
 ///
 /// # Errors
 ///
-/// `Memory`: memory was refused.
-pub fn finish(rows: Writer<Vec<u8>>) -> Result<Vec<u8>, ReportFault>
+/// Memory was refused.
+pub fn finish(rows: Writer<Vec<u8>>) -> Result<Vec<u8>, AllocError>
     ensures { IfOk result (λ v. Keeps (text_written (λ w. Some w.items) rows) (Some v.items)) }
 {
     match rows.into_inner() {
         Ok(text) => Ok(text),
-        Err(_) => Err(ReportFault::Memory),
+        Err(_) => Err(AllocError),
     }
 }
 

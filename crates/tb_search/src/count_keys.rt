@@ -84,6 +84,7 @@ fn count_hits(
     ensures fault { IfErr result IsFault }
     ensures fails { IfErr result IsStopFault }
     ensures cause { IfErr result IsStopWant }
+    ensures sure { hits.now ≡ [] → IsOk result }
 {
     for hit in hits {
         count_hit(alloc, block, *hit, column, table)?;

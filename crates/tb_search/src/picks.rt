@@ -1,7 +1,7 @@
 //! The revisions that a walk visits.
 
 ghost use Rattle.std.specs.Prelude.{◌≡◌, ◌≢◌, Err, ◌+◌, ◌<◌, ◌^◌, ◌++◌, ◌∷◌, [], cond, drop, length, map, List, IsTrue};
-ghost use Rattle.std.specs.Prelude.{IfOk, IfErr};
+ghost use Rattle.std.specs.Prelude.{false, IfOk, IfErr, IsOk};
 ghost use Rattle.tb_core.specs.declared.kinds.State.{State as AnyState};
 ghost use Rattle.tb_core.specs.Events.{is_state};
 ghost use Rattle.tb_core.specs.Machine.{Batch, Sentence, batch_with};
@@ -73,6 +73,7 @@ fn push_where(found: &mut Vec<Pick>, wanted: bool, pick: Pick) -> Result<(), Sto
     ensures fault { IfErr result IsFault }
     ensures fails { IfErr result IsStopFault }
     ensures cause { IfErr result IsStopWant }
+    ensures sure { wanted ≡ false → IsOk result }
 {
     if wanted {
         found.push(pick)?;

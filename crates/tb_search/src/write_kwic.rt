@@ -1,11 +1,12 @@
 //! Keyword lines of hits.
 
-ghost use Rattle.std.specs.Prelude.{◌≡◌, ◌<◌, ◌≤◌, ◌∷◌, [], All, Err, IfErr, OnOk};
+ghost use Rattle.std.specs.Prelude.{◌≡◌, ◌≢◌, ◌<◌, ◌≤◌, ◌∷◌, [], All, Err, IfErr, IfOk, IsOk, None, OnOk};
 ghost use Rattle.std.specs.Io.KnownBytes.{Appends};
 ghost use Rattle.tb_conllu.specs.Words.{words_of};
 ghost use Rattle.tb_conllu.specs.Sunk.{AppendsPart};
 ghost use Rattle.tb_core.specs.Machine.{sent_id_of};
 ghost use Rattle.tb_report.specs.Keywords.{keyword_line};
+ghost use Rattle.tb_rules.specs.Comments.{only, sent_ids};
 ghost use Rattle.tb_search.specs.Visited.{HasReason, IsFault, IsStopFault, IsStopWant};
 ghost use Rattle.tb_search.specs.Searched.{AreCut, lines, occurrences, total_line};
 
@@ -18,6 +19,20 @@ use tb_conllu::{BlockRef, Sink};
 use tb_reads::ReadError;
 use tb_report::kwic_named;
 use tb_rules::sent_id;
+
+/// The name of a sentence. A sentence without one is no desk's.
+fn name_in<'b>(block: &'b BlockRef<'_>) -> Result<&'b str, Stopped>
+    ensures named { IfOk result (λ name. name.now ≡ sent_id_of block.now) }
+    ensures none { IfErr result (λ e. (e ≡ Stopped.Read ReadError.Form) × (only (sent_ids block.now) ≡ None)) }
+    ensures never_refuses { result ≢ Err Stopped.Output }
+    ensures fails { IfErr result IsStopFault }
+    ensures cause { IfErr result IsStopWant }
+{
+    match sent_id(block) {
+        Some(name) => Ok(name),
+        None => Err(Stopped::Read(ReadError::Form)),
+    }
+}
 
 /// A line in memory.
 #[derive(Drop)]
@@ -98,6 +113,7 @@ fn put_hits<W: Sink>(
     ensures fault { IfErr result IsFault }
     ensures fails { IfErr result IsStopFault }
     ensures cause { IfErr result IsStopWant }
+    ensures sure { hits.now ≡ [] → IsOk result }
 {
     let mut line = Line {
         bytes: Vec::new(alloc),
@@ -137,9 +153,7 @@ impl<'q, W: Sink> BodyVisitor<W> for WriteKwic<'q> {
         let block = sentence_in(alloc, body)?;
         let hits = self.seeker.hits(&block)?;
         let found = raised(self.found, hits.len())?;
-        let Some(name) = sent_id(&block) else {
-            return Err(Stopped::Read(ReadError::Form));
-        };
+        let name = name_in(&block)?;
         put_hits(alloc, name, &block, hits.as_slice(), self.context, filled)?;
         self.found = found;
         Ok(())

@@ -8,7 +8,7 @@ use Rattle.tb_core.specs.Reaching.{IsReachable}
 use Rattle.tb_tables.specs.Records.{AreStored}
 use Rattle.tb_refine.specs.DeskTables.{tables_of, IsDeskOf}
 use Rattle.tb_verify.specs.Summary.{tables_in}
-use Rattle.tb_verify.specs.TableReads.{LooksLikeDesk}
+use Rattle.tb_verify.specs.Looks.{LooksLikeDesk}
 use Rattle.tb_verify.specs.declared.summary.TableRows.{TableRows}
 
 pub desk_of_rows : {S : Type 0} (g : Ghosts S) (old new : Held S) (r : TableRows) (s : Machine) → LooksLikeDesk g old → IsUnchanged (state g old) (state g new) → AreStored (tables_in r) (state g old).now.trees → IsReachable s

@@ -62,6 +62,16 @@ module _ {S R : Type 0} (g : Ghosts S) (old new : Held S) (selection : Result R 
     commits_nothing = h.commits_nothing;
   }
 
+  -- it is tested, and what is not of version 1 does not pass
+  pub read_tested : {A N : Type 0} {Are : Unit {0} → Trees → Type 0} (r : Result (Unit {0}) Fault) → OnOk r A → IfErr r (λ (e : Fault). (e ≡ NotADesk) × N)
+      → (A → HasCleanDisk (state g new) → (state g old).now.schema ≡ version_one_schema → Are tt (state g old).now.trees)
+      → (N → HasCleanDisk (state g new) → (state g old).now.schema ≡ version_one_schema → AreOfNoState (state g old).now.trees)
+      → (HasCleanDisk (state g new) → (state g old).now.schema ≡ version_one_schema → IsUnchanged (state g old) (state g new)) → HasReadVersion1 g old new r Are
+  read_tested (Ok done) right wrong are unfit same = read_well done _ (are right) same
+  read_tested (Err e) right wrong are unfit same =
+      let is = wrong.0 in
+      read_badly e _ (λ clean q has. (unfit wrong.1 clean has, same clean has)) (λ r q. absurd cc) (λ good clean unlimited has q. absurd cc)
+
 -- ---- a statement, with the fault for its error
 
 answer_back : {X E : Type 0} (f : E → Fault) (r : Result X E) (x : X) → reported_by f r ≡ Ok x → r ≡ Ok x

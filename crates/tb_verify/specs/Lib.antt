@@ -4,6 +4,7 @@ pub mod File
 pub mod Apart
 pub mod Summary
 pub mod TableReads
+pub mod Looks
 pub mod Version1
 pub mod Version1Desk
 pub mod Version1Reads

@@ -1,6 +1,6 @@
--- Between crates: no contract of a front door cites a definition of this module.
+-- Inner: no contract beyond this crate cites a definition of this module.
 -- A read of tables: what it says of them, and what it leaves of the connection.
-use Rattle.std.specs.Prelude.{◌≡◌, ◌≢◌, false, Result, Err, IfOk, IsTrue, is_ok}
+use Rattle.std.specs.Prelude.{◌≡◌, ◌≢◌, Result, Err, IfOk, is_ok}
 use Rattle.sqlite.specs.Store.{Ghosts}
 use Rattle.sqlite.specs.Held.{Held, state}
 use Rattle.sqlite.specs.State.{HasCleanDisk, IsUnchanged}
@@ -35,10 +35,3 @@ pub record HasReadTable {S X : Type 0} (g : Ghosts S) (old new : Held S) (result
   pub refused : (r : Refusal) → result ≢ Err (Refused r)
   pub cause : IsFaultless g old new → FailsOnlyAs (λ (fault : Fault). fault ≢ Device) g old new result
   pub read_only : IsReadOnly g old new (is_ok result)
-
--- What is known of a connection to a desk without a read. It is in no transaction, so it sees what the last commit
--- left, and it has the tables.
-pub record LooksLikeDesk {S : Type 0} (g : Ghosts S) (c : Held S) : Type 0 where
-  pub autocommit : c.in_transaction ≡ false
-  pub settled : IsTrue (state g c).is_open → (state g c).now ≡ (state g c).committed
-  pub schema : (state g c).now.schema ≡ desk_schema

@@ -1,6 +1,6 @@
 //! Whether batches have good names, no two the same, and whether no two sentences have one `sent_id`.
 
-ghost use Rattle.std.specs.Prelude.{◌≡◌, IfOk, Decides, map, string_bytes};
+ghost use Rattle.std.specs.Prelude.{◌≡◌, false, IfOk, Ok, Decides, map, string_bytes};
 ghost use Rattle.std.specs.List.{list_all};
 ghost use Rattle.tb_core.specs.Names.{is_name, AreApart};
 ghost use Rattle.tb_tables.specs.Values.{batch_of, sentence_of};
@@ -46,13 +46,14 @@ fn names_apart(alloc: Global, rows: &[BatchRow]) -> Result<bool, AllocError>
     Ok(true)
 }
 
-/// Whether batches have good names, no two the same.
+/// Whether batches have good names, no two the same. It takes no memory where a name is bad.
 ///
 /// # Errors
 ///
 /// Want of memory.
 pub(crate) fn are_batches_apart(alloc: Global, rows: &[BatchRow]) -> Result<bool, AllocError>
-    ensures { IfOk result (λ named. Decides named (AreNamed (map batch_of rows.now))) }
+    ensures named { IfOk result (λ named. Decides named (AreNamed (map batch_of rows.now))) }
+    ensures bad { list_all (λ r. is_name (string_bytes r.name)) rows.now ≡ false → result ≡ Ok false }
 {
     if !are_good(rows) {
         return Ok(false);

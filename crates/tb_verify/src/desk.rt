@@ -16,7 +16,7 @@ ghost use Rattle.tb_core.specs.declared.refusals.Fault.{Fault as AnyFault};
 ghost use Rattle.tb_core.specs.Machine.{Machine};
 ghost use Rattle.tb_refine.specs.DeskTables.{IsDeskOf};
 ghost use Rattle.tb_verify.specs.Summary.{IsSummaryOf};
-ghost use Rattle.tb_verify.specs.TableReads.{LooksLikeDesk};
+ghost use Rattle.tb_verify.specs.Looks.{LooksLikeDesk};
 ghost use Rattle.tb_tables.specs.Leaving.{KeepsRecords, BlamesNoDisk};
 
 use crate::reading::read_rows;

@@ -45,7 +45,7 @@ fn read_first_desk<S: Alter>(alloc: Global, conn: &mut Connection<S>) -> Result<
     ensures untouched { HasCleanDisk (state S.Store conn.new) → result ≡ Err Fault.NotADesk
         → (state S.Store conn.new).now ≡ (state S.Store conn.old).now }
     ensures never_refuses { (r : AnyRefusal) → result ≢ Err (Fault.Refused r) }
-    ensures wants { result ≡ Err Fault.Memory → LooksFirst S.Store conn.old }
+    ensures looks { result ≢ Err Fault.NotADesk → LooksFirst S.Store conn.old }
     ensures cause { (state S.Store conn.old).step_limit ≡ None
         → BlamesNoDisk (λ (fault : AnyFault). fault ≢ Fault.Device) S.Store conn.old conn.new result }
     ensures unchanged { HasCleanDisk (state S.Store conn.new)
@@ -99,6 +99,7 @@ pub fn migrate<S: Alter>(alloc: Global, conn: &mut Connection<S>) -> Result<Desk
     ensures unwritten { result ≡ Err Fault.NotADesk → Survives (state S.Store conn.old) (state S.Store conn.new)
         (λ _. ⊥) }
     ensures never_refuses { (r : AnyRefusal) → result ≢ Err (Fault.Refused r) }
+    ensures wants { result ≡ Err Fault.Memory → LooksFirst S.Store conn.old }
     ensures cause { ((s : Machine) → IsFirstDesk S.Store conn.old s → ⊥)
         → (state S.Store conn.old).step_limit ≡ None
         → BlamesNoDisk (λ (fault : AnyFault). fault ≢ Fault.Device) S.Store conn.old conn.new result }

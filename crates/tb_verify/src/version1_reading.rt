@@ -1,7 +1,7 @@
 //! The rows of the six tables of version 1, read one table after another. No read changes anything, also after an
 //! error.
 
-ghost use Rattle.std.specs.Prelude.{◌≡◌, ◌≢◌, ℤ, false, pos, [], ◌∷◌, map, IsTrue};
+ghost use Rattle.std.specs.Prelude.{◌≡◌, ◌≢◌, ℤ, false, pos, [], ◌∷◌, map, IfErr, IsTrue, OnOk};
 ghost use Rattle.sqlite.specs.declared.types.Value.TheVariants.{Int};
 ghost use Rattle.tb_tables.specs.Records.{Shows, numbered, batch_shown, sentence_shown, move_shown, total_shown};
 ghost use Rattle.tb_tables.specs.Records.{batch_view, sentence_view, move_view, total_view};
@@ -43,15 +43,24 @@ fn is_first_version(rows: &[Row]) -> bool
     }
 }
 
+/// Nothing where 1 is the only version, and `NotADesk` where it is not. This needs no memory.
+fn test_first_version(rows: &[Row]) -> Result<(), Fault>
+    ensures right { OnOk result ((n : ℤ) × (rows.now ≡ (Int n ∷ Int (pos 1) ∷ []) ∷ [])) }
+    ensures wrong { IfErr result (λ e. (e ≡ Fault.NotADesk)
+        × ((n : ℤ) → rows.now ≢ (Int n ∷ Int (pos 1) ∷ []) ∷ [])) }
+{
+    if !is_first_version(rows) {
+        return Err(Fault::NotADesk);
+    }
+    Ok(())
+}
+
 /// Tests that the file names one version, 1.
 fn read_version1<S: Alter>(conn: &mut Connection<S>) -> Result<(), Fault>
     ensures { HasReadVersion1 S.Store conn.old conn.new result (λ _ trees. TellsFirst trees) }
 {
     let rows = answered(conn.query_all("SELECT rowid, version FROM meta", &[]))?;
-    if !is_first_version(rows.as_slice()) {
-        return Err(Fault::NotADesk);
-    }
-    Ok(())
+    test_first_version(rows.as_slice())
 }
 
 /// The rows of batches, by number.

@@ -1,10 +1,9 @@
-use Rattle.std.proofs.Common.{List, [], ◌∷◌, ◌++◌, ◌+◌, ap, map, subst, sym, take, ◌∙◌}
+use Rattle.std.proofs.Common.{List, [], ◌∷◌, ◌++◌, ◌+◌, ap, map, sym, take, ◌∙◌}
 use Rattle.std.proofs.Math.Seq.{take-nil}
 use Rattle.std.proofs.lemmas.Result.{err_from_is_err_and}
-use Rattle.tb_conllu.specs.Fault.{IsReadFault}
 use Rattle.tb_rules.specs.declared.breaking.BrokenRule.{BrokenRule}
 use Rattle.tb_check.specs.Faults.{in_sentence}
-use Rattle.tb_check.proofs.Found.{next_found, next_shorter, none_found}
+use Rattle.tb_check.proofs.Found.{found_some, next_found, next_shorter, none_found}
 use Rattle.tb_check.proofs.finding.sentence_faults.Goals as goal
 
 pub loop-found-init : goal.loop-found-init
@@ -27,7 +26,7 @@ loop-found-preserved c =
       all ++ map (in_sentence (c.loop-found.sentence + 1)) broken,
       next_found c.args.bytes.now c.loop-found.unread c.read_next.new.self c.loop-found.sentence bs all b broken found next read (c.in_ok-broken.ensures.broken bs names),
       c.in_ok-broken.ensures.names bs names,
-      c.in_ok-push_broken.ensures all c.loop-found.invariant.4 ∙ ap (λ (l : List BrokenRule). take c.args.most (all ++ map (in_sentence (c.loop-found.sentence + 1)) l)) c.deref.ensures.value,
+      c.in_ok-push_broken.ensures.pushed all c.loop-found.invariant.4 ∙ ap (λ (l : List BrokenRule). take c.args.most (all ++ map (in_sentence (c.loop-found.sentence + 1)) l)) c.deref.ensures.value,
     )
 
 pub returns-in_err-block-clause-fault : goal.returns-in_err-block-clause-fault
@@ -35,7 +34,7 @@ returns-in_err-block-clause-fault c =
     let p = err_from_is_err_and c.from_residual.result c.from_residual.ensures.1 in
     let bs = c.loop-found.invariant.0 in
     let fault = c.a_file_is_read_in_order.ensures.fault c.args.bytes.now bs c.loop-found.unread c.in_err-block.field-0.0 c.loop-found.invariant.2.read c.in_err-block.ensures.fault.0 in
-    rw (p.1, p.2) (λ line code is. c.reported_bytes_are_no_file.ensures c.args.bytes.now line code (subst (IsReadFault c.args.bytes.now) is fault))
+    rw (p.1, p.2) fault
 
 pub returns-clause-found : goal.returns-clause-found
 returns-clause-found c =
@@ -43,3 +42,19 @@ returns-clause-found c =
     let found = c.loop-found.invariant.2 in
     let none = rw c.in_default.is at c.in_ok-block.ensures.next in
     (bs, c.loop-found.invariant.1, c.a_file_is_read_in_order.ensures.end c.args.bytes.now bs c.loop-found.unread found.read none.0, found.faults, c.loop-found.invariant.4)
+
+pub returns-in_err-broken-clause-fault : goal.returns-in_err-broken-clause-fault
+returns-in_err-broken-clause-fault c =
+    let p = err_from_is_err_and c.from_residual-in_err-broken.result c.from_residual-in_err-broken.ensures.1 in
+    let bs = c.loop-found.invariant.0 in
+    let all = c.loop-found.invariant.1 in
+    let next = rw c.in-Some.is at c.in_ok-block.ensures.next in
+    rw (p.1, p.2) (found_some c.args.bytes.now c.loop-found.unread c.read_next.new.self c.loop-found.sentence bs c.in-Some.block all c.loop-found.invariant.2 next)
+
+pub returns-in_err-push_broken-clause-fault : goal.returns-in_err-push_broken-clause-fault
+returns-in_err-push_broken-clause-fault c =
+    let p = err_from_is_err_and c.from_residual-in_err-push_broken.result c.from_residual-in_err-push_broken.ensures.1 in
+    let bs = c.loop-found.invariant.0 in
+    let all = c.loop-found.invariant.1 in
+    let next = rw c.in-Some.is at c.in_ok-block.ensures.next in
+    rw (p.1, p.2) (found_some c.args.bytes.now c.loop-found.unread c.read_next.new.self c.loop-found.sentence bs c.in-Some.block all c.loop-found.invariant.2 next)

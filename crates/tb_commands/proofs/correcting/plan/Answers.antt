@@ -72,3 +72,36 @@ returns-in_err-prepared-clause-fails c s x reachable allowed next counted there 
     let act = correcting (n - 1) user b in
     let step = c.move_by.ensures ∙ ap (correction_move c.in_ok-no.no n c.args.read.now c.in_ok-new_words.new_words) who ∙ correction_is s (n - 1) x c.args.read.now c.in_ok-no.no n c.in_ok-new_words.new_words user b no at there read sized in
     c.prepare.ensures.fails s act reachable allowed next counted step failed
+
+pub returns-in_err-rev-clause-no_move_left : goal.returns-in_err-rev-clause-no_move_left
+returns-in_err-rev-clause-no_move_left c past =
+    let reported = err_from_is_err_and c.from_residual.result c.from_residual.ensures.1 in
+    let fault = c.in_err-rev.ensures.fault in
+    let one = reported.1 in
+    let two = reported.2 in
+    cc
+
+pub returns-in_err-new_words-clause-no_move_left : goal.returns-in_err-new_words-clause-no_move_left
+returns-in_err-new_words-clause-no_move_left c past =
+    let reported = err_from_is_err_and c.from_residual-in_err-new_words.result c.from_residual-in_err-new_words.ensures.1 in
+    let fault = c.in_err-new_words.ensures.fault in
+    let one = reported.1 in
+    let two = reported.2 in
+    cc
+
+pub returns-in_err-no-clause-no_move_left : goal.returns-in_err-no-clause-no_move_left
+returns-in_err-no-clause-no_move_left c past =
+    let reported = err_from_is_err_and c.from_residual-in_err-no.result c.from_residual-in_err-no.ensures.1 in
+    let fault = c.in_err-no.ensures.fault in
+    let one = reported.1 in
+    let two = reported.2 in
+    cc
+
+pub returns-in_err-who-clause-no_move_left : goal.returns-in_err-who-clause-no_move_left
+returns-in_err-who-clause-no_move_left c past = let next = c.in_ok-no.ensures.next in absurd (omega (arith, past, next.0, next.1))
+
+pub returns-in_err-prepared-clause-no_move_left : goal.returns-in_err-prepared-clause-no_move_left
+returns-in_err-prepared-clause-no_move_left c past = let next = c.in_ok-no.ensures.next in absurd (omega (arith, past, next.0, next.1))
+
+pub returns-clause-no_move_left : goal.returns-clause-no_move_left
+returns-clause-no_move_left c past = let next = c.in_ok-no.ensures.next in absurd (omega (arith, past, next.0, next.1))

@@ -1,4 +1,4 @@
-use Rattle.std.proofs.Common.{◌≡◌, ◌+◌, length, Err, ap, ◌∙◌, rules, string_bytes}
+use Rattle.std.proofs.Common.{◌≡◌, ◌+◌, length, Err, ap, ◌∙◌, arith, rules, string_bytes}
 use Rattle.std.proofs.lemmas.Result.{err_from_is_err_and}
 use Rattle.tb_core.specs.declared.refusals.Fault.TheVariants.{NotADesk}
 use Rattle.tb_commands.specs.Pulling.{act_of, sentence_move}
@@ -32,3 +32,17 @@ returns-clause-fails c s x reachable allowed next counted there read bad =
     let who : string_bytes c.in_ok-who.who ≡ user = search rules in
     let step = c.move_by.ensures ∙ ap (sentence_move c.args.asked c.in_ok-no.no n f) who ∙ moves_as s n user f x c.requires there read c.args.asked c.in_ok-no.no no in
     c.prepare.ensures.fails s (act_of c.args.asked n user) reachable allowed next counted step bad
+
+pub returns-in_err-no-clause-no_move_left : goal.returns-in_err-no-clause-no_move_left
+returns-in_err-no-clause-no_move_left c past =
+    let reported = err_from_is_err_and c.from_residual.result c.from_residual.ensures.1 in
+    let fault = c.in_err-no.ensures.fault in
+    let one = reported.1 in
+    let two = reported.2 in
+    cc
+
+pub returns-in_err-who-clause-no_move_left : goal.returns-in_err-who-clause-no_move_left
+returns-in_err-who-clause-no_move_left c past = let next = c.in_ok-no.ensures.next in absurd (omega (arith, past, next.0, next.1))
+
+pub returns-clause-no_move_left : goal.returns-clause-no_move_left
+returns-clause-no_move_left c past = let next = c.in_ok-no.ensures.next in absurd (omega (arith, past, next.0, next.1))

@@ -1,4 +1,4 @@
-use Rattle.std.proofs.Common.{◌≡◌, ◌+◌, length, Err, ap, ◌∙◌, rules}
+use Rattle.std.proofs.Common.{◌≡◌, ◌+◌, length, Err, ap, ◌∙◌, arith, rules}
 use Rattle.std.proofs.lemmas.Result.{err_from_is_err_and}
 use Rattle.tb_core.specs.declared.refusals.Fault.TheVariants.{NotADesk}
 use Rattle.tb_core.specs.Acts.{stepping, with_worker}
@@ -54,3 +54,23 @@ returns-in_err-worker-clause-fails c s place b reachable allowed next counted th
     let reported = err_from_is_err_and c.from_residual-in_err-worker.result c.from_residual-in_err-worker.ensures.1 in
     let failed : c.worker_after.result ≡ Err NotADesk = let was = c.in_err-worker.was in let one = reported.1 in let two = reported.2 in cc in
     c.worker_after.ensures.fails failed
+
+pub returns-in_err-next_move-clause-no_move_left : goal.returns-in_err-next_move-clause-no_move_left
+returns-in_err-next_move-clause-no_move_left c past =
+    let reported = err_from_is_err_and c.from_residual.result c.from_residual.ensures.1 in
+    let fault = c.in_err-next_move.ensures.fault in
+    let one = reported.1 in
+    let two = reported.2 in
+    cc
+
+pub returns-in_err-step-clause-no_move_left : goal.returns-in_err-step-clause-no_move_left
+returns-in_err-step-clause-no_move_left c past = let next = c.in_ok-next_move.ensures.next in absurd (omega (arith, past, next.0, next.1))
+
+pub returns-in_err-prepared-clause-no_move_left : goal.returns-in_err-prepared-clause-no_move_left
+returns-in_err-prepared-clause-no_move_left c past = let next = c.in_ok-next_move.ensures.next in absurd (omega (arith, past, next.0, next.1))
+
+pub returns-in_err-worker-clause-no_move_left : goal.returns-in_err-worker-clause-no_move_left
+returns-in_err-worker-clause-no_move_left c past = let next = c.in_ok-next_move.ensures.next in absurd (omega (arith, past, next.0, next.1))
+
+pub returns-clause-no_move_left : goal.returns-clause-no_move_left
+returns-clause-no_move_left c past = let next = c.in_ok-next_move.ensures.next in absurd (omega (arith, past, next.0, next.1))

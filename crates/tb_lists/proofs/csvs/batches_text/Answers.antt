@@ -7,5 +7,5 @@ use Rattle.tb_lists.proofs.csvs.batches_text.Goals as goal
 pub returns : goal.returns
 returns c =
     let fresh = c.new_rows-rows in
-    let all = puts_both (λ w. Some w.items) fresh.result c.put_batches_head.new.rows c.put_batches.new.rows (batches_head ∷ []) (map batch_fields c.args.batches.now) c.in_ok-put_batches_head.ensures c.in_ok-put_batches.ensures in
+    let all = puts_both (λ w. Some w.items) fresh.result c.put_batches_head.new.rows c.put_batches.new.rows (batches_head ∷ []) (map batch_fields c.args.batches.now) c.in_ok-put_batches_head.ensures c.in_ok-put_batches.ensures.put in
     IfOk-weaker c.finish.result _ _ (λ v kept. whole_table (λ w. Some w.items) fresh.result c.put_batches.new.rows (batches_head ∷ map batch_fields c.args.batches.now) v.items fresh.ensures.between fresh.ensures.empty all kept) c.finish.ensures

@@ -7,5 +7,5 @@ use Rattle.tb_lists.proofs.csvs.revisions_text.Goals as goal
 pub returns : goal.returns
 returns c =
     let fresh = c.new_rows-rows in
-    let all = puts_both (λ w. Some w.items) fresh.result c.put_revisions_head.new.rows c.put_revisions.new.rows (revisions_head ∷ []) (map revision_fields c.args.revisions.now) c.in_ok-put_revisions_head.ensures c.in_ok-put_revisions.ensures in
+    let all = puts_both (λ w. Some w.items) fresh.result c.put_revisions_head.new.rows c.put_revisions.new.rows (revisions_head ∷ []) (map revision_fields c.args.revisions.now) c.in_ok-put_revisions_head.ensures c.in_ok-put_revisions.ensures.put in
     IfOk-weaker c.finish.result _ _ (λ v kept. whole_table (λ w. Some w.items) fresh.result c.put_revisions.new.rows (revisions_head ∷ map revision_fields c.args.revisions.now) v.items fresh.ensures.between fresh.ensures.empty all kept) c.finish.ensures

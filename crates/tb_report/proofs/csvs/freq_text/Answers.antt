@@ -13,7 +13,7 @@ returns c =
     let first = subst (λ (fields : List (List ℕ)). PutsRows (λ w. Some w.items) fresh.result c.put_row.new.rows (fields ∷ [])) head c.in_ok-put_row.ensures in
     let rows : map (λ rank. freq_fields (ranked_row rank)) c.deref.result.now ≡ map freq_fields (map ranked_row ranks) =
     ap (map (λ rank. freq_fields (ranked_row rank))) c.deref.ensures.value ∙ composed ranks in
-    let second = subst (PutsRows (λ w. Some w.items) c.put_row.new.rows c.put_ranks.new.rows) rows c.in_ok-put_ranks.ensures in
+    let second = subst (PutsRows (λ w. Some w.items) c.put_row.new.rows c.put_ranks.new.rows) rows c.in_ok-put_ranks.ensures.put in
     let all = puts_both (λ w. Some w.items) fresh.result c.put_row.new.rows c.put_ranks.new.rows (freq_head ∷ []) (map freq_fields (map ranked_row ranks)) first second in
     IfOk-weaker c.finish.result _ _
     (λ v kept. (map ranked_row ranks, c.in_ok-ranks.ensures, whole_table (λ w. Some w.items) fresh.result c.put_ranks.new.rows (freq_head ∷ map freq_fields (map ranked_row ranks)) v.items fresh.ensures.between fresh.ensures.empty all kept))

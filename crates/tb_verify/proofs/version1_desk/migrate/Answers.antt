@@ -38,6 +38,14 @@ returns-in_err-summary-clause-again g c clean opened =
 pub returns-in_err-summary-clause-crash : goal.returns-in_err-summary-clause-crash
 returns-in_err-summary-clause-crash g c = survives_weaker (state g.S.Store c.args.conn.now) (state g.S.Store c.read_first_desk.new.conn) _ _ (λ _ db none. absurd none) c.read_first_desk.ensures.survives
 
+pub returns-in_err-summary-clause-wants : goal.returns-in_err-summary-clause-wants
+returns-in_err-summary-clause-wants g c want =
+    let reported = err_from_is_err_and c.from_residual.result c.from_residual.ensures.1 in
+    c.read_first_desk.ensures.looks (λ bad. let was = c.in_err-summary.was in let one = reported.1 in let two = reported.2 in absurd cc)
+
+pub returns-in_err-convert-clause-wants : goal.returns-in_err-convert-clause-wants
+returns-in_err-convert-clause-wants g c want = c.read_first_desk.ensures.looks (λ bad. let was = c.in_ok-summary.was in absurd cc)
+
 pub returns-in_err-summary-clause-cause : goal.returns-in_err-summary-clause-cause
 returns-in_err-summary-clause-cause g c none unlimited clean good =
     handed_on (λ (fault : Fault). fault ≢ Device) c.from_residual.result c.in_err-summary.field-0.0 c.from_residual.ensures.1 (c.in_err-summary.ensures.cause unlimited clean good)

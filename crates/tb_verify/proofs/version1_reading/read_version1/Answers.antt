@@ -5,7 +5,7 @@ use Rattle.sqlite.specs.declared.types.Value.TheVariants.{Int}
 use Rattle.sqlite.proofs.Callers.{one_permutation}
 use Rattle.tb_verify.specs.Version1.{versioned_view}
 use Rattle.tb_verify.proofs.Version1Answered.{version_selected}
-use Rattle.tb_verify.proofs.Version1Reads.{read_well, read_badly, selected_rows, selected_none, shows_read}
+use Rattle.tb_verify.proofs.Version1Reads.{read_tested, selected_rows, selected_none, shows_read}
 use Rattle.tb_verify.proofs.version1_reading.read_version1.Goals as goal
 
 pub returns-in_err-rows : goal.returns-in_err-rows
@@ -14,24 +14,14 @@ returns-in_err-rows g c =
     let all = version_selected g.S.Store c.args.conn.now c.query_all.new.self (λ v. v.items) c.query_all.result (record { ok = c.query_all.ensures.ok; err = c.query_all.ensures.err; mode = c.query_all.ensures.mode; survives = c.query_all.ensures.survives }) in
     selected_none g.S.Store c.args.conn.now c.query_all.new.self c.query_all.result _ all c.answered.result c.in_err-rows.field-0.0 p.0 c.from_residual.result _ c.in_err-rows.was p.1 p.2 c.answered.ensures.no_form c.answered.ensures.never_refuses c.answered.ensures.cause
 
-pub returns-then-not-is_first_version : goal.returns-then-not-is_first_version
-returns-then-not-is_first_version g c =
-    let all = version_selected g.S.Store c.args.conn.now c.query_all.new.self (λ v. v.items) c.query_all.result (record { ok = c.query_all.ensures.ok; err = c.query_all.ensures.err; mode = c.query_all.ensures.mode; survives = c.query_all.ensures.survives }) in
-    let h = selected_rows g.S.Store c.args.conn.now c.query_all.new.self c.query_all.result _ all c.answered.result c.in_ok-rows.rows c.answered.ensures.value c.in_ok-rows.was in
-    let read : c.as_slice.result.now ≡ c.in_ok-rows.rows.items = search rules in
-    read_badly g.S.Store c.args.conn.now c.query_all.new.self _ _ h _ _
-    (λ clean q has. (
-      λ s reach stands.
-          let n = stands.meta.0 in
-          c.is_first_version.ensures.differs c.if-not-is_first_version.true n (read ∙ one_permutation (Int n ∷ Int (pos 1) ∷ []) c.in_ok-rows.rows.items (IsPermutation-trans _ _ _ stands.meta.1 (h.are clean has))),
-      h.same clean has,
-    ))
-    (λ r q. cc) (λ good clean unlimited has q. cc)
-
 pub returns : goal.returns
 returns g c =
     let all = version_selected g.S.Store c.args.conn.now c.query_all.new.self (λ v. v.items) c.query_all.result (record { ok = c.query_all.ensures.ok; err = c.query_all.ensures.err; mode = c.query_all.ensures.mode; survives = c.query_all.ensures.survives }) in
     let h = selected_rows g.S.Store c.args.conn.now c.query_all.new.self c.query_all.result _ all c.answered.result c.in_ok-rows.rows c.answered.ensures.value c.in_ok-rows.was in
     let read : c.as_slice.result.now ≡ c.in_ok-rows.rows.items = search rules in
-    let reported = c.is_first_version.ensures.tells c.if-not-is_first_version.false in
-    read_well g.S.Store c.args.conn.now c.query_all.new.self _ _ h tt _ (λ clean has. (reported.0, shows_read versioned_view _ c.in_ok-rows.rows.items c.as_slice.result.now _ read reported.1 (h.are clean has))) h.same
+    read_tested g.S.Store c.args.conn.now c.query_all.new.self _ _ h c.test_first_version.result c.test_first_version.ensures.right c.test_first_version.ensures.wrong
+    (λ reported clean has. (reported.0, shows_read versioned_view _ c.in_ok-rows.rows.items c.as_slice.result.now _ read reported.1 (h.are clean has)))
+    (λ differs clean has s reach stands.
+    let n = stands.meta.0 in
+    differs n (read ∙ one_permutation (Int n ∷ Int (pos 1) ∷ []) c.in_ok-rows.rows.items (IsPermutation-trans _ _ _ stands.meta.1 (h.are clean has))))
+    h.same

@@ -1,5 +1,4 @@
 use Rattle.std.proofs.Common.{◌≤◌, inl, inr, ◌≡◌, ◌+◌, ◌∙◌, length, refl, sym, ap, subst, rules}
-use Rattle.std.specs.Option.{option_copied}
 use Rattle.std.proofs.lemmas.Result.{err_from_is_err_and}
 use Rattle.std.specs.Io.KnownBytes.{Appends}
 use Rattle.tb_conllu.specs.Text.{BlockText}
@@ -44,9 +43,10 @@ returns-in_err-found-clause-stopped g c =
     let reported = err_from_is_err_and c.from_residual-in_err-found.result c.from_residual-in_err-found.ensures.1 in
     err_is _ _ _ reported.0 reported.1 reported.2 ((λ b is. c.in_err-found.ensures.fault), inl refl)
 
-pub returns-in_default-clause-stopped : goal.returns-in_default-clause-stopped
-returns-in_default-clause-stopped g c =
-    ((λ b is. absurd (has_name b c.in_ok-block.block (c.in_ok-block.ensures.read b is.0) is.1 (sym c.sent_id.ensures ∙ ap option_copied c.in_default.is))), inl refl)
+pub returns-in_err-name-clause-stopped : goal.returns-in_err-name-clause-stopped
+returns-in_err-name-clause-stopped g c =
+    let reported = err_from_is_err_and c.from_residual-in_err-name.result c.from_residual-in_err-name.ensures.1 in
+    err_is _ _ _ reported.0 reported.1 reported.2 ((λ b is. absurd (has_name b c.in_ok-block.block (c.in_ok-block.ensures.read b is.0) is.1 c.in_err-name.ensures.none.1)), inl refl)
 
 pub returns-in_err-put_hits-clause-stopped : goal.returns-in_err-put_hits-clause-stopped
 returns-in_err-put_hits-clause-stopped g c =
