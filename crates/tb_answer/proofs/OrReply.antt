@@ -55,6 +55,15 @@ made_refused {X} {V} StandsFor read made r is refused =
     let told_so : IsMadeOf {X = X} (Err (Refused r)) made StandsFor = subst (λ (x : Result X Fault). IsMadeOf x made StandsFor) refused is in
     told_so
 
+-- what holds of a text that was put into memory holds of what was made of it
+pub text_made : {U V E : Type 0} (P : V → Type 0) (put : Result U E) (made : Result V Reply) (x : V) → MatchResult put (λ _. made ≡ Ok x) (λ _. made ≡ Err reply.Memory) → OnOk put (P x) → IfOk made P
+text_made P (Ok u) made x is h = subst (λ m. IfOk m P) (sym is) h
+text_made P (Err e) made x is h = subst (λ m. IfOk m P) (sym is) tt
+
+pub text_unmade : {U V E : Type 0} (put : Result U E) (made : Result V Reply) (x : V) → MatchResult put (λ _. made ≡ Ok x) (λ _. made ≡ Err reply.Memory) → IfErr made (λ r. r ≡ reply.Memory)
+text_unmade (Ok u) made x is = subst (λ m. IfErr m (λ r. r ≡ reply.Memory)) (sym is) tt
+text_unmade (Err e) made x is = subst (λ m. IfErr m (λ r. r ≡ reply.Memory)) (sym is) refl
+
 -- what holds of an error in each state
 pub err_each : {V A : Type 0} (Stands : A → Type 0) (P : A → Reply → Type 0) (made : Result V Reply) → ((a : A) → Stands a → IfErr made (P a)) → IfErr made (λ r. (a : A) → Stands a → P a r)
 err_each Stands P (Ok v) h = tt

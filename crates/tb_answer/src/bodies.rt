@@ -1,6 +1,6 @@
 //! The texts that answer what a desk is asked.
 
-ghost use Rattle.std.specs.Prelude.{◌≡◌, Some, None, Err, string_bytes, IfOk, IfErr, MatchResult};
+ghost use Rattle.std.specs.Prelude.{◌≡◌, Some, None, Ok, Err, string_bytes, IfOk, IfErr, MatchResult};
 ghost use Rattle.tb_core.specs.Machine.{Machine};
 ghost use Rattle.tb_report.specs.Csv.{totals_csv, moves_csv};
 ghost use Rattle.tb_store.specs.Represents.{Represents};
@@ -16,19 +16,26 @@ use sqlite::Alter;
 use std::alloc::Global;
 use tb_core::{Fault, Move, Refusal, Totals};
 use tb_http::Reply;
-use tb_report::{csv_moves, csv_totals};
+use tb_report::{ReportFault, csv_moves, csv_totals};
 use tb_store::{Current, Desk};
 
-/// Totals as CSV. A sink in memory fails only for want of memory.
+/// What was made of a text that was put into memory, or that memory ran out: a sink in memory fails for nothing else.
+pub(crate) fn or_memory<T: Drop>(put: Result<(), ReportFault>, made: T) -> Result<T, Reply>
+    ensures { MatchResult put (λ _. result ≡ Ok made) (λ _. result ≡ Err Reply.Memory) }
+{
+    match put {
+        Ok(()) => Ok(made),
+        Err(_) => Err(Reply::Memory),
+    }
+}
+
+/// Totals as CSV.
 fn totals_text(alloc: Global, totals: &Totals) -> Result<Vec<u8>, Reply>
     ensures text { IfOk result (λ v. v.items ≡ totals_csv totals.now) }
     ensures failed { IfErr result (λ r. r ≡ Reply.Memory) }
 {
     let mut text = Vec::new(alloc);
-    match csv_totals(alloc, totals, &mut text) {
-        Ok(()) => Ok(text),
-        Err(_) => Err(Reply::Memory),
-    }
+    or_memory(csv_totals(alloc, totals, &mut text), text)
 }
 
 /// Moves as CSV.
@@ -37,10 +44,7 @@ fn moves_text(alloc: Global, moves: &[Move]) -> Result<Vec<u8>, Reply>
     ensures failed { IfErr result (λ r. r ≡ Reply.Memory) }
 {
     let mut text = Vec::new(alloc);
-    match csv_moves(alloc, moves, &mut text) {
-        Ok(()) => Ok(text),
-        Err(_) => Err(Reply::Memory),
-    }
+    or_memory(csv_moves(alloc, moves, &mut text), text)
 }
 
 /// The text of the totals that were read, or the reply for the fault of the read.

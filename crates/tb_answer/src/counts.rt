@@ -16,7 +16,7 @@ ghost use Rattle.tb_answer.specs.Calls.{ReadsOnly};
 ghost use Rattle.tb_store.specs.Calls.{Gives, GivesOnErr, InState, KeepsState};
 ghost use Rattle.tb_tables.specs.Leaving.{CommitsNothing};
 
-use crate::bodies::body_of;
+use crate::bodies::{body_of, or_memory};
 use crate::commands::reply_for_fault;
 use crate::finding::{Count, accepted};
 use crate::responses::{respond_body, respond_reply};
@@ -37,20 +37,21 @@ pub(crate) struct CountTable {
     pub(crate) hits: u64,
 }
 
-/// A table as CSV. A sink in memory fails only for want of memory.
+/// A table as CSV.
 fn table_text(alloc: Global, table: &Freq) -> Result<CountTable, Reply>
     ensures text { IfOk result (λ v. (rows : List Row) × IsRankingOf table.now rows
         × (v.text.items ≡ freq_csv rows) × (v.hits ≡ total_of table.now)) }
     ensures failed { IfErr result (λ r. r ≡ Reply.Memory) }
 {
     let mut text = Vec::new(alloc);
-    match csv_freq(table, &mut text) {
-        Ok(()) => Ok(CountTable {
+    let put = csv_freq(table, &mut text);
+    or_memory(
+        put,
+        CountTable {
             text,
             hits: table.total(),
-        }),
-        Err(_) => Err(Reply::Memory),
-    }
+        },
+    )
 }
 
 /// The text of the table that was counted, or the reply for the fault of the count.

@@ -18,6 +18,7 @@ ghost use Rattle.tb_store.specs.Calls.{Gives, GivesOnErr, KeepsState};
 ghost use Rattle.tb_store.specs.Represents.{Represents};
 ghost use Rattle.tb_tables.specs.Leaving.{CommitsNothing};
 
+use crate::bodies::or_memory;
 use crate::commands::reply_for_fault;
 use crate::questions::Question;
 use sqlite::Alter;
@@ -38,10 +39,7 @@ fn batches_text(alloc: Global, batches: &[BatchLine]) -> Result<Vec<u8>, Reply>
     ensures failed { IfErr result (λ r. r ≡ Reply.Memory) }
 {
     let mut text = Vec::new(alloc);
-    match csv_batches(alloc, batches, &mut text) {
-        Ok(()) => Ok(text),
-        Err(_) => Err(Reply::Memory),
-    }
+    or_memory(csv_batches(alloc, batches, &mut text), text)
 }
 
 /// The text of the batches that were read, or the reply for the fault of the read.
@@ -72,10 +70,7 @@ fn sentences_text(alloc: Global, sentences: &[SentenceLine]) -> Result<Vec<u8>, 
     ensures failed { IfErr result (λ r. r ≡ Reply.Memory) }
 {
     let mut text = Vec::new(alloc);
-    match csv_sentences(alloc, sentences, &mut text) {
-        Ok(()) => Ok(text),
-        Err(_) => Err(Reply::Memory),
-    }
+    or_memory(csv_sentences(alloc, sentences, &mut text), text)
 }
 
 /// The text of the sentences that were read, or the reply for the fault of the read.
@@ -118,10 +113,7 @@ fn revisions_text(alloc: Global, revisions: &[RevisionLine]) -> Result<Vec<u8>, 
     ensures failed { IfErr result (λ r. r ≡ Reply.Memory) }
 {
     let mut text = Vec::new(alloc);
-    match csv_revisions(alloc, revisions, &mut text) {
-        Ok(()) => Ok(text),
-        Err(_) => Err(Reply::Memory),
-    }
+    or_memory(csv_revisions(alloc, revisions, &mut text), text)
 }
 
 /// The text of the revisions that were read, or the reply for the fault of the read.
@@ -161,10 +153,7 @@ fn found_text(alloc: Global, found: &FoundLine) -> Result<Vec<u8>, Reply>
     ensures failed { IfErr result (λ r. r ≡ Reply.Memory) }
 {
     let mut text = Vec::new(alloc);
-    match csv_found(alloc, found, &mut text) {
-        Ok(()) => Ok(text),
-        Err(_) => Err(Reply::Memory),
-    }
+    or_memory(csv_found(alloc, found, &mut text), text)
 }
 
 /// The text of the sentence that was read, or the reply for the fault of the read.

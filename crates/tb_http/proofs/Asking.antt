@@ -2,8 +2,6 @@
 use Rattle.std.proofs.Common.{◌≡◌, ℕ, List, [], ◌∷◌, ◌++◌, Bool, true, false, Option, Some, None, Result, Ok, Err, inl, inr, refl, sym, ◌∙◌, ap, subst, append_assoc, append-nil}
 use Rattle.std.specs.List.{concat}
 use Rattle.tb_http.specs.Faults.{AwaitsHead, AwaitsBody, AwaitsMore}
-use Rattle.tb_http.specs.declared.head.BodyFault.{BodyFault}
-use Rattle.tb_http.specs.declared.head.BodyFault.TheVariants.{Read, Memory}
 use Rattle.tb_conllu.specs.Pieces.{Gives, AllOwed, AskedFor}
 
 gives_none : (a : Option (List (List ℕ))) → Gives a a []
@@ -71,11 +69,3 @@ is_ok (Err e) = false
 
 pub ok_is_no_fault : {X E : Type 0} (x : X) (e : E) → ◌≡◌ {A = Result X E} (Ok x) (Err e) → ⊥
 ok_is_no_fault x e is = let t : true ≡ false = ap is_ok is in cc
-
-abbrev is_read : {X : Type 0} → Result X BodyFault → Bool
-is_read (Ok x) = false
-is_read (Err Read) = true
-is_read (Err Memory) = false
-
-pub memory_is_no_read : {X : Type 0} → ◌≡◌ {A = Result X BodyFault} (Err Memory) (Err Read) → ⊥
-memory_is_no_read is = let t : false ≡ true = ap is_read is in cc

@@ -10,3 +10,4 @@ pub mod Values
 pub mod Taken
 pub mod Asking
 pub mod Routed
+pub mod Called

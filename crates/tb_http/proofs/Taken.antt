@@ -8,7 +8,10 @@ use Rattle.httparse.proofs.GrammarLemmas.{ReadsRequest-append}
 use Rattle.tb_http.specs.declared.asks.AskFault.{AskFault}
 use Rattle.tb_http.specs.declared.asks.AskFault.TheVariants.{Broken, Memory}
 use Rattle.tb_http.specs.Asks.{Front}
-use Rattle.tb_http.specs.Faults.{AwaitsHead, HasCall, BeginsBody, IsFaultOf, IsAtMostOne, TakenAfter}
+use Rattle.tb_http.specs.declared.head.BodyFault.{BodyFault}
+use Rattle.tb_http.specs.declared.head.BodyFault.TheVariants as body
+use Rattle.tb_http.specs.Faults.{AwaitsHead, HasCall, BeginsBody, IsBodyFaultOf, IsFaultOf, IsAtMostOne, TakenAfter, fault_of}
+use Rattle.tb_http.proofs.Chains.{body_short, body_some}
 
 -- nothing was read after the buffer
 pub untouched : (old : Option (List ℕ)) (buf : List ℕ) (limit : ℕ) → length buf ≤ 8192 → TakenAfter buf old old (IsAtMostOne limit)
@@ -39,6 +42,17 @@ body_taken old new buf start came k n limit same room e t f rest call = by_case 
     by_case (inr enough) =
         let first : length (take k start) ≡ n = length-take-le k start (omega (arith, e, enough)) ∙ omega (arith, e, enough) in
         (t.0, t.1, inl (omega (arith, room, first, t.2, length-append (take k start) t.0, length-append buf t.0)))
+
+-- a fault of the body, after bytes that came with the head, is one of the request
+pub of_body : (old new : Option (List ℕ)) (limit : ℕ) (buf start came : List ℕ) (k n : ℕ) → start ≡ came → k ≡ min (length start) n → (f : List ℕ → Front) → ((more : List ℕ) → (f more).rest ≡ came ++ more)
+    → ((more : List ℕ) → HasCall limit (buf ++ more) (f more) n) → (e : BodyFault)
+    → TakenAfter (take k start) old new (λ l. IsBodyFaultOf n l e) → TakenAfter buf old new (λ l. IsFaultOf limit l (fault_of e))
+of_body old new limit buf start came k n same few f rest call body.Read t =
+    let short : length (came ++ t.0) < n = subst (λ l. length (l ++ t.0) < n) same (body_short start t.0 k n few t.2) in
+    (t.0, t.1, inr (f t.0, n, call t.0, subst (λ l. length l < n) (sym (rest t.0)) short))
+of_body old new limit buf start came k n same few f rest call body.Memory t =
+    let some : 0 < length (came ++ t.0) = subst (λ l. 0 < length (l ++ t.0)) same (body_some start t.0 k t.2.0) in
+    (t.0, t.1, (f t.0, n, call t.0, omega (arith, t.2.0, t.2.1), subst (λ l. 0 < length l) (sym (rest t.0)) some))
 
 -- that is no more than the room of a head and a body
 at_most : (limit : ℕ) (taken : List ℕ) → IsAtMostOne limit taken → length taken ≤ 8192 + limit

@@ -54,6 +54,11 @@ abbrev pub IsBodyFaultOf : ℕ → List ℕ → BodyFault → Type 0
 IsBodyFaultOf n came body.Read = length came < n
 IsBodyFaultOf n came body.Memory = (0 < length came) × (length came ≤ n)
 
+-- why what a request asks is unknown, by why its body did not come
+abbrev pub fault_of : BodyFault → AskFault
+fault_of body.Read = ask.Broken
+fault_of body.Memory = ask.Memory
+
 -- P holds of `before` and then the bytes that were taken from a reader
 abbrev pub TakenAfter : List ℕ → Option (List ℕ) → Option (List ℕ) → (List ℕ → Type 0) → Type 0
 TakenAfter before old new P = (taken : List ℕ) × Consumes old new taken × P (before ++ taken)

@@ -1,14 +1,14 @@
 //! What the bytes of a request ask, from any reader.
 
 ghost use Rattle.std.specs.Prelude.{◌≡◌, ◌≢◌, ◌≤◌, ◌+◌, ◌++◌, ℕ, List, [], length};
-ghost use Rattle.std.specs.Prelude.{option_map, IfOk, IfErr, IfSome};
+ghost use Rattle.std.specs.Prelude.{option_map, IfOk, IfErr, IfSome, IsOkAnd, MatchOption, MatchResult};
 ghost use Rattle.std.specs.Prelude.{Err as ErrOf};
 ghost use Rattle.httparse.specs.Spans.{IsRequestOf, IsRequestWithin};
 ghost use Rattle.tb_conllu.specs.Pieces.{AskedFor};
 ghost use Rattle.tb_http.specs.Actions.{act_by};
-ghost use Rattle.tb_http.specs.Asks.{Asks, AsksOneThing, body_limit, call_text, reported_by};
+ghost use Rattle.tb_http.specs.Asks.{Asks, AsksOneThing, body_limit, call_text, refused, reported_by};
 ghost use Rattle.tb_http.specs.Faults.{AwaitsBody, AwaitsMore, BeginsBody, IsAtMostOne, IsFaultOf, TakenAfter};
-ghost use Rattle.tb_http.specs.Faults.{TakesAtMost};
+ghost use Rattle.tb_http.specs.Faults.{TakesAtMost, fault_of};
 ghost use Rattle.tb_http.specs.declared.asks.AskFault.TheVariants.{Broken, Memory};
 
 use crate::actions::{Action, Allow, resource_of};
@@ -77,6 +77,25 @@ fn make_call<'b>(action: Action<'b>, user: &'b str, body: Vec<u8>) -> Ask<'b>
     Ask::Call(Call { action, user, body })
 }
 
+/// What a head asks that passes each test, by how its body was read.
+fn asked_with<'b>(
+    action: Action<'b>,
+    user: &'b str,
+    read: Result<Option<Vec<u8>>, BodyFault>,
+) -> Result<Ask<'b>, AskFault>
+    ensures { MatchResult read
+        (λ r. MatchOption r (IsOkAnd result (λ ask. reported_by ask ≡ refused RequestFault.Body))
+        (λ body. IsOkAnd result (λ ask. reported_by ask ≡ call_text (act_by action.entry) user.now body.items)))
+        (λ e. result ≡ ErrOf (fault_of e)) }
+{
+    match read {
+        Ok(Some(body)) => Ok(make_call(action, user, body)),
+        Ok(None) => Ok(Ask::Refused(RequestFault::Body)),
+        Err(BodyFault::Read) => Err(AskFault::Broken),
+        Err(BodyFault::Memory) => Err(AskFault::Memory),
+    }
+}
+
 /// What is asked by the head in the buffer and by the bytes after it, of which some are in the buffer already.
 fn ask_after<'b, R: Source>(
     alloc: Global,
@@ -123,12 +142,7 @@ fn ask_after<'b, R: Source>(
     };
     let came = &buf[spans.len..];
     let start = &came[..came.len().min(n)];
-    match read_body(alloc, reader, start, n) {
-        Ok(Some(body)) => Ok(make_call(action, user, body)),
-        Ok(None) => Ok(Ask::Refused(RequestFault::Body)),
-        Err(BodyFault::Read) => Err(AskFault::Broken),
-        Err(BodyFault::Memory) => Err(AskFault::Memory),
-    }
+    asked_with(action, user, read_body(alloc, reader, start, n))
 }
 
 /// What the bytes of the reader ask, where a body may have `limit` bytes.

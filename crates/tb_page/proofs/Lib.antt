@@ -1,3 +1,5 @@
 pub mod Begun
 pub mod Identified
+mod NoRow
+mod OwnPaths
 pub mod Pushed

@@ -1,6 +1,6 @@
 -- The paths of the page: its files, and what it reads of the desk beside the desk's own paths.
-use Rattle.std.specs.Prelude.{ℕ, List, length, take, drop, codes, Option, Some, None, option_map, option_and_then}
-use Rattle.std.specs.Prelude.{bytes_eq, if◌then◌else◌}
+use Rattle.std.specs.Prelude.{◌≢◌, ◌⊎◌, ℕ, List, length, take, drop, codes, Option, Some, None, option_map}
+use Rattle.std.specs.Prelude.{bytes_eq, option_and_then, if◌then◌else◌}
 use Rattle.tb_http.specs.Forms.{number_of}
 use Rattle.tb_http.specs.Headers.{text_of}
 use Rattle.tb_page.specs.declared.paths.File.{File}
@@ -59,6 +59,10 @@ list_at path =
     if bytes_eq path (codes "/page/now") then Some counts
     else if bytes_eq path (codes "/page/batches") then Some batches
     else value_at path
+
+-- a path of the page: that of a file, or of what it reads of the desk
+abbrev pub IsPath : List ℕ → Type 0
+IsPath path = (file_at path ≢ None) ⊎ (list_at path ≢ None)
 
 -- the list of the code, as plain data
 abbrev pub list_by : PageList → ListText

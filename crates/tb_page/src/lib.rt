@@ -17,5 +17,5 @@ mod visits;
 pub use answering::answer_with_page;
 pub use guard::Foreign;
 pub use heads::Kind;
-pub use paths::{File, PageList};
+pub use paths::{File, PageList, no_path_of_the_page_is_the_desks};
 pub use visits::{Visit, one_visit_is_asked, read_visit};

@@ -1,8 +1,9 @@
 //! The paths of the page.
 
-ghost use Rattle.std.specs.Prelude.{◌≡◌, option_map};
+ghost use Rattle.std.specs.Prelude.{◌≡◌, ℕ, List, None, option_map};
 ghost use Rattle.std.specs.Option.{option_copied};
-ghost use Rattle.tb_page.specs.Paths.{file_at, list_at, list_by, rest_after, sent_id_at, sentences_at, value_at};
+ghost use Rattle.tb_http.specs.Actions.{place_of};
+ghost use Rattle.tb_page.specs.Paths.{IsPath, file_at, list_at, list_by, rest_after, sent_id_at, sentences_at, value_at};
 
 use tb_http::{number_of, text_of};
 
@@ -41,6 +42,11 @@ pub enum PageList<'b> {
     /// `/page/sent-id/{sent_id}`: the sentence with this `sent_id`, in which percent escapes stand for bytes.
     SentId(&'b [u8]),
 }
+
+/// A law: no path of the page is one of the desk's.
+pub fn no_path_of_the_page_is_the_desks()
+    ensures { (path : List ℕ) → IsPath path → place_of path ≡ None }
+{}
 
 /// The file at a path.
 pub(crate) fn file_at(path: &[u8]) -> Option<File>

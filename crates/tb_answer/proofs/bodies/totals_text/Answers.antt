@@ -1,0 +1,13 @@
+use Rattle.std.proofs.Common.{◌≡◌, ◌∙◌, ◌++◌, ap}
+use Rattle.tb_report.specs.Csv.{totals_csv}
+use Rattle.tb_answer.proofs.Failing.{on_then}
+use Rattle.tb_answer.proofs.OrReply.{text_made, text_unmade}
+use Rattle.tb_answer.proofs.bodies.totals_text.Goals as goal
+
+pub returns-clause-text : goal.returns-clause-text
+returns-clause-text c =
+    text_made (λ v. v.items ≡ totals_csv c.args.totals.now) c.csv_totals.result c.or_memory.result _ c.or_memory.ensures
+    (on_then _ _ c.csv_totals.result c.csv_totals.ensures.written (λ put. put ∙ ap (λ before. before ++ totals_csv c.args.totals.now) c.new-text.ensures.items))
+
+pub returns-clause-failed : goal.returns-clause-failed
+returns-clause-failed c = text_unmade c.csv_totals.result c.or_memory.result _ c.or_memory.ensures
