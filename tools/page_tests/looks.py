@@ -224,6 +224,15 @@ def handouts(driver):
         same("texts with little contrast", [], browser.run(PALE))
         shot(browser, f"handout-{number}")
     browser.run("document.getElementById('enhanced').click()")
+    page = pathlib.Path(desk.folder.name) / "file.html"
+    page.write_bytes(subprocess.run([asked.view, "tree"], input=HOSTILE + sample("english"), check=True, capture_output=True).stdout)
+    browser.go(page.as_uri())
+    browser.see(".word .form", "a")
+    same("sentences of a file, in their order", ["tags", "en-1", "en-2"], browser.texts("section h2"))
+    browser.run("document.querySelector('section:last-of-type').scrollIntoView()")
+    browser.see("section:last-of-type .word .form", "Anna")
+    same("its title", "Dependency trees", browser.run("return document.title"))
+    shot(browser, "handout-file")
     Desk.open.remove(desk)
 
 

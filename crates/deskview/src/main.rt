@@ -1,5 +1,5 @@
-//! The program `deskview`: lists of what a desk holds, and of the faults of a file. `main` hands its words and the
-//! standard streams to tb_desk.
+//! The program `deskview`: it lists what a desk holds, draws trees, and lists the faults of a file. `main` hands its
+//! words and the standard streams to tb_desk.
 //!
 //! Read `run_view` in tb_desk next.
 #![tactic(auto)]

@@ -1,6 +1,9 @@
 -- What a fault of a command line says.
-use Rattle.std.specs.Prelude.{◌≡◌, ◌≢◌, [], Option, Some, None, Result, Ok, Err, IfOk, IfErr, ⊤}
+use Rattle.std.specs.Prelude.{◌≡◌, ◌≢◌, ◌⊎◌, [], Option, Some, None, Result, Ok, Err}
+use Rattle.std.specs.Prelude.{IfOk, IfErr, ⊤}
 use Rattle.clap.specs.Words.{IsAmong, Kinds, kind_of}
+use Rattle.clap.specs.declared.error.Error.{Error}
+use Rattle.clap.specs.declared.error.kind.ErrorKind.TheVariants.{OutOfMemory}
 use Rattle.tb_cli.specs.declared.lines.LineFault.{LineFault}
 use Rattle.tb_cli.specs.declared.lines.LineFault.TheVariants.{Clap, Usage, Memory}
 
@@ -9,6 +12,11 @@ abbrev pub IsMemory : LineFault → Type 0
 IsMemory (Clap e) = ⊥
 IsMemory Usage = ⊥
 IsMemory Memory = ⊤
+
+-- Want of memory is told as such, and any other error of clap as itself.
+abbrev pub IsToldAs : Error → LineFault → Type 0
+IsToldAs e told =
+    ((kind_of e ≡ OutOfMemory) × (told ≡ Memory)) ⊎ ((kind_of e ≢ OutOfMemory) × (told ≡ Clap e))
 
 -- clap's fault comes only where C holds, and the desk's own only where U does
 abbrev pub ComesOnly : LineFault → Type 0 → Type 0 → Type 0

@@ -1,4 +1,5 @@
 pub mod Fault
+pub mod Help
 pub mod Lines
 pub mod Tree
 pub mod View

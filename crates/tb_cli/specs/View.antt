@@ -1,10 +1,10 @@
 -- The command line of deskview: its commands, as they are declared to clap, and what words say.
-use Rattle.std.specs.Prelude.{ℕ, List, true, [], codes, Option, None, option_and_then, bytes_eq, if◌then◌else◌}
+use Rattle.std.specs.Prelude.{ℕ, List, true, [], codes, Option, Some, None, option_and_then, bytes_eq, if◌then◌else◌}
 use Rattle.std.specs.String.{string_bytes}
 use Rattle.clap.specs.Words.{App, Row, Text, first_of, new_app, with_rule, with_subcommand}
 use Rattle.tb_http.specs.Forms.{most_of, number_of, port_of}
 use Rattle.tb_cli.specs.Lines.{batch_of, formed, with_one, with_two}
-use Rattle.tb_cli.specs.Tree.{default_rule, needed_rule, with_db, word_rule}
+use Rattle.tb_cli.specs.Tree.{default_rule, needed_rule, optional_rule, with_db, word_rule}
 use Rattle.tb_cli.specs.declared.lines.ViewLine.{ViewLine}
 use Rattle.tb_cli.specs.declared.lines.ViewLine.TheVariants as line
 use Rattle.tb_cli.specs.declared.lines.ViewList.{ViewList}
@@ -31,8 +31,9 @@ abbrev pub lists_app : App
 lists_app =
     with_subcommand (with_subcommand (with_subcommand view_top batches_app.top) sentences_app.top) revisions_app.top
 
+-- a sentence of a desk, or a file without a desk
 abbrev pub tree_app : App
-tree_app = with_rule (with_db (new_app (codes "tree"))) (word_rule (codes "no"))
+tree_app = with_rule (with_db (new_app (codes "tree"))) (optional_rule (codes "no"))
 
 -- a file without a desk is checked
 abbrev pub check_app : App
@@ -60,6 +61,7 @@ pub data Listed : Type 0 where
 -- a command line as plain data; a first text is the value of --db
 pub data Viewed : Type 0 where
   lists : Text → Listed → Viewed
+  trees : Viewed
   check : (most : ℕ) → Viewed
   page : Text → (port : ℕ) → Viewed
 
@@ -91,9 +93,16 @@ revisions_with rows = with_two revisions_of (first_of (codes "db") rows) (formed
 abbrev pub find_with : List Row → Option Viewed
 find_with rows = with_two find_of (first_of (codes "db") rows) (first_of (codes "sent_id") rows)
 
+-- What the command `tree` says of a file and a number: the tree of that sentence of the desk there. With neither it says
+-- the trees of standard input.
+abbrev pub tree_said : (db number : Option Text) → Option Viewed
+tree_said None None = Some trees
+tree_said None (Some number) = None
+tree_said (Some db) number = with_one (tree_of db) (formed number_of number)
+
 -- what the command `tree` says with its values
 abbrev pub tree_with : List Row → Option Viewed
-tree_with rows = with_two tree_of (first_of (codes "db") rows) (formed number_of (first_of (codes "no") rows))
+tree_with rows = tree_said (first_of (codes "db") rows) (first_of (codes "no") rows)
 
 -- what the command `check` says with its values
 abbrev pub check_with : List Row → Option Viewed
@@ -130,5 +139,6 @@ listed_by (list.Tree n) = tree n
 -- the line of the code, as plain data
 abbrev pub viewed_by : ViewLine → Viewed
 viewed_by (line.List db l) = lists (string_bytes db) (listed_by l)
+viewed_by line.Trees = trees
 viewed_by (line.Check most) = check most
 viewed_by (line.Page db port) = page (string_bytes db) port

@@ -1,5 +1,8 @@
 //! The texts of help for each command.
 
+ghost use Rattle.std.specs.Prelude.{◌≡◌};
+ghost use Rattle.tb_cli.specs.Help.{about_text};
+
 use crate::verbs::Verb;
 
 /// The text of help after the list of commands.
@@ -23,7 +26,9 @@ Environment:
   TREEDESK_EXPLAIN=1  explain each refusal on standard error, also where that is no terminal";
 
 /// What a command does, as the list of commands shows it.
-pub fn about<'a>(verb: Verb) -> &'a str {
+pub fn about<'a>(verb: Verb) -> &'a str
+    ensures { result.now ≡ about_text verb }
+{
     match verb {
         Verb::Check => {
             "Check the CoNLL-U file on standard input, and count its sentences and words"

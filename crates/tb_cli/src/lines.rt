@@ -90,10 +90,12 @@ pub enum ViewList {
     Tree { no: u64 },
 }
 
-/// A command of `deskview` with its values. Each but `Check` reads the desk in a file.
+/// A command of `deskview` with its values. Each but `Trees` and `Check` reads the desk in a file.
 #[derive(Debug, Drop)]
 pub enum ViewLine {
     List { db: String, list: ViewList },
+    /// Draws the trees of the file on standard input.
+    Trees,
     /// Lists the first faults of the file on standard input, at most so many.
     Check { most: u32 },
     /// Serves the page, and the desk beside it.

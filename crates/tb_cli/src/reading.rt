@@ -5,7 +5,7 @@ ghost use Rattle.std.specs.String.{string_bytes};
 ghost use Rattle.clap.specs.Words.{app_of, takes, fault_of, is_simple, is_simple_and_free, subcommand_of};
 ghost use Rattle.clap.specs.Words.{subcommand_rows_of, rows_of, found_of};
 ghost use Rattle.tb_cli.specs.Tree.{desk_app};
-ghost use Rattle.tb_cli.specs.Fault.{AnswersAs, ComesOnly, ReadsAs};
+ghost use Rattle.tb_cli.specs.Fault.{AnswersAs, ComesOnly, IsToldAs, ReadsAs};
 ghost use Rattle.tb_cli.specs.Lines.{said_by, said_of, said_with};
 ghost use Rattle.tb_cli.specs.declared.verbs.Verb.TheVariants as verb;
 
@@ -178,6 +178,16 @@ pub(crate) fn entered<'a, 'm>(matches: &'m ArgMatches<'a>) -> Option<(&'a str, &
     matches.subcommand()
 }
 
+/// What an error of clap is told as. Want of memory has no text of clap's.
+fn fault_by(error: clap::Error) -> LineFault
+    ensures { IsToldAs error result }
+{
+    if error.kind() == ErrorKind::OutOfMemory {
+        return LineFault::Memory;
+    }
+    LineFault::Clap(error)
+}
+
 /// What a command finds in the words.
 pub(crate) fn found_by<'a>(
     command: Command<'a>,
@@ -192,12 +202,7 @@ pub(crate) fn found_by<'a>(
 {
     match command.try_get_matches_from(words) {
         Ok(matches) => Ok(matches),
-        Err(error) => {
-            if error.kind() == ErrorKind::OutOfMemory {
-                return Err(LineFault::Memory);
-            }
-            Err(LineFault::Clap(error))
-        }
+        Err(error) => Err(fault_by(error)),
     }
 }
 

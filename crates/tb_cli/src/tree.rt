@@ -1,8 +1,9 @@
 //! The commands, declared to clap.
 
-ghost use Rattle.std.specs.Prelude.{◌≡◌, IfOk, false, codes};
+ghost use Rattle.std.specs.Prelude.{◌≡◌, IfOk, Some, false, codes, option_map};
 ghost use Rattle.clap.specs.Words.{app_of, rule_of, new_app, with_rule, with_subcommand};
 ghost use Rattle.clap.specs.declared.Command.TheViews.{out-Command};
+ghost use Rattle.tb_cli.specs.Help.{about_text};
 ghost use Rattle.tb_cli.specs.Tree.{option_rule, needed_rule, default_rule, word_rule, optional_rule, word_of};
 ghost use Rattle.tb_cli.specs.Tree.{with_db, with_db_and_user, with_db_and_strategy, with_user_and_word, with_query};
 ghost use Rattle.tb_cli.specs.Tree.{in_file_app, event_app, correct_app, show_app, export_app, search_app, count_app};
@@ -45,7 +46,7 @@ pub(crate) fn word<'a>(alloc: Global, name: &'a str, help: &'a str) -> Arg<'a>
 }
 
 /// A word that may be missing.
-fn optional<'a>(alloc: Global, name: &'a str, help: &'a str) -> Arg<'a>
+pub(crate) fn optional<'a>(alloc: Global, name: &'a str, help: &'a str) -> Arg<'a>
     ensures { HasRule (optional_rule name.entry.now) result }
 {
     Arg::new(alloc, name).help(help)
@@ -53,7 +54,8 @@ fn optional<'a>(alloc: Global, name: &'a str, help: &'a str) -> Arg<'a>
 
 /// A command with its help, and without an argument.
 fn command<'a>(alloc: Global, verb: Verb) -> Command<'a>
-    ensures { IsKnownAs (new_app (word_of verb)) result }
+    ensures known { IsKnownAs (new_app (word_of verb)) result }
+    ensures about { option_map (λ text. text.now) (out-Command result).about ≡ Some (about_text verb) }
 {
     Command::new(alloc, word_of(verb))
         .about(about(verb))

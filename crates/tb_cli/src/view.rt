@@ -1,11 +1,13 @@
 //! Reads a line of `deskview` from words.
 
-ghost use Rattle.std.specs.Prelude.{◌≡◌, ◌≢◌, IfOk, IfErr, codes, true, map};
+ghost use Rattle.std.specs.Prelude.{◌≡◌, ◌≢◌, IfOk, IfErr, None, codes, true, map};
 ghost use Rattle.std.specs.String.{string_bytes};
 ghost use Rattle.clap.specs.Words.{takes, fault_of, subcommand_of, subcommand_rows_of, rows_of, found_of, first_of};
 ghost use Rattle.tb_cli.specs.Fault.{AnswersAs, ComesOnly, ReadsAs};
-ghost use Rattle.tb_cli.specs.View.{check_with, find_with, page_with, revisions_with, sentences_with, tree_with};
-ghost use Rattle.tb_cli.specs.View.{view_app, viewed_by, viewed_of, viewed_with};
+ghost use Rattle.tb_cli.specs.Lines.{formed, with_one};
+ghost use Rattle.tb_cli.specs.View.{check_with, find_with, page_with, revisions_with, sentences_with, tree_of, tree_said};
+ghost use Rattle.tb_cli.specs.View.{tree_with, view_app, viewed_by, viewed_of, viewed_with};
+ghost use Rattle.tb_http.specs.Forms.{number_of};
 
 use crate::lines::{LineFault, ViewLine, ViewList};
 use crate::reading::{entered, found_by};
@@ -67,15 +69,36 @@ fn find(alloc: Global, values: &ArgMatches<'_>) -> Result<ViewLine, LineFault>
     })
 }
 
-fn tree(alloc: Global, values: &ArgMatches<'_>) -> Result<ViewLine, LineFault>
-    ensures { ReadsAs (tree_with (rows_of (found_of values.now))) viewed_by result }
+/// The tree of the sentence with the number in the values, of the desk in this file.
+fn tree_of_desk(alloc: Global, db: &str, values: &ArgMatches<'_>) -> Result<ViewLine, LineFault>
+    ensures { ReadsAs (with_one (tree_of db.now)
+        (formed number_of (first_of (codes "no") (rows_of (found_of values.now))))) viewed_by result }
 {
     let number = given(number_in(values, "no"))?;
-    let db = file_in(alloc, values)?;
+    let db = String::from_str(alloc, db)?;
     Ok(ViewLine::List {
         db,
         list: ViewList::Tree { no: number },
     })
+}
+
+/// The trees of standard input. A number would be that of a sentence in no desk.
+fn trees(values: &ArgMatches<'_>) -> Result<ViewLine, LineFault>
+    ensures { ReadsAs (tree_said None (first_of (codes "no") (rows_of (found_of values.now)))) viewed_by result }
+{
+    match value(values, "no") {
+        Some(_) => Err(LineFault::Usage),
+        None => Ok(ViewLine::Trees),
+    }
+}
+
+fn tree(alloc: Global, values: &ArgMatches<'_>) -> Result<ViewLine, LineFault>
+    ensures { ReadsAs (tree_with (rows_of (found_of values.now))) viewed_by result }
+{
+    match value(values, "db") {
+        Some(db) => tree_of_desk(alloc, db, values),
+        None => trees(values),
+    }
 }
 
 fn check(values: &ArgMatches<'_>) -> Result<ViewLine, LineFault>

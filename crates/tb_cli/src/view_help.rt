@@ -8,12 +8,14 @@ Examples:
   deskview revisions --db desk.db 7
   deskview find --db desk.db en-7
   deskview tree --db desk.db 7 > tree.html
+  deskview tree < news.conllu > trees.html
   deskview check < news.conllu
   deskview page --db desk.db --port 8080
 
-`check` reads a file on standard input, and each other command the desk in the file that --db names. `page` shows the
-desk in a browser until you end the program, and `tree` prints a page for a browser. The others print a list as CSV. All
-but `page` change nothing of the desk. `deskview help COMMAND` shows what a command takes and prints, with an example.
+`check` reads a file on standard input, `tree` without --db too, and each other command the desk in the file that --db
+names. `page` shows the desk in a browser until you end the program, and `tree` prints a page for a browser. The others
+print a list as CSV. All but `page` change nothing of the desk. `deskview help COMMAND` shows what a command takes and
+prints, with an example.
 
 Exit status:
   0  done; help and the version too
@@ -62,10 +64,14 @@ Exit status: 0 done, 1 refused, 2 wrong words, 3 out of memory or an I/O error."
 
 /// The end of the help of `tree`.
 pub const TREE: &str = "\
-Prints a page of HTML, which stands alone: it draws the dependency tree of the sentence's current revision, and asks no
-other file or computer for anything. Print it from a browser, as a handout.
+Prints a page of HTML, which stands alone: it draws dependency trees, and asks no other file or computer for anything.
+With --db and a number it is the tree of that sentence's current revision. With neither it is those of all sentences of
+the CoNLL-U file on standard input; one that `treedesk check` refuses is refused as there, and nothing is drawn. Print
+the page from a browser, as a handout.
 
-Example: deskview tree --db desk.db 7 > tree.html
+Examples:
+  deskview tree --db desk.db 7 > tree.html
+  deskview tree < news.conllu > trees.html
 
 Exit status: 0 done, 1 refused, 2 wrong words, 3 out of memory or an I/O error.";
 

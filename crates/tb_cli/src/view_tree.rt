@@ -1,12 +1,12 @@
 //! The commands of `deskview`, declared to clap.
 
-ghost use Rattle.std.specs.Prelude.{◌≡◌, IfOk, codes};
-ghost use Rattle.clap.specs.Words.{app_of, new_app, with_rule};
-ghost use Rattle.tb_cli.specs.Tree.{with_db, word_rule, IsKnownAs};
+ghost use Rattle.std.specs.Prelude.{◌≡◌, IfOk};
+ghost use Rattle.clap.specs.Words.{app_of, new_app};
+ghost use Rattle.tb_cli.specs.Tree.{with_db, IsKnownAs};
 ghost use Rattle.tb_cli.specs.View.{batches_app, check_app, find_app, lists_app, page_app, revisions_app};
 ghost use Rattle.tb_cli.specs.View.{sentences_app, tree_app, view_app, view_top};
 
-use crate::tree::{VERSION, defaulted, needed, option, with, with_sub, word};
+use crate::tree::{VERSION, defaulted, needed, option, optional, with, with_sub, word};
 use crate::view_help::{BATCHES, CHECK, ENDING, FIND, PAGE, REVISIONS, SENTENCES, TREE};
 use clap::Command;
 use std::alloc::{AllocError, Global};
@@ -43,19 +43,6 @@ fn reading<'a>(
     )
 }
 
-/// A command that reads the sentence with a number.
-fn reading_one<'a>(
-    alloc: Global,
-    name: &'a str,
-    about: &'a str,
-    ending: &'a str,
-) -> Result<Command<'a>, AllocError>
-    ensures { IfOk result (IsKnownAs (with_rule (with_db (new_app name.entry.now)) (word_rule (codes "no")))) }
-{
-    let command = reading(alloc, name, about, ending)?;
-    with(command, word(alloc, "no", "The number of the sentence"))
-}
-
 fn batches<'a>(alloc: Global) -> Result<Command<'a>, AllocError>
     ensures { IfOk result (IsKnownAs batches_app) }
 {
@@ -75,7 +62,8 @@ fn revisions<'a>(alloc: Global) -> Result<Command<'a>, AllocError>
     ensures { IfOk result (IsKnownAs revisions_app) }
 {
     let about = "List the revisions of a sentence, each with its user and the move that made it";
-    reading_one(alloc, "revisions", about, REVISIONS)
+    let command = reading(alloc, "revisions", about, REVISIONS)?;
+    with(command, word(alloc, "no", "The number of the sentence"))
 }
 
 fn find<'a>(alloc: Global) -> Result<Command<'a>, AllocError>
@@ -92,8 +80,13 @@ fn find<'a>(alloc: Global) -> Result<Command<'a>, AllocError>
 fn tree<'a>(alloc: Global) -> Result<Command<'a>, AllocError>
     ensures { IfOk result (IsKnownAs tree_app) }
 {
-    let about = "Draw the dependency tree of a sentence, as a page for a browser";
-    reading_one(alloc, "tree", about, TREE)
+    let about =
+        "Draw the dependency tree of a sentence, or the trees of a file, as a page for a browser";
+    let db = "The file of the desk; without it the CoNLL-U file on standard input";
+    let no = "The number of the sentence in the desk";
+    let command = Command::new(alloc, "tree").about(about).after_help(TREE);
+    let command = with(command, option(alloc, "db", db))?;
+    with(command, optional(alloc, "no", no))
 }
 
 fn check<'a>(alloc: Global) -> Result<Command<'a>, AllocError>

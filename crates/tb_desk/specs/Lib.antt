@@ -2,6 +2,7 @@ pub mod Arriving
 pub mod Callers
 pub mod Causes
 pub mod Contents
+pub mod Drawing
 pub mod Explaining
 pub mod Faults
 pub mod Forms

@@ -121,5 +121,7 @@ cause_text cause.BrokenOff =
 cause_text cause.Memory = MEMORY.now
 cause_text cause.NothingKept = codes "nothing is kept: without --db the desk was in memory, for this command alone"
 cause_text cause.NothingThere = codes "without --db the desk is in memory, and empty; name the file of a desk by --db"
+cause_text cause.BothOrNeither =
+    codes "name both a desk by --db and a sentence by its number, or neither to draw the file on standard input"
 cause_text cause.NothingWillBeKept =
     codes "without --db the desk is in memory; what is sent to it is gone when the server ends"

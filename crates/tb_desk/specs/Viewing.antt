@@ -1,21 +1,28 @@
 -- What `deskview` shows of a desk, and its exit status.
-use Rattle.std.specs.Prelude.{◌≡◌, ◌≢◌, ◌⊎◌, ℕ, List, true, Option, Some, None}
+use Rattle.std.specs.Prelude.{◌≡◌, ◌≢◌, ◌⊎◌, ℕ, List, true, Option, Some, None, bytes_eq, codes, if◌then◌else◌}
 use Rattle.clap.specs.Words.{takes, subcommand_of}
 use Rattle.sqlite.specs.Files.{over_files}
 use Rattle.sqlite.specs.Store.{Ghosts}
 use Rattle.tb_http.specs.declared.replies.Reply.{Reply}
 use Rattle.tb_cli.specs.Fault.{ComesOnly}
-use Rattle.tb_cli.specs.View.{Listed, Viewed, check, lists, page, view_app, viewed_of}
+use Rattle.tb_cli.specs.View.{Listed, Viewed, check, lists, page, trees, view_app, viewed_of}
 use Rattle.tb_cli.specs.declared.lines.LineFault.{LineFault}
 use Rattle.tb_store.specs.Calls.{InState}
 use Rattle.tb_store.specs.Kept.{Kept}
 use Rattle.tb_answer.specs.Commanded.{HasFailed}
 use Rattle.tb_answer.specs.Output.{IsWritten}
 use Rattle.tb_answer.specs.Viewed.{IsView, IsViewReported}
+use Rattle.tb_desk.specs.declared.causes.Cause.{Cause}
+use Rattle.tb_desk.specs.declared.causes.Cause.TheVariants as cause
 use Rattle.tb_desk.specs.declared.files.FileDesk.{FileDesk}
+use Rattle.tb_desk.specs.Drawing.{AreTreesDrawn}
 use Rattle.tb_desk.specs.Faults.{AreFaultsListed}
 use Rattle.tb_desk.specs.Opened.{IsSomeDesk}
 use Rattle.tb_desk.specs.Replies.{IsFaultWritten, IsFileRefused, IsReplyWritten}
+
+-- What a command lacks whose values have their forms: the file of a desk. A tree needs a number too.
+abbrev pub lacking : (command : List ℕ) → Cause
+lacking command = if bytes_eq command (codes "tree") then cause.BothOrNeither else cause.NothingThere
 
 module _ {Reason S : Type 0} (g : Ghosts S) (held holds : Option (List ℕ)) (is_refusal : Reason → Type 0)
     (status : ℕ) where
@@ -39,9 +46,10 @@ module _ {Reason : Type 0} (held holds : Option (List ℕ)) (is_refusal : Reason
 
 module _ {R Why Reason : Type 0} (is_failure : R → Why → Type 0) (unread : R → Option (List ℕ)) (before after : R)
     (held holds : Option (List ℕ)) (is_refusal : Reason → Type 0) (status : ℕ) where
-  -- How a line ends: only a check reads the input. What a server answers is said request by request.
+  -- How a line ends: only trees of a file and a check read the input. What a server answers is said request by request.
   abbrev pub IsViewRun : Viewed → Type 0
   IsViewRun (lists db list) = (after ≡ before) × IsListRun held holds is_refusal status list
+  IsViewRun trees = AreTreesDrawn (is_failure after) (unread before) (unread after) held holds is_refusal status
   IsViewRun (check most) =
       AreFaultsListed (is_failure after) (unread before) (unread after) held holds is_refusal status most
   IsViewRun (page db port) = after ≡ before

@@ -441,6 +441,8 @@ pub enum Cause {
     NothingKept,
     /// A command asks for released text of a desk in memory.
     NothingThere,
+    /// A tree is asked for with one of a desk and a number.
+    BothOrNeither,
     /// A server serves a desk in memory.
     NothingWillBeKept,
     /// The desk or the check refuses, or its answer needs other words.
@@ -472,6 +474,8 @@ impl Cause {
                 "nothing is kept: without --db the desk was in memory, for this command alone",
             Cause::NothingThere =>
                 "without --db the desk is in memory, and empty; name the file of a desk by --db",
+            Cause::BothOrNeither =>
+                "name both a desk by --db and a sentence by its number, or neither to draw the file on standard input",
             Cause::NothingWillBeKept =>
                 "without --db the desk is in memory; what is sent to it is gone when the server ends",
         }

@@ -1,7 +1,7 @@
 //! The check of a file, with the words for its answer while the file is at hand.
 
 ghost use Rattle.std.specs.Prelude.{◌≡◌};
-ghost use Rattle.tb_check.specs.Check.{Answers, IsReplyToRead, file_limit};
+ghost use Rattle.tb_check.specs.Check.{Answers, IsReplyToRead, IsWritten, file_limit, reply_text, status_of};
 ghost use Rattle.tb_desk.specs.Explaining.{reply_as_the_desk};
 
 use crate::diagnostics::{Diagnostic, Outcome};
@@ -13,19 +13,11 @@ use tb_core::Refusal;
 use tb_http::{Reply, RequestFault};
 use tb_words::Asked;
 
-/// What the check of a source answers, and the file if it was read whole.
+/// What the check of a source answers, and what was read of it.
 #[derive(Drop)]
 struct Checked {
     reply: CheckReply,
-    file: Option<Vec<u8>>,
-}
-
-/// The bytes of an input that was read whole.
-fn whole(input: Input) -> Option<Vec<u8>> {
-    match input {
-        Input::Whole(file) => Some(file),
-        Input::TooLong | Input::Memory | Input::Broken => None,
-    }
+    input: Input,
 }
 
 fn check_source<R: Source>(alloc: Global, source: &mut R) -> Checked
@@ -33,10 +25,7 @@ fn check_source<R: Source>(alloc: Global, source: &mut R) -> Checked
 {
     let input = read_all(alloc, source, FILE_LIMIT);
     let reply = check_input(alloc, &input, FILE_LIMIT);
-    Checked {
-        reply,
-        file: whole(input),
-    }
+    Checked { reply, input }
 }
 
 /// The desk's reply that says the same. Counts need no words. The reader of an input explains how it failed.
@@ -56,12 +45,25 @@ fn reply_for(reply: CheckReply) -> Option<Reply>
     }
 }
 
-fn reported_of_check(rt: &HostRuntime, checked: &Checked) -> Option<Diagnostic> {
-    let reply = reply_for(checked.reply)?;
-    match &checked.file {
-        Some(file) => reported_of_reply(rt, reply, file.as_slice(), Asked::Other),
-        None => reported_of_reply(rt, reply, &[], Asked::Other),
+/// What there is to say of a reply to what was read of an input.
+pub(crate) fn reported_of_check(
+    rt: &HostRuntime,
+    reply: CheckReply,
+    input: &Input,
+) -> Option<Diagnostic> {
+    let reply = reply_for(reply)?;
+    match input {
+        Input::Whole(file) => reported_of_reply(rt, reply, file.as_slice(), Asked::Other),
+        _ => reported_of_reply(rt, reply, &[], Asked::Other),
     }
+}
+
+/// Prints the line of a reply.
+pub(crate) fn put_check<S: Sink>(out: &mut S, reply: CheckReply) -> u8
+    ensures { IsWritten (S.held out.old) (S.held out.new) (reply_text reply) (status_of reply) (S.IsRefusal out.new)
+        result }
+{
+    put_reply(out, reply.line().as_str(), reply.status())
 }
 
 /// Checks what the source gives, up to 4,194,304 bytes, as `run_check` does, and explains a refusal.
@@ -73,11 +75,9 @@ pub(crate) fn check_reported<R: Source, S: Sink>(
     ensures { Answers (IsReplyToRead (R.IsFailure source.new) file_limit (R.left source.old) (R.left source.new))
         (S.held out.old) (S.held out.new) (S.IsRefusal out.new) result.status }
 {
-    let checked = check_source(rt.alloc(), source);
-    let reply = checked.reply;
-    let status = put_reply(out, reply.line().as_str(), reply.status());
+    let Checked { reply, input } = check_source(rt.alloc(), source);
     Outcome {
-        status,
-        reported: reported_of_check(rt, &checked),
+        status: put_check(out, reply),
+        reported: reported_of_check(rt, reply, &input),
     }
 }

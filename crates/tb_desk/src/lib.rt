@@ -16,6 +16,7 @@ mod causes;
 mod checking;
 mod contents;
 mod diagnostics;
+mod drawing;
 mod explaining;
 mod faults;
 mod files;
@@ -47,6 +48,6 @@ pub use tb_answer::{
 };
 pub use tb_check::run_check;
 pub use tb_cli::{Line, LineFault, ViewLine, ViewList};
-pub use tb_page::{answer_with_page, one_visit_is_asked};
+pub use tb_page::{answer_with_page, no_path_of_the_page_is_the_desks, one_visit_is_asked};
 pub use viewing::{DESKVIEW, run_view};
 pub use words::{TREEDESK, run_words, run_words_reported};

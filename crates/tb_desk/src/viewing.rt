@@ -1,15 +1,16 @@
-//! Does what the words of a command line of `deskview` ask: it shows a list of the desk in a file, lists the faults of a
-//! file, or serves the page over a desk.
+//! Does what the words of a command line of `deskview` ask: it shows a list of the desk in a file, draws the trees of a
+//! file, lists its faults, or serves the page over a desk.
 
-ghost use Rattle.std.specs.Prelude.{map, string_bytes};
+ghost use Rattle.std.specs.Prelude.{◌≡◌, map, string_bytes};
 ghost use Rattle.sqlite.specs.Files.{over_files};
 ghost use Rattle.tb_cli.specs.View.{listed_by, viewed_by};
 ghost use Rattle.tb_conllu.specs.declared.fault.WriteFault.{WriteFault};
 ghost use Rattle.tb_desk.specs.Replies.{IsFaultWritten};
-ghost use Rattle.tb_desk.specs.Viewing.{AreWordsShown, IsListRun, IsShown, IsViewRun};
+ghost use Rattle.tb_desk.specs.Viewing.{AreWordsShown, IsListRun, IsShown, IsViewRun, lacking};
 
 use crate::causes::Cause;
 use crate::diagnostics::{Diagnostic, Outcome, put_memory};
+use crate::drawing::draw_trees_of;
 use crate::explaining::reported_of_reply;
 use crate::faults::list_faults_of;
 use crate::files::{self, FileDesk};
@@ -34,15 +35,26 @@ fn asked_of(list: &ViewList) -> Asked<'_> {
     }
 }
 
+/// What a command lacks whose values have their forms: the file of a desk. A tree needs a number too.
+fn lacking(command: &str) -> Cause
+    ensures { result ≡ lacking command.now }
+{
+    if command == "tree" {
+        Cause::BothOrNeither
+    } else {
+        Cause::NothingThere
+    }
+}
+
 /// What is wrong with words that clap accepts: there is no command, or a value does not have its form, or no desk is
 /// named.
 fn wrong_word(rt: &HostRuntime, words: &[String]) -> Diagnostic {
-    if words.len() < 2 {
+    let [_, command, ..] = words else {
         return Diagnostic::from(Cause::NoCommand(DESKVIEW));
-    }
+    };
     match wrong_value(rt, words) {
         Some(wrong) => wrong,
-        None => Diagnostic::from(Cause::NothingThere),
+        None => Diagnostic::from(lacking(command.as_str())),
     }
 }
 
@@ -134,6 +146,7 @@ fn run<R: Source, W: Write>(
 {
     match line {
         ViewLine::List { db, list } => run_list(rt, db.as_str(), list, out),
+        ViewLine::Trees => draw_trees_of(rt, reader, out),
         ViewLine::Check { most } => list_faults_of(rt, reader, *most, out),
         ViewLine::Page { db, port } => run_page(rt, db.as_str(), *port, out),
     }
@@ -141,7 +154,8 @@ fn run<R: Source, W: Write>(
 
 /// Does what the words of `deskview` ask, the program's name first. Returns the exit status, and what to say beside it.
 ///
-/// `check` lists the faults of what the reader gives. Other commands read the desk in a file.
+/// `check` lists the faults of what the reader gives, and `tree` without a desk draws its trees. Other commands read the
+/// desk in a file.
 pub fn run_view<R: Source, W: Write>(
     rt: &HostRuntime,
     words: &[String],

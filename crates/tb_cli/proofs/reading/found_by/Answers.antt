@@ -1,5 +1,5 @@
-use Rattle.std.proofs.Common.{rules}
-use Rattle.tb_cli.proofs.Answered.{kind_answers}
+use Rattle.clap.specs.declared.parser.matches.ArgMatches.{ArgMatches}
+use Rattle.tb_cli.proofs.Answered.{told_answers, told_comes}
 use Rattle.tb_cli.proofs.reading.found_by.Goals as goal
 
 pub returns-in-Ok-clause-ok : goal.returns-in-Ok-clause-ok
@@ -8,5 +8,8 @@ returns-in-Ok-clause-ok c simple = (c.in-Ok.ensures.matches simple).1
 pub returns-in-Ok-clause-answers : goal.returns-in-Ok-clause-answers
 returns-in-Ok-clause-answers c free = c.in-Ok.ensures.kinds free
 
-pub returns-else-eq-clause-answers : goal.returns-else-eq-clause-answers
-returns-else-eq-clause-answers c free = kind_answers _ c.in-Err.error (c.in-Err.ensures.kinds free) (λ memory. search rules)
+pub returns-in-Err-clause-err : goal.returns-in-Err-clause-err
+returns-in-Err-clause-err c = told_comes c.in-Err.error _ c.fault_by.ensures c.in-Err.ensures.passes
+
+pub returns-in-Err-clause-answers : goal.returns-in-Err-clause-answers
+returns-in-Err-clause-answers c free = told_answers ArgMatches _ c.in-Err.error _ c.fault_by.ensures (c.in-Err.ensures.kinds free)

@@ -5,7 +5,7 @@ use Rattle.tb_desk.proofs.faults.first_faults.Goals as goal
 
 pub returns : goal.returns
 returns c =
-    let known = c.in_ok-faults.ensures in
+    let known = c.in_ok-faults.ensures.found in
     let n = c.args.most in
     let more = c.are_more-more.ensures ∙ ap (are_more n) (c.as_slice.ensures.value ∙ known.2) ∙ same_more n known.0 in
     let status = c.exit_with-status.ensures ∙ ap exit_with (c.as_slice-2.ensures.value ∙ known.2) ∙ same_exit n known.0 in

@@ -1,0 +1,88 @@
+//! Draws the trees of a file, as a page for a browser.
+
+ghost use Rattle.std.specs.Prelude.{◌≡◌, ◌≤◌, IfErr, IfOk, length};
+ghost use Rattle.tb_check.specs.Check.{file_limit};
+ghost use Rattle.tb_check.specs.Input.{IsWithin};
+ghost use Rattle.tb_desk.specs.Drawing.{AreTreesDrawn, IsAnswered, IsDrawn, IsDrawnFile, IsUndrawn, IsUndrawnFile};
+ghost use Rattle.tb_report.specs.Trees.{trees_page};
+
+use crate::checking::{put_check, reported_of_check};
+use crate::diagnostics::Outcome;
+use std::alloc::Global;
+use tb_answer::put_body;
+use tb_check::{CheckReply, FILE_LIMIT, Input, check_file, read_all};
+use tb_conllu::{Sink, Source};
+use tb_report::trees_page;
+
+/// The page of the trees of these sentences.
+fn page_of(alloc: Global, conllu: &[u8]) -> Result<Vec<u8>, CheckReply>
+    ensures page { IfOk result (λ page. page.items ≡ trees_page conllu.now) }
+    ensures memory { IfErr result (λ reply. reply ≡ CheckReply.Memory) }
+{
+    match trees_page(alloc, conllu) {
+        Ok(page) => Ok(page),
+        Err(_) => Err(CheckReply::Memory),
+    }
+}
+
+/// The page of the trees of a file.
+///
+/// # Errors
+///
+/// The first fault of the file, as a check reports it. Or memory was refused.
+#[tactic(auto, unfolding(crate::specs::Drawing::IsDrawnFile))]
+fn draw_file(alloc: Global, file: &[u8]) -> Result<Vec<u8>, CheckReply>
+    requires { length file.now ≤ file_limit }
+    ensures drawn { IfOk result (λ page. IsDrawnFile file.now page.items) }
+    ensures undrawn { IfErr result (IsUndrawnFile file.now) }
+{
+    match check_file(alloc, file, FILE_LIMIT) {
+        CheckReply::Counts { .. } => page_of(alloc, file),
+        reply => Err(reply),
+    }
+}
+
+/// The page of the trees of an input.
+///
+/// # Errors
+///
+/// What a check answers to the input, or want of memory.
+fn draw(alloc: Global, input: &Input) -> Result<Vec<u8>, CheckReply>
+    requires { IsWithin file_limit input.now }
+    ensures drawn { IfOk result (λ page. IsDrawn input.now page.items) }
+    ensures undrawn { IfErr result (IsUndrawn input.now) }
+{
+    match input {
+        Input::Whole(file) => draw_file(alloc, file.as_slice()),
+        Input::TooLong => Err(CheckReply::Long),
+        Input::Memory => Err(CheckReply::Memory),
+        Input::Broken => Err(CheckReply::Device),
+    }
+}
+
+/// Prints the page of the trees of an input, or the line of why there is none.
+fn answer_input<S: Sink>(rt: &HostRuntime, input: &Input, out: &mut S) -> Outcome
+    requires { IsWithin file_limit input.now }
+    ensures { IsAnswered (S.held out.old) (S.held out.new) (S.IsRefusal out.new) result.status input.now }
+{
+    match draw(rt.alloc(), input) {
+        Ok(page) => Outcome::from(put_body(out, page.as_slice())),
+        Err(reply) => Outcome {
+            status: put_check(out, reply),
+            reported: reported_of_check(rt, reply, input),
+        },
+    }
+}
+
+/// Draws the trees of what the source gives, up to 4,194,304 bytes.
+pub(crate) fn draw_trees_of<R: Source, S: Sink>(
+    rt: &HostRuntime,
+    source: &mut R,
+    out: &mut S,
+) -> Outcome
+    ensures { AreTreesDrawn (R.IsFailure source.new) (R.left source.old) (R.left source.new) (S.held out.old)
+        (S.held out.new) (S.IsRefusal out.new) result.status }
+{
+    let input = read_all(rt.alloc(), source, FILE_LIMIT);
+    answer_input(rt, &input, out)
+}
