@@ -1,3 +1,4 @@
+pub mod Prelude
 pub mod ReadOf
 pub mod Working
 pub mod Stepping

@@ -1,21 +1,11 @@
 //! The write of an accepted correction, in one transaction. Afterwards the tables represent the state that it leads to.
 
 ghost use Rattle.std.specs.Prelude.{◌≡◌, ◌≢◌, ◌-◌, ◌<◌, Err, None, false, OnOk};
-ghost use Rattle.sqlite.specs.State.{HasCleanDisk, Survives};
-ghost use Rattle.sqlite.specs.Held.{state};
-ghost use Rattle.tb_tables.specs.Records.{AreStored};
-ghost use Rattle.tb_core.specs.declared.refusals.Refusal.{Refusal as AnyRefusal};
-ghost use Rattle.tb_core.specs.Machine.{Machine, Sentence};
-ghost use Rattle.tb_conllu.specs.Text.{BlockText};
-ghost use Rattle.tb_core.specs.Acts.{IsAllowed, correcting, after};
-ghost use Rattle.tb_core.specs.Reaching.{IsReachable};
-ghost use Rattle.tb_refine.specs.DeskTables.{tables_of, IsDeskOf};
-ghost use Rattle.tb_refine.specs.Recorded.{IsWritten};
+ghost use Rattle.tb_commands.specs.Prelude.{after, AnyRefusal, AreStored, BlamesNoDevice, BlockText, correcting};
+ghost use Rattle.tb_commands.specs.Prelude.{HasCleanDisk, HasRevisionRowids, IsAllowed, IsDeskOf, IsReachable, IsShort};
+ghost use Rattle.tb_commands.specs.Prelude.{IsWritten, KeepsRecordsOnErr, Machine, Sentence, state, Survives};
+ghost use Rattle.tb_commands.specs.Prelude.{tables_of};
 ghost use Rattle.tb_commands.specs.Correcting.{IsMadeRevision};
-ghost use Rattle.tb_tables.specs.Changes.{HasRevisionRowids};
-ghost use Rattle.tb_tables.specs.Failing.{IsShort};
-ghost use Rattle.tb_tables.specs.Leaving.{KeepsRecordsOnErr};
-ghost use Rattle.tb_refine.specs.Calls.{BlamesNoDevice};
 
 use sqlite::{Alter, Connection};
 use tb_core::{Fault, reached_states_are_well};

@@ -2,29 +2,16 @@
 
 ghost use Rattle.std.specs.Prelude.{◌≡◌, ◌≢◌, ℕ, ◌+◌, ◌-◌, ◌^◌, ◌<◌, ◌≤◌, List, [], is_ok, ◌∷◌, length, None, Some};
 ghost use Rattle.std.specs.Prelude.{Err, slice_get, string_bytes, false, IfOk, IfSome, IfErr};
-ghost use Rattle.sqlite.specs.State.{HasCleanDisk};
-ghost use Rattle.sqlite.specs.Held.{state};
-ghost use Rattle.tb_conllu.specs.Text.{text_of};
-ghost use Rattle.tb_tables.specs.Records.{AreStored};
-ghost use Rattle.tb_core.specs.declared.limits.Limits.{Limits as AnyLimits};
-ghost use Rattle.tb_core.specs.declared.refusals.Refusal.{Refusal as AnyRefusal};
-ghost use Rattle.tb_core.specs.Machine.{Machine, Sentence};
-ghost use Rattle.tb_core.specs.Acts.{correcting, IsAllowed, after};
-ghost use Rattle.tb_core.specs.Reaching.{Reached, IsReachable};
-ghost use Rattle.tb_core.specs.Commands.{Answer, correct as correct_it, replied, refused as refused_by, reply_to};
-ghost use Rattle.tb_core.specs.Steps.{Steps};
-ghost use Rattle.tb_refine.specs.DeskTables.{tables_of, IsDeskOf};
-ghost use Rattle.tb_core.specs.Found.{LacksSentence};
-ghost use Rattle.tb_core.specs.Parts.{IsNamedCorrection};
-ghost use Rattle.tb_refine.specs.Counted.{IsWithin, IsCounted};
+ghost use Rattle.tb_commands.specs.Prelude.{after, Answer, AnyLimits, AnyRefusal, AreStored, BlamesNoDevice};
+ghost use Rattle.tb_commands.specs.Prelude.{correct_it, correcting, CrashesTo, FailsOnlyAs, HasCleanDisk};
+ghost use Rattle.tb_commands.specs.Prelude.{HasRoomIfWritten, IsAllowed, IsCounted, IsDeskOf, IsFaultless};
+ghost use Rattle.tb_commands.specs.Prelude.{IsNamedCorrection, IsNoDevice, IsReachable, IsReadOnly, IsWithin};
+ghost use Rattle.tb_commands.specs.Prelude.{KeepsRecordsOnErr, KnowsDeskWhere, LacksSentence, Machine, Reached};
+ghost use Rattle.tb_commands.specs.Prelude.{refused_by, RefusesAs, replied, reply_to, Sentence, state, Steps};
+ghost use Rattle.tb_commands.specs.Prelude.{tables_of, Tells, text_of};
 ghost use Rattle.tb_commands.specs.Correcting.{PlanText, IsCurrentRead, IsPlannedCorrection, Decides, Corrects};
 ghost use Rattle.tb_commands.specs.Correcting.{current_seen, correction_move};
 ghost use Rattle.tb_commands.specs.ReadOf.{fault_of_stored};
-ghost use Rattle.tb_refine.specs.Calls.{CrashesTo, KnowsDeskWhere, RefusesAs, Tells, BlamesNoDevice};
-ghost use Rattle.tb_refine.specs.Room.{HasRoomIfWritten};
-ghost use Rattle.tb_tables.specs.Leaving.{KeepsRecordsOnErr, IsFaultless, FailsOnlyAs};
-ghost use Rattle.tb_reads.specs.ReadOnly.{IsReadOnly};
-ghost use Rattle.tb_refine.specs.Faults.{IsNoDevice};
 
 use crate::committing;
 use crate::finding::{SentenceRead, find_sentence};

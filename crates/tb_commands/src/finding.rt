@@ -2,17 +2,10 @@
 
 ghost use Rattle.std.specs.Prelude.{◌≡◌, ◌≢◌, ◌-◌, ◌<◌, Some, None, Err, slice_get, option_map, is_ok, string_bytes};
 ghost use Rattle.std.specs.Prelude.{IfOk, IfErr};
-ghost use Rattle.sqlite.specs.Held.{state};
-ghost use Rattle.tb_core.specs.declared.refusals.Refusal.{Refusal as AnyRefusal};
-ghost use Rattle.tb_core.specs.declared.kinds.State.{State as AnyState};
-ghost use Rattle.tb_core.specs.Machine.{Batch, Sentence};
-ghost use Rattle.tb_refine.specs.Numbers.{state_number};
-ghost use Rattle.tb_core.specs.Found.{FindsBatch};
+ghost use Rattle.tb_commands.specs.Prelude.{AnyRefusal, AnyState, Batch, FailsOnlyAs, FindsBatch, IsFaultless};
+ghost use Rattle.tb_commands.specs.Prelude.{IsNoDevice, IsReadOnly, KnowsDesk, KnowsDeskWhere, Sentence, state};
+ghost use Rattle.tb_commands.specs.Prelude.{state_number, Tells};
 ghost use Rattle.tb_commands.specs.ReadOf.{IsSentenceRead};
-ghost use Rattle.tb_refine.specs.Calls.{KnowsDesk, KnowsDeskWhere, Tells};
-ghost use Rattle.tb_tables.specs.Leaving.{IsFaultless, FailsOnlyAs};
-ghost use Rattle.tb_reads.specs.ReadOnly.{IsReadOnly};
-ghost use Rattle.tb_refine.specs.Faults.{IsNoDevice};
 
 use sqlite::{Alter, Connection};
 use tb_core::{Fault, State, reached_states_are_well};

@@ -2,27 +2,15 @@
 
 ghost use Rattle.std.specs.Prelude.{ℕ, ◌≡◌, ◌≢◌, ◌+◌, ◌-◌, ◌≤◌, length, Some, None, Err, is_ok};
 ghost use Rattle.std.specs.Prelude.{slice_get, option_map, string_bytes, IfOk, IfErr, IsOk, OnOk, false, List};
-ghost use Rattle.sqlite.specs.Held.{state};
-ghost use Rattle.tb_tables.specs.Records.{AreStored};
-ghost use Rattle.tb_tables.specs.Changes.{Holds};
-ghost use Rattle.tb_core.specs.declared.refusals.Refusal.{Refusal as AnyRefusal};
-ghost use Rattle.tb_core.specs.declared.kinds.Event.{Event as AnyEvent};
-ghost use Rattle.tb_core.specs.declared.kinds.Worker.{Worker as AnyWorker};
-ghost use Rattle.tb_core.specs.Events.{makes_worker};
-ghost use Rattle.tb_core.specs.Machine.{Machine, Batch, weigh, at_work, one, words};
-ghost use Rattle.tb_core.specs.Acts.{stepping, with_worker, IsAllowed, after};
-ghost use Rattle.tb_core.specs.Reaching.{Reached, IsReachable};
-ghost use Rattle.tb_core.specs.Commands.{Answer, event_on, replied, refused as refused_by, moved_on, reply_to};
-ghost use Rattle.tb_core.specs.Steps.{Steps};
-ghost use Rattle.tb_refine.specs.DeskTables.{tables_of, IsDeskOf};
-ghost use Rattle.tb_core.specs.Found.{FindsBatch};
-ghost use Rattle.tb_refine.specs.Counted.{IsWithin, IsCounted};
+ghost use Rattle.tb_commands.specs.Prelude.{after, Answer, AnyEvent, AnyRefusal, AnyWorker, AreStored, at_work, Batch};
+ghost use Rattle.tb_commands.specs.Prelude.{BlamesNoDevice, CrashesTo, event_on, FailsOnlyAs, FindsBatch, Holds};
+ghost use Rattle.tb_commands.specs.Prelude.{IsAllowed, IsCounted, IsDeskOf, IsFaultless, IsNoDevice, IsReachable};
+ghost use Rattle.tb_commands.specs.Prelude.{IsReadOnly, IsWithin, KeepsRecordsOnErr, KnowsDeskWhere, Machine};
+ghost use Rattle.tb_commands.specs.Prelude.{makes_worker, moved_on, one, Reached, refused_by, RefusesAs, replied};
+ghost use Rattle.tb_commands.specs.Prelude.{reply_to, state, stepping, Steps, tables_of, Tells, TellsOnOk, weigh};
+ghost use Rattle.tb_commands.specs.Prelude.{with_worker, words};
 ghost use Rattle.tb_commands.specs.Working.{IsDone};
 ghost use Rattle.tb_commands.specs.Stepping.{seen_of, event_move, IsPlanned};
-ghost use Rattle.tb_refine.specs.Calls.{CrashesTo, KnowsDeskWhere, RefusesAs, Tells, TellsOnOk, BlamesNoDevice};
-ghost use Rattle.tb_tables.specs.Leaving.{KeepsRecordsOnErr, IsFaultless, FailsOnlyAs};
-ghost use Rattle.tb_reads.specs.ReadOnly.{IsReadOnly};
-ghost use Rattle.tb_refine.specs.Faults.{IsNoDevice};
 
 use crate::finding::{BatchRead, find_batch};
 use crate::working::{Sums, find_work};

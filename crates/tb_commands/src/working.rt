@@ -1,22 +1,15 @@
 //! The part of a batch that its events move: its sentences that are not pulled.
 
-ghost use Rattle.std.specs.Prelude.{◌≡◌, ◌≢◌, ◌<◌, ◌≤◌, ◌+◌, ◌^◌, length, Err, sum_by, is_ok, map, IfOk, IfErr};
-ghost use Rattle.sqlite_trees.specs.Tree.{IsAscending};
-ghost use Rattle.tb_core.specs.declared.refusals.Refusal.{Refusal as AnyRefusal};
-ghost use Rattle.tb_core.specs.Machine.{weigh, at_work, one, words};
-ghost use Rattle.tb_refine.specs.DeskTables.{sentence_record};
-ghost use Rattle.tb_reads.specs.Found.{work_of};
-ghost use Rattle.tb_reads.specs.ReadOnly.{IsReadOnly};
+ghost use Rattle.std.specs.Prelude.{◌≡◌, ◌≢◌, ◌<◌, ◌≤◌, ◌+◌, ◌^◌, length, Err, sum_by, is_ok, IfOk, IfErr};
+ghost use Rattle.tb_commands.specs.Prelude.{AnyRefusal, at_work, FailsOnlyAs, IsAscending, IsFaultless, IsNoDevice};
+ghost use Rattle.tb_commands.specs.Prelude.{IsReadOnly, KnowsDesk, one, Tells, weigh, words};
 ghost use Rattle.tb_commands.specs.Working.{unless_pulled, each_one, its_words};
-ghost use Rattle.tb_refine.specs.Calls.{KnowsDesk, Tells};
-ghost use Rattle.tb_tables.specs.Leaving.{IsFaultless, FailsOnlyAs};
-ghost use Rattle.tb_refine.specs.Faults.{IsNoDevice};
 
 use sqlite::{Alter, Connection};
 use std::alloc::Global;
 use tb_core::{Fault, reached_states_are_well};
 use tb_reads::BatchSentence;
-use tb_refine::{desk_rows_are_readable, desk_rows_fit, faults, is_among, read_pulled};
+use tb_refine::{is_among, read_pulled, read_work};
 
 /// How many sentences, and the words of their current revisions.
 #[derive(Clone, Copy, Debug)]
@@ -84,25 +77,6 @@ fn sums_of(work: &[BatchSentence], pulled: &[u32]) -> Result<Sums, Fault>
         sums = with_work(sums, item, pulled)?;
     }
     Ok(sums)
-}
-
-/// The sentences of the batch with this number.
-fn read_work<S: Alter>(
-    alloc: Global,
-    conn: &mut Connection<S>,
-    number: u32,
-) -> Result<Vec<BatchSentence>, Fault>
-    ensures answered { Tells S.Store conn.old conn.new result (λ s v.
-        v.items ≡ work_of number 1 (map sentence_record s.sentences)) }
-    ensures never_refuses { (r : AnyRefusal) → result ≢ Err (Fault.Refused r) }
-    ensures output { result ≢ Err Fault.Output }
-    ensures fails { KnowsDesk S.Store conn.old conn.new result }
-    ensures cause { IsFaultless S.Store conn.old conn.new → FailsOnlyAs IsNoDevice S.Store conn.old conn.new result }
-    ensures read_only { IsReadOnly S.Store conn.old conn.new (is_ok result) }
-{
-    desk_rows_fit();
-    desk_rows_are_readable();
-    faults::reported(tb_reads::sentences_of(alloc, conn, number))
 }
 
 /// How many sentences of the batch with this number, from 1, are not pulled, and their words.

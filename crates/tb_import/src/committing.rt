@@ -1,7 +1,6 @@
 //! Writes an accepted import in one transaction, after which the tables store the next state.
 
-ghost use Rattle.std.specs.Prelude.{◌≡◌, ◌≢◌, ◌+◌, ◌^◌, ◌<◌, List, length, Err, None, false};
-ghost use Rattle.std.specs.Prelude.{OnOk};
+ghost use Rattle.std.specs.Prelude.{◌≡◌, ◌≢◌, ◌+◌, ◌^◌, ◌<◌, List, length, Err, None, false, OnOk};
 ghost use Rattle.tb_import.specs.Prelude.{after, AnyRefusal, AreStored, BlamesNoDevice, BlockText, HasCleanDisk};
 ghost use Rattle.tb_import.specs.Prelude.{HasRevisionRowids, importing, IsAllowed, IsDeskOf, IsReachable, IsShort};
 ghost use Rattle.tb_import.specs.Prelude.{IsWritten, KeepsRecordsOnErr, Machine, state, Survives, tables_of, text_of};

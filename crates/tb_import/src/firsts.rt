@@ -1,7 +1,6 @@
 //! Compares a text with the first revisions of sentences.
 
-ghost use Rattle.std.specs.Prelude.{◌≡◌, ◌≢◌, ◌++◌, ◌∷◌, [], ℕ, List, None, Err, IfOk, OnOk};
-ghost use Rattle.std.specs.Prelude.{MatchOption, string_bytes};
+ghost use Rattle.std.specs.Prelude.{◌≡◌, ◌≢◌, ◌++◌, ◌∷◌, [], ℕ, List, None, Err, IfOk, OnOk, MatchOption, string_bytes};
 ghost use Rattle.tb_import.specs.Prelude.{AnyRefusal, BlockText, FailsOnlyAs, HasCleanDisk, IsDeskOf, IsFaultless};
 ghost use Rattle.tb_import.specs.Prelude.{IsNoDevice, Machine, state, text_of};
 ghost use Rattle.tb_import.specs.Leaving.{IsLeft, Stays};

@@ -1,7 +1,6 @@
 //! An import, from its name to its commit.
 
-ghost use Rattle.std.specs.Prelude.{◌≡◌, ◌≢◌, ◌+◌, ◌≤◌, ℕ, List, length, map, None, Err, false};
-ghost use Rattle.std.specs.Prelude.{IfOk, IfSome, OnOk};
+ghost use Rattle.std.specs.Prelude.{◌≡◌, ◌≢◌, ◌+◌, ◌≤◌, ℕ, List, length, map, None, Err, false, IfOk, IfSome, OnOk};
 ghost use Rattle.tb_import.specs.Prelude.{after, Answer, AnyRefusal, AreStored, AreTotalsOf, BlamesNoDevice, BlockText};
 ghost use Rattle.tb_import.specs.Prelude.{CrashesTo, FailsOnlyAs, FindsName, HasCleanDisk, HasRevisionRowids};
 ghost use Rattle.tb_import.specs.Prelude.{HasRoomIfWritten, import_file, imported, importing, IsAllowed, IsDeskOf};

@@ -1,7 +1,6 @@
 //! Whether a batch has the name of an import, and whether the import made it.
 
-ghost use Rattle.std.specs.Prelude.{◌≡◌, ◌≢◌, ◌<◌, ◌≤◌, ◌+◌, ℕ, List, map, length, sum_by};
-ghost use Rattle.std.specs.Prelude.{None, Err, IfOk, OnOk};
+ghost use Rattle.std.specs.Prelude.{◌≡◌, ◌≢◌, ◌<◌, ◌≤◌, ◌+◌, ℕ, List, map, length, sum_by, None, Err, IfOk, OnOk};
 ghost use Rattle.std.specs.Prelude.{IfErr};
 ghost use Rattle.tb_import.specs.Prelude.{AllByRecursion, AnyRefusal, Batch, FailsOnlyAs, FindsName, first_bodies};
 ghost use Rattle.tb_import.specs.Prelude.{HasBatch, HasCleanDisk, import_reply, imported, IsDeskOf, IsFaultless};
@@ -16,26 +15,7 @@ use sqlite::{Alter, Connection};
 use std::alloc::Global;
 use tb_core::{Fault, Imported, NameFound, reached_states_are_well};
 use tb_reads::BatchSentence;
-use tb_refine::{batch_number, desk_rows_are_readable, faults};
-
-/// The sentences of the batch with this number, pulled ones too.
-fn read_work<S: Alter>(
-    alloc: Global,
-    conn: &mut Connection<S>,
-    number: u32,
-) -> Result<Vec<BatchSentence>, Fault>
-    ensures answered { Tells S.Store conn.old conn.new result (λ s v.
-        v.items ≡ work_of number 1 (map sentence_record s.sentences)) }
-    ensures never_refuses { (r : AnyRefusal) → result ≢ Err (Fault.Refused r) }
-    ensures output { result ≢ Err Fault.Output }
-    ensures fails { KnowsDesk S.Store conn.old conn.new result }
-    ensures cause { IsFaultless S.Store conn.old conn.new → FailsOnlyAs IsNoDevice S.Store conn.old conn.new result }
-    ensures stays { OnOk result (Stays S.Store conn.old conn.new) }
-    ensures left { IsLeft S.Store conn.old conn.new }
-{
-    desk_rows_are_readable();
-    faults::reported(tb_reads::sentences_of(alloc, conn, number))
-}
+use tb_refine::{batch_number, read_work};
 
 /// The reply to the import that made the batch with this number. `work` are its sentences, and `words` the number of
 /// words in their first revisions.

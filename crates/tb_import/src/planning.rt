@@ -1,8 +1,7 @@
 //! What an accepted import writes and answers.
 
-ghost use Rattle.std.specs.Prelude.{◌≡◌, ◌≢◌, ◌+◌, ◌^◌, ◌≤◌, ◌<◌, List, ℕ, map, length};
-ghost use Rattle.std.specs.Prelude.{sum_by, string_bytes, Err, IfOk};
-ghost use Rattle.std.specs.Prelude.{IfErr};
+ghost use Rattle.std.specs.Prelude.{◌≡◌, ◌≢◌, ◌+◌, ◌^◌, ◌≤◌, ◌<◌, List, ℕ, map, length, sum_by, string_bytes, Err};
+ghost use Rattle.std.specs.Prelude.{IfOk, IfErr};
 ghost use Rattle.tb_import.specs.Prelude.{after, AllByRecursion, AnyRefusal, BlockText, importing, IsAllowed};
 ghost use Rattle.tb_import.specs.Prelude.{IsNoDevice, IsPrepared, IsReachable, Machine, NewSentenceText, Reached};
 ghost use Rattle.tb_import.specs.Prelude.{taken_of};

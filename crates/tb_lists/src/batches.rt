@@ -1,7 +1,7 @@
 //! A batch, as a list shows it.
 
 ghost use Rattle.std.specs.Prelude.{◌≡◌, ◌≢◌, Err, IfErr, IfOk, List, map, string_bytes};
-ghost use Rattle.tb_lists.specs.Prelude.{AnyRefusal, Batch, batch_of, batch_record, IsNoDevice, State as AnyState};
+ghost use Rattle.tb_lists.specs.Prelude.{AnyRefusal, State as AnyState, Batch, batch_of, batch_record, IsNoDevice};
 ghost use Rattle.tb_lists.specs.Prelude.{state_number};
 ghost use Rattle.tb_lists.specs.Batches.{BatchText};
 ghost use Rattle.tb_lists.specs.Counted.{line_with, lines_with};

@@ -1,7 +1,6 @@
 //! What each batch holds, counted in one walk over the rows of all sentences.
 
-ghost use Rattle.std.specs.Prelude.{◌≡◌, ◌+◌, ◌<◌, ◌^◌, IfErr, IfOk, length, replicate, slice_index_or};
-ghost use Rattle.std.specs.Prelude.{◌-◌, slice_set};
+ghost use Rattle.std.specs.Prelude.{◌≡◌, ◌+◌, ◌<◌, ◌^◌, IfErr, IfOk, length, replicate, slice_index_or, ◌-◌, slice_set};
 ghost use Rattle.tb_lists.specs.Prelude.{AllByRecursion, IsAscending};
 ghost use Rattle.tb_lists.specs.Counted.{IsOfSoMany, change_of, count_all, counted, first_seen, no_count};
 

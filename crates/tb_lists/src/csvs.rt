@@ -2,10 +2,9 @@
 
 ghost use Rattle.std.specs.Prelude.{◌≡◌, [], ◌∷◌, Err, IfErr, IfOk, IsOk, OnErr, OnOk, map};
 ghost use Rattle.tb_lists.specs.Prelude.{Appends, AppendsPart, IsRefused, kind_word, PutsRows, state_word};
-ghost use Rattle.tb_lists.specs.Csv.{batch_fields, batches_csv, batches_head};
-ghost use Rattle.tb_lists.specs.Csv.{found_csv, found_fields, found_head};
-ghost use Rattle.tb_lists.specs.Csv.{revision_fields, revisions_csv, revisions_head};
-ghost use Rattle.tb_lists.specs.Csv.{sentence_fields, sentences_csv, sentences_head, yes_or_no};
+ghost use Rattle.tb_lists.specs.Csv.{batch_fields, batches_csv, batches_head, found_csv, found_fields, found_head};
+ghost use Rattle.tb_lists.specs.Csv.{revision_fields, revisions_csv, revisions_head, sentence_fields, sentences_csv};
+ghost use Rattle.tb_lists.specs.Csv.{sentences_head, yes_or_no};
 
 use crate::batches::BatchLine;
 use crate::found::FoundLine;

@@ -1,3 +1,4 @@
+pub mod Prelude
 pub mod Faults
 pub mod Revisions
 pub mod Finding

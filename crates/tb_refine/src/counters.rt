@@ -1,7 +1,7 @@
 //! What a desk keeps beside its tables.
 
 ghost use Rattle.std.specs.Prelude.{◌≡◌, ◌≢◌, ◌+◌, ◌<◌, ◌≤◌, Err, IfOk, IfErr};
-ghost use Rattle.tb_core.specs.declared.refusals.Refusal.{Refusal as AnyRefusal};
+ghost use Rattle.tb_refine.specs.Prelude.{AnyRefusal};
 ghost use Rattle.tb_refine.specs.Faults.{IsNoDevice};
 
 use tb_core::{Fault, Limits, Totals};

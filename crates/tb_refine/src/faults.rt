@@ -1,7 +1,7 @@
 //! The faults that callers see for errors of the database and of reads.
 
 ghost use Rattle.std.specs.Prelude.{◌≡◌, ◌≢◌, ◌⊎◌, Err};
-ghost use Rattle.tb_core.specs.declared.refusals.Refusal.{Refusal};
+ghost use Rattle.tb_refine.specs.Prelude.{AnyRefusal as Refusal};
 ghost use Rattle.tb_refine.specs.Faults.{fault_of_code, fault_of_error, fault_of_read, fault_of_making};
 ghost use Rattle.tb_refine.specs.Faults.{reported_by, reported_of_row};
 

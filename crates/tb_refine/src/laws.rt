@@ -3,14 +3,11 @@
 //! Where the tables store a reached state, they store the next state after an accepted command wrote its changes.
 
 ghost use Rattle.std.specs.Prelude.{◌≡◌, ◌↔◌, ◌+◌, ◌-◌, ℕ, List, Some, true, slice_get, Contains};
-ghost use Rattle.sqlite.specs.Tree.{Trees};
-ghost use Rattle.tb_conllu.specs.Text.{BlockText};
-ghost use Rattle.tb_core.specs.declared.kinds.Event.{Event};
-ghost use Rattle.tb_core.specs.declared.kinds.State.{State};
-ghost use Rattle.tb_core.specs.Acts.{IsAllowed, importing, stepping, correcting, pulling, restoring, after};
-ghost use Rattle.tb_core.specs.Machine.{Machine, rev, Batch as StandingBatch, Sentence as StandingSentence};
-ghost use Rattle.tb_core.specs.Reaching.{Reached, IsReachable};
-ghost use Rattle.tb_tables.specs.Records.{Tables, Batch, Sentence, Revision, Total, AreStored};
+ghost use Rattle.tb_refine.specs.Prelude.{after, AreStored, BlockText, correcting, Event, importing, IsAllowed};
+ghost use Rattle.tb_refine.specs.Prelude.{IsReachable, Machine, pulling, Reached, restoring, rev};
+ghost use Rattle.tb_refine.specs.Prelude.{Batch as StandingBatch, Sentence as StandingSentence, AnyState as State};
+ghost use Rattle.tb_refine.specs.Prelude.{stepping, Tables, Total, Trees};
+ghost use Rattle.tb_tables.specs.Records.{Batch, Sentence, Revision};
 ghost use Rattle.tb_refine.specs.Fitting.{IsFitting, IsReadable};
 ghost use Rattle.tb_refine.specs.Numbers.{state_number};
 ghost use Rattle.tb_refine.specs.DeskTables.{tables_of, batch_record, sentence_record, total_record};

@@ -2,7 +2,7 @@
 //!
 //! Read `specs/DeskTables.antt` first, which relates tables and states, and then the laws in `laws.rt`. The rest is
 //! what commands and questions share: the counts that a desk keeps in memory, the next move, the totals, names and
-//! faults; rows by their numbers, moves, and the pulled sentences.
+//! faults; rows by their numbers, moves, and the sentences that are pulled or of a batch.
 #![tactic(auto)]
 
 mod counters;
@@ -27,8 +27,8 @@ pub use numbers::{
 };
 pub use preparing::{PreparedMove, prepare};
 pub use reading::{
-    all_moves, batch_number, batch_row, is_among, is_pulled, is_taken, read_pulled, revision_row,
-    sentence_number, sentence_row,
+    all_moves, batch_number, batch_row, is_among, is_pulled, is_taken, read_pulled, read_work,
+    revision_row, sentence_number, sentence_row,
 };
 pub use recording::{narrow, record};
 pub use totals::stored_totals;

@@ -1,9 +1,7 @@
 //! Rows of the table of moves, as moves of the machine.
 
 ghost use Rattle.std.specs.Prelude.{◌≡◌, ◌≢◌, List, map, Err, IfOk, IfErr};
-ghost use Rattle.tb_core.specs.declared.refusals.Refusal.{Refusal as AnyRefusal};
-ghost use Rattle.tb_core.specs.Moves.{MoveText};
-ghost use Rattle.tb_tables.specs.Values.{move_of};
+ghost use Rattle.tb_refine.specs.Prelude.{AnyRefusal, move_of, MoveText};
 ghost use Rattle.tb_refine.specs.DeskTables.{move_record};
 ghost use Rattle.tb_refine.specs.Numbers.{state_number, from_number, kind_number};
 ghost use Rattle.tb_refine.specs.Numbered.{AreNumbered};

@@ -1,8 +1,7 @@
 //! The numbers that the tables store for states and kinds of moves. Nothing here takes memory.
 
 ghost use Rattle.std.specs.Prelude.{◌≡◌, ◌↔◌, Option as AnyOption, Some as some_of};
-ghost use Rattle.tb_core.specs.declared.kinds.State.{State as AnyState};
-ghost use Rattle.tb_core.specs.declared.kinds.Kind.{Kind as AnyKind};
+ghost use Rattle.tb_refine.specs.Prelude.{AnyKind, AnyState};
 ghost use Rattle.tb_refine.specs.Numbers.{state_number, from_number, kind_number};
 
 use tb_core::{Event, Kind, State};

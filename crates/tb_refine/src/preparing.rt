@@ -1,11 +1,7 @@
 //! The rows that every accepted command writes, and the totals after it.
 
 ghost use Rattle.std.specs.Prelude.{◌≡◌, ◌≢◌, Err, IfOk, IfErr};
-ghost use Rattle.tb_core.specs.declared.refusals.Refusal.{Refusal as AnyRefusal};
-ghost use Rattle.tb_core.specs.Machine.{Machine};
-ghost use Rattle.tb_core.specs.Acts.{Act, IsAllowed, after};
-ghost use Rattle.tb_core.specs.Acts.{move_of as move_made};
-ghost use Rattle.tb_core.specs.Reaching.{Reached, IsReachable};
+ghost use Rattle.tb_refine.specs.Prelude.{Act, after, AnyRefusal, IsAllowed, IsReachable, Machine, move_made, Reached};
 ghost use Rattle.tb_refine.specs.Counted.{IsCounted, IsPrepared};
 ghost use Rattle.tb_refine.specs.Faults.{IsNoDevice};
 

@@ -1,22 +1,14 @@
-//! Reads of a desk: what has a name, what stands at a number, the pulled sentences and the moves. No read changes
-//! anything, also after an error, and none is refused.
+//! Reads of a desk: what has a name, what stands at a number, the sentences of a batch, the pulled ones and the moves.
+//! No read changes anything, also after an error, and none is refused.
 //!
 //! Of each read, `NotADesk` comes, with no limit on steps, only where the store is no desk; else want of memory or a fault
 //! of the device.
 
-ghost use Rattle.std.specs.Prelude.{◌≡◌, ◌≢◌, ◌-◌, ◌<◌, ◌∷◌, [], Err, MatchBool, Some, false, is_ok, map};
-ghost use Rattle.std.specs.Prelude.{slice_get, string_bytes};
-ghost use Rattle.sqlite_trees.specs.Tree.{IsAscending};
-ghost use Rattle.tb_conllu.specs.Text.{text_of};
-ghost use Rattle.tb_core.specs.declared.refusals.Refusal.{Refusal as AnyRefusal};
-ghost use Rattle.tb_core.specs.Names.{Lacks};
-ghost use Rattle.tb_core.specs.Machine.{Batch, Sentence, Revision};
-ghost use Rattle.tb_core.specs.Acts.{ids_of};
-ghost use Rattle.tb_core.specs.Rows.{pulled_from};
-ghost use Rattle.tb_tables.specs.Values.{batch_of, move_of, sentence_of};
-ghost use Rattle.tb_tables.specs.Leaving.{IsFaultless, FailsOnlyAs};
-ghost use Rattle.tb_reads.specs.Found.{IsNumberOf};
-ghost use Rattle.tb_reads.specs.ReadOnly.{IsReadOnly};
+ghost use Rattle.std.specs.Prelude.{◌≡◌, ◌≢◌, ◌-◌, ◌<◌, ◌∷◌, [], Err, MatchBool, Some, is_ok, map, slice_get};
+ghost use Rattle.std.specs.Prelude.{string_bytes};
+ghost use Rattle.tb_refine.specs.Prelude.{AnyRefusal, Batch, batch_of, FailsOnlyAs, ids_of, IsAscending, IsFaultless};
+ghost use Rattle.tb_refine.specs.Prelude.{IsNumberOf, IsReadOnly, Lacks, move_of, pulled_from, Revision, Sentence};
+ghost use Rattle.tb_refine.specs.Prelude.{sentence_of, text_of, work_of};
 ghost use Rattle.tb_refine.specs.Calls.{KnowsDesk, KnowsDeskWhere, Tells};
 ghost use Rattle.tb_refine.specs.DeskTables.{batch_record, move_record, sentence_record};
 ghost use Rattle.tb_refine.specs.Faults.{IsNoDevice};
@@ -28,6 +20,7 @@ use crate::{desk_rows_are_readable, desk_rows_fit, faults, one_list_for_the_rows
 use sqlite::{Alter, Connection};
 use std::alloc::Global;
 use tb_core::{Fault, Move};
+use tb_reads::BatchSentence;
 use tb_tables::{BatchRow, MoveRow, RevisionRow, SentenceRow};
 
 /// The number of the batch with this name, from 1, or none where no batch has it.
@@ -152,6 +145,25 @@ pub fn read_pulled<S: Alter>(alloc: Global, conn: &mut Connection<S>) -> Result<
 {
     desk_rows_are_readable();
     faults::reported(tb_reads::pulled(alloc, conn))
+}
+
+/// The sentences of the batch with this number, pulled ones too.
+pub fn read_work<S: Alter>(
+    alloc: Global,
+    conn: &mut Connection<S>,
+    number: u32,
+) -> Result<Vec<BatchSentence>, Fault>
+    ensures answered { Tells S.Store conn.old conn.new result (λ s v.
+        v.items ≡ work_of number 1 (map sentence_record s.sentences)) }
+    ensures never_refuses { (r : AnyRefusal) → result ≢ Err (Fault.Refused r) }
+    ensures output { result ≢ Err Fault.Output }
+    ensures fails { KnowsDesk S.Store conn.old conn.new result }
+    ensures cause { IsFaultless S.Store conn.old conn.new → FailsOnlyAs IsNoDevice S.Store conn.old conn.new result }
+    ensures read_only { IsReadOnly S.Store conn.old conn.new (is_ok result) }
+{
+    desk_rows_fit();
+    desk_rows_are_readable();
+    faults::reported(tb_reads::sentences_of(alloc, conn, number))
 }
 
 /// Whether the sentence with this number, from 1, which exists, is pulled.

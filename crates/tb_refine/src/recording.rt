@@ -1,11 +1,7 @@
 //! The last writes of every accepted act: its move, and the totals that the move changes.
 
 ghost use Rattle.std.specs.Prelude.{◌≡◌, ◌≢◌, ◌<◌, ◌^◌, Some, Err, slice_index, IfOk, IfErr};
-ghost use Rattle.tb_core.specs.declared.kinds.State.{State as AnyState};
-ghost use Rattle.tb_core.specs.declared.refusals.Refusal.{Refusal as AnyRefusal};
-ghost use Rattle.tb_core.specs.declared.sums.Totals.{Totals as AnyTotals};
-ghost use Rattle.tb_core.specs.Totals.{Takes, IsApplied};
-ghost use Rattle.tb_tables.specs.Values.{move_of};
+ghost use Rattle.tb_refine.specs.Prelude.{AnyRefusal, AnyState, AnyTotals, IsApplied, move_of, Takes};
 ghost use Rattle.tb_refine.specs.DeskTables.{move_record};
 ghost use Rattle.tb_refine.specs.Recorded.{IsTotalOf, IsChangeOf, AreNarrow, IsNarrowMove};
 ghost use Rattle.tb_refine.specs.Faults.{IsNoDevice};

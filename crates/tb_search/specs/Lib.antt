@@ -1,3 +1,4 @@
+pub mod Prelude
 pub mod Released
 pub mod Picked
 pub mod Visited

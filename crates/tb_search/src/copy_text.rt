@@ -1,8 +1,7 @@
 //! Writes texts as they are stored.
 
 ghost use Rattle.std.specs.Prelude.{◌≡◌, Err};
-ghost use Rattle.std.specs.Io.KnownBytes.{Appends};
-ghost use Rattle.tb_conllu.specs.Sunk.{AppendsPart};
+ghost use Rattle.tb_search.specs.Prelude.{Appends, AppendsPart};
 
 use crate::stopped::Stopped;
 use crate::visitor::BodyVisitor;
@@ -14,8 +13,7 @@ pub(crate) struct CopyText;
 
 impl<W: Sink> BodyVisitor<W> for CopyText {
     ghost use Rattle.std.specs.Prelude.{◌≡◌};
-    ghost use Rattle.std.specs.Io.KnownBytes.{Appends};
-    ghost use Rattle.tb_conllu.specs.Sunk.{AppendsPart};
+    ghost use Rattle.tb_search.specs.Prelude.{Appends, AppendsPart};
     ghost use Rattle.tb_search.specs.declared.stopped.Stopped.TheVariants.{Output};
     ghost use Rattle.tb_search.specs.Visited.{HasReason};
 

@@ -14,7 +14,7 @@ pub(crate) struct CountHits<'q> {
 
 impl<'q> BodyVisitor<u64> for CountHits<'q> {
     ghost use Rattle.std.specs.Prelude.{◌≡◌, ◌+◌, length};
-    ghost use Rattle.tb_conllu.specs.Text.{BlockText};
+    ghost use Rattle.tb_search.specs.Prelude.{BlockText};
     ghost use Rattle.tb_search.specs.Visited.{IsFault};
     ghost use Rattle.tb_search.specs.Searched.{IsValidText, Meets};
 

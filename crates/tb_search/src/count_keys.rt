@@ -2,10 +2,8 @@
 
 ghost use Rattle.std.specs.Prelude.{◌≡◌, ◌≢◌, ◌<◌, ◌≤◌, ◌-◌, ◌^◌, ◌++◌, ◌∷◌, [], ℕ, All, List, Err, IfErr, IsOk, OnOk};
 ghost use Rattle.std.specs.Prelude.{map};
+ghost use Rattle.tb_search.specs.Prelude.{count_in, IsTableOf, key_of, total_of, words_of};
 ghost use Rattle.sqlite.specs.declared.error.ErrorCode.TheVariants.{OutOfMemory};
-ghost use Rattle.tb_conllu.specs.Words.{words_of};
-ghost use Rattle.tb_report.specs.Keywords.{key_of};
-ghost use Rattle.tb_report.specs.Tables.{IsTableOf, count_in, total_of};
 ghost use Rattle.tb_search.specs.Visited.{IsFault, IsStopFault, IsStopWant};
 
 use crate::searcher::{SentenceSearcher, sentence_in};
@@ -101,8 +99,7 @@ pub(crate) struct CountKeys<'q> {
 
 impl<'q> BodyVisitor<Freq> for CountKeys<'q> {
     ghost use Rattle.std.specs.Prelude.{◌≡◌, ◌++◌, ℕ, List};
-    ghost use Rattle.tb_report.specs.Tables.{IsTableOf};
-    ghost use Rattle.tb_conllu.specs.Text.{BlockText};
+    ghost use Rattle.tb_search.specs.Prelude.{BlockText, IsTableOf};
     ghost use Rattle.tb_search.specs.Visited.{IsFault};
     ghost use Rattle.tb_search.specs.Searched.{IsValidText, Meets, keys as keys_of};
 

@@ -1,13 +1,11 @@
 //! Exports the text of released sentences, and that of a batch.
 
 ghost use Rattle.std.specs.Prelude.{◌≡◌, ◌≢◌, nat_eq, Err, is_ok};
-ghost use Rattle.std.specs.Io.KnownBytes.{Appends};
+ghost use Rattle.tb_search.specs.Prelude.{Appends, IsReadOnly, Tells, TellsOnErr, TellsOnOk};
 ghost use Rattle.tb_search.specs.Released.{released, in_batch, current_text, IsCutShort};
 ghost use Rattle.tb_search.specs.Visited.{HasReason};
 ghost use Rattle.tb_search.specs.Picked.{picks_from};
 ghost use Rattle.tb_search.specs.Ending.{StopsForFault, StopsForStore, StopsForWant};
-ghost use Rattle.tb_refine.specs.Calls.{Tells, TellsOnErr, TellsOnOk};
-ghost use Rattle.tb_reads.specs.ReadOnly.{IsReadOnly};
 
 use crate::copy_text::CopyText;
 use crate::picks::{Pick, picks_of};

@@ -2,13 +2,8 @@
 
 ghost use Rattle.std.specs.Prelude.{◌≡◌, ◌≢◌, Err, ◌+◌, ◌<◌, ◌^◌, ◌++◌, ◌∷◌, [], cond, drop, length, map, List, IsTrue};
 ghost use Rattle.std.specs.Prelude.{false, IfOk, IfErr, IsOk};
-ghost use Rattle.tb_core.specs.declared.kinds.State.{State as AnyState};
-ghost use Rattle.tb_core.specs.Events.{is_state};
-ghost use Rattle.tb_core.specs.Machine.{Batch, Sentence, batch_with};
-ghost use Rattle.tb_core.specs.Rows.{pulled_from};
-ghost use Rattle.tb_tables.specs.Values.{batch_of};
-ghost use Rattle.tb_refine.specs.DeskTables.{batch_record, sentence_record};
-ghost use Rattle.tb_reads.specs.Streams.{head_of};
+ghost use Rattle.tb_search.specs.Prelude.{AnyState, Batch, batch_of, batch_record, batch_with, head_of, is_state};
+ghost use Rattle.tb_search.specs.Prelude.{pulled_from, Sentence, sentence_record};
 ghost use Rattle.tb_search.specs.Released.{is_released as is_in_release};
 ghost use Rattle.tb_search.specs.Visited.{IsFault, IsStopFault, IsStopWant};
 ghost use Rattle.tb_search.specs.Picked.{picks_from, begins, pick_of};

@@ -1,14 +1,11 @@
 //! The walk over released text: the current revisions of released sentences, in the order of the sentences' numbers.
 
 ghost use Rattle.std.specs.Prelude.{◌≡◌, ◌≢◌, ◌<◌, ◌^◌, length, map, Err, is_ok};
-ghost use Rattle.tb_refine.specs.DeskTables.{sentence_record};
-ghost use Rattle.tb_reads.specs.Streams.{head_of};
-ghost use Rattle.tb_reads.specs.ReadOnly.{IsReadOnly};
+ghost use Rattle.tb_search.specs.Prelude.{head_of, IsReadOnly, sentence_record, Tells, TellsOnErr, TellsOnOk};
 ghost use Rattle.tb_search.specs.Released.{released, is_released as is_in_release};
 ghost use Rattle.tb_search.specs.Picked.{picks_from};
 ghost use Rattle.tb_search.specs.Visited.{AllTaken, Halted, texts};
 ghost use Rattle.tb_search.specs.Ending.{StopsForFault, StopsForStore, StopsForWant};
-ghost use Rattle.tb_refine.specs.Calls.{Tells, TellsOnErr, TellsOnOk};
 
 use crate::picks::{Pick, released_of};
 use crate::stopped::Stopped;

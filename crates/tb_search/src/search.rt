@@ -1,16 +1,11 @@
 //! Searches released text: its keyword lines, the table of its keys, or the number of hits.
 
 ghost use Rattle.std.specs.Prelude.{◌≡◌, ◌≢◌, List, length, Err, is_ok};
-ghost use Rattle.std.specs.Io.KnownBytes.{Appends};
-ghost use Rattle.tb_conllu.specs.Text.{BlockText};
-ghost use Rattle.tb_match.specs.declared.strategy.Strategy.{Strategy as AnyStrategy};
-ghost use Rattle.tb_query.specs.Search.{Asked};
-ghost use Rattle.tb_report.specs.Tables.{IsTableOf};
+ghost use Rattle.tb_search.specs.Prelude.{AnyStrategy, Appends, Asked, BlockText, IsReadOnly, IsTableOf, Tells};
+ghost use Rattle.tb_search.specs.Prelude.{TellsOnErr};
 ghost use Rattle.tb_search.specs.Visited.{HasReason};
 ghost use Rattle.tb_search.specs.Searched.{AreFound, IsSearchBrokenOff, Occurrence, answer, keys, searched};
 ghost use Rattle.tb_search.specs.Ending.{StopsForFault, StopsForStore, StopsForWant};
-ghost use Rattle.tb_refine.specs.Calls.{Tells, TellsOnErr};
-ghost use Rattle.tb_reads.specs.ReadOnly.{IsReadOnly};
 
 use crate::count_hits::CountHits;
 use crate::count_keys::CountKeys;

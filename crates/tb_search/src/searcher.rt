@@ -1,10 +1,7 @@
 //! Reads sentences back from their texts, and finds hits in them.
 
 ghost use Rattle.std.specs.Prelude.{◌≡◌, ◌≢◌, ◌<◌, ◌≤◌, ◌+◌, ◌^◌, false, All, Err, IfErr, IfOk, [], ◌∷◌, Some, None};
-ghost use Rattle.tb_conllu.specs.Text.{BlockText};
-ghost use Rattle.tb_conllu.specs.Reported.{IsFile};
-ghost use Rattle.tb_conllu.specs.Words.{words_of};
-ghost use Rattle.tb_query.specs.Search.{AreHitsIn};
+ghost use Rattle.tb_search.specs.Prelude.{AreHitsIn, BlockText, IsFile, words_of};
 ghost use Rattle.tb_search.specs.Visited.{IsFault, IsStopFault, IsStopWant};
 
 use crate::stopped::Stopped;

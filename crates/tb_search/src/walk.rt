@@ -1,13 +1,8 @@
 //! The walk over the bodies of all revisions, which visits some of them.
 
 ghost use Rattle.std.specs.Prelude.{◌≡◌, ◌≤◌, List, map, All, IfOk, IfErr, OnOk, MatchBool, true, is_ok, None, Err};
-ghost use Rattle.sqlite.specs.State.{HasCleanDisk};
-ghost use Rattle.sqlite.specs.Held.{state};
-ghost use Rattle.sqlite_trees.specs.Tree.{IsAscending};
-ghost use Rattle.tb_tables.specs.Layout.{desk_schema};
-ghost use Rattle.tb_tables.specs.Records.{Revision, Shows, revision_shown, revision_view};
-ghost use Rattle.tb_reads.specs.Readable.{IsRevision, ComesBefore};
-ghost use Rattle.tb_reads.specs.ReadOnly.{IsReadOnly};
+ghost use Rattle.tb_search.specs.Prelude.{ComesBefore, desk_schema, HasCleanDisk, IsAscending, IsReadOnly, IsRevision};
+ghost use Rattle.tb_search.specs.Prelude.{Revision, revision_shown, revision_view, Shows, state};
 ghost use Rattle.tb_search.specs.Picked.{asks, picked, bodies as bodies_of};
 ghost use Rattle.tb_search.specs.Visited.{AllTaken, Halted, IsStopFault, IsStopWant};
 ghost use Rattle.tb_search.specs.Ending.{WalksUntilWant};

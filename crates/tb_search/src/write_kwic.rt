@@ -1,12 +1,7 @@
 //! Keyword lines of hits.
 
 ghost use Rattle.std.specs.Prelude.{◌≡◌, ◌≢◌, ◌<◌, ◌≤◌, ◌∷◌, [], All, Err, IfErr, IfOk, IsOk, None, OnOk};
-ghost use Rattle.std.specs.Io.KnownBytes.{Appends};
-ghost use Rattle.tb_conllu.specs.Words.{words_of};
-ghost use Rattle.tb_conllu.specs.Sunk.{AppendsPart};
-ghost use Rattle.tb_core.specs.Machine.{sent_id_of};
-ghost use Rattle.tb_report.specs.Keywords.{keyword_line};
-ghost use Rattle.tb_rules.specs.Comments.{only, sent_ids};
+ghost use Rattle.tb_search.specs.Prelude.{Appends, AppendsPart, keyword_line, only, sent_id_of, sent_ids, words_of};
 ghost use Rattle.tb_search.specs.Visited.{HasReason, IsFault, IsStopFault, IsStopWant};
 ghost use Rattle.tb_search.specs.Searched.{AreCut, lines, occurrences, total_line};
 
@@ -134,8 +129,7 @@ pub(crate) struct WriteKwic<'q> {
 
 impl<'q, W: Sink> BodyVisitor<W> for WriteKwic<'q> {
     ghost use Rattle.std.specs.Prelude.{◌≡◌, ◌⊎◌, ◌+◌, length};
-    ghost use Rattle.std.specs.Io.KnownBytes.{Appends};
-    ghost use Rattle.tb_conllu.specs.Text.{BlockText};
+    ghost use Rattle.tb_search.specs.Prelude.{Appends, BlockText};
     ghost use Rattle.tb_search.specs.Visited.{HasReason, IsFault};
     ghost use Rattle.tb_search.specs.Searched.{AreCut, IsValidText, Meets, lines};
 

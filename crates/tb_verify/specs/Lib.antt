@@ -1,3 +1,4 @@
+pub mod Prelude
 pub mod Unfit
 pub mod Course
 pub mod File

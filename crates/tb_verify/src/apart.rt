@@ -1,9 +1,7 @@
 //! Whether batches have good names, no two the same, and whether no two sentences have one `sent_id`.
 
 ghost use Rattle.std.specs.Prelude.{◌≡◌, false, IfOk, Ok, Decides, map, string_bytes};
-ghost use Rattle.std.specs.List.{list_all};
-ghost use Rattle.tb_core.specs.Names.{is_name, AreApart};
-ghost use Rattle.tb_tables.specs.Values.{batch_of, sentence_of};
+ghost use Rattle.tb_verify.specs.Prelude.{AreApart, batch_of, is_name, list_all, sentence_of};
 ghost use Rattle.tb_verify.specs.Apart.{AreNamed, AreTitled, IsAdded};
 
 use std::alloc::{AllocError, Global};

@@ -1,9 +1,7 @@
 //! The text of a revision, parsed back into its sentence.
 
 ghost use Rattle.std.specs.Prelude.{◌≡◌, ◌≢◌, ◌∷◌, [], List, length, IfOk, IfErr, Err, map, string_bytes};
-ghost use Rattle.std.specs.List.{AllByRecursion};
-ghost use Rattle.tb_conllu.specs.Text.{BlockText};
-ghost use Rattle.tb_core.specs.Machine.{IsLawful};
+ghost use Rattle.tb_verify.specs.Prelude.{AllByRecursion, BlockText, IsLawful};
 ghost use Rattle.tb_verify.specs.Course.{own_text};
 ghost use Rattle.tb_verify.specs.declared.unfit.Unfit.TheVariants.{NotADesk};
 

@@ -1,10 +1,7 @@
 //! Whether the rows of one sentence agree with what its revisions hold.
 
 ghost use Rattle.std.specs.Prelude.{◌≡◌, ◌+◌, ◌-◌, ◌&&◌, length, map, nat_eq, bytes_eq, slice_get, string_bytes};
-ghost use Rattle.std.specs.List.{list_all};
-ghost use Rattle.tb_conllu.specs.Words.{words_of};
-ghost use Rattle.tb_core.specs.Machine.{sent_id_of, text_value_of};
-ghost use Rattle.tb_tables.specs.Values.{sentence_of, revision_of};
+ghost use Rattle.tb_verify.specs.Prelude.{list_all, revision_of, sent_id_of, sentence_of, text_value_of, words_of};
 ghost use Rattle.tb_verify.specs.Course.{is_numbered, are_numbered, are_new, is_titled, is_spelled, ends_as};
 ghost use Rattle.tb_verify.specs.Course.{is_reported, is_course, text_in};
 

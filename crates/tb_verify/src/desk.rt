@@ -9,15 +9,10 @@
 //! has the rows. A read that the store cuts short, for any reason, is a fault of the device.
 
 ghost use Rattle.std.specs.Prelude.{◌≡◌, ◌≢◌, ◌≤◌, false, None, Err, IsTrue, IfOk, OnOk};
-ghost use Rattle.sqlite.specs.State.{HasCleanDisk, IsUnchanged, Survives};
-ghost use Rattle.sqlite.specs.Held.{state};
-ghost use Rattle.tb_core.specs.declared.refusals.Refusal.{Refusal as AnyRefusal};
-ghost use Rattle.tb_core.specs.declared.refusals.Fault.{Fault as AnyFault};
-ghost use Rattle.tb_core.specs.Machine.{Machine};
-ghost use Rattle.tb_refine.specs.DeskTables.{IsDeskOf};
+ghost use Rattle.tb_verify.specs.Prelude.{AnyFault, AnyRefusal, BlamesNoDisk, HasCleanDisk, IsDeskOf, IsUnchanged};
+ghost use Rattle.tb_verify.specs.Prelude.{KeepsRecords, Machine, state, Survives};
 ghost use Rattle.tb_verify.specs.Summary.{IsSummaryOf};
 ghost use Rattle.tb_verify.specs.Looks.{LooksLikeDesk};
-ghost use Rattle.tb_tables.specs.Leaving.{KeepsRecords, BlamesNoDisk};
 
 use crate::reading::read_rows;
 use crate::summary::{DeskSummary, summary_of_desk};

@@ -1,9 +1,7 @@
 //! The sentences of a file, read back one after another.
 
 ghost use Rattle.std.specs.Prelude.{◌≡◌, List, IfOk, Err, map, take, drop};
-ghost use Rattle.tb_core.specs.Machine.{Sentence};
-ghost use Rattle.tb_replay.specs.Summaries.{entries_of};
-ghost use Rattle.tb_tables.specs.Values.{sentence_of, revision_of};
+ghost use Rattle.tb_verify.specs.Prelude.{entries_of, revision_of, Sentence, sentence_of};
 ghost use Rattle.tb_verify.specs.File.{AreReadBack, is_next, after_next};
 ghost use Rattle.tb_verify.specs.declared.unfit.Unfit.TheVariants.{NotADesk};
 

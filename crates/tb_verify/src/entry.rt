@@ -1,9 +1,7 @@
 //! A sentence, read back from its rows.
 
 ghost use Rattle.std.specs.Prelude.{◌≡◌, length, IfOk, Err, map};
-ghost use Rattle.tb_core.specs.Machine.{Sentence};
-ghost use Rattle.tb_replay.specs.Summaries.{entry_of};
-ghost use Rattle.tb_tables.specs.Values.{sentence_of, revision_of};
+ghost use Rattle.tb_verify.specs.Prelude.{entry_of, revision_of, Sentence, sentence_of};
 ghost use Rattle.tb_verify.specs.Course.{IsReadBack, rows_reported};
 ghost use Rattle.tb_verify.specs.declared.unfit.Unfit.TheVariants.{NotADesk};
 

@@ -1,10 +1,8 @@
 //! Errors of the database and of reads, and unfit rows, as faults for a caller.
 
 ghost use Rattle.std.specs.Prelude.{◌≡◌, ◌≢◌, Err, IfErr};
-ghost use Rattle.tb_core.specs.declared.refusals.Refusal.{Refusal};
-ghost use Rattle.tb_tables.specs.Failing.{IsWant};
-ghost use Rattle.tb_reads.specs.Failing.{IsReadWant};
-ghost use Rattle.tb_refine.specs.Faults.{IsNoDevice, fault_of_making, reported_by};
+ghost use Rattle.tb_verify.specs.Prelude.{fault_of_making, IsNoDevice, IsReadWant, IsWant, AnyRefusal as Refusal};
+ghost use Rattle.tb_verify.specs.Prelude.{reported_by};
 ghost use Rattle.tb_verify.specs.Unfit.{fault_of_rows, fault_of_unfit};
 
 use crate::unfit::Unfit;

@@ -1,12 +1,9 @@
 //! Laws: what rows say of sentences and states.
 
 ghost use Rattle.std.specs.Prelude.{◌≡◌, ℕ, List, map};
-ghost use Rattle.std.specs.List.{AllByRecursion};
-ghost use Rattle.tb_core.specs.Keeping.{IsFine};
-ghost use Rattle.tb_core.specs.Machine.{Machine, Sentence as AnySentence};
-ghost use Rattle.tb_replay.specs.Fine.{AreFine};
-ghost use Rattle.tb_refine.specs.DeskTables.{batch_record, sentence_record};
-ghost use Rattle.tb_tables.specs.Records.{Batch, Sentence, Revision};
+ghost use Rattle.tb_verify.specs.Prelude.{AllByRecursion, Sentence as AnySentence, AreFine, batch_record, IsFine};
+ghost use Rattle.tb_verify.specs.Prelude.{Machine, Revision, sentence_record};
+ghost use Rattle.tb_tables.specs.Records.{Batch, Sentence};
 ghost use Rattle.tb_verify.specs.Apart.{AreNamed, AreTitled};
 ghost use Rattle.tb_verify.specs.File.{AreReadBack};
 

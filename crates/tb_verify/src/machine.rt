@@ -1,12 +1,8 @@
 //! Rows as batches and moves of the machine.
 
 ghost use Rattle.std.specs.Prelude.{◌≡◌, ◌≢◌, List, map, Err, IfOk};
-ghost use Rattle.tb_core.specs.Machine.{Batch};
-ghost use Rattle.tb_core.specs.Moves.{MoveText};
-ghost use Rattle.tb_tables.specs.Values.{batch_of, move_of};
-ghost use Rattle.tb_refine.specs.DeskTables.{batch_record, move_record};
+ghost use Rattle.tb_verify.specs.Prelude.{AreNumbered, Batch, batch_of, batch_record, move_of, move_record, MoveText};
 ghost use Rattle.tb_verify.specs.declared.unfit.Unfit.TheVariants.{NotADesk};
-ghost use Rattle.tb_refine.specs.Numbered.{AreNumbered};
 
 use crate::unfit::Unfit;
 use std::alloc::Global;

@@ -1,10 +1,10 @@
 //! The rows of all tables of a desk, read one table after another. No read changes anything, also after an error.
 
 ghost use Rattle.std.specs.Prelude.{◌≡◌, ◌≢◌, ◌↔◌, [], ◌∷◌, map, IsTrue, OnOk, IfErr};
-ghost use Rattle.tb_tables.specs.Records.{AreStored, Shows, numbered, batch_shown, sentence_shown, revision_shown};
-ghost use Rattle.tb_tables.specs.Records.{move_shown, total_shown, number_shown, meta_view, batch_view, sentence_view};
-ghost use Rattle.tb_tables.specs.Records.{revision_view, move_view, total_view, number_view};
-ghost use Rattle.tb_tables.specs.Values.{batch_of, sentence_of, revision_of, move_of, total_of};
+ghost use Rattle.tb_verify.specs.Prelude.{AreStored, batch_of, batch_shown, batch_view, meta_view, move_of, move_shown};
+ghost use Rattle.tb_verify.specs.Prelude.{move_view, number_shown, number_view, numbered, revision_of, revision_shown};
+ghost use Rattle.tb_verify.specs.Prelude.{revision_view, sentence_of, sentence_shown, sentence_view, Shows, total_of};
+ghost use Rattle.tb_verify.specs.Prelude.{total_shown, total_view};
 ghost use Rattle.tb_verify.specs.Summary.{tables_in};
 ghost use Rattle.tb_verify.specs.TableReads.{HasReadTable};
 

@@ -1,13 +1,8 @@
 //! Whether the rows of all tables are those of a state that accepted commands reach. This module uses no database.
 
 ghost use Rattle.std.specs.Prelude.{◌≡◌, ◌≢◌, ◌≤◌, map, Err, Decides, IfErr, IfOk};
-ghost use Rattle.tb_core.specs.declared.refusals.Refusal.{Refusal as AnyRefusal};
-ghost use Rattle.tb_core.specs.Machine.{Machine};
-ghost use Rattle.tb_core.specs.Reaching.{IsReachable};
-ghost use Rattle.tb_core.specs.Totals.{AreTotalsOf};
-ghost use Rattle.tb_tables.specs.Values.{batch_of, sentence_of, total_of};
-ghost use Rattle.tb_refine.specs.DeskTables.{tables_of, total_record, six_states};
-ghost use Rattle.tb_refine.specs.Faults.{IsNoDevice};
+ghost use Rattle.tb_verify.specs.Prelude.{AnyRefusal, AreTotalsOf, batch_of, IsNoDevice, IsReachable, Machine};
+ghost use Rattle.tb_verify.specs.Prelude.{sentence_of, six_states, tables_of, total_of, total_record};
 ghost use Rattle.tb_verify.specs.Apart.{AreNamed, AreTitled};
 ghost use Rattle.tb_verify.specs.declared.unfit.Unfit.TheVariants.{NotADesk};
 ghost use Rattle.tb_verify.specs.Summary.{IsShownBy, IsSummaryOf, tables_in};

@@ -1,12 +1,8 @@
 //! Whether stored totals are the sums of the rows.
 
 ghost use Rattle.std.specs.Prelude.{◌≡◌, ◌≢◌, ◌↔◌, ◌≤◌, length, map, Err, IsTrue, IfOk};
-ghost use Rattle.tb_core.specs.Machine.{Machine};
-ghost use Rattle.tb_core.specs.Totals.{AreTotalsOf};
-ghost use Rattle.tb_replay.specs.Summaries.{entries_of};
-ghost use Rattle.tb_replay.specs.Fine.{AreFine};
-ghost use Rattle.tb_tables.specs.Values.{total_of};
-ghost use Rattle.tb_refine.specs.DeskTables.{total_record, six_states};
+ghost use Rattle.tb_verify.specs.Prelude.{AreFine, AreTotalsOf, entries_of, Machine, six_states, total_of};
+ghost use Rattle.tb_verify.specs.Prelude.{total_record};
 ghost use Rattle.tb_verify.specs.declared.unfit.Unfit.TheVariants.{NotADesk};
 ghost use Rattle.tb_verify.specs.Summary.{six_totals};
 

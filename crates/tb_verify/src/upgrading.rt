@@ -1,13 +1,9 @@
 //! Converts the tables of version 1 into those of a desk.
 
 ghost use Rattle.std.specs.Prelude.{◌≡◌, [], false, IsTrue, OnOk, OnErr};
-ghost use Rattle.sqlite.specs.State.{HasCleanDisk, Survives};
-ghost use Rattle.sqlite.specs.Held.{state};
-ghost use Rattle.tb_tables.specs.Records.{Tables, AreStored};
-ghost use Rattle.tb_tables.specs.Changes.{IsInside, Holds};
+ghost use Rattle.tb_verify.specs.Prelude.{AreStored, BlamesNoDisk, HasCleanDisk, Holds, IsInside, KeepsCommitted};
+ghost use Rattle.tb_verify.specs.Prelude.{NeedsNoFault, state, Survives, Tables};
 ghost use Rattle.tb_verify.specs.Version1.{AreStoredInVersion1, IsInsideFirst, HoldsFirst};
-ghost use Rattle.tb_tables.specs.Failing.{NeedsNoFault};
-ghost use Rattle.tb_tables.specs.Leaving.{KeepsCommitted, BlamesNoDisk};
 
 use sqlite::{Alter, Connection, Error, Transaction};
 

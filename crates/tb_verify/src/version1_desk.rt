@@ -1,15 +1,8 @@
 //! Whether a store is a desk of version 1, and the change of one into a desk.
 
 ghost use Rattle.std.specs.Prelude.{◌≡◌, ◌≢◌, ◌≤◌, [], false, None, Err, IsTrue, IfOk, OnOk, OnErr};
-ghost use Rattle.sqlite.specs.State.{HasCleanDisk, IsUnchanged, Survives};
-ghost use Rattle.sqlite.specs.Held.{state};
-ghost use Rattle.tb_core.specs.declared.refusals.Refusal.{Refusal as AnyRefusal};
-ghost use Rattle.tb_core.specs.declared.refusals.Fault.{Fault as AnyFault};
-ghost use Rattle.tb_core.specs.Machine.{Machine};
-ghost use Rattle.tb_tables.specs.Records.{Tables, AreStored};
-ghost use Rattle.tb_tables.specs.Changes.{Holds};
-ghost use Rattle.tb_tables.specs.Leaving.{BlamesNoDisk};
-ghost use Rattle.tb_refine.specs.DeskTables.{tables_of, IsDeskOf};
+ghost use Rattle.tb_verify.specs.Prelude.{AnyFault, AnyRefusal, AreStored, BlamesNoDisk, HasCleanDisk, Holds, IsDeskOf};
+ghost use Rattle.tb_verify.specs.Prelude.{IsUnchanged, Machine, state, Survives, Tables, tables_of};
 ghost use Rattle.tb_verify.specs.Summary.{IsSummaryOf};
 ghost use Rattle.tb_verify.specs.Version1.{HoldsFirst, AreStoredInVersion1};
 ghost use Rattle.tb_verify.specs.Version1Desk.{IsFirstDesk, LooksFirst};

@@ -2,10 +2,10 @@
 //! error.
 
 ghost use Rattle.std.specs.Prelude.{◌≡◌, ◌≢◌, ℤ, false, pos, [], ◌∷◌, map, IfErr, IsTrue, OnOk};
+ghost use Rattle.tb_verify.specs.Prelude.{batch_of, batch_shown, batch_view, move_of, move_shown, move_view, numbered};
+ghost use Rattle.tb_verify.specs.Prelude.{sentence_of, sentence_shown, sentence_view, Shows, total_of, total_shown};
+ghost use Rattle.tb_verify.specs.Prelude.{total_view};
 ghost use Rattle.sqlite.specs.declared.types.Value.TheVariants.{Int};
-ghost use Rattle.tb_tables.specs.Records.{Shows, numbered, batch_shown, sentence_shown, move_shown, total_shown};
-ghost use Rattle.tb_tables.specs.Records.{batch_view, sentence_view, move_view, total_view};
-ghost use Rattle.tb_tables.specs.Values.{batch_of, sentence_of, move_of, total_of};
 ghost use Rattle.tb_verify.specs.Version1.{TellsFirst};
 ghost use Rattle.tb_verify.specs.Version1Reads.{HasReadVersion1, AreTheRevisions, AreTheRows};
 

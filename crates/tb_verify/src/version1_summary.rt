@@ -1,12 +1,7 @@
 //! Whether rows are those of a state without pulls. This module uses no database.
 
 ghost use Rattle.std.specs.Prelude.{◌≡◌, ◌≢◌, ◌≤◌, ◌↔◌, All, Err, IsTrue, IfOk, IfErr};
-ghost use Rattle.tb_core.specs.declared.refusals.Refusal.{Refusal as AnyRefusal};
-ghost use Rattle.tb_core.specs.declared.refusals.Fault.{Fault as AnyFault};
-ghost use Rattle.tb_core.specs.Machine.{Machine};
-ghost use Rattle.tb_core.specs.Reaching.{IsReachable};
-ghost use Rattle.tb_tables.specs.declared.rows.MoveRow.{MoveRow as AnyMoveRow};
-ghost use Rattle.tb_refine.specs.DeskTables.{tables_of};
+ghost use Rattle.tb_verify.specs.Prelude.{AnyFault, AnyMoveRow, AnyRefusal, IsReachable, Machine, tables_of};
 ghost use Rattle.tb_verify.specs.Summary.{IsSummaryOf, tables_in};
 ghost use Rattle.tb_verify.specs.Version1Desk.{HasNoPull};
 

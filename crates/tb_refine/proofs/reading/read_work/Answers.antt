@@ -7,7 +7,7 @@ use Rattle.tb_refine.specs.Faults.{fault_of_read}
 use Rattle.tb_refine.specs.Fitting.{IsReadableSentence}
 use Rattle.tb_refine.proofs.Faultless.{read_reported, fit, want_reported}
 use Rattle.tb_refine.proofs.Reported.{reported_if, reported_not, reported_clear, reported_only}
-use Rattle.tb_commands.proofs.working.read_work.Goals as goal
+use Rattle.tb_refine.proofs.reading.read_work.Goals as goal
 
 pub returns-clause-answered : goal.returns-clause-answered
 returns-clause-answered g c clean = rw c.reported.ensures.value (reported_if fault_of_read _ c.sentences_of.result (if_ok c.sentences_of.result (c.sentences_of.ensures.ok clean) (λ v read s desk. read desk.holds.schema (map sentence_record s.sentences) desk.holds.stands.sentences)))
