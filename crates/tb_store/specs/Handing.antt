@@ -7,6 +7,7 @@ use Rattle.sqlite.specs.declared.error.ErrorCode.{ErrorCode}
 use Rattle.sqlite.specs.declared.error.ErrorCode.TheVariants.{OutOfMemory}
 use Rattle.sqlite.specs.Store.{Ghosts}
 use Rattle.sqlite.specs.Held.{Held, state}
+use Rattle.sqlite.specs.Schema.{Schema}
 use Rattle.sqlite.specs.State.{State, HasCleanDisk, IsNotRun}
 use Rattle.tb_core.specs.declared.refusals.Refusal.{Refusal}
 use Rattle.tb_core.specs.declared.refusals.Fault.{Fault}
@@ -62,6 +63,12 @@ HandsOnRefusal old new given fault = (r : Refusal) → fault ≡ Refused r → (
 -- where the store was open and its disk failed at nothing meanwhile, the fault is not the device's
 abbrev pub IsNoDeviceIfFaultless : {S : Type 0} → Ghosts S → (old new : Held S) → Fault → Type 0
 IsNoDeviceIfFaultless g old new fault = HasCleanDisk (state g new) → IsFaultless g old new → IsNoDevice fault
+
+-- Want of memory is reported only of a database that has these tables, outside of a transaction. So any other is refused
+-- without it.
+abbrev pub WantsOnTables : {S : Type 0} → Schema → Ghosts S → (old : Held S) → Fault → Type 0
+WantsOnTables schema g old fault =
+    fault ≡ Memory → (old.in_transaction ≡ false) × ((state g old).now.schema ≡ schema)
 
 -- want of memory is reported only where the store is open
 abbrev pub IsOpenOnMemory : {S : Type 0} → Ghosts S → Held S → Fault → Type 0

@@ -2,22 +2,10 @@
 
 ghost use Rattle.std.specs.Prelude.{◌≡◌, ◌≢◌, ◌⊎◌, ◌-◌, ◌<◌, ◌≤◌, map, [], ◌∷◌, Some, Err, is_ok, slice_get, IfErr};
 ghost use Rattle.std.specs.Prelude.{string_bytes, IfOk, None, length, false};
-ghost use Rattle.sqlite.specs.State.{HasCleanDisk};
-ghost use Rattle.sqlite.specs.Held.{state};
-ghost use Rattle.tb_conllu.specs.Text.{text_of};
-ghost use Rattle.tb_core.specs.declared.refusals.Refusal.{Refusal as AnyRefusal};
-ghost use Rattle.tb_core.specs.Names.{is_name};
-ghost use Rattle.tb_core.specs.Machine.{Machine, Sentence, Revision, rev as rev_of};
-ghost use Rattle.tb_core.specs.Totals.{AreTotalsOf};
-ghost use Rattle.tb_tables.specs.Values.{total_of};
-ghost use Rattle.tb_refine.specs.DeskTables.{IsDeskOf, tables_of};
-ghost use Rattle.tb_refine.specs.Revisions.{HasRevision};
-ghost use Rattle.tb_refine.specs.Calls.{KnowsDesk, KnowsDeskWhere, Tells, TellsOnErr};
-ghost use Rattle.tb_tables.specs.Leaving.{FailsOnlyAs, IsFaultless};
-ghost use Rattle.tb_reads.specs.ReadOnly.{IsReadOnly};
-ghost use Rattle.tb_refine.specs.Faults.{IsNoDevice};
-ghost use Rattle.tb_lists.specs.Found.{IsFound};
-ghost use Rattle.tb_lists.specs.Sentences.{AreSentences};
+ghost use Rattle.tb_store.specs.Prelude.{AnyRefusal, AreSentences, AreTotalsOf, FailsOnlyAs, HasCleanDisk, HasRevision};
+ghost use Rattle.tb_store.specs.Prelude.{is_name, IsDeskOf, IsFaultless, IsFound, IsNoDevice, IsReadOnly, KnowsDesk};
+ghost use Rattle.tb_store.specs.Prelude.{KnowsDeskWhere, Machine, rev_of, Revision, Sentence, state, tables_of, Tells};
+ghost use Rattle.tb_store.specs.Prelude.{TellsOnErr, text_of, total_of};
 ghost use Rattle.tb_store.specs.Answers.{RefusesId};
 ghost use Rattle.tb_store.specs.Exports.{RefusesBatch};
 

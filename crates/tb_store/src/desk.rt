@@ -1,31 +1,20 @@
 ghost use Rattle.std.specs.Prelude.{◌≡◌, ◌≢◌, ◌↔◌, ◌⊎◌, ◌<◌, ◌≤◌, length};
 ghost use Rattle.std.specs.Prelude.{false, None, Some, Err, string_bytes, IsTrue, IfOk, IfErr, IfSome};
-ghost use Rattle.sqlite.specs.State.{HasCleanDisk, IsUnchanged, Survives};
-ghost use Rattle.sqlite.specs.Held.{state};
-ghost use Rattle.tb_tables.specs.Records.{AreStored};
-ghost use Rattle.tb_tables.specs.Making.{no_schema, IsBlank};
-ghost use Rattle.tb_core.specs.declared.refusals.Refusal.{Refusal as AnyRefusal};
-ghost use Rattle.tb_core.specs.Names.{is_name};
-ghost use Rattle.tb_core.specs.Machine.{Machine, empty_machine};
-ghost use Rattle.tb_core.specs.Totals.{AreTotalsOf};
-ghost use Rattle.tb_core.specs.Commands.{correct as correct_it, event_on, import_file, imported, pull as pull_it};
-ghost use Rattle.tb_core.specs.Commands.{restore as restore_it, moved_on, corrected_to, pulled_out, restored_to};
-ghost use Rattle.tb_lists.specs.Batches.{batch_lines};
-ghost use Rattle.tb_lists.specs.Revisions.{AreRevisions};
-ghost use Rattle.tb_lists.specs.Sentences.{AreSentences};
-ghost use Rattle.tb_refine.specs.Counted.{IsWithin};
-ghost use Rattle.tb_refine.specs.DeskTables.{tables_of, IsDeskOf};
-ghost use Rattle.tb_refine.specs.Room.{HasRoomIfWritten};
+ghost use Rattle.tb_store.specs.Prelude.{AnyRefusal, AreRevisions, AreSentences, AreStored, AreTotalsOf, batch_lines};
+ghost use Rattle.tb_store.specs.Prelude.{CommitsNothing, correct_it, corrected_to, desk_schema, empty_machine};
+ghost use Rattle.tb_store.specs.Prelude.{event_on};
+ghost use Rattle.tb_store.specs.Prelude.{HasCleanDisk, HasRoomIfWritten, import_file, imported, is_name, IsBlank};
+ghost use Rattle.tb_store.specs.Prelude.{IsDeskOf, IsUnchanged, IsWithin, Machine, moved_on, no_schema, pull_it};
+ghost use Rattle.tb_store.specs.Prelude.{pulled_out, restore_it, restored_to, state, Survives, tables_of};
 ghost use Rattle.tb_store.specs.Kept.{Kept, counts_of, known_of};
 ghost use Rattle.tb_store.specs.Represents.{Represents, RepresentsEach, unlimited, no_totals};
 ghost use Rattle.tb_store.specs.Answers.{AreNet, IsCurrent, IsRevisionText, HasNoSentence, RefusesRevision};
 ghost use Rattle.tb_store.specs.Exports.{RefusesBatch};
 ghost use Rattle.tb_store.specs.Calls.{CrashesWhole, Does, EndsAs, Gives, GivesOnErr, KnowsItself, LeavesOnly};
-ghost use Rattle.tb_store.specs.Blaming.{BlamesInDoubtAlone, BlamesNoDevice, DoubtsOnDevice};
 ghost use Rattle.tb_store.specs.Calls.{KeepsState, RefusesMissing, WritesNothing};
+ghost use Rattle.tb_store.specs.Blaming.{BlamesInDoubtAlone, BlamesNoDevice, DoubtsOnDevice};
 ghost use Rattle.tb_store.specs.Handing.{IsNoDeviceIfFaultless, SeesTheSame, StaysADesk, StaysBlank};
-ghost use Rattle.tb_store.specs.Handing.{TellsOpen, TellsShut, TellsWant};
-ghost use Rattle.tb_tables.specs.Leaving.{CommitsNothing};
+ghost use Rattle.tb_store.specs.Handing.{TellsOpen, TellsShut, TellsWant, WantsOnTables};
 
 mod naming;
 mod releasing;
@@ -205,6 +194,7 @@ impl<S: Alter> Desk<S> {
             → (state S.Store u.conn).now ≡ (state S.Store conn).now) }
         ensures sees_same { IfErr result (λ u. SeesTheSame S.Store conn u.conn) }
         ensures never_refuses { IfErr result (λ u. (r : AnyRefusal) → u.fault ≢ Fault.Refused r) }
+        ensures wants { IfErr result (λ u. WantsOnTables desk_schema S.Store conn u.fault) }
         ensures cause { IfErr result (λ u. IsNoDeviceIfFaultless S.Store conn u.conn u.fault) }
         ensures again { IfErr result (λ u. StaysADesk S.Store conn u.conn) }
         ensures crash { IfOk result (λ d. Survives (state S.Store (unlimited conn)) (state S.Store d.conn)

@@ -1,16 +1,10 @@
 //! Writes the texts of many sentences to a sink, one sentence at a time.
 
 ghost use Rattle.std.specs.Prelude.{◌≡◌, ◌≢◌, ℕ, Some, Err, false, is_ok};
-ghost use Rattle.std.specs.Io.KnownBytes.{Appends};
-ghost use Rattle.tb_core.specs.declared.refusals.Refusal.{Refusal as AnyRefusal};
-ghost use Rattle.tb_core.specs.Names.{is_name};
-ghost use Rattle.tb_search.specs.Released.{released as released_in, in_batch, current_text};
-ghost use Rattle.tb_search.specs.Visited.{HasReason};
-ghost use Rattle.tb_refine.specs.Finding.{HasNumber};
+ghost use Rattle.tb_store.specs.Prelude.{AnyRefusal, Appends, current_text, HasNumber, HasReason, in_batch, is_name};
+ghost use Rattle.tb_store.specs.Prelude.{IsReadOnly, KnowsDesk, released as released_in, TellsOnErr, TellsOnOk};
 ghost use Rattle.tb_store.specs.Exports.{IsExportBrokenOff, IsPartOfBatch, RefusesBatch};
 ghost use Rattle.tb_store.specs.Blaming.{FailsWithoutDevice};
-ghost use Rattle.tb_refine.specs.Calls.{KnowsDesk, TellsOnErr, TellsOnOk};
-ghost use Rattle.tb_reads.specs.ReadOnly.{IsReadOnly};
 
 use crate::asking::known_batch;
 use crate::stopping::fault_of;

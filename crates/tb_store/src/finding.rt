@@ -1,19 +1,10 @@
 //! What queries find in released text.
 
 ghost use Rattle.std.specs.Prelude.{◌≡◌, ◌≢◌, ◌↔◌, List, length, Err, false, IfErr, IfOk, IsTrue, is_ok};
-ghost use Rattle.std.specs.Io.KnownBytes.{Appends};
-ghost use Rattle.sqlite.specs.State.{HasCleanDisk};
-ghost use Rattle.sqlite.specs.Held.{state};
-ghost use Rattle.tb_core.specs.declared.refusals.Refusal.{Refusal as AnyRefusal};
-ghost use Rattle.tb_core.specs.Machine.{Machine};
-ghost use Rattle.tb_refine.specs.DeskTables.{IsDeskOf};
-ghost use Rattle.tb_report.specs.Tables.{IsTableOf};
-ghost use Rattle.tb_search.specs.Searched.{Occurrence, answer, keys};
-ghost use Rattle.tb_search.specs.Visited.{HasReason};
+ghost use Rattle.tb_store.specs.Prelude.{answer, AnyRefusal, Appends, HasCleanDisk, HasReason, IsDeskOf, IsReadOnly};
+ghost use Rattle.tb_store.specs.Prelude.{IsTableOf, keys, KnowsDesk, Machine, Occurrence, state, Tells, TellsOnErr};
 ghost use Rattle.tb_store.specs.Found.{AreReleasedHits, HasTooMany, IsAbove, IsNumber, IsPartFound};
 ghost use Rattle.tb_store.specs.Blaming.{FailsWithoutDevice};
-ghost use Rattle.tb_refine.specs.Calls.{KnowsDesk, Tells, TellsOnErr};
-ghost use Rattle.tb_reads.specs.ReadOnly.{IsReadOnly};
 
 use crate::stopping::fault_of;
 use sqlite::{Alter, Connection};

@@ -1,10 +1,7 @@
 //! A desk in memory.
 
 ghost use Rattle.std.specs.Prelude.{◌≡◌, ◌⊎◌, None, IfOk, IfErr};
-ghost use Rattle.sqlite.specs.Held.{state};
-ghost use Rattle.sqlite.specs.Steps.{over_memory};
-ghost use Rattle.tb_core.specs.Machine.{empty_machine};
-ghost use Rattle.tb_refine.specs.Counted.{IsWithin};
+ghost use Rattle.tb_store.specs.Prelude.{empty_machine, IsWithin, over_memory, state};
 ghost use Rattle.tb_store.specs.Represents.{Represents};
 
 use crate::desk::{Desk, Unmade};

@@ -1,16 +1,10 @@
 //! A desk of version 1 that is taken into use.
 
 ghost use Rattle.std.specs.Prelude.{◌≡◌, ◌≢◌, None, IsTrue, IfOk, IfErr};
-ghost use Rattle.sqlite.specs.State.{HasCleanDisk, Survives};
-ghost use Rattle.sqlite.specs.Held.{state};
-ghost use Rattle.tb_tables.specs.Records.{AreStored};
-ghost use Rattle.tb_core.specs.declared.refusals.Refusal.{Refusal as AnyRefusal};
-ghost use Rattle.tb_core.specs.Machine.{Machine};
-ghost use Rattle.tb_refine.specs.Counted.{IsWithin};
-ghost use Rattle.tb_refine.specs.DeskTables.{tables_of};
-ghost use Rattle.tb_verify.specs.Version1Desk.{IsFirstDesk};
+ghost use Rattle.tb_store.specs.Prelude.{AnyRefusal, AreStored, HasCleanDisk, IsFirstDesk, IsWithin, Machine, state};
+ghost use Rattle.tb_store.specs.Prelude.{Survives, tables_of, version_one_schema};
 ghost use Rattle.tb_store.specs.Represents.{Represents, unlimited};
-ghost use Rattle.tb_store.specs.Handing.{IsNoDeviceIfFaultless};
+ghost use Rattle.tb_store.specs.Handing.{IsNoDeviceIfFaultless, WantsOnTables};
 
 use crate::desk::{Desk, Unmade, without_limit};
 use sqlite::{Alter, Connection};
@@ -42,6 +36,7 @@ impl<S: Alter> Desk<S> {
         ensures unwritten { IfErr result (λ u. u.fault ≡ Fault.NotADesk
             → Survives (state S.Store (unlimited conn)) (state S.Store u.conn) (λ _. ⊥)) }
         ensures never_refuses { IfErr result (λ u. (r : AnyRefusal) → u.fault ≢ Fault.Refused r) }
+        ensures wants { IfErr result (λ u. WantsOnTables version_one_schema S.Store conn u.fault) }
         ensures cause { IfErr result (λ u. ((s : Machine) → IsFirstDesk S.Store conn s → ⊥)
             → IsNoDeviceIfFaultless S.Store conn u.conn u.fault) }
         ensures again { IfErr result (λ u. HasCleanDisk (state S.Store u.conn)

@@ -1,13 +1,7 @@
 //! What the next run finds of a desk after a crash.
 
 ghost use Rattle.std.specs.Prelude.{◌≡◌, IsTrue};
-ghost use Rattle.sqlite_wal.specs.Recovery.{Image};
-ghost use Rattle.sqlite_store.specs.FileStore.{view};
-ghost use Rattle.sqlite_trees.specs.View.{IsClean};
-ghost use Rattle.sqlite.specs.Held.{state};
-ghost use Rattle.sqlite.specs.Files.{over_files};
-ghost use Rattle.tb_core.specs.Machine.{Machine};
-ghost use Rattle.tb_refine.specs.DeskTables.{IsDeskOf};
+ghost use Rattle.tb_store.specs.Prelude.{Image, IsClean, IsDeskOf, Machine, over_files, state, view};
 ghost use Rattle.tb_store.specs.Represents.{Represents};
 ghost use Rattle.tb_store.specs.Reopened.{MayLeaveFiles, IsOpenedOver};
 

@@ -1,12 +1,8 @@
 //! Why a walk over the sentences of a desk ended early.
 
 ghost use Rattle.std.specs.Prelude.{◌≡◌, ◌≢◌, ℕ, List, Option};
-ghost use Rattle.tb_core.specs.declared.refusals.Refusal.{Refusal as AnyRefusal};
-ghost use Rattle.tb_core.specs.Machine.{Sentence};
-ghost use Rattle.tb_search.specs.Released.{IsCutShort};
-ghost use Rattle.tb_search.specs.Searched.{Occurrence, IsSearchBrokenOff};
-ghost use Rattle.tb_search.specs.Visited.{IsFault, IsStopFault, IsStopWant};
-ghost use Rattle.tb_refine.specs.Faults.{IsNoDevice};
+ghost use Rattle.tb_store.specs.Prelude.{AnyRefusal, IsCutShort, IsFault, IsNoDevice, IsSearchBrokenOff, IsStopFault};
+ghost use Rattle.tb_store.specs.Prelude.{IsStopWant, Occurrence, Sentence};
 ghost use Rattle.tb_store.specs.Exports.{IsExportBrokenOff, fault_of_stop};
 ghost use Rattle.tb_store.specs.Found.{IsPartFound};
 

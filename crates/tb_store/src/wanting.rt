@@ -1,9 +1,7 @@
 //! Whether the store is open: a command ends for want of memory only there.
 
 ghost use Rattle.std.specs.Prelude.{◌≡◌, ◌≢◌, ◌⊎◌, false, IfErr, IsTrue};
-ghost use Rattle.sqlite.specs.State.{Survives};
-ghost use Rattle.sqlite.specs.Held.{state};
-ghost use Rattle.tb_tables.specs.Leaving.{KeepsRecords};
+ghost use Rattle.tb_store.specs.Prelude.{KeepsRecords, state, Survives};
 ghost use Rattle.tb_store.specs.Handing.{BlamesForWant, HandsOnRefusal, IsOpenOnMemory, PutsInDoubt};
 ghost use Rattle.tb_store.specs.Handing.{TellsOpen, TellsShut, TellsWant, WasOpen, reported_of_error};
 

@@ -1,14 +1,11 @@
 //! What a page asks of a desk: how much there is, and the sentence that has a `sent_id`.
 
 ghost use Rattle.std.specs.Prelude.{◌≡◌, ◌≢◌, Err};
-ghost use Rattle.tb_core.specs.declared.refusals.Refusal.{Refusal as AnyRefusal};
-ghost use Rattle.tb_lists.specs.Found.{IsFound};
+ghost use Rattle.tb_store.specs.Prelude.{AnyRefusal, CommitsNothing, IsFound, Machine};
 ghost use Rattle.tb_store.specs.Answers.{RefusesId, counts_in};
-ghost use Rattle.tb_core.specs.Machine.{Machine};
 ghost use Rattle.tb_store.specs.Blaming.{BlamesNoDevice};
 ghost use Rattle.tb_store.specs.Calls.{Does, Gives, GivesOnErr, KeepsState, KnowsItself, WritesNothing};
 ghost use Rattle.tb_store.specs.Represents.{Represents};
-ghost use Rattle.tb_tables.specs.Leaving.{CommitsNothing};
 
 use crate::answers::DeskCounts;
 use crate::asking;

@@ -1,18 +1,9 @@
 //! What a desk answers of released text, and the export of a batch.
 
 ghost use Rattle.std.specs.Prelude.{◌≡◌, ◌≢◌, ℕ, List, length, false, Err, Some};
-ghost use Rattle.std.specs.Io.KnownBytes.{Appends};
-ghost use Rattle.sqlite.specs.State.{HasCleanDisk};
-ghost use Rattle.sqlite.specs.Held.{state};
-ghost use Rattle.tb_tables.specs.Leaving.{CommitsNothing};
-ghost use Rattle.tb_core.specs.declared.refusals.Refusal.{Refusal as AnyRefusal};
-ghost use Rattle.tb_core.specs.Names.{is_name};
-ghost use Rattle.tb_core.specs.Machine.{Machine};
-ghost use Rattle.tb_report.specs.Tables.{IsTableOf};
-ghost use Rattle.tb_search.specs.Released.{released, in_batch, current_text};
-ghost use Rattle.tb_search.specs.Searched.{Occurrence, answer, keys};
-ghost use Rattle.tb_search.specs.Visited.{HasReason};
-ghost use Rattle.tb_refine.specs.Finding.{HasNumber};
+ghost use Rattle.tb_store.specs.Prelude.{answer, AnyRefusal, Appends, CommitsNothing, current_text, HasCleanDisk};
+ghost use Rattle.tb_store.specs.Prelude.{HasNumber, HasReason, in_batch, is_name, IsTableOf, keys, Machine, Occurrence};
+ghost use Rattle.tb_store.specs.Prelude.{released, state};
 ghost use Rattle.tb_store.specs.Blaming.{BlamesNoDevice};
 ghost use Rattle.tb_store.specs.Calls.{Does, Gives, GivesOnErr, KeepsState, KnowsItself, WritesNothing};
 ghost use Rattle.tb_store.specs.Exports.{IsExportBrokenOff, IsPartOfBatch, RefusesBatch};

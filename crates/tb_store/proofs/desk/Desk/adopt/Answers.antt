@@ -2,6 +2,7 @@ use Rattle.std.proofs.Common.{◌≡◌, None, Err, sym, ap, subst, ◌∙◌}
 use Rattle.sqlite.specs.State.{HasCleanDisk, IsUnchanged, Survives}
 use Rattle.sqlite.specs.Held.{state}
 use Rattle.tb_refine.proofs.Unchanged.{desk_kept}
+use Rattle.tb_verify.specs.Looks.{LooksLikeDesk}
 use Rattle.tb_store.specs.Kept.{Kept}
 use Rattle.tb_store.specs.Represents.{unlimited}
 use Rattle.tb_store.proofs.Adopted.{desk_unlimited, desk_before, faultless_unlimited, stands_over, stands_again}
@@ -65,3 +66,8 @@ pub returns-in-Err-clause-cause : goal.returns-in-Err-clause-cause
 returns-in-Err-clause-cause g c clean good =
     let is = c.without_limit-conn.ensures in
     c.in-Err.ensures.cause (ap (λ h. (state g.S.Store h).step_limit) is) clean (faultless_unlimited g.S.Store c.args.conn c.without_limit-conn.result c.read_desk.new.conn is good)
+
+pub returns-in-Err-clause-wants : goal.returns-in-Err-clause-wants
+returns-in-Err-clause-wants g c is =
+    let looks = subst (LooksLikeDesk g.S.Store) c.without_limit-conn.ensures (c.in-Err.ensures.wants (ap (λ f. Err f) is)) in
+    (looks.autocommit, looks.schema)

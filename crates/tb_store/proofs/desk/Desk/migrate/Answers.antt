@@ -1,6 +1,7 @@
 use Rattle.std.proofs.Common.{◌≡◌, None, Err, sym, ap, subst, ◌∙◌}
 use Rattle.sqlite.specs.State.{HasCleanDisk, Survives}
 use Rattle.sqlite.specs.Held.{state}
+use Rattle.tb_verify.specs.Version1Desk.{LooksFirst}
 use Rattle.tb_store.specs.Kept.{Kept}
 use Rattle.tb_store.specs.Represents.{unlimited}
 use Rattle.tb_store.proofs.Adopted.{faultless_unlimited, stands_over}
@@ -55,3 +56,8 @@ returns-in-Err-clause-cause g c none clean good =
     let is = c.without_limit-conn.ensures in
     c.in-Err.ensures.cause (λ s desk. none s (first_before g.S.Store c.args.conn c.without_limit-conn.result is s desk)) (ap (λ h. (state g.S.Store h).step_limit) is) clean
     (faultless_unlimited g.S.Store c.args.conn c.without_limit-conn.result c.migrate.new.conn is good)
+
+pub returns-in-Err-clause-wants : goal.returns-in-Err-clause-wants
+returns-in-Err-clause-wants g c is =
+    let looks = subst (LooksFirst g.S.Store) c.without_limit-conn.ensures (c.in-Err.ensures.wants (ap (λ f. Err f) is)) in
+    (looks.autocommit, looks.schema)
