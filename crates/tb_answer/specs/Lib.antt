@@ -1,3 +1,4 @@
+pub mod Prelude
 pub mod Commanded
 pub mod Asked
 pub mod Output

@@ -1,13 +1,10 @@
 //! Serving one request: reads it, does what it asks, and writes the response.
 
 ghost use Rattle.std.specs.Prelude.{◌≡◌, ◌≢◌, ◌+◌, ℕ, List, [], Option, IfErr, IfOk, Err as ErrOf, map, vec_items};
-ghost use Rattle.tb_conllu.specs.Pieces.{AskedFor};
-ghost use Rattle.tb_http.specs.Asks.{body_limit, reported_by};
-ghost use Rattle.tb_http.specs.declared.status.Status.{Status as AnyStatus};
-ghost use Rattle.tb_http.specs.Faults.{AwaitsMore, IsAtMostOne, TakenAfter, TakesAtMost};
+ghost use Rattle.tb_answer.specs.Prelude.{AnyStatus, AskedFor, AwaitsMore, body_limit, InState, IsAtMostOne};
+ghost use Rattle.tb_answer.specs.Prelude.{reported_by, TakenAfter, TakesAtMost};
 ghost use Rattle.tb_answer.specs.Served.{IsReplied, IsReplySent, IsSafeFor, IsSafeOf, Serves, outcome};
 ghost use Rattle.tb_answer.specs.Turns.{AreServed};
-ghost use Rattle.tb_store.specs.Calls.{InState};
 
 use crate::asks::respond_ask;
 use crate::responses::respond_reply;

@@ -1,14 +1,12 @@
 //! Does what a request asks, and answers it.
 
 ghost use Rattle.std.specs.Prelude.{◌≡◌};
-ghost use Rattle.tb_http.specs.Actions.{act_by};
-ghost use Rattle.tb_http.specs.Asks.{reported_by};
+ghost use Rattle.tb_answer.specs.Prelude.{act_by, InState, KeepsState, reported_by};
 ghost use Rattle.tb_answer.specs.Commanded.{HasFailed};
 ghost use Rattle.tb_answer.specs.Calls.{call_asked, ReadsOnly};
 ghost use Rattle.tb_answer.specs.Found.{IsSearchResponse, IsCountResponse};
 ghost use Rattle.tb_answer.specs.Served.{AsksText, ForText, IsReplySent, IsSentAs, IsTextSent, IsCallSent, IsReplied};
 ghost use Rattle.tb_answer.specs.Served.{IsSafeCall, IsSafeFor};
-ghost use Rattle.tb_store.specs.Calls.{InState, KeepsState};
 
 use crate::calls::DeskCall;
 use crate::counts::respond_count;

@@ -1,22 +1,20 @@
 //! The texts that answer what a desk is asked.
 
-ghost use Rattle.std.specs.Prelude.{◌≡◌, Some, None, Ok, Err, string_bytes, IfOk, IfErr, MatchResult};
-ghost use Rattle.tb_core.specs.Machine.{Machine};
-ghost use Rattle.tb_report.specs.Csv.{totals_csv, moves_csv};
-ghost use Rattle.tb_store.specs.Represents.{Represents};
-ghost use Rattle.tb_store.specs.Answers.{IsCurrent, IsRevisionText, HasNoSentence};
+ghost use Rattle.std.specs.Prelude.{◌≡◌, Some, None, Ok, Err, string_bytes, IfErr, MatchResult};
+ghost use Rattle.tb_answer.specs.Prelude.{Gives, GivesOnErr, HasNoSentence, IsCurrent, IsRevisionText, KeepsState};
+ghost use Rattle.tb_answer.specs.Prelude.{Machine, moves_csv, Represents};
 ghost use Rattle.tb_answer.specs.Commanded.{HasFailed, IsFailure, IsStoreFailure};
-ghost use Rattle.tb_answer.specs.Asked.{or_reply, totals_text, AsksForNone, IsBody, IsMadeOf, IsReportedOf};
+ghost use Rattle.tb_answer.specs.Asked.{or_reply, totals_text, AsksForNone, IsBody, IsReportedOf};
 ghost use Rattle.tb_answer.specs.Calls.{ReadsOnly};
-ghost use Rattle.tb_store.specs.Calls.{Gives, GivesOnErr, KeepsState};
 
 use crate::commands::reply_for_fault;
+use crate::listed::text_or_reply;
 use crate::questions::{Body, Question};
 use sqlite::Alter;
 use std::alloc::Global;
-use tb_core::{Fault, Move, Refusal, Totals};
+use tb_core::{Fault, Refusal};
 use tb_http::Reply;
-use tb_report::{ReportFault, csv_moves, csv_totals};
+use tb_report::ReportFault;
 use tb_store::{Current, Desk};
 
 /// What was made of a text that was put into memory, or that memory ran out: a sink in memory fails for nothing else.
@@ -26,34 +24,6 @@ pub(crate) fn or_memory<T: Drop>(put: Result<(), ReportFault>, made: T) -> Resul
     match put {
         Ok(()) => Ok(made),
         Err(_) => Err(Reply::Memory),
-    }
-}
-
-/// Totals as CSV.
-fn totals_text(alloc: Global, totals: &Totals) -> Result<Vec<u8>, Reply>
-    ensures text { IfOk result (λ v. v.items ≡ totals_csv totals.now) }
-    ensures failed { IfErr result (λ r. r ≡ Reply.Memory) }
-{
-    let mut text = Vec::new(alloc);
-    or_memory(csv_totals(alloc, totals, &mut text), text)
-}
-
-/// Moves as CSV.
-fn moves_text(alloc: Global, moves: &[Move]) -> Result<Vec<u8>, Reply>
-    ensures text { IfOk result (λ v. v.items ≡ moves_csv moves.now) }
-    ensures failed { IfErr result (λ r. r ≡ Reply.Memory) }
-{
-    let mut text = Vec::new(alloc);
-    or_memory(csv_moves(alloc, moves, &mut text), text)
-}
-
-/// The text of the totals that were read, or the reply for the fault of the read.
-fn totals_or_reply(alloc: Global, read: Result<Totals, Fault>) -> Result<Vec<u8>, Reply>
-    ensures { IsMadeOf read result (λ totals v. v.items ≡ totals_csv totals) }
-{
-    match read {
-        Ok(totals) => totals_text(alloc, &totals),
-        Err(fault) => Err(reply_for_fault(fault)),
     }
 }
 
@@ -67,17 +37,7 @@ pub fn totals<S: Alter>(alloc: Global, desk: &mut Desk<S>) -> Result<Vec<u8>, Re
     ensures crash { ReadsOnly S.Store desk.old desk.new }
     ensures limits { desk.new.limits ≡ desk.old.limits }
 {
-    totals_or_reply(alloc, desk.totals())
-}
-
-/// The text of the moves that were read, or the reply for the fault of the read.
-fn moves_or_reply(alloc: Global, read: Result<Vec<Move>, Fault>) -> Result<Vec<u8>, Reply>
-    ensures { IsMadeOf read result (λ moves v. v.items ≡ moves_csv moves.items) }
-{
-    match read {
-        Ok(moves) => moves_text(alloc, moves.as_slice()),
-        Err(fault) => Err(reply_for_fault(fault)),
-    }
+    text_or_reply(alloc, desk.totals())
 }
 
 /// All moves in their order, as CSV. It is never refused.
@@ -90,7 +50,7 @@ pub fn moves<S: Alter>(alloc: Global, desk: &mut Desk<S>) -> Result<Vec<u8>, Rep
     ensures crash { ReadsOnly S.Store desk.old desk.new }
     ensures limits { desk.new.limits ≡ desk.old.limits }
 {
-    moves_or_reply(alloc, desk.moves())
+    text_or_reply(alloc, desk.moves())
 }
 
 /// What was read of a desk, or the reply for the fault of the read.

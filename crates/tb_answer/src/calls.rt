@@ -1,8 +1,7 @@
 //! The calls of a desk, as a line of words makes them.
 
 ghost use Rattle.std.specs.Prelude.{◌≡◌, option_map};
-ghost use Rattle.tb_http.specs.Actions.{act_by};
-ghost use Rattle.tb_cli.specs.Lines.{said_by};
+ghost use Rattle.tb_answer.specs.Prelude.{act_by, said_by};
 ghost use Rattle.tb_answer.specs.Calls.{call_by, call_in, call_asked, question_of};
 
 use crate::questions::Question;

@@ -1,10 +1,9 @@
 //! The commands of users, each answered by one line.
 
 ghost use Rattle.std.specs.Prelude.{◌≡◌};
-ghost use Rattle.tb_core.specs.Commands.{import_file, event_on, correct as correct_it, pull as pull_it};
-ghost use Rattle.tb_core.specs.Commands.{restore as restore_it};
+ghost use Rattle.tb_answer.specs.Prelude.{correct_it, CrashesWhole, event_on, import_file, InState, pull_it};
+ghost use Rattle.tb_answer.specs.Prelude.{restore_it};
 ghost use Rattle.tb_answer.specs.Commanded.{reply_for_fault, reply_of, IsAnswered};
-ghost use Rattle.tb_store.specs.Calls.{CrashesWhole, InState};
 
 use sqlite::Alter;
 use tb_core::{Corrected, Event, Fault, Imported, Moved, Pulled, Restored};

@@ -1,20 +1,15 @@
 //! Counts of what is found in released text, as CSV.
 
 ghost use Rattle.std.specs.Prelude.{◌≡◌, ℕ, List, Err, IfOk, IfErr, MatchResult, None};
-ghost use Rattle.tb_report.specs.Csv.{freq_csv};
-ghost use Rattle.tb_report.specs.Tables.{Row, IsTableOf, IsRankingOf, total_of};
-ghost use Rattle.tb_search.specs.Searched.{Occurrence, keys};
-ghost use Rattle.tb_http.specs.declared.status.Status.{Status as AnyStatus};
-ghost use Rattle.tb_store.specs.Found.{AreReleasedHits};
+ghost use Rattle.tb_answer.specs.Prelude.{AnyStatus, AreReleasedHits, CommitsNothing, freq_csv, Gives, GivesOnErr};
+ghost use Rattle.tb_answer.specs.Prelude.{InState, IsRankingOf, IsTableOf, KeepsState, keys, Occurrence, Row};
+ghost use Rattle.tb_answer.specs.Prelude.{status_of, total_of};
 ghost use Rattle.tb_answer.specs.Asked.{IsMadeOf};
 ghost use Rattle.tb_answer.specs.Commanded.{HasFailed, IsFailure};
 ghost use Rattle.tb_answer.specs.Output.{IsWritten};
 ghost use Rattle.tb_answer.specs.Responses.{IsSent, body_response, reply_response};
-ghost use Rattle.tb_http.specs.Replies.{status_of};
 ghost use Rattle.tb_answer.specs.Found.{count_by, IsCounted, IsCountOutput, IsCountResponse, IsReportedOfQuery};
 ghost use Rattle.tb_answer.specs.Calls.{ReadsOnly};
-ghost use Rattle.tb_store.specs.Calls.{Gives, GivesOnErr, InState, KeepsState};
-ghost use Rattle.tb_tables.specs.Leaving.{CommitsNothing};
 
 use crate::bodies::{body_of, or_memory};
 use crate::commands::reply_for_fault;

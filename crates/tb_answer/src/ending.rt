@@ -1,11 +1,7 @@
 //! How a search ends.
 
 ghost use Rattle.std.specs.Prelude.{◌≡◌, ℕ, List, [], Option};
-ghost use Rattle.tb_core.specs.Machine.{Machine};
-ghost use Rattle.tb_match.specs.declared.strategy.Strategy.{Strategy as AnyStrategy};
-ghost use Rattle.tb_query.specs.Search.{Asked};
-ghost use Rattle.tb_search.specs.Searched.{Occurrence};
-ghost use Rattle.tb_store.specs.Found.{AreReleasedHits, IsPartFound};
+ghost use Rattle.tb_answer.specs.Prelude.{AnyStrategy, AreReleasedHits, Asked, IsPartFound, Machine, Occurrence};
 ghost use Rattle.tb_answer.specs.Found.{IsStreamed, exit_of_ending, reported_of_ending};
 
 use tb_core::Fault;

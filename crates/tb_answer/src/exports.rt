@@ -1,22 +1,14 @@
 //! Exports, made whole in memory before their first byte is written: with an exit status, or as responses over HTTP.
 
-ghost use Rattle.std.specs.Prelude.{◌≡◌, ◌≢◌, ℕ, List, None, Ok as OkOf, Err as ErrOf, IfOk, option_map};
-ghost use Rattle.std.specs.Prelude.{MatchResult};
-ghost use Rattle.std.specs.Io.KnownBytes.{Appends};
-ghost use Rattle.sqlite.specs.State.{HasCleanDisk};
-ghost use Rattle.sqlite.specs.Held.{state};
-ghost use Rattle.tb_core.specs.declared.refusals.Refusal.{Refusal as AnyRefusal};
-ghost use Rattle.tb_core.specs.Machine.{Machine};
-ghost use Rattle.tb_http.specs.declared.status.Status.{Status as AnyStatus};
-ghost use Rattle.tb_store.specs.Represents.{Represents};
+ghost use Rattle.std.specs.Prelude.{◌≡◌, ◌≢◌, ℕ, List, None, Ok as OkOf, Err as ErrOf, IfOk, option_map, MatchResult};
+ghost use Rattle.tb_answer.specs.Prelude.{AnyRefusal, AnyStatus, Appends, BlamesNoDevice, Does, Gives, GivesOnErr};
+ghost use Rattle.tb_answer.specs.Prelude.{HasCleanDisk, InState, KeepsState, KnowsItself, Machine, Represents, state};
 ghost use Rattle.tb_answer.specs.Commanded.{HasFailed, IsFailure, IsNoRefusal, reply_for_export};
 ghost use Rattle.tb_answer.specs.Output.{IsWritten};
 ghost use Rattle.tb_answer.specs.Responses.{IsSent};
 ghost use Rattle.tb_answer.specs.Exported.{HasExport, RefusesExport, IsExportOutput, IsReportedOfExport};
 ghost use Rattle.tb_answer.specs.Exported.{IsExportResponse, IsNamedBadly};
 ghost use Rattle.tb_answer.specs.Calls.{ReadsOnly};
-ghost use Rattle.tb_store.specs.Blaming.{BlamesNoDevice};
-ghost use Rattle.tb_store.specs.Calls.{Does, Gives, GivesOnErr, InState, KnowsItself, KeepsState};
 
 use crate::bodies::body_of;
 use crate::commands::reply_for_fault;

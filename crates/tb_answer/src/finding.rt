@@ -1,16 +1,11 @@
 //! Searches and counts of released text, and whether their queries are accepted.
 
 ghost use Rattle.std.specs.Prelude.{◌≡◌, ◌≢◌, Ok as OkOf, Err as ErrOf, IfOk, IfErr, MatchResult};
-ghost use Rattle.sqlite.specs.State.{HasCleanDisk};
-ghost use Rattle.sqlite.specs.Held.{state};
-ghost use Rattle.tb_core.specs.Machine.{Machine};
-ghost use Rattle.tb_query.specs.Reading.{IsQuery};
-ghost use Rattle.tb_store.specs.Represents.{Represents};
+ghost use Rattle.tb_answer.specs.Prelude.{CommitsNothing, Does, Gives, GivesOnErr, HasCleanDisk, IsQuery, KeepsState};
+ghost use Rattle.tb_answer.specs.Prelude.{Machine, Represents, state};
 ghost use Rattle.tb_answer.specs.Commanded.{HasFailed, reply_for_fault};
 ghost use Rattle.tb_answer.specs.Found.{query_reply, IsAskedQuery, IsAllowed, IsLimitReply, IsQueryReply};
 ghost use Rattle.tb_answer.specs.Found.{IsReportedOfQuery};
-ghost use Rattle.tb_store.specs.Calls.{Does, Gives, GivesOnErr, KeepsState};
-ghost use Rattle.tb_tables.specs.Leaving.{CommitsNothing};
 
 use crate::commands::reply_for_fault;
 use sqlite::Alter;

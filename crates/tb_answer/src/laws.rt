@@ -1,16 +1,9 @@
 //! Laws of lists of requests and of the check. Each function states a fact about the definitions, and runs nothing.
 
 ghost use Rattle.std.specs.Prelude.{◌≡◌, ◌≤◌, ◌⊎◌, List, ℕ, length};
-ghost use Rattle.sqlite_trees.specs.declared.memory.MemStore.{MemStore};
-ghost use Rattle.sqlite.specs.Held.{state};
-ghost use Rattle.sqlite.specs.State.{HasCleanDisk};
-ghost use Rattle.sqlite.specs.Steps.{over_memory};
-ghost use Rattle.tb_conllu.specs.Text.{BlockText};
-ghost use Rattle.tb_core.specs.Taking.{IsBody};
-ghost use Rattle.tb_check.specs.Check.{IsReplyTo, words_in};
-ghost use Rattle.tb_check.specs.declared.reply.CheckReply.{CheckReply};
+ghost use Rattle.tb_answer.specs.Prelude.{BlockText, CheckReply, HasCleanDisk, IsBody, IsReplyTo, Kept, MemStore};
+ghost use Rattle.tb_answer.specs.Prelude.{over_memory, state, words_in};
 ghost use Rattle.tb_check.specs.declared.reply.CheckReply.TheVariants.{Counts, Memory};
-ghost use Rattle.tb_store.specs.Kept.{Kept};
 ghost use Rattle.tb_answer.specs.Calls.{HasNoNewFault};
 ghost use Rattle.tb_answer.specs.Turns.{AreServed, LeadOn};
 

@@ -15,6 +15,7 @@ mod exports;
 mod finding;
 mod laws;
 mod lines;
+mod listed;
 mod numbered;
 mod output;
 mod questions;

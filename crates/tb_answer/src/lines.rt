@@ -1,14 +1,12 @@
 //! Runs a line of words on a desk.
 
 ghost use Rattle.std.specs.Prelude.{◌≡◌, MatchResult, Ok as Taken, Err as Untaken, option_map, string_bytes};
-ghost use Rattle.tb_check.specs.Check.{file_limit};
-ghost use Rattle.tb_cli.specs.Lines.{said_by};
+ghost use Rattle.tb_answer.specs.Prelude.{file_limit, InState, KeepsState, said_by};
 ghost use Rattle.tb_answer.specs.Commanded.{HasFailed};
 ghost use Rattle.tb_answer.specs.Taken.{IsTaken, WithTaken, body_in, has_body};
 ghost use Rattle.tb_answer.specs.Calls.{call_by, call_in, ReadsOnly};
 ghost use Rattle.tb_answer.specs.Ran.{reading_by, reading_in, IsReadingRun, IsCalled, IsDone, IsRan, IsRanAs};
 ghost use Rattle.tb_answer.specs.Ran.{IsCallSafe, IsDoneSafe, IsLineSafe};
-ghost use Rattle.tb_store.specs.Calls.{InState, KeepsState};
 
 use crate::calls::DeskCall;
 use crate::counts::run_count;

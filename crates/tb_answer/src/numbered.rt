@@ -1,17 +1,12 @@
 //! The list of the sentences of a batch that is named by its number, as the page asks for it.
 
 ghost use Rattle.std.specs.Prelude.{◌≡◌, Err, IfErr, IfOk, None, option_map};
-ghost use Rattle.sqlite.specs.Held.{state};
-ghost use Rattle.sqlite.specs.State.{HasCleanDisk};
-ghost use Rattle.tb_core.specs.Machine.{Machine};
+ghost use Rattle.tb_answer.specs.Prelude.{batch_lines, CommitsNothing, Gives, GivesOnErr, HasCleanDisk, KeepsState};
+ghost use Rattle.tb_answer.specs.Prelude.{Machine, Represents, state};
 ghost use Rattle.tb_answer.specs.Calls.{ReadsOnly};
 ghost use Rattle.tb_answer.specs.Commanded.{HasFailed, reply_for_fault};
 ghost use Rattle.tb_answer.specs.Numbered.{IsNumberedText, RefusesNumber, name_in};
 ghost use Rattle.tb_answer.specs.Viewed.{IsReportedAs};
-ghost use Rattle.tb_lists.specs.Batches.{batch_lines};
-ghost use Rattle.tb_store.specs.Calls.{Gives, GivesOnErr, KeepsState};
-ghost use Rattle.tb_store.specs.Represents.{Represents};
-ghost use Rattle.tb_tables.specs.Leaving.{CommitsNothing};
 
 use crate::commands::reply_for_fault;
 use crate::views::view_sentences;

@@ -1,6 +1,6 @@
 //! Writes answers to any sink.
 
-ghost use Rattle.tb_http.specs.Replies.{reply_text, exit_of};
+ghost use Rattle.tb_answer.specs.Prelude.{exit_of, reply_text};
 ghost use Rattle.tb_answer.specs.Output.{IsWritten};
 
 use tb_conllu::Sink;

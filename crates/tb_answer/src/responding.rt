@@ -1,10 +1,9 @@
 //! Runs calls of a desk, and answers them over HTTP.
 
 ghost use Rattle.std.specs.Prelude.{◌≡◌, ℕ, List};
-ghost use Rattle.tb_http.specs.declared.status.Status.{Status as AnyStatus};
+ghost use Rattle.tb_answer.specs.Prelude.{AnyStatus, InState};
 ghost use Rattle.tb_answer.specs.Calls.{call_by, IsSafe};
 ghost use Rattle.tb_answer.specs.Responses.{IsResponse, IsSent};
-ghost use Rattle.tb_store.specs.Calls.{InState};
 
 use crate::bodies;
 use crate::calls::DeskCall;

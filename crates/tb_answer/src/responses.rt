@@ -1,10 +1,7 @@
 //! Writes responses over HTTP to any sink.
 
 ghost use Rattle.std.specs.Prelude.{◌≡◌, ◌++◌, MatchResult, true, false};
-ghost use Rattle.std.specs.Io.KnownBytes.{Appends};
-ghost use Rattle.tb_conllu.specs.Sunk.{AppendsPart};
-ghost use Rattle.tb_http.specs.Replies.{status_of};
-ghost use Rattle.tb_search.specs.Visited.{HasReason};
+ghost use Rattle.tb_answer.specs.Prelude.{Appends, AppendsPart, HasReason, status_of};
 ghost use Rattle.tb_answer.specs.Responses.{reply_response, extra_of_revision, body_head, body_response, IsSent};
 
 use crate::questions::Body;

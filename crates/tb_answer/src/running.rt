@@ -1,10 +1,10 @@
 //! Runs calls of a desk, and writes their answers to a sink.
 
 ghost use Rattle.std.specs.Prelude.{◌≡◌, ℕ, List};
+ghost use Rattle.tb_answer.specs.Prelude.{CrashesWhole, InState};
 ghost use Rattle.tb_answer.specs.Commanded.{IsAnswered};
 ghost use Rattle.tb_answer.specs.Output.{IsWritten};
 ghost use Rattle.tb_answer.specs.Calls.{command_by, call_by, IsOutput, IsSafe};
-ghost use Rattle.tb_store.specs.Calls.{CrashesWhole, InState};
 
 use crate::calls::{DeskCall, DeskCommand};
 use crate::written::Ran;

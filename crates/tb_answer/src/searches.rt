@@ -1,17 +1,15 @@
 //! Searches of released text, whose keyword lines are written as they are found.
 
 ghost use Rattle.std.specs.Prelude.{◌≡◌, [], IfErr, IfOk};
-ghost use Rattle.tb_search.specs.Visited.{HasReason};
+ghost use Rattle.tb_answer.specs.Prelude.{CommitsNothing, exit_of, HasReason, InState, KeepsState, reply_text};
+ghost use Rattle.tb_answer.specs.Prelude.{status_of};
 ghost use Rattle.tb_answer.specs.Commanded.{HasFailed};
-ghost use Rattle.tb_http.specs.Replies.{exit_of, reply_text, status_of};
 ghost use Rattle.tb_answer.specs.declared.ending.Ending.{Ending as AnyEnding};
 ghost use Rattle.tb_answer.specs.Found.{exit_of_ending, reported_of_ending, search_by, search_head, IsSearchResponse};
 ghost use Rattle.tb_answer.specs.Found.{IsSearchRun, IsStreamed};
 ghost use Rattle.tb_answer.specs.Output.{IsWritten};
 ghost use Rattle.tb_answer.specs.Responses.{reply_response, IsSent};
 ghost use Rattle.tb_answer.specs.Calls.{ReadsOnly};
-ghost use Rattle.tb_store.specs.Calls.{InState, KeepsState};
-ghost use Rattle.tb_tables.specs.Leaving.{CommitsNothing};
 
 use crate::ending::{Ending, ending_of, reported_of};
 use crate::finding::{Search, accepted};

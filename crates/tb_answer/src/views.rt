@@ -1,56 +1,26 @@
 //! The lists that `deskview` shows, as CSV, and the tree of a sentence.
 
 ghost use Rattle.std.specs.Prelude.{◌≡◌, Err, IfOk, IfErr, Some, string_bytes};
+ghost use Rattle.tb_answer.specs.Prelude.{batch_lines, batches_csv, CommitsNothing, Gives, GivesOnErr, HasNoSentence};
+ghost use Rattle.tb_answer.specs.Prelude.{KeepsState, listed_by, Machine, RefusesId, Represents, trees_page};
 ghost use Rattle.tb_core.specs.declared.refusals.Fault.TheVariants.{Refused};
-ghost use Rattle.tb_core.specs.Machine.{Machine};
-ghost use Rattle.tb_cli.specs.View.{listed_by};
-ghost use Rattle.tb_lists.specs.Batches.{batch_lines};
-ghost use Rattle.tb_lists.specs.Csv.{batches_csv, found_csv, revisions_csv, sentences_csv};
 ghost use Rattle.tb_answer.specs.Asked.{IsMadeOf, IsReportedOf};
 ghost use Rattle.tb_answer.specs.Commanded.{HasFailed, IsFailure};
 ghost use Rattle.tb_answer.specs.Exported.{IsReportedOfExport};
 ghost use Rattle.tb_answer.specs.Calls.{ReadsOnly};
 ghost use Rattle.tb_answer.specs.Viewed.{IsFoundText, IsReportedAs, IsRevisionsText, IsSentencesText, IsTreeText};
 ghost use Rattle.tb_answer.specs.Viewed.{IsView, IsViewReported, ViewsNone};
-ghost use Rattle.tb_report.specs.Trees.{trees_page};
-ghost use Rattle.tb_store.specs.Answers.{HasNoSentence, RefusesId};
-ghost use Rattle.tb_store.specs.Calls.{Gives, GivesOnErr, KeepsState};
-ghost use Rattle.tb_store.specs.Represents.{Represents};
-ghost use Rattle.tb_tables.specs.Leaving.{CommitsNothing};
 
-use crate::bodies::or_memory;
 use crate::commands::reply_for_fault;
+use crate::listed::text_or_reply;
 use crate::questions::Question;
 use sqlite::Alter;
 use std::alloc::Global;
 use tb_cli::ViewList;
 use tb_core::{Fault, Refusal};
 use tb_http::Reply;
-use tb_lists::{
-    BatchLine, FoundLine, RevisionLine, SentenceLine, csv_batches, csv_found, csv_revisions,
-    csv_sentences,
-};
 use tb_report::trees_page;
 use tb_store::{Current, Desk};
-
-/// Batches as CSV.
-fn batches_text(alloc: Global, batches: &[BatchLine]) -> Result<Vec<u8>, Reply>
-    ensures text { IfOk result (λ v. v.items ≡ batches_csv batches.now) }
-    ensures failed { IfErr result (λ r. r ≡ Reply.Memory) }
-{
-    let mut text = Vec::new(alloc);
-    or_memory(csv_batches(alloc, batches, &mut text), text)
-}
-
-/// The text of the batches that were read, or the reply for the fault of the read.
-fn batches_or_reply(alloc: Global, read: Result<Vec<BatchLine>, Fault>) -> Result<Vec<u8>, Reply>
-    ensures { IsMadeOf read result (λ batches v. v.items ≡ batches_csv batches.items) }
-{
-    match read {
-        Ok(batches) => batches_text(alloc, batches.as_slice()),
-        Err(fault) => Err(reply_for_fault(fault)),
-    }
-}
 
 /// The batches by number, each with its state, its worker and its counts. It is never refused.
 pub fn view_batches<S: Alter>(alloc: Global, desk: &mut Desk<S>) -> Result<Vec<u8>, Reply>
@@ -61,29 +31,7 @@ pub fn view_batches<S: Alter>(alloc: Global, desk: &mut Desk<S>) -> Result<Vec<u
     ensures crash { ReadsOnly S.Store desk.old desk.new }
     ensures limits { desk.new.limits ≡ desk.old.limits }
 {
-    batches_or_reply(alloc, desk.batches())
-}
-
-/// Sentences as CSV.
-fn sentences_text(alloc: Global, sentences: &[SentenceLine]) -> Result<Vec<u8>, Reply>
-    ensures text { IfOk result (λ v. v.items ≡ sentences_csv sentences.now) }
-    ensures failed { IfErr result (λ r. r ≡ Reply.Memory) }
-{
-    let mut text = Vec::new(alloc);
-    or_memory(csv_sentences(alloc, sentences, &mut text), text)
-}
-
-/// The text of the sentences that were read, or the reply for the fault of the read.
-fn sentences_or_reply(
-    alloc: Global,
-    read: Result<Vec<SentenceLine>, Fault>,
-) -> Result<Vec<u8>, Reply>
-    ensures { IsMadeOf read result (λ sentences v. v.items ≡ sentences_csv sentences.items) }
-{
-    match read {
-        Ok(sentences) => sentences_text(alloc, sentences.as_slice()),
-        Err(fault) => Err(reply_for_fault(fault)),
-    }
+    text_or_reply(alloc, desk.batches())
 }
 
 /// The sentences of the batch with this name, pulled ones too, by number. It is refused as an export of the batch.
@@ -104,29 +52,7 @@ pub(crate) fn view_sentences<S: Alter>(
     ensures crash { ReadsOnly S.Store desk.old desk.new }
     ensures limits { desk.new.limits ≡ desk.old.limits }
 {
-    sentences_or_reply(alloc, desk.sentences(name))
-}
-
-/// Revisions as CSV.
-fn revisions_text(alloc: Global, revisions: &[RevisionLine]) -> Result<Vec<u8>, Reply>
-    ensures text { IfOk result (λ v. v.items ≡ revisions_csv revisions.now) }
-    ensures failed { IfErr result (λ r. r ≡ Reply.Memory) }
-{
-    let mut text = Vec::new(alloc);
-    or_memory(csv_revisions(alloc, revisions, &mut text), text)
-}
-
-/// The text of the revisions that were read, or the reply for the fault of the read.
-fn revisions_or_reply(
-    alloc: Global,
-    read: Result<Vec<RevisionLine>, Fault>,
-) -> Result<Vec<u8>, Reply>
-    ensures { IsMadeOf read result (λ revisions v. v.items ≡ revisions_csv revisions.items) }
-{
-    match read {
-        Ok(revisions) => revisions_text(alloc, revisions.as_slice()),
-        Err(fault) => Err(reply_for_fault(fault)),
-    }
+    text_or_reply(alloc, desk.sentences(name))
 }
 
 /// The revisions of the sentence with this number, from 1, each with the move that made it.
@@ -144,26 +70,7 @@ fn revisions<S: Alter>(alloc: Global, desk: &mut Desk<S>, number: u64) -> Result
     ensures crash { ReadsOnly S.Store desk.old desk.new }
     ensures limits { desk.new.limits ≡ desk.old.limits }
 {
-    revisions_or_reply(alloc, desk.revisions(number))
-}
-
-/// What was found as CSV.
-fn found_text(alloc: Global, found: &FoundLine) -> Result<Vec<u8>, Reply>
-    ensures text { IfOk result (λ v. v.items ≡ found_csv found.now) }
-    ensures failed { IfErr result (λ r. r ≡ Reply.Memory) }
-{
-    let mut text = Vec::new(alloc);
-    or_memory(csv_found(alloc, found, &mut text), text)
-}
-
-/// The text of the sentence that was read, or the reply for the fault of the read.
-fn found_or_reply(alloc: Global, read: Result<FoundLine, Fault>) -> Result<Vec<u8>, Reply>
-    ensures { IsMadeOf read result (λ found v. v.items ≡ found_csv found) }
-{
-    match read {
-        Ok(found) => found_text(alloc, &found),
-        Err(fault) => Err(reply_for_fault(fault)),
-    }
+    text_or_reply(alloc, desk.revisions(number))
 }
 
 /// The sentence with this `sent_id`, pulled or not, with the name of its batch.
@@ -183,7 +90,7 @@ pub fn view_found<S: Alter>(
     ensures crash { ReadsOnly S.Store desk.old desk.new }
     ensures limits { desk.new.limits ≡ desk.old.limits }
 {
-    found_or_reply(alloc, desk.find(sent_id))
+    text_or_reply(alloc, desk.find(sent_id))
 }
 
 /// The page of a sentence's tree.

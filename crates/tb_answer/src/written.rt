@@ -1,7 +1,7 @@
 //! What a line was answered, as a value.
 
 ghost use Rattle.std.specs.Prelude.{◌≡◌, MatchResult, length};
-ghost use Rattle.tb_http.specs.Replies.{reply_text, exit_of};
+ghost use Rattle.tb_answer.specs.Prelude.{exit_of, reply_text};
 ghost use Rattle.tb_answer.specs.Found.{exit_of_ending};
 ghost use Rattle.tb_answer.specs.Output.{IsWritten};
 

@@ -5,13 +5,13 @@ use Rattle.tb_answer.proofs.bodies.totals.Goals as goal
 
 pub returns-clause-answered : goal.returns-clause-answered
 returns-clause-answered g c clean =
-    made_ok c.totals.result c.totals_or_reply.result c.totals_or_reply.ensures (c.totals.ensures.answered clean) (λ totals v are is s stands. is ∙ totals_are totals s (are s stands))
+    made_ok c.totals.result c.text_or_reply.result c.text_or_reply.ensures (c.totals.ensures.answered clean) (λ totals v are is s stands. is ∙ totals_are totals s (are s stands))
 
 pub returns-clause-failed : goal.returns-clause-failed
-returns-clause-failed g c clean = err_each _ _ c.totals_or_reply.result (λ s stands.
-    made_err _ _ c.totals.result c.totals_or_reply.result c.totals_or_reply.ensures
+returns-clause-failed g c clean = err_each _ _ c.text_or_reply.result (λ s stands.
+    made_err _ _ c.totals.result c.text_or_reply.result c.text_or_reply.ensures
     (failure_told c.totals.result c.totals.ensures.never_refuses (c.totals.ensures.fails clean s stands) (c.totals.ensures.cause clean s stands) c.totals.ensures.output) (λ totals is. inl refl))
 
 pub returns-clause-unrefused : goal.returns-clause-unrefused
 returns-clause-unrefused g c =
-    made_err _ _ c.totals.result c.totals_or_reply.result c.totals_or_reply.ensures (store_failure_told c.totals.result c.totals.ensures.never_refuses) (λ totals is. inl (inl refl))
+    made_err _ _ c.totals.result c.text_or_reply.result c.text_or_reply.ensures (store_failure_told c.totals.result c.totals.ensures.never_refuses) (λ totals is. inl (inl refl))
