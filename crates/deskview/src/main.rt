@@ -4,6 +4,9 @@
 //! Read `run_view` in tb_desk next.
 #![tactic(auto)]
 
+ghost use Rattle.std.specs.Process.{exit_status};
+ghost use Rattle.tb_desk.specs.Programs.{ShowsWords, IsExit};
+
 use std::io::Write;
 use std::process::ExitCode;
 use tb_conllu::Source;
@@ -14,6 +17,13 @@ use tb_desk::{DESKVIEW, Outcome, Program, run_program, run_view};
 struct Deskview;
 
 impl Program for Deskview {
+    ghost use Rattle.std.specs.Prelude.{codes};
+    ghost use Rattle.tb_desk.specs.Programs.{ShowsWords};
+
+    ghost program_name = { codes "deskview" };
+
+    ghost AnswersTo = { ShowsWords };
+
     fn name(&self) -> &'static str {
         DESKVIEW
     }
@@ -29,6 +39,13 @@ impl Program for Deskview {
     }
 }
 
+/// Runs the program, and returns its exit status.
+fn exit_code(rt: &HostRuntime) -> ExitCode
+    ensures { IsExit ShowsWords (exit_status result) }
+{
+    ExitCode::from(run_program(rt, &Deskview))
+}
+
 fn main(rt: HostRuntime) -> ExitCode {
-    ExitCode::from(run_program(&rt, &Deskview))
+    exit_code(&rt)
 }

@@ -1,4 +1,5 @@
 mod Awaiting
 mod FirstFaults
 mod Ran
+mod Served
 mod Shown

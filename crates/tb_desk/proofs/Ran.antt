@@ -1,5 +1,6 @@
 -- A line on a desk, whether or not its body came, and what is read of the desk after its answer.
-use Rattle.std.proofs.Common.{◌≡◌, ◌≢◌, ℕ, List, Result, Ok, Err, MatchResult, refl, arith, le_trans, inl}
+use Rattle.std.proofs.Common.{◌≡◌, ◌≢◌, ◌∙◌, ℕ, List, Option, Result, Ok, Err, MatchResult, refl, sym, arith, le_trans, inl, inr}
+use Rattle.std.proofs.lemmas.Bool.{false≢true}
 use Rattle.sqlite.specs.Store.{Ghosts}
 use Rattle.sqlite.specs.Held.{state}
 use Rattle.sqlite.specs.State.{HasCleanDisk, Survives}
@@ -9,6 +10,10 @@ use Rattle.tb_core.specs.Machine.{Machine}
 use Rattle.tb_store.specs.Calls.{InState, KeepsState}
 use Rattle.tb_store.specs.Kept.{Kept}
 use Rattle.tb_store.specs.Represents.{Represents}
+use Rattle.tb_http.specs.declared.replies.Reply.{Reply}
+use Rattle.tb_cli.specs.Lines.{Said}
+use Rattle.tb_answer.specs.Taken.{IsTaken}
+use Rattle.tb_desk.specs.Lines.{LeavesInput}
 use Rattle.tb_desk.specs.Running.{IsRead, taken_of}
 
 module _ {S : Type 0} {g : Ghosts S} where
@@ -45,3 +50,14 @@ taken_so items (Err e) P said = said
 pub taken_in : {S V E : Type 0} (g : Ghosts S) (old new : Kept S) (items : V → List ℕ) (body : Result V E) (P : Machine → Result (List ℕ) E → Type 0)
     → InState g old new (λ s. MatchResult body (λ v. P s (Ok (items v))) (λ e. P s (Err e))) → InState g old new (λ s. P s (taken_of items body))
 taken_in g old new items body P said clean s stands = taken_so items body (P s) (said clean s stands)
+
+module _ {R Why : Type 0} (is_failure : R → Why → Type 0) (left : R → Option (List ℕ)) (limit : ℕ) (said : Said) (old new : R) where
+  untaken : (taken : Result (List ℕ) Reply) → IsTaken is_failure left limit said old new taken → LeavesInput old new said
+  untaken taken (inl came) none = absurd (false≢true (sym none ∙ came.0))
+  untaken taken (inr kept) none = kept.1
+
+  -- a line without a body takes nothing of its input
+  pub input_left : {V : Type 0} (items : V → List ℕ) (body : Result V Reply)
+      → MatchResult body (λ v. IsTaken is_failure left limit said old new (Ok (items v))) (λ r. IsTaken is_failure left limit said old new (Err r))
+      → LeavesInput old new said
+  input_left items body came = untaken (taken_of items body) (taken_so items body (IsTaken is_failure left limit said old new) came)

@@ -10,10 +10,12 @@ pub mod Lines
 pub mod Misfits
 pub mod Opened
 pub mod Patience
+pub mod Programs
 pub mod Replies
 pub mod Reported
 pub mod Running
 pub mod Sentences
+pub mod Served
 pub mod Serving
 pub mod Streams
 pub mod Targets

@@ -1,6 +1,6 @@
--- How a command line ends: what is written, the exit status, and what was taken of the input. Lines of `serve` are left
--- out: what a server answers is said request by request.
-use Rattle.std.specs.Prelude.{◌≡◌, ◌≢◌, ◌⊎◌, ℕ, List, codes, true, Option, Some, None}
+-- How a command line ends: what is written, the exit status, and what was taken of the input. What a server answers
+-- is said request by request.
+use Rattle.std.specs.Prelude.{◌≡◌, ◌≢◌, ◌⊎◌, ℕ, List, codes, true, false, Option, Some, None}
 use Rattle.sqlite_trees.specs.declared.memory.MemStore.{MemStore}
 use Rattle.sqlite.specs.Store.{Ghosts}
 use Rattle.sqlite.specs.Files.{over_files}
@@ -14,12 +14,18 @@ use Rattle.tb_cli.specs.Tree.{desk_app}
 use Rattle.tb_cli.specs.declared.lines.LineFault.{LineFault}
 use Rattle.tb_store.specs.Kept.{Kept}
 use Rattle.tb_answer.specs.Output.{IsWritten}
-use Rattle.tb_answer.specs.Taken.{WithTaken}
+use Rattle.tb_answer.specs.Taken.{WithTaken, has_body}
 use Rattle.tb_desk.specs.Opened.{IsEmptyDesk, IsMadeDesk, IsSomeDesk}
 use Rattle.tb_desk.specs.Replies.{IsFaultWritten, IsFileRefused, IsReplyWritten}
 use Rattle.tb_desk.specs.Running.{IsRunOn}
+use Rattle.tb_desk.specs.Served.{IsServed, IsServedInFile, WithService, service_of}
+use Rattle.tb_desk.specs.declared.causes.Cause.{Cause}
 use Rattle.tb_desk.specs.declared.files.FileDesk.{FileDesk}
-use Rattle.tb_desk.specs.Targets.{Place, made_in, migrated_in, in_file, in_memory, place_in, serves}
+use Rattle.tb_desk.specs.Targets.{Place, made_in, migrated_in, in_file, in_memory, place_in}
+
+-- a line without a body leaves the input as it was
+abbrev pub LeavesInput : {R : Type 0} → (before after : R) → Said → Type 0
+LeavesInput before after said = has_body said ≡ false → after ≡ before
 
 module _ {Reason : Type 0} (held holds : Option (List ℕ)) (is_refusal : Reason → Type 0) (status : ℕ) where
   -- a desk without a batch was made in the file, and `made` is written
@@ -47,36 +53,41 @@ module _ {R Why Reason : Type 0} (is_failure : R → Why → Type 0) (unread : R
   IsRunWithBody g opened ended said = WithTaken is_failure unread file_limit said before after
       (λ taken. IsRunOn g held holds is_refusal status opened ended said taken)
 
-  -- there was a desk in the file, and the line ran on it
+  -- there was a desk in the file, and the line, which asks for no service, ran on it
   pub record IsRunInFile (said : Said) : Type 0 where
+    pub unserved : service_of said ≡ None
     pub opened : FileDesk
     pub ended : FileDesk
     pub is : IsSomeDesk over_files opened.desk
     pub ran : IsRunWithBody over_files opened.desk ended.desk said
 
-  -- the line ran on a desk in memory
+  -- the line, which asks for no service, ran on a desk in memory
   pub record IsRunInMemory (said : Said) : Type 0 where
+    pub unserved : service_of said ≡ None
     pub opened : Kept MemStore
     pub ended : Kept MemStore
     pub is : IsEmptyDesk over_memory opened
     pub ran : IsRunWithBody over_memory opened ended said
 
-  -- How a line ends, by what it works on. In a file a desk is made or migrated, or the line runs on the desk there, or
-  -- the line for the cause at the file is written. Without a file it runs on a desk without a batch, or memory runs out
-  -- for that.
+module _ {R Why Reason : Type 0} (is_failure : R → Why → Type 0) (unread : R → Option (List ℕ)) (before after : R)
+    (held holds : Option (List ℕ)) (is_refusal : Reason → Type 0) (status : ℕ) (is_told : Option Cause → Type 0) where
+  -- How a line ends, by what it works on. In a file a desk is made or migrated, or the desk there is served or the line
+  -- runs on it, or the line for the cause at the file is written. Without a file a desk without a batch is served, or
+  -- the line runs on it, or memory runs out for that.
   abbrev pub IsLineRun : Said → Place → Type 0
   IsLineRun said (made_in path) = IsMadeOrRefused held holds is_refusal status
   IsLineRun said (migrated_in path) = IsMigratedOrRefused held holds is_refusal status
-  IsLineRun said (in_file path) = IsFileRefused held holds is_refusal status ⊎ IsRunInFile said
-  IsLineRun said in_memory = IsReplyWritten held holds is_refusal status reply.Memory ⊎ IsRunInMemory said
-
-  -- a line of `serve`, or a line that ends so
-  abbrev pub IsServedOrRun : Said → Place → Type 0
-  IsServedOrRun said place = (serves said ≡ true) ⊎ IsLineRun said place
+  IsLineRun said (in_file path) = IsFileRefused held holds is_refusal status
+      ⊎ WithService said (IsServedInFile held holds is_refusal status is_told)
+      ⊎ IsRunInFile is_failure unread before after held holds is_refusal status said
+  IsLineRun said in_memory = IsReplyWritten held holds is_refusal status reply.Memory
+      ⊎ WithService said (IsServed held holds is_refusal status is_told)
+      ⊎ IsRunInMemory is_failure unread before after held holds is_refusal status said
 
   -- what the words say is run, or why they say nothing is written
   abbrev pub AreWordsRun : (words : List (List ℕ)) → Type 0
   AreWordsRun words =
-      ((said : Said) × (said_of (subcommand_of desk_app words) ≡ Some said) × IsServedOrRun said (place_in said))
+      ((said : Said) × (said_of (subcommand_of desk_app words) ≡ Some said) × LeavesInput before after said
+      × IsLineRun said (place_in said))
       ⊎ ((e : LineFault) × ComesOnly e (takes desk_app words ≢ true) (said_of (subcommand_of desk_app words) ≡ None)
-      × IsFaultWritten held holds is_refusal status e)
+      × (after ≡ before) × IsFaultWritten held holds is_refusal status e)

@@ -15,6 +15,11 @@ use Rattle.tb_desk.specs.Sentences.{cause_text}
 abbrev pub IsReported : Option Diagnostic → Cause → Type 0
 IsReported reported c = IsSomeAnd reported (λ d. d.cause ≡ c)
 
+-- this is reported: a cause, or none
+abbrev pub IsTold : Option Diagnostic → Option Cause → Type 0
+IsTold reported (Some c) = IsReported reported c
+IsTold reported None = reported ≡ None
+
 -- a cause that explains an answer of the desk or the check
 abbrev pub IsOfAnswer : Cause → Type 0
 IsOfAnswer (cause.Words words) = ⊤

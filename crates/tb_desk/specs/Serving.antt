@@ -10,10 +10,8 @@ use Rattle.std.specs.declared.io.ErrorKind.TheVariants as kind
 use Rattle.tb_http.specs.declared.status.Status.{Status}
 use Rattle.tb_answer.specs.declared.answering.Broken.{Broken}
 use Rattle.tb_answer.specs.declared.answering.Broken.TheVariants as broken
-use Rattle.tb_desk.specs.Causes.{IsPortCause}
 use Rattle.tb_desk.specs.declared.causes.Cause.{Cause}
 use Rattle.tb_desk.specs.declared.causes.Cause.TheVariants as cause
-use Rattle.tb_desk.specs.declared.causes.PortCause.{PortCause}
 use Rattle.tb_desk.specs.declared.serving.Beside.{Beside}
 use Rattle.tb_desk.specs.declared.serving.Beside.TheVariants as beside
 
@@ -21,13 +19,13 @@ use Rattle.tb_desk.specs.declared.serving.Beside.TheVariants as beside
 abbrev pub loopback : List ℕ
 loopback = 127 ∷ 0 ∷ 0 ∷ 1 ∷ []
 
--- the line with which a server says that it listens
-abbrev pub listening : (port : ℕ) → List ℕ
-listening port = codes "listening " ++ decimal port ++ codes "\n"
-
 -- the line that says where the page is
 abbrev pub page_line : (port : ℕ) → List ℕ
 page_line port = codes "deskview: open http://127.0.0.1:" ++ decimal port ++ codes "/ in a browser"
+
+-- the place of a fault at a port
+abbrev pub port_place : (port : ℕ) → List ℕ
+port_place port = codes "port " ++ decimal port
 
 -- What follows from an answer: whether the client has it whole, or why the server ends.
 abbrev pub ended_by : Result Status Broken → (has_moved is_shut : Bool) → Result Bool Cause
@@ -36,14 +34,6 @@ ended_by (Ok status) moved false = Ok true
 ended_by (Err broken.Read) true shut = Err cause.FilesMoved
 ended_by (Err broken.Read) false shut = Ok false
 ended_by (Err broken.Write) moved shut = Ok false
-
--- why a server ends before it has served as many connections as it was asked to
-abbrev pub IsServerEnd : Cause → Type 0
-IsServerEnd c = (c ≡ cause.FilesMoved) ⊎ (c ≡ cause.FileShut) ⊎ (c ≡ cause.NoConnections)
-
--- the system refuses this port for an error of its own
-abbrev pub IsPortRefused : (port : ℕ) → PortCause → Type 0
-IsPortRefused port c = (e : Error) × IsPortCause e port c
 
 -- the port of the page, for a server at this port that has one
 abbrev pub page_at : Beside → (port : ℕ) → Option ℕ

@@ -48,11 +48,6 @@ abbrev pub file_of : Place → Option (List ℕ)
 file_of (in_file path) = Some path
 file_of _ = None
 
--- whether a line serves the desk
-abbrev pub serves : Said → Bool
-serves (serve db port requests) = true
-serves _ = false
-
 -- whether a line changes the desk where it is accepted
 abbrev pub changes : Said → Bool
 changes (import_batch db user name) = true

@@ -5,13 +5,15 @@ use Rattle.sqlite.specs.Files.{over_files}
 use Rattle.sqlite.specs.Store.{Ghosts}
 use Rattle.tb_http.specs.declared.replies.Reply.{Reply}
 use Rattle.tb_cli.specs.Fault.{ComesOnly}
-use Rattle.tb_cli.specs.View.{Listed, Viewed, check, lists, page, trees, view_app, viewed_of}
+use Rattle.tb_cli.specs.View.{Listed, Viewed, check, find, lists, page, trees, view_app, viewed_of}
 use Rattle.tb_cli.specs.declared.lines.LineFault.{LineFault}
 use Rattle.tb_store.specs.Calls.{InState}
 use Rattle.tb_store.specs.Kept.{Kept}
 use Rattle.tb_answer.specs.Commanded.{HasFailed}
 use Rattle.tb_answer.specs.Output.{IsWritten}
 use Rattle.tb_answer.specs.Viewed.{IsView, IsViewReported}
+use Rattle.tb_words.specs.declared.refusals.Asked.{Asked}
+use Rattle.tb_words.specs.declared.refusals.Asked.TheVariants as asks
 use Rattle.tb_desk.specs.declared.causes.Cause.{Cause}
 use Rattle.tb_desk.specs.declared.causes.Cause.TheVariants as cause
 use Rattle.tb_desk.specs.declared.files.FileDesk.{FileDesk}
@@ -19,10 +21,17 @@ use Rattle.tb_desk.specs.Drawing.{AreTreesDrawn}
 use Rattle.tb_desk.specs.Faults.{AreFaultsListed}
 use Rattle.tb_desk.specs.Opened.{IsSomeDesk}
 use Rattle.tb_desk.specs.Replies.{IsFaultWritten, IsFileRefused, IsReplyWritten}
+use Rattle.tb_desk.specs.Served.{IsServedInFile, page_service}
 
 -- What a command lacks whose values have their forms: the file of a desk. A tree needs a number too.
 abbrev pub lacking : (command : List ℕ) → Cause
 lacking command = if bytes_eq command (codes "tree") then cause.BothOrNeither else cause.NothingThere
+
+-- what a list is of, as far as the words for a refusal depend on it
+abbrev pub IsAskedOf : Listed → Asked → Type 0
+IsAskedOf (find id) (asks.SentId text) = text.now ≡ id
+IsAskedOf (find id) _ = ⊥
+IsAskedOf _ asked = asked ≡ asks.Other
 
 module _ {Reason S : Type 0} (g : Ghosts S) (held holds : Option (List ℕ)) (is_refusal : Reason → Type 0)
     (status : ℕ) where
@@ -45,14 +54,16 @@ module _ {Reason : Type 0} (held holds : Option (List ℕ)) (is_refusal : Reason
   IsListRun list = IsFileRefused held holds is_refusal status ⊎ IsShownInFile list
 
 module _ {R Why Reason : Type 0} (is_failure : R → Why → Type 0) (unread : R → Option (List ℕ)) (before after : R)
-    (held holds : Option (List ℕ)) (is_refusal : Reason → Type 0) (status : ℕ) where
-  -- How a line ends: only trees of a file and a check read the input. What a server answers is said request by request.
+    (held holds : Option (List ℕ)) (is_refusal : Reason → Type 0) (status : ℕ) (is_told : Option Cause → Type 0) where
+  -- How a line ends: only trees of a file and a check read the input. What the server of a page answers is said request
+  -- by request.
   abbrev pub IsViewRun : Viewed → Type 0
   IsViewRun (lists db list) = (after ≡ before) × IsListRun held holds is_refusal status list
   IsViewRun trees = AreTreesDrawn (is_failure after) (unread before) (unread after) held holds is_refusal status
   IsViewRun (check most) =
       AreFaultsListed (is_failure after) (unread before) (unread after) held holds is_refusal status most
-  IsViewRun (page db port) = after ≡ before
+  IsViewRun (page db port) = (after ≡ before)
+      × IsServedInFile held holds is_refusal status is_told (page_service port)
 
   -- what the words ask to see is shown, or why they ask nothing is written
   abbrev pub AreWordsShown : (words : List (List ℕ)) → Type 0

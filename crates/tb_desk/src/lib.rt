@@ -29,6 +29,7 @@ mod patience;
 mod place;
 mod programs;
 mod running;
+mod service;
 mod serving;
 mod streams;
 mod targets;

@@ -1,7 +1,9 @@
 //! A whole program: it takes the words of the command line and the standard streams, and ends with a status. At its end
 //! standard error gets the cause that was returned, with the place, and what happened to the streams.
 
-ghost use Rattle.std.specs.Prelude.{◌≡◌, ◌⊎◌, ◌↔◌, IsTrue, MatchResult, None};
+ghost use Rattle.std.specs.Prelude.{◌≡◌, ◌⊎◌, ◌↔◌, IfOk, IsTrue, MatchResult, None, Option};
+ghost use Rattle.tb_desk.specs.Programs.{IsEnd, IsExit};
+ghost use Rattle.tb_desk.specs.declared.diagnostics.Diagnostic.{Diagnostic as Reported};
 ghost use Rattle.tb_desk.specs.Reported.{IsOfAnswer, IsUnbegun, also_reported};
 
 use crate::causes::{Cause, StreamCause};
@@ -17,8 +19,19 @@ const BUFFER: usize = 65_536;
 
 /// What a program does with its words.
 pub trait Program {
+    ghost use Rattle.std.specs.Prelude.{◌≡◌, ℕ, List, map, string_bytes};
+    ghost use Rattle.tb_desk.specs.Programs.{AnswersWords};
+    ghost use Rattle.tb_desk.specs.Reported.{IsTold};
+
     /// The name with which all that it says on standard error begins.
-    fn name(&self) -> &'static str;
+    ghost program_name: { List ℕ };
+
+    /// How it answers words.
+    ghost AnswersTo: { AnswersWords };
+
+    /// Its name.
+    fn name(&self) -> &'static str
+        ensures { result.now ≡ program_name };
 
     /// Does what the words ask, the program's name first. Returns the exit status, and what to say beside it.
     fn run<R: Source, W: Write>(
@@ -27,7 +40,9 @@ pub trait Program {
         words: &[String],
         reader: &mut R,
         out: &mut W,
-    ) -> Outcome;
+    ) -> Outcome
+        ensures { AnswersTo _ _ R.IsFailure R.left reader.old reader.new (W.contents out.old) (W.contents out.new)
+            result.status (IsTold result.reported) (map string_bytes words.now) };
 }
 
 /// What is known at the end of a run: its exit status, the cause that the program returns, and the faults of its
@@ -121,19 +136,37 @@ fn status_after(flushed: io::Result<()>, status: u8) -> u8
     }
 }
 
+/// Answers words over standard input. The exit status is that after the output was flushed.
+fn answer_words<P: Program, W: Write>(
+    rt: &HostRuntime,
+    program: &P,
+    words: &[String],
+    input: &mut Typed<'_>,
+    out: &mut W,
+) -> Outcome
+    ensures { IsEnd P.AnswersTo result.status result.reported }
+{
+    let Outcome { status, reported } = program.run(rt, words, input, out);
+    Outcome {
+        status: status_after(out.flush(), status),
+        reported,
+    }
+}
+
 /// Does what the words ask on standard input and output, and returns the exit status. Where words are wanted on
 /// standard error, it prints the reason there. A failure to print it is ignored.
-fn run<P: Program>(rt: &HostRuntime, program: &P, held: &Held) -> io::Result<u8> {
+fn run<P: Program>(rt: &HostRuntime, program: &P, held: &Held) -> io::Result<u8>
+    ensures { IfOk result (λ status. (reported : Option Reported) × IsEnd P.AnswersTo status reported) }
+{
     let words = words(rt)?;
     let mut out = Heard::new(BufWriter::with_capacity(rt.alloc(), BUFFER, rt.stdout())?);
     let mut input = Typed::new(rt, program.name());
-    let outcome = program.run(rt, &words, &mut input, &mut out);
-    let status = status_after(out.flush(), outcome.status);
+    let Outcome { status, reported } = answer_words(rt, program, &words, &mut input, &mut out);
     if wants_words(rt) {
         let ended = Ended {
             program: program.name(),
             status,
-            reported: outcome.reported,
+            reported,
             input: input.cause(held),
             output: held.output_cause(out.failed()),
         };
@@ -180,7 +213,9 @@ fn put_and_tell(rt: &HostRuntime, program: &str, unbegun: Unbegun) -> u8
 }
 
 /// Runs a program on its words and its standard streams, and returns its exit status.
-pub fn run_program<P: Program>(rt: &HostRuntime, program: &P) -> u8 {
+pub fn run_program<P: Program>(rt: &HostRuntime, program: &P) -> u8
+    ensures { IsExit P.AnswersTo result }
+{
     let held = Held::new(rt);
     match run(rt, program, &held) {
         Ok(status) => status,

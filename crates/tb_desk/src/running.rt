@@ -1,22 +1,23 @@
 //! Does a command line: makes a desk in a file, or works on the desk in a file or in memory.
 
-ghost use Rattle.std.specs.Prelude.{◌≡◌, ◌≢◌, ◌⊎◌, IfSome, None, true};
+ghost use Rattle.std.specs.Prelude.{◌≡◌, ◌≢◌, ◌⊎◌, IfSome, None};
 ghost use Rattle.sqlite.specs.Files.{over_files};
 ghost use Rattle.tb_conllu.specs.declared.fault.WriteFault.{WriteFault};
 ghost use Rattle.tb_cli.specs.Lines.{said_by};
 ghost use Rattle.tb_answer.specs.Output.{IsWritten};
-ghost use Rattle.tb_desk.specs.Lines.{IsMadeOrRefused, IsMigratedOrRefused, IsServedOrRun};
+ghost use Rattle.tb_desk.specs.Lines.{IsLineRun, IsMadeOrRefused, IsMigratedOrRefused, LeavesInput};
 ghost use Rattle.tb_desk.specs.Running.{IsRunOn, taken_of};
 ghost use Rattle.tb_desk.specs.Explaining.{cause_in_memory};
-ghost use Rattle.tb_desk.specs.Reported.{IsReported};
-ghost use Rattle.tb_desk.specs.Targets.{changes, in_file, in_memory, place_in, room_for, serves};
+ghost use Rattle.tb_desk.specs.Reported.{IsReported, IsTold};
+ghost use Rattle.tb_desk.specs.Served.{IsServed, IsServedInFile, WithService, service_of};
+ghost use Rattle.tb_desk.specs.Targets.{changes, in_file, in_memory, place_in, room_for};
 
 use crate::causes::Cause;
 use crate::diagnostics::{Diagnostic, Outcome, put_memory, wants_words};
 use crate::explaining::run_reported;
 use crate::files::{self, FileDesk};
-use crate::place::Place;
-use crate::serving::{Beside, serve};
+use crate::service::{Service, service_of};
+use crate::serving::{Beside, serve, serve_in_file};
 use crate::targets::Target;
 use crate::words::{TREEDESK, put_file_cause};
 use sqlite::Alter;
@@ -75,28 +76,15 @@ fn run_on_desk<W: Write>(
     opened: &mut FileDesk,
     out: &mut W,
 ) -> Outcome
-    ensures { (serves (said_by line.now) ≡ true)
-        ⊎ IsRunOn over_files (W.contents out.old) (W.contents out.new) (λ (_ : WriteFault). Unit {0}) result.status
-        opened.old.desk opened.new.desk (said_by line.now) (taken_of (λ v. v.items) body.now) }
+    ensures { WithService (said_by line.now) (IsServedInFile (W.contents out.old) (W.contents out.new)
+        (λ (_ : WriteFault). Unit {0}) result.status (IsTold result.reported))
+        ⊎ ((service_of (said_by line.now) ≡ None)
+        × IsRunOn over_files (W.contents out.old) (W.contents out.new) (λ (_ : WriteFault). Unit {0}) result.status
+        opened.old.desk opened.new.desk (said_by line.now) (taken_of (λ v. v.items) body.now)) }
 {
-    match line {
-        Line::Serve {
-            db: _,
-            port,
-            requests,
-        } => match Place::new(rt, path) {
-            Ok(place) => serve(
-                rt,
-                &mut opened.desk,
-                Some(&place),
-                Beside::Nothing,
-                *port,
-                *requests,
-                out,
-            ),
-            Err(cause) => put_file_cause(rt, path, cause, out),
-        },
-        _ => run_reported(rt, line, body, &mut opened.desk, out),
+    match service_of(line) {
+        Some(service) => serve_in_file(rt, path, opened, Beside::Nothing, service, out),
+        None => run_reported(rt, line, body, &mut opened.desk, out),
     }
 }
 
@@ -111,8 +99,9 @@ fn run_on_file<R: Source, W: Write>(
     reader: &mut R,
     out: &mut W,
 ) -> Outcome
-    ensures { IsServedOrRun R.IsFailure R.left reader.old reader.new (W.contents out.old) (W.contents out.new)
-        (λ (_ : WriteFault). Unit {0}) result.status (said_by line.now) (in_file path.now) }
+    ensures input { LeavesInput reader.old reader.new (said_by line.now) }
+    ensures ended { IsLineRun R.IsFailure R.left reader.old reader.new (W.contents out.old) (W.contents out.new)
+        (λ (_ : WriteFault). Unit {0}) result.status (IsTold result.reported) (said_by line.now) (in_file path.now) }
 {
     if let Err(cause) = files::look(rt, path) {
         return put_file_cause(rt, path, cause, out);
@@ -175,14 +164,18 @@ fn reported_in_memory(line: &Line, status: u8, reported: Option<Diagnostic>) -> 
 fn serve_in_memory<S: Alter, W: Write>(
     rt: &HostRuntime,
     desk: &mut Desk<S>,
-    port: u16,
-    requests: u64,
+    service: Service,
     out: &mut W,
-) -> Outcome {
+) -> Outcome
+    ensures ended { IsServed (W.contents out.old) (W.contents out.new) (λ (_ : WriteFault). Unit {0}) result.status
+        (IsTold result.reported) service }
+    ensures unmoved { ¬ IsReported result.reported Cause.FilesMoved }
+    ensures limits { desk.new.limits ≡ desk.old.limits }
+{
     if wants_words(rt) {
         let _reported = eprintln!(rt; "{}: {}", TREEDESK, Cause::NothingWillBeKept);
     }
-    serve(rt, desk, None, Beside::Nothing, port, requests, out)
+    serve(rt, desk, None, Beside::Nothing, service, out)
 }
 
 /// Does a line on a desk in memory, with its body.
@@ -193,17 +186,15 @@ fn run_on_desk_in_memory<S: Alter, W: Write>(
     desk: &mut Desk<S>,
     out: &mut W,
 ) -> Outcome
-    ensures { (serves (said_by line.now) ≡ true)
-        ⊎ IsRunOn S.Store (W.contents out.old) (W.contents out.new) (λ (_ : WriteFault). Unit {0}) result.status
-        desk.old desk.new (said_by line.now) (taken_of (λ v. v.items) body.now) }
+    ensures { WithService (said_by line.now) (IsServed (W.contents out.old) (W.contents out.new)
+        (λ (_ : WriteFault). Unit {0}) result.status (IsTold result.reported))
+        ⊎ ((service_of (said_by line.now) ≡ None)
+        × IsRunOn S.Store (W.contents out.old) (W.contents out.new) (λ (_ : WriteFault). Unit {0}) result.status
+        desk.old desk.new (said_by line.now) (taken_of (λ v. v.items) body.now)) }
 {
-    match line {
-        Line::Serve {
-            db: _,
-            port,
-            requests,
-        } => serve_in_memory(rt, desk, *port, *requests, out),
-        _ => {
+    match service_of(line) {
+        Some(service) => serve_in_memory(rt, desk, service, out),
+        None => {
             let Outcome { status, reported } = run_reported(rt, line, body, desk, out);
             Outcome {
                 status,
@@ -220,8 +211,9 @@ fn run_in_memory<R: Source, W: Write>(
     reader: &mut R,
     out: &mut W,
 ) -> Outcome
-    ensures { IsServedOrRun R.IsFailure R.left reader.old reader.new (W.contents out.old) (W.contents out.new)
-        (λ (_ : WriteFault). Unit {0}) result.status (said_by line.now) in_memory }
+    ensures input { LeavesInput reader.old reader.new (said_by line.now) }
+    ensures ended { IsLineRun R.IsFailure R.left reader.old reader.new (W.contents out.old) (W.contents out.new)
+        (λ (_ : WriteFault). Unit {0}) result.status (IsTold result.reported) (said_by line.now) in_memory }
 {
     match files::in_memory(rt) {
         Ok(mut desk) => {
@@ -239,8 +231,10 @@ pub(crate) fn run<R: Source, W: Write>(
     reader: &mut R,
     out: &mut W,
 ) -> Outcome
-    ensures { IsServedOrRun R.IsFailure R.left reader.old reader.new (W.contents out.old) (W.contents out.new)
-        (λ (_ : WriteFault). Unit {0}) result.status (said_by line.now) (place_in (said_by line.now)) }
+    ensures input { LeavesInput reader.old reader.new (said_by line.now) }
+    ensures ended { IsLineRun R.IsFailure R.left reader.old reader.new (W.contents out.old) (W.contents out.new)
+        (λ (_ : WriteFault). Unit {0}) result.status (IsTold result.reported) (said_by line.now)
+        (place_in (said_by line.now)) }
 {
     match Target::of_line(line) {
         Target::New(path) => run_new(rt, path, out),

@@ -1,15 +1,19 @@
 //! Serves the desk over HTTP on loopback: one connection after another, with one request each.
 
 ghost use Rattle.std.specs.Prelude.{◌≡◌, ◌≢◌, ◌++◌, ◌↔◌, IfErr, IfOk, IfSome, IsTrue};
-ghost use Rattle.std.specs.Prelude.{None, Err as ErrOf, Ok as OkOf, OnOk, codes, false};
+ghost use Rattle.std.specs.Prelude.{None, Err as ErrOf, Ok as OkOf, IsSomeAnd, OnErr, OnOk, codes, false, string_bytes};
 ghost use Rattle.std.specs.Io.KnownBytes.{Appends};
 ghost use Rattle.std.specs.Net.Addr.{ipv4_octets};
 ghost use Rattle.sqlite.specs.Held.{state};
 ghost use Rattle.sqlite.specs.State.{HasCleanDisk};
+ghost use Rattle.tb_conllu.specs.Sunk.{AppendsPart};
+ghost use Rattle.tb_conllu.specs.declared.fault.WriteFault.{WriteFault};
 ghost use Rattle.tb_desk.specs.Replies.{IsReplyWritten};
 ghost use Rattle.tb_answer.specs.Served.{Serves};
-ghost use Rattle.tb_desk.specs.Reported.{IsReported};
-ghost use Rattle.tb_desk.specs.Serving.{IsPortRefused, IsServerEnd, ended_by, listening, loopback, page_at, page_line};
+ghost use Rattle.tb_desk.specs.Reported.{IsReported, IsTold};
+ghost use Rattle.tb_desk.specs.Served.{IsChosen, IsEnded, IsPortRefused, IsServed, IsServedAt, IsServedInFile};
+ghost use Rattle.tb_desk.specs.Served.{IsServedWith, IsServerEnd, listening};
+ghost use Rattle.tb_desk.specs.Serving.{ended_by, loopback, page_at, page_line, port_place};
 ghost use Rattle.tb_page.specs.Answered.{AnswersVisit};
 ghost use Rattle.tb_page.specs.Visits.{VisitText, Visits};
 ghost use Rattle.tb_tables.specs.Leaving.{IsFaultless};
@@ -17,13 +21,16 @@ ghost use Rattle.tb_tables.specs.Leaving.{IsFaultless};
 use crate::callers::Caller;
 use crate::causes::{Cause, PortCause};
 use crate::diagnostics::{Diagnostic, Outcome, put_memory, wants_words};
+use crate::files::FileDesk;
 use crate::patience::{Answer, has_changed};
 use crate::place::Place;
+use crate::service::Service;
 use crate::waiting::Waiting;
+use crate::words::put_file_cause;
 use arrayvec::ArrayString;
 use sqlite::Alter;
 use std::alloc::Global;
-use std::io::{BufWriter, Write};
+use std::io::{self, BufWriter, ErrorKind, Write};
 use std::net::{Ipv4Addr, TcpListener, TcpStream};
 use tb_answer::{Broken, answer, put_reply, respond_reply};
 use tb_conllu::{Sink, Source};
@@ -182,12 +189,13 @@ fn listening(port: u16) -> ArrayString<32>
 /// Prints the port at once, for programs that wait to connect to it.
 fn announce<W: Write>(port: u16, out: &mut W) -> Result<(), Reply>
     ensures told { OnOk result (Appends (W.contents out.old) (W.contents out.new) (listening port)) }
+    ensures part { OnErr result (AppendsPart (W.contents out.old) (W.contents out.new) (listening port)) }
     ensures failed { IfErr result (λ reply. reply ≡ Reply.Device) }
 {
     let line = listening(port);
-    if out.write_all(line.as_str().as_bytes()).is_err() {
+    let Ok(()) = out.put(line.as_str().as_bytes()) else {
         return Err(Reply::Device);
-    }
+    };
     match out.flush() {
         Ok(()) => Ok(()),
         Err(_) => Err(Reply::Device),
@@ -219,13 +227,33 @@ fn loopback() -> Ipv4Addr
     Ipv4Addr::new(127, 0, 0, 1)
 }
 
+/// Whether a listener that was asked for this port can have that one.
+fn is_chosen(asked: u16, port: u16) -> bool
+    ensures { IsTrue result ↔ IsChosen asked port }
+{
+    port != 0 && (asked == 0 || port == asked)
+}
+
+/// The port of a listener, by what the system says. A listener at a port that was not asked for is none.
+fn port_of(listener: &TcpListener, asked: u16) -> io::Result<u16>
+    ensures { IfOk result (IsChosen asked) }
+{
+    let port = listener.local_addr()?.port();
+    if is_chosen(asked, port) {
+        Ok(port)
+    } else {
+        Err(io::Error::from(ErrorKind::AddrNotAvailable))
+    }
+}
+
 /// Listens on this port of loopback; for port 0 the system chooses one. Returns the port.
 fn listen(rt: &HostRuntime, port: u16) -> Result<(TcpListener, u16), PortCause>
-    ensures { IfErr result (IsPortRefused port) }
+    ensures chosen { IfOk result (λ found. IsChosen port found.1) }
+    ensures refused { IfErr result (IsPortRefused port) }
 {
     match TcpListener::bind(rt, (loopback(), port)) {
-        Ok(listener) => match listener.local_addr() {
-            Ok(address) => Ok((listener, address.port())),
+        Ok(listener) => match port_of(&listener, port) {
+            Ok(chosen) => Ok((listener, chosen)),
             Err(error) => Err(PortCause::of_system(error, port)),
         },
         Err(error) => Err(PortCause::of_system(error, port)),
@@ -239,26 +267,38 @@ fn has_answer(served: &Result<bool, Cause>) -> bool
     !matches!(served, Ok(false))
 }
 
+/// What a server has while it runs.
+#[derive(Drop)]
+struct Server {
+    routes: Routes,
+    waiting: Waiting,
+    listener: TcpListener,
+}
+
 /// Serves one connection after another. Returns how many it took.
 ///
 /// # Errors
 ///
-/// The cause, if the desk cannot be served any further.
+/// The cause, if the desk cannot be served any further. Then a connection is wanting.
 fn serve_all<S: Alter>(
     rt: &HostRuntime,
-    routes: Routes,
+    server: Server,
     desk: &mut Desk<S>,
     place: Option<&Place>,
     page: Option<u16>,
-    mut waiting: Waiting,
-    listener: TcpListener,
     requests: u64,
 ) -> Result<u64, Cause>
     ensures all { IfOk result (λ taken. taken ≡ requests) }
     ensures cause { IfErr result IsServerEnd }
+    ensures early { IfErr result (λ _. requests ≢ 0) }
     ensures in_memory { place.entry ≡ None → result ≢ ErrOf Cause.FilesMoved }
     ensures limits { desk.new.limits ≡ desk.old.limits }
 {
+    let Server {
+        routes,
+        mut waiting,
+        listener,
+    } = server;
     let mut taken = 0u64;
     for _ in 0..requests {
         let Ok(next) = waiting.next(rt, &routes, &listener) else {
@@ -284,6 +324,7 @@ fn put_port_cause<W: Sink>(rt: &HostRuntime, port: u16, cause: PortCause, out: &
     ensures written { IsReplyWritten (W.held out.old) (W.held out.new) (W.IsRefusal out.new) result.status
         Reply.Device }
     ensures reported { IsReported result.reported (Cause.Port cause) }
+    ensures place { IsSomeAnd result.reported (λ d. IfSome d.place (λ text. string_bytes text ≡ port_place port)) }
 {
     Outcome {
         status: put_reply(out, Reply::Device),
@@ -306,7 +347,94 @@ fn put_ended<W: Sink>(cause: Cause, out: &mut W) -> Outcome
     }
 }
 
-/// Serves so many connections on this port of loopback; for port 0 the system chooses one. The page is served beside the
+/// Ends a server that took all its connections, or ended before the last of them.
+fn put_end<W: Sink>(served: Result<u64, Cause>, requests: u64, out: &mut W) -> Outcome
+    requires all { IfOk served (λ taken. taken ≡ requests) }
+    requires early { IfErr served (λ cause. IsServerEnd cause × (requests ≢ 0)) }
+    ensures ended { IsEnded (W.held out.old) (W.held out.new) (W.IsRefusal out.new) result.status
+        (IsTold result.reported) requests }
+    ensures in_memory { served ≢ ErrOf Cause.FilesMoved → ¬ IsReported result.reported Cause.FilesMoved }
+{
+    match served {
+        Ok(_) => Outcome::from(0),
+        Err(cause) => put_ended(cause, out),
+    }
+}
+
+/// Serves so many connections, once the port is printed.
+fn serve_heard<S: Alter, W: Sink>(
+    rt: &HostRuntime,
+    server: Server,
+    desk: &mut Desk<S>,
+    place: Option<&Place>,
+    page: Option<u16>,
+    requests: u64,
+    out: &mut W,
+) -> Outcome
+    ensures ended { IsEnded (W.held out.old) (W.held out.new) (W.IsRefusal out.new) result.status
+        (IsTold result.reported) requests }
+    ensures in_memory { place.entry ≡ None → ¬ IsReported result.reported Cause.FilesMoved }
+    ensures limits { desk.new.limits ≡ desk.old.limits }
+{
+    if let Some(port) = page {
+        tell_address(rt, port);
+    }
+    let served = serve_all(rt, server, desk, place, page, requests);
+    put_end(served, requests, out)
+}
+
+/// Prints the port of a server, and serves so many connections.
+fn serve_at<S: Alter, W: Write>(
+    rt: &HostRuntime,
+    server: Server,
+    desk: &mut Desk<S>,
+    place: Option<&Place>,
+    beside: Beside,
+    port: u16,
+    requests: u64,
+    out: &mut W,
+) -> Outcome
+    ensures ended { IsServedAt (W.contents out.old) (W.contents out.new) (λ (_ : WriteFault). Unit {0}) result.status
+        (IsTold result.reported) port requests }
+    ensures in_memory { place.entry ≡ None → ¬ IsReported result.reported Cause.FilesMoved }
+    ensures limits { desk.new.limits ≡ desk.old.limits }
+{
+    match announce(port, out) {
+        Ok(()) => serve_heard(rt, server, desk, place, beside.page_at(port), requests, out),
+        Err(reply) => Outcome::from(put_reply(out, reply)),
+    }
+}
+
+/// Serves so many connections on a port of loopback, with what was made for that.
+fn serve_with<S: Alter, W: Write>(
+    rt: &HostRuntime,
+    routes: Routes,
+    waiting: Waiting,
+    desk: &mut Desk<S>,
+    place: Option<&Place>,
+    beside: Beside,
+    service: Service,
+    out: &mut W,
+) -> Outcome
+    ensures ended { IsServedWith (W.contents out.old) (W.contents out.new) (λ (_ : WriteFault). Unit {0}) result.status
+        (IsTold result.reported) service }
+    ensures in_memory { place.entry ≡ None → ¬ IsReported result.reported Cause.FilesMoved }
+    ensures limits { desk.new.limits ≡ desk.old.limits }
+{
+    match listen(rt, service.port) {
+        Ok((listener, port)) => {
+            let server = Server {
+                routes,
+                waiting,
+                listener,
+            };
+            serve_at(rt, server, desk, place, beside, port, service.requests, out)
+        }
+        Err(cause) => put_port_cause(rt, service.port, cause, out),
+    }
+}
+
+/// Serves so many connections on a port of loopback; for port 0 the system chooses one. The page is served beside the
 /// desk, if it is wanted.
 ///
 /// It ends early where the desk's files are no longer in their place, or where a fault has shut the store.
@@ -315,29 +443,37 @@ pub(crate) fn serve<S: Alter, W: Write>(
     desk: &mut Desk<S>,
     place: Option<&Place>,
     beside: Beside,
-    port: u16,
-    requests: u64,
+    service: Service,
     out: &mut W,
-) -> Outcome {
+) -> Outcome
+    ensures ended { IsServed (W.contents out.old) (W.contents out.new) (λ (_ : WriteFault). Unit {0}) result.status
+        (IsTold result.reported) service }
+    ensures in_memory { place.entry ≡ None → ¬ IsReported result.reported Cause.FilesMoved }
+    ensures limits { desk.new.limits ≡ desk.old.limits }
+{
     let Ok(routes) = Routes::new(rt.alloc()) else {
         return put_memory(out);
     };
     let Ok(waiting) = Waiting::new(rt.alloc()) else {
         return put_memory(out);
     };
-    let (listener, chosen) = match listen(rt, port) {
-        Ok(both) => both,
-        Err(cause) => return put_port_cause(rt, port, cause, out),
-    };
-    if let Err(reply) = announce(chosen, out) {
-        return Outcome::from(put_reply(out, reply));
-    }
-    let page = beside.page_at(chosen);
-    if let Some(port) = page {
-        tell_address(rt, port);
-    }
-    match serve_all(rt, routes, desk, place, page, waiting, listener, requests) {
-        Ok(_) => Outcome::from(0),
-        Err(cause) => put_ended(cause, out),
+    serve_with(rt, routes, waiting, desk, place, beside, service, out)
+}
+
+/// Serves the desk in the file at this path, while its files are in their place.
+pub(crate) fn serve_in_file<W: Write>(
+    rt: &HostRuntime,
+    path: &str,
+    opened: &mut FileDesk,
+    beside: Beside,
+    service: Service,
+    out: &mut W,
+) -> Outcome
+    ensures { IsServedInFile (W.contents out.old) (W.contents out.new) (λ (_ : WriteFault). Unit {0}) result.status
+        (IsTold result.reported) service }
+{
+    match Place::new(rt, path) {
+        Ok(place) => serve(rt, &mut opened.desk, Some(&place), beside, service, out),
+        Err(cause) => put_file_cause(rt, path, cause, out),
     }
 }

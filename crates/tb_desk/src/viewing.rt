@@ -6,7 +6,9 @@ ghost use Rattle.sqlite.specs.Files.{over_files};
 ghost use Rattle.tb_cli.specs.View.{listed_by, viewed_by};
 ghost use Rattle.tb_conllu.specs.declared.fault.WriteFault.{WriteFault};
 ghost use Rattle.tb_desk.specs.Replies.{IsFaultWritten};
-ghost use Rattle.tb_desk.specs.Viewing.{AreWordsShown, IsListRun, IsShown, IsViewRun, lacking};
+ghost use Rattle.tb_desk.specs.Reported.{IsTold};
+ghost use Rattle.tb_desk.specs.Served.{IsServedInFile, page_service};
+ghost use Rattle.tb_desk.specs.Viewing.{AreWordsShown, IsAskedOf, IsListRun, IsShown, IsViewRun, lacking};
 
 use crate::causes::Cause;
 use crate::diagnostics::{Diagnostic, Outcome, put_memory};
@@ -14,8 +16,8 @@ use crate::drawing::draw_trees_of;
 use crate::explaining::reported_of_reply;
 use crate::faults::list_faults_of;
 use crate::files::{self, FileDesk};
-use crate::place::Place;
-use crate::serving::{Beside, serve};
+use crate::service::page_service;
+use crate::serving::{Beside, serve_in_file};
 use crate::words::{put_clap, put_file_cause, put_usage};
 use crate::wrong::wrong_value;
 use std::io::Write;
@@ -28,7 +30,9 @@ use tb_words::Asked;
 pub const DESKVIEW: &str = "deskview";
 
 /// What a list is of, as far as the words for a refusal depend on it.
-fn asked_of(list: &ViewList) -> Asked<'_> {
+fn asked_of(list: &ViewList) -> Asked<'_>
+    ensures { IsAskedOf (listed_by list.now) result }
+{
     match list {
         ViewList::Find { sent_id } => Asked::SentId(sent_id.as_str()),
         _ => Asked::Other,
@@ -107,23 +111,18 @@ fn serve_page<W: Write>(
     port: u16,
     opened: &mut FileDesk,
     out: &mut W,
-) -> Outcome {
-    match Place::new(rt, path) {
-        Ok(place) => serve(
-            rt,
-            &mut opened.desk,
-            Some(&place),
-            Beside::Page,
-            port,
-            u64::MAX,
-            out,
-        ),
-        Err(cause) => put_file_cause(rt, path, cause, out),
-    }
+) -> Outcome
+    ensures { IsServedInFile (W.contents out.old) (W.contents out.new) (λ (_ : WriteFault). Unit {0}) result.status
+        (IsTold result.reported) (page_service port) }
+{
+    serve_in_file(rt, path, opened, Beside::Page, page_service(port), out)
 }
 
 /// Serves the desk in the file at this path, and the page beside it.
-fn run_page<W: Write>(rt: &HostRuntime, path: &str, port: u16, out: &mut W) -> Outcome {
+fn run_page<W: Write>(rt: &HostRuntime, path: &str, port: u16, out: &mut W) -> Outcome
+    ensures { IsServedInFile (W.contents out.old) (W.contents out.new) (λ (_ : WriteFault). Unit {0}) result.status
+        (IsTold result.reported) (page_service port) }
+{
     match files::open(rt, DESKVIEW, path, files::ROOM_TO_SERVE) {
         Ok(mut opened) => {
             let outcome = serve_page(rt, path, port, &mut opened, out);
@@ -142,7 +141,7 @@ fn run<R: Source, W: Write>(
     out: &mut W,
 ) -> Outcome
     ensures { IsViewRun R.IsFailure R.left reader.old reader.new (W.contents out.old) (W.contents out.new)
-        (λ (_ : WriteFault). Unit {0}) result.status (viewed_by line.now) }
+        (λ (_ : WriteFault). Unit {0}) result.status (IsTold result.reported) (viewed_by line.now) }
 {
     match line {
         ViewLine::List { db, list } => run_list(rt, db.as_str(), list, out),
@@ -163,7 +162,7 @@ pub fn run_view<R: Source, W: Write>(
     out: &mut W,
 ) -> Outcome
     ensures { AreWordsShown R.IsFailure R.left reader.old reader.new (W.contents out.old) (W.contents out.new)
-        (λ (_ : WriteFault). Unit {0}) result.status (map string_bytes words.now) }
+        (λ (_ : WriteFault). Unit {0}) result.status (IsTold result.reported) (map string_bytes words.now) }
 {
     match ViewLine::read(rt.alloc(), words) {
         Ok(line) => run(rt, &line, reader, out),

@@ -8,8 +8,9 @@ ghost use Rattle.tb_conllu.specs.declared.fault.WriteFault.{WriteFault};
 ghost use Rattle.tb_answer.specs.Output.{IsWritten};
 ghost use Rattle.tb_desk.specs.Lines.{AreWordsRun};
 ghost use Rattle.tb_desk.specs.Causes.{misfit_of};
-ghost use Rattle.tb_desk.specs.Reported.{IsReported};
+ghost use Rattle.tb_desk.specs.Reported.{IsReported, IsTold};
 ghost use Rattle.tb_desk.specs.Replies.{IsClapWritten, IsExitOf, IsFaultWritten, IsReplyWritten, reply_of};
+ghost use Rattle.tb_desk.specs.Served.{untold};
 
 use crate::causes::{Cause, FileCause};
 use crate::checking::check_reported;
@@ -109,7 +110,7 @@ pub fn run_words_reported<R: Source, W: Write>(
         (W.contents out.old) (W.contents out.new) (λ (_ : WriteFault). Unit {0}) result.status }
     ensures line { asks_check (map string_bytes words.now) ≡ false
         → AreWordsRun R.IsFailure R.left reader.old reader.new (W.contents out.old) (W.contents out.new)
-        (λ (_ : WriteFault). Unit {0}) result.status (map string_bytes words.now) }
+        (λ (_ : WriteFault). Unit {0}) result.status (IsTold result.reported) (map string_bytes words.now) }
 {
     if is_check(words) {
         return check_reported(rt, reader, out);
@@ -132,7 +133,7 @@ pub fn run_words<R: Source, W: Write>(
         (W.contents out.old) (W.contents out.new) (λ (_ : WriteFault). Unit {0}) result }
     ensures line { asks_check (map string_bytes words.now) ≡ false
         → AreWordsRun R.IsFailure R.left reader.old reader.new (W.contents out.old) (W.contents out.new)
-        (λ (_ : WriteFault). Unit {0}) result (map string_bytes words.now) }
+        (λ (_ : WriteFault). Unit {0}) result untold (map string_bytes words.now) }
 {
     run_words_reported(rt, words, reader, out).status
 }

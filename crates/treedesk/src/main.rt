@@ -3,6 +3,9 @@
 //! Read `run_words_reported` in tb_desk next.
 #![tactic(auto)]
 
+ghost use Rattle.std.specs.Process.{exit_status};
+ghost use Rattle.tb_desk.specs.Programs.{DoesWords, IsExit};
+
 use std::io::Write;
 use std::process::ExitCode;
 use tb_conllu::Source;
@@ -13,6 +16,13 @@ use tb_desk::{Outcome, Program, TREEDESK, run_program, run_words_reported};
 struct Treedesk;
 
 impl Program for Treedesk {
+    ghost use Rattle.std.specs.Prelude.{codes};
+    ghost use Rattle.tb_desk.specs.Programs.{DoesWords};
+
+    ghost program_name = { codes "treedesk" };
+
+    ghost AnswersTo = { DoesWords };
+
     fn name(&self) -> &'static str {
         TREEDESK
     }
@@ -28,6 +38,13 @@ impl Program for Treedesk {
     }
 }
 
+/// Runs the program, and returns its exit status.
+fn exit_code(rt: &HostRuntime) -> ExitCode
+    ensures { IsExit DoesWords (exit_status result) }
+{
+    ExitCode::from(run_program(rt, &Treedesk))
+}
+
 fn main(rt: HostRuntime) -> ExitCode {
-    ExitCode::from(run_program(&rt, &Treedesk))
+    exit_code(&rt)
 }

@@ -4,18 +4,23 @@ use Rattle.tb_http.specs.declared.replies.Reply.{Reply}
 use Rattle.tb_cli.specs.Lines.{said_by}
 use Rattle.tb_answer.specs.Taken.{IsTaken}
 use Rattle.tb_desk.specs.Running.{taken_of}
-use Rattle.tb_desk.proofs.Ran.{taken_so}
+use Rattle.tb_desk.proofs.Ran.{input_left, taken_so}
 use Rattle.tb_desk.proofs.running.run_in_memory.Goals as goal
 
-pub returns-in-Ok : goal.returns-in-Ok
-returns-in-Ok g c =
+pub returns-in-Ok-clause-ended : goal.returns-in-Ok-clause-ended
+returns-in-Ok-clause-ended g c =
     let taken : Result (List ℕ) Reply → Type 0 = λ t. IsTaken g.R.Source.IsFailure g.R.Source.left file_limit (said_by c.args.line.now) c.args.reader.now c.read_body-body.new.reader t in
     elim c.run_on_desk_in_memory.ensures [
-      | inl served ↦ inl served
+      | inl served ↦ inr (inl served)
       | inr ran ↦ inr (inr record {
+        unserved = ran.0;
         opened = c.in-Ok.desk;
         ended = c.run_on_desk_in_memory.new.desk;
         is = c.in-Ok.ensures;
-        ran = (taken_of (λ v. v.items) c.read_body-body.result, taken_so (λ v. v.items) c.read_body-body.result taken c.read_body-body.ensures, ran);
+        ran = (taken_of (λ v. v.items) c.read_body-body.result, taken_so (λ v. v.items) c.read_body-body.result taken c.read_body-body.ensures, ran.1);
       })
     ]
+
+pub returns-in-Ok-clause-input : goal.returns-in-Ok-clause-input
+returns-in-Ok-clause-input g c =
+    input_left g.R.Source.IsFailure g.R.Source.left file_limit (said_by c.args.line.now) c.args.reader.now c.read_body-body.new.reader (λ v. v.items) c.read_body-body.result c.read_body-body.ensures
