@@ -10,6 +10,8 @@ mod csv_tests;
 #[cfg(test)]
 mod decision_tests;
 #[cfg(test)]
+mod fault_tests;
+#[cfg(test)]
 mod faulty;
 #[cfg(test)]
 mod hit_tests;
