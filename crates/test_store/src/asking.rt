@@ -1,16 +1,17 @@
 //! Commands of a desk and questions to it, and what the desk holds after them, each as a line of text.
 
 use crate::files::body_of;
-use crate::telling::reported;
+use crate::telling::{error_text, joined, put, replaced, reported, said, text_of};
 use sqlite::Alter;
 use std::alloc::Global;
-use std::test::Fail;
+use std::process::Abort;
 use tb_answer::{DeskCommand, obey};
-use tb_core::{Move, Totals};
-use tb_http::{attribute_of, event_of, strategy_of};
+use tb_conllu::Sink;
+use tb_core::{Event, Fault, Move, Totals};
+use tb_http::{Reply, attribute_of, event_of, strategy_of};
 use tb_lists::{csv_batches, csv_found, csv_revisions, csv_sentences};
-use tb_query::{Query, parse};
-use tb_report::{csv_freq, csv_moves, csv_totals};
+use tb_query::{Query, Strategy, parse};
+use tb_report::{Freq, csv_freq, csv_moves, csv_totals};
 use tb_store::Desk;
 
 const NOUN_PHRASES: &str =
@@ -21,236 +22,302 @@ fn word_at(line: &str, place: usize) -> &str {
     line.split(' ').nth(place).unwrap_or("")
 }
 
-pub(crate) fn number_at(line: &str, place: usize) -> Result<u64, Fail> {
-    Ok(word_at(line, place).parse::<u64>().ok().ok_or("a number")?)
+pub(crate) fn number_at(rt: &impl Abort, line: &str, place: usize) -> u64 {
+    word_at(line, place).parse::<u64>().ok().expect(rt, line)
+}
+
+fn event_at(rt: &impl Abort, line: &str) -> Event {
+    event_of(word_at(line, 0)).expect(rt, line)
+}
+
+fn strategy_at(rt: &impl Abort, line: &str) -> Strategy {
+    strategy_of(word_at(line, 1)).expect(rt, line)
 }
 
 /// The query that follows three words; `phrases` means the query of noun phrases.
-fn query_of(alloc: Global, line: &str) -> Result<Query, Fail> {
-    let text = line.splitn(4, ' ').nth(3).ok_or("a query")?;
+fn query_of(rt: &impl Abort, alloc: Global, line: &str) -> Query {
+    let text = line.splitn(4, ' ').nth(3).expect(rt, line);
     let text = if *text == *"phrases" {
         NOUN_PHRASES
     } else {
         text
     };
-    Ok(parse(alloc, text)?)
+    parse(alloc, text).expect(rt, line)
 }
 
 /// The command of a line, with the body of its file: `import NAME USER FILE`, `correct NUMBER BASE USER FILE`,
 /// `pull NUMBER USER`, `restore NUMBER USER` or `EVENT NAME USER`.
-fn command_of<'a>(line: &'a str, body: &'a [u8]) -> Result<DeskCommand<'a>, Fail> {
+fn command_of<'a>(rt: &impl Abort, line: &'a str, body: &'a [u8]) -> DeskCommand<'a> {
     match word_at(line, 0) {
-        "import" => Ok(DeskCommand::Import {
+        "import" => DeskCommand::Import {
             name: word_at(line, 1),
             user: word_at(line, 2),
             body,
-        }),
-        "correct" => Ok(DeskCommand::Correct {
-            number: number_at(line, 1)?,
-            base: number_at(line, 2)?,
+        },
+        "correct" => DeskCommand::Correct {
+            number: number_at(rt, line, 1),
+            base: number_at(rt, line, 2),
             user: word_at(line, 3),
             body,
-        }),
-        "pull" => Ok(DeskCommand::Pull {
-            number: number_at(line, 1)?,
+        },
+        "pull" => DeskCommand::Pull {
+            number: number_at(rt, line, 1),
             user: word_at(line, 2),
-        }),
-        "restore" => Ok(DeskCommand::Restore {
-            number: number_at(line, 1)?,
+        },
+        "restore" => DeskCommand::Restore {
+            number: number_at(rt, line, 1),
             user: word_at(line, 2),
-        }),
-        _ => Ok(DeskCommand::Event {
+        },
+        _ => DeskCommand::Event {
             name: word_at(line, 1),
-            event: event_of(word_at(line, 0)).ok_or("an event")?,
+            event: event_at(rt, line),
             user: word_at(line, 2),
-        }),
+        },
     }
 }
 
+/// The reply to a command. Its contract is not repeated where it is called.
+fn reply_to<S: Alter>(desk: &mut Desk<S>, command: DeskCommand<'_>) -> Reply {
+    obey(desk, command)
+}
+
+/// The line of a reply, without its line feed.
+fn reply_text(rt: &impl Abort, alloc: Global, reply: Reply) -> String {
+    let line = reply.line();
+    let text = line.as_str().strip_suffix('\n').expect(rt, "a line");
+    said(rt, alloc, text)
+}
+
 /// The answer to a command.
-fn commanded<S: Alter>(alloc: Global, desk: &mut Desk<S>, line: &str) -> Result<String, Fail> {
+fn commanded<S: Alter>(rt: &impl Abort, alloc: Global, desk: &mut Desk<S>, line: &str) -> String {
     let place = if *word_at(line, 0) == *"correct" {
         4
     } else {
         3
     };
-    let body = body_of(alloc, word_at(line, place))?;
-    let command = command_of(line, body.as_bytes())?;
-    let answer = obey(desk, command).line();
-    let text = answer.as_str().strip_suffix('\n').ok_or("a line")?;
-    Ok(String::from_str(alloc, text)?)
+    let body = body_of(rt, alloc, word_at(line, place));
+    let reply = reply_to(desk, command_of(rt, line, body.as_bytes()));
+    reply_text(rt, alloc, reply)
 }
 
 /// `revision NUMBER REV`.
-fn revised<S: Alter>(alloc: Global, desk: &mut Desk<S>, line: &str) -> Result<String, Fail> {
-    reported(
-        alloc,
-        desk.revision(number_at(line, 1)?, number_at(line, 2)?),
-    )
-}
-
-/// An answer and the text that came with it, on one line: `/` replaces a tab, and `;` the end of a line.
-fn shown(alloc: Global, answer: String, out: &[u8]) -> Result<String, Fail> {
-    let text = str::from_utf8(out)?.replace(alloc, "\t", "/")?;
-    let mut line = answer;
-    line.push_str(" ")?;
-    line.push_str(text.replace(alloc, "\n", ";")?.as_str())?;
-    Ok(line)
-}
-
-/// `search STRATEGY CONTEXT QUERY`.
-fn searched<S: Alter>(alloc: Global, desk: &mut Desk<S>, line: &str) -> Result<String, Fail> {
-    let query = query_of(alloc, line)?;
-    let strategy = strategy_of(word_at(line, 1)).ok_or("a strategy")?;
-    let context = number_at(line, 2)?.min(20) as u8;
-    let mut out: Vec<u8> = Vec::new(alloc);
-    let answer = reported(alloc, desk.search(&query, strategy, context, &mut out))?;
-    shown(alloc, answer, out.as_slice())
-}
-
-/// `cut STRATEGY BYTES QUERY`: a search with two words of context, whose output has room for so many bytes.
-fn cut<S: Alter>(alloc: Global, desk: &mut Desk<S>, line: &str) -> Result<String, Fail> {
-    let query = query_of(alloc, line)?;
-    let strategy = strategy_of(word_at(line, 1)).ok_or("a strategy")?;
-    let mut room = vec![in alloc; 0u8; number_at(line, 2)?.min(1000) as usize]?;
-    let mut out: &mut [u8] = &mut room;
-    let answer = reported(alloc, desk.search(&query, strategy, 2, &mut out))?;
-    shown(alloc, answer, room.as_slice())
-}
-
-/// `count STRATEGY COLUMN QUERY`.
-fn counted<S: Alter>(alloc: Global, desk: &mut Desk<S>, line: &str) -> Result<String, Fail> {
-    let query = query_of(alloc, line)?;
-    let strategy = strategy_of(word_at(line, 1)).ok_or("a strategy")?;
-    let column = attribute_of(word_at(line, 2)).ok_or("a column")?;
-    let table = desk.count(&query, strategy, column)?;
-    let mut out: Vec<u8> = Vec::new(alloc);
-    csv_freq(&table, &mut out)?;
-    let total = format!(in alloc; "{}", table.total())?;
-    shown(alloc, total, out.as_slice())
+fn revised<S: Alter>(rt: &impl Abort, alloc: Global, desk: &mut Desk<S>, line: &str) -> String {
+    let revision = desk.revision(number_at(rt, line, 1), number_at(rt, line, 2));
+    reported(rt, alloc, &revision)
 }
 
 /// `number STRATEGY of QUERY`.
-fn numbered<S: Alter>(alloc: Global, desk: &mut Desk<S>, line: &str) -> Result<String, Fail> {
-    let query = query_of(alloc, line)?;
-    let strategy = strategy_of(word_at(line, 1)).ok_or("a strategy")?;
-    reported(alloc, desk.number(&query, strategy))
+fn numbered<S: Alter>(rt: &impl Abort, alloc: Global, desk: &mut Desk<S>, line: &str) -> String {
+    let query = query_of(rt, alloc, line);
+    let number = desk.number(&query, strategy_at(rt, line));
+    reported(rt, alloc, &number)
+}
+
+/// An answer and the text that came with it, on one line: `/` replaces a tab, and `;` the end of a line.
+fn shown(rt: &impl Abort, alloc: Global, answer: &Result<u64, Fault>, out: &[u8]) -> String {
+    let answer = reported(rt, alloc, answer);
+    let text = replaced(rt, alloc, text_of(rt, out), "\t", "/");
+    let text = replaced(rt, alloc, text.as_str(), "\n", ";");
+    joined(rt, alloc, &[answer.as_str(), " ", text.as_str()])
+}
+
+/// Writes the hits of the query that follows `search STRATEGY CONTEXT` or `cut STRATEGY BYTES`.
+fn put_hits<S: Alter, W: Sink>(
+    rt: &impl Abort,
+    alloc: Global,
+    desk: &mut Desk<S>,
+    line: &str,
+    context: u8,
+    out: &mut W,
+) -> Result<u64, Fault> {
+    let query = query_of(rt, alloc, line);
+    desk.search(&query, strategy_at(rt, line), context, out)
+}
+
+/// `cut STRATEGY BYTES QUERY`: a search with two words of context, whose output has room for so many bytes.
+fn cut<S: Alter>(rt: &impl Abort, alloc: Global, desk: &mut Desk<S>, line: &str) -> String {
+    let size = number_at(rt, line, 2).min(1000) as usize;
+    let mut room = vec![in alloc; 0u8; size].expect(rt, "memory");
+    let mut out: &mut [u8] = &mut room;
+    let answer = put_hits(rt, alloc, desk, line, 2, &mut out);
+    shown(rt, alloc, &answer, room.as_slice())
+}
+
+/// `search STRATEGY CONTEXT QUERY`.
+fn put_search<S: Alter>(
+    rt: &impl Abort,
+    alloc: Global,
+    desk: &mut Desk<S>,
+    line: &str,
+    out: &mut Vec<u8>,
+) -> Result<u64, Fault> {
+    let context = number_at(rt, line, 2).min(20) as u8;
+    put_hits(rt, alloc, desk, line, context, out)
+}
+
+/// `count STRATEGY COLUMN QUERY`.
+fn put_count<S: Alter>(
+    rt: &impl Abort,
+    alloc: Global,
+    desk: &mut Desk<S>,
+    line: &str,
+    out: &mut Vec<u8>,
+) -> Result<u64, Fault> {
+    let query = query_of(rt, alloc, line);
+    let column = attribute_of(word_at(line, 2)).expect(rt, line);
+    let counted = desk.count(&query, strategy_at(rt, line), column);
+    put_table(rt, counted, out)
+}
+
+/// Writes a table, and returns the sum of its rows. The query of the table is no value here, so that no exit drops it.
+fn put_table(
+    rt: &impl Abort,
+    counted: Result<Freq, Fault>,
+    out: &mut Vec<u8>,
+) -> Result<u64, Fault> {
+    let table = counted?;
+    csv_freq(&table, out).expect(rt, "a table");
+    Ok(table.total())
 }
 
 /// `batches`: how many there are, and their list.
-fn listed<S: Alter>(alloc: Global, desk: &mut Desk<S>) -> Result<String, Fail> {
+fn put_batches<S: Alter>(
+    rt: &impl Abort,
+    alloc: Global,
+    desk: &mut Desk<S>,
+    out: &mut Vec<u8>,
+) -> Result<u64, Fault> {
     let batches = desk.batches()?;
-    let mut out: Vec<u8> = Vec::new(alloc);
-    csv_batches(alloc, batches.as_slice(), &mut out)?;
-    let count = format!(in alloc; "{}", batches.len())?;
-    shown(alloc, count, out.as_slice())
+    csv_batches(alloc, batches.as_slice(), out).expect(rt, "batches");
+    Ok(batches.len() as u64)
 }
 
 /// `sentences NAME`: how many a batch has, and their list.
-fn sentences_listed<S: Alter>(
+fn put_sentences<S: Alter>(
+    rt: &impl Abort,
     alloc: Global,
     desk: &mut Desk<S>,
     line: &str,
-) -> Result<String, Fail> {
-    let mut out: Vec<u8> = Vec::new(alloc);
-    let answer = match desk.sentences(word_at(line, 1)) {
-        Ok(sentences) => {
-            csv_sentences(alloc, sentences.as_slice(), &mut out)?;
-            format!(in alloc; "{}", sentences.len())?
-        }
-        Err(fault) => format!(in alloc; "{fault}")?,
-    };
-    shown(alloc, answer, out.as_slice())
+    out: &mut Vec<u8>,
+) -> Result<u64, Fault> {
+    let sentences = desk.sentences(word_at(line, 1))?;
+    csv_sentences(alloc, sentences.as_slice(), out).expect(rt, line);
+    Ok(sentences.len() as u64)
 }
 
 /// `revisions NUMBER`: how many a sentence has, and their list.
-fn revisions_listed<S: Alter>(
+fn put_revisions<S: Alter>(
+    rt: &impl Abort,
     alloc: Global,
     desk: &mut Desk<S>,
     line: &str,
-) -> Result<String, Fail> {
-    let mut out: Vec<u8> = Vec::new(alloc);
-    let answer = match desk.revisions(number_at(line, 1)?) {
-        Ok(revisions) => {
-            csv_revisions(alloc, revisions.as_slice(), &mut out)?;
-            format!(in alloc; "{}", revisions.len())?
-        }
-        Err(fault) => format!(in alloc; "{fault}")?,
-    };
-    shown(alloc, answer, out.as_slice())
+    out: &mut Vec<u8>,
+) -> Result<u64, Fault> {
+    let revisions = desk.revisions(number_at(rt, line, 1))?;
+    csv_revisions(alloc, revisions.as_slice(), out).expect(rt, line);
+    Ok(revisions.len() as u64)
 }
 
 /// `find SENT_ID`: the number of the sentence, and its line.
-fn found<S: Alter>(alloc: Global, desk: &mut Desk<S>, line: &str) -> Result<String, Fail> {
+fn put_found<S: Alter>(
+    rt: &impl Abort,
+    alloc: Global,
+    desk: &mut Desk<S>,
+    line: &str,
+    out: &mut Vec<u8>,
+) -> Result<u64, Fault> {
+    let found = desk.find(word_at(line, 1))?;
+    csv_found(alloc, &found, out).expect(rt, line);
+    Ok(found.no)
+}
+
+/// Writes the answer to a question, and returns the number that comes before it. `None` where the line asks nothing.
+fn put_answer<S: Alter>(
+    rt: &impl Abort,
+    alloc: Global,
+    desk: &mut Desk<S>,
+    line: &str,
+    out: &mut Vec<u8>,
+) -> Option<Result<u64, Fault>> {
+    match word_at(line, 0) {
+        "search" => Some(put_search(rt, alloc, desk, line, out)),
+        "count" => Some(put_count(rt, alloc, desk, line, out)),
+        "batches" => Some(put_batches(rt, alloc, desk, out)),
+        "sentences" => Some(put_sentences(rt, alloc, desk, line, out)),
+        "revisions" => Some(put_revisions(rt, alloc, desk, line, out)),
+        "find" => Some(put_found(rt, alloc, desk, line, out)),
+        _ => None,
+    }
+}
+
+/// The answer to a question that writes, or to a command.
+fn answered<S: Alter>(rt: &impl Abort, alloc: Global, desk: &mut Desk<S>, line: &str) -> String {
     let mut out: Vec<u8> = Vec::new(alloc);
-    let answer = match desk.find(word_at(line, 1)) {
-        Ok(found) => {
-            csv_found(alloc, &found, &mut out)?;
-            format!(in alloc; "{}", found.no)?
-        }
-        Err(fault) => format!(in alloc; "{fault}")?,
-    };
-    shown(alloc, answer, out.as_slice())
+    match put_answer(rt, alloc, desk, line, &mut out) {
+        Some(answer) => shown(rt, alloc, &answer, out.as_slice()),
+        None => commanded(rt, alloc, desk, line),
+    }
 }
 
 /// The answer to a command or a question.
 pub(crate) fn obeyed<S: Alter>(
+    rt: &impl Abort,
     alloc: Global,
     desk: &mut Desk<S>,
     line: &str,
-) -> Result<String, Fail> {
+) -> String {
     match word_at(line, 0) {
-        "revision" => revised(alloc, desk, line),
-        "search" => searched(alloc, desk, line),
-        "cut" => cut(alloc, desk, line),
-        "count" => counted(alloc, desk, line),
-        "number" => numbered(alloc, desk, line),
-        "batches" => listed(alloc, desk),
-        "sentences" => sentences_listed(alloc, desk, line),
-        "revisions" => revisions_listed(alloc, desk, line),
-        "find" => found(alloc, desk, line),
-        "standing" => standing(alloc, desk),
-        _ => commanded(alloc, desk, line),
+        "revision" => revised(rt, alloc, desk, line),
+        "number" => numbered(rt, alloc, desk, line),
+        "cut" => cut(rt, alloc, desk, line),
+        "standing" => standing(rt, alloc, desk),
+        _ => answered(rt, alloc, desk, line),
     }
 }
 
 /// Appends the lines of a table, each after a space, without the header and without those that end in `but`.
-fn push_lines(text: &mut String, table: &[u8], but: &str) -> Result<(), Fail> {
-    for line in str::from_utf8(table)?.lines().skip(1) {
+fn push_lines(rt: &impl Abort, text: &mut String, table: &[u8], but: &str) {
+    for line in text_of(rt, table).lines().skip(1) {
         if !line.ends_with(but) {
-            text.push_str(" ")?;
-            text.push_str(line)?;
+            put(rt, text, " ");
+            put(rt, text, line);
         }
     }
+}
+
+/// Appends the totals that are not zero, each after a space.
+fn push_totals(rt: &impl Abort, alloc: Global, text: &mut String, totals: &Totals) {
+    let mut table: Vec<u8> = Vec::new(alloc);
+    csv_totals(alloc, totals, &mut table).expect(rt, "totals");
+    push_lines(rt, text, table.as_slice(), ",0,0");
+}
+
+/// Appends the moves, each after a space.
+fn push_moves(rt: &impl Abort, alloc: Global, text: &mut String, moves: &[Move]) {
+    let mut table: Vec<u8> = Vec::new(alloc);
+    csv_moves(alloc, moves, &mut table).expect(rt, "moves");
+    push_lines(rt, text, table.as_slice(), "\n");
+}
+
+/// Appends the totals that are not zero, and the moves.
+fn push_standing<S: Alter>(
+    rt: &impl Abort,
+    alloc: Global,
+    desk: &mut Desk<S>,
+    text: &mut String,
+) -> Result<(), Fault> {
+    let totals = desk.totals()?;
+    push_totals(rt, alloc, text, &totals);
+    let moves = desk.moves()?;
+    push_moves(rt, alloc, text, moves.as_slice());
     Ok(())
 }
 
-/// Appends the totals that are not zero, and the moves, each after a space.
-fn push_standing(
-    alloc: Global,
-    text: &mut String,
-    totals: &Totals,
-    moves: &[Move],
-) -> Result<(), Fail> {
-    let mut table: Vec<u8> = Vec::new(alloc);
-    csv_totals(alloc, totals, &mut table)?;
-    push_lines(text, table.as_slice(), ",0,0")?;
-    let mut table: Vec<u8> = Vec::new(alloc);
-    csv_moves(alloc, moves, &mut table)?;
-    push_lines(text, table.as_slice(), "\n")
-}
-
 /// The totals that are not zero, and the moves; or why the desk does not answer.
-fn standing<S: Alter>(alloc: Global, desk: &mut Desk<S>) -> Result<String, Fail> {
-    let totals = match desk.totals() {
-        Ok(totals) => totals,
-        Err(fault) => return Ok(fault.to_string(alloc)?),
-    };
-    let moves = match desk.moves() {
-        Ok(moves) => moves,
-        Err(fault) => return Ok(fault.to_string(alloc)?),
-    };
-    let mut text = String::from_str(alloc, "desk")?;
-    push_standing(alloc, &mut text, &totals, &moves)?;
-    Ok(text)
+fn standing<S: Alter>(rt: &impl Abort, alloc: Global, desk: &mut Desk<S>) -> String {
+    let mut text = said(rt, alloc, "desk");
+    match push_standing(rt, alloc, desk, &mut text) {
+        Ok(()) => text,
+        Err(fault) => error_text(rt, alloc, &fault),
+    }
 }

@@ -2,10 +2,11 @@
 
 ghost use Rattle.std.specs.Prelude.{◌≡◌, [], None, Some};
 
-use crate::list_tests::plain;
-use crate::server::Server;
-use crate::telling::assert_reported;
-use std::test::Fail;
+use crate::list_tests::{assert_written, plain};
+use crate::server::{Server, answer_into};
+use crate::telling::{assert_holds, assert_same};
+use std::alloc::Global;
+use std::process::Abort;
 use tb_answer::Broken;
 use tb_conllu::{Source, SourceFault};
 use tb_http::Status;
@@ -44,48 +45,82 @@ impl<'a> Source for Dripping<'a> {
     }
 }
 
-/// Where the reader fails before the last byte, nothing is written and nothing is done. With the last byte the request
-/// is answered, and there is no further read, which would fail.
-#[test]
-fn a_reader_that_fails_at_each_byte(rt: HostRuntime) -> Result<(), Fail> {
-    let alloc = rt.alloc();
-    let request = plain(alloc, IMPORT)?;
-    let mut server = Server::new(alloc)?;
+/// A reader that fails after a part of the request. The desk has no answer.
+fn assert_not_read(rt: &impl Abort, server: &mut Server, part: &str, out: &mut Vec<u8>) {
+    let mut reader = Dripping {
+        bytes: part.as_bytes(),
+    };
+    let ended = server.answer(&mut reader, out);
+    assert_same(rt, &ended, &Err(Broken::Read), part);
+}
+
+/// A reader of the whole request, which is answered.
+fn assert_imported<R: Source>(
+    rt: &impl Abort,
+    alloc: Global,
+    server: &mut Server,
+    reader: &mut R,
+    out: &mut Vec<u8>,
+) {
+    let ended = server.answer(reader, out);
+    assert_same(rt, &ended, &Ok(Status::Ok), IMPORT);
+    assert_written(rt, alloc, out.as_slice(), IMPORTED);
+}
+
+/// Readers that fail after each part of the request. Then one that gives the whole of it.
+fn assert_reader(rt: &impl Abort, alloc: Global, server: &mut Server, request: &str) {
     let mut out: Vec<u8> = Vec::new(alloc);
-    assert_eq!(rt; request.len(), 225);
     for end in 0..225 {
-        let mut reader = Dripping {
-            bytes: request.as_bytes().get(..end).ok_or("a part")?,
-        };
-        assert_eq!(rt; server.answer(&mut reader, &mut out), Err(Broken::Read));
+        let part = request.get(..end).expect(rt, "a part");
+        assert_not_read(rt, server, part, &mut out);
     }
-    assert!(rt; out.is_empty() && server.moves()? == 0);
+    assert_holds(rt, out.is_empty(), "nothing is written");
+    assert_same(rt, &server.moves(rt), &0, "moves");
     let mut reader = Dripping {
         bytes: request.as_bytes(),
     };
-    assert_eq!(rt; server.answer(&mut reader, &mut out), Ok(Status::Ok));
-    let wanted = plain(alloc, IMPORTED)?;
-    assert_reported(&rt, str::from_utf8(&out)?, wanted.as_str(), IMPORT);
-    Ok(())
+    assert_imported(rt, alloc, server, &mut reader, &mut out);
+}
+
+/// Where the reader fails before the last byte, nothing is written and nothing is done. With the last byte the request
+/// is answered, and there is no further read, which would fail.
+#[test]
+fn a_reader_that_fails_at_each_byte(rt: HostRuntime) {
+    let request = plain(&rt, rt.alloc(), IMPORT);
+    assert_same(&rt, &request.len(), &225, IMPORT);
+    let mut server = Server::new(&rt, rt.alloc());
+    assert_reader(&rt, rt.alloc(), &mut server, request.as_str());
+}
+
+/// A writer with room for a part of the response.
+fn assert_not_written(
+    rt: &impl Abort,
+    alloc: Global,
+    server: &mut Server,
+    request: &[u8],
+    part: &str,
+) {
+    let (ended, _) = answer_into(rt, alloc, server, request, part.len());
+    assert_same(rt, &ended, &Err(Broken::Write), part);
+    assert_same(rt, &server.moves(rt), &1, part);
+}
+
+/// Writers that fail after each part of the response. Then one that takes the whole of it.
+fn assert_writer(rt: &impl Abort, alloc: Global, server: &mut Server, request: &str) {
+    let wanted = plain(rt, alloc, IMPORTED);
+    for end in 0..wanted.len() {
+        let part = wanted.as_str().get(..end).expect(rt, "a part");
+        assert_not_written(rt, alloc, server, request.as_bytes(), part);
+    }
+    let mut out: Vec<u8> = Vec::new(alloc);
+    let mut reader = request.as_bytes();
+    assert_imported(rt, alloc, server, &mut reader, &mut out);
 }
 
 /// Where the writer fails, the batch is imported all the same, and the same request again is answered as before.
 #[test]
-fn a_writer_that_fails_at_each_byte(rt: HostRuntime) -> Result<(), Fail> {
-    let alloc = rt.alloc();
-    let request = plain(alloc, IMPORT)?;
-    let wanted = plain(alloc, IMPORTED)?;
-    let mut server = Server::new(alloc)?;
-    for end in 0..wanted.len() {
-        let mut room = vec![in alloc; 0u8; end]?;
-        let mut out: &mut [u8] = &mut room;
-        let mut reader = request.as_bytes();
-        assert_eq!(rt; server.answer(&mut reader, &mut out), Err(Broken::Write));
-        assert_eq!(rt; server.moves()?, 1);
-    }
-    let mut out: Vec<u8> = Vec::new(alloc);
-    let mut reader = request.as_bytes();
-    assert_eq!(rt; server.answer(&mut reader, &mut out), Ok(Status::Ok));
-    assert_reported(&rt, str::from_utf8(&out)?, wanted.as_str(), IMPORT);
-    Ok(())
+fn a_writer_that_fails_at_each_byte(rt: HostRuntime) {
+    let request = plain(&rt, rt.alloc(), IMPORT);
+    let mut server = Server::new(&rt, rt.alloc());
+    assert_writer(&rt, rt.alloc(), &mut server, request.as_str());
 }

@@ -1,7 +1,8 @@
 //! Bodies of imports and corrections.
 
+use crate::telling::{error_text, joined, put, replaced, said};
 use std::alloc::Global;
-use std::test::Fail;
+use std::process::Abort;
 
 pub(crate) const DOGS: &str = "\
 # sent_id = s1
@@ -79,25 +80,29 @@ fn file_named(name: &str) -> &'static str {
     }
 }
 
-/// Appends the rows of words 2 to 1000.
-fn push_rows(alloc: Global, text: &mut String) -> Result<(), Fail> {
+/// The rows of words 2 to 1000.
+fn rows(rt: &impl Abort, alloc: Global) -> String {
+    let mut text = String::new(alloc);
     for place in 2..=1000u32 {
-        let row = format!(in alloc; "{place}\tw\tw\tX\t_\t_\t1\tdep\t_\t_\n")?;
-        text.push_str(row.as_str())?;
+        put(rt, &mut text, error_text(rt, alloc, &place).as_str());
+        put(rt, &mut text, "\tw\tw\tX\t_\t_\t1\tdep\t_\t_\n");
     }
-    Ok(())
+    text
 }
 
 /// A sentence of 1,000 words.
-fn thousand(alloc: Global) -> Result<String, Fail> {
-    let mut text = String::from_str(alloc, "# sent_id = s9\n# text =")?;
-    for _ in 0..1000u32 {
-        text.push_str(" w")?;
-    }
-    text.push_str("\n1\tw\tw\tX\t_\t_\t0\troot\t_\t_\n")?;
-    push_rows(alloc, &mut text)?;
-    text.push_str("\n")?;
-    Ok(text)
+fn thousand(rt: &impl Abort, alloc: Global) -> String {
+    let words = " w".repeat(alloc, 1000).expect(rt, "a text");
+    let rows = rows(rt, alloc);
+    let first = "\n1\tw\tw\tX\t_\t_\t0\troot\t_\t_\n";
+    let pieces = [
+        "# sent_id = s9\n# text =",
+        words.as_str(),
+        first,
+        rows.as_str(),
+        "\n",
+    ];
+    joined(rt, alloc, &pieces)
 }
 
 /// The part at a place, from 0, between colons.
@@ -105,24 +110,30 @@ fn part_at(text: &str, place: usize) -> &str {
     text.split(':').nth(place).unwrap_or("")
 }
 
-/// A file, as `dogs`, or with one text replaced by another, as `dogs:dog:cat`.
-fn edited(alloc: Global, text: &str) -> Result<String, Fail> {
-    let name = part_at(text, 0);
+/// The file with this name, in memory of its own.
+fn file_of(rt: &impl Abort, alloc: Global, name: &str) -> String {
     if *name == *"thousand" {
-        return thousand(alloc);
+        thousand(rt, alloc)
+    } else {
+        said(rt, alloc, file_named(name))
     }
-    let file = file_named(name);
-    if *name == *text {
-        return Ok(String::from_str(alloc, file)?);
+}
+
+/// A file, as `dogs`, or with one text replaced by another, as `dogs:dog:cat`.
+fn edited(rt: &impl Abort, alloc: Global, text: &str) -> String {
+    let file = file_of(rt, alloc, part_at(text, 0));
+    if text.contains(':') {
+        replaced(rt, alloc, file.as_str(), part_at(text, 1), part_at(text, 2))
+    } else {
+        file
     }
-    Ok(file.replace(alloc, part_at(text, 1), part_at(text, 2))?)
 }
 
 /// The body of such files, which pluses separate.
-pub(crate) fn body_of(alloc: Global, text: &str) -> Result<String, Fail> {
+pub(crate) fn body_of(rt: &impl Abort, alloc: Global, text: &str) -> String {
     let mut body = String::new(alloc);
     for part in text.split('+') {
-        body.push_str(edited(alloc, part)?.as_str())?;
+        put(rt, &mut body, edited(rt, alloc, part).as_str());
     }
-    Ok(body)
+    body
 }

@@ -1,14 +1,12 @@
 //! Lists of requests on one desk in memory. One call answers each list. Requests and responses are written with signs:
-//! `
-//!
-//! ` represents CR LF, `␊` LF, `…` a file of one sentence, 150 bytes, and `§` what a head has from its status to its
+//! `¶` represents CR LF, `␊` LF, `…` a file of one sentence, 150 bytes, and `§` what a head has from its status to its
 //! length.
 
 use crate::files::DOGS;
 use crate::server::Server;
-use crate::telling::assert_reported;
+use crate::telling::{assert_holds, assert_reported, assert_same, replaced, text_of};
 use std::alloc::Global;
-use std::test::Fail;
+use std::process::Abort;
 use tb_answer::Broken;
 use tb_conllu::Sink;
 
@@ -71,65 +69,84 @@ const CUT: &str = "\
     HTTP/1.1 200 OK§45¶Connection: close¶¶imported batch=1 first=1 sentences=1 words=3␊\
     HTTP/1.1 200 OK§";
 
+/// The text with one sign written out.
+fn spelled(rt: &impl Abort, alloc: Global, text: String, sign: &str, meaning: &str) -> String {
+    replaced(rt, alloc, text.as_str(), sign, meaning)
+}
+
 /// The text with its signs written out.
-pub(crate) fn plain(alloc: Global, text: &str) -> Result<String, Fail> {
-    let headed = text.replace(alloc, "§", HEAD)?;
-    let whole = headed.replace(alloc, "…", DOGS)?;
-    let ended = whole.replace(alloc, "¶", "\r\n")?;
-    Ok(ended.replace(alloc, "␊", "\n")?)
+pub(crate) fn plain(rt: &impl Abort, alloc: Global, text: &str) -> String {
+    let headed = replaced(rt, alloc, text, "§", HEAD);
+    let whole = spelled(rt, alloc, headed, "…", DOGS);
+    let ended = spelled(rt, alloc, whole, "¶", "\r\n");
+    spelled(rt, alloc, ended, "␊", "\n")
 }
 
 /// The requests of these lines, one each.
-fn requests_in(alloc: Global, list: &str) -> Result<Vec<Vec<u8>>, Fail> {
+fn requests_in(rt: &impl Abort, alloc: Global, list: &str) -> Vec<Vec<u8>> {
     let mut requests = Vec::new(alloc);
     for line in list.lines() {
-        requests.push(plain(alloc, line)?.into_bytes())?;
+        let request = plain(rt, alloc, line).into_bytes();
+        requests.push(request).expect(rt, line);
     }
-    Ok(requests)
+    requests
 }
 
-/// Has a desk answer the requests of these lines. Returns how that ended.
-fn answer_lines<W: Sink>(
+/// Has a desk answer the requests of these lines, and asserts how that ends.
+fn assert_ends<W: Sink>(
+    rt: &impl Abort,
     alloc: Global,
     server: &mut Server,
     list: &str,
     out: &mut W,
-) -> Result<Result<(), Broken>, Fail> {
-    let requests = requests_in(alloc, list)?;
-    Ok(server.answer_all(&requests, out))
+    wanted: Result<(), Broken>,
+) {
+    let requests = requests_in(rt, alloc, list);
+    let ended = server.answer_all(&requests, out);
+    assert_same(rt, &ended, &wanted, list);
+}
+
+/// Asserts that the bytes are a text whose signs are written out.
+pub(crate) fn assert_written(rt: &impl Abort, alloc: Global, bytes: &[u8], wanted: &str) {
+    let wanted = plain(rt, alloc, wanted);
+    assert_reported(rt, text_of(rt, bytes), wanted.as_str(), "a list");
+}
+
+fn assert_answered(rt: &impl Abort, alloc: Global, server: &mut Server) {
+    let mut out: Vec<u8> = Vec::new(alloc);
+    assert_ends(rt, alloc, server, ASKED, &mut out, Ok(()));
+    assert_written(rt, alloc, &out, ANSWERED);
 }
 
 #[test]
-fn a_list_is_answered_in_turn(rt: HostRuntime) -> Result<(), Fail> {
-    let alloc = rt.alloc();
-    let mut server = Server::new(alloc)?;
+fn a_list_is_answered_in_turn(rt: HostRuntime) {
+    let mut server = Server::new(&rt, rt.alloc());
+    assert_answered(&rt, rt.alloc(), &mut server);
+}
+
+/// Asserts that the list of moves ends with this line.
+fn assert_last_move(rt: &impl Abort, alloc: Global, server: &mut Server, line: &str) {
     let mut out: Vec<u8> = Vec::new(alloc);
-    let reported = answer_lines(alloc, &mut server, ASKED, &mut out)?;
-    assert_eq!(rt; reported, Ok(()));
-    assert_reported(
-        &rt,
-        str::from_utf8(out.as_slice())?,
-        plain(alloc, ANSWERED)?.as_str(),
-        "a list",
-    );
-    Ok(())
+    let asked = "GET /moves HTTP/1.1¶¶";
+    assert_ends(rt, alloc, server, asked, &mut out, Ok(()));
+    let moves = text_of(rt, &out);
+    assert_holds(rt, moves.ends_with(line), moves);
+}
+
+/// A sink that refuses the second response.
+fn assert_refused(rt: &impl Abort, alloc: Global, server: &mut Server) {
+    let mut room = [0; 218];
+    let mut out = room.as_mut_slice();
+    let refused = Err(Broken::Write);
+    assert_ends(rt, alloc, server, COMMANDS, &mut out, refused);
+    assert_written(rt, alloc, &room, CUT);
 }
 
 /// The second command was done, and the third was not.
 #[test]
-fn a_list_stops_where_the_sink_refuses(rt: HostRuntime) -> Result<(), Fail> {
-    let alloc = rt.alloc();
-    let mut server = Server::new(alloc)?;
-    let mut room = [0; 218];
-    let reported = answer_lines(alloc, &mut server, COMMANDS, &mut room.as_mut_slice())?;
-    assert_eq!(rt; reported, Err(Broken::Write));
-    let put = plain(alloc, CUT)?;
-    assert_reported(&rt, str::from_utf8(&room)?, put.as_str(), "a list");
-    let mut out: Vec<u8> = Vec::new(alloc);
-    let reported = answer_lines(alloc, &mut server, "GET /moves HTTP/1.1¶¶", &mut out)?;
-    assert_eq!(rt; reported, Ok(()));
-    assert!(rt;
-        str::from_utf8(out.as_slice())?.ends_with("2,assign,1,0,open,assigned,1,3,3,ann\n")
-    );
-    Ok(())
+fn a_list_stops_where_the_sink_refuses(rt: HostRuntime) {
+    let mut server = Server::new(&rt, rt.alloc());
+    assert_refused(&rt, rt.alloc(), &mut server);
+    let line = "2,assign,1,0,open,assigned,1,3,3,ann\n";
+    assert_last_move(&rt, rt.alloc(), &mut server, line);
 }

@@ -2,22 +2,33 @@
 
 use crate::asking::{number_at, obeyed};
 use crate::scripts::{BODIES, REFUSALS, SEARCHES, WORK};
-use crate::telling::assert_reported;
+use crate::telling::{assert_reported, error_text, joined, replaced};
 use sqlite::MemStore;
 use std::alloc::Global;
 use std::process::Abort;
-use std::test::Fail;
 use tb_core::Limits;
 use tb_store::Desk;
 
 /// A desk with the limits of this line.
-fn new_desk(alloc: Global, line: &str) -> Result<Desk<MemStore>, Fail> {
+fn new_desk(rt: &impl Abort, alloc: Global, line: &str) -> Desk<MemStore> {
     let limits = Limits {
-        sentences: number_at(line, 0)?.min(1_000_000),
-        moves: number_at(line, 1)?.min(1_000_000_000),
-        hits: number_at(line, 2)?.min(1_000_000),
+        sentences: number_at(rt, line, 0).min(1_000_000),
+        moves: number_at(rt, line, 1).min(1_000_000_000),
+        hits: number_at(rt, line, 2).min(1_000_000),
     };
-    Ok(Desk::in_memory(alloc, limits)?)
+    Desk::in_memory(alloc, limits).expect(rt, line)
+}
+
+/// Asserts the answer to a line.
+fn assert_obeyed(
+    rt: &impl Abort,
+    alloc: Global,
+    desk: &mut Desk<MemStore>,
+    line: &str,
+    wanted: &str,
+) {
+    let answer = obeyed(rt, alloc, desk, line);
+    assert_reported(rt, answer.as_str(), wanted, line);
 }
 
 /// Asserts the answer to a line. Where the line has `BODY`, each of the bodies takes its place.
@@ -27,34 +38,29 @@ fn assert_case(
     desk: &mut Desk<MemStore>,
     line: &str,
     wanted: &str,
-) -> Result<(), Fail> {
+) {
     let bodies = if line.contains("BODY") { BODIES } else { "" };
     for body in bodies.split(' ') {
-        let line = line.replace(alloc, "BODY", body)?;
-        let answer = obeyed(alloc, desk, line.as_str())?;
-        assert_reported(rt, answer.as_str(), wanted, line.as_str());
+        let line = replaced(rt, alloc, line, "BODY", body);
+        assert_obeyed(rt, alloc, desk, line.as_str(), wanted);
     }
-    Ok(())
 }
 
-fn assert_script(rt: &impl Abort, alloc: Global, script: &str) -> Result<(), Fail> {
-    let mut desk = new_desk(alloc, script.lines().next().unwrap_or(""))?;
+fn assert_script(rt: &impl Abort, alloc: Global, script: &str) {
+    let mut desk = new_desk(rt, alloc, script.lines().next().unwrap_or(""));
     for case in script.lines().skip(1) {
-        let (line, wanted) = case.split_once(" => ").ok_or("a case")?;
-        assert_case(rt, alloc, &mut desk, line, wanted)?;
+        let (line, wanted) = case.split_once(" => ").expect(rt, case);
+        assert_case(rt, alloc, &mut desk, line, wanted);
     }
-    Ok(())
 }
 
 #[test]
-fn scripts_are_answered(rt: HostRuntime) -> Result<(), Fail> {
-    let alloc = rt.alloc();
+fn scripts_are_answered(rt: HostRuntime) {
     for text in [WORK, SEARCHES, REFUSALS] {
         for script in text.split("\n\n") {
-            assert_script(&rt, alloc, script)?;
+            assert_script(&rt, rt.alloc(), script);
         }
     }
-    Ok(())
 }
 
 /// The commands that release `book`.
@@ -73,37 +79,39 @@ const STANDING: &str = "\
     desk released,1,9 1,import,1,0,none,open,1,0,9,ann 2,assign,1,0,open,assigned,1,9,9,ann 3,submit,1,0,assigned,submitted,1,9,9,ann \
     4,adjudicate,1,0,submitted,adjudicated,1,9,9,ben 5,release,1,0,adjudicated,released,1,9,9,cem";
 
+/// A desk that has released `book`.
+fn released(rt: &impl Abort, alloc: Global) -> Desk<MemStore> {
+    let mut desk = new_desk(rt, alloc, "9 9 9");
+    for line in RELEASED.lines() {
+        obeyed(rt, alloc, &mut desk, line);
+    }
+    desk
+}
+
 /// Asserts that a search writes as much as there is room for, and reports that.
-fn assert_cut(
-    rt: &impl Abort,
-    alloc: Global,
-    desk: &mut Desk<MemStore>,
-    room: usize,
-) -> Result<(), Fail> {
-    let line = format!(in alloc; "cut shortest {room} phrases")?;
-    let part = FOUND.get(..room).ok_or("a part")?;
+fn assert_cut(rt: &impl Abort, alloc: Global, desk: &mut Desk<MemStore>, room: usize) {
+    let part = FOUND.get(..room).expect(rt, "a part");
     let end = if room < FOUND.len() {
         "the writer failed"
     } else {
         "3"
     };
-    let wanted = format!(in alloc; "{end} {part}")?;
-    let answer = obeyed(alloc, desk, line.as_str())?;
-    assert_reported(rt, answer.as_str(), wanted.as_str(), line.as_str());
-    Ok(())
+    let room = error_text(rt, alloc, &room);
+    let line = joined(rt, alloc, &["cut shortest ", room.as_str(), " phrases"]);
+    let wanted = joined(rt, alloc, &[end, " ", part]);
+    assert_obeyed(rt, alloc, desk, line.as_str(), wanted.as_str());
+}
+
+/// Asserts what a search says at each size of what it may write.
+fn assert_each_cut(rt: &impl Abort, alloc: Global, desk: &mut Desk<MemStore>) {
+    for room in 0..=FOUND.len() {
+        assert_cut(rt, alloc, desk, room);
+    }
 }
 
 #[test]
-fn a_search_that_breaks_off_says_so(rt: HostRuntime) -> Result<(), Fail> {
-    let alloc = rt.alloc();
-    let mut desk = new_desk(alloc, "9 9 9")?;
-    for line in RELEASED.lines() {
-        obeyed(alloc, &mut desk, line)?;
-    }
-    for room in 0..=FOUND.len() {
-        assert_cut(&rt, alloc, &mut desk, room)?;
-    }
-    let state = obeyed(alloc, &mut desk, "standing")?;
-    assert_reported(&rt, state.as_str(), STANDING, "searches");
-    Ok(())
+fn a_search_that_breaks_off_says_so(rt: HostRuntime) {
+    let mut desk = released(&rt, rt.alloc());
+    assert_each_cut(&rt, rt.alloc(), &mut desk);
+    assert_obeyed(&rt, rt.alloc(), &mut desk, "standing", STANDING);
 }

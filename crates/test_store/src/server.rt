@@ -3,7 +3,7 @@
 
 use sqlite::MemStore;
 use std::alloc::Global;
-use std::test::Fail;
+use std::process::Abort;
 use tb_answer::{Broken, answer, answer_all};
 use tb_conllu::{Sink, Source};
 use tb_core::Limits;
@@ -25,12 +25,12 @@ pub(crate) struct Server {
 }
 
 impl Server {
-    pub(crate) fn new(alloc: Global) -> Result<Server, Fail> {
-        Ok(Server {
+    pub(crate) fn new(rt: &impl Abort, alloc: Global) -> Server {
+        Server {
             alloc,
-            routes: Routes::new(alloc).ok().ok_or("routes")?,
-            desk: Desk::in_memory(alloc, LIMITS)?,
-        })
+            routes: Routes::new(alloc).ok().expect(rt, "routes"),
+            desk: Desk::in_memory(alloc, LIMITS).expect(rt, "a desk"),
+        }
     }
 
     /// Answers one request.
@@ -52,7 +52,22 @@ impl Server {
     }
 
     /// How many commands the desk has accepted.
-    pub(crate) fn moves(&mut self) -> Result<usize, Fail> {
-        Ok(self.desk.moves()?.len())
+    pub(crate) fn moves(&mut self, rt: &impl Abort) -> usize {
+        self.desk.moves().expect(rt, "moves").len()
     }
+}
+
+/// Answers one request into a buffer of this size. Returns how that ended, and the buffer.
+pub(crate) fn answer_into(
+    rt: &impl Abort,
+    alloc: Global,
+    server: &mut Server,
+    request: &[u8],
+    size: usize,
+) -> (Result<Status, Broken>, Vec<u8>) {
+    let mut room = vec![in alloc; 0u8; size].expect(rt, "memory");
+    let mut reader = request;
+    let mut out: &mut [u8] = &mut room;
+    let ended = server.answer(&mut reader, &mut out);
+    (ended, room)
 }
