@@ -31,8 +31,8 @@ abbrev pub ShowsWords : AnswersWords
 ShowsWords R Why is_failure unread before after held holds status is_told words =
     AreWordsShown is_failure unread before after held holds (λ (_ : WriteFault). Unit {0}) status is_told words
 
--- Words were answered over standard input, of which no bytes are known before. The exit status is the answer's, or 3
--- where the output was lost.
+-- Some words were answered so over standard input, of which no bytes are known before. The exit status is the answer's,
+-- or 3. It is not said that these are the program's words, nor that an output was lost.
 pub record IsEnd (answers : AnswersWords) (status : ℕ) (reported : Option Diagnostic) : Type 0 where
   pub words : List (List ℕ)
   pub before : Typed
@@ -44,7 +44,8 @@ pub record IsEnd (answers : AnswersWords) (status : ℕ) (reported : Option Diag
       words
   pub ends : (status ≡ answered) ⊎ (status ≡ 3)
 
--- the exit status of a run: words were answered, or a run could not begin
+-- The exit status of a run: that of an answer to some words, or 2 or 3, as where a run cannot begin. It is not said which
+-- of these runs it was.
 abbrev pub IsExit : AnswersWords → (status : ℕ) → Type 0
 IsExit answers status = ((reported : Option Diagnostic) × IsEnd answers status reported)
     ⊎ ((status ≡ 2) ⊎ (status ≡ 3))
