@@ -1,6 +1,6 @@
 -- How far the rules were asked of the sentences of a file.
 use Rattle.std.proofs.Common.{◌≡◌, ℕ, List, [], ◌∷◌, ◌++◌, true, false, refl, ◌∙◌, ap, append_assoc, Option, Some, None, is_some}
-use Rattle.std.specs.Prelude.{MatchOption, Result, Ok, Err, OnOk, IfErr}
+use Rattle.std.specs.Prelude.{Result, Ok, Err, OnOk, IfErr}
 use Rattle.std.specs.Result.{result_err}
 use Rattle.tb_conllu.specs.Text.{BlockText}
 use Rattle.tb_rules.specs.File.{IsValid, IsFaultAt, IsFileFault, HasTaken}
@@ -45,7 +45,3 @@ pub asked_next : {X : Type 0} (old new : List (List ℕ)) (before : List BlockTe
     → IfErr r (IsFileFault (before ++ b ∷ [])) → IfErr r (λ e. e ≡ Memory → KeepsTo6 b) → IsAsked new (result_err r) (before ++ b ∷ [])
 asked_next old new before b (Ok x) taken h k m = h
 asked_next old new before b (Err e) taken h k m = reported_next before b e taken.valid k m
-
-pub asked_valid : (names : List (List ℕ)) (reported : Option FileFault) (bs : List BlockText) → IsAsked names reported bs → MatchOption reported (IsValid bs) (IsReportedFault bs)
-asked_valid names None bs h = h.valid
-asked_valid names (Some fault) bs h = h

@@ -6,7 +6,7 @@ use Rattle.std.proofs.lemmas.List.{length-map}
 use Rattle.std.proofs.lemmas.List.Sums.{count_by-le-length, sum_by-append}
 use Rattle.tb_conllu.specs.Text.{BlockText, text_of, lines_of, block_lines, row_line, ended}
 use Rattle.tb_conllu.specs.Shape.{AllShaped, IsShaped}
-use Rattle.tb_conllu.specs.Reported.{IsFile, IsReported}
+use Rattle.tb_conllu.specs.Reported.{IsReported}
 use Rattle.tb_conllu.specs.Fault.{IsFaultAfter, IsReadFault}
 use Rattle.tb_conllu.specs.declared.fault.ReadFault.{ReadFault}
 use Rattle.tb_conllu.specs.declared.fault.ReadFault.TheVariants.{At, Memory}
@@ -84,11 +84,6 @@ counted_next file old new s w bs b n is h shaped rest line = record {
   sentences_are = omega (arith, h.sentences_are, length-append bs (b ∷ []));
   words_are = omega (arith, is, h.words_are, words_append bs b);
 }
-
-pub counted_all : (file : List ℕ) (unread : Left) (s w : ℕ) (bs : List BlockText) → IsCounted file unread s w bs → unread.rest ≡ [] → IsFile file bs
-counted_all file unread s w bs h e =
-    let whole : file ≡ text_of bs = h.whole ∙ ap (λ l. text_of bs ++ l) e ∙ append-nil (text_of bs) in
-    record { shaped = h.shaped; text = whole }
 
 -- the counts stay below the file's length
 pub counted_room : (file : List ℕ) (old new : Left) (s w : ℕ) (bs : List BlockText) (b : BlockText) → IsCounted file old s w bs

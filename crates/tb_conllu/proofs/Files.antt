@@ -74,9 +74,6 @@ pub record IsReadFrom (old : Left) (bs : List BlockText) (now : Left) : Type 0 w
   pub whole : old.rest ≡ text_of bs ++ now.rest
   pub place : now.line ≡ old.line + length (lines_of bs)
 
-pub from_here : (old : Left) → IsReadFrom old [] old
-from_here old = record { shaped = tt; whole = refl; place = omega arith }
-
 pub from_next : (old mid new : Left) (bs : List BlockText) (block : BlockText) → IsReadFrom old bs mid → IsNext mid new block → IsReadFrom old (bs ++ block ∷ []) new
 from_next old mid new bs block h next =
     let done : IsReadTo old.rest bs (record { rest = mid.rest; line = length (lines_of bs) }) = record { shaped = h.shaped; whole = h.whole; place = refl } in
@@ -86,9 +83,6 @@ from_next old mid new bs block h next =
     let before = h.place in
     let after = next.place in
     record { shaped = more.shaped; whole = more.whole; place = omega arith }
-
-pub from_end : (old now : Left) (bs : List BlockText) → IsReadFrom old bs now → now.rest ≡ [] → IsFile old.rest bs
-from_end old now bs h none = record { shaped = h.shaped; text = h.whole ∙ ap (λ x. text_of bs ++ x) none ∙ append-nil (text_of bs) }
 
 pub from_fault : (old now : Left) (bs : List BlockText) (e : ReadFault) → IsReadFrom old bs now → IsFaultAfter now.line now.rest e → IsFaultAfter old.line old.rest e
 from_fault old now bs Memory h f = omega (arith, f, ap length h.whole, length-append (text_of bs) now.rest)

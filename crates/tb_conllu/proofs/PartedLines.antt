@@ -150,7 +150,3 @@ rows_read bytes line old new text left at (r ∷ rs) read shaped made cut =
     let step : (at + 1) + (length new.rows - length (old.rows ++ r ∷ [])) ≡ at + (length new.rows - length old.rows) = omega (arith, long, length-append old.rows (r ∷ [])) in
     let Q : ℕ → Type 0 = λ n. IsRead bytes line new left n in
     subst Q step all
-
--- the sentence has no fewer rows than before
-pub rows_grow : (old new : BlockText) (rs : List RowText) → new ≡ record { comments = old.comments; rows = old.rows ++ rs } → length old.rows ≤ length new.rows
-rows_grow old new rs made = omega (arith, ap (λ (b : BlockText). length b.rows) made, length-append old.rows rs)

@@ -8,7 +8,7 @@ use Rattle.std.proofs.lemmas.List.Folds.{list_any-append}
 use Rattle.tb_conllu.specs.declared.fault.ReadFault.{ReadFault}
 use Rattle.tb_conllu.specs.declared.fault.ReadFault.TheVariants.{At, Memory}
 use Rattle.tb_conllu.specs.Text.{RowText, BlockText, row_line, block_lines, lines_of, ended, text_of}
-use Rattle.tb_conllu.specs.Shape.{is_control, IsLineText, IsRowShaped, IsCommentText, IsShaped}
+use Rattle.tb_conllu.specs.Shape.{is_control, IsLineText, IsRowShaped, IsCommentText}
 use Rattle.tb_conllu.specs.Lines.{line_code, is_empty, came_through}
 use Rattle.tb_conllu.specs.Reported.{IsLine, AreLines, IsNoFile}
 use Rattle.tb_conllu.specs.Begun.{IsSound, has_rows}
@@ -106,16 +106,9 @@ blank_refused n came raw h blank none = (refl, text_code came raw h ∙ cond-tru
 
 -- ---- the end of a sentence
 
-some_rows : (rs : List RowText) → has_rows rs ≡ true → 0 < length rs
-some_rows [] h = absurd cc
-some_rows (r ∷ rs) h = omega arith
-
 is_nil : (raw : List ℕ) → is_empty raw ≡ true → raw ≡ []
 is_nil [] h = refl
 is_nil (b ∷ raw) h = absurd cc
-
-pub block_shaped : (block : BlockText) → IsSound (begun block) → has_rows block.rows ≡ true → IsShaped block
-block_shaped block h some = record { comments = h.comments; rows = h.rows; nonempty = some_rows block.rows some }
 
 lines_done : (block : BlockText) → block_lines block ≡ lines_begun block ++ [] ∷ []
 lines_done block = sym (append_assoc block.comments (map row_line block.rows) ([] ∷ []))
@@ -131,18 +124,6 @@ pub sentence_text : (bytes : List ℕ) (line : ℕ) (block : BlockText) (rest ra
 sentence_text bytes line block rest raw after at h same blank =
     h.whole ∙ ap (λ x. ended (lines_begun block) ++ x) (same ∙ ap (λ x. x ++ 10 ∷ after) (is_nil raw blank))
     ∙ sym (more_lines (lines_begun block) [] after) ∙ ap (λ ls. ended ls ++ after) (sym (no_more block ∙ lines_done block))
-
-pub sentence_place : (bytes : List ℕ) (line : ℕ) (block : BlockText) (rest : List ℕ) (at : ℕ) → IsRead bytes line block rest at → at + 1 ≡ line + length (block_lines block)
-sentence_place bytes line block rest at h =
-    let n = ap length (lines_done block) ∙ length-append (lines_begun block) ([] ∷ []) in
-    let place = h.place in
-    omega (arith, n)
-
-pub sentence_room : (bytes : List ℕ) (line : ℕ) (block : BlockText) (rest raw after : List ℕ) (at : ℕ) → IsRead bytes line block rest at → rest ≡ raw ++ 10 ∷ after → (at + 1) + length after ≤ line + length bytes
-sentence_room bytes line block rest raw after at h same =
-    let short = shorter rest raw after same in
-    let room = h.room in
-    omega arith
 
 -- ---- the end of the bytes inside a sentence
 

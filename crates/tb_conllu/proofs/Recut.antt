@@ -1,6 +1,6 @@
 -- What a text that is known to be a sentence's is cut into.
 use Rattle.std.proofs.Common.{◌≡◌, ℕ, ◌<◌, List, [], ◌∷◌, ◌++◌, length, true, false, refl, sym, ◌∙◌, ap, arith, append_assoc, append-nil, map, Option}
-use Rattle.std.specs.Prelude.{IfSome, slice_index_or, drop, take, bytes_eq}
+use Rattle.std.specs.Prelude.{IfSome, slice_index_or, take, bytes_eq}
 use Rattle.std.specs.List.{AllByRecursion}
 use Rattle.std.proofs.lemmas.Bool.{both_ways}
 use Rattle.std.proofs.lemmas.List.Concat.{flat_map-append}
@@ -35,10 +35,6 @@ row_known r a b c d e f g h i j more rest id head shaped same si ti sh th =
     ap (λ x. row_made x b c d e f head h i j) first
     ∙ ap (λ fs. row_made r.id (at 1 fs) (at 2 fs) (at 3 fs) (at 4 fs) (at 5 fs) head (at 7 fs) (at 8 fs) (at 9 fs)) same
     ∙ ap (λ x. row_made r.id r.form r.lemma r.upos r.xpos r.feats x r.deprel r.deps r.misc) seventh
-
--- what follows them
-pub after_ten : (r : RowText) (a b c d e f g h i j : List ℕ) (more rest : List (List ℕ)) → a ∷ b ∷ c ∷ d ∷ e ∷ f ∷ g ∷ h ∷ i ∷ j ∷ more ≡ fields_of r ++ rest → more ≡ rest
-after_ten r a b c d e f g h i j more rest same = ap (drop 10) same
 
 -- the first of them is an ID
 pub no_id : (r : RowText) (a b c d e f g h i j : List ℕ) (more rest : List (List ℕ)) → IsRowShaped r → a ∷ b ∷ c ∷ d ∷ e ∷ f ∷ g ∷ h ∷ i ∷ j ∷ more ≡ fields_of r ++ rest → is_id a ≡ false → ⊥

@@ -2,7 +2,7 @@
 use Rattle.std.proofs.Common.{◌≡◌, ℕ, ◌<◌, List, [], ◌∷◌, length, Bool, true, false, ◌||◌, not, sym, ◌∙◌, ap, subst, arith, Option}
 use Rattle.std.specs.Prelude.{slice_index_or, IfSome}
 use Rattle.std.specs.List.{list_any, AllByRecursion, join_with_byte}
-use Rattle.std.proofs.lemmas.Bool.{or_parts, cond-true, cond-false}
+use Rattle.std.proofs.lemmas.Bool.{or_parts, cond-false}
 use Rattle.tb_chars.specs.Spaces.{has_space}
 use Rattle.tb_conllu.specs.declared.id.LineId.{LineId}
 use Rattle.tb_conllu.specs.Text.{RowText, fields_of, id_text, head_text}
@@ -13,27 +13,6 @@ use Rattle.tb_conllu.proofs.Parts.{HasNoTab, fields_lack, fields_text, join_spli
 -- a field other than FORM, LEMMA and MISC of these has white space
 abbrev any_space : List (List ℕ) → Bool
 any_space fs = has_space (slice_index_or fs 3 []) || has_space (slice_index_or fs 4 []) || has_space (slice_index_or fs 5 []) || has_space (slice_index_or fs 6 []) || has_space (slice_index_or fs 7 []) || has_space (slice_index_or fs 8 [])
-
-pub ten_missing : (line : List ℕ) → has_ten_fields line ≡ false → word_code line ≡ 4
-ten_missing line h = cond-true _ _ _ (ap not h)
-
-pub id_bad : (line : List ℕ) (fs : List (List ℕ)) → has_ten_fields line ≡ true → fields line ≡ fs → is_id (slice_index_or fs 0 []) ≡ false → word_code line ≡ 5
-id_bad line fs ten same h =
-    let first : is_id (field 0 line) ≡ false = ap (λ x. is_id (slice_index_or x 0 [])) same ∙ h in
-    cond-false _ _ _ (ap not ten) ∙ cond-true _ _ _ (ap not first)
-
-pub space_bad : (line : List ℕ) (fs : List (List ℕ)) → has_ten_fields line ≡ true → fields line ≡ fs → is_id (slice_index_or fs 0 []) ≡ true → any_space fs ≡ true → word_code line ≡ 6
-space_bad line fs ten same id h =
-    let first : is_id (field 0 line) ≡ true = ap (λ x. is_id (slice_index_or x 0 [])) same ∙ id in
-    let spaced : has_spaced_field line ≡ true = ap any_space same ∙ h in
-    cond-false _ _ _ (ap not ten) ∙ cond-false _ _ _ (ap not first) ∙ cond-true _ _ _ spaced
-
-pub head_bad : (line : List ℕ) (fs : List (List ℕ)) → has_ten_fields line ≡ true → fields line ≡ fs → is_id (slice_index_or fs 0 []) ≡ true → any_space fs ≡ false → is_head (slice_index_or fs 6 []) ≡ false → word_code line ≡ 7
-head_bad line fs ten same id space h =
-    let first : is_id (field 0 line) ≡ true = ap (λ x. is_id (slice_index_or x 0 [])) same ∙ id in
-    let spaced : has_spaced_field line ≡ false = ap any_space same ∙ space in
-    let seventh : is_head (field 6 line) ≡ false = ap (λ x. is_head (slice_index_or x 6 [])) same ∙ h in
-    cond-false _ _ _ (ap not ten) ∙ cond-false _ _ _ (ap not first) ∙ cond-false _ _ _ spaced ∙ cond-true _ _ _ (ap not seventh)
 
 pub none_bad : (line : List ℕ) (fs : List (List ℕ)) → has_ten_fields line ≡ true → fields line ≡ fs → is_id (slice_index_or fs 0 []) ≡ true → any_space fs ≡ false → is_head (slice_index_or fs 6 []) ≡ true → word_code line ≡ 0
 none_bad line fs ten same id space h =

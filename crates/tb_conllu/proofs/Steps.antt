@@ -1,13 +1,10 @@
 -- One more line of a sentence.
-use Rattle.std.proofs.Common.{◌≡◌, ℕ, List, [], ◌∷◌, ◌++◌, Bool, true, false, map, refl, sym, ◌∙◌, ap, subst, append_assoc}
+use Rattle.std.proofs.Common.{◌≡◌, ℕ, List, [], ◌∷◌, ◌++◌, Bool, true, false, map, refl, ◌∙◌, ap}
 use Rattle.std.proofs.lemmas.Bool.{cond-true, cond-false}
-use Rattle.tb_conllu.specs.Text.{RowText, BlockText, row_line}
-use Rattle.tb_conllu.specs.Shape.{IsLineText, IsRowShaped}
+use Rattle.tb_conllu.specs.Text.{RowText, row_line}
+use Rattle.tb_conllu.specs.Shape.{IsLineText}
 use Rattle.tb_conllu.specs.Lines.{line_code, word_code, is_empty, is_comment}
-use Rattle.tb_conllu.specs.Begun.{IsSound}
-use Rattle.tb_conllu.specs.Refusal.{begun, lines_begun}
 use Rattle.tb_conllu.proofs.RowLines.{text_code}
-use Rattle.tb_conllu.proofs.Reported.{all_append}
 
 -- the code of a line that is neither blank nor a comment is that of a word line
 pub word_line_code : (came : Bool) (t : List ℕ) → IsLineText t → is_empty t ≡ false → is_comment t ≡ false → line_code came t ≡ word_code t
@@ -19,16 +16,6 @@ late_comment_code came t h filled hashed after = text_code came t h ∙ cond-fal
 map_append : (rs : List RowText) (r : RowText) → map row_line (rs ++ r ∷ []) ≡ map row_line rs ++ row_line r ∷ []
 map_append [] r = refl
 map_append (x ∷ rs) r = ap (λ ls. row_line x ∷ ls) (map_append rs r)
-
-pub row_adds_line : (old new : BlockText) (r : RowText) (t : List ℕ) → row_line r ≡ t → new ≡ record { comments = old.comments; rows = old.rows ++ r ∷ [] } → lines_begun new ≡ lines_begun old ++ t ∷ []
-row_adds_line old new r t same e =
-    ap lines_begun e ∙ ap (λ ls. old.comments ++ ls) (map_append old.rows r ∙ ap (λ l. map row_line old.rows ++ l ∷ []) same)
-    ∙ sym (append_assoc old.comments (map row_line old.rows) (t ∷ []))
-
-pub row_keeps_sound : (old new : BlockText) (r : RowText) → IsRowShaped r → new ≡ record { comments = old.comments; rows = old.rows ++ r ∷ [] } → IsSound (begun old) → IsSound (begun new)
-row_keeps_sound old new r shaped e h =
-    let P : BlockText → Type 0 = λ b. IsSound (begun b) in
-    subst P (sym e) (record { done = tt; comments = h.comments; rows = all_append IsRowShaped old.rows (r ∷ []) h.rows (shaped, tt) })
 
 pub first_comment_code : (came : Bool) (t : List ℕ) → IsLineText t → is_empty t ≡ false → is_comment t ≡ true → came ≡ false → line_code came t ≡ 0
 first_comment_code came t h filled hashed before = text_code came t h ∙ cond-false _ _ _ filled ∙ cond-true _ _ _ hashed ∙ cond-false _ _ _ before

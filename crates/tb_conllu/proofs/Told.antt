@@ -1,5 +1,5 @@
 -- Lines whose faults are told one after another.
-use Rattle.std.proofs.Common.{◌≡◌, ℕ, ◌+◌, ◌≤◌, List, [], ◌∷◌, ◌++◌, length, Bool, true, false, refl, sym, ◌∙◌, ap, arith, append_assoc, append-nil, length-append}
+use Rattle.std.proofs.Common.{◌≡◌, ℕ, ◌+◌, ◌≤◌, List, [], ◌∷◌, ◌++◌, length, Bool, false, refl, sym, ◌∙◌, ap, arith, append_assoc, append-nil, length-append}
 use Rattle.tb_conllu.specs.Text.{ended}
 use Rattle.tb_conllu.specs.Lines.{is_empty, line_code, came_after, came_through}
 use Rattle.tb_conllu.specs.Reported.{IsLine, AreLines}
@@ -33,9 +33,6 @@ pub record AreRead (bytes rest : List ℕ) (line : ℕ) (came closed : Bool) (li
   pub after : came ≡ came_through false lines
   pub last : closed ≡ is_closed lines
   pub room : line + length rest ≤ length bytes
-
-pub none_read : (bytes : List ℕ) → AreRead bytes bytes 0 false true []
-none_read bytes = record { whole = refl; cut = tt; place = refl; after = refl; last = refl; room = omega arith }
 
 pub line_read : (bytes rest raw after : List ℕ) (line : ℕ) (came closed : Bool) (lines : List (List ℕ)) → AreRead bytes rest line came closed lines → IsLine raw → rest ≡ raw ++ 10 ∷ after
     → AreRead bytes after (line + 1) (came_after came raw) (is_empty raw) (lines ++ raw ∷ [])

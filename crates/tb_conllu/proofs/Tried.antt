@@ -1,8 +1,7 @@
 -- Answers of a writer, one after the other.
-use Rattle.std.proofs.Common.{◌≡◌, ℕ, ◌+◌, ◌<◌, ◌≤◌, List, [], ◌∷◌, ◌++◌, length, Option, Some, None, Err, refl, sym, ◌∙◌, ap, subst, arith, inl, inr, append_assoc, append-nil, length-append}
+use Rattle.std.proofs.Common.{◌≡◌, ℕ, ◌+◌, ◌<◌, ◌≤◌, List, [], ◌∷◌, ◌++◌, length, Option, Some, None, Err, refl, sym, ◌∙◌, ap, arith, inl, inr, append_assoc, length-append}
 use Rattle.std.specs.List.{AllByRecursion}
-use Rattle.std.proofs.lemmas.List.{replicate_more}
-use Rattle.tb_conllu.specs.Tries.{Answer, Answers, GoesOn, HasGivenUp, HasTaken, TakesNone, interruptions, one_if_interrupted, signals}
+use Rattle.tb_conllu.specs.Tries.{Answer, Answers, GoesOn, HasGivenUp, TakesNone, interruptions, one_if_interrupted, signals}
 use Rattle.tb_conllu.specs.declared.sink.Stop.TheVariants.{Interrupted}
 
 -- so far only steps: so many bytes were taken, and a signal came between so often
@@ -12,10 +11,6 @@ pub record HasStepped (old new : Option (List Answer)) (written signals : ℕ) :
   pub steps : AllByRecursion GoesOn rs
   pub counted : interruptions rs ≡ signals
   pub few : length rs ≤ written + signals
-
-pub answers_none : (o : Option (List Answer)) → Answers o o []
-answers_none None = tt
-answers_none (Some xs) = sym (append-nil xs)
 
 pub answers_more : (a b c : Option (List Answer)) (xs ys : List Answer) → Answers a b xs → Answers b c ys → Answers a c (xs ++ ys)
 answers_more None b c xs ys h k = tt
@@ -31,9 +26,6 @@ signals_more : (xs : List Answer) (y : Answer) → interruptions (xs ++ y ∷ []
 signals_more [] y = omega arith
 signals_more (x ∷ xs) y = omega (arith, signals_more xs y)
 
-pub stepped_none : (o : Option (List Answer)) → HasStepped o o 0 0
-stepped_none o = record { rs = []; grown = answers_none o; steps = tt; counted = refl; few = omega arith }
-
 pub stepped_more : (a b c : Option (List Answer)) (w i n m : ℕ) (r : Answer) → HasStepped a b w i → Answers b c (r ∷ []) → GoesOn r
     → m ≡ i + one_if_interrupted r → w + i + 1 ≤ n + m → HasStepped a c n m
 stepped_more a b c w i n m r h k go is room = record {
@@ -43,9 +35,6 @@ stepped_more a b c w i n m r h k go is room = record {
   counted = signals_more h.rs r ∙ ap (λ x. x + one_if_interrupted r) h.counted ∙ sym is;
   few = omega (arith, length-append h.rs (r ∷ []), h.few, room);
 }
-
-pub taken_all : (a b : Option (List Answer)) (w i n : ℕ) → HasStepped a b w i → w ≤ n → i < 1000 → HasTaken a b n
-taken_all a b w i n h k few = (h.rs, h.grown, record { steps = h.steps; patient = omega (arith, h.counted, few) }, omega (arith, h.few, k, few))
 
 -- no step was taken
 pub given_up : (a b c : Option (List Answer)) (w i n : ℕ) (r : Answer) → HasStepped a b w i → Answers b c (r ∷ []) → TakesNone r → (GoesOn r → ⊥)
@@ -75,9 +64,3 @@ out_of_patience a b c w i n h k room last = (
 )
 
 -- ---- a reader
-
--- one more signal
-pub signal_more : (a b c : Option (List Answer)) (i : ℕ) → Answers a b (signals i) → Answers b c (Err Interrupted ∷ []) → Answers a c (signals (i + 1))
-signal_more a b c i h k =
-    let P : List Answer → Type 0 = Answers a c in
-    subst P (replicate_more i (Err Interrupted)) (answers_more a b c (signals i) (Err Interrupted ∷ []) h k)

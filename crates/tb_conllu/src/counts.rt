@@ -1,4 +1,4 @@
-ghost use Rattle.std.specs.Prelude.{◌≡◌, count_by};
+ghost use Rattle.std.specs.Prelude.{◌≡◌};
 ghost use Rattle.tb_conllu.specs.Words.{is_word_id, is_word, words_of};
 
 use crate::id::LineId;

@@ -2,7 +2,7 @@
 //! fields, and tested for nothing but UTF-8.
 
 ghost use Rattle.std.specs.Prelude.{◌≡◌, ◌<◌, ℕ, List, [], ◌∷◌, ◌++◌, map, length, nat_le, true};
-ghost use Rattle.std.specs.Prelude.{false, Some, IfOk, IfSome, OnOk, MatchOption, MatchBool};
+ghost use Rattle.std.specs.Prelude.{false, Some, IfOk, IfSome, OnOk, MatchOption};
 ghost use Rattle.std.specs.List.{AllByRecursion};
 ghost use Rattle.tb_conllu.specs.Lines.{is_comment};
 ghost use Rattle.tb_conllu.specs.Marks.{parts};

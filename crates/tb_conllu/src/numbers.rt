@@ -1,6 +1,6 @@
 //! Numbers of one to six digits, without leading zeros.
 
-ghost use Rattle.std.specs.Prelude.{◌≡◌, ◌<◌, ◌≤◌, ℕ, MatchOption, false, true};
+ghost use Rattle.std.specs.Prelude.{◌≡◌, ◌<◌, ◌≤◌, MatchOption, false, true};
 ghost use Rattle.std.specs.Fmt.{decimal};
 ghost use Rattle.tb_conllu.specs.Lines.{is_number, is_positive};
 ghost use Rattle.tb_conllu.specs.Shape.{IsShort};

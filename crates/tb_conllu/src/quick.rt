@@ -1,7 +1,7 @@
 //! Reads rows quickly from a text that was tested as a whole. Its tabs and line feeds are found 64 bytes at a time. A
 //! row that may have a fault is left to the functions that report it.
 
-ghost use Rattle.std.specs.Prelude.{◌≡◌, ℕ, List, [], ◌∷◌, ◌++◌, map, take, slice_index, IfOk};
+ghost use Rattle.std.specs.Prelude.{◌≡◌, ℕ, List, ◌∷◌, ◌++◌, map, take, slice_index, IfOk};
 ghost use Rattle.std.specs.Prelude.{IfSome, IsTrue, ◌||◌};
 ghost use Rattle.std.specs.List.{AllByRecursion, join_with_byte, list_any};
 ghost use Rattle.tb_chars.specs.Digits.{is_digit};

@@ -1,4 +1,4 @@
-ghost use Rattle.std.specs.Prelude.{List, ℕ, map, string_bytes};
+ghost use Rattle.std.specs.Prelude.{map};
 ghost use Rattle.tb_conllu.specs.Text.{RowText, BlockText};
 
 use crate::id::LineId;

@@ -1,5 +1,5 @@
 -- Lists that agree, element by element, whatever their elements are seen as.
-use Rattle.std.proofs.Common.{◌≡◌, ℕ, ◌+◌, ◌<◌, ◌≤◌, List, [], ◌∷◌, ◌++◌, length, take, get_or, map, sym, ◌∙◌, ap, take_all}
+use Rattle.std.proofs.Common.{◌≡◌, ℕ, ◌+◌, ◌<◌, List, [], ◌∷◌, ◌++◌, length, take, get_or, map, sym, ◌∙◌, ap}
 use Rattle.std.proofs.lemmas.List.{map-append, take_more, get_or-map}
 
 -- one more element agrees
@@ -15,10 +15,6 @@ pub alike_at : {X Y Z : Type 0} (f : X → Z) (g : Y → Z) (xs : List X) (ys : 
     → map f xs ≡ map g ys → f x ≡ g y
 alike_at {X} {Y} {Z} f g xs ys i x y l m there here same =
     ap f there ∙ sym (get_or-map f xs i x (f x) l) ∙ ap (λ (zs : List Z). get_or zs i (f x)) same ∙ get_or-map g ys i y (f x) m ∙ sym (ap g here)
-
--- all of them do
-pub alike_all : {X Y Z : Type 0} (f : X → Z) (g : Y → Z) (xs : List X) (ys : List Y) (i : ℕ) → length xs ≤ i → length ys ≤ i → map f (take i xs) ≡ map g (take i ys) → map f xs ≡ map g ys
-alike_all f g xs ys i l m same = ap (map f) (sym (take_all i xs l)) ∙ same ∙ ap (map g) (take_all i ys m)
 
 -- one more element is the same
 pub same_more : {X : Type 0} (xs ys : List X) (i : ℕ) (x y : X) → i < length xs → i < length ys → x ≡ get_or xs i x → y ≡ get_or ys i y → take i xs ≡ take i ys → x ≡ y

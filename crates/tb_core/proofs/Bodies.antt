@@ -60,16 +60,6 @@ reported_refused law stays body bs old new b e reported read next at (inr (f, fa
 pub kept_more : (xs ys : List NewSentenceText) (bs : List BlockText) (b : BlockText) (t : NewSentenceText) → xs ≡ map taken_of bs → t ≡ taken_of b → ys ≡ xs ++ t ∷ [] → ys ≡ map taken_of (bs ++ b ∷ [])
 kept_more xs ys bs b t before is more = more ∙ ap (λ (x : NewSentenceText). xs ++ x ∷ []) is ∙ ap (λ (l : List NewSentenceText). l ++ taken_of b ∷ []) before ∙ sym (map-append taken_of bs (b ∷ []))
 
--- nothing was kept
-pub nothing_kept : (body : List ℕ) (bs : List BlockText) (xs : List NewSentenceText) → xs ≡ map taken_of bs → length xs ≡ 0 → IsFile body bs → IsFile body []
-nothing_kept body [] xs e none file = file
-nothing_kept body (b ∷ bs) xs e none file = absurd (omega (arith, ap length e))
-
--- something was kept
-pub some_kept : (bs : List BlockText) (xs : List NewSentenceText) → xs ≡ map taken_of bs → (length xs ≡ 0 → ⊥) → 0 < length bs
-some_kept [] xs e some = absurd (some (ap length e))
-some_kept (b ∷ bs) xs e some = omega arith
-
 -- ---- a body is answered one way
 
 pub record Laws : Type 0 where

@@ -1,5 +1,5 @@
 -- How a correction ends, by the sentence that was found, and by its body.
-use Rattle.std.proofs.Common.{◌≡◌, inl, inr, ℕ, ◌+◌, List, [], ◌∷◌, ◌++◌, length, map, Bool, true, false, cond, None, Some, Result, Ok, Err, refl, sym, ◌∙◌, ap, subst, arith}
+use Rattle.std.proofs.Common.{◌≡◌, inl, inr, ℕ, ◌+◌, List, [], ◌∷◌, ◌++◌, length, map, Bool, true, false, cond, Some, Result, Ok, Err, refl, sym, ◌∙◌, ap, subst, arith}
 use Rattle.std.specs.Prelude.{nat_le, nat_eq}
 use Rattle.std.specs.List.{AllByRecursion}
 use Rattle.std.proofs.lemmas.Bool.Decides.{eqb_tells}
@@ -8,7 +8,7 @@ use Rattle.tb_conllu.specs.Reported.{IsFile}
 use Rattle.tb_core.specs.declared.kinds.State.TheVariants.{Withdrawn}
 use Rattle.tb_core.specs.declared.limits.Limits.{Limits}
 use Rattle.tb_core.specs.declared.refusals.Refusal.{Refusal}
-use Rattle.tb_core.specs.declared.refusals.Refusal.TheVariants.{BadName, NoSuchSentence, Stale, SentIdChanged, TextChanged, NothingChanged, Full}
+use Rattle.tb_core.specs.declared.refusals.Refusal.TheVariants.{Stale, SentIdChanged, TextChanged, NothingChanged, Full}
 use Rattle.tb_core.specs.declared.replies.Corrected.{Corrected}
 use Rattle.tb_core.specs.Names.{is_name}
 use Rattle.tb_core.specs.Deciding.{may_correct, then_current, correct_decision}
@@ -30,12 +30,6 @@ use Rattle.tb_core.proofs.FoundOnce.{sentence_once, has_sentence}
 use Rattle.tb_core.proofs.BodyTests.{BodyThen, body_stops, body_goes}
 
 -- ---- the first part
-
-pub correct_bad : (l : Limits) (s : Machine) (n base : ℕ) (user body : List ℕ) → is_name user ≡ false → Steps l s (correct n base user body) (refused BadName) s
-correct_bad l s n base user body bad = reported (BadName, (bad, refl), refl)
-
-pub correct_absent : (l : Limits) (s : Machine) (n base : ℕ) (user body : List ℕ) → is_name user ≡ true → FindsCurrent s n None → Steps l s (correct n base user body) (refused NoSuchSentence) s
-correct_absent l s n base user body good none = passed (not_bad_name s (is_name user) good) (reported (NoSuchSentence, (none, refl), refl))
 
 abbrev the_reply : ℕ → ℕ → ℕ → Corrected
 the_reply n k w = record { sentence = n; rev = k; words = w }

@@ -1,12 +1,12 @@
 -- How an event ends, by the batch that was found.
-use Rattle.std.proofs.Common.{◌≡◌, ℕ, ◌+◌, ◌-◌, List, length, Bool, true, false, ◌&&◌, cond, None, Some, Result, Ok, Err, refl, sym, ◌∙◌, ap, subst, arith}
+use Rattle.std.proofs.Common.{◌≡◌, ℕ, ◌+◌, ◌-◌, List, length, Bool, true, false, ◌&&◌, cond, Some, Result, Ok, Err, refl, sym, ◌∙◌, ap, subst, arith}
 use Rattle.std.specs.Prelude.{nat_le, bytes_eq}
 use Rattle.tb_core.specs.declared.kinds.State.{State}
 use Rattle.tb_core.specs.declared.kinds.Event.{Event}
 use Rattle.tb_core.specs.declared.kinds.Worker.{Worker}
 use Rattle.tb_core.specs.declared.limits.Limits.{Limits}
 use Rattle.tb_core.specs.declared.refusals.Refusal.{Refusal}
-use Rattle.tb_core.specs.declared.refusals.Refusal.TheVariants.{BadName, NoSuchBatch, WrongState, NotYours, OwnWork, Full}
+use Rattle.tb_core.specs.declared.refusals.Refusal.TheVariants.{WrongState, NotYours, OwnWork, Full}
 use Rattle.tb_core.specs.Names.{is_name}
 use Rattle.tb_core.specs.Events.{Asker, anyone, the_worker, not_the_worker, event_row, leads_from, goes_to, makes_worker}
 use Rattle.tb_core.specs.Deciding.{allowed, event_decision}
@@ -45,12 +45,6 @@ event_makes state worker event user made e =
     leading_makes (leads_from event state) state (allowed (event_row event).asker worker user makes) makes made e (allowed_makes (event_row event).asker worker user makes made)
 
 -- ---- how it ends
-
-pub event_bad : (l : Limits) (s : Machine) (name : List ℕ) (event : Event) (user : List ℕ) → (is_name name && is_name user) ≡ false → Steps l s (event_on name event user) (refused BadName) s
-event_bad l s name event user bad = reported (BadName, (bad, refl), refl)
-
-pub event_absent : (l : Limits) (s : Machine) (name : List ℕ) (event : Event) (user : List ℕ) → (is_name name && is_name user) ≡ true → FindsBatch s name None → Steps l s (event_on name event user) (refused NoSuchBatch) s
-event_absent l s name event user good free = passed (not_bad_name s (is_name name && is_name user) good) (reported (NoSuchBatch, (free, refl), refl))
 
 abbrev Decides : Batch → Event → List ℕ → Result (State × Worker) Refusal → Type 0
 Decides b event user r = event_decision b.state b.worker event user ≡ r

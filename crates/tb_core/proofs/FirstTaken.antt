@@ -12,26 +12,9 @@ use Rattle.tb_core.specs.Taking.{NewSentenceText, taken_of}
 abbrev pub Misses : List (List ℕ) → NewSentenceText → Type 0
 Misses ids t = Lacks ids t.sent_id
 
-misses_next : (ids : List (List ℕ)) (items : List NewSentenceText) (i : ℕ) (t : NewSentenceText) → i < length items → t ≡ get_or items i t → AllByRecursion (Misses ids) (take i items) → Misses ids t
-    → AllByRecursion (Misses ids) (take (suc i) items)
-misses_next ids [] i t h e before here = absurd (omega arith)
-misses_next ids (x ∷ xs) zero t h e before here = (subst (λ (z : NewSentenceText). Misses ids z) e here, tt)
-misses_next ids (x ∷ xs) (suc i) t h e before here = (before.0, misses_next ids xs i t (omega arith) e before.1 here)
-
--- one more of the names is free
-pub misses_more : (ids : List (List ℕ)) (items : List NewSentenceText) (i : ℕ) (t : NewSentenceText) → i < length items → t ≡ get_or items i t → AllByRecursion (Misses ids) (take i items) → Misses ids t
-    → AllByRecursion (Misses ids) (take (i + 1) items)
-misses_more ids items i t h e before here =
-    let next : suc i ≡ i + 1 = omega arith in
-    subst (λ n. AllByRecursion (Misses ids) (take n items)) next (misses_next ids items i t h e before here)
-
 all_free : (ids : List (List ℕ)) (bs : List BlockText) → AllByRecursion (Misses ids) (map taken_of bs) → AllByRecursion (Lacks ids) (ids_in bs)
 all_free ids [] h = tt
 all_free ids (b ∷ bs) h = (h.0, all_free ids bs h.1)
-
--- all are free
-pub none_stands : (ids : List (List ℕ)) (bs : List BlockText) (items : List NewSentenceText) → items ≡ map taken_of bs → AllByRecursion (Misses ids) items → AllByRecursion (Lacks ids) (ids_in bs)
-none_stands ids bs items e h = all_free ids bs (subst (λ (l : List NewSentenceText). AllByRecursion (Misses ids) l) e h)
 
 first_in_front : (ids : List (List ℕ)) (b : BlockText) (bs : List BlockText) (k : ℕ) → Lacks ids (sent_id_of b) → IsFirstTaken ids bs k → IsFirstTaken ids (b ∷ bs) (k + 1)
 first_in_front ids b bs k here first = record {

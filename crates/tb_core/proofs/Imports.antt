@@ -5,13 +5,12 @@ use Rattle.std.specs.List.{AllByRecursion}
 use Rattle.tb_conllu.specs.Text.{BlockText, text_of}
 use Rattle.tb_core.specs.declared.limits.Limits.{Limits}
 use Rattle.tb_core.specs.declared.refusals.Refusal.{Refusal}
-use Rattle.tb_core.specs.declared.refusals.Refusal.TheVariants.{BadName, NameTaken, SentIdTaken, Full}
-use Rattle.tb_core.specs.declared.replies.Imported.{Imported}
+use Rattle.tb_core.specs.declared.refusals.Refusal.TheVariants.{NameTaken, SentIdTaken, Full}
 use Rattle.tb_core.specs.Names.{is_name, Lacks}
 use Rattle.tb_core.specs.Machine.{sent_id_of, Batch, Machine}
 use Rattle.tb_core.specs.Acts.{importing, IsAllowed, after, names_of, ids_of, ids_in}
 use Rattle.tb_core.specs.Reaching.{Reached, has_room}
-use Rattle.tb_core.specs.Commands.{import_file, Reply, imported, replied, refused, Ending, ending, HasBatch, reply_to}
+use Rattle.tb_core.specs.Commands.{import_file, replied, refused, Ending, ending, HasBatch, reply_to}
 use Rattle.tb_core.specs.Tests.{◌otherwise◌, reported, passed, Refuses, IsNameTaken, IsFirstTaken, IsIdTaken, IsFull, first_bodies, RepeatsImport, Accepts}
 use Rattle.tb_core.specs.Steps.{ImportEnds, Steps}
 use Rattle.tb_core.specs.Taking.{IsBody, IsBodyRefused}
@@ -26,15 +25,6 @@ use Rattle.tb_core.proofs.FoundOnce.{not_free, batch_place}
 use Rattle.tb_core.proofs.BodyTests.{BodyThen, body_stops, body_goes}
 
 -- ---- the name
-
-pub import_bad : (l : Limits) (s : Machine) (name user body : List ℕ) → (is_name name && is_name user) ≡ false → Steps l s (import_file name user body) (refused BadName) s
-import_bad l s name user body bad = reported (BadName, (bad, refl), refl)
-
-pub import_repeat : (l : Limits) (s : Machine) (name user body : List ℕ) (reply : Imported) → (is_name name && is_name user) ≡ true → FindsName s name body (Same reply)
-    → Steps l s (import_file name user body) (replied (imported reply)) s
-import_repeat l s name user body reply good (place, b, has, same, is) =
-    passed (not_bad_name s (is_name name && is_name user) good)
-    (reported (place, b, has, same, ap (λ (r : Reply). ending (replied r) s) is))
 
 -- a name that no batch has, or one whose batch has other first revisions, is no repeat
 fresh_free : (s : Machine) (name body : List ℕ) → Lacks (names_of s.batches) name → (e : Ending) → RepeatsImport s name body e → ⊥

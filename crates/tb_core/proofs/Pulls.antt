@@ -1,11 +1,11 @@
 -- How a pull and a restore end, by the sentence that was found.
-use Rattle.std.proofs.Common.{◌≡◌, ℕ, ◌+◌, ◌-◌, List, length, Bool, true, false, cond, None, Some, Result, Ok, Err, refl, sym, ◌∙◌, ap, subst, arith}
+use Rattle.std.proofs.Common.{◌≡◌, ℕ, ◌+◌, ◌-◌, List, length, Bool, true, false, cond, Some, Result, Ok, Err, refl, sym, ◌∙◌, ap, subst, arith}
 use Rattle.std.specs.Prelude.{nat_le}
 use Rattle.tb_core.specs.declared.kinds.State.{State}
 use Rattle.tb_core.specs.declared.kinds.State.TheVariants.{Withdrawn}
 use Rattle.tb_core.specs.declared.limits.Limits.{Limits}
 use Rattle.tb_core.specs.declared.refusals.Refusal.{Refusal}
-use Rattle.tb_core.specs.declared.refusals.Refusal.TheVariants.{BadName, NoSuchSentence, WrongState, NotPulled, Full}
+use Rattle.tb_core.specs.declared.refusals.Refusal.TheVariants.{WrongState, NotPulled, Full}
 use Rattle.tb_core.specs.Names.{is_name}
 use Rattle.tb_core.specs.Events.{is_state}
 use Rattle.tb_core.specs.Deciding.{pull_decision, restore_decision}
@@ -25,12 +25,6 @@ abbrev Decision : Type 0
 Decision = Result (Unit {0}) Refusal
 
 -- ---- a pull
-
-pub pull_bad : (l : Limits) (s : Machine) (n : ℕ) (user : List ℕ) → is_name user ≡ false → Steps l s (pull n user) (refused BadName) s
-pull_bad l s n user bad = reported (BadName, (bad, refl), refl)
-
-pub pull_absent : (l : Limits) (s : Machine) (n : ℕ) (user : List ℕ) → is_name user ≡ true → FindsSentence s n None → Steps l s (pull n user) (refused NoSuchSentence) s
-pull_absent l s n user good none = passed (not_bad_name s (is_name user) good) (reported (NoSuchSentence, (none, refl), refl))
 
 abbrev Pulls : Machine → Sentence → Decision → Type 0
 Pulls s x r = pull_decision (batch_with s.batches x.batch).state x.pulled ≡ r
@@ -94,12 +88,6 @@ same_by false false state reported_state e = absurd (cc)
 restored_same : (state : State) (pulled : Bool) (reported_state : State) → restore_decision state pulled ≡ Ok reported_state → reported_state ≡ state
 unfolding restores_by
 restored_same state pulled reported_state e = same_by (is_state state Withdrawn) pulled state reported_state e
-
-pub restore_bad : (l : Limits) (s : Machine) (n : ℕ) (user : List ℕ) → is_name user ≡ false → Steps l s (restore n user) (refused BadName) s
-restore_bad l s n user bad = reported (BadName, (bad, refl), refl)
-
-pub restore_absent : (l : Limits) (s : Machine) (n : ℕ) (user : List ℕ) → is_name user ≡ true → FindsSentence s n None → Steps l s (restore n user) (refused NoSuchSentence) s
-restore_absent l s n user good none = passed (not_bad_name s (is_name user) good) (reported (NoSuchSentence, (none, refl), refl))
 
 abbrev Restores : Machine → Sentence → Result State Refusal → Type 0
 Restores s x r = restore_decision (batch_with s.batches x.batch).state x.pulled ≡ r

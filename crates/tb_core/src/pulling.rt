@@ -1,6 +1,6 @@
 //! The pull of a sentence, and its restore.
 
-ghost use Rattle.std.specs.Prelude.{◌≡◌, ◌-◌, length, option_map, IfOk, IfErr, OnOk};
+ghost use Rattle.std.specs.Prelude.{◌≡◌, ◌-◌, length, IfOk, IfErr, OnOk};
 ghost use Rattle.tb_core.specs.Machine.{Machine};
 ghost use Rattle.tb_core.specs.Acts.{pulling, restoring, IsAllowed, after, to_state};
 ghost use Rattle.tb_core.specs.Commands.{pull, restore, replied, refused, reply_to};

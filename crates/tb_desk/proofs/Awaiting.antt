@@ -121,7 +121,3 @@ length_found f xs i d w r l before here h =
     (rw (map-append f) (filter_map-append (value_under length_name) (map f (take (i + 1) xs)) (map f (drop (i + 1) xs)))) in
     let first : values_of length_name (map f (take (i + 1) xs)) ≡ w ∷ [] = values_of-more f length_name xs i d (Some w) l here ∙ ap (λ ys. ys ++ w ∷ []) before in
     in_values (values_of (codes "Transfer-Encoding") (map f xs)) _ rest w r (cut ∙ ap (λ ys. ys ++ rest) first) h
-
--- no header has the name
-pub length_absent : (hs : List Header) → values_of length_name hs ≡ [] → IsWordOf 0 (body_length hs)
-length_absent hs none = in_none (values_of (codes "Transfer-Encoding") hs) _ none

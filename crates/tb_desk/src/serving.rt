@@ -1,7 +1,7 @@
 //! Serves the desk over HTTP on loopback: one connection after another, with one request each.
 
-ghost use Rattle.std.specs.Prelude.{◌≡◌, ◌≢◌, ◌++◌, ◌↔◌, IfErr, IfOk, IfSome, IsTrue};
-ghost use Rattle.std.specs.Prelude.{None, Err as ErrOf, Ok as OkOf, IsSomeAnd, OnErr, OnOk, codes, false, string_bytes};
+ghost use Rattle.std.specs.Prelude.{◌≡◌, ◌≢◌, ◌↔◌, IfErr, IfOk, IfSome, IsTrue};
+ghost use Rattle.std.specs.Prelude.{None, Err as ErrOf, Ok as OkOf, IsSomeAnd, OnErr, OnOk, false, string_bytes};
 ghost use Rattle.std.specs.Io.KnownBytes.{Appends};
 ghost use Rattle.std.specs.Net.Addr.{ipv4_octets};
 ghost use Rattle.sqlite.specs.Held.{state};

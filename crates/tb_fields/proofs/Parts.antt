@@ -1,9 +1,9 @@
 -- one part of a text after another, as a loop over `split_once` meets them
-use Rattle.std.proofs.Common.{◌≡◌, ℕ, ◌<◌, List, [], ◌∷◌, length, drop, get_or, map, Bool, true, false, not, ◌&&◌, ◌||◌, refl, sym, ◌∙◌, ap, arith}
+use Rattle.std.proofs.Common.{◌≡◌, ℕ, List, [], ◌∷◌, length, map, Bool, true, false, not, ◌&&◌, ◌||◌, refl, sym, ◌∙◌, ap}
 use Rattle.std.specs.List.{list_any, list_all, position_or_len, before_first}
 use Rattle.std.specs.Str.{bytes_eq}
 use Rattle.std.proofs.Math.Seq.{take-length}
-use Rattle.tb_fields.specs.Feats.{is_label, is_capital_or_digit, is_letter_or_digit, is_layer, is_closing, is_opening, is_name, are_distinct, are_values, is_feature, feature_name, precedes, are_in_order, are_features}
+use Rattle.tb_fields.specs.Feats.{is_label, is_layer, is_closing, is_opening, is_name, are_distinct, are_values, is_feature, feature_name, precedes, are_in_order, are_features}
 use Rattle.tb_fields.proofs.Places.{list_any-from_no_place}
 
 pub and_true : (b : Bool) → (b && true) ≡ b
@@ -70,7 +70,3 @@ is_name-plain bs none =
     let no_bracket : list_any is_opening bs ≡ false = list_any-from_no_place is_opening bs none in
     let whole : before_first is_opening bs ≡ bs = rw none (take-length bs) in
     rw no_bracket (and_true (is_label (before_first is_opening bs)) ∙ ap is_label whole)
-
-pub is_label-cons : (bs : List ℕ) → 0 < length bs → is_label bs ≡ (is_capital_or_digit (get_or bs 0 0) && list_all is_letter_or_digit (drop 1 bs))
-is_label-cons [] h = absurd (omega arith)
-is_label-cons (b ∷ bs) h = refl

@@ -1,7 +1,7 @@
 //! What the bytes of a request ask, from any reader.
 
 ghost use Rattle.std.specs.Prelude.{◌≡◌, ◌≢◌, ◌≤◌, ◌+◌, ◌++◌, ℕ, List, [], length};
-ghost use Rattle.std.specs.Prelude.{option_map, IfOk, IfErr, IfSome, IsOkAnd, MatchOption, MatchResult};
+ghost use Rattle.std.specs.Prelude.{IfOk, IfErr, IfSome, IsOkAnd, MatchOption, MatchResult};
 ghost use Rattle.std.specs.Prelude.{Err as ErrOf};
 ghost use Rattle.httparse.specs.Spans.{IsRequestOf, IsRequestWithin};
 ghost use Rattle.tb_conllu.specs.Pieces.{AskedFor};

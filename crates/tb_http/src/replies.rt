@@ -4,7 +4,7 @@ ghost use Rattle.std.specs.Prelude.{◌≡◌, ◌++◌, ◌≤◌, ◌+◌, len
 ghost use Rattle.arrayvec.specs.ArrayString.{array_string_len};
 ghost use Rattle.tb_core.specs.Refusals.{refusal_text};
 ghost use Rattle.tb_core.specs.Words.{state_word};
-ghost use Rattle.tb_http.specs.Replies.{fault_word, fault_status, refusal_status, reply_text};
+ghost use Rattle.tb_http.specs.Replies.{fault_status, refusal_status, reply_text};
 ghost use Rattle.tb_http.specs.declared.replies.Reply.TheVariants as reply;
 
 use crate::asks::RequestFault;
@@ -230,7 +230,7 @@ fn refusal_status(refusal: Refusal) -> Status
 
 impl Reply {
     ghost use Rattle.std.specs.Prelude.{◌≡◌};
-    ghost use Rattle.tb_http.specs.Replies.{reply_text, status_of, exit_of, allow_in};
+    ghost use Rattle.tb_http.specs.Replies.{reply_text, status_of, exit_of};
 
     /// The line, with its line feed.
     pub fn line(self) -> ArrayString<128>

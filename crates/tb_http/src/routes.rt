@@ -1,6 +1,6 @@
 //! The desk's routes, matched by the library matchit.
 
-ghost use Rattle.std.specs.Prelude.{◌≡◌, IfErr, IfOk, OnOk, true};
+ghost use Rattle.std.specs.Prelude.{◌≡◌, IfErr, IfOk, true};
 ghost use Rattle.matchit.specs.declared.error.InsertError.TheVariants.{OutOfMemory};
 ghost use Rattle.tb_http.specs.Routes.{takes_text, with_text, route_rows, route_of};
 

@@ -65,16 +65,6 @@ first_shaped s number b fine first =
 
 -- ---- their words
 
-first_current : (before : List Revision) (c : Revision) → length before + 1 ≡ 1 → first_in before c ≡ c.body
-first_current [] c one = refl
-first_current (r ∷ rs) c one = absurd (omega (arith, one))
-
--- a sentence of one revision has those of its current one
-pub same_words : (s : Machine) (w : BatchSentence) (b : BlockText) → IsWorkOf s w b → w.rev ≡ 1 → w.words ≡ words_of b
-same_words s w b h one =
-    let x = h.first.sentence in
-    h.words ∙ ap words_of (sym (h.first.body ∙ first_current x.before x.current (sym h.rev ∙ one)))
-
 -- any other has those of its first one, which is read
 pub read_words : ((f : List ℕ) (bs cs : List BlockText) → IsFile f bs → IsFile f cs → bs ≡ cs) → ((s : Machine) → Reached s → IsWell s) → (s : Machine) (number n : ℕ) (b : BlockText) (text : List ℕ) (bs : List BlockText) → Reached s → IsFirst s number b
     → text ≡ text_of (b ∷ []) → IsBody text bs → n ≡ sum_by words_of bs → n ≡ words_of b

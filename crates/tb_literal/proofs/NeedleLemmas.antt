@@ -1,6 +1,5 @@
 -- What a test of a value says, by the flag.
-use Rattle.std.proofs.Common.{◌≡◌, ◌<◌, ℕ, List, None, Some, Bool, IsUtf8, slice_index, refl, sym, Box, Global}
-use Rattle.std.specs.Str.{bytes_eq}
+use Rattle.std.proofs.Common.{◌≡◌, ℕ, List, Some, Bool, Box, Global}
 use Rattle.regex.specs.Strings.{matcher_pattern}
 use Rattle.regex.specs.declared.string.matcher.Matcher.{Matcher}
 use Rattle.tb_syntax.specs.declared.lexeme.Flag.{Flag}
@@ -14,9 +13,3 @@ pub met_by_matcher : (flag : Flag) (text value : List ℕ) (m : Box Matcher Glob
 met_by_matcher Plain text value m r h f = f _ h
 met_by_matcher NoCase text value m r h f = f _ h
 met_by_matcher Literal text value m r h f = absurd h
-
-pub met_by_text : (flag : Flag) (text value : List ℕ) → SearchesFor flag text None → IsUtf8 value → ((k : ℕ) → slice_index value k < 256) →
-    bytes_eq value text ≡ meets_as flag text value
-met_by_text Plain text value h utf8 bytes = sym (h.at value utf8 bytes)
-met_by_text NoCase text value h utf8 bytes = absurd h
-met_by_text Literal text value h utf8 bytes = refl

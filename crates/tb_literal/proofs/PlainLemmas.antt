@@ -15,7 +15,7 @@ use Rattle.regex_hir.specs.Text.{has_bytes_at}
 use Rattle.regex_hir.proofs.TextLemmas.{has_bytes_at_parts, has_bytes_at_from}
 use Rattle.regex_syntax.specs.Brackets.{Nested, flat, join, deepest}
 use Rattle.regex_syntax.specs.Reading.{Text, is_at, ◌>>=◌}
-use Rattle.regex_syntax.specs.Grammar.{Names, Place, item, atom, opening, opens, with_repetitions, items, branches, join_parts, read}
+use Rattle.regex_syntax.specs.Grammar.{Names, Place, item, atom, with_repetitions, items, branches, join_parts, read}
 use Rattle.regex_syntax.specs.Same.{SameTree}
 use Rattle.regex_syntax.specs.Verdict.{escaped_text, ReadsAsText}
 use Rattle.regex_syntax.proofs.ReadingLemmas.{skip-false}
@@ -59,10 +59,6 @@ start_read rest = refl
 end_read : (rest : Text) → atom default_config (0x5C ∷ 0x7A ∷ rest) ≡ Some (flat (look End), rest)
 unfolding regex_on_literals
 end_read rest = refl
-
-group_opens : (inside : Text) → opening (place (0x28 ∷ 0x3F ∷ 0x3A ∷ inside)) ≡ Some (opens (λ re. re), place inside)
-unfolding regex_on_literals
-group_opens inside = refl
 
 abbrev deeper : Nested Re → Nested Re
 deeper body = record { value = body.value; depth = body.depth + 1 }

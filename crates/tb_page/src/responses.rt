@@ -1,6 +1,5 @@
 //! Writes the responses of the page.
 
-ghost use Rattle.std.specs.Prelude.{◌≡◌};
 ghost use Rattle.tb_answer.specs.Responses.{IsSent};
 ghost use Rattle.tb_page.specs.Answered.{file_response, foreign_response, method_response};
 ghost use Rattle.tb_page.specs.Heads.{page_response};

@@ -1,5 +1,5 @@
 -- Bytes that stand in a part of a text stand in the text.
-use Rattle.std.proofs.Common.{◌≡◌, ℕ, zero, suc, List, [], ◌∷◌, ◌++◌, map, filter, Some, Bool, refl, sym, ap, ◌∙◌, subst, inl, inr, slice_get, append-nil, cond, option_to_list}
+use Rattle.std.proofs.Common.{◌≡◌, ℕ, zero, suc, List, [], ◌∷◌, ◌++◌, map, filter, Some, Bool, sym, ap, ◌∙◌, subst, inl, inr, slice_get, append-nil, cond, option_to_list}
 use Rattle.std.proofs.lemmas.List.{append_assoc}
 use Rattle.std.proofs.lemmas.Bool.{cases_Bool}
 use Rattle.std.specs.List.{AllByRecursion}
@@ -8,9 +8,6 @@ use Rattle.tb_conllu.specs.Text.{RowText, BlockText, ended, block_lines, row_lin
 use Rattle.tb_prefilter.specs.Needed.{IsSubstring}
 
 module _ (n : List ℕ) where
-  pub in_here : (after : List ℕ) → IsSubstring n (n ++ after)
-  in_here after = record { before = []; after = after; cut = refl }
-
   pub in_after : (xs ys : List ℕ) → IsSubstring n ys → IsSubstring n (xs ++ ys)
   in_after xs ys s = record { before = xs ++ s.before; after = s.after; cut = ap (λ zs. xs ++ zs) s.cut ∙ sym (append_assoc xs (s.before ++ n) s.after) ∙ ap (λ zs. zs ++ s.after) (sym (append_assoc xs s.before n)) }
 

@@ -1,6 +1,6 @@
 //! What a text needs to have for a hit, and the texts that have it not.
 
-ghost use Rattle.std.specs.Prelude.{◌≡◌, All, List, [], ◌∷◌, IfOk, IsTrue, false};
+ghost use Rattle.std.specs.Prelude.{◌≡◌, All, [], ◌∷◌, IfOk, IsTrue, false};
 ghost use Rattle.tb_conllu.specs.Text.{BlockText};
 ghost use Rattle.tb_conllu.specs.Reported.{IsFile};
 ghost use Rattle.tb_match.specs.declared.strategy.Strategy.{Strategy as AnyStrategy};

@@ -17,17 +17,6 @@ pub accepted_append : (said : List (List ℕ)) (ls ms : List Literal) → AreAcc
     AreAccepted (map (with_text said) (ls ++ ms))
 accepted_append said ls ms p q = subst AreAccepted (sym (map-append (with_text said) ls ms)) (accepted_both (map (with_text said) ls) (map (with_text said) ms) p q)
 
--- what is refused among literals is refused among more that come after
-pub refused_before : (said : List (List ℕ)) (ls ms : List Literal) (e : QueryFault) → IsRefusalAmong said ls e → IsRefusalAmong said (ls ++ ms) e
-refused_before said ls ms (Pattern k) (before, l, after, parts, number, good, bad) =
-    (before, l, after ++ ms, ap (λ x. x ++ ms) parts ∙ append_assoc before (l ∷ after) ms, number, good, bad)
-refused_before said ls ms Memory h = tt
-refused_before said ls ms TooLong h = absurd h
-refused_before said ls ms (Syntax b) h = absurd h
-refused_before said ls ms TooMany h = absurd h
-refused_before said ls ms TooDeep h = absurd h
-refused_before said ls ms Repeat h = absurd h
-
 -- and among those that come after accepted ones
 pub refused_after : (said : List (List ℕ)) (ls ms : List Literal) (e : QueryFault) → AreAccepted (map (with_text said) ls) → IsRefusalAmong said ms e →
     IsRefusalAmong said (ls ++ ms) e

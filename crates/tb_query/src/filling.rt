@@ -3,7 +3,7 @@
 ghost use Rattle.std.specs.Prelude.{◌≡◌, ◌+◌, ◌<◌, ◌≤◌, ◌↔◌, ◌⊎◌, ℕ, true, length};
 ghost use Rattle.std.specs.Prelude.{map, filter};
 ghost use Rattle.tb_conllu.specs.Words.{is_word};
-ghost use Rattle.tb_match.specs.Facts.{Facts, Holds};
+ghost use Rattle.tb_match.specs.Facts.{Holds};
 ghost use Rattle.tb_query.specs.PreparedExprs.{asked};
 ghost use Rattle.tb_query.specs.Meaning.{holds, HoldsAtWord, HoldsOf};
 

@@ -18,10 +18,6 @@ module _ {X E : Type 0} (f : E → Fault) where
   reported_on (Ok x) h g = g h
   reported_on (Err e) h g = tt
 
-  pub reported_stays : (A : Type 0) (r : Result X E) → (is_ok r ≡ true → A) → OnOk (reported_by f r) A
-  reported_stays A (Ok x) h = h refl
-  reported_stays A (Err e) h = tt
-
   pub reported_err : (A : Type 0) (r : Result X E) → OnErr r A → OnErr (reported_by f r) A
   reported_err A (Ok x) h = tt
   reported_err A (Err e) h = h

@@ -1,5 +1,5 @@
 -- Steps of the replay's loops, and lists written at one place.
-use Rattle.std.proofs.Common.{◌≡◌, ℕ, zero, suc, ◌+◌, ◌-◌, ◌<◌, ◌≤◌, List, [], ◌∷◌, length, get_or, drop, set, Bool, true, false, ◌&&◌, ◌↔◌, Result, Ok, Err, refl, sym, ◌∙◌, ap, arith}
+use Rattle.std.proofs.Common.{◌≡◌, ℕ, zero, suc, ◌+◌, ◌-◌, ◌≤◌, List, [], ◌∷◌, length, get_or, drop, set, Bool, true, false, ◌&&◌, ◌↔◌, Result, Ok, Err, refl, sym, ◌∙◌, ap, arith}
 use Rattle.std.specs.Prelude.{IfOk}
 use Rattle.std.proofs.lemmas.List.{length-map}
 use Rattle.tb_core.specs.declared.kinds.State.{State}
@@ -12,16 +12,9 @@ use Rattle.tb_core.specs.Reaching.{IsReachable}
 use Rattle.tb_replay.specs.Summaries.{SummaryRow, entry_of, entries_of}
 use Rattle.tb_replay.specs.Fine.{AreFine}
 use Rattle.tb_replay.specs.Slots.{Slot, Mark, small, empty_small, no_slot, no_mark}
-use Rattle.tb_replay.specs.Playing.{slot_moved, slot_with, with_sums, mark_next, first_count, first_counts, plays, is_slot_of, are_slots, is_mark_of, are_marks}
+use Rattle.tb_replay.specs.Playing.{slot_moved, slot_with, with_sums, mark_next, first_counts, plays, is_slot_of, are_slots, is_mark_of, are_marks}
 use Rattle.tb_replay.proofs.Exact.{small_is}
 use Rattle.tb_replay.proofs.Ends.{rows_exact}
-
-pub counts_drop : (es : List SummaryRow) (i : ℕ) (e : SummaryRow) → i < length es → e ≡ get_or es i e → first_counts (drop i es) ≡ first_count e.revisions + first_counts (drop (i + 1) es)
-counts_drop [] i e l h = absurd (omega arith)
-counts_drop (x ∷ xs) zero e l h = ap (λ (z : SummaryRow). first_count z.revisions + first_counts xs) (sym h)
-counts_drop (x ∷ xs) (suc i) e l h =
-    let n : suc i + 1 ≡ suc (i + 1) = omega arith in
-    counts_drop xs i e (omega arith) h ∙ ap (λ j. first_count e.revisions + first_counts (drop j (x ∷ xs))) (sym n)
 
 pub counts_end : (es : List SummaryRow) (i : ℕ) → length es ≤ i → first_counts (drop i es) ≡ 0
 counts_end [] zero l = refl
@@ -34,11 +27,6 @@ pub set_is : {X : Type 0} (g : X → X) (xs : List X) (i : ℕ) (d v : X) → v 
 set_is g [] i d v h = refl
 set_is g (x ∷ xs) zero d v h = ap (λ z. z ∷ xs) h
 set_is g (x ∷ xs) (suc i) d v h = ap (λ l. x ∷ l) (set_is g xs i d v h)
-
-pub set_past : {X : Type 0} (xs : List X) (i : ℕ) (v : X) → length xs ≤ i → xs ≡ set xs i v
-set_past [] i v h = refl
-set_past (x ∷ xs) zero v h = absurd (omega arith)
-set_past (x ∷ xs) (suc i) v h = ap (λ l. x ∷ l) (set_past xs i v (omega arith))
 
 -- an event written
 pub event_written : (e : Event) (who : List ℕ) (xs : List Slot) (i j : ℕ) (x : Slot) (st : State) (w : List ℕ) → i ≡ j → x ≡ get_or xs i no_slot → st ≡ goes_to e → w ≡ with_worker (makes_worker e) who x.worker

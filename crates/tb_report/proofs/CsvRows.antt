@@ -1,7 +1,7 @@
 -- Rows written one after the other.
 use Rattle.std.proofs.Common.{◌≡◌, ℕ, ◌+◌, ◌<◌, List, [], ◌∷◌, ◌++◌, length, map, take, get_or, Option, Some, refl, sym, ap, ◌∙◌, subst}
 use Rattle.std.specs.Io.KnownBytes.{Appends, Keeps}
-use Rattle.std.proofs.KnownBytes.{Appends-nil, Appends-trans, Appends-kept}
+use Rattle.std.proofs.KnownBytes.{Appends-trans, Appends-kept}
 use Rattle.std.proofs.lemmas.List.{take_more, map-append}
 use Rattle.std.proofs.lemmas.List.Concat.{flat_map-append}
 use Rattle.csv.specs.Writing.{default_writer, row_text, text_written}
@@ -12,9 +12,6 @@ use Rattle.tb_report.specs.Csv.{IsBetweenRows, PutsRows, csv_of, freq_fields}
 use Rattle.tb_report.specs.Kept.{ranked_row}
 
 module _ {W : Type 0} (contents : W → Option (List ℕ)) where
-  pub puts_none : (w : Writer W) → PutsRows contents w w []
-  puts_none w between = (between, Appends-nil (text_written contents w))
-
   pub puts_both : (o a b : Writer W) (rows more : List (List (List ℕ))) → PutsRows contents o a rows → PutsRows contents a b more → PutsRows contents o b (rows ++ more)
   puts_both o a b rows more first second between =
       let one = first between in

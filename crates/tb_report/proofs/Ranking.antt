@@ -31,9 +31,6 @@ in_order_by a b Less e apart up = e
 in_order_by a b Equal e apart up = absurd (true≢false (sym (ap is_eq (equal_after (nat_cmp b.1 a.1) (slice_cmp nat_cmp a.0 b.0) e)) ∙ apart))
 in_order_by a b Greater e apart up = absurd (true≢false (sym (ap is_lt (rank_total.antisymm b a ∙ ap ordering_reverse e)) ∙ up))
 
-Ranks : Type 0
-Ranks = List (Reverse ℕ × Bor (List ℕ))
-
 no_rank : Reverse ℕ × Bor (List ℕ)
 no_rank = (record { 0 = 0 }, record { ref_ptr = (0, 0); now = [] })
 

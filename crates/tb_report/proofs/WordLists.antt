@@ -2,7 +2,7 @@
 use Rattle.std.proofs.Common.{◌≡◌, ℕ, suc, ◌+◌, ◌-◌, ◌<◌, ◌≤◌, ◌==◌, true, false, cond, List, [], ◌∷◌, ◌++◌, length, map, filter, take, drop, get_or, refl, sym, ap, ◌∙◌, subst, arith, append_assoc, append-nil, take_all, Option}
 use Rattle.std.specs.Io.KnownBytes.{Appends}
 use Rattle.std.proofs.KnownBytes.{Appends-trans}
-use Rattle.std.proofs.Math.Seq.{take-append_seam, drop-nil}
+use Rattle.std.proofs.Math.Seq.{take-append_seam}
 use Rattle.std.proofs.lemmas.Bool.Decides.{nat_tests}
 use Rattle.std.proofs.lemmas.List.{take-append-drop, length-append, length-map, map-append}
 use Rattle.std.proofs.lemmas.List.Elements.{filter-append, filter_more}
@@ -84,13 +84,3 @@ passed_word left n rows rest r more some split word before =
     let words : filter is_word rest ≡ r ∷ filter is_word more = ap (filter is_word) split ∙ ap (λ b. cond b (r ∷ filter is_word more) (filter is_word more)) word in
     let one : left ≡ suc (left - 1) = omega arith in
     sym (ap (λ k. drop k (r ∷ filter is_word more)) one) ∙ sym (ap (drop left) words) ∙ before
-
-pub passed_row : (left n : ℕ) (rows rest : List RowText) (r : RowText) (more : List RowText) → rest ≡ r ∷ more → is_word r ≡ false
-    → drop left (filter is_word rest) ≡ drop n (filter is_word rows) → drop left (filter is_word more) ≡ drop n (filter is_word rows)
-passed_row left n rows rest r more split none before =
-    let words : filter is_word rest ≡ filter is_word more = ap (filter is_word) split ∙ ap (λ b. cond b (r ∷ filter is_word more) (filter is_word more)) none in
-    sym (ap (drop left) words) ∙ before
-
-pub passed_all : (left n : ℕ) (rows rest : List RowText) → length rest ≡ 0 → drop left (filter is_word rest) ≡ drop n (filter is_word rows) → filter is_word rest ≡ drop n (filter is_word rows)
-passed_all left n rows [] none before = sym (drop-nil left) ∙ before
-passed_all left n rows (r ∷ rest) none before = absurd (omega (arith, none))

@@ -1,6 +1,6 @@
 //! The counts of a frequency table: a map of short keys and one of long keys.
 
-ghost use Rattle.std.specs.Prelude.{◌≡◌, ℕ, ◌-◌, ◌^◌, ◌<◌, ◌≤◌, length, IsTrue, IsFalse};
+ghost use Rattle.std.specs.Prelude.{◌≡◌, ◌-◌, ◌^◌, ◌<◌, ◌≤◌, length, IsTrue, IsFalse};
 ghost use Rattle.std.specs.Prelude.{IsOk, OnOk, OnErr};
 ghost use Rattle.tb_report.specs.Kept.{AddsOne, AreLong, AreShort, counted_in, number_of, rows_of, short_rows};
 ghost use Rattle.tb_report.specs.Tables.{total_of};

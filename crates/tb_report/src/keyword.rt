@@ -1,7 +1,7 @@
 //! Keyword lines and keys of hits.
 
 ghost use Rattle.std.specs.Prelude.{◌≡◌, ℕ, ◌+◌, ◌-◌, ◌<◌, ◌≤◌, ◌∷◌, ◌++◌, []};
-ghost use Rattle.std.specs.Prelude.{IfErr, IfOk, List, OnOk, decimal, drop, filter, map, string_bytes, take};
+ghost use Rattle.std.specs.Prelude.{IfErr, IfOk, List, OnOk, decimal, filter, map, string_bytes, take};
 ghost use Rattle.std.specs.Io.KnownBytes.{Appends};
 ghost use Rattle.tb_conllu.specs.Words.{is_word, words_of};
 ghost use Rattle.tb_core.specs.Machine.{sent_id_of};

@@ -3,7 +3,7 @@
 ghost use Rattle.std.specs.Prelude.{◌≡◌, ℕ, ◌+◌, List, ◌++◌, length};
 ghost use Rattle.std.specs.List.Sorted.{IsPermutation};
 ghost use Rattle.tb_report.specs.Trees.{BeginsNoTag, escaped};
-ghost use Rattle.tb_report.specs.Tables.{IsRankingOf, IsTable, IsTableOf, Row, count_in, total_of};
+ghost use Rattle.tb_report.specs.Tables.{IsRankingOf, IsTableOf, Row, count_in, total_of};
 
 /// A list of keys has exactly one table.
 pub fn keys_have_one_table()

@@ -80,26 +80,17 @@ leaves_space rest begun gap c h next = rw h (λ is. is, λ is. is)
 
 -- ---- one after another
 
-pub leaves_none : (rest : List ℕ) (begun gap : Bool) → Leaves rest begun gap [] rest begun gap
-leaves_none rest begun gap next = (λ is. is, λ is. is)
-
 pub leaves_then : (rest rest' rest'' : List ℕ) (begun gap begun' gap' begun'' gap'' : Bool) (cs ds : List ℕ) → Leaves rest begun gap cs rest' begun' gap' → Leaves rest' begun' gap' ds rest'' begun'' gap'' → Leaves rest begun gap (cs ++ ds) rest'' begun'' gap''
 leaves_then rest rest' rest'' begun gap begun' gap' begun'' gap'' cs ds h k next = rw (append_assoc cs ds next) (λ is. (h (ds ++ next)).0 ((k next).0 is), λ is. (k next).1 ((h (ds ++ next)).1 is))
 
 pub refuses_then : (rest rest' : List ℕ) (begun gap begun' gap' : Bool) (cs ds : List ℕ) → Leaves rest begun gap cs rest' begun' gap' → Refuses rest' begun' gap' ds → Refuses rest begun gap (cs ++ ds)
 refuses_then rest rest' begun gap begun' gap' cs ds h k next is = k next ((h (ds ++ next)).1 (let f : IsRest rest begun gap (cs ++ (ds ++ next)) = rw (sym (append_assoc cs ds next)) is in f))
 
-pub refuses_first : (rest : List ℕ) (begun gap : Bool) (cs ds : List ℕ) → Refuses rest begun gap cs → Refuses rest begun gap (cs ++ ds)
-refuses_first rest begun gap cs ds h next is = h (ds ++ next) (let f : IsRest rest begun gap (cs ++ (ds ++ next)) = rw (sym (append_assoc cs ds next)) is in f)
-
 -- ---- what is still to come
 
 -- these characters are still to come, of those that the comparison began with
 abbrev pub Awaits : List ℕ → Bool → Bool → List ℕ → List ℕ → Bool → Bool → List ℕ → Type 0
 Awaits rest begun gap all now begun' gap' left = (next : List ℕ) → IsRest now begun' gap' (left ++ next) ↔ IsRest rest begun gap (all ++ next)
-
-pub awaits_all : (rest : List ℕ) (begun gap : Bool) (all left : List ℕ) → left ≡ all → Awaits rest begun gap all rest begun gap left
-awaits_all rest begun gap all left e next = rw e (λ is. is, λ is. is)
 
 pub awaits_less : (rest now now' : List ℕ) (begun gap begun' gap' begun'' gap'' : Bool) (all left cs less : List ℕ) → left ≡ cs ++ less → Awaits rest begun gap all now begun' gap' left → Leaves now begun' gap' cs now' begun'' gap'' → Awaits rest begun gap all now' begun'' gap'' less
 awaits_less rest now now' begun gap begun' gap' begun'' gap'' all left cs less e h k next = (

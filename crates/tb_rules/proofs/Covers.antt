@@ -1,5 +1,5 @@
 -- ranges that lead
-use Rattle.std.proofs.Common.{◌≡◌, ℕ, ◌+◌, ◌<◌, ◌≤◌, max, List, length, take, get_or, Bool, true, false, not, ◌&&◌, ◌||◌, leb, ltb, inl, inr, refl, sym, ◌∙◌, ap, arith}
+use Rattle.std.proofs.Common.{◌≡◌, ℕ, ◌+◌, ◌<◌, ◌≤◌, max, List, length, take, get_or, Bool, true, false, ◌&&◌, ◌||◌, leb, ltb, inl, inr, refl, sym, ◌∙◌, ap, arith}
 use Rattle.std.proofs.lemmas.Bool.{and_parts, cases_lt}
 use Rattle.std.proofs.lemmas.Bool.Decides.{nat_tests}
 use Rattle.std.proofs.lemmas.List.{get_or_default, take_all}
@@ -8,8 +8,8 @@ use borrow.Author.Tests.{ltb-true, leb-true}
 use Rattle.tb_conllu.specs.declared.id.LineId.{LineId}
 use Rattle.tb_conllu.specs.declared.id.LineId.TheVariants.{Word, Span, Empty}
 use Rattle.tb_conllu.specs.Text.{RowText}
-use Rattle.tb_rules.specs.Restored.{covers, is_covered, is_token_id}
-use Rattle.tb_rules.specs.Leading.{greatest_end, end_of_id, RangesLead, is_token_after, number_of_id, start_of_id, ascends}
+use Rattle.tb_rules.specs.Restored.{covers, is_covered}
+use Rattle.tb_rules.specs.Leading.{greatest_end, end_of_id, RangesLead, number_of_id, start_of_id, ascends}
 use Rattle.tb_rules.proofs.Counts.{greatest_end-more}
 
 or_false : (b : Bool) → (b || false) ≡ b
@@ -94,9 +94,3 @@ row_leads rs i word start (Empty j n) r l e id fine h = node_leads rs i word sta
 
 pub all_led : (rs : List RowText) (i word start : ℕ) → length rs ≤ i → Led rs i word start → RangesLead rs
 all_led rs i word start m h k w d l is = ap (λ (xs : List RowText). is_covered xs w) (sym (take_all i rs m)) ∙ (h.reported k w d (omega arith) is).1
-
--- what the ends before a row tell of it
-pub reported_by_end : (rs : List RowText) (i end : ℕ) (r : RowText) (id : LineId) → RangesLead rs → i < length rs → r ≡ get_or rs i r → end ≡ greatest_end (take i rs) → r.id ≡ id → is_token_id rs id ≡ is_token_after end id
-reported_by_end rs i end r (Word w) lead l e last id = ap not (lead i w r l (ap (λ (x : RowText). x.id) (sym e) ∙ id) ∙ ap (leb w) (sym last))
-reported_by_end rs i end r (Span a b) lead l e last id = refl
-reported_by_end rs i end r (Empty j k) lead l e last id = refl

@@ -111,9 +111,6 @@ decimal-numeral ds h =
     let own : IsNumeralModel (AllDigits 10) (digits_value 10) = record { to = λ xs k. k; from = λ xs k. k; same = λ xs k. refl } in
     decimal-digits_value own ds all w.some w.first (omega (arith, low))
 
-pub numeral_small : (ds : List ℕ) → is_numeral ds ≡ true → digits_value 10 ds < 10 ^ 19
-numeral_small ds h = let w = written ds h in digits_below ds (all_digits ds w.digits) w.short
-
 -- ---- the loop over the digits
 
 -- before the last digit there is room for one more

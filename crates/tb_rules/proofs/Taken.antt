@@ -19,7 +19,7 @@ use Rattle.tb_rules.specs.File.{IsNamed, IsFree, HasNewName, IsBrokenAfter, brok
 use Rattle.tb_rules.specs.Rules.{KeepsRules, sent_id}
 use Rattle.tb_rules.specs.declared.filefault.FileFault.{FileFault}
 use Rattle.tb_rules.specs.declared.filefault.FileFault.TheVariants.{At, Memory}
-use Rattle.tb_rules.proofs.Valid.{valid_none, valid_next}
+use Rattle.tb_rules.proofs.Valid.{valid_next}
 
 -- ---- names
 
@@ -88,9 +88,6 @@ not_free (b ∷ bs) name h e f =
     elim (found_first b bs name one.0 (bytes_eq name one.0) one.1 refl found) [ inl here ↦ f.0 here | inr rest ↦ not_free bs name h.1 rest f.1 ]
 
 -- ---- what was taken
-
-pub taken_none : (names : List (List ℕ)) → names ≡ [] → HasTaken names []
-taken_none names e = record { valid = valid_none; counted = ap length e; known = λ q. ap (list_any (bytes_eq q)) e }
 
 -- one name more, wherever it stands in the order
 abbrev pub Adds : List (List ℕ) → List ℕ → List (List ℕ) → Type 0

@@ -3,25 +3,13 @@ use Rattle.std.proofs.lemmas.Bool.{cond-false, ne_eqb}
 use Rattle.std.proofs.lemmas.List.{reverse-append, reverse-reverse}
 use Rattle.tb_rules.specs.Comments.{drop_spaces}
 
--- a space in front goes
-pub space_in_front : (bs rest : List ℕ) → bs ≡ 32 ∷ rest → drop_spaces bs ≡ drop_spaces rest
-space_in_front bs rest e = ap drop_spaces e
-
 -- with none in front all stays
 pub no_space_in_front : (bs : List ℕ) → ((rest : List ℕ) → bs ≡ 32 ∷ rest → ⊥) → drop_spaces bs ≡ bs
 no_space_in_front [] h = refl
 no_space_in_front (b ∷ bs) h = cond-false (eqb b 32) (drop_spaces bs) (b ∷ bs) (ne_eqb b 32 (λ e. h bs (ap (λ x. x ∷ bs) e)))
 
--- the last byte comes first
-reverse_last : (b : ℕ) (bs : List ℕ) → reverse (bs ++ b ∷ []) ≡ b ∷ reverse bs
-reverse_last b bs = reverse-append bs (b ∷ [])
-
 reverse_first : (b : ℕ) (bs : List ℕ) → reverse (b ∷ bs) ≡ reverse bs ++ b ∷ []
 reverse_first b bs = reverse-append (b ∷ []) bs
-
--- a space at the end goes
-pub space_at_end : (bs front : List ℕ) → bs ≡ front ++ 32 ∷ [] → drop_spaces (reverse bs) ≡ drop_spaces (reverse front)
-space_at_end bs front e = space_in_front (reverse bs) (reverse front) (ap reverse e ∙ reverse_last 32 front)
 
 -- with none at the end all stays
 pub no_space_at_end : (bs : List ℕ) → ((front : List ℕ) → bs ≡ front ++ 32 ∷ [] → ⊥) → reverse (drop_spaces (reverse bs)) ≡ bs

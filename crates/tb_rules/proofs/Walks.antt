@@ -1,13 +1,10 @@
-use Rattle.std.proofs.Common.{◌≡◌, ◌≢◌, inl, inr, [], ◌++◌, take, drop, ℕ, zero, suc, ◌+◌, ◌-◌, ◌<◌, ◌≤◌, List, length, get_or, true, false, Option, Some, None, eqb, refl, sym, ◌∙◌, ap, subst, arith, add-one, length-set, get_or-set_other, get_or-set_same}
+use Rattle.std.proofs.Common.{◌≡◌, ◌≢◌, inl, inr, [], ◌++◌, take, drop, ℕ, zero, suc, ◌+◌, ◌-◌, ◌<◌, ◌≤◌, List, length, get_or, true, false, Option, Some, None, eqb, refl, sym, ◌∙◌, ap, subst, arith, length-set, get_or-set_other, get_or-set_same}
 use Rattle.std.specs.Option.{MatchOption, is_some}
 use Rattle.std.proofs.Math.ListN.{set}
 use Rattle.std.proofs.lemmas.Bool.{ne_eqb, cases_lt}
 use Rattle.std.proofs.lemmas.List.{get_or_past, drop_all, take_all, append-nil}
 use Rattle.tb_rules.specs.Tree.{walk, head_at, ReachesRoot}
 use Rattle.tb_rules.specs.Depths.{IsDepth, AreDepths}
-
-pub walk_more : (hs : List ℕ) (n k : ℕ) → walk hs (n + 1) k ≡ head_at hs (walk hs n k)
-walk_more hs n k = rw add-one refl
 
 -- some steps after others
 pub walk-add : (hs : List ℕ) (m n k : ℕ) → walk hs (m + n) k ≡ walk hs m (walk hs n k)

@@ -6,7 +6,7 @@ ghost use Rattle.tb_rules.specs.Broken.{AreBroken, AreBrokenOf, IsAsked, IsBroke
 ghost use Rattle.tb_rules.specs.Comments.{HasText};
 ghost use Rattle.tb_rules.specs.Ids.{HasIds};
 ghost use Rattle.tb_rules.specs.Restored.{IsRestored};
-ghost use Rattle.tb_rules.specs.Rules.{Keeps, number};
+ghost use Rattle.tb_rules.specs.Rules.{Keeps};
 ghost use Rattle.tb_rules.specs.Rules as rules;
 ghost use Rattle.tb_rules.specs.Tree.{HasTree};
 

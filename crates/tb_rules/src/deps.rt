@@ -3,7 +3,6 @@ ghost use Rattle.std.specs.Prelude.{IfOk, IsOk, false};
 ghost use Rattle.std.specs.List.{list_any, slice_split};
 ghost use Rattle.tb_chars.specs.Spaces.{is_solid};
 ghost use Rattle.tb_rules.specs.Rows.{EachRowPasses, IsFirstFault};
-ghost use Rattle.tb_chars.specs.Digits.{is_digit};
 ghost use Rattle.tb_fields.specs.Feats.{is_bar};
 ghost use Rattle.tb_rules.specs.Named.{AreNumbered, is_node_id};
 ghost use Rattle.tb_rules.specs.Deps.{pair_head, dependency_test};

@@ -1,6 +1,6 @@
 ghost use Rattle.std.specs.Prelude.{◌≡◌, ◌↔◌, IsTrue, ℕ};
 ghost use Rattle.tb_rules.specs.Rows.{EachRowPasses};
-ghost use Rattle.tb_rules.specs.Ids.{is_next_id, is_node_id_after, is_in_place, HasIds};
+ghost use Rattle.tb_rules.specs.Ids.{is_next_id, is_in_place, HasIds};
 
 use tb_conllu::{BlockOf, LineId, RowOf, Text, words};
 

@@ -1,4 +1,4 @@
-ghost use Rattle.std.specs.Prelude.{◌≡◌, ◌↔◌, IsTrue, ◌++◌, ◌∷◌, ℕ, List, [], IfOk, IsOk, OnOk};
+ghost use Rattle.std.specs.Prelude.{◌≡◌, ◌↔◌, IsTrue, ◌++◌, ◌∷◌, ℕ, List, IfOk, IsOk, OnOk};
 ghost use Rattle.std.specs.Prelude.{bytes_eq, string_bytes, chars, encode_utf8, encode_utf8_all, length, not, ◌==◌};
 ghost use Rattle.std.specs.Prelude.{◌&&◌, true, false};
 ghost use Rattle.std.specs.List.{list_any, slice_split};

@@ -1,6 +1,5 @@
 ghost use Rattle.std.specs.Prelude.{◌≡◌, ◌<◌, ◌≤◌, ◌↔◌, IsTrue, IfOk, MatchOption, count_by};
 ghost use Rattle.std.specs.Prelude.{length};
-ghost use Rattle.tb_rules.specs.Words.{is_root_head};
 ghost use Rattle.tb_rules.specs.Tree.{is_root, HasOneRoot, head_number, heads_of, head_at, ReachesRoot, IsTree};
 ghost use Rattle.tb_rules.specs.Tree.{HasTree};
 ghost use Rattle.tb_rules.specs.Depths.{IsDepth, AreDepths};

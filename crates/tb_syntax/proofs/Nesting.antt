@@ -5,7 +5,7 @@ use Rattle.tb_syntax.specs.declared.lexeme.Flag.{Flag}
 use Rattle.tb_syntax.specs.declared.lexeme.Flag.TheVariants as flag
 use Rattle.tb_syntax.specs.declared.lexeme.Lexeme.{Lexeme}
 use Rattle.tb_syntax.specs.declared.lexeme.Lexeme.TheVariants.{RightParen, RightBracket, Bar, And}
-use Rattle.tb_syntax.specs.Grammar.{flag_text, Sign, same, other, sign_lexeme, Test', one_conj, or_test, Conj, one_unit, and_conj, Unit', denied, grouped, compares, contains, test_text, conj_text, unit_text, Repeat, quest, star, plus, exactly, at_least, between, rep_text, Alt, one_cat, or_alt, Cat, one_item, and_cat, Item, once, repeated, Atom, any, brackets, bare, parens, alt_text, cat_text, item_text, atom_text, Ending, nothing, stop, scope, scope_stop, ending_text, Query, query, query_text}
+use Rattle.tb_syntax.specs.Grammar.{flag_text, same, other, Test', one_conj, or_test, Conj, one_unit, and_conj, Unit', denied, grouped, compares, contains, test_text, conj_text, unit_text, Repeat, quest, star, plus, exactly, at_least, between, rep_text, Alt, one_cat, or_alt, Cat, one_item, and_cat, Item, once, repeated, Atom, any, brackets, bare, parens, alt_text, cat_text, item_text, atom_text, Ending, nothing, stop, scope, scope_stop, ending_text, Query, query, query_text}
 use Rattle.tb_syntax.specs.Limits.{test_nests, conj_nests, unit_nests, alt_nests, cat_nests, item_nests, atom_nests, query_nests, room_after}
 
 abbrev pub walk : ℕ → List Lexeme → Option ℕ
@@ -26,12 +26,6 @@ over_flag zero flag.Literal rest = refl
 over_flag (suc r) flag.Plain rest = refl
 over_flag (suc r) flag.NoCase rest = refl
 over_flag (suc r) flag.Literal rest = refl
-
-over_compares : (r : ℕ) (s : Sign) (f : Flag) (rest : List Lexeme) → walk r (sign_lexeme s ∷ (flag_text f ++ rest)) ≡ walk r rest
-over_compares zero same f rest = over_flag zero f rest
-over_compares zero other f rest = over_flag zero f rest
-over_compares (suc r) same f rest = over_flag (suc r) f rest
-over_compares (suc r) other f rest = over_flag (suc r) f rest
 
 over_rep : (r : ℕ) (p : Repeat) (rest : List Lexeme) → walk r (rep_text p ++ rest) ≡ walk r rest
 over_rep zero quest rest = refl

@@ -38,9 +38,6 @@ skipped text l ls s ss said other h = h
 pub record SaidTo (text : List ℕ) (ls : List Lexeme) (ss : List Span) (i : ℕ) (said : List (List ℕ)) : Type 0 where
   pub then : (more : List (List ℕ)) → IsSaid text (drop i ls) (drop i ss) more → IsSaid text ls ss (said ++ more)
 
-pub nothing_said : (text : List ℕ) (ls : List Lexeme) (ss : List Span) (said : List (List ℕ)) → said ≡ [] → SaidTo text ls ss 0 said
-nothing_said text ls ss said none = record { then = λ more h. rw none h }
-
 one_said : (text : List ℕ) (ls : List Lexeme) (ss : List Span) (i k : ℕ) (said new : List (List ℕ)) (d : Lexeme) (e : Span) (w : List ℕ) → SaidTo text ls ss i said →
     i < length ls → i < length ss → get_or ls i d ≡ Quote k → IsQuoted (bytes_at text (get_or ss i e)) w → new ≡ said ++ w ∷ [] → SaidTo text ls ss (i + 1) new
 one_said text ls ss i k said new d e w s lt mt literal quoted pushed = record {

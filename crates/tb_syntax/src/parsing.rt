@@ -1,6 +1,6 @@
 //! Parses patterns.
 
-ghost use Rattle.std.specs.Prelude.{◌≡◌, ◌∷◌, ◌≤◌, ◌-◌, length, map, IfOk};
+ghost use Rattle.std.specs.Prelude.{◌≡◌, ◌≤◌, ◌-◌, length, map, IfOk};
 ghost use Rattle.tb_match.specs.Trees.{tree};
 ghost use Rattle.tb_syntax.specs.Exprs.{test};
 ghost use Rattle.tb_syntax.specs.Follow.{begins_atom};

@@ -1,7 +1,7 @@
 //! Recognizes each lexeme by its spelling.
 
-ghost use Rattle.std.specs.Prelude.{◌≡◌, ◌∷◌, ◌<◌, ◌≤◌, ◌+◌, ◌-◌, ◌^◌, ℕ, List};
-ghost use Rattle.std.specs.Prelude.{length, min, take, drop, option_map, option_and_then, MatchOption, IfSome, false};
+ghost use Rattle.std.specs.Prelude.{◌≡◌, ◌∷◌, ◌<◌, ◌≤◌, ◌+◌, ◌-◌, ◌^◌};
+ghost use Rattle.std.specs.Prelude.{length, min, drop, option_map, MatchOption, IfSome, false};
 ghost use Rattle.std.specs.Char.{is_ascii_alphabetic, is_ascii_digit};
 ghost use Rattle.std.specs.List.{prefix_len};
 ghost use Rattle.tb_syntax.specs.First.{after_literal, cut, first_mark, first_lexeme, found};
