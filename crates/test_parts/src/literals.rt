@@ -1,0 +1,54 @@
+//! The values that a literal fits, as text.
+
+use crate::cases::cut;
+use crate::telling::said;
+use std::alloc::Global;
+use std::process::Abort;
+use tb_literal::{LiteralCache, LiteralMatcher, PatternFault};
+use tb_syntax::Flag;
+
+/// The literal of a text, of at most ten mebibytes.
+pub(crate) fn needle(
+    alloc: Global,
+    text: &str,
+    flag: Flag,
+) -> Result<LiteralMatcher, PatternFault> {
+    LiteralMatcher::new(alloc, String::from_str(alloc, text)?, flag, 10 << 20)
+}
+
+/// Whether the tester's literal fits the value, or some item of it.
+pub(crate) fn fits(tester: &mut LiteralCache<'_>, value: &str, by_items: bool) -> bool {
+    if by_items {
+        tester.meets_item(value)
+    } else {
+        tester.meets(value)
+    }
+}
+
+fn word_for(
+    rt: &impl Abort,
+    alloc: Global,
+    needle: &LiteralMatcher,
+    value: &str,
+    by_items: bool,
+) -> &'static str {
+    let mut tester = needle.tester(alloc).expect(rt, "error");
+    if fits(&mut tester, value, by_items) {
+        "yes"
+    } else {
+        "no"
+    }
+}
+
+/// Whether the literal before `at` fits the value after it, or some item of it.
+pub(crate) fn fit(
+    rt: &impl Abort,
+    alloc: Global,
+    text: &str,
+    flag: Flag,
+    by_items: bool,
+) -> String {
+    let (literal, value) = cut(rt, text, " at ");
+    let needle = needle(alloc, literal, flag).expect(rt, "error");
+    said(rt, alloc, word_for(rt, alloc, &needle, value, by_items))
+}
