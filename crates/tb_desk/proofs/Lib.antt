@@ -2,4 +2,3 @@ mod Awaiting
 mod FirstFaults
 mod Ran
 mod Served
-mod Shown

@@ -1,10 +1,15 @@
 -- How lines end, where nothing is said of the cause that is told.
 use Rattle.std.proofs.Common.{ℕ, List, Option, inl, inr}
 use Rattle.tb_cli.specs.Lines.{Said}
+use Rattle.clap.specs.Values.{kind_of}
+use Rattle.clap.specs.declared.error.kind.ErrorKind.{ErrorKind}
+use Rattle.tb_cli.specs.declared.lines.LineFault.{LineFault}
+use Rattle.tb_cli.specs.declared.lines.LineFault.TheVariants.{Clap, Usage, Memory}
 use Rattle.tb_desk.specs.Lines.{AreWordsRun, IsLineRun}
+use Rattle.tb_desk.specs.Replies.{IsClapWritten, IsFaultWritten}
 use Rattle.tb_desk.specs.Served.{IsEnded, IsServed, IsServedAt, IsServedInFile, untold}
 use Rattle.tb_desk.specs.Targets.{Place, in_file, in_memory, made_in, migrated_in, place_in}
-use Rattle.tb_desk.specs.declared.causes.Cause.{Cause}
+use Rattle.tb_host.specs.declared.causes.Cause.{Cause}
 use Rattle.tb_desk.specs.declared.service.Service.{Service}
 
 module _ {Reason : Type 0} (is_refusal : Reason → Type 0) (status : ℕ) (is_told : Option Cause → Type 0) where
@@ -50,16 +55,37 @@ module _ {R Why Reason : Type 0} (is_failure : R → Why → Type 0) (unread : R
     (held holds : Option (List ℕ)) (is_refusal : Reason → Type 0) (status : ℕ) (is_told : Option Cause → Type 0) where
   line_untold : (said : Said) (place : Place) → IsLineRun is_failure unread before after held holds is_refusal status is_told said place
       → IsLineRun is_failure unread before after held holds is_refusal status untold said place
-  line_untold said (made_in path) made = made
-  line_untold said (migrated_in path) migrated = migrated
-  line_untold said (in_file path) (inl refused) = inl refused
+  line_untold said (made_in path) (inl refused) = inl (refused.0, refused.1, tt)
+  line_untold said (made_in path) (inr made) = inr made
+  line_untold said (migrated_in path) (inl refused) = inl (refused.0, refused.1, tt)
+  line_untold said (migrated_in path) (inr migrated) = inr migrated
+  line_untold said (in_file path) (inl refused) = inl (refused.0, refused.1, tt)
   line_untold said (in_file path) (inr (inl served)) = inr (inl (served.0, served.1, file_untold is_refusal status is_told held holds served.0 served.2))
   line_untold said (in_file path) (inr (inr ran)) = inr (inr ran)
-  line_untold said in_memory (inl wants) = inl wants
+  line_untold said in_memory (inl wants) = inl (wants.0, tt)
   line_untold said in_memory (inr (inl served)) = inr (inl (served.0, served.1, served_untold is_refusal status is_told held holds served.0 served.2))
   line_untold said in_memory (inr (inr ran)) = inr (inr ran)
 
+  clap_untold : (kind : ErrorKind) → IsClapWritten held holds is_refusal status is_told kind → IsClapWritten held holds is_refusal status untold kind
+  clap_untold kind (inl text) = inl (text.0, text.1, text.2, text.3, tt)
+  clap_untold kind (inr wants) = inr (wants.0, tt)
+
+  fault_untold : (fault : LineFault) → IsFaultWritten held holds is_refusal status is_told fault → IsFaultWritten held holds is_refusal status untold fault
+  fault_untold (Clap e) written = clap_untold (kind_of e) written
+  fault_untold Usage written = (written.0, (written.1.0, tt))
+  fault_untold Memory written = (written.0, tt)
+
   pub words_untold : (words : List (List ℕ)) → AreWordsRun is_failure unread before after held holds is_refusal status is_told words
       → AreWordsRun is_failure unread before after held holds is_refusal status untold words
-  words_untold words (inl ran) = inl (ran.0, ran.1, ran.2, line_untold ran.0 (place_in ran.0) ran.3)
-  words_untold words (inr fault) = inr fault
+  words_untold words (inl line) = inl record {
+    said = line.said;
+    is = line.is;
+    leaves = line.leaves;
+    ran = line_untold line.said (place_in line.said) line.ran;
+  }
+  words_untold words (inr none) = inr record {
+    fault = none.fault;
+    only = none.only;
+    untouched = none.untouched;
+    written = fault_untold none.fault none.written;
+  }

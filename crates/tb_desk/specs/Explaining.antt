@@ -9,8 +9,8 @@ use Rattle.tb_cli.specs.Lines.{Said, import_batch, step_batch, correct, pull, re
 use Rattle.tb_core.specs.declared.refusals.Refusal.TheVariants as refusal
 use Rattle.tb_words.specs.declared.refusals.Asked.{Asked}
 use Rattle.tb_words.specs.declared.refusals.Asked.TheVariants as asks
-use Rattle.tb_desk.specs.declared.causes.Cause.{Cause}
-use Rattle.tb_desk.specs.declared.causes.Cause.TheVariants.{NothingKept, NothingThere}
+use Rattle.tb_host.specs.declared.causes.Cause.{Cause}
+use Rattle.tb_host.specs.declared.causes.Cause.TheVariants.{NothingKept, NothingThere}
 use Rattle.tb_http.specs.declared.asks.RequestFault.TheVariants as request
 use Rattle.tb_http.specs.declared.replies.Reply.{Reply}
 use Rattle.tb_http.specs.declared.replies.Reply.TheVariants as reply

@@ -7,20 +7,17 @@ use Rattle.sqlite.specs.Files.{over_files}
 use Rattle.sqlite.specs.Steps.{over_memory}
 use Rattle.clap.specs.Words.{takes, subcommand_of}
 use Rattle.tb_check.specs.Check.{file_limit}
-use Rattle.tb_http.specs.declared.replies.Reply.TheVariants as reply
-use Rattle.tb_cli.specs.Fault.{ComesOnly}
 use Rattle.tb_cli.specs.Lines.{Said, said_of}
 use Rattle.tb_cli.specs.Tree.{desk_app}
-use Rattle.tb_cli.specs.declared.lines.LineFault.{LineFault}
 use Rattle.tb_store.specs.Kept.{Kept}
 use Rattle.tb_answer.specs.Output.{IsWritten}
 use Rattle.tb_answer.specs.Taken.{WithTaken, has_body}
-use Rattle.tb_desk.specs.Opened.{IsEmptyDesk, IsMadeDesk, IsSomeDesk}
-use Rattle.tb_desk.specs.Replies.{IsFaultWritten, IsFileRefused, IsReplyWritten}
+use Rattle.tb_host.specs.Opened.{IsEmptyDesk, IsMadeDesk, IsSomeDesk}
+use Rattle.tb_desk.specs.Replies.{AreNoLine, IsFileRefused, IsOutOfMemory}
 use Rattle.tb_desk.specs.Running.{IsRunOn}
 use Rattle.tb_desk.specs.Served.{IsServed, IsServedInFile, WithService, service_of}
-use Rattle.tb_desk.specs.declared.causes.Cause.{Cause}
-use Rattle.tb_desk.specs.declared.files.FileDesk.{FileDesk}
+use Rattle.tb_host.specs.declared.causes.Cause.{Cause}
+use Rattle.tb_host.specs.declared.files.FileDesk.{FileDesk}
 use Rattle.tb_desk.specs.Targets.{Place, made_in, migrated_in, in_file, in_memory, place_in}
 
 -- a line without a body leaves the input as it was
@@ -34,17 +31,20 @@ module _ {Reason : Type 0} (held holds : Option (List ℕ)) (is_refusal : Reason
     pub is : IsMadeDesk over_files made.desk
     pub written : IsWritten held holds (codes "made\n") 0 is_refusal status
 
-  abbrev pub IsMadeOrRefused : Type 0
-  IsMadeOrRefused = IsFileRefused held holds is_refusal status ⊎ IsMadeInFile
-
   -- the desk in the file was brought to version 2, and `migrated` is written
   pub record IsMigratedInFile : Type 0 where
     pub migrated : FileDesk
     pub is : IsSomeDesk over_files migrated.desk
     pub written : IsWritten held holds (codes "migrated\n") 0 is_refusal status
 
+module _ {Reason : Type 0} (held holds : Option (List ℕ)) (is_refusal : Reason → Type 0) (status : ℕ)
+    (is_told : Option Cause → Type 0) where
+  abbrev pub IsMadeOrRefused : Type 0
+  IsMadeOrRefused = IsFileRefused held holds is_refusal status is_told ⊎ IsMadeInFile held holds is_refusal status
+
   abbrev pub IsMigratedOrRefused : Type 0
-  IsMigratedOrRefused = IsFileRefused held holds is_refusal status ⊎ IsMigratedInFile
+  IsMigratedOrRefused = IsFileRefused held holds is_refusal status is_told
+      ⊎ IsMigratedInFile held holds is_refusal status
 
 module _ {R Why Reason : Type 0} (is_failure : R → Why → Type 0) (unread : R → Option (List ℕ)) (before after : R)
     (held holds : Option (List ℕ)) (is_refusal : Reason → Type 0) (status : ℕ) where
@@ -75,19 +75,23 @@ module _ {R Why Reason : Type 0} (is_failure : R → Why → Type 0) (unread : R
   -- runs on it, or the line for the cause at the file is written. Without a file a desk without a batch is served, or
   -- the line runs on it, or memory runs out for that.
   abbrev pub IsLineRun : Said → Place → Type 0
-  IsLineRun said (made_in path) = IsMadeOrRefused held holds is_refusal status
-  IsLineRun said (migrated_in path) = IsMigratedOrRefused held holds is_refusal status
-  IsLineRun said (in_file path) = IsFileRefused held holds is_refusal status
+  IsLineRun said (made_in path) = IsMadeOrRefused held holds is_refusal status is_told
+  IsLineRun said (migrated_in path) = IsMigratedOrRefused held holds is_refusal status is_told
+  IsLineRun said (in_file path) = IsFileRefused held holds is_refusal status is_told
       ⊎ WithService said (IsServedInFile held holds is_refusal status is_told)
       ⊎ IsRunInFile is_failure unread before after held holds is_refusal status said
-  IsLineRun said in_memory = IsReplyWritten held holds is_refusal status reply.Memory
+  IsLineRun said in_memory = IsOutOfMemory held holds is_refusal status is_told
       ⊎ WithService said (IsServed held holds is_refusal status is_told)
       ⊎ IsRunInMemory is_failure unread before after held holds is_refusal status said
 
+  -- the words say a line, and it is run
+  pub record IsSaidRun (words : List (List ℕ)) : Type 0 where
+    pub said : Said
+    pub is : said_of (subcommand_of desk_app words) ≡ Some said
+    pub leaves : LeavesInput before after said
+    pub ran : IsLineRun said (place_in said)
+
   -- what the words say is run, or why they say nothing is written
   abbrev pub AreWordsRun : (words : List (List ℕ)) → Type 0
-  AreWordsRun words =
-      ((said : Said) × (said_of (subcommand_of desk_app words) ≡ Some said) × LeavesInput before after said
-      × IsLineRun said (place_in said))
-      ⊎ ((e : LineFault) × ComesOnly e (takes desk_app words ≢ true) (said_of (subcommand_of desk_app words) ≡ None)
-      × (after ≡ before) × IsFaultWritten held holds is_refusal status e)
+  AreWordsRun words = IsSaidRun words ⊎ AreNoLine before after held holds is_refusal status is_told
+      (takes desk_app words ≢ true) (said_of (subcommand_of desk_app words) ≡ None)

@@ -6,12 +6,11 @@ use Rattle.std.specs.declared.io.Error.{Error}
 use Rattle.tb_conllu.specs.Sunk.{AppendsPart}
 use Rattle.tb_http.specs.declared.replies.Reply.TheVariants as reply
 use Rattle.tb_cli.specs.Lines.{Said, serve}
-use Rattle.tb_desk.specs.Causes.{IsPortCause}
-use Rattle.tb_desk.specs.Replies.{IsReplyWritten, reply_of}
-use Rattle.tb_desk.specs.declared.causes.Cause.{Cause}
-use Rattle.tb_desk.specs.declared.causes.Cause.TheVariants as cause
-use Rattle.tb_desk.specs.declared.causes.FileCause.{FileCause}
-use Rattle.tb_desk.specs.declared.causes.PortCause.{PortCause}
+use Rattle.tb_host.specs.Causes.{IsPortCause}
+use Rattle.tb_desk.specs.Replies.{IsFileRefused, IsOutOfMemory, IsReplyWritten}
+use Rattle.tb_host.specs.declared.causes.Cause.{Cause}
+use Rattle.tb_host.specs.declared.causes.Cause.TheVariants as cause
+use Rattle.tb_host.specs.declared.causes.PortCause.{PortCause}
 use Rattle.tb_desk.specs.declared.service.Service.{Service}
 
 -- what a line asks a server for, if it is one of `serve`
@@ -94,10 +93,8 @@ module _ {Reason : Type 0} (held holds : Option (List ℕ)) (is_refusal : Reason
 
   -- how a service ends: as said, or memory ran out before the server listened
   abbrev pub IsServed : Service → Type 0
-  IsServed service = (IsReplyWritten held holds is_refusal status reply.Memory × is_told (Some cause.Memory))
-      ⊎ IsServedWith service
+  IsServed service = IsOutOfMemory held holds is_refusal status is_told ⊎ IsServedWith service
 
   -- how the service of a desk in a file ends: also where the file is refused
   abbrev pub IsServedInFile : Service → Type 0
-  IsServedInFile service = ((c : FileCause) × IsReplyWritten held holds is_refusal status (reply_of c)
-      × is_told (Some (cause.File c))) ⊎ IsServed service
+  IsServedInFile service = IsFileRefused held holds is_refusal status is_told ⊎ IsServed service

@@ -10,8 +10,8 @@ use Rattle.std.specs.declared.io.ErrorKind.TheVariants as kind
 use Rattle.tb_http.specs.declared.status.Status.{Status}
 use Rattle.tb_answer.specs.declared.answering.Broken.{Broken}
 use Rattle.tb_answer.specs.declared.answering.Broken.TheVariants as broken
-use Rattle.tb_desk.specs.declared.causes.Cause.{Cause}
-use Rattle.tb_desk.specs.declared.causes.Cause.TheVariants as cause
+use Rattle.tb_host.specs.declared.causes.Cause.{Cause}
+use Rattle.tb_host.specs.declared.causes.Cause.TheVariants as cause
 use Rattle.tb_desk.specs.declared.serving.Beside.{Beside}
 use Rattle.tb_desk.specs.declared.serving.Beside.TheVariants as beside
 

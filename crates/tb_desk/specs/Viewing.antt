@@ -4,9 +4,7 @@ use Rattle.clap.specs.Words.{takes, subcommand_of}
 use Rattle.sqlite.specs.Files.{over_files}
 use Rattle.sqlite.specs.Store.{Ghosts}
 use Rattle.tb_http.specs.declared.replies.Reply.{Reply}
-use Rattle.tb_cli.specs.Fault.{ComesOnly}
 use Rattle.tb_cli.specs.View.{Listed, Viewed, check, find, lists, page, trees, view_app, viewed_of}
-use Rattle.tb_cli.specs.declared.lines.LineFault.{LineFault}
 use Rattle.tb_store.specs.Calls.{InState}
 use Rattle.tb_store.specs.Kept.{Kept}
 use Rattle.tb_answer.specs.Commanded.{HasFailed}
@@ -14,13 +12,13 @@ use Rattle.tb_answer.specs.Output.{IsWritten}
 use Rattle.tb_answer.specs.Viewed.{IsView, IsViewReported}
 use Rattle.tb_words.specs.declared.refusals.Asked.{Asked}
 use Rattle.tb_words.specs.declared.refusals.Asked.TheVariants as asks
-use Rattle.tb_desk.specs.declared.causes.Cause.{Cause}
-use Rattle.tb_desk.specs.declared.causes.Cause.TheVariants as cause
-use Rattle.tb_desk.specs.declared.files.FileDesk.{FileDesk}
+use Rattle.tb_host.specs.declared.causes.Cause.{Cause}
+use Rattle.tb_host.specs.declared.causes.Cause.TheVariants as cause
+use Rattle.tb_host.specs.declared.files.FileDesk.{FileDesk}
 use Rattle.tb_desk.specs.Drawing.{AreTreesDrawn}
 use Rattle.tb_desk.specs.Faults.{AreFaultsListed}
-use Rattle.tb_desk.specs.Opened.{IsSomeDesk}
-use Rattle.tb_desk.specs.Replies.{IsFaultWritten, IsFileRefused, IsReplyWritten}
+use Rattle.tb_host.specs.Opened.{IsSomeDesk}
+use Rattle.tb_desk.specs.Replies.{AreNoLine, IsFileRefused, IsReplyWritten}
 use Rattle.tb_desk.specs.Served.{IsServedInFile, page_service}
 
 -- What a command lacks whose values have their forms: the file of a desk. A tree needs a number too.
@@ -41,7 +39,8 @@ module _ {Reason S : Type 0} (g : Ghosts S) (held holds : Option (List ℕ)) (is
       ((text : List ℕ) × IsView s list text × IsWritten held holds text 0 is_refusal status)
       ⊎ ((r : Reply) × IsViewReported (HasFailed g old new) s list r × IsReplyWritten held holds is_refusal status r))
 
-module _ {Reason : Type 0} (held holds : Option (List ℕ)) (is_refusal : Reason → Type 0) (status : ℕ) where
+module _ {Reason : Type 0} (held holds : Option (List ℕ)) (is_refusal : Reason → Type 0) (status : ℕ)
+    (is_told : Option Cause → Type 0) where
   -- there was a desk in the file, and its list is shown
   pub record IsShownInFile (list : Listed) : Type 0 where
     pub opened : FileDesk
@@ -51,24 +50,27 @@ module _ {Reason : Type 0} (held holds : Option (List ℕ)) (is_refusal : Reason
 
   -- the list is shown, or the line of a fault of the file is written
   abbrev pub IsListRun : Listed → Type 0
-  IsListRun list = IsFileRefused held holds is_refusal status ⊎ IsShownInFile list
+  IsListRun list = IsFileRefused held holds is_refusal status is_told ⊎ IsShownInFile list
 
 module _ {R Why Reason : Type 0} (is_failure : R → Why → Type 0) (unread : R → Option (List ℕ)) (before after : R)
     (held holds : Option (List ℕ)) (is_refusal : Reason → Type 0) (status : ℕ) (is_told : Option Cause → Type 0) where
   -- How a line ends: only trees of a file and a check read the input. What the server of a page answers is said request
   -- by request.
   abbrev pub IsViewRun : Viewed → Type 0
-  IsViewRun (lists db list) = (after ≡ before) × IsListRun held holds is_refusal status list
+  IsViewRun (lists db list) = (after ≡ before) × IsListRun held holds is_refusal status is_told list
   IsViewRun trees = AreTreesDrawn (is_failure after) (unread before) (unread after) held holds is_refusal status
   IsViewRun (check most) =
       AreFaultsListed (is_failure after) (unread before) (unread after) held holds is_refusal status most
   IsViewRun (page db port) = (after ≡ before)
       × IsServedInFile held holds is_refusal status is_told (page_service port)
 
+  -- the words ask to see something, and it is shown
+  pub record IsAskedShown (words : List (List ℕ)) : Type 0 where
+    pub viewed : Viewed
+    pub is : viewed_of (subcommand_of view_app words) ≡ Some viewed
+    pub ran : IsViewRun viewed
+
   -- what the words ask to see is shown, or why they ask nothing is written
   abbrev pub AreWordsShown : (words : List (List ℕ)) → Type 0
-  AreWordsShown words =
-      ((viewed : Viewed) × (viewed_of (subcommand_of view_app words) ≡ Some viewed) × IsViewRun viewed)
-      ⊎ ((e : LineFault) × ComesOnly e (takes view_app words ≢ true)
-      (viewed_of (subcommand_of view_app words) ≡ None) × (after ≡ before)
-      × IsFaultWritten held holds is_refusal status e)
+  AreWordsShown words = IsAskedShown words ⊎ AreNoLine before after held holds is_refusal status is_told
+      (takes view_app words ≢ true) (viewed_of (subcommand_of view_app words) ≡ None)

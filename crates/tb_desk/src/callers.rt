@@ -8,17 +8,16 @@ ghost use Rattle.std.specs.Io.KnownBytes.{ReadConsumes};
 ghost use Rattle.std.specs.IoError.{error_kind};
 ghost use Rattle.tb_desk.specs.Arriving.{awaited_at};
 ghost use Rattle.tb_desk.specs.Callers.{GoesOn, said_by};
-ghost use Rattle.tb_desk.specs.Patience.{seconds, wait_left};
+ghost use Rattle.tb_host.specs.Patience.{seconds, wait_left};
 ghost use Rattle.tb_desk.specs.Serving.{is_no_byte};
 ghost use Rattle.tb_desk.specs.declared.arriving.Awaited.TheVariants.{Head, Nothing};
 
 use crate::arriving::{Awaited, awaited_after, next_size};
-use crate::patience::{Patient, REQUEST, left_after};
-use crate::place::Place;
 use std::alloc::Global;
 use std::io::{self, ErrorKind, Read};
 use std::net::TcpStream;
 use std::time::Duration;
+use tb_host::{Patient, Place, REQUEST, left_after};
 use tb_http::{HEAD_BYTES, Routes};
 
 /// How many times in a row a connection is read, so that one that sends without end keeps nobody waiting. Its buffer

@@ -4,12 +4,12 @@ ghost use Rattle.std.specs.Prelude.{◌≡◌};
 ghost use Rattle.tb_check.specs.Check.{Answers, IsReplyToRead, IsWritten, file_limit, reply_text, status_of};
 ghost use Rattle.tb_desk.specs.Explaining.{reply_as_the_desk};
 
-use crate::diagnostics::{Diagnostic, Outcome};
 use crate::explaining::reported_of_reply;
 use std::alloc::Global;
 use tb_check::{CheckReply, FILE_LIMIT, Input, check_input, put_reply, read_all};
 use tb_conllu::{Sink, Source};
 use tb_core::Refusal;
+use tb_host::{Diagnostic, Outcome};
 use tb_http::{Reply, RequestFault};
 use tb_words::Asked;
 

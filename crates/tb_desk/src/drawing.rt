@@ -7,11 +7,11 @@ ghost use Rattle.tb_desk.specs.Drawing.{AreTreesDrawn, IsAnswered, IsDrawn, IsDr
 ghost use Rattle.tb_report.specs.Trees.{trees_page};
 
 use crate::checking::{put_check, reported_of_check};
-use crate::diagnostics::Outcome;
 use std::alloc::Global;
 use tb_answer::put_body;
 use tb_check::{CheckReply, FILE_LIMIT, Input, check_file, read_all};
 use tb_conllu::{Sink, Source};
+use tb_host::Outcome;
 use tb_report::trees_page;
 
 /// The page of the trees of these sentences.

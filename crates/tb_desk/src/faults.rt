@@ -4,12 +4,13 @@ ghost use Rattle.std.specs.Prelude.{◌≡◌, IfOk, take};
 ghost use Rattle.tb_desk.specs.Faults.{AreFaultsListed, AreFirstFaults, IsFaultList, IsFileAnswered};
 ghost use Rattle.tb_desk.specs.Faults.{IsInputAnswered, are_more, exit_with};
 
-use crate::diagnostics::{Outcome, put_memory};
 use crate::explaining::reported_of_reply;
+use crate::memory::put_memory;
 use std::alloc::{AllocError, Global};
 use tb_answer::{put_reply, put_text};
 use tb_check::{FILE_LIMIT, Fault, Input, faults_of, read_all};
 use tb_conllu::{Sink, Source};
+use tb_host::Outcome;
 use tb_http::{Reply, RequestFault};
 use tb_report::faults_text;
 use tb_words::{Asked, tell_faults};

@@ -2,15 +2,15 @@
 
 ghost use Rattle.std.specs.Prelude.{◌≡◌, ◌≤◌, ◌-◌, ◌*◌, IfOk, IfSome, IsTrue, MatchResult};
 ghost use Rattle.std.specs.Duration.{as_nanos};
-ghost use Rattle.tb_desk.specs.Patience.{seconds, wait_left};
+ghost use Rattle.tb_host.specs.Patience.{seconds, wait_left};
 ghost use Rattle.tb_desk.specs.Serving.{end_after};
 ghost use Rattle.tb_http.specs.Asks.{body_limit};
 
 use crate::callers::is_none_yet;
-use crate::patience::left_after;
 use std::io::{self, Read};
 use std::net::{Shutdown, TcpStream};
 use std::time::Duration;
+use tb_host::left_after;
 use tb_http::BODY_BYTES;
 
 /// How many seconds a client has after its answer, for what it still sends.

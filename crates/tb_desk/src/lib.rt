@@ -4,7 +4,8 @@
 //! `answer` does what the bytes of one request over HTTP ask, and `answer_all` what a list of requests asks. A `Line`
 //! is read from the words of a command line, and `run_line` does it on a desk. `run_check` checks a file. `run_words`
 //! is the whole program: it does what the words ask on a file or in memory, or serves the desk over HTTP. `run_view` does
-//! what the words of `deskview` ask. `run_program` gives such a program its words and its standard streams.
+//! what the words of `deskview` ask. `run_program` gives such a program its words and its standard streams. Files,
+//! streams and the causes of refusals are in tb_host.
 //!
 //! `requests_lead_on`, `requests_in_memory_lead_on` and `the_check_counts_what_is_taken` are laws: proved facts that
 //! link these answers.
@@ -12,43 +13,32 @@
 
 mod arriving;
 mod callers;
-mod causes;
 mod checking;
-mod contents;
-mod diagnostics;
 mod drawing;
 mod explaining;
 mod faults;
-mod files;
 mod leaving;
-mod logs;
-mod looking;
-mod misfit;
+mod memory;
 mod nothing;
-mod patience;
-mod place;
 mod programs;
 mod running;
 mod service;
 mod serving;
-mod streams;
 mod targets;
-mod turns;
 mod viewing;
 mod waiting;
 mod words;
-mod wrong;
 
-pub use causes::{Cause, FileCause, Form, PortCause, StreamCause};
-pub use diagnostics::{Diagnostic, Outcome, wants_words};
-pub use misfit::{Misfit, Table};
-pub use programs::{Program, run_program};
+pub use programs::{Program, given_words, run_program};
 pub use tb_answer::{
     Broken, answer, answer_all, requests_in_memory_lead_on, requests_lead_on, run_line,
     the_check_counts_what_is_taken, view,
 };
 pub use tb_check::run_check;
 pub use tb_cli::{Line, LineFault, ViewLine, ViewList};
+pub use tb_host::{
+    Cause, Diagnostic, FileCause, Form, Misfit, Outcome, PortCause, StreamCause, Table, wants_words,
+};
 pub use tb_page::{answer_with_page, no_path_of_the_page_is_the_desks, one_visit_is_asked};
-pub use viewing::{DESKVIEW, run_view};
-pub use words::{TREEDESK, run_words, run_words_reported};
+pub use viewing::{DESKVIEW, Deskview, run_view};
+pub use words::{TREEDESK, Treedesk, run_words, run_words_reported};

@@ -1,18 +1,19 @@
 //! A whole program: it takes the words of the command line and the standard streams, and ends with a status. At its end
 //! standard error gets the cause that was returned, with the place, and what happened to the streams.
 
-ghost use Rattle.std.specs.Prelude.{◌≡◌, ◌⊎◌, ◌↔◌, IfOk, IsTrue, MatchResult, None, Option};
-ghost use Rattle.tb_desk.specs.Programs.{IsEnd, IsExit};
-ghost use Rattle.tb_desk.specs.declared.diagnostics.Diagnostic.{Diagnostic as Reported};
-ghost use Rattle.tb_desk.specs.Reported.{IsOfAnswer, IsUnbegun, also_reported};
+ghost use Rattle.std.specs.Prelude.{◌≡◌, ◌⊎◌, ◌↔◌, IfOk, IsTrue, map, MatchResult, None, Option, string_bytes};
+ghost use Rattle.std.specs.IoError.{error_kind};
+ghost use Rattle.tb_desk.specs.Programs.{IsEnd, IsExitWith, IsExitWithout};
+ghost use Rattle.tb_host.specs.declared.diagnostics.Diagnostic.{Diagnostic as Reported};
+ghost use Rattle.tb_desk.specs.Reported.{IsUnbegun, also_reported};
+ghost use Rattle.tb_host.specs.Reported.{IsOfAnswer};
 
-use crate::causes::{Cause, StreamCause};
-use crate::diagnostics::{Diagnostic, Outcome, wants_words};
-use crate::streams::{Heard, Held, Typed};
+use std::alloc::AllocError;
 use std::env;
 use std::io::{self, BufWriter, ErrorKind, Write};
 use tb_check::put_reply;
 use tb_conllu::Source;
+use tb_host::{Cause, Diagnostic, Heard, Held, Outcome, StreamCause, Typed, wants_words};
 
 /// The size of the output buffer, in bytes.
 const BUFFER: usize = 65_536;
@@ -21,7 +22,7 @@ const BUFFER: usize = 65_536;
 pub trait Program {
     ghost use Rattle.std.specs.Prelude.{◌≡◌, ℕ, List, map, string_bytes};
     ghost use Rattle.tb_desk.specs.Programs.{AnswersWords};
-    ghost use Rattle.tb_desk.specs.Reported.{IsTold};
+    ghost use Rattle.tb_host.specs.Reported.{IsTold};
 
     /// The name with which all that it says on standard error begins.
     ghost program_name: { List ℕ };
@@ -122,7 +123,7 @@ impl Ended<'_> {
 }
 
 /// The words of the command line, the program's name first.
-fn words(rt: &HostRuntime) -> io::Result<Vec<String>> {
+pub fn given_words(rt: &HostRuntime) -> io::Result<Vec<String>> {
     Ok(env::args(rt)?.collect(rt.alloc())?)
 }
 
@@ -144,7 +145,7 @@ fn answer_words<P: Program, W: Write>(
     input: &mut Typed<'_>,
     out: &mut W,
 ) -> Outcome
-    ensures { IsEnd P.AnswersTo result.status result.reported }
+    ensures { IsEnd P.AnswersTo (map string_bytes words.now) result.status result.reported }
 {
     let Outcome { status, reported } = program.run(rt, words, input, out);
     Outcome {
@@ -153,15 +154,23 @@ fn answer_words<P: Program, W: Write>(
     }
 }
 
-/// Does what the words ask on standard input and output, and returns the exit status. Where words are wanted on
-/// standard error, it prints the reason there. A failure to print it is ignored.
-fn run<P: Program>(rt: &HostRuntime, program: &P, held: &Held) -> io::Result<u8>
-    ensures { IfOk result (λ status. (reported : Option Reported) × IsEnd P.AnswersTo status reported) }
+/// Answers words on standard input and output, and returns the exit status. Where an explanation is wanted on standard
+/// error, it prints the reason there. A failure to print it is ignored.
+fn run<P: Program>(
+    rt: &HostRuntime,
+    program: &P,
+    held: &Held,
+    words: &[String],
+) -> Result<u8, AllocError>
+    ensures { IfOk result (λ status. (reported : Option Reported)
+        × IsEnd P.AnswersTo (map string_bytes words.now) status reported) }
 {
-    let words = words(rt)?;
-    let mut out = Heard::new(BufWriter::with_capacity(rt.alloc(), BUFFER, rt.stdout())?);
+    let Ok(buffer) = BufWriter::with_capacity(rt.alloc(), BUFFER, rt.stdout()) else {
+        return Err(AllocError);
+    };
+    let mut out = Heard::new(buffer);
     let mut input = Typed::new(rt, program.name());
-    let Outcome { status, reported } = answer_words(rt, program, &words, &mut input, &mut out);
+    let Outcome { status, reported } = answer_words(rt, program, words, &mut input, &mut out);
     if wants_words(rt) {
         let ended = Ended {
             program: program.name(),
@@ -185,7 +194,8 @@ struct Unbegun {
 
 /// How a run ends that did not begin for this error. Where there is memory, a word is not text.
 fn unbegun_for(kind: ErrorKind) -> Unbegun
-    ensures { IsUnbegun kind result }
+    ensures unbegun { IsUnbegun kind result }
+    ensures exit { IsExitWithout kind result.status }
 {
     match kind {
         ErrorKind::OutOfMemory => Unbegun {
@@ -212,13 +222,31 @@ fn put_and_tell(rt: &HostRuntime, program: &str, unbegun: Unbegun) -> u8
     status
 }
 
+/// Ends a run that did not begin for this error, and returns its exit status.
+fn end_unbegun(rt: &HostRuntime, program: &str, kind: ErrorKind) -> u8
+    ensures { IsExitWithout kind result }
+{
+    put_and_tell(rt, program, unbegun_for(kind))
+}
+
+/// Runs a program on these words, and returns its exit status.
+fn run_with<P: Program>(rt: &HostRuntime, program: &P, held: &Held, words: &[String]) -> u8
+    ensures { IsExitWith P.AnswersTo (map string_bytes words.now) result }
+{
+    match run(rt, program, held, words) {
+        Ok(status) => status,
+        Err(_) => end_unbegun(rt, program.name(), ErrorKind::OutOfMemory),
+    }
+}
+
 /// Runs a program on its words and its standard streams, and returns its exit status.
-pub fn run_program<P: Program>(rt: &HostRuntime, program: &P) -> u8
-    ensures { IsExit P.AnswersTo result }
+pub fn run_program<P: Program>(rt: &HostRuntime, program: &P, words: io::Result<Vec<String>>) -> u8
+    ensures { MatchResult words (λ given. IsExitWith P.AnswersTo (map string_bytes given.items) result)
+        (λ e. IsExitWithout (error_kind e) result) }
 {
     let held = Held::new(rt);
-    match run(rt, program, &held) {
-        Ok(status) => status,
-        Err(error) => put_and_tell(rt, program.name(), unbegun_for(error.kind())),
+    match words {
+        Ok(given) => run_with(rt, program, &held, given.as_slice()),
+        Err(error) => end_unbegun(rt, program.name(), error.kind()),
     }
 }

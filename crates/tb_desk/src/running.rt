@@ -8,14 +8,12 @@ ghost use Rattle.tb_answer.specs.Output.{IsWritten};
 ghost use Rattle.tb_desk.specs.Lines.{IsLineRun, IsMadeOrRefused, IsMigratedOrRefused, LeavesInput};
 ghost use Rattle.tb_desk.specs.Running.{IsRunOn, taken_of};
 ghost use Rattle.tb_desk.specs.Explaining.{cause_in_memory};
-ghost use Rattle.tb_desk.specs.Reported.{IsReported, IsTold};
+ghost use Rattle.tb_host.specs.Reported.{IsReported, IsTold};
 ghost use Rattle.tb_desk.specs.Served.{IsServed, IsServedInFile, WithService, service_of};
 ghost use Rattle.tb_desk.specs.Targets.{changes, in_file, in_memory, place_in, room_for};
 
-use crate::causes::Cause;
-use crate::diagnostics::{Diagnostic, Outcome, put_memory, wants_words};
 use crate::explaining::run_reported;
-use crate::files::{self, FileDesk};
+use crate::memory::put_memory;
 use crate::service::{Service, service_of};
 use crate::serving::{Beside, serve, serve_in_file};
 use crate::targets::Target;
@@ -25,6 +23,8 @@ use std::io::Write;
 use tb_answer::read_body;
 use tb_cli::Line;
 use tb_conllu::{Sink, Source};
+use tb_host::files::{self, FileDesk};
+use tb_host::{Cause, Diagnostic, Outcome, wants_words};
 use tb_http::Reply;
 use tb_store::Desk;
 
@@ -49,7 +49,8 @@ fn put_opened<W: Sink>(opened: FileDesk, line: &str, out: &mut W) -> Outcome
 
 /// Makes a desk in the file at this path.
 fn run_new<W: Sink>(rt: &HostRuntime, path: &str, out: &mut W) -> Outcome
-    ensures { IsMadeOrRefused (W.held out.old) (W.held out.new) (W.IsRefusal out.new) result.status }
+    ensures { IsMadeOrRefused (W.held out.old) (W.held out.new) (W.IsRefusal out.new) result.status
+        (IsTold result.reported) }
 {
     match files::make(rt, TREEDESK, path) {
         Ok(made) => put_opened(made, "made\n", out),
@@ -59,7 +60,8 @@ fn run_new<W: Sink>(rt: &HostRuntime, path: &str, out: &mut W) -> Outcome
 
 /// Brings the desk in the file at this path to version 2.
 fn run_migration<W: Sink>(rt: &HostRuntime, path: &str, out: &mut W) -> Outcome
-    ensures { IsMigratedOrRefused (W.held out.old) (W.held out.new) (W.IsRefusal out.new) result.status }
+    ensures { IsMigratedOrRefused (W.held out.old) (W.held out.new) (W.IsRefusal out.new) result.status
+        (IsTold result.reported) }
 {
     match files::migrate(rt, TREEDESK, path) {
         Ok(migrated) => put_opened(migrated, "migrated\n", out),

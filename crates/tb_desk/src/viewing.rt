@@ -6,24 +6,24 @@ ghost use Rattle.sqlite.specs.Files.{over_files};
 ghost use Rattle.tb_cli.specs.View.{listed_by, viewed_by};
 ghost use Rattle.tb_conllu.specs.declared.fault.WriteFault.{WriteFault};
 ghost use Rattle.tb_desk.specs.Replies.{IsFaultWritten};
-ghost use Rattle.tb_desk.specs.Reported.{IsTold};
+ghost use Rattle.tb_host.specs.Reported.{IsTold};
 ghost use Rattle.tb_desk.specs.Served.{IsServedInFile, page_service};
 ghost use Rattle.tb_desk.specs.Viewing.{AreWordsShown, IsAskedOf, IsListRun, IsShown, IsViewRun, lacking};
 
-use crate::causes::Cause;
-use crate::diagnostics::{Diagnostic, Outcome, put_memory};
 use crate::drawing::draw_trees_of;
 use crate::explaining::reported_of_reply;
 use crate::faults::list_faults_of;
-use crate::files::{self, FileDesk};
+use crate::memory::put_memory;
+use crate::programs::Program;
 use crate::service::page_service;
 use crate::serving::{Beside, serve_in_file};
 use crate::words::{put_clap, put_file_cause, put_usage};
-use crate::wrong::wrong_value;
 use std::io::Write;
 use tb_answer::{put_body, put_reply, view};
 use tb_cli::{LineFault, ViewLine, ViewList};
 use tb_conllu::{Sink, Source};
+use tb_host::files::{self, FileDesk};
+use tb_host::{Cause, Diagnostic, Outcome, wrong_value};
 use tb_words::Asked;
 
 /// The name of the program.
@@ -64,7 +64,8 @@ fn wrong_word(rt: &HostRuntime, words: &[String]) -> Diagnostic {
 
 /// Prints why words are no line.
 fn put_fault<W: Sink>(rt: &HostRuntime, words: &[String], fault: LineFault, out: &mut W) -> Outcome
-    ensures { IsFaultWritten (W.held out.old) (W.held out.new) (W.IsRefusal out.new) result.status fault }
+    ensures { IsFaultWritten (W.held out.old) (W.held out.new) (W.IsRefusal out.new) result.status
+        (IsTold result.reported) fault }
 {
     match fault {
         LineFault::Clap(error) => put_clap(rt, error, out),
@@ -92,7 +93,8 @@ fn show<W: Sink>(rt: &HostRuntime, list: &ViewList, opened: &mut FileDesk, out: 
 
 /// Prints a list of the desk in the file at this path, which is opened as for the desk's own questions.
 fn run_list<W: Sink>(rt: &HostRuntime, path: &str, list: &ViewList, out: &mut W) -> Outcome
-    ensures { IsListRun (W.held out.old) (W.held out.new) (W.IsRefusal out.new) result.status (listed_by list.now) }
+    ensures { IsListRun (W.held out.old) (W.held out.new) (W.IsRefusal out.new) result.status (IsTold result.reported)
+        (listed_by list.now) }
 {
     match files::open(rt, DESKVIEW, path, files::ROOM) {
         Ok(mut opened) => {
@@ -167,5 +169,32 @@ pub fn run_view<R: Source, W: Write>(
     match ViewLine::read(rt.alloc(), words) {
         Ok(line) => run(rt, &line, reader, out),
         Err(fault) => put_fault(rt, words, fault, out),
+    }
+}
+
+/// The program `deskview`, beside the desk, which only looks: it does what [`run_view`] does.
+#[derive(Clone, Copy)]
+pub struct Deskview;
+
+impl Program for Deskview {
+    ghost use Rattle.std.specs.Prelude.{codes};
+    ghost use Rattle.tb_desk.specs.Programs.{ShowsWords};
+
+    ghost program_name = { codes "deskview" };
+
+    ghost AnswersTo = { ShowsWords };
+
+    fn name(&self) -> &'static str {
+        DESKVIEW
+    }
+
+    fn run<R: Source, W: Write>(
+        &self,
+        rt: &HostRuntime,
+        words: &[String],
+        reader: &mut R,
+        out: &mut W,
+    ) -> Outcome {
+        run_view(rt, words, reader, out)
     }
 }

@@ -1,27 +1,24 @@
 //! Does what the words of a command line ask.
 
-ghost use Rattle.std.specs.Prelude.{◌≡◌, map, string_bytes, true, false, codes, IfSome, None, Some};
+ghost use Rattle.std.specs.Prelude.{◌≡◌, map, string_bytes, codes, IfSome, None, Some};
 ghost use Rattle.clap.specs.Values.{kind_of};
-ghost use Rattle.tb_check.specs.Check.{Answers, IsReplyToRead, file_limit};
-ghost use Rattle.tb_check.specs.Words.{asks_check};
-ghost use Rattle.tb_conllu.specs.declared.fault.WriteFault.{WriteFault};
 ghost use Rattle.tb_answer.specs.Output.{IsWritten};
-ghost use Rattle.tb_desk.specs.Lines.{AreWordsRun};
-ghost use Rattle.tb_desk.specs.Causes.{misfit_of};
-ghost use Rattle.tb_desk.specs.Reported.{IsReported, IsTold};
-ghost use Rattle.tb_desk.specs.Replies.{IsClapWritten, IsExitOf, IsFaultWritten, IsReplyWritten, reply_of};
+ghost use Rattle.tb_desk.specs.Programs.{DoesWords};
+ghost use Rattle.tb_host.specs.Causes.{misfit_of, reply_of};
+ghost use Rattle.tb_host.specs.Reported.{IsReported, IsTold};
+ghost use Rattle.tb_desk.specs.Replies.{IsClapWritten, IsExitOf, IsFaultWritten, IsReplyWritten};
 ghost use Rattle.tb_desk.specs.Served.{untold};
 
-use crate::causes::{Cause, FileCause};
 use crate::checking::check_reported;
-use crate::diagnostics::{Diagnostic, Outcome, put_memory};
+use crate::memory::put_memory;
+use crate::programs::Program;
 use crate::running::run;
-use crate::wrong::wrong_word;
 use std::io::Write;
 use tb_answer::put_reply;
 use tb_check::is_check;
 use tb_cli::{Line, LineFault};
 use tb_conllu::{Sink, Source};
+use tb_host::{Cause, Diagnostic, FileCause, Outcome, wrong_word};
 
 /// The name of the program.
 pub const TREEDESK: &str = "treedesk";
@@ -65,7 +62,8 @@ fn exit_of(error: &clap::Error) -> u8
 
 /// Prints clap's text, which may be help.
 pub(crate) fn put_clap<W: Sink>(rt: &HostRuntime, error: clap::Error, out: &mut W) -> Outcome
-    ensures { IsClapWritten (W.held out.old) (W.held out.new) (W.IsRefusal out.new) result.status (kind_of error) }
+    ensures { IsClapWritten (W.held out.old) (W.held out.new) (W.IsRefusal out.new) result.status
+        (IsTold result.reported) (kind_of error) }
 {
     match error.to_string(rt.alloc()) {
         Ok(text) => Outcome::from(tb_check::put_reply(out, text.as_str(), exit_of(&error))),
@@ -78,6 +76,7 @@ pub(crate) fn put_usage<W: Sink>(wrong: Diagnostic, out: &mut W) -> Outcome
     ensures written { IsWritten (W.held out.old) (W.held out.new) (codes "refused usage\n") 2 (W.IsRefusal out.new)
         result.status }
     ensures reported { result.reported ≡ Some wrong }
+    ensures told { IsReported result.reported wrong.cause }
 {
     Outcome {
         status: tb_check::put_reply(out, "refused usage\n", 2),
@@ -87,7 +86,8 @@ pub(crate) fn put_usage<W: Sink>(wrong: Diagnostic, out: &mut W) -> Outcome
 
 /// Prints why words are no line: clap's text, which may be help, or the desk's own line.
 fn put_fault<W: Sink>(rt: &HostRuntime, words: &[String], fault: LineFault, out: &mut W) -> Outcome
-    ensures { IsFaultWritten (W.held out.old) (W.held out.new) (W.IsRefusal out.new) result.status fault }
+    ensures { IsFaultWritten (W.held out.old) (W.held out.new) (W.IsRefusal out.new) result.status
+        (IsTold result.reported) fault }
 {
     match fault {
         LineFault::Clap(error) => put_clap(rt, error, out),
@@ -105,12 +105,8 @@ pub fn run_words_reported<R: Source, W: Write>(
     reader: &mut R,
     out: &mut W,
 ) -> Outcome
-    ensures check { asks_check (map string_bytes words.now) ≡ true
-        → Answers (IsReplyToRead (R.IsFailure reader.new) file_limit (R.left reader.old) (R.left reader.new))
-        (W.contents out.old) (W.contents out.new) (λ (_ : WriteFault). Unit {0}) result.status }
-    ensures line { asks_check (map string_bytes words.now) ≡ false
-        → AreWordsRun R.IsFailure R.left reader.old reader.new (W.contents out.old) (W.contents out.new)
-        (λ (_ : WriteFault). Unit {0}) result.status (IsTold result.reported) (map string_bytes words.now) }
+    ensures { DoesWords _ _ R.IsFailure R.left reader.old reader.new (W.contents out.old) (W.contents out.new)
+        result.status (IsTold result.reported) (map string_bytes words.now) }
 {
     if is_check(words) {
         return check_reported(rt, reader, out);
@@ -128,12 +124,35 @@ pub fn run_words<R: Source, W: Write>(
     reader: &mut R,
     out: &mut W,
 ) -> u8
-    ensures check { asks_check (map string_bytes words.now) ≡ true
-        → Answers (IsReplyToRead (R.IsFailure reader.new) file_limit (R.left reader.old) (R.left reader.new))
-        (W.contents out.old) (W.contents out.new) (λ (_ : WriteFault). Unit {0}) result }
-    ensures line { asks_check (map string_bytes words.now) ≡ false
-        → AreWordsRun R.IsFailure R.left reader.old reader.new (W.contents out.old) (W.contents out.new)
-        (λ (_ : WriteFault). Unit {0}) result untold (map string_bytes words.now) }
+    ensures { DoesWords _ _ R.IsFailure R.left reader.old reader.new (W.contents out.old) (W.contents out.new) result
+        untold (map string_bytes words.now) }
 {
     run_words_reported(rt, words, reader, out).status
+}
+
+/// The program `treedesk`: it does what [`run_words_reported`] does.
+#[derive(Clone, Copy)]
+pub struct Treedesk;
+
+impl Program for Treedesk {
+    ghost use Rattle.std.specs.Prelude.{codes};
+    ghost use Rattle.tb_desk.specs.Programs.{DoesWords};
+
+    ghost program_name = { codes "treedesk" };
+
+    ghost AnswersTo = { DoesWords };
+
+    fn name(&self) -> &'static str {
+        TREEDESK
+    }
+
+    fn run<R: Source, W: Write>(
+        &self,
+        rt: &HostRuntime,
+        words: &[String],
+        reader: &mut R,
+        out: &mut W,
+    ) -> Outcome {
+        run_words_reported(rt, words, reader, out)
+    }
 }

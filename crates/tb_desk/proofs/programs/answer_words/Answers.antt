@@ -1,4 +1,4 @@
-use Rattle.std.proofs.Common.{◌⊎◌, inl, inr, map, string_bytes, Result, Ok, Err, MatchResult}
+use Rattle.std.proofs.Common.{◌⊎◌, inl, inr, Result, Ok, Err, MatchResult}
 use Rattle.tb_desk.proofs.programs.answer_words.Goals as goal
 
 either : {X E P Q : Type 0} → (r : Result X E) → MatchResult r (λ _. P) (λ _. Q) → P ⊎ Q
@@ -7,7 +7,6 @@ either (Err e) q = inr q
 
 pub returns : goal.returns
 returns g c = record {
-  words = map string_bytes c.args.words.now;
   before = c.args.input.now;
   after = c.run-status.new.reader;
   held = g.W.Write.contents c.args.out.now;

@@ -5,4 +5,4 @@ pub returns-in-Ok : goal.returns-in-Ok
 returns-in-Ok g c = inr record { migrated = c.in-Ok.migrated; is = c.in-Ok.ensures; written = c.put_opened.ensures }
 
 pub returns-in-Err : goal.returns-in-Err
-returns-in-Err g c = inl (c.in-Err.cause, c.put_file_cause.ensures.written)
+returns-in-Err g c = inl (c.in-Err.cause, c.put_file_cause.ensures.written, c.put_file_cause.ensures.reported)

@@ -1,6 +1,6 @@
 use Rattle.std.proofs.Common.{subst}
 use Rattle.tb_conllu.specs.declared.fault.WriteFault.{WriteFault}
-use Rattle.tb_desk.specs.Reported.{IsTold}
+use Rattle.tb_host.specs.Reported.{IsTold}
 use Rattle.tb_desk.specs.Served.{IsServedInFile}
 use Rattle.tb_desk.proofs.viewing.serve_page.Goals as goal
 

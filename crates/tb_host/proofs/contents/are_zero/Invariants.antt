@@ -1,0 +1,5 @@
+use Rattle.std.proofs.Common.{◌≡◌, All, take}
+use Rattle.tb_host.proofs.contents.are_zero.Given as goal
+
+abbrev pub invariant-loop-byte : goal.invariant-loop-byte
+invariant-loop-byte l = All (λ b. b ≡ 0) (take l.byte-index l.bytes)

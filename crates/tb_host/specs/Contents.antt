@@ -1,0 +1,146 @@
+-- Inner: no contract beyond this crate cites a definition of this module.
+-- What the bytes of a file and of its log show of its tables (the file format of SQLite, sections 1.3, 1.6 and 4.1).
+use Rattle.std.specs.Prelude.{◌≡◌, ◌≢◌, ◌++◌, ◌+◌, ◌*◌, ◌⊎◌, ◌≤◌, ◌<◌, ℕ, List, [], ◌∷◌, All, codes, length, take, drop, slice_get, Option, None, Some}
+use Rattle.std.specs.Prelude.{Bool, true, false, min, nat_eq, not, Result, Ok, Err}
+use Rattle.std.specs.declared.io.ErrorKind.{ErrorKind}
+use Rattle.std.specs.declared.io.ErrorKind.TheVariants.{NotFound, NotADirectory}
+use Rattle.memchr.specs.Find.{OccursAt}
+use Rattle.sqlite_wal.specs.Format.{be32}
+use Rattle.sqlite_wal.specs.Recovery.{AreFramesOf, IsIgnored}
+use Rattle.tb_host.specs.declared.contents.Version.{Version}
+use Rattle.tb_host.specs.declared.contents.Version.TheVariants.{One, Two}
+use Rattle.tb_host.specs.declared.causes.FileCause.{FileCause}
+use Rattle.tb_host.specs.declared.causes.FileCause.TheVariants as file
+use Rattle.tb_host.specs.declared.files.Undoing.{Undoing}
+use Rattle.tb_host.specs.declared.files.Undoing.TheVariants as undoing_of
+use Rattle.tb_host.specs.declared.place.Numbers.{Numbers}
+
+-- The text is somewhere in the bytes.
+pub record Has (bytes text : List ℕ) : Type 0 where
+  pub at : ℕ
+  pub occurs : OccursAt bytes text at
+
+-- The bytes begin with the text.
+pub record BeginsWith (bytes text : List ℕ) : Type 0 where
+  pub rest : List ℕ
+  pub cut : bytes ≡ text ++ rest
+
+-- SQLite gives the name a meaning of its own.
+abbrev pub IsReserved : (path : List ℕ) → Type 0
+IsReserved path = (path ≡ codes ":memory:") ⊎ BeginsWith path (codes "file:")
+
+-- The file holds something, and does not begin as a database does.
+abbrev pub IsOtherFile : (head : List ℕ) → Type 0
+IsOtherFile head = (head ≢ []) × ¬ BeginsWith head (codes "SQLite format 3\0")
+
+-- A database lists each table in a row, which has the kind, the name, and the name of its table.
+pub record ListsTables (bytes : List ℕ) : Type 0 where
+  pub meta : Has bytes (codes "tablemetameta")
+  pub batches : Has bytes (codes "tablebatchesbatches")
+  pub sentences : Has bytes (codes "tablesentencessentences")
+  pub revisions : Has bytes (codes "tablerevisionsrevisions")
+  pub moves : Has bytes (codes "tablemovesmoves")
+  pub totals : Has bytes (codes "tabletotalstotals")
+
+-- A desk of version 1 lacks this table.
+abbrev pub ListsPulled : List ℕ → Type 0
+ListsPulled bytes = Has bytes (codes "tablepulledpulled")
+
+-- The version of the desk whose tables the bytes list.
+abbrev pub IsListed : List ℕ → Option Version → Type 0
+IsListed bytes None = ¬ ListsTables bytes
+IsListed bytes (Some One) = ListsTables bytes × ¬ ListsPulled bytes
+IsListed bytes (Some Two) = ListsTables bytes × ListsPulled bytes
+
+-- the version by the tables in the log, or by those in the file where the log has none
+abbrev pub version_by : (in_log in_file : Option Version) → Result Version FileCause
+version_by (Some version) in_file = Ok version
+version_by None (Some version) = Ok version
+version_by None None = Err file.OtherDatabase
+
+-- Whether a file is looked at a second time. Another command may have moved its tables from the log into the file.
+abbrev pub is_looked_at_again : (found : Result Version FileCause) → Bool
+is_looked_at_again (Err file.Empty) = true
+is_looked_at_again (Err file.OtherDatabase) = true
+is_looked_at_again _ = false
+
+-- the cause for a path that has a folder, or something else than a plain file
+abbrev pub odd_cause : (is_folder : Bool) → FileCause
+odd_cause true = file.Folder
+odd_cause false = file.NotPlain
+
+abbrev pub AreZero : List ℕ → Type 0
+AreZero bytes = All (λ b. b ≡ 0) bytes
+
+-- The first page of a database that lists no table: after its first byte the header's, and a root that is a leaf (13)
+-- without rows.
+abbrev pub ListsNone : List ℕ → Type 0
+ListsNone head = BeginsWith (drop 1 head) (codes "QLite format 3\0")
+    × (slice_get head 100 ≡ Some 13) × (slice_get head 103 ≡ Some 0) × (slice_get head 104 ≡ Some 0)
+
+-- The beginning of a file without a table: it lists none, or it is what is left of a page that was not written whole.
+abbrev pub IsBlank : List ℕ → Type 0
+IsBlank head = (AreZero head × (length head ≤ 4096)) ⊎ ListsNone head
+
+-- The beginning of a log whose header is not written whole: its first byte comes last.
+abbrev pub IsUnwritten : List ℕ → Type 0
+IsUnwritten log = BeginsWith (drop 1 log) (127 ∷ 6 ∷ []) ⊎ AreZero (take 4 log)
+
+-- A log that has only the first page (after a header of 32 bytes and one of 24), which lists no table.
+abbrev pub AreBegun : (log : List ℕ) → (pages : List ℕ) → Type 0
+AreBegun log pages = (56 ≤ length log) × (pages ≡ 1 ∷ []) × IsBlank (drop 56 log)
+
+-- A log with pages of this size has no commits, or those of the first page alone, which lists no table.
+pub record HasBegunAlone (size : ℕ) (log : List ℕ) : Type 0 where
+  pub pages : List ℕ
+  pub are : AreFramesOf size log pages
+  pub begun : (pages ≡ []) ⊎ AreBegun log pages
+
+-- A log that `new` may have left, and may write over: its header is not written, or by the page size in its header it has
+-- begun alone.
+abbrev pub MayBeOwnLog : List ℕ → Type 0
+MayBeOwnLog log = IsUnwritten log ⊎ ((¬ IsIgnored log) × HasBegunAlone (be32 log 8) log)
+
+-- the number that four bytes are, the greatest first (section 1.3)
+abbrev pub number_in : List ℕ → ℕ
+number_in (a ∷ b ∷ c ∷ d ∷ []) = ((a * 256 + b) * 256 + c) * 256 + d
+number_in _ = 0
+
+-- What is found at a path, of this size, is another file than the one that was there, or was cut off.
+abbrev pub IsAnother : (found : Numbers) → (size : ℕ) → (then : Numbers) → Type 0
+IsAnother found size then = (found.device ≢ then.device) ⊎ (found.file ≢ then.file) ⊎ (size < then.least)
+
+-- A journal has to be played back: its first byte is written, and is not zero.
+abbrev pub is_hot : (first : List ℕ) → Bool
+is_hot [] = false
+is_hot (byte ∷ bytes) = not (nat_eq byte 0)
+
+-- the greatest length of a log that a stopped `new` leaves: one mebibyte
+abbrev pub own_log_limit : ℕ
+own_log_limit = 1048576
+
+-- whether a desk of this version is opened, or is of another version than today's
+abbrev pub may_be_opened : Version → Result (Unit {0}) FileCause
+may_be_opened Two = Ok tt
+may_be_opened One = Err file.Version1
+
+-- the cause for a desk of this version that cannot be migrated
+abbrev pub cause_to_migrate : Version → FileCause
+cause_to_migrate One = file.Rows None
+cause_to_migrate Two = file.Version2
+
+-- What there is to undo at a log. One that is empty was emptied, or made, by opening the file.
+abbrev pub what_to_undo : (is_empty was_there : Bool) → Undoing
+what_to_undo false there = undoing_of.Nothing
+what_to_undo true true = undoing_of.Emptying
+what_to_undo true false = undoing_of.Removing
+
+-- How many bytes a file of this size, whose header gives so many pages, has to keep.
+abbrev pub kept_of : (size pages : ℕ) → ℕ
+kept_of size pages = min size (pages * 4096)
+
+-- nothing is at a path any more, by the kind of the error there
+abbrev pub is_gone : ErrorKind → Bool
+is_gone NotFound = true
+is_gone NotADirectory = true
+is_gone _ = false

@@ -1,0 +1,35 @@
+-- Inner: no contract beyond this crate cites a definition of this module.
+-- The forms of values on a command line.
+use Rattle.std.specs.Prelude.{◌≡◌, ◌≢◌, ◌<◌, ℕ, List, [], length, get_or, codes, IsSome, Option, None, Some}
+use Rattle.tb_http.specs.Forms.{attribute_of, base_of, context_of, event_of, most_of, number_of, port_of}
+use Rattle.tb_http.specs.Forms.{requests_of, strategy_of}
+use Rattle.tb_host.specs.declared.causes.Form.{Form}
+use Rattle.tb_host.specs.declared.causes.Form.TheVariants as form
+
+abbrev pub HasSlash : List ℕ → Type 0
+HasSlash text = (k : ℕ) × (k < length text) × (get_or text k 0 ≡ 47)
+
+-- a text has this form: that of a value of a request, where one has it too
+abbrev pub HasForm : Form → List ℕ → Type 0
+HasForm form.Batch text = (text ≢ []) × ¬ HasSlash text
+HasForm form.Event text = IsSome (event_of text)
+HasForm form.Number text = IsSome (number_of text)
+HasForm form.Base text = IsSome (base_of text)
+HasForm form.Most text = IsSome (most_of text)
+HasForm form.Strategy text = IsSome (strategy_of text)
+HasForm form.Context text = IsSome (context_of text)
+HasForm form.Attribute text = IsSome (attribute_of text)
+HasForm form.Port text = IsSome (port_of text)
+HasForm form.Requests text = IsSome (requests_of text)
+
+-- The form that the value of an option has to have. A path and a user may be any text.
+abbrev pub IsFormOfOption : (name : List ℕ) → Option Form → Type 0
+IsFormOfOption name (Some form.Strategy) = name ≡ codes "--strategy"
+IsFormOfOption name (Some form.Context) = name ≡ codes "--context"
+IsFormOfOption name (Some form.Number) = name ≡ codes "--rev"
+IsFormOfOption name (Some form.Most) = name ≡ codes "--most"
+IsFormOfOption name (Some form.Port) = name ≡ codes "--port"
+IsFormOfOption name (Some form.Requests) = name ≡ codes "--requests"
+IsFormOfOption name (Some _) = ⊥
+IsFormOfOption name None = (name ≢ codes "--strategy") × (name ≢ codes "--context") × (name ≢ codes "--rev")
+    × (name ≢ codes "--most") × (name ≢ codes "--port") × (name ≢ codes "--requests")

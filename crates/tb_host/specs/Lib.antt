@@ -1,0 +1,9 @@
+pub mod Causes
+pub mod Contents
+pub mod Forms
+pub mod Misfits
+pub mod Opened
+pub mod Patience
+pub mod Reported
+pub mod Sentences
+pub mod Streams

@@ -1,0 +1,360 @@
+//! Desks in files. This module is tested, not proved: no contract ties a file to its path.
+
+ghost use Rattle.std.specs.Prelude.{◌≡◌, ◌≢◌, ◌+◌, ◌/◌, ℕ, false, min, IfErr, IfOk, IsTrue, None};
+ghost use Rattle.sqlite.specs.Files.{IsOpened, file_state, over_files};
+ghost use Rattle.sqlite.specs.State.{HasCleanDisk};
+ghost use Rattle.sqlite.specs.Steps.{over_memory};
+ghost use Rattle.tb_host.specs.Causes.{IsPathCause, reply_of, reply_of_error, reply_of_fault};
+ghost use Rattle.sqlite.specs.declared.error.Error.{Error as DatabaseError};
+ghost use Rattle.tb_host.specs.Contents.{cause_to_migrate, may_be_opened, what_to_undo};
+ghost use Rattle.tb_host.specs.Opened.{IsEmptyDesk, IsMadeDesk, IsSomeDesk};
+
+use crate::causes::FileCause;
+use crate::contents::{PAGE_BYTES, Version};
+use crate::diagnostics::wants_words;
+use crate::looking::{beside, may_become_desk, version_of};
+use crate::misfit::{Misfit, first_misfit};
+use crate::turns::Turn;
+use sqlite::{Alter, Connection, Error, ErrorCode, File, FileStore, MemStore, Options};
+use sqlite_disk::{Disk, Files, Unknown};
+use sqlite_std_file::OpenError;
+use std::fs::OpenOptions;
+use std::hash::{BuildHasher, RandomState};
+use std::{fs, io};
+use tb_core::{Fault, Limits};
+use tb_http::Reply;
+use tb_store::{Desk, Unmade};
+
+/// A desk in a file.
+#[derive(Drop)]
+pub struct FileDesk {
+    pub desk: Desk<FileStore<File>>,
+}
+
+impl FileDesk {
+    /// Closes the file, so that it is complete without its log. A failure here loses nothing: the log beside the file
+    /// keeps what was done, and the next command finds it.
+    pub fn close(self) {
+        let _ = self.desk.into_connection().close();
+    }
+}
+
+/// The limits of every desk of the program.
+const LIMITS: Limits = Limits {
+    sentences: 1_000_000,
+    moves: 1_000_000_000,
+    hits: 1_000_000,
+};
+
+/// The cause for a file that the database does not open.
+fn cause_of_error(error: Error) -> FileCause
+    ensures { reply_of result ≡ reply_of_error error }
+{
+    match error {
+        Error::SqliteFailure(ErrorCode::OutOfMemory) => FileCause::Memory,
+        Error::SqliteFailure(ErrorCode::DiskFull) => FileCause::of_device(FileCause::Full),
+        Error::SqliteFailure(ErrorCode::DatabaseBusy) => FileCause::Busy,
+        Error::SqliteFailure(ErrorCode::SystemIoFailure) => FileCause::of_device(FileCause::Failed),
+        _ => FileCause::Damaged,
+    }
+}
+
+/// The cause for a file that the system does not open.
+fn cause_of_path(error: OpenError) -> FileCause
+    ensures { IsPathCause error result }
+{
+    match error {
+        OpenError::OutOfMemory => FileCause::Memory,
+        OpenError::Busy => FileCause::Busy,
+        OpenError::HotJournal => FileCause::Journal,
+        OpenError::Io(error) => FileCause::of_system(error),
+    }
+}
+
+/// The cause for a database that cannot be opened as a desk; `not_a_desk` where its tables or rows do not allow it.
+fn cause_of_fault(fault: Fault, not_a_desk: FileCause) -> FileCause
+    ensures { reply_of not_a_desk ≡ Reply.Desk → reply_of result ≡ reply_of_fault fault }
+{
+    match fault {
+        Fault::Memory => FileCause::Memory,
+        Fault::Device | Fault::Output => FileCause::of_device(FileCause::Failed),
+        Fault::NotADesk | Fault::Refused(_) => not_a_desk,
+    }
+}
+
+/// What there is to undo at a log, once opening a file that is no desk has written there.
+#[derive(Clone, Copy, PartialEq, Eq)]
+enum Undoing {
+    /// It had commits, and opening the file wrote nothing.
+    Nothing,
+    /// It was an empty file, and becomes one again.
+    Emptying,
+    /// There was none, and it is removed.
+    Removing,
+}
+
+/// What there is to undo at a log that was empty when the file was locked, or was not, and that was there before, or was
+/// not.
+fn what_to_undo(is_empty: bool, was_there: bool) -> Undoing
+    ensures { result ≡ what_to_undo is_empty was_there }
+{
+    if !is_empty {
+        Undoing::Nothing
+    } else if was_there {
+        Undoing::Emptying
+    } else {
+        Undoing::Removing
+    }
+}
+
+/// The log beside a file, as it is before the database opens it.
+#[derive(Drop)]
+struct Log {
+    path: String,
+    was_there: bool,
+    /// Whether the log is an empty file, as seen once the file is locked.
+    is_empty: bool,
+}
+
+impl Log {
+    fn before(rt: &HostRuntime, path: &str) -> Result<Log, FileCause>
+        ensures { IfErr result (λ cause. cause ≡ FileCause.Memory) }
+    {
+        let path = match fs::canonicalize(rt, path) {
+            Ok(real) => beside(rt, real.as_str(), "-wal")?,
+            Err(_) => beside(rt, path, "-wal")?,
+        };
+        Ok(Log {
+            was_there: fs::exists(rt, path.as_str()).unwrap_or(true),
+            path,
+            is_empty: false,
+        })
+    }
+
+    /// Looks at the log again. The file is locked now, so nobody else writes the log.
+    fn look(&mut self, rt: &HostRuntime)
+        ensures { (self.new.path ≡ self.old.path) × (self.new.was_there ≡ self.old.was_there) }
+    {
+        self.is_empty = match fs::metadata(rt, self.path.as_str()) {
+            Ok(found) => found.len() == 0,
+            Err(_) => false,
+        };
+    }
+
+    /// Undoes what opening a file that is no desk has written there. The file is still locked.
+    fn undo(&self, rt: &HostRuntime) -> io::Result<()> {
+        match what_to_undo(self.is_empty, self.was_there) {
+            Undoing::Nothing => Ok(()),
+            Undoing::Emptying => {
+                let log = OpenOptions::new().write(true).open(rt, self.path.as_str())?;
+                log.set_len(0)
+            }
+            Undoing::Removing => fs::remove_file(rt, self.path.as_str()),
+        }
+    }
+}
+
+/// The most pages of a file that are kept in memory: 192 MiB.
+const MOST_PAGES: u64 = 49_152;
+
+/// How many pages beyond those of the file are kept for a command that adds few or none.
+pub const ROOM: u64 = 64;
+
+/// The same for a command that may add many.
+pub const ROOM_TO_GROW: u64 = 2_000;
+
+/// The same for a server: 84 MiB, the pages of 64 MB of text. Each search reads the pages beyond this room again.
+pub const ROOM_TO_SERVE: u64 = 21_504;
+
+/// How many pages are kept in memory for a file of so many bytes, so that each is read once: all pages of the file, and
+/// room for more. Memory for all of them is reserved at once, so a small desk has to take little.
+fn pages_kept(bytes: u64, room: u64) -> u64
+    ensures { result ≡ min (bytes / 4096 + room) 49152 }
+{
+    (bytes / PAGE_BYTES).saturating_add(room).min(MOST_PAGES)
+}
+
+/// How many pages are kept for the file at this path.
+fn pages_to_keep(rt: &HostRuntime, path: &str, room: u64) -> usize
+    ensures { (bytes : ℕ) × (result ≡ min (bytes / 4096 + room) 49152) }
+{
+    let bytes = match fs::metadata(rt, path) {
+        Ok(metadata) => metadata.len(),
+        Err(_) => 0,
+    };
+    pages_kept(bytes, room) as usize
+}
+
+fn options(rt: &HostRuntime, path: &str, room: u64) -> Result<Options, FileCause>
+    ensures pages { IfOk result (λ o. (bytes : ℕ) × (o.cache_pages ≡ min (bytes / 4096 + room) 49152)) }
+    ensures cause { IfErr result (λ cause. cause ≡ FileCause.NoRandom) }
+{
+    let Ok(state) = RandomState::new(rt) else {
+        return Err(FileCause::NoRandom);
+    };
+    Ok(Options {
+        cache_pages: pages_to_keep(rt, path, room),
+        ..Options::new(state.hash_one(&0u8))
+    })
+}
+
+/// A connection over these files, in no transaction. Where they are no database, the log stays as it was.
+fn over<D: Disk + Drop>(
+    rt: &HostRuntime,
+    files: Files<D>,
+    log: &Log,
+    options: Options,
+) -> Result<Connection<FileStore<D>>, FileCause>
+    requires log { IsTrue (D.Disk.is_usable files.log) }
+    requires db { IsTrue (D.Disk.is_usable files.db) }
+    ensures new { IfOk result (λ c. c.in_transaction ≡ false) }
+    ensures opened { IfOk result (λ c. HasCleanDisk (file_state c) → IsOpened c) }
+    ensures cause { IfErr result (λ cause. (e : DatabaseError) × (reply_of cause ≡ reply_of_error e)) }
+{
+    match Connection::open_files(rt.alloc(), files, options) {
+        Ok(conn) => Ok(conn),
+        Err((error, left)) => {
+            let cause = cause_of_error(error);
+            if cause.is_no_desk() {
+                let _ = log.undo(rt);
+            }
+            drop(left);
+            Err(cause)
+        }
+    }
+}
+
+/// A connection to the file at this path, in no transaction, with room for so many pages more. It waits for a file
+/// that another command has open.
+fn connect(
+    rt: &HostRuntime,
+    program: &str,
+    path: &str,
+    log: &mut Log,
+    room: u64,
+) -> Result<Connection<FileStore<File>>, FileCause>
+    ensures new { IfOk result (λ c. c.in_transaction ≡ false) }
+    ensures opened { IfOk result (λ c. HasCleanDisk (file_state c) → IsOpened c) }
+{
+    let options = options(rt, path, room)?;
+    let mut turn = Turn::new(rt, program, path)?;
+    for _ in 0..u64::MAX {
+        match sqlite_std_file::open(rt, path, Unknown) {
+            Ok(files) => {
+                log.look(rt);
+                return over(rt, files, log, options);
+            }
+            Err(OpenError::Busy) => turn.wait()?,
+            Err(error) => return Err(cause_of_path(error)),
+        }
+    }
+    Err(FileCause::Busy)
+}
+
+/// What is wrong first with the rows of a file that is no desk, where words are wanted.
+fn misfit_of<S: Alter>(rt: &HostRuntime, fault: Fault, conn: &mut Connection<S>) -> Option<Misfit>
+    ensures { fault ≢ Fault.NotADesk → (result ≡ None) × (conn.new ≡ conn.old) }
+{
+    if fault == Fault::NotADesk && wants_words(rt) {
+        first_misfit(rt.alloc(), conn)
+    } else {
+        None
+    }
+}
+
+/// Why no desk was made of a connection. The file is closed, and what is no desk stays as it was.
+fn given_up(
+    rt: &HostRuntime,
+    log: &Log,
+    fault: Fault,
+    conn: Connection<FileStore<File>>,
+    not_a_desk: FileCause,
+) -> FileCause
+    ensures { reply_of not_a_desk ≡ Reply.Desk → reply_of result ≡ reply_of_fault fault }
+{
+    let cause = cause_of_fault(fault, not_a_desk);
+    if cause.is_no_desk() {
+        let _ = log.undo(rt);
+        drop(conn);
+    } else {
+        let _ = conn.close();
+    }
+    cause
+}
+
+/// Refuses a desk of another version than today's.
+fn may_be_opened(version: Version) -> Result<(), FileCause>
+    ensures { result ≡ may_be_opened version }
+{
+    match version {
+        Version::Two => Ok(()),
+        Version::One => Err(FileCause::Version1),
+    }
+}
+
+/// The cause for a desk of this version that cannot be migrated: its rows, or its version.
+fn cause_to_migrate(version: Version) -> FileCause
+    ensures { result ≡ cause_to_migrate version }
+{
+    match version {
+        Version::One => FileCause::Rows(None),
+        Version::Two => FileCause::Version2,
+    }
+}
+
+/// Refuses a file that by its first bytes, and those of its log, is not a desk of version 2. The file is not changed.
+pub fn look(rt: &HostRuntime, path: &str) -> Result<(), FileCause> {
+    may_be_opened(version_of(rt, path)?)
+}
+
+/// A desk in memory, without a batch.
+pub fn in_memory(rt: &HostRuntime) -> Result<Desk<MemStore>, Fault>
+    ensures { IfOk result (IsEmptyDesk over_memory) }
+{
+    Desk::in_memory(rt.alloc(), LIMITS)
+}
+
+/// The desk of the file at this path, with room for so many pages more.
+pub fn open(rt: &HostRuntime, program: &str, path: &str, room: u64) -> Result<FileDesk, FileCause>
+    ensures { IfOk result (λ opened. IsSomeDesk over_files opened.desk) }
+{
+    look(rt, path)?;
+    let mut log = Log::before(rt, path)?;
+    let conn = connect(rt, program, path, &mut log, room)?;
+    match Desk::adopt(rt.alloc(), conn, LIMITS) {
+        Ok(desk) => Ok(FileDesk { desk }),
+        Err(Unmade { fault, mut conn }) => {
+            let not_a_desk = FileCause::Rows(misfit_of(rt, fault, &mut conn));
+            Err(given_up(rt, &log, fault, conn, not_a_desk))
+        }
+    }
+}
+
+/// Migrates the desk of version 1 in the file at this path to version 2.
+pub fn migrate(rt: &HostRuntime, program: &str, path: &str) -> Result<FileDesk, FileCause>
+    ensures { IfOk result (λ migrated. IsSomeDesk over_files migrated.desk) }
+{
+    let not_a_desk = cause_to_migrate(version_of(rt, path)?);
+    let mut log = Log::before(rt, path)?;
+    let conn = connect(rt, program, path, &mut log, ROOM)?;
+    match Desk::migrate(rt.alloc(), conn, LIMITS) {
+        Ok(desk) => Ok(FileDesk { desk }),
+        Err(Unmade { fault, conn }) => Err(given_up(rt, &log, fault, conn, not_a_desk)),
+    }
+}
+
+/// Makes a desk in the file at this path. The file is missing, empty or a blank database.
+pub fn make(rt: &HostRuntime, program: &str, path: &str) -> Result<FileDesk, FileCause>
+    ensures { IfOk result (λ made. IsMadeDesk over_files made.desk) }
+{
+    may_become_desk(rt, path)?;
+    let mut log = Log::before(rt, path)?;
+    let conn = match connect(rt, program, path, &mut log, ROOM) {
+        Ok(conn) => conn,
+        Err(cause) => return Err(cause.of_new()),
+    };
+    match Desk::make(rt.alloc(), conn, LIMITS) {
+        Ok(desk) => Ok(FileDesk { desk }),
+        Err(Unmade { fault, conn }) => Err(given_up(rt, &log, fault, conn, FileCause::NotBlank)),
+    }
+}

@@ -1,0 +1,143 @@
+//! Which word of a command line does not have its form, where clap accepts the words but they are no command.
+
+ghost use Rattle.std.specs.Prelude.{IfSome};
+ghost use Rattle.tb_host.specs.Forms.{HasForm, IsFormOfOption};
+
+use crate::causes::{Cause, Form};
+use crate::diagnostics::Diagnostic;
+
+/// A value on the command line, with its name in help.
+#[derive(Clone, Copy)]
+struct Given<'a> {
+    name: &'a str,
+    form: Option<Form>,
+    value: &'a str,
+}
+
+/// The values of a command, one after another.
+#[derive(Drop)]
+struct Values<'a> {
+    command: &'a str,
+    words: &'a [String],
+    /// How many values without an option precede.
+    before: usize,
+    /// Whether a word may still be an option.
+    has_options: bool,
+}
+
+/// The form that the value of an option has to have. A path and a user may be any text.
+fn form_of_option(name: &str) -> Option<Form>
+    ensures { IsFormOfOption name.now result }
+{
+    match name {
+        "--strategy" => Some(Form::Strategy),
+        "--context" => Some(Form::Context),
+        "--rev" => Some(Form::Number),
+        "--most" => Some(Form::Most),
+        "--port" => Some(Form::Port),
+        "--requests" => Some(Form::Requests),
+        _ => None,
+    }
+}
+
+/// The name and the form of a value without an option, after `before` others. A query may be any text.
+fn place_of(command: &str, before: usize) -> (&'static str, Option<Form>) {
+    match (command, before) {
+        ("import" | "event" | "export" | "sentences", 0) => ("<name>", Some(Form::Batch)),
+        ("event", 1) => ("<event>", Some(Form::Event)),
+        ("correct" | "pull" | "restore" | "show" | "revisions" | "tree", 0) => {
+            ("<no>", Some(Form::Number))
+        }
+        ("correct", 1) => ("<base>", Some(Form::Base)),
+        ("count", 0) => ("<attribute>", Some(Form::Attribute)),
+        _ => ("<query>", None),
+    }
+}
+
+impl<'a> Values<'a> {
+    fn new(command: &'a str, words: &'a [String]) -> Values<'a> {
+        Values {
+            command,
+            words,
+            before: 0,
+            has_options: true,
+        }
+    }
+
+    /// The next word.
+    fn word(&mut self) -> Option<&'a str> {
+        let (first, rest) = self.words.split_first()?;
+        self.words = rest;
+        Some(first.as_str())
+    }
+
+    /// A value without an option.
+    fn without_option(&mut self, value: &'a str) -> Given<'a> {
+        let (name, form) = place_of(self.command, self.before);
+        self.before = self.before.saturating_add(1);
+        Given { name, form, value }
+    }
+
+    /// The value of an option, in the same word or in the next one.
+    fn of_option(&mut self, word: &'a str) -> Given<'a> {
+        let (name, value) = match word.split_once('=') {
+            Some(both) => both,
+            None => (word, self.word().unwrap_or("")),
+        };
+        Given {
+            name,
+            form: form_of_option(name),
+            value,
+        }
+    }
+
+    fn next(&mut self) -> Option<Given<'a>> {
+        let word = self.word()?;
+        if !self.has_options || !word.starts_with("--") {
+            return Some(self.without_option(word));
+        }
+        if word == "--" {
+            self.has_options = false;
+            let word = self.word()?;
+            return Some(self.without_option(word));
+        }
+        Some(self.of_option(word))
+    }
+}
+
+/// The first value that does not have its form.
+fn first_wrong<'a>(command: &'a str, words: &'a [String]) -> Option<(Given<'a>, Form)>
+    ensures { IfSome result (λ wrong. ¬ HasForm wrong.1 wrong.0.value.now) }
+{
+    let mut values = Values::new(command, words);
+    for _ in 0..words.len() {
+        let given = values.next()?;
+        match given.form {
+            Some(form) if !form.takes(given.value) => return Some((given, form)),
+            _ => {}
+        }
+    }
+    None
+}
+
+/// The value in the words that does not have its form, if one does not.
+pub fn wrong_value(rt: &HostRuntime, words: &[String]) -> Option<Diagnostic> {
+    let [_, command, rest @ ..] = words else {
+        return None;
+    };
+    match first_wrong(command.as_str(), rest) {
+        Some((given, form)) => Some(Diagnostic {
+            place: format!(in rt.alloc(); "{} {}", given.name, given.value).ok(),
+            cause: Cause::Value(form),
+        }),
+        None => None,
+    }
+}
+
+/// What is wrong with words that clap accepts: a value does not have its form, or there is no command.
+pub fn wrong_word(rt: &HostRuntime, program: &'static str, words: &[String]) -> Diagnostic {
+    match wrong_value(rt, words) {
+        Some(wrong) => wrong,
+        None => Diagnostic::from(Cause::NoCommand(program)),
+    }
+}
