@@ -1,6 +1,6 @@
 //! Whether a log holds commits of another desk, by its bytes. Then `new` does not write over it.
 
-ghost use Rattle.std.specs.Prelude.{◌≡◌, ◌⊎◌, [], false, IfErr, IfOk, IsTrue};
+ghost use Rattle.std.specs.Prelude.{◌≡◌, ◌⊎◌, ◌↔◌, [], false, IfErr, IfOk, IsTrue};
 ghost use Rattle.sqlite_disk.specs.Memory.{memory_bytes, memory_is_usable};
 ghost use Rattle.sqlite_wal.specs.PageSize.{bytes_of};
 ghost use Rattle.tb_host.specs.Contents.{AreBegun, HasBegunAlone, MayBeOwnLog};
@@ -26,7 +26,7 @@ fn log_of(alloc: Global, bytes: &[u8]) -> Result<Memory, FileCause>
 
 /// Whether a log has pages other than the first one that `new` writes.
 fn are_others(log: &[u8], pages: &[u32]) -> bool
-    ensures { result ≡ false → (pages.now ≡ []) ⊎ AreBegun log.now pages.now }
+    ensures { (result ≡ false) ↔ (pages.now ≡ []) ⊎ AreBegun log.now pages.now }
 {
     match pages {
         [] => false,

@@ -91,7 +91,8 @@ impl<'a> Patient<'a> {
         each: u64,
         whole: u64,
     ) -> io::Result<Patient<'a>>
-        ensures { IfOk result (λ p. (as_nanos p.each ≡ seconds each) × (as_nanos p.whole ≡ seconds whole)) }
+        ensures times { IfOk result (λ p. (as_nanos p.each ≡ seconds each) × (as_nanos p.whole ≡ seconds whole)) }
+        ensures source { IfOk result (λ p. (p.stream ≡ stream.entry) × (p.place ≡ place.entry)) }
     {
         Ok(Patient {
             rt,

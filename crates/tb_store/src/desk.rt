@@ -89,6 +89,7 @@ impl<S: Alter> Desk<S> {
         ensures made { IfOk result (λ d. HasCleanDisk (state S.Store d.conn) → IsBlank S.Store conn
             → Represents S.Store d empty_machine) }
         ensures limits { IfOk result (λ d. d.limits ≡ limits) }
+        ensures certain { IfOk result (λ d. d.in_doubt ≡ false) }
         ensures no_step_limit { IfOk result (λ d. (state S.Store d.conn).step_limit ≡ None) }
         ensures limit_off { IfErr result (λ u. (state S.Store u.conn).step_limit ≡ None) }
         ensures blank { IfOk result (λ _. (state S.Store conn).now.schema ≡ no_schema) }
@@ -183,6 +184,7 @@ impl<S: Alter> Desk<S> {
         ensures adopted { IfOk result (λ d. HasCleanDisk (state S.Store d.conn) → (s : Machine)
             × IsDeskOf S.Store conn s × Represents S.Store d s) }
         ensures limits { IfOk result (λ d. d.limits ≡ limits) }
+        ensures certain { IfOk result (λ d. d.in_doubt ≡ false) }
         ensures represents { IfOk result (RepresentsEach S.Store conn) }
         ensures unchanged { IfOk result (λ d. HasCleanDisk (state S.Store d.conn)
             → IsUnchanged (state S.Store (unlimited conn)) (state S.Store d.conn)) }

@@ -1,6 +1,6 @@
 //! A desk in memory.
 
-ghost use Rattle.std.specs.Prelude.{◌≡◌, ◌⊎◌, None, IfOk, IfErr};
+ghost use Rattle.std.specs.Prelude.{◌≡◌, ◌⊎◌, false, None, IfOk, IfErr};
 ghost use Rattle.tb_store.specs.Prelude.{empty_machine, IsWithin, over_memory, state};
 ghost use Rattle.tb_store.specs.Represents.{Represents};
 
@@ -17,6 +17,7 @@ impl Desk<MemStore> {
         ensures known { IfErr result (λ e. (e ≡ Fault.Memory) ⊎ (e ≡ Fault.Device)) }
         ensures no_step_limit { IfOk result (λ d. (state over_memory d.conn).step_limit ≡ None) }
         ensures limits { IfOk result (λ d. d.limits ≡ limits) }
+        ensures certain { IfOk result (λ d. d.in_doubt ≡ false) }
     {
         let conn = Connection::open_in_memory(alloc)?;
         match Desk::make(alloc, conn, limits) {

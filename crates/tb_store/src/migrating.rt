@@ -1,6 +1,6 @@
 //! A desk of version 1 that is taken into use.
 
-ghost use Rattle.std.specs.Prelude.{◌≡◌, ◌≢◌, None, IsTrue, IfOk, IfErr};
+ghost use Rattle.std.specs.Prelude.{◌≡◌, ◌≢◌, false, None, IsTrue, IfOk, IfErr};
 ghost use Rattle.tb_store.specs.Prelude.{AnyRefusal, AreStored, HasCleanDisk, IsFirstDesk, IsWithin, Machine, state};
 ghost use Rattle.tb_store.specs.Prelude.{Survives, tables_of, version_one_schema};
 ghost use Rattle.tb_store.specs.Represents.{Represents, unlimited};
@@ -27,6 +27,7 @@ impl<S: Alter> Desk<S> {
         ensures migrated { IfOk result (λ d. HasCleanDisk (state S.Store d.conn) → (s : Machine)
             × IsFirstDesk S.Store conn s × Represents S.Store d s) }
         ensures limits { IfOk result (λ d. d.limits ≡ limits) }
+        ensures certain { IfOk result (λ d. d.in_doubt ≡ false) }
         ensures no_step_limit { IfOk result (λ d. (state S.Store d.conn).step_limit ≡ None) }
         ensures limit_off { IfErr result (λ u. (state S.Store u.conn).step_limit ≡ None) }
         ensures unfit { IfErr result (λ u. HasCleanDisk (state S.Store u.conn) → u.fault ≡ Fault.NotADesk
@@ -34,6 +35,9 @@ impl<S: Alter> Desk<S> {
         ensures untouched { IfErr result (λ u. HasCleanDisk (state S.Store u.conn) → u.fault ≡ Fault.NotADesk
             → (state S.Store u.conn).now ≡ (state S.Store conn).now) }
         ensures unwritten { IfErr result (λ u. u.fault ≡ Fault.NotADesk
+            → Survives (state S.Store (unlimited conn)) (state S.Store u.conn) (λ _. ⊥)) }
+        ensures only_desks { IfErr result (λ u. ((s : Machine) → IsFirstDesk S.Store conn s → ⊥)
+            → HasCleanDisk (state S.Store u.conn)
             → Survives (state S.Store (unlimited conn)) (state S.Store u.conn) (λ _. ⊥)) }
         ensures never_refuses { IfErr result (λ u. (r : AnyRefusal) → u.fault ≢ Fault.Refused r) }
         ensures wants { IfErr result (λ u. WantsOnTables version_one_schema S.Store conn u.fault) }

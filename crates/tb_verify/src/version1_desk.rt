@@ -91,6 +91,9 @@ pub fn migrate<S: Alter>(alloc: Global, conn: &mut Connection<S>) -> Result<Desk
         → (state S.Store conn.new).now ≡ (state S.Store conn.old).now }
     ensures unwritten { result ≡ Err Fault.NotADesk → Survives (state S.Store conn.old) (state S.Store conn.new)
         (λ _. ⊥) }
+    ensures only_desks { ((s : Machine) → IsFirstDesk S.Store conn.old s → ⊥)
+        → HasCleanDisk (state S.Store conn.new)
+        → Survives (state S.Store conn.old) (state S.Store conn.new) (λ _. ⊥) }
     ensures never_refuses { (r : AnyRefusal) → result ≢ Err (Fault.Refused r) }
     ensures wants { result ≡ Err Fault.Memory → LooksFirst S.Store conn.old }
     ensures cause { ((s : Machine) → IsFirstDesk S.Store conn.old s → ⊥)

@@ -6,6 +6,7 @@ use Rattle.tb_host.proofs.files.make.Goals as goal
 pub returns-in-Ok-make : goal.returns-in-Ok-make
 returns-in-Ok-make c = (
   c.in-Ok-make.ensures.limits,
+  c.in-Ok-make.ensures.certain,
   λ clean.
       let before : HasCleanDisk (file_state c.in-Ok.conn) = omega (arith, clean, c.in-Ok-make.ensures.crash.clean) in
       let opened = c.in-Ok.ensures.opened before in

@@ -1,4 +1,4 @@
 use Rattle.tb_host.proofs.files.migrate.Goals as goal
 
 pub returns-in-Ok : goal.returns-in-Ok
-returns-in-Ok c = (c.in-Ok.ensures.limits, λ clean. let it = c.in-Ok.ensures.migrated clean in (it.0, it.2))
+returns-in-Ok c = (c.in-Ok.ensures.limits, c.in-Ok.ensures.certain, λ clean. let it = c.in-Ok.ensures.migrated clean in (it.0, it.2))

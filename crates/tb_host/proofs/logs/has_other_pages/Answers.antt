@@ -8,5 +8,5 @@ pub returns-in-Ok-clause-none : goal.returns-in-Ok-clause-none
 returns-in-Ok-clause-none c = λ none. record {
   pages = c.in-Ok.pages.items;
   are = subst (λ bytes. AreFramesOf (bytes_of c.args.size) bytes c.in-Ok.pages.items) c.requires.holds (c.in-Ok.ensures.ok refl);
-  begun = subst (λ (pages : List ℕ). (pages ≡ []) ⊎ AreBegun c.args.bytes.now pages) c.deref.ensures.value (c.are_others.ensures none);
+  begun = subst (λ (pages : List ℕ). (pages ≡ []) ⊎ AreBegun c.args.bytes.now pages) c.deref.ensures.value (c.are_others.ensures.0 none);
 }

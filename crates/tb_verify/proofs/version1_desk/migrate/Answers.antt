@@ -74,3 +74,18 @@ returns-in_err-convert-clause-unwritten g c bad =
     let reported = err_from_is_err_and c.from_residual-in_err-convert.result c.from_residual-in_err-convert.ensures.1 in
     let failed : c.convert.result ≡ Err NotADesk = let was = c.in_err-convert.was in let one = reported.1 in let two = reported.2 in cc in
     absurd (c.convert.ensures.no_form failed)
+
+pub returns-clause-only_desks : goal.returns-clause-only_desks
+returns-clause-only_desks g c none clean =
+    let reported = returns-clause-migrated g c clean in
+    absurd (none reported.0 reported.1)
+
+pub returns-in_err-convert-clause-only_desks : goal.returns-in_err-convert-clause-only_desks
+returns-in_err-convert-clause-only_desks g c none clean =
+    let late = c.convert.ensures.crash.clean in
+    let was : HasCleanDisk (state g.S.Store c.read_first_desk.new.conn) = omega (arith, clean, late) in
+    let reported = c.in_ok-summary.ensures.answered was in
+    absurd (none reported.0 reported.1)
+
+pub returns-in_err-summary-clause-only_desks : goal.returns-in_err-summary-clause-only_desks
+returns-in_err-summary-clause-only_desks g c none clean = c.read_first_desk.ensures.survives

@@ -61,3 +61,9 @@ pub returns-in-Err-clause-wants : goal.returns-in-Err-clause-wants
 returns-in-Err-clause-wants g c is =
     let looks = subst (LooksFirst g.S.Store) c.without_limit-conn.ensures (c.in-Err.ensures.wants (ap (λ f. Err f) is)) in
     (looks.autocommit, looks.schema)
+
+pub returns-in-Err-clause-only_desks : goal.returns-in-Err-clause-only_desks
+returns-in-Err-clause-only_desks g c none clean =
+    let is = c.without_limit-conn.ensures in
+    subst (λ h. Survives (state g.S.Store h) (state g.S.Store c.migrate.new.conn) (λ _. ⊥)) is
+    (c.in-Err.ensures.only_desks (λ s desk. none s (first_before g.S.Store c.args.conn c.without_limit-conn.result is s desk)) clean)
