@@ -19,12 +19,7 @@ module _ {Reason : Type 0} (is_refusal : Reason → Type 0) (status : ℕ) (is_t
 
   at_untold : (held holds : Option (List ℕ)) (number count : ℕ) → IsServedAt held holds is_refusal status is_told number count
       → IsServedAt held holds is_refusal status untold number count
-  at_untold held holds number count (inl unheard) = inl record {
-    line = unheard.line;
-    part = unheard.part;
-    written = unheard.written;
-    told = tt;
-  }
+  at_untold held holds number count (inl unheard) = inl record { part = unheard.part; ends = unheard.ends; told = tt }
   at_untold held holds number count (inr heard) = inr record {
     line = heard.line;
     written = heard.written;
@@ -86,6 +81,7 @@ module _ {R Why Reason : Type 0} (is_failure : R → Why → Type 0) (unread : R
   words_untold words (inr none) = inr record {
     fault = none.fault;
     only = none.only;
+    answers = none.answers;
     untouched = none.untouched;
     written = fault_untold none.fault none.written;
   }

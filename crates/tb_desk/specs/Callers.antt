@@ -1,6 +1,9 @@
 -- Inner: no contract beyond this crate cites a definition of this module.
 -- What a connection has sent so far, and how that goes on.
-use Rattle.std.specs.Prelude.{◌≡◌, ◌≤◌, List, ℕ, take, vec_len}
+use Rattle.std.specs.Prelude.{◌≡◌, ◌≢◌, ◌≤◌, List, ℕ, take, vec_len}
+use Rattle.tb_desk.specs.Arriving.{IsAwaited, awaited_at}
+use Rattle.tb_desk.specs.declared.arriving.Awaited.{Awaited}
+use Rattle.tb_desk.specs.declared.arriving.Awaited.TheVariants.{Head}
 use Rattle.tb_desk.specs.declared.callers.Caller.{Caller}
 
 -- the bytes that a connection has sent
@@ -15,3 +18,12 @@ IsWithin caller = caller.filled ≤ vec_len caller.room
 abbrev pub GoesOn : (old new : Caller) → Type 0
 GoesOn old new = (new.stream ≡ old.stream)
     × (IsWithin old → IsWithin new × (old.filled ≤ new.filled) × (take old.filled new.room.items ≡ said_by old))
+
+-- what is awaited is what the bytes say that it has sent
+abbrev pub AwaitsBySaid : Caller → Type 0
+AwaitsBySaid caller = (now : Awaited) × IsAwaited (said_by caller) now × (caller.awaited ≡ awaited_at now caller.filled)
+
+-- More has come. Where the head was awaited, all bytes say what follows. After it only their number does.
+abbrev pub Hears : (old new : Caller) → Type 0
+Hears old new = (old.awaited ≡ Head → AwaitsBySaid new)
+    × (old.awaited ≢ Head → new.awaited ≡ awaited_at old.awaited new.filled)

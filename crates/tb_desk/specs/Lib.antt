@@ -1,5 +1,6 @@
 pub mod Arriving
 pub mod Callers
+pub mod Checking
 pub mod Drawing
 pub mod Explaining
 pub mod Faults

@@ -1,13 +1,15 @@
 -- How a command line ends: what is written, the exit status, and what was taken of the input. What a server answers
 -- is said request by request.
-use Rattle.std.specs.Prelude.{◌≡◌, ◌≢◌, ◌⊎◌, ℕ, List, codes, true, false, Option, Some, None}
+use Rattle.std.specs.Prelude.{◌≡◌, ◌≢◌, ◌⊎◌, ℕ, List, codes, true, false, Option, Some, None, Err}
 use Rattle.sqlite_trees.specs.declared.memory.MemStore.{MemStore}
 use Rattle.sqlite.specs.Store.{Ghosts}
 use Rattle.sqlite.specs.Files.{over_files}
 use Rattle.sqlite.specs.Steps.{over_memory}
-use Rattle.clap.specs.Words.{takes, subcommand_of}
+use Rattle.clap.specs.Words.{fault_of, takes, subcommand_of}
 use Rattle.tb_check.specs.Check.{file_limit}
+use Rattle.tb_cli.specs.Fault.{AnswersAs}
 use Rattle.tb_cli.specs.Lines.{Said, said_of}
+use Rattle.tb_cli.specs.declared.lines.Line.{Line}
 use Rattle.tb_cli.specs.Tree.{desk_app}
 use Rattle.tb_store.specs.Kept.{Kept}
 use Rattle.tb_answer.specs.Output.{IsWritten}
@@ -95,3 +97,4 @@ module _ {R Why Reason : Type 0} (is_failure : R → Why → Type 0) (unread : R
   abbrev pub AreWordsRun : (words : List (List ℕ)) → Type 0
   AreWordsRun words = IsSaidRun words ⊎ AreNoLine before after held holds is_refusal status is_told
       (takes desk_app words ≢ true) (said_of (subcommand_of desk_app words) ≡ None)
+      (λ fault. AnswersAs {T = Line} (fault_of desk_app words) (Err fault))

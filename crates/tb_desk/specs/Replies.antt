@@ -51,9 +51,10 @@ module _ {Reason : Type 0} (held holds : Option (List ℕ)) (is_refusal : Reason
 module _ {R Reason : Type 0} (before after : R) (held holds : Option (List ℕ)) (is_refusal : Reason → Type 0)
     (status : ℕ) (is_told : Option Cause → Type 0) where
   -- Words are no line: nothing is read, and why is written. It is clap's fault only where clap does not take the words,
-  -- and the desk's own only where they say nothing.
-  pub record AreNoLine (not_taken says_nothing : Type 0) : Type 0 where
+  -- of a kind that clap has for them, and the desk's own only where they say nothing.
+  pub record AreNoLine (not_taken says_nothing : Type 0) (is_answer : LineFault → Type 0) : Type 0 where
     pub fault : LineFault
     pub only : ComesOnly fault not_taken says_nothing
+    pub answers : is_answer fault
     pub untouched : after ≡ before
     pub written : IsFaultWritten held holds is_refusal status is_told fault

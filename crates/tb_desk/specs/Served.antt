@@ -55,11 +55,10 @@ module _ {Reason : Type 0} (held holds : Option (List ℕ)) (is_refusal : Reason
     pub written : IsReplyWritten held holds is_refusal status reply.Device
     pub told : is_told (Some (cause.Port why))
 
-  -- the line with the port was not taken, or not handed on, and the line for a failed device is written after it
+  -- The line with the port was not taken, or not handed on. Nothing more is written.
   pub record IsUnheard (number : ℕ) : Type 0 where
-    pub line : Option (List ℕ)
-    pub part : AppendsPart held line (listening number)
-    pub written : IsReplyWritten line holds is_refusal status reply.Device
+    pub part : AppendsPart held holds (listening number)
+    pub ends : status ≡ 3
     pub told : is_told None
 
   -- All connections were served, and nothing more is written. Or the server ended before the last of them, and the line

@@ -1,9 +1,11 @@
 -- What `deskview` shows of a desk, and its exit status.
-use Rattle.std.specs.Prelude.{◌≡◌, ◌≢◌, ◌⊎◌, ℕ, List, true, Option, Some, None, bytes_eq, codes, if◌then◌else◌}
-use Rattle.clap.specs.Words.{takes, subcommand_of}
+use Rattle.std.specs.Prelude.{◌≡◌, ◌≢◌, ◌⊎◌, ℕ, List, true, Option, Some, None, Err, bytes_eq, codes, if◌then◌else◌}
+use Rattle.clap.specs.Words.{fault_of, takes, subcommand_of}
 use Rattle.sqlite.specs.Files.{over_files}
 use Rattle.sqlite.specs.Store.{Ghosts}
 use Rattle.tb_http.specs.declared.replies.Reply.{Reply}
+use Rattle.tb_cli.specs.Fault.{AnswersAs}
+use Rattle.tb_cli.specs.declared.lines.ViewLine.{ViewLine}
 use Rattle.tb_cli.specs.View.{Listed, Viewed, check, find, lists, page, trees, view_app, viewed_of}
 use Rattle.tb_store.specs.Calls.{InState}
 use Rattle.tb_store.specs.Kept.{Kept}
@@ -74,3 +76,4 @@ module _ {R Why Reason : Type 0} (is_failure : R → Why → Type 0) (unread : R
   abbrev pub AreWordsShown : (words : List (List ℕ)) → Type 0
   AreWordsShown words = IsAskedShown words ⊎ AreNoLine before after held holds is_refusal status is_told
       (takes view_app words ≢ true) (viewed_of (subcommand_of view_app words) ≡ None)
+      (λ fault. AnswersAs {T = ViewLine} (fault_of view_app words) (Err fault))

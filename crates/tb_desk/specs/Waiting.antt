@@ -4,7 +4,8 @@ use Rattle.std.specs.Prelude.{◌≡◌, ◌≢◌, ◌⊎◌, ◌-◌, ◌<◌,
 use Rattle.std.specs.List.{AllWithin, HoldsAt, remove}
 use Rattle.std.specs.Time.{instant_nanos}
 use Rattle.std.specs.declared.time.Instant.{Instant}
-use Rattle.tb_desk.specs.declared.arriving.Awaited.TheVariants.{Head}
+use Rattle.std.specs.Duration.{as_nanos}
+use Rattle.tb_desk.specs.declared.arriving.Awaited.TheVariants.{Head, Nothing}
 use Rattle.tb_desk.specs.declared.callers.Caller.{Caller}
 
 -- The connection at this place goes first: the oldest of those that have sent no head, or the oldest where all have.
@@ -22,3 +23,11 @@ LetsOneGo old new = (at : ℕ) × IsFirstToGo old at × (new ≡ remove old at)
 abbrev pub time_since : (looked : Option Instant) → (now : Instant) → ℕ
 time_since None now = 0
 time_since (Some looked) now = instant_nanos now - instant_nanos looked
+
+-- its request is not whole, and the time for what is awaited is over
+abbrev pub IsLate : Caller → Type 0
+IsLate c = (c.awaited ≢ Nothing) × (as_nanos c.left ≡ 0)
+
+-- its request is not whole, and there is time
+abbrev pub Waits : Caller → Type 0
+Waits c = (c.awaited ≢ Nothing) × (as_nanos c.left ≢ 0)

@@ -1,13 +1,13 @@
 //! Connections, and what each of them has sent of its request so far.
 
 ghost use Rattle.std.specs.Prelude.{◌≡◌, ◌≢◌, ◌↔◌, ◌⊎◌, ◌≤◌, ◌<◌, ◌+◌, ◌-◌, ◌++◌, ◌^◌, [], None, if◌then◌else◌};
-ghost use Rattle.std.specs.Prelude.{IsTrue, true, false, max, take, length, vec_len, IfOk, IfErr, MatchResult, Ok};
+ghost use Rattle.std.specs.Prelude.{IsTrue, true, false, max, min, take, length, vec_len, IfOk, IfErr, MatchResult, Ok};
 ghost use Rattle.std.specs.Duration.{as_nanos};
 ghost use Rattle.std.specs.Io.{ReadsAtMost};
 ghost use Rattle.std.specs.Io.KnownBytes.{ReadConsumes};
 ghost use Rattle.std.specs.IoError.{error_kind};
-ghost use Rattle.tb_desk.specs.Arriving.{awaited_at};
-ghost use Rattle.tb_desk.specs.Callers.{GoesOn, said_by};
+ghost use Rattle.tb_desk.specs.Arriving.{IsAwaited, next_size};
+ghost use Rattle.tb_desk.specs.Callers.{GoesOn, Hears, said_by};
 ghost use Rattle.tb_host.specs.Patience.{seconds, wait_left};
 ghost use Rattle.tb_desk.specs.Serving.{is_no_byte};
 ghost use Rattle.tb_desk.specs.declared.arriving.Awaited.TheVariants.{Head, Nothing};
@@ -143,6 +143,11 @@ impl Caller {
         ensures filled { self.new.filled ≡ self.old.filled }
         ensures said { GoesOn self.old self.new }
         ensures held { self.new.is_held ≡ true → self.new.awaited ≡ self.old.awaited }
+        ensures free { IsTrue result → (self.new.is_held ≡ false) × (self.new.awaited ≡ self.old.awaited) }
+        ensures full { self.new.is_held ≡ true
+            → most < max (next_size (vec_len self.old.room) self.old.awaited) self.old.filled }
+        ensures why { self.old.filled < next_size (vec_len self.old.room) self.old.awaited
+            → IsTrue result ⊎ (self.new.is_held ≡ true) ⊎ (self.new.awaited ≡ Nothing) }
     {
         self.is_held = false;
         if self.filled < self.room.len() {
@@ -159,9 +164,31 @@ impl Caller {
         self.filled < self.room.len()
     }
 
-    /// Notes that so many bytes have come. The time for a body begins when its head has come.
+    /// What is awaited by what it has sent. Once the head is there, that is known.
+    fn awaits_now(&self, alloc: Global, routes: &Routes) -> Awaited
+        ensures head { self.now.awaited ≡ Head → IsAwaited (said_by self.now) result }
+        ensures rest { self.now.awaited ≢ Head → result ≡ self.now.awaited }
+    {
+        match self.awaited {
+            Awaited::Head => awaited_after(alloc, routes, self.said()),
+            _ => self.awaited,
+        }
+    }
+
+    /// How long the desk still waits for what is awaited now. The time for a body begins when its head has come.
+    fn time_for(&self, now: Awaited) -> Duration
+        ensures begins { self.now.awaited ≡ Head → now ≢ Head → as_nanos result ≡ seconds 10 }
+        ensures goes_on { (self.now.awaited ≢ Head) ⊎ (now ≡ Head) → result ≡ self.now.left }
+    {
+        if self.awaited == Awaited::Head && now != Awaited::Head {
+            return Duration::from_secs(REQUEST);
+        }
+        self.left
+    }
+
+    /// Notes that so many bytes have come.
     fn add(&mut self, alloc: Global, routes: &Routes, count: usize)
-        ensures body { self.old.awaited ≢ Head → self.new.awaited ≡ awaited_at self.old.awaited self.new.filled }
+        ensures heard { Hears self.old self.new }
         ensures time { self.old.awaited ≡ Head → self.new.awaited ≢ Head
             → as_nanos self.new.left ≡ seconds 10 }
         ensures rest { (self.old.awaited ≢ Head) ⊎ (self.new.awaited ≡ Head) → self.new.left ≡ self.old.left }
@@ -170,13 +197,9 @@ impl Caller {
         ensures same { (self.new.stream ≡ self.old.stream) × (self.new.has_ended ≡ self.old.has_ended) }
     {
         self.filled = self.filled.saturating_add(count);
-        if self.awaited == Awaited::Head {
-            self.awaited = awaited_after(alloc, routes, self.said());
-            if self.awaited != Awaited::Head {
-                self.left = Duration::from_secs(REQUEST);
-            }
-        }
-        self.awaited = self.awaited.at(self.filled);
+        let now = self.awaits_now(alloc, routes);
+        self.left = self.time_for(now);
+        self.awaited = now.at(self.filled);
     }
 
     /// Notes the result of one read.
@@ -184,6 +207,7 @@ impl Caller {
         ensures ended { came ≡ Ok 0 → (self.new.has_ended ≡ true) × (self.new.awaited ≡ Nothing) }
         ensures fault { IfErr came (λ e. self.new.awaited
             ≡ (if is_no_byte (error_kind e) then self.old.awaited else Nothing)) }
+        ensures heard { IfOk came (λ count. count ≢ 0 → Hears self.old self.new) }
         ensures goes_on { came ≢ Ok 0 → self.new.has_ended ≡ self.old.has_ended }
         ensures filled { MatchResult came
             (λ count. self.old.filled + count < 2 ^ 64 → self.new.filled ≡ self.old.filled + count)
@@ -211,6 +235,7 @@ impl Caller {
         ensures most { vec_len self.new.room ≤ max (vec_len self.old.room) most }
         ensures said { GoesOn self.old self.new }
         ensures whole { self.old.awaited ≡ Nothing → self.new ≡ self.old }
+        ensures heard { self.new.filled ≢ self.old.filled → Hears self.old self.new }
     {
         if self.is_ready() || !self.make_room(most) {
             return false;
@@ -249,6 +274,8 @@ impl Caller {
         ensures ended { IfOk result (λ r. r.has_ended ≡ self.now.has_ended) }
         ensures time { IfOk result (λ r. (as_nanos r.later.each ≡ seconds 10)
             × (as_nanos r.later.whole ≡ seconds 10)) }
+        ensures later { IfOk result (λ r. (r.later.stream.now ≡ self.now.stream)
+            × (r.later.place ≡ place.entry)) }
     {
         Ok(Request {
             said: self.said(),
@@ -272,6 +299,7 @@ impl Read for Request<'_> {
         ensures bytes { ReadConsumes None None result buf.new }
         ensures said { self.old.said.now ≢ [] → IfOk result (λ n.
             self.old.said.now ≡ take n buf.new ++ self.new.said.now) }
+        ensures count { self.old.said.now ≢ [] → result ≡ Ok (min (length self.old.said.now) (length buf.old)) }
         ensures ended { self.old.said.now ≡ [] → self.old.has_ended ≡ true → result ≡ Ok 0 }
         ensures end { self.new.has_ended ≡ self.old.has_ended }
     {

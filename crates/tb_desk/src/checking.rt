@@ -1,7 +1,8 @@
 //! The check of a file, with the words for its answer while the file is at hand.
 
 ghost use Rattle.std.specs.Prelude.{◌≡◌};
-ghost use Rattle.tb_check.specs.Check.{Answers, IsReplyToRead, IsWritten, file_limit, reply_text, status_of};
+ghost use Rattle.tb_check.specs.Check.{Answers, IsWritten, file_limit, reply_text, status_of};
+ghost use Rattle.tb_desk.specs.Checking.{IsReplyToTaken};
 ghost use Rattle.tb_desk.specs.Explaining.{reply_as_the_desk};
 
 use crate::explaining::reported_of_reply;
@@ -21,7 +22,7 @@ struct Checked {
 }
 
 fn check_source<R: Source>(alloc: Global, source: &mut R) -> Checked
-    ensures { IsReplyToRead (R.IsFailure source.new) file_limit (R.left source.old) (R.left source.new) result.reply }
+    ensures { IsReplyToTaken (R.IsFailure source.new) file_limit (R.left source.old) (R.left source.new) result.reply }
 {
     let input = read_all(alloc, source, FILE_LIMIT);
     let reply = check_input(alloc, &input, FILE_LIMIT);
@@ -72,7 +73,7 @@ pub(crate) fn check_reported<R: Source, S: Sink>(
     source: &mut R,
     out: &mut S,
 ) -> Outcome
-    ensures { Answers (IsReplyToRead (R.IsFailure source.new) file_limit (R.left source.old) (R.left source.new))
+    ensures { Answers (IsReplyToTaken (R.IsFailure source.new) file_limit (R.left source.old) (R.left source.new))
         (S.held out.old) (S.held out.new) (S.IsRefusal out.new) result.status }
 {
     let Checked { reply, input } = check_source(rt.alloc(), source);

@@ -1,6 +1,6 @@
 //! Connections whose client has its answer. Their end keeps nobody from the desk.
 
-ghost use Rattle.std.specs.Prelude.{◌≡◌, ◌≤◌, ◌-◌, ◌*◌, IfOk, IfSome, IsTrue, MatchResult};
+ghost use Rattle.std.specs.Prelude.{◌≡◌, ◌↔◌, ◌⊎◌, ◌≤◌, ◌-◌, ◌*◌, IfOk, IfSome, IsTrue, MatchResult, true};
 ghost use Rattle.std.specs.Duration.{as_nanos};
 ghost use Rattle.tb_host.specs.Patience.{seconds, wait_left};
 ghost use Rattle.tb_desk.specs.Serving.{end_after};
@@ -31,6 +31,13 @@ pub(crate) struct Leaver {
     left: Duration,
     /// How many bytes more are read.
     most: usize,
+}
+
+/// Whether a connection is to be closed: its client sends nothing more, or no time is left for it.
+fn is_over(has_ended: bool, left: Duration) -> bool
+    ensures { IsTrue result ↔ (has_ended ≡ true) ⊎ (as_nanos left ≡ 0) }
+{
+    has_ended || left.is_zero()
 }
 
 impl Leaver {
@@ -92,6 +99,6 @@ impl Leaver {
         ensures late { as_nanos self.new.left ≡ 0 → IsTrue result }
     {
         self.left = left_after(self.left, passed);
-        self.has_ended() || self.left.is_zero()
+        is_over(self.has_ended(), self.left)
     }
 }

@@ -4,7 +4,7 @@
 //! `answer` does what the bytes of one request over HTTP ask, and `answer_all` what a list of requests asks. A `Line`
 //! is read from the words of a command line, and `run_line` does it on a desk. `run_check` checks a file. `run_words`
 //! is the whole program: it does what the words ask on a file or in memory, or serves the desk over HTTP. `run_view` does
-//! what the words of `deskview` ask. `run_program` gives such a program its words and its standard streams. Files,
+//! what the words of `deskview` ask. `run_called` gives the one that is called its words and its standard streams. Files,
 //! streams and the causes of refusals are in tb_host.
 //!
 //! `requests_lead_on`, `requests_in_memory_lead_on` and `the_check_counts_what_is_taken` are laws: proved facts that
@@ -12,6 +12,7 @@
 #![tactic(auto)]
 
 mod arriving;
+mod called;
 mod callers;
 mod checking;
 mod drawing;
@@ -29,7 +30,8 @@ mod viewing;
 mod waiting;
 mod words;
 
-pub use programs::{Program, given_words, run_program};
+pub use called::run_called;
+pub use programs::{Program, given_words};
 pub use tb_answer::{
     Broken, answer, answer_all, requests_in_memory_lead_on, requests_lead_on, run_line,
     the_check_counts_what_is_taken, view,

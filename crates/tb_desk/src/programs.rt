@@ -3,7 +3,8 @@
 
 ghost use Rattle.std.specs.Prelude.{◌≡◌, ◌⊎◌, ◌↔◌, IfOk, IsTrue, map, MatchResult, None, Option, string_bytes};
 ghost use Rattle.std.specs.IoError.{error_kind};
-ghost use Rattle.tb_desk.specs.Programs.{IsEnd, IsExitWith, IsExitWithout};
+ghost use Rattle.std.specs.Process.{exit_status};
+ghost use Rattle.tb_desk.specs.Programs.{IsEnd, IsEndOf, IsExitWith, IsExitWithout};
 ghost use Rattle.tb_host.specs.declared.diagnostics.Diagnostic.{Diagnostic as Reported};
 ghost use Rattle.tb_desk.specs.Reported.{IsUnbegun, also_reported};
 ghost use Rattle.tb_host.specs.Reported.{IsOfAnswer};
@@ -11,6 +12,7 @@ ghost use Rattle.tb_host.specs.Reported.{IsOfAnswer};
 use std::alloc::AllocError;
 use std::env;
 use std::io::{self, BufWriter, ErrorKind, Write};
+use std::process::ExitCode;
 use tb_check::put_reply;
 use tb_conllu::Source;
 use tb_host::{Cause, Diagnostic, Heard, Held, Outcome, StreamCause, Typed, wants_words};
@@ -145,7 +147,9 @@ fn answer_words<P: Program, W: Write>(
     input: &mut Typed<'_>,
     out: &mut W,
 ) -> Outcome
-    ensures { IsEnd P.AnswersTo (map string_bytes words.now) result.status result.reported }
+    ensures ended { IsEndOf P.AnswersTo (map string_bytes words.now) input.old input.new (W.contents out.old)
+        (W.contents out.new) result.status result.reported }
+    ensures somewhere { IsEnd P.AnswersTo (map string_bytes words.now) result.status result.reported }
 {
     let Outcome { status, reported } = program.run(rt, words, input, out);
     Outcome {
@@ -239,8 +243,8 @@ fn run_with<P: Program>(rt: &HostRuntime, program: &P, held: &Held, words: &[Str
     }
 }
 
-/// Runs a program on its words and its standard streams, and returns its exit status.
-pub fn run_program<P: Program>(rt: &HostRuntime, program: &P, words: io::Result<Vec<String>>) -> u8
+/// Runs a program on its words and its standard streams, and returns its exit status as a number.
+fn status_of<P: Program>(rt: &HostRuntime, program: &P, words: io::Result<Vec<String>>) -> u8
     ensures { MatchResult words (λ given. IsExitWith P.AnswersTo (map string_bytes given.items) result)
         (λ e. IsExitWithout (error_kind e) result) }
 {
@@ -249,4 +253,17 @@ pub fn run_program<P: Program>(rt: &HostRuntime, program: &P, words: io::Result<
         Ok(given) => run_with(rt, program, &held, given.as_slice()),
         Err(error) => end_unbegun(rt, program.name(), error.kind()),
     }
+}
+
+/// Runs a program on its words and its standard streams, and returns its exit status.
+pub(crate) fn run_program<P: Program>(
+    rt: &HostRuntime,
+    program: &P,
+    words: io::Result<Vec<String>>,
+) -> ExitCode
+    ensures { MatchResult words
+        (λ given. IsExitWith P.AnswersTo (map string_bytes given.items) (exit_status result))
+        (λ e. IsExitWithout (error_kind e) (exit_status result)) }
+{
+    ExitCode::from(status_of(rt, program, words))
 }

@@ -1,7 +1,6 @@
 //! Does a command line: makes a desk in a file, or works on the desk in a file or in memory.
 
 ghost use Rattle.std.specs.Prelude.{◌≡◌, ◌≢◌, ◌⊎◌, IfSome, None};
-ghost use Rattle.sqlite.specs.Files.{over_files};
 ghost use Rattle.tb_conllu.specs.declared.fault.WriteFault.{WriteFault};
 ghost use Rattle.tb_cli.specs.Lines.{said_by};
 ghost use Rattle.tb_answer.specs.Output.{IsWritten};
@@ -69,24 +68,24 @@ fn run_migration<W: Sink>(rt: &HostRuntime, path: &str, out: &mut W) -> Outcome
     }
 }
 
-/// Does a line on the desk of a file, with its body.
-fn run_on_desk<W: Write>(
+/// Does a line on the desk of the file at this path, with its body.
+fn run_on_desk<S: Alter, W: Write>(
     rt: &HostRuntime,
     path: &str,
     line: &Line,
     body: &Result<Vec<u8>, Reply>,
-    opened: &mut FileDesk,
+    desk: &mut Desk<S>,
     out: &mut W,
 ) -> Outcome
     ensures { WithService (said_by line.now) (IsServedInFile (W.contents out.old) (W.contents out.new)
         (λ (_ : WriteFault). Unit {0}) result.status (IsTold result.reported))
         ⊎ ((service_of (said_by line.now) ≡ None)
-        × IsRunOn over_files (W.contents out.old) (W.contents out.new) (λ (_ : WriteFault). Unit {0}) result.status
-        opened.old.desk opened.new.desk (said_by line.now) (taken_of (λ v. v.items) body.now)) }
+        × IsRunOn S.Store (W.contents out.old) (W.contents out.new) (λ (_ : WriteFault). Unit {0}) result.status
+        desk.old desk.new (said_by line.now) (taken_of (λ v. v.items) body.now)) }
 {
     match service_of(line) {
-        Some(service) => serve_in_file(rt, path, opened, Beside::Nothing, service, out),
-        None => run_reported(rt, line, body, &mut opened.desk, out),
+        Some(service) => serve_in_file(rt, path, desk, Beside::Nothing, service, out),
+        None => run_reported(rt, line, body, desk, out),
     }
 }
 
@@ -111,7 +110,7 @@ fn run_on_file<R: Source, W: Write>(
     let body = read_body(rt.alloc(), line, reader);
     match files::open(rt, TREEDESK, path, room_of(line)) {
         Ok(mut opened) => {
-            let outcome = run_on_desk(rt, path, line, &body, &mut opened, out);
+            let outcome = run_on_desk(rt, path, line, &body, &mut opened.desk, out);
             opened.close();
             outcome
         }

@@ -8,6 +8,7 @@ ghost use Rattle.sqlite.specs.Held.{state};
 ghost use Rattle.sqlite.specs.State.{HasCleanDisk};
 ghost use Rattle.tb_conllu.specs.Sunk.{AppendsPart};
 ghost use Rattle.tb_conllu.specs.declared.fault.WriteFault.{WriteFault};
+ghost use Rattle.tb_desk.specs.Callers.{said_by};
 ghost use Rattle.tb_desk.specs.Replies.{IsReplyWritten};
 ghost use Rattle.tb_answer.specs.Served.{Serves};
 ghost use Rattle.tb_host.specs.Reported.{IsReported, IsTold};
@@ -29,8 +30,8 @@ use std::alloc::Global;
 use std::io::{self, BufWriter, ErrorKind, Write};
 use std::net::{Ipv4Addr, TcpListener, TcpStream};
 use tb_answer::{Broken, answer, put_reply, respond_reply};
-use tb_conllu::{Sink, Source};
-use tb_host::files::FileDesk;
+use tb_conllu::{Sink, Source, WriteFault};
+use tb_core::Fault;
 use tb_host::{Answer, Cause, Diagnostic, Outcome, Place, PortCause, has_changed, wants_words};
 use tb_http::{Reply, Routes, Status, push_number};
 use tb_page::answer_with_page;
@@ -67,13 +68,13 @@ fn refuse<'a>(rt: &'a HostRuntime, stream: &'a TcpStream, reply: Reply) {
     let _ = respond_reply(&mut out, reply);
 }
 
-/// Answers the request that a reader gives, with the page beside the desk where there is a port for it. `came` is what
-/// has come of the request.
+/// Answers the request of a connection, which a reader gives from its first byte on, with the page beside the desk where
+/// there is a port for it.
 fn answer_at<S: Alter, R: Source, W: Sink>(
     alloc: Global,
     routes: &Routes,
     page: Option<u16>,
-    came: &[u8],
+    caller: &Caller,
     desk: &mut Desk<S>,
     reader: &mut R,
     out: &mut W,
@@ -83,13 +84,13 @@ fn answer_at<S: Alter, R: Source, W: Sink>(
         (W.IsRefusal out.new) result }
     ensures broken { page ≡ None → result ≡ ErrOf Broken.Read
         → (desk.new ≡ desk.old) × (W.held out.new ≡ W.held out.old) }
-    ensures page { IfSome page (λ port. (v : VisitText) × Visits port came.now v
+    ensures page { IfSome page (λ port. (v : VisitText) × Visits port (said_by caller.now) v
         × AnswersVisit S.Store desk.old desk.new (W.held out.old) (W.held out.new) (W.IsRefusal out.new) result
-        came.now (R.left reader.old) v) }
+        (said_by caller.now) (R.left reader.old) v) }
     ensures limits { desk.new.limits ≡ desk.old.limits }
 {
     match page {
-        Some(port) => answer_with_page(alloc, routes, port, came, desk, reader, out),
+        Some(port) => answer_with_page(alloc, routes, port, caller.said(), desk, reader, out),
         None => answer(alloc, routes, desk, reader, out),
     }
 }
@@ -143,7 +144,7 @@ fn serve_one<'a, S: Alter>(
         rt.alloc(),
         routes,
         page,
-        caller.said(),
+        caller,
         desk,
         &mut reader,
         &mut out,
@@ -160,6 +161,13 @@ fn serve_one<'a, S: Alter>(
     ended_by(answered, has_moved, is_shut)
 }
 
+/// Whether a store is shut, by what was told of it.
+fn is_shut(told: &Result<bool, Fault>) -> bool
+    ensures { IsTrue result ↔ (told.now ≡ OkOf false) }
+{
+    matches!(told, Ok(false))
+}
+
 /// Whether a fault has shut the desk's store. Only a response that says that something failed is a reason to ask.
 fn has_shut<S: Alter>(desk: &mut Desk<S>, status: Status) -> bool
     ensures unasked { status ≢ Status.ServiceUnavailable → (result ≡ false) × (desk.new ≡ desk.old) }
@@ -170,7 +178,7 @@ fn has_shut<S: Alter>(desk: &mut Desk<S>, status: Status) -> bool
     if status != Status::ServiceUnavailable {
         return false;
     }
-    matches!(desk.is_open(), Ok(false))
+    is_shut(&desk.is_open())
 }
 
 /// The line with the port that a server listens on.
@@ -185,18 +193,17 @@ fn listening(port: u16) -> ArrayString<32>
 }
 
 /// Prints the port at once, for programs that wait to connect to it.
-fn announce<W: Write>(port: u16, out: &mut W) -> Result<(), Reply>
+fn announce<W: Write>(port: u16, out: &mut W) -> Result<(), WriteFault>
     ensures told { OnOk result (Appends (W.contents out.old) (W.contents out.new) (listening port)) }
     ensures part { OnErr result (AppendsPart (W.contents out.old) (W.contents out.new) (listening port)) }
-    ensures failed { IfErr result (λ reply. reply ≡ Reply.Device) }
 {
     let line = listening(port);
     let Ok(()) = out.put(line.as_str().as_bytes()) else {
-        return Err(Reply::Device);
+        return Err(WriteFault);
     };
     match out.flush() {
         Ok(()) => Ok(()),
-        Err(_) => Err(Reply::Device),
+        Err(_) => Err(WriteFault),
     }
 }
 
@@ -399,7 +406,7 @@ fn serve_at<S: Alter, W: Write>(
 {
     match announce(port, out) {
         Ok(()) => serve_heard(rt, server, desk, place, beside.page_at(port), requests, out),
-        Err(reply) => Outcome::from(put_reply(out, reply)),
+        Err(_) => Outcome::from(3),
     }
 }
 
@@ -459,10 +466,10 @@ pub(crate) fn serve<S: Alter, W: Write>(
 }
 
 /// Serves the desk in the file at this path, while its files are in their place.
-pub(crate) fn serve_in_file<W: Write>(
+pub(crate) fn serve_in_file<S: Alter, W: Write>(
     rt: &HostRuntime,
     path: &str,
-    opened: &mut FileDesk,
+    desk: &mut Desk<S>,
     beside: Beside,
     service: Service,
     out: &mut W,
@@ -471,7 +478,7 @@ pub(crate) fn serve_in_file<W: Write>(
         (IsTold result.reported) service }
 {
     match Place::new(rt, path) {
-        Ok(place) => serve(rt, &mut opened.desk, Some(&place), beside, service, out),
+        Ok(place) => serve(rt, desk, Some(&place), beside, service, out),
         Err(cause) => put_file_cause(rt, path, cause, out),
     }
 }

@@ -2,7 +2,6 @@
 //! file, lists its faults, or serves the page over a desk.
 
 ghost use Rattle.std.specs.Prelude.{◌≡◌, map, string_bytes};
-ghost use Rattle.sqlite.specs.Files.{over_files};
 ghost use Rattle.tb_cli.specs.View.{listed_by, viewed_by};
 ghost use Rattle.tb_conllu.specs.declared.fault.WriteFault.{WriteFault};
 ghost use Rattle.tb_desk.specs.Replies.{IsFaultWritten};
@@ -18,12 +17,13 @@ use crate::programs::Program;
 use crate::service::page_service;
 use crate::serving::{Beside, serve_in_file};
 use crate::words::{put_clap, put_file_cause, put_usage};
+use sqlite::Alter;
 use std::io::Write;
 use tb_answer::{put_body, put_reply, view};
 use tb_cli::{LineFault, ViewLine, ViewList};
 use tb_conllu::{Sink, Source};
-use tb_host::files::{self, FileDesk};
-use tb_host::{Cause, Diagnostic, Outcome, wrong_value};
+use tb_host::{Cause, Diagnostic, Outcome, files, wrong_value};
+use tb_store::Desk;
 use tb_words::Asked;
 
 /// The name of the program.
@@ -75,11 +75,16 @@ fn put_fault<W: Sink>(rt: &HostRuntime, words: &[String], fault: LineFault, out:
 }
 
 /// Prints a list of a desk.
-fn show<W: Sink>(rt: &HostRuntime, list: &ViewList, opened: &mut FileDesk, out: &mut W) -> Outcome
-    ensures { IsShown over_files (W.held out.old) (W.held out.new) (W.IsRefusal out.new) result.status opened.old.desk
-        opened.new.desk (listed_by list.now) }
+fn show<S: Alter, W: Sink>(
+    rt: &HostRuntime,
+    list: &ViewList,
+    desk: &mut Desk<S>,
+    out: &mut W,
+) -> Outcome
+    ensures { IsShown S.Store (W.held out.old) (W.held out.new) (W.IsRefusal out.new) result.status desk.old desk.new
+        (listed_by list.now) }
 {
-    match view(rt.alloc(), list, &mut opened.desk) {
+    match view(rt.alloc(), list, desk) {
         Ok(text) => Outcome {
             status: put_body(out, text.as_slice()),
             reported: None,
@@ -98,7 +103,7 @@ fn run_list<W: Sink>(rt: &HostRuntime, path: &str, list: &ViewList, out: &mut W)
 {
     match files::open(rt, DESKVIEW, path, files::ROOM) {
         Ok(mut opened) => {
-            let outcome = show(rt, list, &mut opened, out);
+            let outcome = show(rt, list, &mut opened.desk, out);
             opened.close();
             outcome
         }
@@ -107,17 +112,17 @@ fn run_list<W: Sink>(rt: &HostRuntime, path: &str, list: &ViewList, out: &mut W)
 }
 
 /// Serves an opened desk, and the page beside it, until the program is ended.
-fn serve_page<W: Write>(
+fn serve_page<S: Alter, W: Write>(
     rt: &HostRuntime,
     path: &str,
     port: u16,
-    opened: &mut FileDesk,
+    desk: &mut Desk<S>,
     out: &mut W,
 ) -> Outcome
     ensures { IsServedInFile (W.contents out.old) (W.contents out.new) (λ (_ : WriteFault). Unit {0}) result.status
         (IsTold result.reported) (page_service port) }
 {
-    serve_in_file(rt, path, opened, Beside::Page, page_service(port), out)
+    serve_in_file(rt, path, desk, Beside::Page, page_service(port), out)
 }
 
 /// Serves the desk in the file at this path, and the page beside it.
@@ -127,7 +132,7 @@ fn run_page<W: Write>(rt: &HostRuntime, path: &str, port: u16, out: &mut W) -> O
 {
     match files::open(rt, DESKVIEW, path, files::ROOM_TO_SERVE) {
         Ok(mut opened) => {
-            let outcome = serve_page(rt, path, port, &mut opened, out);
+            let outcome = serve_page(rt, path, port, &mut opened.desk, out);
             opened.close();
             outcome
         }

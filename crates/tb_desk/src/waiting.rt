@@ -6,8 +6,8 @@ ghost use Rattle.std.specs.Prelude.{MatchResult, None, Some, Err, Ok, true, fals
 ghost use Rattle.std.specs.Duration.{as_nanos};
 ghost use Rattle.std.specs.IoError.{error_kind, raw_os_error};
 ghost use Rattle.tb_desk.specs.Serving.{IsWantOfRoom, is_no_connection, most_waiting};
-ghost use Rattle.std.specs.List.{HoldsAt};
-ghost use Rattle.tb_desk.specs.Waiting.{IsFirstToGo, LetsOneGo, time_since};
+ghost use Rattle.std.specs.List.{AllWithin, HoldsAt};
+ghost use Rattle.tb_desk.specs.Waiting.{IsFirstToGo, IsLate, LetsOneGo, Waits, time_since};
 ghost use Rattle.tb_desk.specs.declared.arriving.Awaited.TheVariants.{Nothing};
 
 use crate::arriving::most_size;
@@ -257,6 +257,9 @@ impl Waiting {
         ensures bound { IfSome result (λ found. found.0 < vec_len self.new.callers) }
         ensures whole { IfSome result (λ found. found.1 ≡ true
             → HoldsAt (λ caller. caller.awaited ≡ Nothing) self.new.callers.items found.0) }
+        ensures late { IfSome result (λ found. found.1 ≡ false → HoldsAt IsLate self.new.callers.items found.0) }
+        ensures first { IfSome result (λ found. AllWithin Waits self.new.callers.items 0 found.0) }
+        ensures none { result ≡ None → AllWithin Waits self.new.callers.items 0 (vec_len self.new.callers) }
         ensures count { vec_len self.new.callers ≡ vec_len self.old.callers }
         ensures others { (self.new.leavers ≡ self.old.leavers) × (self.new.looked ≡ self.old.looked) }
     {

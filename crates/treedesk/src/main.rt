@@ -1,11 +1,12 @@
-//! The program `treedesk`: `main` hands its words and the standard streams to tb_desk.
+//! The programs `treedesk` and `deskview`, in one file with two names: `main` hands its words and the standard streams to
+//! tb_desk.
 //!
-//! Read `Treedesk` and `run_program` in tb_desk next.
+//! Read `run_called` in tb_desk next, then `Treedesk` and `Deskview`.
 #![tactic(auto)]
 
 use std::process::ExitCode;
-use tb_desk::{Treedesk, given_words, run_program};
+use tb_desk::{given_words, run_called};
 
 fn main(rt: HostRuntime) -> ExitCode {
-    ExitCode::from(run_program(&rt, &Treedesk, given_words(&rt)))
+    run_called(&rt, given_words(&rt))
 }

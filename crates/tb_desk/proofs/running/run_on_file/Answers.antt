@@ -15,7 +15,7 @@ returns-in-Ok-clause-ended g c =
       | inr ran ↦ inr (inr record {
         unserved = ran.0;
         opened = c.in-Ok.opened;
-        ended = c.run_on_desk-outcome.new.opened;
+        ended = record { desk = c.run_on_desk-outcome.new.desk };
         is = c.in-Ok.ensures;
         ran = (taken_of (λ v. v.items) c.read_body-body.result, taken_so (λ v. v.items) c.read_body-body.result taken c.read_body-body.ensures, ran.1);
       })

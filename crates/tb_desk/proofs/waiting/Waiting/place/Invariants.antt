@@ -1,6 +1,8 @@
 use Rattle.std.proofs.Common.{◌≡◌, vec_len}
+use Rattle.std.specs.List.{AllWithin}
+use Rattle.tb_desk.specs.Waiting.{Waits}
 use Rattle.tb_desk.proofs.waiting.Waiting.place.Given as goal
 
 abbrev pub invariant-loop-at : goal.invariant-loop-at
 invariant-loop-at l = (vec_len l.self.callers ≡ vec_len l.fn.self.callers) × (l.self.leavers ≡ l.fn.self.leavers)
-    × (l.self.looked ≡ l.fn.self.looked)
+    × (l.self.looked ≡ l.fn.self.looked) × AllWithin Waits l.self.callers.items 0 l.at
