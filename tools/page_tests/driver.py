@@ -1,15 +1,11 @@
-"""A browser for tools/page-test: Chromium, driven by plain WebDriver over HTTP, with Python's standard library alone."""
+"""A browser for tools/page-test, driven by WebDriver with Python's standard library alone: what all browsers share."""
 
 import base64
-import json
 import pathlib
-import shutil
-import subprocess
 import time
-import urllib.error
-import urllib.request
 
 ELEMENT = "element-6066-11e4-a52e-4f735466cecf"
+SIZE = (1500, 1000)
 KEYS = {"enter": "\ue007", "tab": "\ue004", "escape": "\ue00c", "down": "\ue015", "up": "\ue013", "left": "\ue012", "right": "\ue014",
         "control": "\ue009", "shift": "\ue008", "delete": "\ue017"}
 # An element by its selector and a part of its text, or of its value.
@@ -23,57 +19,28 @@ class Faulty(Exception):
     """The driver refused a command, and says why."""
 
 
-def missing():
-    """What of a browser and its driver is not on this machine."""
-    return [name for name in ("chromium", "chromedriver") if shutil.which(name) is None]
-
-
 class Driver:
-    """A chromedriver. It keeps its browsers, since they would outlive it."""
+    """It keeps its browsers, since they would outlive it."""
 
     def __init__(self):
         self.browsers = []
-        self.process = subprocess.Popen(["chromedriver", "--port=0"], stdout=subprocess.PIPE, stderr=subprocess.DEVNULL, text=True)
-        self.port = next(int(line.rstrip(". \n").rsplit(" ", 1)[1]) for line in self.process.stdout if "successfully on port" in line)
 
-    def browser(self, *args, size="1500,1000"):
-        opened = Browser(self, size, args)
-        self.browsers.append(opened)
-        return opened
+    def browser(self, here="", is_read=False):
+        """A browser with a profile of its own. `here` is another name of this machine. `is_read` has it work for screen readers."""
+        self.browsers.append(self.open(here, is_read))
+        return self.browsers[-1]
 
     def close_browsers(self):
         for browser in self.browsers:
-            browser.call("DELETE", "")
+            browser.close()
         self.browsers = []
 
     def close(self):
         self.close_browsers()
-        self.process.terminate()
-        self.process.wait(10)
 
 
 class Browser:
-    """One browser with a profile of its own."""
-
-    def __init__(self, driver, size, args):
-        self.base = f"http://127.0.0.1:{driver.port}/session"
-        options = {"args": ["--headless=new", "--no-sandbox", "--disable-dev-shm-usage", "--disable-gpu", "--lang=en-US", f"--window-size={size}", *args]}
-        capabilities = {"browserName": "chrome", "goog:chromeOptions": options, "goog:loggingPrefs": {"browser": "ALL"}}
-        self.base += "/" + self.call("POST", "", {"capabilities": {"alwaysMatch": capabilities}})["sessionId"]
-
-    def call(self, method, path, body=None):
-        data = None if body is None else json.dumps(body).encode()
-        request = urllib.request.Request(self.base + path, data, {"Content-Type": "application/json"}, method=method)
-        try:
-            with urllib.request.urlopen(request, timeout=300) as answer:
-                return json.load(answer)["value"]
-        except urllib.error.HTTPError as fault:
-            said = json.load(fault)["value"]
-            raise Faulty(f"{said['error']}: {said['message'].splitlines()[0]}") from None
-
-    def devtools(self, command, **params):
-        """A command of the browser's own protocol, for what WebDriver does not have."""
-        return self.call("POST", "/goog/cdp/execute", {"cmd": command, "params": params})
+    """What a browser does by commands of WebDriver. `call` gives one to it, by the method and the path that it has over HTTP."""
 
     def go(self, url):
         self.call("POST", "/url", {"url": url})
@@ -127,10 +94,16 @@ class Browser:
                 time.sleep(0.1)
 
     def type(self, css, text):
-        """Types a text in place of what is there."""
-        element = self.find(css)
-        self.call("POST", f"/element/{element}/clear", {})
-        self.call("POST", f"/element/{element}/value", {"text": text})
+        """Types a text in place of what is there. That may have been drawn anew just now, so a few times."""
+        for attempt in range(5):
+            try:
+                element = self.find(css)
+                self.call("POST", f"/element/{element}/clear", {})
+                return self.call("POST", f"/element/{element}/value", {"text": text})
+            except Faulty:
+                if attempt == 4:
+                    raise
+                time.sleep(0.1)
 
     def choose_file(self, css, path):
         self.call("POST", f"/element/{self.find(css)}/value", {"text": str(path)})
@@ -165,19 +138,31 @@ class Browser:
         """What a screen reader says of an element."""
         return self.call("GET", f"/element/{element}/computedlabel"), self.call("GET", f"/element/{element}/computedrole")
 
-    def resize(self, width, height):
-        self.devtools("Emulation.setDeviceMetricsOverride", width=width, height=height, deviceScaleFactor=1, mobile=False)
-
-    def is_dark(self, dark):
-        self.devtools("Emulation.setEmulatedMedia", features=[{"name": "prefers-color-scheme", "value": "dark" if dark else "light"}])
-
-    def save_in(self, folder):
-        self.devtools("Browser.setDownloadBehavior", behavior="allow", downloadPath=str(folder))
-
     def shot(self, path):
         pathlib.Path(path).write_bytes(base64.b64decode(self.call("GET", "/screenshot")))
 
+    # What each browser does in its own way.
+
+    def all_names_and_roles(self):
+        """What a screen reader has of the whole page."""
+        raise NotImplementedError
+
+    def resize(self, width, height):
+        """Gives the page a window of this size."""
+        raise NotImplementedError
+
+    def is_dark(self, dark):
+        """Has the page in dark colors, or in light ones."""
+        raise NotImplementedError
+
+    def save_in(self, folder):
+        """Has files saved in this folder, without a question."""
+        raise NotImplementedError
+
     def complaints(self):
-        """What the console has of errors, but for the statuses of answers. A refused policy is one."""
-        entries = self.call("POST", "/se/log", {"type": "browser"})
-        return [it["message"] for it in entries if it["level"] in ("SEVERE", "WARNING") and "the server responded with a status of" not in it["message"]]
+        """What the console has of errors since it was asked last, but for the statuses of answers. A refused policy is one."""
+        raise NotImplementedError
+
+    def close(self):
+        """Ends the browser."""
+        raise NotImplementedError

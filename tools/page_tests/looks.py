@@ -68,6 +68,7 @@ def narrow_and_dark(driver):
         browser.is_dark(is_dark)
         for view in views(desk):
             shows(browser, view)
+            same("the colors that are asked for", is_dark, browser.run("return matchMedia('(prefers-color-scheme: dark)').matches"))
             if not view.endswith("search"):
                 browser.run("document.querySelector('#revisions')?.click()")
             same(f"texts with little contrast, {view}, dark {is_dark}", [], browser.run(PALE))
@@ -83,6 +84,7 @@ def narrow_and_dark(driver):
     browser.resize(400, 800)
     for view in views(desk):
         shows(browser, view)
+        browser.until("return innerWidth === 400")
         holds(f"{view} is no wider than its window", browser.run("return document.documentElement.scrollWidth <= innerWidth"))
         shot(browser, f"narrow-{view.split('/#/')[1].replace('/', '-') or 'board'}")
     is_quiet(browser)
@@ -109,6 +111,7 @@ def for_screen_readers(driver):
     same("words of the tree", [(name, "listitem") for name in (
         "1 Small, ADJ, amod of 2 dogs", "2 dogs, NOUN, nsubj of 5 bark", "3 do, AUX, aux of 5 bark", "4 n't, PART, advmod of 5 bark",
         "5 bark, VERB, root", "6 ., PUNCT, punct of 5 bark")], names)
+    same("the field for the user has its label", ("I am", "textbox"), browser.name_and_role(browser.find("#me")))
     same("the message is read out", ("polite", "status"), tuple(browser.run("const told = document.getElementById('told'); return [told.ariaLive, told.role]")))
     shows(browser, desk.url + "/")
     browser.keys("tab")
@@ -186,16 +189,25 @@ def sizes_and_stops(driver):
     desk.close()
 
 
+def read_aloud(browser, cells):
+    """What a screen reader has of the page, once it has so many cells: a browser may tell it bit by bit."""
+    for _ in range(100):
+        read = browser.all_names_and_roles()
+        if sum(role == "gridcell" for _, role in read) >= cells:
+            break
+        time.sleep(0.1)
+    return read
+
+
 def far_words_are_read(driver):
     """A screen reader has all words and all cells of a long sentence, those too that are not laid out."""
-    desk, browser = Desk(), driver.browser("--force-renderer-accessibility")
+    desk, browser = Desk(), driver.browser(is_read=True)
     desk.put("long", long_sentence(300))
     at_sentence(browser, desk, 1, "word1")
     browser.see(".grid tbody:last-child td", "300")
-    nodes = browser.devtools("Accessibility.getFullAXTree")["nodes"]
-    read = [(node["role"]["value"], node["name"]["value"]) for node in nodes if not node["ignored"] and "name" in node]
-    same("words", [f"{n} word{n % 97}, NOUN" for n in range(1, 301)], [name.rsplit(",", 1)[0] for role, name in read if role == "listitem" and " word" in name])
-    same("cells", 3000, sum(role == "gridcell" for role, _ in read))
+    read = read_aloud(browser, 3000)
+    same("words", [f"{n} word{n % 97}, NOUN" for n in range(1, 301)], [name.rsplit(",", 1)[0] for name, role in read if role == "listitem" and " word" in name])
+    same("cells", 3000, sum(role == "gridcell" for _, role in read))
     desk.close()
 
 

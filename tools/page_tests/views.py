@@ -194,7 +194,7 @@ def other_origins(driver):
     before = desk.moves()
     server = http.server.ThreadingHTTPServer(("127.0.0.1", 0), Elsewhere)
     threading.Thread(target=server.serve_forever, daemon=True).start()
-    browser = driver.browser("--host-resolver-rules=MAP evil.test 127.0.0.1")
+    browser = driver.browser(here="evil.test")
     for name in ("evil.test", "localhost", "127.0.0.1"):
         for target in (desk.url, f"http://localhost:{desk.port}"):
             Elsewhere.target = target
