@@ -1,4 +1,5 @@
 pub mod Asked
+pub mod Asking
 pub mod Counted
 pub mod Found
 pub mod Inputs

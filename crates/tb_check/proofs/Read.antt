@@ -6,7 +6,7 @@ use Rattle.std.proofs.KnownBytes.{Consumes-whole}
 use Rattle.tb_conllu.specs.Fault.{IsReadFault}
 use Rattle.tb_conllu.specs.declared.fault.ReadFault.{ReadFault}
 use Rattle.tb_conllu.specs.declared.fault.ReadFault.TheVariants as read
-use Rattle.tb_check.specs.Check.{IsReplyTo, IsReplyToInput, IsReplyToRead, reply_for}
+use Rattle.tb_check.specs.Check.{Answers, IsReplyTo, IsReplyToInput, IsReplyToRead, IsReplyToTaken, reply_for}
 use Rattle.tb_check.specs.Input.{IsInput, IsWithin}
 use Rattle.tb_check.specs.declared.input.Input.{Input}
 use Rattle.tb_check.specs.declared.input.Input.TheVariants as input
@@ -42,3 +42,21 @@ module _ {Why : Type 0} (is_failure : Why → Type 0) (limit : ℕ) (old new : O
   read_reply input.TooLong r h is = subst (IsReplyToRead is_failure limit old new) (sym is) (more_than limit old new h.0 (omega (arith, h.2)) h.1)
   read_reply input.Memory r h is = subst (IsReplyToRead is_failure limit old new) (sym is) (more_than 0 old new h.0 h.2.0 h.1)
   read_reply input.Broken r h is = subst (IsReplyToRead is_failure limit old new) (sym is) h
+
+  pub taken_reply : (r : CheckReply) → IsReplyToTaken is_failure limit old new r → IsReplyToRead is_failure limit old new r
+  taken_reply r (came, h, is) = read_reply came r h is
+
+-- over bytes that never fail
+module _ {Why : Type 0} (is_failure : Why → Type 0) (never : (why : Why) → is_failure why → ⊥) (limit : ℕ) (bytes : List ℕ) (left : Option (List ℕ)) where
+  sure_reply : (r : CheckReply) → IsReplyToRead is_failure limit (Some bytes) left r → IsReplyTo limit bytes r
+  sure_reply (Counts sentences words) h = h
+  sure_reply (Read line code) h = h
+  sure_reply (Rule sentence rule row) h = h
+  sure_reply Long h = h
+  sure_reply Memory h = h
+  sure_reply Device h = absurd (never h.0.0 h.0.1)
+
+  pub sure_answer : {Reason : Type 0} (old new : Option (List ℕ)) (is_refusal : Reason → Type 0) (status : ℕ) → Answers (IsReplyToTaken is_failure limit (Some bytes) left) old new is_refusal status
+      → Answers (IsReplyTo limit bytes) old new is_refusal status
+  sure_answer old new is_refusal status (reply, known, written) =
+      (reply, sure_reply reply (taken_reply is_failure limit (Some bytes) left reply known), written)

@@ -14,7 +14,7 @@ use Rattle.tb_rules.specs.File.{IsValid, IsFaultAt, IsCutShort, HasTaken}
 use Rattle.tb_rules.specs.declared.filefault.FileFault.{FileFault}
 use Rattle.tb_rules.specs.declared.filefault.FileFault.TheVariants.{At}
 use Rattle.tb_rules.specs.declared.filefault.FileFault.TheVariants as rules
-use Rattle.tb_check.specs.Input.{IsBrokenWithin}
+use Rattle.tb_check.specs.Input.{IsBrokenWithin, IsInput}
 use Rattle.tb_check.specs.declared.check.Survey.{Survey}
 use Rattle.tb_check.specs.declared.input.Input.{Input}
 use Rattle.tb_check.specs.declared.input.Input.TheVariants.{Whole}
@@ -125,3 +125,9 @@ IsReplyToInput limit (Whole bytes) reply = IsReplyTo limit bytes.items reply
 IsReplyToInput limit input.TooLong reply = reply ≡ Long
 IsReplyToInput limit input.Memory reply = reply ≡ Memory
 IsReplyToInput limit input.Broken reply = reply ≡ Device
+
+-- The reply to an input that was read: true of its bytes, or why they did not come. No more of it is taken.
+abbrev pub IsReplyToTaken : {Why : Type 0} → (is_failure : Why → Type 0) → (limit : ℕ)
+    → (unread left : Option (List ℕ)) → CheckReply → Type 0
+IsReplyToTaken is_failure limit unread left reply =
+    (came : Input) × IsInput is_failure limit unread left came × IsReplyToInput limit came reply

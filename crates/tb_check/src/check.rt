@@ -5,8 +5,8 @@ ghost use Rattle.std.specs.Prelude.{IfErr};
 ghost use Rattle.tb_conllu.specs.Fault.{IsReadFault};
 ghost use Rattle.tb_conllu.specs.Text.{BlockText};
 ghost use Rattle.tb_conllu.specs.Reported.{IsFile};
-ghost use Rattle.tb_check.specs.Check.{Answers, IsAsked, IsReplyTo, IsReplyToInput, IsReplyToRead, IsSurvey, file_limit};
-ghost use Rattle.tb_check.specs.Check.{reply_for};
+ghost use Rattle.tb_check.specs.Check.{Answers, IsAsked, IsReplyTo, IsReplyToInput, IsReplyToTaken, IsSurvey};
+ghost use Rattle.tb_check.specs.Check.{file_limit, reply_for};
 ghost use Rattle.tb_check.specs.Input.{IsWithin};
 
 use crate::input::{Input, read_all};
@@ -149,7 +149,7 @@ pub fn check_input(alloc: Global, input: &Input, limit: u64) -> CheckReply
 /// The reply of the check for a source.
 fn check_source<R: Source>(alloc: Global, source: &mut R, limit: u64) -> CheckReply
     requires { limit < 2 ^ 32 }
-    ensures { IsReplyToRead (R.IsFailure source.new) limit (R.left source.old) (R.left source.new) result }
+    ensures { IsReplyToTaken (R.IsFailure source.new) limit (R.left source.old) (R.left source.new) result }
 {
     let input = read_all(alloc, source, limit);
     check_input(alloc, &input, limit)
@@ -158,7 +158,8 @@ fn check_source<R: Source>(alloc: Global, source: &mut R, limit: u64) -> CheckRe
 /// Checks at most `limit` bytes, writes the reply, and returns the exit status.
 ///
 /// Over any source, one of the replies is written whole, with its own status, or the sink refused it. The reply is
-/// `Device` only where the source failed. Where the source's contract names its bytes, the reply is true of them.
+/// `Device` only where the source failed. Where the source's contract names its bytes, the reply is true of them. No
+/// more of them are taken than the reply needs.
 pub fn check_within<R: Source, S: Sink>(
     alloc: Global,
     source: &mut R,
@@ -166,7 +167,7 @@ pub fn check_within<R: Source, S: Sink>(
     limit: u64,
 ) -> u8
     requires { limit < 2 ^ 32 }
-    ensures { Answers (IsReplyToRead (R.IsFailure source.new) limit (R.left source.old) (R.left source.new))
+    ensures { Answers (IsReplyToTaken (R.IsFailure source.new) limit (R.left source.old) (R.left source.new))
         (S.held out.old) (S.held out.new) (S.IsRefusal out.new) result }
 {
     let reply = check_source(alloc, source, limit);
@@ -175,7 +176,7 @@ pub fn check_within<R: Source, S: Sink>(
 
 /// Checks what the source gives, up to 4,194,304 bytes, writes the reply, and returns the exit status.
 pub fn run_check<R: Source, S: Sink>(alloc: Global, source: &mut R, out: &mut S) -> u8
-    ensures { Answers (IsReplyToRead (R.IsFailure source.new) file_limit (R.left source.old) (R.left source.new))
+    ensures { Answers (IsReplyToTaken (R.IsFailure source.new) file_limit (R.left source.old) (R.left source.new))
         (S.held out.old) (S.held out.new) (S.IsRefusal out.new) result }
 {
     check_within(alloc, source, out, FILE_LIMIT)

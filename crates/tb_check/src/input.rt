@@ -1,7 +1,7 @@
 //! Reads a whole input, up to a limit.
 
 ghost use Rattle.std.specs.Prelude.{◌<◌, ◌^◌};
-ghost use Rattle.tb_check.specs.Input.{IsInput};
+ghost use Rattle.tb_check.specs.Input.{IsAskedFor, IsInput};
 
 use std::alloc::Global;
 use tb_conllu::Source;
@@ -19,10 +19,11 @@ pub enum Input {
     Broken,
 }
 
-/// Reads all bytes, or one byte more than the limit.
+/// Reads all bytes, or one byte more than the limit. After the end, and after a read that failed, it does not read again.
 pub fn read_all<R: Source>(alloc: Global, source: &mut R, limit: u64) -> Input
     requires { limit < 2 ^ 32 }
-    ensures { IsInput (R.IsFailure source.new) limit (R.left source.old) (R.left source.new) result }
+    ensures came { IsInput (R.IsFailure source.new) limit (R.left source.old) (R.left source.new) result }
+    ensures asked { IsAskedFor limit (R.pieces source.old) (R.pieces source.new) result }
 {
     let mut all = Vec::new(alloc);
     let most = limit as usize + 1;

@@ -1,10 +1,10 @@
 //! Laws of replies and of faults. Each function states a fact about the definitions, and runs nothing.
 
-ghost use Rattle.std.specs.Prelude.{◌≡◌, ◌≤◌, ◌⊎◌, ℕ, List, [], ◌∷◌, length, true};
+ghost use Rattle.std.specs.Prelude.{◌≡◌, ◌≤◌, ◌⊎◌, ℕ, List, [], ◌∷◌, length, true, Option};
 ghost use Rattle.tb_conllu.specs.Text.{BlockText};
 ghost use Rattle.tb_conllu.specs.Reported.{IsFile, IsReported};
 ghost use Rattle.tb_rules.specs.File.{IsFaultAt, IsValid};
-ghost use Rattle.tb_check.specs.Check.{IsReplyTo, tells_of_input, words_in};
+ghost use Rattle.tb_check.specs.Check.{IsReplyTo, IsReplyToRead, IsReplyToTaken, tells_of_input, words_in};
 ghost use Rattle.tb_check.specs.Faults.{AreFaults};
 ghost use Rattle.tb_check.specs.declared.fault.Fault.{Fault};
 ghost use Rattle.tb_check.specs.declared.fault.Fault.TheVariants.{Line, Rule};
@@ -12,7 +12,7 @@ ghost use Rattle.tb_check.specs.declared.reply.CheckReply.{CheckReply};
 ghost use Rattle.tb_check.specs.declared.reply.CheckReply.TheVariants.{Counts, Memory};
 
 use tb_conllu::{
-    faulty_lines_are_reported, one_fault_is_reported, one_list_has_a_text,
+    Source, faulty_lines_are_reported, one_fault_is_reported, one_list_has_a_text,
     reported_bytes_are_no_file,
 };
 use tb_rules::{
@@ -31,6 +31,14 @@ pub fn one_reply_is_true()
     faulty_sentences_are_not_valid();
     one_sentence_is_reported();
 }
+
+/// The reply to what was taken of an input is true of the whole input, where it is known, and is a failed device only
+/// where the source failed.
+pub fn the_reply_to_what_is_taken_is_true<R: Source>()
+    ensures { (source : R) (limit : ℕ) (unread left : Option (List ℕ)) (reply : CheckReply)
+        → IsReplyToTaken (R.IsFailure source) limit unread left reply
+        → IsReplyToRead (R.IsFailure source) limit unread left reply }
+{}
 
 /// The reply to valid sentences within the limit is how many there are, and their words; or want of memory.
 pub fn valid_sentences_are_counted()

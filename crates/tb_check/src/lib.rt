@@ -19,7 +19,10 @@ pub use check::{
 pub use fault::Fault;
 pub use finding::faults_of;
 pub use input::{Input, read_all};
-pub use laws::{one_reply_is_true, the_first_fault_is_reported, valid_sentences_are_counted};
+pub use laws::{
+    one_reply_is_true, the_first_fault_is_reported, the_reply_to_what_is_taken_is_true,
+    valid_sentences_are_counted,
+};
 pub use output::put_reply;
 pub use reply::CheckReply;
 pub use words::is_check;

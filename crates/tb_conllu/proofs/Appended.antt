@@ -37,7 +37,7 @@ parts_tabbed first front mid back rest =
     ∙ ap (λ t. first ++ (t ++ rest)) (flat_map-append (λ f. 9 ∷ f) front (mid ∷ back))
     ∙ ap (λ t. first ++ t) (append_assoc (tabbed front) ((9 ∷ mid) ++ tabbed back) rest ∙ ap (λ t. tabbed front ++ t) (append_assoc (9 ∷ mid) (tabbed back) rest))
 
-row_parts : (r : RowText) → row_line r ++ 10 ∷ [] ≡ id_text r.id ++ (tabbed (r.form ∷ r.lemma ∷ r.upos ∷ r.xpos ∷ r.feats ∷ []) ++ ((9 ∷ head_text r.head) ++ (tabbed (r.deprel ∷ r.deps ∷ r.misc ∷ []) ++ 10 ∷ [])))
+pub row_parts : (r : RowText) → row_line r ++ 10 ∷ [] ≡ id_text r.id ++ (tabbed (r.form ∷ r.lemma ∷ r.upos ∷ r.xpos ∷ r.feats ∷ []) ++ ((9 ∷ head_text r.head) ++ (tabbed (r.deprel ∷ r.deps ∷ r.misc ∷ []) ++ 10 ∷ [])))
 row_parts r = parts_tabbed (id_text r.id) (r.form ∷ r.lemma ∷ r.upos ∷ r.xpos ∷ r.feats ∷ []) (head_text r.head) (r.deprel ∷ r.deps ∷ r.misc ∷ []) (10 ∷ [])
 
 -- the parts of a row
@@ -46,7 +46,7 @@ row_appended r o a b c d e id front head back end =
     let P : List ℕ → Type 0 = Appends o e in
     subst P (sym (row_parts r)) (Appends-trans o a e _ _ id (Appends-trans a b e _ _ front (Appends-trans b c e _ _ head (Appends-trans c d e _ _ back end))))
 
-block_parts : {X : Type 0} (f : X → List ℕ) (cs : List X) (rs : List RowText) → text_of (record { comments = map f cs; rows = rs } ∷ []) ≡ flat_map (λ c. f c ++ 10 ∷ []) cs ++ (flat_map (λ r. row_line r ++ 10 ∷ []) rs ++ 10 ∷ [])
+pub block_parts : {X : Type 0} (f : X → List ℕ) (cs : List X) (rs : List RowText) → text_of (record { comments = map f cs; rows = rs } ∷ []) ≡ flat_map (λ c. f c ++ 10 ∷ []) cs ++ (flat_map (λ r. row_line r ++ 10 ∷ []) rs ++ 10 ∷ [])
 block_parts f cs rs =
     ap ended (append-nil (map f cs ++ (map row_line rs ++ [] ∷ [])))
     ∙ ended-append (map f cs) (map row_line rs ++ [] ∷ [])

@@ -83,7 +83,7 @@ dead_within xs ys r s hx hy short e dead alive =
     let D : List (List ℕ) → Type 0 = IsDead in
     alive (subst D (sym found.1) (dead_stays xs found.0 dead))
 
-push_length : (xs : List (List ℕ)) (x : List ℕ) → length (xs ++ x ∷ []) ≡ length xs + 1
+pub push_length : (xs : List (List ℕ)) (x : List ℕ) → length (xs ++ x ∷ []) ≡ length xs + 1
 push_length xs x = length-append xs (x ∷ [])
 
 cut_front : (xs ys : List (List ℕ)) → AreLines (xs ++ ys) → AreLines xs

@@ -7,7 +7,7 @@ use Rattle.tb_conllu.specs.Text.{BlockText, block_lines, lines_of, text_of}
 use Rattle.tb_conllu.specs.Shape.{IsShaped, AllShaped}
 use Rattle.tb_conllu.specs.Reported.{IsFile, IsNoFile, IsReported}
 use Rattle.tb_conllu.specs.Fault.{IsFaultAfter, IsReadFault}
-use Rattle.tb_conllu.specs.Left.{Left, IsNext, IsReadTo}
+use Rattle.tb_conllu.specs.Left.{Left, IsNext, IsReadFrom, IsReadTo}
 use Rattle.tb_conllu.proofs.Reported.{all_append}
 use Rattle.tb_conllu.proofs.Reading.{sentence_some}
 use Rattle.tb_conllu.proofs.OneList.{one_list}
@@ -68,11 +68,7 @@ read_rest bytes done more left h rest = record {
   text = h.whole ∙ ap (λ x. text_of done ++ x) rest.text ∙ sym (text_of-append done more);
 }
 
--- the same of what is left in the middle of a file
-pub record IsReadFrom (old : Left) (bs : List BlockText) (now : Left) : Type 0 where
-  pub shaped : AllShaped bs
-  pub whole : old.rest ≡ text_of bs ++ now.rest
-  pub place : now.line ≡ old.line + length (lines_of bs)
+-- ---- the same of what is left in the middle of a file
 
 pub from_next : (old mid new : Left) (bs : List BlockText) (block : BlockText) → IsReadFrom old bs mid → IsNext mid new block → IsReadFrom old (bs ++ block ∷ []) new
 from_next old mid new bs block h next =

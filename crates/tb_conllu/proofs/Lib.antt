@@ -31,3 +31,5 @@ pub mod PartedLines
 pub mod Tried
 pub mod Nine
 pub mod Shortage
+pub mod NoSentence
+pub mod SunkParts

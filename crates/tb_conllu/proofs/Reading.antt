@@ -110,10 +110,10 @@ is_nil : (raw : List ℕ) → is_empty raw ≡ true → raw ≡ []
 is_nil [] h = refl
 is_nil (b ∷ raw) h = absurd cc
 
-lines_done : (block : BlockText) → block_lines block ≡ lines_begun block ++ [] ∷ []
+pub lines_done : (block : BlockText) → block_lines block ≡ lines_begun block ++ [] ∷ []
 lines_done block = sym (append_assoc block.comments (map row_line block.rows) ([] ∷ []))
 
-no_more : (block : BlockText) → lines_of (block ∷ []) ≡ block_lines block
+pub no_more : (block : BlockText) → lines_of (block ∷ []) ≡ block_lines block
 no_more block = append_nil (block_lines block)
   where
     append_nil : (ls : List (List ℕ)) → ls ++ [] ≡ ls
@@ -127,7 +127,7 @@ sentence_text bytes line block rest raw after at h same blank =
 
 -- ---- the end of the bytes inside a sentence
 
-IsFilled : List ℕ → Type 0
+pub IsFilled : List ℕ → Type 0
 IsFilled l = is_empty l ≡ false
 
 comments_filled : (cs : List (List ℕ)) → AllByRecursion IsCommentText cs → AllByRecursion IsFilled cs
@@ -140,11 +140,11 @@ unfolding IsFilled
 rows_filled [] h = tt
 rows_filled (r ∷ rs) h = ((row_begins r h.0).0, rows_filled rs h.1)
 
-begun_filled : (block : BlockText) → IsSound (begun block) → AllByRecursion IsFilled (lines_begun block)
+pub begun_filled : (block : BlockText) → IsSound (begun block) → AllByRecursion IsFilled (lines_begun block)
 begun_filled block h = all_append IsFilled block.comments (map row_line block.rows) (comments_filled block.comments h.comments) (rows_filled block.rows h.rows)
 
 -- the blank line of a sentence stands among its lines
-not_filled : (xs ys : List (List ℕ)) → AllByRecursion IsFilled (xs ++ [] ∷ ys) → ⊥
+pub not_filled : (xs ys : List (List ℕ)) → AllByRecursion IsFilled (xs ++ [] ∷ ys) → ⊥
 unfolding IsFilled
 not_filled [] ys h = let e = h.0 in cc
 not_filled (x ∷ xs) ys h = not_filled xs ys h.1

@@ -1,5 +1,5 @@
 -- Where memory may be wanted while a file is read.
-use Rattle.std.proofs.Common.{◌≡◌, ℕ, ◌<◌, List, [], ◌∷◌, ◌++◌, length, true, false, map, sym, ap, subst, arith, inl, length-append}
+use Rattle.std.proofs.Common.{◌≡◌, ℕ, ◌<◌, List, [], ◌∷◌, ◌++◌, length, true, false, map, sym, ap, subst, arith, inl, length-append, append-nil, ◌∙◌}
 use Rattle.std.specs.Prelude.{◌⊎◌}
 use Rattle.std.specs.List.{AllByRecursion, list_any}
 use Rattle.tb_conllu.specs.Begun.{has_rows}
@@ -47,6 +47,11 @@ next_wants old new block h = subst MayWantMemory (sym h.text) (block_wants block
 pub rest_wants : (bytes : List ℕ) (done : List BlockText) (rest : List ℕ) → AllShaped done → bytes ≡ text_of done ++ rest → MayWantMemory rest → MayWantMemory bytes
 rest_wants bytes [] rest shaped whole wants = subst MayWantMemory (sym whole) wants
 rest_wants bytes (b ∷ bs) rest shaped whole wants = subst MayWantMemory (sym whole) (block_wants b bs rest shaped.0)
+
+-- a file with a byte
+pub file_wants : (f : List ℕ) (bs : List BlockText) → AllShaped bs → f ≡ text_of bs → 0 < length f → MayWantMemory f
+file_wants f [] shaped whole some = absurd (omega (arith, ap length whole, some))
+file_wants f (b ∷ bs) shaped whole some = subst MayWantMemory (append-nil (text_of (b ∷ bs)) ∙ sym whole) (block_wants b bs [] shaped.0)
 
 pub some_byte : (f : List ℕ) → MayWantMemory f → 0 < length f
 some_byte f h = omega (arith, ap length h.whole, length-append h.first (10 ∷ h.rest))

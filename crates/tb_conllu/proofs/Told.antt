@@ -1,5 +1,5 @@
 -- Lines whose faults are told one after another.
-use Rattle.std.proofs.Common.{◌≡◌, ℕ, ◌+◌, ◌≤◌, List, [], ◌∷◌, ◌++◌, length, Bool, false, refl, sym, ◌∙◌, ap, arith, append_assoc, append-nil, length-append}
+use Rattle.std.proofs.Common.{◌≡◌, ℕ, ◌+◌, ◌≤◌, List, [], ◌∷◌, ◌++◌, length, Bool, true, false, refl, sym, ◌∙◌, ap, arith, append_assoc, append-nil, length-append}
 use Rattle.tb_conllu.specs.Text.{ended}
 use Rattle.tb_conllu.specs.Lines.{is_empty, line_code, came_after, came_through}
 use Rattle.tb_conllu.specs.Reported.{IsLine, AreLines}
@@ -70,3 +70,22 @@ all_read bytes rest line came closed lines code h cut e =
       cut_rest = cut;
       all = ap (λ n. line_faults 0 false lines ++ fault_at (n + 1) code) at ∙ ap (λ c. line_faults 0 false lines ++ fault_at (length lines + 1) c) (e ∙ ap (λ b. end_code b rest) h.last);
     }
+
+-- ---- no bytes
+
+nothing : {X : Type 0} (xs : List X) → length xs ≤ 0 → xs ≡ []
+nothing [] e = refl
+nothing (x ∷ xs) e = absurd (omega (arith, e))
+
+-- they have no line
+pub no_line : (bytes rest raw after : List ℕ) (line : ℕ) (came closed : Bool) (lines : List (List ℕ)) → AreRead bytes rest line came closed lines → rest ≡ raw ++ 10 ∷ after → bytes ≡ [] → ⊥
+no_line bytes rest raw after line came closed lines h e none = let room = h.room in omega (arith, room, ap length none, ap length e, length-append raw (10 ∷ after))
+
+-- and their end has no fault
+pub no_end : (bytes rest : List ℕ) (line : ℕ) (came closed : Bool) (lines : List (List ℕ)) → AreRead bytes rest line came closed lines → bytes ≡ [] → end_code closed rest ≡ 0
+no_end bytes rest line came closed lines h none =
+    let room = h.room in
+    let place = h.place in
+    let no_rest : rest ≡ [] = nothing rest (omega (arith, room, ap length none)) in
+    let no_lines : lines ≡ [] = nothing lines (omega (arith, room, place, ap length none)) in
+    ap (λ b. end_code b rest) (h.last ∙ ap is_closed no_lines) ∙ ap (λ (r : List ℕ). end_code true r) no_rest

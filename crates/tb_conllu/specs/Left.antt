@@ -20,3 +20,13 @@ pub record IsReadTo (file : List ℕ) (bs : List BlockText) (left : Left) : Type
   pub shaped : AllShaped bs
   pub whole : file ≡ text_of bs ++ left.rest
   pub place : left.line ≡ length (lines_of bs)
+
+-- these sentences of the rest were read, and this is what is left
+pub record IsReadFrom (old : Left) (bs : List BlockText) (now : Left) : Type 0 where
+  pub shaped : AllShaped bs
+  pub whole : old.rest ≡ text_of bs ++ now.rest
+  pub place : now.line ≡ old.line + length (lines_of bs)
+
+-- no sentence stands at the beginning of the bytes
+abbrev pub BeginsNoSentence : List ℕ → Type 0
+BeginsNoSentence f = (b : BlockText) (rest : List ℕ) → IsShaped b → f ≡ text_of (b ∷ []) ++ rest → ⊥

@@ -1,8 +1,10 @@
 //! Finds every line at fault.
 
-ghost use Rattle.std.specs.Prelude.{◌≡◌, ◌∷◌, [], ◌++◌, IfOk, List, OnOk, take};
+ghost use Rattle.std.specs.Prelude.{◌≡◌, ◌≤◌, ◌∷◌, [], ◌++◌, IfOk, IsOk, List, OnErr, OnOk, false, take, vec_len};
+ghost use Rattle.std.specs.List.{list_any};
 ghost use Rattle.tb_conllu.specs.FaultyLines.{AreFaultyLines, end_code, fault_at};
 ghost use Rattle.tb_conllu.specs.Lines.{came_after, is_empty, line_code};
+ghost use Rattle.tb_conllu.specs.Plain.{is_beyond_latin};
 ghost use Rattle.tb_conllu.specs.Shape.{IsLineText};
 ghost use Rattle.tb_conllu.specs.Tested.{HoldsOfLine};
 ghost use Rattle.tb_conllu.specs.declared.faulty.FaultyLine.{FaultyLine};
@@ -25,10 +27,16 @@ pub struct FaultyLine {
     pub code: u8,
 }
 
-/// Adds an item to the first of a list, while these are fewer than `most`.
+/// Adds an item to the first of a list, while these are fewer than `most`. A list with so many takes no memory.
+///
+/// # Errors
+///
+/// Memory was refused. The list is as it was.
 pub fn push_within<X: Drop>(first: &mut Vec<X>, item: X, most: usize) -> Result<(), AllocError>
-    ensures { OnOk result ((all : List X) → first.old.items ≡ take most all
+    ensures added { OnOk result ((all : List X) → first.old.items ≡ take most all
         → first.new.items ≡ take most (all ++ item ∷ [])) }
+    ensures full { most ≤ vec_len first.old → IsOk result }
+    ensures kept { OnErr result (first.new.items ≡ first.old.items) }
 {
     if first.len() < most {
         first.push(item)?;
@@ -43,8 +51,10 @@ fn push_fault(
     code: u8,
     most: usize,
 ) -> Result<(), AllocError>
-    ensures { OnOk result ((all : List FaultyLine) → found.old.items ≡ take most all
+    ensures added { OnOk result ((all : List FaultyLine) → found.old.items ≡ take most all
         → found.new.items ≡ take most (all ++ fault_at line code)) }
+    ensures none { code ≡ 0 → IsOk result }
+    ensures full { most ≤ vec_len found.old → IsOk result }
 {
     if code == 0 {
         return Ok(());
@@ -72,7 +82,8 @@ fn text_code(text: &str, came: bool) -> u8
 /// The least code of a line, 0 where it has none. `came` says whether a word line of its sentence came before.
 fn code_of(alloc: Global, raw: &[u8], tested: Tested, came: bool) -> Result<u8, AllocError>
     requires { HoldsOfLine tested raw.now }
-    ensures { IfOk result (λ code. code ≡ line_code came raw.now) }
+    ensures code { IfOk result (λ code. code ≡ line_code came raw.now) }
+    ensures sure { list_any is_beyond_latin raw.now ≡ false → IsOk result }
 {
     match line_text(alloc, raw, tested, 1) {
         Ok(text) => Ok(text_code(text, came)),
@@ -109,10 +120,11 @@ fn code_of_end(closed: bool, rest: &[u8]) -> u8
 ///
 /// # Errors
 ///
-/// Memory was refused.
+/// Memory was refused, which comes only where there is a byte.
 pub fn faulty_lines(alloc: Global, bytes: &[u8], most: usize) -> Result<Vec<FaultyLine>, AllocError>
-    ensures { IfOk result (λ v. (all : List FaultyLine) × AreFaultyLines bytes.now all
+    ensures faults { IfOk result (λ v. (all : List FaultyLine) × AreFaultyLines bytes.now all
         × (v.items ≡ take most all)) }
+    ensures sure { bytes.now ≡ [] → IsOk result }
 {
     let tested = test_all(bytes);
     let mut found = Vec::new(alloc);

@@ -1,7 +1,7 @@
 //! Reads and writes, in either order.
 
 ghost use Rattle.std.specs.Prelude.{◌≡◌, List, IfOk, IfErr, MatchResult};
-ghost use Rattle.tb_conllu.specs.Fault.{IsReadFault};
+ghost use Rattle.tb_conllu.specs.Fault.{IsReadFault, MayWantMemory};
 ghost use Rattle.tb_conllu.specs.Shape.{AllShaped};
 ghost use Rattle.tb_conllu.specs.Text.{BlockText, text_of};
 ghost use Rattle.tb_conllu.specs.Reported.{IsFile};
@@ -22,6 +22,7 @@ pub fn rewrite(alloc: Global, bytes: &[u8]) -> Result<Vec<u8>, ReadFault>
     ensures unchanged { IfOk result (λ v. v.items ≡ bytes.now) }
     ensures reported { IfErr result (IsReadFault bytes.now) }
     ensures only { (bs : List BlockText) → IsFile bytes.now bs → IfErr result (λ e. e ≡ Memory) }
+    ensures memory { IfErr result (λ e. e ≡ Memory → MayWantMemory bytes.now) }
 {
     if bytes.is_empty() {
         return Ok(Vec::new(alloc));

@@ -1,12 +1,12 @@
 //! Reads sentences one after another.
 
-ghost use Rattle.std.specs.Prelude.{◌≡◌, ◌+◌, ◌<◌, ◌≤◌, ◌-◌, ◌^◌, List, [], ◌∷◌};
+ghost use Rattle.std.specs.Prelude.{◌≡◌, ◌≢◌, ◌+◌, ◌<◌, ◌≤◌, ◌-◌, ◌^◌, List, [], ◌∷◌};
 ghost use Rattle.std.specs.Prelude.{◌++◌, IfOk, IfErr, IfSome, OnOk, MatchOption, length, map, take};
 ghost use Rattle.std.specs.List.{AllByRecursion};
 ghost use Rattle.std.specs.Str.{IsUtf8};
 ghost use Rattle.tb_conllu.specs.Fault.{IsFaultAfter, MayWantMemory};
 ghost use Rattle.tb_conllu.specs.declared.fault.ReadFault.TheVariants.{Memory};
-ghost use Rattle.tb_conllu.specs.Left.{Left, IsNext};
+ghost use Rattle.tb_conllu.specs.Left.{BeginsNoSentence, IsNext, IsReadFrom, Left};
 ghost use Rattle.tb_conllu.specs.Shape.{IsRowShaped, IsShaped};
 ghost use Rattle.tb_conllu.specs.Tested.{HoldsOf};
 ghost use Rattle.tb_conllu.specs.Text.{BlockText, RowText, block_lines, ended, row_line, text_of};
@@ -77,6 +77,7 @@ fn read_block<'a>(
     ensures room { IfOk result (λ found. found.line + length found.rest.now ≤ line + length bytes.now) }
     ensures tested { IfOk result (λ found. HoldsOf tested found.rest.now) }
     ensures fault { IfErr result (IsFaultAfter line bytes.now) }
+    ensures first { IfErr result (λ e. e ≢ Memory → BeginsNoSentence bytes.now) }
     ensures memory { IfErr result (λ e. e ≡ Memory → MayWantMemory bytes.now) }
 {
     let mut block = no_block(alloc);
@@ -155,6 +156,7 @@ impl<'a> Sentences<'a> {
         ensures next { IfOk result (λ o. MatchOption o ((self.old.rest ≡ [])
             × (self.new ≡ self.old)) (IsNext self.old self.new)) }
         ensures fault { IfErr result (λ e. IsFaultAfter self.old.line self.old.rest e × (self.new ≡ self.old)) }
+        ensures first { IfErr result (λ e. e ≢ Memory → BeginsNoSentence self.old.rest) }
         ensures memory { IfErr result (λ e. e ≡ Memory → MayWantMemory self.old.rest) }
     {
         if self.rest.is_empty() {
@@ -174,6 +176,7 @@ impl<'a> Sentences<'a> {
             IsNext self.old self.new p.block)) }
         ensures text { IfOk result (λ o. IfSome o (λ p. p.text.now ≡ text_of (p.block ∷ []))) }
         ensures fault { IfErr result (λ e. IsFaultAfter self.old.line self.old.rest e × (self.new ≡ self.old)) }
+        ensures first { IfErr result (λ e. e ≢ Memory → BeginsNoSentence self.old.rest) }
         ensures memory { IfErr result (λ e. e ≡ Memory → MayWantMemory self.old.rest) }
     {
         let unread = self.rest;
@@ -194,7 +197,9 @@ impl<'a> Sentences<'a> {
         ensures file { OnOk result ((bs : List BlockText) × IsFile self.old.rest bs) }
         ensures end { OnOk result (self.new.rest ≡ []) }
         ensures fault { IfErr result (IsFaultAfter self.old.line self.old.rest) }
+        ensures taken { (bs : List BlockText) × IsReadFrom self.old bs self.new }
         ensures left { IfErr result (IsFaultAfter self.new.line self.new.rest) }
+        ensures first { IfErr result (λ e. e ≢ Memory → BeginsNoSentence self.new.rest) }
         ensures memory { IfErr result (λ e. e ≡ Memory → MayWantMemory self.old.rest) }
     {
         while let Some(block) = self.read_next(alloc)? {

@@ -32,6 +32,8 @@ pub fn put_number<S: Sink>(number: u32, out: &mut S) -> Result<(), S::Refusal>
 /// Writes two numbers with a mark between them.
 fn put_pair<S: Sink>(first: u32, mark: u8, second: u32, out: &mut S) -> Result<(), S::Refusal>
     ensures put { OnOk result (Appends (S.held out.old) (S.held out.new) (decimal first ++ mark ∷ decimal second)) }
+    ensures part { OnErr result (AppendsPart (S.held out.old) (S.held out.new)
+        (decimal first ++ mark ∷ decimal second)) }
     ensures refused { IfErr result (S.IsRefusal out.new) }
 {
     put_number(first, out)?;
@@ -41,6 +43,7 @@ fn put_pair<S: Sink>(first: u32, mark: u8, second: u32, out: &mut S) -> Result<(
 
 fn put_id<S: Sink>(id: LineId, out: &mut S) -> Result<(), S::Refusal>
     ensures put { OnOk result (Appends (S.held out.old) (S.held out.new) (id_text id)) }
+    ensures part { OnErr result (AppendsPart (S.held out.old) (S.held out.new) (id_text id)) }
     ensures refused { IfErr result (S.IsRefusal out.new) }
 {
     match id {
@@ -53,6 +56,7 @@ fn put_id<S: Sink>(id: LineId, out: &mut S) -> Result<(), S::Refusal>
 /// Writes a tab and a head.
 fn put_head<S: Sink>(head: Option<u32>, out: &mut S) -> Result<(), S::Refusal>
     ensures put { OnOk result (Appends (S.held out.old) (S.held out.new) (9 ∷ head_text head)) }
+    ensures part { OnErr result (AppendsPart (S.held out.old) (S.held out.new) (9 ∷ head_text head)) }
     ensures refused { IfErr result (S.IsRefusal out.new) }
 {
     match head {
@@ -68,6 +72,8 @@ fn put_head<S: Sink>(head: Option<u32>, out: &mut S) -> Result<(), S::Refusal>
 fn put_fields<S: Sink>(fields: &[&str], out: &mut S) -> Result<(), S::Refusal>
     ensures put { OnOk result (Appends (S.held out.old) (S.held out.new) (flat_map (λ field.
         9 ∷ field.now) fields.now)) }
+    ensures part { OnErr result (AppendsPart (S.held out.old) (S.held out.new) (flat_map (λ field.
+        9 ∷ field.now) fields.now)) }
     ensures refused { IfErr result (S.IsRefusal out.new) }
 {
     for field in fields {
@@ -79,6 +85,7 @@ fn put_fields<S: Sink>(fields: &[&str], out: &mut S) -> Result<(), S::Refusal>
 
 fn put_row<T: Text, S: Sink>(row: &RowOf<T>, out: &mut S) -> Result<(), S::Refusal>
     ensures put { OnOk result (Appends (S.held out.old) (S.held out.new) (row_line row.now ++ 10 ∷ [])) }
+    ensures part { OnErr result (AppendsPart (S.held out.old) (S.held out.new) (row_line row.now ++ 10 ∷ [])) }
     ensures refused { IfErr result (S.IsRefusal out.new) }
 {
     put_id(row.id, out)?;
@@ -100,6 +107,8 @@ fn put_row<T: Text, S: Sink>(row: &RowOf<T>, out: &mut S) -> Result<(), S::Refus
 fn put_rows<T: Text, S: Sink>(rows: &[RowOf<T>], out: &mut S) -> Result<(), S::Refusal>
     ensures put { OnOk result (Appends (S.held out.old) (S.held out.new) (flat_map (λ row.
         row_line row ++ 10 ∷ []) rows.now)) }
+    ensures part { OnErr result (AppendsPart (S.held out.old) (S.held out.new) (flat_map (λ row.
+        row_line row ++ 10 ∷ []) rows.now)) }
     ensures refused { IfErr result (S.IsRefusal out.new) }
 {
     for row in rows {
@@ -110,6 +119,8 @@ fn put_rows<T: Text, S: Sink>(rows: &[RowOf<T>], out: &mut S) -> Result<(), S::R
 
 fn put_comments<T: Text, S: Sink>(comments: &[T], out: &mut S) -> Result<(), S::Refusal>
     ensures put { OnOk result (Appends (S.held out.old) (S.held out.new) (flat_map (λ comment.
+        T.bytes comment ++ 10 ∷ []) comments.now)) }
+    ensures part { OnErr result (AppendsPart (S.held out.old) (S.held out.new) (flat_map (λ comment.
         T.bytes comment ++ 10 ∷ []) comments.now)) }
     ensures refused { IfErr result (S.IsRefusal out.new) }
 {
@@ -126,9 +137,10 @@ fn put_comments<T: Text, S: Sink>(comments: &[T], out: &mut S) -> Result<(), S::
 ///
 /// # Errors
 ///
-/// The reason for which the sink refused a piece.
+/// The reason for which the sink refused a piece. It may hold a first part of the text.
 pub fn put_block<T: Text, S: Sink>(block: &BlockOf<T>, out: &mut S) -> Result<(), S::Refusal>
     ensures put { OnOk result (Appends (S.held out.old) (S.held out.new) (text_of (block.now ∷ []))) }
+    ensures part { OnErr result (AppendsPart (S.held out.old) (S.held out.new) (text_of (block.now ∷ []))) }
     ensures refused { IfErr result (S.IsRefusal out.new) }
 {
     put_comments(&block.comments, out)?;
@@ -140,9 +152,10 @@ pub fn put_block<T: Text, S: Sink>(block: &BlockOf<T>, out: &mut S) -> Result<()
 ///
 /// # Errors
 ///
-/// The reason for which the sink refused a piece.
+/// The reason for which the sink refused a piece. It may hold a first part of the text.
 pub fn put_blocks<T: Text, S: Sink>(blocks: &[BlockOf<T>], out: &mut S) -> Result<(), S::Refusal>
     ensures put { OnOk result (Appends (S.held out.old) (S.held out.new) (text_of blocks.now)) }
+    ensures part { OnErr result (AppendsPart (S.held out.old) (S.held out.new) (text_of blocks.now)) }
     ensures refused { IfErr result (S.IsRefusal out.new) }
     ensures sure { blocks.now ≡ [] → IsOk result }
 {
@@ -156,9 +169,10 @@ pub fn put_blocks<T: Text, S: Sink>(blocks: &[BlockOf<T>], out: &mut S) -> Resul
 ///
 /// # Errors
 ///
-/// The writer failed. How much it took is unknown.
+/// The writer failed. It took a first part of the text, and it is unknown how much.
 pub fn write_block_to<T: Text, W: Write>(block: &BlockOf<T>, out: &mut W) -> Result<(), WriteFault>
-    ensures { OnOk result (Appends (W.contents out.old) (W.contents out.new) (text_of (block.now ∷ []))) }
+    ensures put { OnOk result (Appends (W.contents out.old) (W.contents out.new) (text_of (block.now ∷ []))) }
+    ensures part { OnErr result (AppendsPart (W.contents out.old) (W.contents out.new) (text_of (block.now ∷ []))) }
 {
     put_block(block, out)
 }
@@ -167,9 +181,10 @@ pub fn write_block_to<T: Text, W: Write>(block: &BlockOf<T>, out: &mut W) -> Res
 ///
 /// # Errors
 ///
-/// The writer failed. How much it took is unknown.
+/// The writer failed. It took a first part of the text, and it is unknown how much.
 pub fn write_to<T: Text, W: Write>(blocks: &[BlockOf<T>], out: &mut W) -> Result<(), WriteFault>
-    ensures { OnOk result (Appends (W.contents out.old) (W.contents out.new) (text_of blocks.now)) }
+    ensures put { OnOk result (Appends (W.contents out.old) (W.contents out.new) (text_of blocks.now)) }
+    ensures part { OnErr result (AppendsPart (W.contents out.old) (W.contents out.new) (text_of blocks.now)) }
 {
     put_blocks(blocks, out)
 }

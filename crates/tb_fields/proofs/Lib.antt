@@ -3,3 +3,4 @@ pub mod Parts
 pub mod Relations
 pub mod Twice
 pub mod Ascents
+pub mod Firsts

@@ -4,3 +4,4 @@ pub mod Relations
 pub mod Feats
 pub mod Rising
 pub mod Seen
+pub mod Begun

@@ -1,9 +1,10 @@
-ghost use Rattle.std.specs.Prelude.{◌≡◌, ◌≤◌, ◌&&◌, length, map, bytes_eq, not, IfOk, IsOk, ◌||◌, List, ℕ, true};
+ghost use Rattle.std.specs.Prelude.{◌≡◌, ◌≤◌, ◌&&◌, length, map, bytes_eq, not, IfOk, IsOk, ◌||◌, List, ℕ, true, false};
 ghost use Rattle.tb_fields.specs.Seen.{has_come};
-ghost use Rattle.std.specs.List.{list_any, list_all, slice_split};
+ghost use Rattle.std.specs.List.{before_first, list_any, list_all, slice_split};
 ghost use Rattle.tb_fields.specs.Feats.{is_bar, is_comma, is_capital_or_digit, is_small_or_digit, is_letter_or_digit};
 ghost use Rattle.tb_fields.specs.Feats.{is_label, is_layer, is_name, are_values, is_feature, feature_name};
 ghost use Rattle.tb_fields.specs.Feats.{is_not_after, precedes, are_features, is_feature_text};
+ghost use Rattle.tb_fields.specs.Begun.{begins_as_feature};
 
 use crate::blank::is_blank_field;
 use crate::repeats::comes_first;
@@ -125,6 +126,7 @@ fn is_new_value<'a>(seen: &mut BTreeSet<&'a str>, value: &'a str) -> Result<bool
     ensures new { IfOk result (λ b. b ≡ (is_label value.now && not (has_come seen.old value.now))) }
     ensures kept { IfOk result (λ b. b ≡ true → (q : List ℕ)
         → has_come seen.new q ≡ (bytes_eq value.now q || has_come seen.old q)) }
+    ensures sure { is_label value.now ≡ false → IsOk result }
 {
     if !is_label_text(value) {
         return Ok(false);
@@ -134,7 +136,8 @@ fn is_new_value<'a>(seen: &mut BTreeSet<&'a str>, value: &'a str) -> Result<bool
 
 /// The same as `holds_values`, in nearly linear time.
 fn holds_many_values(alloc: Global, text: &str) -> Result<bool, AllocError>
-    ensures { IfOk result (λ b. b ≡ are_values (slice_split is_comma text.now)) }
+    ensures value { IfOk result (λ b. b ≡ are_values (slice_split is_comma text.now)) }
+    ensures begun { is_label (before_first is_comma text.now) ≡ false → IsOk result }
 {
     let mut seen: BTreeSet<&str> = BTreeSet::new(alloc);
     let mut left = text;
@@ -151,6 +154,7 @@ fn holds_many_values(alloc: Global, text: &str) -> Result<bool, AllocError>
 fn holds_values(alloc: Global, text: &str) -> Result<bool, AllocError>
     ensures value { IfOk result (λ b. b ≡ are_values (slice_split is_comma text.now)) }
     ensures sure { length text.now ≤ 32 → IsOk result }
+    ensures begun { is_label (before_first is_comma text.now) ≡ false → IsOk result }
 {
     if text.len() <= FEW_VALUES {
         Ok(holds_few_values(text))
@@ -162,6 +166,7 @@ fn holds_values(alloc: Global, text: &str) -> Result<bool, AllocError>
 fn is_feature_item(alloc: Global, item: &str) -> Result<bool, AllocError>
     ensures value { IfOk result (λ b. b ≡ is_feature item.now) }
     ensures sure { length item.now ≤ 32 → IsOk result }
+    ensures begun { begins_as_feature item.now ≡ false → IsOk result }
 {
     let Some((name, values)) = item.split_once('=') else {
         return Ok(false);
@@ -217,6 +222,7 @@ fn feature_is_fine(alloc: Global, item: &str, more: &str) -> Result<bool, AllocE
         (map feature_name (slice_split is_bar more.now)) && not (list_any (bytes_eq (feature_name item.now))
         (map feature_name (slice_split is_bar more.now)))))) }
     ensures sure { length item.now ≤ 32 → IsOk result }
+    ensures begun { begins_as_feature item.now ≡ false → IsOk result }
 {
     let name = name_of(item);
     Ok(is_feature_item(alloc, item)? && is_before(name, more) && !has_name(name, more))
@@ -226,6 +232,7 @@ fn feature_is_fine(alloc: Global, item: &str, more: &str) -> Result<bool, AllocE
 fn holds_few_features(alloc: Global, text: &str) -> Result<bool, AllocError>
     ensures value { IfOk result (λ b. b ≡ are_features (slice_split is_bar text.now)) }
     ensures sure { length text.now ≤ 32 → IsOk result }
+    ensures begun { begins_as_feature (before_first is_bar text.now) ≡ false → IsOk result }
 {
     let mut left = text;
     while let Some((item, more)) = left.split_once('|') {
@@ -248,6 +255,10 @@ fn is_new_feature<'a>(
         (map feature_name (slice_split is_bar more.now))) && not (has_come seen.old (feature_name item.now)))) }
     ensures kept { IfOk result (λ b. b ≡ true → (q : List ℕ)
         → has_come seen.new q ≡ (bytes_eq (feature_name item.now) q || has_come seen.old q)) }
+    ensures begun { begins_as_feature item.now ≡ false → IsOk result }
+    ensures unordered { length item.now ≤ 32
+        → precedes (feature_name item.now) (map feature_name (slice_split is_bar more.now)) ≡ false
+        → IsOk result }
 {
     let name = name_of(item);
     if !(is_feature_item(alloc, item)? && is_before(name, more)) {
@@ -258,7 +269,8 @@ fn is_new_feature<'a>(
 
 /// The same as `holds_features`, in nearly linear time.
 fn holds_many_features(alloc: Global, text: &str) -> Result<bool, AllocError>
-    ensures { IfOk result (λ b. b ≡ are_features (slice_split is_bar text.now)) }
+    ensures value { IfOk result (λ b. b ≡ are_features (slice_split is_bar text.now)) }
+    ensures begun { begins_as_feature (before_first is_bar text.now) ≡ false → IsOk result }
 {
     let mut seen: BTreeSet<&str> = BTreeSet::new(alloc);
     let mut left = text;
@@ -278,6 +290,7 @@ fn holds_many_features(alloc: Global, text: &str) -> Result<bool, AllocError>
 fn holds_features(alloc: Global, text: &str) -> Result<bool, AllocError>
     ensures value { IfOk result (λ b. b ≡ are_features (slice_split is_bar text.now)) }
     ensures sure { length text.now ≤ 32 → IsOk result }
+    ensures begun { begins_as_feature (before_first is_bar text.now) ≡ false → IsOk result }
 {
     if text.len() <= FEW_FEATURES {
         holds_few_features(alloc, text)
@@ -292,10 +305,12 @@ fn holds_features(alloc: Global, text: &str) -> Result<bool, AllocError>
 ///
 /// # Errors
 ///
-/// Memory was refused. A text of at most 32 bytes needs none.
+/// Memory was refused. A text of at most 32 bytes needs none, nor one whose first item is no feature as far as its
+/// first value.
 pub fn is_feature_list(alloc: Global, text: &str) -> Result<bool, AllocError>
     ensures value { IfOk result (λ b. b ≡ is_feature_text text.now) }
     ensures sure { length text.now ≤ 32 → IsOk result }
+    ensures begun { begins_as_feature (before_first is_bar text.now) ≡ false → IsOk result }
 {
     if is_blank_field(text) || holds_rising_features(text) {
         return Ok(true);

@@ -163,6 +163,19 @@ key_known k old new name is more q =
     ∙ ap (λ n. cond (bytes_eq n q) true (contains_text old q)) is
     ∙ ap (λ t. cond (bytes_eq name q) true t) (text_known q old.keys)
 
+-- how many names there are after one was put in
+pub key_grown : {Y : Type 0} (old new : BTreeSet (String Y)) (names : List (List ℕ)) (added : Bool) → map string_bytes old.keys ≡ names → length new.keys ≡ length old.keys + cond added 1 0
+    → length (map string_bytes new.keys) ≡ length names + cond added 1 0
+key_grown old new names added e grown =
+    sym (key_count new.keys (map string_bytes new.keys) refl) ∙ grown ∙ ap (λ n. n + cond added 1 0) (key_count old.keys names e)
+
+-- a new name was put in
+pub name_added : (old new : List (List ℕ)) (name : List ℕ) (added : Bool) → added ≡ true → length new ≡ length old + cond added 1 0
+    → ((q : List ℕ) → list_any (bytes_eq q) new ≡ cond (bytes_eq name q) true (list_any (bytes_eq q) old)) → Adds old name new
+name_added old new name added is grown more = (grown ∙ ap (λ t. length old + cond t 1 0) is, more)
+
+-- ---- a name put into a map, for crates above
+
 pub key_added : {Y : Type 0} (k : String Y) (old new : BTreeSet (String Y)) (names : List (List ℕ)) (name : List ℕ) → map string_bytes old.keys ≡ names → string_bytes k ≡ name
     → Updates string_cmp old new k true → (added : Bool) → added ≡ true → length new.keys ≡ length old.keys + cond added 1 0 → Adds names name (map string_bytes new.keys)
 key_added k old new names name e is more added new_key grown =

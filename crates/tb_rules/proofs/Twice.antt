@@ -1,6 +1,7 @@
 -- Names that come twice, among sentences of which some are at fault.
 use Rattle.std.proofs.Common.{◌≡◌, inl, inr, ℕ, List, [], ◌∷◌, ◌++◌, Bool, true, false, cond, ◌||◌, not, Option, Some, None, refl, sym, ◌∙◌, ap, subst, append-nil}
 use Rattle.std.specs.Prelude.{bytes_eq, OnOk, Result, Ok, Err}
+use Rattle.std.specs.Bool.{OnFalse}
 use Rattle.std.specs.List.{cons_option, list_any}
 use Rattle.std.proofs.lemmas.List.Elements.{filter_map-append}
 use Rattle.std.proofs.lemmas.List.Folds.{list_any-append}
@@ -98,3 +99,8 @@ known_as false new e = sym (ap not e)
 pub on_ok : {X E : Type 0} (P : Type 0) (r : Result X E) → P → OnOk r P
 on_ok P (Ok x) h = h
 on_ok P (Err e) h = tt
+
+-- where memory was refused for rule 12, the name was not new
+pub kept_again : (old new : List (List ℕ)) (found : Bool) → OnFalse found (new ≡ old) → found ≡ false → new ≡ old
+kept_again old new true h e = absurd cc
+kept_again old new false h e = h

@@ -1,10 +1,11 @@
 -- Every rule that a sentence breaks, by itself and among the sentences of its file.
-use Rattle.std.specs.Prelude.{◌≡◌, ◌⊎◌, ℕ, List, [], ◌∷◌, ◌++◌, ⊤, bytes_eq}
-use Rattle.std.specs.List.{filter_map, list_any}
+use Rattle.std.specs.Prelude.{◌≡◌, ◌≤◌, ◌⊎◌, ℕ, List, [], ◌∷◌, ◌++◌, ⊤, bytes_eq, false, length}
+use Rattle.std.specs.List.{All, filter_map, list_any}
 use Rattle.tb_conllu.specs.Text.{BlockText}
 use Rattle.tb_rules.specs.Comments.{HasText, only, sent_ids}
 use Rattle.tb_rules.specs.File.{HasNewName}
 use Rattle.tb_rules.specs.Ids.{HasIds}
+use Rattle.tb_rules.specs.Named.{is_node_id}
 use Rattle.tb_rules.specs.Rules.{Rule, sent_id, text, ids, words, spans, nodes, features, dependencies, one_root}
 use Rattle.tb_rules.specs.Rules.{tree, restored, number, Keeps, IsFaultRow}
 use Rattle.tb_rules.specs.declared.breaking.BrokenRule.{BrokenRule}
@@ -32,6 +33,14 @@ IsAsked dependencies b = HasIds b
 IsAsked tree b = HasIds b
 IsAsked restored b = HasText b × HasIds b
 IsAsked _ b = ⊤
+
+-- The rule is asked of the sentence without memory.
+abbrev pub TakesNoMemory : Rule → BlockText → Type 0
+TakesNoMemory features b = All (λ r. length r.feats ≤ 32) b.rows
+TakesNoMemory dependencies b = list_any (λ r. is_node_id r.id) b.rows ≡ false
+TakesNoMemory tree b = ⊥
+TakesNoMemory restored b = ⊥
+TakesNoMemory _ b = ⊤
 
 -- the rule is broken, and this is the row of its fault
 abbrev pub IsBrokenAt : Rule → BlockText → ℕ → Type 0

@@ -1,6 +1,6 @@
 //! Remembers fields of rows that were accepted before. A file repeats a few hundred of them.
 
-ghost use Rattle.std.specs.Prelude.{◌≡◌, ◌≤◌, ◌&&◌, length, IfOk, IsOk, true, string_bytes};
+ghost use Rattle.std.specs.Prelude.{◌≡◌, ◌≤◌, ◌&&◌, length, max, IfOk, IsOk, OnOk, true, string_bytes, vec_len};
 ghost use Rattle.tb_fields.specs.Feats.{is_feature_text};
 ghost use Rattle.tb_fields.specs.Relations.{is_relation};
 ghost use Rattle.tb_fields.specs.Tags.{is_universal_tag};
@@ -86,7 +86,10 @@ fn word_place(tag: &[u8], relation: &[u8]) -> usize {
 }
 
 /// Makes the places, if there are none yet.
-fn make_places<X: Drop>(slots: &mut Vec<Option<X>>) -> Result<(), AllocError> {
+fn make_places<X: Drop>(slots: &mut Vec<Option<X>>) -> Result<(), AllocError>
+    ensures made { OnOk result (vec_len slots.new ≡ max 1024 (vec_len slots.old)) }
+    ensures bound { vec_len slots.new ≤ max 1024 (vec_len slots.old) }
+{
     for _ in slots.len()..PLACES {
         slots.push(None)?;
     }

@@ -1,8 +1,8 @@
 //! Finds every rule that a sentence breaks.
 
-ghost use Rattle.std.specs.Prelude.{◌≡◌, ◌↔◌, ◌++◌, ◌∷◌, [], IfOk, IsTrue, List, MatchOption, OnOk, map};
+ghost use Rattle.std.specs.Prelude.{◌≡◌, ◌↔◌, ◌++◌, ◌∷◌, [], IfOk, IsOk, IsTrue, List, MatchOption, None, OnOk, map};
 ghost use Rattle.tb_conllu.specs.Text.{BlockText};
-ghost use Rattle.tb_rules.specs.Broken.{AreBroken, AreBrokenOf, IsAsked, IsBrokenAt, rule_of};
+ghost use Rattle.tb_rules.specs.Broken.{AreBroken, AreBrokenOf, IsAsked, IsBrokenAt, TakesNoMemory, rule_of};
 ghost use Rattle.tb_rules.specs.Comments.{HasText};
 ghost use Rattle.tb_rules.specs.Ids.{HasIds};
 ghost use Rattle.tb_rules.specs.Restored.{IsRestored};
@@ -58,8 +58,9 @@ fn broken_row<T: Text>(
     rule: Rule,
 ) -> Result<Option<usize>, AllocError>
     requires { IsAsked (rule_of rule) block.now }
-    ensures { IfOk result (λ r. MatchOption r (Keeps (rule_of rule) block.now)
+    ensures row { IfOk result (λ r. MatchOption r (Keeps (rule_of rule) block.now)
         (IsBrokenAt (rule_of rule) block.now)) }
+    ensures sure { TakesNoMemory (rule_of rule) block.now → IsOk result }
 {
     match rule {
         Rule::SentId => Ok(row_unless(has_sent_id(block))),
@@ -90,9 +91,10 @@ fn is_asked(rule: Rule, text: bool, ids: bool) -> bool
 
 /// Adds the rule with this row, if there is one.
 fn push_row(broken: &mut Vec<BrokenRule>, rule: Rule, row: Option<usize>) -> Result<(), AllocError>
-    ensures { OnOk result ((rs : List rules.Rule) (b : BlockText) → AreBrokenOf rs b broken.old.items
+    ensures added { OnOk result ((rs : List rules.Rule) (b : BlockText) → AreBrokenOf rs b broken.old.items
         → IsAsked (rule_of rule) b → MatchOption row (Keeps (rule_of rule) b) (IsBrokenAt (rule_of rule) b)
         → AreBrokenOf (rs ++ rule_of rule ∷ []) b broken.new.items) }
+    ensures none { row ≡ None → IsOk result }
 {
     let Some(row) = row else {
         return Ok(());

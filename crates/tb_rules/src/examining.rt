@@ -1,37 +1,23 @@
 //! Examines the sentences of a file one after another, also those after a faulty one.
 
-ghost use Rattle.std.specs.Prelude.{◌≡◌, ℕ, List, [], ◌∷◌, ◌++◌, IfOk, OnOk, bytes_eq, cond, map, not, true};
-ghost use Rattle.std.specs.Prelude.{string_bytes};
-ghost use Rattle.std.specs.List.{list_any};
+ghost use Rattle.std.specs.Prelude.{◌≡◌, ℕ, List, [], ◌∷◌, ◌++◌, IfOk, OnOk, OnErr, cond, false};
 ghost use Rattle.tb_conllu.specs.Text.{BlockText};
 ghost use Rattle.tb_rules.specs.Broken.{AreBrokenAfter, AreNames};
 
 use crate::accepted::Accepted;
 use crate::breaking::{BrokenRule, broken_of};
 use crate::comments::sent_id;
+use crate::names::Names;
 use crate::rule::RULES;
 use std::alloc::{AllocError, Global};
-use std::collections::BTreeSet;
 use std::marker::Model;
 use tb_conllu::{BlockOf, Text};
 
-/// Keeps a name. Returns whether it is new.
-fn keep_name(alloc: Global, names: &mut BTreeSet<String>, name: &str) -> Result<bool, AllocError>
-    ensures new { IfOk result (λ new. list_any (bytes_eq name.now) (map string_bytes names.old.keys) ≡ not new) }
-    ensures kept { OnOk result ((q : List ℕ) → list_any (bytes_eq q) (map string_bytes names.new.keys)
-        ≡ cond (bytes_eq name.now q) true (list_any (bytes_eq q) (map string_bytes names.old.keys))) }
-{
-    let owned = String::from_str(alloc, name)?;
-    let Ok(new) = names.insert(owned) else {
-        return Err(AllocError);
-    };
-    Ok(new)
-}
-
 /// The broken rules of a sentence, with rule 12 after them where its name is not new.
 fn with_name(broken: Vec<BrokenRule>, new: bool) -> Result<Vec<BrokenRule>, AllocError>
-    ensures { IfOk result (λ v. v.items
+    ensures all { IfOk result (λ v. v.items
         ≡ cond new broken.items (broken.items ++ record { rule = 12; row = 0 } ∷ [])) }
+    ensures err { OnErr result (new ≡ false) }
 {
     if new {
         return Ok(broken);
@@ -47,15 +33,14 @@ fn with_name(broken: Vec<BrokenRule>, new: bool) -> Result<Vec<BrokenRule>, Allo
 #[derive(Drop)]
 pub struct Examiner {
     alloc: Global,
-    // A tree, not a hash table: no file can make its names collide.
-    names: BTreeSet<String>,
+    names: Names,
     accepted: Accepted,
 }
 
 impl Model for Examiner {
     ghost Value = { List (List ℕ) };
 
-    ghost view = { λ c. map string_bytes c.names.keys };
+    ghost view = { λ c. c.names };
 }
 
 impl Examiner {
@@ -65,7 +50,7 @@ impl Examiner {
     {
         Examiner {
             alloc,
-            names: BTreeSet::new(alloc),
+            names: Names::new(alloc),
             accepted: Accepted::new(alloc),
         }
     }
@@ -75,18 +60,19 @@ impl Examiner {
     ///
     /// # Errors
     ///
-    /// Memory was refused.
+    /// Memory was refused. The sentence is then not taken, and no name has changed.
     pub fn take<T: Text>(&mut self, block: &BlockOf<T>) -> Result<Vec<BrokenRule>, AllocError>
         ensures broken { (before : List BlockText) → AreNames self.old before
             → IfOk result (λ v. AreBrokenAfter before block.now v.items) }
         ensures names { (before : List BlockText) → AreNames self.old before
             → OnOk result (AreNames self.new (before ++ block.now ∷ [])) }
+        ensures kept { OnErr result (self.new ≡ self.old) }
     {
         let broken = broken_of(self.alloc, &mut self.accepted, block, &RULES)?;
         let Some(name) = sent_id(block) else {
             return Ok(broken);
         };
-        let new = keep_name(self.alloc, &mut self.names, name)?;
+        let new = self.names.keep(self.alloc, name)?;
         with_name(broken, new)
     }
 }

@@ -18,6 +18,7 @@ mod heads;
 mod ids;
 mod laws;
 mod matching;
+mod names;
 mod nodes;
 mod rule;
 mod spans;

@@ -1,11 +1,13 @@
-ghost use Rattle.std.specs.Prelude.{◌≡◌, ◌↔◌, IsTrue, ◌++◌, ◌∷◌, ℕ, List, IfOk, IsOk, OnOk};
+ghost use Rattle.std.specs.Prelude.{◌≡◌, ◌↔◌, IsTrue, ◌++◌, ◌∷◌, ℕ, List, Err, IfOk, IsOk, IsOkAnd, OnOk};
 ghost use Rattle.std.specs.Prelude.{bytes_eq, string_bytes, chars, encode_utf8, encode_utf8_all, length, not, ◌==◌};
-ghost use Rattle.std.specs.Prelude.{◌&&◌, true, false};
+ghost use Rattle.std.specs.Prelude.{◌&&◌, MatchResult, None, true, false};
+ghost use Rattle.std.specs.Char.{is_whitespace};
 ghost use Rattle.std.specs.List.{list_any, slice_split};
 ghost use Rattle.tb_fields.specs.Feats.{is_bar};
 ghost use Rattle.tb_rules.specs.Leading.{RangesLead, is_token_after};
 ghost use Rattle.tb_rules.specs.Restored.{is_token_id, has_no_space_after, form_and_space, token_text, text_of_rows};
 ghost use Rattle.tb_rules.specs.Restored.{restored_text, folded, folded_text, IsRestored};
+ghost use Rattle.tb_rules.specs.Comments.{only, texts};
 ghost use Rattle.tb_rules.specs.Expected.{continued};
 
 use crate::comments::text;
@@ -47,8 +49,9 @@ fn needs_space(folding: &Folding) -> bool
 }
 
 fn put(folding: &mut Folding, c: char) -> Result<(), AllocError>
-    ensures { OnOk result ((next : List ℕ) → continued (string_bytes folding.new.text) folding.new.gap next
+    ensures put { OnOk result ((next : List ℕ) → continued (string_bytes folding.new.text) folding.new.gap next
         ≡ continued (string_bytes folding.old.text) folding.old.gap (c ∷ next)) }
+    ensures white { is_whitespace c ≡ true → IsOk result }
 {
     if c.is_whitespace() {
         folding.gap = true;
@@ -128,8 +131,9 @@ fn put_token<T: Text>(
     end: u32,
 ) -> Result<(), AllocError>
     requires { lead ≡ true → is_token_id rows.now row.now.id ≡ is_token_after end row.now.id }
-    ensures { OnOk result ((next : List ℕ) → continued (string_bytes folding.new.text) folding.new.gap next
+    ensures put { OnOk result ((next : List ℕ) → continued (string_bytes folding.new.text) folding.new.gap next
         ≡ continued (string_bytes folding.old.text) folding.old.gap (token_text rows.now row.now ++ next)) }
+    ensures sure { is_token_id rows.now row.now.id ≡ false → IsOk result }
 {
     if !comes_out(row.id, rows, lead, end) {
         return Ok(());
@@ -171,6 +175,20 @@ pub fn restored<T: Text>(alloc: Global, block: &BlockOf<T>) -> Result<String, Al
     spelled(alloc, &block.rows)
 }
 
+/// Whether the text of the rows is the folded text, where there was memory for that.
+fn spells_folded<T: Text>(
+    rows: &[RowOf<T>],
+    made: Result<String, AllocError>,
+) -> Result<bool, AllocError>
+    ensures { MatchResult made (λ s. IsOkAnd result (λ b. IsTrue b
+        ↔ (encode_utf8_all (folded (text_of_rows rows.now)) ≡ string_bytes s))) (λ e. result ≡ Err e) }
+{
+    match made {
+        Ok(text) => Ok(spell(rows, text.as_str())),
+        Err(error) => Err(error),
+    }
+}
+
 /// Whether the text of the rows is the value. Differences in white space do not count.
 fn is_spelled<T: Text>(alloc: Global, rows: &[RowOf<T>], value: &str) -> Result<bool, AllocError>
     ensures value { IfOk result (λ b. IsTrue b ↔ (encode_utf8_all (folded (text_of_rows rows.now))
@@ -181,13 +199,13 @@ fn is_spelled<T: Text>(alloc: Global, rows: &[RowOf<T>], value: &str) -> Result<
     if spell(rows, value) {
         return Ok(true);
     }
-    let folded = fold(alloc, value)?;
-    Ok(spell(rows, folded.as_str()))
+    spells_folded(rows, fold(alloc, value))
 }
 
 /// Whether the text of the rows is that of the comment. Differences in white space do not count.
 pub(crate) fn is_restored<T: Text>(alloc: Global, block: &BlockOf<T>) -> Result<bool, AllocError>
-    ensures { IfOk result (λ b. IsTrue b ↔ IsRestored block.now) }
+    ensures value { IfOk result (λ b. IsTrue b ↔ IsRestored block.now) }
+    ensures sure { only (texts block.now) ≡ None → IsOk result }
 {
     let Some(value) = text(block) else {
         return Ok(false);

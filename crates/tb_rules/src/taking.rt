@@ -1,7 +1,6 @@
 //! Checks the sentences of a file one after another.
 
-ghost use Rattle.std.specs.Prelude.{◌≡◌, ℕ, List, [], ◌∷◌, ◌++◌, OnOk, OnErr, IfErr, map};
-ghost use Rattle.std.specs.Prelude.{string_bytes};
+ghost use Rattle.std.specs.Prelude.{◌≡◌, ℕ, List, [], ◌∷◌, ◌++◌, OnOk, OnErr, IfErr};
 ghost use Rattle.tb_conllu.specs.Text.{BlockText};
 ghost use Rattle.tb_rules.specs.File.{IsValid, IsCutShort, IsFileFault, IsSentenceFault, HasTaken};
 ghost use Rattle.tb_rules.specs.Rules.{HasShortLists, KeepsTo, KeepsTo6, KeepsRules};
@@ -12,8 +11,8 @@ use crate::checking::first_broken;
 use crate::comments::sent_id;
 use crate::fault::RuleFault;
 use crate::filefault::FileFault;
+use crate::names::Names;
 use std::alloc::Global;
-use std::collections::BTreeSet;
 use std::marker::Model;
 use tb_conllu::{BlockOf, Text};
 
@@ -46,15 +45,14 @@ fn check_alone<T: Text>(
 #[derive(Drop)]
 pub struct Checker {
     alloc: Global,
-    // A tree, not a hash table: no file can make its names collide.
-    names: BTreeSet<String>,
+    names: Names,
     accepted: Accepted,
 }
 
 impl Model for Checker {
     ghost Value = { List (List ℕ) };
 
-    ghost view = { λ c. map string_bytes c.names.keys };
+    ghost view = { λ c. c.names };
 }
 
 impl Checker {
@@ -64,7 +62,7 @@ impl Checker {
     {
         Checker {
             alloc,
-            names: BTreeSet::new(alloc),
+            names: Names::new(alloc),
             accepted: Accepted::new(alloc),
         }
     }
@@ -87,7 +85,7 @@ impl Checker {
         ensures lists { IfErr result (λ e. e ≡ Memory → HasShortLists block.now → KeepsTo 9 block.now) }
         ensures kept { OnErr result (self.new ≡ self.old) }
     {
-        let sentence = self.names.len() + 1;
+        let sentence = self.names.count() + 1;
         check_alone(self.alloc, &mut self.accepted, block, sentence)?;
         let Some(name) = sent_id(block) else {
             return Err(FileFault::At {
@@ -96,8 +94,7 @@ impl Checker {
                 row: 0,
             });
         };
-        let owned = String::from_str(self.alloc, name)?;
-        match self.names.insert(owned) {
+        match self.names.keep(self.alloc, name) {
             Ok(true) => Ok(()),
             Ok(false) => Err(FileFault::At {
                 sentence,

@@ -116,17 +116,25 @@ fn note_depths(heads: &[u32], depths: &mut [usize], word: usize, depth: usize)
 
 /// Whether each word reaches the root. A walk ends at the first word whose depth is known, so no word is walked over
 /// twice.
+fn all_reach_root(heads: &[u32], depths: &mut [usize]) -> bool
+    requires { AreDepths heads.now depths.old }
+    ensures { IsTrue result ↔ IsTree heads.now }
+{
+    for k in 0..heads.len() {
+        let Some(depth) = depth(heads, depths, k + 1) else {
+            return false;
+        };
+        note_depths(heads, depths, k + 1, depth);
+    }
+    true
+}
+
+/// The same, with room for the depths. Only that takes memory.
 fn is_tree(alloc: Global, heads: &[u32]) -> Result<bool, AllocError>
     ensures { IfOk result (λ b. IsTrue b ↔ IsTree heads.now) }
 {
     let mut depths = vec![in alloc; 0usize; heads.len()]?;
-    for k in 0..heads.len() {
-        let Some(depth) = depth(heads, &depths, k + 1) else {
-            return Ok(false);
-        };
-        note_depths(heads, &mut depths, k + 1, depth);
-    }
-    Ok(true)
+    Ok(all_reach_root(heads, &mut depths))
 }
 
 /// Whether from each word steps along the heads lead to the root.

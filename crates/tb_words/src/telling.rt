@@ -1,6 +1,6 @@
 //! Tells the faults of a file, in one walk over it.
 
-ghost use Rattle.std.specs.Prelude.{◌≡◌, IfOk, map};
+ghost use Rattle.std.specs.Prelude.{◌≡◌, [], IfOk, IsOk, map};
 
 use crate::codes::fault_of_line;
 use crate::findings::Finding;
@@ -181,7 +181,8 @@ pub fn tell_faults(
     file: &[u8],
     faults: &[Fault],
 ) -> Result<Vec<FaultRow>, AllocError>
-    ensures { IfOk result (λ v. map (λ x. x.fault) v.items ≡ faults.now) }
+    ensures faults { IfOk result (λ v. map (λ x. x.fault) v.items ≡ faults.now) }
+    ensures sure { faults.now ≡ [] → IsOk result }
 {
     let mut walk = Walk::new(alloc, file);
     let mut told = Vec::new(alloc);

@@ -1,6 +1,4 @@
-use Rattle.tb_check.proofs.Read.{read_reply}
 use Rattle.tb_check.proofs.check.check_source.Goals as goal
 
 pub returns : goal.returns
-returns g c =
-    read_reply (g.R.Source.IsFailure c.read_all-input.new.source) c.args.limit (g.R.Source.left c.args.source.now) (g.R.Source.left c.read_all-input.new.source) c.read_all-input.result c.check_input.result c.read_all-input.ensures c.check_input.ensures
+returns g c = (c.read_all-input.result, c.read_all-input.ensures.came, c.check_input.ensures)

@@ -1,4 +1,4 @@
-use Rattle.tb_check.proofs.Reports.{Laws, line_first, none_at_all, rule_first, valid_none}
+use Rattle.tb_check.proofs.Reports.{line_first, none_at_all, rule_first, valid_none}
 use Rattle.tb_check.proofs.laws.the_first_fault_is_reported.Goals as goal
 
 pub returns-clause-line : goal.returns-clause-line

@@ -24,4 +24,4 @@ loop-rule-preserved g c =
     let i = c.loop-rule.rule-index in
     let asked = (c.is_asked.ensures b c.has_text-text.ensures c.has_ids-ids.ensures).0 c.if-not-is_asked.false in
     subst (λ (rs : List Rule). AreBrokenOf rs b c.push_row.new.broken.items) (sym (more_rules c.args.rules.now i SentId c.loop-rule-test.true))
-    (c.in_ok-push_row.ensures (map rule_of (take i c.args.rules.now)) b c.loop-rule.invariant asked c.in_ok-row.ensures)
+    (c.in_ok-push_row.ensures.added (map rule_of (take i c.args.rules.now)) b c.loop-rule.invariant asked c.in_ok-row.ensures.row)

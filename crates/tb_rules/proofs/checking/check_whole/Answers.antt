@@ -44,7 +44,7 @@ returns-then-not-branch-2-clause-fault g c =
     let eight = one_kept b dependencies 7 refl seven (rw c.in_default-2.is at c.in_ok-row-2.ensures.value) in
     let nine = one_kept b one_root 8 refl eight (c.has_one_root.ensures.0 c.if-not-has_one_root.false) in
     let ten = one_kept b tree 9 refl nine (c.in_ok-has_tree.ensures.0 c.if-not-branch.false) in
-    broken_next b restored 10 0 refl ten (iff_false c.in_ok-is_restored.ensures c.if-not-branch-2.true) refl
+    broken_next b restored 10 0 refl ten (iff_false c.in_ok-is_restored.ensures.value c.if-not-branch-2.true) refl
 
 pub returns-clause-valid : goal.returns-clause-valid
 returns-clause-valid g c =
@@ -53,7 +53,7 @@ returns-clause-valid g c =
     let eight = one_kept b dependencies 7 refl seven (rw c.in_default-2.is at c.in_ok-row-2.ensures.value) in
     let nine = one_kept b one_root 8 refl eight (c.has_one_root.ensures.0 c.if-not-has_one_root.false) in
     let ten = one_kept b tree 9 refl nine (c.in_ok-has_tree.ensures.0 c.if-not-branch.false) in
-    all_kept b (one_kept b restored 10 refl ten (c.in_ok-is_restored.ensures.0 c.if-not-branch-2.false))
+    all_kept b (one_kept b restored 10 refl ten (c.in_ok-is_restored.ensures.value.0 c.if-not-branch-2.false))
 
 pub returns-in_err-row-clause-lists : goal.returns-in_err-row-clause-lists
 returns-in_err-row-clause-lists g c =

@@ -11,7 +11,7 @@ use Rattle.tb_rules.proofs.spelling.put_text.Goals as goal
 pub loop-c-preserved : goal.loop-c-preserved
 loop-c-preserved c =
     let t = YieldsList-turn (YieldsList-from_chars c.args.text.now c.utf8.text cc) c.loop-c.yielded _ c.loop-c.yielded_by _ _ c.in-Some.c c.in-Some.is c.next.ensures.steps in
-    λ next. c.in_ok-put.ensures (drop (length (c.loop-c.yielded ++ c.in-Some.c ∷ [])) (chars c.args.text.now) ++ next) ∙
+    λ next. c.in_ok-put.ensures.put (drop (length (c.loop-c.yielded ++ c.in-Some.c ∷ [])) (chars c.args.text.now) ++ next) ∙
     (ap (λ (xs : List ℕ). continued (string_bytes c.loop-c.folding.text) c.loop-c.folding.gap (xs ++ next)) (sym (drop-turn (chars c.args.text.now) c.loop-c.yielded c.in-Some.c t)) ∙ c.loop-c.invariant next)
 
 pub returns : goal.returns

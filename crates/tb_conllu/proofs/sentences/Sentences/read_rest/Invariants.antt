@@ -1,6 +1,6 @@
 use Rattle.std.proofs.Common.{List, length}
+use Rattle.tb_conllu.specs.Left.{IsReadFrom}
 use Rattle.tb_conllu.specs.Text.{BlockText}
-use Rattle.tb_conllu.proofs.Files.{IsReadFrom}
 use Rattle.tb_conllu.proofs.sentences.Sentences.read_rest.Given as goal
 
 abbrev pub invariant-loop-block : goal.invariant-loop-block
