@@ -1,9 +1,10 @@
 //! A searcher with a prefilter.
 
-ghost use Rattle.std.specs.Prelude.{◌≡◌, ◌≤◌, [], ◌∷◌, IfOk, false};
+ghost use Rattle.std.specs.Prelude.{◌≡◌, ◌≤◌, ◌+◌, ◌*◌, ◌/◌, [], ◌∷◌, IfOk, false};
 ghost use Rattle.tb_conllu.specs.Text.{BlockText};
 ghost use Rattle.tb_conllu.specs.Reported.{IsFile};
 ghost use Rattle.tb_conllu.specs.Words.{words_of};
+ghost use Rattle.tb_match.specs.Weight.{weight_of};
 ghost use Rattle.tb_match.specs.declared.strategy.Strategy.{Strategy as AnyStrategy};
 ghost use Rattle.tb_query.specs.Search.{AreHitsIn};
 
@@ -55,7 +56,8 @@ impl<'q> PrefilteredSearcher<'q> {
         may_hit(&self.needles, body)
     }
 
-    /// The hits of the query in the sentence, by the strategy.
+    /// The hits of the query in the sentence, by the strategy, and the number of unions of bit rows that the search
+    /// took.
     pub fn hits<T: Text>(
         &mut self,
         alloc: Global,
@@ -64,6 +66,8 @@ impl<'q> PrefilteredSearcher<'q> {
     ) -> Result<Found, AllocError>
         requires { words_of block.now ≤ 1000 }
         ensures hits { IfOk result (λ f. AreHitsIn strategy self.old block.now f.hits.items) }
+        ensures steps { IfOk result (λ f.
+            f.steps ≤ weight_of self.old.pat * (words_of block.now + 1) * (words_of block.now + 2) / 2) }
         ensures unchanged { self.new ≡ self.old }
     {
         self.searcher.hits(alloc, block, strategy)

@@ -1,7 +1,8 @@
 //! Turns token expressions that name their literals by number into those with matchers.
 
-ghost use Rattle.std.specs.Prelude.{◌≡◌, ◌+◌, ◌/◌, ◌∷◌, [], map, max, string_bytes, IfOk, IfErr};
+ghost use Rattle.std.specs.Prelude.{◌≡◌, ◌≤◌, ◌+◌, ◌/◌, ◌∷◌, [], length, map, max, string_bytes, IfOk, IfErr, IsOk};
 ghost use Rattle.tb_literal.specs.Literals.{IsAccepted};
+ghost use Rattle.tb_syntax.specs.declared.expr.Expr.TheVariants.{Any};
 ghost use Rattle.tb_syntax.specs.Exprs.{test};
 ghost use Rattle.tb_syntax.specs.Tests.{every, whole, feature, denied_times, both, either, tests, literals};
 ghost use Rattle.tb_syntax.specs.Tests.{literals_of};
@@ -25,7 +26,8 @@ fn pattern_bytes(literals: usize) -> usize
 
 /// The text of the literal.
 fn text_of(alloc: Global, texts: &[String], literal: Literal) -> Result<String, AllocError>
-    ensures { IfOk result (λ s. string_bytes s ≡ text_of (map string_bytes texts.now) literal.number) }
+    ensures value { IfOk result (λ s. string_bytes s ≡ text_of (map string_bytes texts.now) literal.number) }
+    ensures sure { length texts.now ≤ literal.number → IsOk result }
 {
     match texts.get(usize::from(literal.number)) {
         Some(text) => text.clone(),
@@ -118,6 +120,7 @@ fn attach(
     ensures accepted { IfOk result (λ _. AreAccepted (map (with_text (map string_bytes texts.now))
         (literals (test expr.now)))) }
     ensures refused { IfErr result (λ e. IsRefusalAmong (map string_bytes texts.now) (literals (test expr.now)) e) }
+    ensures sure { expr.now ≡ Any → IsOk result }
 {
     match expr {
         Expr::Any => Ok(any()),
@@ -145,6 +148,7 @@ pub(crate) fn attach_all(
         (literals_of (map test exprs.now)))) }
     ensures refused { IfErr result (λ e. IsRefusalAmong (map string_bytes texts.now)
         (literals_of (map test exprs.now)) e) }
+    ensures sure { exprs.now ≡ [] → IsOk result }
 {
     let mut attached = Vec::new(alloc);
     for expr in exprs {

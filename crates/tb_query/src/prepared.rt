@@ -1,10 +1,11 @@
 //! Token expressions, prepared for a search with the caches that it writes to.
 
-ghost use Rattle.std.specs.Prelude.{◌≡◌, ℕ, not, if◌then◌else◌, IfOk, map};
+ghost use Rattle.std.specs.Prelude.{◌≡◌, ℕ, not, if◌then◌else◌, IfOk, IsOk, map};
 ghost use Rattle.std.specs.Global.{Global};
 ghost use Rattle.std.specs.declared.boxed.Box.{Box};
 ghost use Rattle.tb_query.specs.declared.prepared.PreparedExpr.{PreparedExpr};
 ghost use Rattle.tb_query.specs.PreparedExprs.{asked};
+ghost use Rattle.tb_syntax.specs.declared.expr.Expr.TheVariants.{Any};
 ghost use Rattle.tb_syntax.specs.Exprs.{test};
 ghost use Rattle.tb_query.specs.Meaning.{value_of, is_odd, holds, all_hold, some_hold};
 ghost use Rattle.tb_syntax.specs.Tests.{tests};
@@ -46,7 +47,8 @@ fn tester_of(alloc: Global, needle: &LiteralMatcher) -> Result<LiteralCache<'_>,
 /// Prepares a token expression for a search.
 #[cycle(prepare_expr)]
 fn prepare_expr(alloc: Global, expr: &Expr) -> Result<PreparedExpr<'_>, AllocError>
-    ensures { IfOk result (λ a. asked a ≡ test expr.now) }
+    ensures value { IfOk result (λ a. asked a ≡ test expr.now) }
+    ensures sure { expr.now ≡ Any → IsOk result }
 {
     match expr {
         Expr::Any => Ok(PreparedExpr::Any),

@@ -11,7 +11,7 @@ use Rattle.tb_syntax.specs.declared.lexeme.Lexeme.TheVariants.{LeftParen, RightP
 use Rattle.tb_syntax.specs.Follow.{begins_flag, begins_bar, begins_unit, begins_atom, begins_rep, EndsTest, EndsItem, EndsCat, EndsAlt}
 use Rattle.tb_syntax.specs.Grammar.{test_text, Repeat, quest, star, plus, exactly, at_least, between, rep_text, Alt, one_cat, or_alt, Cat, one_item, and_cat, Item, once, repeated, Atom, any, brackets, bare, parens, alt_text, cat_text, item_text, atom_text, Query, query, query_text, ending_text}
 use Rattle.tb_syntax.specs.Parsing.{head, tail, bounds, ReadsLiteral, ReadsTest, ReadsRepeat, ReadsExpr, ReadsAtom, ReadsItem, ReadsItems, ReadsCat, ReadsCats, ReadsAlt, ReadsQuery}
-use Rattle.tb_syntax.specs.Pattern.{alt_of, repeated_tree, alt_count, cat_count, item_count, atom_count, alt_parts, cat_parts, item_tree, atom_tree, alt_tests, cat_tests, item_tests, atom_tests, query_tree, query_tests}
+use Rattle.tb_syntax.specs.Pattern.{alt_of, repeated_tree, repeated_within, alt_count, cat_count, item_count, atom_count, alt_parts, cat_parts, item_tree, atom_tree, alt_tests, cat_tests, item_tests, atom_tests, query_tree, query_tests}
 use Rattle.tb_syntax.specs.Tests.{Test, every, whole}
 use Rattle.tb_syntax.specs.Limits.{query_count}
 use Rattle.tb_syntax.proofs.TestLemmas.{is_literal}
@@ -133,7 +133,7 @@ once_at ls mid rest old new t found r p z (repeated a q) end f e le =
     let y = (p.some q end (sym x.2)).0 in
     cc (y, z)
 
-pub once_read : (ls mid rest : List Lexeme) (old new : List (Test Literal)) (t : Tree) (found : Option (ℕ × Option ℕ)) → ReadsAtom ls old new t mid → ReadsRepeat mid found rest → found ≡ None →
+once_read : (ls mid rest : List Lexeme) (old new : List (Test Literal)) (t : Tree) (found : Option (ℕ × Option ℕ)) → ReadsAtom ls old new t mid → ReadsRepeat mid found rest → found ≡ None →
     ReadsItem ls old new t rest
 once_read ls mid rest old new t found r p z = record { at = λ i end f e le. once_at ls mid rest old new t found r p z i end f e le }
 
@@ -153,9 +153,14 @@ repeated_at ls mid rest old new t s found n m r p z w (repeated a q) end f e le 
     let b = same_bounds (n, m) (bounds q) (sym z ∙ y.0) in
     (w ∙ ap (λ (u : ℕ × Option ℕ). rep t u.0 u.1) b ∙ same_tree q t ∙ ap (repeated_tree q) x.0, x.1, y.1)
 
-pub repeated_read : (ls mid rest : List Lexeme) (old new : List (Test Literal)) (t s : Tree) (found : Option (ℕ × Option ℕ)) (n : ℕ) (m : Option ℕ) → ReadsAtom ls old new t mid →
+repeated_read : (ls mid rest : List Lexeme) (old new : List (Test Literal)) (t s : Tree) (found : Option (ℕ × Option ℕ)) (n : ℕ) (m : Option ℕ) → ReadsAtom ls old new t mid →
     ReadsRepeat mid found rest → found ≡ Some (n, m) → s ≡ rep t n m → ReadsItem ls old new s rest
 repeated_read ls mid rest old new t s found n m r p z w = record { at = λ i end f e le. repeated_at ls mid rest old new t s found n m r p z w i end f e le }
+
+pub item_read : (ls mid rest : List Lexeme) (old new : List (Test Literal)) (t s : Tree) (found : Option (ℕ × Option ℕ)) → ReadsAtom ls old new t mid → ReadsRepeat mid found rest →
+    s ≡ repeated_within found t → ReadsItem ls old new s rest
+item_read ls mid rest old new t s None r p w = subst (λ u. ReadsItem ls old new u rest) (sym w) (once_read ls mid rest old new t None r p refl)
+item_read ls mid rest old new t s (Some times) r p w = repeated_read ls mid rest old new t s (Some times) times.0 times.1 r p refl w
 
 -- each token expression is counted
 mutual

@@ -1,5 +1,5 @@
 -- A text and its lexemes: what is wrong with one that is no query, and what one says that is a query.
-use Rattle.std.proofs.Common.{◌≡◌, ℕ, ◌<◌, ◌≤◌, List, [], ◌∷◌, length, map, refl, sym, ap, subst, ◌∙◌, arith, true}
+use Rattle.std.proofs.Common.{◌≡◌, ℕ, ◌<◌, ◌≤◌, List, length, map, refl, sym, ap, subst, ◌∙◌, arith, true}
 use Rattle.std.proofs.lemmas.List.{length-map}
 use Rattle.tb_match.specs.Trees.{Tree}
 use Rattle.tb_match.specs.Weight.{Fits}
@@ -50,11 +50,6 @@ past text bytes ls ms ss q Memory same le h f w p = absurd p
 pub accepted : (text bytes : List ℕ) (ls ms : List Lexeme) (ss : List Span) (q : Query) → bytes ≡ text → length bytes ≤ 2000 → Lexes 0 0 bytes ls ss → ms ≡ ls → query_text q ≡ ms →
     (query_count q ≤ 32) × (query_nests 16 q ≡ true) × (query_repeats 32 q ≡ true) → IsAccepted text ls ss
 accepted text bytes ls ms ss q same le h f w p = (q, ((omega (arith, ap length same), subst (λ t. Lexes 0 0 t ls ss) same h), w ∙ f, p.0, p.1, p.2))
-
--- a text for whose lexemes memory was wanting is not empty
-pub some_byte : (text bytes : List ℕ) → bytes ≡ text → (bytes ≡ [] → ⊥) → 0 < length text
-some_byte text [] same h = absurd (h refl)
-some_byte text (b ∷ bs) same h = omega (arith, ap length same)
 
 -- what is read of the lexemes of a query within the limits
 read_off : (text : List ℕ) (ls ms : List Lexeme) (ss : List Span) (t : Tree) (es : List (Test Literal)) (h : IsAccepted text ls ss) → ms ≡ ls → ReadsQuery ms t es →

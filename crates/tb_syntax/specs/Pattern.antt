@@ -1,5 +1,5 @@
 -- The meaning of a query as plain data: its pattern over token expressions, and these expressions.
-use Rattle.std.specs.Prelude.{◌≡◌, ℕ, ◌+◌, List, [], ◌∷◌, ◌++◌, None, Some}
+use Rattle.std.specs.Prelude.{◌≡◌, ℕ, ◌+◌, List, [], ◌∷◌, ◌++◌, Option, None, Some}
 use Rattle.tb_match.specs.Trees.{Tree, tok, cat, alt, rep, forest}
 use Rattle.tb_syntax.specs.declared.expr.Literal.{Literal}
 use Rattle.tb_syntax.specs.declared.lexeme.Attr.TheVariants.{Form}
@@ -59,6 +59,11 @@ repeated_tree plus t = rep t 1 None
 repeated_tree (exactly n) t = rep t n (Some n)
 repeated_tree (at_least n) t = rep t n None
 repeated_tree (between n m) t = rep t n (Some m)
+
+-- the tree, repeated where there are a least and a greatest number
+abbrev pub repeated_within : Option (ℕ × Option ℕ) → Tree → Tree
+repeated_within None t = t
+repeated_within (Some times) t = rep t times.0 times.1
 
 -- how many token expressions there are
 abbrev mutual

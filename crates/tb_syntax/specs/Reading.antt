@@ -27,6 +27,10 @@ IsWithin text ls ss q = IsText text ls ss × (query_text q ≡ ls) × (query_cou
 abbrev pub IsAccepted : List ℕ → List Lexeme → List Span → Type 0
 IsAccepted text ls ss = (q : Query) × IsWithin text ls ss q
 
+-- the text is a query within the limits
+abbrev pub IsQueryText : List ℕ → Type 0
+IsQueryText text = (ls : List Lexeme) × (ss : List Span) × IsAccepted text ls ss
+
 -- the text is such a query, with this pattern and these token expressions
 abbrev pub IsRead : List ℕ → List Lexeme → List Span → Tree → List (Test Literal) → Type 0
 IsRead text ls ss t es = (q : Query) × IsWithin text ls ss q × (query_tree q ≡ t) × (query_tests q ≡ es)

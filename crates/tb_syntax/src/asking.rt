@@ -1,7 +1,8 @@
 //! Parses the tests between brackets.
 
-ghost use Rattle.std.specs.Prelude.{◌≡◌, ◌∷◌, ◌≤◌, ◌-◌, List, length, map, IfOk};
+ghost use Rattle.std.specs.Prelude.{◌≡◌, ◌≢◌, ◌∷◌, ◌≤◌, ◌-◌, List, length, map, IfOk, IsOk};
 ghost use Rattle.tb_syntax.specs.declared.expr.Literal.{Literal};
+ghost use Rattle.tb_syntax.specs.declared.lexeme.Attr.{Attr};
 ghost use Rattle.tb_syntax.specs.declared.lexeme.Lexeme.{Lexeme};
 ghost use Rattle.tb_syntax.specs.Exprs.{test};
 ghost use Rattle.tb_syntax.specs.Parsing.{head, ReadsUnit, ReadsUnits, ReadsConj, ReadsConjs, ReadsTest};
@@ -20,6 +21,7 @@ fn comparison_at(
 ) -> Result<(Expr<Literal>, &[Lexeme]), AllocError>
     ensures exact { IfOk result (λ x. ReadsUnit (Lexeme.Name attr ∷ lexemes.now) (test x.0) x.1.now) }
     ensures shorter { IfOk result (λ x. length x.1.now ≤ length lexemes.now) }
+    ensures sure { head lexemes.now ≢ Lexeme.Differs → IsOk result }
 {
     let (literal, rest) = literal_at(tail(lexemes));
     match head(lexemes) {
@@ -54,6 +56,8 @@ fn plain_unit_at(
     ensures exact { (head lexemes.now ≡ Lexeme.Not → ⊥)
         → IfOk result (λ x. ReadsUnit lexemes.now (test x.0) x.1.now) }
     ensures shorter { IfOk result (λ x. length x.1.now ≤ length lexemes.now - 1) }
+    ensures sure { head lexemes.now ≢ Lexeme.LeftParen → ((attr : Attr) → head lexemes.now ≢ Lexeme.Name attr)
+        → IsOk result }
 {
     let rest = tail(lexemes);
     match head(lexemes) {

@@ -29,7 +29,7 @@ pub enum Flag {
 }
 
 /// A lexeme of a query. It owns no text: a literal is named by its number among the literals.
-#[derive(Clone, Copy, PartialEq, Eq, Debug)]
+#[derive(Clone, Copy, PartialEq, Eq, Debug, Default)]
 pub enum Lexeme {
     /// `(`
     LeftParen,
@@ -80,5 +80,6 @@ pub enum Lexeme {
     /// The literal with this number, counted from 0.
     Quote(u16),
     /// A run of letters or digits that no query has, or a byte that begins no lexeme.
+    #[default]
     Stray,
 }

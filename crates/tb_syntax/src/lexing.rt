@@ -1,15 +1,17 @@
 //! Splits the text of a query into lexemes.
 
-ghost use Rattle.std.specs.Prelude.{◌≡◌, ◌∷◌, ◌++◌, ◌<◌, ◌≤◌, ◌+◌, ◌-◌, ◌^◌, []};
-ghost use Rattle.std.specs.Prelude.{length, IfOk, IsOk, OnOk};
+ghost use Rattle.std.specs.Prelude.{◌≡◌, ◌∷◌, ◌++◌, ◌<◌, ◌≤◌, ◌+◌, ◌-◌, ◌^◌, [], length};
 ghost use Rattle.tb_syntax.specs.Lexing.{is_white, literals_after, Lexes};
 
 use crate::lexeme::Lexeme;
 use crate::spelling::lexeme_at;
-use std::alloc::{AllocError, Global};
+use arrayvec::ArrayVec;
+
+/// The most bytes of a query, and so the most lexemes.
+pub(crate) const LONGEST: usize = 2000;
 
 /// The bytes of a lexeme in a text.
-#[derive(Clone, Copy, PartialEq, Eq, Debug)]
+#[derive(Clone, Copy, PartialEq, Eq, Debug, Default)]
 pub struct Span {
     /// The place of its first byte, counted from 0.
     pub start: usize,
@@ -18,31 +20,34 @@ pub struct Span {
 }
 
 /// The lexemes of a text, and their places in it.
+///
+/// They lie in the value itself, some 40 KiB, so that to find them takes no memory.
 #[derive(Debug, Drop)]
 pub struct Lexed {
-    pub lexemes: Vec<Lexeme>,
+    pub lexemes: ArrayVec<Lexeme, LONGEST>,
     /// One for each lexeme, in the same order.
-    pub spans: Vec<Span>,
+    pub spans: ArrayVec<Span, LONGEST>,
 }
 
 impl Lexed {
-    fn new(alloc: Global) -> Lexed
+    fn new() -> Lexed
         ensures lexemes { result.lexemes.items ≡ [] }
         ensures spans { result.spans.items ≡ [] }
     {
         Lexed {
-            lexemes: Vec::new(alloc),
-            spans: Vec::new(alloc),
+            lexemes: ArrayVec::new(),
+            spans: ArrayVec::new(),
         }
     }
 
-    fn push(&mut self, lexeme: Lexeme, span: Span) -> Result<(), AllocError>
-        ensures lexemes { OnOk result (self.new.lexemes.items ≡ self.old.lexemes.items ++ lexeme ∷ []) }
-        ensures spans { OnOk result (self.new.spans.items ≡ self.old.spans.items ++ span ∷ []) }
+    fn push(&mut self, lexeme: Lexeme, span: Span)
+        requires lexemes { length self.old.lexemes.items < 2000 }
+        requires spans { length self.old.spans.items < 2000 }
+        ensures lexemes { self.new.lexemes.items ≡ self.old.lexemes.items ++ lexeme ∷ [] }
+        ensures spans { self.new.spans.items ≡ self.old.spans.items ++ span ∷ [] }
     {
-        self.lexemes.push(lexeme)?;
-        self.spans.push(span)?;
-        Ok(())
+        self.lexemes.push(lexeme);
+        self.spans.push(span);
     }
 }
 
@@ -66,12 +71,11 @@ fn literals_after(literals: u16, lexeme: Lexeme) -> u16
 }
 
 /// The lexemes of the text, up to the first place with no lexeme, for which a stray lexeme is the last.
-pub(crate) fn lex(alloc: Global, text: &[u8]) -> Result<Lexed, AllocError>
-    requires { length text.now < 2 ^ 16 }
-    ensures lexemes { IfOk result (λ x. Lexes 0 0 text.now x.lexemes.items x.spans.items) }
-    ensures sure { text.now ≡ [] → IsOk result }
+pub(crate) fn lex(text: &[u8]) -> Lexed
+    requires { length text.now ≤ 2000 }
+    ensures { Lexes 0 0 text.now result.lexemes.items result.spans.items }
 {
-    let mut lexed = Lexed::new(alloc);
+    let mut lexed = Lexed::new();
     let mut at = 0;
     let mut literals = 0;
     while at < text.len() {
@@ -80,13 +84,13 @@ pub(crate) fn lex(alloc: Global, text: &[u8]) -> Result<Lexed, AllocError>
             continue;
         }
         let Some(found) = lexeme_at(&text[at..], literals) else {
-            lexed.push(Lexeme::Stray, Span { start: at, end: at })?;
-            return Ok(lexed);
+            lexed.push(Lexeme::Stray, Span { start: at, end: at });
+            return lexed;
         };
         let end = at + found.length;
-        lexed.push(found.lexeme, Span { start: at, end })?;
+        lexed.push(found.lexeme, Span { start: at, end });
         literals = literals_after(literals, found.lexeme);
         at = end;
     }
-    Ok(lexed)
+    lexed
 }

@@ -1,11 +1,12 @@
 //! Parses patterns.
 
-ghost use Rattle.std.specs.Prelude.{◌≡◌, ◌≤◌, ◌-◌, length, map, IfOk};
+ghost use Rattle.std.specs.Prelude.{◌≡◌, ◌≢◌, ◌≤◌, ◌-◌, length, map, IfOk, IsOk};
 ghost use Rattle.tb_match.specs.Trees.{tree};
+ghost use Rattle.tb_syntax.specs.declared.lexeme.Lexeme.{Lexeme};
 ghost use Rattle.tb_syntax.specs.Exprs.{test};
 ghost use Rattle.tb_syntax.specs.Follow.{begins_atom};
-ghost use Rattle.tb_syntax.specs.Parsing.{ReadsNumbers, ReadsRepeat, ReadsExpr, ReadsAtom, ReadsItem, ReadsItems};
-ghost use Rattle.tb_syntax.specs.Parsing.{ReadsCat, ReadsCats, ReadsAlt, ReadsQuery};
+ghost use Rattle.tb_syntax.specs.Parsing.{head, tail, ReadsNumbers, ReadsRepeat, ReadsExpr, ReadsAtom, ReadsItem};
+ghost use Rattle.tb_syntax.specs.Parsing.{ReadsItems, ReadsCat, ReadsCats, ReadsAlt, ReadsQuery};
 
 use crate::asking::test_at;
 use crate::cursor::{head, literal_at, tail};
@@ -55,6 +56,8 @@ fn repeat_at(lexemes: &[Lexeme]) -> (Option<(u8, Option<u8>)>, &[Lexeme])
 fn expr_at(alloc: Global, lexemes: &[Lexeme]) -> Result<(Expr<Literal>, &[Lexeme]), AllocError>
     ensures exact { IfOk result (λ x. ReadsExpr lexemes.now (test x.0) x.1.now) }
     ensures shorter { IfOk result (λ x. length x.1.now ≤ length lexemes.now - 1) }
+    ensures sure { head lexemes.now ≢ Lexeme.LeftBracket → IsOk result }
+    ensures any { head (tail lexemes.now) ≡ Lexeme.RightBracket → IsOk result }
 {
     let rest = tail(lexemes);
     match head(lexemes) {
@@ -110,10 +113,7 @@ fn item_at<'s>(
 {
     let (atom, rest) = atom_at(alloc, lexemes, exprs)?;
     let (bounds, rest) = repeat_at(rest);
-    match bounds {
-        Some(times) => Ok((repeated(alloc, atom, times.0, times.1)?, rest)),
-        None => Ok((atom, rest)),
-    }
+    Ok((repeated(alloc, atom, bounds)?, rest))
 }
 
 /// Whether an atom is at the beginning.

@@ -6,22 +6,19 @@ ghost use Rattle.tb_match.specs.Trees.{tree};
 ghost use Rattle.tb_match.specs.Weight.{Fits};
 ghost use Rattle.tb_syntax.specs.Grammar.{Query as AnyQuery, query_text};
 ghost use Rattle.tb_syntax.specs.Limits.{query_count, query_nests, query_repeats};
-ghost use Rattle.tb_syntax.specs.Reading.{IsAccepted, IsFault, IsPastLimit, byte_of};
+ghost use Rattle.tb_syntax.specs.Reading.{IsAccepted, IsFault, IsPastLimit, IsQueryText, byte_of};
 ghost use Rattle.tb_syntax.specs.Saying.{Says};
 ghost use Rattle.tb_syntax.specs.declared.fault.Fault.TheVariants.{Memory};
 ghost use Rattle.tb_syntax.specs.Exprs.{test};
 
 use crate::fault::Fault;
 use crate::lexeme::Lexeme;
-use crate::lexing::{Lexed, Span, lex};
+use crate::lexing::{LONGEST, Lexed, Span, lex};
 use crate::limits::{count_expressions, nests_within, repeats_within};
 use crate::parsing::{Parsed, parse_lexemes};
 use crate::scanning::scan;
 use crate::unquoting::unquote_all;
 use std::alloc::Global;
-
-/// The most bytes of a query.
-const LONGEST: usize = 2000;
 
 /// The most token expressions of a query.
 const MOST_EXPRESSIONS: usize = 32;
@@ -65,21 +62,21 @@ fn test_limits(lexemes: &[Lexeme]) -> Result<(), Fault>
     Ok(())
 }
 
-/// The lexemes of a query.
+/// The lexemes of a query. Takes no memory.
 ///
 /// # Errors
 ///
-/// The first fault of the text. `Memory` comes only for a text within the limit of length that is not empty.
-pub fn read(alloc: Global, text: &str) -> Result<Lexed, Fault>
+/// The first fault of the text, which is never `Memory`.
+pub fn read(text: &str) -> Result<Lexed, Fault>
     ensures query { IfOk result (λ x. IsAccepted text.now x.lexemes.items x.spans.items) }
     ensures fault { IfErr result (λ e. IsFault text.now e) }
-    ensures memory { IfErr result (λ e. e ≡ Memory → (0 < length text.now) × (length text.now ≤ 2000)) }
+    ensures memory { IfErr result (λ e. e ≡ Memory → ⊥) }
 {
     let bytes = text.as_bytes();
     if bytes.len() > LONGEST {
         return Err(Fault::TooLong);
     }
-    let lexed = lex(alloc, bytes)?;
+    let lexed = lex(bytes);
     let lexemes = lexed.lexemes.as_slice();
     if let Err(place) = scan(lexemes) {
         return Err(Fault::Syntax(byte_of(lexed.spans.as_slice(), place, bytes.len())));
@@ -104,17 +101,18 @@ pub struct Query {
 ///
 /// # Errors
 ///
-/// The first fault of the text. `Memory` comes only for a text within the limit of length.
+/// The first fault of the text. `Memory` comes only for a text that is a query within the limits.
 pub fn parse(alloc: Global, text: &str) -> Result<Query, Fault>
     ensures query { IfOk result (λ x. Says text.now (tree x.parsed.pat) (map test x.parsed.exprs.items)
         (map string_bytes x.literals.items)) }
     ensures fits { IfOk result (λ x. Fits (length x.parsed.exprs.items) (tree x.parsed.pat)) }
     ensures few { IfOk result (λ x. length x.parsed.exprs.items ≤ 32) }
     ensures fault { IfErr result (λ e. IsFault text.now e) }
-    ensures memory { IfErr result (λ e. e ≡ Memory → length text.now ≤ 2000) }
+    ensures memory { IfErr result (λ e. e ≡ Memory → IsQueryText text.now) }
 {
-    let lexed = read(alloc, text)?;
-    let parsed = parse_lexemes(alloc, lexed.lexemes.as_slice())?;
-    let literals = unquote_all(alloc, text, &lexed)?;
+    let lexed = read(text)?;
+    let lexemes = lexed.lexemes.as_slice();
+    let parsed = parse_lexemes(alloc, lexemes)?;
+    let literals = unquote_all(alloc, text, lexemes, lexed.spans.as_slice())?;
     Ok(Query { parsed, literals })
 }

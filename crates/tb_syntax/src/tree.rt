@@ -1,8 +1,8 @@
 //! Patterns over token expressions.
 
-ghost use Rattle.std.specs.Prelude.{◌≡◌, map, IfOk};
-ghost use Rattle.tb_match.specs.Trees.{tok, rep, tree};
-ghost use Rattle.tb_syntax.specs.Pattern.{cat_of, alt_of};
+ghost use Rattle.std.specs.Prelude.{◌≡◌, None, map, IfOk, IsOk};
+ghost use Rattle.tb_match.specs.Trees.{tok, tree};
+ghost use Rattle.tb_syntax.specs.Pattern.{cat_of, alt_of, repeated_within};
 
 use std::alloc::{AllocError, Global};
 use tb_match::Pat;
@@ -14,16 +14,19 @@ pub(crate) fn tok(expr: u16) -> Pat
     Pat::Tok(expr)
 }
 
-/// The pattern, repeated.
+/// The pattern, repeated this many times; the pattern itself where there is no repetition.
 pub(crate) fn repeated(
     alloc: Global,
     pat: Pat,
-    least: u8,
-    most: Option<u8>,
+    bounds: Option<(u8, Option<u8>)>,
 ) -> Result<Pat, AllocError>
-    ensures { IfOk result (λ p. tree p ≡ rep (tree pat) least most) }
+    ensures value { IfOk result (λ p. tree p ≡ repeated_within bounds (tree pat)) }
+    ensures sure { bounds ≡ None → IsOk result }
 {
-    Ok(Pat::Rep(Box::new(alloc, pat)?, least, most))
+    match bounds {
+        Some((least, most)) => Ok(Pat::Rep(Box::new(alloc, pat)?, least, most)),
+        None => Ok(pat),
+    }
 }
 
 /// The sequence of the parts; the part itself where there is one.

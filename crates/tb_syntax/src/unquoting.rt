@@ -1,6 +1,6 @@
 //! The texts of literals.
 
-ghost use Rattle.std.specs.Prelude.{◌≡◌, ◌<◌, ℕ, List, map, IfOk, false};
+ghost use Rattle.std.specs.Prelude.{◌≡◌, ◌<◌, ℕ, List, length, map, slice_index_or, IfOk, false};
 ghost use Rattle.std.specs.String.{string_bytes};
 ghost use Rattle.tb_syntax.specs.First.{said_of};
 ghost use Rattle.tb_syntax.specs.Lexing.{Lexes};
@@ -8,7 +8,7 @@ ghost use Rattle.tb_syntax.specs.Saying.{IsSaid};
 ghost use Rattle.tb_syntax.specs.Spelling.{IsQuoted};
 
 use crate::lexeme::Lexeme;
-use crate::lexing::Lexed;
+use crate::lexing::Span;
 use std::alloc::{AllocError, Global};
 
 /// The text of a literal, from the bytes after its opening quote, with its closing quote.
@@ -43,20 +43,28 @@ pub(crate) fn unquote(alloc: Global, literal: &str) -> Result<String, AllocError
     }
 }
 
+/// The place of the lexeme with this number.
+fn span_at(spans: &[Span], number: usize) -> Span
+    requires { number < length spans.now }
+    ensures { result ≡ slice_index_or spans.now number result }
+{
+    spans[number]
+}
+
 /// The texts of all literals of a query, in its order.
 pub(crate) fn unquote_all(
     alloc: Global,
     text: &str,
-    lexed: &Lexed,
+    lexemes: &[Lexeme],
+    spans: &[Span],
 ) -> Result<Vec<String>, AllocError>
-    requires { Lexes 0 0 text.now lexed.now.lexemes.items lexed.now.spans.items }
-    ensures { IfOk result (λ v. IsSaid text.now lexed.now.lexemes.items lexed.now.spans.items
-        (map string_bytes v.items)) }
+    requires { Lexes 0 0 text.now lexemes.now spans.now }
+    ensures { IfOk result (λ v. IsSaid text.now lexemes.now spans.now (map string_bytes v.items)) }
 {
     let mut literals = Vec::new(alloc);
-    for (i, lexeme) in lexed.lexemes.iter().enumerate() {
+    for (i, lexeme) in lexemes.iter().enumerate() {
         if let Lexeme::Quote(_) = lexeme {
-            let span = lexed.spans[i];
+            let span = span_at(spans, i);
             literals.push(unquote(alloc, &text[span.start..span.end])?)?;
         }
     }

@@ -15,4 +15,4 @@ refused_so said l pattern.Memory refuses = tt
 pub returns-in-Err-clause-refused : goal.returns-in-Err-clause-refused
 returns-in-Err-clause-refused c =
     rw c.fault_of.ensures (refused_so (map string_bytes c.args.texts.now) c.args.literal c.in-Err.fault (λ syntax h.
-    c.in-Err.ensures.refused syntax (subst (IsAccepted c.args.literal.flag) (sym c.in_ok-text.ensures) h)))
+    c.in-Err.ensures.refused syntax (subst (IsAccepted c.args.literal.flag) (sym c.in_ok-text.ensures.value) h)))

@@ -16,6 +16,12 @@ plain_unit_at-returns-in_default-clause-exact t c plain =
     no_unit c.args.lexemes.now c.tail-rest.result.now _ (λ h. c.in_default.not-LeftParen (c.head.ensures ∙ h)) plain
     (λ a h. c.in_default.not-Name a (c.head.ensures ∙ h))
 
+pub plain_unit_at-returns-in_err-expr-in-LeftParen-clause-sure : goal.plain_unit_at-returns-in_err-expr-in-LeftParen-clause-sure
+plain_unit_at-returns-in_err-expr-in-LeftParen-clause-sure t c other _ = absurd (other (sym c.head.ensures ∙ c.in-LeftParen.is))
+
+pub plain_unit_at-returns-in-Name-clause-sure : goal.plain_unit_at-returns-in-Name-clause-sure
+plain_unit_at-returns-in-Name-clause-sure t c _ other = absurd (other c.in-Name.attr (sym c.head.ensures ∙ c.in-Name.is))
+
 pub units_at-returns-in-And-clause-exact : goal.units_at-returns-in-And-clause-exact
 units_at-returns-in-And-clause-exact t c =
     let old = map test c.args.parts.now.items in

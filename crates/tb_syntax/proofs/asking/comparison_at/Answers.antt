@@ -18,3 +18,6 @@ returns-in_default-clause-exact c =
     same_unit _ _ _ _ c.whole-in_default.ensures
     (equals_read c.args.attr c.args.lexemes.now c.tail.result.now c.literal_at.result.1.now c.literal_at.result.0
     (λ h. c.in_default.not-Contains (c.head.ensures ∙ h)) (λ h. c.in_default.not-Differs (c.head.ensures ∙ h)) c.tail.ensures.rest c.literal_at.ensures.exact)
+
+pub returns-in_err-denied-in-Differs-clause-sure : goal.returns-in_err-denied-in-Differs-clause-sure
+returns-in_err-denied-in-Differs-clause-sure c other = absurd (other (sym c.head.ensures ∙ c.in-Differs.is))

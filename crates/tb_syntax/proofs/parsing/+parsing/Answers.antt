@@ -7,7 +7,7 @@ use Rattle.tb_syntax.specs.Exprs.{test}
 use Rattle.tb_syntax.specs.Parsing.{ReadsItems, ReadsCats}
 use Rattle.tb_syntax.proofs.TestLemmas as tests
 use Rattle.tb_syntax.proofs.TestLemmas.{if_ok}
-use Rattle.tb_syntax.proofs.PatternLemmas.{parens_read, expr_read, once_read, repeated_read, more_items, last_item, more_cats, last_cat, pushed}
+use Rattle.tb_syntax.proofs.PatternLemmas.{parens_read, expr_read, item_read, more_items, last_item, more_cats, last_cat, pushed}
 use Rattle.tb_syntax.proofs.parsing.+parsing.Goals as goal
 
 pub atom_at-returns-in_ok-alt-in-LeftParen-clause-exact : goal.atom_at-returns-in_ok-alt-in-LeftParen-clause-exact
@@ -23,15 +23,10 @@ atom_at-returns-in_ok-push-in_default-clause-exact t c =
     (λ h. c.in_default.not-LeftParen (c.head.ensures ∙ h)) c.in_ok-expr-in_default.ensures.exact size c.tok.ensures
     (tests.pushed old c.push.new.self.items c.in_ok-expr-in_default.expr c.in_ok-push-in_default.ensures.items)
 
-pub item_at-returns-in_ok-repeated-in-Some-clause-exact : goal.item_at-returns-in_ok-repeated-in-Some-clause-exact
-item_at-returns-in_ok-repeated-in-Some-clause-exact t c =
-    repeated_read c.args.lexemes.now c.in_ok-atom.rest.now c.repeat_at-bounds.result.1.now _ _ (tree c.in_ok-atom.atom) _ c.repeat_at-bounds.result.0 c.in-Some.times.0 c.in-Some.times.1
-    c.in_ok-atom.ensures.exact c.repeat_at-bounds.ensures.exact c.in-Some.is c.in_ok-repeated-in-Some.ensures
-
-pub item_at-returns-in-None-clause-exact : goal.item_at-returns-in-None-clause-exact
-item_at-returns-in-None-clause-exact t c =
-    once_read c.args.lexemes.now c.in_ok-atom.rest.now c.repeat_at-bounds.result.1.now _ _ (tree c.in_ok-atom.atom) c.repeat_at-bounds.result.0
-    c.in_ok-atom.ensures.exact c.repeat_at-bounds.ensures.exact c.in-None.is
+pub item_at-returns-clause-exact : goal.item_at-returns-clause-exact
+item_at-returns-clause-exact t c =
+    item_read c.args.lexemes.now c.in_ok-atom.rest.now c.repeat_at-bounds.result.1.now _ _ (tree c.in_ok-atom.atom) _ c.repeat_at-bounds.result.0
+    c.in_ok-atom.ensures.exact c.repeat_at-bounds.ensures.exact c.in_ok-repeated.ensures.value
 
 pub items_at-returns-then-begins_atom-clause-exact : goal.items_at-returns-then-begins_atom-clause-exact
 items_at-returns-then-begins_atom-clause-exact t c =

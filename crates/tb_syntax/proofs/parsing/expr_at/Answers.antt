@@ -1,4 +1,5 @@
-use Rattle.std.proofs.Common.{sym, ◌∙◌}
+use Rattle.std.proofs.Common.{sym, ap, ◌∙◌}
+use Rattle.tb_syntax.specs.Parsing.{head}
 use Rattle.tb_syntax.proofs.PatternLemmas.{any_read, test_read, quote_read}
 use Rattle.tb_syntax.proofs.parsing.expr_at.Goals as goal
 
@@ -15,3 +16,10 @@ returns-in_ok-test-in_default-head-clause-exact c =
 pub returns-in_default-clause-exact : goal.returns-in_default-clause-exact
 returns-in_default-clause-exact c =
     quote_read c.args.lexemes.now c.literal_at.result.1.now c.literal_at.result.0 _ (λ h. c.in_default.not-LeftBracket (c.head.ensures ∙ h)) c.literal_at.ensures.exact c.whole.ensures
+
+pub returns-in_err-test-in_default-head-clause-sure : goal.returns-in_err-test-in_default-head-clause-sure
+returns-in_err-test-in_default-head-clause-sure c other = absurd (other (sym c.head.ensures ∙ c.in-LeftBracket.is))
+
+pub returns-in_err-test-in_default-head-clause-any : goal.returns-in_err-test-in_default-head-clause-any
+returns-in_err-test-in_default-head-clause-any c shut =
+    absurd (c.in_default-head.not-RightBracket (c.head-in-LeftBracket.ensures ∙ ap head c.tail-rest.ensures.rest ∙ shut))

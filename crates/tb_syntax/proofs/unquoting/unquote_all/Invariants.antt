@@ -4,4 +4,4 @@ use Rattle.tb_syntax.proofs.Sayings.{SaidTo}
 use Rattle.tb_syntax.proofs.unquoting.unquote_all.Given as goal
 
 abbrev pub invariant-loop-i : goal.invariant-loop-i
-invariant-loop-i l = SaidTo l.text l.lexed.lexemes.items l.lexed.spans.items l.i (map string_bytes l.literals.items)
+invariant-loop-i l = SaidTo l.text l.lexemes l.spans l.i (map string_bytes l.literals.items)
