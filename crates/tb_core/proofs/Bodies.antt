@@ -1,5 +1,5 @@
 -- A body that is read and checked one sentence after another.
-use Rattle.std.proofs.Common.{◌≡◌, ℕ, ◌<◌, ◌≤◌, ◌⊎◌, inl, inr, List, [], ◌∷◌, ◌++◌, length, length-append, map, refl, sym, ◌∙◌, ap, subst, arith}
+use Rattle.std.proofs.Common.{◌≡◌, ℕ, ◌<◌, ◌≤◌, ◌⊎◌, inl, inr, List, [], ◌∷◌, ◌++◌, length, map, refl, sym, ◌∙◌, ap, subst, arith}
 use Rattle.std.specs.Prelude.{Result, Ok, Err, MatchResult, IfOk, IfErr}
 use Rattle.std.proofs.lemmas.List.{map-append, length-map}
 use Rattle.tb_conllu.specs.Left.{Left, IsNext, IsReadTo}
@@ -7,7 +7,8 @@ use Rattle.tb_conllu.proofs.Reading.{sentence_some}
 use Rattle.tb_conllu.specs.Text.{BlockText, text_of}
 use Rattle.tb_conllu.specs.Shape.{AllShaped}
 use Rattle.tb_conllu.specs.Reported.{IsFile, IsNoFile, IsReported}
-use Rattle.tb_conllu.specs.Fault.{IsFaultAfter, IsReadFault}
+use Rattle.tb_conllu.specs.Fault.{IsFaultAfter, IsReadFault, MayWantMemory}
+use Rattle.tb_conllu.proofs.Shortage.{file_wants, next_wants, rest_wants}
 use Rattle.tb_conllu.specs.declared.fault.ReadFault.{ReadFault}
 use Rattle.tb_conllu.specs.declared.fault.ReadFault.TheVariants as reading
 use Rattle.tb_rules.specs.File.{IsValid, IsFaultAt, IsFileFault}
@@ -146,17 +147,20 @@ only_this laws block body current (Err Device) taken refused b h = absurd refuse
 only_this laws block body current (Err NotADesk) taken refused b h = absurd refused
 only_this laws block body current (Err Output) taken refused b h = absurd refused
 
--- memory runs out only in a body with a byte
-read_fault_wants : (body : List ℕ) (bs : List BlockText) (left : Left) (e : ReadFault) → IsReadTo body bs left → IsFaultAfter left.line left.rest e → fault_of_reading e ≡ Memory → 0 < length body
-read_fault_wants body bs left (reading.At line code) read fault memory = cc
-read_fault_wants body bs left reading.Memory read fault memory = omega (arith, fault, ap length read.whole, length-append (text_of bs) left.rest)
+-- a fault of reading that is handed on is want of memory only where memory is wanted
+pub fault_wants : {P : Type 0} → (e : ReadFault) (reported : Fault) → (e ≡ reading.Memory → P) → reported ≡ fault_of_reading e → reported ≡ Memory → P
+fault_wants (reading.At line code) reported h is memory = cc
+fault_wants reading.Memory reported h is memory = h refl
 
--- the same, of the fault that a caller hands on
-pub reading_wants : (body : List ℕ) (bs : List BlockText) (left : Left) (e : ReadFault) (reported : Fault) → IsReadTo body bs left → IsFaultAfter left.line left.rest e → reported ≡ fault_of_reading e
-    → reported ≡ Memory → 0 < length body
-reading_wants body bs left e reported read fault is memory = read_fault_wants body bs left e read fault (sym is ∙ memory)
+-- the same, where some sentences were read
+pub reading_wants : (body : List ℕ) (bs : List BlockText) (left : Left) (e : ReadFault) (reported : Fault) → IsReadTo body bs left → (e ≡ reading.Memory → MayWantMemory left.rest) → reported ≡ fault_of_reading e
+    → reported ≡ Memory → MayWantMemory body
+reading_wants body bs left e reported read h is memory = rest_wants body bs left.rest read.shaped read.whole (fault_wants e reported h is memory)
 
--- a body from which a sentence was read has a byte
-pub some_read : (body : List ℕ) (bs : List BlockText) (old new : Left) (b : BlockText) → IsReadTo body bs old → IsNext old new b → 0 < length body
-some_read body bs old new b read next =
-    omega (arith, sentence_some b, ap length read.whole, length-append (text_of bs) old.rest, ap length next.text, length-append (text_of (b ∷ [])) new.rest)
+-- reading on may want memory in a body from which a sentence was read
+pub some_read : (body : List ℕ) (bs : List BlockText) (old new : Left) (b : BlockText) → IsReadTo body bs old → IsNext old new b → MayWantMemory body
+some_read body bs old new b read next = rest_wants body bs old.rest read.shaped read.whole (next_wants old new b next)
+
+-- a body of one sentence
+pub one_wants : (body : List ℕ) (b : BlockText) → IsFile body (b ∷ []) → MayWantMemory body
+one_wants body b file = file_wants body (b ∷ []) file.shaped file.text (omega (arith, sentence_some b, ap length file.text))

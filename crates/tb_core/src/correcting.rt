@@ -1,7 +1,8 @@
 //! A correction, judged in two parts: by the sentence that is there, and by the body.
 
-ghost use Rattle.std.specs.Prelude.{◌≡◌, ◌≢◌, ◌↔◌, ◌+◌, ◌<◌, ◌≤◌, ℕ, List, IsTrue, cond};
+ghost use Rattle.std.specs.Prelude.{◌≡◌, ◌≢◌, ◌↔◌, ◌+◌, ◌≤◌, ℕ, List, IsTrue, cond};
 ghost use Rattle.std.specs.Prelude.{length, None, option_map, IfOk, IfErr};
+ghost use Rattle.tb_conllu.specs.Fault.{MayWantMemory};
 ghost use Rattle.tb_core.specs.declared.kinds.State.TheVariants.{Withdrawn};
 ghost use Rattle.tb_core.specs.declared.limits.Limits.{Limits};
 ghost use Rattle.tb_core.specs.declared.refusals.Fault.TheVariants.{Memory};
@@ -153,7 +154,7 @@ pub fn judge_correction_body<'a, T: Text>(
         → let act = correcting place user p.block in
         IsAllowed s act × Steps limits.now s (correct n base user body.now) (replied (reply_to s act)) (after s act)) }
     ensures text { IfOk result (λ p. p.text.now ≡ body.now) }
-    ensures memory { IfErr result (λ e. e ≡ Memory → 0 < length body.now) }
+    ensures memory { IfErr result (λ e. e ≡ Memory → MayWantMemory body.now) }
 {
     // laws: a body has exactly one answer
     one_list_has_a_text();

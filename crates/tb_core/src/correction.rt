@@ -1,6 +1,7 @@
 //! Reads the body of a correction.
 
-ghost use Rattle.std.specs.Prelude.{◌≡◌, ◌<◌, ◌↔◌, ◌∷◌, [], IsTrue, length, IfOk, IfErr, MatchResult, OnOk};
+ghost use Rattle.std.specs.Prelude.{◌≡◌, ◌↔◌, ◌∷◌, [], IsTrue, IfOk, IfErr, MatchResult, OnOk};
+ghost use Rattle.tb_conllu.specs.Fault.{MayWantMemory};
 ghost use Rattle.tb_conllu.specs.Text.{BlockText};
 ghost use Rattle.tb_core.specs.Machine.{sent_id_of, text_value_of};
 ghost use Rattle.tb_core.specs.Taking.{IsBody, IsCorrection, IsCorrectionRefused, IsTakingFault, IsUnfit};
@@ -66,7 +67,7 @@ fn only_sentence<'a>(alloc: Global, body: &'a [u8]) -> Result<SourcedSentence<'a
     ensures taken { IfOk result (λ p. IsBody body.now (p.block ∷ [])) }
     ensures text { IfOk result (λ p. p.text.now ≡ body.now) }
     ensures refused { (current : BlockText) → IfErr result (IsTakingFault (IsCorrectionRefused body.now current)) }
-    ensures memory { IfErr result (λ e. e ≡ Memory → 0 < length body.now) }
+    ensures memory { IfErr result (λ e. e ≡ Memory → MayWantMemory body.now) }
 {
     // laws: the first sentence that is read is the one that was checked
     a_file_is_read_in_order();
@@ -91,7 +92,7 @@ fn fitting_sentence<'a, T: Text>(
     ensures taken { IfOk result (λ p. IsCorrection body.now current.now p.block) }
     ensures text { IfOk result (λ p. p.text.now ≡ body.now) }
     ensures refused { IfErr result (IsTakingFault (IsCorrectionRefused body.now current.now)) }
-    ensures memory { IfErr result (λ e. e ≡ Memory → 0 < length body.now) }
+    ensures memory { IfErr result (λ e. e ≡ Memory → MayWantMemory body.now) }
 {
     let passage = only_sentence(alloc, body)?;
     fits(&passage.block, current)?;
@@ -114,7 +115,7 @@ pub fn take_one_ref<'a, T: Text>(
     ensures taken { IfOk result (λ p. IsCorrection body.now current.now p.block) }
     ensures text { IfOk result (λ p. p.text.now ≡ body.now) }
     ensures refused { IfErr result (IsTakingFault (IsCorrectionRefused body.now current.now)) }
-    ensures memory { IfErr result (λ e. e ≡ Memory → 0 < length body.now) }
+    ensures memory { IfErr result (λ e. e ≡ Memory → MayWantMemory body.now) }
     ensures only { (b : BlockText) → IsCorrection body.now current.now b
         → MatchResult result (λ p. p.block ≡ b) (λ e. e ≡ Memory) }
 {
@@ -133,7 +134,7 @@ pub fn take_one_ref<'a, T: Text>(
 pub fn take_one<T: Text>(alloc: Global, body: &[u8], current: &BlockOf<T>) -> Result<Block, Fault>
     ensures taken { IfOk result (IsCorrection body.now current.now) }
     ensures refused { IfErr result (IsTakingFault (IsCorrectionRefused body.now current.now)) }
-    ensures memory { IfErr result (λ e. e ≡ Memory → 0 < length body.now) }
+    ensures memory { IfErr result (λ e. e ≡ Memory → MayWantMemory body.now) }
     ensures only { (b : BlockText) → IsCorrection body.now current.now b → MatchResult result (λ v. v ≡ b) (λ e.
         e ≡ Memory) }
 {

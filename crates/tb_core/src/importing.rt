@@ -1,6 +1,7 @@
 //! An import, judged in three parts: by its name, by its body, and by the sentences that are there.
 
-ghost use Rattle.std.specs.Prelude.{◌≡◌, ◌+◌, ◌<◌, ◌&&◌, List, ℕ, length, map, nat_le, IfOk, IfErr, OnOk};
+ghost use Rattle.std.specs.Prelude.{◌≡◌, ◌+◌, ◌&&◌, List, ℕ, length, map, nat_le, IfOk, IfErr, OnOk};
+ghost use Rattle.tb_conllu.specs.Fault.{MayWantMemory};
 ghost use Rattle.tb_conllu.specs.Text.{BlockText};
 ghost use Rattle.tb_core.specs.declared.limits.Limits.{Limits};
 ghost use Rattle.tb_core.specs.declared.refusals.Fault.TheVariants.{Memory};
@@ -95,7 +96,7 @@ pub fn judge_import_body<'a>(
         → IsNamedImport s name user body.now → FindsName s name body.now found
         → Steps l s (import_file name user body.now) (refused r) s)) }
     ensures taken { IfOk result (λ v. (bs : List BlockText) × IsBody body.now bs × (v.items ≡ map taken_of bs)) }
-    ensures memory { IfErr result (λ e. e ≡ Memory → 0 < length body.now) }
+    ensures memory { IfErr result (λ e. e ≡ Memory → MayWantMemory body.now) }
     ensures goes { OnOk result ((s : Machine) (name user : List ℕ) (bs : List BlockText)
         → IsNamedImport s name user body.now → FindsName s name body.now found → IsBody body.now bs
         → IsTakenImport s name user body.now bs) }

@@ -1,6 +1,7 @@
 //! Reads the bodies of imports and corrections.
 
-ghost use Rattle.std.specs.Prelude.{◌≡◌, ◌<◌, ◌∷◌, [], List, length, IfOk, IfErr, MatchResult, map};
+ghost use Rattle.std.specs.Prelude.{◌≡◌, ◌∷◌, [], List, IfOk, IfErr, MatchResult, map};
+ghost use Rattle.tb_conllu.specs.Fault.{MayWantMemory};
 ghost use Rattle.tb_conllu.specs.Text.{BlockText, text_of};
 ghost use Rattle.tb_core.specs.Taking.{IsBody, IsBodyRefused, IsTakingFault, NewSentenceText, taken_of};
 ghost use Rattle.tb_core.specs.declared.refusals.Fault.TheVariants.{Memory};
@@ -48,7 +49,7 @@ fn kept<'a>(passage: &SourcedSentence<'a>) -> NewSentence<'a>
 fn sentences_of<'a>(alloc: Global, body: &'a [u8]) -> Result<Vec<NewSentence<'a>>, Fault>
     ensures taken { IfOk result (λ v. (bs : List BlockText) × IsBody body.now bs × (v.items ≡ map taken_of bs)) }
     ensures refused { IfErr result (IsTakingFault (IsBodyRefused body.now)) }
-    ensures memory { IfErr result (λ e. e ≡ Memory → 0 < length body.now) }
+    ensures memory { IfErr result (λ e. e ≡ Memory → MayWantMemory body.now) }
 {
     // laws: what was read, and what is left, make up the body
     a_file_is_read_in_order();
@@ -81,7 +82,7 @@ fn sentences_of<'a>(alloc: Global, body: &'a [u8]) -> Result<Vec<NewSentence<'a>
 pub fn take_file_ref<'a>(alloc: Global, body: &'a [u8]) -> Result<Vec<NewSentence<'a>>, Fault>
     ensures taken { IfOk result (λ v. (bs : List BlockText) × IsBody body.now bs × (v.items ≡ map taken_of bs)) }
     ensures refused { IfErr result (IsTakingFault (IsBodyRefused body.now)) }
-    ensures memory { IfErr result (λ e. e ≡ Memory → 0 < length body.now) }
+    ensures memory { IfErr result (λ e. e ≡ Memory → MayWantMemory body.now) }
     ensures only { (bs : List BlockText) → IsBody body.now bs
         → MatchResult result (λ v. v.items ≡ map taken_of bs) (λ e. e ≡ Memory) }
 {
@@ -100,7 +101,7 @@ pub fn take_file_ref<'a>(alloc: Global, body: &'a [u8]) -> Result<Vec<NewSentenc
 pub fn take_file(alloc: Global, body: &[u8]) -> Result<Vec<Block>, Fault>
     ensures taken { IfOk result (λ v. IsBody body.now v.items) }
     ensures refused { IfErr result (IsTakingFault (IsBodyRefused body.now)) }
-    ensures memory { IfErr result (λ e. e ≡ Memory → 0 < length body.now) }
+    ensures memory { IfErr result (λ e. e ≡ Memory → MayWantMemory body.now) }
     ensures only { (bs : List BlockText) → IsBody body.now bs → MatchResult result (λ v. v.items ≡ bs) (λ e.
         e ≡ Memory) }
 {

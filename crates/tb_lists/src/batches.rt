@@ -1,6 +1,6 @@
 //! A batch, as a list shows it.
 
-ghost use Rattle.std.specs.Prelude.{◌≡◌, ◌≢◌, Err, IfErr, IfOk, List, map, string_bytes};
+ghost use Rattle.std.specs.Prelude.{◌≡◌, ◌≢◌, [], Err, IfErr, IfOk, IsOk, List, map, string_bytes};
 ghost use Rattle.tb_lists.specs.Prelude.{AnyRefusal, State as AnyState, Batch, batch_of, batch_record, IsNoDevice};
 ghost use Rattle.tb_lists.specs.Prelude.{state_number};
 ghost use Rattle.tb_lists.specs.Batches.{BatchText};
@@ -92,6 +92,7 @@ pub(crate) fn lines_of(
     ensures never_refuses { (r : AnyRefusal) → result ≢ Err (Fault.Refused r) }
     ensures cause { IfErr result IsNoDevice }
     ensures output { result ≢ Err Fault.Output }
+    ensures sure { rows.now ≡ [] → IsOk result }
 {
     let mut lines = Vec::new(alloc);
     let mut no = 0u64;

@@ -105,6 +105,21 @@ fn put_one(counts: &mut Vec<Count>, seen: u64, row: &SentenceRow, is_pulled: boo
     put_count(counts, place, count);
 }
 
+/// Counts each of these sentences for its batch.
+fn put_all(counts: &mut Vec<Count>, rows: &[SentenceRow], pulled: &[u32])
+    requires few { length rows.now < 2 ^ 32 }
+    requires none { AllByRecursion (IsOfSoMany 0) counts.old.items }
+    ensures { IsAscending (λ a b. a < b) pulled.now
+        → counts.new.items ≡ count_all pulled.now 1 rows.now counts.old.items }
+{
+    let mut seen = 0u32;
+    for row in rows {
+        let is_pulled = is_among(seen + 1, pulled);
+        put_one(counts, u64::from(seen), row, is_pulled);
+        seen += 1;
+    }
+}
+
 /// The counts of so many batches, by number.
 pub(crate) fn count_rows(
     alloc: Global,
@@ -118,11 +133,6 @@ pub(crate) fn count_rows(
     ensures fault { IfErr result (λ e. e ≡ Fault.Memory) }
 {
     let mut counts = vec![in alloc; NONE; batches]?;
-    let mut seen = 0u32;
-    for row in rows {
-        let is_pulled = is_among(seen + 1, pulled);
-        put_one(&mut counts, u64::from(seen), row, is_pulled);
-        seen += 1;
-    }
+    put_all(&mut counts, rows, pulled);
     Ok(counts)
 }

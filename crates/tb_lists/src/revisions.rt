@@ -1,6 +1,6 @@
 //! The revisions of a sentence, as a list shows them.
 
-ghost use Rattle.std.specs.Prelude.{◌≡◌, IfErr, IfOk, string_bytes};
+ghost use Rattle.std.specs.Prelude.{◌≡◌, [], IfErr, IfOk, IsOk, string_bytes};
 ghost use Rattle.tb_lists.specs.Made.{line_by, lines_by};
 ghost use Rattle.tb_lists.specs.Revisions.{RevisionText, is_maker, makers, makes};
 
@@ -72,6 +72,7 @@ pub(crate) fn lines_by(
     batch: u64,
 ) -> Result<Vec<RevisionLine>, Fault>
     ensures lines { IfOk result (λ v. v.items ≡ lines_by 1 (makers sentence batch steps.now)) }
+    ensures sure { makers sentence batch steps.now ≡ [] → IsOk result }
     ensures fault { IfErr result (λ e. e ≡ Fault.Memory) }
 {
     let mut lines = Vec::new(alloc);

@@ -1,7 +1,7 @@
 //! Rows as records, and which rows are no records.
 
 ghost use Rattle.std.specs.Prelude.{ℕ, ◌≡◌, ◌≢◌, ◌+◌, ◌<◌, ◌^◌, length, map, pos, List, All, ◌↔◌, ⊤, Some, slice_get};
-ghost use Rattle.std.specs.Prelude.{Err, IfOk, IsTrue, cond, string_bytes, IfErr};
+ghost use Rattle.std.specs.Prelude.{[], Err, IfOk, IsOk, IsTrue, cond, string_bytes, IfErr};
 ghost use Rattle.sqlite.specs.Order.{column};
 ghost use Rattle.sqlite.specs.declared.error.ErrorCode.TheVariants.{OutOfMemory};
 ghost use Rattle.sqlite.specs.declared.types.Value.TheVariants.{Int, Text};
@@ -57,6 +57,7 @@ pub(crate) fn all_in<T: FromRow>(alloc: Global, rows: &[Row]) -> Result<Vec<T>, 
         → rows.now ≢ numbered T.shown 1 xs }
     ensures want { IfErr result (λ e. e ≢ ReadError.Form
         → (x : T.Plain) × (slice_get rows.now 0 ≡ Some (T.shown 1 x))) }
+    ensures sure { rows.now ≡ [] → IsOk result }
     ensures fails { IfErr result IsReadFault }
     ensures cause { IfErr result IsReadWant }
 {
@@ -395,6 +396,7 @@ pub fn batches_in(alloc: Global, rows: &[Row]) -> Result<Vec<BatchRow>, ReadErro
     ensures ok { IfOk result (λ v. rows.now ≡ numbered batch_shown 1 (map batch_of v.items)) }
     ensures form { result ≡ Err ReadError.Form → (xs : List Batch) → All IsBatch xs
         → rows.now ≢ numbered batch_shown 1 xs }
+    ensures sure { rows.now ≡ [] → IsOk result }
     ensures fails { IfErr result IsReadFault }
     ensures cause { IfErr result IsReadWant }
 {
@@ -410,6 +412,7 @@ pub fn sentences_in(alloc: Global, rows: &[Row]) -> Result<Vec<SentenceRow>, Rea
     ensures ok { IfOk result (λ v. rows.now ≡ numbered sentence_shown 1 (map sentence_of v.items)) }
     ensures form { result ≡ Err ReadError.Form → (xs : List Sentence) → All IsSentence xs
         → rows.now ≢ numbered sentence_shown 1 xs }
+    ensures sure { rows.now ≡ [] → IsOk result }
     ensures fails { IfErr result IsReadFault }
     ensures cause { IfErr result IsReadWant }
 {
@@ -425,6 +428,7 @@ pub fn moves_in(alloc: Global, rows: &[Row]) -> Result<Vec<MoveRow>, ReadError>
     ensures ok { IfOk result (λ v. rows.now ≡ numbered move_shown 1 (map move_of v.items)) }
     ensures form { result ≡ Err ReadError.Form → (xs : List Move) → All IsMove xs
         → rows.now ≢ numbered move_shown 1 xs }
+    ensures sure { rows.now ≡ [] → IsOk result }
     ensures fails { IfErr result IsReadFault }
     ensures cause { IfErr result IsReadWant }
 {
@@ -440,6 +444,7 @@ pub fn totals_in(alloc: Global, rows: &[Row]) -> Result<Vec<TotalRow>, ReadError
     ensures ok { IfOk result (λ v. rows.now ≡ numbered total_shown 1 (map total_of v.items)) }
     ensures form { result ≡ Err ReadError.Form → (xs : List Total) → All IsTotal xs
         → rows.now ≢ numbered total_shown 1 xs }
+    ensures sure { rows.now ≡ [] → IsOk result }
     ensures fails { IfErr result IsReadFault }
     ensures cause { IfErr result IsReadWant }
 {
@@ -455,6 +460,7 @@ pub fn revisions_in(alloc: Global, rows: &[Row]) -> Result<Vec<RevisionRow>, Rea
     ensures ok { IfOk result (λ v. rows.now ≡ map revision_shown (map revision_of v.items)) }
     ensures form { result ≡ Err ReadError.Form → (xs : List Revision) → All IsRevision xs
         → rows.now ≢ map revision_shown xs }
+    ensures sure { rows.now ≡ [] → IsOk result }
     ensures fails { IfErr result IsReadFault }
     ensures cause { IfErr result IsReadWant }
 {

@@ -1,8 +1,10 @@
 -- Rows of moves as moves, and that the moves of a reached state are numbered.
-use Rattle.std.proofs.Common.{◌≡◌, ℕ, zero, suc, ◌+◌, ◌<◌, List, [], ◌∷◌, ◌++◌, map, length, take, get_or, refl, sym, ap, ap₂, ◌∙◌, arith}
+use Rattle.std.proofs.Common.{◌≡◌, ℕ, zero, suc, ◌+◌, ◌<◌, List, [], ◌∷◌, ◌++◌, map, length, take, get_or, Option, string_bytes, refl, sym, ap, ap₂, ◌∙◌, arith}
 use Rattle.std.proofs.Math.Seq.{take-suc}
 use Rattle.std.proofs.lemmas.List.{map-append}
 use Rattle.tb_core.specs.Moves.{MoveText}
+use Rattle.tb_core.specs.declared.kinds.Kind.{Kind}
+use Rattle.tb_core.specs.declared.kinds.State.{State}
 use Rattle.tb_core.specs.Machine.{Machine}
 use Rattle.tb_core.specs.Acts.{move_of as move_made}
 use Rattle.tb_core.specs.Reaching.{Reached, begun, further}
@@ -10,6 +12,7 @@ use Rattle.tb_tables.specs.Records.{Move}
 use Rattle.tb_tables.specs.Values.{move_of}
 use Rattle.tb_tables.specs.declared.rows.MoveRow.{MoveRow}
 use Rattle.tb_refine.specs.DeskTables.{move_record}
+use Rattle.tb_refine.specs.Numbers.{kind_number, from_number, state_number}
 use Rattle.tb_refine.proofs.CallLemmas.{one_state, one_before, one_kind}
 use Rattle.tb_refine.specs.Numbered.{AreNumbered}
 
@@ -33,6 +36,11 @@ same_move a b number e =
     let i : a.words_in ≡ b.words_in = ap (λ (x : Move). x.words_in) e in
     let w : a.who ≡ b.who = ap (λ (x : Move). x.who) e in
     λ j. record { no = number j; kind = k j; batch = o j; sent = s j; from = f j; to = t j; sentences = n j; words_out = u j; words_in = i j; who = w j }
+
+-- a row with the numbers of a kind and of states is that of a move
+pub row_moves : (r : MoveRow) (k : Kind) (f : Option State) (t : State) → (r.kind ≡ kind_number k) × (r.from ≡ from_number f) × (r.to ≡ state_number t) → ((m : MoveText) → move_of r ≡ move_record m → ⊥) → ⊥
+row_moves r k f t steps none = none (record { no = 0; kind = k; batch = r.batch; sent = r.sent; from = f; to = t; sentences = r.sentences; words_out = r.words_out; words_in = r.words_in; who = string_bytes r.who })
+    (λ j. record { kind = steps.0 j; batch = r.batch; sent = r.sent; from = steps.1 j; to = steps.2 j; sentences = r.sentences; words_out = r.words_out; words_in = r.words_in; who = string_bytes r.who })
 
 pub same_moves : (n : ℕ) (xs ys : List MoveText) → AreNumbered n xs → AreNumbered n ys → map move_record xs ≡ map move_record ys → xs ≡ ys
 same_moves n [] [] p q e = refl

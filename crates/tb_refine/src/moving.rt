@@ -1,6 +1,6 @@
 //! Rows of the table of moves, as moves of the machine.
 
-ghost use Rattle.std.specs.Prelude.{◌≡◌, ◌≢◌, List, map, Err, IfOk, IfErr};
+ghost use Rattle.std.specs.Prelude.{◌≡◌, ◌≢◌, [], List, map, Err, IfOk, IfErr, IsOk};
 ghost use Rattle.tb_refine.specs.Prelude.{AnyRefusal, move_of, MoveText};
 ghost use Rattle.tb_refine.specs.DeskTables.{move_record};
 ghost use Rattle.tb_refine.specs.Numbers.{state_number, from_number, kind_number};
@@ -31,11 +31,12 @@ fn steps_in(row: &MoveRow) -> Result<(Kind, Option<State>, State), Fault>
     Ok((kind, from, to))
 }
 
-/// The move of a row, with its number.
+/// The move of a row, with its number. A row of no move needs no memory.
 fn read_move(alloc: Global, row: &MoveRow, no: u64) -> Result<Move, Fault>
     ensures record { IfOk result (λ m. move_record m ≡ move_of row.now) }
     ensures number { IfOk result (λ m. m.no ≡ no) }
     ensures known { result ≡ Err Fault.NotADesk → (m : MoveText) → move_of row.now ≢ move_record m }
+    ensures wrong { ((m : MoveText) → move_of row.now ≢ move_record m) → result ≡ Err Fault.NotADesk }
     ensures cause { IfErr result IsNoDevice }
     ensures output { result ≢ Err Fault.Output }
     ensures never_refuses { (r : AnyRefusal) → result ≢ Err (Fault.Refused r) }
@@ -66,6 +67,7 @@ pub fn read_moves(alloc: Global, rows: &[MoveRow]) -> Result<Vec<Move>, Fault>
     ensures numbers { IfOk result (λ v. AreNumbered 1 v.items) }
     ensures known { result ≡ Err Fault.NotADesk → (ms : List MoveText)
         → map move_of rows.now ≢ map move_record ms }
+    ensures sure { rows.now ≡ [] → IsOk result }
     ensures cause { IfErr result IsNoDevice }
     ensures output { result ≢ Err Fault.Output }
     ensures never_refuses { (r : AnyRefusal) → result ≢ Err (Fault.Refused r) }

@@ -7,7 +7,7 @@ use Rattle.tb_core.specs.declared.kinds.State.{State}
 use Rattle.tb_core.specs.Events.{is_state}
 use Rattle.tb_core.specs.declared.sums.Totals.{Totals}
 use Rattle.tb_core.specs.Machine.{Batch, Revision, Sentence, Machine, state_in, weigh, when, one, words}
-use Rattle.tb_core.specs.Totals.{in_state, at_state, AreTotalsOf}
+use Rattle.tb_core.specs.Totals.{in_state, at_state, total, AreTotalsOf}
 use Rattle.tb_core.specs.Keeping.{IsFine}
 use Rattle.tb_core.proofs.Stored.{few_words}
 use Rattle.tb_replay.specs.Summaries.{RevisionRow, SummaryRow, row_of, entry_of, entries_of}
@@ -58,11 +58,17 @@ words_limit f bs st es q fine few =
     let b = ap (entry_total words_each bs st) q in
     omega (arith, a, b, few)
 
+pub ones_total : (f : Machine) (bs : List Batch) (es : List SummaryRow) (st : State) → bs ≡ f.batches → es ≡ entries_of f.sentences → entry_total one_each bs st es ≡ total one f st
+ones_total f bs es st p q = ap (entry_total one_each bs st) q ∙ (ap (λ b. entry_total one_each b st (entries_of f.sentences)) p ∙ total_is one_each one (λ x. refl) f.batches st f.sentences)
+
+pub words_total : (f : Machine) (bs : List Batch) (es : List SummaryRow) (st : State) → bs ≡ f.batches → es ≡ entries_of f.sentences → entry_total words_each bs st es ≡ total words f st
+words_total f bs es st p q = ap (entry_total words_each bs st) q ∙ (ap (λ b. entry_total words_each b st (entries_of f.sentences)) p ∙ total_is words_each words words_there f.batches st f.sentences)
+
 pub stand : (f : Machine) (bs : List Batch) (es : List SummaryRow) (t : Totals) → bs ≡ f.batches → es ≡ entries_of f.sentences
     → ((st : State) → (at_state t.sentences st ≡ entry_total one_each bs st es) × (at_state t.words st ≡ entry_total words_each bs st es)) → AreTotalsOf t f
 stand f bs es t p q h = record {
-  sentences = λ st. (h st).0 ∙ (ap (entry_total one_each bs st) q ∙ (ap (λ b. entry_total one_each b st (entries_of f.sentences)) p ∙ total_is one_each one (λ x. refl) f.batches st f.sentences));
-  words = λ st. (h st).1 ∙ (ap (entry_total words_each bs st) q ∙ (ap (λ b. entry_total words_each b st (entries_of f.sentences)) p ∙ total_is words_each words words_there f.batches st f.sentences));
+  sentences = λ st. (h st).0 ∙ ones_total f bs es st p q;
+  words = λ st. (h st).1 ∙ words_total f bs es st p q;
 }
 
 -- ---- the loop

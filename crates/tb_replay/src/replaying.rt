@@ -1,7 +1,7 @@
 //! The replay: makes each move on the slots and marks, and compares the end with the rows.
 
 ghost use Rattle.std.specs.Prelude.{◌≡◌, ◌+◌, ◌-◌, ◌^◌, ◌<◌, ◌++◌, ◌↔◌, All, map, slice_set};
-ghost use Rattle.std.specs.Prelude.{slice_index_or, ◌≢◌, ◌≤◌, length, IfOk, IsOk, OnOk, true};
+ghost use Rattle.std.specs.Prelude.{slice_index_or, ◌≢◌, ◌≤◌, length, IfOk, IsOk, OnOk, true, false, []};
 ghost use Rattle.tb_core.specs.Acts.{with_worker};
 ghost use Rattle.tb_core.specs.Machine.{Machine, change_at};
 ghost use Rattle.tb_core.specs.Reaching.{IsReachable};
@@ -218,7 +218,8 @@ fn step_correct(
 }
 
 fn push_marks(marks: &mut Vec<Mark>, new: &[SentenceSummary<'_>]) -> Result<(), AllocError>
-    ensures { OnOk result (marks.new.items ≡ marks.old.items ++ map first_mark new.now) }
+    ensures marks { OnOk result (marks.new.items ≡ marks.old.items ++ map first_mark new.now) }
+    ensures none { new.now ≡ [] → IsOk result }
 {
     for entry in new {
         marks.push(Mark {
@@ -246,6 +247,8 @@ fn step_import<'a>(
     ensures next { IfOk result (λ b. b ≡ true → small slots.new.items marks.new.items (count + 1)
         ≡ import_next entries.now (small slots.old.items marks.old.items count) change.now) }
     ensures sure { batches ≤ length slots.old.items → IsOk result }
+    ensures wrong { import_test batches entries.now (small slots.old.items marks.old.items count) change.now ≡ false
+        → IsOk result }
 {
     if slots.len() >= batches {
         return Ok(false);
@@ -281,6 +284,8 @@ fn step<'a>(
     ensures next { IfOk result (λ b. b ≡ true → small slots.new.items marks.new.items (count + 1)
         ≡ kind_next change.now.kind entries.now (small slots.old.items marks.old.items count) change.now) }
     ensures sure { change.now.kind ≢ Kind.Import → IsOk result }
+    ensures wrong { kind_test change.now.kind batches entries.now (small slots.old.items marks.old.items count)
+        change.now ≡ false → IsOk result }
 {
     match change.kind {
         Kind::Import => step_import(batches, slots, marks, entries, count, change),

@@ -4,8 +4,8 @@ ghost use Rattle.std.specs.Prelude.{◌≡◌, ◌↔◌, ◌+◌, ◌<◌, ◌�
 ghost use Rattle.std.specs.Prelude.{IfSome};
 ghost use Rattle.tb_core.specs.declared.kinds.State.{State as AnyState};
 ghost use Rattle.tb_core.specs.Events.{is_state};
-ghost use Rattle.tb_core.specs.Machine.{Machine, when};
-ghost use Rattle.tb_core.specs.Totals.{at_state, AreTotalsOf};
+ghost use Rattle.tb_core.specs.Machine.{Machine, when, one, words};
+ghost use Rattle.tb_core.specs.Totals.{at_state, total, AreTotalsOf};
 ghost use Rattle.tb_replay.specs.Summaries.{entries_of};
 ghost use Rattle.tb_replay.specs.Fine.{AreFine};
 ghost use Rattle.tb_replay.specs.Sums.{entry_state, last_count};
@@ -53,13 +53,16 @@ fn add(sums: &mut [u64; 6], state: State, more: u64) -> bool
 
 /// For each state its sentences and the words of their current revisions, from the rows of a desk.
 ///
-/// `None` where a sum does not fit 64 bits. That never happens where the rows are fine and have at most 1,000,000
+/// `None` only where a sum does not fit 64 bits. That never happens where the rows are fine and have at most 1,000,000
 /// sentences. Takes no memory.
 pub fn totals_of(batches: &[BatchRow<'_>], entries: &[SentenceSummary<'_>]) -> Option<Totals>
     ensures sums { (f : Machine) → batches.now ≡ f.batches → entries.now ≡ entries_of f.sentences
         → IfSome result (λ t. AreTotalsOf t f) }
     ensures reported { (f : Machine) → batches.now ≡ f.batches → entries.now ≡ entries_of f.sentences
         → AreFine f → length f.sentences ≤ 1000000 → IsSome result }
+    ensures fits { (f : Machine) → batches.now ≡ f.batches → entries.now ≡ entries_of f.sentences
+        → ((st : AnyState) → total one f st < 2 ^ 64) → ((st : AnyState) → total words f st < 2 ^ 64)
+        → IsSome result }
 {
     let mut totals = Totals {
         sentences: [0; 6],

@@ -99,6 +99,7 @@ impl<S: Alter> Desk<S> {
             ⊎ (u.fault ≡ Fault.Device))) }
         ensures untouched { IfErr result (λ u. u.fault ≡ Fault.NotADesk → u.conn ≡ unlimited conn) }
         ensures again { IfErr result (λ u. StaysBlank S.Store conn u.conn) }
+        ensures autocommit { IfErr result (λ u. u.conn.in_transaction ≡ false) }
         ensures crash { IfOk result (λ d. Survives (state S.Store (unlimited conn)) (state S.Store d.conn) (λ db.
             IsBlank S.Store conn → AreStored (tables_of empty_machine) db)) }
         ensures crash_on_the_way { IfErr result (λ u. u.fault ≢ Fault.NotADesk
@@ -199,6 +200,7 @@ impl<S: Alter> Desk<S> {
         ensures wants { IfErr result (λ u. WantsOnTables desk_schema S.Store conn u.fault) }
         ensures cause { IfErr result (λ u. IsNoDeviceIfFaultless S.Store conn u.conn u.fault) }
         ensures again { IfErr result (λ u. StaysADesk S.Store conn u.conn) }
+        ensures autocommit { IfErr result (λ u. conn.in_transaction ≡ false → u.conn.in_transaction ≡ false) }
         ensures crash { IfOk result (λ d. Survives (state S.Store (unlimited conn)) (state S.Store d.conn)
             (λ _. ⊥)) }
         ensures crash_on_the_way { IfErr result (λ u. Survives (state S.Store (unlimited conn)) (state S.Store u.conn)

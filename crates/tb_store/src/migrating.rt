@@ -43,6 +43,7 @@ impl<S: Alter> Desk<S> {
         ensures wants { IfErr result (λ u. WantsOnTables version_one_schema S.Store conn u.fault) }
         ensures cause { IfErr result (λ u. ((s : Machine) → IsFirstDesk S.Store conn s → ⊥)
             → IsNoDeviceIfFaultless S.Store conn u.conn u.fault) }
+        ensures autocommit { IfErr result (λ u. conn.in_transaction ≡ false → u.conn.in_transaction ≡ false) }
         ensures again { IfErr result (λ u. HasCleanDisk (state S.Store u.conn)
             → IsTrue (state S.Store u.conn).is_open → (s : Machine) → IsFirstDesk S.Store conn s
             → IsFirstDesk S.Store u.conn s) }

@@ -1,6 +1,8 @@
 -- The state that rows tell, put together from its parts.
-use Rattle.std.proofs.Common.{◌≡◌, ◌≤◌, ℕ, suc, List, [], ◌∷◌, length, map, refl, sym, ap, ◌∙◌, arith, Result, Ok, Err, IfOk}
-use Rattle.std.specs.List.{AllByRecursion}
+use Rattle.std.proofs.Common.{◌≡◌, ◌≢◌, ◌≤◌, ℕ, suc, List, [], ◌∷◌, length, map, refl, sym, ap, subst, ◌∙◌, arith, Result, Ok, Err, IfOk}
+use Rattle.std.specs.List.{All, AllByRecursion}
+use Rattle.std.proofs.lemmas.List.Elements.{All-nil}
+use Rattle.tb_core.specs.declared.kinds.Kind.TheVariants.{Import}
 use Rattle.tb_core.specs.Moves.{MoveText}
 use Rattle.tb_core.specs.Keeping.{IsFine}
 use Rattle.tb_core.specs.Machine as machine
@@ -92,3 +94,14 @@ as_many_entries (x ∷ xs) = ap (λ n. suc n) (as_many_entries xs)
 -- a state that has these counts is within the largest limits
 pub within : (s : Machine) (b n m : ℕ) → IsReachable s → b ≡ length s.batches → n ≡ length s.sentences → m ≡ length s.moves → (b ≤ m) × (n ≤ 1000000) × (m ≤ 1000000000)
 within s b n m reach p q r = let few = (sound s reach.reached).few in (omega (arith, few, p, r), omega (arith, reach.sentences, q), omega (arith, reach.moves, r))
+
+-- ---- no rows
+
+no_moves : (xs : List MoveText) (ys : List MoveRow) → map move_record xs ≡ map move_of ys → ys ≡ [] → xs ≡ []
+no_moves [] ys e none = refl
+no_moves (x ∷ xs) [] e none = absurd cc
+no_moves (x ∷ xs) (y ∷ ys) e none = absurd cc
+
+-- moves of no rows have no import among them
+pub no_import : (ms xs : List MoveText) (ys : List MoveRow) → ms ≡ xs → map move_record xs ≡ map move_of ys → ys ≡ [] → All (λ (m : MoveText). m.kind ≢ Import) ms
+no_import ms xs ys same e none = subst (All (λ (m : MoveText). m.kind ≢ Import)) (sym (same ∙ no_moves xs ys e none)) (All-nil (λ (m : MoveText). m.kind ≢ Import))

@@ -1,6 +1,7 @@
 mod Agreeing
 mod Unreported
 mod Turns
+mod Uncounted
 mod Rereading
 mod Filed
 mod Seen

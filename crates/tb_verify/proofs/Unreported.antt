@@ -26,6 +26,20 @@ passed_on r e f p g q = sym g ∙ ap unreported (sym p ∙ q)
 pub passed_on_as : {X Y : Type 0} (r : Result X Unfit) (e f : Unfit) → r ≡ Err e → e ≡ f → r ≡ Err NotADesk → let w : Result Y Unfit = Err f in w ≡ Err NotADesk
 passed_on_as {X} {Y} r e f p g q = ap (λ (u : Unfit). let w : Result Y Unfit = Err u in w) (passed_on r e f p g q)
 
+-- what was passed on is want of memory where the answer is
+wanted : {X : Type 0} (r : Result X Unfit) (e f : Unfit) → r ≡ Err e → e ≡ f → r ≡ Err Memory → f ≡ Memory
+wanted r e f p g q = sym g ∙ ap unreported (sym p ∙ q)
+
+pub wanted_as : {X Y : Type 0} (r : Result X Unfit) (e f : Unfit) → r ≡ Err e → e ≡ f → r ≡ Err Memory → let w : Result Y Unfit = Err f in w ≡ Err Memory
+wanted_as {X} {Y} r e f p g q = ap (λ (u : Unfit). let w : Result Y Unfit = Err u in w) (wanted r e f p g q)
+
+pub no_want : {X : Type 0} (r : Result X Unfit) (e f : Unfit) → r ≡ Err e → e ≡ f → f ≡ NotADesk → r ≡ Err Memory → ⊥
+no_want r e f p g n q = memory_is_no_form (sym (wanted r e f p g q) ∙ n)
+
+-- rows that are unfit are told so
+pub unfit_as : {X : Type 0} (r : Result X Unfit) (e f : Unfit) → r ≡ Err e → e ≡ f → f ≡ NotADesk → r ≡ Err NotADesk
+unfit_as r e f p g n = p ∙ ap (λ (u : Unfit). Err u) (g ∙ n)
+
 pub no_read_fault : {X : Type 0} (r : Result X Unfit) (e : Unfit) (f : ReadFault) → r ≡ Err e → e ≡ unfit_of_reading f → f ≡ reading.Memory → r ≡ Err NotADesk → ⊥
 no_read_fault r e f p g m q = memory_is_no_form (sym (ap unfit_of_reading m) ∙ passed_on r e (unfit_of_reading f) p g q)
 

@@ -1,6 +1,6 @@
 //! Whether batches have good names, no two the same, and whether no two sentences have one `sent_id`.
 
-ghost use Rattle.std.specs.Prelude.{◌≡◌, false, IfOk, Ok, Decides, map, string_bytes};
+ghost use Rattle.std.specs.Prelude.{◌≡◌, false, [], IfOk, IsOk, Ok, Decides, map, string_bytes};
 ghost use Rattle.tb_verify.specs.Prelude.{AreApart, batch_of, is_name, list_all, sentence_of};
 ghost use Rattle.tb_verify.specs.Apart.{AreNamed, AreTitled, IsAdded};
 
@@ -32,7 +32,8 @@ fn are_good(rows: &[BatchRow]) -> bool
 }
 
 fn names_apart(alloc: Global, rows: &[BatchRow]) -> Result<bool, AllocError>
-    ensures { IfOk result (λ apart. Decides apart (AreApart (map (λ r. string_bytes r.name) rows.now))) }
+    ensures apart { IfOk result (λ apart. Decides apart (AreApart (map (λ r. string_bytes r.name) rows.now))) }
+    ensures sure { rows.now ≡ [] → IsOk result }
 {
     // A tree, not a hash table: no file can make its names collide.
     let mut seen: BTreeSet<String> = BTreeSet::new(alloc);
@@ -52,6 +53,7 @@ fn names_apart(alloc: Global, rows: &[BatchRow]) -> Result<bool, AllocError>
 pub(crate) fn are_batches_apart(alloc: Global, rows: &[BatchRow]) -> Result<bool, AllocError>
     ensures named { IfOk result (λ named. Decides named (AreNamed (map batch_of rows.now))) }
     ensures bad { list_all (λ r. is_name (string_bytes r.name)) rows.now ≡ false → result ≡ Ok false }
+    ensures sure { rows.now ≡ [] → IsOk result }
 {
     if !are_good(rows) {
         return Ok(false);
@@ -65,8 +67,10 @@ pub(crate) fn are_batches_apart(alloc: Global, rows: &[BatchRow]) -> Result<bool
 ///
 /// Want of memory.
 pub(crate) fn are_sentences_apart(alloc: Global, rows: &[SentenceRow]) -> Result<bool, AllocError>
-    ensures { IfOk result (λ apart. Decides apart (AreTitled (map sentence_of rows.now))) }
+    ensures apart { IfOk result (λ apart. Decides apart (AreTitled (map sentence_of rows.now))) }
+    ensures sure { rows.now ≡ [] → IsOk result }
 {
+    // A tree here too: a file names its sentences as it likes.
     let mut seen: BTreeSet<String> = BTreeSet::new(alloc);
     for row in rows {
         if !add(alloc, &mut seen, row.sent_id.as_str())? {

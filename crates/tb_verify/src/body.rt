@@ -1,6 +1,6 @@
 //! The text of a revision, parsed back into its sentence.
 
-ghost use Rattle.std.specs.Prelude.{◌≡◌, ◌≢◌, ◌∷◌, [], List, length, IfOk, IfErr, Err, map, string_bytes};
+ghost use Rattle.std.specs.Prelude.{◌≡◌, ◌≢◌, ◌∷◌, [], List, length, IfOk, IfErr, IsOk, Err, map, string_bytes};
 ghost use Rattle.tb_verify.specs.Prelude.{AllByRecursion, BlockText, IsLawful};
 ghost use Rattle.tb_verify.specs.Course.{own_text};
 ghost use Rattle.tb_verify.specs.declared.unfit.Unfit.TheVariants.{NotADesk};
@@ -45,6 +45,7 @@ pub(crate) fn sentences_in<'a>(
     ensures texts { IfOk result (λ v. map own_text v.items ≡ map (λ r. string_bytes r.body) rows.now) }
     ensures unfit { result ≡ Err NotADesk → (bs : List BlockText) → AllByRecursion IsLawful bs
         → map own_text bs ≡ map (λ r. string_bytes r.body) rows.now → ⊥ }
+    ensures sure { rows.now ≡ [] → IsOk result }
 {
     let mut blocks: Vec<BlockRef<'a>> = Vec::new(alloc);
     for row in rows {

@@ -1,9 +1,9 @@
 //! The sentences of a file, read back one after another.
 
-ghost use Rattle.std.specs.Prelude.{◌≡◌, List, IfOk, Err, map, take, drop};
+ghost use Rattle.std.specs.Prelude.{◌≡◌, ◌≢◌, [], List, IfOk, Err, map, take, drop};
 ghost use Rattle.tb_verify.specs.Prelude.{entries_of, revision_of, Sentence, sentence_of};
 ghost use Rattle.tb_verify.specs.File.{AreReadBack, is_next, after_next};
-ghost use Rattle.tb_verify.specs.declared.unfit.Unfit.TheVariants.{NotADesk};
+ghost use Rattle.tb_verify.specs.declared.unfit.Unfit.TheVariants.{Memory, NotADesk};
 
 use crate::entry::entry_in;
 use crate::unfit::{Unfit, fit};
@@ -67,6 +67,7 @@ pub fn entries_in<'a>(
         (map revision_of revisions.now) xs × (v.items ≡ entries_of xs)) }
     ensures unfit { result ≡ Err NotADesk → (xs : List Sentence)
         → AreReadBack 1 (map sentence_of sentences.now) pulled.now (map revision_of revisions.now) xs → ⊥ }
+    ensures none { sentences.now ≡ [] → result ≢ Err Memory }
 {
     let mut entries: Vec<SentenceSummary<'a>> = Vec::new(alloc);
     let mut rest = revisions;

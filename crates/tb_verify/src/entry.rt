@@ -1,6 +1,6 @@
 //! A sentence, read back from its rows.
 
-ghost use Rattle.std.specs.Prelude.{◌≡◌, length, IfOk, Err, map};
+ghost use Rattle.std.specs.Prelude.{◌≡◌, [], length, IfOk, Err, map};
 ghost use Rattle.tb_verify.specs.Prelude.{entry_of, revision_of, Sentence, sentence_of};
 ghost use Rattle.tb_verify.specs.Course.{IsReadBack, rows_reported};
 ghost use Rattle.tb_verify.specs.declared.unfit.Unfit.TheVariants.{NotADesk};
@@ -50,6 +50,7 @@ pub fn entry_in<'a>(
         × IsReadBack number (sentence_of row.now) pulled (map revision_of revisions.now) x × (e ≡ entry_of x)) }
     ensures unfit { result ≡ Err NotADesk → (x : Sentence)
         → IsReadBack number (sentence_of row.now) pulled (map revision_of revisions.now) x → ⊥ }
+    ensures none { revisions.now ≡ [] → result ≡ Err NotADesk }
 {
     // A text is that of at most one list of sentences, by this law.
     one_list_has_a_text();

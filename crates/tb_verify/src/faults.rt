@@ -66,6 +66,7 @@ pub(crate) fn answered<T>(answer: Result<T, Error>) -> Result<T, Fault>
 /// The fault of rows that a test calls unfit.
 pub(crate) fn of_unfit(unfit: Unfit) -> Fault
     ensures form { result ≡ Fault.NotADesk → unfit ≡ Unfit.NotADesk }
+    ensures want { result ≡ Fault.Memory → unfit ≡ Unfit.Memory }
     ensures cause { result ≢ Fault.Device }
     ensures never_refuses { (r : Refusal) → result ≢ Fault.Refused r }
     ensures value { result ≡ fault_of_unfit unfit }
@@ -80,6 +81,7 @@ pub(crate) fn of_unfit(unfit: Unfit) -> Fault
 pub(crate) fn fitting<T>(told: Result<T, Unfit>) -> Result<T, Fault>
     ensures value { result ≡ reported_by fault_of_unfit told }
     ensures form { result ≡ Err Fault.NotADesk → told ≡ Err Unfit.NotADesk }
+    ensures want { result ≡ Err Fault.Memory → told ≡ Err Unfit.Memory }
     ensures cause { IfErr result IsNoDevice }
     ensures never_refuses { (r : Refusal) → result ≢ Err (Fault.Refused r) }
 {

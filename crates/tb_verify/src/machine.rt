@@ -1,6 +1,6 @@
 //! Rows as batches and moves of the machine.
 
-ghost use Rattle.std.specs.Prelude.{◌≡◌, ◌≢◌, List, map, Err, IfOk};
+ghost use Rattle.std.specs.Prelude.{◌≡◌, ◌≢◌, [], List, map, Err, IfOk, IsOk};
 ghost use Rattle.tb_verify.specs.Prelude.{AreNumbered, Batch, batch_of, batch_record, move_of, move_record, MoveText};
 ghost use Rattle.tb_verify.specs.declared.unfit.Unfit.TheVariants.{NotADesk};
 
@@ -38,6 +38,7 @@ pub(crate) fn batches_in<'a>(
     ensures records { IfOk result (λ v. map batch_record v.items ≡ map batch_of rows.now) }
     ensures unfit { result ≡ Err NotADesk → (bs : List Batch)
         → map batch_record bs ≡ map batch_of rows.now → ⊥ }
+    ensures sure { rows.now ≡ [] → IsOk result }
 {
     let mut batches: Vec<tb_replay::BatchRow<'a>> = Vec::new(alloc);
     for row in rows {
@@ -68,6 +69,7 @@ pub(crate) fn moves_in(alloc: Global, rows: &[MoveRow]) -> Result<Vec<Move>, Unf
     ensures numbers { IfOk result (λ v. AreNumbered 1 v.items) }
     ensures unfit { result ≡ Err NotADesk → (ms : List MoveText)
         → map move_record ms ≡ map move_of rows.now → ⊥ }
+    ensures sure { rows.now ≡ [] → IsOk result }
 {
     match read_moves(alloc, rows) {
         Ok(moves) => Ok(moves),

@@ -1,9 +1,12 @@
 //! Whether the rows of all tables are those of a state that accepted commands reach. This module uses no database.
 
-ghost use Rattle.std.specs.Prelude.{◌≡◌, ◌≢◌, ◌≤◌, map, Err, Decides, IfErr, IfOk};
+ghost use Rattle.std.specs.Prelude.{◌≡◌, ◌≢◌, ◌≤◌, ◌<◌, [], All, length, map, Err, Decides, IfErr, IfOk, IsOk};
+ghost use Rattle.std.specs.Prelude.{Ok, false, string_bytes};
 ghost use Rattle.tb_verify.specs.Prelude.{AnyRefusal, AreTotalsOf, batch_of, IsNoDevice, IsReachable, Machine};
-ghost use Rattle.tb_verify.specs.Prelude.{sentence_of, six_states, tables_of, total_of, total_record};
+ghost use Rattle.tb_verify.specs.Prelude.{is_name, list_all, sentence_of, six_states, tables_of, total_of};
+ghost use Rattle.tb_verify.specs.Prelude.{total_record};
 ghost use Rattle.tb_verify.specs.Apart.{AreNamed, AreTitled};
+ghost use Rattle.tb_core.specs.declared.kinds.Kind.TheVariants.{Import};
 ghost use Rattle.tb_verify.specs.declared.unfit.Unfit.TheVariants.{NotADesk};
 ghost use Rattle.tb_verify.specs.Summary.{IsShownBy, IsSummaryOf, tables_in};
 
@@ -48,8 +51,10 @@ fn are_apart(
     batches: &[BatchRow],
     sentences: &[SentenceRow],
 ) -> Result<bool, AllocError>
-    ensures { IfOk result (λ apart. Decides apart (AreNamed (map batch_of batches.now)
+    ensures apart { IfOk result (λ apart. Decides apart (AreNamed (map batch_of batches.now)
         × AreTitled (map sentence_of sentences.now))) }
+    ensures bad { list_all (λ r. is_name (string_bytes r.name)) batches.now ≡ false → result ≡ Ok false }
+    ensures sure { batches.now ≡ [] → sentences.now ≡ [] → IsOk result }
 {
     if !are_batches_apart(alloc, batches)? {
         return Ok(false);
@@ -69,6 +74,8 @@ fn reached_totals(
         → IsReachable f × AreTotalsOf t f × (map total_of totals.now ≡ map (total_record f) six_states)) }
     ensures unfit { result ≡ Err NotADesk → (f : Machine) → IsShownBy batches.now entries.now moves.now f
         → IsReachable f → map total_of totals.now ≡ map (total_record f) six_states → ⊥ }
+    ensures sure { All (λ m. m.kind ≢ Import) moves.now → result ≢ Err Unfit.Memory }
+    ensures full { 1000000 < length entries.now → result ≢ Err Unfit.Memory }
 {
     fit(replays(alloc, batches, entries, moves)?)?;
     totals_in(batches, entries, totals)
@@ -112,6 +119,10 @@ fn summary_of_rows(alloc: Global, rows: &TableRows) -> Result<DeskSummary, Unfit
         × (x.moves ≤ 1000000000)) }
     ensures unfit { result ≡ Err NotADesk → (s : Machine) → IsReachable s
         → tables_in rows.now ≡ tables_of s → ⊥ }
+    ensures bad { list_all (λ r. is_name (string_bytes r.name)) rows.now.batches.items ≡ false
+        → result ≡ Err NotADesk }
+    ensures empty { rows.now.batches.items ≡ [] → rows.now.sentences.items ≡ [] → rows.now.moves.items ≡ []
+        → result ≢ Err Unfit.Memory }
 {
     reached_states_are_fine();
     rows_tell_names_apart();
@@ -139,6 +150,10 @@ pub(crate) fn summary_of_desk(alloc: Global, rows: &TableRows) -> Result<DeskSum
         × (x.moves ≤ 1000000000)) }
     ensures unfit { result ≡ Err Fault.NotADesk → (s : Machine) → IsReachable s
         → tables_in rows.now ≡ tables_of s → ⊥ }
+    ensures bad { list_all (λ r. is_name (string_bytes r.name)) rows.now.batches.items ≡ false
+        → result ≡ Err Fault.NotADesk }
+    ensures empty { rows.now.batches.items ≡ [] → rows.now.sentences.items ≡ [] → rows.now.moves.items ≡ []
+        → result ≢ Err Fault.Memory }
     ensures never_refuses { (r : AnyRefusal) → result ≢ Err (Fault.Refused r) }
     ensures cause { IfErr result IsNoDevice }
 {

@@ -43,6 +43,7 @@ fn read_first_desk<S: Alter>(alloc: Global, conn: &mut Connection<S>) -> Result<
         → BlamesNoDisk (λ (fault : AnyFault). fault ≢ Fault.Device) S.Store conn.old conn.new result }
     ensures unchanged { HasCleanDisk (state S.Store conn.new)
         → OnOk result (IsUnchanged (state S.Store conn.old) (state S.Store conn.new)) }
+    ensures autocommit { conn.old.in_transaction ≡ false → conn.new.in_transaction ≡ false }
     ensures kept { HasCleanDisk (state S.Store conn.new) → IsTrue (state S.Store conn.new).is_open → (d : Tables)
         → HoldsFirst S.Store conn.old d → HoldsFirst S.Store conn.new d }
     ensures survives { Survives (state S.Store conn.old) (state S.Store conn.new) (λ _. ⊥) }
@@ -99,6 +100,7 @@ pub fn migrate<S: Alter>(alloc: Global, conn: &mut Connection<S>) -> Result<Desk
     ensures cause { ((s : Machine) → IsFirstDesk S.Store conn.old s → ⊥)
         → (state S.Store conn.old).step_limit ≡ None
         → BlamesNoDisk (λ (fault : AnyFault). fault ≢ Fault.Device) S.Store conn.old conn.new result }
+    ensures autocommit { conn.old.in_transaction ≡ false → conn.new.in_transaction ≡ false }
     ensures again { HasCleanDisk (state S.Store conn.new) → IsTrue (state S.Store conn.new).is_open
         → OnErr result ((s : Machine) → IsFirstDesk S.Store conn.old s → IsFirstDesk S.Store conn.new s) }
     ensures crash { Survives (state S.Store conn.old) (state S.Store conn.new) (λ db. (s : Machine)

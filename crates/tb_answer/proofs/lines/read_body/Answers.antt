@@ -9,5 +9,5 @@ use Rattle.tb_answer.proofs.lines.read_body.Goals as goal
 pub returns : goal.returns
 returns g c =
     let taken : Result (List ℕ) Reply → Type 0 = IsTaken g.R.Source.IsFailure g.R.Source.left file_limit (said_by c.args.line.now) c.args.reader.now c.read_all.new.source in
-    let came = body_taken (g.R.Source.IsFailure c.read_all.new.source) file_limit (g.R.Source.left c.args.reader.now) (g.R.Source.left c.read_all.new.source) c.read_all.result c.read_all.ensures in
+    let came = body_taken (g.R.Source.IsFailure c.read_all.new.source) file_limit (g.R.Source.left c.args.reader.now) (g.R.Source.left c.read_all.new.source) c.read_all.result c.read_all.ensures.came in
     matched (λ v. v.items) c.body_of.result (body_in c.read_all.result) taken c.body_of.ensures (inl (sym c.if-not-has_body.ensures, came))

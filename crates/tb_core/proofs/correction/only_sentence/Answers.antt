@@ -1,6 +1,7 @@
-use Rattle.std.proofs.Common.{rules, [], sym, ◌∙◌, subst}
+use Rattle.std.proofs.Common.{◌≡◌, rules, [], sym, ◌∙◌, subst}
 use Rattle.std.proofs.lemmas.Result.{err_from_is_err_and}
-use Rattle.tb_conllu.specs.Fault.{IsFaultAfter}
+use Rattle.tb_conllu.specs.Fault.{IsFaultAfter, MayWantMemory}
+use Rattle.tb_conllu.specs.declared.fault.ReadFault.TheVariants.{Memory}
 use Rattle.tb_conllu.specs.Left.{Left}
 use Rattle.tb_core.proofs.Bodies.{correction_read_refused, reading_wants, many_refused, one_is}
 use Rattle.tb_core.proofs.correction.only_sentence.Goals as goal
@@ -18,7 +19,7 @@ returns-in_err-passage-clause-refused c = λ current.
 pub returns-in_err-passage-clause-memory : goal.returns-in_err-passage-clause-memory
 returns-in_err-passage-clause-memory c =
     let p = err_from_is_err_and c.from_residual-in_err-passage.result c.from_residual-in_err-passage.ensures.1 in
-    let begun = subst (λ (l : Left). IsFaultAfter l.line l.rest c.in_err-passage.field-0.0) c.new-unread.ensures c.in_err-passage.ensures.fault.0 in
+    let begun = subst (λ (l : Left). c.in_err-passage.field-0.0 ≡ Memory → MayWantMemory l.rest) c.new-unread.ensures c.in_err-passage.ensures.memory in
     rw p.1 (reading_wants c.args.body.now [] (record { rest = c.args.body.now; line = 0 }) c.in_err-passage.field-0.0 p.0 (c.a_file_is_read_in_order.ensures.begin c.args.body.now) begun p.2)
 
 pub returns-in-Some-clause-taken : goal.returns-in-Some-clause-taken

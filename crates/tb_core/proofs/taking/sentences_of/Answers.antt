@@ -11,7 +11,7 @@ returns-in_err-passage-clause-refused c =
 pub returns-in_err-passage-clause-memory : goal.returns-in_err-passage-clause-memory
 returns-in_err-passage-clause-memory c =
     let p = err_from_is_err_and c.from_residual.result c.from_residual.ensures.1 in
-    rw p.1 (reading_wants c.args.body.now c.loop-all.invariant.0 c.loop-all.unread c.in_err-passage.field-0.0 p.0 c.loop-all.invariant.1 c.in_err-passage.ensures.fault.0 p.2)
+    rw p.1 (reading_wants c.args.body.now c.loop-all.invariant.0 c.loop-all.unread c.in_err-passage.field-0.0 p.0 c.loop-all.invariant.1 c.in_err-passage.ensures.memory p.2)
 
 pub returns-in-Err-clause-memory : goal.returns-in-Err-clause-memory
 returns-in-Err-clause-memory c =

@@ -4,7 +4,7 @@ use Rattle.std.proofs.lemmas.Result.{err_from_is_err_and}
 use Rattle.tb_tables.specs.Values.{sentence_of, revision_of}
 use Rattle.tb_verify.specs.File.{AreReadBack, is_next}
 use Rattle.tb_verify.proofs.Filed.{first_of, turn, mapped_drop, map_dropped, map_taken, no_more, read_with, nothing_left, all_read}
-use Rattle.tb_verify.proofs.Unreported.{passed_on_as}
+use Rattle.tb_verify.proofs.Unreported.{passed_on_as, no_want}
 use Rattle.tb_verify.proofs.entries.entries_in.Goals as goal
 
 pub returns-in_err-entry-clause-unfit : goal.returns-in_err-entry-clause-unfit
@@ -38,6 +38,16 @@ returns-in_err-fit-clause-unfit c = λ q xs h.
     let led = c.loop-i.invariant.0 xs h in
     let none = nothing_left revision_of (c.loop-i.i + 1) (map sentence_of (drop c.loop-i.i c.args.sentences.now)) c.loop-i.left.now c.loop-i.rest.now led.0 (no_more sentence_of c.args.sentences.now c.loop-i.i (omega (arith, c.loop-i-test.false))) led.1 in
     let t : false ≡ true = sym c.in_err-fit.ensures.wrong.1 ∙ c.is_empty.ensures ∙ (Decides-eqb (length c.loop-i.rest.now) 0).1 none.0 in cc
+
+pub returns-in_err-fit-clause-none : goal.returns-in_err-fit-clause-none
+returns-in_err-fit-clause-none c = λ none q.
+    let p = err_from_is_err_and c.from_residual-in_err-fit.result c.from_residual-in_err-fit.ensures.1 in
+    no_want c.from_residual-in_err-fit.result p.0 c.in_err-fit.field-0.0 p.1 p.2 c.in_err-fit.ensures.wrong.0 q
+
+pub returns-in_err-fit-2-clause-none : goal.returns-in_err-fit-2-clause-none
+returns-in_err-fit-2-clause-none c = λ none q.
+    let p = err_from_is_err_and c.from_residual-in_err-fit-2.result c.from_residual-in_err-fit-2.ensures.1 in
+    no_want c.from_residual-in_err-fit-2.result p.0 c.in_err-fit-2.field-0.0 p.1 p.2 c.in_err-fit-2.ensures.wrong.0 q
 
 pub returns-in_err-fit-2-clause-unfit : goal.returns-in_err-fit-2-clause-unfit
 returns-in_err-fit-2-clause-unfit c = λ q xs h.

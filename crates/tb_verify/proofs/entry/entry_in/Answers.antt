@@ -6,7 +6,8 @@ use Rattle.tb_tables.specs.Values.{sentence_of, revision_of}
 use Rattle.tb_verify.specs.Course.{is_course, rows_reported}
 use Rattle.tb_verify.proofs.Rereading.{texts_back, course_of, read_back, reported_joined, entry_is}
 use Rattle.tb_verify.proofs.Turns.{bodies_reported}
-use Rattle.tb_verify.proofs.Unreported.{passed_on_as}
+use Rattle.tb_verify.proofs.Uncounted.{no_course}
+use Rattle.tb_verify.proofs.Unreported.{passed_on_as, unfit_as}
 use Rattle.tb_verify.proofs.entry.entry_in.Goals as goal
 
 pub returns-in_err-blocks-clause-unfit : goal.returns-in_err-blocks-clause-unfit
@@ -28,3 +29,21 @@ returns-clause-fine c =
     let back = read_back c.args.number (sentence_of c.args.row.now) c.args.pulled (map revision_of c.args.revisions.now) c.in_ok-blocks.blocks.items c.in_ok-blocks.ensures.lawful texts course in
     let reported = c.in_ok-reported.ensures ∙ ap (rows_reported (map revision_of c.args.revisions.now)) c.deref-2.ensures.value ∙ reported_joined (map revision_of c.args.revisions.now) c.in_ok-blocks.blocks.items ∙ ap (map row_of) (sym back.3) in
     (back.0, back.1, entry_is back.0 c.args.row.now.batch c.args.pulled c.in_ok-reported.reported.items back.2 back.1.pulled reported)
+
+pub returns-in_err-blocks-clause-none : goal.returns-in_err-blocks-clause-none
+returns-in_err-blocks-clause-none c = λ none. absurd (let t : false ≡ true = c.in_err-blocks.ensures.sure none in cc)
+
+pub returns-in_err-fit-clause-none : goal.returns-in_err-fit-clause-none
+returns-in_err-fit-clause-none c = λ none.
+    let p = err_from_is_err_and c.from_residual-in_err-fit.result c.from_residual-in_err-fit.ensures.1 in
+    unfit_as c.from_residual-in_err-fit.result p.0 c.in_err-fit.field-0.0 p.1 p.2 c.in_err-fit.ensures.wrong.0
+
+pub returns-in_err-reported-clause-none : goal.returns-in_err-reported-clause-none
+returns-in_err-reported-clause-none c = λ none. absurd
+    (no_course c.args.number (sentence_of c.args.row.now) c.args.revisions.now c.in_ok-blocks.blocks.items none c.in_ok-blocks.ensures.texts
+    (ap (is_course c.args.number (sentence_of c.args.row.now) (map revision_of c.args.revisions.now)) (sym c.deref.ensures.value) ∙ sym c.is_course_right.ensures ∙ c.in_ok-fit.ensures.right))
+
+pub returns-clause-none : goal.returns-clause-none
+returns-clause-none c = λ none. absurd
+    (no_course c.args.number (sentence_of c.args.row.now) c.args.revisions.now c.in_ok-blocks.blocks.items none c.in_ok-blocks.ensures.texts
+    (ap (is_course c.args.number (sentence_of c.args.row.now) (map revision_of c.args.revisions.now)) (sym c.deref.ensures.value) ∙ sym c.is_course_right.ensures ∙ c.in_ok-fit.ensures.right))

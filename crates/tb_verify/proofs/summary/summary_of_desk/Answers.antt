@@ -10,3 +10,6 @@ returns-clause-counts c = rw c.fitting.ensures.value (reported_if fault_of_unfit
 
 pub returns-clause-unfit : goal.returns-clause-unfit
 returns-clause-unfit c failed s reach is = c.summary_of_rows.ensures.unfit (c.fitting.ensures.form failed) s reach is
+
+pub returns-clause-empty : goal.returns-clause-empty
+returns-clause-empty c b s m failed = c.summary_of_rows.ensures.empty b s m (c.fitting.ensures.want failed)

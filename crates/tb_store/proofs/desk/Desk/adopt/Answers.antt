@@ -71,3 +71,6 @@ pub returns-in-Err-clause-wants : goal.returns-in-Err-clause-wants
 returns-in-Err-clause-wants g c is =
     let looks = subst (LooksLikeDesk g.S.Store) c.without_limit-conn.ensures (c.in-Err.ensures.wants (ap (λ f. Err f) is)) in
     (looks.autocommit, looks.schema)
+
+pub returns-in-Err-clause-autocommit : goal.returns-in-Err-clause-autocommit
+returns-in-Err-clause-autocommit g c mode = c.read_desk.ensures.autocommit (ap (λ h. h.in_transaction) c.without_limit-conn.ensures ∙ mode)

@@ -67,3 +67,6 @@ returns-in-Err-clause-only_desks g c none clean =
     let is = c.without_limit-conn.ensures in
     subst (λ h. Survives (state g.S.Store h) (state g.S.Store c.migrate.new.conn) (λ _. ⊥)) is
     (c.in-Err.ensures.only_desks (λ s desk. none s (first_before g.S.Store c.args.conn c.without_limit-conn.result is s desk)) clean)
+
+pub returns-in-Err-clause-autocommit : goal.returns-in-Err-clause-autocommit
+returns-in-Err-clause-autocommit g c mode = c.migrate.ensures.autocommit (ap (λ h. h.in_transaction) c.without_limit-conn.ensures ∙ mode)
