@@ -1,9 +1,10 @@
 -- The texts of a hit and of the words round it, as parts of those of the sentence.
-use Rattle.std.proofs.Common.{◌≡◌, ℕ, ◌+◌, ◌-◌, ◌<◌, List, [], ◌∷◌, ◌++◌, map, take, drop, refl, sym, ap, ◌∙◌, subst, arith, append_assoc, Option}
+use Rattle.std.proofs.Common.{◌≡◌, ℕ, ◌+◌, ◌-◌, ◌<◌, ◌≤◌, List, [], ◌∷◌, ◌++◌, length, map, take, drop, refl, sym, ap, ◌∙◌, subst, arith, append_assoc, Option, None, Some}
+use Rattle.std.specs.Prelude.{MatchOption}
 use Rattle.std.specs.Io.KnownBytes.{Appends}
 use Rattle.std.specs.List.{join_with_byte}
 use Rattle.std.proofs.KnownBytes.{Appends-trans}
-use Rattle.std.proofs.lemmas.List.{drop-take, drop-map, drop-drop}
+use Rattle.std.proofs.lemmas.List.{drop-take, drop-map, drop-drop, length-drop}
 use Rattle.tb_conllu.specs.Text.{RowText}
 use Rattle.tb_report.specs.Keywords.{joined, before, of_hit, after}
 
@@ -46,6 +47,17 @@ texts_put f words left matched right n i j first o a b c d order is at_left at_m
     let r : take n (map f right) ≡ after n j texts = ap (take n) (behind f words right j past) in
     three_texts _ _ _ o a b c d
     (subst (λ ts. Appends o a (joined ts ++ 9 ∷ [])) l put_left) (subst (λ ts. Appends a b (joined ts ++ 9 ∷ [])) m put_match) (subst (λ ts. Appends b c (joined ts)) r put_right) end
+
+-- the text of a lone word is the key of its hit
+pub lone_text : {A : Type 0} (f : RowText → List ℕ) (text : A → List ℕ) (words rest : List RowText) (i j : ℕ) (o : Option A) → i < j → j ≤ length words → j ≤ i + 1 → rest ≡ drop i words
+    → MatchOption o (rest ≡ []) (λ v. take 1 (map f rest) ≡ text v ∷ []) → MatchOption o (i + 1 < j) (λ v. text v ≡ joined (of_hit i j (map f words)))
+lone_text f text words rest i j None order last lone same none =
+    let left : length (drop i words) ≡ length words - i = length-drop i words in
+    let empty : length (drop i words) ≡ 0 = ap length (sym same ∙ none) in
+    omega (arith, left, empty, order, last)
+lone_text f text words rest i j (Some v) order last lone same first =
+    let one : j - i ≡ 1 = omega (arith, order, lone) in
+    sym (ap joined (ap (λ n. take n (drop i (map f words))) one ∙ ap (take 1) (sym (behind f words rest i same)) ∙ first))
 
 -- six columns in a row
 pub six_columns : (name first last l m r : List ℕ)

@@ -14,3 +14,4 @@ pub mod Parts
 pub mod Unwrapped
 pub mod Escapes
 pub mod Grown
+mod Pages

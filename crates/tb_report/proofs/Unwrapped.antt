@@ -1,5 +1,5 @@
 -- A sentence that keeps the rules has a name.
-use Rattle.std.proofs.Common.{Bor, ◌≡◌, ℕ, List, [], ◌∷◌, Option, Some, None, true, refl, sym, ◌∙◌, ap}
+use Rattle.std.proofs.Common.{Bor, ◌≡◌, ℕ, List, Option, Some, None, true, refl, sym, ◌∙◌, ap}
 use Rattle.std.specs.Option.{option_copied, is_some}
 use Rattle.tb_conllu.specs.Text.{BlockText}
 use Rattle.tb_rules.specs.Comments.{HasSentId, only, sent_ids}

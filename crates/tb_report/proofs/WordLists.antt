@@ -42,6 +42,12 @@ one_more_word rows i n r inside is word count =
     let next = ap length (next_word rows i r inside is word) ∙ length-append (words_to i rows) (r ∷ []) in
     omega (arith, count, next)
 
+-- the first word, with none before it
+pub first_word : (f : RowText → List ℕ) (rows : List RowText) (i : ℕ) (r : RowText) → i < length rows → r ≡ get_or rows i r → is_word r ≡ true → words_to i rows ≡ [] → take 1 (map f (filter is_word rows)) ≡ f r ∷ []
+first_word f rows i r inside is word none =
+    let next : words_to (i + 1) rows ≡ r ∷ [] = next_word rows i r inside is word ∙ ap (λ ws. ws ++ r ∷ []) none in
+    sym (first_words f rows (i + 1) 1 (sym (ap length next))) ∙ ap (map f) next
+
 abbrev pub texts_of : (RowText → List ℕ) → List RowText → List (List ℕ)
 texts_of f rows = map f rows
 

@@ -1,14 +1,14 @@
 //! Keyword lines and keys of hits.
 
 ghost use Rattle.std.specs.Prelude.{◌≡◌, ℕ, ◌+◌, ◌-◌, ◌<◌, ◌≤◌, ◌∷◌, ◌++◌, []};
-ghost use Rattle.std.specs.Prelude.{IfErr, IfOk, List, OnOk, decimal, filter, map, string_bytes, take};
+ghost use Rattle.std.specs.Prelude.{IfErr, IfOk, List, MatchOption, OnOk, decimal, filter, map, string_bytes, take};
 ghost use Rattle.std.specs.Io.KnownBytes.{Appends};
 ghost use Rattle.tb_conllu.specs.Words.{is_word, words_of};
 ghost use Rattle.tb_core.specs.Machine.{sent_id_of};
 ghost use Rattle.tb_report.specs.Keywords.{after, before, joined, key_of, keyword_line, of_hit};
 ghost use Rattle.tb_rules.specs.Rules.{KeepsRules};
 
-use crate::words::{after_words, push_words, put_words};
+use crate::words::{after_words, first_value, push_words, put_words};
 use std::alloc::{AllocError, Global};
 use tb_conllu::{BlockOf, RowOf, Sink, Text, put_number};
 use tb_rules::sent_id;
@@ -129,6 +129,19 @@ pub fn kwic_named<T: Text, S: Sink>(
 {
     put_place(name, hit, out)?;
     put_forms(&block.rows, hit, context, out)
+}
+
+/// The key of a hit of one word: its value in the column. `None` for a hit of more words. Takes no memory.
+pub fn word_key<T: Text>(block: &BlockOf<T>, hit: (u32, u32), column: Attr) -> Option<&str>
+    requires first { hit.0 < hit.1 }
+    requires last { hit.1 ≤ words_of block.now }
+    ensures { MatchOption result (hit.0 + 1 < hit.1) (λ value. value.now ≡ key_of column block.now hit) }
+{
+    let (start, end) = hit;
+    if start + 1 < end {
+        return None;
+    }
+    first_value(after_words(&block.rows, start as usize), column)
 }
 
 /// The values of a hit's words in one column, with one space between each two.

@@ -22,10 +22,10 @@ pub use csvs::{csv_freq, csv_moves, csv_totals};
 pub use fault::ReportFault;
 pub use faults::{FaultRow, faults_text};
 pub use freq::Freq;
-pub use keyword::{key, kwic, kwic_named};
+pub use keyword::{key, kwic, kwic_named, word_key};
 pub use laws::{
-    counts_sum_to_keys, keys_have_one_table, order_of_keys_is_nothing, sentences_begin_no_tag,
-    table_has_one_ranking, tables_add_up,
+    counts_sum_to_keys, keys_have_one_table, order_of_keys_is_nothing, pages_of_trees_are_html,
+    sentences_begin_no_tag, table_has_one_ranking, tables_add_up,
 };
 pub use table::{finish, new_rows, put_row, put_text};
 pub use trees::trees_page;

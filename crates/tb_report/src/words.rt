@@ -1,6 +1,6 @@
 //! Words of a sentence, from a given word on, joined by spaces.
 
-ghost use Rattle.std.specs.Prelude.{◌≡◌, ◌∷◌, ◌++◌, [], IfErr, OnOk, drop, filter};
+ghost use Rattle.std.specs.Prelude.{◌≡◌, ◌∷◌, ◌++◌, [], IfErr, MatchOption, OnOk, drop, filter};
 ghost use Rattle.std.specs.Prelude.{if◌then◌else◌, map, string_bytes, take};
 ghost use Rattle.std.specs.Io.KnownBytes.{Appends};
 ghost use Rattle.tb_conllu.specs.Words.{is_word};
@@ -100,4 +100,17 @@ pub(crate) fn push_words<T: Text>(
         done += 1;
     }
     Ok(())
+}
+
+/// The value of the first word; `None` where there is none.
+pub(crate) fn first_value<T: Text>(rows: &[RowOf<T>], column: Attr) -> Option<&str>
+    ensures { MatchOption result (filter is_word rows.now ≡ []) (λ value.
+        take 1 (map (value_of column) (filter is_word rows.now)) ≡ value.now ∷ []) }
+{
+    for row in rows {
+        if is_word_row(row) {
+            return Some(value_of(column, row));
+        }
+    }
+    None
 }

@@ -47,7 +47,18 @@ batch_lacks (r ∷ rows) [] i e there = refl
 batch_lacks (r ∷ rows) (b ∷ bs) zero e there = absurd (let none : Some r ≡ None = there in cc)
 batch_lacks (r ∷ rows) (b ∷ bs) (suc i) e there = batch_lacks rows bs i (let tail : map batch_of rows ≡ map batch_record bs = cc in tail) there
 
+-- nothing is released without a batch
+pub no_release : (b : Bool) (n : ℕ) → is_state (cond b Withdrawn (batch_with [] n).state) Released ≡ false
+no_release true n = refl
+no_release false n = refl
+
 -- ---- lists
+
+-- what is put into an empty list was not wanted
+pub unwanted : (found : List Pick) (b : Bool) (p : Pick) (rest : List Pick) → (found ++ cond b (p ∷ []) []) ++ rest ≡ [] → b ≡ false
+unwanted found false p rest e = refl
+unwanted [] true p rest e = absurd cc
+unwanted (f ∷ found) true p rest e = absurd cc
 
 split_at : {X : Type 0} (xs : List X) (i : ℕ) → i < length xs → (x : X) × (drop i xs ≡ x ∷ drop (i + 1) xs) × (slice_get xs i ≡ Some x)
 split_at [] i low = absurd (omega (arith, low))

@@ -1,6 +1,6 @@
 //! Counts the keys of hits.
 
-ghost use Rattle.std.specs.Prelude.{◌≡◌, ◌≢◌, ◌<◌, ◌≤◌, ◌-◌, ◌^◌, ◌++◌, ◌∷◌, [], ℕ, All, List, Err, IfErr, IsOk, OnOk};
+ghost use Rattle.std.specs.Prelude.{◌≡◌, ◌≢◌, ◌<◌, ◌≤◌, ◌+◌, ◌-◌, ◌^◌, ◌++◌, ◌∷◌, [], ℕ, All, List, Err, IfErr, IsOk, OnOk};
 ghost use Rattle.std.specs.Prelude.{map};
 ghost use Rattle.tb_search.specs.Prelude.{count_in, IsTableOf, key_of, total_of, words_of};
 ghost use Rattle.sqlite.specs.declared.error.ErrorCode.TheVariants.{OutOfMemory};
@@ -14,7 +14,7 @@ use std::alloc::Global;
 use tb_conllu::BlockRef;
 use tb_query::Attr;
 use tb_reads::ReadError;
-use tb_report::{Freq, key};
+use tb_report::{Freq, key, word_key};
 
 /// Nothing where one more key can be counted. A number past 64 bits is reported as want of memory: no memory holds so
 /// many hits.
@@ -44,7 +44,7 @@ fn count_key(key: &str, table: &mut Freq) -> Result<(), Stopped>
     Ok(())
 }
 
-/// Counts the key of one hit.
+/// Counts the key of one hit. A word whose value was counted before takes no memory.
 fn count_hit(
     alloc: Global,
     block: &BlockRef<'_>,
@@ -56,12 +56,17 @@ fn count_hit(
     requires last { hit.1 ≤ words_of block.now }
     ensures counted { OnOk result ((keys : List (List ℕ)) → IsTableOf keys table.old
         → IsTableOf (keys ++ key_of column block.now hit ∷ []) table.new) }
+    ensures known { hit.1 ≡ hit.0 + 1 → 0 < count_in table.old (key_of column block.now hit)
+        → total_of table.old < 2 ^ 64 - 1 → IsOk result }
     ensures never_refuses { result ≢ Err Stopped.Output }
     ensures fault { IfErr result IsFault }
     ensures fails { IfErr result IsStopFault }
     ensures cause { IfErr result IsStopWant }
 {
     has_room(table.total())?;
+    if let Some(value) = word_key(block, hit, column) {
+        return count_key(value, table);
+    }
     let key = key(alloc, block, hit, column)?;
     count_key(key.as_str(), table)?;
     Ok(())

@@ -91,6 +91,11 @@ pub(crate) fn released_of(
     ensures fault { IfErr result IsFault }
     ensures fails { IfErr result IsStopFault }
     ensures cause { IfErr result IsStopWant }
+    ensures sure { heads.now ≡ [] → IsOk result }
+    ensures no_batch { batches.now ≡ [] → IsOk result }
+    ensures none { (bs : List Batch) (xs : List Sentence) → map batch_of batches.now ≡ map batch_record bs
+        → pulled.now ≡ pulled_from 1 xs → heads.now ≡ map head_of (map sentence_record xs)
+        → picks_from (is_in_release bs) 1 xs ≡ [] → IsOk result }
 {
     let mut found = Vec::new(alloc);
     let mut number = 0;
@@ -119,6 +124,7 @@ pub(crate) fn picks_of(alloc: Global, work: &[BatchSentence]) -> Result<Vec<Pick
     ensures fault { IfErr result IsFault }
     ensures fails { IfErr result IsStopFault }
     ensures cause { IfErr result IsStopWant }
+    ensures sure { work.now ≡ [] → IsOk result }
 {
     let mut found = Vec::new(alloc);
     for one in work {

@@ -12,7 +12,7 @@ use crate::count_keys::CountKeys;
 use crate::released::visit_released;
 use crate::searcher::SentenceSearcher;
 use crate::stopped::Stopped;
-use crate::write_kwic::{WriteKwic, put_total};
+use crate::write_kwic::{Line, WriteKwic, put_total};
 use sqlite::{Alter, Connection};
 use std::alloc::Global;
 use tb_conllu::Sink;
@@ -112,10 +112,12 @@ pub fn search_released<S: Alter, W: Sink>(
 {
     revisions_read_back();
     let seeker = SentenceSearcher::new(alloc, query, strategy)?;
+    let line = Line::new(alloc);
     let mut listing = WriteKwic {
         seeker,
         context,
         found: 0,
+        line,
     };
     visit_released(alloc, conn, &mut listing, out)?;
     put_total(listing.found, out)?;

@@ -31,8 +31,17 @@ fn name_in<'b>(block: &'b BlockRef<'_>) -> Result<&'b str, Stopped>
 
 /// A line in memory.
 #[derive(Drop)]
-struct Line {
+pub(crate) struct Line {
     bytes: Vec<u8>,
+}
+
+impl Line {
+    /// A line without text.
+    pub(crate) fn new(alloc: Global) -> Line {
+        Line {
+            bytes: Vec::new(alloc),
+        }
+    }
 }
 
 impl Sink for Line {
@@ -91,7 +100,7 @@ fn put_hit<W: Sink>(
 
 /// Writes the lines of the hits of a sentence.
 fn put_hits<W: Sink>(
-    alloc: Global,
+    line: &mut Line,
     name: &str,
     block: &BlockRef<'_>,
     hits: &[(u32, u32)],
@@ -110,21 +119,19 @@ fn put_hits<W: Sink>(
     ensures cause { IfErr result IsStopWant }
     ensures sure { hits.now ≡ [] → IsOk result }
 {
-    let mut line = Line {
-        bytes: Vec::new(alloc),
-    };
     for hit in hits {
-        put_hit(&mut line, name, block, *hit, context, out)?;
+        put_hit(line, name, block, *hit, context, out)?;
     }
     Ok(())
 }
 
-/// Writes the keyword lines of the hits of a query, and counts them.
+/// Writes the keyword lines of the hits of a query, and counts them. All lines are made in the same memory.
 #[derive(Drop)]
 pub(crate) struct WriteKwic<'q> {
     pub seeker: SentenceSearcher<'q>,
     pub context: u8,
     pub found: u64,
+    pub line: Line,
 }
 
 impl<'q, W: Sink> BodyVisitor<W> for WriteKwic<'q> {
@@ -143,12 +150,18 @@ impl<'q, W: Sink> BodyVisitor<W> for WriteKwic<'q> {
         if !self.seeker.may_hit(body) {
             return Ok(());
         }
-        let alloc = self.seeker.alloc;
-        let block = sentence_in(alloc, body)?;
+        let block = sentence_in(self.seeker.alloc, body)?;
         let hits = self.seeker.hits(&block)?;
         let found = raised(self.found, hits.len())?;
         let name = name_in(&block)?;
-        put_hits(alloc, name, &block, hits.as_slice(), self.context, filled)?;
+        put_hits(
+            &mut self.line,
+            name,
+            &block,
+            hits.as_slice(),
+            self.context,
+            filled,
+        )?;
         self.found = found;
         Ok(())
     }

@@ -6,7 +6,7 @@ use crate::telling::assert_bytes;
 use std::alloc::Global;
 use std::process::Abort;
 use tb_conllu::{Block, read, words};
-use tb_report::{Freq, key, kwic};
+use tb_report::{Freq, key, kwic, word_key};
 use tb_rules::check;
 use tb_syntax::Attr;
 
@@ -69,11 +69,15 @@ fn put_line(
     kwic(block, hit, context, lines).expect(rt, "a line");
 }
 
-/// The lemmas of a hit.
+/// The lemmas of a hit. That of one word is also found without memory.
 fn lemmas(rt: &impl Abort, alloc: Global, block: &Block, hit: (u32, u32)) -> String {
     assert!(rt; hit.0 < hit.1);
     assert!(rt; hit.1 as usize <= words(block));
-    key(alloc, block, hit, Attr::Lemma).expect(rt, "a key")
+    let found = key(alloc, block, hit, Attr::Lemma).expect(rt, "a key");
+    let lone = word_key(block, hit, Attr::Lemma);
+    assert!(rt; lone.is_some() == (hit.0 + 1 == hit.1));
+    assert!(rt; lone.is_none() || lone == Some(found.as_str()));
+    found
 }
 
 /// Writes the keyword line of a hit, and counts the hit's key.

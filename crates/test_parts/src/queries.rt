@@ -15,7 +15,7 @@ fn lexed_text(rt: &impl Abort, alloc: Global, lexed: &Lexed) -> String {
 
 /// Its lexemes, and their places.
 pub(crate) fn placed(rt: &impl Abort, alloc: Global, text: &str) -> String {
-    let lexed = read(alloc, text).expect(rt, "error");
+    let lexed = read(text).expect(rt, "error");
     lexed_text(rt, alloc, &lexed)
 }
 

@@ -17,7 +17,7 @@ returns-clause-answered g c clean s desk =
     let n = c.args.context in
     let asked = c.in_ok-seeker.ensures.asked in
     let read = reads s (c.revisions_read_back.ensures s desk.reachable.reached) in
-    let all = lines_found held (released s) read (record { seeker = c.in_ok-seeker.seeker; context = n; found = 0 }) c.args.out.now c.visit_released.new.visitor c.visit_released.new.filled (c.in_ok-visit_released.ensures.taken clean s desk) in
+    let all = lines_found held (released s) read (record { seeker = c.in_ok-seeker.seeker; context = n; found = 0; line = c.new-line.result }) c.args.out.now c.visit_released.new.visitor c.visit_released.new.filled (c.in_ok-visit_released.ensures.taken clean s desk) in
     let count : c.visit_released.new.visitor.found ≡ length all.0 = omega (arith, all.2.2) in
     let ended : Appends (held c.visit_released.new.filled) (held c.put_total.new.out) (total_line (length all.0)) = subst (λ m. Appends (held c.visit_released.new.filled) (held c.put_total.new.out) (total_line m)) count c.in_ok-put_total.ensures.put in (
       all.0,
@@ -42,7 +42,7 @@ returns-in_err-visit_released-clause-broken g c clean =
     let read = reads s (c.revisions_read_back.ensures s desk.reachable.reached) in
     let halted = (rw c.in_err-visit_released.was at (c.visit_released.ensures.halted clean)) s desk in
     let mine = asked_so _ _ _ _ (searched s) found (sym asked.1) (sym asked.0) are in
-    broken_off _ (held c.args.out.now) _ n found (lines_cut held (released s) read (record { seeker = c.in_ok-seeker.seeker; context = n; found = 0 }) c.args.out.now _ c.visit_released.new.filled halted found mine))
+    broken_off _ (held c.args.out.now) _ n found (lines_cut held (released s) read (record { seeker = c.in_ok-seeker.seeker; context = n; found = 0; line = c.new-line.result }) c.args.out.now _ c.visit_released.new.filled halted found mine))
 
 pub returns-in_err-put_total-clause-broken : goal.returns-in_err-put_total-clause-broken
 returns-in_err-put_total-clause-broken g c clean =
@@ -53,7 +53,7 @@ returns-in_err-put_total-clause-broken g c clean =
     let refused = rw c.in_err-put_total.was at c.put_total.ensures.part in
     err_is _ _ _ reported.0 reported.1 reported.2 (λ s desk found are.
     let read = reads s (c.revisions_read_back.ensures s desk.reachable.reached) in
-    let all = lines_found held (released s) read (record { seeker = c.in_ok-seeker.seeker; context = n; found = 0 }) c.args.out.now c.visit_released.new.visitor c.visit_released.new.filled (c.in_ok-visit_released.ensures.taken clean s desk) in
+    let all = lines_found held (released s) read (record { seeker = c.in_ok-seeker.seeker; context = n; found = 0; line = c.new-line.result }) c.args.out.now c.visit_released.new.visitor c.visit_released.new.filled (c.in_ok-visit_released.ensures.taken clean s desk) in
     let mine = asked_so _ _ _ _ (searched s) found (sym asked.1) (sym asked.0) are in
     let same : all.0 ≡ found = one_found c.in_ok-seeker.seeker.strategy c.in_ok-seeker.seeker.searcher (searched s) all.0 found all.1 mine in
     total_cut _ (held c.args.out.now) (held c.visit_released.new.filled) (held c.put_total.new.out) n found c.visit_released.new.visitor.found (let count : c.visit_released.new.visitor.found ≡ length found = omega (arith, all.2.2, ap length same) in count)
@@ -69,7 +69,7 @@ returns-in_err-visit_released-clause-fault g c clean =
     let reported = err_from_is_err_and c.from_residual-in_err-visit_released.result c.from_residual-in_err-visit_released.ensures.1 in
     err_is _ _ _ reported.0 reported.1 reported.2 (λ s desk.
     let read = reads s (c.revisions_read_back.ensures s desk.reachable.reached) in
-    sought_fault (lists g.W.Sink.held) (breaks_off g.W.Sink.held) (λ v o t e q stopped. stopped.0) (released s) read (record { seeker = c.in_ok-seeker.seeker; context = c.args.context; found = 0 }) c.args.out.now _ c.visit_released.new.filled (c.in_err-visit_released.ensures.halted clean s desk))
+    sought_fault (lists g.W.Sink.held) (breaks_off g.W.Sink.held) (λ v o t e q stopped. stopped.0) (released s) read (record { seeker = c.in_ok-seeker.seeker; context = c.args.context; found = 0; line = c.new-line.result }) c.args.out.now _ c.visit_released.new.filled (c.in_err-visit_released.ensures.halted clean s desk))
 
 pub returns-in_err-put_total-clause-fault : goal.returns-in_err-put_total-clause-fault
 returns-in_err-put_total-clause-fault g c clean =
