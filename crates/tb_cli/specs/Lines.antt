@@ -1,6 +1,6 @@
 -- What the words of a command line say: the subcommand and its values, where all of these have their forms.
 use Rattle.std.specs.Prelude.{ℕ, List, codes, Option, Some, None, option_map, option_and_then, if◌then◌else◌}
-use Rattle.std.specs.Prelude.{bytes_eq}
+use Rattle.std.specs.Prelude.{◌≡◌, IfSome, bytes_eq, ⊤}
 use Rattle.std.specs.List.{list_any}
 use Rattle.std.specs.String.{string_bytes}
 use Rattle.clap.specs.Words.{Row, Text, first_of}
@@ -116,6 +116,20 @@ said_with verb.Count rows =
 said_with verb.Serve rows =
     with_two (serve (first_of (codes "db") rows)) (formed port_of (first_of (codes "port") rows))
     (formed requests_of (first_of (codes "requests") rows))
+
+-- the line of a command with these values has no text, so it is read without memory
+abbrev pub HasNoText : Verb → List Row → Type 0
+HasNoText verb.Check rows = ⊤
+HasNoText verb.Show rows = first_of (codes "db") rows ≡ None
+HasNoText verb.Export rows = (first_of (codes "db") rows ≡ None) × (first_of (codes "name") rows ≡ None)
+HasNoText verb.Totals rows = first_of (codes "db") rows ≡ None
+HasNoText verb.Moves rows = first_of (codes "db") rows ≡ None
+HasNoText verb.Serve rows = first_of (codes "db") rows ≡ None
+HasNoText _ rows = ⊥
+
+-- nor has the line of the subcommand that clap finds
+abbrev pub SaysNoText : Option (Text × List Row) → Type 0
+SaysNoText found = IfSome found (λ p. IfSome (verb_of p.0) (λ v. HasNoText v p.1))
 
 -- what the subcommand that clap finds says, with its values
 abbrev pub said_of : Option (Text × List Row) → Option Said

@@ -1,5 +1,5 @@
 -- The command line of deskview: its commands, as they are declared to clap, and what words say.
-use Rattle.std.specs.Prelude.{ℕ, List, true, [], codes, Option, Some, None, option_and_then, bytes_eq, if◌then◌else◌}
+use Rattle.std.specs.Prelude.{ℕ, List, Bool, true, false, is_some, [], codes, Option, Some, None, option_and_then, bytes_eq, if◌then◌else◌}
 use Rattle.std.specs.String.{string_bytes}
 use Rattle.clap.specs.Words.{App, Row, Text, first_of, new_app, with_rule, with_subcommand}
 use Rattle.tb_http.specs.Forms.{most_of, number_of, port_of}
@@ -123,6 +123,18 @@ viewed_with word rows =
     else if bytes_eq word (codes "check") then check_with rows
     else if bytes_eq word (codes "page") then page_with rows
     else None
+
+-- The command with this word names the file of a desk, with these values. One that does not has no text in its line, which
+-- is therefore read without memory: it lists the faults of standard input, or draws its trees.
+abbrev pub names_desk : Text → List Row → Bool
+names_desk word rows =
+    if bytes_eq word (codes "batches") then true
+    else if bytes_eq word (codes "sentences") then true
+    else if bytes_eq word (codes "revisions") then true
+    else if bytes_eq word (codes "find") then true
+    else if bytes_eq word (codes "tree") then is_some (first_of (codes "db") rows)
+    else if bytes_eq word (codes "check") then false
+    else bytes_eq word (codes "page")
 
 -- what the subcommand that clap finds says, with its values
 abbrev pub viewed_of : Option (Text × List Row) → Option Viewed

@@ -1,12 +1,12 @@
 //! Reads a line from words.
 
-ghost use Rattle.std.specs.Prelude.{◌≡◌, ◌≢◌, IfOk, IfErr, Some, None, true, option_map, map};
+ghost use Rattle.std.specs.Prelude.{◌≡◌, ◌≢◌, IfOk, IfErr, Some, None, Err as ErrOf, true, option_map, map};
 ghost use Rattle.std.specs.String.{string_bytes};
 ghost use Rattle.clap.specs.Words.{app_of, takes, fault_of, is_simple, is_simple_and_free, subcommand_of};
 ghost use Rattle.clap.specs.Words.{subcommand_rows_of, rows_of, found_of};
 ghost use Rattle.tb_cli.specs.Tree.{desk_app};
 ghost use Rattle.tb_cli.specs.Fault.{AnswersAs, ComesOnly, IsToldAs, ReadsAs};
-ghost use Rattle.tb_cli.specs.Lines.{said_by, said_of, said_with};
+ghost use Rattle.tb_cli.specs.Lines.{HasNoText, SaysNoText, said_by, said_of, said_with};
 ghost use Rattle.tb_cli.specs.declared.verbs.Verb.TheVariants as verb;
 
 use crate::lines::{Line, LineFault};
@@ -80,7 +80,8 @@ fn restore(alloc: Global, matches: &ArgMatches<'_>) -> Result<Line, LineFault>
 }
 
 fn show(alloc: Global, matches: &ArgMatches<'_>) -> Result<Line, LineFault>
-    ensures { ReadsAs (said_with verb.Show (rows_of (found_of matches.now))) said_by result }
+    ensures value { ReadsAs (said_with verb.Show (rows_of (found_of matches.now))) said_by result }
+    ensures memory { HasNoText verb.Show (rows_of (found_of matches.now)) → result ≢ ErrOf LineFault.Memory }
 {
     let no = given(number_in(matches, "no"))?;
     let rev = given(number_if_any(matches, "rev"))?;
@@ -89,7 +90,8 @@ fn show(alloc: Global, matches: &ArgMatches<'_>) -> Result<Line, LineFault>
 }
 
 fn export(alloc: Global, matches: &ArgMatches<'_>) -> Result<Line, LineFault>
-    ensures { ReadsAs (said_with verb.Export (rows_of (found_of matches.now))) said_by result }
+    ensures value { ReadsAs (said_with verb.Export (rows_of (found_of matches.now))) said_by result }
+    ensures memory { HasNoText verb.Export (rows_of (found_of matches.now)) → result ≢ ErrOf LineFault.Memory }
 {
     let name = given(batch_if_any(matches, "name"))?;
     let db = copied(alloc, value(matches, "db"))?;
@@ -128,7 +130,8 @@ fn count(alloc: Global, matches: &ArgMatches<'_>) -> Result<Line, LineFault>
 }
 
 fn serve(alloc: Global, matches: &ArgMatches<'_>) -> Result<Line, LineFault>
-    ensures { ReadsAs (said_with verb.Serve (rows_of (found_of matches.now))) said_by result }
+    ensures value { ReadsAs (said_with verb.Serve (rows_of (found_of matches.now))) said_by result }
+    ensures memory { HasNoText verb.Serve (rows_of (found_of matches.now)) → result ≢ ErrOf LineFault.Memory }
 {
     let port = given(port_in(matches, "port"))?;
     let requests = given(requests_in(matches, "requests"))?;
@@ -136,9 +139,26 @@ fn serve(alloc: Global, matches: &ArgMatches<'_>) -> Result<Line, LineFault>
     Ok(Line::Serve { db, port, requests })
 }
 
+fn totals(alloc: Global, matches: &ArgMatches<'_>) -> Result<Line, LineFault>
+    ensures value { ReadsAs (said_with verb.Totals (rows_of (found_of matches.now))) said_by result }
+    ensures memory { HasNoText verb.Totals (rows_of (found_of matches.now)) → result ≢ ErrOf LineFault.Memory }
+{
+    let db = copied(alloc, value(matches, "db"))?;
+    Ok(Line::Totals { db })
+}
+
+fn moves(alloc: Global, matches: &ArgMatches<'_>) -> Result<Line, LineFault>
+    ensures value { ReadsAs (said_with verb.Moves (rows_of (found_of matches.now))) said_by result }
+    ensures memory { HasNoText verb.Moves (rows_of (found_of matches.now)) → result ≢ ErrOf LineFault.Memory }
+{
+    let db = copied(alloc, value(matches, "db"))?;
+    Ok(Line::Moves { db })
+}
+
 /// The line of a command with these values.
 fn line_of(alloc: Global, verb: Verb, values: &ArgMatches<'_>) -> Result<Line, LineFault>
-    ensures { ReadsAs (said_with verb (rows_of (found_of values.now))) said_by result }
+    ensures value { ReadsAs (said_with verb (rows_of (found_of values.now))) said_by result }
+    ensures memory { HasNoText verb (rows_of (found_of values.now)) → result ≢ ErrOf LineFault.Memory }
 {
     match verb {
         Verb::Check => Ok(Line::Check),
@@ -157,14 +177,8 @@ fn line_of(alloc: Global, verb: Verb, values: &ArgMatches<'_>) -> Result<Line, L
         Verb::Restore => restore(alloc, values),
         Verb::Show => show(alloc, values),
         Verb::Export => export(alloc, values),
-        Verb::Totals => {
-            let db = copied(alloc, value(values, "db"))?;
-            Ok(Line::Totals { db })
-        }
-        Verb::Moves => {
-            let db = copied(alloc, value(values, "db"))?;
-            Ok(Line::Moves { db })
-        }
+        Verb::Totals => totals(alloc, values),
+        Verb::Moves => moves(alloc, values),
         Verb::Search => search(alloc, values),
         Verb::Count => count(alloc, values),
         Verb::Serve => serve(alloc, values),
@@ -215,9 +229,10 @@ fn parsed(alloc: Global, words: &[String]) -> Result<ArgMatches<'_>, LineFault>
     found_by(desk(alloc)?, words)
 }
 
-/// The line that clap's matches say. Only what is a line needs memory.
+/// The line that clap's matches say. Only a line with a text needs memory.
 fn line_in(alloc: Global, matches: &ArgMatches<'_>) -> Result<Line, LineFault>
-    ensures { ReadsAs (said_of (subcommand_rows_of matches.now)) said_by result }
+    ensures value { ReadsAs (said_of (subcommand_rows_of matches.now)) said_by result }
+    ensures memory { SaysNoText (subcommand_rows_of matches.now) → result ≢ ErrOf LineFault.Memory }
 {
     match entered(matches) {
         Some((name, values)) => match verb_of(name) {

@@ -1,12 +1,12 @@
 //! Reads a line of `deskview` from words.
 
-ghost use Rattle.std.specs.Prelude.{◌≡◌, ◌≢◌, IfOk, IfErr, None, codes, true, map};
+ghost use Rattle.std.specs.Prelude.{◌≡◌, ◌≢◌, IfOk, IfErr, IfSome, None, Err as ErrOf, codes, is_some, false, true, map};
 ghost use Rattle.std.specs.String.{string_bytes};
 ghost use Rattle.clap.specs.Words.{takes, fault_of, subcommand_of, subcommand_rows_of, rows_of, found_of, first_of};
 ghost use Rattle.tb_cli.specs.Fault.{AnswersAs, ComesOnly, ReadsAs};
 ghost use Rattle.tb_cli.specs.Lines.{formed, with_one};
-ghost use Rattle.tb_cli.specs.View.{check_with, find_with, page_with, revisions_with, sentences_with, tree_of, tree_said};
-ghost use Rattle.tb_cli.specs.View.{tree_with, view_app, viewed_by, viewed_of, viewed_with};
+ghost use Rattle.tb_cli.specs.View.{check_with, find_with, names_desk, page_with, revisions_with, sentences_with};
+ghost use Rattle.tb_cli.specs.View.{tree_of, tree_said, tree_with, view_app, viewed_by, viewed_of, viewed_with};
 ghost use Rattle.tb_http.specs.Forms.{number_of};
 
 use crate::lines::{LineFault, ViewLine, ViewList};
@@ -84,7 +84,8 @@ fn tree_of_desk(alloc: Global, db: &str, values: &ArgMatches<'_>) -> Result<View
 
 /// The trees of standard input. A number would be that of a sentence in no desk.
 fn trees(values: &ArgMatches<'_>) -> Result<ViewLine, LineFault>
-    ensures { ReadsAs (tree_said None (first_of (codes "no") (rows_of (found_of values.now)))) viewed_by result }
+    ensures value { ReadsAs (tree_said None (first_of (codes "no") (rows_of (found_of values.now)))) viewed_by result }
+    ensures memory { result ≢ ErrOf LineFault.Memory }
 {
     match value(values, "no") {
         Some(_) => Err(LineFault::Usage),
@@ -93,7 +94,9 @@ fn trees(values: &ArgMatches<'_>) -> Result<ViewLine, LineFault>
 }
 
 fn tree(alloc: Global, values: &ArgMatches<'_>) -> Result<ViewLine, LineFault>
-    ensures { ReadsAs (tree_with (rows_of (found_of values.now))) viewed_by result }
+    ensures value { ReadsAs (tree_with (rows_of (found_of values.now))) viewed_by result }
+    ensures memory { is_some (first_of (codes "db") (rows_of (found_of values.now))) ≡ false
+        → result ≢ ErrOf LineFault.Memory }
 {
     match value(values, "db") {
         Some(db) => tree_of_desk(alloc, db, values),
@@ -102,7 +105,8 @@ fn tree(alloc: Global, values: &ArgMatches<'_>) -> Result<ViewLine, LineFault>
 }
 
 fn check(values: &ArgMatches<'_>) -> Result<ViewLine, LineFault>
-    ensures { ReadsAs (check_with (rows_of (found_of values.now))) viewed_by result }
+    ensures value { ReadsAs (check_with (rows_of (found_of values.now))) viewed_by result }
+    ensures memory { result ≢ ErrOf LineFault.Memory }
 {
     let most = given(most_in(values, "most"))?;
     Ok(ViewLine::Check { most })
@@ -118,7 +122,9 @@ fn page(alloc: Global, values: &ArgMatches<'_>) -> Result<ViewLine, LineFault>
 
 /// The line of the command with this word, and with these values.
 fn line_of(alloc: Global, word: &str, values: &ArgMatches<'_>) -> Result<ViewLine, LineFault>
-    ensures { ReadsAs (viewed_with word.now (rows_of (found_of values.now))) viewed_by result }
+    ensures value { ReadsAs (viewed_with word.now (rows_of (found_of values.now))) viewed_by result }
+    ensures memory { names_desk word.now (rows_of (found_of values.now)) ≡ false
+        → result ≢ ErrOf LineFault.Memory }
 {
     if is_word(word, "batches") {
         let db = file_in(alloc, values)?;
@@ -143,9 +149,11 @@ fn line_of(alloc: Global, word: &str, values: &ArgMatches<'_>) -> Result<ViewLin
     }
 }
 
-/// The line that clap's matches say. Only what is a line needs memory.
+/// The line that clap's matches say. Only a line that names a desk needs memory.
 fn line_in(alloc: Global, matches: &ArgMatches<'_>) -> Result<ViewLine, LineFault>
-    ensures { ReadsAs (viewed_of (subcommand_rows_of matches.now)) viewed_by result }
+    ensures value { ReadsAs (viewed_of (subcommand_rows_of matches.now)) viewed_by result }
+    ensures memory { IfSome (subcommand_rows_of matches.now) (λ p. names_desk p.0 p.1 ≡ false)
+        → result ≢ ErrOf LineFault.Memory }
 {
     match entered(matches) {
         Some((word, values)) => line_of(alloc, word, values),

@@ -1,4 +1,4 @@
--- Inner: no contract beyond this crate cites a definition of this module.
+-- Between crates: no contract of a front door cites a definition of this module.
 -- What the bytes of a file and of its log show of its tables (the file format of SQLite, sections 1.3, 1.6 and 4.1).
 use Rattle.std.specs.Prelude.{◌≡◌, ◌≢◌, ◌++◌, ◌+◌, ◌*◌, ◌⊎◌, ◌≤◌, ◌<◌, ℕ, List, [], ◌∷◌, All, codes, length, take, drop, slice_get, Option, None, Some}
 use Rattle.std.specs.Prelude.{Bool, true, false, min, nat_eq, not, Result, Ok, Err}
@@ -28,6 +28,11 @@ pub record BeginsWith (bytes text : List ℕ) : Type 0 where
 -- SQLite gives the name a meaning of its own.
 abbrev pub IsReserved : (path : List ℕ) → Type 0
 IsReserved path = (path ≡ codes ":memory:") ⊎ BeginsWith path (codes "file:")
+
+-- The name of the log of some file.
+pub record IsLogName (name : List ℕ) : Type 0 where
+  pub file : List ℕ
+  pub ends : name ≡ file ++ codes "-wal"
 
 -- The file holds something, and does not begin as a database does.
 abbrev pub IsOtherFile : (head : List ℕ) → Type 0

@@ -1,12 +1,13 @@
 //! Desks in files. This module is tested, not proved: no contract ties a file to its path.
 
-ghost use Rattle.std.specs.Prelude.{◌≡◌, ◌≢◌, ◌+◌, ◌/◌, ℕ, false, min, IfErr, IfOk, IsTrue, None};
+ghost use Rattle.std.specs.Prelude.{◌≡◌, ◌≢◌, ◌+◌, ◌/◌, ℕ, false, min, IfErr, IfOk, IsErrAnd, IsOkAnd, IsTrue, None};
+ghost use Rattle.std.specs.Prelude.{MatchResult, Ok as Opened, Err as ErrOf, string_bytes};
 ghost use Rattle.sqlite.specs.Files.{IsOpened, file_state, over_files};
 ghost use Rattle.sqlite.specs.State.{HasCleanDisk};
 ghost use Rattle.sqlite.specs.Steps.{over_memory};
 ghost use Rattle.tb_host.specs.Causes.{IsPathCause, reply_of, reply_of_error, reply_of_fault};
 ghost use Rattle.sqlite.specs.declared.error.Error.{Error as DatabaseError};
-ghost use Rattle.tb_host.specs.Contents.{cause_to_migrate, may_be_opened, what_to_undo};
+ghost use Rattle.tb_host.specs.Contents.{IsLogName, IsReserved, cause_to_migrate, may_be_opened, what_to_undo};
 ghost use Rattle.tb_host.specs.Opened.{IsEmptyDesk, IsMadeDesk, IsSomeDesk};
 
 use crate::causes::FileCause;
@@ -15,7 +16,7 @@ use crate::diagnostics::wants_words;
 use crate::looking::{beside, may_become_desk, version_of};
 use crate::misfit::{Misfit, first_misfit};
 use crate::turns::Turn;
-use sqlite::{Alter, Connection, Error, ErrorCode, File, FileStore, MemStore, Options};
+use sqlite::{Alter, Connection, Error, ErrorCode, File, FileStore, Leftover, MemStore, Options};
 use sqlite_disk::{Disk, Files, Unknown};
 use sqlite_std_file::OpenError;
 use std::fs::OpenOptions;
@@ -116,14 +117,24 @@ struct Log {
     is_empty: bool,
 }
 
+/// The path of the log beside the file at this path, or beside the one to which a link there leads.
+fn log_path(rt: &HostRuntime, path: &str) -> Result<String, FileCause>
+    ensures name { IfOk result (λ name. IsLogName (string_bytes name)) }
+    ensures cause { IfErr result (λ cause. cause ≡ FileCause.Memory) }
+{
+    match fs::canonicalize(rt, path) {
+        Ok(real) => beside(rt, real.as_str(), "-wal"),
+        Err(_) => beside(rt, path, "-wal"),
+    }
+}
+
 impl Log {
     fn before(rt: &HostRuntime, path: &str) -> Result<Log, FileCause>
-        ensures { IfErr result (λ cause. cause ≡ FileCause.Memory) }
+        ensures name { IfOk result (λ log. IsLogName (string_bytes log.path)) }
+        ensures unseen { IfOk result (λ log. log.is_empty ≡ false) }
+        ensures cause { IfErr result (λ cause. cause ≡ FileCause.Memory) }
     {
-        let path = match fs::canonicalize(rt, path) {
-            Ok(real) => beside(rt, real.as_str(), "-wal")?,
-            Err(_) => beside(rt, path, "-wal")?,
-        };
+        let path = log_path(rt, path)?;
         Ok(Log {
             was_there: fs::exists(rt, path.as_str()).unwrap_or(true),
             path,
@@ -198,6 +209,29 @@ fn options(rt: &HostRuntime, path: &str, room: u64) -> Result<Options, FileCause
     })
 }
 
+/// The connection that the database has opened over files, or the cause for which it has not. Where they are no
+/// database, the log stays as it was.
+fn connection<D: Disk + Drop>(
+    rt: &HostRuntime,
+    log: &Log,
+    opened: Result<Connection<FileStore<D>>, (Error, Leftover<D>)>,
+) -> Result<Connection<FileStore<D>>, FileCause>
+    ensures { MatchResult opened (λ c. result ≡ Opened c)
+        (λ e. IsErrAnd result (λ cause. reply_of cause ≡ reply_of_error e.0)) }
+{
+    match opened {
+        Ok(conn) => Ok(conn),
+        Err((error, left)) => {
+            let cause = cause_of_error(error);
+            if cause.is_no_desk() {
+                let _ = log.undo(rt);
+            }
+            drop(left);
+            Err(cause)
+        }
+    }
+}
+
 /// A connection over these files, in no transaction. Where they are no database, the log stays as it was.
 fn over<D: Disk + Drop>(
     rt: &HostRuntime,
@@ -211,17 +245,7 @@ fn over<D: Disk + Drop>(
     ensures opened { IfOk result (λ c. HasCleanDisk (file_state c) → IsOpened c) }
     ensures cause { IfErr result (λ cause. (e : DatabaseError) × (reply_of cause ≡ reply_of_error e)) }
 {
-    match Connection::open_files(rt.alloc(), files, options) {
-        Ok(conn) => Ok(conn),
-        Err((error, left)) => {
-            let cause = cause_of_error(error);
-            if cause.is_no_desk() {
-                let _ = log.undo(rt);
-            }
-            drop(left);
-            Err(cause)
-        }
-    }
+    connection(rt, log, Connection::open_files(rt.alloc(), files, options))
 }
 
 /// A connection to the file at this path, in no transaction, with room for so many pages more. It waits for a file
@@ -282,6 +306,41 @@ fn given_up(
     cause
 }
 
+/// The desk that was opened over a connection to a file, or the cause for which none was. Its words name the row that is
+/// wrong.
+fn opened_in_file(
+    rt: &HostRuntime,
+    log: &Log,
+    adopted: Result<Desk<FileStore<File>>, Unmade<FileStore<File>>>,
+) -> Result<FileDesk, FileCause>
+    ensures { MatchResult adopted (λ d. IsOkAnd result (λ file. file.desk ≡ d))
+        (λ u. IsErrAnd result (λ cause. reply_of cause ≡ reply_of_fault u.fault)) }
+{
+    match adopted {
+        Ok(desk) => Ok(FileDesk { desk }),
+        Err(Unmade { fault, mut conn }) => {
+            let not_a_desk = FileCause::Rows(misfit_of(rt, fault, &mut conn));
+            Err(given_up(rt, log, fault, conn, not_a_desk))
+        }
+    }
+}
+
+/// The desk that was made or migrated over a connection to a file, or the cause for which none was.
+fn made_in_file(
+    rt: &HostRuntime,
+    log: &Log,
+    made: Result<Desk<FileStore<File>>, Unmade<FileStore<File>>>,
+    not_a_desk: FileCause,
+) -> Result<FileDesk, FileCause>
+    ensures { reply_of not_a_desk ≡ Reply.Desk → MatchResult made (λ d. IsOkAnd result (λ file. file.desk ≡ d))
+        (λ u. IsErrAnd result (λ cause. reply_of cause ≡ reply_of_fault u.fault)) }
+{
+    match made {
+        Ok(desk) => Ok(FileDesk { desk }),
+        Err(Unmade { fault, conn }) => Err(given_up(rt, log, fault, conn, not_a_desk)),
+    }
+}
+
 /// Refuses a desk of another version than today's.
 fn may_be_opened(version: Version) -> Result<(), FileCause>
     ensures { result ≡ may_be_opened version }
@@ -303,7 +362,9 @@ fn cause_to_migrate(version: Version) -> FileCause
 }
 
 /// Refuses a file that by its first bytes, and those of its log, is not a desk of version 2. The file is not changed.
-pub fn look(rt: &HostRuntime, path: &str) -> Result<(), FileCause> {
+pub fn look(rt: &HostRuntime, path: &str) -> Result<(), FileCause>
+    ensures { IsReserved path.now → result ≡ ErrOf FileCause.ReservedName }
+{
     may_be_opened(version_of(rt, path)?)
 }
 
@@ -316,36 +377,35 @@ pub fn in_memory(rt: &HostRuntime) -> Result<Desk<MemStore>, Fault>
 
 /// The desk of the file at this path, with room for so many pages more.
 pub fn open(rt: &HostRuntime, program: &str, path: &str, room: u64) -> Result<FileDesk, FileCause>
-    ensures { IfOk result (λ opened. IsSomeDesk over_files opened.desk) }
+    ensures desk { IfOk result (λ opened. IsSomeDesk over_files opened.desk) }
+    ensures reserved { IsReserved path.now → result ≡ ErrOf FileCause.ReservedName }
 {
     look(rt, path)?;
     let mut log = Log::before(rt, path)?;
     let conn = connect(rt, program, path, &mut log, room)?;
-    match Desk::adopt(rt.alloc(), conn, LIMITS) {
-        Ok(desk) => Ok(FileDesk { desk }),
-        Err(Unmade { fault, mut conn }) => {
-            let not_a_desk = FileCause::Rows(misfit_of(rt, fault, &mut conn));
-            Err(given_up(rt, &log, fault, conn, not_a_desk))
-        }
-    }
+    opened_in_file(rt, &log, Desk::adopt(rt.alloc(), conn, LIMITS))
 }
 
 /// Migrates the desk of version 1 in the file at this path to version 2.
 pub fn migrate(rt: &HostRuntime, program: &str, path: &str) -> Result<FileDesk, FileCause>
-    ensures { IfOk result (λ migrated. IsSomeDesk over_files migrated.desk) }
+    ensures desk { IfOk result (λ migrated. IsSomeDesk over_files migrated.desk) }
+    ensures reserved { IsReserved path.now → result ≡ ErrOf FileCause.ReservedName }
 {
     let not_a_desk = cause_to_migrate(version_of(rt, path)?);
     let mut log = Log::before(rt, path)?;
     let conn = connect(rt, program, path, &mut log, ROOM)?;
-    match Desk::migrate(rt.alloc(), conn, LIMITS) {
-        Ok(desk) => Ok(FileDesk { desk }),
-        Err(Unmade { fault, conn }) => Err(given_up(rt, &log, fault, conn, not_a_desk)),
-    }
+    made_in_file(
+        rt,
+        &log,
+        Desk::migrate(rt.alloc(), conn, LIMITS),
+        not_a_desk,
+    )
 }
 
 /// Makes a desk in the file at this path. The file is missing, empty or a blank database.
 pub fn make(rt: &HostRuntime, program: &str, path: &str) -> Result<FileDesk, FileCause>
-    ensures { IfOk result (λ made. IsMadeDesk over_files made.desk) }
+    ensures desk { IfOk result (λ made. IsMadeDesk over_files made.desk) }
+    ensures reserved { IsReserved path.now → result ≡ ErrOf FileCause.ReservedName }
 {
     may_become_desk(rt, path)?;
     let mut log = Log::before(rt, path)?;
@@ -353,8 +413,10 @@ pub fn make(rt: &HostRuntime, program: &str, path: &str) -> Result<FileDesk, Fil
         Ok(conn) => conn,
         Err(cause) => return Err(cause.of_new()),
     };
-    match Desk::make(rt.alloc(), conn, LIMITS) {
-        Ok(desk) => Ok(FileDesk { desk }),
-        Err(Unmade { fault, conn }) => Err(given_up(rt, &log, fault, conn, FileCause::NotBlank)),
-    }
+    made_in_file(
+        rt,
+        &log,
+        Desk::make(rt.alloc(), conn, LIMITS),
+        FileCause::NotBlank,
+    )
 }

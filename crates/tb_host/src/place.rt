@@ -1,7 +1,8 @@
 //! Where a desk's files are, while the desk is served.
 
-ghost use Rattle.std.specs.Prelude.{◌≡◌, ◌↔◌, ◌≤◌, IsTrue, length, take, drop};
-ghost use Rattle.tb_host.specs.Contents.{IsAnother, is_gone, kept_of, number_in};
+ghost use Rattle.std.specs.Prelude.{◌≡◌, ◌↔◌, ◌≤◌, IfErr, IfOk, IsTrue, length, take, drop, string_bytes};
+ghost use Rattle.tb_host.specs.Causes.{IsSystemCause};
+ghost use Rattle.tb_host.specs.Contents.{IsAnother, IsLogName, is_gone, kept_of, number_in};
 
 use crate::causes::FileCause;
 use crate::contents::PAGE_BYTES;
@@ -29,7 +30,9 @@ pub struct Place {
 }
 
 /// What identifies a file of any size.
-fn numbers_in(found: &fs::Metadata) -> Numbers {
+fn numbers_in(found: &fs::Metadata) -> Numbers
+    ensures { result.least ≡ 0 }
+{
     Numbers {
         device: found.dev(),
         file: found.ino(),
@@ -37,7 +40,10 @@ fn numbers_in(found: &fs::Metadata) -> Numbers {
     }
 }
 
-fn numbers_of(rt: &HostRuntime, path: &str) -> Result<Numbers, FileCause> {
+fn numbers_of(rt: &HostRuntime, path: &str) -> Result<Numbers, FileCause>
+    ensures any_size { IfOk result (λ numbers. numbers.least ≡ 0) }
+    ensures cause { IfErr result IsSystemCause }
+{
     match fs::metadata(rt, path) {
         Ok(found) => Ok(numbers_in(&found)),
         Err(error) => Err(FileCause::of_system(error)),
@@ -109,7 +115,10 @@ fn has_another(rt: &HostRuntime, path: &str, numbers: Numbers) -> bool {
 
 impl Place {
     /// Where the files are now.
-    pub fn new(rt: &HostRuntime, path: &str) -> Result<Place, FileCause> {
+    pub fn new(rt: &HostRuntime, path: &str) -> Result<Place, FileCause>
+        ensures path { IfOk result (λ place. string_bytes place.path ≡ path.now) }
+        ensures log { IfOk result (λ place. IsLogName (string_bytes place.log_path) × (place.log.least ≡ 0)) }
+    {
         let log_path = beside(rt, real(rt, path)?.as_str(), "-wal")?;
         Ok(Place {
             path: beside(rt, path, "")?,

@@ -1,6 +1,7 @@
 //! Which word of a command line does not have its form, where clap accepts the words but they are no command.
 
-ghost use Rattle.std.specs.Prelude.{IfSome};
+ghost use Rattle.std.specs.Prelude.{◌≡◌, ◌<◌, ◌⊎◌, IfSome, None, length};
+ghost use Rattle.tb_host.specs.declared.causes.Form.{Form as AnyForm};
 ghost use Rattle.tb_host.specs.Forms.{HasForm, IsFormOfOption};
 
 use crate::causes::{Cause, Form};
@@ -121,7 +122,10 @@ fn first_wrong<'a>(command: &'a str, words: &'a [String]) -> Option<(Given<'a>, 
 }
 
 /// The value in the words that does not have its form, if one does not.
-pub fn wrong_value(rt: &HostRuntime, words: &[String]) -> Option<Diagnostic> {
+pub fn wrong_value(rt: &HostRuntime, words: &[String]) -> Option<Diagnostic>
+    ensures few { length words.now < 2 → result ≡ None }
+    ensures form { IfSome result (λ wrong. (form : AnyForm) × (wrong.cause ≡ Cause.Value form)) }
+{
     let [_, command, rest @ ..] = words else {
         return None;
     };
@@ -135,7 +139,11 @@ pub fn wrong_value(rt: &HostRuntime, words: &[String]) -> Option<Diagnostic> {
 }
 
 /// What is wrong with words that clap accepts: a value does not have its form, or there is no command.
-pub fn wrong_word(rt: &HostRuntime, program: &'static str, words: &[String]) -> Diagnostic {
+pub fn wrong_word(rt: &HostRuntime, program: &'static str, words: &[String]) -> Diagnostic
+    ensures few { length words.now < 2 → result.cause ≡ Cause.NoCommand program.entry }
+    ensures cause { (result.cause ≡ Cause.NoCommand program.entry)
+        ⊎ ((form : AnyForm) × (result.cause ≡ Cause.Value form)) }
+{
     match wrong_value(rt, words) {
         Some(wrong) => wrong,
         None => Diagnostic::from(Cause::NoCommand(program)),
