@@ -1,9 +1,11 @@
 -- Inner: no contract beyond this crate cites a definition of this module.
 -- What a connection has sent so far, and how that goes on.
-use Rattle.std.specs.Prelude.{◌≡◌, ◌≢◌, ◌≤◌, List, ℕ, take, vec_len}
+use Rattle.std.specs.Prelude.{◌≡◌, ◌≢◌, ◌⊎◌, ◌≤◌, List, ℕ, take, vec_len}
+use Rattle.std.specs.Duration.{as_nanos}
+use Rattle.tb_host.specs.Patience.{seconds}
 use Rattle.tb_desk.specs.Arriving.{IsAwaited, awaited_at}
 use Rattle.tb_desk.specs.declared.arriving.Awaited.{Awaited}
-use Rattle.tb_desk.specs.declared.arriving.Awaited.TheVariants.{Head}
+use Rattle.tb_desk.specs.declared.arriving.Awaited.TheVariants.{Head, Nothing}
 use Rattle.tb_desk.specs.declared.callers.Caller.{Caller}
 
 -- the bytes that a connection has sent
@@ -27,3 +29,11 @@ AwaitsBySaid caller = (now : Awaited) × IsAwaited (said_by caller) now × (call
 abbrev pub Hears : (old new : Caller) → Type 0
 Hears old new = (old.awaited ≡ Head → AwaitsBySaid new)
     × (old.awaited ≢ Head → new.awaited ≡ awaited_at old.awaited new.filled)
+
+-- How long the desk still waits. The time for a body begins when the head has come, and none begins anew while the same
+-- part is awaited. Once the head has come, or nothing is awaited, that stays.
+pub record KeepsTime (old new : Caller) : Type 0 where
+  pub came : old.awaited ≢ Head → new.awaited ≢ Head
+  pub whole : old.awaited ≡ Nothing → new.awaited ≡ Nothing
+  pub same : (old.awaited ≢ Head) ⊎ (new.awaited ≡ Head) → new.left ≡ old.left
+  pub begun : old.awaited ≡ Head → new.awaited ≢ Head → new.awaited ≢ Nothing → as_nanos new.left ≡ seconds 10

@@ -1,6 +1,5 @@
 pub mod Arriving
 pub mod Callers
-pub mod Checking
 pub mod Drawing
 pub mod Explaining
 pub mod Faults

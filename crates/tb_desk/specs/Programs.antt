@@ -4,11 +4,10 @@ use Rattle.std.specs.Io.KnownBytes.{Keeps}
 use Rattle.std.specs.Path.{path_file_name}
 use Rattle.std.specs.declared.io.ErrorKind.{ErrorKind}
 use Rattle.std.specs.declared.io.ErrorKind.TheVariants.{OutOfMemory}
-use Rattle.tb_check.specs.Check.{Answers, file_limit}
+use Rattle.tb_check.specs.Check.{Answers, IsReplyToTaken, file_limit}
 use Rattle.tb_check.specs.Words.{asks_check}
 use Rattle.tb_conllu.specs.declared.fault.WriteFault.{WriteFault}
 use Rattle.tb_conllu.specs.declared.source.SourceFault.{SourceFault}
-use Rattle.tb_desk.specs.Checking.{IsReplyToTaken}
 use Rattle.tb_desk.specs.Lines.{AreWordsRun}
 use Rattle.tb_host.specs.Reported.{IsTold}
 use Rattle.tb_desk.specs.Viewing.{AreWordsShown}

@@ -7,7 +7,7 @@ ghost use Rattle.std.specs.Io.{ReadsAtMost};
 ghost use Rattle.std.specs.Io.KnownBytes.{ReadConsumes};
 ghost use Rattle.std.specs.IoError.{error_kind};
 ghost use Rattle.tb_desk.specs.Arriving.{IsAwaited, next_size};
-ghost use Rattle.tb_desk.specs.Callers.{GoesOn, Hears, said_by};
+ghost use Rattle.tb_desk.specs.Callers.{GoesOn, Hears, KeepsTime, said_by};
 ghost use Rattle.tb_host.specs.Patience.{seconds, wait_left};
 ghost use Rattle.tb_desk.specs.Serving.{is_no_byte};
 ghost use Rattle.tb_desk.specs.declared.arriving.Awaited.TheVariants.{Head, Nothing};
@@ -127,7 +127,8 @@ impl Caller {
         ensures held { self.old.is_held ≡ true → self.new.left ≡ self.old.left }
         ensures awaited { self.new.awaited ≡ self.old.awaited }
         ensures said { (self.new.room ≡ self.old.room) × (self.new.filled ≡ self.old.filled) }
-        ensures stream { self.new.stream ≡ self.old.stream }
+        ensures same { (self.new.stream ≡ self.old.stream) × (self.new.has_ended ≡ self.old.has_ended)
+            × (self.new.is_held ≡ self.old.is_held) }
     {
         if !self.is_held {
             self.left = left_after(self.left, passed);
@@ -148,6 +149,8 @@ impl Caller {
             → most < max (next_size (vec_len self.old.room) self.old.awaited) self.old.filled }
         ensures why { self.old.filled < next_size (vec_len self.old.room) self.old.awaited
             → IsTrue result ⊎ (self.new.is_held ≡ true) ⊎ (self.new.awaited ≡ Nothing) }
+        ensures time { KeepsTime self.old self.new }
+        ensures ended { self.new.has_ended ≡ self.old.has_ended }
     {
         self.is_held = false;
         if self.filled < self.room.len() {
@@ -194,7 +197,8 @@ impl Caller {
         ensures rest { (self.old.awaited ≢ Head) ⊎ (self.new.awaited ≡ Head) → self.new.left ≡ self.old.left }
         ensures filled { self.old.filled + count < 2 ^ 64 → self.new.filled ≡ self.old.filled + count }
         ensures room { self.new.room ≡ self.old.room }
-        ensures same { (self.new.stream ≡ self.old.stream) × (self.new.has_ended ≡ self.old.has_ended) }
+        ensures same { (self.new.stream ≡ self.old.stream) × (self.new.has_ended ≡ self.old.has_ended)
+            × (self.new.is_held ≡ self.old.is_held) }
     {
         self.filled = self.filled.saturating_add(count);
         let now = self.awaits_now(alloc, routes);
@@ -213,7 +217,8 @@ impl Caller {
             (λ count. self.old.filled + count < 2 ^ 64 → self.new.filled ≡ self.old.filled + count)
             (λ _. self.new.filled ≡ self.old.filled) }
         ensures room { self.new.room ≡ self.old.room }
-        ensures stream { self.new.stream ≡ self.old.stream }
+        ensures time { KeepsTime self.old self.new }
+        ensures same { (self.new.stream ≡ self.old.stream) × (self.new.is_held ≡ self.old.is_held) }
     {
         match came {
             Ok(0) => {
@@ -236,6 +241,7 @@ impl Caller {
         ensures said { GoesOn self.old self.new }
         ensures whole { self.old.awaited ≡ Nothing → self.new ≡ self.old }
         ensures heard { self.new.filled ≢ self.old.filled → Hears self.old self.new }
+        ensures time { KeepsTime self.old self.new }
     {
         if self.is_ready() || !self.make_room(most) {
             return false;
@@ -249,6 +255,7 @@ impl Caller {
     pub(crate) fn hear(&mut self, alloc: Global, routes: &Routes, most: usize)
         ensures most { vec_len self.new.room ≤ max (vec_len self.old.room) most }
         ensures said { GoesOn self.old self.new }
+        ensures time { KeepsTime self.old self.new }
     {
         for _ in 0..READS {
             if !self.hear_once(alloc, routes, most) {

@@ -1,9 +1,9 @@
 //! The check of a file, with the words for its answer while the file is at hand.
 
-ghost use Rattle.std.specs.Prelude.{◌≡◌};
-ghost use Rattle.tb_check.specs.Check.{Answers, IsWritten, file_limit, reply_text, status_of};
-ghost use Rattle.tb_desk.specs.Checking.{IsReplyToTaken};
+ghost use Rattle.std.specs.Prelude.{◌≡◌, None, IfSome};
+ghost use Rattle.tb_check.specs.Check.{Answers, IsReplyToTaken, IsWritten, file_limit, reply_text, status_of};
 ghost use Rattle.tb_desk.specs.Explaining.{reply_as_the_desk};
+ghost use Rattle.tb_host.specs.Reported.{IsOfAnswer};
 
 use crate::explaining::reported_of_reply;
 use std::alloc::Global;
@@ -51,7 +51,10 @@ pub(crate) fn reported_of_check(
     rt: &HostRuntime,
     reply: CheckReply,
     input: &Input,
-) -> Option<Diagnostic> {
+) -> Option<Diagnostic>
+    ensures none { reply_as_the_desk reply ≡ None → result ≡ None }
+    ensures words { IfSome result (λ d. IsOfAnswer d.cause) }
+{
     let reply = reply_for(reply)?;
     match input {
         Input::Whole(file) => reported_of_reply(rt, reply, file.as_slice(), Asked::Other),

@@ -8,6 +8,7 @@ ghost use Rattle.tb_answer.specs.declared.ending.Ending.TheVariants.{BrokenOff};
 ghost use Rattle.tb_answer.specs.declared.written.Written.TheVariants.{Found, Reply as Replied};
 ghost use Rattle.tb_desk.specs.Explaining.{IsAskedBy};
 ghost use Rattle.tb_host.specs.Reported.{IsOfAnswer, IsReported};
+ghost use Rattle.tb_host.specs.declared.causes.FileCause.{FileCause as AnyFileCause};
 ghost use Rattle.tb_desk.specs.Running.{FoundNothing, IsRead, IsRunOn, taken_of};
 
 use crate::nothing::{unreleased, words_of_nothing};
@@ -88,7 +89,8 @@ fn reported_of_empty<S: Alter>(
 /// Why the device failed on a command just now, at the file of its desk, where the system says more than that it
 /// failed.
 fn cause_at_file(rt: &HostRuntime, line: &Line, ran: Ran) -> Option<Diagnostic>
-    ensures { ran.written ≢ Replied Reply.Device → result ≡ None }
+    ensures other { ran.written ≢ Replied Reply.Device → result ≡ None }
+    ensures file { IfSome result (λ d. (c : AnyFileCause) × (d.cause ≡ Cause.File c)) }
 {
     if !matches!(ran.written, Written::Reply(Reply::Device)) {
         return None;
@@ -147,7 +149,8 @@ fn reported_of_run<S: Alter>(
     desk: &mut Desk<S>,
     ran: Ran,
 ) -> Option<Diagnostic>
-    ensures { IsRead S.Store desk.old desk.new }
+    ensures read { IsRead S.Store desk.old desk.new }
+    ensures broken_off { ran.written ≡ Found BrokenOff → IsReported result Cause.BrokenOff }
 {
     let cause = if body.is_ok() && changes_desk(line) {
         cause_at_file(rt, line, ran)

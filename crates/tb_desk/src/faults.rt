@@ -1,6 +1,6 @@
 //! Lists the faults of a file as CSV.
 
-ghost use Rattle.std.specs.Prelude.{◌≡◌, IfOk, take};
+ghost use Rattle.std.specs.Prelude.{◌≡◌, ◌<◌, IfErr, IfOk, length, take};
 ghost use Rattle.tb_desk.specs.Faults.{AreFaultsListed, AreFirstFaults, IsFaultList, IsFileAnswered};
 ghost use Rattle.tb_desk.specs.Faults.{IsInputAnswered, are_more, exit_with};
 
@@ -56,7 +56,8 @@ fn cut(mut faults: Vec<Fault>, most: usize) -> Vec<Fault>
 
 /// The first faults of a file, at most so many.
 fn first_faults(alloc: Global, file: &[u8], most: u32) -> Result<FirstFaults, AllocError>
-    ensures { IfOk result (λ first. AreFirstFaults file.now most first) }
+    ensures first { IfOk result (λ first. AreFirstFaults file.now most first) }
+    ensures memory { IfErr result (λ _. 0 < length file.now) }
 {
     let most = most as usize;
     let faults = faults_of(alloc, file, most + 1)?;

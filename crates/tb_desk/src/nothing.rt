@@ -1,14 +1,18 @@
 //! Why a query finds nothing, where that can be seen. Nothing is released, its signs are meant literally, or it asks
 //! for a form that only ranges have.
 
-ghost use Rattle.tb_store.specs.Calls.{Does};
+ghost use Rattle.std.specs.Prelude.{◌≢◌, ◌↔◌, IsTrue};
+ghost use Rattle.tb_core.specs.Machine.{one};
+ghost use Rattle.tb_core.specs.Totals.{at_state, total};
+ghost use Rattle.tb_core.specs.declared.kinds.State.TheVariants.{Released};
+ghost use Rattle.tb_store.specs.Calls.{Does, Gives};
 ghost use Rattle.tb_store.specs.Represents.{Represents};
 ghost use Rattle.tb_desk.specs.Running.{IsRead};
 
 use sqlite::Alter;
 use std::alloc::AllocError;
 use std::io::{self, Write};
-use tb_core::Fault;
+use tb_core::{Fault, Totals};
 use tb_match::Strategy;
 use tb_query::parse;
 use tb_store::Desk;
@@ -121,14 +125,22 @@ fn form_of_a_range<S: Alter>(rt: &HostRuntime, desk: &mut Desk<S>, text: &str) -
     Some(words_of_range(rt.alloc(), form))
 }
 
+/// Whether sentences are released, by these totals.
+fn count_released(totals: Totals) -> bool
+    ensures { IsTrue result ↔ (at_state totals.sentences Released ≢ 0) }
+{
+    let [_, _, _, _, released, _] = totals.sentences;
+    released != 0
+}
+
 /// Whether the desk has released sentences.
 fn has_released<S: Alter>(desk: &mut Desk<S>) -> Result<bool, Fault>
     ensures read { IsRead S.Store desk.old desk.new }
+    ensures released { Gives S.Store desk.old desk.new result (λ s b. IsTrue b ↔ (total one s Released ≢ 0)) }
     ensures stays { Does S.Store desk.old desk.new result (λ s. Represents S.Store desk.new s) }
 {
     let totals = desk.totals()?;
-    let [_, _, _, _, released, _] = totals.sentences;
-    Ok(released != 0)
+    Ok(count_released(totals))
 }
 
 /// The words for a desk without released sentences. Nothing that reads released text finds any there.

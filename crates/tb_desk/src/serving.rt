@@ -1,6 +1,6 @@
 //! Serves the desk over HTTP on loopback: one connection after another, with one request each.
 
-ghost use Rattle.std.specs.Prelude.{◌≡◌, ◌≢◌, ◌↔◌, IfErr, IfOk, IfSome, IsTrue};
+ghost use Rattle.std.specs.Prelude.{◌≡◌, ◌≢◌, ◌↔◌, ◌⊎◌, IfErr, IfOk, IfSome, IsTrue};
 ghost use Rattle.std.specs.Prelude.{None, Err as ErrOf, Ok as OkOf, IsSomeAnd, OnErr, OnOk, false, string_bytes};
 ghost use Rattle.std.specs.Io.KnownBytes.{Appends};
 ghost use Rattle.std.specs.Net.Addr.{ipv4_octets};
@@ -17,12 +17,13 @@ ghost use Rattle.tb_desk.specs.Served.{IsServedWith, IsServerEnd, listening};
 ghost use Rattle.tb_desk.specs.Serving.{ended_by, loopback, page_at, page_line, port_place};
 ghost use Rattle.tb_page.specs.Answered.{AnswersVisit};
 ghost use Rattle.tb_page.specs.Visits.{VisitText, Visits};
+ghost use Rattle.tb_store.specs.Handing.{WantsToTell};
 ghost use Rattle.tb_tables.specs.Leaving.{IsFaultless};
 
 use crate::callers::Caller;
 use crate::memory::put_memory;
 use crate::service::Service;
-use crate::waiting::Waiting;
+use crate::waiting::{Next, Waiting};
 use crate::words::put_file_cause;
 use arrayvec::ArrayString;
 use sqlite::Alter;
@@ -173,6 +174,9 @@ fn has_shut<S: Alter>(desk: &mut Desk<S>, status: Status) -> bool
     ensures unasked { status ≢ Status.ServiceUnavailable → (result ≡ false) × (desk.new ≡ desk.old) }
     ensures shut { HasCleanDisk (state S.Store desk.new.conn) → IsTrue result
         → IsFaultless S.Store desk.old.conn desk.new.conn → ⊥ }
+    ensures open { HasCleanDisk (state S.Store desk.new.conn) → result ≡ false
+        → status ≡ Status.ServiceUnavailable → IsTrue (state S.Store desk.new.conn).is_open
+        ⊎ WantsToTell (state S.Store desk.old.conn) (state S.Store desk.new.conn) }
     ensures limits { desk.new.limits ≡ desk.old.limits }
 {
     if status != Status::ServiceUnavailable {
@@ -310,7 +314,9 @@ fn serve_all<S: Alter>(
             return Err(Cause::NoConnections);
         };
         taken += 1;
-        let Some(caller) = next else { continue };
+        let Some(Next::Whole(caller)) = next else {
+            continue
+        };
         let served = serve_one(rt, &routes, desk, place, page, &caller);
         if has_answer(&served) {
             waiting.part(caller);

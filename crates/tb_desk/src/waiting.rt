@@ -1,14 +1,17 @@
 //! Connections that wait to be served. One that sends nothing, or sends slowly, keeps nobody from the desk.
 
-ghost use Rattle.std.specs.Prelude.{◌≡◌, ◌≢◌, ◌↔◌, ◌≤◌, ◌<◌, ◌+◌, ◌++◌, [], ◌∷◌, IsTrue, IfErr, IfOk, IfSome};
-ghost use Rattle.std.specs.Prelude.{IsSomeAnd};
-ghost use Rattle.std.specs.Prelude.{MatchResult, None, Some, Err, Ok, true, false, drop, max, vec_capacity, vec_len};
+ghost use Rattle.std.specs.Prelude.{◌≡◌, ◌≢◌, ◌↔◌, ◌≤◌, ◌<◌, ◌+◌, ◌-◌, ◌^◌, ◌++◌, [], ◌∷◌};
+ghost use Rattle.std.specs.Prelude.{IsTrue, IfErr, IfOk, IfSome, IsSomeAnd, MatchResult};
+ghost use Rattle.std.specs.Prelude.{None, Some, Err, Ok, true, false, drop, max, min, vec_capacity, vec_len};
 ghost use Rattle.std.specs.Duration.{as_nanos};
 ghost use Rattle.std.specs.IoError.{error_kind, raw_os_error};
 ghost use Rattle.tb_desk.specs.Serving.{IsWantOfRoom, is_no_connection, most_waiting};
 ghost use Rattle.std.specs.List.{AllWithin, HoldsAt};
-ghost use Rattle.tb_desk.specs.Waiting.{IsFirstToGo, IsLate, LetsOneGo, Waits, time_since};
-ghost use Rattle.tb_desk.specs.declared.arriving.Awaited.TheVariants.{Nothing};
+ghost use Rattle.tb_desk.specs.Waiting.{AgeTo, Ages, IsFirstToGo, IsLate, IsNext, KeepsRoom, LetsOneGo};
+ghost use Rattle.tb_desk.specs.Waiting.{NoLongerWaits, StayInTime, Waits};
+ghost use Rattle.tb_desk.specs.Waiting.{kept_by, time_since};
+ghost use Rattle.tb_desk.specs.declared.arriving.Awaited.TheVariants.{Head, Nothing};
+ghost use Rattle.tb_host.specs.Patience.{seconds};
 
 use crate::arriving::most_size;
 use crate::callers::Caller;
@@ -39,6 +42,17 @@ pub(crate) struct Waiting {
     leavers: Vec<Leaver>,
     /// When the server last looked at them.
     looked: Option<Instant>,
+}
+
+/// A connection that no longer waits.
+#[derive(Drop)]
+pub(crate) enum Next {
+    /// Its request is whole.
+    Whole(Caller),
+    /// Its time is over, so it is dropped.
+    Late(Caller),
+    /// Its request is whole, and the system refused to have it wait for what it is answered. So it is dropped.
+    Broken(io::Error),
 }
 
 /// Whether there is no connection yet, or one that has closed again. Then the listener has no fault.
@@ -108,6 +122,7 @@ fn look_at(
     ensures whole { result ≡ Some true → caller.new.awaited ≡ Nothing }
     ensures late { result ≡ Some false → (caller.new.awaited ≢ Nothing) × (as_nanos caller.new.left ≡ 0) }
     ensures waits { result ≡ None → (caller.new.awaited ≢ Nothing) × (as_nanos caller.new.left ≢ 0) }
+    ensures time { Ages (as_nanos passed) caller.old caller.new }
     ensures stream { caller.new.stream ≡ caller.old.stream }
 {
     caller.hear(rt.alloc(), routes, most);
@@ -124,6 +139,7 @@ fn look_at(
 fn heard(rt: &HostRuntime, routes: &Routes, stream: TcpStream, is_alone: bool) -> io::Result<Caller>
     ensures stream { IfOk result (λ caller. caller.stream ≡ stream) }
     ensures room { IfOk result (λ caller. vec_len caller.room ≤ 8192) }
+    ensures time { IfOk result (λ caller. caller.awaited ≡ Head → as_nanos caller.left ≡ seconds 10) }
 {
     if is_alone {
         stream.set_read_timeout(Some(Duration::from_millis(FIRST)))?;
@@ -136,6 +152,19 @@ fn heard(rt: &HostRuntime, routes: &Routes, stream: TcpStream, is_alone: bool) -
         caller.stream().set_nonblocking(true)?;
     }
     Ok(caller)
+}
+
+/// A connection that no longer waits. What is answered to it may take a while.
+fn next_of(caller: Caller, is_whole: bool) -> Next
+    ensures { IsNext caller is_whole result }
+{
+    if !is_whole {
+        return Next::Late(caller);
+    }
+    match caller.stream().set_nonblocking(false) {
+        Ok(()) => Next::Whole(caller),
+        Err(error) => Next::Broken(error),
+    }
 }
 
 impl Waiting {
@@ -239,7 +268,9 @@ impl Waiting {
     }
 
     /// How many bytes the bodies have together.
-    fn kept(&self) -> usize {
+    fn kept(&self) -> usize
+        ensures { result ≡ min (kept_by self.now.callers.items) (2 ^ 64 - 1) }
+    {
         let mut kept = 0usize;
         for caller in &self.callers {
             kept = kept.saturating_add(caller.kept());
@@ -261,6 +292,11 @@ impl Waiting {
         ensures first { IfSome result (λ found. AllWithin Waits self.new.callers.items 0 found.0) }
         ensures none { result ≡ None → AllWithin Waits self.new.callers.items 0 (vec_len self.new.callers) }
         ensures count { vec_len self.new.callers ≡ vec_len self.old.callers }
+        ensures time { IfSome result (λ found.
+            AgeTo (as_nanos passed) self.old.callers.items self.new.callers.items found.0) }
+        ensures time_of_all { result ≡ None
+            → AgeTo (as_nanos passed) self.old.callers.items self.new.callers.items (vec_len self.new.callers) }
+        ensures room { KeepsRoom self.old.callers.items self.new.callers.items }
         ensures others { (self.new.leavers ≡ self.old.leavers) × (self.new.looked ≡ self.old.looked) }
     {
         let mut kept = self.kept();
@@ -281,6 +317,7 @@ impl Waiting {
     /// Closes the connections that their clients have ended, or whose time is over.
     fn close_ended(&mut self, passed: Duration)
         ensures most { vec_len self.new.leavers ≤ vec_len self.old.leavers }
+        ensures time { StayInTime (as_nanos passed) self.old.leavers.items self.new.leavers.items }
         ensures others { (self.new.callers ≡ self.old.callers) × (self.new.looked ≡ self.old.looked) }
     {
         self.leavers.retain_mut(|leaver| !leaver.has_gone(passed));
@@ -342,24 +379,23 @@ impl Waiting {
         }
     }
 
-    /// Waits for a connection with a request. Returns `None` for one that is dropped, since its time is over.
+    /// Waits for a connection with a request, or one whose time is over.
     pub(crate) fn next(
         &mut self,
         rt: &HostRuntime,
         routes: &Routes,
         listener: &TcpListener,
-    ) -> io::Result<Option<Caller>>
-        ensures { IfOk result (λ next. IfSome next (λ caller. caller.awaited ≡ Nothing)) }
+    ) -> io::Result<Option<Next>>
+        ensures { IfOk result (λ next. IfSome next NoLongerWaits) }
     {
         for _ in 0..u64::MAX {
             let has_come = self.take(rt, routes, listener)?;
             let passed = self.passed(rt)?;
             self.close_ended(passed);
             match self.place(rt, routes, passed) {
-                Some((at, is_ready)) => {
+                Some((at, is_whole)) => {
                     let caller = self.callers.remove(at);
-                    let is_served = is_ready && caller.stream().set_nonblocking(false).is_ok();
-                    return Ok(if is_served { Some(caller) } else { None });
+                    return Ok(Some(next_of(caller, is_whole)));
                 }
                 None => self.rest(rt, has_come),
             }

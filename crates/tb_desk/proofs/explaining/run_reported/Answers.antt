@@ -17,5 +17,5 @@ returns g c =
       written = c.run_line_reported-ran.result.written;
       ran = taken_in g.S.Store c.args.desk.now c.run_line_reported-ran.new.desk (λ v. v.items) c.args.body.now ran c.run_line_reported-ran.ensures.ran;
       safe = taken_so (λ v. v.items) c.args.body.now safe c.run_line_reported-ran.ensures.crash;
-      explained = c.reported_of_run.ensures;
+      explained = c.reported_of_run.ensures.read;
     }

@@ -3,8 +3,8 @@ use Rattle.tb_desk.specs.Faults.{are_more, exit_with}
 use Rattle.tb_desk.proofs.FirstFaults.{same_exit, same_first, same_more}
 use Rattle.tb_desk.proofs.faults.first_faults.Goals as goal
 
-pub returns : goal.returns
-returns c =
+pub returns-clause-first : goal.returns-clause-first
+returns-clause-first c =
     let known = c.in_ok-faults.ensures.found in
     let n = c.args.most in
     let more = c.are_more-more.ensures ∙ ap (are_more n) (c.as_slice.ensures.value ∙ known.2) ∙ same_more n known.0 in

@@ -16,7 +16,7 @@ returns-in-Ok-clause-ended g c =
         unserved = ran.0;
         opened = c.in-Ok.opened;
         ended = record { desk = c.run_on_desk-outcome.new.desk };
-        is = c.in-Ok.ensures;
+        is = c.in-Ok.ensures.desk;
         ran = (taken_of (λ v. v.items) c.read_body-body.result, taken_so (λ v. v.items) c.read_body-body.result taken c.read_body-body.ensures, ran.1);
       })
     ]

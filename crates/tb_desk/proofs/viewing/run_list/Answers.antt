@@ -5,6 +5,6 @@ pub returns-in-Ok : goal.returns-in-Ok
 returns-in-Ok g c = inr record {
   opened = c.in-Ok.opened;
   ended = record { desk = c.show-outcome.new.desk };
-  is = c.in-Ok.ensures;
+  is = c.in-Ok.ensures.desk;
   shown = c.show-outcome.ensures;
 }
