@@ -13,19 +13,25 @@ const PAGE = 15;
 const BLOCK = 50;
 // What a cell has beside its text, and the bounds of its width. All in pixels.
 const PADDING = 15, NARROWEST = 42, WIDEST = 576;
-// Widths in the font of the table (page.css).
-const widthOf = measuring('13px ui-monospace, "DejaVu Sans Mono", "Noto Sans Mono", monospace');
+// Widths in the fonts of the table and of its head (page.css).
+const MONO = 'ui-monospace, "DejaVu Sans Mono", "Noto Sans Mono", monospace';
+const widthOf = measuring(`13px ${MONO}`), headWidthOf = measuring(`600 13.6px ${MONO}`);
 const ASCII = /^[ -~]*$/;
 
 // A row without its texts. To copy it is faster than to make one, and there may be a thousand.
 const ROW = el('tr', { role: 'row' }, COLUMNS.map(() => el('td', { role: 'gridcell', tabindex: -1, dir: 'auto' })));
+
+/** Writes a cell. Its label is for screen readers: Firefox gives them no text of a row that is not laid out. */
+function write(td, text) {
+  td.textContent = td.ariaLabel = text;
+}
 
 /** A row of the table. */
 function tableRow({ kind, at, fields }) {
   const tr = ROW.cloneNode(true);
   tr.className = kind;
   tr.dataset.line = at;
-  COLUMNS.forEach((_, i) => { tr.children[i].textContent = fields[i] ?? ''; });
+  COLUMNS.forEach((_, i) => write(tr.children[i], fields[i] ?? ''));
   return tr;
 }
 
@@ -40,7 +46,7 @@ function blocks(rows) {
 
 /** How wide a column is: as its widest text, within bounds. ASCII letters are all of one width, so one such text is measured. */
 function columnWidth(rows, i) {
-  let longest = COLUMNS[i], widest = 0;
+  let longest = '', widest = headWidthOf(COLUMNS[i]);
   for (const { fields: { [i]: text = '' } } of rows) {
     if (!ASCII.test(text)) widest = Math.max(widest, widthOf(text));
     else if (text.length > longest.length) longest = text;
@@ -185,7 +191,7 @@ export class Editor {
   #put(td, value) {
     const line = Number(td.parentNode.dataset.line);
     const text = withField(this.#text, line, td.cellIndex, value);
-    td.textContent = text.split('\n')[line].split('\t')[td.cellIndex];
+    write(td, text.split('\n')[line].split('\t')[td.cellIndex]);
     this.#fit(rowsOf(text));
     this.#change(text);
   }
@@ -200,7 +206,7 @@ export class Editor {
     const close = isKept => {
       if (!isOpen) return;
       isOpen = false;
-      td.textContent = before;
+      write(td, before);
       if (isKept && input.value !== before) this.#put(td, input.value);
     };
     input.addEventListener('blur', () => close(true));

@@ -200,6 +200,7 @@ def searches(cem, desk, folder):
     cem.click("#search")
     cem.see("#hits", "hits 1")
     same("a keyword line", ["en-1", "Small", "dogs do", "n't bark"], cem.texts(".line :is(.id, .left span, mark, .right > span)"))
+    same("what is read out of it", "en-1, words 2 to 3: Small dogs do n't bark", cem.run("return document.querySelector('.line .id').title"))
     last = desk.moves().splitlines()[-1].split(",")[0]
     same("the citation", f'1 hit ([upos="NOUN"] [upos="AUX"]+, longest, after move {last})', cem.text("#cite"))
     cem.click(".line .id")

@@ -91,6 +91,15 @@ def narrow_and_dark(driver):
     desk.close()
 
 
+def drawn_anew(browser, desk):
+    """Another works, so that the board is drawn anew. The link with the focus has it afterwards."""
+    at_board(browser, desk)
+    browser.run("window.before = document.querySelector('.card a[href=\"#/batch/2\"]'); window.before.focus()")
+    same("another's command", 200, desk.ask("POST /restore/2")[0])
+    browser.until("return !window.before.isConnected")
+    same("the link with the focus", "#/batch/2", browser.run("return document.activeElement.getAttribute('href')"))
+
+
 def for_screen_readers(driver):
     """Everything that can be used has a name; the tree is a list of words; the focus goes as the page is read."""
     desk, browser = Desk(), driver.browser()
@@ -111,6 +120,9 @@ def for_screen_readers(driver):
     same("words of the tree", [(name, "listitem") for name in (
         "1 Small, ADJ, amod of 2 dogs", "2 dogs, NOUN, nsubj of 5 bark", "3 do, AUX, aux of 5 bark", "4 n't, PART, advmod of 5 bark",
         "5 bark, VERB, root", "6 ., PUNCT, punct of 5 bark")], names)
+    same("heads of the table that are cut", [], browser.run("return [...document.querySelectorAll('.grid th')].filter(th => th.scrollWidth > th.clientWidth).map(th => th.textContent)"))
+    drawn_anew(browser, desk)
+    at_sentence(browser, desk, 1, "Small")
     same("the field for the user has its label", ("I am", "textbox"), browser.name_and_role(browser.find("#me")))
     same("the message is read out", ("polite", "status"), tuple(browser.run("const told = document.getElementById('told'); return [told.ariaLive, told.role]")))
     shows(browser, desk.url + "/")
@@ -207,7 +219,8 @@ def far_words_are_read(driver):
     browser.see(".grid tbody:last-child td", "300")
     read = read_aloud(browser, 3000)
     same("words", [f"{n} word{n % 97}, NOUN" for n in range(1, 301)], [name.rsplit(",", 1)[0] for name, role in read if role == "listitem" and " word" in name])
-    same("cells", 3000, sum(role == "gridcell" for _, role in read))
+    rows = [line.split("\t") for line in long_sentence(300).decode().splitlines() if line[:1].isdigit()]
+    same("cells", [field for row in rows for field in row], [name for name, role in read if role == "gridcell"])
     desk.close()
 
 

@@ -1,6 +1,7 @@
 //! The lists of the page.
 
-ghost use Rattle.std.specs.Prelude.{◌≡◌, IfErr, IfOk};
+ghost use Rattle.std.specs.Prelude.{◌≡◌, Err as ErrOf, IfErr, IfOk};
+ghost use Rattle.std.specs.Str.{IsUtf8};
 ghost use Rattle.percent_encoding.specs.Percent.{percent_decode};
 ghost use Rattle.tb_answer.specs.Calls.{ReadsOnly};
 ghost use Rattle.tb_answer.specs.Commanded.{HasFailed};
@@ -64,6 +65,7 @@ fn with_id<S: Alter>(alloc: Global, desk: &mut Desk<S>, id: &[u8]) -> Result<Vec
     ensures answered { Gives S.Store desk.old desk.new result (λ s v. IsWithId s id.now v.items) }
     ensures reported { GivesOnErr S.Store desk.old desk.new result (λ s r.
         IsReportedAs (HasFailed S.Store desk.old desk.new) (LacksId s id.now) r) }
+    ensures unreadable { (IsUtf8 id.now → ⊥) → result ≡ ErrOf (Reply.Refused Refusal.NoSuchSentence) }
     ensures keeps_state { KeepsState S.Store desk.old desk.new }
     ensures crash { ReadsOnly S.Store desk.old desk.new }
     ensures limits { desk.new.limits ≡ desk.old.limits }

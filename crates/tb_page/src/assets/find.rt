@@ -45,7 +45,8 @@ const LINE = el('div', { class: 'line', role: 'listitem', dir: 'ltr' },
 function keyword([sentId, first, last, left, match, right]) {
   const line = LINE.cloneNode(true), id = line.firstChild, rest = line.lastChild;
   id.firstChild.data = sentId;
-  id.title = `${sentId}, words ${first} to ${last}`;
+  // Whoever goes from line to line hears all of it. Firefox gives screen readers no text of a line that is not laid out.
+  id.title = `${sentId}, words ${first} to ${last}: ${left} ${match} ${right}`;
   id.nextSibling.firstChild.firstChild.data = left;
   rest.firstChild.firstChild.data = match;
   rest.lastChild.firstChild.data = right;

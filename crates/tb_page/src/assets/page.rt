@@ -39,12 +39,19 @@ function say({ ok, line, words }, more = '') {
 
 const sayRefused = (line, words = meaning(line)) => say({ ok: false, line, words });
 
+/** How a place of a view is found in the next one: by its id, or by where it leads. */
+function placeOf(node) {
+  if (!main.contains(node)) return null;
+  if (node.id) return `#${CSS.escape(node.id)}`;
+  return node.matches('a[href]') ? `a[href="${CSS.escape(node.getAttribute('href'))}"]` : null;
+}
+
 /** Shows a view. The focus stays where it was, if the view has that place too. */
 function put(title, ...nodes) {
-  const focus = main.contains(document.activeElement) ? document.activeElement.id : '';
+  const place = placeOf(document.activeElement);
   document.title = `${title} \u2013 treedesk`;
   main.replaceChildren(...nodes.flat());
-  if (focus) document.getElementById(focus)?.focus();
+  if (place) main.querySelector(place)?.focus();
 }
 
 /** All batches. They are asked for again only where a command was done since. */

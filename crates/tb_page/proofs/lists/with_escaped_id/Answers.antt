@@ -1,9 +1,14 @@
 use Rattle.std.proofs.Common.{◌∙◌, subst}
 use Rattle.tb_answer.specs.Commanded.{HasFailed}
 use Rattle.tb_answer.specs.Viewed.{IsReportedAs}
-use Rattle.tb_answer.proofs.Failing.{if_err}
-use Rattle.tb_page.specs.Lists.{LacksId}
+use Rattle.tb_answer.proofs.Failing.{if_err, if_ok}
+use Rattle.tb_page.specs.Lists.{IsWithId, LacksId}
 use Rattle.tb_page.proofs.lists.with_escaped_id.Goals as goal
+
+pub returns-in-Ok-clause-answered : goal.returns-in-Ok-clause-answered
+returns-in-Ok-clause-answered g c clean =
+    if_ok c.with_id.result (c.with_id.ensures.answered clean)
+    (λ v all s stands. subst (λ i. IsWithId s i v.items) (c.as_slice.ensures.value ∙ c.in-Ok.ensures.bytes) (all s stands))
 
 pub returns-in-Ok-clause-reported : goal.returns-in-Ok-clause-reported
 returns-in-Ok-clause-reported g c clean =
