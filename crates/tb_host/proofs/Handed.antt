@@ -10,6 +10,11 @@ pub both : {A E : Type 0} (P Q : A → Type 0) (made : Result A E) → IfOk made
 both P Q (Ok a) p q = (p, q)
 both P Q (Err e) p q = tt
 
+-- what follows from that
+pub weaker : {A E : Type 0} (P Q : A → Type 0) (made : Result A E) → IfOk made P → ((a : A) → P a → Q a) → IfOk made Q
+weaker P Q (Ok a) p h = h a p
+weaker P Q (Err e) p h = tt
+
 -- the value inside what is handed on
 pub handed : {A F E C : Type 0} (inside : F → A) (R : E → C → Type 0) (P Q : A → Type 0) (made : Result A E) (result : Result F C)
     → MatchResult made (λ a. IsOkAnd result (λ f. inside f ≡ a)) (λ e. IsErrAnd result (R e))

@@ -1,5 +1,5 @@
 -- Causes for errors of the system and of the database.
-use Rattle.std.specs.Prelude.{◌≡◌, ◌≢◌, ◌⊎◌, ◌==◌, ℕ, ℤ, pos, nat_lt, Option, Some, None, if◌then◌else◌}
+use Rattle.std.specs.Prelude.{◌≡◌, ◌≢◌, ◌⊎◌, ◌==◌, ℕ, ℤ, pos, nat_lt, Option, Some, None, IsSomeAnd, if◌then◌else◌}
 use Rattle.std.specs.IoError.{error_kind, raw_os_error}
 use Rattle.std.specs.declared.io.Error.{Error}
 use Rattle.std.specs.declared.io.ErrorKind.{ErrorKind}
@@ -68,12 +68,12 @@ abbrev pub IsDeviceCause : (otherwise result : FileCause) → Type 0
 IsDeviceCause otherwise result =
     (result ≡ file.Full) ⊎ (result ≡ file.Quota) ⊎ (result ≡ file.TooLarge) ⊎ (result ≡ otherwise)
 
--- for a file that the system does not open as a database
-abbrev pub IsPathCause : OpenError → FileCause → Type 0
-IsPathCause unopened.OutOfMemory c = c ≡ file.Memory
-IsPathCause unopened.Busy c = c ≡ file.Busy
-IsPathCause unopened.HotJournal c = c ≡ file.Journal
-IsPathCause (unopened.Io e) c = IsFileCause e c
+-- For a file that the system does not open as a database. There is none where another command has it.
+abbrev pub IsPathCause : OpenError → Option FileCause → Type 0
+IsPathCause unopened.OutOfMemory c = c ≡ Some file.Memory
+IsPathCause unopened.Busy c = c ≡ None
+IsPathCause unopened.HotJournal c = c ≡ Some file.Journal
+IsPathCause (unopened.Io e) c = IsSomeAnd c (IsFileCause e)
 
 -- for a file that is to be made
 abbrev pub cause_of_new : FileCause → FileCause

@@ -1,7 +1,11 @@
 -- Between crates: no contract of a front door cites a definition of this module.
 -- What the bytes of a file and of its log show of its tables (the file format of SQLite, sections 1.3, 1.6 and 4.1).
 use Rattle.std.specs.Prelude.{◌≡◌, ◌≢◌, ◌++◌, ◌+◌, ◌*◌, ◌⊎◌, ◌≤◌, ◌<◌, ℕ, List, [], ◌∷◌, All, codes, length, take, drop, slice_get, Option, None, Some}
-use Rattle.std.specs.Prelude.{Bool, true, false, min, nat_eq, not, Result, Ok, Err}
+use Rattle.std.specs.Prelude.{Bool, true, false, min, nat_eq, not, Result, Ok, Err, MatchResult}
+use Rattle.std.specs.Fs.{IsFile, file_type, metadata_len}
+use Rattle.std.specs.IoError.{error_kind}
+use Rattle.std.specs.declared.fs.attrs.Metadata.{Metadata}
+use Rattle.std.specs.declared.io.Error.{Error}
 use Rattle.std.specs.declared.io.ErrorKind.{ErrorKind}
 use Rattle.std.specs.declared.io.ErrorKind.TheVariants.{NotFound, NotADirectory}
 use Rattle.memchr.specs.Find.{OccursAt}
@@ -11,6 +15,7 @@ use Rattle.tb_host.specs.declared.contents.Version.{Version}
 use Rattle.tb_host.specs.declared.contents.Version.TheVariants.{One, Two}
 use Rattle.tb_host.specs.declared.causes.FileCause.{FileCause}
 use Rattle.tb_host.specs.declared.causes.FileCause.TheVariants as file
+use Rattle.tb_host.specs.declared.found.Found.{Found}
 use Rattle.tb_host.specs.declared.files.Undoing.{Undoing}
 use Rattle.tb_host.specs.declared.files.Undoing.TheVariants as undoing_of
 use Rattle.tb_host.specs.declared.place.Numbers.{Numbers}
@@ -111,18 +116,52 @@ abbrev pub number_in : List ℕ → ℕ
 number_in (a ∷ b ∷ c ∷ d ∷ []) = ((a * 256 + b) * 256 + c) * 256 + d
 number_in _ = 0
 
--- What is found at a path, of this size, is another file than the one that was there, or was cut off.
-abbrev pub IsAnother : (found : Numbers) → (size : ℕ) → (then : Numbers) → Type 0
-IsAnother found size then = (found.device ≢ then.device) ⊎ (found.file ≢ then.file) ⊎ (size < then.least)
+-- what identifies a file that was found, and that has to keep so many bytes
+abbrev pub numbers_in : Found → (least : ℕ) → Numbers
+numbers_in found least = record { device = found.device; file = found.file; least = least }
+
+-- What is found at a path is another file than the one that was there, or was cut off.
+abbrev pub IsAnother : Found → (then : Numbers) → Type 0
+IsAnother found then = (found.device ≢ then.device) ⊎ (found.file ≢ then.file) ⊎ (found.size < then.least)
 
 -- A journal has to be played back: its first byte is written, and is not zero.
 abbrev pub is_hot : (first : List ℕ) → Bool
 is_hot [] = false
 is_hot (byte ∷ bytes) = not (nat_eq byte 0)
 
+-- No journal beside the file has to be played back, by what the system gives as the beginning of one.
+abbrev pub HasNoJournal : (IsBeginning : List ℕ → ℕ → List ℕ → Type 0) → (path : List ℕ) → Type 0
+HasNoJournal IsBeginning path = (first : List ℕ) × IsBeginning (path ++ codes "-journal") 1 first
+    × (is_hot first ≡ false)
+
+-- The first bytes of a file, or those of its log, list the tables of a desk of this version. Of the file 65,536 are read,
+-- of the log 4,194,304.
+abbrev pub ListsDesk : (IsBeginning : List ℕ → ℕ → List ℕ → Type 0) → (path : List ℕ) → Version → Type 0
+ListsDesk IsBeginning path version =
+    ((head : List ℕ) × IsBeginning path 65536 head × IsListed head (Some version))
+    ⊎ ((log : List ℕ) × IsBeginning (path ++ codes "-wal") 4194304 log × IsListed log (Some version))
+
 -- the greatest length of a log that a stopped `new` leaves: one mebibyte
 abbrev pub own_log_limit : ℕ
 own_log_limit = 1048576
+
+-- The log beside a file is missing, or is a plain file and may be that of a stopped `new`: all of it was read.
+abbrev pub HasOwnLog : (IsThere : List ℕ → Option Metadata → Type 0)
+    → (IsBeginning : List ℕ → ℕ → List ℕ → Type 0) → (path : List ℕ) → Type 0
+HasOwnLog IsThere IsBeginning path = IsThere (path ++ codes "-wal") None
+    ⊎ ((found : Metadata) × (bytes : List ℕ) × IsThere (path ++ codes "-wal") (Some found)
+    × IsFile (file_type found) × (metadata_len found ≤ own_log_limit)
+    × IsBeginning (path ++ codes "-wal") own_log_limit bytes × MayBeOwnLog bytes)
+
+-- A desk may be made in the file at a path: it is blank, as far as its first 65,536 bytes tell, no journal has to be
+-- played back, and its log may be written over.
+pub record MayBecomeDesk (IsThere : List ℕ → Option Metadata → Type 0)
+    (IsBeginning : List ℕ → ℕ → List ℕ → Type 0) (path : List ℕ) : Type 0 where
+  pub head : List ℕ
+  pub begins : IsBeginning path 65536 head
+  pub blank : IsBlank head
+  pub journal : HasNoJournal IsBeginning path
+  pub log : HasOwnLog IsThere IsBeginning path
 
 -- whether a desk of this version is opened, or is of another version than today's
 abbrev pub may_be_opened : Version → Result (Unit {0}) FileCause
@@ -149,3 +188,40 @@ abbrev pub is_gone : ErrorKind → Bool
 is_gone NotFound = true
 is_gone NotADirectory = true
 is_gone _ = false
+
+-- A file has left its place, by what the system says of its path: another one is there, or none.
+abbrev pub HasLeft : (IsFound : Result Found Error → Type 0) → (then : Numbers) → Type 0
+HasLeft IsFound then = (found : Result Found Error) × IsFound found
+    × MatchResult found (λ f. IsAnother f then) (λ e. is_gone (error_kind e) ≡ true)
+
+-- A file counts as in its place: the system finds it there, or does not say what is there.
+abbrev pub HasStayed : (IsFound : Result Found Error → Type 0) → (then : Numbers) → Type 0
+HasStayed IsFound then = (found : Result Found Error) × IsFound found
+    × MatchResult found (λ f. ¬ IsAnother f then) (λ e. is_gone (error_kind e) ≡ false)
+
+-- the file is missing, by the kind of the error at its path
+abbrev pub is_missing : ErrorKind → Bool
+is_missing NotFound = true
+is_missing _ = false
+
+-- Whether a log was there before. One of which the system does not say that it is missing counts as there.
+abbrev pub was_there : Result Found Error → Bool
+was_there (Ok found) = true
+was_there (Err e) = not (is_missing (error_kind e))
+
+-- whether a log is an empty file, as far as the system says so
+abbrev pub is_empty_log : Result Found Error → Bool
+is_empty_log (Ok found) = nat_eq found.size 0
+is_empty_log (Err e) = false
+
+-- What the system says where a log is undone: it is asked for no more than there is to undo.
+abbrev pub IsUndone : (IsEmptied IsRemoved : Result (Unit {0}) Error → Type 0)
+    → Undoing → Result (Unit {0}) Error → Type 0
+IsUndone IsEmptied IsRemoved undoing_of.Nothing result = result ≡ Ok tt
+IsUndone IsEmptied IsRemoved undoing_of.Emptying result = IsEmptied result
+IsUndone IsEmptied IsRemoved undoing_of.Removing result = IsRemoved result
+
+-- the size of a file, as far as the system says it
+abbrev pub size_of : Result Found Error → ℕ
+size_of (Ok found) = found.size
+size_of (Err e) = 0

@@ -1,6 +1,7 @@
 pub mod Causes
 pub mod Contents
 pub mod Forms
+pub mod Links
 pub mod Misfits
 pub mod Opened
 pub mod Patience

@@ -1,7 +1,9 @@
 -- Between crates: no contract of a front door cites a definition of this module.
 -- How long the program waits for clients and for files. Times are nanoseconds.
 use Rattle.std.specs.Prelude.{◌≡◌, ◌≤◌, ◌<◌, ◌+◌, ◌-◌, ◌*◌, ◌/◌, ℕ, Option, min, MatchOption}
+use Rattle.std.specs.Prelude.{Result, Ok, Err}
 use Rattle.std.specs.Duration.{as_nanos}
+use Rattle.std.specs.declared.io.Error.{Error}
 use Rattle.std.specs.declared.time.Duration.{Duration}
 
 -- so many seconds
@@ -26,6 +28,11 @@ wait_left left passed = left - min passed (milliseconds 100)
 -- millisecond, and three seconds at most are left.
 abbrev pub answer_time : (left took count : ℕ) → ℕ
 answer_time left took count = min (left - took + milliseconds (count / 1024)) (seconds 3)
+
+-- how long something took, by what a clock says of it; one that fails has measured no time
+abbrev pub measured : Result Duration Error → ℕ
+measured (Ok took) = as_nanos took
+measured (Err e) = 0
 
 -- A command tries to open a file that another has for ten seconds. Between two attempts it pauses for 20 milliseconds,
 -- after a second for 2.

@@ -1,8 +1,8 @@
 //! Why the program does not do what it was asked, in words. Each cause has one sentence, and all sentences are here.
 
-ghost use Rattle.std.specs.Prelude.{◌≡◌, ◌↔◌, IsTrue};
-ghost use Rattle.std.specs.IoError.{raw_os_error};
-ghost use Rattle.tb_host.specs.Causes.{IsDeviceCause, IsFileCause, IsPortCause, IsShort, reply_of};
+ghost use Rattle.std.specs.Prelude.{◌≡◌, ◌≢◌, ◌↔◌, IfErr, IfOk, IsErrAnd, IsTrue, MatchResult, None, Ok as Given, Some};
+ghost use Rattle.std.specs.IoError.{error_kind, raw_os_error};
+ghost use Rattle.tb_host.specs.Causes.{IsDeviceCause, IsFileCause, IsPortCause, IsShort, IsSystemCause, reply_of};
 ghost use Rattle.tb_host.specs.Causes.{cause_of_new, input_cause, misfit_of, output_cause};
 ghost use Rattle.tb_host.specs.Forms.{HasForm, HasSlash};
 ghost use Rattle.tb_host.specs.Sentences.{cause_text, file_text, form_text, port_text, short_text, stream_text};
@@ -235,6 +235,31 @@ impl FileCause {
                 "the system gives no random numbers, which a desk needs; try again",
             FileCause::Memory => MEMORY,
         }
+    }
+}
+
+/// What a call of the system gave, or the cause for which it failed.
+pub(crate) fn told<T>(given: io::Result<T>) -> Result<T, FileCause>
+    ensures given { MatchResult given (λ x. result ≡ Given x) (λ e. IsErrAnd result (IsFileCause e)) }
+    ensures cause { IfErr result IsSystemCause }
+{
+    match given {
+        Ok(x) => Ok(x),
+        Err(error) => Err(FileCause::of_system(error)),
+    }
+}
+
+/// What a call of the system gave, or `None` where its file is missing, or the cause for which it failed.
+pub(crate) fn told_if_there<T>(given: io::Result<T>) -> Result<Option<T>, FileCause>
+    ensures there { IfOk given (λ x. result ≡ Given (Some x)) }
+    ensures missing { IfErr given (λ e. error_kind e ≡ ErrorKind.NotFound → result ≡ Given None) }
+    ensures told { IfErr given (λ e. error_kind e ≢ ErrorKind.NotFound → IsErrAnd result (IsFileCause e)) }
+    ensures cause { IfErr result IsSystemCause }
+{
+    match given {
+        Ok(x) => Ok(Some(x)),
+        Err(error) if error.kind() == ErrorKind::NotFound => Ok(None),
+        Err(other) => Err(FileCause::of_system(other)),
     }
 }
 

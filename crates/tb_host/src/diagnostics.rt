@@ -1,10 +1,10 @@
 //! What the program says on standard error, beside the answer. It never changes what is printed, nor the exit status.
 
-ghost use Rattle.std.specs.Prelude.{◌≡◌, ◌↔◌, IsTrue, IfSome, string_bytes};
+ghost use Rattle.std.specs.Prelude.{◌≡◌, ◌↔◌, IsOkAnd, IsTrue, IfSome, codes, string_bytes};
 ghost use Rattle.tb_host.specs.Reported.{IsOfAnswer};
 
 use crate::causes::Cause;
-use std::env;
+use std::env::{self, VarError};
 use std::fmt::{self, Display, Formatter};
 use std::io::IsTerminal;
 
@@ -81,13 +81,17 @@ impl From<u8> for Outcome {
 /// The environment variable that asks for words even where standard error is not a terminal.
 const ASKS: &str = "TREEDESK_EXPLAIN";
 
-/// Whether words are wanted on standard error: it is a terminal, or the environment asks for them.
-pub fn wants_words(rt: &HostRuntime) -> bool {
-    if rt.stderr().is_terminal() {
-        return true;
-    }
-    match env::var(rt, ASKS) {
+/// Whether the environment asks for words, by the value of that variable.
+fn asks(value: Result<String, VarError>) -> bool
+    ensures { IsTrue result ↔ IsOkAnd value (λ text. string_bytes text ≡ codes "1") }
+{
+    match value {
         Ok(value) => value.as_str() == "1",
         Err(_) => false,
     }
+}
+
+/// Whether words are wanted on standard error: it is a terminal, or the environment asks for them.
+pub fn wants_words(rt: &HostRuntime) -> bool {
+    rt.stderr().is_terminal() || asks(env::var(rt, ASKS))
 }

@@ -1,26 +1,31 @@
 //! Desks in files. This module is tested, not proved: no contract ties a file to its path.
 
-ghost use Rattle.std.specs.Prelude.{◌≡◌, ◌≢◌, ◌+◌, ◌/◌, ℕ, false, min, IfErr, IfOk, IsErrAnd, IsOkAnd, IsTrue, None};
-ghost use Rattle.std.specs.Prelude.{MatchResult, Ok as Opened, Err as ErrOf, string_bytes};
+ghost use Rattle.std.specs.Prelude.{◌≡◌, ◌≢◌, ◌↔◌, ◌+◌, ◌/◌, ℕ, false, min, IfErr, IfOk, IsErrAnd, IsOk, IsOkAnd};
+ghost use Rattle.std.specs.Prelude.{IsTrue, MatchResult, None, Ok as Opened, Err as ErrOf, Result, string_bytes};
+ghost use Rattle.std.specs.declared.io.Error.{Error as SystemError};
 ghost use Rattle.sqlite.specs.Files.{IsOpened, file_state, over_files};
 ghost use Rattle.sqlite.specs.State.{HasCleanDisk};
 ghost use Rattle.sqlite.specs.Steps.{over_memory};
 ghost use Rattle.tb_host.specs.Causes.{IsPathCause, reply_of, reply_of_error, reply_of_fault};
 ghost use Rattle.sqlite.specs.declared.error.Error.{Error as DatabaseError};
-ghost use Rattle.tb_host.specs.Contents.{IsLogName, IsReserved, cause_to_migrate, may_be_opened, what_to_undo};
+ghost use Rattle.tb_host.specs.Contents.{IsLogName, IsReserved, IsUndone, cause_to_migrate, is_empty_log, is_missing};
+ghost use Rattle.tb_host.specs.Contents.{may_be_opened, size_of, was_there, what_to_undo};
+ghost use Rattle.tb_host.specs.declared.found.Found.{Found as FoundFile};
 ghost use Rattle.tb_host.specs.Opened.{IsEmptyDesk, IsMadeDesk, IsSomeDesk};
 
 use crate::causes::FileCause;
 use crate::contents::{PAGE_BYTES, Version};
 use crate::diagnostics::wants_words;
+use crate::found::Found;
 use crate::looking::{beside, may_become_desk, version_of};
 use crate::misfit::{Misfit, first_misfit};
+use crate::system::System;
 use crate::turns::Turn;
 use sqlite::{Alter, Connection, Error, ErrorCode, File, FileStore, Leftover, MemStore, Options};
 use sqlite_disk::{Disk, Files, Unknown};
 use sqlite_std_file::OpenError;
-use std::fs::OpenOptions;
 use std::hash::{BuildHasher, RandomState};
+use std::io::ErrorKind;
 use std::{fs, io};
 use tb_core::{Fault, Limits};
 use tb_http::Reply;
@@ -60,15 +65,15 @@ fn cause_of_error(error: Error) -> FileCause
     }
 }
 
-/// The cause for a file that the system does not open.
-fn cause_of_path(error: OpenError) -> FileCause
+/// The cause for a file that the system does not open. There is none where another command has it, which has to wait.
+fn cause_of_path(error: OpenError) -> Option<FileCause>
     ensures { IsPathCause error result }
 {
     match error {
-        OpenError::OutOfMemory => FileCause::Memory,
-        OpenError::Busy => FileCause::Busy,
-        OpenError::HotJournal => FileCause::Journal,
-        OpenError::Io(error) => FileCause::of_system(error),
+        OpenError::OutOfMemory => Some(FileCause::Memory),
+        OpenError::Busy => None,
+        OpenError::HotJournal => Some(FileCause::Journal),
+        OpenError::Io(error) => Some(FileCause::of_system(error)),
     }
 }
 
@@ -108,6 +113,47 @@ fn what_to_undo(is_empty: bool, was_there: bool) -> Undoing
     }
 }
 
+/// What undoing that came to, at the log of this path.
+fn undone<S: System>(system: &S, undoing: Undoing, path: &str) -> io::Result<()>
+    ensures { IsUndone (S.IsEmptied system.now path.now) (S.IsRemoved system.now path.now) undoing result }
+{
+    match undoing {
+        Undoing::Nothing => Ok(()),
+        Undoing::Emptying => system.empty(path),
+        Undoing::Removing => system.remove(path),
+    }
+}
+
+/// Whether an error at a path says that the file there is missing.
+fn is_missing(kind: ErrorKind) -> bool
+    ensures { result ≡ is_missing kind }
+{
+    match kind {
+        ErrorKind::NotFound => true,
+        _ => false,
+    }
+}
+
+/// Whether a log was there before, by what the system says of it.
+fn was_there(found: io::Result<Found>) -> bool
+    ensures { result ≡ was_there found }
+{
+    match found {
+        Ok(_) => true,
+        Err(error) => !is_missing(error.kind()),
+    }
+}
+
+/// Whether a log is an empty file, by what the system says of it.
+fn is_empty_log(found: io::Result<Found>) -> bool
+    ensures { result ≡ is_empty_log found }
+{
+    match found {
+        Ok(found) => found.size == 0,
+        Err(_) => false,
+    }
+}
+
 /// The log beside a file, as it is before the database opens it.
 #[derive(Drop)]
 struct Log {
@@ -123,45 +169,55 @@ fn log_path(rt: &HostRuntime, path: &str) -> Result<String, FileCause>
     ensures cause { IfErr result (λ cause. cause ≡ FileCause.Memory) }
 {
     match fs::canonicalize(rt, path) {
-        Ok(real) => beside(rt, real.as_str(), "-wal"),
-        Err(_) => beside(rt, path, "-wal"),
+        Ok(real) => beside(rt.alloc(), real.as_str(), "-wal"),
+        Err(_) => beside(rt.alloc(), path, "-wal"),
     }
 }
 
 impl Log {
+    /// The log at this path, as it is now. Only the locked file's log is looked into.
+    fn unlocked<S: System>(system: &S, path: String) -> Log
+        ensures path { result.path ≡ path }
+        ensures unseen { result.is_empty ≡ false }
+        ensures there { (found : Result FoundFile SystemError) × S.IsFound system.now (string_bytes path) found
+            × (result.was_there ≡ was_there found) }
+    {
+        Log {
+            was_there: was_there(system.find(path.as_str())),
+            path,
+            is_empty: false,
+        }
+    }
+
     fn before(rt: &HostRuntime, path: &str) -> Result<Log, FileCause>
         ensures name { IfOk result (λ log. IsLogName (string_bytes log.path)) }
         ensures unseen { IfOk result (λ log. log.is_empty ≡ false) }
         ensures cause { IfErr result (λ cause. cause ≡ FileCause.Memory) }
     {
         let path = log_path(rt, path)?;
-        Ok(Log {
-            was_there: fs::exists(rt, path.as_str()).unwrap_or(true),
-            path,
-            is_empty: false,
-        })
+        Ok(Log::unlocked(rt, path))
     }
 
     /// Looks at the log again. The file is locked now, so nobody else writes the log.
-    fn look(&mut self, rt: &HostRuntime)
-        ensures { (self.new.path ≡ self.old.path) × (self.new.was_there ≡ self.old.was_there) }
+    fn look<S: System>(&mut self, system: &S)
+        ensures same { (self.new.path ≡ self.old.path) × (self.new.was_there ≡ self.old.was_there) }
+        ensures seen { (found : Result FoundFile SystemError) × S.IsFound system.now (string_bytes self.old.path) found
+            × (self.new.is_empty ≡ is_empty_log found) }
     {
-        self.is_empty = match fs::metadata(rt, self.path.as_str()) {
-            Ok(found) => found.len() == 0,
-            Err(_) => false,
-        };
+        self.is_empty = is_empty_log(system.find(self.path.as_str()));
     }
 
     /// Undoes what opening a file that is no desk has written there. The file is still locked.
-    fn undo(&self, rt: &HostRuntime) -> io::Result<()> {
-        match what_to_undo(self.is_empty, self.was_there) {
-            Undoing::Nothing => Ok(()),
-            Undoing::Emptying => {
-                let log = OpenOptions::new().write(true).open(rt, self.path.as_str())?;
-                log.set_len(0)
-            }
-            Undoing::Removing => fs::remove_file(rt, self.path.as_str()),
-        }
+    fn undo<S: System>(&self, system: &S) -> io::Result<()>
+        ensures { IsUndone (S.IsEmptied system.now (string_bytes self.now.path))
+            (S.IsRemoved system.now (string_bytes self.now.path))
+            (what_to_undo self.now.is_empty self.now.was_there) result }
+    {
+        undone(
+            system,
+            what_to_undo(self.is_empty, self.was_there),
+            self.path.as_str(),
+        )
     }
 }
 
@@ -185,28 +241,44 @@ fn pages_kept(bytes: u64, room: u64) -> u64
     (bytes / PAGE_BYTES).saturating_add(room).min(MOST_PAGES)
 }
 
-/// How many pages are kept for the file at this path.
-fn pages_to_keep(rt: &HostRuntime, path: &str, room: u64) -> usize
-    ensures { (bytes : ℕ) × (result ≡ min (bytes / 4096 + room) 49152) }
+/// The size of a file, by what the system says of it.
+fn size_of(found: io::Result<Found>) -> u64
+    ensures { result ≡ size_of found }
 {
-    let bytes = match fs::metadata(rt, path) {
-        Ok(metadata) => metadata.len(),
+    match found {
+        Ok(found) => found.size,
         Err(_) => 0,
-    };
-    pages_kept(bytes, room) as usize
+    }
+}
+
+/// How many pages are kept for the file at this path.
+fn pages_to_keep<S: System>(system: &S, path: &str, room: u64) -> usize
+    ensures { (found : Result FoundFile SystemError) × S.IsFound system.now path.now found
+        × (result ≡ min (size_of found / 4096 + room) 49152) }
+{
+    pages_kept(size_of(system.find(path)), room) as usize
+}
+
+/// The options with which the database opens a file, where the system gives random numbers.
+fn options_by(random: io::Result<RandomState>, pages: usize) -> Result<Options, FileCause>
+    ensures pages { IfOk result (λ o. o.cache_pages ≡ pages) }
+    ensures some { IsOk result ↔ IsOk random }
+    ensures cause { IfErr result (λ cause. cause ≡ FileCause.NoRandom) }
+{
+    match random {
+        Ok(state) => Ok(Options {
+            cache_pages: pages,
+            ..Options::new(state.hash_one(&0u8))
+        }),
+        Err(_) => Err(FileCause::NoRandom),
+    }
 }
 
 fn options(rt: &HostRuntime, path: &str, room: u64) -> Result<Options, FileCause>
     ensures pages { IfOk result (λ o. (bytes : ℕ) × (o.cache_pages ≡ min (bytes / 4096 + room) 49152)) }
     ensures cause { IfErr result (λ cause. cause ≡ FileCause.NoRandom) }
 {
-    let Ok(state) = RandomState::new(rt) else {
-        return Err(FileCause::NoRandom);
-    };
-    Ok(Options {
-        cache_pages: pages_to_keep(rt, path, room),
-        ..Options::new(state.hash_one(&0u8))
-    })
+    options_by(RandomState::new(rt), pages_to_keep(rt, path, room))
 }
 
 /// The connection that the database has opened over files, or the cause for which it has not. Where they are no
@@ -268,8 +340,10 @@ fn connect(
                 log.look(rt);
                 return over(rt, files, log, options);
             }
-            Err(OpenError::Busy) => turn.wait()?,
-            Err(error) => return Err(cause_of_path(error)),
+            Err(error) => match cause_of_path(error) {
+                Some(cause) => return Err(cause),
+                None => turn.wait()?,
+            },
         }
     }
     Err(FileCause::Busy)
@@ -279,6 +353,7 @@ fn connect(
 fn misfit_of<S: Alter>(rt: &HostRuntime, fault: Fault, conn: &mut Connection<S>) -> Option<Misfit>
     ensures { fault ≢ Fault.NotADesk → (result ≡ None) × (conn.new ≡ conn.old) }
 {
+    // Of a device that failed the system is asked nothing more here: its last error is the device's.
     if fault == Fault::NotADesk && wants_words(rt) {
         first_misfit(rt.alloc(), conn)
     } else {

@@ -1,17 +1,19 @@
 //! What a file is, by its own bytes, before the database opens it. Opening a file writes a log beside it, even where
 //! the file is no desk.
 
-ghost use Rattle.std.specs.Prelude.{◌≡◌, ◌↔◌, ◌++◌, ◌<◌, IfErr, IfOk, IsTrue, Err as ErrOf, codes, string_bytes};
-ghost use Rattle.tb_host.specs.Causes.{IsSystemCause};
-ghost use Rattle.tb_host.specs.Contents.{BeginsWith, IsOtherFile, IsReserved, ListsTables, is_hot, is_looked_at_again};
-ghost use Rattle.tb_host.specs.Contents.{odd_cause, own_log_limit, version_by};
+ghost use Rattle.std.specs.Prelude.{◌≡◌, ◌⊎◌, ◌↔◌, ◌++◌, ◌<◌, ◌≤◌, ℕ, List, Bool, IfErr, IfOk, IsOkAnd, IsSomeAnd};
+ghost use Rattle.std.specs.Prelude.{IsTrue, Err as ErrOf, MatchResult, OnOk, Some, codes, false, string_bytes};
+ghost use Rattle.std.specs.Fs.{IsDir, IsFile, file_type, metadata_len};
+ghost use Rattle.tb_host.specs.Contents.{BeginsWith, HasNoJournal, HasOwnLog, IsBlank, IsListed, IsOtherFile};
+ghost use Rattle.tb_host.specs.Contents.{IsReserved, ListsDesk, ListsTables, MayBeOwnLog, MayBecomeDesk, is_hot};
+ghost use Rattle.tb_host.specs.Contents.{is_looked_at_again, odd_cause, own_log_limit, version_by};
 
 use crate::causes::FileCause;
 use crate::contents::{Version, is_blank, listed_in};
 use crate::logs::has_commits;
+use crate::system::System;
+use std::alloc::Global;
 use std::fs;
-use std::io::{ErrorKind, Read};
-use std::path::PathBuf;
 
 /// The first bytes of a database file (the file format of SQLite, section 1.3).
 const HEADER: &[u8] = b"SQLite format 3\0";
@@ -26,47 +28,48 @@ const LOG_LOOKED_AT: u64 = 4_194_304;
 const HALF_MADE_LOG: u64 = 1_048_576;
 
 /// The path of a file beside another, which has this ending.
-pub(crate) fn beside(rt: &HostRuntime, path: &str, ending: &str) -> Result<String, FileCause>
+pub(crate) fn beside(alloc: Global, path: &str, ending: &str) -> Result<String, FileCause>
     ensures name { IfOk result (λ name. string_bytes name ≡ path.now ++ ending.now) }
     ensures cause { IfErr result (λ cause. cause ≡ FileCause.Memory) }
 {
-    match format!(in rt.alloc(); "{path}{ending}") {
+    match format!(in alloc; "{path}{ending}") {
         Ok(beside) => Ok(beside),
         Err(_) => Err(FileCause::Memory),
     }
 }
 
-/// The path without links: a log is beside the file to which a link leads.
-pub(crate) fn real(rt: &HostRuntime, path: &str) -> Result<PathBuf, FileCause>
-    ensures { IfErr result IsSystemCause }
+/// What is found beside a file, where that may be a link.
+fn there_beside<S: System>(
+    system: &S,
+    path: &str,
+    ending: &str,
+) -> Result<Option<fs::Metadata>, FileCause>
+    ensures { IfOk result (S.IsThere system.now (path.now ++ ending.now)) }
 {
-    match fs::canonicalize(rt, path) {
-        Ok(real) => Ok(real),
-        Err(error) => Err(FileCause::of_system(error)),
-    }
+    let name = beside(system.memory(), path, ending)?;
+    system.there(name.as_str())
 }
 
-/// The first bytes of a file, at most so many; empty for a missing file.
-pub(crate) fn beginning(rt: &HostRuntime, path: &str, most: u64) -> Result<Vec<u8>, FileCause>
-    ensures { IfErr result IsSystemCause }
+/// The first bytes of what is beside a file, at most so many.
+fn beginning_beside<S: System>(
+    system: &S,
+    path: &str,
+    ending: &str,
+    most: u64,
+) -> Result<Vec<u8>, FileCause>
+    ensures { IfOk result (λ bytes. S.IsBeginning system.now (path.now ++ ending.now) most bytes.items) }
 {
-    let mut bytes = Vec::new(rt.alloc());
-    match fs::File::open(rt, path) {
-        Ok(file) => match file.take(most).read_to_end(&mut bytes) {
-            Ok(_) => Ok(bytes),
-            Err(error) => Err(FileCause::of_system(error)),
-        },
-        Err(error) if error.kind() == ErrorKind::NotFound => Ok(bytes),
-        Err(error) => Err(FileCause::of_system(error)),
-    }
+    let name = beside(system.memory(), path, ending)?;
+    system.beginning(name.as_str(), most)
 }
 
-/// Whether the path has something that is no plain file, such as a link, or a pipe on which a read would wait.
-fn is_odd(rt: &HostRuntime, path: &str) -> Result<bool, FileCause> {
-    match fs::symlink_metadata(rt, path) {
-        Ok(found) => Ok(!found.is_file()),
-        Err(error) if error.kind() == ErrorKind::NotFound => Ok(false),
-        Err(error) => Err(FileCause::of_system(error)),
+/// Whether what is found at a path is no plain file, such as a link, or a pipe on which a read would wait.
+fn is_no_file(found: Option<fs::Metadata>) -> bool
+    ensures { IsTrue result ↔ IsSomeAnd found (λ m. ¬ IsFile (file_type m)) }
+{
+    match found {
+        Some(found) => !found.is_file(),
+        None => false,
     }
 }
 
@@ -81,12 +84,13 @@ fn is_hot(first: &[u8]) -> bool
 }
 
 /// Whether another program has left a journal that has to be played back.
-fn has_journal(rt: &HostRuntime, path: &str) -> Result<bool, FileCause> {
-    let journal = beside(rt, path, "-journal")?;
-    if is_odd(rt, journal.as_str())? {
+fn has_journal<S: System>(system: &S, path: &str) -> Result<bool, FileCause>
+    ensures { IfOk result (λ has. has ≡ false → HasNoJournal (S.IsBeginning system.now) path.now) }
+{
+    if is_no_file(there_beside(system, path, "-journal")?) {
         return Ok(true);
     }
-    let first = beginning(rt, journal.as_str(), 1)?;
+    let first = beginning_beside(system, path, "-journal", 1)?;
     Ok(is_hot(&first))
 }
 
@@ -111,10 +115,26 @@ fn version_by(in_log: Option<Version>, in_file: Option<Version>) -> Result<Versi
     in_log.or(in_file).ok_or(FileCause::OtherDatabase)
 }
 
+/// The version by the tables in the log, where they do not show in the file.
+fn listed_in_log<S: System>(
+    system: &S,
+    path: &str,
+    in_file: Option<Version>,
+) -> Result<Version, FileCause>
+    ensures { IfOk result (λ version. (in_file ≡ Some version)
+        ⊎ ((log : List ℕ) × S.IsBeginning system.now (path.now ++ codes "-wal") 4194304 log
+        × IsListed log (Some version))) }
+{
+    let log = beginning_beside(system, path, "-wal", LOG_LOOKED_AT)?;
+    version_by(listed_in(&log), in_file)
+}
+
 /// The version of desk that a file may be, by the first bytes of it and its log, read once. The log has tables that
 /// the file itself does not have yet.
-fn listed_now(rt: &HostRuntime, path: &str) -> Result<Version, FileCause> {
-    let head = beginning(rt, path, LOOKED_AT)?;
+fn listed_now<S: System>(system: &S, path: &str) -> Result<Version, FileCause>
+    ensures { IfOk result (ListsDesk (S.IsBeginning system.now) path.now) }
+{
+    let head = system.beginning(path, LOOKED_AT)?;
     if is_other_file(&head) {
         return Err(FileCause::NotSqlite);
     }
@@ -122,16 +142,14 @@ fn listed_now(rt: &HostRuntime, path: &str) -> Result<Version, FileCause> {
     if in_file == Some(Version::Two) {
         return Ok(Version::Two);
     }
-    let log_path = beside(rt, path, "-wal")?;
-    if is_odd(rt, log_path.as_str())? {
+    if is_no_file(there_beside(system, path, "-wal")?) {
         return in_file.ok_or(FileCause::OddLog);
     }
     // The library does not use a log beside an empty file: it would truncate the log, and make a database in the file.
     if head.is_empty() {
         return Err(FileCause::Empty);
     }
-    let log = beginning(rt, log_path.as_str(), LOG_LOOKED_AT)?;
-    version_by(listed_in(&log), in_file)
+    listed_in_log(system, path, in_file)
 }
 
 /// Whether a file is looked at a second time, by what the first look has found.
@@ -147,10 +165,12 @@ fn is_looked_at_again(found: Result<Version, FileCause>) -> bool
 
 /// The version of desk that a file may be. While another command closes a desk, its tables move from the log into the
 /// file. If neither has them at the first look, the file has them at the second.
-fn listed(rt: &HostRuntime, path: &str) -> Result<Version, FileCause> {
-    let found = listed_now(rt, path);
+fn listed<S: System>(system: &S, path: &str) -> Result<Version, FileCause>
+    ensures { IfOk result (ListsDesk (S.IsBeginning system.now) path.now) }
+{
+    let found = listed_now(system, path);
     if is_looked_at_again(found) {
-        return listed_now(rt, path);
+        return listed_now(system, path);
     }
     found
 }
@@ -173,23 +193,43 @@ fn odd_cause(is_folder: bool) -> FileCause
     }
 }
 
+/// Refuses what is found at a path where it is no plain file.
+fn plain(found: &fs::Metadata) -> Result<(), FileCause>
+    ensures { MatchResult result (λ _. IsFile (file_type found.now)) (λ cause. (¬ IsFile (file_type found.now))
+        × ((folder : Bool) × (IsTrue folder ↔ IsDir (file_type found.now)) × (cause ≡ odd_cause folder))) }
+{
+    if found.is_file() {
+        return Ok(());
+    }
+    Err(odd_cause(found.is_dir()))
+}
+
+/// The version of desk that a file may be, where no other program has left a journal beside it.
+fn listed_alone<S: System>(system: &S, path: &str) -> Result<Version, FileCause>
+    ensures { IfOk result (λ version. ListsDesk (S.IsBeginning system.now) path.now version
+        × HasNoJournal (S.IsBeginning system.now) path.now) }
+{
+    if has_journal(system, path)? {
+        return Err(FileCause::Journal);
+    }
+    listed(system, path)
+}
+
 /// The version of the desk that a plain file may be, by its first bytes.
-pub(crate) fn version_of(rt: &HostRuntime, path: &str) -> Result<Version, FileCause>
-    ensures { IsReserved path.now → result ≡ ErrOf FileCause.ReservedName }
+pub(crate) fn version_of<S: System>(system: &S, path: &str) -> Result<Version, FileCause>
+    ensures reserved { IsReserved path.now → result ≡ ErrOf FileCause.ReservedName }
+    ensures lists { IfOk result (λ version. (real : List ℕ)
+        × ListsDesk (S.IsBeginning system.now) real version × HasNoJournal (S.IsBeginning system.now) real) }
 {
     if is_no_path(path) {
         return Err(FileCause::ReservedName);
     }
-    match fs::metadata(rt, path) {
-        Ok(found) if found.is_file() => {}
-        Ok(found) => return Err(odd_cause(found.is_dir())),
-        Err(error) => return Err(FileCause::of_system(error)),
-    }
-    let real = real(rt, path)?;
-    if has_journal(rt, real.as_str())? {
-        return Err(FileCause::Journal);
-    }
-    listed(rt, real.as_str())
+    let Some(found) = system.target(path)? else {
+        return Err(FileCause::Missing);
+    };
+    plain(&found)?;
+    let real = system.real(path)?;
+    listed_alone(system, real.as_str())
 }
 
 /// Whether a log is longer than one that a stopped `new` leaves.
@@ -199,19 +239,39 @@ fn is_long_log(bytes: u64) -> bool
     bytes > HALF_MADE_LOG
 }
 
-/// Whether there is a log that a new desk would take for its own, though it holds commits of another desk.
-fn has_log_of_another(rt: &HostRuntime, path: &str) -> Result<bool, FileCause> {
-    let log = beside(rt, path, "-wal")?;
-    match fs::symlink_metadata(rt, log.as_str()) {
-        Ok(found) if !found.is_file() => Err(FileCause::OddLog),
-        Ok(found) if is_long_log(found.len()) => Ok(true),
-        Ok(_) => {
-            let bytes = beginning(rt, log.as_str(), HALF_MADE_LOG)?;
-            has_commits(rt.alloc(), &bytes)
-        }
-        Err(error) if error.kind() == ErrorKind::NotFound => Ok(false),
-        Err(error) => Err(FileCause::of_system(error)),
+/// Whether a log is short enough to be looked into, where it is a plain file.
+fn may_be_own(found: &fs::Metadata) -> Result<bool, FileCause>
+    ensures odd { ¬ IsFile (file_type found.now) → result ≡ ErrOf FileCause.OddLog }
+    ensures plain { IsFile (file_type found.now)
+        → IsOkAnd result (λ short. IsTrue short ↔ metadata_len found.now ≤ own_log_limit) }
+{
+    if !found.is_file() {
+        return Err(FileCause::OddLog);
     }
+    Ok(!is_long_log(found.len()))
+}
+
+/// Whether a log that is short enough to be looked into holds commits of another desk.
+fn has_commits_of_another<S: System>(system: &S, path: &str) -> Result<bool, FileCause>
+    ensures { IfOk result (λ has. has ≡ false → (bytes : List ℕ)
+        × S.IsBeginning system.now (path.now ++ codes "-wal") own_log_limit bytes × MayBeOwnLog bytes) }
+{
+    let bytes = beginning_beside(system, path, "-wal", HALF_MADE_LOG)?;
+    has_commits(system.memory(), &bytes)
+}
+
+/// Whether there is a log that a new desk would take for its own, though it holds commits of another desk.
+fn has_log_of_another<S: System>(system: &S, path: &str) -> Result<bool, FileCause>
+    ensures { IfOk result (λ has. has ≡ false
+        → HasOwnLog (S.IsThere system.now) (S.IsBeginning system.now) path.now) }
+{
+    let Some(found) = there_beside(system, path, "-wal")? else {
+        return Ok(false);
+    };
+    if !may_be_own(&found)? {
+        return Ok(true);
+    }
+    has_commits_of_another(system, path)
 }
 
 /// The cause for a file that is not blank, by what it holds.
@@ -226,16 +286,28 @@ fn held_by(head: &[u8]) -> FileCause
     }
 }
 
-/// Refuses a file in which no desk may be made, by the first bytes of it and of the files beside it.
-fn look_at_new(rt: &HostRuntime, path: &str) -> Result<(), FileCause> {
-    let head = beginning(rt, path, LOOKED_AT)?;
-    if !is_blank(&head) {
-        return Err(held_by(&head));
+/// Refuses a file that is not blank, by its first bytes.
+fn blank(head: &[u8]) -> Result<(), FileCause>
+    ensures { MatchResult result (λ _. IsBlank head.now) (λ cause. (¬ IsBlank head.now)
+        × (ListsTables head.now → cause ≡ FileCause.DeskAlready)
+        × ((¬ ListsTables head.now) → cause ≡ FileCause.NotBlank)) }
+{
+    if is_blank(head) {
+        return Ok(());
     }
-    if has_journal(rt, path)? {
+    Err(held_by(head))
+}
+
+/// Refuses a file in which no desk may be made, by the first bytes of it and of the files beside it.
+fn look_at_new<S: System>(system: &S, path: &str) -> Result<(), FileCause>
+    ensures { OnOk result (MayBecomeDesk (S.IsThere system.now) (S.IsBeginning system.now) path.now) }
+{
+    let head = system.beginning(path, LOOKED_AT)?;
+    blank(&head)?;
+    if has_journal(system, path)? {
         return Err(FileCause::Journal);
     }
-    if has_log_of_another(rt, path)? {
+    if has_log_of_another(system, path)? {
         return Err(FileCause::OtherLog);
     }
     Ok(())
@@ -243,16 +315,17 @@ fn look_at_new(rt: &HostRuntime, path: &str) -> Result<(), FileCause> {
 
 /// Refuses a path at which no desk may be made. One may be made where there is nothing, an empty file or a blank
 /// database, and no log of another desk.
-pub(crate) fn may_become_desk(rt: &HostRuntime, path: &str) -> Result<(), FileCause>
-    ensures { IsReserved path.now → result ≡ ErrOf FileCause.ReservedName }
+pub(crate) fn may_become_desk<S: System>(system: &S, path: &str) -> Result<(), FileCause>
+    ensures reserved { IsReserved path.now → result ≡ ErrOf FileCause.ReservedName }
+    ensures new { OnOk result ((real : List ℕ)
+        × MayBecomeDesk (S.IsThere system.now) (S.IsBeginning system.now) real) }
 {
     if is_no_path(path) {
         return Err(FileCause::ReservedName);
     }
-    match fs::metadata(rt, path) {
-        Ok(found) if found.is_file() => look_at_new(rt, real(rt, path)?.as_str()),
-        Ok(found) => Err(odd_cause(found.is_dir())),
-        Err(error) if error.kind() == ErrorKind::NotFound => look_at_new(rt, path),
-        Err(error) => Err(FileCause::of_system(error)),
-    }
+    let Some(found) = system.target(path)? else {
+        return look_at_new(system, path);
+    };
+    plain(&found)?;
+    look_at_new(system, system.real(path)?.as_str())
 }

@@ -2,7 +2,7 @@
 //! it reads the tables once more, after the file was refused.
 
 ghost use Rattle.std.specs.Prelude.{◌≡◌, ◌≢◌, ◌↔◌, ◌≤◌, [], ◌∷◌, IsOk, IsTrue};
-ghost use Rattle.tb_host.specs.Misfits.{query_of_numbers, table_name};
+ghost use Rattle.tb_host.specs.Misfits.{first_pulled, first_revised, found_by, query_of_numbers, smaller, table_name};
 
 use sqlite::types::ValueRef;
 use sqlite::{Alter, Connection, Row};
@@ -200,6 +200,38 @@ fn own_rows(revisions: &[RevisionRow], number: u64) -> usize {
     revisions.len()
 }
 
+/// The sentence of the first of these revisions.
+fn first_revised(revisions: &[RevisionRow]) -> Option<u32>
+    ensures { result ≡ first_revised revisions.now }
+{
+    match revisions {
+        [row, ..] => Some(row.sent),
+        [] => None,
+    }
+}
+
+/// The first of these sentences.
+fn first_pulled(pulled: &[u32]) -> Option<u32>
+    ensures { result ≡ first_pulled pulled.now }
+{
+    match pulled {
+        [number, ..] => Some(*number),
+        [] => None,
+    }
+}
+
+/// The smaller number, where there are two.
+fn smaller(a: Option<u32>, b: Option<u32>) -> Option<u64>
+    ensures { result ≡ smaller a b }
+{
+    match (a, b) {
+        (Some(a), Some(b)) => Some(u64::from(a.min(b))),
+        (Some(a), None) => Some(u64::from(a)),
+        (None, Some(b)) => Some(u64::from(b)),
+        (None, None) => None,
+    }
+}
+
 /// What is left of the tables of revisions and of pulled sentences.
 #[derive(Drop)]
 struct Rest<'a> {
@@ -232,13 +264,10 @@ impl<'a> Rest<'a> {
     }
 
     /// The first sentence that has rows here, but none in the table of sentences.
-    fn first(&self) -> Option<u64> {
-        match (self.revisions.first(), self.pulled.first()) {
-            (Some(row), Some(number)) => Some(u64::from(row.sent.min(*number))),
-            (Some(row), None) => Some(u64::from(row.sent)),
-            (None, Some(number)) => Some(u64::from(*number)),
-            (None, None) => None,
-        }
+    fn first(&self) -> Option<u64>
+        ensures { result ≡ smaller (first_revised self.now.revisions.now) (first_pulled self.now.pulled.now) }
+    {
+        smaller(first_revised(self.revisions), first_pulled(self.pulled))
     }
 }
 
@@ -341,10 +370,18 @@ fn look<S: Alter>(alloc: Global, conn: &mut Connection<S>) -> Result<(), Stop> {
     Err(Stop::Found(Misfit::Moves))
 }
 
+/// What a look has found.
+fn found_by(looked: Result<(), Stop>) -> Option<Misfit>
+    ensures { result ≡ found_by looked }
+{
+    match looked {
+        Err(Stop::Found(misfit)) => Some(misfit),
+        Err(Stop::Failed) => None,
+        Ok(()) => None,
+    }
+}
+
 /// What is wrong first with the rows of a file that is no desk. `None` where memory or the store fails.
 pub(crate) fn first_misfit<S: Alter>(alloc: Global, conn: &mut Connection<S>) -> Option<Misfit> {
-    match look(alloc, conn) {
-        Err(Stop::Found(misfit)) => Some(misfit),
-        Err(Stop::Failed) | Ok(()) => None,
-    }
+    found_by(look(alloc, conn))
 }

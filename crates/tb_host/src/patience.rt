@@ -1,9 +1,18 @@
 //! Time limits for clients, so that none keeps the desk to itself.
 
-ghost use Rattle.std.specs.Prelude.{◌≡◌, ◌↔◌, ◌≤◌, ℕ, IfOk, IsErr, IsTrue, MatchResult, None, Some, false, min};
+ghost use Rattle.std.specs.Prelude.{◌≡◌, ◌⊎◌, ◌↔◌, ◌≤◌, ℕ, IfErr, IfOk, IsErr, IsTrue, None, Ok as Done, Err as ErrOf};
+ghost use Rattle.std.specs.Prelude.{OnOk, Result, Some, false, min, true};
 ghost use Rattle.std.specs.Duration.{as_nanos};
-ghost use Rattle.tb_host.specs.Patience.{IsReadTime, answer_time, seconds, wait_left};
+ghost use Rattle.std.specs.Io.{ReadsAtMost, WritesAtMost};
+ghost use Rattle.std.specs.Io.KnownBytes.{ReadConsumes, WriteAppends};
+ghost use Rattle.std.specs.IoError.{error_kind};
+ghost use Rattle.std.specs.declared.io.Error.{Error as IoError};
+ghost use Rattle.std.specs.declared.time.Duration.{Duration as Time};
+ghost use Rattle.std.specs.declared.time.Instant.{Instant as Moment};
+ghost use Rattle.tb_host.specs.Links.{AddsAnswer};
+ghost use Rattle.tb_host.specs.Patience.{IsReadTime, answer_time, measured, seconds, wait_left};
 
+use crate::links::{Connected, Link};
 use crate::place::Place;
 use std::io::{self, ErrorKind, Read, Write};
 use std::net::TcpStream;
@@ -68,6 +77,96 @@ fn answer_time(left: Duration, took: Duration, count: usize) -> Duration
     )
 }
 
+/// How long a client may take for the rest of an answer, after a write of `count` bytes and what a clock says of its
+/// time.
+fn left_by(left: Duration, elapsed: io::Result<Duration>, count: usize) -> Duration
+    ensures { as_nanos result ≡ answer_time (as_nanos left) (measured elapsed) count }
+{
+    match elapsed {
+        Ok(took) => answer_time(left, took, count),
+        Err(_) => answer_time(left, Duration::ZERO, count),
+    }
+}
+
+/// How long the next read of a link may take, where all reads have begun at `since`.
+fn time_to_read<L: Link>(
+    link: &L,
+    each: Duration,
+    whole: Duration,
+    since: Instant,
+) -> io::Result<Duration>
+    ensures { IfOk result (λ time. (elapsed : Time) × L.IsElapsed link.now since (Done elapsed)
+        × IsReadTime (as_nanos each) (as_nanos whole) (as_nanos elapsed) (Some time)) }
+{
+    let elapsed = link.elapsed(since)?;
+    match read_time(each, whole, elapsed) {
+        Some(time) => Ok(time),
+        None => Err(io::Error::from(ErrorKind::TimedOut)),
+    }
+}
+
+/// Reads once within this time.
+///
+/// # Errors
+///
+/// The link's fault, or that the desk's files are no longer in their place after the read.
+fn receive<L: Link>(link: &mut L, time: Duration, buf: &mut [u8]) -> io::Result<usize>
+    ensures bound { ReadsAtMost result buf.new }
+    ensures bytes { ReadConsumes None None result buf.new }
+    ensures received { IfOk result (λ count.
+        AddsAnswer (L.answers link.old) (L.answers link.new) (as_nanos time, Done count)) }
+    ensures still { OnOk result (L.HasMoved link.new false) }
+    ensures failed { IfErr result (λ e. AddsAnswer (L.answers link.old) (L.answers link.new) (as_nanos time, ErrOf e)
+        ⊎ (L.HasMoved link.new true × (error_kind e ≡ ErrorKind.StaleNetworkFileHandle))) }
+{
+    let count = match link.receive(time, buf) {
+        Ok(count) => count,
+        Err(error) => return Err(error),
+    };
+    if link.has_moved() {
+        return Err(io::Error::from(ErrorKind::StaleNetworkFileHandle));
+    }
+    Ok(count)
+}
+
+/// Writes once within the time that is left for an answer, and counts the time that the write takes.
+///
+/// # Errors
+///
+/// The link's fault, or that no time is left. After a write that failed none is.
+fn send<L: Link>(link: &mut L, left: &mut Duration, buf: &[u8]) -> io::Result<usize>
+    ensures bound { WritesAtMost result buf.now }
+    ensures bytes { WriteAppends None None result buf.now }
+    ensures late { as_nanos left.old ≡ 0 → IsErr result }
+    ensures silent { as_nanos left.old ≡ 0 → link.new ≡ link.old }
+    ensures sent { IfOk result (λ count.
+        AddsAnswer (L.answers link.old) (L.answers link.new) (as_nanos left.old, Done count)) }
+    ensures time { IfOk result (λ count. (since : Moment) × (elapsed : Result Time IoError) × L.IsNow link.old since
+        × L.IsElapsed link.new since elapsed
+        × (as_nanos left.new ≡ answer_time (as_nanos left.old) (measured elapsed) count)) }
+    ensures failed { IfErr result (λ e. (link.new ≡ link.old)
+        ⊎ (AddsAnswer (L.answers link.old) (L.answers link.new) (as_nanos left.old, ErrOf e)
+        × (as_nanos left.new ≡ 0))) }
+{
+    if left.is_zero() {
+        return Err(io::Error::from(ErrorKind::TimedOut));
+    }
+    let since = match link.instant() {
+        Ok(since) => since,
+        Err(error) => return Err(error),
+    };
+    match link.send(*left, buf) {
+        Ok(count) => {
+            *left = left_by(*left, link.elapsed(since), count);
+            Ok(count)
+        }
+        Err(error) => {
+            *left = Duration::ZERO;
+            Err(error)
+        }
+    }
+}
+
 /// Reads a connection within time limits: one for each read, and one for all reads together. So a client that sends a
 /// byte now and then is cut off too.
 ///
@@ -104,37 +203,28 @@ impl<'a> Patient<'a> {
         })
     }
 
+    /// The connection, with the places of the desk's files.
+    fn link(&self) -> Connected<'a> {
+        Connected {
+            rt: self.rt,
+            stream: self.stream,
+            place: self.place,
+        }
+    }
+
     /// How long the next read may take.
     fn left(&self) -> io::Result<Duration>
         ensures { IfOk result (λ d. (elapsed : ℕ)
             × IsReadTime (as_nanos self.now.each) (as_nanos self.now.whole) elapsed (Some d)) }
     {
-        match read_time(self.each, self.whole, self.since.elapsed(self.rt)?) {
-            Some(time) => Ok(time),
-            None => Err(io::Error::from(ErrorKind::TimedOut)),
-        }
+        time_to_read(&self.link(), self.each, self.whole, self.since)
     }
 }
 
 impl Read for Patient<'_> {
     fn read(&mut self, buf: &mut [u8]) -> io::Result<usize> {
-        self.stream.set_read_timeout(Some(self.left()?))?;
-        let mut stream = self.stream;
-        let count = stream.read(buf)?;
-        if has_changed(self.rt, self.place) {
-            return Err(io::Error::from(ErrorKind::StaleNetworkFileHandle));
-        }
-        Ok(count)
-    }
-}
-
-/// Whether the files of a desk are no longer in their place. A desk in memory has no files.
-pub fn has_changed(rt: &HostRuntime, place: Option<&Place>) -> bool
-    ensures { place.entry ≡ None → result ≡ false }
-{
-    match place {
-        Some(place) => place.has_changed(rt),
-        None => false,
+        let time = self.left()?;
+        receive(&mut self.link(), time, buf)
     }
 }
 
@@ -159,52 +249,16 @@ impl<'a> Answer<'a> {
             left: Duration::from_secs(ANSWER),
         }
     }
-
-    /// Limits the next write to the time that is left. The write begins now.
-    fn begin(&self) -> io::Result<Instant>
-        ensures { as_nanos self.now.left ≡ 0 → IsErr result }
-    {
-        if self.left.is_zero() {
-            return Err(io::Error::from(ErrorKind::TimedOut));
-        }
-        self.stream.set_write_timeout(Some(self.left))?;
-        Instant::now(self.rt)
-    }
-
-    /// Notes that a write which began at `since` wrote `count` bytes.
-    fn count(&mut self, since: Instant, count: usize)
-        ensures { (took : ℕ) × (as_nanos self.new.left ≡ answer_time (as_nanos self.old.left) took count) }
-    {
-        let took = since.elapsed(self.rt).unwrap_or(Duration::ZERO);
-        self.left = answer_time(self.left, took, count);
-    }
-
-    /// Notes the result of a write that began at `since`. After one that failed no time is left.
-    fn note(&mut self, since: Instant, taken: io::Result<usize>) -> io::Result<usize>
-        ensures taken { result ≡ taken }
-        ensures left { MatchResult taken
-            (λ count. (took : ℕ) × (as_nanos self.new.left ≡ answer_time (as_nanos self.old.left) took count))
-            (λ _. as_nanos self.new.left ≡ 0) }
-    {
-        match taken {
-            Ok(count) => {
-                self.count(since, count);
-                Ok(count)
-            }
-            Err(error) => {
-                self.left = Duration::ZERO;
-                Err(error)
-            }
-        }
-    }
 }
 
 impl Write for Answer<'_> {
     fn write(&mut self, buf: &[u8]) -> io::Result<usize> {
-        let since = self.begin()?;
-        let mut stream = self.stream;
-        let taken = stream.write(buf);
-        self.note(since, taken)
+        let mut link = Connected {
+            rt: self.rt,
+            stream: self.stream,
+            place: None,
+        };
+        send(&mut link, &mut self.left, buf)
     }
 
     fn flush(&mut self) -> io::Result<()> {

@@ -5,7 +5,7 @@ ghost use Rattle.std.specs.Duration.{as_nanos};
 ghost use Rattle.tb_host.specs.Causes.{IsSystemCause};
 ghost use Rattle.tb_host.specs.Patience.{IsPause, milliseconds};
 
-use crate::causes::FileCause;
+use crate::causes::{FileCause, told};
 use crate::diagnostics::wants_words;
 use crate::patience::is_at_least;
 use std::thread;
@@ -77,26 +77,20 @@ impl<'a> Turn<'a> {
         ensures names { IfOk result (λ turn. (turn.program.now ≡ program.now) × (turn.path.now ≡ path.now)) }
         ensures cause { IfErr result IsSystemCause }
     {
-        match Instant::now(rt) {
-            Ok(since) => Ok(Turn {
-                rt,
-                program,
-                path,
-                since,
-                is_reported: false,
-            }),
-            Err(error) => Err(FileCause::of_system(error)),
-        }
+        Ok(Turn {
+            rt,
+            program,
+            path,
+            since: told(Instant::now(rt))?,
+            is_reported: false,
+        })
     }
 
     /// How long the command has waited.
     fn waited(&self) -> Result<Duration, FileCause>
         ensures { IfErr result IsSystemCause }
     {
-        match self.since.elapsed(self.rt) {
-            Ok(waited) => Ok(waited),
-            Err(error) => Err(FileCause::of_system(error)),
-        }
+        told(self.since.elapsed(self.rt))
     }
 
     /// Says once that the command waits, where it has waited so long. A failure to say so is ignored.

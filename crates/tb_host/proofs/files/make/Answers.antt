@@ -27,4 +27,4 @@ returns-clause-desk c =
     ))
 
 pub returns-in-Err-clause-reserved : goal.returns-in-Err-clause-reserved
-returns-in-Err-clause-reserved c = λ reserved. absurd (true≢false (ap is_ok (c.in_ok-may_become_desk.ensures reserved)))
+returns-in-Err-clause-reserved c = λ reserved. absurd (true≢false (ap is_ok (c.in_ok-may_become_desk.ensures.reserved reserved)))

@@ -15,4 +15,4 @@ returns-clause-desk c =
     (λ d h. (h.0, h.1.0, λ clean. let it = h.1.1 clean in (it.0, it.2)))
 
 pub returns-clause-reserved : goal.returns-clause-reserved
-returns-clause-reserved c = λ reserved. absurd (true≢false (ap is_ok (c.in_ok-version_of.ensures reserved)))
+returns-clause-reserved c = λ reserved. absurd (true≢false (ap is_ok (c.in_ok-version_of.ensures.reserved reserved)))

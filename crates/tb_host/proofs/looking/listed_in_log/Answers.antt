@@ -1,0 +1,14 @@
+use Rattle.std.proofs.Common.{◌++◌, ℕ, List, Some, codes, subst}
+use Rattle.tb_host.specs.Contents.{IsListed}
+use Rattle.tb_host.proofs.Listed.{by_log}
+use Rattle.tb_host.proofs.looking.listed_in_log.Goals as goal
+
+pub returns : goal.returns
+returns g c =
+    by_log (λ v. (x : List ℕ) × g.S.System.IsBeginning c.args.system.now (c.args.path.now ++ codes "-wal") 4194304 x × IsListed x (Some v))
+    c.listed_in.result c.args.in_file c.version_by.result c.version_by.ensures
+    (λ v is. (
+      c.in_ok-log.log.items,
+      c.in_ok-log.ensures,
+      subst (λ bytes. IsListed bytes (Some v)) c.deref.ensures.value (subst (λ l. IsListed c.deref.result.now l) is c.listed_in.ensures),
+    ))
