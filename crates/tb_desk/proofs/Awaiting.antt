@@ -1,5 +1,5 @@
 -- What bytes that ask nothing for want of a body have, and how long that body is.
-use Rattle.std.proofs.Common.{codes, if◌then◌else◌, Bool, false, ◌&&◌, nat_lt, ◌≡◌, ◌<◌, ◌≤◌, ◌+◌, ◌*◌, ◌^◌, ◌-◌, ℕ, List, [], ◌∷◌, ◌++◌, length, take, drop, get_or, map, Option, Some, None, IfSome, true, refl, sym, ◌∙◌, ap, subst, arith, ◌↔◌}
+use Rattle.std.proofs.Common.{codes, if◌then◌else◌, Bool, false, ◌&&◌, nat_lt, ◌≡◌, ◌⊎◌, inl, inr, ◌<◌, ◌≤◌, ◌+◌, ◌*◌, ◌^◌, ◌-◌, ℕ, List, [], ◌∷◌, ◌++◌, length, take, drop, get_or, map, Option, Some, None, IfSome, true, refl, sym, ◌∙◌, ap, subst, arith, ◌↔◌}
 use Rattle.std.specs.Str.Parse.{digits_value}
 use Rattle.tb_http.specs.Actions.{Act, Place, place_of, act_of}
 use Rattle.std.specs.List.{list_all}
@@ -12,7 +12,15 @@ use Rattle.tb_http.proofs.Numbers.{one_more}
 use Rattle.tb_http.proofs.Values.{values_of-more}
 use Rattle.tb_http.specs.Asks.{Outcome, refused, called, Front, Asks, AsksBody, AsksLong, AsksMethod, AsksPath}
 use Rattle.tb_http.specs.declared.asks.RequestFault.TheVariants.{Head, Length, Path, Long, Body}
+use Rattle.tb_http.specs.Asks.{body_limit, headers_of}
 use Rattle.tb_http.specs.Faults.{AwaitsBody}
+use Rattle.httparse.specs.Grammar.{RequestHead, print_request}
+use Rattle.httparse.specs.Spans.{IsRequestOf, header_bytes}
+use Rattle.httparse.specs.declared.spans.HeaderSpan.{HeaderSpan}
+use Rattle.httparse.specs.declared.spans.RequestSpans.{RequestSpans}
+use Rattle.httparse.proofs.GrammarLemmas.{request_unique}
+use Rattle.tb_page.specs.Visits.{AwaitsText}
+use Rattle.tb_desk.specs.Arriving.{LacksBody, LacksText}
 use Rattle.tb_http.specs.Stage.{Stage, stops, goes}
 use Rattle.tb_http.proofs.Staged.{one_thing}
 
@@ -121,3 +129,23 @@ length_found f xs i d w r l before here h =
     (rw (map-append f) (filter_map-append (value_under length_name) (map f (take (i + 1) xs)) (map f (drop (i + 1) xs)))) in
     let first : values_of length_name (map f (take (i + 1) xs)) ≡ w ∷ [] = values_of-more f length_name xs i d (Some w) l here ∙ ap (λ ys. ys ++ w ∷ []) before in
     in_values (values_of (codes "Transfer-Encoding") (map f xs)) _ rest w r (cut ∙ ap (λ ys. ys ++ rest) first) h
+
+-- the head at these spans, and how long it says that its body is
+module _ (said : List ℕ) (headers : List HeaderSpan) (spans : RequestSpans) (word whole : ℕ) (r : IsRequestOf said headers spans)
+    (known : IsWordOf word (body_length (map (header_bytes said) (take spans.headers headers))))
+    (sum : (n : ℕ) → word ≡ n → n ≤ body_limit → whole ≡ spans.len + n) where
+  whole_is : (n : ℕ) (h : RequestHead) → h ≡ r.0 → body_length (headers_of h) ≡ Some n → n ≤ body_limit → whole ≡ length (print_request h) + n
+  whole_is n h same long within =
+      let told : body_length (map (header_bytes said) (take spans.headers headers)) ≡ Some n =
+      ap body_length r.1.fields ∙ (ap (λ k. body_length (headers_of k)) (sym same) ∙ long) in
+      let is : word ≡ n = subst (IsWordOf word) told known (omega (arith, within)) in
+      sum n is within ∙ ap (λ k. k + n) (r.1.len ∙ ap (λ k. length (print_request k)) (sym same))
+
+  -- what lacks a part of its body, or of the text of a check, has so many bytes in all
+  pub lacks_at : AwaitsBody body_limit said ⊎ AwaitsText said → LacksBody said whole ⊎ LacksText said whole
+  lacks_at (inl (f, n, call, short)) =
+      let one = request_unique said f.head r.0 f.rest (drop spans.len said) call.begins.begins.reads r.1.reads in
+      inl (f, n, call, short, whole_is n f.head one.0 call.reported call.within)
+  lacks_at (inr (head, rest, n, check, short)) =
+      let one = request_unique said head r.0 rest (drop spans.len said) check.begins.reads r.1.reads in
+      inr (head, rest, n, check, short, whole_is n head one.0 check.said check.within)

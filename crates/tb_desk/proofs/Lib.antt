@@ -1,6 +1,7 @@
 mod Aged
+mod Asked
 mod Awaiting
-mod FirstFaults
+mod Noted
 mod Ran
 mod Rooms
 mod Served

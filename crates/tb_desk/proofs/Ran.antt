@@ -14,25 +14,25 @@ use Rattle.tb_http.specs.declared.replies.Reply.{Reply}
 use Rattle.tb_cli.specs.Lines.{Said}
 use Rattle.tb_answer.specs.Taken.{IsTaken}
 use Rattle.tb_desk.specs.Lines.{LeavesInput}
-use Rattle.tb_desk.specs.Running.{IsRead, taken_of}
+use Rattle.tb_desk.specs.Running.{KeepsDesk, taken_of}
 
 module _ {S : Type 0} {g : Ghosts S} where
   -- nothing is read
-  pub read_none : (a : Kept S) → IsRead g a a
+  pub read_none : (a : Kept S) → KeepsDesk g a a
   read_none a = (
     (omega arith, omega arith),
     λ clean s stands. (record { clean = omega arith; shield = λ h. h; counts = omega arith; limit = refl; closes = λ _ h. inl h; crash = λ _ db h. inl h }, λ _. stands),
   )
 
   -- one read
-  pub read_once : (a b : Kept S) → Survives (state g a.conn) (state g b.conn) (λ _. (state g a.conn).now.schema ≢ desk_schema) → KeepsState g a b → IsRead g a b
+  pub read_once : (a b : Kept S) → Survives (state g a.conn) (state g b.conn) (λ _. (state g a.conn).now.schema ≢ desk_schema) → KeepsState g a b → KeepsDesk g a b
   read_once a b kept stays = (
     (kept.clean, kept.counts),
     λ clean s stands. (survives_weaker (state g a.conn) (state g b.conn) _ _ (λ _ db other. other stands.desk.holds.schema) kept, λ opened. stays clean opened s stands),
   )
 
   -- one after another, where the first succeeds
-  pub read_then : (a b c : Kept S) → IsRead g a b → (HasCleanDisk (state g b.conn) → (s : Machine) → Represents g a s → Represents g b s) → IsRead g b c → IsRead g a c
+  pub read_then : (a b c : Kept S) → KeepsDesk g a b → (HasCleanDisk (state g b.conn) → (s : Machine) → Represents g a s → Represents g b s) → KeepsDesk g b c → KeepsDesk g a c
   read_then a b c one stays two = (
     (le_trans one.0.0 two.0.0, le_trans one.0.1 two.0.1),
     λ clean s stands.

@@ -1,9 +1,9 @@
 -- Inner: no contract beyond this crate cites a definition of this module.
 -- What a connection has sent so far, and how that goes on.
-use Rattle.std.specs.Prelude.{◌≡◌, ◌≢◌, ◌⊎◌, ◌≤◌, List, ℕ, take, vec_len}
+use Rattle.std.specs.Prelude.{◌≡◌, ◌≢◌, ◌⊎◌, ◌≤◌, ◌<◌, ◌+◌, ◌-◌, ◌^◌, List, ℕ, max, min, take, true, vec_len}
 use Rattle.std.specs.Duration.{as_nanos}
 use Rattle.tb_host.specs.Patience.{seconds}
-use Rattle.tb_desk.specs.Arriving.{IsAwaited, awaited_at}
+use Rattle.tb_desk.specs.Arriving.{IsAwaited, awaited_at, next_size}
 use Rattle.tb_desk.specs.declared.arriving.Awaited.{Awaited}
 use Rattle.tb_desk.specs.declared.arriving.Awaited.TheVariants.{Head, Nothing}
 use Rattle.tb_desk.specs.declared.callers.Caller.{Caller}
@@ -37,3 +37,22 @@ pub record KeepsTime (old new : Caller) : Type 0 where
   pub whole : old.awaited ≡ Nothing → new.awaited ≡ Nothing
   pub same : (old.awaited ≢ Head) ⊎ (new.awaited ≡ Head) → new.left ≡ old.left
   pub begun : old.awaited ≡ Head → new.awaited ≢ Head → new.awaited ≢ Nothing → as_nanos new.left ≡ seconds 10
+
+-- how large its buffer becomes where it is full
+abbrev pub wanted_size : Caller → ℕ
+wanted_size caller = max (next_size (vec_len caller.room) caller.awaited) caller.filled
+
+-- its buffer has room for more bytes, or becomes larger
+abbrev pub HasRoom : Caller → Type 0
+HasRoom caller = caller.filled < max (vec_len caller.room) (next_size (vec_len caller.room) caller.awaited)
+
+-- it was read once more at least; the count ends at its greatest number
+abbrev pub HasReadOnceMore : (old new : Caller) → Type 0
+HasReadOnceMore old new = min (old.reads.count + 1) (2 ^ 64 - 1) ≤ new.reads.count
+
+-- A connection that has to send more is read, where there is room for that. Else it is held, for want of room within
+-- `most` bytes, or its buffer is full and memory is wanting for a larger one.
+abbrev pub IsHeard : (most : ℕ) → (old new : Caller) → Type 0
+IsHeard most old new = old.awaited ≢ Nothing → HasRoom old → HasReadOnceMore old new
+    ⊎ ((new.is_held ≡ true) × (most < wanted_size old))
+    ⊎ ((new.awaited ≡ Nothing) × (vec_len old.room ≤ old.filled))

@@ -35,8 +35,8 @@ IsUndrawn input.Broken reply = reply ≡ check.Device
 
 module _ {Reason : Type 0} (held holds : Option (List ℕ)) (is_refusal : Reason → Type 0) (status : ℕ) where
   -- the page is written, or the line of why there is none
-  abbrev pub IsAnswered : Input → Type 0
-  IsAnswered input =
+  abbrev pub IsDrawingWritten : Input → Type 0
+  IsDrawingWritten input =
       ((page : List ℕ) × IsDrawn input page × IsWritten held holds page 0 is_refusal status)
       ⊎ ((reply : CheckReply) × IsUndrawn input reply
       × IsWritten held holds (reply_text reply) (status_of reply) is_refusal status)
@@ -46,4 +46,4 @@ module _ {Why Reason : Type 0} (is_failure : Why → Type 0) (unread left : Opti
   -- an input of at most `file_limit` bytes is read, and its trees are drawn
   abbrev pub AreTreesDrawn : Type 0
   AreTreesDrawn = (came : Input) × IsInput is_failure file_limit unread left came
-      × IsAnswered held holds is_refusal status came
+      × IsDrawingWritten held holds is_refusal status came

@@ -1,6 +1,9 @@
 -- Inner: no contract beyond this crate cites a definition of this module.
 -- What is explained beside an answer.
-use Rattle.std.specs.Prelude.{◌≡◌, List, ℕ, Option, Some, None}
+use Rattle.std.specs.Prelude.{◌≡◌, ◌&&◌, ◌++◌, List, [], ◌∷◌, ℕ, length, nat_lt, Bool, if◌then◌else◌}
+use Rattle.std.specs.Prelude.{Option, Some, None, IfSome, is_some, ⊤}
+use Rattle.tb_answer.specs.declared.written.Written.{Written}
+use Rattle.tb_answer.specs.declared.written.Written.TheVariants as written
 use Rattle.tb_check.specs.declared.input.Input.{Input}
 use Rattle.tb_check.specs.declared.input.Input.TheVariants.{Whole}
 use Rattle.tb_check.specs.declared.reply.CheckReply.{CheckReply}
@@ -9,6 +12,9 @@ use Rattle.tb_cli.specs.Lines.{Said, import_batch, step_batch, correct, pull, re
 use Rattle.tb_core.specs.declared.refusals.Refusal.TheVariants as refusal
 use Rattle.tb_words.specs.declared.refusals.Asked.{Asked}
 use Rattle.tb_words.specs.declared.refusals.Asked.TheVariants as asks
+use Rattle.tb_words.specs.Explained.{is_explained}
+use Rattle.tb_host.specs.Reported.{IsOfAnswer}
+use Rattle.tb_host.specs.declared.diagnostics.Diagnostic.{Diagnostic}
 use Rattle.tb_host.specs.declared.causes.Cause.{Cause}
 use Rattle.tb_host.specs.declared.causes.Cause.TheVariants.{NothingKept, NothingThere}
 use Rattle.tb_http.specs.declared.asks.RequestFault.TheVariants as request
@@ -48,3 +54,20 @@ reply_as_the_desk (check.Read line code) = Some (reply.Refused (refusal.Read lin
 reply_as_the_desk (check.Rule sentence rule row) = Some (reply.Refused (refusal.Rule sentence rule row))
 reply_as_the_desk check.Long = Some (reply.Faulty request.Long)
 reply_as_the_desk check.Memory = Some reply.Memory
+
+-- a reply is explained in words, where words are wanted and there are some for it
+abbrev pub IsExplained : (is_wanted : Bool) → Reply → (reported : Option Diagnostic) → Type 0
+IsExplained is_wanted r reported = (is_some reported ≡ (is_wanted && is_explained r))
+    × IfSome reported (λ d. IsOfAnswer d.cause)
+
+-- the same of what was written, where it is a reply
+abbrev pub IsExplainedAs : (is_wanted : Bool) → Written → (reported : Option Diagnostic) → Type 0
+IsExplainedAs is_wanted (written.Reply r) reported = IsExplained is_wanted r reported
+IsExplainedAs is_wanted (written.Text bytes) reported = ⊤
+IsExplainedAs is_wanted (written.Table hits) reported = ⊤
+IsExplainedAs is_wanted (written.Found ending) reported = ⊤
+IsExplainedAs is_wanted written.Usage reported = ⊤
+
+-- a line with one byte more, of which 4,096 are kept
+abbrev pub with_byte : List ℕ → ℕ → List ℕ
+with_byte line byte = if nat_lt (length line) 4096 then line ++ byte ∷ [] else line

@@ -1,6 +1,8 @@
 pub mod Arriving
 pub mod Callers
+pub mod Clients
 pub mod Drawing
+pub mod Exchanges
 pub mod Explaining
 pub mod Faults
 pub mod Lines

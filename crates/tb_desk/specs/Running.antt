@@ -17,8 +17,8 @@ use Rattle.tb_answer.specs.declared.written.Written.TheVariants as written
 
 -- What a read leaves of a desk: the same state while the store is open, and for a crash what it could leave before. A
 -- disk that was doubted stays so.
-abbrev pub IsRead : {S : Type 0} → Ghosts S → (old new : Kept S) → Type 0
-IsRead g old new = ForgetsNothing g old new × InState g old new (λ s.
+abbrev pub KeepsDesk : {S : Type 0} → Ghosts S → (old new : Kept S) → Type 0
+KeepsDesk g old new = ForgetsNothing g old new × InState g old new (λ s.
     Survives (state g old.conn) (state g new.conn) (λ _. ⊥)
     × (IsTrue (state g new.conn).is_open → Represents g new s))
 
@@ -37,7 +37,7 @@ module _ {Reason S : Type 0} (g : Ghosts S) (held holds : Option (List ℕ)) (is
     pub ran : InState g old answered
         (λ s. IsRanAs g old.limits s said taken old answered held holds is_refusal written status)
     pub safe : IsLineSafe g said taken old answered
-    pub explained : IsRead g answered new
+    pub explained : KeepsDesk g answered new
 
 -- The answer is whole, and has no sentence, no row or no hit.
 abbrev pub FoundNothing : Ran → Type 0

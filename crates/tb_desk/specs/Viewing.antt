@@ -27,6 +27,11 @@ use Rattle.tb_desk.specs.Served.{IsServedInFile, page_service}
 abbrev pub lacking : (command : List ℕ) → Cause
 lacking command = if bytes_eq command (codes "tree") then cause.BothOrNeither else cause.NothingThere
 
+-- it says that no command is given to the program of this name
+abbrev pub LacksCommand : (program : List ℕ) → Cause → Type 0
+LacksCommand program (cause.NoCommand name) = name.now ≡ program
+LacksCommand program _ = ⊥
+
 -- what a list is of, as far as the words for a refusal depend on it
 abbrev pub IsAskedOf : Listed → Asked → Type 0
 IsAskedOf (find id) (asks.SentId text) = text.now ≡ id

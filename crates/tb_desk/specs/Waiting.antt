@@ -65,6 +65,10 @@ AgeTo passed old new count = (k : ℕ) → (d : Caller) → k < count → Ages p
 abbrev pub StaysInTime : (passed : ℕ) → (old new : Leaver) → Type 0
 StaysInTime passed old new = (as_nanos new.left ≡ wait_left (as_nanos old.left) passed) × (as_nanos new.left ≢ 0)
 
+-- a connection whose client has its answer still has time for its end
+abbrev pub HasTime : Leaver → Type 0
+HasTime leaver = as_nanos leaver.left ≢ 0
+
 -- Some of these connections stay, in their order, each of them in time.
 abbrev pub StayInTime : (passed : ℕ) → (old new : List Leaver) → Type 0
 StayInTime passed [] new = new ≡ []

@@ -1,6 +1,7 @@
 //! What is still to come of a request, by the bytes that have come.
 
-ghost use Rattle.std.specs.Prelude.{◌≡◌, ◌↔◌, ◌<◌, ◌^◌, length, map, All, IsTrue, IfOk, IfErr, IfSome, true, codes};
+ghost use Rattle.std.specs.Prelude.{◌≡◌, ◌↔◌, ◌⊎◌, ◌<◌, ◌^◌, length, map, All, IsTrue, IfOk, IfErr, IfSome, true, false};
+ghost use Rattle.std.specs.Prelude.{codes};
 ghost use Rattle.std.specs.Option.{option_copied};
 ghost use Rattle.std.specs.Str.Parse.{digits_value};
 ghost use Rattle.httparse.specs.Spans.{IsHeaderWithin, header_bytes};
@@ -8,6 +9,7 @@ ghost use Rattle.tb_http.specs.Asks.{body_limit, refused, reported_by};
 ghost use Rattle.tb_http.specs.Faults.{AwaitsBody, BeginsBody};
 ghost use Rattle.tb_http.specs.Headers.{body_length, is_numeral, value_under};
 ghost use Rattle.tb_http.specs.declared.asks.AskFault.TheVariants.{Memory};
+ghost use Rattle.tb_page.specs.Visits.{AwaitsText};
 ghost use Rattle.tb_desk.specs.Arriving.{IsAwaited, awaited_at, most_size, next_size};
 
 use httparse::Status;
@@ -15,6 +17,7 @@ use httparse::spans::{EMPTY_HEADER_SPAN, HeaderSpan, parse_request};
 use std::alloc::Global;
 use tb_conllu::SliceSource;
 use tb_http::{Ask, AskFault, BODY_BYTES, HEAD_BYTES, RequestFault, Routes, read_ask};
+use tb_page::awaits_text;
 
 /// The most headers that a head may have. A head with more is not accepted.
 const HEADERS: usize = 32;
@@ -53,6 +56,16 @@ fn awaits_body(alloc: Global, routes: &Routes, said: &[u8]) -> Result<bool, AskF
     let mut source = SliceSource { bytes: said };
     let ask = read_ask(alloc, routes, &mut source, &mut buf)?;
     Ok(lacks_body(&ask))
+}
+
+/// Whether more is to come after these bytes: of a body that the desk would read on for, or of the text of a check. Where
+/// memory is refused for what has come, nothing is.
+fn awaits_rest(alloc: Global, routes: &Routes, said: &[u8]) -> bool
+    ensures more { IsTrue result → AwaitsBody body_limit said.now ⊎ AwaitsText said.now }
+    ensures body { result ≡ false → AwaitsBody body_limit said.now → BeginsBody body_limit said.now }
+    ensures text { result ≡ false → ¬ AwaitsText said.now }
+{
+    awaits_text(said) || matches!(awaits_body(alloc, routes, said), Ok(true))
 }
 
 /// The number that digits write.
@@ -100,7 +113,7 @@ pub(crate) fn awaited_after(alloc: Global, routes: &Routes, said: &[u8]) -> Awai
     let mut headers = [EMPTY_HEADER_SPAN; HEADERS];
     match parse_request(said, &mut headers) {
         Ok(Status::Partial) if said.len() < HEAD_BYTES => Awaited::Head,
-        Ok(Status::Complete(spans)) if matches!(awaits_body(alloc, routes, said), Ok(true)) => {
+        Ok(Status::Complete(spans)) if awaits_rest(alloc, routes, said) => {
             let length = length_said(said, &headers[..spans.headers]);
             Awaited::Body(spans.len.saturating_add(length))
         }

@@ -7,12 +7,13 @@ ghost use Rattle.std.specs.Io.{ReadsAtMost};
 ghost use Rattle.std.specs.Io.KnownBytes.{ReadConsumes};
 ghost use Rattle.std.specs.IoError.{error_kind};
 ghost use Rattle.tb_desk.specs.Arriving.{IsAwaited, next_size};
-ghost use Rattle.tb_desk.specs.Callers.{GoesOn, Hears, KeepsTime, said_by};
+ghost use Rattle.tb_desk.specs.Callers.{GoesOn, HasReadOnceMore, HasRoom, Hears, IsHeard, KeepsTime, said_by};
 ghost use Rattle.tb_host.specs.Patience.{seconds, wait_left};
 ghost use Rattle.tb_desk.specs.Serving.{is_no_byte};
 ghost use Rattle.tb_desk.specs.declared.arriving.Awaited.TheVariants.{Head, Nothing};
 
 use crate::arriving::{Awaited, awaited_after, next_size};
+use crate::counting::ReadCount;
 use std::alloc::Global;
 use std::io::{self, ErrorKind, Read};
 use std::net::TcpStream;
@@ -39,6 +40,7 @@ pub(crate) struct Caller {
     left: Duration,
     /// Whether the desk has no room for more of the body now. Then it does not wait for the client.
     is_held: bool,
+    reads: ReadCount,
 }
 
 /// Whether nothing has arrived yet, and the connection has no fault.
@@ -53,25 +55,13 @@ pub(crate) fn is_none_yet(kind: ErrorKind) -> bool
     }
 }
 
-/// Reads into the part of a buffer after its first bytes, which stay.
-fn read_after(mut stream: &TcpStream, room: &mut [u8], filled: usize) -> io::Result<usize>
-    ensures length { length room.new ≡ length room.old }
-    ensures stays { take filled room.new ≡ take filled room.old }
-    ensures bound { filled ≤ length room.old → IfOk result (λ n. filled + n ≤ length room.old) }
-{
-    if filled > room.len() {
-        return Ok(0);
-    }
-    let (_, rest) = room.split_at_mut(filled);
-    stream.read(rest)
-}
-
 impl Caller {
     pub(crate) fn new(alloc: Global, stream: TcpStream) -> Caller
         ensures begins { (result.awaited ≡ Head) × (as_nanos result.left ≡ seconds 10) }
         ensures said { (vec_len result.room ≡ 0) × (result.filled ≡ 0) }
         ensures stream { result.stream ≡ stream }
         ensures flags { (result.has_ended ≡ false) × (result.is_held ≡ false) }
+        ensures unread { result.reads.count ≡ 0 }
     {
         Caller {
             stream,
@@ -81,6 +71,7 @@ impl Caller {
             has_ended: false,
             left: Duration::from_secs(REQUEST),
             is_held: false,
+            reads: ReadCount::new(),
         }
     }
 
@@ -129,6 +120,7 @@ impl Caller {
         ensures said { (self.new.room ≡ self.old.room) × (self.new.filled ≡ self.old.filled) }
         ensures same { (self.new.stream ≡ self.old.stream) × (self.new.has_ended ≡ self.old.has_ended)
             × (self.new.is_held ≡ self.old.is_held) }
+        ensures unread { self.new.reads ≡ self.old.reads }
     {
         if !self.is_held {
             self.left = left_after(self.left, passed);
@@ -147,10 +139,12 @@ impl Caller {
         ensures free { IsTrue result → (self.new.is_held ≡ false) × (self.new.awaited ≡ self.old.awaited) }
         ensures full { self.new.is_held ≡ true
             → most < max (next_size (vec_len self.old.room) self.old.awaited) self.old.filled }
-        ensures why { self.old.filled < next_size (vec_len self.old.room) self.old.awaited
+        ensures why { HasRoom self.old
             → IsTrue result ⊎ (self.new.is_held ≡ true) ⊎ (self.new.awaited ≡ Nothing) }
+        ensures wants { self.new.awaited ≢ self.old.awaited → vec_len self.old.room ≤ self.old.filled }
         ensures time { KeepsTime self.old self.new }
         ensures ended { self.new.has_ended ≡ self.old.has_ended }
+        ensures unread { self.new.reads ≡ self.old.reads }
     {
         self.is_held = false;
         if self.filled < self.room.len() {
@@ -199,6 +193,7 @@ impl Caller {
         ensures room { self.new.room ≡ self.old.room }
         ensures same { (self.new.stream ≡ self.old.stream) × (self.new.has_ended ≡ self.old.has_ended)
             × (self.new.is_held ≡ self.old.is_held) }
+        ensures unread { self.new.reads ≡ self.old.reads }
     {
         self.filled = self.filled.saturating_add(count);
         let now = self.awaits_now(alloc, routes);
@@ -219,6 +214,7 @@ impl Caller {
         ensures room { self.new.room ≡ self.old.room }
         ensures time { KeepsTime self.old self.new }
         ensures same { (self.new.stream ≡ self.old.stream) × (self.new.is_held ≡ self.old.is_held) }
+        ensures unread { self.new.reads ≡ self.old.reads }
     {
         match came {
             Ok(0) => {
@@ -242,11 +238,16 @@ impl Caller {
         ensures whole { self.old.awaited ≡ Nothing → self.new ≡ self.old }
         ensures heard { self.new.filled ≢ self.old.filled → Hears self.old self.new }
         ensures time { KeepsTime self.old self.new }
+        ensures read { IsHeard most self.old self.new }
+        ensures again { IsTrue result → HasReadOnceMore self.old self.new }
+        ensures counted { self.old.reads.count ≤ self.new.reads.count }
     {
         if self.is_ready() || !self.make_room(most) {
             return false;
         }
-        let came = read_after(&self.stream, self.room.as_mut_slice(), self.filled);
+        let came = self
+            .reads
+            .read_after(&self.stream, self.room.as_mut_slice(), self.filled);
         self.note(alloc, routes, came);
         self.filled == self.room.len()
     }
@@ -256,6 +257,7 @@ impl Caller {
         ensures most { vec_len self.new.room ≤ max (vec_len self.old.room) most }
         ensures said { GoesOn self.old self.new }
         ensures time { KeepsTime self.old self.new }
+        ensures read { IsHeard most self.old self.new }
     {
         for _ in 0..READS {
             if !self.hear_once(alloc, routes, most) {

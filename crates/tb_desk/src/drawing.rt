@@ -3,7 +3,7 @@
 ghost use Rattle.std.specs.Prelude.{◌≡◌, ◌≤◌, IfErr, IfOk, length};
 ghost use Rattle.tb_check.specs.Check.{file_limit};
 ghost use Rattle.tb_check.specs.Input.{IsWithin};
-ghost use Rattle.tb_desk.specs.Drawing.{AreTreesDrawn, IsAnswered, IsDrawn, IsDrawnFile, IsUndrawn, IsUndrawnFile};
+ghost use Rattle.tb_desk.specs.Drawing.{AreTreesDrawn, IsDrawingWritten, IsDrawn, IsDrawnFile, IsUndrawn, IsUndrawnFile};
 ghost use Rattle.tb_report.specs.Trees.{trees_page};
 
 use crate::checking::{put_check, reported_of_check};
@@ -63,7 +63,7 @@ fn draw(alloc: Global, input: &Input) -> Result<Vec<u8>, CheckReply>
 /// Prints the page of the trees of an input, or the line of why there is none.
 fn answer_input<S: Sink>(rt: &HostRuntime, input: &Input, out: &mut S) -> Outcome
     requires { IsWithin file_limit input.now }
-    ensures { IsAnswered (S.held out.old) (S.held out.new) (S.IsRefusal out.new) result.status input.now }
+    ensures { IsDrawingWritten (S.held out.old) (S.held out.new) (S.IsRefusal out.new) result.status input.now }
 {
     match draw(rt.alloc(), input) {
         Ok(page) => Outcome::from(put_body(out, page.as_slice())),

@@ -1,20 +1,23 @@
 //! Does command lines on a desk, and explains their answers. An explanation is made from the value that was answered,
 //! while the input that it is about is at hand.
 
-ghost use Rattle.std.specs.Prelude.{◌≡◌, ◌≢◌, ◌↔◌, [], IfSome, IsTrue, MatchResult, None};
+ghost use Rattle.std.specs.Prelude.{◌≡◌, ◌≢◌, ◌↔◌, [], IfSome, IsTrue, MatchResult, None, false, is_some, true};
 ghost use Rattle.tb_conllu.specs.declared.fault.WriteFault.{WriteFault};
 ghost use Rattle.tb_cli.specs.Lines.{said_by};
 ghost use Rattle.tb_answer.specs.declared.ending.Ending.TheVariants.{BrokenOff};
 ghost use Rattle.tb_answer.specs.declared.written.Written.TheVariants.{Found, Reply as Replied};
-ghost use Rattle.tb_desk.specs.Explaining.{IsAskedBy};
+ghost use Rattle.tb_http.specs.declared.replies.Reply.{Reply as AnyReply};
+ghost use Rattle.tb_words.specs.Explained.{is_explained};
+ghost use Rattle.tb_desk.specs.Explaining.{IsAskedBy, IsExplained, IsExplainedAs};
 ghost use Rattle.tb_host.specs.Reported.{IsOfAnswer, IsReported};
 ghost use Rattle.tb_host.specs.declared.causes.FileCause.{FileCause as AnyFileCause};
-ghost use Rattle.tb_desk.specs.Running.{FoundNothing, IsRead, IsRunOn, taken_of};
+ghost use Rattle.tb_desk.specs.Running.{FoundNothing, KeepsDesk, IsRunOn, taken_of};
 
 use crate::nothing::{unreleased, words_of_nothing};
 use crate::running::changes_desk;
 use crate::targets::Target;
 use sqlite::Alter;
+use std::alloc::Global;
 use std::io::Write;
 use tb_answer::{Ending, Ran, Written, run_line_reported};
 use tb_cli::Line;
@@ -24,19 +27,35 @@ use tb_store::Desk;
 use tb_words::{Asked, Words, words_of_reply};
 
 /// The words for a reply, where words are wanted.
+fn explained(
+    alloc: Global,
+    is_wanted: bool,
+    reply: Reply,
+    body: &[u8],
+    asked: Asked<'_>,
+) -> Option<Diagnostic>
+    ensures { IsExplained is_wanted reply result }
+{
+    if !is_wanted {
+        return None;
+    }
+    match words_of_reply(alloc, reply, body, asked) {
+        Some(words) => Some(Diagnostic::from(Cause::Words(words))),
+        None => None,
+    }
+}
+
+/// The words for a reply, where the system says that words are wanted.
 pub(crate) fn reported_of_reply(
     rt: &HostRuntime,
     reply: Reply,
     body: &[u8],
     asked: Asked<'_>,
 ) -> Option<Diagnostic>
-    ensures { IfSome result (λ d. IsOfAnswer d.cause) }
+    ensures words { IfSome result (λ d. IsOfAnswer d.cause) }
+    ensures none { is_explained reply ≡ false → result ≡ None }
 {
-    if !wants_words(rt) {
-        return None;
-    }
-    let words = words_of_reply(rt.alloc(), reply, body, asked)?;
-    Some(Diagnostic::from(Cause::Words(words)))
+    explained(rt.alloc(), wants_words(rt), reply, body, asked)
 }
 
 /// What a line asks, as far as the words for a refusal depend on it.
@@ -54,7 +73,7 @@ fn asked_of(line: &Line) -> Asked<'_>
 
 /// The words for a line that finds nothing.
 fn words_of_empty<S: Alter>(rt: &HostRuntime, desk: &mut Desk<S>, line: &Line) -> Option<Words>
-    ensures { IsRead S.Store desk.old desk.new }
+    ensures { KeepsDesk S.Store desk.old desk.new }
 {
     match line {
         Line::Search {
@@ -74,28 +93,30 @@ fn words_of_empty<S: Alter>(rt: &HostRuntime, desk: &mut Desk<S>, line: &Line) -
 /// The words for an answer that finds nothing, where words are wanted.
 fn reported_of_empty<S: Alter>(
     rt: &HostRuntime,
+    is_wanted: bool,
     desk: &mut Desk<S>,
     line: &Line,
 ) -> Option<Diagnostic>
-    ensures { IsRead S.Store desk.old desk.new }
+    ensures read { KeepsDesk S.Store desk.old desk.new }
+    ensures words { IfSome result (λ d. IsOfAnswer d.cause) }
+    ensures unwanted { is_wanted ≡ false → (result ≡ None) × (desk.new ≡ desk.old) }
 {
-    if !wants_words(rt) {
-        return None;
+    if is_wanted {
+        let words = words_of_empty(rt, desk, line)?;
+        return Some(Diagnostic::from(Cause::Words(words)));
     }
-    let words = words_of_empty(rt, desk, line)?;
-    Some(Diagnostic::from(Cause::Words(words)))
+    None
 }
 
-/// Why the device failed on a command just now, at the file of its desk, where the system says more than that it
-/// failed.
-fn cause_at_file(rt: &HostRuntime, line: &Line, ran: Ran) -> Option<Diagnostic>
+/// Why the device failed on a command, at the file of its desk, where the system says more than that it failed.
+fn cause_at_file(rt: &HostRuntime, failed: FileCause, line: &Line, ran: Ran) -> Option<Diagnostic>
     ensures other { ran.written ≢ Replied Reply.Device → result ≡ None }
     ensures file { IfSome result (λ d. (c : AnyFileCause) × (d.cause ≡ Cause.File c)) }
 {
     if !matches!(ran.written, Written::Reply(Reply::Device)) {
         return None;
     }
-    match FileCause::of_device(FileCause::Failed) {
+    match failed {
         FileCause::Failed => None,
         cause => Some(Diagnostic::at(rt, Target::of_line(line).file()?, Cause::File(cause))),
     }
@@ -112,22 +133,25 @@ fn is_empty(ran: Ran) -> bool
         )
 }
 
-/// What there is to say of an answer.
+/// What there is to say of an answer. Words for it are said where they are wanted.
 fn reported_of<S: Alter>(
     rt: &HostRuntime,
+    is_wanted: bool,
     line: &Line,
     body: &[u8],
     desk: &mut Desk<S>,
     ran: Ran,
 ) -> Option<Diagnostic>
-    ensures read { IsRead S.Store desk.old desk.new }
+    ensures read { KeepsDesk S.Store desk.old desk.new }
     ensures broken_off { ran.written ≡ Found BrokenOff → IsReported result Cause.BrokenOff }
+    ensures explained { IsExplainedAs is_wanted ran.written result }
 {
     match ran.written {
-        Written::Reply(reply) => reported_of_reply(rt, reply, body, asked_of(line)),
+        Written::Reply(reply) => explained(rt.alloc(), is_wanted, reply, body, asked_of(line)),
         Written::Found(Ending::BrokenOff) => Some(Diagnostic::from(Cause::BrokenOff)),
-        _ if is_empty(ran) => reported_of_empty(rt, desk, line),
-        _ => None,
+        Written::Text(_) | Written::Table(_) | Written::Found(_) | Written::Usage => {
+            reported_of_empty(rt, is_wanted && is_empty(ran), desk, line)
+        }
     }
 }
 
@@ -141,25 +165,42 @@ fn bytes_of(body: &Result<Vec<u8>, Reply>) -> &[u8]
     }
 }
 
-/// What there is to say of a line that ran: of the file of its desk where the device failed, or of its answer.
+/// Why the device failed on a line that changes a desk, if it did.
+fn cause_of_run(
+    rt: &HostRuntime,
+    failed: FileCause,
+    line: &Line,
+    body: &Result<Vec<u8>, Reply>,
+    ran: Ran,
+) -> Option<Diagnostic>
+    ensures { ran.written ≢ Replied Reply.Device → result ≡ None }
+{
+    if body.is_ok() && changes_desk(line) {
+        return cause_at_file(rt, failed, line, ran);
+    }
+    None
+}
+
+/// What there is to say of a line that ran: of the file of its desk where the device failed, for this cause, or of its
+/// answer. Words for an answer are said where they are wanted.
 fn reported_of_run<S: Alter>(
     rt: &HostRuntime,
+    failed: FileCause,
+    is_wanted: bool,
     line: &Line,
     body: &Result<Vec<u8>, Reply>,
     desk: &mut Desk<S>,
     ran: Ran,
 ) -> Option<Diagnostic>
-    ensures read { IsRead S.Store desk.old desk.new }
+    ensures read { KeepsDesk S.Store desk.old desk.new }
     ensures broken_off { ran.written ≡ Found BrokenOff → IsReported result Cause.BrokenOff }
+    ensures explained { (r : AnyReply) → ran.written ≡ Replied r → r ≢ Reply.Device
+        → IsExplained is_wanted r result }
+    ensures device { ran.written ≡ Replied Reply.Device → is_wanted ≡ true → is_some result ≡ true }
 {
-    let cause = if body.is_ok() && changes_desk(line) {
-        cause_at_file(rt, line, ran)
-    } else {
-        None
-    };
-    match cause {
+    match cause_of_run(rt, failed, line, body, ran) {
         Some(cause) => Some(cause),
-        None => reported_of(rt, line, bytes_of(body), desk, ran),
+        None => reported_of(rt, is_wanted, line, bytes_of(body), desk, ran),
     }
 }
 
@@ -175,8 +216,10 @@ pub(crate) fn run_reported<S: Alter, W: Write>(
         desk.old desk.new (said_by line.now) (taken_of (λ v. v.items) body.now) }
 {
     let ran = run_line_reported(rt.alloc(), line, body, desk, out);
+    // The system's last error is the device's only until the next call of the system, which may set another.
+    let failed = FileCause::of_device(FileCause::Failed);
     Outcome {
         status: ran.status,
-        reported: reported_of_run(rt, line, body, desk, ran),
+        reported: reported_of_run(rt, failed, wants_words(rt), line, body, desk, ran),
     }
 }

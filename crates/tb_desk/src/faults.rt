@@ -1,87 +1,15 @@
-//! Lists the faults of a file as CSV.
+//! Prints the list of an input's faults.
 
-ghost use Rattle.std.specs.Prelude.{◌≡◌, ◌<◌, IfErr, IfOk, length, take};
-ghost use Rattle.tb_desk.specs.Faults.{AreFaultsListed, AreFirstFaults, IsFaultList, IsFileAnswered};
-ghost use Rattle.tb_desk.specs.Faults.{IsInputAnswered, are_more, exit_with};
+ghost use Rattle.tb_desk.specs.Faults.{AreFaultsListed, IsFileAnswered, IsInputAnswered};
 
 use crate::explaining::reported_of_reply;
 use crate::memory::put_memory;
-use std::alloc::{AllocError, Global};
 use tb_answer::{put_reply, put_text};
-use tb_check::{FILE_LIMIT, Fault, Input, faults_of, read_all};
+use tb_check::{FILE_LIMIT, Input, read_all};
 use tb_conllu::{Sink, Source};
 use tb_host::Outcome;
 use tb_http::{Reply, RequestFault};
-use tb_report::faults_text;
-use tb_words::{Asked, tell_faults};
-
-/// The first faults of a file.
-#[derive(Drop)]
-struct FirstFaults {
-    faults: Vec<Fault>,
-    /// Whether the file has more.
-    more: bool,
-    /// The exit status.
-    status: u8,
-}
-
-/// The list of a file's first faults, and the exit status.
-#[derive(Drop)]
-struct FaultList {
-    text: Vec<u8>,
-    status: u8,
-}
-
-/// The exit status after these faults.
-fn exit_with(faults: &[Fault]) -> u8
-    ensures { result ≡ exit_with faults.now }
-{
-    if faults.is_empty() { 0 } else { 1 }
-}
-
-/// Whether these are more faults than so many.
-fn are_more(faults: &[Fault], most: usize) -> bool
-    ensures { result ≡ are_more most faults.now }
-{
-    faults.len() > most
-}
-
-/// The first faults of these, at most so many.
-fn cut(mut faults: Vec<Fault>, most: usize) -> Vec<Fault>
-    ensures { result.items ≡ take most faults.items }
-{
-    faults.truncate(most);
-    faults
-}
-
-/// The first faults of a file, at most so many.
-fn first_faults(alloc: Global, file: &[u8], most: u32) -> Result<FirstFaults, AllocError>
-    ensures first { IfOk result (λ first. AreFirstFaults file.now most first) }
-    ensures memory { IfErr result (λ _. 0 < length file.now) }
-{
-    let most = most as usize;
-    let faults = faults_of(alloc, file, most + 1)?;
-    let more = are_more(faults.as_slice(), most);
-    let status = exit_with(faults.as_slice());
-    Ok(FirstFaults {
-        faults: cut(faults, most),
-        more,
-        status,
-    })
-}
-
-/// Lists the first faults of a file, at most so many.
-fn list_faults(alloc: Global, file: &[u8], most: u32) -> Result<FaultList, AllocError>
-    ensures { IfOk result (λ list. IsFaultList file.now most list.text.items list.status) }
-{
-    let first = first_faults(alloc, file, most)?;
-    let told = tell_faults(alloc, file, first.faults.as_slice())?;
-    let text = faults_text(alloc, told.as_slice(), first.more)?;
-    Ok(FaultList {
-        text,
-        status: first.status,
-    })
-}
+use tb_words::{Asked, list_faults};
 
 /// Prints the list of a file's first faults.
 fn put_faults<S: Sink>(rt: &HostRuntime, file: &[u8], most: u32, out: &mut S) -> Outcome

@@ -1,13 +1,14 @@
 //! Connections whose client has its answer. Their end keeps nobody from the desk.
 
-ghost use Rattle.std.specs.Prelude.{◌≡◌, ◌↔◌, ◌⊎◌, ◌≤◌, ◌-◌, ◌*◌, IfOk, IfSome, IsTrue, MatchResult, true};
+ghost use Rattle.std.specs.Prelude.{◌≡◌, ◌↔◌, ◌⊎◌, ◌≤◌, ◌+◌, ◌-◌, ◌*◌, ◌^◌, IfOk, IfSome, IsTrue, MatchResult, min, true};
 ghost use Rattle.std.specs.Duration.{as_nanos};
 ghost use Rattle.tb_host.specs.Patience.{seconds, wait_left};
 ghost use Rattle.tb_desk.specs.Serving.{end_after};
 ghost use Rattle.tb_http.specs.Asks.{body_limit};
 
 use crate::callers::is_none_yet;
-use std::io::{self, Read};
+use crate::counting::ReadCount;
+use std::io;
 use std::net::{Shutdown, TcpStream};
 use std::time::Duration;
 use tb_host::left_after;
@@ -31,6 +32,7 @@ pub(crate) struct Leaver {
     left: Duration,
     /// How many bytes more are read.
     most: usize,
+    reads: ReadCount,
 }
 
 /// Whether a connection is to be closed: its client sends nothing more, or no time is left for it.
@@ -45,6 +47,7 @@ impl Leaver {
     pub(crate) fn new(stream: TcpStream) -> io::Result<Option<Leaver>>
         ensures left { IfOk result (λ made. IfSome made (λ leaver. as_nanos leaver.left ≡ seconds 2)) }
         ensures most { IfOk result (λ made. IfSome made (λ leaver. leaver.most ≤ body_limit * 2)) }
+        ensures read { IfOk result (λ made. IfSome made (λ leaver. 1 ≤ leaver.reads.count)) }
     {
         stream.shutdown(Shutdown::Write)?;
         stream.set_read_timeout(Some(Duration::from_millis(FIRST)))?;
@@ -52,6 +55,7 @@ impl Leaver {
             stream,
             left: Duration::from_secs(FAREWELL),
             most: BODY_BYTES * 2,
+            reads: ReadCount::new(),
         };
         if leaver.has_ended() {
             return Ok(None);
@@ -66,6 +70,7 @@ impl Leaver {
         ensures left { self.new.left ≡ self.old.left }
         ensures most { MatchResult came (λ count. self.new.most ≡ self.old.most - count)
             (λ _. self.new.most ≡ self.old.most) }
+        ensures unread { self.new.reads ≡ self.old.reads }
     {
         match came {
             Ok(0) => Some(true),
@@ -81,11 +86,11 @@ impl Leaver {
     fn has_ended(&mut self) -> bool
         ensures left { self.new.left ≡ self.old.left }
         ensures most { self.new.most ≤ self.old.most }
+        ensures read { min (self.old.reads.count + 1) (2 ^ 64 - 1) ≤ self.new.reads.count }
     {
         let mut rest = [0; 16_384];
         for _ in 0..READS {
-            let mut stream = &self.stream;
-            let came = stream.read(&mut rest);
+            let came = self.reads.read_after(&self.stream, &mut rest, 0);
             if let Some(has_ended) = self.note(came) {
                 return has_ended;
             }
@@ -97,6 +102,7 @@ impl Leaver {
     pub(crate) fn has_gone(&mut self, passed: Duration) -> bool
         ensures left { as_nanos self.new.left ≡ wait_left (as_nanos self.old.left) (as_nanos passed) }
         ensures late { as_nanos self.new.left ≡ 0 → IsTrue result }
+        ensures read { min (self.old.reads.count + 1) (2 ^ 64 - 1) ≤ self.new.reads.count }
     {
         self.left = left_after(self.left, passed);
         is_over(self.has_ended(), self.left)

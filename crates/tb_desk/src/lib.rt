@@ -15,13 +15,17 @@ mod arriving;
 mod called;
 mod callers;
 mod checking;
+mod clients;
+mod counting;
 mod drawing;
+mod exchanges;
 mod explaining;
 mod faults;
 mod leaving;
 mod memory;
 mod nothing;
 mod programs;
+mod ranges;
 mod running;
 mod service;
 mod serving;
@@ -33,14 +37,16 @@ mod words;
 pub use called::run_called;
 pub use programs::{Program, given_words};
 pub use tb_answer::{
-    Broken, answer, answer_all, requests_in_memory_lead_on, requests_lead_on, run_line,
-    the_check_counts_what_is_taken, view,
+    Broken, answer, answer_all, read_body, requests_in_memory_lead_on, requests_lead_on, run_line,
+    run_line_from, the_check_counts_what_is_taken, view,
 };
 pub use tb_check::run_check;
 pub use tb_cli::{Line, LineFault, ViewLine, ViewList};
 pub use tb_host::{
     Cause, Diagnostic, FileCause, Form, Misfit, Outcome, PortCause, StreamCause, Table, wants_words,
 };
+pub use tb_http::{Reply, Routes, Status};
 pub use tb_page::{answer_with_page, no_path_of_the_page_is_the_desks, one_visit_is_asked};
+pub use tb_store::Desk;
 pub use viewing::{DESKVIEW, Deskview, run_view};
 pub use words::{TREEDESK, Treedesk, run_words, run_words_reported};

@@ -21,6 +21,8 @@ ghost use Rattle.tb_store.specs.Handing.{WantsToTell};
 ghost use Rattle.tb_tables.specs.Leaving.{IsFaultless};
 
 use crate::callers::Caller;
+use crate::clients::{Clients, serve_all};
+use crate::exchanges::{Exchange, Tried, serve_one};
 use crate::memory::put_memory;
 use crate::service::Service;
 use crate::waiting::{Next, Waiting};
@@ -29,7 +31,7 @@ use arrayvec::ArrayString;
 use sqlite::Alter;
 use std::alloc::Global;
 use std::io::{self, BufWriter, ErrorKind, Write};
-use std::net::{Ipv4Addr, TcpListener, TcpStream};
+use std::net::{Ipv4Addr, TcpListener};
 use tb_answer::{Broken, answer, put_reply, respond_reply};
 use tb_conllu::{Sink, Source, WriteFault};
 use tb_core::Fault;
@@ -63,12 +65,6 @@ impl Beside {
     }
 }
 
-/// Answers that a request is not done. This needs no memory.
-fn refuse<'a>(rt: &'a HostRuntime, stream: &'a TcpStream, reply: Reply) {
-    let mut out = Answer::new(rt, stream);
-    let _ = respond_reply(&mut out, reply);
-}
-
 /// Answers the request of a connection, which a reader gives from its first byte on, with the page beside the desk where
 /// there is a port for it.
 fn answer_at<S: Alter, R: Source, W: Sink>(
@@ -98,7 +94,11 @@ fn answer_at<S: Alter, R: Source, W: Sink>(
 
 /// What follows from an answer: whether the client has it whole, or why the server ends. `has_moved` says whether the
 /// desk's files are no longer in their place, `is_shut` whether a fault has shut the store.
-fn ended_by(answered: Result<Status, Broken>, has_moved: bool, is_shut: bool) -> Result<bool, Cause>
+pub(crate) fn ended_by(
+    answered: Result<Status, Broken>,
+    has_moved: bool,
+    is_shut: bool,
+) -> Result<bool, Cause>
     ensures { result ≡ ended_by answered has_moved is_shut }
 {
     match answered {
@@ -110,56 +110,53 @@ fn ended_by(answered: Result<Status, Broken>, has_moved: bool, is_shut: bool) ->
     }
 }
 
-/// Reads one request of a connection and answers it. Returns whether the client has a whole answer.
-///
-/// Where the desk's files are no longer in their place, nothing is done. A connection that fails counts as served.
-///
-/// # Errors
-///
-/// The cause, if the desk cannot be served any further. The client has an answer then.
-fn serve_one<'a, S: Alter>(
+/// A request on a connection of the system's, for a desk that may have files and a page beside it.
+#[derive(Drop)]
+struct Visit<'a> {
     rt: &'a HostRuntime,
-    routes: &Routes,
-    desk: &mut Desk<S>,
+    routes: &'a Routes,
     place: Option<&'a Place>,
     page: Option<u16>,
     caller: &'a Caller,
-) -> Result<bool, Cause>
-    ensures cause { IfErr result IsServerEnd }
-    ensures in_memory { place.entry ≡ None → result ≢ ErrOf Cause.FilesMoved }
-    ensures limits { desk.new.limits ≡ desk.old.limits }
-{
-    let stream = caller.stream();
-    if has_changed(rt, place) {
-        refuse(rt, stream, Reply::Device);
-        return Err(Cause::FilesMoved);
+}
+
+impl Exchange for Visit<'_> {
+    ghost use Rattle.std.specs.Prelude.{◌≢◌, None};
+
+    ghost done = { λ _. None };
+
+    ghost HasFiles = { λ self. self.place ≢ None };
+
+    fn has_moved(&mut self) -> bool {
+        has_changed(self.rt, self.place)
     }
-    let Ok(mut reader) = caller.request(rt, place) else {
-        return Ok(false);
-    };
-    let Ok(mut out) = BufWriter::with_capacity(rt.alloc(), BUFFER, Answer::new(rt, stream)) else {
-        refuse(rt, stream, Reply::Memory);
-        return Ok(true);
-    };
-    let answered = answer_at(
-        rt.alloc(),
-        routes,
-        page,
-        caller,
-        desk,
-        &mut reader,
-        &mut out,
-    );
-    let _ = out.flush();
-    let has_moved = answered == Err(Broken::Read) && has_changed(rt, place);
-    if has_moved {
-        refuse(rt, stream, Reply::Device);
+
+    fn refuse(&mut self, reply: Reply) {
+        let mut out = Answer::new(self.rt, self.caller.stream());
+        let _ = respond_reply(&mut out, reply);
     }
-    let is_shut = match answered {
-        Ok(status) => has_shut(desk, status),
-        Err(_) => false,
-    };
-    ended_by(answered, has_moved, is_shut)
+
+    fn answer<S: Alter>(&mut self, desk: &mut Desk<S>) -> Tried {
+        let alloc = self.rt.alloc();
+        let Ok(mut reader) = self.caller.request(self.rt, self.place) else {
+            return Tried::Lost;
+        };
+        let stream = Answer::new(self.rt, self.caller.stream());
+        let Ok(mut out) = BufWriter::with_capacity(alloc, BUFFER, stream) else {
+            return Tried::Memory;
+        };
+        let answered = answer_at(
+            alloc,
+            self.routes,
+            self.page,
+            self.caller,
+            desk,
+            &mut reader,
+            &mut out,
+        );
+        let _ = out.flush();
+        Tried::Answered(answered)
+    }
 }
 
 /// Whether a store is shut, by what was told of it.
@@ -170,7 +167,7 @@ fn is_shut(told: &Result<bool, Fault>) -> bool
 }
 
 /// Whether a fault has shut the desk's store. Only a response that says that something failed is a reason to ask.
-fn has_shut<S: Alter>(desk: &mut Desk<S>, status: Status) -> bool
+pub(crate) fn has_shut<S: Alter>(desk: &mut Desk<S>, status: Status) -> bool
     ensures unasked { status ≢ Status.ServiceUnavailable → (result ≡ false) × (desk.new ≡ desk.old) }
     ensures shut { HasCleanDisk (state S.Store desk.new.conn) → IsTrue result
         → IsFaultless S.Store desk.old.conn desk.new.conn → ⊥ }
@@ -269,65 +266,46 @@ fn listen(rt: &HostRuntime, port: u16) -> Result<(TcpListener, u16), PortCause>
     }
 }
 
-/// Whether a client has an answer, by what serving it led to. Then its connection is ended, and not just closed.
-fn has_answer(served: &Result<bool, Cause>) -> bool
-    ensures { IsTrue result ↔ (served.now ≢ OkOf false) }
-{
-    !matches!(served, Ok(false))
-}
-
-/// What a server has while it runs.
+/// A server of the system's, while it runs.
 #[derive(Drop)]
-struct Server {
+struct Server<'a> {
+    rt: &'a HostRuntime,
     routes: Routes,
     waiting: Waiting,
     listener: TcpListener,
+    place: Option<&'a Place>,
+    page: Option<u16>,
 }
 
-/// Serves one connection after another. Returns how many it took.
-///
-/// # Errors
-///
-/// The cause, if the desk cannot be served any further. Then a connection is wanting.
-fn serve_all<S: Alter>(
-    rt: &HostRuntime,
-    server: Server,
-    desk: &mut Desk<S>,
-    place: Option<&Place>,
-    page: Option<u16>,
-    requests: u64,
-) -> Result<u64, Cause>
-    ensures all { IfOk result (λ taken. taken ≡ requests) }
-    ensures cause { IfErr result IsServerEnd }
-    ensures early { IfErr result (λ _. requests ≢ 0) }
-    ensures in_memory { place.entry ≡ None → result ≢ ErrOf Cause.FilesMoved }
-    ensures limits { desk.new.limits ≡ desk.old.limits }
-{
-    let Server {
-        routes,
-        mut waiting,
-        listener,
-    } = server;
-    let mut taken = 0u64;
-    for _ in 0..requests {
-        let Ok(next) = waiting.next(rt, &routes, &listener) else {
-            return Err(Cause::NoConnections);
-        };
-        taken += 1;
-        let Some(Next::Whole(caller)) = next else {
-            continue
-        };
-        let served = serve_one(rt, &routes, desk, place, page, &caller);
-        if has_answer(&served) {
-            waiting.part(caller);
-        }
-        if let Err(cause) = served {
-            waiting.part_all(rt);
-            return Err(cause);
-        }
+impl Clients for Server<'_> {
+    ghost use Rattle.std.specs.Prelude.{◌≢◌, None};
+
+    ghost noted = { λ _. None };
+
+    ghost HasFiles = { λ self. self.place ≢ None };
+
+    fn next(&mut self) -> io::Result<Option<Next>> {
+        self.waiting.next(self.rt, &self.routes, &self.listener)
     }
-    waiting.part_all(rt);
-    Ok(taken)
+
+    fn serve<S: Alter>(&mut self, desk: &mut Desk<S>, caller: &Caller) -> Result<bool, Cause> {
+        let mut visit = Visit {
+            rt: self.rt,
+            routes: &self.routes,
+            place: self.place,
+            page: self.page,
+            caller,
+        };
+        serve_one(&mut visit, desk)
+    }
+
+    fn part(&mut self, caller: Caller) {
+        self.waiting.part(caller);
+    }
+
+    fn part_all(&mut self) {
+        self.waiting.part_all(self.rt);
+    }
 }
 
 /// Reports that the program cannot listen on a port.
@@ -374,44 +352,38 @@ fn put_end<W: Sink>(served: Result<u64, Cause>, requests: u64, out: &mut W) -> O
 
 /// Serves so many connections, once the port is printed.
 fn serve_heard<S: Alter, W: Sink>(
-    rt: &HostRuntime,
-    server: Server,
+    mut server: Server<'_>,
     desk: &mut Desk<S>,
-    place: Option<&Place>,
-    page: Option<u16>,
     requests: u64,
     out: &mut W,
 ) -> Outcome
     ensures ended { IsEnded (W.held out.old) (W.held out.new) (W.IsRefusal out.new) result.status
         (IsTold result.reported) requests }
-    ensures in_memory { place.entry ≡ None → ¬ IsReported result.reported Cause.FilesMoved }
+    ensures in_memory { server.entry.place ≡ None → ¬ IsReported result.reported Cause.FilesMoved }
     ensures limits { desk.new.limits ≡ desk.old.limits }
 {
-    if let Some(port) = page {
-        tell_address(rt, port);
+    if let Some(port) = server.page {
+        tell_address(server.rt, port);
     }
-    let served = serve_all(rt, server, desk, place, page, requests);
+    let served = serve_all(&mut server, desk, requests);
     put_end(served, requests, out)
 }
 
 /// Prints the port of a server, and serves so many connections.
 fn serve_at<S: Alter, W: Write>(
-    rt: &HostRuntime,
-    server: Server,
+    server: Server<'_>,
     desk: &mut Desk<S>,
-    place: Option<&Place>,
-    beside: Beside,
     port: u16,
     requests: u64,
     out: &mut W,
 ) -> Outcome
     ensures ended { IsServedAt (W.contents out.old) (W.contents out.new) (λ (_ : WriteFault). Unit {0}) result.status
         (IsTold result.reported) port requests }
-    ensures in_memory { place.entry ≡ None → ¬ IsReported result.reported Cause.FilesMoved }
+    ensures in_memory { server.entry.place ≡ None → ¬ IsReported result.reported Cause.FilesMoved }
     ensures limits { desk.new.limits ≡ desk.old.limits }
 {
     match announce(port, out) {
-        Ok(()) => serve_heard(rt, server, desk, place, beside.page_at(port), requests, out),
+        Ok(()) => serve_heard(server, desk, requests, out),
         Err(_) => Outcome::from(3),
     }
 }
@@ -435,11 +407,14 @@ fn serve_with<S: Alter, W: Write>(
     match listen(rt, service.port) {
         Ok((listener, port)) => {
             let server = Server {
+                rt,
                 routes,
                 waiting,
                 listener,
+                place,
+                page: beside.page_at(port),
             };
-            serve_at(rt, server, desk, place, beside, port, service.requests, out)
+            serve_at(server, desk, port, service.requests, out)
         }
         Err(cause) => put_port_cause(rt, service.port, cause, out),
     }

@@ -1,13 +1,15 @@
 //! Does what the words of a command line of `deskview` ask: it shows a list of the desk in a file, draws the trees of a
 //! file, lists its faults, or serves the page over a desk.
 
-ghost use Rattle.std.specs.Prelude.{◌≡◌, map, string_bytes};
+ghost use Rattle.std.specs.Prelude.{◌≡◌, ◌<◌, ◌⊎◌, codes, length, map, string_bytes};
 ghost use Rattle.tb_cli.specs.View.{listed_by, viewed_by};
 ghost use Rattle.tb_conllu.specs.declared.fault.WriteFault.{WriteFault};
 ghost use Rattle.tb_desk.specs.Replies.{IsFaultWritten};
 ghost use Rattle.tb_host.specs.Reported.{IsTold};
+ghost use Rattle.tb_host.specs.declared.causes.Form.{Form as AnyForm};
 ghost use Rattle.tb_desk.specs.Served.{IsServedInFile, page_service};
-ghost use Rattle.tb_desk.specs.Viewing.{AreWordsShown, IsAskedOf, IsListRun, IsShown, IsViewRun, lacking};
+ghost use Rattle.tb_desk.specs.Viewing.{AreWordsShown, IsAskedOf, IsListRun, IsShown, IsViewRun, LacksCommand};
+ghost use Rattle.tb_desk.specs.Viewing.{lacking};
 
 use crate::drawing::draw_trees_of;
 use crate::explaining::reported_of_reply;
@@ -50,16 +52,26 @@ fn lacking(command: &str) -> Cause
     }
 }
 
+/// What is wrong with words that clap accepts, which have this command: a value does not have its form, or no desk is
+/// named.
+fn wrong_after(rt: &HostRuntime, words: &[String], command: &str) -> Diagnostic
+    ensures { ((form : AnyForm) × (result.cause ≡ Cause.Value form)) ⊎ (result.cause ≡ lacking command.now) }
+{
+    match wrong_value(rt, words) {
+        Some(wrong) => wrong,
+        None => Diagnostic::from(lacking(command)),
+    }
+}
+
 /// What is wrong with words that clap accepts: there is no command, or a value does not have its form, or no desk is
 /// named.
-fn wrong_word(rt: &HostRuntime, words: &[String]) -> Diagnostic {
+fn wrong_word(rt: &HostRuntime, words: &[String]) -> Diagnostic
+    ensures { length words.now < 2 → LacksCommand (codes "deskview") result.cause }
+{
     let [_, command, ..] = words else {
         return Diagnostic::from(Cause::NoCommand(DESKVIEW));
     };
-    match wrong_value(rt, words) {
-        Some(wrong) => wrong,
-        None => Diagnostic::from(lacking(command.as_str())),
-    }
+    wrong_after(rt, words, command.as_str())
 }
 
 /// Prints why words are no line.

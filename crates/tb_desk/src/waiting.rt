@@ -1,13 +1,14 @@
 //! Connections that wait to be served. One that sends nothing, or sends slowly, keeps nobody from the desk.
 
-ghost use Rattle.std.specs.Prelude.{◌≡◌, ◌≢◌, ◌↔◌, ◌≤◌, ◌<◌, ◌+◌, ◌-◌, ◌^◌, ◌++◌, [], ◌∷◌};
-ghost use Rattle.std.specs.Prelude.{IsTrue, IfErr, IfOk, IfSome, IsSomeAnd, MatchResult};
+ghost use Rattle.std.specs.Prelude.{◌≡◌, ◌≢◌, ◌↔◌, ◌≤◌, ◌<◌, ◌+◌, ◌-◌, ◌^◌, ◌⊎◌, ◌++◌, [], ◌∷◌};
+ghost use Rattle.std.specs.Prelude.{All, IsTrue, IfErr, IfOk, IfSome, IsSomeAnd, MatchResult};
 ghost use Rattle.std.specs.Prelude.{None, Some, Err, Ok, true, false, drop, max, min, vec_capacity, vec_len};
 ghost use Rattle.std.specs.Duration.{as_nanos};
 ghost use Rattle.std.specs.IoError.{error_kind, raw_os_error};
 ghost use Rattle.tb_desk.specs.Serving.{IsWantOfRoom, is_no_connection, most_waiting};
 ghost use Rattle.std.specs.List.{AllWithin, HoldsAt};
-ghost use Rattle.tb_desk.specs.Waiting.{AgeTo, Ages, IsFirstToGo, IsLate, IsNext, KeepsRoom, LetsOneGo};
+ghost use Rattle.tb_desk.specs.Callers.{IsHeard};
+ghost use Rattle.tb_desk.specs.Waiting.{AgeTo, Ages, HasTime, IsFirstToGo, IsLate, IsNext, KeepsRoom, LetsOneGo};
 ghost use Rattle.tb_desk.specs.Waiting.{NoLongerWaits, StayInTime, Waits};
 ghost use Rattle.tb_desk.specs.Waiting.{kept_by, time_since};
 ghost use Rattle.tb_desk.specs.declared.arriving.Awaited.TheVariants.{Head, Nothing};
@@ -15,6 +16,7 @@ ghost use Rattle.tb_host.specs.Patience.{seconds};
 
 use crate::arriving::most_size;
 use crate::callers::Caller;
+use crate::counting::AcceptCount;
 use crate::leaving::Leaver;
 use std::alloc::{AllocError, Global};
 use std::io::{self, ErrorKind};
@@ -42,6 +44,9 @@ pub(crate) struct Waiting {
     leavers: Vec<Leaver>,
     /// When the server last looked at them.
     looked: Option<Instant>,
+    /// How many times it looked.
+    looks: u64,
+    accepts: AcceptCount,
 }
 
 /// A connection that no longer waits.
@@ -123,6 +128,7 @@ fn look_at(
     ensures late { result ≡ Some false → (caller.new.awaited ≢ Nothing) × (as_nanos caller.new.left ≡ 0) }
     ensures waits { result ≡ None → (caller.new.awaited ≢ Nothing) × (as_nanos caller.new.left ≢ 0) }
     ensures time { Ages (as_nanos passed) caller.old caller.new }
+    ensures read { IsHeard most caller.old caller.new }
     ensures stream { caller.new.stream ≡ caller.old.stream }
 {
     caller.hear(rt.alloc(), routes, most);
@@ -140,6 +146,7 @@ fn heard(rt: &HostRuntime, routes: &Routes, stream: TcpStream, is_alone: bool) -
     ensures stream { IfOk result (λ caller. caller.stream ≡ stream) }
     ensures room { IfOk result (λ caller. vec_len caller.room ≤ 8192) }
     ensures time { IfOk result (λ caller. caller.awaited ≡ Head → as_nanos caller.left ≡ seconds 10) }
+    ensures read { IfOk result (λ caller. (1 ≤ caller.reads.count) ⊎ (caller.awaited ≡ Nothing)) }
 {
     if is_alone {
         stream.set_read_timeout(Some(Duration::from_millis(FIRST)))?;
@@ -170,6 +177,7 @@ fn next_of(caller: Caller, is_whole: bool) -> Next
 impl Waiting {
     pub(crate) fn new(alloc: Global) -> Result<Waiting, AllocError>
         ensures none { IfOk result (λ w. (w.callers.items ≡ []) × (w.leavers.items ≡ []) × (w.looked ≡ None)) }
+        ensures looks { IfOk result (λ w. w.looks ≡ 0) }
         ensures room { IfOk result (λ w. (most_waiting ≤ vec_capacity w.callers)
             × (most_waiting ≤ vec_capacity w.leavers)) }
     {
@@ -177,13 +185,17 @@ impl Waiting {
             callers: Vec::with_capacity(alloc, MOST)?,
             leavers: Vec::with_capacity(alloc, MOST)?,
             looked: None,
+            looks: 0,
+            accepts: AcceptCount::new(),
         })
     }
 
     /// Drops the oldest connection that has sent no head, to make room for another. Where all have, it drops the oldest.
     fn let_one_go(&mut self)
         ensures callers { LetsOneGo self.old.callers.items self.new.callers.items }
-        ensures others { (self.new.leavers ≡ self.old.leavers) × (self.new.looked ≡ self.old.looked) }
+        ensures others { (self.new.leavers ≡ self.old.leavers) × (self.new.looked ≡ self.old.looked)
+            × (self.new.looks ≡ self.old.looks) }
+        ensures unasked { self.new.accepts ≡ self.old.accepts }
     {
         let at = first_to_go(&self.callers);
         if at < self.callers.len() {
@@ -198,7 +210,9 @@ impl Waiting {
             → self.new.callers.items ≡ self.old.callers.items ++ caller ∷ [])
             (λ _. self.new.callers ≡ self.old.callers) }
         ensures most { vec_len self.new.callers ≤ vec_len self.old.callers + 1 }
-        ensures others { (self.new.leavers ≡ self.old.leavers) × (self.new.looked ≡ self.old.looked) }
+        ensures others { (self.new.leavers ≡ self.old.leavers) × (self.new.looked ≡ self.old.looked)
+            × (self.new.looks ≡ self.old.looks) }
+        ensures unasked { self.new.accepts ≡ self.old.accepts }
     {
         if let Ok(caller) = new {
             let _ = self.callers.push(caller);
@@ -215,7 +229,9 @@ impl Waiting {
         ensures fault { is_no_connection (error_kind error) ≡ false → IsWantOfRoom (raw_os_error error) false
             → (result ≡ Err error) × (self.new.callers ≡ self.old.callers) }
         ensures most { vec_len self.new.callers ≤ vec_len self.old.callers }
-        ensures others { (self.new.leavers ≡ self.old.leavers) × (self.new.looked ≡ self.old.looked) }
+        ensures others { (self.new.leavers ≡ self.old.leavers) × (self.new.looked ≡ self.old.looked)
+            × (self.new.looks ≡ self.old.looks) }
+        ensures unasked { self.new.accepts ≡ self.old.accepts }
     {
         if is_none_yet(error.kind()) {
             return Ok(false);
@@ -238,15 +254,19 @@ impl Waiting {
         ensures full { most_waiting ≤ vec_len self.old.callers
             → (result ≡ Ok false) × (self.new.callers ≡ self.old.callers) }
         ensures most { vec_len self.new.callers ≤ max (vec_len self.old.callers) most_waiting }
-        ensures others { (self.new.leavers ≡ self.old.leavers) × (self.new.looked ≡ self.old.looked) }
+        ensures asked { IfOk result (λ _. vec_len self.old.callers < most_waiting
+            → min (self.old.accepts.count + 1) (2 ^ 64 - 1) ≤ self.new.accepts.count) }
+        ensures counted { min self.old.accepts.count (2 ^ 64 - 1) ≤ self.new.accepts.count }
+        ensures others { (self.new.leavers ≡ self.old.leavers) × (self.new.looked ≡ self.old.looked)
+            × (self.new.looks ≡ self.old.looks) }
     {
         let is_alone = self.callers.is_empty() && self.leavers.is_empty();
         if is_full(self.callers.len()) {
             return Ok(false);
         }
         listener.set_nonblocking(!is_alone)?;
-        match listener.accept() {
-            Ok((stream, _)) => {
+        match self.accepts.accept(listener) {
+            Ok(stream) => {
                 self.add(heard(rt, routes, stream, is_alone));
                 Ok(true)
             }
@@ -259,11 +279,14 @@ impl Waiting {
         ensures passed { IfOk result (λ d. IsSomeAnd self.new.looked (λ now.
             as_nanos d ≡ time_since self.old.looked now)) }
         ensures failed { IfErr result (λ _. self.new.looked ≡ self.old.looked) }
+        ensures looks { IfOk result (λ _. self.new.looks ≡ min (self.old.looks + 1) (2 ^ 64 - 1)) }
         ensures others { (self.new.callers ≡ self.old.callers) × (self.new.leavers ≡ self.old.leavers) }
+        ensures unasked { self.new.accepts ≡ self.old.accepts }
     {
         let now = Instant::now(rt)?;
         let passed = time_since(self.looked, now);
         self.looked = Some(now);
+        self.looks = self.looks.saturating_add(1);
         Ok(passed)
     }
 
@@ -297,7 +320,9 @@ impl Waiting {
         ensures time_of_all { result ≡ None
             → AgeTo (as_nanos passed) self.old.callers.items self.new.callers.items (vec_len self.new.callers) }
         ensures room { KeepsRoom self.old.callers.items self.new.callers.items }
-        ensures others { (self.new.leavers ≡ self.old.leavers) × (self.new.looked ≡ self.old.looked) }
+        ensures others { (self.new.leavers ≡ self.old.leavers) × (self.new.looked ≡ self.old.looked)
+            × (self.new.looks ≡ self.old.looks) }
+        ensures unasked { self.new.accepts ≡ self.old.accepts }
     {
         let mut kept = self.kept();
         for at in 0..self.callers.len() {
@@ -318,9 +343,31 @@ impl Waiting {
     fn close_ended(&mut self, passed: Duration)
         ensures most { vec_len self.new.leavers ≤ vec_len self.old.leavers }
         ensures time { StayInTime (as_nanos passed) self.old.leavers.items self.new.leavers.items }
-        ensures others { (self.new.callers ≡ self.old.callers) × (self.new.looked ≡ self.old.looked) }
+        ensures others { (self.new.callers ≡ self.old.callers) × (self.new.looked ≡ self.old.looked)
+            × (self.new.looks ≡ self.old.looks) }
+        ensures unasked { self.new.accepts ≡ self.old.accepts }
     {
         self.leavers.retain_mut(|leaver| !leaver.has_gone(passed));
+    }
+
+    /// Looks at all connections once. It closes those that have ended, and finds the first whose request is whole, or
+    /// whose time for it is over; and whether it is whole.
+    fn look(&mut self, rt: &HostRuntime, routes: &Routes) -> io::Result<Option<(usize, bool)>>
+        ensures bound { IfOk result (λ seen. IfSome seen (λ found. found.0 < vec_len self.new.callers)) }
+        ensures whole { IfOk result (λ seen. IfSome seen (λ found. found.1 ≡ true
+            → HoldsAt (λ caller. caller.awaited ≡ Nothing) self.new.callers.items found.0)) }
+        ensures late { IfOk result (λ seen. IfSome seen (λ found. found.1 ≡ false
+            → HoldsAt IsLate self.new.callers.items found.0)) }
+        ensures ended { IfOk result (λ _. IsSomeAnd self.new.looked (λ now.
+            StayInTime (time_since self.old.looked now) self.old.leavers.items self.new.leavers.items)) }
+        ensures time { IfOk result (λ seen. IsSomeAnd self.new.looked (λ now. IfSome seen (λ found.
+            AgeTo (time_since self.old.looked now) self.old.callers.items self.new.callers.items found.0))) }
+        ensures looks { IfOk result (λ _. self.new.looks ≡ min (self.old.looks + 1) (2 ^ 64 - 1)) }
+        ensures unasked { self.new.accepts ≡ self.old.accepts }
+    {
+        let passed = self.passed(rt)?;
+        self.close_ended(passed);
+        Ok(self.place(rt, routes, passed))
     }
 
     /// Adds a connection that ends. Where too many others end meanwhile, the first of them is closed.
@@ -330,7 +377,8 @@ impl Waiting {
             → self.new.leavers.items ≡ self.old.leavers.items ++ leaver ∷ [] }
         ensures full { most_waiting ≤ vec_len self.old.leavers
             → self.new.leavers.items ≡ drop 1 self.old.leavers.items ++ leaver ∷ [] }
-        ensures others { (self.new.callers ≡ self.old.callers) × (self.new.looked ≡ self.old.looked) }
+        ensures others { (self.new.callers ≡ self.old.callers) × (self.new.looked ≡ self.old.looked)
+            × (self.new.looks ≡ self.old.looks) }
     {
         if is_full(self.leavers.len()) {
             let _ = self.leavers.remove(0);
@@ -370,7 +418,9 @@ impl Waiting {
         ensures full { most_waiting ≤ vec_len self.old.callers
             → LetsOneGo self.old.callers.items self.new.callers.items }
         ensures room { vec_len self.old.callers < most_waiting → self.new.callers ≡ self.old.callers }
-        ensures others { (self.new.leavers ≡ self.old.leavers) × (self.new.looked ≡ self.old.looked) }
+        ensures others { (self.new.leavers ≡ self.old.leavers) × (self.new.looked ≡ self.old.looked)
+            × (self.new.looks ≡ self.old.looks) }
+        ensures unasked { self.new.accepts ≡ self.old.accepts }
     {
         if is_full(self.callers.len()) {
             self.let_one_go();
@@ -379,20 +429,23 @@ impl Waiting {
         }
     }
 
-    /// Waits for a connection with a request, or one whose time is over.
+    /// Waits for a connection with a request, or one whose time is over. It gives up only after so many looks that no
+    /// server makes.
     pub(crate) fn next(
         &mut self,
         rt: &HostRuntime,
         routes: &Routes,
         listener: &TcpListener,
     ) -> io::Result<Option<Next>>
-        ensures { IfOk result (λ next. IfSome next NoLongerWaits) }
+        ensures next { IfOk result (λ next. IfSome next NoLongerWaits) }
+        ensures none { IfOk result (λ next. next ≡ None → 2 ^ 64 - 1 ≤ self.new.looks) }
+        ensures ended { IfOk result (λ next. IfSome next (λ _. All HasTime self.new.leavers.items)) }
+        ensures asked { IfOk result (λ next. IfSome next (λ _. vec_len self.old.callers < most_waiting
+            → min (self.old.accepts.count + 1) (2 ^ 64 - 1) ≤ self.new.accepts.count)) }
     {
         for _ in 0..u64::MAX {
             let has_come = self.take(rt, routes, listener)?;
-            let passed = self.passed(rt)?;
-            self.close_ended(passed);
-            match self.place(rt, routes, passed) {
+            match self.look(rt, routes)? {
                 Some((at, is_whole)) => {
                     let caller = self.callers.remove(at);
                     return Ok(Some(next_of(caller, is_whole)));

@@ -1,5 +1,5 @@
 use Rattle.std.proofs.Common.{inl, subst, sym}
-use Rattle.tb_desk.specs.Faults.{IsFaultList}
+use Rattle.tb_words.specs.FirstFaults.{IsFaultList}
 use Rattle.tb_desk.proofs.faults.put_faults.Goals as goal
 
 pub returns-in-Ok : goal.returns-in-Ok

@@ -1,5 +1,6 @@
-use Rattle.std.proofs.Common.{◌≡◌, ◌≤◌}
+use Rattle.std.proofs.Common.{◌≡◌, ◌≤◌, ◌+◌, ◌-◌, ◌^◌, min}
 use Rattle.tb_desk.proofs.leaving.Leaver.has_ended.Given as goal
 
 abbrev pub invariant-loop : goal.invariant-loop
 invariant-loop l = (l.self.left ≡ l.fn.self.left) × (l.self.most ≤ l.fn.self.most)
+    × (min (l.fn.self.reads.count + l.counter) (2 ^ 64 - 1) ≤ l.self.reads.count)

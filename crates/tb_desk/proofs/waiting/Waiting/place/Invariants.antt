@@ -8,6 +8,7 @@ use Rattle.tb_desk.proofs.waiting.Waiting.place.Given as goal
 
 abbrev pub invariant-loop-at : goal.invariant-loop-at
 invariant-loop-at l = (vec_len l.self.callers ≡ vec_len l.fn.self.callers) × (l.self.leavers ≡ l.fn.self.leavers)
-    × (l.self.looked ≡ l.fn.self.looked) × AllWithin Waits l.self.callers.items 0 l.at × AreKept l.fn.self.callers.items l.self.callers.items l.kept
+    × (l.self.looked ≡ l.fn.self.looked) × (l.self.looks ≡ l.fn.self.looks) × AllWithin Waits l.self.callers.items 0 l.at × AreKept l.fn.self.callers.items l.self.callers.items l.kept
     × UpTo (Ages (as_nanos l.passed)) l.fn.self.callers.items l.self.callers.items l.at
     × SameFrom (Ages (as_nanos l.passed)) l.fn.self.callers.items l.self.callers.items l.at
+    × (l.self.accepts ≡ l.fn.self.accepts)

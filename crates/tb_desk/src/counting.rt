@@ -1,0 +1,65 @@
+//! Calls of the system that are counted: reads of a connection, and questions whether one has come. What they answer is
+//! not known; that they are made is.
+
+ghost use Rattle.std.specs.Prelude.{◌≡◌, ◌≤◌, ◌+◌, ◌-◌, ◌^◌, IfOk, length, min, take};
+
+use std::io::{self, Read};
+use std::net::{TcpListener, TcpStream};
+
+/// How many times a connection was read. Only a read counts.
+#[derive(Drop)]
+pub(crate) struct ReadCount {
+    count: u64,
+}
+
+impl ReadCount {
+    pub(crate) fn new() -> ReadCount
+        ensures { result.count ≡ 0 }
+    {
+        ReadCount { count: 0 }
+    }
+
+    /// Reads into the part of a buffer after its first bytes, which stay.
+    pub(crate) fn read_after(
+        &mut self,
+        mut stream: &TcpStream,
+        room: &mut [u8],
+        filled: usize,
+    ) -> io::Result<usize>
+        ensures counted { filled ≤ length room.old → self.new.count ≡ min (self.old.count + 1) (2 ^ 64 - 1) }
+        ensures kept { self.old.count ≤ self.new.count }
+        ensures length { length room.new ≡ length room.old }
+        ensures stays { take filled room.new ≡ take filled room.old }
+        ensures bound { filled ≤ length room.old → IfOk result (λ n. filled + n ≤ length room.old) }
+    {
+        if filled > room.len() {
+            return Ok(0);
+        }
+        self.count = self.count.saturating_add(1);
+        let (_, rest) = room.split_at_mut(filled);
+        stream.read(rest)
+    }
+}
+
+/// How many times a listener was asked for a connection. Only asking counts.
+#[derive(Drop)]
+pub(crate) struct AcceptCount {
+    count: u64,
+}
+
+impl AcceptCount {
+    pub(crate) fn new() -> AcceptCount
+        ensures { result.count ≡ 0 }
+    {
+        AcceptCount { count: 0 }
+    }
+
+    /// The next connection of a listener.
+    pub(crate) fn accept(&mut self, listener: &TcpListener) -> io::Result<TcpStream>
+        ensures { self.new.count ≡ min (self.old.count + 1) (2 ^ 64 - 1) }
+    {
+        self.count = self.count.saturating_add(1);
+        let (stream, _) = listener.accept()?;
+        Ok(stream)
+    }
+}

@@ -1,0 +1,118 @@
+//! One request, and what is done for it.
+
+ghost use Rattle.std.specs.Prelude.{◌≡◌, Bool, IfErr, IsTrue, Err as ErrOf};
+ghost use Rattle.tb_desk.specs.Exchanges.{Adds, IsDeskEnd, IsExchange, after, led_to, looked};
+
+use crate::serving::{ended_by, has_shut};
+use sqlite::Alter;
+use tb_answer::Broken;
+use tb_host::Cause;
+use tb_http::{Reply, Status};
+use tb_store::Desk;
+
+/// What came of an attempt to answer a request.
+#[derive(Clone, Copy)]
+pub(crate) enum Tried {
+    /// The connection failed before the request was read.
+    Lost,
+    /// Memory was wanting before the request was read.
+    Memory,
+    /// The request was read and answered, as far as the connection allowed.
+    Answered(Result<Status, Broken>),
+}
+
+/// A request on a connection. What is made of its calls is proved over any, so over one that keeps a list of them too.
+pub(crate) trait Exchange {
+    ghost use Rattle.std.specs.Prelude.{◌≡◌, [], ◌∷◌, IsTrue, List, Option};
+    ghost use Rattle.tb_desk.specs.Exchanges.{Adds, ExchangeStep, looked_for, refused, tried_so};
+
+    // what was done for the request, where that is kept
+    ghost done: { Self → Option (List ExchangeStep) };
+
+    // its desk has files, which may leave their place
+    ghost HasFiles: { Self → Type 0 };
+
+    /// Whether the desk's files are no longer in their place.
+    fn has_moved(&mut self) -> bool
+        ensures files { IsTrue result → HasFiles self.old }
+        ensures kept { HasFiles self.new → HasFiles self.old }
+        ensures done { Adds (done self.old) (done self.new) (looked_for result ∷ []) };
+
+    /// Answers that the request is not done.
+    fn refuse(&mut self, reply: Reply)
+        ensures kept { HasFiles self.new → HasFiles self.old }
+        ensures done { Adds (done self.old) (done self.new) (refused reply ∷ []) };
+
+    /// Reads the request, does what it asks, and answers it.
+    fn answer<S: Alter>(&mut self, desk: &mut Desk<S>) -> Tried
+        ensures limits { desk.new.limits ≡ desk.old.limits }
+        ensures kept { HasFiles self.new → HasFiles self.old }
+        ensures done { Adds (done self.old) (done self.new) (tried_so result ∷ []) };
+}
+
+/// Whether the desk's files are no longer in their place. The client is told so.
+fn is_lost<E: Exchange>(exchange: &mut E) -> bool
+    ensures done { Adds (E.done exchange.old) (E.done exchange.new) (looked result) }
+    ensures files { IsTrue result → E.HasFiles exchange.old }
+    ensures kept { E.HasFiles exchange.new → E.HasFiles exchange.old }
+{
+    let has_moved = exchange.has_moved();
+    if has_moved {
+        exchange.refuse(Reply::Device);
+    }
+    has_moved
+}
+
+/// What follows from an attempt to answer a request.
+///
+/// # Errors
+///
+/// The cause, if the desk cannot be served any further.
+fn follow<S: Alter, E: Exchange>(
+    exchange: &mut E,
+    desk: &mut Desk<S>,
+    tried: Tried,
+) -> Result<bool, Cause>
+    ensures done { (moved shut : Bool) × Adds (E.done exchange.old) (E.done exchange.new) (after tried moved)
+        × (result ≡ led_to tried moved shut) }
+    ensures cause { IfErr result IsDeskEnd }
+    ensures files { result ≡ ErrOf Cause.FilesMoved → E.HasFiles exchange.old }
+    ensures limits { desk.new.limits ≡ desk.old.limits }
+{
+    match tried {
+        Tried::Lost => Ok(false),
+        Tried::Memory => {
+            exchange.refuse(Reply::Memory);
+            Ok(true)
+        }
+        Tried::Answered(Ok(status)) => ended_by(Ok(status), false, has_shut(desk, status)),
+        Tried::Answered(Err(Broken::Read)) => {
+            let has_moved = is_lost(exchange);
+            ended_by(Err(Broken::Read), has_moved, false)
+        }
+        Tried::Answered(Err(Broken::Write)) => ended_by(Err(Broken::Write), false, false),
+    }
+}
+
+/// Answers one request. Returns whether the client has a whole answer.
+///
+/// Where the desk's files are no longer in their place, nothing is done. A connection that fails counts as served.
+///
+/// # Errors
+///
+/// The cause, if the desk cannot be served any further. The client has an answer then.
+pub(crate) fn serve_one<S: Alter, E: Exchange>(
+    exchange: &mut E,
+    desk: &mut Desk<S>,
+) -> Result<bool, Cause>
+    ensures done { IsExchange (E.done exchange.old) (E.done exchange.new) result }
+    ensures cause { IfErr result IsDeskEnd }
+    ensures in_memory { result ≡ ErrOf Cause.FilesMoved → E.HasFiles exchange.old }
+    ensures limits { desk.new.limits ≡ desk.old.limits }
+{
+    if is_lost(exchange) {
+        return Err(Cause::FilesMoved);
+    }
+    let tried = exchange.answer(desk);
+    follow(exchange, desk, tried)
+}
