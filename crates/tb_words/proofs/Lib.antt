@@ -1,0 +1,10 @@
+mod Counted
+mod Cuts
+mod FirstFaults
+mod Keys
+mod Numbers
+mod Orders
+mod Parts
+mod Steps
+mod Trimming
+mod Walked

@@ -1,0 +1,15 @@
+pub mod Circles
+pub mod Columns
+pub mod Explained
+pub mod FileLines
+pub mod FileSentences
+pub mod FirstFaults
+pub mod Keyed
+pub mod LineFaults
+pub mod Named
+pub mod QueryGuesses
+pub mod QueryNumbers
+pub mod QueryWords
+pub mod RowFaults
+pub mod Spelled
+pub mod Told

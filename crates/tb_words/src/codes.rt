@@ -1,11 +1,27 @@
 //! What is wrong with a line that cannot be read.
 
+ghost use Rattle.std.specs.List.{starts_with};
+ghost use Rattle.std.specs.Prelude.{◌≡◌, ◌↔◌, ◌+◌, ◌<◌, ◌^◌, [], ◌∷◌, chars, eqb, IfSome, IsSomeAnd, length, List};
+ghost use Rattle.std.specs.Prelude.{MatchOption, ℕ, option_map, position, slice_get, Some, true};
+ghost use Rattle.std.specs.Str.{IsUtf8};
+ghost use Rattle.std.specs.Str.Iter.{HasSubslice};
+ghost use Rattle.std.specs.Str.Lossy.{utf8_valid_len};
+ghost use Rattle.tb_conllu.specs.Lines.{field as field_at, fields};
+ghost use Rattle.tb_words.specs.Columns.{value_bytes};
+ghost use Rattle.tb_words.specs.LineFaults.{AreWords, begins_sentence, BeginsAsRow, begins_utf16, begins_with_mark};
+ghost use Rattle.tb_words.specs.LineFaults.{blank_sentence, comment_sentence, comment_text, ending_sentence};
+ghost use Rattle.tb_words.specs.LineFaults.{has_last_tab, holds_wrong_space, id_parts, id_sentence, IsFirst};
+ghost use Rattle.tb_words.specs.LineFaults.{is_control_code, IsFirstEmpty, IsFirstUncomposed, number_sentence};
+ghost use Rattle.tb_words.specs.LineFaults.{SaysBeginning, SaysColumns, SaysControl, SaysControlAt, SaysCount};
+ghost use Rattle.tb_words.specs.LineFaults.{SaysEncoding, SaysForm, SaysMore, SaysTabless};
+ghost use Rattle.tb_words.specs.declared.sentences.TheConstants.{HEAD_FORM, SPACE};
+
 use crate::columns::{FORM, HEAD, ID, LEMMA, MISC, field};
 use crate::findings::{Detail, Finding, Value};
 use crate::places::NumberedLine;
 use crate::sentences as reported;
 use std::alloc::Global;
-use tb_chars::has_white_space;
+use tb_chars::{are_digits, has_white_space};
 use unicode_normalization::is_nfc;
 
 /// The first bytes of a file in UTF-16.
@@ -13,57 +29,96 @@ const LITTLE_UTF16: &[u8] = b"\xff\xfe";
 
 const BIG_UTF16: &[u8] = b"\xfe\xff";
 
-const BYTE_ORDER_MARK: char = '\u{FEFF}';
+/// A byte order mark in UTF-8.
+const MARK: &[u8] = b"\xef\xbb\xbf";
 
 /// The least number of words in a line whose columns are taken to be separated by spaces, not by tabs.
 const FEW_WORDS: usize = 5;
 
-fn not_utf8<'a>(number: usize, raw: &[u8]) -> Finding<'a> {
-    if number == 1 && (raw.starts_with(LITTLE_UTF16) || raw.starts_with(BIG_UTF16)) {
-        return Finding::on(number, reported::UTF16);
-    }
-    let sound = match str::from_utf8(raw) {
+fn is_utf16(number: usize, raw: &[u8]) -> bool
+    ensures { result ≡ begins_utf16 number raw.now }
+{
+    number == 1 && (raw.starts_with(LITTLE_UTF16) || raw.starts_with(BIG_UTF16))
+}
+
+/// How many bytes at the front are UTF-8.
+fn sound_length(raw: &[u8]) -> usize
+    ensures value { result ≡ utf8_valid_len raw.now }
+    ensures small { result + 1 < 2 ^ 64 }
+{
+    match str::from_utf8(raw) {
         Ok(text) => text.len(),
         Err(error) => error.valid_up_to(),
-    };
+    }
+}
+
+fn not_utf8<'a>(number: usize, raw: &[u8]) -> Finding<'a>
+    ensures line { result.line ≡ number }
+    ensures said { SaysEncoding number raw.now result }
+{
+    if is_utf16(number, raw) {
+        return Finding::on(number, reported::UTF16);
+    }
+    let sound = sound_length(raw);
     let byte = raw.get(sound).copied().unwrap_or(0);
-    let place = sound.saturating_add(1);
-    Finding::on(number, reported::NOT_UTF8).and(Detail::Byte(place, byte))
+    Finding::on(number, reported::NOT_UTF8).and(Detail::Byte(sound + 1, byte))
 }
 
-fn is_composed(alloc: Global, text: &str) -> bool {
-    is_nfc(alloc, text).unwrap_or(true)
-}
-
-fn not_composed<'a>(alloc: Global, number: usize, line: &'a str) -> Finding<'a> {
-    let found = Finding::on(number, reported::NOT_NFC);
-    if line.starts_with('#') {
-        return found.with(Value::Text(line));
-    }
+/// The first field that is not in normalization form C. Where memory runs out, none is named.
+fn uncomposed_field(alloc: Global, line: &str) -> Option<usize>
+    ensures { IfSome result (IsFirstUncomposed line.now) }
+{
     for (column, value) in line.split('\t').enumerate() {
-        if !is_composed(alloc, value) {
-            return found.in_column(column).with(Value::Text(value));
-        }
-    }
-    found
-}
-
-fn is_stray(c: char) -> bool {
-    matches!(c, '\0'..='\u{8}' | '\u{A}'..='\u{1F}')
-}
-
-/// The first control character of a line other than tab, and how many characters precede it.
-fn first_stray(line: &str) -> Option<(usize, char)> {
-    for (at, c) in line.chars().enumerate() {
-        if is_stray(c) {
-            return Some((at, c));
+        let Ok(is_composed) = is_nfc(alloc, value) else {
+            return None;
+        };
+        if !is_composed {
+            return Some(column);
         }
     }
     None
 }
 
-fn control<'a>(number: usize, line: &str) -> Finding<'a> {
-    let (before, c) = first_stray(line).unwrap_or((0, '\0'));
+fn not_composed<'a>(alloc: Global, number: usize, line: &'a str) -> Finding<'a>
+    ensures line { result.line ≡ number }
+    ensures said { SaysForm line.now result }
+{
+    let found = Finding::on(number, reported::NOT_NFC);
+    if line.starts_with('#') {
+        return found.with(Value::Text(line));
+    }
+    match uncomposed_field(alloc, line) {
+        Some(column) => found
+            .in_column(column)
+            .with(Value::Text(field(line, column))),
+        None => found,
+    }
+}
+
+fn is_stray(c: char) -> bool
+    ensures { result ≡ is_control_code c }
+{
+    matches!(c, '\0'..='\u{8}' | '\u{A}'..='\u{1F}')
+}
+
+/// How many characters precede the first control character of a line other than tab.
+fn stray_at(line: &str) -> Option<usize>
+    ensures { result ≡ position is_control_code (chars line.now) }
+{
+    line.chars().position(|c| is_stray(c))
+}
+
+fn character_at(line: &str, at: usize) -> Option<char>
+    ensures { result ≡ slice_get (chars line.now) at }
+{
+    line.chars().nth(at)
+}
+
+/// What is wrong with a control character that so many characters precede.
+fn control_at<'a>(number: usize, before: usize, c: char) -> Finding<'a>
+    ensures line { result.line ≡ number }
+    ensures said { before + 1 < 2 ^ 64 → SaysControlAt before c result }
+{
     let place = before.saturating_add(1);
     match c {
         '\r' => Finding::on(number, reported::CARRIAGE_RETURN),
@@ -72,20 +127,59 @@ fn control<'a>(number: usize, line: &str) -> Finding<'a> {
     }
 }
 
+fn control<'a>(number: usize, line: &str) -> Finding<'a>
+    ensures line { result.line ≡ number }
+    ensures said { length (chars line.now) < 2 ^ 64 → SaysControl line.now result }
+{
+    let before = stray_at(line).unwrap_or(0);
+    let c = character_at(line, before).unwrap_or('\0');
+    control_at(number, before, c)
+}
+
+fn count_fields(line: &str) -> usize
+    ensures { result ≡ length (fields line.now) }
+{
+    line.split('\t').count()
+}
+
+/// How many words a line has between white space.
+fn count_words(line: &str) -> usize
+    ensures { (words : List (List ℕ)) × AreWords line.now words × (result ≡ length words) }
+{
+    line.split_whitespace().count()
+}
+
 /// What is wrong with a line without a tab.
-fn without_tab(line: &str) -> &'static str {
-    if line.split_whitespace().count() >= FEW_WORDS {
+fn without_tab(line: &str) -> &'static str
+    ensures { SaysTabless line.now result.now }
+{
+    if count_words(line) >= FEW_WORDS {
         reported::SPACES_FOR_TABS
     } else {
         reported::NO_TAB
     }
 }
 
+/// Whether a line of eleven fields ends with a tab.
+fn has_last_tab(line: &str, count: usize) -> bool
+    ensures { result ≡ has_last_tab line.now count }
+{
+    count == 11 && line.ends_with('\t')
+}
+
+fn has_double_tab(line: &str) -> bool
+    ensures { (result ≡ true) ↔ HasSubslice line.now (9 ∷ 9 ∷ []) }
+{
+    line.contains("\t\t")
+}
+
 /// What is wrong with a line of more than ten fields.
-fn with_more(line: &str, count: usize) -> &'static str {
-    if line.ends_with('\t') && count == 11 {
+fn with_more(line: &str, count: usize) -> &'static str
+    ensures { SaysMore line.now count result.now }
+{
+    if has_last_tab(line, count) {
         reported::TAB_AT_END
-    } else if line.contains("\t\t") {
+    } else if has_double_tab(line) {
         reported::DOUBLE_TAB
     } else {
         reported::MANY_FIELDS
@@ -93,18 +187,28 @@ fn with_more(line: &str, count: usize) -> &'static str {
 }
 
 /// The first column of a line that is empty.
-fn empty_column(line: &str) -> usize {
-    for (column, value) in line.split('\t').enumerate() {
-        if value.is_empty() {
+fn empty_column(line: &str) -> usize
+    ensures { IsFirstEmpty line.now result }
+{
+    for column in 0..10 {
+        if field(line, column).is_empty() {
             return column;
         }
     }
     0
 }
 
+fn has_mark(text: &str) -> bool
+    ensures { result ≡ begins_with_mark text.now }
+{
+    text.as_bytes().starts_with(MARK)
+}
+
 /// What is wrong with the beginning of a line, if it shows that the line is no word line.
-fn begins_wrong(line: &str) -> Option<&'static str> {
-    if line.starts_with(BYTE_ORDER_MARK) {
+fn begins_wrong(line: &str) -> Option<&'static str>
+    ensures { MatchOption result (BeginsAsRow line.now) (λ said. SaysBeginning line.now said.now) }
+{
+    if has_mark(line) {
         Some(reported::BYTE_ORDER_MARK)
     } else if line.trim().is_empty() {
         Some(reported::WHITE_LINE)
@@ -115,28 +219,38 @@ fn begins_wrong(line: &str) -> Option<&'static str> {
     }
 }
 
-fn columns<'a>(number: usize, line: &'a str) -> Finding<'a> {
-    if let Some(sentence) = begins_wrong(line) {
-        return Finding::on(number, sentence);
-    }
-    let count = line.split('\t').count();
+/// What is wrong with a line that has so many fields.
+fn wrong_count<'a>(number: usize, line: &'a str, count: usize) -> Finding<'a>
+    ensures line { result.line ≡ number }
+    ensures said { SaysCount line.now count result }
+{
     if count == 10 {
         return Finding::on(number, reported::EMPTY_FIELD).in_column(empty_column(line));
     }
     if count == 1 {
         return Finding::on(number, without_tab(line)).with(Value::Text(line));
     }
-    let sentence = if count < 10 {
-        reported::FEW_FIELDS
-    } else {
-        with_more(line, count)
-    };
-    Finding::on(number, sentence).and(Detail::Columns(count))
+    if count < 10 {
+        return Finding::on(number, reported::FEW_FIELDS).and(Detail::Columns(count));
+    }
+    Finding::on(number, with_more(line, count)).and(Detail::Columns(count))
+}
+
+fn columns<'a>(number: usize, line: &'a str) -> Finding<'a>
+    ensures line { result.line ≡ number }
+    ensures said { SaysColumns line.now result }
+{
+    if let Some(sentence) = begins_wrong(line) {
+        return Finding::on(number, sentence);
+    }
+    wrong_count(number, line, count_fields(line))
 }
 
 /// What is wrong with one number of an ID, if anything is.
-fn number_fault(number: &str) -> Option<&'static str> {
-    if number.is_empty() || !number.bytes().all(|byte| byte.is_ascii_digit()) {
+fn number_fault(number: &str) -> Option<&'static str>
+    ensures { option_map (λ said. said.now) result ≡ number_sentence number.now }
+{
+    if number.is_empty() || !are_digits(number.as_bytes()) {
         return None;
     }
     if number.starts_with('0') {
@@ -148,53 +262,122 @@ fn number_fault(number: &str) -> Option<&'static str> {
     None
 }
 
-fn id_fault(value: &str) -> &'static str {
-    if value.starts_with(BYTE_ORDER_MARK) {
-        return reported::BYTE_ORDER_MARK;
+/// The numbers of an ID: those round its first hyphen, else those round its first dot.
+fn numbers_of(id: &str) -> (&str, &str)
+    ensures first { result.0.now ≡ (id_parts id.now).0 }
+    ensures second { result.1.now ≡ (id_parts id.now).1 }
+{
+    if let Some((first, second)) = id.split_once('-') {
+        return (first, second);
     }
-    let (first, second) = match value.split_once('-') {
-        Some(both) => both,
-        None => value.split_once('.').unwrap_or((value, "")),
-    };
-    match number_fault(second) {
-        Some(sentence) => sentence,
-        None => number_fault(first).unwrap_or(reported::ID_FORM),
+    match id.split_once('.') {
+        Some((first, second)) => (first, second),
+        None => (id, ""),
     }
 }
 
-fn id<'a>(number: usize, line: &'a str) -> Finding<'a> {
+fn id_fault(value: &str) -> &'static str
+    ensures { result.now ≡ id_sentence value.now }
+{
+    if has_mark(value) {
+        return reported::BYTE_ORDER_MARK;
+    }
+    let (first, second) = numbers_of(value);
+    if let Some(sentence) = number_fault(second) {
+        return sentence;
+    }
+    match number_fault(first) {
+        Some(sentence) => sentence,
+        None => reported::ID_FORM,
+    }
+}
+
+fn id<'a>(number: usize, line: &'a str) -> Finding<'a>
+    ensures line { result.line ≡ number }
+    ensures column { result.column ≡ Some 0 }
+    ensures value { IsSomeAnd result.value (λ v. value_bytes v ≡ field_at 0 line.now) }
+    ensures said { result.sentence.now ≡ id_sentence (field_at 0 line.now) }
+{
     let value = field(line, ID);
     Finding::on(number, id_fault(value))
         .in_column(ID)
         .with(Value::Text(value))
 }
 
-fn space<'a>(number: usize, line: &'a str) -> Finding<'a> {
-    let found = Finding::on(number, reported::SPACE);
-    for (column, value) in line.split('\t').enumerate() {
-        if !matches!(column, FORM | LEMMA | MISC) && has_white_space(value) {
-            return found.in_column(column).with(Value::Text(value));
-        }
-    }
-    found
+/// Whether a column holds white space, and may hold none.
+fn is_wrongly_spaced(line: &str, column: usize) -> bool
+    ensures { result ≡ holds_wrong_space line.now column }
+{
+    !matches!(column, FORM | LEMMA | MISC) && has_white_space(field(line, column))
 }
 
-fn head<'a>(number: usize, line: &'a str) -> Finding<'a> {
+/// The first column of a line of ten that holds white space, and may hold none.
+fn spaced_column(line: &str) -> Option<usize>
+    ensures { IsFirst (holds_wrong_space line.now) 10 result }
+{
+    for column in 0..10 {
+        if is_wrongly_spaced(line, column) {
+            return Some(column);
+        }
+    }
+    None
+}
+
+fn space<'a>(number: usize, line: &'a str) -> Finding<'a>
+    ensures line { result.line ≡ number }
+    ensures column { IsFirst (holds_wrong_space line.now) 10 result.column }
+    ensures value { IfSome result.column (λ k. IsSomeAnd result.value (λ v. value_bytes v ≡ field_at k line.now)) }
+    ensures said { result.sentence.now ≡ SPACE.now }
+{
+    let found = Finding::on(number, reported::SPACE);
+    match spaced_column(line) {
+        Some(column) => found
+            .in_column(column)
+            .with(Value::Text(field(line, column))),
+        None => found,
+    }
+}
+
+fn head<'a>(number: usize, line: &'a str) -> Finding<'a>
+    ensures line { result.line ≡ number }
+    ensures column { result.column ≡ Some 6 }
+    ensures value { IsSomeAnd result.value (λ v. value_bytes v ≡ field_at 6 line.now) }
+    ensures said { result.sentence.now ≡ HEAD_FORM.now }
+{
     Finding::on(number, reported::HEAD_FORM)
         .in_column(HEAD)
         .with(Value::Text(field(line, HEAD)))
 }
 
-/// Whether a comment is of the kind with which sentences begin.
-fn begins_sentence(comment: &str) -> bool {
-    let said = comment.strip_prefix('#').unwrap_or(comment).trim();
-    said.starts_with("sent_id")
-        || said.starts_with("text")
-        || said.starts_with("newdoc")
-        || said.starts_with("newpar")
+/// The text of a comment, without its hash and the white space round it.
+fn comment_text(comment: &str) -> &str
+    ensures { result.now ≡ comment_text comment.now }
+{
+    comment.strip_prefix('#').unwrap_or(comment).trim()
 }
 
-fn comment_place<'a>(number: usize, line: &'a str) -> Finding<'a> {
+fn begins(text: &str, front: &str) -> bool
+    ensures { result ≡ starts_with eqb text.now front.now }
+{
+    text.starts_with(front)
+}
+
+/// Whether a comment is of the kind with which sentences begin.
+fn begins_sentence(comment: &str) -> bool
+    ensures { result ≡ begins_sentence comment.now }
+{
+    let said = comment_text(comment);
+    begins(said, "sent_id")
+        || begins(said, "text")
+        || begins(said, "newdoc")
+        || begins(said, "newpar")
+}
+
+fn comment_place<'a>(number: usize, line: &'a str) -> Finding<'a>
+    ensures line { result.line ≡ number }
+    ensures value { IsSomeAnd result.value (λ v. value_bytes v ≡ line.now) }
+    ensures said { result.sentence.now ≡ comment_sentence line.now }
+{
     let sentence = if begins_sentence(line) {
         reported::BLANK_MISSING
     } else {
@@ -203,7 +386,9 @@ fn comment_place<'a>(number: usize, line: &'a str) -> Finding<'a> {
     Finding::on(number, sentence).with(Value::Text(line))
 }
 
-fn blank_place(line: &NumberedLine<'_>) -> &'static str {
+fn blank_place(line: &NumberedLine<'_>) -> &'static str
+    ensures { result.now ≡ blank_sentence line.now.number line.now.before.now }
+{
     if line.number <= 1 {
         reported::BLANK_FIRST
     } else if line.before.is_empty() {
@@ -214,7 +399,9 @@ fn blank_place(line: &NumberedLine<'_>) -> &'static str {
 }
 
 /// What is wrong with the end of a file. Its last line feed ends the line before this one.
-fn unended(line: &NumberedLine<'_>) -> &'static str {
+fn unended(line: &NumberedLine<'_>) -> &'static str
+    ensures { result.now ≡ ending_sentence line.now.bytes.now line.now.before.now }
+{
     if line.bytes.contains(&b'\r') {
         reported::LONE_RETURNS
     } else if !line.bytes.is_empty() {
@@ -227,7 +414,23 @@ fn unended(line: &NumberedLine<'_>) -> &'static str {
 }
 
 /// What is wrong with a line that has this code.
-pub(crate) fn fault_of_line<'a>(alloc: Global, line: &NumberedLine<'a>, code: u8) -> Finding<'a> {
+pub(crate) fn fault_of_line<'a>(alloc: Global, line: &NumberedLine<'a>, code: u8) -> Finding<'a>
+    ensures line { result.line ≡ line.now.number }
+    ensures encoding { code ≡ 1 → SaysEncoding line.now.number line.now.bytes.now result }
+    ensures form { code ≡ 2 → IsUtf8 line.now.bytes.now → SaysForm line.now.bytes.now result }
+    ensures columns { code ≡ 4 → IsUtf8 line.now.bytes.now → SaysColumns line.now.bytes.now result }
+    ensures id { code ≡ 5 → result.column ≡ Some 0 }
+    ensures id_said { code ≡ 5 → IsUtf8 line.now.bytes.now
+        → result.sentence.now ≡ id_sentence (field_at 0 line.now.bytes.now) }
+    ensures space { code ≡ 6 → IsUtf8 line.now.bytes.now
+        → IsFirst (holds_wrong_space line.now.bytes.now) 10 result.column }
+    ensures head { code ≡ 7 → result.column ≡ Some 6 }
+    ensures comment { code ≡ 8 → IsUtf8 line.now.bytes.now
+        → result.sentence.now ≡ comment_sentence line.now.bytes.now }
+    ensures blank { code ≡ 9 → result.sentence.now ≡ blank_sentence line.now.number line.now.before.now }
+    ensures end { code ≡ 10
+        → result.sentence.now ≡ ending_sentence line.now.bytes.now line.now.before.now }
+{
     let number = line.number;
     let text = line.text();
     match code {

@@ -1,11 +1,12 @@
 //! The ten columns of a word line.
 
+ghost use Rattle.std.specs.Prelude.{◌≡◌, slice_index_or};
+ghost use Rattle.tb_conllu.specs.Lines.{field as field_at};
+ghost use Rattle.tb_conllu.specs.Text.{fields_of};
+ghost use Rattle.tb_words.specs.Columns.{column_name, first_filled, value_bytes};
+
 use crate::findings::Value;
 use tb_conllu::RowRef;
-
-const NAMES: [&str; 10] = [
-    "ID", "FORM", "LEMMA", "UPOS", "XPOS", "FEATS", "HEAD", "DEPREL", "DEPS", "MISC",
-];
 
 /// The places of columns, counted from 0.
 pub(crate) const ID: usize = 0;
@@ -29,17 +30,35 @@ pub(crate) const DEPS: usize = 8;
 pub(crate) const MISC: usize = 9;
 
 /// The name of a column.
-pub(crate) fn name(column: usize) -> &'static str {
-    NAMES.get(column).copied().unwrap_or("a column too many")
+pub(crate) fn name(column: usize) -> &'static str
+    ensures { result.now ≡ column_name column }
+{
+    match column {
+        ID => "ID",
+        FORM => "FORM",
+        LEMMA => "LEMMA",
+        UPOS => "UPOS",
+        XPOS => "XPOS",
+        FEATS => "FEATS",
+        HEAD => "HEAD",
+        DEPREL => "DEPREL",
+        DEPS => "DEPS",
+        MISC => "MISC",
+        _ => "a column too many",
+    }
 }
 
 /// The value in a column of a line.
-pub(crate) fn field(line: &str, column: usize) -> &str {
+pub(crate) fn field(line: &str, column: usize) -> &str
+    ensures { result.now ≡ field_at column line.now }
+{
     line.split('\t').nth(column).unwrap_or("")
 }
 
 /// What a row has in a column.
-pub(crate) fn value_in<'a>(row: &RowRef<'a>, column: usize) -> Value<'a> {
+pub(crate) fn value_in<'a>(row: &RowRef<'a>, column: usize) -> Value<'a>
+    ensures { value_bytes result ≡ slice_index_or (fields_of row.now) column row.now.misc }
+{
     match column {
         ID => Value::Id(row.id),
         FORM => Value::Text(row.form),
@@ -55,7 +74,9 @@ pub(crate) fn value_in<'a>(row: &RowRef<'a>, column: usize) -> Value<'a> {
 }
 
 /// The first column of a range that is not `_`, though it has to be.
-pub(crate) fn filled(row: &RowRef<'_>) -> usize {
+pub(crate) fn filled(row: &RowRef<'_>) -> usize
+    ensures { result ≡ first_filled row.now }
+{
     if row.lemma != "_" {
         LEMMA
     } else if row.upos != "_" {

@@ -1,5 +1,11 @@
 //! Which of the features of a row is at fault.
 
+ghost use Rattle.std.specs.Prelude.{◌≡◌, ◌≢◌, IfSome, IsOkAnd, IsSomeAnd, false};
+ghost use Rattle.std.specs.List.{list_any};
+ghost use Rattle.std.specs.String.{string_bytes};
+ghost use Rattle.tb_fields.specs.Feats.{feature_name, is_equals, is_feature_text};
+ghost use Rattle.tb_words.specs.declared.sentences.TheConstants.{FEATURE_FORM};
+
 use crate::sentences as reported;
 use std::alloc::{AllocError, Global};
 use tb_fields::is_feature_list;
@@ -8,19 +14,25 @@ use tb_fields::is_feature_list;
 const LOOKED_AT: usize = 1000;
 
 /// Whether a text may be the value of FEATS. Where memory runs out, no fault is found.
-fn is_list(alloc: Global, text: &str) -> bool {
+fn is_list(alloc: Global, text: &str) -> bool
+    ensures { result ≡ false → is_feature_text text.now ≡ false }
+{
     is_feature_list(alloc, text).unwrap_or(true)
 }
 
 /// The same for a text that is built here.
-fn is_made_list(alloc: Global, made: Result<String, AllocError>) -> bool {
+fn is_made_list(alloc: Global, made: Result<String, AllocError>) -> bool
+    ensures { result ≡ false → IsOkAnd made (λ text. is_feature_text (string_bytes text) ≡ false) }
+{
     match made {
         Ok(text) => is_list(alloc, text.as_str()),
         Err(_) => true,
     }
 }
 
-fn name_of(item: &str) -> &str {
+fn name_of(item: &str) -> &str
+    ensures { result.now ≡ feature_name item.now }
+{
     match item.split_once('=') {
         Some((name, _)) => name,
         None => item,
@@ -37,7 +49,10 @@ fn has_wrong_value(alloc: Global, values: &str) -> bool {
 }
 
 /// What is wrong with one feature, if anything is.
-fn item_fault(alloc: Global, item: &str) -> Option<&'static str> {
+fn item_fault(alloc: Global, item: &str) -> Option<&'static str>
+    ensures form { list_any is_equals item.now ≡ false → IsSomeAnd result (λ said. said.now ≡ FEATURE_FORM.now) }
+    ensures wrong { IfSome result (λ said. said.now ≢ FEATURE_FORM.now → is_feature_text item.now ≡ false) }
+{
     let Some((name, values)) = item.split_once('=') else {
         return Some(reported::FEATURE_FORM);
     };

@@ -1,6 +1,8 @@
 //! What is wrong at a place of a file.
 
-ghost use Rattle.std.specs.Prelude.{◌≡◌, IfOk};
+ghost use Rattle.std.specs.Prelude.{◌≡◌, [], IfOk, None, Some, string_bytes};
+ghost use Rattle.tb_words.specs.Columns.{column_shown};
+ghost use Rattle.tb_words.specs.declared.findings.Detail.TheVariants.{Nothing};
 
 use crate::columns::name;
 use crate::words::{Words, named, shown};
@@ -32,7 +34,9 @@ impl Display for Value<'_> {
 }
 
 /// What is at a place, as a text; empty where nothing is said of it.
-fn text_of(alloc: Global, value: Option<Value<'_>>) -> Result<String, AllocError> {
+fn text_of(alloc: Global, value: Option<Value<'_>>) -> Result<String, AllocError>
+    ensures { value.entry ≡ None → IfOk result (λ text. string_bytes text ≡ []) }
+{
     match value {
         Some(value) => format!(in alloc; "{value}"),
         None => Ok(String::new(alloc)),
@@ -134,7 +138,16 @@ impl Display for Finding<'_> {
 
 impl<'a> Finding<'a> {
     /// What is wrong with a line.
-    pub(crate) fn on(line: usize, sentence: &'static str) -> Finding<'a> {
+    pub(crate) fn on(line: usize, sentence: &'static str) -> Finding<'a>
+        ensures { result ≡ record {
+          line = line;
+          id = None;
+          column = None;
+          value = None;
+          detail = Nothing;
+          sentence = sentence.entry;
+        } }
+    {
         Finding {
             line,
             id: None,
@@ -146,36 +159,77 @@ impl<'a> Finding<'a> {
     }
 
     /// Adds the ID of the row.
-    pub(crate) fn of(mut self, id: LineId) -> Finding<'a> {
+    pub(crate) fn of(mut self, id: LineId) -> Finding<'a>
+        ensures { result ≡ record {
+          line = self.entry.line;
+          id = Some id;
+          column = self.entry.column;
+          value = self.entry.value;
+          detail = self.entry.detail;
+          sentence = self.entry.sentence;
+        } }
+    {
         self.id = Some(id);
         self
     }
 
     /// Adds the column.
-    pub(crate) fn in_column(mut self, column: usize) -> Finding<'a> {
+    pub(crate) fn in_column(mut self, column: usize) -> Finding<'a>
+        ensures { result ≡ record {
+          line = self.entry.line;
+          id = self.entry.id;
+          column = Some column;
+          value = self.entry.value;
+          detail = self.entry.detail;
+          sentence = self.entry.sentence;
+        } }
+    {
         self.column = Some(column);
         self
     }
 
     /// Adds what is there.
-    pub(crate) fn with(mut self, value: Value<'a>) -> Finding<'a> {
+    pub(crate) fn with(mut self, value: Value<'a>) -> Finding<'a>
+        ensures { result ≡ record {
+          line = self.entry.line;
+          id = self.entry.id;
+          column = self.entry.column;
+          value = Some value.entry;
+          detail = self.entry.detail;
+          sentence = self.entry.sentence;
+        } }
+    {
         self.value = Some(value);
         self
     }
 
     /// Adds a detail.
-    pub(crate) fn and(mut self, detail: Detail) -> Finding<'a> {
+    pub(crate) fn and(mut self, detail: Detail) -> Finding<'a>
+        ensures { result ≡ record {
+          line = self.entry.line;
+          id = self.entry.id;
+          column = self.entry.column;
+          value = self.entry.value;
+          detail = detail;
+          sentence = self.entry.sentence;
+        } }
+    {
         self.detail = detail;
         self
     }
 
     /// The words for it.
-    pub(crate) fn words(&self, alloc: Global) -> Words {
+    pub(crate) fn words(&self, alloc: Global) -> Words
+        ensures sentence { result.sentence.now ≡ self.now.sentence.now }
+        ensures alone { (result.page ≡ None) × (result.picture ≡ None) }
+    {
         Words::at(format!(in alloc; "{self}"), self.sentence)
     }
 
     /// What a list says beside the place: the detail, if there is one, and the sentence.
-    fn message(&self, alloc: Global) -> Result<String, AllocError> {
+    fn message(&self, alloc: Global) -> Result<String, AllocError>
+        ensures { self.now.detail ≡ Nothing → IfOk result (λ text. string_bytes text ≡ self.now.sentence.now) }
+    {
         let sentence = self.sentence;
         match &self.detail {
             Detail::Nothing => String::from_str(alloc, sentence),
@@ -185,7 +239,13 @@ impl<'a> Finding<'a> {
 
     /// A fault of the file, as a list tells it.
     pub(crate) fn told(&self, alloc: Global, fault: Fault) -> Result<FaultRow, AllocError>
-        ensures { IfOk result (λ told. told.fault ≡ fault) }
+        ensures fault { IfOk result (λ told. told.fault ≡ fault) }
+        ensures line { IfOk result (λ told. told.line ≡ self.now.line) }
+        ensures column { IfOk result (λ told. told.column ≡ column_shown self.now.column) }
+        ensures row { self.now.id ≡ None → IfOk result (λ told. told.id ≡ []) }
+        ensures value { self.now.value ≡ None → IfOk result (λ told. told.value ≡ []) }
+        ensures message { self.now.detail ≡ Nothing
+            → IfOk result (λ told. told.message ≡ self.now.sentence.now) }
     {
         let id = match self.id {
             Some(id) => Some(Value::Id(id)),

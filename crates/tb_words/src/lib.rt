@@ -8,6 +8,7 @@
 mod circles;
 mod codes;
 mod columns;
+mod faults;
 mod features;
 mod findings;
 mod literals;
@@ -23,9 +24,9 @@ mod syntax;
 mod telling;
 mod words;
 
+pub use faults::{FaultList, list_faults};
 pub use literals::{forms_asked, with_signs_as_they_stand};
 pub use queries::{words_of_hits, words_of_range, words_of_unreleased};
 pub use refusals::{Asked, words_of_reply};
 pub use sentences::MEMORY;
-pub use telling::tell_faults;
 pub use words::Words;

@@ -1,5 +1,8 @@
 //! The literals of a query's text.
 
+ghost use Rattle.std.specs.Prelude.{◌≡◌, ◌≢◌, ◌&&◌, IfSome, None, Some, false, nat_le, nat_lt, not, true};
+ghost use Rattle.std.specs.List.{list_any};
+
 use std::alloc::Global;
 
 /// The bytes of a text that a literal occupies, with its quotes.
@@ -34,7 +37,13 @@ impl Reading {
     }
 
     /// Reads a character. Returns the literal that ends just before it, if one does.
-    fn take(&mut self, at: usize, c: char) -> Option<Literal> {
+    fn take(&mut self, at: usize, c: char) -> Option<Literal>
+        ensures literal { IfSome result (λ l. (l.start ≡ self.old.start) × (l.end ≡ at)
+            × (self.old.is_shut ≡ true) × (self.old.quote ≢ Some c)) }
+        ensures quote { self.old.quote ≡ Some c → (self.new.is_shut ≡ not self.old.is_shut)
+            × (self.new.start ≡ self.old.start) × (self.new.quote ≡ self.old.quote) }
+        ensures outside { self.old.quote ≡ None → self.new.start ≡ at }
+    {
         let mut ended = None;
         if let Some(quote) = self.quote {
             if c == quote {
@@ -56,7 +65,11 @@ impl Reading {
     }
 
     /// The literal that ends at the end of the text, if one does.
-    fn end(&self, length: usize) -> Option<Literal> {
+    fn end(&self, length: usize) -> Option<Literal>
+        ensures literal { IfSome result (λ l. (l.start ≡ self.now.start) × (l.end ≡ length)
+            × (self.now.is_shut ≡ true)) }
+        ensures open { result ≡ None → self.now.quote ≢ None → self.now.is_shut ≡ false }
+    {
         if self.quote.is_none() || !self.is_shut {
             return None;
         }
@@ -83,7 +96,9 @@ pub(crate) fn literals(alloc: Global, text: &str) -> Option<Vec<Literal>> {
 }
 
 /// Whether a byte of the text lies in a literal.
-pub(crate) fn holds(literals: &[Literal], at: usize) -> bool {
+pub(crate) fn holds(literals: &[Literal], at: usize) -> bool
+    ensures { result ≡ list_any (λ l. nat_le l.start at && nat_lt at l.end) literals.now }
+{
     literals
         .iter()
         .any(|literal| literal.start <= at && at < literal.end)

@@ -1,5 +1,11 @@
 //! Which of the pairs in DEPS is at fault.
 
+ghost use Rattle.std.specs.Prelude.{◌≡◌, ◌≢◌, ◌↔◌, ◌<◌, ◌≤◌, ◌⊎◌, IfSome, IsSomeAnd, IsTrue, Some, codes};
+ghost use Rattle.std.specs.Prelude.{length, true};
+ghost use Rattle.std.specs.List.{after_first, list_any, slice_get};
+ghost use Rattle.tb_fields.specs.Relations.{is_colon};
+ghost use Rattle.tb_words.specs.declared.sentences.TheConstants.{PAIR_FORM, PAIR_RELATION};
+
 use crate::sentences as reported;
 use std::alloc::Global;
 use tb_conllu::{LineId, RowRef, id_of};
@@ -24,7 +30,11 @@ fn nodes_after(alloc: Global, rows: &[RowRef<'_>]) -> Option<Vec<u32>> {
 }
 
 /// The head that a text names in a sentence, as the numbers of its word and of its empty node.
-fn head_in(nodes: &[u32], text: &str) -> Option<(u32, u32)> {
+fn head_in(nodes: &[u32], text: &str) -> Option<(u32, u32)>
+    ensures root { text.now ≡ codes "0" → result ≡ Some (0, 0) }
+    ensures there { text.now ≢ codes "0" → IfSome result (λ head. IsSomeAnd (slice_get nodes.now head.0) (λ last.
+        head.1 ≤ last)) }
+{
     if text == "0" {
         return Some((0, 0));
     }
@@ -40,12 +50,17 @@ fn head_in(nodes: &[u32], text: &str) -> Option<(u32, u32)> {
     }
 }
 
-fn is_before(first: (u32, u32), second: (u32, u32)) -> bool {
+fn is_before(first: (u32, u32), second: (u32, u32)) -> bool
+    ensures { IsTrue result ↔ (first.0 < second.0 ⊎ ((first.0 ≡ second.0) × (first.1 < second.1))) }
+{
     first.0 < second.0 || (first.0 == second.0 && first.1 < second.1)
 }
 
 /// The first pair that is at fault in a sentence with so many empty nodes after each word, and what is wrong with it.
-fn fault_with<'a>(nodes: &[u32], deps: &'a str) -> (&'a str, &'static str) {
+fn fault_with<'a>(nodes: &[u32], deps: &'a str) -> (&'a str, &'static str)
+    ensures colon { result.1.now ≢ PAIR_FORM.now → list_any is_colon result.0.now ≡ true }
+    ensures relation { result.1.now ≡ PAIR_RELATION.now → length (after_first is_colon result.0.now) ≡ 0 }
+{
     let mut before = (0, 0);
     for pair in deps.split('|') {
         let Some((front, relation)) = pair.split_once(':') else {

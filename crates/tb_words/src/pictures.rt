@@ -1,5 +1,9 @@
 //! Shows a line of a query, with a mark under one character.
 
+ghost use Rattle.std.specs.Prelude.{◌≡◌};
+ghost use Rattle.std.specs.Str.{IsCharBoundary};
+ghost use Rattle.tb_words.specs.QueryWords.{character_number};
+
 use crate::words::visible;
 use std::alloc::Global;
 
@@ -44,7 +48,9 @@ pub(crate) fn picture(alloc: Global, text: &str, at: usize) -> Option<String> {
 }
 
 /// The number of the character that begins at a byte, counted from 1.
-pub(crate) fn character(text: &str, at: usize) -> usize {
+pub(crate) fn character(text: &str, at: usize) -> usize
+    ensures { IsCharBoundary text.now at → result ≡ character_number text.now at }
+{
     text.get(..at)
         .unwrap_or(text)
         .chars()

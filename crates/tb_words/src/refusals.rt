@@ -1,5 +1,11 @@
 //! The words for a refused command, and for what may come next.
 
+ghost use Rattle.std.specs.Prelude.{◌≡◌, None, IfSome, is_some};
+ghost use Rattle.tb_words.specs.declared.sentences.TheConstants.{STALE};
+ghost use Rattle.tb_words.specs.Explained.{BeginWith, Explains, IsNumbered, Say, SaysOfCode, SaysOfMemory};
+ghost use Rattle.tb_words.specs.Explained.{SaysOfRefusal, base_of, batch_place, is_explained, missing_sentence};
+ghost use Rattle.tb_words.specs.Explained.{next_sentence, refusal_sentence, stale_place, state_place, state_sentence};
+
 use crate::queries::words_of_query;
 use crate::sentences as reported;
 use crate::telling::{words_of_line, words_of_rule};
@@ -25,7 +31,9 @@ pub enum Asked<'a> {
 }
 
 /// The sentence that says what may come after this state of a batch.
-fn next_of(state: State) -> &'static str {
+fn next_of(state: State) -> &'static str
+    ensures { result.now ≡ next_sentence state }
+{
     match state {
         State::Opened => reported::OPEN,
         State::Assigned => reported::ASSIGNED,
@@ -37,13 +45,18 @@ fn next_of(state: State) -> &'static str {
 }
 
 /// The words for a batch in this state.
-fn words_of_move(alloc: Global, state: State) -> Words {
+fn words_of_move(alloc: Global, state: State) -> Words
+    ensures says { Say result (next_sentence state) None }
+    ensures place { BeginWith result (batch_place state) }
+{
     let word = state.word();
     Words::at(format!(in alloc; "the batch is {word}"), next_of(state))
 }
 
 /// The sentence for a refusal that has no place.
-fn sentence_of(refusal: Refusal) -> &'static str {
+fn sentence_of(refusal: Refusal) -> &'static str
+    ensures { result.now ≡ refusal_sentence refusal }
+{
     match refusal {
         Refusal::BadName => reported::BAD_NAME,
         Refusal::NoSuchBatch => reported::NO_SUCH_BATCH,
@@ -70,7 +83,10 @@ fn sentence_of(refusal: Refusal) -> &'static str {
 }
 
 /// The words for a state that does not allow what was asked.
-fn wrong_state(alloc: Global, state: State, asked: Asked<'_>) -> Words {
+fn wrong_state(alloc: Global, state: State, asked: Asked<'_>) -> Words
+    ensures says { Say result (state_sentence asked.entry state) (Some Page.Batches) }
+    ensures place { BeginWith result (state_place asked.entry state) }
+{
     let word = state.word();
     let words = match asked {
         Asked::Correction(_) => Words::at(
@@ -88,11 +104,21 @@ fn wrong_state(alloc: Global, state: State, asked: Asked<'_>) -> Words {
     words.on(Page::Batches)
 }
 
-fn stale(alloc: Global, current: u64, asked: Asked<'_>) -> Words {
-    let base = match asked {
+/// The revision that a correction was made on; 0 where nothing was corrected.
+fn base_of(asked: Asked<'_>) -> u64
+    ensures { result ≡ base_of asked.entry }
+{
+    match asked {
         Asked::Correction(base) => base,
         Asked::Event | Asked::Pull | Asked::Query(_) | Asked::SentId(_) | Asked::Other => 0,
-    };
+    }
+}
+
+/// The words for a correction that was not made on the current revision.
+fn stale(alloc: Global, base: u64, current: u64) -> Words
+    ensures says { Say result STALE.now None }
+    ensures place { BeginWith result (stale_place base current) }
+{
     Words::at(
         format!(in alloc; "made on revision {base}, the current one is {current}"),
         reported::STALE,
@@ -100,7 +126,9 @@ fn stale(alloc: Global, current: u64, asked: Asked<'_>) -> Words {
 }
 
 /// The words for a sentence that does not exist: it was asked for by its `sent_id`, or by its number.
-fn no_such_sentence(alloc: Global, asked: Asked<'_>) -> Words {
+fn no_such_sentence(alloc: Global, asked: Asked<'_>) -> Words
+    ensures { Say result (missing_sentence asked.entry) None }
+{
     match asked {
         Asked::SentId(sent_id) => {
             let sent_id = shown(sent_id);
@@ -114,7 +142,10 @@ fn no_such_sentence(alloc: Global, asked: Asked<'_>) -> Words {
 }
 
 /// The fault of a query with this code, at this place.
-fn query_fault(code: u8, at: u64) -> Option<QueryFault> {
+fn query_fault(code: u8, at: u64) -> Option<QueryFault>
+    ensures known { IfSome result (λ e. IsNumbered e code at) }
+    ensures all { (e : QueryFault) → IsNumbered e code at → result ≡ Some e }
+{
     match code {
         1 => Some(QueryFault::TooLong),
         2 => Some(QueryFault::Syntax(at)),
@@ -127,7 +158,9 @@ fn query_fault(code: u8, at: u64) -> Option<QueryFault> {
 }
 
 /// The words for a query that is refused with this code, at this place.
-fn of_query(alloc: Global, code: u8, at: u64, asked: Asked<'_>) -> Words {
+fn of_query(alloc: Global, code: u8, at: u64, asked: Asked<'_>) -> Words
+    ensures { SaysOfCode asked.entry code at result }
+{
     match (asked, query_fault(code, at)) {
         (Asked::Query(text), Some(fault)) => words_of_query(alloc, text, fault),
         _ => Words::alone(reported::SYNTAX),
@@ -135,7 +168,9 @@ fn of_query(alloc: Global, code: u8, at: u64, asked: Asked<'_>) -> Words {
 }
 
 /// The words for want of memory. A query that wants memory whenever it is read has a pattern that is too large.
-fn of_memory(alloc: Global, asked: Asked<'_>) -> Words {
+fn of_memory(alloc: Global, asked: Asked<'_>) -> Words
+    ensures { SaysOfMemory result }
+{
     match asked {
         Asked::Query(text) if matches!(parse(alloc, text), Err(QueryFault::Memory)) => {
             words_of_query(alloc, text, QueryFault::Memory)
@@ -144,11 +179,13 @@ fn of_memory(alloc: Global, asked: Asked<'_>) -> Words {
     }
 }
 
-fn of_refusal(alloc: Global, refusal: Refusal, asked: Asked<'_>) -> Words {
+fn of_refusal(alloc: Global, refusal: Refusal, asked: Asked<'_>) -> Words
+    ensures { SaysOfRefusal refusal asked.entry result }
+{
     match refusal {
         Refusal::Query(code, at) => of_query(alloc, code, at, asked),
         Refusal::WrongState(state) => wrong_state(alloc, state, asked),
-        Refusal::Stale(current) => stale(alloc, current, asked),
+        Refusal::Stale(current) => stale(alloc, base_of(asked), current),
         Refusal::NoSuchSentence => no_such_sentence(alloc, asked),
         Refusal::SentIdTaken(sentence) => Words::at(
             format!(in alloc; "sentence {sentence} of the input"),
@@ -159,7 +196,10 @@ fn of_refusal(alloc: Global, refusal: Refusal, asked: Asked<'_>) -> Words {
 }
 
 /// The words for a reply. A refusal gets what is wrong in the body, and a batch that moved gets what may come next.
-pub fn words_of_reply(alloc: Global, reply: Reply, body: &[u8], asked: Asked<'_>) -> Option<Words> {
+pub fn words_of_reply(alloc: Global, reply: Reply, body: &[u8], asked: Asked<'_>) -> Option<Words>
+    ensures some { is_some result ≡ is_explained reply }
+    ensures says { IfSome result (λ words. Explains reply asked.entry words) }
+{
     match reply {
         Reply::Moved(moved) => Some(words_of_move(alloc, moved.state)),
         Reply::Refused(Refusal::Read(line, code)) => {

@@ -1,5 +1,23 @@
 //! Where a sentence breaks a rule, and by what.
 
+ghost use Rattle.std.specs.Prelude.{◌≡◌, ◌≢◌, ◌⊎◌, ◌≤◌, ◌<◌, ◌+◌, ◌-◌, ◌^◌, ◌↔◌, count_by, IfNone, IfSome};
+ghost use Rattle.std.specs.Prelude.{IsSomeAnd, IsTrue};
+ghost use Rattle.std.specs.Prelude.{length, map, MatchOption, option_map, option_copied, position, slice_index_or, Some};
+ghost use Rattle.std.specs.List.{slice_get};
+ghost use Rattle.tb_conllu.specs.Text.{fields_of};
+ghost use Rattle.tb_conllu.specs.Words.{is_word, words_of};
+ghost use Rattle.tb_rules.specs.Comments.{text_key, trimmed, value_under};
+ghost use Rattle.tb_rules.specs.Tree.{is_root as is_root_row};
+ghost use Rattle.tb_words.specs.Columns.{value_bytes};
+ghost use Rattle.tb_words.specs.FileSentences.{comment_line_of, line_of_word, row_line_of};
+ghost use Rattle.tb_words.specs.Keyed.{IsAtName, IsKeyed, IsMisplaced, IsMisplacedRow, SaysKey, SaysOrder, SaysSentId, SaysTaken};
+ghost use Rattle.tb_words.specs.Keyed.{next_id, order_sentence};
+ghost use Rattle.tb_words.specs.RowFaults.{SaysHead, SaysHeaded, SaysNode, SaysRange, SaysRangePlace};
+ghost use Rattle.tb_words.specs.RowFaults.{SaysRelation, SaysRoots, SaysWord, SaysWords, range_last, reaches};
+ghost use Rattle.tb_words.specs.RowFaults.{IsRangePlaced, SaysName, word_number};
+ghost use Rattle.tb_words.specs.declared.findings.Detail.TheVariants.{And, Instead};
+ghost use Rattle.tb_words.specs.declared.sentences.TheConstants.{CIRCLE, TEXT_MISSING, TEXT_TWICE, TWO_ROOTS};
+
 use crate::circles::{circle_text, heads_of, on_circle};
 use crate::columns::{DEPREL, DEPS, FEATS, HEAD, ID, UPOS, filled, value_in};
 use crate::features::feature_fault;
@@ -12,10 +30,28 @@ use std::alloc::Global;
 use tb_conllu::{BlockRef, LineId, RowRef, is_word_row, words};
 use tb_fields::{is_relation_text, is_tag};
 
-/// The key and the value of a comment.
-fn key_and_value(comment: &str) -> Option<(&str, &str)> {
-    let (key, value) = comment.strip_prefix('#')?.split_once('=')?;
-    Some((key.trim_matches(' '), value.trim_matches(' ')))
+/// The text without the spaces (U+0020) at both ends.
+fn without_spaces(text: &str) -> &str
+    ensures { result.now ≡ trimmed text.now }
+{
+    text.trim_start_matches(' ').trim_end_matches(' ')
+}
+
+/// The value of a comment, if it has this key.
+fn value_under<'a>(comment: &'a str, key: &str) -> Option<&'a str>
+    ensures { option_copied result ≡ value_under key.now comment.now }
+{
+    let Some(rest) = comment.strip_prefix('#') else {
+        return None;
+    };
+    let Some((name, value)) = rest.split_once('=') else {
+        return None;
+    };
+    if without_spaces(name) == key {
+        Some(without_spaces(value))
+    } else {
+        None
+    }
 }
 
 /// A comment with a key: how many comments precede it, and its value.
@@ -25,16 +61,26 @@ pub(crate) struct Comment<'a> {
     pub(crate) value: &'a str,
 }
 
-/// The first comment with this key, after the first `before` comments.
-pub(crate) fn keyed<'a>(block: &BlockRef<'a>, key: &str, before: usize) -> Option<Comment<'a>> {
-    for (at, comment) in block.comments.iter().enumerate().skip(before) {
-        if let Some((name, value)) = key_and_value(comment) {
-            if name == key {
-                return Some(Comment { at, value });
-            }
+/// The first of some comments that has this key, after the first `before` ones.
+fn keyed_in<'a>(comments: &[&'a str], key: &str, before: usize) -> Option<Comment<'a>>
+    ensures { IsKeyed key.now (map (λ c. c.now) comments.now) before result }
+{
+    for (at, comment) in comments.iter().enumerate() {
+        if at < before {
+            continue;
+        }
+        if let Some(value) = value_under(comment, key) {
+            return Some(Comment { at, value });
         }
     }
     None
+}
+
+/// The first comment with this key, after the first `before` comments.
+pub(crate) fn keyed<'a>(block: &BlockRef<'a>, key: &str, before: usize) -> Option<Comment<'a>>
+    ensures { IsKeyed key.now block.now.comments before result }
+{
+    keyed_in(&block.comments, key, before)
 }
 
 /// What is wrong where two comments have one key, or none has it.
@@ -43,7 +89,9 @@ fn key_fault<'a>(
     key: &str,
     none: &'static str,
     two: &'static str,
-) -> Option<Finding<'a>> {
+) -> Option<Finding<'a>>
+    ensures { IfSome result (SaysKey placed.now key.now none.now two.now) }
+{
     let Some(first) = keyed(&placed.block, key, 0) else {
         return Some(Finding::on(placed.comment_line(0), none));
     };
@@ -54,7 +102,10 @@ fn key_fault<'a>(
 }
 
 /// What is wrong with the only name of a sentence.
-fn name_fault<'a>(placed: &Placed<'a>) -> Option<Finding<'a>> {
+fn name_fault<'a>(placed: &Placed<'a>) -> Option<Finding<'a>>
+    ensures said { IfSome result (λ f. IsSomeAnd f.value (λ v. SaysName (value_bytes v) f.sentence.now)) }
+    ensures name { IfSome result (IsAtName placed.now) }
+{
     let name = keyed(&placed.block, "sent_id", 0)?;
     let line = placed.comment_line(name.at);
     let sentence = if name.value.is_empty() {
@@ -65,7 +116,9 @@ fn name_fault<'a>(placed: &Placed<'a>) -> Option<Finding<'a>> {
     Some(Finding::on(line, sentence).with(Value::Text(name.value)))
 }
 
-fn sent_id_fault<'a>(placed: &Placed<'a>) -> Option<Finding<'a>> {
+fn sent_id_fault<'a>(placed: &Placed<'a>) -> Option<Finding<'a>>
+    ensures { IfSome result (SaysSentId placed.now) }
+{
     let found = key_fault(
         placed,
         "sent_id",
@@ -84,7 +137,10 @@ fn out_of_order<'a>(
     found: LineId,
     wanted: LineId,
     sentence: &'static str,
-) -> Option<Finding<'a>> {
+) -> Option<Finding<'a>>
+    ensures { IsSomeAnd result (λ f. (f.line ≡ line) × (f.id ≡ Some found) × (f.detail ≡ Instead wanted)
+        × (f.sentence.now ≡ sentence.now)) }
+{
     Some(
         Finding::on(line, sentence)
             .of(found)
@@ -92,47 +148,105 @@ fn out_of_order<'a>(
     )
 }
 
-fn order_fault<'a>(placed: &Placed<'a>) -> Option<Finding<'a>> {
-    let mut word: u32 = 0;
-    let mut node: u32 = 0;
-    for (at, row) in placed.block.rows.iter().enumerate() {
-        let line = placed.row_line(at);
-        match row.id {
-            LineId::Word(number) => {
-                word = word.saturating_add(1);
-                node = 0;
-                if number != word {
-                    let wanted = LineId::Word(word);
-                    return out_of_order(line, row.id, wanted, reported::WORD_ORDER);
-                }
+/// The ID in the place of one, after so many words, and so many empty nodes since the last of them.
+fn next_id(id: LineId, words: u32, nodes: u32) -> LineId
+    ensures { result ≡ next_id words nodes id }
+{
+    match id {
+        LineId::Word(_) => LineId::Word(words.saturating_add(1)),
+        LineId::Span(..) => id,
+        LineId::Empty(..) => LineId::Empty(words, nodes.saturating_add(1)),
+    }
+}
+
+fn is_same_id(one: LineId, other: LineId) -> bool
+    ensures { IsTrue result ↔ one ≡ other }
+{
+    one == other
+}
+
+/// The place of the first row that is not in its place, and the ID that has to stand there.
+fn misplaced(rows: &[RowRef<'_>]) -> Option<(usize, LineId)>
+    ensures { length rows.now + 1 < 2 ^ 32 → IfSome result (IsMisplaced rows.now) }
+{
+    let mut words: u32 = 0;
+    let mut nodes: u32 = 0;
+    for (at, row) in rows.iter().enumerate() {
+        let wanted = next_id(row.id, words, nodes);
+        if !is_same_id(row.id, wanted) {
+            return Some((at, wanted));
+        }
+        match wanted {
+            LineId::Word(word) => {
+                words = word;
+                nodes = 0;
             }
             LineId::Span(..) => {}
-            LineId::Empty(after, number) => {
-                node = node.saturating_add(1);
-                if after != word || number != node {
-                    let wanted = LineId::Empty(word, node);
-                    return out_of_order(line, row.id, wanted, reported::NODE_ORDER);
-                }
-            }
+            LineId::Empty(_, node) => nodes = node,
         }
     }
     None
 }
 
-fn numbering_fault<'a>(placed: &Placed<'a>) -> Option<Finding<'a>> {
-    if let Some(fault) = order_fault(placed) {
-        return Some(fault);
+/// What is said of an ID that is not in its place.
+fn order_sentence(id: LineId) -> &'static str
+    ensures { result.now ≡ order_sentence id }
+{
+    match id {
+        LineId::Word(_) => reported::WORD_ORDER,
+        LineId::Span(..) | LineId::Empty(..) => reported::NODE_ORDER,
     }
+}
+
+/// The same of a sentence.
+fn misplaced_in(block: &BlockRef<'_>) -> Option<(usize, LineId)>
+    ensures { length block.now.rows + 1 < 2 ^ 32 → IfSome result (IsMisplaced block.now.rows) }
+{
+    misplaced(block.rows.as_slice())
+}
+
+/// What is wrong with the row at this place, in the place of another.
+fn misplaced_row<'a>(placed: &Placed<'a>, at: usize, wanted: LineId) -> Option<Finding<'a>>
+    ensures { IfSome result (IsMisplacedRow placed.now at wanted) }
+{
+    let found = row_at(&placed.block, at)?.id;
+    out_of_order(placed.row_line(at), found, wanted, order_sentence(found))
+}
+
+fn order_fault<'a>(placed: &Placed<'a>) -> Option<Finding<'a>>
+    ensures { length placed.now.block.rows + 1 < 2 ^ 32 → IfSome result (SaysOrder placed.now) }
+{
+    let (at, wanted) = misplaced_in(&placed.block)?;
+    misplaced_row(placed, at, wanted)
+}
+
+/// What is wrong with the number of the words of a sentence.
+fn count_fault<'a>(placed: &Placed<'a>) -> Finding<'a>
+    ensures { SaysWords placed.now (words_of placed.now.block) result }
+{
     let count = words(&placed.block);
     let sentence = if count == 0 {
         reported::NO_WORDS
     } else {
         reported::TOO_MANY_WORDS
     };
-    Some(Finding::on(placed.comment_line(0), sentence).and(Detail::Words(count)))
+    Finding::on(placed.comment_line(0), sentence).and(Detail::Words(count))
 }
 
-fn head_fault(head: u32, word: u32, count: usize) -> Option<&'static str> {
+fn numbering_fault<'a>(placed: &Placed<'a>) -> Option<Finding<'a>>
+    ensures { length placed.now.block.rows + 1 < 2 ^ 32
+        → IfSome result (λ f. SaysOrder placed.now f ⊎ SaysWords placed.now (words_of placed.now.block) f) }
+{
+    match order_fault(placed) {
+        Some(fault) => Some(fault),
+        None => Some(count_fault(placed)),
+    }
+}
+
+fn head_fault(head: u32, word: u32, count: usize) -> Option<&'static str>
+    ensures some { IfSome result (λ said. SaysHead head word count said.now) }
+    ensures none { IfNone result ((head ≤ count) × (head ≢ word)) }
+{
     if head as usize > count {
         return Some(reported::HEAD_BEYOND);
     }
@@ -142,7 +256,9 @@ fn head_fault(head: u32, word: u32, count: usize) -> Option<&'static str> {
     None
 }
 
-fn relation_fault(relation: &str, head: u32) -> &'static str {
+fn relation_fault(relation: &str, head: u32) -> &'static str
+    ensures { SaysRelation relation.now head result.now }
+{
     if !is_relation_text(relation) {
         reported::DEPREL_UNKNOWN
     } else if head == 0 {
@@ -152,61 +268,99 @@ fn relation_fault(relation: &str, head: u32) -> &'static str {
     }
 }
 
-fn word_fault(row: &RowRef<'_>, count: usize) -> (usize, &'static str) {
-    if !is_tag(row.upos) {
-        return (UPOS, reported::UPOS_UNKNOWN);
-    }
-    let Some(head) = row.head else {
-        return (HEAD, reported::HEAD_MISSING);
-    };
-    let word = match row.id {
+/// The number of a word; 0 for other rows.
+fn number_of(id: LineId) -> u32
+    ensures { result ≡ word_number id }
+{
+    match id {
         LineId::Word(word) => word,
         LineId::Span(..) | LineId::Empty(..) => 0,
-    };
-    match head_fault(head, word, count) {
+    }
+}
+
+/// What is wrong with a word that has this head.
+fn headed_fault(row: &RowRef<'_>, head: u32, count: usize) -> (usize, &'static str)
+    ensures { SaysHeaded row.now count head result.0 result.1.now }
+{
+    match head_fault(head, number_of(row.id), count) {
         Some(sentence) => (HEAD, sentence),
         None => (DEPREL, relation_fault(row.deprel, head)),
     }
 }
 
-/// The last word of the ranges among the first `at` rows, and how many of these rows are words.
-fn before(rows: &[RowRef<'_>], at: usize) -> (u32, usize) {
-    let mut end: u32 = 0;
-    let mut count: usize = 0;
-    for row in rows.iter().take(at) {
-        match row.id {
-            LineId::Span(_, last) => end = end.max(last),
-            LineId::Word(_) => count = count.saturating_add(1),
-            LineId::Empty(..) => {}
-        }
+fn word_fault(row: &RowRef<'_>, count: usize) -> (usize, &'static str)
+    ensures { SaysWord row.now count result.0 result.1.now }
+{
+    if !is_tag(row.upos) {
+        return (UPOS, reported::UPOS_UNKNOWN);
     }
-    (end, count)
+    match row.head {
+        Some(head) => headed_fault(row, head, count),
+        None => (HEAD, reported::HEAD_MISSING),
+    }
 }
 
-fn range_fault(
-    rows: &[RowRef<'_>],
-    at: usize,
-    row: &RowRef<'_>,
+/// The last word of a range; 0 for other rows.
+fn range_end(row: &RowRef<'_>) -> u32
+    ensures { result ≡ range_last row.now.id }
+{
+    match row.id {
+        LineId::Span(_, last) => last,
+        LineId::Word(_) | LineId::Empty(..) => 0,
+    }
+}
+
+/// Whether one of the rows is a range that ends at this word or after it.
+fn reach(rows: &[RowRef<'_>], word: u32) -> bool
+    ensures { result ≡ reaches rows.now word }
+{
+    rows.iter().any(|row| word <= range_end(row))
+}
+
+fn count_words(rows: &[RowRef<'_>]) -> usize
+    ensures { result ≡ count_by is_word rows.now }
+{
+    rows.iter().filter(|row| is_word_row(*row)).count()
+}
+
+/// What is wrong with the place of a range after these rows, if anything is.
+fn range_place_fault(
+    before: &[RowRef<'_>],
+    first: u32,
+    last: u32,
     count: usize,
-) -> (usize, &'static str) {
+) -> Option<&'static str>
+    ensures { MatchOption result (IsRangePlaced before.now first last count) (λ said.
+        SaysRangePlace before.now first last count said.now) }
+{
+    if last < first {
+        Some(reported::RANGE_BACKWARD)
+    } else if last as usize > count {
+        Some(reported::RANGE_BEYOND)
+    } else if reach(before, first) {
+        Some(reported::RANGE_OVERLAP)
+    } else if first as usize != count_words(before).saturating_add(1) {
+        Some(reported::RANGE_PLACE)
+    } else {
+        None
+    }
+}
+
+fn range_fault(before: &[RowRef<'_>], row: &RowRef<'_>, count: usize) -> (usize, &'static str)
+    ensures { SaysRange before.now row.now count result.0 result.1.now }
+{
     let LineId::Span(first, last) = row.id else {
         return (ID, reported::RANGE_PLACE);
     };
-    let (end, words) = before(rows, at);
-    if last < first {
-        (ID, reported::RANGE_BACKWARD)
-    } else if last as usize > count {
-        (ID, reported::RANGE_BEYOND)
-    } else if first <= end {
-        (ID, reported::RANGE_OVERLAP)
-    } else if first as usize != words.saturating_add(1) {
-        (ID, reported::RANGE_PLACE)
-    } else {
-        (filled(row), reported::RANGE_FIELD)
+    match range_place_fault(before, first, last, count) {
+        Some(sentence) => (ID, sentence),
+        None => (filled(row), reported::RANGE_FIELD),
     }
 }
 
-fn node_fault(row: &RowRef<'_>) -> (usize, &'static str) {
+fn node_fault(row: &RowRef<'_>) -> (usize, &'static str)
+    ensures { SaysNode row.now result.0 result.1.now }
+{
     if row.head.is_some() {
         (HEAD, reported::NODE_TREE)
     } else if row.deprel != "_" {
@@ -216,70 +370,133 @@ fn node_fault(row: &RowRef<'_>) -> (usize, &'static str) {
     }
 }
 
-/// What is wrong with a row by one of rules 4 to 8: the column, what is in it, and the sentence.
+/// What is wrong with a row by one of rules 4 to 6: the column, and the sentence.
+fn column_fault(
+    block: &BlockRef<'_>,
+    rule: u8,
+    before: &[RowRef<'_>],
+    row: &RowRef<'_>,
+) -> (usize, &'static str)
+    ensures word { rule ≡ 4 → SaysWord row.now (words_of block.now) result.0 result.1.now }
+    ensures range { rule ≡ 5 → SaysRange before.now row.now (words_of block.now) result.0 result.1.now }
+    ensures node { rule ≡ 6 → SaysNode row.now result.0 result.1.now }
+{
+    match rule {
+        4 => word_fault(row, words(block)),
+        5 => range_fault(before, row, words(block)),
+        _ => node_fault(row),
+    }
+}
+
+/// What is wrong with a row after others by one of rules 4 to 8: the column, what is in it, and the sentence.
 fn row_fault<'a>(
     alloc: Global,
     block: &BlockRef<'a>,
     rule: u8,
-    at: usize,
-) -> Option<(usize, Value<'a>, &'static str)> {
-    let row = block.rows.get(at)?;
-    let (column, sentence) = match rule {
-        4 => word_fault(row, words(block)),
-        5 => range_fault(block.rows.as_slice(), at, row, words(block)),
-        6 => node_fault(row),
+    before: &[RowRef<'a>],
+    row: &RowRef<'a>,
+) -> Option<(usize, Value<'a>, &'static str)>
+    ensures word { rule ≡ 4 → IfSome result (λ f. SaysWord row.now (words_of block.now) f.0 f.2.now) }
+    ensures range { rule ≡ 5 → IfSome result (λ f. SaysRange before.now row.now (words_of block.now) f.0 f.2.now) }
+    ensures node { rule ≡ 6 → IfSome result (λ f. SaysNode row.now f.0 f.2.now) }
+    ensures features { rule ≡ 7 → IfSome result (λ f. f.0 ≡ 5) }
+    ensures pairs { rule ≡ 8 → IfSome result (λ f. f.0 ≡ 8) }
+    ensures value { rule ≤ 6 → IfSome result (λ f.
+        value_bytes f.1 ≡ slice_index_or (fields_of row.now) f.0 row.now.misc) }
+{
+    match rule {
         7 => {
             let (feature, sentence) = feature_fault(alloc, row.feats);
-            return Some((FEATS, Value::Text(feature), sentence));
+            Some((FEATS, Value::Text(feature), sentence))
+        }
+        8 => {
+            let (pair, sentence) = pair_fault(alloc, block.rows.as_slice(), row.deps)?;
+            Some((DEPS, Value::Text(pair), sentence))
         }
         _ => {
-            let (pair, sentence) = pair_fault(alloc, block.rows.as_slice(), row.deps)?;
-            return Some((DEPS, Value::Text(pair), sentence));
+            let (column, sentence) = column_fault(block, rule, before, row);
+            Some((column, value_in(row, column), sentence))
         }
-    };
-    Some((column, value_in(row, column), sentence))
+    }
 }
 
-fn in_row<'a>(alloc: Global, placed: &Placed<'a>, rule: u8, at: usize) -> Option<Finding<'a>> {
-    let (column, value, sentence) = row_fault(alloc, &placed.block, rule, at)?;
-    let id = placed.block.rows.get(at)?.id;
+/// The row at this place, counted from 0.
+fn row_at<'b, 'a>(block: &'b BlockRef<'a>, at: usize) -> Option<&'b RowRef<'a>>
+    ensures { option_copied result ≡ slice_get block.now.rows at }
+{
+    block.rows.get(at)
+}
+
+fn in_row<'a>(alloc: Global, placed: &Placed<'a>, rule: u8, at: usize) -> Option<Finding<'a>>
+    ensures line { IfSome result (λ f. f.line ≡ row_line_of placed.now at) }
+    ensures row { IfSome result (λ f. f.id ≡ option_map (λ row. row.id) (slice_get placed.now.block.rows at)) }
+    ensures column { IfSome result (λ f. (rule ≡ 7 → f.column ≡ Some 5)
+        × (rule ≡ 8 → f.column ≡ Some 8)) }
+{
+    let row = row_at(&placed.block, at)?;
+    let before = placed.block.rows.get(..at)?;
+    let (column, value, sentence) = row_fault(alloc, &placed.block, rule, before, row)?;
     Some(
         Finding::on(placed.row_line(at), sentence)
-            .of(id)
+            .of(row.id)
             .in_column(column)
             .with(value),
     )
 }
 
-fn is_root(row: &RowRef<'_>) -> bool {
+fn is_root(row: &RowRef<'_>) -> bool
+    ensures { result ≡ is_root_row row.now }
+{
     is_word_row(row) && matches!(row.head, Some(0))
 }
 
-/// The first word with HEAD 0, after the first `before` rows.
-fn root_after(rows: &[RowRef<'_>], before: usize) -> Option<usize> {
-    for (at, row) in rows.iter().enumerate().skip(before) {
-        if is_root(row) {
-            return Some(at);
-        }
-    }
-    None
+/// The place of the first word with HEAD 0.
+fn first_root(rows: &[RowRef<'_>]) -> Option<usize>
+    ensures { result ≡ position is_root_row rows.now }
+{
+    rows.iter().position(|row| is_root(row))
 }
 
-fn root_fault<'a>(placed: &Placed<'a>) -> Option<Finding<'a>> {
-    let rows = placed.block.rows.as_slice();
-    let Some(first) = root_after(rows, 0) else {
-        return Some(Finding::on(placed.comment_line(0), reported::NO_ROOT));
-    };
-    let second = root_after(rows, first.saturating_add(1))?;
-    let other = Detail::And(placed.row_line(second), rows.get(second)?.id);
+/// What is wrong with two words that have HEAD 0, at these places.
+fn two_roots<'a>(placed: &Placed<'a>, first: usize, second: usize) -> Option<Finding<'a>>
+    ensures line { IfSome result (λ f. f.line ≡ row_line_of placed.now first) }
+    ensures row { IfSome result (λ f. f.id ≡ option_map (λ row. row.id) (slice_get placed.now.block.rows first)) }
+    ensures said { IfSome result (λ f. f.sentence.now ≡ TWO_ROOTS.now) }
+    ensures other { IfSome result (λ f. IfSome (slice_get placed.now.block.rows second) (λ row.
+        f.detail ≡ And (row_line_of placed.now second) row.id)) }
+{
+    let one = row_at(&placed.block, first)?.id;
+    let other = row_at(&placed.block, second)?.id;
     Some(
         Finding::on(placed.row_line(first), reported::TWO_ROOTS)
-            .of(rows.get(first)?.id)
-            .and(other),
+            .of(one)
+            .and(Detail::And(placed.row_line(second), other)),
     )
 }
 
-fn circle_fault<'a>(alloc: Global, placed: &Placed<'a>) -> Option<Finding<'a>> {
+/// The place of the second word with HEAD 0, where the first is at this place.
+fn second_root(rows: &[RowRef<'_>], first: usize) -> Option<usize>
+    ensures { IfSome result (λ second. first < second) }
+{
+    let from = first.saturating_add(1);
+    let after = first_root(rows.get(from..)?)?;
+    Some(from.saturating_add(after))
+}
+
+fn root_fault<'a>(placed: &Placed<'a>) -> Option<Finding<'a>>
+    ensures { IfSome result (SaysRoots placed.now) }
+{
+    let rows = placed.block.rows.as_slice();
+    match first_root(rows) {
+        Some(first) => two_roots(placed, first, second_root(rows, first)?),
+        None => Some(Finding::on(placed.comment_line(0), reported::NO_ROOT)),
+    }
+}
+
+fn circle_fault<'a>(alloc: Global, placed: &Placed<'a>) -> Option<Finding<'a>>
+    ensures said { IfSome result (λ f. f.sentence.now ≡ CIRCLE.now) }
+    ensures line { IfSome result (λ f. IsSomeAnd f.id (λ id. f.line ≡ line_of_word placed.now (word_number id))) }
+{
     let heads = heads_of(alloc, placed.block.rows.as_slice())?;
     let word = on_circle(heads.as_slice())?;
     let circle = circle_text(alloc, heads.as_slice(), word)?;
@@ -291,11 +508,9 @@ fn circle_fault<'a>(alloc: Global, placed: &Placed<'a>) -> Option<Finding<'a>> {
 }
 
 /// What is wrong with a sentence that has the name of an earlier one: its number, and its first line.
-pub(crate) fn name_taken<'a>(
-    placed: &Placed<'a>,
-    earlier: u64,
-    first: usize,
-) -> Option<Finding<'a>> {
+pub(crate) fn name_taken<'a>(placed: &Placed<'a>, earlier: u64, first: usize) -> Option<Finding<'a>>
+    ensures { IfSome result (SaysTaken placed.now earlier first) }
+{
     let name = keyed(&placed.block, "sent_id", 0)?;
     Some(
         Finding::on(placed.comment_line(name.at), reported::SENT_ID_AGAIN)
@@ -310,7 +525,16 @@ pub(crate) fn fault_by<'a>(
     placed: &Placed<'a>,
     rule: u8,
     row: usize,
-) -> Option<Finding<'a>> {
+) -> Option<Finding<'a>>
+    ensures sent_id { rule ≡ 1 → IfSome result (SaysSentId placed.now) }
+    ensures text { rule ≡ 2 → IfSome result (SaysKey placed.now text_key TEXT_MISSING.now TEXT_TWICE.now) }
+    ensures order { rule ≡ 3 → length placed.now.block.rows + 1 < 2 ^ 32
+        → IfSome result (λ f. SaysOrder placed.now f ⊎ SaysWords placed.now (words_of placed.now.block) f) }
+    ensures rows { 4 ≤ rule → rule ≤ 8 → 1 ≤ row
+        → IfSome result (λ f. f.line ≡ row_line_of placed.now (row - 1)) }
+    ensures roots { rule ≡ 9 → IfSome result (SaysRoots placed.now) }
+    ensures circle { rule ≡ 10 → IfSome result (λ f. f.sentence.now ≡ CIRCLE.now) }
+{
     match rule {
         1 => sent_id_fault(placed),
         2 => key_fault(placed, "text", reported::TEXT_MISSING, reported::TEXT_TWICE),

@@ -1,5 +1,8 @@
 //! Where the forms of a sentence differ from its text.
 
+ghost use Rattle.std.specs.Prelude.{◌≡◌};
+ghost use Rattle.tb_words.specs.Spelled.{difference_sentence};
+
 use crate::findings::{Detail, Finding};
 use crate::places::Placed;
 use crate::rules::keyed;
@@ -42,7 +45,9 @@ fn word_start(text: &str, at: usize) -> usize {
     }
 }
 
-fn sentence_of(text: &str, forms: &str) -> &'static str {
+fn sentence_of(text: &str, forms: &str) -> &'static str
+    ensures { result.now ≡ difference_sentence text.now forms.now }
+{
     if forms.starts_with(' ') {
         reported::FORMS_HAVE_SPACE
     } else if text.starts_with(' ') {

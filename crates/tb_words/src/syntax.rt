@@ -1,13 +1,18 @@
 //! What a query most likely means, where it has something that no query can have.
 
+ghost use Rattle.std.specs.List.{ends_with, slice_get, starts_with};
+ghost use Rattle.std.specs.Prelude.{◌≡◌, chars, drop, eqb, length, position, take};
+ghost use Rattle.std.specs.Str.{IsCharBoundary, trim_end, trim_start};
+ghost use Rattle.tb_words.specs.QueryGuesses.{begins_test, bracket_sentence, character_sentence, end_sentence, follows_column};
+ghost use Rattle.tb_words.specs.QueryGuesses.{follows_flag, follows_repetition, guess, inside_sentence, is_curly};
+ghost use Rattle.tb_words.specs.QueryGuesses.{outside_sentence, quote_sentence, repetition_sentence, said_if};
+ghost use Rattle.tb_words.specs.QueryGuesses.{sign_sentence, wants_number, wants_value, word_sentence};
+ghost use Rattle.tb_words.specs.QueryWords.{column_sentence, first_word, is_closed_column, is_column};
+ghost use Rattle.tb_words.specs.QueryWords.{is_column_in_capitals, is_connective, is_of_features, is_of_forms};
+ghost use Rattle.tb_words.specs.QueryWords.{is_no_letter, is_of_relations, is_of_tags};
+
 use crate::literals::{Literal, holds};
 use crate::sentences as reported;
-
-/// Quotes that a query does not use.
-const CURLY: &[char] = &[
-    '\u{2018}', '\u{2019}', '\u{201A}', '\u{201B}', '\u{201C}', '\u{201D}', '\u{201E}', '\u{201F}',
-    '\u{2032}', '\u{2033}', '\u{AB}', '\u{BB}', '\u{2039}', '\u{203A}', '`', '\u{B4}',
-];
 
 /// A text, and the place of its first fault.
 #[derive(Clone, Copy)]
@@ -37,17 +42,43 @@ fn open(text: &str, literals: &[Literal], at: usize, opens: char, closes: char) 
     count
 }
 
-/// The ASCII letters, digits and underscores with which a text begins.
-fn word(text: &str) -> &str {
-    for (at, c) in text.char_indices() {
-        if !c.is_ascii_alphanumeric() && c != '_' {
-            return text.get(..at).unwrap_or("");
-        }
-    }
-    text
+/// Whether a text ends so.
+fn ends(text: &str, end: &str) -> bool
+    ensures { result ≡ ends_with eqb text.now end.now }
+{
+    text.ends_with(end)
 }
 
-fn is_column(word: &str) -> bool {
+/// Whether a text begins so.
+fn begins(text: &str, front: &str) -> bool
+    ensures { result ≡ starts_with eqb text.now front.now }
+{
+    text.starts_with(front)
+}
+
+/// The place of the first byte that is neither an ASCII letter, a digit nor an underscore.
+fn word_end(text: &str) -> Option<usize>
+    ensures { result ≡ position is_no_letter text.now }
+{
+    text.as_bytes()
+        .iter()
+        .position(|byte| !byte.is_ascii_alphanumeric() && *byte != b'_')
+}
+
+/// The ASCII letters, digits and underscores with which a text begins, and what follows them.
+fn first_word(text: &str) -> (&str, &str)
+    ensures word { result.0.now ≡ first_word text.now }
+    ensures after { result.1.now ≡ drop (length (first_word text.now)) text.now }
+{
+    match word_end(text) {
+        Some(end) => (text.get(..end).unwrap_or(""), text.get(end..).unwrap_or("")),
+        None => (text, ""),
+    }
+}
+
+fn is_column(word: &str) -> bool
+    ensures { result ≡ is_column word.now }
+{
     matches!(
         word,
         "word" | "lemma" | "upos" | "xpos" | "feats" | "deprel"
@@ -55,37 +86,109 @@ fn is_column(word: &str) -> bool {
 }
 
 /// Whether a word is the name of a column, apart from the case of its letters.
-fn is_column_in_capitals(word: &str) -> bool {
-    for name in ["word", "lemma", "upos", "xpos", "feats", "deprel"] {
-        if name.eq_ignore_ascii_case(word) {
-            return true;
-        }
-    }
-    false
+fn is_column_in_capitals(word: &str) -> bool
+    ensures { result ≡ is_column_in_capitals word.now }
+{
+    word.eq_ignore_ascii_case("word")
+        || word.eq_ignore_ascii_case("lemma")
+        || word.eq_ignore_ascii_case("upos")
+        || word.eq_ignore_ascii_case("xpos")
+        || word.eq_ignore_ascii_case("feats")
+        || word.eq_ignore_ascii_case("deprel")
+}
+
+/// Whether others have this name for a column of tags.
+fn is_of_tags(word: &str) -> bool
+    ensures { result ≡ is_of_tags word.now }
+{
+    matches!(word, "pos" | "POS" | "tag" | "cpos" | "postag")
+}
+
+fn is_of_forms(word: &str) -> bool
+    ensures { result ≡ is_of_forms word.now }
+{
+    matches!(word, "form" | "FORM" | "token" | "text")
+}
+
+fn is_of_features(word: &str) -> bool
+    ensures { result ≡ is_of_features word.now }
+{
+    matches!(word, "morph" | "feat" | "features" | "featscontains")
+}
+
+fn is_of_relations(word: &str) -> bool
+    ensures { result ≡ is_of_relations word.now }
+{
+    matches!(word, "rel" | "dep" | "relation" | "deprels")
+}
+
+/// Whether a word is a column that cannot be asked.
+fn is_closed_column(word: &str) -> bool
+    ensures { result ≡ is_closed_column word.now }
+{
+    matches!(
+        word,
+        "id" | "ID" | "head" | "HEAD" | "deps" | "DEPS" | "misc" | "MISC"
+    )
 }
 
 /// What is wrong with a word in the place of a column's name.
-fn column_fault(word: &str) -> &'static str {
+fn column_fault(word: &str) -> &'static str
+    ensures { result.now ≡ column_sentence word.now }
+{
     if is_column_in_capitals(word) {
         return reported::COLUMN_CASE;
     }
-    match word {
-        "pos" | "POS" | "tag" | "cpos" | "postag" => reported::COLUMN_POS,
-        "form" | "FORM" | "token" | "text" => reported::COLUMN_WORD,
-        "morph" | "feat" | "features" | "featscontains" => reported::COLUMN_FEATS,
-        "rel" | "dep" | "relation" | "deprels" => reported::COLUMN_DEPREL,
-        "id" | "ID" | "head" | "HEAD" | "deps" | "DEPS" | "misc" | "MISC" =>
-            reported::COLUMN_CLOSED,
-        _ => reported::COLUMN_OTHER,
+    if is_of_tags(word) {
+        reported::COLUMN_POS
+    } else if is_of_forms(word) {
+        reported::COLUMN_WORD
+    } else if is_of_features(word) {
+        reported::COLUMN_FEATS
+    } else if is_of_relations(word) {
+        reported::COLUMN_DEPREL
+    } else if is_closed_column(word) {
+        reported::COLUMN_CLOSED
+    } else {
+        reported::COLUMN_OTHER
     }
 }
 
-fn is_connective(word: &str) -> bool {
+fn is_connective(word: &str) -> bool
+    ensures { result ≡ is_connective word.now }
+{
     matches!(word, "and" | "or" | "not" | "AND" | "OR" | "NOT")
 }
 
+/// Whether a character is a quote that a query does not use.
+fn is_curly(c: char) -> bool
+    ensures { result ≡ is_curly c }
+{
+    matches!(
+        c,
+        '\u{2018}'..='\u{201F}'
+            | '\u{2032}'
+            | '\u{2033}'
+            | '\u{AB}'
+            | '\u{BB}'
+            | '\u{2039}'
+            | '\u{203A}'
+            | '`'
+            | '\u{B4}'
+    )
+}
+
+fn first_character(text: &str) -> Option<char>
+    ensures { result ≡ slice_get (chars text.now) 0 }
+{
+    text.chars().next()
+}
+
 impl<'a> Wrong<'a> {
-    pub(crate) fn new(text: &'a str, literals: &[Literal], at: usize) -> Wrong<'a> {
+    pub(crate) fn new(text: &'a str, literals: &[Literal], at: usize) -> Wrong<'a>
+        ensures before { IsCharBoundary text.now at → result.before.now ≡ trim_end (take at text.now) }
+        ensures rest { IsCharBoundary text.now at → result.rest.now ≡ drop at text.now }
+    {
         Wrong {
             before: text.get(..at).unwrap_or(text).trim_end(),
             rest: text.get(at..).unwrap_or(""),
@@ -95,38 +198,70 @@ impl<'a> Wrong<'a> {
     }
 
     /// Whether the name of a column precedes the place.
-    fn follows_column(&self) -> bool {
-        ["word", "lemma", "upos", "xpos", "feats", "deprel"]
-            .iter()
-            .any(|name| self.before.ends_with(*name))
+    fn follows_column(&self) -> bool
+        ensures { result ≡ follows_column self.now }
+    {
+        ends(self.before, "word")
+            || ends(self.before, "lemma")
+            || ends(self.before, "upos")
+            || ends(self.before, "xpos")
+            || ends(self.before, "feats")
+            || ends(self.before, "deprel")
     }
 
     /// Whether a value has to be here.
-    fn wants_value(&self) -> bool {
-        self.brackets > 0 && (self.before.ends_with('=') || self.before.ends_with("contains"))
+    fn wants_value(&self) -> bool
+        ensures { result ≡ wants_value self.now }
+    {
+        self.brackets > 0 && (ends(self.before, "=") || ends(self.before, "contains"))
     }
 
-    fn follows_flag(&self) -> bool {
-        self.before.ends_with("%c") || self.before.ends_with("%l")
+    fn follows_flag(&self) -> bool
+        ensures { result ≡ follows_flag self.now }
+    {
+        ends(self.before, "%c") || ends(self.before, "%l")
     }
 
-    fn follows_repetition(&self) -> bool {
-        self.before.ends_with(['?', '*', '+', '}'])
+    fn follows_repetition(&self) -> bool
+        ensures { result ≡ follows_repetition self.now }
+    {
+        ends(self.before, "?")
+            || ends(self.before, "*")
+            || ends(self.before, "+")
+            || ends(self.before, "}")
+    }
+
+    /// Whether a sign after which a test begins precedes the place.
+    fn begins_test(&self) -> bool
+        ensures { result ≡ begins_test self.now }
+    {
+        ends(self.before, "[")
+            || ends(self.before, "(")
+            || ends(self.before, "&")
+            || ends(self.before, "|")
+            || ends(self.before, "!")
+    }
+
+    /// Whether the number of a repetition has to be here.
+    fn wants_number(&self) -> bool
+        ensures { result ≡ wants_number self.now }
+    {
+        ends(self.before, "{") || ends(self.before, ",")
     }
 
     /// What is missing where the text ends too early.
-    fn end(&self) -> &'static str {
+    fn end(&self) -> &'static str
+        ensures { result.now ≡ end_sentence self.now }
+    {
         if self.before.is_empty() {
             reported::EMPTY_QUERY
         } else if self.brackets > 0 {
             reported::BRACKET_OPEN
         } else if self.parentheses > 0 {
             reported::PARENTHESIS_OPEN
-        } else if self.before.ends_with(',') || self.before.ends_with('{') {
-            reported::BRACE_OPEN
-        } else if self.before.ends_with("within") {
+        } else if ends(self.before, "within") {
             reported::WITHIN
-        } else if self.before.ends_with('|') {
+        } else if ends(self.before, "|") {
             reported::ENDS_EARLY
         } else {
             reported::BRACE_OPEN
@@ -134,7 +269,9 @@ impl<'a> Wrong<'a> {
     }
 
     /// What is wrong with a word within brackets.
-    fn word_inside(&self, word: &str) -> &'static str {
+    fn word_inside(&self, word: &str) -> &'static str
+        ensures { result.now ≡ inside_sentence self.now word.now }
+    {
         if self.wants_value() {
             reported::VALUE_UNQUOTED
         } else if word == "contains" {
@@ -145,46 +282,40 @@ impl<'a> Wrong<'a> {
             reported::AND_OR
         } else if self.follows_flag() {
             reported::FLAG
-        } else if self.before.ends_with(['[', '(', '&', '|', '!']) {
+        } else if self.begins_test() {
             column_fault(word)
         } else {
             reported::SYNTAX
         }
     }
 
-    /// What is wrong with a word outside brackets.
-    fn word_outside(&self, word: &str) -> &'static str {
-        let after = self.rest.get(word.len()..).unwrap_or("");
+    /// What is wrong with a word outside brackets, which this follows.
+    fn word_before(&self, word: &str, after: &str) -> &'static str
+        ensures { result.now ≡ outside_sentence self.now word.now after.now }
+    {
         if self.follows_flag() {
             reported::FLAG
-        } else if self.before.ends_with("within") {
+        } else if ends(self.before, "within") {
             reported::WITHIN
-        } else if self.before.ends_with("\\\"") || self.before.ends_with("\\'") {
+        } else if ends(self.before, "\\\"") || ends(self.before, "\\'") {
             reported::BACKSLASH_QUOTE
-        } else if after.starts_with(':') {
+        } else if begins(after, ":") {
             reported::LABEL
         } else if word == "MU" || word == "TAB" {
             reported::MU
-        } else if is_column(word) || after.trim_start().starts_with('=') {
+        } else if is_column(word) || begins(after.trim_start(), "=") {
             reported::BRACKETS
-        } else if self.before.ends_with('{') || self.before.ends_with(',') {
+        } else if self.wants_number() {
             reported::NUMBER_ZERO
         } else {
             reported::WORD_UNQUOTED
         }
     }
 
-    fn word(&self) -> &'static str {
-        let word = word(self.rest);
-        if self.brackets > 0 {
-            self.word_inside(word)
-        } else {
-            self.word_outside(word)
-        }
-    }
-
     /// What is wrong with a quote. `is_closed` says whether its literal ends.
-    fn quote(&self, is_closed: bool) -> &'static str {
+    fn quote(&self, is_closed: bool) -> &'static str
+        ensures { result.now ≡ quote_sentence self.now is_closed }
+    {
         if !is_closed {
             reported::QUOTE_OPEN
         } else if self.follows_column() {
@@ -194,7 +325,9 @@ impl<'a> Wrong<'a> {
         }
     }
 
-    fn repetition(&self) -> &'static str {
+    fn repetition(&self) -> &'static str
+        ensures { result.now ≡ repetition_sentence self.now }
+    {
         if self.follows_repetition() {
             reported::REPEATED_TWICE
         } else {
@@ -202,7 +335,9 @@ impl<'a> Wrong<'a> {
         }
     }
 
-    fn closing_bracket(&self) -> &'static str {
+    fn closing_bracket(&self) -> &'static str
+        ensures { result.now ≡ bracket_sentence self.now }
+    {
         if self.wants_value() {
             reported::VALUE_WANTED
         } else if self.follows_column() {
@@ -212,38 +347,73 @@ impl<'a> Wrong<'a> {
         }
     }
 
+    /// What is said of a sign where something is so, and else that a value is wanted, or nothing more.
+    fn said_if(&self, is_so: bool, sentence: &'static str) -> &'static str
+        ensures { result.now ≡ said_if self.now is_so sentence.entry.now }
+    {
+        if is_so {
+            sentence
+        } else if self.wants_value() {
+            reported::VALUE_WANTED
+        } else {
+            reported::SYNTAX
+        }
+    }
+
     /// What is wrong with a sign that is neither a letter nor a digit.
-    fn sign(&self, sign: char) -> &'static str {
+    fn sign(&self, sign: char) -> &'static str
+        ensures { result.now ≡ sign_sentence self.now sign }
+    {
         match sign {
             '%' => reported::FLAG,
             '<' => reported::TAG,
             '@' => reported::ANCHOR,
             ':' => reported::LABEL,
-            '-' if self.rest.starts_with("->") => reported::ARROW,
-            ',' if self.before.ends_with('{') => reported::NO_LOWER,
-            '{' | '?' | '*' | '+' => self.repetition(),
-            '=' if self.before.ends_with('=') => reported::EQUALS_TWICE,
-            '!' if self.follows_column() => reported::NOT_SPACED,
             ')' => reported::NO_PARENTHESIS,
             ']' => self.closing_bracket(),
-            _ if self.wants_value() => reported::VALUE_WANTED,
-            _ => reported::SYNTAX,
+            '{' | '?' | '*' | '+' => self.repetition(),
+            '-' => self.said_if(begins(self.rest, "->"), reported::ARROW),
+            ',' => self.said_if(ends(self.before, "{"), reported::NO_LOWER),
+            '=' => self.said_if(ends(self.before, "="), reported::EQUALS_TWICE),
+            '!' => self.said_if(self.follows_column(), reported::NOT_SPACED),
+            _ => self.said_if(false, reported::SYNTAX),
+        }
+    }
+
+    /// What is wrong with a word.
+    fn word(&self) -> &'static str
+        ensures { result.now ≡ word_sentence self.now }
+    {
+        let (word, after) = first_word(self.rest);
+        if self.brackets > 0 {
+            self.word_inside(word)
+        } else {
+            self.word_before(word, after)
+        }
+    }
+
+    /// What is wrong with a character. `is_closed` says whether the literal ends that it begins.
+    fn character(&self, c: char, is_closed: bool) -> &'static str
+        ensures { result.now ≡ character_sentence self.now is_closed c }
+    {
+        if is_curly(c) {
+            reported::CURLY_QUOTE
+        } else if c == '"' || c == '\'' {
+            self.quote(is_closed)
+        } else if c.is_alphanumeric() {
+            self.word()
+        } else {
+            self.sign(c)
         }
     }
 
     /// What is most likely meant.
-    pub(crate) fn sentence(&self, is_closed: bool) -> &'static str {
-        let Some(first) = self.rest.chars().next() else {
-            return self.end();
-        };
-        if CURLY.contains(&first) {
-            reported::CURLY_QUOTE
-        } else if first == '"' || first == '\'' {
-            self.quote(is_closed)
-        } else if first.is_alphanumeric() {
-            self.word()
-        } else {
-            self.sign(first)
+    pub(crate) fn sentence(&self, is_closed: bool) -> &'static str
+        ensures { result.now ≡ guess self.now is_closed }
+    {
+        match first_character(self.rest) {
+            Some(c) => self.character(c, is_closed),
+            None => self.end(),
         }
     }
 }

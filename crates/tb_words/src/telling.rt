@@ -1,6 +1,10 @@
 //! Tells the faults of a file, in one walk over it.
 
-ghost use Rattle.std.specs.Prelude.{◌≡◌, [], IfOk, IsOk, map};
+ghost use Rattle.std.specs.Prelude.{◌≡◌, ◌≤◌, ◌-◌, [], IfOk, IfSome, IsOk, Some, map, max};
+ghost use Rattle.tb_words.specs.FileSentences.{row_line_of};
+ghost use Rattle.tb_words.specs.Named.{IsFirstNamed, SaysFirstTaken, is_named};
+ghost use Rattle.tb_words.specs.Told.{TellsLine};
+ghost use Rattle.tb_words.specs.declared.words.Page.TheVariants.{Code, Rule};
 
 use crate::codes::fault_of_line;
 use crate::findings::Finding;
@@ -15,23 +19,51 @@ use tb_report::FaultRow;
 use tb_rules::sent_id_ref;
 
 /// The words for a line that cannot be read: the one with this number, counted from 1, and this code.
-pub(crate) fn words_of_line(alloc: Global, file: &[u8], number: usize, code: u8) -> Words {
+pub(crate) fn words_of_line(alloc: Global, file: &[u8], number: usize, code: u8) -> Words
+    ensures { result.page ≡ Some (Code code) }
+{
     let line = Lines::new(file).read_to(number);
     fault_of_line(alloc, &line, code)
         .words(alloc)
         .on(Page::Code(code))
 }
 
+/// Whether a sentence has this name.
+fn is_named(placed: &Placed<'_>, name: &str) -> bool
+    ensures { result ≡ is_named placed.now name.now }
+{
+    match sent_id_ref(&placed.block) {
+        Some(other) => other == name,
+        None => false,
+    }
+}
+
 /// The first of the sentences before this number that has this name: its number, and its first line.
-fn named_before(alloc: Global, file: &[u8], number: u64, name: &str) -> Option<(u64, usize)> {
+fn named_before(alloc: Global, file: &[u8], number: u64, name: &str) -> Option<(u64, usize)>
+    ensures { IfSome result (λ found. IsFirstNamed file.now name.now found.0 found.1) }
+{
     let mut places = Places::new(alloc, file);
     for earlier in 1..number {
         let placed = places.next()?;
-        if matches!(sent_id_ref(&placed.block), Some(other) if other == name) {
+        if is_named(&placed, name) {
             return Some((earlier, placed.comment_line(0)));
         }
     }
     None
+}
+
+/// What is wrong with a sentence that has the name of an earlier one. This is its number.
+fn taken_in<'a>(
+    alloc: Global,
+    file: &[u8],
+    placed: &Placed<'a>,
+    sentence: u64,
+) -> Option<Finding<'a>>
+    ensures { IfSome result (SaysFirstTaken file.now placed.now) }
+{
+    let name = sent_id_ref(&placed.block)?;
+    let (earlier, first) = named_before(alloc, file, sentence, name)?;
+    name_taken(placed, earlier, first)
 }
 
 /// What is wrong with the sentence that has this number by this rule.
@@ -42,11 +74,13 @@ fn fault_in<'a>(
     sentence: u64,
     rule: u8,
     row: u64,
-) -> Option<Finding<'a>> {
+) -> Option<Finding<'a>>
+    ensures taken { rule ≡ 12 → IfSome result (SaysFirstTaken file.now placed.now) }
+    ensures rows { 4 ≤ rule → rule ≤ 8 → 1 ≤ row
+        → IfSome result (λ f. f.line ≡ row_line_of placed.now (row - 1)) }
+{
     if rule == 12 {
-        let name = sent_id_ref(&placed.block)?;
-        let (earlier, first) = named_before(alloc, file, sentence, name)?;
-        return name_taken(placed, earlier, first);
+        return taken_in(alloc, file, placed, sentence);
     }
     fault_by(alloc, placed, rule, row as usize)
 }
@@ -60,13 +94,9 @@ fn words_in(alloc: Global, file: &[u8], sentence: u64, rule: u8, row: u64) -> Op
 
 /// The words for a broken rule: where the sentence with this number, counted from 1, breaks it, and by what. The row
 /// is that of rules 4 to 8, else 0.
-pub(crate) fn words_of_rule(
-    alloc: Global,
-    file: &[u8],
-    sentence: u64,
-    rule: u8,
-    row: u64,
-) -> Words {
+pub(crate) fn words_of_rule(alloc: Global, file: &[u8], sentence: u64, rule: u8, row: u64) -> Words
+    ensures { result.page ≡ Some (Rule rule) }
+{
     let words = match words_in(alloc, file, sentence, rule, row) {
         Some(words) => words,
         None => Words::at(format!(in alloc; "sentence {sentence}"), reported::BROKEN),
@@ -152,22 +182,32 @@ impl<'a> Walk<'a> {
         }
     }
 
+    /// What is wrong with the line that has this number, not below that of the last one, and this code.
+    fn fault_at_line(&mut self, line: usize, code: u8) -> Finding<'a>
+        ensures { result.line ≡ max self.old.lines.here.number line }
+    {
+        let line = self.lines.read_to(line);
+        fault_of_line(self.alloc, &line, code)
+    }
+
     /// Tells a fault that is not before the last one.
     fn tell(&mut self, fault: Fault) -> Result<FaultRow, AllocError>
-        ensures { IfOk result (λ told. told.fault ≡ fault) }
+        ensures fault { IfOk result (λ told. told.fault ≡ fault) }
+        ensures line { IfOk result (λ told. TellsLine self.old.lines.here.number fault told.line) }
     {
-        let found = match fault {
+        match fault {
             Fault::Line { line, code } => {
-                let line = self.lines.read_to(line);
-                fault_of_line(self.alloc, &line, code)
+                let found = self.fault_at_line(line, code);
+                found.told(self.alloc, fault)
             }
             Fault::Rule {
                 sentence,
                 rule,
                 row,
-            } => self.fault_of_sentence(sentence, rule, row)?,
-        };
-        found.told(self.alloc, fault)
+            } => self
+                .fault_of_sentence(sentence, rule, row)?
+                .told(self.alloc, fault),
+        }
     }
 }
 
@@ -176,7 +216,7 @@ impl<'a> Walk<'a> {
 /// # Errors
 ///
 /// No memory is left.
-pub fn tell_faults(
+pub(crate) fn tell_faults(
     alloc: Global,
     file: &[u8],
     faults: &[Fault],

@@ -1,5 +1,9 @@
 //! The words that explain a refusal, and values in the form in which they are shown.
 
+ghost use Rattle.std.specs.Char.{is_control};
+ghost use Rattle.std.specs.Prelude.{◌≡◌, None, Some, if◌then◌else◌};
+ghost use Rattle.std.specs.Result.{result_ok};
+
 use std::alloc::AllocError;
 use std::fmt::{self, Display, Formatter};
 use tb_conllu::LineId;
@@ -36,7 +40,9 @@ pub struct Words {
 
 impl Words {
     /// A sentence that needs no place.
-    pub(crate) fn alone(sentence: &'static str) -> Words {
+    pub(crate) fn alone(sentence: &'static str) -> Words
+        ensures { result ≡ record { place = None; sentence = sentence.entry; page = None; picture = None } }
+    {
         Words {
             place: None,
             sentence,
@@ -46,7 +52,14 @@ impl Words {
     }
 
     /// A sentence after a place. Without memory for the place it is the sentence alone.
-    pub(crate) fn at(place: Result<String, AllocError>, sentence: &'static str) -> Words {
+    pub(crate) fn at(place: Result<String, AllocError>, sentence: &'static str) -> Words
+        ensures { result ≡ record {
+          place = result_ok place;
+          sentence = sentence.entry;
+          page = None;
+          picture = None;
+        } }
+    {
         Words {
             place: place.ok(),
             sentence,
@@ -56,13 +69,27 @@ impl Words {
     }
 
     /// Adds the page that says more.
-    pub(crate) fn on(mut self, page: Page) -> Words {
+    pub(crate) fn on(mut self, page: Page) -> Words
+        ensures { result ≡ record {
+          place = self.place;
+          sentence = self.sentence;
+          page = Some page;
+          picture = self.picture;
+        } }
+    {
         self.page = Some(page);
         self
     }
 
     /// Adds a picture under the sentence.
-    pub(crate) fn with_picture(mut self, picture: Option<String>) -> Words {
+    pub(crate) fn with_picture(mut self, picture: Option<String>) -> Words
+        ensures { result ≡ record {
+          place = self.place;
+          sentence = self.sentence;
+          page = self.page;
+          picture = picture;
+        } }
+    {
         self.picture = picture;
         self
     }
@@ -94,12 +121,16 @@ pub(crate) struct Excerpt<'a> {
     value: &'a str,
 }
 
-pub(crate) fn shown(value: &str) -> Excerpt<'_> {
+pub(crate) fn shown(value: &str) -> Excerpt<'_>
+    ensures { result.value.now ≡ value.now }
+{
     Excerpt { value }
 }
 
 /// A character, or U+FFFD in the place of a control character.
-pub(crate) fn visible(c: char) -> char {
+pub(crate) fn visible(c: char) -> char
+    ensures { result ≡ (if is_control c then 0xFFFD else c) }
+{
     if c.is_control() { '\u{FFFD}' } else { c }
 }
 
@@ -122,7 +153,9 @@ pub(crate) struct RowName {
     id: LineId,
 }
 
-pub(crate) fn named(id: LineId) -> RowName {
+pub(crate) fn named(id: LineId) -> RowName
+    ensures { result.id ≡ id }
+{
     RowName { id }
 }
 

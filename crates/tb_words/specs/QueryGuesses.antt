@@ -1,0 +1,134 @@
+-- Between crates: no contract of a front door cites a definition of this module.
+-- What a query most likely means, by what is at the place of its fault and what is before it.
+use Rattle.std.specs.Prelude.{ℕ, List, [], ◌∷◌, chars, codes, drop, length, Bool, ◌&&◌, ◌||◌, ◌==◌, bytes_eq, eqb}
+use Rattle.std.specs.Prelude.{if◌then◌else◌, nat_le, nat_lt, None, not, Option, Some}
+use Rattle.std.specs.Char.Unicode.Alphabetic.{is_alphabetic}
+use Rattle.std.specs.Char.Unicode.Numeric.{is_numeric}
+use Rattle.std.specs.List.{ends_with, slice_get, starts_with}
+use Rattle.std.specs.Str.{byte, trim_start}
+use Rattle.tb_words.specs.declared.syntax.Wrong.{Wrong}
+use Rattle.tb_words.specs.declared.sentences.TheConstants.{ANCHOR, AND_OR, ARROW, BACKSLASH_QUOTE, BRACE_OPEN, BRACKETS}
+use Rattle.tb_words.specs.declared.sentences.TheConstants.{BRACKET_OPEN, CONTAINS, CURLY_QUOTE, EMPTY_QUERY, ENDS_EARLY}
+use Rattle.tb_words.specs.declared.sentences.TheConstants.{EQUALS_TWICE, FLAG, LABEL, MATCHES, MU, NOTHING_REPEATED}
+use Rattle.tb_words.specs.declared.sentences.TheConstants.{NOT_SPACED, NO_LOWER, NO_PARENTHESIS, NUMBER_ZERO}
+use Rattle.tb_words.specs.declared.sentences.TheConstants.{PARENTHESIS_OPEN, QUOTE_OPEN, REPEATED_TWICE, SYNTAX, TAG}
+use Rattle.tb_words.specs.declared.sentences.TheConstants.{TEST_WANTED, VALUE_UNQUOTED, VALUE_WANTED, WITHIN, WORD_UNQUOTED}
+use Rattle.tb_words.specs.QueryWords.{any_column, column_sentence, first_word, is_column, is_connective}
+
+-- ---- what is before the place
+
+-- the text ends so
+abbrev pub ends : Wrong → List ℕ → Bool
+ends wrong end = ends_with eqb wrong.before.now end
+
+-- the name of a column
+abbrev pub follows_column : Wrong → Bool
+follows_column wrong = any_column (ends wrong)
+
+-- a test within brackets, which lacks its value
+abbrev pub wants_value : Wrong → Bool
+wants_value wrong = nat_lt 0 wrong.brackets && (ends wrong (codes "=") || ends wrong (codes "contains"))
+
+abbrev pub follows_flag : Wrong → Bool
+follows_flag wrong = ends wrong (codes "%c") || ends wrong (codes "%l")
+
+abbrev pub follows_repetition : Wrong → Bool
+follows_repetition wrong =
+    ends wrong (codes "?") || ends wrong (codes "*") || ends wrong (codes "+") || ends wrong (codes "}")
+
+-- a sign after which a test begins
+abbrev pub begins_test : Wrong → Bool
+begins_test wrong = ends wrong (codes "[") || ends wrong (codes "(") || ends wrong (codes "&") || ends wrong (codes "|")
+    || ends wrong (codes "!")
+
+-- a repetition whose number is still to come
+abbrev pub wants_number : Wrong → Bool
+wants_number wrong = ends wrong (codes "{") || ends wrong (codes ",")
+
+-- ---- what is at the place
+
+-- nothing: the query ends too early
+abbrev pub end_sentence : Wrong → List ℕ
+end_sentence wrong =
+    if length wrong.before.now == 0 then EMPTY_QUERY.now else
+    if nat_lt 0 wrong.brackets then BRACKET_OPEN.now else
+    if nat_lt 0 wrong.parentheses then PARENTHESIS_OPEN.now else
+    if ends wrong (codes "within") then WITHIN.now else
+    if ends wrong (codes "|") then ENDS_EARLY.now else BRACE_OPEN.now
+
+-- a word within brackets
+abbrev pub inside_sentence : Wrong → List ℕ → List ℕ
+inside_sentence wrong word =
+    if wants_value wrong then VALUE_UNQUOTED.now else
+    if bytes_eq word (codes "contains") then CONTAINS.now else
+    if follows_column wrong && (bytes_eq word (codes "matches") || bytes_eq word (codes "not")) then MATCHES.now else
+    if is_connective word then AND_OR.now else
+    if follows_flag wrong then FLAG.now else
+    if begins_test wrong then column_sentence word else SYNTAX.now
+
+-- a word outside of them, which this follows
+abbrev pub outside_sentence : Wrong → List ℕ → List ℕ → List ℕ
+outside_sentence wrong word after =
+    if follows_flag wrong then FLAG.now else
+    if ends wrong (codes "within") then WITHIN.now else
+    if ends wrong (92 ∷ 34 ∷ []) || ends wrong (92 ∷ 39 ∷ []) then BACKSLASH_QUOTE.now else
+    if starts_with eqb after (codes ":") then LABEL.now else
+    if bytes_eq word (codes "MU") || bytes_eq word (codes "TAB") then MU.now else
+    if is_column word || starts_with eqb (trim_start after) (codes "=") then BRACKETS.now else
+    if wants_number wrong then NUMBER_ZERO.now else WORD_UNQUOTED.now
+
+abbrev pub word_sentence : Wrong → List ℕ
+word_sentence wrong =
+    if nat_lt 0 wrong.brackets then inside_sentence wrong (first_word wrong.rest.now)
+    else outside_sentence wrong (first_word wrong.rest.now) (drop (length (first_word wrong.rest.now)) wrong.rest.now)
+
+-- a quote, whose literal ends or does not
+abbrev pub quote_sentence : Wrong → Bool → List ℕ
+quote_sentence wrong is_closed =
+    if not is_closed then QUOTE_OPEN.now else if follows_column wrong then TEST_WANTED.now else SYNTAX.now
+
+abbrev pub repetition_sentence : Wrong → List ℕ
+repetition_sentence wrong = if follows_repetition wrong then REPEATED_TWICE.now else NOTHING_REPEATED.now
+
+abbrev pub bracket_sentence : Wrong → List ℕ
+bracket_sentence wrong =
+    if wants_value wrong then VALUE_WANTED.now else if follows_column wrong then TEST_WANTED.now else SYNTAX.now
+
+-- a sign of which this is said where it is so, and else that a value is wanted, or nothing more
+abbrev pub said_if : Wrong → Bool → List ℕ → List ℕ
+said_if wrong is_so sentence = if is_so then sentence else if wants_value wrong then VALUE_WANTED.now else SYNTAX.now
+
+abbrev pub sign_sentence : Wrong → ℕ → List ℕ
+sign_sentence wrong sign =
+    if sign == byte "%" then FLAG.now else
+    if sign == byte "<" then TAG.now else
+    if sign == byte "@" then ANCHOR.now else
+    if sign == byte ":" then LABEL.now else
+    if sign == byte ")" then NO_PARENTHESIS.now else
+    if sign == byte "]" then bracket_sentence wrong else
+    if sign == byte "{" || sign == byte "?" || sign == byte "*" || sign == byte "+" then repetition_sentence wrong else
+    if sign == byte "-" then said_if wrong (starts_with eqb wrong.rest.now (codes "->")) ARROW.now else
+    if sign == byte "," then said_if wrong (ends wrong (codes "{")) NO_LOWER.now else
+    if sign == byte "=" then said_if wrong (ends wrong (codes "=")) EQUALS_TWICE.now else
+    said_if wrong (sign == byte "!" && follows_column wrong) NOT_SPACED.now
+
+-- quotes that a query does not use
+abbrev pub is_curly : ℕ → Bool
+is_curly c = (nat_le 0x2018 c && nat_le c 0x201F) || c == 0x2032 || c == 0x2033 || c == 0xAB || c == 0xBB || c == 0x2039
+    || c == 0x203A || c == 0x60 || c == 0xB4
+
+-- a character
+abbrev pub character_sentence : Wrong → Bool → ℕ → List ℕ
+character_sentence wrong is_closed c =
+    if is_curly c then CURLY_QUOTE.now else
+    if c == 34 || c == 39 then quote_sentence wrong is_closed else
+    if is_alphabetic c || is_numeric c then word_sentence wrong else sign_sentence wrong c
+
+-- the first character there, if there is one
+abbrev pub guess_at : Wrong → Bool → Option ℕ → List ℕ
+guess_at wrong is_closed None = end_sentence wrong
+guess_at wrong is_closed (Some c) = character_sentence wrong is_closed c
+
+-- what is said of a text that is no query
+abbrev pub guess : Wrong → Bool → List ℕ
+guess wrong is_closed = guess_at wrong is_closed (slice_get (chars wrong.rest.now) 0)
