@@ -3,8 +3,8 @@
 // The page decides nothing. It asks the desk, and shows each answer as its line and in words.
 
 import {
-  COLUMNS, EVENTS, LONGEST_BODY, RELATIONS, STATES, TAGS, ask, button, el, heads, isName, isStep, lastMove, mayAsk, mayCorrect,
-  meaning, number, own, pages, plain, plural, prose, refusal, table, wide,
+  COLUMNS, EVENTS, LONGEST_BODY, RELATIONS, STATES, TAGS, ask, button, check, el, faultOf, heads, isName, isStep, lastMove, mayAsk,
+  mayCorrect, meaning, number, own, pages, plain, plural, prose, refusal, table, wide,
 } from './desk.js';
 import { faultLine, hints, merged, repaired, withField } from './conllu.js';
 import { comment, rowsOf } from './rows.js';
@@ -263,11 +263,20 @@ async function batch(no) {
 // How many hints are shown.
 const HINTS = 8;
 
+// How long the page waits after the last change before it asks the desk what is wrong, in milliseconds.
+const PAUSE = 400;
+
 // What was typed and not saved, by the number of the sentence, and the revision on which it was typed.
 const drafts = new Map();
 
 /** The number of a batch's last sentence. Those of a batch have numbers one after the other, pulled ones too. */
 const lastOf = batch => Number(batch.first) + Number(batch.sentences) + Number(batch.pulled) - 1;
+
+/** A fault of a text that is not saved, in the desk's words. */
+function faultItem(row) {
+  const { place, value, words } = faultOf(row);
+  return el('li', {}, place, value ? [' ', el('code', {}, own(value))] : '', place ? ': ' : '', words);
+}
 
 /** Who wrote each revision of a sentence, and by which move. The first came with the import of its batch. */
 async function writers(no, batchNo) {
@@ -281,12 +290,15 @@ class Sentence {
   #tree = el('div');
   #status = el('p', { id: 'rev' });
   #hints = el('ul', { class: 'hints', 'aria-label': 'Hints' });
+  #faults = el('ul', { id: 'faults', class: 'hints', 'aria-live': 'polite', 'aria-label': 'What the desk would refuse' });
   #stale = el('section', { id: 'stale', 'aria-label': 'A newer revision' });
   #history = el('section', { id: 'history', 'aria-label': 'Revisions' });
   #undo = button({ id: 'undo', onclick: () => this.#giveUp() }, 'Give my changes up');
   #save = button({ id: 'save', class: 'main', onclick: () => this.save() });
   #isEnhanced = false;
   #timer = 0;
+  #pause = 0;
+  #isAsking = false;
 
   /** `answer` has the current revision, `home` is its batch, `hit` the first and the last word to mark, or null. */
   constructor(no, answer, home, isPulled, hit) {
@@ -296,6 +308,7 @@ class Sentence {
     this.editor = new Editor(draft?.text ?? this.current, () => this.#changed());
     this.#draw();
     this.tell();
+    if (this.isChanged) this.#checkSoon();
   }
 
   /** Whether its tree and its table take a while. */
@@ -312,7 +325,7 @@ class Sentence {
     put(sentId, heading(own(sentId), ' ', el('span', { class: 'quiet' }, `sentence ${this.no}`)),
       home ? this.#way(home) : '',
       el('p', { class: 'text', dir: 'auto' }, comment(this.current, 'text')),
-      this.#tree, this.#tools(), this.#status, this.#hints, this.#stale, this.#history);
+      this.#tree, this.#tools(), this.#status, this.#hints, this.#faults, this.#stale, this.#history);
     if (this.#isLong) requestAnimationFrame(() => setTimeout(() => this.#addEditor()));
     else this.#addEditor();
     this.#tree.querySelector('.hit .form')?.scrollIntoView({ block: 'nearest', inline: 'center' });
@@ -371,6 +384,33 @@ class Sentence {
     this.tell();
     clearTimeout(this.#timer);
     this.#timer = setTimeout(() => this.#draw(), this.#isLong ? 300 : 20);
+    this.#checkSoon();
+  }
+
+  /** Asks the desk what it would refuse, a short while after the last change. */
+  #checkSoon() {
+    clearTimeout(this.#pause);
+    this.#pause = setTimeout(() => this.#check(), PAUSE);
+  }
+
+  /** One request is open at a time. A text that is changed meanwhile is asked about after it. */
+  async #check() {
+    if (this.#isAsking) return;
+    if (!this.isChanged) return this.#showFaults([], false);
+    const text = this.editor.text;
+    this.#isAsking = true;
+    const answer = await check(text);
+    this.#isAsking = false;
+    if (text !== this.editor.text) return this.#checkSoon();
+    if (answer.ok) this.#showFaults(answer.rows.map(faultItem), true);
+    else this.#showFaults([el('li', {}, `not checked: ${answer.status ? answer.words : 'the desk did not answer'}`)], false);
+  }
+
+  /** Shows what the desk would refuse. Where it has said so, the hints of the page say nothing more. */
+  #showFaults(items, isTold) {
+    const more = items.length > HINTS ? [el('li', {}, `and ${items.length - HINTS} more`)] : [];
+    this.#faults.replaceChildren(...items.slice(0, HINTS), ...more);
+    this.#hints.hidden = isTold;
   }
 
   /** Shows which revision is edited, and whether it can be saved. */
@@ -390,6 +430,7 @@ class Sentence {
     const answer = await ask('POST', `/sentences/${this.no}/after/${this.base}`, { user: me(), body: text });
     say(answer, answer.ok ? '' : this.#save.title);
     if (answer.ok) {
+      clearTimeout(this.#pause);
       drafts.delete(this.no);
       return sentence(this.no);
     }
@@ -398,6 +439,7 @@ class Sentence {
     const line = told && faultLine(new TextEncoder().encode(text), told);
     if (!line) return;
     this.#hints.replaceChildren(el('li', {}, `line ${line.number}: `, el('code', { dir: 'ltr' }, line.text)));
+    this.#hints.hidden = false;
     this.editor.pick(line.number - 1);
   }
 

@@ -27,6 +27,9 @@ COUNTS = "batches,sentences,moves"
 BATCHES = "no,name,state,worker,first,sentences,words,pulled,pulled_words"
 SENTENCES = "no,sent_id,rev,who,words,pulled,text"
 SENTENCE = "no,batch,rev,words,pulled"
+FAULTS = "line,code,sentence,rule,row,id,column,value,message"
+# The most bytes of a body, and how many faults a check lists.
+LONGEST, MOST = 4194304, 100
 
 
 def split(answer):
@@ -79,6 +82,86 @@ def files_and_lists():
     desk.close()
 
 
+def faulty_texts():
+    """Texts for a check: right ones, those with faulty lines, those that break rules, and those with more faults than are listed."""
+    english, row = sample("english"), b"1\tGo\tgo\tVERB\t_\t_\t0\troot\t_\t_\n\n"
+    yield from (sample(name) for name in ("english", "russian", "arabic", "chinese", "hindi"))
+    yield from (b"", b"\n", b"\xff\n", b"\xef\xbb\xbf" + english, english.replace(b"\n", b"\r\n"), english[:100], english * 2)
+    yield from (english.replace(b"\t2\tobj", b"\t_\tobj"), english.replace(b"\t5\tnsubj", b"\t9\tnsubj"), english.replace(b"\tVERB\t", b"\t\t"))
+    yield english.replace(b"NOUN", b'"NN, \xe2\x80\xae').replace(b"en-1", b"a\tb")
+    for count in (MOST - 1, MOST, MOST + 1):
+        yield row.replace(b"VERB", b"") * count
+        yield b"".join(b"# sent_id = %d\n# text = Go\n%s" % (n, row.replace(b"VERB", b"NN")) for n in range(count))
+
+
+def checks():
+    """A check lists what `deskview check` prints for the text, and saves nothing."""
+    desk = Desk()
+    desk.put("news", sample("english"), STEPS[0])
+    before = desk.moves()
+
+    def answer(body, *fields):
+        return desk.raw(desk.request("POST /page/check", *fields, body=body))
+    for text in faulty_texts():
+        wanted = subprocess.run([asked.view, "check"], input=text, capture_output=True, check=False)
+        holds(f"status of {text[:40]}", wanted.returncode in (0, 1))
+        has(f"check of {text[:40]}", answer(text), 200, "text/plain", wanted.stdout)
+    # (these are those of docs/guide/VIEW.md)
+    english = sample("english")
+    empty = "the column is empty; write _ where there is nothing"
+    for text, lines in (
+            (english, []), (b"", []),
+            (english.replace(b"\t5\tnsubj", b"\t9\tnsubj").replace(b"\t2\tobj", b"\t_\tobj"),
+             ["4,,1,4,2,2,HEAD,9,the sentence has no word of this number",
+              '15,,2,4,3,3,HEAD,_,"a word has a HEAD; write the number of the word that it hangs from, or 0"']),
+            (english.replace(b"\tVERB\t", b"\t\t"), [f"{line},4,,,,,UPOS,,{empty}" for line in (8, 14, 18)])):
+        same("a list of faults", [FAULTS, *lines, ""], split(answer(text))[1].decode().split("\n"))
+    same("moves", before, desk.moves())
+    refuses("a check by GET", desk.raw(desk.request("GET /page/check")), 405, "method", "Allow: POST")
+    for field in ("Content-Length: +1", "Content-Length: 3\r\nContent-Length: 3", "Transfer-Encoding: chunked"):
+        refuses(field, answer(b"", field), 400, "length")
+    for length in (LONGEST + 1, 10 ** 30):
+        refuses(f"{length} bytes", answer(b"", f"Content-Length: {length}"), 413, "long")
+    for path in ("/page/check/", "/page/check?x", "/page/Check", "/check"):
+        refuses_of_the_desk(desk, f"POST {path}")
+    desk.close()
+
+
+def refuses_of_the_desk(desk, line):
+    head, body = split(desk.raw(desk.request(line, body=b"x")))
+    same(line, ("404", b"refused path\n"), (head[0].split()[1], body))
+
+
+def texts_that_come_slowly():
+    """The text of a check is awaited, beside others, and refused where it does not come."""
+    desk = Desk()
+    text = sample("english").replace(b"NOUN", b"NN")
+    wanted = subprocess.run([asked.view, "check"], input=text, capture_output=True, check=False).stdout
+    whole = desk.request("POST /page/check", body=text)
+    at = whole.index(b"\r\n\r\n") + 4
+    for pieces in ([whole[:at], whole[at:]], [whole[:at + 1], whole[at + 1:]], [whole[:20], whole[20:-1], whole[-1:]], [whole + b"more"]):
+        has("a text in pieces", desk.raw(*pieces), 200, "text/plain", wanted)
+    # While a text is awaited, others are answered.
+    with socket.create_connection(("127.0.0.1", desk.port), timeout=30) as slow:
+        slow.sendall(whole[:at + 10])
+        begun = time.monotonic()
+        for _ in range(10):
+            same("a request beside a slow check", 200, desk.ask("GET /totals")[0])
+        holds("ten requests beside a slow check take less than two seconds", time.monotonic() - begun < 2)
+        slow.sendall(whole[at + 10:])
+        has("the slow check", b"".join(iter(lambda: slow.recv(65536), b"")), 200, "text/plain", wanted)
+    for cut in (at, at + 10, len(whole) - 1):
+        with socket.create_connection(("127.0.0.1", desk.port), timeout=30) as broken:
+            broken.sendall(whole[:cut])
+            broken.shutdown(socket.SHUT_WR)
+            refuses("a text that broke off", b"".join(iter(lambda: broken.recv(65536), b"")), 400, "body")
+    # The longest text has one long line, which is no file.
+    longest = b"#" + b"x" * (LONGEST - 2) + b"\n"
+    wanted = subprocess.run([asked.view, "check"], input=longest, capture_output=True, check=False).stdout
+    has("the longest text", desk.raw(desk.request("POST /page/check", body=longest)), 200, "text/plain", wanted)
+    desk.close()
+
+
 def hosts_of_strangers(port):
     """Values of Host that are no name of this machine with this port."""
     here = f"127.0.0.1:{port}"
@@ -115,14 +198,15 @@ def guard():
 
     def answer(line, fields):
         return desk.raw(desk.request(line, *fields, "Desk-User: eve", host=False))
-    for line in ("GET /totals", "GET /page/now", "GET /page/page.js", "GET /nowhere", "POST /batches/news/assign"):
+    for line in ("GET /totals", "GET /page/now", "GET /page/page.js", "GET /nowhere", "POST /batches/news/assign", "POST /page/check"):
         for fields in fields_of_nobody(port):
             refuses(f"{line} {fields}", answer(line, fields), 403, "host")
         for host in hosts:
             for fields in fields_of_others(host, hosts, port):
                 refuses(f"{line} {host} {fields}", answer(line, [f"Host: {host}", *fields]), 403, "origin")
     same("what was refused is not done", before, desk.moves())
-    for line, status in (("GET /totals", "200"), ("GET /page/now", "200"), ("GET /page/page.js", "200"), ("GET /nowhere", "404"), ("POST /totals", "405")):
+    for line, status in (("GET /totals", "200"), ("GET /page/now", "200"), ("GET /page/page.js", "200"), ("GET /nowhere", "404"), ("POST /totals", "405"),
+                         ("POST /page/check", "200")):
         for host in hosts:
             own = [f"Host: {host}"]
             for fields in (own, [f"host:{host}  "], [*own, f"Origin: http://{host}"], [*own, "Sec-Fetch-Site: same-origin"], [*own, "Sec-Fetch-Site: none"]):
@@ -276,4 +360,4 @@ def random_requests():
     desk.close()
 
 
-PARTS = [files_and_lists, guard, the_same_bytes, random_requests, silent_clients]
+PARTS = [files_and_lists, checks, texts_that_come_slowly, guard, the_same_bytes, random_requests, silent_clients]

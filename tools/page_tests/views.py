@@ -330,4 +330,53 @@ def follows_others(driver):
     desk.close()
 
 
-PARTS = [follows_others, scripts_of_the_world, hostile_text, names_that_are_steps, other_origins, broken_answers, by_keyboard]
+ASKED = "return performance.getEntriesByType('resource').filter(it => it.name.endsWith('/page/check')).length"
+TYPE = """
+const area = document.querySelector('textarea.conllu'), put = text => { area.value = text; area.dispatchEvent(new Event('input')); };
+const [before, after] = arguments;
+for (let n = 0; n < 200; n++) put(area.value.replace(before, after + n).replace(after + n, after));
+"""
+NO_WORD = "line 3, word 1, HEAD 9: the sentence has no word of this number"
+
+
+def faults_while_typing(driver):
+    """What the desk would refuse is listed before it is saved, in the desk's words. It is asked once for many keys."""
+    desk, browser = Desk(), driver.browser()
+    desk.put("news", sample("english"), STEPS[0])
+    before = desk.moves()
+    at_sentence(browser, desk, 1, "Small")
+    say_who(browser, "ann")
+    browser.see(".grid td", "dogs")
+    same("how a screen reader is told", ("polite", "What the desk would refuse"), tuple(browser.run("const { ariaLive, ariaLabel } = document.getElementById('faults'); return [ariaLive, ariaLabel]")))
+
+    def lists(*faults):
+        browser.until("return JSON.stringify([...document.querySelectorAll('#faults li')].map(node => node.textContent)) === JSON.stringify(arguments[0])", list(faults))
+    time.sleep(1)
+    same("requests for a sentence as it is", 0, browser.run(ASKED))
+    edit(browser, 0, 6, "9")
+    lists(NO_WORD)
+    same("hints beside the desk's words", False, browser.run("return document.querySelector('.hints').checkVisibility()"))
+    edit(browser, 1, 7, "subject")
+    lists(NO_WORD)                     # (a sentence has one line for a rule)
+    edit(browser, 0, 6, "2")
+    lists("line 4, word 2, DEPREL subject: this is none of the 37 universal relations, alone or with a subtype after a colon")
+    edit(browser, 1, 7, "nsubj")
+    lists()
+    browser.click(".tab", "CoNLL-U")
+    asked = browser.run(ASKED)
+    browser.run(TYPE, "\tADJ\t", "\t\t")
+    browser.see("#faults li", "line 3, UPOS")
+    holds("four hundred changes are few requests", browser.run(ASKED) - asked <= 2)
+    shot(browser, "faults")
+    browser.click("#undo")
+    lists()
+    is_quiet(browser)
+    same("the moves", before, desk.moves())
+    desk.close()
+    browser.click(".tab", "Table")
+    edit(browser, 0, 6, "9")
+    lists("not checked: the desk did not answer")
+    holds("the hints are there", browser.run("return document.querySelector('.hints').checkVisibility()"))
+
+
+PARTS = [follows_others, faults_while_typing, scripts_of_the_world, hostile_text, names_that_are_steps, other_origins, broken_answers, by_keyboard]

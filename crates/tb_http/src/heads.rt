@@ -22,7 +22,7 @@ pub enum Extra {
 }
 
 /// The methods, as the header `Allow` lists them.
-fn methods(allow: Allow) -> &'static str
+pub fn methods(allow: Allow) -> &'static str
     ensures value { result.now ≡ allow_text allow }
     ensures short { length result.now ≤ 9 }
 {

@@ -21,8 +21,8 @@ pub use forms::{
     strategy_of,
 };
 pub use head::{BrokenRead, HEAD_BYTES, HEADERS, Head, read_head};
-pub use headers::{Repeated, text_of, value_of};
-pub use heads::{Extra, head_of_reply, response_head};
+pub use headers::{BadLength, Repeated, body_length, text_of, value_of};
+pub use heads::{Extra, head_of_reply, methods, response_head};
 pub use replies::{Reply, push_number};
 pub use routes::{Route, Routes};
 pub use status::Status;

@@ -7,7 +7,7 @@ use Rattle.tb_http.specs.Forms.{number_of}
 use Rattle.tb_http.specs.Headers.{text_of}
 use Rattle.tb_http.specs.Routes.{route_of}
 use Rattle.tb_page.specs.declared.paths.File.TheVariants as file
-use Rattle.tb_page.specs.Paths.{IsPath, batches, counts, file_at, first_of, list_at, rest_after, sent_id, sentences, value_at}
+use Rattle.tb_page.specs.Paths.{IsPath, batches, counts, file_at, first_of, is_check, list_at, rest_after, sent_id, sentences, value_at}
 use Rattle.tb_page.proofs.NoRow.{none_begins_so, none_is_empty}
 
 -- the desk has no route for the path
@@ -58,9 +58,13 @@ of_list path =
     (by_text path (codes "/page/batches") batches _ (none_begins_so (codes "ge/batches"))
     (with_value path _ _ refl refl))
 
+of_check : (path : List ℕ) → is_check path ≡ true → IsRouteless path
+of_check path is = subst IsRouteless (sym ((bytes_eq-Decides path (codes "/page/check")).0 is)) (none_begins_so (codes "ge/check"))
+
 routeless : (path : List ℕ) → IsPath path → IsRouteless path
 routeless path (inl is_file) = of_file path is_file
-routeless path (inr is_list) = of_list path is_list
+routeless path (inr (inl is_list)) = of_list path is_list
+routeless path (inr (inr is)) = of_check path is
 
 pub no_place : (path : List ℕ) → IsPath path → place_of path ≡ None
 no_place path is = ap (option_and_then (λ r. place_at r path)) (routeless path is)

@@ -1,8 +1,10 @@
 -- How a server with the page answers a request, and what it leaves of the desk.
-use Rattle.std.specs.Prelude.{◌≡◌, ◌≢◌, ◌⊎◌, ℕ, List, codes, Option, Some, Result, Err}
+use Rattle.std.specs.Prelude.{◌≡◌, ◌≢◌, ◌⊎◌, ◌++◌, ℕ, List, codes, length, Option, Some, Result, Err}
 use Rattle.sqlite.specs.Store.{Ghosts}
 use Rattle.tb_core.specs.Machine.{Machine}
+use Rattle.tb_http.specs.declared.actions.Allow.{Allow}
 use Rattle.tb_http.specs.declared.replies.Reply.{Reply}
+use Rattle.tb_http.specs.declared.replies.Reply.TheVariants.{Faulty}
 use Rattle.tb_http.specs.declared.status.Status.{Status}
 use Rattle.tb_http.specs.declared.status.Status.TheVariants.{Ok as Done, Forbidden, MethodNotAllowed}
 use Rattle.tb_http.specs.Replies.{reply_text, status_of}
@@ -20,19 +22,21 @@ use Rattle.tb_page.specs.declared.guard.Foreign.TheVariants as why
 use Rattle.tb_page.specs.declared.heads.Kind.TheVariants.{Plain}
 use Rattle.tb_page.specs.declared.paths.File.{File}
 use Rattle.tb_page.specs.Files.{file_kind, file_text}
-use Rattle.tb_page.specs.Heads.{page_response}
+use Rattle.tb_page.specs.Checked.{IsCheckResponse}
+use Rattle.tb_page.specs.Heads.{page_head, page_response}
 use Rattle.tb_page.specs.Lists.{IsList, RefusesList}
 use Rattle.tb_page.specs.Paths.{ListText}
-use Rattle.tb_page.specs.Visits.{VisitText, no_head, foreign, file, list, no_method, desk}
+use Rattle.tb_page.specs.Visits.{VisitText, no_head, foreign, file, list, check, no_text, no_method, desk}
 
 -- the response to a request that the guard refuses
 abbrev pub foreign_response : Foreign → List ℕ
 foreign_response why.Host = page_response Forbidden Plain (codes "refused host\n")
 foreign_response why.Origin = page_response Forbidden Plain (codes "refused origin\n")
 
--- the response to a method that the page does not have
-abbrev pub method_response : List ℕ
-method_response = page_response MethodNotAllowed Plain (codes "refused method\n")
+-- the response to a method that a path of the page does not have, with those that it has
+abbrev pub method_response : Allow → List ℕ
+method_response allow = page_head MethodNotAllowed (Some allow) Plain (length (codes "refused method\n"))
+    ++ codes "refused method\n"
 
 -- the response with a file
 abbrev pub file_response : File → List ℕ
@@ -70,7 +74,11 @@ module _ {S Reason : Type 0} (g : Ghosts S) (old new : Kept S) (before after : O
   AnswersVisit came bytes (foreign why) = Sends (foreign_response why) Forbidden
   AnswersVisit came bytes (file f) = Sends (file_response f) Done
   AnswersVisit came bytes (list l) = SendsList l
-  AnswersVisit came bytes no_method = Sends method_response MethodNotAllowed
+  AnswersVisit came bytes (check text) = (response : List ℕ) × (status : Status) × IsCheckResponse text response status
+      × Sends response status
+  AnswersVisit came bytes (no_text why) = Sends (page_response (status_of (Faulty why)) Plain (reply_text (Faulty why)))
+      (status_of (Faulty why))
+  AnswersVisit came bytes (no_method allow) = Sends (method_response allow) MethodNotAllowed
   AnswersVisit came bytes desk = Passes bytes
 
 -- The reader is read for the desk alone, and then as this says. Otherwise it is left as it was.
@@ -79,5 +87,7 @@ ReadsFor old new no_head as_the_desk = new ≡ old
 ReadsFor old new (foreign why) as_the_desk = new ≡ old
 ReadsFor old new (file f) as_the_desk = new ≡ old
 ReadsFor old new (list l) as_the_desk = new ≡ old
-ReadsFor old new no_method as_the_desk = new ≡ old
+ReadsFor old new (check text) as_the_desk = new ≡ old
+ReadsFor old new (no_text why) as_the_desk = new ≡ old
+ReadsFor old new (no_method allow) as_the_desk = new ≡ old
 ReadsFor old new desk as_the_desk = as_the_desk

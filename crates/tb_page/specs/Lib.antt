@@ -1,4 +1,5 @@
 pub mod Answered
+pub mod Checked
 pub mod Files
 pub mod Guard
 pub mod Heads

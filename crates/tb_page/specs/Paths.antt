@@ -1,5 +1,5 @@
--- The paths of the page: its files, and what it reads of the desk beside the desk's own paths.
-use Rattle.std.specs.Prelude.{◌≢◌, ◌⊎◌, ℕ, List, length, take, drop, codes, Option, Some, None, option_map}
+-- The paths of the page: its files, what it reads of the desk beside the desk's own paths, and the check of a text.
+use Rattle.std.specs.Prelude.{◌≡◌, ◌≢◌, ◌⊎◌, ℕ, List, length, take, drop, codes, Bool, true, Option, Some, None, option_map}
 use Rattle.std.specs.Prelude.{bytes_eq, option_and_then, if◌then◌else◌}
 use Rattle.tb_http.specs.Forms.{number_of}
 use Rattle.tb_http.specs.Headers.{text_of}
@@ -60,9 +60,13 @@ list_at path =
     else if bytes_eq path (codes "/page/batches") then Some batches
     else value_at path
 
--- a path of the page: that of a file, or of what it reads of the desk
+-- the path at which a text is checked
+abbrev pub is_check : List ℕ → Bool
+is_check path = bytes_eq path (codes "/page/check")
+
+-- a path of the page: that of a file, of what it reads of the desk, or of the check
 abbrev pub IsPath : List ℕ → Type 0
-IsPath path = (file_at path ≢ None) ⊎ (list_at path ≢ None)
+IsPath path = (file_at path ≢ None) ⊎ (list_at path ≢ None) ⊎ (is_check path ≡ true)
 
 -- the list of the code, as plain data
 abbrev pub list_by : PageList → ListText

@@ -11,14 +11,14 @@ ghost use Rattle.tb_page.specs.Visits.{VisitText, Visits};
 use crate::lists::list_text;
 use crate::paths::PageList;
 use crate::responses::{
-    respond_file, respond_foreign, respond_no_method, respond_refusal, respond_text,
+    respond_check, respond_file, respond_foreign, respond_no_method, respond_refusal, respond_text,
 };
 use crate::visits::{Visit, read_visit};
 use sqlite::Alter;
 use std::alloc::Global;
 use tb_answer::{Broken, answer, outcome};
 use tb_conllu::{Sink, SliceSource, Source};
-use tb_http::{HEAD_BYTES, Routes, Status};
+use tb_http::{HEAD_BYTES, Reply, Routes, Status};
 use tb_store::Desk;
 
 /// Answers with a list.
@@ -42,9 +42,9 @@ fn send_list<S: Alter, W: Sink>(
 /// Reads one request, does what it asks, and answers it, on a server with the page at this port. Returns the status of a
 /// response that was written whole.
 ///
-/// `came` has the first bytes that the reader gives: the whole head, if there is one. By it the page's requests are told
-/// from the desk's. The page's are answered here, and those from elsewhere are refused. All others go to `answer` with
-/// the same reader.
+/// `came` has the first bytes that the reader gives: the whole head, if there is one, and the text of a check. By them the
+/// page's requests are told from the desk's. The page's are answered here, and those from elsewhere are refused. All others
+/// go to `answer` with the same reader.
 ///
 /// # Errors
 ///
@@ -75,7 +75,9 @@ pub fn answer_with_page<S: Alter, R: Source, W: Sink>(
         Visit::Foreign(why) => outcome(respond_foreign(out, why)),
         Visit::File(file) => outcome(respond_file(out, file)),
         Visit::List(list) => send_list(alloc, desk, list, out),
-        Visit::NoMethod => outcome(respond_no_method(out)),
+        Visit::Check(text) => outcome(respond_check(alloc, out, text)),
+        Visit::NoText(why) => outcome(respond_refusal(out, Reply::Faulty(why))),
+        Visit::NoMethod(allow) => outcome(respond_no_method(out, allow)),
         Visit::Desk => answer(alloc, routes, desk, reader, out),
     }
 }

@@ -5,7 +5,7 @@ ghost use Rattle.arrayvec.specs.ArrayString.{array_string_len};
 ghost use Rattle.tb_page.specs.Heads.{allowed, content_policy, kind_text, origin_policy, page_head};
 
 use arrayvec::ArrayString;
-use tb_http::{Status, push_number};
+use tb_http::{Allow, Status, methods, push_number};
 
 /// The type of a body, which is UTF-8.
 #[derive(Clone, Copy, Debug, PartialEq, Eq)]
@@ -61,20 +61,28 @@ fn push_origin_policy(head: &mut ArrayString<1024>)
     );
 }
 
-/// The method that the page has, where another was asked for.
-fn push_allowed(head: &mut ArrayString<1024>, status: Status)
+/// The methods of a path, where another was asked for.
+fn push_allowed(head: &mut ArrayString<1024>, allow: Option<Allow>)
     requires { array_string_len head.old + 20 ≤ 1024 }
-    ensures bytes { head.new.bytes ≡ head.old.bytes ++ allowed status }
+    ensures bytes { head.new.bytes ≡ head.old.bytes ++ allowed allow }
     ensures bound { array_string_len head.new ≤ array_string_len head.old + 20 }
 {
-    if status == Status::MethodNotAllowed {
-        head.push_str("Allow: GET\r\n");
+    if let Some(allow) = allow {
+        head.push_str("Allow: ");
+        head.push_str(methods(allow));
+        head.push_str("\r\n");
     }
 }
 
-/// The head of a response: its status, the type of its body, and the length of that.
-pub(crate) fn page_head(status: Status, kind: Kind, length: u64) -> ArrayString<1024>
-    ensures { result.bytes ≡ page_head status kind length }
+/// The head of a response: its status, the methods of the path where another was asked for, the type of its body, and the
+/// length of that.
+pub(crate) fn page_head(
+    status: Status,
+    allow: Option<Allow>,
+    kind: Kind,
+    length: u64,
+) -> ArrayString<1024>
+    ensures { result.bytes ≡ page_head status allow kind length }
 {
     let mut head = ArrayString::new();
     head.push_str("HTTP/1.1 ");
@@ -86,7 +94,7 @@ pub(crate) fn page_head(status: Status, kind: Kind, length: u64) -> ArrayString<
     head.push_str("; charset=utf-8\r\nContent-Length: ");
     push_number(&mut head, length);
     head.push_str("\r\nConnection: close\r\n");
-    push_allowed(&mut head, status);
+    push_allowed(&mut head, allow);
     push_content_policy(&mut head);
     push_origin_policy(&mut head);
     head.push_str("\r\n");

@@ -3,12 +3,10 @@
 ghost use Rattle.std.specs.Prelude.{◌≡◌, Err as ErrOf, IfErr, IfOk};
 ghost use Rattle.std.specs.Str.{IsUtf8};
 ghost use Rattle.percent_encoding.specs.Percent.{percent_decode};
-ghost use Rattle.tb_answer.specs.Calls.{ReadsOnly};
-ghost use Rattle.tb_answer.specs.Commanded.{HasFailed};
+ghost use Rattle.tb_answer.specs.OnlyRead.{IsReadResult};
 ghost use Rattle.tb_answer.specs.Viewed.{IsReportedAs};
 ghost use Rattle.tb_page.specs.Lists.{IsList, IsWithId, LacksId, RefusesList, counts_csv};
 ghost use Rattle.tb_page.specs.Paths.{list_by};
-ghost use Rattle.tb_store.specs.Calls.{Gives, GivesOnErr, KeepsState};
 
 use crate::paths::PageList;
 use arrayvec::ArrayString;
@@ -62,13 +60,9 @@ fn unescaped(alloc: Global, text: &[u8]) -> Result<Vec<u8>, Reply>
 
 /// The sentence with this `sent_id`. None has one that is not UTF-8.
 fn with_id<S: Alter>(alloc: Global, desk: &mut Desk<S>, id: &[u8]) -> Result<Vec<u8>, Reply>
-    ensures answered { Gives S.Store desk.old desk.new result (λ s v. IsWithId s id.now v.items) }
-    ensures reported { GivesOnErr S.Store desk.old desk.new result (λ s r.
-        IsReportedAs (HasFailed S.Store desk.old desk.new) (LacksId s id.now) r) }
+    ensures read { IsReadResult S.Store desk.old desk.new result (λ s v. IsWithId s id.now v.items)
+        (λ cause s. IsReportedAs cause (LacksId s id.now)) }
     ensures unreadable { (IsUtf8 id.now → ⊥) → result ≡ ErrOf (Reply.Refused Refusal.NoSuchSentence) }
-    ensures keeps_state { KeepsState S.Store desk.old desk.new }
-    ensures crash { ReadsOnly S.Store desk.old desk.new }
-    ensures limits { desk.new.limits ≡ desk.old.limits }
 {
     match from_utf8(id) {
         Ok(id) => view_found(alloc, desk, id),
@@ -78,12 +72,8 @@ fn with_id<S: Alter>(alloc: Global, desk: &mut Desk<S>, id: &[u8]) -> Result<Vec
 
 /// The sentence with a `sent_id`, in which percent escapes stand for bytes.
 fn with_escaped_id<S: Alter>(alloc: Global, desk: &mut Desk<S>, id: &[u8]) -> Result<Vec<u8>, Reply>
-    ensures answered { Gives S.Store desk.old desk.new result (λ s v. IsWithId s (percent_decode id.now) v.items) }
-    ensures reported { GivesOnErr S.Store desk.old desk.new result (λ s r.
-        IsReportedAs (HasFailed S.Store desk.old desk.new) (LacksId s (percent_decode id.now)) r) }
-    ensures keeps_state { KeepsState S.Store desk.old desk.new }
-    ensures crash { ReadsOnly S.Store desk.old desk.new }
-    ensures limits { desk.new.limits ≡ desk.old.limits }
+    ensures { IsReadResult S.Store desk.old desk.new result (λ s v. IsWithId s (percent_decode id.now) v.items)
+        (λ cause s. IsReportedAs cause (LacksId s (percent_decode id.now))) }
 {
     match unescaped(alloc, id) {
         Ok(id) => with_id(alloc, desk, id.as_slice()),
@@ -101,12 +91,8 @@ pub(crate) fn list_text<S: Alter>(
     desk: &mut Desk<S>,
     list: PageList<'_>,
 ) -> Result<Vec<u8>, Reply>
-    ensures answered { Gives S.Store desk.old desk.new result (λ s v. IsList s (list_by list.entry) v.items) }
-    ensures reported { GivesOnErr S.Store desk.old desk.new result (λ s r.
-        IsReportedAs (HasFailed S.Store desk.old desk.new) (RefusesList s (list_by list.entry)) r) }
-    ensures keeps_state { KeepsState S.Store desk.old desk.new }
-    ensures crash { ReadsOnly S.Store desk.old desk.new }
-    ensures limits { desk.new.limits ≡ desk.old.limits }
+    ensures { IsReadResult S.Store desk.old desk.new result (λ s v. IsList s (list_by list.entry) v.items)
+        (λ cause s. IsReportedAs cause (RefusesList s (list_by list.entry))) }
 {
     match list {
         PageList::Counts => copied(alloc, counts_csv(desk.row_counts()).as_str()),

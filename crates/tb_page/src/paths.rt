@@ -3,7 +3,8 @@
 ghost use Rattle.std.specs.Prelude.{◌≡◌, ℕ, List, None, option_map};
 ghost use Rattle.std.specs.Option.{option_copied};
 ghost use Rattle.tb_http.specs.Actions.{place_of};
-ghost use Rattle.tb_page.specs.Paths.{IsPath, file_at, list_at, list_by, rest_after, sent_id_at, sentences_at, value_at};
+ghost use Rattle.tb_page.specs.Paths.{IsPath, file_at, is_check, list_at, list_by, rest_after, sent_id_at};
+ghost use Rattle.tb_page.specs.Paths.{sentences_at, value_at};
 
 use tb_http::{number_of, text_of};
 
@@ -47,6 +48,13 @@ pub enum PageList<'b> {
 pub fn no_path_of_the_page_is_the_desks()
     ensures { (path : List ℕ) → IsPath path → place_of path ≡ None }
 {}
+
+/// Whether a text is checked at a path.
+pub(crate) fn is_check(path: &[u8]) -> bool
+    ensures { result ≡ is_check path.now }
+{
+    path == b"/page/check".as_slice()
+}
 
 /// The file at a path.
 pub(crate) fn file_at(path: &[u8]) -> Option<File>

@@ -1,15 +1,17 @@
 //! What the bytes of a request ask of a server with the page.
 
-ghost use Rattle.std.specs.Prelude.{◌≡◌, ◌≤◌, ◌++◌, ℕ, List, length, map, take};
-ghost use Rattle.httparse.specs.Spans.{IsRequestOf, IsRequestWithin, header_bytes, span_bytes};
-ghost use Rattle.tb_page.specs.Visits.{AsksOneVisit, Visits, asked_of, is_get, is_linkable, visit_by, visit_of};
+ghost use Rattle.std.specs.Prelude.{◌≡◌, ◌≤◌, ◌++◌, ◌↔◌, ℕ, List, All, IsTrue, drop, length, map, take};
+ghost use Rattle.httparse.specs.Spans.{IsHeaderWithin, IsRequestOf, IsRequestWithin, header_bytes, span_bytes};
+ghost use Rattle.tb_http.specs.Headers.{body_length};
+ghost use Rattle.tb_page.specs.Visits.{AsksOneVisit, AwaitsText, Visits, asked_at, asked_of, check_of, is_get};
+ghost use Rattle.tb_page.specs.Visits.{is_linkable, is_post, no_text, text_in, text_of, visit_by, visit_of};
 ghost use Rattle.tb_page.specs.Paths.{file_at, list_at};
 
 use crate::guard::{Foreign, guard};
-use crate::paths::{File, PageList, file_at, list_at};
+use crate::paths::{File, PageList, file_at, is_check, list_at};
 use httparse::spans::{EMPTY_HEADER_SPAN, HeaderSpan, RequestSpans};
 use tb_conllu::SliceSource;
-use tb_http::{HEAD_BYTES, HEADERS, read_head};
+use tb_http::{Allow, BODY_BYTES, HEAD_BYTES, HEADERS, RequestFault, body_length, read_head};
 
 /// What a request asks of a server with the page.
 #[derive(Clone, Copy, Debug)]
@@ -22,8 +24,12 @@ pub enum Visit<'b> {
     File(File),
     /// A list that the page reads of the desk.
     List(PageList<'b>),
-    /// The page has this path, but the method GET alone.
-    NoMethod,
+    /// The check of a text.
+    Check(&'b [u8]),
+    /// A check whose text is not whole in the bytes that came, or not of a length that is taken.
+    NoText(RequestFault),
+    /// The page has this path, but these methods alone.
+    NoMethod(Allow),
     /// It is the desk's to answer.
     Desk,
 }
@@ -55,7 +61,7 @@ fn asked_of<'b>(method: &[u8], path: &'b [u8]) -> Visit<'b>
         return if is_get(method) {
             Visit::File(file)
         } else {
-            Visit::NoMethod
+            Visit::NoMethod(Allow::Get)
         };
     }
     let Some(list) = list_at(path) else {
@@ -64,53 +70,152 @@ fn asked_of<'b>(method: &[u8], path: &'b [u8]) -> Visit<'b>
     if is_get(method) {
         Visit::List(list)
     } else {
-        Visit::NoMethod
+        Visit::NoMethod(Allow::Get)
     }
 }
 
-/// What is asked by the head at these spans.
-fn visit_of<'b>(port: u16, buf: &'b [u8], headers: &[HeaderSpan], spans: RequestSpans) -> Visit<'b>
+/// The text of so many bytes, if these have all come.
+fn text_in(rest: &[u8], n: usize) -> Visit<'_>
+    ensures { visit_by result ≡ text_in n rest.now }
+{
+    match rest.get(..n) {
+        Some(text) => Visit::Check(text),
+        None => Visit::NoText(RequestFault::Body),
+    }
+}
+
+/// The text that these headers give a length, of the bytes after the head.
+fn text_of<'b>(buf: &[u8], headers: &[HeaderSpan], rest: &'b [u8]) -> Visit<'b>
+    requires { All (IsHeaderWithin (length buf.now)) headers.now }
+    ensures { visit_by result ≡ text_of (body_length (map (header_bytes buf.now) headers.now)) rest.now }
+{
+    match body_length(buf, headers, BODY_BYTES) {
+        Ok(Some(n)) => text_in(rest, n),
+        Ok(None) => Visit::NoText(RequestFault::Long),
+        Err(_) => Visit::NoText(RequestFault::Length),
+    }
+}
+
+/// Whether the method is POST.
+fn is_post(method: &[u8]) -> bool
+    ensures { result ≡ is_post method.now }
+{
+    method == b"POST".as_slice()
+}
+
+/// What is asked of the path of the check by this method, these headers, and the bytes after the head.
+fn check_of<'b>(method: &[u8], buf: &[u8], headers: &[HeaderSpan], rest: &'b [u8]) -> Visit<'b>
+    requires { All (IsHeaderWithin (length buf.now)) headers.now }
+    ensures { visit_by result ≡ check_of method.now (map (header_bytes buf.now) headers.now) rest.now }
+{
+    if is_post(method) {
+        text_of(buf, headers, rest)
+    } else {
+        Visit::NoMethod(Allow::Post)
+    }
+}
+
+/// What is asked of a path, once the guard has let it pass.
+fn asked_at<'b>(
+    method: &[u8],
+    path: &'b [u8],
+    buf: &[u8],
+    headers: &[HeaderSpan],
+    rest: &'b [u8],
+) -> Visit<'b>
+    requires { All (IsHeaderWithin (length buf.now)) headers.now }
+    ensures { visit_by result ≡ asked_at method.now path.now (map (header_bytes buf.now) headers.now) rest.now }
+{
+    if is_check(path) {
+        check_of(method, buf, headers, rest)
+    } else {
+        asked_of(method, path)
+    }
+}
+
+/// What is asked by the head at these spans, and by the bytes after it.
+fn visit_of<'b>(
+    port: u16,
+    buf: &'b [u8],
+    headers: &[HeaderSpan],
+    spans: RequestSpans,
+    rest: &'b [u8],
+) -> Visit<'b>
     requires inside { IsRequestWithin buf.now headers.now spans }
     ensures { visit_by result ≡ visit_of port (span_bytes buf.now spans.method) (span_bytes buf.now spans.path)
-        (map (header_bytes buf.now) (take spans.headers headers.now)) }
+        (map (header_bytes buf.now) (take spans.headers headers.now)) rest.now }
 {
     let method = spans.method.of(buf);
     let path = spans.path.of(buf);
-    if let Some(why) = guard(
-        port,
-        is_linkable(method, path),
-        buf,
-        &headers[..spans.headers],
-    ) {
+    let named = &headers[..spans.headers];
+    if let Some(why) = guard(port, is_linkable(method, path), buf, named) {
         return Visit::Foreign(why);
     }
-    asked_of(method, path)
+    asked_at(method, path, buf, named, rest)
 }
 
-/// What is asked by the head in the buffer, whatever comes after it.
+/// What is asked by bytes that begin with the head in the buffer.
 fn visit_after<'b>(
     port: u16,
     buf: &'b [u8],
     headers: &[HeaderSpan],
     spans: RequestSpans,
+    bytes: &'b [u8],
 ) -> Visit<'b>
     requires room { length buf.now ≤ 8192 }
     requires few { length headers.now ≤ 32 }
     requires inside { IsRequestWithin buf.now headers.now spans }
     requires head { IsRequestOf buf.now headers.now spans }
-    ensures { (later : List ℕ) → Visits port (buf.now ++ later) (visit_by result) }
+    requires begins { (later : List ℕ) × (bytes.now ≡ buf.now ++ later) }
+    ensures { Visits port bytes.now (visit_by result) }
 {
-    visit_of(port, buf, headers, spans)
+    visit_of(port, buf, headers, spans, &bytes[spans.len..])
 }
 
 /// What these bytes ask of the server at this port. The head is copied into `buf`, which paths borrow from.
-pub fn read_visit<'b>(port: u16, bytes: &[u8], buf: &'b mut [u8; HEAD_BYTES]) -> Visit<'b>
+pub fn read_visit<'b>(port: u16, bytes: &'b [u8], buf: &'b mut [u8; HEAD_BYTES]) -> Visit<'b>
     ensures { Visits port bytes.now (visit_by result) }
 {
     let mut headers = [EMPTY_HEADER_SPAN; HEADERS];
     let mut reader = SliceSource { bytes };
     match read_head(&mut reader, buf, &mut headers) {
-        Ok(Some(head)) => visit_after(port, &buf[..head.filled], &headers, head.spans),
+        Ok(Some(head)) => visit_after(port, &buf[..head.filled], &headers, head.spans, bytes),
         _ => Visit::NoHead,
+    }
+}
+
+/// Whether a check lacks a part of its text.
+fn lacks_text(visit: &Visit<'_>) -> bool
+    ensures { IsTrue result ↔ (visit_by visit.now ≡ no_text RequestFault.Body) }
+{
+    matches!(visit, Visit::NoText(RequestFault::Body))
+}
+
+/// Whether bytes that begin with the head in the buffer ask for a check, and lack a part of its text.
+fn awaits_text_after(buf: &[u8], headers: &[HeaderSpan], spans: RequestSpans, bytes: &[u8]) -> bool
+    requires room { length buf.now ≤ 8192 }
+    requires few { length headers.now ≤ 32 }
+    requires inside { IsRequestWithin buf.now headers.now spans }
+    requires head { IsRequestOf buf.now headers.now spans }
+    requires begins { (later : List ℕ) × (bytes.now ≡ buf.now ++ later) }
+    ensures { IsTrue result ↔ AwaitsText bytes.now }
+{
+    let method = spans.method.of(buf);
+    let rest = &bytes[spans.len..];
+    let named = &headers[..spans.headers];
+    is_check(spans.path.of(buf)) && lacks_text(&check_of(method, buf, named, rest))
+}
+
+/// Whether a server reads on for the text of a check after these bytes. A server without the page does so too, and so does
+/// one that will refuse where the request comes from.
+pub fn awaits_text(bytes: &[u8]) -> bool
+    ensures { IsTrue result ↔ AwaitsText bytes.now }
+{
+    let mut buf = [0; HEAD_BYTES];
+    let mut headers = [EMPTY_HEADER_SPAN; HEADERS];
+    let mut reader = SliceSource { bytes };
+    match read_head(&mut reader, &mut buf, &mut headers) {
+        Ok(Some(head)) => awaits_text_after(&buf[..head.filled], &headers, head.spans, bytes),
+        _ => false,
     }
 }

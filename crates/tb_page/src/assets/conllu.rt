@@ -75,7 +75,7 @@ function circles(words) {
   return found;
 }
 
-/** What is amiss in rows, in words, while a sentence is typed. The desk judges it when it is saved, and only that counts. */
+/** What is amiss in rows, in words, while a sentence is typed. The desk judges it, and only that counts. */
 export function hints(rows) {
   const words = rows.filter(row => row.kind === 'word'), ids = new Set(words.map(word => word.id));
   const roots = words.filter(word => word.fields[HEAD] === '0');

@@ -178,6 +178,18 @@ export function meaning(line, path = '') {
   }
 }
 
+/** How a row is named, by its ID. */
+function rowName(id) {
+  if (id.includes('-')) return `range ${id}`;
+  return id.includes('.') ? `empty node ${id}` : `word ${id}`;
+}
+
+/** A row of a check as at a terminal: its place, what is there, and what is wrong. The last row may say that there are more. */
+export function faultOf({ line, id, column, value, message }) {
+  if (!line) return { place: '', value: '', words: message.split(';')[0] };
+  return { place: [`line ${line}`, id && rowName(id), column].filter(Boolean).join(', '), value, words: message };
+}
+
 // ---- requests
 
 /** A decoder of UTF-8 that keeps a byte order mark, since a `sent_id` may begin with one. */
@@ -259,11 +271,14 @@ export function csv(text) {
   });
 }
 
-/** The answer to a GET of CSV, with its `rows`. */
-export async function table(path) {
-  const answer = await ask('GET', path);
+/** The answer to a request for CSV, with its `rows`. */
+export async function table(path, method = 'GET', given = {}) {
+  const answer = await ask(method, path, given);
   return { ...answer, rows: answer.ok ? csv(answer.text) : [] };
 }
+
+/** What is wrong with a text, which is not saved: `rows` are those of `deskview check`. */
+export const check = text => table('/page/check', 'POST', { body: text });
 
 /** The number of the last move, or null where the desk does not answer. */
 export async function lastMove() {

@@ -1,18 +1,34 @@
-use Rattle.std.proofs.Common.{IfErr, subst, sym}
-use Rattle.tb_core.specs.Machine.{Machine}
-use Rattle.tb_store.specs.Represents.{Represents}
-use Rattle.tb_answer.specs.Commanded.{HasFailed}
+use Rattle.std.proofs.Common.{inr, subst, sym}
+use Rattle.tb_answer.specs.OnlyRead.{IsReadResult}
 use Rattle.tb_answer.specs.Viewed.{IsReportedAs}
-use Rattle.tb_page.specs.Lists.{RefusesList}
+use Rattle.tb_answer.proofs.Failing.{if_err}
+use Rattle.tb_page.specs.Lists.{IsList, RefusesList}
 use Rattle.tb_page.specs.Paths.{list_by}
 use Rattle.tb_page.proofs.lists.list_text.Goals as goal
 
-pub returns-in-Sentences-clause-reported : goal.returns-in-Sentences-clause-reported
-returns-in-Sentences-clause-reported g c clean =
-    subst (λ l. IfErr c.numbered_sentences.result (λ r. (s : Machine) → Represents g.S.Store c.args.desk.now s → IsReportedAs (HasFailed g.S.Store c.args.desk.now c.numbered_sentences.new.desk) (RefusesList s (list_by l)) r)) (sym c.in-Sentences.is)
-    (c.numbered_sentences.ensures.reported clean)
+pub returns-in-Batches : goal.returns-in-Batches
+returns-in-Batches g c =
+    let told = c.view_batches.ensures in
+    subst (λ l. IsReadResult g.S.Store c.args.desk.now c.view_batches.new.desk c.view_batches.result (λ s v. IsList s (list_by l) v.items) (λ cause s. IsReportedAs cause (RefusesList s (list_by l)))) (sym c.in-Batches.is) (record {
+      answered = told.answered;
+      reported = λ clean. if_err c.view_batches.result (told.reported clean) (λ r failed s stands. inr (failed s stands));
+      read_only = told.read_only;
+    })
 
-pub returns-in-SentId-clause-reported : goal.returns-in-SentId-clause-reported
-returns-in-SentId-clause-reported g c clean =
-    subst (λ l. IfErr c.with_escaped_id.result (λ r. (s : Machine) → Represents g.S.Store c.args.desk.now s → IsReportedAs (HasFailed g.S.Store c.args.desk.now c.with_escaped_id.new.desk) (RefusesList s (list_by l)) r)) (sym c.in-SentId.is)
-    (c.with_escaped_id.ensures.reported clean)
+pub returns-in-Sentences : goal.returns-in-Sentences
+returns-in-Sentences g c =
+    let told = c.numbered_sentences.ensures in
+    subst (λ l. IsReadResult g.S.Store c.args.desk.now c.numbered_sentences.new.desk c.numbered_sentences.result (λ s v. IsList s (list_by l) v.items) (λ cause s. IsReportedAs cause (RefusesList s (list_by l)))) (sym c.in-Sentences.is) (record {
+      answered = told.answered;
+      reported = told.reported;
+      read_only = told.read_only;
+    })
+
+pub returns-in-SentId : goal.returns-in-SentId
+returns-in-SentId g c =
+    let told = c.with_escaped_id.ensures in
+    subst (λ l. IsReadResult g.S.Store c.args.desk.now c.with_escaped_id.new.desk c.with_escaped_id.result (λ s v. IsList s (list_by l) v.items) (λ cause s. IsReportedAs cause (RefusesList s (list_by l)))) (sym c.in-SentId.is) (record {
+      answered = told.answered;
+      reported = told.reported;
+      read_only = told.read_only;
+    })
