@@ -1,5 +1,5 @@
 -- What the fault of a desk is told as.
-use Rattle.std.proofs.Common.{◌≡◌, refl, ap, inl, inr, Result, Ok, Err, IfOk, IfErr, IsTrue, OnOk}
+use Rattle.std.proofs.Common.{◌≡◌, refl, ap, inl, inr, Result, Ok, Err, IfOk, IfErr, IsTrue, MatchResult, OnOk}
 use Rattle.std.specs.Result.{result_err}
 use Rattle.std.proofs.lemmas.Option.{same_Some}
 use Rattle.sqlite.specs.Store.{Ghosts}
@@ -18,6 +18,11 @@ use Rattle.tb_answer.specs.Commanded.{reply_for, reply_for_fault, reply_of, Blam
 -- a result that is no refusal
 no_refusal : {X : Type 0} (e : Fault) → (r : Refusal) × (◌≡◌ {A = Result X Fault} (Err e) (Err (Refused r))) → (r : Refusal) × (e ≡ Refused r)
 no_refusal {X} e (r, same) = (r, same_Some e (Refused r) (ap (λ (q : Result X Fault). result_err q) same))
+
+-- the reply for how a command ended, by either of its parts
+pub told_by : {X : Type 0} (tells : X → Reply) (ended : Result X Fault) (r : Reply) → MatchResult ended (λ x. r ≡ tells x) (λ e. r ≡ reply_for_fault e) → r ≡ reply_of tells ended
+told_by tells (Ok x) r is = is
+told_by tells (Err e) r is = is
 
 module _ {S X : Type 0} (g : Ghosts S) (old new : Kept S) (c : Command) (accepted : X → AnyReply) (tells : X → Reply) (s : Machine) where
   answered_by_fault : (e : Fault) → CommandEnds g old new c accepted s (Err e) → (e ≡ Device → BlamesFor g old.limits s c old new) → (IsForNone s c → (r : Refusal) × (e ≡ Refused r))

@@ -1,5 +1,5 @@
 -- What was asked of a desk, and what was then made of its answer. A reply is handed on.
-use Rattle.std.proofs.Common.{◌≡◌, sym, subst, Result, Ok, Err, IfOk, IfErr, OnOk}
+use Rattle.std.proofs.Common.{◌≡◌, ◌∙◌, arith, sym, subst, Result, Ok, Err, IfOk, IfErr, OnOk}
 use Rattle.sqlite.specs.Store.{Ghosts}
 use Rattle.sqlite.specs.Held.{state}
 use Rattle.sqlite.specs.State.{HasCleanDisk}
@@ -9,6 +9,7 @@ use Rattle.tb_store.specs.Kept.{Kept}
 use Rattle.tb_store.specs.Represents.{Represents}
 use Rattle.tb_tables.specs.Leaving.{CommitsNothing}
 use Rattle.tb_answer.specs.Calls.{ReadsOnly}
+use Rattle.tb_answer.specs.OnlyRead.{IsOnlyRead}
 use Rattle.tb_answer.proofs.Failing.{if_ok, if_err}
 use Rattle.tb_answer.proofs.SearchTexts.{read_here, read_then}
 
@@ -33,3 +34,11 @@ module _ {S X E : Type 0} (g : Ghosts S) (a b c : Kept S) where
       → CommitsNothing g b.conn c.conn → ReadsOnly g a c
   reads_then (Ok x) same stays one two = read_then g a b one c stays two
   reads_then (Err e) same stays one two = subst (λ d. ReadsOnly g a d) (sym same) (read_here g a b one)
+
+  pub only_then : (asked : Result X E) → IfErr asked (λ _. c ≡ b) → (HasCleanDisk (state g b.conn) → OnOk asked ((s : Machine) → Represents g a s → Represents g b s)) → IsOnlyRead g a b → CommitsNothing g a.conn b.conn
+      → IsOnlyRead g b c → CommitsNothing g b.conn c.conn → IsOnlyRead g a c
+  only_then asked same stays one first two second = record {
+    keeps_state = keeps_then asked same stays one.keeps_state two.keeps_state (λ clean. omega (arith, clean, second.clean));
+    crash = reads_then asked same stays first second;
+    limits = two.limits ∙ one.limits;
+  }

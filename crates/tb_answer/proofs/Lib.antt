@@ -13,3 +13,4 @@ mod InMemory
 mod Joined
 mod OrReply
 mod Handed
+mod Questioned

@@ -1,5 +1,5 @@
 -- What a query is answered, and what a search leaves at its sink and in the store.
-use Rattle.std.proofs.Common.{◌≡◌, ◌≢◌, ◌⊎◌, ◌∙◌, ◌≤◌, ℕ, List, [], length, Option, Result, Ok, Err, IfOk, IfErr, MatchResult, refl, sym, ap, subst, inl, inr, arith, le_trans}
+use Rattle.std.proofs.Common.{◌≡◌, ◌≢◌, ◌⊎◌, ◌∙◌, ℕ, List, [], length, Option, Result, Ok, Err, IfOk, IfErr, MatchResult, OnOk, refl, sym, ap, subst, inl, inr, arith, le_trans}
 use Rattle.std.specs.Io.KnownBytes.{Appends}
 use Rattle.std.proofs.KnownBytes.{Appends-trans}
 use Rattle.sqlite.specs.Store.{Ghosts}
@@ -10,6 +10,7 @@ use Rattle.tb_conllu.specs.Text.{BlockText}
 use Rattle.tb_conllu.specs.Sunk.{AppendsPart}
 use Rattle.tb_match.specs.declared.strategy.Strategy.{Strategy}
 use Rattle.tb_match.specs.declared.strategy.Strategy.TheVariants.{Shortest, Longest}
+use Rattle.tb_syntax.specs.Reading.{IsQueryText}
 use Rattle.tb_query.specs.declared.fault.QueryFault.{QueryFault}
 use Rattle.tb_query.specs.declared.fault.QueryFault.TheVariants as faults
 use Rattle.tb_query.specs.Reading.{IsFault}
@@ -54,15 +55,19 @@ query_read P (Ok q) result is h = subst (λ r. IfOk r P) (sym is) h
 query_read P (Err e) result is h = subst (λ r. IfOk r P) (sym is) tt
 
 pub fault_read : (text : List ℕ) (read : Result Asked QueryFault) (result : Result Asked Reply) → MatchResult read (λ q. result ≡ Ok q) (λ e. result ≡ Err (query_reply e)) → IfErr read (λ e. IsFault text e)
-    → IfErr read (λ e. e ≡ faults.Memory → length text ≤ 2000) → IfErr result (λ r. IsQueryReply text r)
-fault_read text (Ok q) result is at short = subst (λ r. IfErr r (IsQueryReply text)) (sym is) tt
-fault_read text (Err e) result is at short = subst (λ r. IfErr r (IsQueryReply text)) (sym is) (e, at, refl, short)
+    → IfErr read (λ e. e ≡ faults.Memory → IsQueryText text) → IfErr result (λ r. IsQueryReply text r)
+fault_read text (Ok q) result is at reads = subst (λ r. IfErr r (IsQueryReply text)) (sym is) tt
+fault_read text (Err e) result is at reads = subst (λ r. IfErr r (IsQueryReply text)) (sym is) (e, at, refl, reads)
 
 -- the query, where its hits were counted
 pub query_allowed : (Q : Type 0) (number : Result ℕ Fault) (result : Result Asked Reply) (q : Asked) → MatchResult number (λ _. result ≡ Ok q) (λ e. result ≡ Err (reply_for_fault e)) → IfOk number (λ _. Q)
     → IfOk result (λ x. (x ≡ q) × Q)
 query_allowed Q (Ok n) result q is h = subst (λ r. IfOk r (λ x. (x ≡ q) × Q)) (sym is) (refl, h)
 query_allowed Q (Err e) result q is h = subst (λ r. IfOk r (λ x. (x ≡ q) × Q)) (sym is) tt
+
+pub query_stays : (P : Type 0) (number : Result ℕ Fault) (result : Result Asked Reply) (q : Asked) → MatchResult number (λ _. result ≡ Ok q) (λ e. result ≡ Err (reply_for_fault e)) → OnOk number P → OnOk result P
+query_stays P (Ok n) result q is h = subst (λ r. OnOk r P) (sym is) h
+query_stays P (Err e) result q is h = subst (λ r. OnOk r P) (sym is) tt
 
 pub query_refused : (P : Reply → Type 0) (number : Result ℕ Fault) (result : Result Asked Reply) (q : Asked) → MatchResult number (λ _. result ≡ Ok q) (λ e. result ≡ Err (reply_for_fault e)) → IfErr (or_reply number) P → IfErr result P
 query_refused P (Ok n) result q is h = subst (λ r. IfErr r P) (sym is) tt

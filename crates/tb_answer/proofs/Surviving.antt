@@ -23,10 +23,7 @@ use Rattle.tb_answer.specs.declared.answering.Broken.TheVariants.{Write}
 use Rattle.tb_answer.specs.Served.{IsSafeCall, IsSafeOf, IsServed}
 use Rattle.tb_answer.specs.Turns.{HasResponse, LeadsBy, command_in, Ends, HoldsAnEndOf, AllButLast, IsSound, IsAnswered, AreAnswered, AreServed}
 use Rattle.tb_answer.proofs.Chained.{after_request, all_lead}
-
--- nothing is done
-survives_none : {S : Type 0} (g : Ghosts S) (c : Held S) (P : Trees → Type 0) → Survives (state g c) (state g c) P
-survives_none g c P = record { clean = omega arith; shield = λ h. h; counts = omega arith; limit = refl; closes = λ clean h. inl h; crash = λ clean db h. inl h }
+use Rattle.tb_answer.proofs.Questioned.{survives_none}
 
 -- ---- one request
 

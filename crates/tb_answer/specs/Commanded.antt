@@ -17,7 +17,7 @@ use Rattle.tb_tables.specs.Leaving.{IsFaultless}
 use Rattle.tb_refine.specs.Room.{HasRoomIfWritten}
 use Rattle.tb_store.specs.Answers.{HasNoSentence}
 use Rattle.tb_store.specs.Kept.{Kept}
-use Rattle.tb_store.specs.Calls.{IsDurable}
+use Rattle.tb_store.specs.Calls.{CrashesWhole, InState, IsDurable}
 
 -- the reply for an answer of the machine
 abbrev pub reply_for : Answer → Reply
@@ -93,3 +93,9 @@ IsAnswered g l s c old new r =
     ⊎ ((r ≡ reply.Memory) × IsDurable g new s × (IsForNone s c → ⊥))
     ⊎ ((r ≡ reply.Device) × (IsTrue (state g new.conn).is_open → IsDurable g new s) × BlamesFor g l s c old new
     × (IsForNone s c → ⊥))
+
+-- The command was obeyed: it has this answer in the state that the desk represents, and a crash of it leaves what it may.
+pub record IsObeyed {S : Type 0} (g : Ghosts S) (c : Command) (old new : Kept S) (r : Reply) : Type 0 where
+  pub answered : InState g old new (λ s. IsAnswered g old.limits s c old new r)
+  pub crash : CrashesWhole g old new c
+  pub limits : new.limits ≡ old.limits

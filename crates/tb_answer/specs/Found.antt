@@ -1,9 +1,13 @@
 -- The answers of a search and of a count of released text, on the command line and over HTTP.
-use Rattle.std.specs.Prelude.{◌≡◌, ◌⊎◌, ◌++◌, ◌≤◌, ℕ, List, [], length, Option, Some, None}
+use Rattle.std.specs.Prelude.{◌≡◌, ◌⊎◌, ◌++◌, ℕ, List, [], length, Option, Some, None, Result, IfOk}
 use Rattle.std.specs.Io.KnownBytes.{Appends}
+use Rattle.sqlite.specs.Store.{Ghosts}
+use Rattle.sqlite.specs.Held.{state}
+use Rattle.sqlite.specs.State.{HasCleanDisk}
 use Rattle.tb_conllu.specs.Sunk.{AppendsPart}
 use Rattle.tb_match.specs.declared.strategy.Strategy.{Strategy}
 use Rattle.tb_syntax.specs.declared.lexeme.Attr.{Attr}
+use Rattle.tb_syntax.specs.Reading.{IsQueryText}
 use Rattle.tb_query.specs.declared.fault.QueryFault.{QueryFault}
 use Rattle.tb_query.specs.declared.fault.QueryFault.TheVariants as fault
 use Rattle.tb_query.specs.Reading.{IsQuery, IsFault}
@@ -11,6 +15,7 @@ use Rattle.tb_query.specs.Search.{Asked}
 use Rattle.tb_core.specs.declared.limits.Limits.{Limits}
 use Rattle.tb_core.specs.declared.refusals.Refusal.TheVariants as refusal
 use Rattle.tb_core.specs.Machine.{Machine}
+use Rattle.tb_tables.specs.Leaving.{CommitsNothing}
 use Rattle.tb_report.specs.Csv.{freq_csv}
 use Rattle.tb_report.specs.Tables.{Row, IsTableOf, IsRankingOf, total_of}
 use Rattle.tb_http.specs.declared.heads.Extra.TheVariants as extra
@@ -22,14 +27,18 @@ use Rattle.tb_http.specs.Heads.{head_text}
 use Rattle.tb_http.specs.Replies.{reply_text, status_of, exit_of}
 use Rattle.tb_search.specs.Searched.{Occurrence, answer, keys, lines}
 use Rattle.tb_search.specs.Visited.{HasReason}
+use Rattle.tb_store.specs.Calls.{Does, GivesOnErr}
 use Rattle.tb_store.specs.Found.{AreReleasedHits, HasTooMany, IsAbove}
+use Rattle.tb_store.specs.Kept.{Kept}
+use Rattle.tb_store.specs.Represents.{Represents}
 use Rattle.tb_answer.specs.declared.finding.Search.{Search}
 use Rattle.tb_answer.specs.declared.finding.Count.{Count}
 use Rattle.tb_answer.specs.declared.ending.Ending.{Ending}
 use Rattle.tb_answer.specs.declared.ending.Ending.TheVariants.{Whole, BrokenOff, Refused}
 use Rattle.tb_answer.specs.declared.written.Written.{Written}
 use Rattle.tb_answer.specs.declared.written.Written.TheVariants as written
-use Rattle.tb_answer.specs.Commanded.{IsFailure}
+use Rattle.tb_answer.specs.Commanded.{HasFailed, IsFailure}
+use Rattle.tb_answer.specs.OnlyRead.{IsOnlyRead}
 use Rattle.tb_answer.specs.Output.{IsWritten}
 use Rattle.tb_answer.specs.Responses.{reply_response, body_response, IsSent}
 
@@ -64,10 +73,10 @@ query_reply fault.Repeat = reply.Refused (refusal.Query 5 0)
 query_reply (fault.Pattern literal) = reply.Refused (refusal.Query 6 literal)
 query_reply fault.Memory = reply.Memory
 
--- The reply names a fault of the text. Memory runs out only for a text of at most 2,000 bytes.
+-- The reply names a fault of the text. Memory runs out only for a text that is a query within the limits.
 abbrev pub IsQueryReply : List ℕ → Reply → Type 0
 IsQueryReply text reported = (e : QueryFault) × IsFault text e × (reported ≡ query_reply e)
-    × (e ≡ fault.Memory → length text ≤ 2000)
+    × (e ≡ fault.Memory → IsQueryText text)
 
 -- the reply says that there are too many hits, or is a failure of the call with this cause
 abbrev pub IsLimitReply : (cause : Type 0) → Limits → Machine → Asked → Strategy → Reply → Type 0
@@ -87,6 +96,15 @@ IsAllowed l s q strategy = (found : List Occurrence) → AreReleasedHits s q str
 -- the text is this query, and its hits in a state are within the limit
 abbrev pub IsAskedQuery : Limits → Machine → List ℕ → Strategy → Asked → Type 0
 IsAskedQuery l s text strategy q = IsQuery text q × IsAllowed l s q strategy
+
+-- The query is handed on where its hits are within the limit of the desk. Else a reply says why not.
+pub record IsLimited {S : Type 0} (g : Ghosts S) (query : Asked) (strategy : Strategy) (old new : Kept S) (result : Result Asked Reply) : Type 0 where
+  pub allowed : HasCleanDisk (state g new.conn) → IfOk result (λ q. (q ≡ query)
+      × ((s : Machine) → Represents g old s → IsAllowed old.limits s query strategy))
+  pub reported : GivesOnErr g old new result (λ s r. IsLimitReply (HasFailed g old new) old.limits s query strategy r)
+  pub stays : Does g old new result (λ s. Represents g new s)
+  pub read_only : IsOnlyRead g old new
+  pub commits_nothing : CommitsNothing g old.conn new.conn
 
 -- ---- a search, whose lines are written as they are found
 

@@ -3,6 +3,7 @@ pub mod Commanded
 pub mod Asked
 pub mod Output
 pub mod Calls
+pub mod OnlyRead
 pub mod Responses
 pub mod Exported
 pub mod Found

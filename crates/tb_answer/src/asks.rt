@@ -1,11 +1,11 @@
 //! Does what a request asks, and answers it.
 
 ghost use Rattle.std.specs.Prelude.{◌≡◌};
-ghost use Rattle.tb_answer.specs.Prelude.{act_by, InState, KeepsState, reported_by};
+ghost use Rattle.tb_answer.specs.Prelude.{act_by, InState, reported_by};
 ghost use Rattle.tb_answer.specs.Commanded.{HasFailed};
-ghost use Rattle.tb_answer.specs.Calls.{call_asked, ReadsOnly};
-ghost use Rattle.tb_answer.specs.Found.{IsSearchResponse, IsCountResponse};
-ghost use Rattle.tb_answer.specs.Served.{AsksText, ForText, IsReplySent, IsSentAs, IsTextSent, IsCallSent, IsReplied};
+ghost use Rattle.tb_answer.specs.Calls.{call_asked};
+ghost use Rattle.tb_answer.specs.OnlyRead.{IsOnlyRead};
+ghost use Rattle.tb_answer.specs.Served.{AsksText, IsReplySent, IsTextSent, IsCallSent, IsReplied};
 ghost use Rattle.tb_answer.specs.Served.{IsSafeCall, IsSafeFor};
 
 use crate::calls::DeskCall;
@@ -20,9 +20,7 @@ use std::alloc::Global;
 use std::str::from_utf8;
 use tb_conllu::Sink;
 use tb_http::{Action, Ask, Reply, RequestFault, Status};
-use tb_match::Strategy;
 use tb_store::Desk;
-use tb_syntax::Attr;
 
 /// Answers that the body is not UTF-8.
 fn respond_no_text<W: Sink>(out: &mut W) -> Option<Status>
@@ -32,66 +30,7 @@ fn respond_no_text<W: Sink>(out: &mut W) -> Option<Status>
     respond_reply(out, Reply::Faulty(RequestFault::Body))
 }
 
-/// Answers a search, whose query is the body.
-fn respond_to_search<S: Alter, W: Sink>(
-    alloc: Global,
-    desk: &mut Desk<S>,
-    strategy: Strategy,
-    context: u8,
-    body: &[u8],
-    out: &mut W,
-) -> Option<Status>
-    ensures written { InState S.Store desk.old desk.new (λ s. ForText (W.held out.old) (W.held out.new)
-        (W.IsRefusal out.new) result body.now (IsSearchResponse (HasFailed S.Store desk.old desk.new)
-        desk.old.limits s (record {
-          query = body.now;
-          strategy = strategy;
-          context = context;
-        }) (W.held out.old) (W.held out.new) (W.IsRefusal out.new) result)) }
-    ensures keeps_state { KeepsState S.Store desk.old desk.new }
-    ensures crash { ReadsOnly S.Store desk.old desk.new }
-    ensures limits { desk.new.limits ≡ desk.old.limits }
-{
-    let Ok(query) = from_utf8(body) else {
-        return respond_no_text(out);
-    };
-    let search = Search {
-        query,
-        strategy,
-        context,
-    };
-    respond_search(alloc, desk, search, out)
-}
-
-/// Answers a count, whose query is the body.
-fn respond_to_count<S: Alter, W: Sink>(
-    alloc: Global,
-    desk: &mut Desk<S>,
-    strategy: Strategy,
-    column: Attr,
-    body: &[u8],
-    out: &mut W,
-) -> Option<Status>
-    ensures written { InState S.Store desk.old desk.new (λ s. ForText (W.held out.old) (W.held out.new)
-        (W.IsRefusal out.new) result body.now (IsSentAs (W.held out.old) (W.held out.new) (W.IsRefusal out.new) result
-        (IsCountResponse (HasFailed S.Store desk.old desk.new) desk.old.limits s
-        (record { query = body.now; strategy = strategy; column = column })))) }
-    ensures keeps_state { KeepsState S.Store desk.old desk.new }
-    ensures crash { ReadsOnly S.Store desk.old desk.new }
-    ensures limits { desk.new.limits ≡ desk.old.limits }
-{
-    let Ok(query) = from_utf8(body) else {
-        return respond_no_text(out);
-    };
-    let count = Count {
-        query,
-        strategy,
-        column,
-    };
-    respond_count(alloc, desk, count, out)
-}
-
-/// Answers an action that asks for an export, a search or a count.
+/// Answers an action that asks for an export, a search or a count. The body is the query of a search or a count.
 fn respond_text<S: Alter, W: Sink>(
     alloc: Global,
     desk: &mut Desk<S>,
@@ -103,19 +42,33 @@ fn respond_text<S: Alter, W: Sink>(
     ensures written { InState S.Store desk.old desk.new (λ s. IsTextSent (W.held out.old) (W.held out.new)
         (W.IsRefusal out.new) result (HasFailed S.Store desk.old desk.new) desk.old.limits s
         (act_by action.entry) body.now) }
-    ensures keeps_state { KeepsState S.Store desk.old desk.new }
-    ensures crash { ReadsOnly S.Store desk.old desk.new }
-    ensures limits { desk.new.limits ≡ desk.old.limits }
+    ensures read_only { IsOnlyRead S.Store desk.old desk.new }
 {
-    match action {
-        Action::Export { name } => respond_export(alloc, desk, Some(name), out),
-        Action::Search { strategy, context } => {
-            respond_to_search(alloc, desk, strategy, context, body, out)
+    match (action, from_utf8(body)) {
+        (Action::Export { name }, _) => respond_export(alloc, desk, Some(name), out),
+        (Action::Search { strategy, context }, Ok(query)) => {
+            let search = Search {
+                query,
+                strategy,
+                context,
+            };
+            respond_search(alloc, desk, search, out)
         }
-        Action::Count {
-            strategy,
-            attribute,
-        } => respond_to_count(alloc, desk, strategy, attribute, body, out),
+        (
+            Action::Count {
+                strategy,
+                attribute,
+            },
+            Ok(query),
+        ) => {
+            let count = Count {
+                query,
+                strategy,
+                column: attribute,
+            };
+            respond_count(alloc, desk, count, out)
+        }
+        (Action::Search { .. } | Action::Count { .. }, Err(_)) => respond_no_text(out),
         // released text: no other action is left
         _ => respond_export(alloc, desk, None, out),
     }

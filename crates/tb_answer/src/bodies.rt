@@ -1,18 +1,17 @@
 //! The texts that answer what a desk is asked.
 
 ghost use Rattle.std.specs.Prelude.{◌≡◌, Some, None, Ok, Err, string_bytes, IfErr, MatchResult};
-ghost use Rattle.tb_answer.specs.Prelude.{Gives, GivesOnErr, HasNoSentence, IsCurrent, IsRevisionText, KeepsState};
-ghost use Rattle.tb_answer.specs.Prelude.{Machine, moves_csv, Represents};
-ghost use Rattle.tb_answer.specs.Commanded.{HasFailed, IsFailure, IsStoreFailure};
-ghost use Rattle.tb_answer.specs.Asked.{or_reply, totals_text, AsksForNone, IsBody, IsReportedOf};
-ghost use Rattle.tb_answer.specs.Calls.{ReadsOnly};
+ghost use Rattle.tb_answer.specs.Prelude.{IsCurrent, IsRevisionText, moves_csv};
+ghost use Rattle.tb_answer.specs.Commanded.{IsFailure, IsStoreFailure};
+ghost use Rattle.tb_answer.specs.Asked.{or_reply, totals_text, IsBody};
+ghost use Rattle.tb_answer.specs.OnlyRead.{IsReadResult, IsQuestionResult};
 
 use crate::commands::reply_for_fault;
 use crate::listed::text_or_reply;
 use crate::questions::{Body, Question};
 use sqlite::Alter;
 use std::alloc::Global;
-use tb_core::{Fault, Refusal};
+use tb_core::Fault;
 use tb_http::Reply;
 use tb_report::ReportFault;
 use tb_store::{Current, Desk};
@@ -29,26 +28,18 @@ pub(crate) fn or_memory<T: Drop>(put: Result<(), ReportFault>, made: T) -> Resul
 
 /// Sentences and words of the six states, as CSV. It is never refused.
 pub fn totals<S: Alter>(alloc: Global, desk: &mut Desk<S>) -> Result<Vec<u8>, Reply>
-    ensures answered { Gives S.Store desk.old desk.new result (λ s v. v.items ≡ totals_text s) }
-    ensures failed { GivesOnErr S.Store desk.old desk.new result (λ s r.
-        IsFailure (HasFailed S.Store desk.old desk.new) r) }
+    ensures read { IsReadResult S.Store desk.old desk.new result (λ s v. v.items ≡ totals_text s)
+        (λ cause s. IsFailure cause) }
     ensures unrefused { IfErr result IsStoreFailure }
-    ensures keeps_state { KeepsState S.Store desk.old desk.new }
-    ensures crash { ReadsOnly S.Store desk.old desk.new }
-    ensures limits { desk.new.limits ≡ desk.old.limits }
 {
     text_or_reply(alloc, desk.totals())
 }
 
 /// All moves in their order, as CSV. It is never refused.
 pub fn moves<S: Alter>(alloc: Global, desk: &mut Desk<S>) -> Result<Vec<u8>, Reply>
-    ensures answered { Gives S.Store desk.old desk.new result (λ s v. v.items ≡ moves_csv s.moves) }
-    ensures failed { GivesOnErr S.Store desk.old desk.new result (λ s r.
-        IsFailure (HasFailed S.Store desk.old desk.new) r) }
+    ensures read { IsReadResult S.Store desk.old desk.new result (λ s v. v.items ≡ moves_csv s.moves)
+        (λ cause s. IsFailure cause) }
     ensures unrefused { IfErr result IsStoreFailure }
-    ensures keeps_state { KeepsState S.Store desk.old desk.new }
-    ensures crash { ReadsOnly S.Store desk.old desk.new }
-    ensures limits { desk.new.limits ≡ desk.old.limits }
 {
     text_or_reply(alloc, desk.moves())
 }
@@ -69,14 +60,8 @@ pub(crate) fn or_reply<T>(read: Result<T, Fault>) -> Result<T, Reply>
 ///
 /// `NoSuchSentence`, or a failure.
 pub fn sentence<S: Alter>(desk: &mut Desk<S>, number: u64) -> Result<Current, Reply>
-    ensures answered { Gives S.Store desk.old desk.new result (λ s c. IsCurrent s number c.rev (string_bytes c.body)) }
-    ensures missing { (s : Machine) → Represents S.Store desk.old s → HasNoSentence s number
-        → result ≡ Err (Reply.Refused Refusal.NoSuchSentence) }
-    ensures reported { GivesOnErr S.Store desk.old desk.new result (λ s r.
-        IsReportedOf (HasFailed S.Store desk.old desk.new) s (Question.Sentence number) r) }
-    ensures keeps_state { KeepsState S.Store desk.old desk.new }
-    ensures crash { ReadsOnly S.Store desk.old desk.new }
-    ensures limits { desk.new.limits ≡ desk.old.limits }
+    ensures { IsQuestionResult S.Store desk.old desk.new result (Question.Sentence number)
+        (λ s c. IsCurrent s number c.rev (string_bytes c.body)) }
 {
     or_reply(desk.sentence(number))
 }
@@ -87,14 +72,8 @@ pub fn sentence<S: Alter>(desk: &mut Desk<S>, number: u64) -> Result<Current, Re
 ///
 /// The first of `NoSuchSentence` and `NoSuchRevision` that holds, or a failure.
 pub fn revision<S: Alter>(desk: &mut Desk<S>, number: u64, rev: u64) -> Result<String, Reply>
-    ensures answered { Gives S.Store desk.old desk.new result (λ s t. IsRevisionText s number rev (string_bytes t)) }
-    ensures missing { (s : Machine) → Represents S.Store desk.old s → HasNoSentence s number
-        → result ≡ Err (Reply.Refused Refusal.NoSuchSentence) }
-    ensures reported { GivesOnErr S.Store desk.old desk.new result (λ s r.
-        IsReportedOf (HasFailed S.Store desk.old desk.new) s (Question.Revision number rev) r) }
-    ensures keeps_state { KeepsState S.Store desk.old desk.new }
-    ensures crash { ReadsOnly S.Store desk.old desk.new }
-    ensures limits { desk.new.limits ≡ desk.old.limits }
+    ensures { IsQuestionResult S.Store desk.old desk.new result (Question.Revision number rev)
+        (λ s t. IsRevisionText s number rev (string_bytes t)) }
 {
     or_reply(desk.revision(number, rev))
 }
@@ -158,14 +137,8 @@ fn text_body(made: Result<Vec<u8>, Reply>) -> Result<Body, Reply>
 ///
 /// The refusals of the question, or a failure.
 pub fn ask<S: Alter>(alloc: Global, desk: &mut Desk<S>, question: Question) -> Result<Body, Reply>
-    ensures answered { Gives S.Store desk.old desk.new result (λ s b. IsBody s question b.rev b.text.items) }
-    ensures missing { (s : Machine) → Represents S.Store desk.old s → AsksForNone s question
-        → result ≡ Err (Reply.Refused Refusal.NoSuchSentence) }
-    ensures reported { GivesOnErr S.Store desk.old desk.new result (λ s r.
-        IsReportedOf (HasFailed S.Store desk.old desk.new) s question r) }
-    ensures keeps_state { KeepsState S.Store desk.old desk.new }
-    ensures crash { ReadsOnly S.Store desk.old desk.new }
-    ensures limits { desk.new.limits ≡ desk.old.limits }
+    ensures { IsQuestionResult S.Store desk.old desk.new result question
+        (λ s b. IsBody s question b.rev b.text.items) }
 {
     match question {
         Question::Sentence { number } => current_body(sentence(desk, number)),

@@ -2,14 +2,14 @@
 
 ghost use Rattle.std.specs.Prelude.{◌≡◌, ℕ, List, Err, IfOk, IfErr, MatchResult, None};
 ghost use Rattle.tb_answer.specs.Prelude.{AnyStatus, AreReleasedHits, CommitsNothing, freq_csv, Gives, GivesOnErr};
-ghost use Rattle.tb_answer.specs.Prelude.{InState, IsRankingOf, IsTableOf, KeepsState, keys, Occurrence, Row};
+ghost use Rattle.tb_answer.specs.Prelude.{InState, IsRankingOf, IsTableOf, keys, Occurrence, Row};
 ghost use Rattle.tb_answer.specs.Prelude.{status_of, total_of};
 ghost use Rattle.tb_answer.specs.Asked.{IsMadeOf};
 ghost use Rattle.tb_answer.specs.Commanded.{HasFailed, IsFailure};
 ghost use Rattle.tb_answer.specs.Output.{IsWritten};
 ghost use Rattle.tb_answer.specs.Responses.{IsSent, body_response, reply_response};
 ghost use Rattle.tb_answer.specs.Found.{count_by, IsCounted, IsCountOutput, IsCountResponse, IsReportedOfQuery};
-ghost use Rattle.tb_answer.specs.Calls.{ReadsOnly};
+ghost use Rattle.tb_answer.specs.OnlyRead.{IsOnlyRead, IsReadResult};
 
 use crate::bodies::{body_of, or_memory};
 use crate::commands::reply_for_fault;
@@ -73,9 +73,8 @@ fn counted<S: Alter>(
         × (v.text.items ≡ freq_csv rows) × (v.hits ≡ total_of table)) }
     ensures failed { GivesOnErr S.Store desk.old desk.new result (λ s r.
         IsFailure (HasFailed S.Store desk.old desk.new) r) }
-    ensures keeps_state { KeepsState S.Store desk.old desk.new }
+    ensures read_only { IsOnlyRead S.Store desk.old desk.new }
     ensures commits_nothing { CommitsNothing S.Store desk.old.conn desk.new.conn }
-    ensures limits { desk.new.limits ≡ desk.old.limits }
 {
     table_or_reply(alloc, desk.count(query, count.strategy, count.column))
 }
@@ -94,9 +93,8 @@ fn counted_if<S: Alter>(
     ensures failed { IfOk accepted (λ _. GivesOnErr S.Store desk.old desk.new result (λ s r.
         IsFailure (HasFailed S.Store desk.old desk.new) r)) }
     ensures refused { IfErr accepted (λ r. (result ≡ Err r) × (desk.new ≡ desk.old)) }
-    ensures keeps_state { KeepsState S.Store desk.old desk.new }
+    ensures read_only { IsOnlyRead S.Store desk.old desk.new }
     ensures commits_nothing { CommitsNothing S.Store desk.old.conn desk.new.conn }
-    ensures limits { desk.new.limits ≡ desk.old.limits }
 {
     match accepted {
         Ok(query) => counted(alloc, desk, &query, count),
@@ -114,14 +112,9 @@ fn count_text<S: Alter>(
     desk: &mut Desk<S>,
     count: Count<'_>,
 ) -> Result<CountTable, Reply>
-    ensures counted { Gives S.Store desk.old desk.new result (λ s v.
-        IsCounted desk.old.limits s (count_by count.entry) v.text.items v.hits) }
-    ensures reported { GivesOnErr S.Store desk.old desk.new result (λ s r.
-        IsReportedOfQuery (HasFailed S.Store desk.old desk.new) desk.old.limits s count.entry.query.now
-        count.entry.strategy r) }
-    ensures keeps_state { KeepsState S.Store desk.old desk.new }
-    ensures crash { ReadsOnly S.Store desk.old desk.new }
-    ensures limits { desk.new.limits ≡ desk.old.limits }
+    ensures { IsReadResult S.Store desk.old desk.new result
+        (λ s v. IsCounted desk.old.limits s (count_by count.entry) v.text.items v.hits)
+        (λ cause s. IsReportedOfQuery cause desk.old.limits s count.entry.query.now count.entry.strategy) }
 {
     counted_if(
         accepted(alloc, desk, count.query, count.strategy),
@@ -142,9 +135,7 @@ pub fn run_count<S: Alter, W: Sink>(
         × IsCountOutput (HasFailed S.Store desk.old desk.new) desk.old.limits s (count_by count.entry) text own
         result.written
         × IsWritten (W.held out.old) (W.held out.new) text own (W.IsRefusal out.new) result.status) }
-    ensures keeps_state { KeepsState S.Store desk.old desk.new }
-    ensures crash { ReadsOnly S.Store desk.old desk.new }
-    ensures limits { desk.new.limits ≡ desk.old.limits }
+    ensures read_only { IsOnlyRead S.Store desk.old desk.new }
 {
     Ran::by_count(out, count_text(alloc, desk, count))
 }
@@ -174,9 +165,7 @@ pub fn respond_count<S: Alter, W: Sink>(
     ensures written { InState S.Store desk.old desk.new (λ s. (text : List ℕ) × (status : AnyStatus)
         × IsCountResponse (HasFailed S.Store desk.old desk.new) desk.old.limits s (count_by count.entry) text status
         × IsSent (W.held out.old) (W.held out.new) text status (W.IsRefusal out.new) result) }
-    ensures keeps_state { KeepsState S.Store desk.old desk.new }
-    ensures crash { ReadsOnly S.Store desk.old desk.new }
-    ensures limits { desk.new.limits ≡ desk.old.limits }
+    ensures read_only { IsOnlyRead S.Store desk.old desk.new }
 {
     respond_table(out, count_text(alloc, desk, count))
 }

@@ -1,14 +1,14 @@
 //! Exports, made whole in memory before their first byte is written: with an exit status, or as responses over HTTP.
 
 ghost use Rattle.std.specs.Prelude.{◌≡◌, ◌≢◌, ℕ, List, None, Ok as OkOf, Err as ErrOf, IfOk, option_map, MatchResult};
-ghost use Rattle.tb_answer.specs.Prelude.{AnyRefusal, AnyStatus, Appends, BlamesNoDevice, Does, Gives, GivesOnErr};
-ghost use Rattle.tb_answer.specs.Prelude.{HasCleanDisk, InState, KeepsState, KnowsItself, Machine, Represents, state};
+ghost use Rattle.tb_answer.specs.Prelude.{AnyRefusal, AnyStatus, Appends, BlamesNoDevice, Does, HasCleanDisk, InState};
+ghost use Rattle.tb_answer.specs.Prelude.{KnowsItself, Machine, Represents, state};
 ghost use Rattle.tb_answer.specs.Commanded.{HasFailed, IsFailure, IsNoRefusal, reply_for_export};
 ghost use Rattle.tb_answer.specs.Output.{IsWritten};
 ghost use Rattle.tb_answer.specs.Responses.{IsSent};
 ghost use Rattle.tb_answer.specs.Exported.{HasExport, RefusesExport, IsExportOutput, IsReportedOfExport};
 ghost use Rattle.tb_answer.specs.Exported.{IsExportResponse, IsNamedBadly};
-ghost use Rattle.tb_answer.specs.Calls.{ReadsOnly};
+ghost use Rattle.tb_answer.specs.OnlyRead.{IsOnlyRead, IsReadResult};
 
 use crate::bodies::body_of;
 use crate::commands::reply_for_fault;
@@ -38,9 +38,7 @@ fn export<S: Alter, W: Sink>(
         → result ≡ ErrOf (Fault.Refused Refusal.BadName) }
     ensures fails { KnowsItself S.Store desk.old desk.new result }
     ensures cause { BlamesNoDevice S.Store desk.old desk.new result }
-    ensures keeps_state { KeepsState S.Store desk.old desk.new }
-    ensures crash { ReadsOnly S.Store desk.old desk.new }
-    ensures limits { desk.new.limits ≡ desk.old.limits }
+    ensures read_only { IsOnlyRead S.Store desk.old desk.new }
 {
     match name {
         Some(name) => desk.export_batch(name, out),
@@ -80,14 +78,10 @@ fn export_body<S: Alter>(
     desk: &mut Desk<S>,
     name: Option<&str>,
 ) -> Result<Body, Reply>
-    ensures answered { Gives S.Store desk.old desk.new result (λ s b. HasExport s (option_map (λ n. n.now) name.entry)
-        (OkOf b.text.items)) }
+    ensures read { IsReadResult S.Store desk.old desk.new result
+        (λ s b. HasExport s (option_map (λ n. n.now) name.entry) (OkOf b.text.items))
+        (λ cause s. IsReportedOfExport cause s (option_map (λ n. n.now) name.entry)) }
     ensures plain { IfOk result (λ b. b.rev ≡ None) }
-    ensures reported { GivesOnErr S.Store desk.old desk.new result (λ s r.
-        IsReportedOfExport (HasFailed S.Store desk.old desk.new) s (option_map (λ n. n.now) name.entry) r) }
-    ensures keeps_state { KeepsState S.Store desk.old desk.new }
-    ensures crash { ReadsOnly S.Store desk.old desk.new }
-    ensures limits { desk.new.limits ≡ desk.old.limits }
 {
     let mut text = Vec::new(alloc);
     body_of_export(export(desk, name, &mut text), text)
@@ -106,9 +100,7 @@ pub fn run_export<S: Alter, W: Sink>(
         × IsExportOutput (HasFailed S.Store desk.old desk.new) s (option_map (λ n. n.now) name.entry) text own
         result.written
         × IsWritten (W.held out.old) (W.held out.new) text own (W.IsRefusal out.new) result.status) }
-    ensures keeps_state { KeepsState S.Store desk.old desk.new }
-    ensures crash { ReadsOnly S.Store desk.old desk.new }
-    ensures limits { desk.new.limits ≡ desk.old.limits }
+    ensures read_only { IsOnlyRead S.Store desk.old desk.new }
 {
     Ran::by_body(out, export_body(alloc, desk, name))
 }
@@ -125,9 +117,7 @@ pub fn respond_export<S: Alter, W: Sink>(
     ensures written { InState S.Store desk.old desk.new (λ s. (text : List ℕ) × (status : AnyStatus)
         × IsExportResponse (HasFailed S.Store desk.old desk.new) s (option_map (λ n. n.now) name.entry) text status
         × IsSent (W.held out.old) (W.held out.new) text status (W.IsRefusal out.new) result) }
-    ensures keeps_state { KeepsState S.Store desk.old desk.new }
-    ensures crash { ReadsOnly S.Store desk.old desk.new }
-    ensures limits { desk.new.limits ≡ desk.old.limits }
+    ensures read_only { IsOnlyRead S.Store desk.old desk.new }
 {
     respond_result(out, export_body(alloc, desk, name))
 }

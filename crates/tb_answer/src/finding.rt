@@ -1,11 +1,12 @@
 //! Searches and counts of released text, and whether their queries are accepted.
 
 ghost use Rattle.std.specs.Prelude.{◌≡◌, ◌≢◌, Ok as OkOf, Err as ErrOf, IfOk, IfErr, MatchResult};
-ghost use Rattle.tb_answer.specs.Prelude.{CommitsNothing, Does, Gives, GivesOnErr, HasCleanDisk, IsQuery, KeepsState};
-ghost use Rattle.tb_answer.specs.Prelude.{Machine, Represents, state};
+ghost use Rattle.tb_answer.specs.Prelude.{CommitsNothing, Does, GivesOnErr, HasCleanDisk, IsQuery, Machine, Represents};
+ghost use Rattle.tb_answer.specs.Prelude.{state};
 ghost use Rattle.tb_answer.specs.Commanded.{HasFailed, reply_for_fault};
-ghost use Rattle.tb_answer.specs.Found.{query_reply, IsAskedQuery, IsAllowed, IsLimitReply, IsQueryReply};
+ghost use Rattle.tb_answer.specs.Found.{query_reply, IsAskedQuery, IsAllowed, IsLimited, IsLimitReply, IsQueryReply};
 ghost use Rattle.tb_answer.specs.Found.{IsReportedOfQuery};
+ghost use Rattle.tb_answer.specs.OnlyRead.{IsOnlyRead, IsReadResult};
 
 use crate::commands::reply_for_fault;
 use sqlite::Alter;
@@ -85,14 +86,7 @@ fn counted_within<S: Alter>(
     query: Query,
     strategy: Strategy,
 ) -> Result<Query, Reply>
-    ensures allowed { HasCleanDisk (state S.Store desk.new.conn) → IfOk result (λ q. (q ≡ query)
-        × ((s : Machine) → Represents S.Store desk.old s → IsAllowed desk.old.limits s query strategy)) }
-    ensures reported { GivesOnErr S.Store desk.old desk.new result (λ s r.
-        IsLimitReply (HasFailed S.Store desk.old desk.new) desk.old.limits s query strategy r) }
-    ensures stays { Does S.Store desk.old desk.new result (λ s. Represents S.Store desk.new s) }
-    ensures keeps_state { KeepsState S.Store desk.old desk.new }
-    ensures commits_nothing { CommitsNothing S.Store desk.old.conn desk.new.conn }
-    ensures limits { desk.new.limits ≡ desk.old.limits }
+    ensures { IsLimited S.Store query strategy desk.old desk.new result }
 {
     one_list_is_found();
     counted_query(desk.number(&query, strategy), query)
@@ -105,14 +99,7 @@ fn within_limit<S: Alter>(
     query: Query,
     strategy: Strategy,
 ) -> Result<Query, Reply>
-    ensures allowed { HasCleanDisk (state S.Store desk.new.conn) → IfOk result (λ q. (q ≡ query)
-        × ((s : Machine) → Represents S.Store desk.old s → IsAllowed desk.old.limits s query strategy)) }
-    ensures reported { GivesOnErr S.Store desk.old desk.new result (λ s r.
-        IsLimitReply (HasFailed S.Store desk.old desk.new) desk.old.limits s query strategy r) }
-    ensures stays { Does S.Store desk.old desk.new result (λ s. Represents S.Store desk.new s) }
-    ensures keeps_state { KeepsState S.Store desk.old desk.new }
-    ensures commits_nothing { CommitsNothing S.Store desk.old.conn desk.new.conn }
-    ensures limits { desk.new.limits ≡ desk.old.limits }
+    ensures limited { IsLimited S.Store query strategy desk.old desk.new result }
     ensures unasked { strategy ≢ Strategy.Every → (desk.new ≡ desk.old) × (result ≡ OkOf query) }
 {
     match strategy {
@@ -134,9 +121,8 @@ fn limited<S: Alter>(
         IsLimitReply (HasFailed S.Store desk.old desk.new) desk.old.limits s q strategy r)) }
     ensures unread { IfErr read (λ r. (result ≡ ErrOf r) × (desk.new ≡ desk.old)) }
     ensures stays { Does S.Store desk.old desk.new result (λ s. Represents S.Store desk.new s) }
-    ensures keeps_state { KeepsState S.Store desk.old desk.new }
+    ensures read_only { IsOnlyRead S.Store desk.old desk.new }
     ensures commits_nothing { CommitsNothing S.Store desk.old.conn desk.new.conn }
-    ensures limits { desk.new.limits ≡ desk.old.limits }
     ensures unasked { strategy ≢ Strategy.Every → (desk.new ≡ desk.old) × (result ≡ read) }
 {
     match read {
@@ -156,14 +142,11 @@ pub(crate) fn accepted<S: Alter>(
     text: &str,
     strategy: Strategy,
 ) -> Result<Query, Reply>
-    ensures accepted { Gives S.Store desk.old desk.new result (λ s q.
-        IsAskedQuery desk.old.limits s text.now strategy q) }
-    ensures reported { GivesOnErr S.Store desk.old desk.new result (λ s r.
-        IsReportedOfQuery (HasFailed S.Store desk.old desk.new) desk.old.limits s text.now strategy r) }
+    ensures read { IsReadResult S.Store desk.old desk.new result
+        (λ s q. IsAskedQuery desk.old.limits s text.now strategy q)
+        (λ cause s. IsReportedOfQuery cause desk.old.limits s text.now strategy) }
     ensures stays { Does S.Store desk.old desk.new result (λ s. Represents S.Store desk.new s) }
-    ensures keeps_state { KeepsState S.Store desk.old desk.new }
     ensures commits_nothing { CommitsNothing S.Store desk.old.conn desk.new.conn }
-    ensures limits { desk.new.limits ≡ desk.old.limits }
     ensures unasked { strategy ≢ Strategy.Every → (desk.new ≡ desk.old)
         × IfErr result (λ r. IsQueryReply text.now r) }
 {

@@ -1,10 +1,11 @@
 //! Runs a line of words on a desk.
 
 ghost use Rattle.std.specs.Prelude.{◌≡◌, MatchResult, Ok as Taken, Err as Untaken, option_map, string_bytes};
-ghost use Rattle.tb_answer.specs.Prelude.{file_limit, InState, KeepsState, said_by};
+ghost use Rattle.tb_answer.specs.Prelude.{file_limit, InState, said_by};
 ghost use Rattle.tb_answer.specs.Commanded.{HasFailed};
 ghost use Rattle.tb_answer.specs.Taken.{IsTaken, WithTaken, body_in, has_body};
-ghost use Rattle.tb_answer.specs.Calls.{call_by, call_in, ReadsOnly};
+ghost use Rattle.tb_answer.specs.Calls.{call_by, call_in};
+ghost use Rattle.tb_answer.specs.OnlyRead.{IsOnlyRead};
 ghost use Rattle.tb_answer.specs.Ran.{reading_by, reading_in, IsReadingRun, IsCalled, IsDone, IsRan, IsRanAs};
 ghost use Rattle.tb_answer.specs.Ran.{IsCallSafe, IsDoneSafe, IsLineSafe};
 
@@ -119,9 +120,7 @@ fn run_reading<S: Alter, W: Sink>(
     ensures read { InState S.Store desk.old desk.new (λ s. IsReadingRun (HasFailed S.Store desk.old desk.new)
         desk.old.limits s (reading_by reading.entry) (W.held out.old) (W.held out.new) (W.IsRefusal out.new)
         result.written result.status) }
-    ensures keeps_state { KeepsState S.Store desk.old desk.new }
-    ensures crash { ReadsOnly S.Store desk.old desk.new }
-    ensures limits { desk.new.limits ≡ desk.old.limits }
+    ensures read_only { IsOnlyRead S.Store desk.old desk.new }
 {
     match reading {
         Reading::Export(name) => run_export(alloc, desk, name, out),

@@ -1,11 +1,10 @@
 //! The list of the sentences of a batch that is named by its number, as the page asks for it.
 
 ghost use Rattle.std.specs.Prelude.{◌≡◌, Err, IfErr, IfOk, None, option_map};
-ghost use Rattle.tb_answer.specs.Prelude.{batch_lines, CommitsNothing, Gives, GivesOnErr, HasCleanDisk, KeepsState};
-ghost use Rattle.tb_answer.specs.Prelude.{Machine, Represents, state};
-ghost use Rattle.tb_answer.specs.Calls.{ReadsOnly};
-ghost use Rattle.tb_answer.specs.Commanded.{HasFailed, reply_for_fault};
+ghost use Rattle.tb_answer.specs.Prelude.{batch_lines, CommitsNothing};
+ghost use Rattle.tb_answer.specs.Commanded.{reply_for_fault};
 ghost use Rattle.tb_answer.specs.Numbered.{IsNumberedText, RefusesNumber, name_in};
+ghost use Rattle.tb_answer.specs.OnlyRead.{IsOnlyRead, IsReadResult};
 ghost use Rattle.tb_answer.specs.Viewed.{IsReportedAs};
 
 use crate::commands::reply_for_fault;
@@ -36,16 +35,11 @@ fn sentences_among<S: Alter>(
     batches: &[BatchLine],
     no: u64,
 ) -> Result<Vec<u8>, Reply>
-    ensures answered { HasCleanDisk (state S.Store desk.new.conn) → IfOk result (λ v. (s : Machine)
-        → Represents S.Store desk.old s → batches.now ≡ batch_lines s → IsNumberedText s no v.items) }
-    ensures reported { HasCleanDisk (state S.Store desk.new.conn) → IfErr result (λ r. (s : Machine)
-        → Represents S.Store desk.old s → batches.now ≡ batch_lines s
-        → IsReportedAs (HasFailed S.Store desk.old desk.new) (RefusesNumber s no) r) }
+    ensures read { IsReadResult S.Store desk.old desk.new result
+        (λ s v. batches.now ≡ batch_lines s → IsNumberedText s no v.items)
+        (λ cause s r. batches.now ≡ batch_lines s → IsReportedAs cause (RefusesNumber s no) r) }
     ensures missing { name_in no batches.now ≡ None → result ≡ Err (Reply.Refused Refusal.NoSuchBatch) }
     ensures commits_nothing { CommitsNothing S.Store desk.old.conn desk.new.conn }
-    ensures keeps_state { KeepsState S.Store desk.old desk.new }
-    ensures crash { ReadsOnly S.Store desk.old desk.new }
-    ensures limits { desk.new.limits ≡ desk.old.limits }
 {
     match name_in(batches, no) {
         Some(name) => view_sentences(alloc, desk, name),
@@ -61,14 +55,12 @@ fn sentences_in<S: Alter>(
     desk: &mut Desk<S>,
     no: u64,
 ) -> Result<Vec<u8>, Reply>
-    ensures answered { IfOk read (λ all. Gives S.Store desk.old desk.new result (λ s v.
-        all.items ≡ batch_lines s → IsNumberedText s no v.items)) }
-    ensures reported { IfOk read (λ all. GivesOnErr S.Store desk.old desk.new result (λ s r.
-        all.items ≡ batch_lines s → IsReportedAs (HasFailed S.Store desk.old desk.new) (RefusesNumber s no) r)) }
+    ensures read { IfOk read (λ all. IsReadResult S.Store desk.old desk.new result
+        (λ s v. all.items ≡ batch_lines s → IsNumberedText s no v.items)
+        (λ cause s r. all.items ≡ batch_lines s → IsReportedAs cause (RefusesNumber s no) r)) }
     ensures unread { IfErr read (λ e. (result ≡ Err (reply_for_fault e)) × (desk.new ≡ desk.old)) }
+    ensures read_only { IsOnlyRead S.Store desk.old desk.new }
     ensures commits_nothing { CommitsNothing S.Store desk.old.conn desk.new.conn }
-    ensures keeps_state { KeepsState S.Store desk.old desk.new }
-    ensures limits { desk.new.limits ≡ desk.old.limits }
 {
     match read {
         Ok(batches) => sentences_among(alloc, desk, batches.as_slice(), no),
@@ -86,12 +78,8 @@ pub fn numbered_sentences<S: Alter>(
     desk: &mut Desk<S>,
     no: u64,
 ) -> Result<Vec<u8>, Reply>
-    ensures answered { Gives S.Store desk.old desk.new result (λ s v. IsNumberedText s no v.items) }
-    ensures reported { GivesOnErr S.Store desk.old desk.new result (λ s r.
-        IsReportedAs (HasFailed S.Store desk.old desk.new) (RefusesNumber s no) r) }
-    ensures keeps_state { KeepsState S.Store desk.old desk.new }
-    ensures crash { ReadsOnly S.Store desk.old desk.new }
-    ensures limits { desk.new.limits ≡ desk.old.limits }
+    ensures { IsReadResult S.Store desk.old desk.new result (λ s v. IsNumberedText s no v.items)
+        (λ cause s. IsReportedAs cause (RefusesNumber s no)) }
 {
     sentences_in(desk.batches(), alloc, desk, no)
 }

@@ -1,8 +1,8 @@
 //! Runs calls of a desk, and writes their answers to a sink.
 
 ghost use Rattle.std.specs.Prelude.{◌≡◌, ℕ, List};
-ghost use Rattle.tb_answer.specs.Prelude.{CrashesWhole, InState};
-ghost use Rattle.tb_answer.specs.Commanded.{IsAnswered};
+ghost use Rattle.tb_answer.specs.Prelude.{InState};
+ghost use Rattle.tb_answer.specs.Commanded.{IsObeyed};
 ghost use Rattle.tb_answer.specs.Output.{IsWritten};
 ghost use Rattle.tb_answer.specs.Calls.{command_by, call_by, IsOutput, IsSafe};
 
@@ -17,10 +17,7 @@ use tb_store::Desk;
 
 /// Runs a command, and returns its reply.
 pub fn obey<S: Alter>(desk: &mut Desk<S>, command: DeskCommand<'_>) -> Reply
-    ensures answered { InState S.Store desk.old desk.new (λ s. IsAnswered S.Store desk.old.limits s
-        (command_by command.entry) desk.old desk.new result) }
-    ensures crash { CrashesWhole S.Store desk.old desk.new (command_by command.entry) }
-    ensures limits { desk.new.limits ≡ desk.old.limits }
+    ensures { IsObeyed S.Store (command_by command.entry) desk.old desk.new result }
 {
     match command {
         DeskCommand::Import { name, user, body } => commands::import(desk, name, user, body),

@@ -1,15 +1,14 @@
 //! Searches of released text, whose keyword lines are written as they are found.
 
 ghost use Rattle.std.specs.Prelude.{◌≡◌, [], IfErr, IfOk};
-ghost use Rattle.tb_answer.specs.Prelude.{CommitsNothing, exit_of, HasReason, InState, KeepsState, reply_text};
-ghost use Rattle.tb_answer.specs.Prelude.{status_of};
+ghost use Rattle.tb_answer.specs.Prelude.{CommitsNothing, exit_of, HasReason, InState, reply_text, status_of};
 ghost use Rattle.tb_answer.specs.Commanded.{HasFailed};
 ghost use Rattle.tb_answer.specs.declared.ending.Ending.{Ending as AnyEnding};
 ghost use Rattle.tb_answer.specs.Found.{exit_of_ending, reported_of_ending, search_by, search_head, IsSearchResponse};
 ghost use Rattle.tb_answer.specs.Found.{IsSearchRun, IsStreamed};
 ghost use Rattle.tb_answer.specs.Output.{IsWritten};
 ghost use Rattle.tb_answer.specs.Responses.{reply_response, IsSent};
-ghost use Rattle.tb_answer.specs.Calls.{ReadsOnly};
+ghost use Rattle.tb_answer.specs.OnlyRead.{IsOnlyRead};
 
 use crate::ending::{Ending, ending_of, reported_of};
 use crate::finding::{Search, accepted};
@@ -33,9 +32,8 @@ fn put_found<S: Alter, W: Sink>(
     ensures put { InState S.Store desk.old desk.new (λ s.
         IsStreamed s query.now search.entry.strategy search.entry.context [] (W.held out.old) (W.held out.new) result) }
     ensures reason { result ≡ Ending.Refused → HasReason (W.IsRefusal out.new) }
-    ensures keeps_state { KeepsState S.Store desk.old desk.new }
+    ensures read_only { IsOnlyRead S.Store desk.old desk.new }
     ensures commits_nothing { CommitsNothing S.Store desk.old.conn desk.new.conn }
-    ensures limits { desk.new.limits ≡ desk.old.limits }
 {
     match desk.search(query, search.strategy, search.context, out) {
         Ok(hits) => Ending::Whole(hits),
@@ -56,9 +54,8 @@ fn run_found<S: Alter, W: Sink>(
         (W.held out.old) (W.held out.new) e)) }
     ensures refused { IfErr accepted (λ r. (result.written ≡ Written.Reply r) × (desk.new ≡ desk.old)
         × IsWritten (W.held out.old) (W.held out.new) (reply_text r) (exit_of r) (W.IsRefusal out.new) result.status) }
-    ensures keeps_state { KeepsState S.Store desk.old desk.new }
+    ensures read_only { IsOnlyRead S.Store desk.old desk.new }
     ensures commits_nothing { CommitsNothing S.Store desk.old.conn desk.new.conn }
-    ensures limits { desk.new.limits ≡ desk.old.limits }
 {
     match accepted {
         Ok(query) => Ran::by_search(put_found(desk, &query, search, out)),
@@ -78,16 +75,10 @@ pub fn run_search<S: Alter, W: Sink>(
     ensures written { InState S.Store desk.old desk.new (λ s. IsSearchRun (HasFailed S.Store desk.old desk.new)
         desk.old.limits s (search_by search.entry) (W.held out.old) (W.held out.new) (W.IsRefusal out.new)
         result.written result.status) }
-    ensures keeps_state { KeepsState S.Store desk.old desk.new }
-    ensures crash { ReadsOnly S.Store desk.old desk.new }
-    ensures limits { desk.new.limits ≡ desk.old.limits }
+    ensures read_only { IsOnlyRead S.Store desk.old desk.new }
 {
-    run_found(
-        accepted(alloc, desk, search.query, search.strategy),
-        desk,
-        search,
-        out,
-    )
+    let query = accepted(alloc, desk, search.query, search.strategy);
+    run_found(query, desk, search, out)
 }
 
 /// The head of a search, whose length is unknown.
@@ -95,28 +86,6 @@ fn search_head() -> ArrayString<256>
     ensures { result.bytes ≡ search_head }
 {
     response_head(Status::Ok, None, Extra::Nothing)
-}
-
-/// Writes the head of a search, then what the query finds.
-fn send_found<S: Alter, W: Sink>(
-    desk: &mut Desk<S>,
-    query: &Query,
-    search: Search<'_>,
-    out: &mut W,
-) -> Ending
-    ensures put { InState S.Store desk.old desk.new (λ s.
-        IsStreamed s query.now search.entry.strategy search.entry.context search_head (W.held out.old)
-        (W.held out.new) result) }
-    ensures reason { result ≡ Ending.Refused → HasReason (W.IsRefusal out.new) }
-    ensures keeps_state { KeepsState S.Store desk.old desk.new }
-    ensures commits_nothing { CommitsNothing S.Store desk.old.conn desk.new.conn }
-    ensures limits { desk.new.limits ≡ desk.old.limits }
-{
-    let head = search_head();
-    if !put_piece(out, head.as_str().as_bytes()) {
-        return Ending::Refused;
-    }
-    put_found(desk, query, search, out)
 }
 
 /// Writes the response with what a query finds that was accepted. Else writes that of the reply for why there is none.
@@ -132,12 +101,17 @@ fn respond_found<S: Alter, W: Sink>(
         search_head (W.held out.old) (W.held out.new) e)) }
     ensures refused { IfErr accepted (λ r. (desk.new ≡ desk.old)
         × IsSent (W.held out.old) (W.held out.new) (reply_response r) (status_of r) (W.IsRefusal out.new) result) }
-    ensures keeps_state { KeepsState S.Store desk.old desk.new }
+    ensures read_only { IsOnlyRead S.Store desk.old desk.new }
     ensures commits_nothing { CommitsNothing S.Store desk.old.conn desk.new.conn }
-    ensures limits { desk.new.limits ≡ desk.old.limits }
 {
     match accepted {
-        Ok(query) => reported_of(send_found(desk, &query, search, out)),
+        Ok(query) => {
+            let head = search_head();
+            if !put_piece(out, head.as_str().as_bytes()) {
+                return None;
+            }
+            reported_of(put_found(desk, &query, search, out))
+        }
         Err(reply) => respond_reply(out, reply),
     }
 }
@@ -154,14 +128,8 @@ pub fn respond_search<S: Alter, W: Sink>(
 ) -> Option<Status>
     ensures written { InState S.Store desk.old desk.new (λ s. IsSearchResponse (HasFailed S.Store desk.old desk.new)
         desk.old.limits s (search_by search.entry) (W.held out.old) (W.held out.new) (W.IsRefusal out.new) result) }
-    ensures keeps_state { KeepsState S.Store desk.old desk.new }
-    ensures crash { ReadsOnly S.Store desk.old desk.new }
-    ensures limits { desk.new.limits ≡ desk.old.limits }
+    ensures read_only { IsOnlyRead S.Store desk.old desk.new }
 {
-    respond_found(
-        accepted(alloc, desk, search.query, search.strategy),
-        desk,
-        search,
-        out,
-    )
+    let query = accepted(alloc, desk, search.query, search.strategy);
+    respond_found(query, desk, search, out)
 }

@@ -1,13 +1,13 @@
 //! The lists that `deskview` shows, as CSV, and the tree of a sentence.
 
 ghost use Rattle.std.specs.Prelude.{◌≡◌, Err, IfOk, IfErr, Some, string_bytes};
-ghost use Rattle.tb_answer.specs.Prelude.{batch_lines, batches_csv, CommitsNothing, Gives, GivesOnErr, HasNoSentence};
-ghost use Rattle.tb_answer.specs.Prelude.{KeepsState, listed_by, Machine, RefusesId, Represents, trees_page};
+ghost use Rattle.tb_answer.specs.Prelude.{batch_lines, batches_csv, CommitsNothing, listed_by, Machine, RefusesId};
+ghost use Rattle.tb_answer.specs.Prelude.{Represents, trees_page};
 ghost use Rattle.tb_core.specs.declared.refusals.Fault.TheVariants.{Refused};
-ghost use Rattle.tb_answer.specs.Asked.{IsMadeOf, IsReportedOf};
-ghost use Rattle.tb_answer.specs.Commanded.{HasFailed, IsFailure};
+ghost use Rattle.tb_answer.specs.Asked.{IsMadeOf};
+ghost use Rattle.tb_answer.specs.Commanded.{IsFailure};
 ghost use Rattle.tb_answer.specs.Exported.{IsReportedOfExport};
-ghost use Rattle.tb_answer.specs.Calls.{ReadsOnly};
+ghost use Rattle.tb_answer.specs.OnlyRead.{IsReadResult, IsQuestionResult};
 ghost use Rattle.tb_answer.specs.Viewed.{IsFoundText, IsReportedAs, IsRevisionsText, IsSentencesText, IsTreeText};
 ghost use Rattle.tb_answer.specs.Viewed.{IsView, IsViewReported, ViewsNone};
 
@@ -24,12 +24,8 @@ use tb_store::{Current, Desk};
 
 /// The batches by number, each with its state, its worker and its counts. It is never refused.
 pub fn view_batches<S: Alter>(alloc: Global, desk: &mut Desk<S>) -> Result<Vec<u8>, Reply>
-    ensures answered { Gives S.Store desk.old desk.new result (λ s v. v.items ≡ batches_csv (batch_lines s)) }
-    ensures failed { GivesOnErr S.Store desk.old desk.new result (λ s r.
-        IsFailure (HasFailed S.Store desk.old desk.new) r) }
-    ensures keeps_state { KeepsState S.Store desk.old desk.new }
-    ensures crash { ReadsOnly S.Store desk.old desk.new }
-    ensures limits { desk.new.limits ≡ desk.old.limits }
+    ensures { IsReadResult S.Store desk.old desk.new result (λ s v. v.items ≡ batches_csv (batch_lines s))
+        (λ cause s. IsFailure cause) }
 {
     text_or_reply(alloc, desk.batches())
 }
@@ -44,13 +40,9 @@ pub(crate) fn view_sentences<S: Alter>(
     desk: &mut Desk<S>,
     name: &str,
 ) -> Result<Vec<u8>, Reply>
-    ensures answered { Gives S.Store desk.old desk.new result (λ s v. IsSentencesText s name.now v.items) }
-    ensures reported { GivesOnErr S.Store desk.old desk.new result (λ s r.
-        IsReportedOfExport (HasFailed S.Store desk.old desk.new) s (Some name.now) r) }
+    ensures read { IsReadResult S.Store desk.old desk.new result (λ s v. IsSentencesText s name.now v.items)
+        (λ cause s. IsReportedOfExport cause s (Some name.now)) }
     ensures commits_nothing { CommitsNothing S.Store desk.old.conn desk.new.conn }
-    ensures keeps_state { KeepsState S.Store desk.old desk.new }
-    ensures crash { ReadsOnly S.Store desk.old desk.new }
-    ensures limits { desk.new.limits ≡ desk.old.limits }
 {
     text_or_reply(alloc, desk.sentences(name))
 }
@@ -61,14 +53,8 @@ pub(crate) fn view_sentences<S: Alter>(
 ///
 /// `NoSuchSentence`, or a failure.
 fn revisions<S: Alter>(alloc: Global, desk: &mut Desk<S>, number: u64) -> Result<Vec<u8>, Reply>
-    ensures answered { Gives S.Store desk.old desk.new result (λ s v. IsRevisionsText s number v.items) }
-    ensures missing { (s : Machine) → Represents S.Store desk.old s → HasNoSentence s number
-        → result ≡ Err (Reply.Refused Refusal.NoSuchSentence) }
-    ensures reported { GivesOnErr S.Store desk.old desk.new result (λ s r.
-        IsReportedOf (HasFailed S.Store desk.old desk.new) s (Question.Sentence number) r) }
-    ensures keeps_state { KeepsState S.Store desk.old desk.new }
-    ensures crash { ReadsOnly S.Store desk.old desk.new }
-    ensures limits { desk.new.limits ≡ desk.old.limits }
+    ensures { IsQuestionResult S.Store desk.old desk.new result (Question.Sentence number)
+        (λ s v. IsRevisionsText s number v.items) }
 {
     text_or_reply(alloc, desk.revisions(number))
 }
@@ -83,12 +69,8 @@ pub fn view_found<S: Alter>(
     desk: &mut Desk<S>,
     sent_id: &str,
 ) -> Result<Vec<u8>, Reply>
-    ensures answered { Gives S.Store desk.old desk.new result (λ s v. IsFoundText s sent_id.now v.items) }
-    ensures reported { GivesOnErr S.Store desk.old desk.new result (λ s r.
-        IsReportedAs (HasFailed S.Store desk.old desk.new) (λ why. RefusesId s sent_id.now (Refused why)) r) }
-    ensures keeps_state { KeepsState S.Store desk.old desk.new }
-    ensures crash { ReadsOnly S.Store desk.old desk.new }
-    ensures limits { desk.new.limits ≡ desk.old.limits }
+    ensures { IsReadResult S.Store desk.old desk.new result (λ s v. IsFoundText s sent_id.now v.items)
+        (λ cause s. IsReportedAs cause (λ why. RefusesId s sent_id.now (Refused why))) }
 {
     text_or_reply(alloc, desk.find(sent_id))
 }
@@ -120,14 +102,8 @@ fn tree_or_reply(alloc: Global, read: Result<Current, Fault>) -> Result<Vec<u8>,
 ///
 /// `NoSuchSentence`, or a failure.
 fn tree<S: Alter>(alloc: Global, desk: &mut Desk<S>, number: u64) -> Result<Vec<u8>, Reply>
-    ensures answered { Gives S.Store desk.old desk.new result (λ s v. IsTreeText s number v.items) }
-    ensures missing { (s : Machine) → Represents S.Store desk.old s → HasNoSentence s number
-        → result ≡ Err (Reply.Refused Refusal.NoSuchSentence) }
-    ensures reported { GivesOnErr S.Store desk.old desk.new result (λ s r.
-        IsReportedOf (HasFailed S.Store desk.old desk.new) s (Question.Sentence number) r) }
-    ensures keeps_state { KeepsState S.Store desk.old desk.new }
-    ensures crash { ReadsOnly S.Store desk.old desk.new }
-    ensures limits { desk.new.limits ≡ desk.old.limits }
+    ensures { IsQuestionResult S.Store desk.old desk.new result (Question.Sentence number)
+        (λ s v. IsTreeText s number v.items) }
 {
     tree_or_reply(alloc, desk.sentence(number))
 }
@@ -138,14 +114,10 @@ fn tree<S: Alter>(alloc: Global, desk: &mut Desk<S>, number: u64) -> Result<Vec<
 ///
 /// The refusals of the list, or a failure.
 pub fn view<S: Alter>(alloc: Global, list: &ViewList, desk: &mut Desk<S>) -> Result<Vec<u8>, Reply>
-    ensures answered { Gives S.Store desk.old desk.new result (λ s v. IsView s (listed_by list.now) v.items) }
+    ensures read { IsReadResult S.Store desk.old desk.new result (λ s v. IsView s (listed_by list.now) v.items)
+        (λ cause s. IsViewReported cause s (listed_by list.now)) }
     ensures missing { (s : Machine) → Represents S.Store desk.old s → ViewsNone s (listed_by list.now)
         → result ≡ Err (Reply.Refused Refusal.NoSuchSentence) }
-    ensures reported { GivesOnErr S.Store desk.old desk.new result (λ s r.
-        IsViewReported (HasFailed S.Store desk.old desk.new) s (listed_by list.now) r) }
-    ensures keeps_state { KeepsState S.Store desk.old desk.new }
-    ensures crash { ReadsOnly S.Store desk.old desk.new }
-    ensures limits { desk.new.limits ≡ desk.old.limits }
 {
     match list {
         ViewList::Batches => view_batches(alloc, desk),

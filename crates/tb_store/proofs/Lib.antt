@@ -5,6 +5,7 @@ pub mod Adopted
 pub mod Migrated
 pub mod Lasting
 pub mod Blamed
+pub mod Questions
 pub mod Preparing
 pub mod Netted
 mod Reopened

@@ -8,3 +8,4 @@ pub mod Calls
 pub mod Handing
 pub mod Reopened
 pub mod Blaming
+pub mod Questions

@@ -1,7 +1,7 @@
 ghost use Rattle.std.specs.Prelude.{◌≡◌, ◌≢◌, ◌↔◌, ◌⊎◌, ◌<◌, ◌≤◌, length};
 ghost use Rattle.std.specs.Prelude.{false, None, Some, Err, string_bytes, IsTrue, IfOk, IfErr, IfSome};
 ghost use Rattle.tb_store.specs.Prelude.{AnyRefusal, AreRevisions, AreSentences, AreStored, AreTotalsOf, batch_lines};
-ghost use Rattle.tb_store.specs.Prelude.{CommitsNothing, correct_it, corrected_to, desk_schema, empty_machine};
+ghost use Rattle.tb_store.specs.Prelude.{correct_it, corrected_to, desk_schema, empty_machine};
 ghost use Rattle.tb_store.specs.Prelude.{event_on};
 ghost use Rattle.tb_store.specs.Prelude.{HasCleanDisk, HasRoomIfWritten, import_file, imported, is_name, IsBlank};
 ghost use Rattle.tb_store.specs.Prelude.{IsDeskOf, IsUnchanged, IsWithin, Machine, moved_on, no_schema, pull_it};
@@ -10,9 +10,10 @@ ghost use Rattle.tb_store.specs.Kept.{Kept, counts_of, known_of};
 ghost use Rattle.tb_store.specs.Represents.{Represents, RepresentsEach, unlimited, no_totals};
 ghost use Rattle.tb_store.specs.Answers.{AreNet, IsCurrent, IsRevisionText, HasNoSentence, RefusesRevision};
 ghost use Rattle.tb_store.specs.Exports.{RefusesBatch};
-ghost use Rattle.tb_store.specs.Calls.{CrashesWhole, Does, EndsAs, Gives, GivesOnErr, KnowsItself, LeavesOnly};
-ghost use Rattle.tb_store.specs.Calls.{KeepsState, RefusesMissing, WritesNothing};
-ghost use Rattle.tb_store.specs.Blaming.{BlamesInDoubtAlone, BlamesNoDevice, DoubtsOnDevice};
+ghost use Rattle.tb_store.specs.Calls.{CrashesWhole, EndsAs, Gives, GivesOnErr, KeepsState, LeavesOnly};
+ghost use Rattle.tb_store.specs.Calls.{RefusesMissing};
+ghost use Rattle.tb_store.specs.Blaming.{BlamesInDoubtAlone, DoubtsOnDevice};
+ghost use Rattle.tb_store.specs.Questions.{IsQuestion};
 ghost use Rattle.tb_store.specs.Handing.{IsNoDeviceIfFaultless, SeesTheSame, StaysADesk, StaysBlank};
 ghost use Rattle.tb_store.specs.Handing.{TellsOpen, TellsShut, TellsWant, WantsOnTables};
 
@@ -197,6 +198,7 @@ impl<S: Alter> Desk<S> {
             → (state S.Store u.conn).now ≡ (state S.Store conn).now) }
         ensures sees_same { IfErr result (λ u. SeesTheSame S.Store conn u.conn) }
         ensures never_refuses { IfErr result (λ u. (r : AnyRefusal) → u.fault ≢ Fault.Refused r) }
+        ensures output { IfErr result (λ u. u.fault ≢ Fault.Output) }
         ensures wants { IfErr result (λ u. WantsOnTables desk_schema S.Store conn u.fault) }
         ensures cause { IfErr result (λ u. IsNoDeviceIfFaultless S.Store conn u.conn u.fault) }
         ensures again { IfErr result (λ u. StaysADesk S.Store conn u.conn) }
@@ -301,14 +303,7 @@ impl<S: Alter> Desk<S> {
         ensures net { Gives S.Store self.old self.new result (λ s t. AreNet t s.moves) }
         ensures never_refuses { (r : AnyRefusal) → result ≢ Err (Fault.Refused r) }
         ensures output { result ≢ Err Fault.Output }
-        ensures fails { KnowsItself S.Store self.old self.new result }
-        ensures cause { BlamesNoDevice S.Store self.old self.new result }
-        ensures stays { Does S.Store self.old self.new result (λ s. Represents S.Store self.new s) }
-        ensures keeps_state { KeepsState S.Store self.old self.new }
-        ensures crash { WritesNothing S.Store self.old self.new }
-        ensures commits_nothing { CommitsNothing S.Store self.old.conn self.new.conn }
-        ensures limits { self.new.limits ≡ self.old.limits }
-        ensures doubt { self.new.in_doubt ≡ self.old.in_doubt }
+        ensures question { IsQuestion S.Store self.old self.new result }
     {
         totals_are_nets();
         asking::totals(self.alloc, &mut self.conn)
@@ -319,14 +314,7 @@ impl<S: Alter> Desk<S> {
         ensures answered { Gives S.Store self.old self.new result (λ s v. v.items ≡ s.moves) }
         ensures never_refuses { (r : AnyRefusal) → result ≢ Err (Fault.Refused r) }
         ensures output { result ≢ Err Fault.Output }
-        ensures fails { KnowsItself S.Store self.old self.new result }
-        ensures cause { BlamesNoDevice S.Store self.old self.new result }
-        ensures stays { Does S.Store self.old self.new result (λ s. Represents S.Store self.new s) }
-        ensures keeps_state { KeepsState S.Store self.old self.new }
-        ensures crash { WritesNothing S.Store self.old self.new }
-        ensures commits_nothing { CommitsNothing S.Store self.old.conn self.new.conn }
-        ensures limits { self.new.limits ≡ self.old.limits }
-        ensures doubt { self.new.in_doubt ≡ self.old.in_doubt }
+        ensures question { IsQuestion S.Store self.old self.new result }
     {
         all_moves(self.alloc, &mut self.conn)
     }
@@ -336,14 +324,7 @@ impl<S: Alter> Desk<S> {
         ensures answered { Gives S.Store self.old self.new result (λ s v. v.items ≡ batch_lines s) }
         ensures never_refuses { (r : AnyRefusal) → result ≢ Err (Fault.Refused r) }
         ensures output { result ≢ Err Fault.Output }
-        ensures fails { KnowsItself S.Store self.old self.new result }
-        ensures cause { BlamesNoDevice S.Store self.old self.new result }
-        ensures stays { Does S.Store self.old self.new result (λ s. Represents S.Store self.new s) }
-        ensures keeps_state { KeepsState S.Store self.old self.new }
-        ensures crash { WritesNothing S.Store self.old self.new }
-        ensures commits_nothing { CommitsNothing S.Store self.old.conn self.new.conn }
-        ensures limits { self.new.limits ≡ self.old.limits }
-        ensures doubt { self.new.in_doubt ≡ self.old.in_doubt }
+        ensures question { IsQuestion S.Store self.old self.new result }
     {
         list_batches(self.alloc, &mut self.conn)
     }
@@ -360,14 +341,7 @@ impl<S: Alter> Desk<S> {
             → (result ≡ Err (Fault.Refused Refusal.NoSuchSentence)) ↔ HasNoSentence s number }
         ensures alone { (r : AnyRefusal) → result ≡ Err (Fault.Refused r) → r ≡ Refusal.NoSuchSentence }
         ensures output { result ≢ Err Fault.Output }
-        ensures fails { KnowsItself S.Store self.old self.new result }
-        ensures cause { BlamesNoDevice S.Store self.old self.new result }
-        ensures stays { Does S.Store self.old self.new result (λ s. Represents S.Store self.new s) }
-        ensures keeps_state { KeepsState S.Store self.old self.new }
-        ensures crash { WritesNothing S.Store self.old self.new }
-        ensures commits_nothing { CommitsNothing S.Store self.old.conn self.new.conn }
-        ensures limits { self.new.limits ≡ self.old.limits }
-        ensures doubt { self.new.in_doubt ≡ self.old.in_doubt }
+        ensures question { IsQuestion S.Store self.old self.new result }
     {
         let Some(number) = self.sentence_number(number) else {
             return Err(Fault::Refused(Refusal::NoSuchSentence));
@@ -387,14 +361,7 @@ impl<S: Alter> Desk<S> {
             → result ≡ Err (Fault.Refused Refusal.NoSuchSentence) }
         ensures refused { GivesOnErr S.Store self.old self.new result (λ s e. RefusesRevision s number rev e) }
         ensures output { result ≢ Err Fault.Output }
-        ensures fails { KnowsItself S.Store self.old self.new result }
-        ensures cause { BlamesNoDevice S.Store self.old self.new result }
-        ensures stays { Does S.Store self.old self.new result (λ s. Represents S.Store self.new s) }
-        ensures keeps_state { KeepsState S.Store self.old self.new }
-        ensures crash { WritesNothing S.Store self.old self.new }
-        ensures commits_nothing { CommitsNothing S.Store self.old.conn self.new.conn }
-        ensures limits { self.new.limits ≡ self.old.limits }
-        ensures doubt { self.new.in_doubt ≡ self.old.in_doubt }
+        ensures question { IsQuestion S.Store self.old self.new result }
     {
         let Some(number) = self.sentence_number(number) else {
             return Err(Fault::Refused(Refusal::NoSuchSentence));
@@ -414,14 +381,7 @@ impl<S: Alter> Desk<S> {
             → (result ≡ Err (Fault.Refused Refusal.NoSuchSentence)) ↔ HasNoSentence s number }
         ensures alone { (r : AnyRefusal) → result ≡ Err (Fault.Refused r) → r ≡ Refusal.NoSuchSentence }
         ensures output { result ≢ Err Fault.Output }
-        ensures fails { KnowsItself S.Store self.old self.new result }
-        ensures cause { BlamesNoDevice S.Store self.old self.new result }
-        ensures stays { Does S.Store self.old self.new result (λ s. Represents S.Store self.new s) }
-        ensures keeps_state { KeepsState S.Store self.old self.new }
-        ensures crash { WritesNothing S.Store self.old self.new }
-        ensures commits_nothing { CommitsNothing S.Store self.old.conn self.new.conn }
-        ensures doubt { self.new.in_doubt ≡ self.old.in_doubt }
-        ensures limits { self.new.limits ≡ self.old.limits }
+        ensures question { IsQuestion S.Store self.old self.new result }
     {
         let Some(number) = self.sentence_number(number) else {
             return Err(Fault::Refused(Refusal::NoSuchSentence));
@@ -440,14 +400,7 @@ impl<S: Alter> Desk<S> {
         ensures bad_name { is_name name.now ≡ false → result ≡ Err (Fault.Refused Refusal.BadName) }
         ensures refused { GivesOnErr S.Store self.old self.new result (λ s e. RefusesBatch s name.now e) }
         ensures output { result ≢ Err Fault.Output }
-        ensures fails { KnowsItself S.Store self.old self.new result }
-        ensures cause { BlamesNoDevice S.Store self.old self.new result }
-        ensures stays { Does S.Store self.old self.new result (λ s. Represents S.Store self.new s) }
-        ensures keeps_state { KeepsState S.Store self.old self.new }
-        ensures crash { WritesNothing S.Store self.old self.new }
-        ensures commits_nothing { CommitsNothing S.Store self.old.conn self.new.conn }
-        ensures doubt { self.new.in_doubt ≡ self.old.in_doubt }
-        ensures limits { self.new.limits ≡ self.old.limits }
+        ensures question { IsQuestion S.Store self.old self.new result }
     {
         asking::sentences(self.alloc, &mut self.conn, name)
     }

@@ -40,6 +40,7 @@ impl<S: Alter> Desk<S> {
             → HasCleanDisk (state S.Store u.conn)
             → Survives (state S.Store (unlimited conn)) (state S.Store u.conn) (λ _. ⊥)) }
         ensures never_refuses { IfErr result (λ u. (r : AnyRefusal) → u.fault ≢ Fault.Refused r) }
+        ensures output { IfErr result (λ u. u.fault ≢ Fault.Output) }
         ensures wants { IfErr result (λ u. WantsOnTables version_one_schema S.Store conn u.fault) }
         ensures cause { IfErr result (λ u. ((s : Machine) → IsFirstDesk S.Store conn s → ⊥)
             → IsNoDeviceIfFaultless S.Store conn u.conn u.fault) }

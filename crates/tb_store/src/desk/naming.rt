@@ -1,10 +1,10 @@
 //! What a page asks of a desk: how much there is, and the sentence that has a `sent_id`.
 
 ghost use Rattle.std.specs.Prelude.{◌≡◌, ◌≢◌, Err};
-ghost use Rattle.tb_store.specs.Prelude.{AnyRefusal, CommitsNothing, IsFound, Machine};
+ghost use Rattle.tb_store.specs.Prelude.{AnyRefusal, IsFound, Machine};
 ghost use Rattle.tb_store.specs.Answers.{RefusesId, counts_in};
-ghost use Rattle.tb_store.specs.Blaming.{BlamesNoDevice};
-ghost use Rattle.tb_store.specs.Calls.{Does, Gives, GivesOnErr, KeepsState, KnowsItself, WritesNothing};
+ghost use Rattle.tb_store.specs.Calls.{Gives, GivesOnErr};
+ghost use Rattle.tb_store.specs.Questions.{IsQuestion};
 ghost use Rattle.tb_store.specs.Represents.{Represents};
 
 use crate::answers::DeskCounts;
@@ -37,14 +37,7 @@ impl<S: Alter> Desk<S> {
         ensures refused { GivesOnErr S.Store self.old self.new result (λ s e. RefusesId s sent_id.now e) }
         ensures alone { (r : AnyRefusal) → result ≡ Err (Fault.Refused r) → r ≡ Refusal.NoSuchSentence }
         ensures output { result ≢ Err Fault.Output }
-        ensures fails { KnowsItself S.Store self.old self.new result }
-        ensures cause { BlamesNoDevice S.Store self.old self.new result }
-        ensures stays { Does S.Store self.old self.new result (λ s. Represents S.Store self.new s) }
-        ensures keeps_state { KeepsState S.Store self.old self.new }
-        ensures crash { WritesNothing S.Store self.old self.new }
-        ensures commits_nothing { CommitsNothing S.Store self.old.conn self.new.conn }
-        ensures doubt { self.new.in_doubt ≡ self.old.in_doubt }
-        ensures limits { self.new.limits ≡ self.old.limits }
+        ensures question { IsQuestion S.Store self.old self.new result }
     {
         asking::found(&mut self.conn, sent_id)
     }

@@ -1,13 +1,13 @@
 //! What a desk answers of released text, and the export of a batch.
 
 ghost use Rattle.std.specs.Prelude.{◌≡◌, ◌≢◌, ℕ, List, length, false, Err, Some};
-ghost use Rattle.tb_store.specs.Prelude.{answer, AnyRefusal, Appends, CommitsNothing, current_text, HasCleanDisk};
+ghost use Rattle.tb_store.specs.Prelude.{answer, AnyRefusal, Appends, current_text, HasCleanDisk};
 ghost use Rattle.tb_store.specs.Prelude.{HasNumber, HasReason, in_batch, is_name, IsTableOf, keys, Machine, Occurrence};
 ghost use Rattle.tb_store.specs.Prelude.{released, state};
-ghost use Rattle.tb_store.specs.Blaming.{BlamesNoDevice};
-ghost use Rattle.tb_store.specs.Calls.{Does, Gives, GivesOnErr, KeepsState, KnowsItself, WritesNothing};
+ghost use Rattle.tb_store.specs.Calls.{Does, Gives, GivesOnErr};
 ghost use Rattle.tb_store.specs.Exports.{IsExportBrokenOff, IsPartOfBatch, RefusesBatch};
 ghost use Rattle.tb_store.specs.Found.{AreReleasedHits, HasTooMany, IsNumber, IsPartFound};
+ghost use Rattle.tb_store.specs.Questions.{IsQuestion};
 ghost use Rattle.tb_store.specs.Represents.{Represents};
 
 use crate::desk::Desk;
@@ -34,14 +34,7 @@ impl<S: Alter> Desk<S> {
             (W.held out.new) (released s)) }
         ensures never_refuses { (r : AnyRefusal) → result ≢ Err (Fault.Refused r) }
         ensures output { result ≡ Err Fault.Output → HasReason (W.IsRefusal out.new) }
-        ensures fails { KnowsItself S.Store self.old self.new result }
-        ensures cause { BlamesNoDevice S.Store self.old self.new result }
-        ensures stays { Does S.Store self.old self.new result (λ s. Represents S.Store self.new s) }
-        ensures keeps_state { KeepsState S.Store self.old self.new }
-        ensures crash { WritesNothing S.Store self.old self.new }
-        ensures commits_nothing { CommitsNothing S.Store self.old.conn self.new.conn }
-        ensures limits { self.new.limits ≡ self.old.limits }
-        ensures doubt { self.new.in_doubt ≡ self.old.in_doubt }
+        ensures question { IsQuestion S.Store self.old self.new result }
     {
         exporting::released(self.alloc, &mut self.conn, out)
     }
@@ -59,15 +52,8 @@ impl<S: Alter> Desk<S> {
         ensures bad_name { is_name name.now ≡ false → result ≡ Err (Fault.Refused Refusal.BadName) }
         ensures refused { GivesOnErr S.Store self.old self.new result (λ s e. RefusesBatch s name.now e) }
         ensures output { result ≡ Err Fault.Output → HasReason (W.IsRefusal out.new) }
-        ensures fails { KnowsItself S.Store self.old self.new result }
-        ensures cause { BlamesNoDevice S.Store self.old self.new result }
         ensures none { (r : AnyRefusal) → result ≡ Err (Fault.Refused r) → W.held out.new ≡ W.held out.old }
-        ensures stays { Does S.Store self.old self.new result (λ s. Represents S.Store self.new s) }
-        ensures keeps_state { KeepsState S.Store self.old self.new }
-        ensures crash { WritesNothing S.Store self.old self.new }
-        ensures commits_nothing { CommitsNothing S.Store self.old.conn self.new.conn }
-        ensures limits { self.new.limits ≡ self.old.limits }
-        ensures doubt { self.new.in_doubt ≡ self.old.in_doubt }
+        ensures question { IsQuestion S.Store self.old self.new result }
     {
         exporting::batch(self.alloc, &mut self.conn, name, out)
     }
@@ -86,14 +72,7 @@ impl<S: Alter> Desk<S> {
             × ((s : Machine) → Represents S.Store self.old s
             → HasTooMany s query.now strategy self.old.limits.hits) }
         ensures output { result ≢ Err Fault.Output }
-        ensures fails { KnowsItself S.Store self.old self.new result }
-        ensures cause { BlamesNoDevice S.Store self.old self.new result }
-        ensures stays { Does S.Store self.old self.new result (λ s. Represents S.Store self.new s) }
-        ensures keeps_state { KeepsState S.Store self.old self.new }
-        ensures crash { WritesNothing S.Store self.old self.new }
-        ensures commits_nothing { CommitsNothing S.Store self.old.conn self.new.conn }
-        ensures limits { self.new.limits ≡ self.old.limits }
-        ensures doubt { self.new.in_doubt ≡ self.old.in_doubt }
+        ensures question { IsQuestion S.Store self.old self.new result }
     {
         finding::number(
             self.alloc,
@@ -129,14 +108,7 @@ impl<S: Alter> Desk<S> {
             → IsPartFound e (W.held out.old) (W.held out.new) context found) }
         ensures never_refuses { (r : AnyRefusal) → result ≢ Err (Fault.Refused r) }
         ensures output { result ≡ Err Fault.Output → HasReason (W.IsRefusal out.new) }
-        ensures fails { KnowsItself S.Store self.old self.new result }
-        ensures cause { BlamesNoDevice S.Store self.old self.new result }
-        ensures stays { Does S.Store self.old self.new result (λ s. Represents S.Store self.new s) }
-        ensures keeps_state { KeepsState S.Store self.old self.new }
-        ensures crash { WritesNothing S.Store self.old self.new }
-        ensures commits_nothing { CommitsNothing S.Store self.old.conn self.new.conn }
-        ensures limits { self.new.limits ≡ self.old.limits }
-        ensures doubt { self.new.in_doubt ≡ self.old.in_doubt }
+        ensures question { IsQuestion S.Store self.old self.new result }
     {
         finding::search(self.alloc, &mut self.conn, query, strategy, context, out)
     }
@@ -150,14 +122,7 @@ impl<S: Alter> Desk<S> {
             × AreReleasedHits s query.now strategy found × IsTableOf (keys column found) table) }
         ensures never_refuses { (r : AnyRefusal) → result ≢ Err (Fault.Refused r) }
         ensures output { result ≢ Err Fault.Output }
-        ensures fails { KnowsItself S.Store self.old self.new result }
-        ensures cause { BlamesNoDevice S.Store self.old self.new result }
-        ensures stays { Does S.Store self.old self.new result (λ s. Represents S.Store self.new s) }
-        ensures keeps_state { KeepsState S.Store self.old self.new }
-        ensures crash { WritesNothing S.Store self.old self.new }
-        ensures commits_nothing { CommitsNothing S.Store self.old.conn self.new.conn }
-        ensures limits { self.new.limits ≡ self.old.limits }
-        ensures doubt { self.new.in_doubt ≡ self.old.in_doubt }
+        ensures question { IsQuestion S.Store self.old self.new result }
     {
         finding::count(self.alloc, &mut self.conn, query, strategy, column)
     }

@@ -1,7 +1,12 @@
+use Rattle.std.proofs.Common.{inr}
 use Rattle.tb_answer.proofs.asks.respond_text.Goals as goal
 
-pub returns-in-Search-clause-written : goal.returns-in-Search-clause-written
-returns-in-Search-clause-written g c clean s stands = rw c.in-Search.is (c.respond_to_search.ensures.written clean s stands)
+pub returns-in-Search-Ok-clause-written : goal.returns-in-Search-Ok-clause-written
+returns-in-Search-Ok-clause-written g c clean s stands =
+    let text = rw c.in-Search-Ok.is-1 at c.from_utf8.ensures.cases in
+    rw c.in-Search-Ok.is-0 (inr (text.1, rw text.0 at c.respond_search.ensures.written clean s stands))
 
-pub returns-in-Count-clause-written : goal.returns-in-Count-clause-written
-returns-in-Count-clause-written g c clean s stands = rw c.in-Count.is (c.respond_to_count.ensures.written clean s stands)
+pub returns-in-Count-Ok-clause-written : goal.returns-in-Count-Ok-clause-written
+returns-in-Count-Ok-clause-written g c clean s stands =
+    let text = rw c.in-Count-Ok.is-1 at c.from_utf8.ensures.cases in
+    rw c.in-Count-Ok.is-0 (inr (text.1, rw text.0 at c.respond_count.ensures.written clean s stands))

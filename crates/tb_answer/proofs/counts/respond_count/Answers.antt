@@ -7,6 +7,9 @@ use Rattle.tb_answer.proofs.counts.respond_count.Goals as goal
 pub returns-clause-written : goal.returns-clause-written
 returns-clause-written g c clean s stands =
     count_response (HasFailed g.S.Store c.args.desk.now c.count_text.new.desk) c.args.desk.now.limits s (count_by c.args.count) (g.W.Sink.held c.args.out.now) (g.W.Sink.held c.respond_table.new.out) (g.W.Sink.IsRefusal c.respond_table.new.out) c.respond_table.result c.count_text.result
-    (if_ok c.count_text.result (c.count_text.ensures.counted clean) (λ t all. all s stands))
+    (if_ok c.count_text.result (c.count_text.ensures.answered clean) (λ t all. all s stands))
     (if_err c.count_text.result (c.count_text.ensures.reported clean) (λ r all. all s stands))
     c.respond_table.ensures
+
+pub returns-clause-read_only : goal.returns-clause-read_only
+returns-clause-read_only g c = c.count_text.ensures.read_only

@@ -7,7 +7,10 @@ use Rattle.tb_answer.proofs.exports.respond_export.Goals as goal
 pub returns-clause-written : goal.returns-clause-written
 returns-clause-written g c clean s stands =
     export_response (HasFailed g.S.Store c.args.desk.now c.export_body.new.desk) s (option_map (λ n. n.now) c.args.name) (g.W.Sink.held c.args.out.now) (g.W.Sink.held c.respond_result.new.out) (g.W.Sink.IsRefusal c.respond_result.new.out) c.respond_result.result c.export_body.result
-    (if_ok c.export_body.result (c.export_body.ensures.answered clean) (λ b all. all s stands))
+    (if_ok c.export_body.result (c.export_body.ensures.read.answered clean) (λ b all. all s stands))
     c.export_body.ensures.plain
-    (if_err c.export_body.result (c.export_body.ensures.reported clean) (λ r all. all s stands))
+    (if_err c.export_body.result (c.export_body.ensures.read.reported clean) (λ r all. all s stands))
     c.respond_result.ensures
+
+pub returns-clause-read_only : goal.returns-clause-read_only
+returns-clause-read_only g c = c.export_body.ensures.read.read_only
