@@ -1,5 +1,5 @@
 -- Rows of moves as moves, and that the moves of a reached state are numbered.
-use Rattle.std.proofs.Common.{◌≡◌, ℕ, zero, suc, ◌+◌, ◌<◌, List, [], ◌∷◌, ◌++◌, map, length, take, get_or, Option, string_bytes, refl, sym, ap, ap₂, ◌∙◌, arith}
+use Rattle.std.proofs.Common.{◌≡◌, ℕ, zero, suc, ◌+◌, ◌<◌, ◌≤◌, List, [], ◌∷◌, ◌++◌, map, length, take, get_or, Option, string_bytes, ◌≢◌, refl, sym, ap, ap₂, ◌∙◌, arith, take_all}
 use Rattle.std.proofs.Math.Seq.{take-suc}
 use Rattle.std.proofs.lemmas.List.{map-append}
 use Rattle.tb_core.specs.Moves.{MoveText}
@@ -73,3 +73,19 @@ row_known (x ∷ xs) (m ∷ ms) zero r low at e =
 row_known (x ∷ xs) (m ∷ ms) (suc k) r low at e =
     let tail : map move_of xs ≡ map move_record ms = cc in
     row_known xs ms k r (omega (arith, low)) at tail
+
+-- ---- rows of moves
+
+-- rows that cannot be told from those of some moves
+abbrev pub AreOfMoves : List MoveRow → Type 0
+AreOfMoves rows = ((ms : List MoveText) → map move_of rows ≢ map move_record ms) → ⊥
+
+-- one more row of a move
+pub moves_more : (rows : List MoveRow) (k : ℕ) (r : MoveRow) → k < length rows → get_or rows k r ≡ r → AreOfMoves (take k rows)
+    → (((m : MoveText) → move_of r ≢ move_record m) → ⊥) → AreOfMoves (take (k + 1) rows)
+moves_more rows k r low at before one none = before (λ ms so. one (λ m is.
+    none (ms ++ m ∷ []) (sym (record_more rows ms k r m low at (sym so) (sym is)))))
+
+-- all rows were gone through
+pub moves_all : (rows : List MoveRow) (k : ℕ) → length rows ≤ k → AreOfMoves (take k rows) → AreOfMoves rows
+moves_all rows k all before none = before (λ ms so. none ms (ap (map move_of) (sym (take_all k rows all)) ∙ so))

@@ -1,6 +1,6 @@
 //! Rows of the table of moves, as moves of the machine.
 
-ghost use Rattle.std.specs.Prelude.{◌≡◌, ◌≢◌, [], List, map, Err, IfOk, IfErr, IsOk};
+ghost use Rattle.std.specs.Prelude.{◌≡◌, ◌≢◌, [], List, map, true, false, Err, IfOk, IfErr, IsOk};
 ghost use Rattle.tb_refine.specs.Prelude.{AnyRefusal, move_of, MoveText};
 ghost use Rattle.tb_refine.specs.DeskTables.{move_record};
 ghost use Rattle.tb_refine.specs.Numbers.{state_number, from_number, kind_number};
@@ -57,12 +57,32 @@ fn read_move(alloc: Global, row: &MoveRow, no: u64) -> Result<Move, Fault>
     })
 }
 
+/// Whether the row is that of a move. This needs no memory.
+fn is_move(row: &MoveRow) -> bool
+    ensures no { result ≡ false → (m : MoveText) → move_of row.now ≢ move_record m }
+    ensures yes { result ≡ true → ((m : MoveText) → move_of row.now ≢ move_record m) → ⊥ }
+{
+    match steps_in(row) {
+        Ok(_) => true,
+        Err(_) => false,
+    }
+}
+
+/// Whether all rows are those of moves. This needs no memory.
+fn are_moves(rows: &[MoveRow]) -> bool
+    ensures no { result ≡ false → (ms : List MoveText) → map move_of rows.now ≢ map move_record ms }
+    ensures yes { result ≡ true → ((ms : List MoveText) → map move_of rows.now ≢ map move_record ms) → ⊥ }
+{
+    for row in rows {
+        if !is_move(row) {
+            return false;
+        }
+    }
+    true
+}
+
 /// The moves of rows, numbered from 1 in this order.
-///
-/// # Errors
-///
-/// `NotADesk` where a row has a number that no kind or no state has; or want of memory.
-pub fn read_moves(alloc: Global, rows: &[MoveRow]) -> Result<Vec<Move>, Fault>
+fn numbered_moves(alloc: Global, rows: &[MoveRow]) -> Result<Vec<Move>, Fault>
     ensures records { IfOk result (λ v. map move_record v.items ≡ map move_of rows.now) }
     ensures numbers { IfOk result (λ v. AreNumbered 1 v.items) }
     ensures known { result ≡ Err Fault.NotADesk → (ms : List MoveText)
@@ -79,4 +99,28 @@ pub fn read_moves(alloc: Global, rows: &[MoveRow]) -> Result<Vec<Move>, Fault>
         moves.push(read_move(alloc, row, no)?)?;
     }
     Ok(moves)
+}
+
+/// The moves of rows, numbered from 1 in this order. All rows are tested before memory is taken, so a row of no move is
+/// never told as want of memory.
+///
+/// # Errors
+///
+/// `NotADesk` where a row has a number that no kind or no state has; or want of memory.
+pub fn read_moves(alloc: Global, rows: &[MoveRow]) -> Result<Vec<Move>, Fault>
+    ensures records { IfOk result (λ v. map move_record v.items ≡ map move_of rows.now) }
+    ensures numbers { IfOk result (λ v. AreNumbered 1 v.items) }
+    ensures known { result ≡ Err Fault.NotADesk → (ms : List MoveText)
+        → map move_of rows.now ≢ map move_record ms }
+    ensures wrong { ((ms : List MoveText) → map move_of rows.now ≢ map move_record ms)
+        → result ≡ Err Fault.NotADesk }
+    ensures sure { rows.now ≡ [] → IsOk result }
+    ensures cause { IfErr result IsNoDevice }
+    ensures output { result ≢ Err Fault.Output }
+    ensures never_refuses { (r : AnyRefusal) → result ≢ Err (Fault.Refused r) }
+{
+    if !are_moves(rows) {
+        return Err(Fault::NotADesk);
+    }
+    numbered_moves(alloc, rows)
 }

@@ -1,5 +1,5 @@
 -- Lists whose elements show the same, one by one.
-use Rattle.std.proofs.Common.{◌≡◌, ℕ, zero, suc, ◌+◌, ◌<◌, List, [], ◌∷◌, ◌++◌, length, get_or, map, take, refl, sym, ◌∙◌, ap, ap₂, arith}
+use Rattle.std.proofs.Common.{◌≡◌, ℕ, zero, suc, ◌+◌, ◌<◌, ◌≤◌, List, [], ◌∷◌, ◌++◌, length, get_or, map, take, refl, sym, ◌∙◌, ap, ap₂, arith, take_all}
 use Rattle.std.specs.List.{AllByRecursion}
 use Rattle.std.proofs.Math.Seq.{take-suc}
 use Rattle.std.proofs.lemmas.List.{map-append}
@@ -28,6 +28,18 @@ one_more f g ys found k y x low there so is =
     let next : k + 1 ≡ suc k = omega arith in
     let whole : take (k + 1) ys ≡ take k ys ++ y ∷ [] = ap (λ j. take j ys) next ∙ take-suc ys k y low ∙ ap (λ z. take k ys ++ z ∷ []) (sym there) in
     map-append f found (x ∷ []) ∙ ap₂ (λ a b. a ++ b ∷ []) so is ∙ sym (map-append g (take k ys) (y ∷ [])) ∙ ap (map g) (sym whole)
+
+-- some elements show the same as these: that there are none cannot be
+abbrev pub Agree : {X Y Z : Type 0} (f : X → Z) (g : Y → Z) (ys : List Y) → Type 0
+Agree {X} f g ys = ((xs : List X) → map f xs ≡ map g ys → ⊥) → ⊥
+
+-- one more element
+pub agree_more : {X Y Z : Type 0} (f : X → Z) (g : Y → Z) (ys : List Y) (k : ℕ) (y : Y) → k < length ys → y ≡ get_or ys k y → Agree f g (take k ys) → (((x : X) → f x ≡ g y → ⊥) → ⊥) → Agree f g (take (k + 1) ys)
+agree_more f g ys k y low there before one none = before (λ xs so. one (λ x is. none (xs ++ x ∷ []) (one_more f g ys xs k y x low there so is)))
+
+-- all were gone through
+pub agree_all : {X Y Z : Type 0} (f : X → Z) (g : Y → Z) (ys : List Y) (k : ℕ) → length ys ≤ k → Agree f g (take k ys) → Agree f g ys
+agree_all f g ys k all before none = before (λ xs so. none xs (so ∙ ap (map g) (take_all k ys all)))
 
 -- elements that are told by what they show
 pub alike : {X Z : Type 0} (f : X → Z) → ((x y : X) → f x ≡ f y → x ≡ y) → (xs ys : List X) → map f xs ≡ map f ys → xs ≡ ys

@@ -7,7 +7,7 @@ use Rattle.sqlite.specs.State.{HasCleanDisk, IsUnchanged}
 use Rattle.sqlite.proofs.Callers.{unchanged_then}
 use Rattle.sqlite_trees.specs.Tree.{Trees}
 use Rattle.tb_core.specs.declared.refusals.Fault.{Fault}
-use Rattle.tb_core.specs.declared.refusals.Fault.TheVariants.{Refused, Device, NotADesk}
+use Rattle.tb_core.specs.declared.refusals.Fault.TheVariants.{Refused, Device, NotADesk, Output}
 use Rattle.tb_core.specs.declared.refusals.Refusal.{Refusal}
 use Rattle.tb_core.specs.Machine.{Machine}
 use Rattle.tb_core.specs.Reaching.{IsReachable}
@@ -45,21 +45,23 @@ module _ {S : Type 0} (g : Ghosts S) (old new : Held S) (sees : SeesAsBefore g o
     untouched = λ clean q. ok_is_no_err x NotADesk q;
     sees = sees;
     refused = λ r q. ok_is_no_err x (Refused r) q;
+    output = λ q. ok_is_no_err x Output q;
     cause = λ good clean unlimited has. tt;
     read_only = read;
   }
 
   pub read_badly : {X : Type 0} (e : Fault) (IsShown : X → Trees → Type 0) (IsHeld : X → Tables → Type 0) → (HasCleanDisk (state g new) → e ≡ NotADesk → (state g old).now.schema ≡ desk_schema → Unstood (state g old).now.trees)
-      → (HasCleanDisk (state g new) → e ≡ NotADesk → (state g old).now.schema ≡ desk_schema → IsUnchanged (state g old) (state g new)) → ((r : Refusal) → e ≢ Refused r)
+      → (HasCleanDisk (state g new) → e ≡ NotADesk → (state g old).now.schema ≡ desk_schema → IsUnchanged (state g old) (state g new)) → ((r : Refusal) → e ≢ Refused r) → e ≢ Output
       → (IsFaultless g old new → HasCleanDisk (state g new) → (state g old).step_limit ≡ None → (state g old).now.schema ≡ desk_schema → e ≢ Device)
       → IsReadOnly g old new false → HasReadTable g old new (Err e) IsShown IsHeld
-  read_badly {X = X} e IsShown IsHeld unfit untouched refused cause read = record {
+  read_badly {X = X} e IsShown IsHeld unfit untouched refused output cause read = record {
     shown = λ clean. tt;
     reported = λ clean. tt;
     unfit = λ clean q. unfit clean (err_is X e NotADesk q);
     untouched = λ clean q. untouched clean (err_is X e NotADesk q);
     sees = sees;
     refused = λ r q. refused r (err_is X e (Refused r) q);
+    output = λ q. output (err_is X e Output q);
     cause = cause;
     read_only = read;
   }
@@ -74,18 +76,19 @@ module _ {S X : Type 0} (g : Ghosts S) (old new : Held S) (r : Result X ReadErro
       by (Ok x) never = tt
       by (Err e) never = λ is. never (ap (λ f. Err f) is)
 
-  pub read_reported : result ≡ reported_by fault_of_rows r → (result ≡ Err NotADesk → r ≡ Err Form) → (IfErr r IsReadWant → result ≢ Err Device) → ((q : Refusal) → result ≢ Err (Refused q)) → SeesAsBefore g old new
+  pub read_reported : result ≡ reported_by fault_of_rows r → (result ≡ Err NotADesk → r ≡ Err Form) → (IfErr r IsReadWant → result ≢ Err Device) → ((q : Refusal) → result ≢ Err (Refused q)) → result ≢ Err Output → SeesAsBefore g old new
       → (HasCleanDisk (state g new) → IfOk r (λ x. (state g old).now.schema ≡ desk_schema → IsShown x (state g old).now.trees))
       → (HasCleanDisk (state g new) → IfOk r (λ x. (state g old).now.schema ≡ desk_schema → (s : Machine) → IsReachable s → AreStored (tables_of s) (state g old).now.trees → IsHeld x (tables_of s)))
       → (HasCleanDisk (state g new) → r ≡ Err Form → (state g old).now.schema ≡ desk_schema → Unstood (state g old).now.trees) → IsUnchangedOnForm g old new r
       → (IsFaultless g old new → FailsOnlyAs IsReadWant g old new r) → IsReadOnly g old new (is_ok r) → HasReadTable g old new result IsShown IsHeld
-  read_reported value form want never sees shown held unfit untouched cause read = record {
+  read_reported value form want never unwritten sees shown held unfit untouched cause read = record {
     shown = λ clean. rw value (reported_if fault_of_rows _ r (shown clean));
     reported = λ clean. rw value (reported_if fault_of_rows _ r (held clean));
     unfit = λ clean failed. unfit clean (form failed);
     untouched = λ clean failed. untouched clean (form failed);
     sees = sees;
     refused = never;
+    output = unwritten;
     cause = λ good clean unlimited has. no_device (want (cause good clean unlimited has));
     read_only = rw value (reported_only fault_of_rows g old new r read);
   }
@@ -113,6 +116,7 @@ module _ {S X Y : Type 0} (g : Ghosts S) (a b c : Held S) (x : X) (P : X → Tre
     untouched = λ clean q has. unchanged_then (state g a) (state g b) (state g c) (one.read_only.unchanged (middle clean) has) (two.untouched clean q (schema_stays clean has));
     sees = λ clean opened has settled. two.sees clean opened (schema_stays clean has) (still_settled g a b settled (one.read_only.unchanged (middle clean) has)) ∙ unmoved clean has;
     refused = two.refused;
+    output = two.output;
     cause = λ good clean unlimited has. two.cause (faultless_next (state g a) (state g b) (state g c) good one.read_only.commits_nothing (middle clean) two.read_only.commits_nothing.counts) clean (one.read_only.commits_nothing.limit ∙ unlimited) (schema_stays clean has);
     read_only = read_then one.read_only two.read_only;
   }
@@ -126,6 +130,7 @@ read_failed {X = X} g a b e f r P I Q J made is h =
     subst (λ w. HasReadTable g a b w Q J) (sym made)
     (read_badly g a b h.sees f Q J (λ clean q. h.unfit clean (ap (λ (k : Fault). let w : Result X Fault = Err k in w) (sym is ∙ q)))
     (λ clean q. h.untouched clean (ap (λ (k : Fault). let w : Result X Fault = Err k in w) (sym is ∙ q))) (λ r q. h.refused r (ap (λ (k : Fault). let w : Result X Fault = Err k in w) (sym is ∙ q)))
+    (λ q. h.output (ap (λ (k : Fault). let w : Result X Fault = Err k in w) (sym is ∙ q)))
     (λ good clean unlimited has q. h.cause good clean unlimited has (sym is ∙ q)) h.read_only)
 
 -- it is tested, and what is no desk's does not pass
@@ -135,7 +140,7 @@ read_tested g a b x (Ok done) A P I Q h right wrong shown held = read_well g a b
 read_tested g a b x (Err e) A P I Q h right wrong shown held =
     let is = wrong.0 in
     read_badly g a b h.sees e _ _ (λ clean q has s reach stands. wrong.1 (held (tables_of s) (h.reported clean has s reach stands)))
-    (λ clean q has. h.read_only.unchanged clean has) (λ r q. absurd cc) (λ good clean unlimited has q. absurd cc) (read_on false h.read_only)
+    (λ clean q has. h.read_only.unchanged clean has) (λ r q. absurd cc) (λ q. absurd cc) (λ good clean unlimited has q. absurd cc) (read_on false h.read_only)
 
 -- another value is made
 pub read_as : {S X Y : Type 0} (g : Ghosts S) (a b : Held S) (x : X) (y : Y) (P : X → Trees → Type 0) (I : X → Tables → Type 0) (Q : Y → Trees → Type 0) (J : Y → Tables → Type 0) → ((t : Trees) → P x t → Q y t)

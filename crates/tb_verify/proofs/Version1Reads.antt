@@ -11,7 +11,7 @@ use Rattle.sqlite.proofs.StateLemmas.{survives_then}
 use Rattle.sqlite.proofs.Callers.{unchanged_then}
 use Rattle.sqlite_trees.specs.Tree.{Trees}
 use Rattle.tb_core.specs.declared.refusals.Fault.{Fault}
-use Rattle.tb_core.specs.declared.refusals.Fault.TheVariants.{Refused, Device, NotADesk}
+use Rattle.tb_core.specs.declared.refusals.Fault.TheVariants.{Refused, Device, NotADesk, Output}
 use Rattle.tb_core.specs.declared.refusals.Refusal.{Refusal}
 use Rattle.tb_tables.specs.Layout.{version_one_schema}
 use Rattle.tb_tables.specs.Failing.{IsWant}
@@ -41,6 +41,7 @@ module _ {S R : Type 0} (g : Ghosts S) (old new : Held S) (selection : Result R 
     are = are;
     unfit = λ clean q. ok_is_no_err x NotADesk q;
     refused = λ r q. ok_is_no_err x (Refused r) q;
+    output = λ q. ok_is_no_err x Output q;
     cause = λ good clean unlimited has. tt;
     same = same;
     mode = h.mode;
@@ -49,12 +50,13 @@ module _ {S R : Type 0} (g : Ghosts S) (old new : Held S) (selection : Result R 
   }
 
   pub read_badly : {X : Type 0} (e : Fault) (Are : X → Trees → Type 0)
-      → (HasCleanDisk (state g new) → e ≡ NotADesk → (state g old).now.schema ≡ version_one_schema → AreOfNoState (state g old).now.trees × IsUnchanged (state g old) (state g new)) → ((r : Refusal) → e ≢ Refused r)
+      → (HasCleanDisk (state g new) → e ≡ NotADesk → (state g old).now.schema ≡ version_one_schema → AreOfNoState (state g old).now.trees × IsUnchanged (state g old) (state g new)) → ((r : Refusal) → e ≢ Refused r) → e ≢ Output
       → (IsFaultless g old new → HasCleanDisk (state g new) → (state g old).step_limit ≡ None → (state g old).now.schema ≡ version_one_schema → e ≢ Device) → HasReadVersion1 g old new (Err e) Are
-  read_badly {X = X} e Are unfit refused cause = record {
+  read_badly {X = X} e Are unfit refused output cause = record {
     are = λ clean. tt;
     unfit = λ clean q. unfit clean (err_is X e NotADesk q);
     refused = λ r q. refused r (err_is X e (Refused r) q);
+    output = λ q. output (err_is X e Output q);
     cause = cause;
     same = λ clean. tt;
     mode = h.mode;
@@ -70,7 +72,7 @@ module _ {S R : Type 0} (g : Ghosts S) (old new : Held S) (selection : Result R 
   read_tested (Ok done) right wrong are unfit same = read_well done _ (are right) same
   read_tested (Err e) right wrong are unfit same =
       let is = wrong.0 in
-      read_badly e _ (λ clean q has. (unfit wrong.1 clean has, same clean has)) (λ r q. absurd cc) (λ good clean unlimited has q. absurd cc)
+      read_badly e _ (λ clean q has. (unfit wrong.1 clean has, same clean has)) (λ r q. absurd cc) (λ q. absurd cc) (λ good clean unlimited has q. absurd cc)
 
 -- ---- a statement, with the fault for its error
 
@@ -83,12 +85,12 @@ module _ {S R : Type 0} (g : Ghosts S) (old new : Held S) (selection : Result R 
   selected_rows rows value is = subst (λ r. HasSelected g old new r Shown) (answer_back fault_of_making selection rows (sym value ∙ is)) h
 
   -- its error is handed on
-  pub selected_none : {X : Type 0} (e f : Fault) (r : Result X Fault) (Are : X → Trees → Type 0) → answer ≡ Err e → r ≡ Err f → f ≡ e → answer ≢ Err NotADesk → ((q : Refusal) → answer ≢ Err (Refused q)) → (IfErr selection IsWant → answer ≢ Err Device)
+  pub selected_none : {X : Type 0} (e f : Fault) (r : Result X Fault) (Are : X → Trees → Type 0) → answer ≡ Err e → r ≡ Err f → f ≡ e → answer ≢ Err NotADesk → ((q : Refusal) → answer ≢ Err (Refused q)) → answer ≢ Err Output → (IfErr selection IsWant → answer ≢ Err Device)
       → HasReadVersion1 g old new r Are
-  selected_none e f r Are was made is no_form never want =
+  selected_none e f r Are was made is no_form never unwritten want =
       let failed : (k : Fault) → f ≡ k → answer ≡ Err k = λ k q. was ∙ ap (λ (j : Fault). let w : Result R Fault = Err j in w) (sym is ∙ q) in
       subst (λ w. HasReadVersion1 g old new w Are) (sym made)
-      (read_badly g old new selection Shown h f Are (λ clean q has. absurd (no_form (failed NotADesk q))) (λ q same. never q (failed (Refused q) same)) (λ good clean unlimited has q. want (h.cause good clean unlimited has) (failed Device q)))
+      (read_badly g old new selection Shown h f Are (λ clean q has. absurd (no_form (failed NotADesk q))) (λ q same. never q (failed (Refused q) same)) (λ same. unwritten (failed Output same)) (λ good clean unlimited has q. want (h.cause good clean unlimited has) (failed Device q)))
 
 -- ---- the records that its rows are, with the fault where they are none
 
@@ -101,14 +103,15 @@ module _ {S R : Type 0} (g : Ghosts S) (old new : Held S) (selection : Result R 
   no_device (Ok x) other = tt
   no_device {X = X} (Err e) other = λ is. other (ap (λ (j : Fault). let w : Result X Fault = Err j in w) is)
 
-  pub read_told : {X : Type 0} (told : Result X ReadError) (result : Result X Fault) (Are : X → Trees → Type 0) → result ≡ reported_by fault_of_rows told → (result ≡ Err NotADesk → told ≡ Err Form) → (IfErr told IsReadWant → result ≢ Err Device) → ((q : Refusal) → result ≢ Err (Refused q)) → IfErr told IsReadWant
+  pub read_told : {X : Type 0} (told : Result X ReadError) (result : Result X Fault) (Are : X → Trees → Type 0) → result ≡ reported_by fault_of_rows told → (result ≡ Err NotADesk → told ≡ Err Form) → (IfErr told IsReadWant → result ≢ Err Device) → ((q : Refusal) → result ≢ Err (Refused q)) → result ≢ Err Output → IfErr told IsReadWant
       → (HasCleanDisk (state g new) → IfOk told (λ x. (state g old).now.schema ≡ version_one_schema → Are x (state g old).now.trees))
       → (HasCleanDisk (state g new) → (state g old).now.schema ≡ version_one_schema → told ≡ Err Form → AreOfNoState (state g old).now.trees)
       → (HasCleanDisk (state g new) → (state g old).now.schema ≡ version_one_schema → IsUnchanged (state g old) (state g new)) → HasReadVersion1 g old new result Are
-  read_told told result Are value form want never wants are unfit same = record {
+  read_told told result Are value form want never unwritten wants are unfit same = record {
     are = λ clean. rw value (reported_if fault_of_rows _ told (are clean));
     unfit = λ clean q has. (unfit clean has (form q), same clean has);
     refused = never;
+    output = unwritten;
     cause = λ good clean unlimited has. no_device result (want wants);
     same = λ clean. on_ok result (same clean);
     mode = h.mode;
@@ -136,6 +139,7 @@ module _ {S X Y : Type 0} (g : Ghosts S) (a b c : Held S) (x : X) (P : X → Tre
     are = λ clean. if_ok_under (λ y. P x (state g a).now.trees × Q y (state g a).now.trees) r (λ has. both_shown r (schema_stays clean has) (two.are clean) (λ y q. (one.are (middle clean) has, subst (Q y) (trees_stay clean has) q)));
     unfit = λ clean q has. let no = two.unfit clean q (schema_stays clean has) in (subst AreOfNoState (trees_stay clean has) no.0, unchanged_then (state g a) (state g b) (state g c) (one.same (middle clean) has) no.1);
     refused = two.refused;
+    output = two.output;
     cause = λ good clean unlimited has. two.cause (faultless_next (state g a) (state g b) (state g c) good one.commits_nothing (middle clean) two.commits_nothing.counts) clean (one.commits_nothing.limit ∙ unlimited) (schema_stays clean has);
     same = λ clean. on_ok_under r (two.same clean) (λ more has. unchanged_then (state g a) (state g b) (state g c) (one.same (middle clean) has) (more (schema_stays clean has)));
     mode = λ m. two.mode (one.mode m);
@@ -151,6 +155,7 @@ read_failed {X = X} {Y = Y} g a b e f r P Q made is h = subst (λ w. HasReadVers
   are = λ clean. tt;
   unfit = λ clean q. h.unfit clean (back NotADesk q);
   refused = λ r q. h.refused r (back (Refused r) q);
+  output = λ q. h.output (back Output q);
   cause = λ good clean unlimited has q. h.cause good clean unlimited has (sym is ∙ q);
   same = λ clean. tt;
   mode = h.mode;
@@ -167,6 +172,7 @@ read_as g a b x y P Q reported h = record {
   are = λ clean has. reported (state g a).now.trees (h.are clean has);
   unfit = λ clean q. ok_is_no_err y NotADesk q;
   refused = λ r q. ok_is_no_err y (Refused r) q;
+  output = λ q. ok_is_no_err y Output q;
   cause = λ good clean unlimited has. tt;
   same = λ clean has. h.same clean has;
   mode = h.mode;

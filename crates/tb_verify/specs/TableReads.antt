@@ -6,7 +6,7 @@ use Rattle.sqlite.specs.Held.{Held, state}
 use Rattle.sqlite.specs.State.{HasCleanDisk, IsUnchanged}
 use Rattle.sqlite_trees.specs.Tree.{Trees}
 use Rattle.tb_core.specs.declared.refusals.Fault.{Fault}
-use Rattle.tb_core.specs.declared.refusals.Fault.TheVariants.{Refused, Device, NotADesk}
+use Rattle.tb_core.specs.declared.refusals.Fault.TheVariants.{Refused, Device, NotADesk, Output}
 use Rattle.tb_core.specs.declared.refusals.Refusal.{Refusal}
 use Rattle.tb_core.specs.Machine.{Machine}
 use Rattle.tb_core.specs.Reaching.{IsReachable}
@@ -33,5 +33,6 @@ pub record HasReadTable {S X : Type 0} (g : Ghosts S) (old new : Held S) (result
       → IsUnchanged (state g old) (state g new)
   pub sees : SeesAsBefore g old new
   pub refused : (r : Refusal) → result ≢ Err (Refused r)
+  pub output : result ≢ Err Output
   pub cause : IsFaultless g old new → FailsOnlyAs (λ (fault : Fault). fault ≢ Device) g old new result
   pub read_only : IsReadOnly g old new (is_ok result)

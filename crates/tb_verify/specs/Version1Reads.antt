@@ -6,7 +6,7 @@ use Rattle.sqlite.specs.Held.{Held, state}
 use Rattle.sqlite.specs.State.{HasCleanDisk, IsUnchanged, Survives}
 use Rattle.sqlite_trees.specs.Tree.{Trees}
 use Rattle.tb_core.specs.declared.refusals.Fault.{Fault}
-use Rattle.tb_core.specs.declared.refusals.Fault.TheVariants.{Refused, Device, NotADesk}
+use Rattle.tb_core.specs.declared.refusals.Fault.TheVariants.{Refused, Device, NotADesk, Output}
 use Rattle.tb_core.specs.declared.refusals.Refusal.{Refusal}
 use Rattle.tb_core.specs.Machine.{Machine}
 use Rattle.tb_core.specs.Reaching.{IsReachable}
@@ -49,6 +49,7 @@ pub record HasReadVersion1 {S X : Type 0} (g : Ghosts S) (old new : Held S) (res
   pub unfit : HasCleanDisk (state g new) → result ≡ Err NotADesk → (state g old).now.schema ≡ version_one_schema
       → AreOfNoState (state g old).now.trees × IsUnchanged (state g old) (state g new)
   pub refused : (r : Refusal) → result ≢ Err (Refused r)
+  pub output : result ≢ Err Output
   pub cause : IsFaultless g old new → FailsOnlyAsFirst (λ (fault : Fault). fault ≢ Device) g old new result
   pub same : HasCleanDisk (state g new) → OnOk result ((state g old).now.schema ≡ version_one_schema
       → IsUnchanged (state g old) (state g new))

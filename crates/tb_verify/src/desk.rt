@@ -52,6 +52,7 @@ pub fn read_desk<S: Alter>(alloc: Global, conn: &mut Connection<S>) -> Result<De
     ensures sees { HasCleanDisk (state S.Store conn.new) → IsTrue (state S.Store conn.new).is_open
         → (state S.Store conn.new).now ≡ (state S.Store conn.old).now }
     ensures never_refuses { (r : AnyRefusal) → result ≢ Err (Fault.Refused r) }
+    ensures output { result ≢ Err Fault.Output }
     ensures wants { result ≡ Err Fault.Memory → LooksLikeDesk S.Store conn.old }
     ensures cause { (state S.Store conn.old).step_limit ≡ None
         → BlamesNoDisk (λ (fault : AnyFault). fault ≢ Fault.Device) S.Store conn.old conn.new result }

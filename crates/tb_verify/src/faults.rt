@@ -15,6 +15,7 @@ pub(crate) fn of_error(error: Error) -> Fault
     ensures no_form { result ≢ Fault.NotADesk }
     ensures cause { IsWant error → result ≢ Fault.Device }
     ensures never_refuses { (r : Refusal) → result ≢ Fault.Refused r }
+    ensures output { result ≢ Fault.Output }
     ensures value { result ≡ fault_of_making error }
 {
     match error {
@@ -29,6 +30,7 @@ pub(crate) fn of_read(error: ReadError) -> Fault
     ensures form { result ≡ Fault.NotADesk → error ≡ ReadError.Form }
     ensures cause { IsReadWant error → result ≢ Fault.Device }
     ensures never_refuses { (r : Refusal) → result ≢ Fault.Refused r }
+    ensures output { result ≢ Fault.Output }
     ensures value { result ≡ fault_of_rows error }
 {
     match error {
@@ -43,6 +45,7 @@ pub(crate) fn reported<T>(read: Result<T, ReadError>) -> Result<T, Fault>
     ensures form { result ≡ Err Fault.NotADesk → read ≡ Err ReadError.Form }
     ensures cause { IfErr read IsReadWant → result ≢ Err Fault.Device }
     ensures never_refuses { (r : Refusal) → result ≢ Err (Fault.Refused r) }
+    ensures output { result ≢ Err Fault.Output }
 {
     match read {
         Ok(found) => Ok(found),
@@ -56,6 +59,7 @@ pub(crate) fn answered<T>(answer: Result<T, Error>) -> Result<T, Fault>
     ensures no_form { result ≢ Err Fault.NotADesk }
     ensures cause { IfErr answer IsWant → result ≢ Err Fault.Device }
     ensures never_refuses { (r : Refusal) → result ≢ Err (Fault.Refused r) }
+    ensures output { result ≢ Err Fault.Output }
 {
     match answer {
         Ok(found) => Ok(found),
@@ -69,6 +73,7 @@ pub(crate) fn of_unfit(unfit: Unfit) -> Fault
     ensures want { result ≡ Fault.Memory → unfit ≡ Unfit.Memory }
     ensures cause { result ≢ Fault.Device }
     ensures never_refuses { (r : Refusal) → result ≢ Fault.Refused r }
+    ensures output { result ≢ Fault.Output }
     ensures value { result ≡ fault_of_unfit unfit }
 {
     match unfit {
@@ -84,6 +89,7 @@ pub(crate) fn fitting<T>(told: Result<T, Unfit>) -> Result<T, Fault>
     ensures want { result ≡ Err Fault.Memory → told ≡ Err Unfit.Memory }
     ensures cause { IfErr result IsNoDevice }
     ensures never_refuses { (r : Refusal) → result ≢ Err (Fault.Refused r) }
+    ensures output { result ≢ Err Fault.Output }
 {
     match told {
         Ok(found) => Ok(found),

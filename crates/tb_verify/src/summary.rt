@@ -155,6 +155,7 @@ pub(crate) fn summary_of_desk(alloc: Global, rows: &TableRows) -> Result<DeskSum
     ensures empty { rows.now.batches.items ≡ [] → rows.now.sentences.items ≡ [] → rows.now.moves.items ≡ []
         → result ≢ Err Fault.Memory }
     ensures never_refuses { (r : AnyRefusal) → result ≢ Err (Fault.Refused r) }
+    ensures output { result ≢ Err Fault.Output }
     ensures cause { IfErr result IsNoDevice }
 {
     fitting(summary_of_rows(alloc, rows))

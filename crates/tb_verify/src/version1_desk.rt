@@ -38,6 +38,7 @@ fn read_first_desk<S: Alter>(alloc: Global, conn: &mut Connection<S>) -> Result<
     ensures untouched { HasCleanDisk (state S.Store conn.new) → result ≡ Err Fault.NotADesk
         → (state S.Store conn.new).now ≡ (state S.Store conn.old).now }
     ensures never_refuses { (r : AnyRefusal) → result ≢ Err (Fault.Refused r) }
+    ensures output { result ≢ Err Fault.Output }
     ensures looks { result ≢ Err Fault.NotADesk → LooksFirst S.Store conn.old }
     ensures cause { (state S.Store conn.old).step_limit ≡ None
         → BlamesNoDisk (λ (fault : AnyFault). fault ≢ Fault.Device) S.Store conn.old conn.new result }
@@ -64,6 +65,7 @@ fn convert<S: Alter>(conn: &mut Connection<S>) -> Result<(), Fault>
         → OnErr result ((d : Tables) → HoldsFirst S.Store conn.old d → HoldsFirst S.Store conn.new d) }
     ensures no_form { result ≢ Err Fault.NotADesk }
     ensures never_refuses { (r : AnyRefusal) → result ≢ Err (Fault.Refused r) }
+    ensures output { result ≢ Err Fault.Output }
     ensures autocommit { conn.new.in_transaction ≡ false }
     ensures crash { Survives (state S.Store conn.old) (state S.Store conn.new) (λ db. (d : Tables) → d.pulled ≡ []
         → HoldsFirst S.Store conn.old d → AreStored d db) }
@@ -96,6 +98,7 @@ pub fn migrate<S: Alter>(alloc: Global, conn: &mut Connection<S>) -> Result<Desk
         → HasCleanDisk (state S.Store conn.new)
         → Survives (state S.Store conn.old) (state S.Store conn.new) (λ _. ⊥) }
     ensures never_refuses { (r : AnyRefusal) → result ≢ Err (Fault.Refused r) }
+    ensures output { result ≢ Err Fault.Output }
     ensures wants { result ≡ Err Fault.Memory → LooksFirst S.Store conn.old }
     ensures cause { ((s : Machine) → IsFirstDesk S.Store conn.old s → ⊥)
         → (state S.Store conn.old).step_limit ≡ None

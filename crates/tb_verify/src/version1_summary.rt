@@ -37,6 +37,7 @@ pub(crate) fn summary_without_pulls(alloc: Global, rows: &TableRows) -> Result<D
     ensures unfit { result ≡ Err Fault.NotADesk → (s : Machine) → IsReachable s → HasNoPull s
         → tables_in rows.now ≡ tables_of s → ⊥ }
     ensures never_refuses { (r : AnyRefusal) → result ≢ Err (Fault.Refused r) }
+    ensures output { result ≢ Err Fault.Output }
     ensures cause { IfErr result (λ (fault : AnyFault). fault ≢ Fault.Device) }
     ensures wants { result ≡ Err Fault.Memory
         → All (λ (m : AnyMoveRow). (m.kind ≢ 11) × (m.kind ≢ 12)) rows.now.moves.items }

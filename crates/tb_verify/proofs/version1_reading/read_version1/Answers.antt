@@ -12,7 +12,7 @@ pub returns-in_err-rows : goal.returns-in_err-rows
 returns-in_err-rows g c =
     let p = err_from_is_err_and c.from_residual.result c.from_residual.ensures.1 in
     let all = version_selected g.S.Store c.args.conn.now c.query_all.new.self (λ v. v.items) c.query_all.result (record { ok = c.query_all.ensures.ok; err = c.query_all.ensures.err; mode = c.query_all.ensures.mode; survives = c.query_all.ensures.survives }) in
-    selected_none g.S.Store c.args.conn.now c.query_all.new.self c.query_all.result _ all c.answered.result c.in_err-rows.field-0.0 p.0 c.from_residual.result _ c.in_err-rows.was p.1 p.2 c.answered.ensures.no_form c.answered.ensures.never_refuses c.answered.ensures.cause
+    selected_none g.S.Store c.args.conn.now c.query_all.new.self c.query_all.result _ all c.answered.result c.in_err-rows.field-0.0 p.0 c.from_residual.result _ c.in_err-rows.was p.1 p.2 c.answered.ensures.no_form c.answered.ensures.never_refuses c.answered.ensures.output c.answered.ensures.cause
 
 pub returns : goal.returns
 returns g c =
