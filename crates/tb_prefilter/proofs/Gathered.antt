@@ -12,7 +12,7 @@ use Rattle.tb_syntax.specs.Tests.{Test, whole, feature, both, tests}
 use Rattle.tb_literal.specs.Literals.{PlainLit}
 use Rattle.tb_query.specs.Meaning.{holds, all_hold}
 use Rattle.tb_query.specs.Search.{Asked}
-use Rattle.tb_prefilter.specs.Needed.{IsNeeded, Requires, IsPlainText, Entails, IsPartOf}
+use Rattle.tb_prefilter.specs.Needed.{AllRequireNothing, IsNeeded, Requires, RequiresNothing, IsPlainText, Entails, IsPartOf}
 use Rattle.tb_prefilter.proofs.Fields.{column_required}
 use Rattle.tb_prefilter.proofs.Items.{item_required}
 
@@ -47,6 +47,12 @@ part_holds (e ∷ es) (suc k) x lt at r h = part_holds es k x (omega (arith, lt)
 
 pub entails_part : (es : List (Expr PlainLit)) (k : ℕ) (x : Expr PlainLit) (t : Test PlainLit) → k < length es → x ≡ get_or es k x → Entails t (both (tests (map test es))) → Entails t (test x)
 entails_part es k x t lt at entails = λ r h. part_holds es k x lt at r (entails r h)
+
+-- a part of what requires nothing requires nothing
+pub nothing_in_part : (es : List (Expr PlainLit)) (k : ℕ) (x : Expr PlainLit) → k < length es → x ≡ get_or es k x → AllRequireNothing (tests (map test es)) → RequiresNothing (test x)
+nothing_in_part [] k x lt at none = absurd (omega (arith, lt))
+nothing_in_part (e ∷ es) zero x lt at none = subst (λ y. RequiresNothing (test y)) (sym at) none.0
+nothing_in_part (e ∷ es) (suc k) x lt at none = nothing_in_part es k x (omega (arith, lt)) at none.1
 
 -- the test of an expression, by its number
 pub test_of : (es : List (Expr PlainLit)) (ts : List (Test PlainLit)) (k : ℕ) (x : Expr PlainLit) → map test es ≡ ts → k < length es → x ≡ get_or es k x → slice_get ts k ≡ Some (test x)

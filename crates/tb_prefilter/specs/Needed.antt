@@ -1,7 +1,7 @@
 -- Between crates: no contract of a front door cites a definition of this module.
 -- Bytes that are in the text of each sentence in which a query has a hit: the needles of a prefilter (regex-automata).
 use Rattle.std.specs.Prelude.{◌≡◌, ℕ, zero, suc, List, [], ◌∷◌, ◌++◌, Bool, true, false, nat_eq}
-use Rattle.std.specs.Prelude.{if◌then◌else◌}
+use Rattle.std.specs.Prelude.{if◌then◌else◌, ⊤}
 use Rattle.std.specs.List.{AllByRecursion, All}
 use Rattle.std.specs.Global.{Global}
 use Rattle.std.specs.declared.vec.Vec.{Vec}
@@ -10,7 +10,7 @@ use Rattle.tb_conllu.specs.Text.{RowText, BlockText, row_line, text_of}
 use Rattle.tb_match.specs.Trees.{Tree, tok, cat, alt, rep, Forest, no_more, and_more}
 use Rattle.tb_literal.specs.Literals.{PlainLit}
 pub use Rattle.tb_literal.specs.Literals.{IsPlainText}
-use Rattle.tb_syntax.specs.Tests.{Test}
+use Rattle.tb_syntax.specs.Tests.{Test, every, whole, feature, negated, both, either, Tests, no_test, and_test}
 use Rattle.tb_query.specs.Meaning.{holds}
 use Rattle.tb_query.specs.Search.{Asked, Finds}
 
@@ -41,6 +41,20 @@ pub record Requires (t : Test PlainLit) (needle : List ℕ) : Type 0 where
 pub record IsNeeded (q : Asked) (needle : List ℕ) : Type 0 where
   pub there : (b : BlockText) → AllByRecursion IsRowShaped b.rows → (i j : ℕ) → Finds q b i j
       → IsSubstring needle (text_of (b ∷ []))
+
+-- no plain literal has to be in a row of which the test holds; `!` and choices are not looked into
+abbrev mutual
+  pub RequiresNothing : Test PlainLit → Type 0
+  RequiresNothing every = ⊤
+  RequiresNothing (whole a l) = IsPlainText l → ⊥
+  RequiresNothing (feature l) = IsPlainText l → ⊥
+  RequiresNothing (negated t) = ⊤
+  RequiresNothing (both ts) = AllRequireNothing ts
+  RequiresNothing (either ts) = ⊤
+
+  pub AllRequireNothing : Tests PlainLit → Type 0
+  AllRequireNothing no_test = ⊤
+  AllRequireNothing (and_test t ts) = RequiresNothing t × AllRequireNothing ts
 
 -- where the first test holds of a row, so does the second
 abbrev pub Entails : Test PlainLit → Test PlainLit → Type 0

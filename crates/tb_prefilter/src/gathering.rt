@@ -1,10 +1,10 @@
 //! The bytes that token expressions require of a row.
 
-ghost use Rattle.std.specs.Prelude.{OnOk, map};
+ghost use Rattle.std.specs.Prelude.{IsOk, OnOk, map};
 ghost use Rattle.tb_syntax.specs.Exprs.{test};
 ghost use Rattle.tb_syntax.specs.Tests.{whole, feature, both, tests};
 ghost use Rattle.tb_syntax.specs.declared.lexeme.Attr.{Attr as AnyAttr};
-ghost use Rattle.tb_prefilter.specs.Needed.{Gathers};
+ghost use Rattle.tb_prefilter.specs.Needed.{AllRequireNothing, Gathers, IsPlainText, RequiresNothing};
 
 use std::alloc::{AllocError, Global};
 use tb_query::{Expr, LiteralMatcher};
@@ -15,7 +15,9 @@ fn push_column(
     needle: &LiteralMatcher,
     needles: &mut Vec<Vec<u8>>,
 ) -> Result<(), AllocError>
-    ensures { OnOk result ((a : AnyAttr) → Gathers (whole a needle.now) needles.old.items needles.new.items) }
+    ensures gathered { OnOk result ((a : AnyAttr) → Gathers (whole a needle.now) needles.old.items
+        needles.new.items) }
+    ensures sure { (IsPlainText needle.now → ⊥) → IsOk result }
 {
     let Some(text) = needle.plain_text() else {
         return Ok(());
@@ -34,7 +36,8 @@ fn push_item(
     needle: &LiteralMatcher,
     needles: &mut Vec<Vec<u8>>,
 ) -> Result<(), AllocError>
-    ensures { OnOk result (Gathers (feature needle.now) needles.old.items needles.new.items) }
+    ensures gathered { OnOk result (Gathers (feature needle.now) needles.old.items needles.new.items) }
+    ensures sure { (IsPlainText needle.now → ⊥) → IsOk result }
 {
     let Some(text) = needle.plain_text() else {
         return Ok(());
@@ -48,7 +51,8 @@ fn push_item(
 /// Adds what each of the expressions requires, where all are to hold of one word.
 #[cycle(gather)]
 fn gather_all(alloc: Global, exprs: &[Expr], needles: &mut Vec<Vec<u8>>) -> Result<(), AllocError>
-    ensures { OnOk result (Gathers (both (tests (map test exprs.now))) needles.old.items needles.new.items) }
+    ensures gathered { OnOk result (Gathers (both (tests (map test exprs.now))) needles.old.items needles.new.items) }
+    ensures sure { AllRequireNothing (tests (map test exprs.now)) → IsOk result }
 {
     for expr in exprs {
         gather(alloc, expr, needles)?;
@@ -63,7 +67,8 @@ pub(crate) fn gather(
     expr: &Expr,
     needles: &mut Vec<Vec<u8>>,
 ) -> Result<(), AllocError>
-    ensures { OnOk result (Gathers (test expr.now) needles.old.items needles.new.items) }
+    ensures gathered { OnOk result (Gathers (test expr.now) needles.old.items needles.new.items) }
+    ensures sure { RequiresNothing (test expr.now) → IsOk result }
 {
     match expr {
         Expr::Any => Ok(()),

@@ -1,6 +1,6 @@
 //! What a text needs to have for a hit, and the texts that have it not.
 
-ghost use Rattle.std.specs.Prelude.{◌≡◌, All, [], ◌∷◌, IfOk, IsTrue, false};
+ghost use Rattle.std.specs.Prelude.{◌≡◌, All, [], ◌∷◌, IfOk, true, false};
 ghost use Rattle.tb_conllu.specs.Text.{BlockText};
 ghost use Rattle.tb_conllu.specs.Reported.{IsFile};
 ghost use Rattle.tb_match.specs.declared.strategy.Strategy.{Strategy as AnyStrategy};
@@ -30,7 +30,7 @@ pub fn needles_of(alloc: Global, query: &Query) -> Result<Vec<Vec<u8>>, AllocErr
 pub fn may_hit(needles: &[Vec<u8>], body: &[u8]) -> bool
     ensures none { result ≡ false → (s : AnyStrategy) (q : Asked) (b : BlockText) → AreNeeded q needles.now
         → IsFile body.now (b ∷ []) → AreHitsIn s q b [] }
-    ensures all { IsTrue result → All (λ n. IsSubstring n.items body.now) needles.now }
+    ensures all { result ≡ true → All (λ n. IsSubstring n.items body.now) needles.now }
 {
     for needle in needles {
         if memmem::find(body, needle.as_slice()).is_none() {

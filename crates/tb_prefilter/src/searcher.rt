@@ -1,12 +1,13 @@
 //! A searcher with a prefilter.
 
-ghost use Rattle.std.specs.Prelude.{◌≡◌, ◌≤◌, ◌+◌, ◌*◌, ◌/◌, [], ◌∷◌, IfOk, false};
+ghost use Rattle.std.specs.Prelude.{◌≡◌, ◌≤◌, ◌+◌, ◌*◌, ◌/◌, [], ◌∷◌, IfOk, true, false};
 ghost use Rattle.tb_conllu.specs.Text.{BlockText};
 ghost use Rattle.tb_conllu.specs.Reported.{IsFile};
 ghost use Rattle.tb_conllu.specs.Words.{words_of};
 ghost use Rattle.tb_match.specs.Weight.{weight_of};
 ghost use Rattle.tb_match.specs.declared.strategy.Strategy.{Strategy as AnyStrategy};
 ghost use Rattle.tb_query.specs.Search.{AreHitsIn};
+ghost use Rattle.tb_prefilter.specs.Prefiltered.{HasNeedles};
 
 use crate::prefilter::{may_hit, needles_of};
 use std::alloc::{AllocError, Global};
@@ -23,17 +24,15 @@ pub struct PrefilteredSearcher<'q> {
 }
 
 impl<'q> Model for PrefilteredSearcher<'q> {
-    ghost use Rattle.tb_query.specs.Search.{Asked};
+    ghost use Rattle.tb_prefilter.specs.Prefiltered.{Prefiltered, coded_prefiltered, prefiltered};
 
-    ghost Value = { Asked };
+    ghost Value = { Prefiltered };
 
-    ghost use Rattle.tb_query.specs.Codes.{coded_asked};
-
-    ghost coded = { coded_asked };
+    ghost coded = { coded_prefiltered };
 
     ghost use Rattle.tb_prefilter.specs.Needed.{AreNeeded};
 
-    ghost view = { λ s. s.searcher };
+    ghost view = { λ s. prefiltered s.searcher s.needles.items };
 
     ghost invariant = { λ s. AreNeeded s.searcher s.needles.items };
 }
@@ -41,7 +40,7 @@ impl<'q> Model for PrefilteredSearcher<'q> {
 impl<'q> PrefilteredSearcher<'q> {
     /// Makes a query ready.
     pub fn new(alloc: Global, query: &'q Query) -> Result<PrefilteredSearcher<'q>, AllocError>
-        ensures { IfOk result (λ s. s ≡ query.now) }
+        ensures { IfOk result (λ s. s.asked ≡ query.now) }
     {
         let searcher = query.searcher(alloc)?;
         let needles = needles_of(alloc, query)?;
@@ -50,8 +49,9 @@ impl<'q> PrefilteredSearcher<'q> {
 
     /// Whether the text may be that of a sentence with a hit. Where it is not, the text need not be cut into rows.
     pub fn may_hit(&self, body: &[u8]) -> bool
-        ensures { result ≡ false → (s : AnyStrategy) (b : BlockText) → IsFile body.now (b ∷ [])
-            → AreHitsIn s self.now b [] }
+        ensures none { result ≡ false → (s : AnyStrategy) (b : BlockText) → IsFile body.now (b ∷ [])
+            → AreHitsIn s self.now.asked b [] }
+        ensures all { result ≡ true → HasNeedles self.now body.now }
     {
         may_hit(&self.needles, body)
     }
@@ -65,9 +65,9 @@ impl<'q> PrefilteredSearcher<'q> {
         strategy: Strategy,
     ) -> Result<Found, AllocError>
         requires { words_of block.now ≤ 1000 }
-        ensures hits { IfOk result (λ f. AreHitsIn strategy self.old block.now f.hits.items) }
+        ensures hits { IfOk result (λ f. AreHitsIn strategy self.old.asked block.now f.hits.items) }
         ensures steps { IfOk result (λ f.
-            f.steps ≤ weight_of self.old.pat * (words_of block.now + 1) * (words_of block.now + 2) / 2) }
+            f.steps ≤ weight_of self.old.asked.pat * (words_of block.now + 1) * (words_of block.now + 2) / 2) }
         ensures unchanged { self.new ≡ self.old }
     {
         self.searcher.hits(alloc, block, strategy)

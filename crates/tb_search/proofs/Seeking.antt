@@ -10,6 +10,7 @@ use Rattle.tb_conllu.specs.Reported.{IsFile}
 use Rattle.tb_conllu.specs.Sunk.{AppendsPart}
 use Rattle.tb_match.specs.declared.strategy.Strategy.{Strategy}
 use Rattle.tb_query.specs.Search.{Asked}
+use Rattle.tb_prefilter.specs.Prefiltered.{HasNeedles}
 use Rattle.tb_report.specs.Tables.{Row, IsTableOf}
 use Rattle.tb_core.specs.Machine.{Machine, Sentence, bodies_of}
 use Rattle.tb_rules.specs.File.{IsValid}
@@ -48,10 +49,10 @@ abbrev pub numbers : CountHits → ℕ → List Occurrence → CountHits → ℕ
 numbers v o found w q = (w ≡ v) × (q ≡ o + length found)
 
 pub number_found : (xs : List Sentence) → AllByRecursion ReadsBack xs → (v : CountHits) (o : ℕ) (w : CountHits) (q : ℕ)
-    → AllTaken (λ v o t w q. Meets v.seeker.strategy v.seeker.searcher t (λ found. numbers v o found w q)) v o (texts xs) w q
-    → (found : List Occurrence) × AreFound v.seeker.strategy v.seeker.searcher (bodies xs) found × numbers v o found w q
-number_found = all_found (λ (v : CountHits). v.seeker.strategy) (λ (v : CountHits). v.seeker.searcher) numbers
-    (λ v o found w q it. (ap (λ (x : CountHits). x.seeker.strategy) it.0, ap (λ (x : CountHits). x.seeker.searcher) it.0))
+    → AllTaken (λ v o t w q. Meets v.seeker.strategy v.seeker.searcher.asked t (λ found. numbers v o found w q)) v o (texts xs) w q
+    → (found : List Occurrence) × AreFound v.seeker.strategy v.seeker.searcher.asked (bodies xs) found × numbers v o found w q
+number_found = all_found (λ (v : CountHits). v.seeker.strategy) (λ (v : CountHits). v.seeker.searcher.asked) numbers
+    (λ v o found w q it. (ap (λ (x : CountHits). x.seeker.strategy) it.0, ap (λ (x : CountHits). x.seeker.searcher.asked) it.0))
     (λ v o. (refl, let none : o ≡ o + 0 = omega arith in none))
     (λ v o xs u p ys w q first then_. (then_.0 ∙ first.0, count_more o p q xs ys first.1 then_.1))
 
@@ -61,10 +62,10 @@ abbrev pub tells : CountKeys → List Row → List Occurrence → CountKeys → 
 tells v o found w q = (w ≡ v) × ((ks : List (List ℕ)) → IsTableOf ks o → IsTableOf (ks ++ keys v.column found) q)
 
 pub table_found : (xs : List Sentence) → AllByRecursion ReadsBack xs → (v : CountKeys) (o : List Row) (w : CountKeys) (q : List Row)
-    → AllTaken (λ v o t w q. Meets v.seeker.strategy v.seeker.searcher t (λ found. tells v o found w q)) v o (texts xs) w q
-    → (found : List Occurrence) × AreFound v.seeker.strategy v.seeker.searcher (bodies xs) found × tells v o found w q
-table_found = all_found (λ (v : CountKeys). v.seeker.strategy) (λ (v : CountKeys). v.seeker.searcher) tells
-    (λ v o found w q it. (ap (λ (x : CountKeys). x.seeker.strategy) it.0, ap (λ (x : CountKeys). x.seeker.searcher) it.0))
+    → AllTaken (λ v o t w q. Meets v.seeker.strategy v.seeker.searcher.asked t (λ found. tells v o found w q)) v o (texts xs) w q
+    → (found : List Occurrence) × AreFound v.seeker.strategy v.seeker.searcher.asked (bodies xs) found × tells v o found w q
+table_found = all_found (λ (v : CountKeys). v.seeker.strategy) (λ (v : CountKeys). v.seeker.searcher.asked) tells
+    (λ v o found w q it. (ap (λ (x : CountKeys). x.seeker.strategy) it.0, ap (λ (x : CountKeys). x.seeker.searcher.asked) it.0))
     (λ v o. (refl, λ ks is. subst (λ l. IsTableOf l o) (sym (append-nil ks)) is))
     (λ v o xs u p ys w q first then_. (
       then_.0 ∙ first.0,
@@ -85,15 +86,15 @@ module _ {W : Type 0} (held : W → Option (List ℕ)) where
   puts v o found w q = (w.seeker ≡ v.seeker) × (w.context ≡ v.context) × (w.found ≡ v.found + length found) × Appends (held o) (held q) (lines v.context found)
 
   abbrev pub lists : Taking WriteKwic W
-  lists v o t w q = Meets v.seeker.strategy v.seeker.searcher t (λ found. puts v o found w q)
+  lists v o t w q = Meets v.seeker.strategy v.seeker.searcher.asked t (λ found. puts v o found w q)
 
   abbrev pub breaks_off : Stopping WriteKwic W
-  breaks_off v o t e q = ((b : BlockText) → IsValidText b t → IsFault e) × ((q ≡ o) ⊎ Meets v.seeker.strategy v.seeker.searcher t (λ found. AreCut e (held o) (held q) v.context found))
+  breaks_off v o t e q = HasNeedles v.seeker.searcher t × ((b : BlockText) → IsValidText b t → IsFault e) × ((q ≡ o) ⊎ Meets v.seeker.strategy v.seeker.searcher.asked t (λ found. AreCut e (held o) (held q) v.context found))
 
   pub lines_found : (xs : List Sentence) → AllByRecursion ReadsBack xs → (v : WriteKwic) (o : W) (w : WriteKwic) (q : W) → AllTaken lists v o (texts xs) w q
-      → (found : List Occurrence) × AreFound v.seeker.strategy v.seeker.searcher (bodies xs) found × puts v o found w q
-  lines_found = all_found (λ (v : WriteKwic). v.seeker.strategy) (λ (v : WriteKwic). v.seeker.searcher) puts
-      (λ v o found w q it. (ap (λ (x : SentenceSearcher). x.strategy) it.0, ap (λ (x : SentenceSearcher). x.searcher) it.0))
+      → (found : List Occurrence) × AreFound v.seeker.strategy v.seeker.searcher.asked (bodies xs) found × puts v o found w q
+  lines_found = all_found (λ (v : WriteKwic). v.seeker.strategy) (λ (v : WriteKwic). v.seeker.searcher.asked) puts
+      (λ v o found w q it. (ap (λ (x : SentenceSearcher). x.strategy) it.0, ap (λ (x : SentenceSearcher). x.searcher.asked) it.0))
       (λ v o. (refl, refl, (let none : v.found ≡ v.found + 0 = omega arith in none), Appends-nil (held o)))
       (λ v o xs u p ys w q first then_.
       let n = v.context in (
@@ -104,22 +105,22 @@ module _ {W : Type 0} (held : W → Option (List ℕ)) where
       ))
 
   pub lines_cut : (xs : List Sentence) → AllByRecursion ReadsBack xs → (v : WriteKwic) (o : W) (e : Stopped) (q : W) → Halted lists breaks_off v o (texts xs) e q
-      → (found : List Occurrence) → AreFound v.seeker.strategy v.seeker.searcher (bodies xs) found → AreCut e (held o) (held q) v.context found
+      → (found : List Occurrence) → AreFound v.seeker.strategy v.seeker.searcher.asked (bodies xs) found → AreCut e (held o) (held q) v.context found
   lines_cut [] read v o e q (fault, same) found are = no_lines e (held o) (held q) v.context found (ap held same)
   lines_cut (x ∷ xs) read v o e q (inl (fault, same)) found are = no_lines e (held o) (held q) v.context found (ap held same)
-  lines_cut (x ∷ xs) read v o e q (inr (inl (fault, inl same))) found are = no_lines e (held o) (held q) v.context found (ap held same)
-  lines_cut (x ∷ xs) read v o e q (inr (inl (fault, inr met))) found (hits, rest, are, more, is) =
+  lines_cut (x ∷ xs) read v o e q (inr (inl (has, fault, inl same))) found are = no_lines e (held o) (held q) v.context found (ap held same)
+  lines_cut (x ∷ xs) read v o e q (inr (inl (has, fault, inr met))) found (hits, rest, are, more, is) =
       let b = x.current.body in
       let here = met b read.0 in
-      let same = same_hits v.seeker.strategy v.seeker.searcher b here.0 hits here.1 are in
+      let same = same_hits v.seeker.strategy v.seeker.searcher.asked b here.0 hits here.1 are in
       subst (λ l. AreCut e (held o) (held q) v.context l) (sym is) (cut_first e (held o) (held q) v.context (occurrences b hits) rest (subst (λ h. AreCut e (held o) (held q) v.context (occurrences b h)) same here.2))
   lines_cut (x ∷ xs) read v o e q (inr (inr (u, p, took, halted))) found (hits, rest, are, more, is) =
       let b = x.current.body in
       let here = took b read.0 in
-      let same = same_hits v.seeker.strategy v.seeker.searcher b here.0 hits here.1 are in
+      let same = same_hits v.seeker.strategy v.seeker.searcher.asked b here.0 hits here.1 are in
       let put : Appends (held o) (held p) (lines v.context (occurrences b hits)) = subst (λ h. Appends (held o) (held p) (lines v.context (occurrences b h))) same here.2.3 in
-      let still : AreFound u.seeker.strategy u.seeker.searcher (bodies xs) rest =
-      asked_so v.seeker.strategy u.seeker.strategy v.seeker.searcher u.seeker.searcher (bodies xs) rest (sym (ap (λ (y : SentenceSearcher). y.strategy) here.2.0)) (sym (ap (λ (y : SentenceSearcher). y.searcher) here.2.0)) more in
+      let still : AreFound u.seeker.strategy u.seeker.searcher.asked (bodies xs) rest =
+      asked_so v.seeker.strategy u.seeker.strategy v.seeker.searcher.asked u.seeker.searcher.asked (bodies xs) rest (sym (ap (λ (y : SentenceSearcher). y.strategy) here.2.0)) (sym (ap (λ (y : SentenceSearcher). y.searcher.asked) here.2.0)) more in
       let later : AreCut e (held p) (held q) v.context rest = subst (λ n. AreCut e (held p) (held q) n rest) here.2.1 (lines_cut xs read.1 u p e q halted rest still) in
       subst (λ l. AreCut e (held o) (held q) v.context l) (sym is) (cut_later e (held o) (held p) (held q) v.context (occurrences b hits) rest put later)
 

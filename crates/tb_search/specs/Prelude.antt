@@ -10,6 +10,7 @@ pub use Rattle.tb_conllu.specs.Words.{words_of}
 pub use Rattle.tb_rules.specs.Comments.{only, sent_ids}
 pub use Rattle.tb_match.specs.declared.strategy.Strategy.{Strategy as AnyStrategy}
 pub use Rattle.tb_query.specs.Search.{AreHitsIn, Asked}
+pub use Rattle.tb_prefilter.specs.Prefiltered.{HasNeedles}
 pub use Rattle.tb_core.specs.Events.{is_state}
 pub use Rattle.tb_core.specs.Machine.{Batch, batch_with, sent_id_of, Sentence}
 pub use Rattle.tb_core.specs.Rows.{pulled_from}

@@ -14,13 +14,13 @@ pub(crate) struct CountHits<'q> {
 
 impl<'q> BodyVisitor<u64> for CountHits<'q> {
     ghost use Rattle.std.specs.Prelude.{◌≡◌, ◌+◌, length};
-    ghost use Rattle.tb_search.specs.Prelude.{BlockText};
+    ghost use Rattle.tb_search.specs.Prelude.{BlockText, HasNeedles};
     ghost use Rattle.tb_search.specs.Visited.{IsFault};
     ghost use Rattle.tb_search.specs.Searched.{IsValidText, Meets};
 
-    ghost Takes = { λ v o body w p. Meets v.seeker.strategy v.seeker.searcher body (λ found. (w ≡ v) × (p ≡ o + length found)) };
+    ghost Takes = { λ v o body w p. Meets v.seeker.strategy v.seeker.searcher.asked body (λ found. (w ≡ v) × (p ≡ o + length found)) };
 
-    ghost Stops = { λ _ _ body e _. (b : BlockText) → IsValidText b body → IsFault e };
+    ghost Stops = { λ v _ body e _. HasNeedles v.seeker.searcher body × ((b : BlockText) → IsValidText b body → IsFault e) };
 
     ghost Refused = { λ _. ⊥ };
 

@@ -104,13 +104,13 @@ pub(crate) struct CountKeys<'q> {
 
 impl<'q> BodyVisitor<Freq> for CountKeys<'q> {
     ghost use Rattle.std.specs.Prelude.{◌≡◌, ◌++◌, ℕ, List};
-    ghost use Rattle.tb_search.specs.Prelude.{BlockText, IsTableOf};
+    ghost use Rattle.tb_search.specs.Prelude.{BlockText, HasNeedles, IsTableOf};
     ghost use Rattle.tb_search.specs.Visited.{IsFault};
     ghost use Rattle.tb_search.specs.Searched.{IsValidText, Meets, keys as keys_of};
 
-    ghost Takes = { λ v o body w p. Meets v.seeker.strategy v.seeker.searcher body (λ found. (w ≡ v) × ((keys : List (List ℕ)) → IsTableOf keys o → IsTableOf (keys ++ keys_of v.column found) p)) };
+    ghost Takes = { λ v o body w p. Meets v.seeker.strategy v.seeker.searcher.asked body (λ found. (w ≡ v) × ((keys : List (List ℕ)) → IsTableOf keys o → IsTableOf (keys ++ keys_of v.column found) p)) };
 
-    ghost Stops = { λ _ _ body e _. (b : BlockText) → IsValidText b body → IsFault e };
+    ghost Stops = { λ v _ body e _. HasNeedles v.seeker.searcher body × ((b : BlockText) → IsValidText b body → IsFault e) };
 
     ghost Refused = { λ _. ⊥ };
 

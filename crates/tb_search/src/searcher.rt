@@ -1,7 +1,7 @@
 //! Reads sentences back from their texts, and finds hits in them.
 
-ghost use Rattle.std.specs.Prelude.{◌≡◌, ◌≢◌, ◌<◌, ◌≤◌, ◌+◌, ◌^◌, false, All, Err, IfErr, IfOk, [], ◌∷◌, Some, None};
-ghost use Rattle.tb_search.specs.Prelude.{AreHitsIn, BlockText, IsFile, words_of};
+ghost use Rattle.std.specs.Prelude.{◌≡◌, ◌≢◌, ◌<◌, ◌≤◌, ◌+◌, ◌^◌, true, false, All, Err, IfErr, IfOk, [], ◌∷◌, Some, None};
+ghost use Rattle.tb_search.specs.Prelude.{AreHitsIn, BlockText, HasNeedles, IsFile, words_of};
 ghost use Rattle.tb_search.specs.Visited.{IsFault, IsStopFault, IsStopWant};
 
 use crate::stopped::Stopped;
@@ -66,7 +66,7 @@ impl<'q> SentenceSearcher<'q> {
         query: &'q Query,
         strategy: Strategy,
     ) -> Result<SentenceSearcher<'q>, Stopped>
-        ensures asked { IfOk result (λ s. (s.searcher ≡ query.now) × (s.strategy ≡ strategy)) }
+        ensures asked { IfOk result (λ s. (s.searcher.asked ≡ query.now) × (s.strategy ≡ strategy)) }
         ensures never_refuses { result ≢ Err Stopped.Output }
         ensures fault { IfErr result IsFault }
         ensures fails { IfErr result IsStopFault }
@@ -82,15 +82,16 @@ impl<'q> SentenceSearcher<'q> {
 
     /// Whether the text may be that of a sentence with a hit. If not, it need not be split into rows.
     pub(crate) fn may_hit(&self, body: &[u8]) -> bool
-        ensures { result ≡ false → (b : BlockText) → IsFile body.now (b ∷ [])
-            → AreHitsIn self.now.strategy self.now.searcher b [] }
+        ensures none { result ≡ false → (b : BlockText) → IsFile body.now (b ∷ [])
+            → AreHitsIn self.now.strategy self.now.searcher.asked b [] }
+        ensures all { result ≡ true → HasNeedles self.now.searcher body.now }
     {
         self.searcher.may_hit(body)
     }
 
     /// The hits of the query in a sentence.
     pub(crate) fn hits(&mut self, block: &BlockRef<'_>) -> Result<Vec<(u32, u32)>, Stopped>
-        ensures hits { IfOk result (λ v. AreHitsIn self.old.strategy self.old.searcher block.now v.items) }
+        ensures hits { IfOk result (λ v. AreHitsIn self.old.strategy self.old.searcher.asked block.now v.items) }
         ensures lie { IfOk result (λ v. All (λ h. (h.0 < h.1) × (h.1 ≤ words_of block.now)) v.items) }
         ensures never_refuses { result ≢ Err Stopped.Output }
         ensures long { 1000 < words_of block.now → result ≡ Err (Stopped.Read ReadError.Form) }

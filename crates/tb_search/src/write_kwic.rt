@@ -136,13 +136,13 @@ pub(crate) struct WriteKwic<'q> {
 
 impl<'q, W: Sink> BodyVisitor<W> for WriteKwic<'q> {
     ghost use Rattle.std.specs.Prelude.{◌≡◌, ◌⊎◌, ◌+◌, length};
-    ghost use Rattle.tb_search.specs.Prelude.{Appends, BlockText};
+    ghost use Rattle.tb_search.specs.Prelude.{Appends, BlockText, HasNeedles};
     ghost use Rattle.tb_search.specs.Visited.{HasReason, IsFault};
     ghost use Rattle.tb_search.specs.Searched.{AreCut, IsValidText, Meets, lines};
 
-    ghost Takes = { λ v o body w p. Meets v.seeker.strategy v.seeker.searcher body (λ found. (w.seeker ≡ v.seeker) × (w.context ≡ v.context) × (w.found ≡ v.found + length found) × Appends (W.held o) (W.held p) (lines v.context found)) };
+    ghost Takes = { λ v o body w p. Meets v.seeker.strategy v.seeker.searcher.asked body (λ found. (w.seeker ≡ v.seeker) × (w.context ≡ v.context) × (w.found ≡ v.found + length found) × Appends (W.held o) (W.held p) (lines v.context found)) };
 
-    ghost Stops = { λ v o body e p. ((b : BlockText) → IsValidText b body → IsFault e) × ((p ≡ o) ⊎ Meets v.seeker.strategy v.seeker.searcher body (λ found. AreCut e (W.held o) (W.held p) v.context found)) };
+    ghost Stops = { λ v o body e p. HasNeedles v.seeker.searcher body × ((b : BlockText) → IsValidText b body → IsFault e) × ((p ≡ o) ⊎ Meets v.seeker.strategy v.seeker.searcher.asked body (λ found. AreCut e (W.held o) (W.held p) v.context found)) };
 
     ghost Refused = { λ p. HasReason (W.IsRefusal p) };
 

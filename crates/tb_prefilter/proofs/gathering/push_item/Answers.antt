@@ -4,8 +4,8 @@ use Rattle.tb_prefilter.specs.Needed.{IsNeeded, AreNeeded}
 use Rattle.tb_prefilter.proofs.Gathered.{item_needed}
 use Rattle.tb_prefilter.proofs.gathering.push_item.Goals as goal
 
-pub returns : goal.returns
-returns c = λ q t entails part old.
+pub returns-clause-gathered : goal.returns-clause-gathered
+returns-clause-gathered c = λ q t entails part old.
     let l = c.args.needle.now in
     let text = c.as_bytes.ensures.value ∙ c.in-Some.ensures.text in
     let bytes = c.in_ok-extend_from_slice.ensures.items ∙ ap (λ xs. xs ++ c.as_bytes.result.now) c.new-bytes.ensures.items ∙ text in

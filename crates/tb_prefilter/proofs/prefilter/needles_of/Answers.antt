@@ -17,6 +17,6 @@ loop-number-preserved c =
           let needed : needs q.pat e ≡ true = ap (λ (p : Tree). needs p e) (sym c.pat.ensures.pat) ∙ sym c.is_needed.ensures ∙ w.if-is_needed.true in
           let there = test_of c.exprs-expr-items.result.now q.tests e x c.exprs-expr-items.ensures.tests c.loop-number-test.true c.expr-item.is in
           subst (λ v. AreNeeded q v.items) (sym w.needles-is)
-          (w.in_ok-gather.ensures q (test x) (λ r h. h) (λ n required. is_needed_by q e (test x) n there needed required) c.loop-number.invariant)
+          (w.in_ok-gather.ensures.gathered q (test x) (λ r h. h) (λ n required. is_needed_by q e (test x) n there needed required) c.loop-number.invariant)
       | else-is_needed w ↦ subst (λ v. AreNeeded q v.items) (sym w.needles-is) c.loop-number.invariant
     ]

@@ -1,6 +1,7 @@
 use Rattle.std.proofs.Common.{arith}
 use Rattle.std.proofs.lemmas.Result.{err_from_is_err_and}
 use Rattle.tb_conllu.specs.Text.{BlockText}
+use Rattle.tb_prefilter.specs.Prefiltered.{HasNeedles}
 use Rattle.tb_search.specs.Released.{released}
 use Rattle.tb_search.specs.Searched.{searched, IsValidText, Meets}
 use Rattle.tb_search.specs.Visited.{IsFault}
@@ -27,7 +28,7 @@ returns-in_err-visit_released-clause-fault g c clean =
     let reported = err_from_is_err_and c.from_residual-in_err-visit_released.result c.from_residual-in_err-visit_released.ensures.1 in
     err_is _ _ _ reported.0 reported.1 reported.2 (λ s desk.
     let read = reads s (c.revisions_read_back.ensures s desk.reachable.reached) in
-    sought_fault (λ v o t w q. Meets v.seeker.strategy v.seeker.searcher t (λ found. numbers v o found w q)) (λ v o t e q. (b : BlockText) → IsValidText b t → IsFault e) (λ v o t e q stopped. stopped) (released s) read (record { seeker = c.in_ok-seeker.seeker }) 0 _ c.visit_released.new.filled (c.in_err-visit_released.ensures.halted clean s desk))
+    sought_fault (λ v o t w q. Meets v.seeker.strategy v.seeker.searcher.asked t (λ found. numbers v o found w q)) (λ v o t e q. HasNeedles v.seeker.searcher t × ((b : BlockText) → IsValidText b t → IsFault e)) (λ v o t e q stopped. stopped.1) (released s) read (record { seeker = c.in_ok-seeker.seeker }) 0 _ c.visit_released.new.filled (c.in_err-visit_released.ensures.halted clean s desk))
 
 pub returns-in_err-seeker-clause-fails : goal.returns-in_err-seeker-clause-fails
 returns-in_err-seeker-clause-fails g c clean unlimited =

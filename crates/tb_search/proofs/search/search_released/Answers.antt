@@ -55,7 +55,7 @@ returns-in_err-put_total-clause-broken g c clean =
     let read = reads s (c.revisions_read_back.ensures s desk.reachable.reached) in
     let all = lines_found held (released s) read (record { seeker = c.in_ok-seeker.seeker; context = n; found = 0; line = c.new-line.result }) c.args.out.now c.visit_released.new.visitor c.visit_released.new.filled (c.in_ok-visit_released.ensures.taken clean s desk) in
     let mine = asked_so _ _ _ _ (searched s) found (sym asked.1) (sym asked.0) are in
-    let same : all.0 ≡ found = one_found c.in_ok-seeker.seeker.strategy c.in_ok-seeker.seeker.searcher (searched s) all.0 found all.1 mine in
+    let same : all.0 ≡ found = one_found c.in_ok-seeker.seeker.strategy c.in_ok-seeker.seeker.searcher.asked (searched s) all.0 found all.1 mine in
     total_cut _ (held c.args.out.now) (held c.visit_released.new.filled) (held c.put_total.new.out) n found c.visit_released.new.visitor.found (let count : c.visit_released.new.visitor.found ≡ length found = omega (arith, all.2.2, ap length same) in count)
     (subst (λ l. Appends (held c.args.out.now) (held c.visit_released.new.filled) (lines n l)) same all.2.3) refused.0 refused.1)
 
@@ -69,7 +69,7 @@ returns-in_err-visit_released-clause-fault g c clean =
     let reported = err_from_is_err_and c.from_residual-in_err-visit_released.result c.from_residual-in_err-visit_released.ensures.1 in
     err_is _ _ _ reported.0 reported.1 reported.2 (λ s desk.
     let read = reads s (c.revisions_read_back.ensures s desk.reachable.reached) in
-    sought_fault (lists g.W.Sink.held) (breaks_off g.W.Sink.held) (λ v o t e q stopped. stopped.0) (released s) read (record { seeker = c.in_ok-seeker.seeker; context = c.args.context; found = 0; line = c.new-line.result }) c.args.out.now _ c.visit_released.new.filled (c.in_err-visit_released.ensures.halted clean s desk))
+    sought_fault (lists g.W.Sink.held) (breaks_off g.W.Sink.held) (λ v o t e q stopped. stopped.1) (released s) read (record { seeker = c.in_ok-seeker.seeker; context = c.args.context; found = 0; line = c.new-line.result }) c.args.out.now _ c.visit_released.new.filled (c.in_err-visit_released.ensures.halted clean s desk))
 
 pub returns-in_err-put_total-clause-fault : goal.returns-in_err-put_total-clause-fault
 returns-in_err-put_total-clause-fault g c clean =

@@ -3,4 +3,4 @@ use Rattle.tb_search.proofs.Found.{hits_lie}
 use Rattle.tb_search.proofs.searcher.SentenceSearcher.hits.Goals as goal
 
 pub returns-clause-lie : goal.returns-clause-lie
-returns-clause-lie c = hits_lie c.args.self.now.strategy c.args.self.now.searcher c.args.block.now _ (search rules)
+returns-clause-lie c = hits_lie c.args.self.now.strategy c.args.self.now.searcher.asked c.args.block.now _ (search rules)

@@ -1,4 +1,4 @@
 use Rattle.tb_search.proofs.searcher.SentenceSearcher.may_hit.Goals as goal
 
-pub returns : goal.returns
-returns c = λ none. c.may_hit.ensures none c.args.self.now.strategy
+pub returns-clause-none : goal.returns-clause-none
+returns-clause-none c = λ none. c.may_hit.ensures.none none c.args.self.now.strategy
