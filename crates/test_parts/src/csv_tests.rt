@@ -1,8 +1,6 @@
 //! Frequency tables, totals and moves as CSV.
 
-use crate::cases::cut;
-use crate::reading::number;
-use crate::rows::move_reported;
+use crate::rows::rows_of;
 use crate::telling::{assert_bytes, assert_same};
 use std::alloc::Global;
 use std::process::Abort;
@@ -78,20 +76,6 @@ const MOVES: &str =
 const MOVES_WRITTEN: &str =
     "no,kind,batch,sentence,from,to,sentences,words_out,words_in,who\n1,import,1,0,none,open,2,0,4,ann\n2,pull,1,2,open,withdrawn,1,1,1,dan\n3,assign,1,0,open,assigned,1,3,3,ann\n4,restore,1,2,withdrawn,assigned,1,1,1,dan\n5,pull,1,2,assigned,withdrawn,1,1,1,dan\n6,withdraw,1,0,assigned,withdrawn,1,3,3,cem\n7,reopen,1,0,withdrawn,open,1,3,3,ben\n8,pull,1,1,open,withdrawn,1,3,3,dan\n9,assign,1,0,open,assigned,0,0,0,ben\n10,unassign,1,0,assigned,open,0,0,0,ben\n11,correct,2,3,assigned,assigned,1,3,4,ann\n12,submit,2,0,assigned,submitted,1,4,4,ann\n13,send-back,2,0,submitted,assigned,1,4,4,ben\n14,adjudicate,2,0,submitted,adjudicated,1,4,4,ben\n15,release,2,0,adjudicated,released,1,4,4,cem\n18446744073709551615,submit,1,0,assigned,submitted,1,18446744073709551615,0,\"a,b\"\n18446744073709551615,submit,1,0,assigned,submitted,1,18446744073709551615,0,\"say \"\"x\"\"\"\n18446744073709551615,submit,1,0,assigned,submitted,1,18446744073709551615,0,\"line\nfeed\"\n18446744073709551615,submit,1,0,assigned,submitted,1,18446744073709551615,0,книга\n18446744073709551615,submit,1,0,assigned,submitted,1,18446744073709551615,0,北京\n18446744073709551615,submit,1,0,assigned,submitted,1,18446744073709551615,0,שלום\n18446744073709551615,submit,1,0,assigned,submitted,1,18446744073709551615,0,=1+1\n18446744073709551615,submit,1,0,assigned,submitted,1,18446744073709551615,0,-\n18446744073709551615,submit,1,0,assigned,submitted,1,18446744073709551615,0, lead\n18446744073709551615,submit,1,0,assigned,submitted,1,18446744073709551615,0,\ttab\n18446744073709551615,submit,1,0,assigned,submitted,1,18446744073709551615,0,\"\"\"\"\n18446744073709551615,submit,1,0,assigned,submitted,1,18446744073709551615,0,\n18446744073709551615,submit,1,0,assigned,submitted,1,18446744073709551615,0,\"é, ü\"\n";
 
-/// The move of a row `NUMBER MOVE`.
-fn move_numbered(rt: &impl Abort, alloc: Global, row: &str) -> Move {
-    let (no, rest) = cut(rt, row, " ");
-    move_reported(rt, alloc, number(rt, no), rest)
-}
-
-fn moves_numbered(rt: &impl Abort, alloc: Global) -> Vec<Move> {
-    let mut moves = Vec::new(alloc);
-    for row in MOVES.split('|') {
-        moves.push(move_numbered(rt, alloc, row)).expect(rt, row);
-    }
-    moves
-}
-
 fn assert_totals(rt: &impl Abort, alloc: Global) {
     let totals = Totals {
         sentences: [0, 0, 0, 0, 0, 2],
@@ -111,6 +95,6 @@ fn assert_moves(rt: &impl Abort, alloc: Global, moves: &[Move]) {
 #[test]
 fn totals_and_moves(rt: HostRuntime) {
     assert_totals(&rt, rt.alloc());
-    let moves = moves_numbered(&rt, rt.alloc());
+    let moves: Vec<Move> = rows_of(&rt, rt.alloc(), MOVES, "|");
     assert_moves(&rt, rt.alloc(), &moves);
 }

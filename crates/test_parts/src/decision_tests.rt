@@ -3,7 +3,7 @@
 
 use crate::cases::{Question, assert_alternatives, cut};
 use crate::reading::{event_named, number, state_named, word_at};
-use crate::telling::{push_value, put, said, shown};
+use crate::telling::{push_value, put, said, shown, yes_or_no};
 use std::alloc::Global;
 use std::fmt::Debug;
 use std::process::Abort;
@@ -22,10 +22,6 @@ fn done_or(rt: &impl Abort, alloc: Global, decision: Result<(), Refusal>) -> Str
         Ok(()) => said(rt, alloc, "done"),
         Err(refusal) => shown(rt, alloc, &refusal),
     }
-}
-
-fn name_decided(rt: &impl Abort, alloc: Global, name: &str) -> String {
-    said(rt, alloc, if good_name(name) { "yes" } else { "no" })
 }
 
 /// `STATE WORKER USER BASE CURRENT`.
@@ -75,7 +71,7 @@ impl Question for Decision {
     fn answer(&self, rt: &impl Abort, alloc: Global, asked: &str) -> String {
         let (verb, rest) = cut(rt, asked, " ");
         match verb {
-            "name" => name_decided(rt, alloc, rest),
+            "name" => yes_or_no(rt, alloc, good_name(rest)),
             "correct" => correction_decided(rt, alloc, rest),
             "pull" => pull_decided(rt, alloc, rest),
             "restore" => restore_decided(rt, alloc, rest),

@@ -1,7 +1,7 @@
 //! What a field may hold. The expected answers were worked out by hand from the guidelines.
 
 use crate::cases::{Question, assert_answers};
-use crate::telling::said;
+use crate::telling::{said, yes_or_no};
 use std::alloc::Global;
 use std::process::Abort;
 use tb_chars::{has_white_space, is_solid_text};
@@ -12,6 +12,8 @@ enum FieldQuestion {
     Features,
     Tag,
     Relation,
+    /// The relation without its subtype.
+    RelationBase,
     Blank,
     WhiteSpace,
     Solid,
@@ -19,24 +21,16 @@ enum FieldQuestion {
 
 impl Question for FieldQuestion {
     fn answer(&self, rt: &impl Abort, alloc: Global, field: &str) -> String {
-        let yes = match self {
+        let holds = match self {
             FieldQuestion::Features => is_feature_list(alloc, field).expect(rt, "error"),
             FieldQuestion::Tag => is_tag(field),
             FieldQuestion::Relation => is_relation_text(field),
+            FieldQuestion::RelationBase => return said(rt, alloc, relation_base(field)),
             FieldQuestion::Blank => is_blank_field(field),
             FieldQuestion::WhiteSpace => has_white_space(field),
             FieldQuestion::Solid => is_solid_text(field),
         };
-        said(rt, alloc, if yes { "yes" } else { "no" })
-    }
-}
-
-/// The relation without its subtype.
-struct RelationBase;
-
-impl Question for RelationBase {
-    fn answer(&self, rt: &impl Abort, alloc: Global, field: &str) -> String {
-        said(rt, alloc, relation_base(field))
+        yes_or_no(rt, alloc, holds)
     }
 }
 
@@ -117,7 +111,7 @@ fn tells_what_a_field_may_hold(rt: HostRuntime) {
     assert_answers(&rt, alloc, &FieldQuestion::Features, FORTY_VALUES, 3);
     assert_answers(&rt, alloc, &FieldQuestion::Tag, TAGS, 8);
     assert_answers(&rt, alloc, &FieldQuestion::Relation, RELATIONS, 14);
-    assert_answers(&rt, alloc, &RelationBase, RELATION_BASES, 2);
+    assert_answers(&rt, alloc, &FieldQuestion::RelationBase, RELATION_BASES, 2);
     assert_answers(&rt, alloc, &FieldQuestion::Blank, BLANKS, 2);
     assert_answers(&rt, alloc, &FieldQuestion::WhiteSpace, WHITE_SPACES, 2);
     assert_answers(&rt, alloc, &FieldQuestion::Solid, SOLIDS, 3);

@@ -41,12 +41,48 @@ pub(crate) const COFFEE_AND_TEA: &str = "\
     6\ttea\ttea\tNOUN\t_\t_\t5\torphan\t5.1:obj\t_\n\
     \n";
 
+/// Nine words: noun phrases.
+const BOOK: &str = "\
+    # sent_id = s6\n\
+    # text = the old book on the table in the room\n\
+    1\tthe\tthe\tDET\t_\t_\t3\tdet\t_\t_\n\
+    2\told\told\tADJ\t_\t_\t3\tamod\t_\t_\n\
+    3\tbook\tbook\tNOUN\t_\t_\t0\troot\t_\t_\n\
+    4\ton\ton\tADP\t_\t_\t6\tcase\t_\t_\n\
+    5\tthe\tthe\tDET\t_\t_\t6\tdet\t_\t_\n\
+    6\ttable\ttable\tNOUN\t_\t_\t3\tnmod\t_\t_\n\
+    7\tin\tin\tADP\t_\t_\t9\tcase\t_\t_\n\
+    8\tthe\tthe\tDET\t_\t_\t9\tdet\t_\t_\n\
+    9\troom\troom\tNOUN\t_\t_\t6\tnmod\t_\t_\n\
+    \n";
+
+/// One word.
+const GO: &str = "\
+    # sent_id = s7\n\
+    # text = Go\n\
+    1\tGo\tgo\tVERB\t_\t_\t0\troot\t_\t_\n\
+    \n";
+
+/// Five words, one with a lemma that CSV quotes.
+const LETTERS: &str = "\
+    # sent_id = s8\n\
+    # text = b b a a z\n\
+    1\tb\tb\tX\t_\t_\t0\troot\t_\t_\n\
+    2\tb\tb\tX\t_\t_\t1\tdep\t_\t_\n\
+    3\ta\ta\tX\t_\t_\t1\tdep\t_\t_\n\
+    4\ta\ta\tX\t_\t_\t1\tdep\t_\t_\n\
+    5\tz\tc,\"d\"\tX\t_\t_\t1\tdep\t_\t_\n\
+    \n";
+
 /// The text with this name; empty for any other name.
 fn text_named(name: &str) -> &'static str {
     match name {
         "D" => DOGS_BARK,
         "V" => VAMONOS,
         "C" => COFFEE_AND_TEA,
+        "book" => BOOK,
+        "go" => GO,
+        "letters" => LETTERS,
         "arabic" => ARABIC,
         "chinese" => CHINESE,
         "english" => ENGLISH,

@@ -1,6 +1,7 @@
 //! Keyword lines and counts of hits.
 
 use crate::csv_tests::{assert_table, count_key};
+use crate::files::file_of;
 use crate::reading::{number, word_at};
 use crate::telling::assert_bytes;
 use std::alloc::Global;
@@ -9,49 +10,6 @@ use tb_conllu::{Block, read, words};
 use tb_report::{Freq, key, kwic, word_key};
 use tb_rules::check;
 use tb_syntax::Attr;
-
-const BOOK: &str = "\
-    # sent_id = s6\n\
-    # text = the old book on the table in the room\n\
-    1\tthe\tthe\tDET\t_\t_\t3\tdet\t_\t_\n\
-    2\told\told\tADJ\t_\t_\t3\tamod\t_\t_\n\
-    3\tbook\tbook\tNOUN\t_\t_\t0\troot\t_\t_\n\
-    4\ton\ton\tADP\t_\t_\t6\tcase\t_\t_\n\
-    5\tthe\tthe\tDET\t_\t_\t6\tdet\t_\t_\n\
-    6\ttable\ttable\tNOUN\t_\t_\t3\tnmod\t_\t_\n\
-    7\tin\tin\tADP\t_\t_\t9\tcase\t_\t_\n\
-    8\tthe\tthe\tDET\t_\t_\t9\tdet\t_\t_\n\
-    9\troom\troom\tNOUN\t_\t_\t6\tnmod\t_\t_\n\
-    \n";
-
-const GO: &str = "\
-    # sent_id = s7\n\
-    # text = Go\n\
-    1\tGo\tgo\tVERB\t_\t_\t0\troot\t_\t_\n\
-    \n";
-
-/// A sentence with a range of words, whose row is no word.
-const SEA: &str = "\
-    # sent_id = s2\n\
-    # text = vámonos al mar\n\
-    1-2\tvámonos\t_\t_\t_\t_\t_\t_\t_\t_\n\
-    1\tvamos\tir\tVERB\t_\t_\t0\troot\t_\t_\n\
-    2\tnos\tnosotros\tPRON\t_\t_\t1\tobj\t_\t_\n\
-    3-4\tal\t_\t_\t_\t_\t_\t_\t_\t_\n\
-    3\ta\ta\tADP\t_\t_\t5\tcase\t_\t_\n\
-    4\tel\tel\tDET\t_\t_\t5\tdet\t_\t_\n\
-    5\tmar\tmar\tNOUN\t_\t_\t1\tobl\t_\t_\n\
-    \n";
-
-const LEMMAS: &str = "\
-    # sent_id = s8\n\
-    # text = b b a a z\n\
-    1\tb\tb\tX\t_\t_\t0\troot\t_\t_\n\
-    2\tb\tb\tX\t_\t_\t1\tdep\t_\t_\n\
-    3\ta\ta\tX\t_\t_\t1\tdep\t_\t_\n\
-    4\ta\ta\tX\t_\t_\t1\tdep\t_\t_\n\
-    5\tz\tc,\"d\"\tX\t_\t_\t1\tdep\t_\t_\n\
-    \n";
 
 /// Writes the keyword line of a hit.
 fn put_line(
@@ -96,14 +54,14 @@ fn report(
     count_key(rt, freq, lemmas(rt, alloc, block, (start, end)).as_str());
 }
 
-/// Hits as `TEXT START END CONTEXT`.
+/// Hits as `TEXT START END CONTEXT`. The words of V are in ranges, whose rows are no words.
 const HITS: &str = "\
     book 2 3 2\n\
     book 5 6 2\n\
     book 8 9 2\n\
     book 0 9 2\n\
     go 0 1 0\n\
-    sea 2 4 20\n\
+    V 2 4 20\n\
     letters 0 1 1\n\
     letters 1 2 1\n\
     letters 2 3 1\n\
@@ -126,19 +84,9 @@ const LINES: &str = "\
 const TABLE: &str =
     "key,count\na,2\nb,2\na el,1\nbook,1\n\"c,\"\"d\"\"\",1\ngo,1\nroom,1\ntable,1\nthe old book on the table in the room,1\n";
 
-/// The sentence with this name.
-fn sentence_named(name: &str) -> &'static str {
-    match name {
-        "book" => BOOK,
-        "go" => GO,
-        "sea" => SEA,
-        _ => LEMMAS,
-    }
-}
-
 fn report_in(rt: &impl Abort, alloc: Global, asked: &str, lines: &mut Vec<u8>, freq: &mut Freq) {
-    let text = sentence_named(word_at(asked, 0));
-    let blocks = read(alloc, text.as_bytes()).expect(rt, asked);
+    let file = file_of(rt, alloc, word_at(asked, 0));
+    let blocks = read(alloc, file.as_bytes()).expect(rt, asked);
     let block = blocks.first().expect(rt, asked);
     report(rt, alloc, block, asked, lines, freq);
 }

@@ -15,75 +15,81 @@ const LIST: &str =
 const LIST_AND_MORE: &str =
     "line,code,sentence,rule,row,id,column,value,message\n3,2,,,,,,,\"it has 4 fields, not 10\"\n18446744073709551615,10,,,,,,,\"the last line\nhas no end\"\n7,,1,4,2,1,UPOS,\"NN,\"\"x\"\"\",no part of speech\n12,,4194304,12,0,,,,\"a tree, with \"\"words\"\"\"\n9,,2,8,18446744073709551615,2-3,MISC,книга 北京 ß\t=1,\"é, ü\"\n,,,,,,,,there are more faults; --most N lists as many as N\n";
 
-fn faulty_line(rt: &impl Abort, alloc: Global, line: usize, code: u8, message: &str) -> FaultRow {
-    FaultRow {
-        fault: Fault::Line { line, code },
-        // (the list has the line of the fault)
-        line: 1,
-        id: String::new(alloc),
-        column: "",
-        value: String::new(alloc),
-        message: said(rt, alloc, message),
-    }
-}
-
-fn part_of_speech(rt: &impl Abort, alloc: Global) -> FaultRow {
-    FaultRow {
-        fault: Fault::Rule {
+/// The faults: each with its line, its column, and the ID, the value and the message. The line of a faulty line is in
+/// the fault.
+const FAULTS: [(Fault, usize, &str, [&str; 3]); 5] = [
+    (
+        Fault::Line { line: 3, code: 2 },
+        1,
+        "",
+        ["", "", "it has 4 fields, not 10"],
+    ),
+    (
+        Fault::Line {
+            line: usize::MAX,
+            code: 10,
+        },
+        1,
+        "",
+        ["", "", "the last line\nhas no end"],
+    ),
+    (
+        Fault::Rule {
             sentence: 1,
             rule: 4,
             row: 2,
         },
-        line: 7,
-        id: said(rt, alloc, "1"),
-        column: "UPOS",
-        value: said(rt, alloc, "NN,\"x\""),
-        message: said(rt, alloc, "no part of speech"),
-    }
-}
-
-fn tree(rt: &impl Abort, alloc: Global) -> FaultRow {
-    FaultRow {
-        fault: Fault::Rule {
+        7,
+        "UPOS",
+        ["1", "NN,\"x\"", "no part of speech"],
+    ),
+    (
+        Fault::Rule {
             sentence: 4_194_304,
             rule: 12,
             row: 0,
         },
-        line: 12,
-        id: String::new(alloc),
-        column: "",
-        value: String::new(alloc),
-        message: said(rt, alloc, "a tree, with \"words\""),
-    }
-}
-
-fn scripts(rt: &impl Abort, alloc: Global) -> FaultRow {
-    FaultRow {
-        fault: Fault::Rule {
+        12,
+        "",
+        ["", "", "a tree, with \"words\""],
+    ),
+    (
+        Fault::Rule {
             sentence: 2,
             rule: 8,
             row: usize::MAX,
         },
-        line: 9,
-        id: said(rt, alloc, "2-3"),
-        column: "MISC",
-        value: said(rt, alloc, "книга 北京 ß\t=1"),
-        message: said(rt, alloc, "é, ü"),
+        9,
+        "MISC",
+        ["2-3", "книга 北京 ß\t=1", "é, ü"],
+    ),
+];
+
+fn row_of(
+    rt: &impl Abort,
+    alloc: Global,
+    fault: Fault,
+    line: usize,
+    column: &'static str,
+    texts: [&str; 3],
+) -> FaultRow {
+    FaultRow {
+        fault,
+        line,
+        id: said(rt, alloc, texts[0]),
+        column,
+        value: said(rt, alloc, texts[1]),
+        message: said(rt, alloc, texts[2]),
     }
 }
 
-fn push_fault(rt: &impl Abort, listed: &mut Vec<FaultRow>, fault: FaultRow) {
-    listed.push(fault).expect(rt, "a fault");
-}
-
-fn push_faults(rt: &impl Abort, alloc: Global, listed: &mut Vec<FaultRow>) {
-    let few = faulty_line(rt, alloc, 3, 2, "it has 4 fields, not 10");
-    push_fault(rt, listed, few);
-    let last = faulty_line(rt, alloc, usize::MAX, 10, "the last line\nhas no end");
-    push_fault(rt, listed, last);
-    push_fault(rt, listed, part_of_speech(rt, alloc));
-    push_fault(rt, listed, tree(rt, alloc));
-    push_fault(rt, listed, scripts(rt, alloc));
+fn rows(rt: &impl Abort, alloc: Global) -> Vec<FaultRow> {
+    let mut rows = Vec::new(alloc);
+    for (fault, line, column, texts) in FAULTS {
+        let row = row_of(rt, alloc, fault, line, column, texts);
+        rows.push(row).expect(rt, "a fault");
+    }
+    rows
 }
 
 fn assert_list(rt: &impl Abort, alloc: Global, listed: &[FaultRow], more: bool, wanted: &str) {
@@ -93,8 +99,7 @@ fn assert_list(rt: &impl Abort, alloc: Global, listed: &[FaultRow], more: bool, 
 
 #[test]
 fn a_list_of_faults(rt: HostRuntime) {
-    let mut listed = Vec::new(rt.alloc());
-    push_faults(&rt, rt.alloc(), &mut listed);
+    let listed = rows(&rt, rt.alloc());
     assert_list(&rt, rt.alloc(), &listed, false, LIST);
     assert_list(&rt, rt.alloc(), &listed, true, LIST_AND_MORE);
 }

@@ -1,7 +1,7 @@
 //! The values that a literal fits, as text.
 
 use crate::cases::cut;
-use crate::telling::said;
+use crate::telling::yes_or_no;
 use std::alloc::Global;
 use std::process::Abort;
 use tb_literal::{LiteralCache, LiteralMatcher, PatternFault};
@@ -25,19 +25,15 @@ pub(crate) fn fits(tester: &mut LiteralCache<'_>, value: &str, by_items: bool) -
     }
 }
 
-fn word_for(
+fn literal_fits(
     rt: &impl Abort,
     alloc: Global,
     needle: &LiteralMatcher,
     value: &str,
     by_items: bool,
-) -> &'static str {
+) -> bool {
     let mut tester = needle.tester(alloc).expect(rt, "error");
-    if fits(&mut tester, value, by_items) {
-        "yes"
-    } else {
-        "no"
-    }
+    fits(&mut tester, value, by_items)
 }
 
 /// Whether the literal before `at` fits the value after it, or some item of it.
@@ -50,5 +46,6 @@ pub(crate) fn fit(
 ) -> String {
     let (literal, value) = cut(rt, text, " at ");
     let needle = needle(alloc, literal, flag).expect(rt, "error");
-    said(rt, alloc, word_for(rt, alloc, &needle, value, by_items))
+    let holds = literal_fits(rt, alloc, &needle, value, by_items);
+    yes_or_no(rt, alloc, holds)
 }

@@ -1,6 +1,6 @@
 //! Tables, unions, weights and limits of patterns.
 
-use crate::patterns::pattern;
+use crate::patterns::{mark, pattern};
 use crate::telling::{assert_holds, assert_same};
 use std::alloc::Global;
 use std::process::Abort;
@@ -19,37 +19,32 @@ pub(crate) fn search(
     find(alloc, pat, truth, strategy).expect(rt, "error")
 }
 
-/// A machine word of the first row, and one of the second.
-fn word_to(k: u64) -> u64 {
-    0x0123_4567_89ab_cdef ^ k
+/// The row that a union changes, the one that it adds, and their union.
+#[derive(Clone, Copy)]
+enum Row {
+    To,
+    From,
+    Union,
 }
 
-fn word_from(k: u64) -> u64 {
-    0xf0f0_f0f0_0000_ffff ^ (k << 32)
-}
-
-fn row_to(rt: &impl Abort, alloc: Global, length: u64) -> Vec<u64> {
-    let mut row = Vec::new(alloc);
-    for k in 0..length {
-        row.push(word_to(k)).expect(rt, "error");
+/// The machine word of a row at this place.
+fn word_of(row: Row, k: u64) -> u64 {
+    let to = 0x0123_4567_89ab_cdef ^ k;
+    let from = 0xf0f0_f0f0_0000_ffff ^ (k << 32);
+    match row {
+        Row::To => to,
+        Row::From => from,
+        Row::Union => to | from,
     }
-    row
 }
 
-fn row_from(rt: &impl Abort, alloc: Global, length: u64) -> Vec<u64> {
-    let mut row = Vec::new(alloc);
+/// A row of so many machine words.
+fn words_of(rt: &impl Abort, alloc: Global, row: Row, length: u64) -> Vec<u64> {
+    let mut words = Vec::new(alloc);
     for k in 0..length {
-        row.push(word_from(k)).expect(rt, "error");
+        words.push(word_of(row, k)).expect(rt, "error");
     }
-    row
-}
-
-fn row_wanted(rt: &impl Abort, alloc: Global, length: u64) -> Vec<u64> {
-    let mut row = Vec::new(alloc);
-    for k in 0..length {
-        row.push(word_to(k) | word_from(k)).expect(rt, "error");
-    }
-    row
+    words
 }
 
 fn assert_united(rt: &impl Abort, to: &mut [u64], from: &[u64], wanted: &[u64]) {
@@ -62,9 +57,9 @@ fn assert_united(rt: &impl Abort, to: &mut [u64], from: &[u64], wanted: &[u64]) 
 
 /// Asserts the union of rows of so many machine words.
 fn assert_length(rt: &impl Abort, alloc: Global, length: u64) {
-    let mut to = row_to(rt, alloc, length);
-    let from = row_from(rt, alloc, length);
-    let wanted = row_wanted(rt, alloc, length);
+    let mut to = words_of(rt, alloc, Row::To, length);
+    let from = words_of(rt, alloc, Row::From, length);
+    let wanted = words_of(rt, alloc, Row::Union, length);
     assert_united(rt, &mut to, &from, &wanted);
 }
 
@@ -86,15 +81,10 @@ fn assert_mark(rt: &impl Abort, truth: &Truth, expr: u16, word: usize, wanted: b
     assert_same(rt, &truth.get(expr, word), &wanted, "a mark");
 }
 
-fn mark(rt: &impl Abort, truth: &mut Truth, expr: u16, word: usize) {
-    assert!(rt; expr < truth.exprs() && 1 <= word && word <= truth.words());
-    truth.set(expr, word);
-}
-
 fn assert_marks(rt: &impl Abort, truth: &mut Truth) {
     assert_size(rt, truth);
     assert_mark(rt, truth, 1, 2, false);
-    mark(rt, truth, 1, 2);
+    mark(truth, 1, 2);
     assert_size(rt, truth);
     assert_mark(rt, truth, 0, 1, false);
     assert_mark(rt, truth, 0, 2, false);

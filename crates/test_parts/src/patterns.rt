@@ -109,7 +109,7 @@ fn holds(letter: char, word: usize, words: usize) -> bool {
 }
 
 /// Makes the expression hold of the word, where the table has both.
-fn mark(truth: &mut Truth, expr: u16, word: usize) {
+pub(crate) fn mark(truth: &mut Truth, expr: u16, word: usize) {
     if expr < truth.exprs() && 1 <= word && word <= truth.words() {
         truth.set(expr, word);
     }

@@ -39,18 +39,14 @@ struct Skipped;
 impl Question for Skipped {
     fn answer(&self, rt: &impl Abort, alloc: Global, asked: &str) -> String {
         let query = query_of(rt, alloc, asked);
-        let word = word_for(rt, alloc, &query);
-        said(rt, alloc, word)
+        let searched = is_searched(rt, alloc, &query);
+        said(rt, alloc, if searched { "searched" } else { "passed over" })
     }
 }
 
-fn word_for(rt: &impl Abort, alloc: Global, query: &Query) -> &'static str {
+fn is_searched(rt: &impl Abort, alloc: Global, query: &Query) -> bool {
     let searcher = PrefilteredSearcher::new(alloc, query).expect(rt, "error");
-    if searcher.may_hit(BOAT.as_bytes()) {
-        "searched"
-    } else {
-        "passed over"
-    }
+    searcher.may_hit(BOAT.as_bytes())
 }
 
 #[test]

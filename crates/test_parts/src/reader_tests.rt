@@ -1,24 +1,15 @@
 //! Requests that are cut short, and readers that give one byte a read and then fail.
 
 use crate::broken::BrokenReader;
+use crate::files::DOGS_BARK;
 use crate::requests::reported_by;
-use crate::telling::{assert_same, assert_text};
+use crate::telling::{assert_same, assert_text, joined};
 use std::alloc::Global;
 use std::process::Abort;
 
-/// An import of 225 bytes, of which 75 are its head.
-const REQUEST: &str = "\
-    POST /batches/b1 HTTP/1.1\r\n\
-    Host: x\r\n\
-    Desk-User: ann\r\n\
-    Content-Length: 150\r\n\
-    \r\n\
-    # sent_id = s1\n\
-    # text = Dogs bark.\n\
-    1\tDogs\tdog\tNOUN\t_\tNumber=Plur\t2\tnsubj\t_\t_\n\
-    2\tbark\tbark\tVERB\t_\t_\t0\troot\t_\tSpaceAfter=No\n\
-    3\t.\t.\tPUNCT\t_\t_\t2\tpunct\t_\t_\n\
-    \n";
+/// The head of an import of the file D: 75 bytes, and 225 with the file.
+const HEAD: &str =
+    "POST /batches/b1 HTTP/1.1\r\nHost: x\r\nDesk-User: ann\r\nContent-Length: 150\r\n\r\n";
 
 const TAKEN: &str = "Import { name: \"b1\" } by \"ann\" with 150";
 
@@ -48,10 +39,16 @@ fn assert_part(rt: &impl Abort, alloc: Global, part: &str) {
     assert_broken_off(rt, alloc, part);
 }
 
+/// Asserts what each part of a request asks, from none of it to the whole.
+fn assert_parts(rt: &impl Abort, alloc: Global, request: &str) {
+    assert_same(rt, &request.len(), &225, "the request");
+    for bytes in 0..=225 {
+        assert_part(rt, alloc, request.get(..bytes).expect(rt, "a part"));
+    }
+}
+
 #[test]
 fn requests_cut_short_or_broken_off(rt: HostRuntime) {
-    assert_same(&rt, &REQUEST.len(), &225, "the request");
-    for bytes in 0..=225 {
-        assert_part(&rt, rt.alloc(), REQUEST.get(..bytes).expect(&rt, "a part"));
-    }
+    let request = joined(&rt, rt.alloc(), &[HEAD, DOGS_BARK]);
+    assert_parts(&rt, rt.alloc(), request.as_str());
 }

@@ -21,6 +21,12 @@ pub(crate) const BOAT: &str = "\
     6\tboat\t_\tNOUN\t_\t_\t_\t_\t_\t_\n\
     \n";
 
+/// Asserts the hits. A pattern of weight 6 takes at most 168 unions on six words.
+fn assert_found(rt: &impl Abort, found: &Found, hits: &[(u32, u32)]) {
+    assert_holds(rt, *found.hits.as_slice() == *hits, "the hits");
+    assert_holds(rt, found.steps <= 168, "the steps");
+}
+
 /// The hits in a sentence, by a searcher that serves many.
 fn hits_by<T: Text>(
     rt: &impl Abort,
@@ -34,47 +40,53 @@ fn hits_by<T: Text>(
     searcher.hits(alloc, sentence, strategy).expect(rt, "error")
 }
 
-/// The same by the query, which makes a searcher.
-fn hits_of<T: Text>(
+/// Asserts the hits in a sentence by the query, which makes a searcher, and by a searcher that serves many.
+fn assert_hits<T: Text>(
     rt: &impl Abort,
     alloc: Global,
     query: &Query,
-    sentence: &BlockOf<T>,
-    strategy: Strategy,
-) -> Found {
-    let few = words(sentence) <= 1000;
-    assert!(rt; few, "the sentence is searched");
-    query.hits(alloc, sentence, strategy).expect(rt, "error")
-}
-
-/// Which expressions hold of which words, by a searcher.
-fn table_by<T: Text>(
-    rt: &impl Abort,
-    alloc: Global,
     searcher: &mut Searcher<'_>,
     sentence: &BlockOf<T>,
-) -> Truth {
+    strategy: Strategy,
+    hits: &[(u32, u32)],
+) {
     let few = words(sentence) <= 1000;
     assert!(rt; few, "the sentence is searched");
-    searcher.truth(alloc, sentence).expect(rt, "error")
+    let by_query = query.hits(alloc, sentence, strategy).expect(rt, "error");
+    assert_found(rt, &by_query, hits);
+    let by_searcher = hits_by(rt, alloc, searcher, sentence, strategy);
+    assert_found(rt, &by_searcher, hits);
 }
 
-/// The same by the query.
-fn table_of<T: Text>(
+/// Asserts what the matcher finds where these expressions hold.
+fn assert_matches(
     rt: &impl Abort,
     alloc: Global,
     query: &Query,
-    sentence: &BlockOf<T>,
-) -> Truth {
-    let few = words(sentence) <= 1000;
-    assert!(rt; few, "the sentence is searched");
-    query.truth(alloc, sentence).expect(rt, "error")
+    table: &Truth,
+    strategy: Strategy,
+    hits: &[(u32, u32)],
+) {
+    let found = search(rt, alloc, query.pat(), table, strategy);
+    assert_found(rt, &found, hits);
 }
 
-/// Asserts the hits. A pattern of weight 6 takes at most 168 unions on six words.
-fn assert_found(rt: &impl Abort, found: &Found, hits: &[(u32, u32)]) {
-    assert_holds(rt, *found.hits.as_slice() == *hits, "the hits");
-    assert_holds(rt, found.steps <= 168, "the steps");
+/// Asserts what the matcher finds in the tables of the query and of its searcher.
+fn assert_tables<T: Text>(
+    rt: &impl Abort,
+    alloc: Global,
+    query: &Query,
+    searcher: &mut Searcher<'_>,
+    sentence: &BlockOf<T>,
+    strategy: Strategy,
+    hits: &[(u32, u32)],
+) {
+    let few = words(sentence) <= 1000;
+    assert!(rt; few, "the sentence is searched");
+    let table = query.truth(alloc, sentence).expect(rt, "error");
+    assert_matches(rt, alloc, query, &table, strategy, hits);
+    let table = searcher.truth(alloc, sentence).expect(rt, "error");
+    assert_matches(rt, alloc, query, &table, strategy, hits);
 }
 
 /// Asserts the hits of a query in a sentence, found by the query, by its searcher, and by the matcher in the tables of
@@ -88,16 +100,8 @@ fn assert_finds<T: Text>(
     strategy: Strategy,
     hits: &[(u32, u32)],
 ) {
-    let by_query = hits_of(rt, alloc, query, sentence, strategy);
-    assert_found(rt, &by_query, hits);
-    let by_searcher = hits_by(rt, alloc, searcher, sentence, strategy);
-    assert_found(rt, &by_searcher, hits);
-    let table = table_of(rt, alloc, query, sentence);
-    let by_matcher = search(rt, alloc, query.pat(), &table, strategy);
-    assert_found(rt, &by_matcher, hits);
-    let table = table_by(rt, alloc, searcher, sentence);
-    let by_matcher = search(rt, alloc, query.pat(), &table, strategy);
-    assert_found(rt, &by_matcher, hits);
+    assert_hits(rt, alloc, query, searcher, sentence, strategy, hits);
+    assert_tables(rt, alloc, query, searcher, sentence, strategy, hits);
 }
 
 /// A sentence without words has no hit.

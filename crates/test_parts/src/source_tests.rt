@@ -83,13 +83,6 @@ fn assert_cut(rt: &impl Abort, alloc: Global, bytes: &[u8]) {
     assert_replied(rt, alloc, status, &out, "3 refused device");
 }
 
-/// A file that is cut off, of 150 bytes, above the limit.
-fn assert_cut_and_long(rt: &impl Abort, alloc: Global, bytes: &[u8]) {
-    let mut out = Vec::new(alloc);
-    let status = check_within(alloc, &mut Cut { bytes }, &mut out, 149);
-    assert_replied(rt, alloc, status, &out, "1 refused long");
-}
-
 /// The same bytes as a file.
 fn assert_whole(rt: &impl Abort, alloc: Global, bytes: &[u8]) {
     let mut out = Vec::new(alloc);
@@ -97,19 +90,11 @@ fn assert_whole(rt: &impl Abort, alloc: Global, bytes: &[u8]) {
     assert_replied(rt, alloc, status, &out, "0 sentences 1 words 3");
 }
 
-/// A file that is cut off is a failed device, unless it is above the limit.
-#[test]
-fn a_source_that_is_cut_off(rt: HostRuntime) {
-    assert_cut(&rt, rt.alloc(), DOGS_BARK.as_bytes());
-    assert_cut_and_long(&rt, rt.alloc(), DOGS_BARK.as_bytes());
-    assert_whole(&rt, rt.alloc(), DOGS_BARK.as_bytes());
-}
-
 /// Asserts what a source answers within a limit.
-fn assert_answered(
+fn assert_answered<S: Source>(
     rt: &impl Abort,
     alloc: Global,
-    source: &mut Counted<'_>,
+    source: &mut S,
     limit: u64,
     wanted: &str,
 ) {
@@ -117,6 +102,15 @@ fn assert_answered(
     let mut out = Vec::new(alloc);
     let status = check_within(alloc, source, &mut out, limit);
     assert_replied(rt, alloc, status, &out, wanted);
+}
+
+/// A file that is cut off is a failed device, unless its 150 bytes are above the limit.
+#[test]
+fn a_source_that_is_cut_off(rt: HostRuntime) {
+    assert_cut(&rt, rt.alloc(), DOGS_BARK.as_bytes());
+    let bytes = DOGS_BARK.as_bytes();
+    assert_answered(&rt, rt.alloc(), &mut Cut { bytes }, 149, "1 refused long");
+    assert_whole(&rt, rt.alloc(), DOGS_BARK.as_bytes());
 }
 
 /// Asserts what is answered within a limit, and how many pieces were given.

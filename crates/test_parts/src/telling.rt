@@ -61,6 +61,11 @@ pub(crate) fn said(rt: &impl Abort, alloc: Global, text: &str) -> String {
     String::from_str(alloc, text).expect(rt, text)
 }
 
+/// Whether something holds, in a word.
+pub(crate) fn yes_or_no(rt: &impl Abort, alloc: Global, holds: bool) -> String {
+    said(rt, alloc, if holds { "yes" } else { "no" })
+}
+
 /// A number, a refusal or a fault as text.
 pub(crate) fn shown<T: Display>(rt: &impl Abort, alloc: Global, value: &T) -> String {
     value.to_string(alloc).expect(rt, "a value")
