@@ -5,7 +5,9 @@ use Rattle.tb_match.specs.declared.pattern.Pat.{Pat, Tok, Cat, Alt, Rep}
 use Rattle.tb_match.specs.declared.pattern.Pat.TheOpen.{Pat-F}
 use Rattle.tb_match.specs.declared.pattern.Pat.TheFolds.{fold-roll-Pat}
 use Rattle.tb_match.specs.declared.pattern.Pat.TheVariants.{rolls-Tok, rolls-Cat, rolls-Alt, rolls-Rep}
+use Rattle.tb_match.specs.Facts.{Facts}
 use Rattle.tb_match.specs.Match.{EachInTurn, Match}
+use Rattle.tb_match.specs.Possible.{AllMayMatch}
 use Rattle.tb_match.specs.Trees.{Tree, Forest, tok, cat, alt, rep, tree, tree_step, trees}
 use Rattle.tb_match.specs.Weight.{turns, weight_of_all}
 
@@ -48,3 +50,10 @@ weight_ahead (p ∷ ps) (suc k) = omega (arith, weight_ahead ps k)
 pub turns_some : (a : ℕ) (b : Option ℕ) → 1 ≤ turns a b
 turns_some a None = omega arith
 turns_some a (Some b) = omega arith
+
+-- no part is left, so all that are left may match
+pub none_left : (t : Facts) (ps : List Pat) (k : ℕ) → length ps ≤ k → AllMayMatch t (trees (drop k ps))
+none_left t [] zero le = tt
+none_left t [] (suc k) le = tt
+none_left t (p ∷ ps) zero le = absurd (omega (arith, le))
+none_left t (p ∷ ps) (suc k) le = none_left t ps k (omega (arith, le))

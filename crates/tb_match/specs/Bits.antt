@@ -21,6 +21,10 @@ Through links table w i below j = (k : ℕ) × (i ≤ k) × (k < below) × InTab
 abbrev pub Link : List ℕ → ℕ → ℕ → ℕ → ℕ → Type 0
 Link cells w last i j = (i ≤ j) × (j ≤ last) × InTable cells w i j
 
+-- where a link leads from row i on, the steps after are more than those before
+abbrev pub IsCounted : List ℕ → ℕ → ℕ → ℕ → ℕ → ℕ → Type 0
+IsCounted cells w last i before after = (j : ℕ) → Link cells w last i j → before < after
+
 -- a link of the table that leads strictly forward
 abbrev pub Forward : List ℕ → ℕ → ℕ → ℕ → ℕ → Type 0
 Forward cells w last i j = (i < j) × (j ≤ last) × InTable cells w i j

@@ -5,3 +5,4 @@ pub mod Stays
 pub mod Trees
 pub mod Facts
 pub mod Weight
+pub mod Possible

@@ -2,7 +2,8 @@
 //! links are many, takes links that lead two, four and more at once.
 
 ghost use Rattle.std.specs.Prelude.{◌≡◌, ◌+◌, ◌-◌, ◌*◌, ◌<◌, ◌≤◌, ◌^◌, ◌↔◌, ◌≢◌, ℕ, IsTrue, length};
-ghost use Rattle.tb_match.specs.Bits.{InTable, IsClosed, IsForward, HasLinksOf, Link, Repeated, Through, triangle};
+ghost use Rattle.tb_match.specs.Bits.{InTable, IsClosed, IsCounted, IsForward, HasLinksOf, Link, Repeated};
+ghost use Rattle.tb_match.specs.Bits.{Through, triangle};
 ghost use Rattle.tb_match.specs.Match.{Chain};
 
 use crate::shape::Shape;
@@ -27,6 +28,7 @@ fn square_row(
         (InTable links.new shape.width place j ↔ Through links.old links.old shape.width place (shape.last + 1) j) }
     ensures others { (i j : ℕ) → i ≢ place → j ≤ shape.last →
         (InTable links.new shape.width i j ↔ InTable links.old shape.width i j) }
+    ensures counted { IsCounted links.old shape.width shape.last place steps.old steps.new }
     ensures more { steps.old ≤ steps.new }
     ensures bound { steps.new ≤ steps.old + (shape.last + 1 - place) }
 {
@@ -60,6 +62,8 @@ fn square(links: &mut [u64], spare: &mut [u64], shape: Shape, closed: bool, step
     requires closed { IsTrue closed → IsClosed links.old shape.width 0 shape.last }
     ensures rows { (i j : ℕ) → i ≤ shape.last → j ≤ shape.last →
         (InTable links.new shape.width i j ↔ Through links.old links.old shape.width i (shape.last + 1) j) }
+    ensures counted { (i : ℕ) → i ≤ shape.last
+        → IsCounted links.old shape.width shape.last i steps.old steps.new }
     ensures more { steps.old ≤ steps.new }
     ensures bound { steps.new ≤ steps.old + triangle (shape.last + 1) }
 {
@@ -99,6 +103,8 @@ fn take_turn(
     ensures closed { IsTrue closed → IsClosed table.new shape.width 0 shape.last }
     ensures linked { IsTrue closed → HasLinksOf table.new links.new shape.width shape.last }
     ensures forward { IsTrue closed → IsForward table.new shape.width shape.last }
+    ensures counted { (i : ℕ) → i ≤ shape.last
+        → IsCounted links.old shape.width shape.last i steps.old steps.new }
     ensures more { steps.old ≤ steps.new }
     ensures bound { steps.new + result * triangle (shape.last + 1) ≤ steps.old + left * triangle (shape.last + 1) }
 {

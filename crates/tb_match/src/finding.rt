@@ -1,7 +1,8 @@
 //! Finds the hits of a pattern.
 
-ghost use Rattle.std.specs.Prelude.{◌+◌, ◌*◌, ◌/◌, ◌≤◌, IfOk};
+ghost use Rattle.std.specs.Prelude.{◌+◌, ◌*◌, ◌/◌, ◌≤◌, IfOk, IsOk};
 ghost use Rattle.tb_match.specs.Hits.{AreHits, HitsAreOneList, IsFound};
+ghost use Rattle.tb_match.specs.Possible.{MayMatch};
 ghost use Rattle.tb_match.specs.Trees.{tree};
 ghost use Rattle.tb_match.specs.Weight.{Fits, weight_of};
 
@@ -46,6 +47,7 @@ pub fn find(
 ) -> Result<Found, AllocError>
     requires { Fits truth.now.exprs (tree pat.now) }
     ensures hits { IfOk result (λ f. AreHits strategy (IsFound truth.now (tree pat.now)) f.hits.items) }
+    ensures none { (MayMatch truth.now (tree pat.now) → ⊥) → IsOk result }
     ensures steps { IfOk result (λ f.
         f.steps ≤ weight_of (tree pat.now) * (truth.now.words + 1) * (truth.now.words + 2) / 2) }
 {

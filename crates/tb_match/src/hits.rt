@@ -1,8 +1,9 @@
 //! Chooses the hits among the pairs of places in a table of bit rows.
 
-ghost use Rattle.std.specs.Prelude.{◌≡◌, ◌+◌, ◌*◌, ◌<◌, ◌≤◌, ◌↔◌, ◌⊎◌, ℕ, IfOk, OnOk, length};
+ghost use Rattle.std.specs.Prelude.{◌≡◌, ◌+◌, ◌*◌, ◌<◌, ◌≤◌, ◌↔◌, ◌⊎◌, ℕ, IfOk, IsOk, OnOk, length};
 ghost use Rattle.std.specs.List.{AllPairs, Contains};
 ghost use Rattle.tb_match.specs.Bits.{Forward};
+ghost use Rattle.tb_match.specs.Facts.{Holds};
 ghost use Rattle.tb_match.specs.Hits.{AreHits, ComesBefore, IsWord};
 ghost use Rattle.tb_match.specs.declared.strategy.Strategy.{Strategy};
 
@@ -123,7 +124,8 @@ pub(crate) fn word_hits(
     truth: &Truth,
 ) -> Result<Vec<(u32, u32)>, AllocError>
     requires { expr < truth.now.exprs }
-    ensures { IfOk result (λ v. (s : Strategy) → AreHits s (IsWord truth.now expr) v.items) }
+    ensures sure { ((w : ℕ) → Holds truth.now expr w → ⊥) → IsOk result }
+    ensures hits { IfOk result (λ v. (s : Strategy) → AreHits s (IsWord truth.now expr) v.items) }
 {
     let mut hits = Vec::new(alloc);
     for place in 0..truth.words() {

@@ -25,6 +25,7 @@ impl Shape {
     /// The shape of the tables for a sentence of this many words.
     pub(crate) fn of_words(words: usize) -> Shape
         requires { words ≤ 1000 }
+        ensures width { result.width ≡ words / 64 + 1 }
         ensures last { result.last ≡ words }
     {
         Shape {

@@ -1,7 +1,8 @@
 //! Tables of bit rows, one row after another in one slice.
 
 ghost use Rattle.std.specs.Prelude.{◌≡◌, ◌+◌, ◌-◌, ◌*◌, ◌/◌, ◌<◌, ◌≤◌, ◌^◌, ◌↔◌, ◌⊎◌, ◌≢◌, ℕ, IsTrue, IfOk, length};
-ghost use Rattle.tb_match.specs.Bits.{InRow, InTable, Through, Link, IsClosed, IsForward, HasRowsOf, triangle};
+ghost use Rattle.tb_match.specs.Bits.{InRow, InTable, IsCounted, Through, Link, IsClosed, IsForward};
+ghost use Rattle.tb_match.specs.Bits.{HasRowsOf, triangle};
 ghost use Rattle.tb_match.specs.Match.{Chain};
 
 use crate::shape::Shape;
@@ -36,6 +37,7 @@ fn gather(
     ensures united { (j : ℕ) → j ≤ shape.last →
         (InRow spare.new 0 j ↔ (InRow spare.old 0 j
         ⊎ Through links.now table.now shape.width first (shape.last + 1) j)) }
+    ensures counted { IsCounted links.now shape.width shape.last first steps.old steps.new }
     ensures more { steps.old ≤ steps.new }
     ensures bound { steps.new ≤ steps.old + (shape.last + 1 - first) }
 {
@@ -68,6 +70,8 @@ fn gather_closed(
     ensures united { (j : ℕ) → j ≤ shape.last →
         (InRow spare.new 0 j ↔ (InRow spare.old 0 j
         ⊎ Through links.now table.now shape.width first (shape.last + 1) j)) }
+    ensures counted { (k : ℕ) → Link links.now shape.width shape.last first k
+        → (InRow spare.old 0 k ⊎ (steps.old < steps.new)) }
     ensures more { steps.old ≤ steps.new }
     ensures bound { steps.new ≤ steps.old + (shape.last + 1 - first) }
 {
@@ -143,6 +147,7 @@ pub(crate) fn gather_all(
     requires empty { (j : ℕ) → j ≤ shape.last → InRow spare.old 0 j → ⊥ }
     ensures united { (j : ℕ) → j ≤ shape.last →
         (InRow spare.new 0 j ↔ Through links.now table.now shape.width first (shape.last + 1) j) }
+    ensures counted { IsCounted links.now shape.width shape.last first steps.old steps.new }
     ensures more { steps.old ≤ steps.new }
     ensures bound { steps.new ≤ steps.old + (shape.last + 1 - first) }
 {
@@ -174,6 +179,7 @@ fn set_row(
         (InTable table.new shape.width place j ↔ Through links.now table.old shape.width place (shape.last + 1) j) }
     ensures others { (i j : ℕ) → i ≢ place → j ≤ shape.last →
         (InTable table.new shape.width i j ↔ InTable table.old shape.width i j) }
+    ensures counted { IsCounted links.now shape.width shape.last place steps.old steps.new }
     ensures more { steps.old ≤ steps.new }
     ensures bound { steps.new ≤ steps.old + (shape.last + 1 - place) }
 {
@@ -219,6 +225,8 @@ fn set_closed_row(
         ⊎ Through links.now table.old shape.width place (shape.last + 1) j)) }
     ensures others { (i j : ℕ) → i ≢ place → j ≤ shape.last →
         (InTable table.new shape.width i j ↔ InTable table.old shape.width i j) }
+    ensures counted { (k : ℕ) → Link links.now shape.width shape.last place k → k ≢ place
+        → steps.old < steps.new }
     ensures more { steps.old ≤ steps.new }
     ensures bound { steps.new ≤ steps.old + (shape.last + 1 - place) }
 {
@@ -251,6 +259,8 @@ pub(crate) fn compose(
     requires forward { IsTrue closed → IsForward table.old shape.width shape.last }
     ensures rows { (i j : ℕ) → i ≤ shape.last → j ≤ shape.last →
         (InTable table.new shape.width i j ↔ Through links.now table.old shape.width i (shape.last + 1) j) }
+    ensures counted { (i : ℕ) → i ≤ shape.last
+        → IsCounted links.now shape.width shape.last i steps.old steps.new }
     ensures more { steps.old ≤ steps.new }
     ensures bound { steps.new ≤ steps.old + triangle (shape.last + 1) }
 {
@@ -276,6 +286,7 @@ pub(crate) fn close(
     requires countable { steps.old + triangle (shape.last + 1) < 2 ^ 64 }
     ensures rows { (i j : ℕ) → i ≤ shape.last → j ≤ shape.last →
         (InTable table.new shape.width i j ↔ ((k : ℕ) × Chain (Link links.now shape.width shape.last) k i j)) }
+    ensures counted { (i k : ℕ) → Link links.now shape.width shape.last i k → k ≢ i → steps.old < steps.new }
     ensures more { steps.old ≤ steps.new }
     ensures bound { steps.new ≤ steps.old + triangle (shape.last + 1) }
 {
@@ -292,6 +303,7 @@ pub(crate) fn merge(table: &mut [u64], other: &[u64], shape: Shape, steps: &mut 
     ensures rows { (i j : ℕ) → i ≤ shape.last → j ≤ shape.last →
         (InTable table.new shape.width i j ↔ (InTable table.old shape.width i j
         ⊎ InTable other.now shape.width i j)) }
+    ensures counted { steps.new ≡ steps.old + (shape.last + 1) }
     ensures more { steps.old ≤ steps.new }
     ensures bound { steps.new ≤ steps.old + (shape.last + 1) }
 {

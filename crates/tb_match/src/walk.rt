@@ -53,6 +53,7 @@ pub(crate) fn next_unknown(
     ensures order { from ≤ last + 1 → from ≤ result }
     ensures limit { result ≤ last + 1 }
     ensures there { result ≤ last → InRow cells.now at result }
+    ensures unknown { result ≤ last → InRow known.now 0 result → ⊥ }
     ensures none { (j : ℕ) → from ≤ j → j < result → InRow cells.now at j → InRow known.now 0 j }
 {
     for word in from / 64..last / 64 + 1 {

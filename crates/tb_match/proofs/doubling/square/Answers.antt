@@ -1,5 +1,6 @@
-use Rattle.std.proofs.Common.{arith, ◌≡◌, ◌+◌, ◌-◌, ◌<◌, ◌≤◌, ◌↔◌, ℕ}
-use Rattle.tb_match.specs.Bits.{InTable, Through, triangle}
+use Rattle.std.proofs.Common.{arith, ◌≡◌, ◌+◌, ◌-◌, ◌<◌, ◌≤◌, ◌↔◌, ℕ, subst, ⊎_elim}
+use Rattle.std.proofs.lemmas.Bool.{cases_lt}
+use Rattle.tb_match.specs.Bits.{InTable, Link, Through, triangle}
 use Rattle.tb_match.proofs.Sweeps.{composed, triangle_step}
 use Rattle.tb_match.proofs.doubling.square.Goals as goal
 
@@ -27,6 +28,12 @@ loop-place-preserved c =
           let o = c.square_row.ensures.others i j (λ e. omega arith) here in
           let r = inv.rest i j (omega arith) here in
           (λ h. r.0 (o.0 h), λ h. o.1 (r.1 h));
+      counted = λ i below j link. ⊎_elim
+          (λ (sooner : i < place). let before = inv.counted i sooner j link in omega arith)
+          (λ (at : place ≤ i). let e : i ≡ place = omega arith in
+          let here = subst (λ x. Link L w last x j) e link in
+          let now = c.square_row.ensures.counted j (here.0, here.1, (inv.rest place j (omega arith) here.1).1 here.2) in omega arith)
+          (cases_lt i place);
       more = omega arith;
       bound = omega arith;
     }

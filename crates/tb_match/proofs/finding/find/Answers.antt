@@ -18,7 +18,7 @@ returns-clause-hits c =
     let pat = tree c.args.pat.now in
     let last = c.of_words-shape.result.last in
     let w = c.of_words-shape.result.width in
-    let count : last ≡ truth.words = omega (arith, c.of_words-shape.ensures, c.words.ensures.count) in
+    let count : last ≡ truth.words = omega (arith, c.of_words-shape.ensures.last, c.words.ensures.count) in
     let rows : (i j : ℕ) → i ≤ truth.words → j ≤ truth.words → InTable c.deref.result.now w i j ↔ Match (Holds truth) pat i j =
     λ i j p q. subst (λ xs. InTable xs w i j ↔ Match (Holds truth) pat i j) (sym c.deref.ensures.value) (c.in_ok-table.ensures.rows i j p q) in
     AreHits-same c.args.strategy (Forward c.deref.result.now w last) (IsFound truth pat)
@@ -36,4 +36,4 @@ returns-in-Tok-clause-hits c =
     let truth = c.args.truth.now in
     let hits = c.in_ok-words.words.items in
     subst (λ p. AreHits c.args.strategy (IsFound truth p) hits) (sym (is_tok c.args.pat.now c.in-Tok.expr c.in-Tok.is))
-    (AreHits-same c.args.strategy (IsWord truth c.in-Tok.expr) _ (words_are_found truth c.in-Tok.expr) hits (c.in_ok-words.ensures c.args.strategy))
+    (AreHits-same c.args.strategy (IsWord truth c.in-Tok.expr) _ (words_are_found truth c.in-Tok.expr) hits (c.in_ok-words.ensures.hits c.args.strategy))

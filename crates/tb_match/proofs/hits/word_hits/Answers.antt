@@ -28,8 +28,8 @@ loop-place-preserved c =
           }
     ]
 
-pub returns : goal.returns
-returns c = λ s.
+pub returns-clause-hits : goal.returns-clause-hits
+returns-clause-hits c = λ s.
     let inv = c.loop-place.invariant in (
       inv.ascending,
       λ i j.

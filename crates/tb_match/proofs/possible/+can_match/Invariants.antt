@@ -1,16 +1,21 @@
 use Rattle.std.proofs.Common.{ℕ, drop, ◌+◌, ◌*◌}
 use Rattle.tb_match.specs.Facts.{Holds}
 use Rattle.tb_match.specs.Match.{AnyOf}
+use Rattle.tb_match.specs.Possible.{AllMayMatch, AnyMayMatch}
 use Rattle.tb_match.specs.Trees.{tree, trees}
 use Rattle.tb_match.specs.Weight.{AllProper, weight_of, weight_of_all}
 use Rattle.tb_match.proofs.possible.+can_match.Given as goal
 
 abbrev pub invariant-can_all_match-loop-part : goal.invariant-can_all_match-loop-part
-invariant-can_all_match-loop-part l = AllProper l.truth.exprs (trees (drop l.part-index l.parts))
+invariant-can_all_match-loop-part l = record {
+  proper : AllProper l.truth.exprs (trees (drop l.part-index l.parts));
+  so_far : AllMayMatch l.truth (trees (drop l.part-index l.parts)) → AllMayMatch l.truth (trees l.parts);
+}
 
 abbrev pub invariant-can_any_match-loop-part : goal.invariant-can_any_match-loop-part
 invariant-can_any_match-loop-part l = record {
   proper : AllProper l.truth.exprs (trees (drop l.part-index l.parts));
+  so_far : AnyMayMatch l.truth (trees (drop l.part-index l.parts)) → AnyMayMatch l.truth (trees l.parts);
   rest : (i j : ℕ) → AnyOf (Holds l.truth) (trees l.parts) i j → AnyOf (Holds l.truth) (trees (drop l.part-index l.parts)) i j;
 }
 

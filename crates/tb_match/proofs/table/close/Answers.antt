@@ -1,5 +1,6 @@
-use Rattle.std.proofs.Common.{arith, ◌≡◌, ◌+◌, ◌-◌, ◌≤◌}
-use Rattle.tb_match.specs.Bits.{triangle}
+use Rattle.std.proofs.Common.{arith, ◌≡◌, ◌+◌, ◌-◌, ◌<◌, ◌≤◌, subst, sym, ◌∙◌, ⊎_elim}
+use Rattle.std.proofs.lemmas.Bool.{cases_lt}
+use Rattle.tb_match.specs.Bits.{Link, triangle}
 use Rattle.tb_match.proofs.Sweeps.{closed, all_closed, triangle_step, triangle_le}
 use Rattle.tb_match.proofs.table.close.Goals as goal
 
@@ -26,6 +27,11 @@ loop-place-preserved c =
           closed c.args.links.now c.loop-place.table c.set_closed_row.new.table c.args.shape.width c.args.shape.last (c.loop-place.place - 1) c.loop-place.place i j (omega arith) (omega arith)
           inv.done inv.empty c.set_closed_row.ensures.row c.set_closed_row.ensures.others from inside here;
       empty = λ i j below here h. inv.empty i j (omega arith) here ((c.set_closed_row.ensures.others i j (λ e. omega arith) here).0 h);
+      counted = λ i k from link other. ⊎_elim
+          (λ (at : i < c.loop-place.place). let e : i ≡ c.loop-place.place - 1 = omega arith in
+          let now = c.set_closed_row.ensures.counted k (subst (λ x. Link c.args.links.now c.args.shape.width c.args.shape.last x k) e link) (λ same. other (same ∙ sym e)) in omega arith)
+          (λ (later : c.loop-place.place ≤ i). let before = inv.counted i k later link other in omega arith)
+          (cases_lt i c.loop-place.place);
       more = omega arith;
       bound = omega arith;
     }

@@ -1,5 +1,6 @@
-use Rattle.std.proofs.Common.{arith, ◌≡◌, ◌+◌, ◌-◌, ◌≤◌}
-use Rattle.tb_match.specs.Bits.{triangle}
+use Rattle.std.proofs.Common.{arith, ◌≡◌, ◌+◌, ◌-◌, ◌<◌, ◌≤◌, subst, ⊎_elim}
+use Rattle.std.proofs.lemmas.Bool.{cases_lt}
+use Rattle.tb_match.specs.Bits.{Link, triangle}
 use Rattle.tb_match.proofs.Sweeps.{composed, triangle_step}
 use Rattle.tb_match.proofs.table.compose.Goals as goal
 
@@ -17,6 +18,11 @@ loop-place-preserved c =
           let o = c.set_row.ensures.others i j (λ e. omega arith) here in
           let r = inv.rest i j (omega arith) here in
           (λ h. r.0 (o.0 h), λ h. o.1 (r.1 h));
+      counted = λ i below j link. ⊎_elim
+          (λ (sooner : i < c.loop-place.place). let before = inv.counted i sooner j link in omega arith)
+          (λ (at : c.loop-place.place ≤ i). let e : i ≡ c.loop-place.place = omega arith in
+          let now = c.set_row.ensures.counted j (subst (λ x. Link c.args.links.now c.args.shape.width c.args.shape.last x j) e link) in omega arith)
+          (cases_lt i c.loop-place.place);
       more = omega arith;
       bound = omega arith;
     }

@@ -1,5 +1,5 @@
 use Rattle.std.proofs.Common.{◌≡◌, ◌+◌, ◌<◌, ◌≤◌, ◌-◌, ℕ, length, ◌↔◌}
-use Rattle.tb_match.specs.Bits.{InTable, Through, triangle}
+use Rattle.tb_match.specs.Bits.{InTable, IsCounted, Through, triangle}
 use Rattle.tb_match.proofs.table.compose.Given as goal
 
 abbrev pub invariant-loop-place : goal.invariant-loop-place
@@ -8,6 +8,7 @@ invariant-loop-place l = record {
   whole : length l.table ≡ length l.initial.table;
   done : (i j : ℕ) → i < l.place → j ≤ l.shape.last → (InTable l.table l.shape.width i j ↔ Through l.links l.initial.table l.shape.width i (l.shape.last + 1) j);
   rest : (i j : ℕ) → l.place ≤ i → j ≤ l.shape.last → (InTable l.table l.shape.width i j ↔ InTable l.initial.table l.shape.width i j);
+  counted : (i : ℕ) → i < l.place → IsCounted l.links l.shape.width l.shape.last i l.initial.steps l.steps;
   more : l.initial.steps ≤ l.steps;
   bound : l.steps + triangle (l.shape.last + 1 - l.place) ≤ l.initial.steps + triangle (l.shape.last + 1);
 }

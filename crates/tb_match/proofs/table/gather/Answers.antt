@@ -26,6 +26,7 @@ loop-place-preserved c =
           gather_over L T c.args.spare.now spare' w c.args.first (place + 1) _ j on (λ m a b link row. absurd (after.none m a b link))
           (gather_yes L T c.args.spare.now spare spare' w c.args.first place j inv.from (inv.here j h) (inv.link c.loop-place-test.true) (united j h));
       link = after.there;
+      counted = λ j link sooner. omega arith;
       more = omega arith;
       bound = omega arith;
     }

@@ -1,5 +1,5 @@
-use Rattle.std.proofs.Common.{◌≡◌, ◌+◌, ◌≤◌, ◌-◌, ℕ, length, ◌↔◌, ◌⊎◌}
-use Rattle.tb_match.specs.Bits.{InRow, InTable, Through}
+use Rattle.std.proofs.Common.{◌≡◌, ◌+◌, ◌≤◌, ◌<◌, ◌-◌, ℕ, length, ◌↔◌, ◌⊎◌}
+use Rattle.tb_match.specs.Bits.{InRow, InTable, Link, Through}
 use Rattle.tb_match.proofs.table.gather.Given as goal
 
 abbrev pub invariant-loop-place : goal.invariant-loop-place
@@ -9,6 +9,7 @@ invariant-loop-place l = record {
   wide : length l.spare ≡ l.shape.width;
   here : (j : ℕ) → j ≤ l.shape.last → (InRow l.spare 0 j ↔ (InRow l.initial.spare 0 j ⊎ Through l.links l.table l.shape.width l.first l.place j));
   link : l.place ≤ l.shape.last → InTable l.links l.shape.width l.first l.place;
+  counted : (j : ℕ) → Link l.links l.shape.width l.shape.last l.first j → j < l.place → l.initial.steps < l.steps;
   more : l.initial.steps ≤ l.steps;
   bound : l.steps ≤ l.initial.steps + (l.place - l.first);
 }

@@ -35,6 +35,7 @@ loop-place-preserved c =
           (gather_yes L T c.args.spare.now spare spare' w c.args.first place j inv.from (inv.here j h) (inv.link c.loop-place-test.true) (united j h));
       link = after.there;
       whole = whole;
+      counted = λ j link sooner. inr (omega arith);
       more = omega arith;
       bound = omega arith;
     }

@@ -1,5 +1,5 @@
-use Rattle.std.proofs.Common.{◌≡◌, ◌+◌, ◌≤◌, ◌-◌, ℕ, length, ◌↔◌, ◌⊎◌}
-use Rattle.tb_match.specs.Bits.{InRow, InTable, Through, HasRowsOf}
+use Rattle.std.proofs.Common.{◌≡◌, ◌+◌, ◌≤◌, ◌<◌, ◌-◌, ℕ, length, ◌↔◌, ◌⊎◌}
+use Rattle.tb_match.specs.Bits.{InRow, InTable, Link, Through, HasRowsOf}
 use Rattle.tb_match.proofs.table.gather_closed.Given as goal
 
 abbrev pub invariant-loop-place : goal.invariant-loop-place
@@ -10,6 +10,7 @@ invariant-loop-place l = record {
   here : (j : ℕ) → j ≤ l.shape.last → (InRow l.spare 0 j ↔ (InRow l.initial.spare 0 j ⊎ Through l.links l.table l.shape.width l.first l.place j));
   link : l.place ≤ l.shape.last → InTable l.links l.shape.width l.first l.place;
   whole : HasRowsOf l.spare l.table l.shape.width l.shape.last;
+  counted : (j : ℕ) → Link l.links l.shape.width l.shape.last l.first j → j < l.place → (InRow l.initial.spare 0 j ⊎ (l.initial.steps < l.steps));
   more : l.initial.steps ≤ l.steps;
   bound : l.steps ≤ l.initial.steps + (l.place - l.first);
 }

@@ -8,5 +8,5 @@ invariant-loop-place l = record {
   done : (i j : ℕ) → i < l.place → j ≤ l.shape.last → (InTable l.table l.shape.width i j ↔ (InTable l.initial.table l.shape.width i j ⊎ InTable l.other l.shape.width i j));
   rest : (i j : ℕ) → l.place ≤ i → j ≤ l.shape.last → (InTable l.table l.shape.width i j ↔ InTable l.initial.table l.shape.width i j);
   more : l.initial.steps ≤ l.steps;
-  bound : l.steps ≤ l.initial.steps + l.place;
+  bound : l.steps ≡ l.initial.steps + l.place;
 }
