@@ -2,7 +2,7 @@
 //! fields, and tested for nothing but UTF-8.
 
 ghost use Rattle.std.specs.Prelude.{◌≡◌, ◌<◌, ℕ, List, [], ◌∷◌, ◌++◌, map, length, nat_le, true};
-ghost use Rattle.std.specs.Prelude.{false, Some, IfOk, IfSome, OnOk, MatchOption};
+ghost use Rattle.std.specs.Prelude.{false, Some, IfOk, IfSome, IsOk, OnOk, MatchOption};
 ghost use Rattle.std.specs.List.{AllByRecursion};
 ghost use Rattle.tb_conllu.specs.Lines.{is_comment};
 ghost use Rattle.tb_conllu.specs.Marks.{parts};
@@ -31,6 +31,7 @@ fn next_line(text: &str) -> Option<(&str, &str)>
 
 /// Adds the comments at the beginning of a text to the sentence. Returns the text after them.
 fn take_comments<'a>(block: &mut BlockRef<'a>, text: &'a str) -> Result<&'a str, AllocError>
+    ensures none { is_comment text.now ≡ false → IsOk result }
     ensures taken { (cs : List (List ℕ)) (rest : List ℕ) → AllByRecursion IsCommentText cs
         → is_comment rest ≡ false → text.now ≡ ended cs ++ rest
         → OnOk result (block.new ≡ record { comments = block.old.comments ++ cs; rows = block.old.rows }) }

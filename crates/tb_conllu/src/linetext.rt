@@ -61,7 +61,10 @@ fn any_beyond_latin(bytes: &[u8]) -> bool
 
 /// Tests all bytes in one pass.
 pub fn test_all(bytes: &[u8]) -> Tested
-    ensures { HoldsOf result bytes.now }
+    ensures holds { HoldsOf result bytes.now }
+    ensures quiet { list_any is_stray bytes.now ≡ false → IsTrue result.quiet }
+    ensures utf8 { IsUtf8 bytes.now → IsTrue result.utf8 }
+    ensures latin { list_any is_beyond_latin bytes.now ≡ false → IsTrue result.latin }
 {
     Tested {
         quiet: !any_stray(bytes),

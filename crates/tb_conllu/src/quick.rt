@@ -2,7 +2,7 @@
 //! row that may have a fault is left to the functions that report it.
 
 ghost use Rattle.std.specs.Prelude.{◌≡◌, ℕ, List, ◌∷◌, ◌++◌, map, take, slice_index, IfOk};
-ghost use Rattle.std.specs.Prelude.{IfSome, IsTrue, ◌||◌};
+ghost use Rattle.std.specs.Prelude.{IfSome, IsOk, IsTrue, ◌||◌, false};
 ghost use Rattle.std.specs.List.{AllByRecursion, join_with_byte, list_any};
 ghost use Rattle.tb_chars.specs.Digits.{is_digit};
 ghost use Rattle.tb_chars.specs.Spaces.{has_space};
@@ -72,7 +72,8 @@ fn any_spaced_next(unread: &str, line: &str, p: TenFields<'_>) -> bool
     any_wide_near(unread.as_bytes(), line.len()) && any_field_spaced(p)
 }
 
-/// The next row, which the scanner passes; `None` where the next line is no row without a fault.
+/// The next row, which the scanner passes; `None` where the next line is no row without a fault. Only a line beyond
+/// Latin wants memory.
 #[inline(always)]
 fn row_next<'a>(
     alloc: Global,
@@ -81,7 +82,8 @@ fn row_next<'a>(
 ) -> Result<Option<RowRef<'a>>, AllocError>
     requires tested { HoldsOf tested cutter.now }
     requires quiet { IsTrue tested.quiet }
-    ensures { IfOk result (λ row. IfSome row (λ r. IsRowShaped r
+    ensures latin { IsTrue tested.latin → IsOk result }
+    ensures row { IfOk result (λ row. IfSome row (λ r. IsRowShaped r
         × (cutter.old ≡ row_line r ++ 10 ∷ cutter.new))) }
 {
     let unread = cutter.left();
@@ -121,7 +123,8 @@ pub fn take_rows<'a>(
 ) -> Result<&'a str, AllocError>
     requires tested { HoldsOf tested text.now }
     requires quiet { IsTrue tested.quiet }
-    ensures { IfOk result (λ left. (rs : List RowText) × AllByRecursion IsRowShaped rs
+    ensures none { list_any is_digit (take 1 text.now) ≡ false → IsOk result }
+    ensures rows { IfOk result (λ left. (rs : List RowText) × AllByRecursion IsRowShaped rs
         × (block.new ≡ record { comments = block.old.comments; rows = block.old.rows ++ rs })
         × (text.now ≡ ended (map row_line rs) ++ left.now)) }
 {

@@ -1,9 +1,11 @@
 //! Reads sentences one after another.
 
 ghost use Rattle.std.specs.Prelude.{◌≡◌, ◌≢◌, ◌+◌, ◌<◌, ◌≤◌, ◌-◌, ◌^◌, List, [], ◌∷◌};
-ghost use Rattle.std.specs.Prelude.{◌++◌, IfOk, IfErr, IfSome, OnOk, MatchOption, length, map, take};
-ghost use Rattle.std.specs.List.{AllByRecursion};
+ghost use Rattle.std.specs.Prelude.{◌++◌, IfOk, IfErr, IfSome, IsOk, OnOk, MatchOption, length, map, take};
+ghost use Rattle.std.specs.Prelude.{false};
+ghost use Rattle.std.specs.List.{AllByRecursion, list_any};
 ghost use Rattle.std.specs.Str.{IsUtf8};
+ghost use Rattle.tb_chars.specs.Digits.{is_digit};
 ghost use Rattle.tb_conllu.specs.Fault.{IsFaultAfter, MayWantMemory};
 ghost use Rattle.tb_conllu.specs.declared.fault.ReadFault.TheVariants.{Memory};
 ghost use Rattle.tb_conllu.specs.Left.{BeginsNoSentence, IsNext, IsReadFrom, Left};
@@ -51,7 +53,8 @@ fn quick_rows<'a>(
     tested: Tested,
 ) -> Result<&'a [u8], AllocError>
     requires { HoldsOf tested bytes.now }
-    ensures { IfOk result (λ left. (rs : List RowText) × AllByRecursion IsRowShaped rs
+    ensures none { list_any is_digit (take 1 bytes.now) ≡ false → IsOk result }
+    ensures rows { IfOk result (λ left. (rs : List RowText) × AllByRecursion IsRowShaped rs
         × (block.new ≡ record { comments = block.old.comments; rows = block.old.rows ++ rs })
         × (bytes.now ≡ ended (map row_line rs) ++ left.now)) }
 {

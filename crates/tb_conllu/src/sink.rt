@@ -1,9 +1,11 @@
 //! Where written bytes go: a writer of std, or any other sink.
 
-ghost use Rattle.std.specs.Prelude.{◌≤◌, ℕ, List, [], ◌∷◌, length, Option, None, Some, Result};
+ghost use Rattle.std.specs.Prelude.{◌≡◌, ◌↔◌, ◌≤◌, ℕ, List, [], ◌∷◌, length, Option, None, Some, Result};
 ghost use Rattle.std.specs.Prelude.{IfErr, IfOk};
 ghost use Rattle.std.specs.Prelude.{OnOk, OnErr};
 ghost use Rattle.std.specs.Io.KnownBytes.{Appends, WriteAppends};
+ghost use Rattle.std.specs.IoError.{error_kind};
+ghost use Rattle.std.specs.declared.io.ErrorKind.TheVariants.{Interrupted};
 ghost use Rattle.tb_conllu.specs.Sunk.{AppendsPart};
 ghost use Rattle.tb_conllu.specs.declared.sink.Stop.{Stop};
 ghost use Rattle.tb_conllu.specs.Tries.{Answers, HasGivenUp, HasStopped, HasTaken};
@@ -49,7 +51,9 @@ pub(crate) enum Stop {
 
 impl Stop {
     /// Why a call of std failed.
-    pub(crate) fn of(error: io::Error) -> Stop {
+    pub(crate) fn of(error: io::Error) -> Stop
+        ensures { (result ≡ Stop.Interrupted) ↔ (error_kind error ≡ Interrupted) }
+    {
         if error.kind() == ErrorKind::Interrupted {
             Stop::Interrupted
         } else {

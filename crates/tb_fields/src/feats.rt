@@ -127,6 +127,7 @@ fn is_new_value<'a>(seen: &mut BTreeSet<&'a str>, value: &'a str) -> Result<bool
     ensures kept { IfOk result (λ b. b ≡ true → (q : List ℕ)
         → has_come seen.new q ≡ (bytes_eq value.now q || has_come seen.old q)) }
     ensures sure { is_label value.now ≡ false → IsOk result }
+    ensures again { has_come seen.old value.now ≡ true → IsOk result }
 {
     if !is_label_text(value) {
         return Ok(false);
@@ -259,6 +260,7 @@ fn is_new_feature<'a>(
     ensures unordered { length item.now ≤ 32
         → precedes (feature_name item.now) (map feature_name (slice_split is_bar more.now)) ≡ false
         → IsOk result }
+    ensures again { length item.now ≤ 32 → has_come seen.old (feature_name item.now) ≡ true → IsOk result }
 {
     let name = name_of(item);
     if !(is_feature_item(alloc, item)? && is_before(name, more)) {

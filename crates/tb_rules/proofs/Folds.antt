@@ -1,10 +1,10 @@
-use Rattle.std.proofs.Common.{◌≡◌, ℕ, suc, ◌+◌, ◌<◌, List, [], ◌∷◌, ◌++◌, length, drop, get_or, Bool, true, false, not, ◌&&◌, refl, sym, ◌∙◌, ap, arith, eqb, append_assoc, length-append, add-one}
+use Rattle.std.proofs.Common.{◌≡◌, ℕ, zero, suc, ◌+◌, ◌<◌, List, [], ◌∷◌, ◌++◌, length, drop, get_or, Bool, true, false, not, ◌&&◌, refl, sym, ◌∙◌, ap, subst, arith, eqb, append_assoc, length-append, add-one}
 use Rattle.std.specs.Char.{is_whitespace}
-use Rattle.std.specs.List.{flat_map}
+use Rattle.std.specs.List.{flat_map, list_all}
 use lib.Utf8.{encode, encodes}
 use Rattle.tb_conllu.specs.Text.{RowText}
 use Rattle.std.proofs.Math.Seq.{drop-cons}
-use Rattle.std.proofs.lemmas.Bool.{ne_eqb}
+use Rattle.std.proofs.lemmas.Bool.{and_parts, ne_eqb}
 use Rattle.std.proofs.lemmas.List.{append-nil, length_push}
 use Rattle.std.proofs.lemmas.Str.{length-encode, len_utf8_bounds}
 use Rattle.tb_rules.specs.Restored.{folded}
@@ -47,3 +47,10 @@ pub text_turn : (f : RowText → List ℕ) (rs : List RowText) (i : ℕ) (r : Ro
     → flat_map f (drop i rs) ≡ f r ++ flat_map f (drop (i + 1) rs)
 text_turn f rs i r l e =
     ap (flat_map f) (drop-cons rs i r l ∙ ap (λ x. x ∷ drop (suc i) rs) (sym e)) ∙ ap (λ n. f r ++ flat_map f (drop n rs)) (sym (add-one i))
+
+-- what holds of all holds of each
+pub all_at : (p : ℕ → Bool) (xs : List ℕ) (k x : ℕ) (rest : List ℕ) → list_all p xs ≡ true → drop k xs ≡ x ∷ rest → p x ≡ true
+all_at p [] zero x rest all here = absurd (let no : ⊥ = cc in no)
+all_at p [] (suc k) x rest all here = absurd (let no : ⊥ = cc in no)
+all_at p (y ∷ ys) zero x rest all here = let same : y ≡ x = cc in subst (λ z. p z ≡ true) same (and_parts (p y) (list_all p ys) all).0
+all_at p (y ∷ ys) (suc k) x rest all here = all_at p ys k x rest (and_parts (p y) (list_all p ys) all).1 here

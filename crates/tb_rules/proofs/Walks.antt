@@ -1,4 +1,4 @@
-use Rattle.std.proofs.Common.{◌≡◌, ◌≢◌, inl, inr, [], ◌++◌, take, drop, ℕ, zero, suc, ◌+◌, ◌-◌, ◌<◌, ◌≤◌, List, length, get_or, true, false, Option, Some, None, eqb, refl, sym, ◌∙◌, ap, subst, arith, length-set, get_or-set_other, get_or-set_same}
+use Rattle.std.proofs.Common.{◌≡◌, ◌≢◌, ◌⊎◌, inl, inr, [], ◌++◌, take, drop, ℕ, zero, suc, ◌+◌, ◌-◌, ◌<◌, ◌≤◌, List, length, get_or, true, false, Option, Some, None, eqb, refl, sym, ◌∙◌, ap, subst, arith, length-set, get_or-set_other, get_or-set_same}
 use Rattle.std.specs.Option.{MatchOption, is_some}
 use Rattle.std.proofs.Math.ListN.{set}
 use Rattle.std.proofs.lemmas.Bool.{ne_eqb, cases_lt}
@@ -90,3 +90,23 @@ in_place new old n e l =
 pub unknown : {X P : Type 0} (Q : X → Type 0) (o : Option X) → MatchOption o P Q → is_some o ≡ false → P
 unknown Q None h none = h
 unknown Q (Some x) h none = let e : true ≡ false = none in cc
+
+pub none_known : {X : Type 0} (o : Option X) → o ≡ None → is_some o ≡ false
+none_known o e = ap is_some e
+
+other : (ds : List ℕ) (k j : ℕ) → ((j ≡ k) ⊎ (get_or ds j 0 ≢ 0)) → j ≢ k → get_or ds j 0 ≢ 0
+other ds k j (inl same) not_same = absurd (not_same same)
+other ds k j (inr known) not_same = known
+
+elsewhere : (ds : List ℕ) (k d j : ℕ) → j ≢ k → get_or ds j 0 ≢ 0 → get_or (set ds k d) j 0 ≢ 0
+elsewhere ds k d j not_same known = λ none. known (sym (get_or-set_other ds k j d 0 not_same) ∙ none)
+
+-- a depth that is not 0 is written into a table
+pub still_noted : (ds : List ℕ) (k d j : ℕ) → k < length ds → d ≢ 0 → ((j ≡ k) ⊎ (get_or ds j 0 ≢ 0)) → get_or (set ds k d) j 0 ≢ 0
+still_noted ds k d j within some known = elim (cases_lt j k) [
+  | inl less ↦ elsewhere ds k d j (omega arith) (other ds k j known (omega arith))
+  | inr more ↦ elim (cases_lt k j) [
+    | inl above ↦ elsewhere ds k d j (omega arith) (other ds k j known (omega arith))
+    | inr same ↦ let e : j ≡ k = omega arith in λ none. some (sym (ap (λ x. get_or (set ds k d) x 0) e ∙ get_or-set_same ds k d 0 within) ∙ none)
+  ]
+]

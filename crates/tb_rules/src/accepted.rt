@@ -1,6 +1,7 @@
 //! Remembers fields of rows that were accepted before. A file repeats a few hundred of them.
 
-ghost use Rattle.std.specs.Prelude.{◌≡◌, ◌≤◌, ◌&&◌, length, max, IfOk, IsOk, OnOk, true, string_bytes, vec_len};
+ghost use Rattle.std.specs.Prelude.{◌≡◌, ◌==◌, ◌-◌, ◌<◌, ◌≤◌, ◌^◌, ◌&&◌, length, max, IfOk, IsOk, OnOk, true};
+ghost use Rattle.std.specs.Prelude.{string_bytes, vec_len};
 ghost use Rattle.tb_fields.specs.Feats.{is_feature_text};
 ghost use Rattle.tb_fields.specs.Relations.{is_relation};
 ghost use Rattle.tb_fields.specs.Tags.{is_universal_tag};
@@ -53,12 +54,16 @@ fn mixed_with(mixed: u64, word: u64) -> u64 {
 }
 
 /// The place that the upper bits of the mixed words give.
-fn place_of(mixed: u64) -> usize {
+fn place_of(mixed: u64) -> usize
+    ensures { result < 1024 }
+{
     (mixed >> (64 - PLACE_BITS)) as usize
 }
 
 /// The place of a value of FEATS, from all of its bytes. Any place is right, since the texts are compared.
-fn features_place(text: &[u8]) -> usize {
+fn features_place(text: &[u8]) -> usize
+    ensures { result < 1024 }
+{
     let (words, _) = text.as_chunks::<8>();
     let mut mixed = mixed_with(0, text.len() as u64);
     for word in words {
@@ -81,7 +86,9 @@ fn ends_of(text: &[u8]) -> u64 {
 }
 
 /// The place of a part of speech and a relation, from their first and last bytes.
-fn word_place(tag: &[u8], relation: &[u8]) -> usize {
+fn word_place(tag: &[u8], relation: &[u8]) -> usize
+    ensures { result < 1024 }
+{
     place_of(mixed_with(mixed_with(0, ends_of(tag)), ends_of(relation)))
 }
 
@@ -98,7 +105,11 @@ fn make_places<X: Drop>(slots: &mut Vec<Option<X>>) -> Result<(), AllocError>
 
 impl Accepted {
     /// Remembers up to 1,024 values of each kind. Takes no memory before the first.
-    pub(crate) fn new(alloc: Global) -> Self {
+    pub(crate) fn new(alloc: Global) -> Self
+        ensures let_by { result.let_by ≡ 128 }
+        ensures features { vec_len result.features ≡ 0 }
+        ensures words { vec_len result.words ≡ 0 }
+    {
         Accepted {
             let_by: LET_BY,
             features: Vec::new(alloc),
@@ -107,7 +118,11 @@ impl Accepted {
     }
 
     /// Remembers nothing, and takes no memory: for a single sentence.
-    pub(crate) fn none(alloc: Global) -> Self {
+    pub(crate) fn none(alloc: Global) -> Self
+        ensures let_by { result.let_by ≡ 2 ^ 64 - 1 }
+        ensures features { vec_len result.features ≡ 0 }
+        ensures words { vec_len result.words ≡ 0 }
+    {
         Accepted {
             let_by: usize::MAX,
             features: Vec::new(alloc),
@@ -143,7 +158,12 @@ impl Accepted {
     }
 
     /// Whether to remember the next value.
-    fn remembers_next(&mut self) -> bool {
+    fn remembers_next(&mut self) -> bool
+        ensures value { result ≡ (self.old.let_by == 0) }
+        ensures let_by { self.new.let_by ≡ self.old.let_by - 1 }
+        ensures features { self.new.features ≡ self.old.features }
+        ensures words { self.new.words ≡ self.old.words }
+    {
         if self.let_by == 0 {
             return true;
         }
@@ -154,6 +174,10 @@ impl Accepted {
     /// Remembers a value of FEATS, if its place is free.
     fn remember_features(&mut self, alloc: Global, text: &str) -> Result<(), AllocError>
         requires { is_feature_text text.now ≡ true }
+        ensures made { OnOk result (vec_len self.new.features ≡ max 1024 (vec_len self.old.features)) }
+        ensures bound { vec_len self.new.features ≤ max 1024 (vec_len self.old.features) }
+        ensures let_by { self.new.let_by ≡ self.old.let_by }
+        ensures words { self.new.words ≡ self.old.words }
     {
         make_places(&mut self.features)?;
         if let Some(slot) = self.features.get_mut(features_place(text.as_bytes())) {
@@ -169,6 +193,10 @@ impl Accepted {
     /// Remembers a part of speech and a relation, if their place is free.
     fn remember_word(&mut self, alloc: Global, tag: &str, relation: &str) -> Result<(), AllocError>
         requires { (is_universal_tag tag.now && is_relation relation.now) ≡ true }
+        ensures made { OnOk result (vec_len self.new.words ≡ max 1024 (vec_len self.old.words)) }
+        ensures bound { vec_len self.new.words ≤ max 1024 (vec_len self.old.words) }
+        ensures let_by { self.new.let_by ≡ self.old.let_by }
+        ensures features { self.new.features ≡ self.old.features }
     {
         make_places(&mut self.words)?;
         if let Some(slot) = self
@@ -190,6 +218,9 @@ impl Accepted {
     pub(crate) fn accept_features(&mut self, alloc: Global, text: &str) -> Result<bool, AllocError>
         ensures value { IfOk result (λ b. b ≡ is_feature_text text.now) }
         ensures sure { length text.now ≤ 32 → IsOk result }
+        ensures let_by { 0 < self.old.let_by → vec_len self.new.features ≡ vec_len self.old.features }
+        ensures bound { vec_len self.new.features ≤ max 1024 (vec_len self.old.features) }
+        ensures words { self.new.words ≡ self.old.words }
     {
         if is_blank_field(text) || self.holds_features(text) {
             return Ok(true);
@@ -206,7 +237,10 @@ impl Accepted {
     /// Whether the texts are a universal part of speech and a universal relation, as `is_tag` and `is_relation_text`
     /// test them. Where no memory is left to remember them, they are tested again the next time.
     pub(crate) fn accept_word(&mut self, alloc: Global, tag: &str, relation: &str) -> bool
-        ensures { result ≡ (is_universal_tag tag.now && is_relation relation.now) }
+        ensures value { result ≡ (is_universal_tag tag.now && is_relation relation.now) }
+        ensures let_by { 0 < self.old.let_by → vec_len self.new.words ≡ vec_len self.old.words }
+        ensures bound { vec_len self.new.words ≤ max 1024 (vec_len self.old.words) }
+        ensures features { self.new.features ≡ self.old.features }
     {
         if self.holds_word(tag, relation) {
             return true;

@@ -1,8 +1,8 @@
-ghost use Rattle.std.specs.Prelude.{◌≡◌, ◌↔◌, IsTrue, ◌++◌, ◌∷◌, ℕ, List, Err, IfOk, IsOk, IsOkAnd, OnOk};
+ghost use Rattle.std.specs.Prelude.{◌≡◌, ◌↔◌, IsTrue, ◌++◌, ◌∷◌, [], ℕ, List, Err, IfOk, IsOk, IsOkAnd, OnOk};
 ghost use Rattle.std.specs.Prelude.{bytes_eq, string_bytes, chars, encode_utf8, encode_utf8_all, length, not, ◌==◌};
 ghost use Rattle.std.specs.Prelude.{◌&&◌, MatchResult, None, true, false};
 ghost use Rattle.std.specs.Char.{is_whitespace};
-ghost use Rattle.std.specs.List.{list_any, slice_split};
+ghost use Rattle.std.specs.List.{list_all, list_any, slice_split};
 ghost use Rattle.tb_fields.specs.Feats.{is_bar};
 ghost use Rattle.tb_rules.specs.Leading.{RangesLead, is_token_after};
 ghost use Rattle.tb_rules.specs.Restored.{is_token_id, has_no_space_after, form_and_space, token_text, text_of_rows};
@@ -68,7 +68,8 @@ fn put(folding: &mut Folding, c: char) -> Result<(), AllocError>
 }
 
 fn put_text(folding: &mut Folding, text: &str) -> Result<(), AllocError>
-    ensures { OnOk result ((next : List ℕ) → continued (string_bytes folding.new.text) folding.new.gap next
+    ensures white { list_all is_whitespace (chars text.now) ≡ true → IsOk result }
+    ensures put { OnOk result ((next : List ℕ) → continued (string_bytes folding.new.text) folding.new.gap next
         ≡ continued (string_bytes folding.old.text) folding.old.gap (chars text.now ++ next)) }
 {
     for c in text.chars() {
@@ -79,7 +80,8 @@ fn put_text(folding: &mut Folding, text: &str) -> Result<(), AllocError>
 
 /// The text with each run of white space as one space, and none at the ends.
 fn fold(alloc: Global, text: &str) -> Result<String, AllocError>
-    ensures { IfOk result (λ s. string_bytes s ≡ folded_text text.now) }
+    ensures white { list_all is_whitespace (chars text.now) ≡ true → IsOk result }
+    ensures value { IfOk result (λ s. string_bytes s ≡ folded_text text.now) }
 {
     let mut folding = Folding {
         text: String::new(alloc),
@@ -113,7 +115,8 @@ pub(crate) fn has_no_space<T: Text>(row: &RowOf<T>) -> bool
 }
 
 fn put_row<T: Text>(folding: &mut Folding, row: &RowOf<T>) -> Result<(), AllocError>
-    ensures { OnOk result ((next : List ℕ) → continued (string_bytes folding.new.text) folding.new.gap next
+    ensures white { list_all is_whitespace (chars row.now.form) ≡ true → IsOk result }
+    ensures put { OnOk result ((next : List ℕ) → continued (string_bytes folding.new.text) folding.new.gap next
         ≡ continued (string_bytes folding.old.text) folding.old.gap (form_and_space row.now ++ next)) }
 {
     put_text(folding, row.form.text())?;
@@ -143,7 +146,8 @@ fn put_token<T: Text>(
 
 fn put_rows<T: Text>(folding: &mut Folding, rows: &[RowOf<T>], lead: bool) -> Result<(), AllocError>
     requires { lead ≡ true → RangesLead rows.now }
-    ensures { OnOk result ((next : List ℕ) → continued (string_bytes folding.new.text) folding.new.gap next
+    ensures none { rows.now ≡ [] → IsOk result }
+    ensures put { OnOk result ((next : List ℕ) → continued (string_bytes folding.new.text) folding.new.gap next
         ≡ continued (string_bytes folding.old.text) folding.old.gap (text_of_rows rows.now ++ next)) }
 {
     let mut end: u32 = 0;
@@ -155,7 +159,8 @@ fn put_rows<T: Text>(folding: &mut Folding, rows: &[RowOf<T>], lead: bool) -> Re
 }
 
 fn spelled<T: Text>(alloc: Global, rows: &[RowOf<T>]) -> Result<String, AllocError>
-    ensures { IfOk result (λ s. string_bytes s ≡ encode_utf8_all (folded (text_of_rows rows.now))) }
+    ensures none { rows.now ≡ [] → IsOk result }
+    ensures value { IfOk result (λ s. string_bytes s ≡ encode_utf8_all (folded (text_of_rows rows.now))) }
 {
     let mut folding = Folding {
         text: String::new(alloc),
@@ -170,7 +175,8 @@ fn spelled<T: Text>(alloc: Global, rows: &[RowOf<T>]) -> Result<String, AllocErr
 ///
 /// CoNLL-U format page, "Words, Tokens and Empty Nodes" and "Miscellaneous".
 pub fn restored<T: Text>(alloc: Global, block: &BlockOf<T>) -> Result<String, AllocError>
-    ensures { IfOk result (λ s. string_bytes s ≡ restored_text block.now) }
+    ensures none { block.now.rows ≡ [] → IsOk result }
+    ensures value { IfOk result (λ s. string_bytes s ≡ restored_text block.now) }
 {
     spelled(alloc, &block.rows)
 }

@@ -1,5 +1,5 @@
-ghost use Rattle.std.specs.Prelude.{◌≡◌, ◌<◌, ◌≤◌, ◌↔◌, IsTrue, IfOk, MatchOption, count_by};
-ghost use Rattle.std.specs.Prelude.{length};
+ghost use Rattle.std.specs.Prelude.{◌≡◌, ◌≢◌, ◌-◌, ◌<◌, ◌≤◌, ◌↔◌, IsTrue, IfOk, MatchOption, None};
+ghost use Rattle.std.specs.Prelude.{count_by, length, slice_index};
 ghost use Rattle.tb_rules.specs.Tree.{is_root, HasOneRoot, head_number, heads_of, head_at, ReachesRoot, IsTree};
 ghost use Rattle.tb_rules.specs.Tree.{HasTree};
 ghost use Rattle.tb_rules.specs.Depths.{IsDepth, AreDepths};
@@ -63,7 +63,9 @@ fn step(heads: &[u32], at: usize) -> usize
 /// The number of steps from `at` to the root, if it is known: 0 at the root, 1 from past the last word.
 fn known_depth(heads: &[u32], depths: &[usize], at: usize) -> Option<usize>
     requires { AreDepths heads.now depths.now }
-    ensures { MatchOption result ((0 < at) × (at ≤ length depths.now)) (IsDepth heads.now at) }
+    ensures depth { MatchOption result ((0 < at) × (at ≤ length depths.now)) (IsDepth heads.now at) }
+    ensures noted { 0 < at → at ≤ length heads.now
+        → (result ≡ None ↔ (slice_index depths.now (at - 1) ≡ 0)) }
 {
     if at == 0 {
         return Some(0);
@@ -102,7 +104,8 @@ fn depth(heads: &[u32], depths: &[usize], word: usize) -> Option<usize>
 fn note_depths(heads: &[u32], depths: &mut [usize], word: usize, depth: usize)
     requires known { AreDepths heads.now depths.old }
     requires depth { IsDepth heads.now word depth }
-    ensures { AreDepths heads.now depths.new }
+    ensures known { AreDepths heads.now depths.new }
+    ensures noted { 0 < depth → word ≤ length heads.now → slice_index depths.new (word - 1) ≢ 0 }
 {
     let mut at = word;
     for left in (0..depth).rev() {

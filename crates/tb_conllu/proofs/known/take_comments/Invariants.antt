@@ -10,6 +10,7 @@ use Rattle.tb_conllu.proofs.known.take_comments.Given as goal
 abbrev pub invariant-loop-left : goal.invariant-loop-left
 invariant-loop-left l = IsUtf8 l.left × ((cs : List (List ℕ)) (rest : List ℕ) → AllByRecursion IsCommentText cs → is_comment rest ≡ false → l.initial.text ≡ ended cs ++ rest
     → (more : List (List ℕ)) × AllByRecursion IsCommentText more × (l.initial.block.comments ++ cs ≡ l.block.comments ++ more) × (l.block.rows ≡ l.initial.block.rows) × (l.left ≡ ended more ++ rest))
+    × (is_comment l.initial.text ≡ false → l.left ≡ l.initial.text)
 
 abbrev pub decreases-loop-left : goal.decreases-loop-left
 decreases-loop-left l = length l.left

@@ -1,4 +1,5 @@
 use Rattle.std.proofs.Common.{◌∷◌, ◌++◌, sym, ◌∙◌, ap}
+use Rattle.std.proofs.lemmas.Bool.{false≢true}
 use Rattle.std.specs.List.{join_with_byte}
 use Rattle.tb_conllu.specs.Shape.{IsLineText}
 use Rattle.tb_conllu.specs.TenFields.{list_of}
@@ -21,8 +22,8 @@ is_composed-requires c =
     let cut = parted c.before_feed-line.result.now p.id.now p.form.now p.lemma.now p.upos.now p.xpos.now p.feats.now p.head.now p.deprel.now p.deps.now p.misc.now c.in-Some.ensures.0 line in
     (line_holds c.args.tested c.args.cutter.now c.before_feed-line.result.now c.fields_next.new.cutter c.requires.tested (rw (sym line) at c.in-Some.ensures.1) cut.0).latin
 
-pub returns : goal.returns
-returns c =
+pub returns-clause-row : goal.returns-clause-row
+returns-clause-row c =
     let p = c.in-Some.fields in
     let line = passed_line c.args.cutter.now c.left-unread.result.now c.left.result.now c.fields_next.new.cutter (join_with_byte 9 (list_of p)) c.before_feed-line.result.now c.left-unread.ensures c.left.ensures c.in-Some.ensures.1 c.before_feed-line.ensures in
     let cut = parted c.before_feed-line.result.now p.id.now p.form.now p.lemma.now p.upos.now p.xpos.now p.feats.now p.head.now p.deprel.now p.deps.now p.misc.now c.in-Some.ensures.0 line in
@@ -36,3 +37,10 @@ returns c =
       row_fits c.before_feed-line.result.now p.id.now p.form.now p.lemma.now p.upos.now p.xpos.now p.feats.now p.head.now p.deprel.now p.deps.now p.misc.now c.in-Some-id_of.id c.in-Some-head_of.head cut.1 cut.2 id.1 id.2 tight head.1 head.2 text,
       c.in-Some.ensures.1 ∙ ap (λ x. x ++ 10 ∷ c.fields_next.new.cutter) (sym line ∙ sym same.1),
     )
+
+pub returns-in_err-is_composed-clause-latin : goal.returns-in_err-is_composed-clause-latin
+returns-in_err-is_composed-clause-latin c = λ latin.
+    let p = c.in-Some.fields in
+    let line = passed_line c.args.cutter.now c.left-unread.result.now c.left.result.now c.fields_next.new.cutter (join_with_byte 9 (list_of p)) c.before_feed-line.result.now c.left-unread.ensures c.left.ensures c.in-Some.ensures.1 c.before_feed-line.ensures in
+    let cut = parted c.before_feed-line.result.now p.id.now p.form.now p.lemma.now p.upos.now p.xpos.now p.feats.now p.head.now p.deprel.now p.deps.now p.misc.now c.in-Some.ensures.0 line in
+    absurd (false≢true (c.in_err-is_composed.ensures.sure ((line_holds c.args.tested c.args.cutter.now c.before_feed-line.result.now c.fields_next.new.cutter c.requires.tested (rw (sym line) at c.in-Some.ensures.1) cut.0).latin latin)))

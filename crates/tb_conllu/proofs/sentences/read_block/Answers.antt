@@ -45,7 +45,7 @@ loop-raw-preserved c =
     let old : List (List ℕ) = lines_begun c.loop-raw.block in
     let one = line_read c.args.bytes.now c.args.line c.loop-raw.block c.take_line.new.block c.loop-raw.rest.now c.in-Some.raw.now c.in-Some.after.now c.loop-raw.at c.loop-raw.invariant.read c.in-Some.ensures.1 (c.in_ok-take_line.ensures.lines ∙ ap (λ (x : List ℕ). old ++ x ∷ []) c.in_ok-text.ensures.ok.0) c.in_ok-take_line.ensures.sound in
     let holds = after_holds c.args.tested c.loop-raw.rest.now c.in-Some.raw.now c.in-Some.after.now c.loop-raw.invariant.tested c.in-Some.ensures.1 in
-    let rows = c.in_ok-rest.ensures in
+    let rows = c.in_ok-rest.ensures.rows in
     record {
       read = rw (c.count_rows.ensures, c.count_rows-before.ensures) (rows_read c.args.bytes.now c.args.line c.take_line.new.block c.quick_rows.new.block c.in-Some.after.now c.in_ok-rest.rest.now (c.loop-raw.at + 1) rows.0 one rows.1 rows.2 rows.3);
       tested = rows_hold c.args.tested rows.0 c.in-Some.after.now c.in_ok-rest.rest.now holds rows.3;

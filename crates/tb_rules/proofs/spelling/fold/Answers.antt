@@ -4,5 +4,5 @@ use Rattle.std.specs.Str.{chars}
 use Rattle.tb_rules.proofs.Folds.{folded_whole}
 use Rattle.tb_rules.proofs.spelling.fold.Goals as goal
 
-pub returns : goal.returns
-returns c = folded_whole (string_bytes c.put_text.new.folding.text) (string_bytes c.new.result) (chars c.args.text.now) c.put_text.new.folding.gap c.new.ensures.bytes (c.in_ok-put_text.ensures [])
+pub returns-clause-value : goal.returns-clause-value
+returns-clause-value c = folded_whole (string_bytes c.put_text.new.folding.text) (string_bytes c.new.result) (chars c.args.text.now) c.put_text.new.folding.gap c.new.ensures.bytes (c.in_ok-put_text.ensures.put [])

@@ -8,7 +8,7 @@ loop-k-preserved c =
     let heads = c.args.heads.now in
     record {
       reached = below_more (λ j. ReachesRoot heads (j + 1)) c.loop-k.k c.loop-k.invariant.reached (reaches heads (c.loop-k.k + 1) c.in-Some.depth c.in-Some.ensures.0 c.in-Some.ensures.1);
-      exact = c.note_depths.ensures;
+      exact = c.note_depths.ensures.known;
     }
 
 pub returns : goal.returns
