@@ -1,8 +1,10 @@
 -- The desk without a batch stands for the empty machine.
-use Rattle.std.proofs.Common.{◌≡◌, [], ◌∷◌, false, refl, sym, lit≤}
+use Rattle.std.proofs.Common.{◌≡◌, ◌≢◌, ◌⊎◌, inl, inr, [], ◌∷◌, false, refl, sym, lit≤}
 use Rattle.sqlite.specs.Store.{Ghosts}
 use Rattle.sqlite.specs.Held.{Held, state}
 use Rattle.sqlite.specs.Steps.{IsEmpty}
+use Rattle.tb_core.specs.declared.refusals.Fault.{Fault}
+use Rattle.tb_core.specs.declared.refusals.Fault.TheVariants.{Device, Memory, NotADesk}
 use Rattle.tb_core.specs.declared.kinds.State.{State as DeskState}
 use Rattle.tb_core.specs.declared.kinds.State.TheVariants.{Opened, Assigned, Submitted, Adjudicated, Released, Withdrawn}
 use Rattle.tb_core.specs.declared.limits.Limits.{Limits}
@@ -37,3 +39,9 @@ module _ {S : Type 0} (g : Ghosts S) where
 
   pub empty_is_blank : (c : Held S) → IsEmpty (state g c) → IsBlank g c
   empty_is_blank c h = record { autocommit = h.0.autocommit; is_open = h.0.is_open; schema = h.2; settled = sym h.0.clean }
+
+-- of three faults, the first and the third are not the one
+pub memory_left : (fault : Fault) → fault ≢ NotADesk → fault ≢ Device → (fault ≡ NotADesk) ⊎ ((fault ≡ Memory) ⊎ (fault ≡ Device)) → fault ≡ Memory
+memory_left fault desk device (inl h) = absurd (desk h)
+memory_left fault desk device (inr (inl h)) = h
+memory_left fault desk device (inr (inr h)) = absurd (device h)

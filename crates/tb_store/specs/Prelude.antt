@@ -25,8 +25,10 @@ pub use Rattle.tb_refine.specs.Counted.{IsWithin}
 pub use Rattle.tb_refine.specs.DeskTables.{IsDeskOf, tables_of}
 pub use Rattle.tb_refine.specs.Faults.{IsNoDevice}
 pub use Rattle.tb_refine.specs.Finding.{HasNumber}
+pub use Rattle.tb_refine.specs.DeskReads.{IsRead, IsReadWhere}
 pub use Rattle.tb_refine.specs.Revisions.{HasRevision}
 pub use Rattle.tb_refine.specs.Room.{HasRoomIfWritten}
+pub use Rattle.tb_tables.specs.Failing.{HasMetaRowids}
 pub use Rattle.tb_verify.specs.Version1Desk.{IsFirstDesk}
 pub use Rattle.tb_report.specs.Tables.{IsTableOf}
 pub use Rattle.tb_search.specs.Released.{current_text, in_batch, IsCutShort, released}

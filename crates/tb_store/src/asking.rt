@@ -3,9 +3,9 @@
 ghost use Rattle.std.specs.Prelude.{◌≡◌, ◌≢◌, ◌⊎◌, ◌-◌, ◌<◌, ◌≤◌, map, [], ◌∷◌, Some, Err, is_ok, slice_get, IfErr};
 ghost use Rattle.std.specs.Prelude.{string_bytes, IfOk, None, length, false};
 ghost use Rattle.tb_store.specs.Prelude.{AnyRefusal, AreSentences, AreTotalsOf, FailsOnlyAs, HasCleanDisk, HasRevision};
-ghost use Rattle.tb_store.specs.Prelude.{is_name, IsDeskOf, IsFaultless, IsFound, IsNoDevice, IsReadOnly, KnowsDesk};
-ghost use Rattle.tb_store.specs.Prelude.{KnowsDeskWhere, Machine, rev_of, Revision, Sentence, state, tables_of, Tells};
-ghost use Rattle.tb_store.specs.Prelude.{TellsOnErr, text_of, total_of};
+ghost use Rattle.tb_store.specs.Prelude.{is_name, IsDeskOf, IsFaultless, IsFound, IsNoDevice, IsRead, IsReadOnly};
+ghost use Rattle.tb_store.specs.Prelude.{IsReadWhere, KnowsDesk, KnowsDeskWhere, Machine, rev_of, Revision, Sentence};
+ghost use Rattle.tb_store.specs.Prelude.{state, tables_of, Tells, TellsOnErr, text_of, total_of};
 ghost use Rattle.tb_store.specs.Answers.{RefusesId};
 ghost use Rattle.tb_store.specs.Exports.{RefusesBatch};
 
@@ -39,11 +39,7 @@ fn six_totals(rows: &[TotalRow]) -> Result<Totals, Fault>
 /// The rows of the totals, by the number of the state.
 fn total_rows<S: Alter>(alloc: Global, conn: &mut Connection<S>) -> Result<Vec<TotalRow>, Fault>
     ensures answered { Tells S.Store conn.old conn.new result (λ s v. map total_of v.items ≡ (tables_of s).totals) }
-    ensures never_refuses { (r : AnyRefusal) → result ≢ Err (Fault.Refused r) }
-    ensures fails { KnowsDesk S.Store conn.old conn.new result }
-    ensures cause { IsFaultless S.Store conn.old conn.new → FailsOnlyAs IsNoDevice S.Store conn.old conn.new result }
-    ensures output { result ≢ Err Fault.Output }
-    ensures read_only { IsReadOnly S.Store conn.old conn.new (is_ok result) }
+    ensures read { IsRead S.Store conn.old conn.new result }
 {
     desk_rows_are_readable();
     one_list_for_the_rows();
@@ -53,11 +49,7 @@ fn total_rows<S: Alter>(alloc: Global, conn: &mut Connection<S>) -> Result<Vec<T
 /// The totals of the six states.
 pub(crate) fn totals<S: Alter>(alloc: Global, conn: &mut Connection<S>) -> Result<Totals, Fault>
     ensures answered { Tells S.Store conn.old conn.new result (λ s t. AreTotalsOf t s) }
-    ensures never_refuses { (r : AnyRefusal) → result ≢ Err (Fault.Refused r) }
-    ensures fails { KnowsDesk S.Store conn.old conn.new result }
-    ensures cause { IsFaultless S.Store conn.old conn.new → FailsOnlyAs IsNoDevice S.Store conn.old conn.new result }
-    ensures output { result ≢ Err Fault.Output }
-    ensures read_only { IsReadOnly S.Store conn.old conn.new (is_ok result) }
+    ensures read { IsRead S.Store conn.old conn.new result }
 {
     let rows = total_rows(alloc, conn)?;
     six_totals(rows.as_slice())
@@ -68,12 +60,8 @@ pub(crate) fn current<S: Alter>(conn: &mut Connection<S>, number: u32) -> Result
     requires { 0 < number }
     ensures answered { Tells S.Store conn.old conn.new result (λ s n. (x : Sentence)
         → slice_get s.sentences (number - 1) ≡ Some x → n ≡ rev_of x) }
-    ensures never_refuses { (r : AnyRefusal) → result ≢ Err (Fault.Refused r) }
-    ensures fails { KnowsDeskWhere S.Store conn.old conn.new result (λ s so. (x : Sentence)
+    ensures read { IsReadWhere S.Store conn.old conn.new result (λ s so. (x : Sentence)
         → slice_get s.sentences (number - 1) ≡ Some x → so) }
-    ensures cause { IsFaultless S.Store conn.old conn.new → FailsOnlyAs IsNoDevice S.Store conn.old conn.new result }
-    ensures output { result ≢ Err Fault.Output }
-    ensures read_only { IsReadOnly S.Store conn.old conn.new (is_ok result) }
 {
     let row = sentence_row(conn, number)?;
     Ok(row.rev)
@@ -89,13 +77,9 @@ pub(crate) fn text<S: Alter>(
     ensures answered { Tells S.Store conn.old conn.new result (λ s t. (x : Sentence)
         → slice_get s.sentences (number - 1) ≡ Some x → (q : Revision) × HasRevision x rev q
         × (string_bytes t ≡ text_of (q.body ∷ []))) }
-    ensures never_refuses { (r : AnyRefusal) → result ≢ Err (Fault.Refused r) }
-    ensures fails { KnowsDeskWhere S.Store conn.old conn.new result (λ s so. (x : Sentence)
+    ensures read { IsReadWhere S.Store conn.old conn.new result (λ s so. (x : Sentence)
         → slice_get s.sentences (number - 1) ≡ Some x
         → (q : Revision) → HasRevision x rev q → so) }
-    ensures cause { IsFaultless S.Store conn.old conn.new → FailsOnlyAs IsNoDevice S.Store conn.old conn.new result }
-    ensures output { result ≢ Err Fault.Output }
-    ensures read_only { IsReadOnly S.Store conn.old conn.new (is_ok result) }
 {
     let row = revision_row(conn, number, rev)?;
     Ok(row.body)
@@ -107,12 +91,8 @@ pub(crate) fn sentence<S: Alter>(conn: &mut Connection<S>, number: u32) -> Resul
     ensures answered { Tells S.Store conn.old conn.new result (λ s c. (x : Sentence)
         → slice_get s.sentences (number - 1) ≡ Some x → (c.rev ≡ rev_of x)
         × (string_bytes c.body ≡ text_of (x.current.body ∷ []))) }
-    ensures never_refuses { (r : AnyRefusal) → result ≢ Err (Fault.Refused r) }
-    ensures fails { KnowsDeskWhere S.Store conn.old conn.new result (λ s so. (x : Sentence)
+    ensures read { IsReadWhere S.Store conn.old conn.new result (λ s so. (x : Sentence)
         → slice_get s.sentences (number - 1) ≡ Some x → so) }
-    ensures cause { IsFaultless S.Store conn.old conn.new → FailsOnlyAs IsNoDevice S.Store conn.old conn.new result }
-    ensures output { result ≢ Err Fault.Output }
-    ensures read_only { IsReadOnly S.Store conn.old conn.new (is_ok result) }
 {
     let rev = current(conn, number)?;
     let body = text(conn, number, rev)?;

@@ -98,6 +98,8 @@ impl<S: Alter> Desk<S> {
             ↔ ((state S.Store conn).now.schema ≢ no_schema)) }
         ensures known { IfErr result (λ u. (u.fault ≡ Fault.NotADesk) ⊎ ((u.fault ≡ Fault.Memory)
             ⊎ (u.fault ≡ Fault.Device))) }
+        ensures cause { IfErr result (λ u. IsBlank S.Store conn
+            → IsNoDeviceIfFaultless S.Store conn u.conn u.fault) }
         ensures untouched { IfErr result (λ u. u.fault ≡ Fault.NotADesk → u.conn ≡ unlimited conn) }
         ensures again { IfErr result (λ u. StaysBlank S.Store conn u.conn) }
         ensures autocommit { IfErr result (λ u. u.conn.in_transaction ≡ false) }

@@ -1,6 +1,6 @@
 //! A desk in memory.
 
-ghost use Rattle.std.specs.Prelude.{◌≡◌, ◌⊎◌, false, None, IfOk, IfErr};
+ghost use Rattle.std.specs.Prelude.{◌≡◌, false, None, IfOk, IfErr};
 ghost use Rattle.tb_store.specs.Prelude.{empty_machine, IsWithin, over_memory, state};
 ghost use Rattle.tb_store.specs.Represents.{Represents};
 
@@ -10,11 +10,11 @@ use std::alloc::Global;
 use tb_core::{Fault, Limits};
 
 impl Desk<MemStore> {
-    /// A desk in memory. It is refused for want of memory, or because the store fails, which a store in memory is not known to do.
+    /// A desk in memory. It is refused for want of memory alone.
     pub fn in_memory(alloc: Global, limits: Limits) -> Result<Desk<MemStore>, Fault>
         requires { IsWithin limits }
         ensures represents { IfOk result (λ d. Represents over_memory d empty_machine) }
-        ensures known { IfErr result (λ e. (e ≡ Fault.Memory) ⊎ (e ≡ Fault.Device)) }
+        ensures known { IfErr result (λ e. e ≡ Fault.Memory) }
         ensures no_step_limit { IfOk result (λ d. (state over_memory d.conn).step_limit ≡ None) }
         ensures limits { IfOk result (λ d. d.limits ≡ limits) }
         ensures certain { IfOk result (λ d. d.in_doubt ≡ false) }

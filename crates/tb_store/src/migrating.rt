@@ -1,8 +1,8 @@
 //! A desk of version 1 that is taken into use.
 
 ghost use Rattle.std.specs.Prelude.{◌≡◌, ◌≢◌, false, None, IsTrue, IfOk, IfErr};
-ghost use Rattle.tb_store.specs.Prelude.{AnyRefusal, AreStored, HasCleanDisk, IsFirstDesk, IsWithin, Machine, state};
-ghost use Rattle.tb_store.specs.Prelude.{Survives, tables_of, version_one_schema};
+ghost use Rattle.tb_store.specs.Prelude.{AnyRefusal, AreStored, HasCleanDisk, HasMetaRowids, IsFirstDesk, IsWithin, Machine};
+ghost use Rattle.tb_store.specs.Prelude.{state, Survives, tables_of, version_one_schema};
 ghost use Rattle.tb_store.specs.Represents.{Represents, unlimited};
 ghost use Rattle.tb_store.specs.Handing.{IsNoDeviceIfFaultless, WantsOnTables};
 
@@ -42,8 +42,8 @@ impl<S: Alter> Desk<S> {
         ensures never_refuses { IfErr result (λ u. (r : AnyRefusal) → u.fault ≢ Fault.Refused r) }
         ensures output { IfErr result (λ u. u.fault ≢ Fault.Output) }
         ensures wants { IfErr result (λ u. WantsOnTables version_one_schema S.Store conn u.fault) }
-        ensures cause { IfErr result (λ u. ((s : Machine) → IsFirstDesk S.Store conn s → ⊥)
-            → IsNoDeviceIfFaultless S.Store conn u.conn u.fault) }
+        ensures cause { IfErr result (λ u. ((s : Machine) → IsFirstDesk S.Store conn s
+            → HasMetaRowids (state S.Store conn).now.trees) → IsNoDeviceIfFaultless S.Store conn u.conn u.fault) }
         ensures autocommit { IfErr result (λ u. conn.in_transaction ≡ false → u.conn.in_transaction ≡ false) }
         ensures again { IfErr result (λ u. HasCleanDisk (state S.Store u.conn)
             → IsTrue (state S.Store u.conn).is_open → (s : Machine) → IsFirstDesk S.Store conn s

@@ -1,5 +1,5 @@
 -- In a blank database, no CREATE TABLE and no first row of a new desk is refused.
-use Rattle.std.proofs.Common.{◌≡◌, ◌≤◌, ◌+◌, ◌^◌, inl, inr, ℕ, List, [], ◌∷◌, length, Ok, Err, Option, None, Some, true, false, IsUtf8, refl, sym, ap, subst, ◌∙◌, arith, codes, IsTrue, lit≤, nat_lt, zero, suc, pos}
+use Rattle.std.proofs.Common.{◌≡◌, ◌≤◌, ◌<◌, ◌+◌, ◌*◌, ◌^◌, inl, inr, ℕ, List, [], ◌∷◌, length, Ok, Err, Option, None, Some, true, false, IsUtf8, refl, sym, ap, subst, ◌∙◌, arith, codes, IsTrue, lit≤, nat_lt, zero, suc, pos}
 use Rattle.std.specs.List.{AllByRecursion, list_all}
 use Rattle.std.specs.Ordering.{is_eq}
 use Rattle.std.specs.Str.{IsAscii}
@@ -27,7 +27,7 @@ use Rattle.sqlite.specs.State.{State, mode_of, ExecutesInside}
 use Rattle.sqlite.specs.Steps.{FailsToCommit}
 use Rattle.sqlite_catalog.specs.declared.error.Refusal.{Refusal}
 use Rattle.sqlite_catalog.specs.declared.error.Refusal.TheVariants.{Invalid, NameTaken, BadName, TooBig, BadKey, BadText, Violates}
-use Rattle.sqlite_catalog.specs.Calls.{RefusesTable}
+use Rattle.sqlite_catalog.specs.Calls.{IsLongTable, RefusesTable}
 use Rattle.sqlite_catalog.specs.Listing.{is_formed, is_fit}
 use Rattle.sqlite_schema.specs.declared.schema.Index.{Index}
 use Rattle.sqlite_schema.specs.Rules.{table_reals, index_reals}
@@ -36,17 +36,18 @@ use Rattle.sqlite_value.proofs.OrderLemmas.{value_cmp-Text}
 use Rattle.sqlite_rules.specs.Lists.{Has}
 use Rattle.sqlite_rules.proofs.ListLemmas.{all_has}
 use Rattle.sqlite_tied.specs.Compute.{everything}
-use Rattle.tb_tables.specs.Failing.{IsStoreFault, IsWhole, AreUnique}
+use Rattle.tb_tables.specs.Failing.{AreUnique, IsDiskFaultOrWant, IsWhole}
 use Rattle.tb_tables.specs.Records.{batch_view, sentence_view, revision_view}
 use Rattle.tb_tables.specs.Making.{Makes, Takes, IsBare, IsVersioned, empty_tables, no_schema, first_schema}
 use Rattle.tb_tables.specs.Texts.{meta_text, batches_text, sentences_text, revisions_text, moves_text, totals_text, pulled_text}
 use Rattle.tb_tables.specs.Layout.{desk_schema, meta, batches, sentences, revisions, moves, totals, pulled}
 use Rattle.tb_tables.proofs.Making.{same_command, same_statement, same_value}
-use Rattle.tb_tables.proofs.Refusing.{IsAllowed, IsWrite, only_fails, rows_fail, store_fault, inserts_stop, never_both}
+use Rattle.tb_tables.proofs.Refusing.{IsAllowed, IsWrite, disk_fault, inserts_stop, only_fails, rows_fail, never_both}
 use Rattle.tb_tables.proofs.Texts.{insert_version, insert_version_is, insert_version_terms, insert_totals, insert_totals_is, insert_totals_terms}
 use Rattle.tb_tables.proofs.Lists.{cast_int, cast_null, lower}
 use Rattle.tb_tables.proofs.Filling.{none_shown, six}
 use Rattle.tb_tables.proofs.Failing.{one_row, in_range}
+use Rattle.tb_tables.proofs.Sizes.{first_totals_fit, version_fits}
 use Rattle.tb_tables.proofs.Unique.{keeps_unique}
 
 ascii_front : (b : ℕ) (bs : List ℕ) → IsAscii bs → nat_lt b 128 ≡ true → IsAscii (b ∷ bs)
@@ -75,6 +76,7 @@ record IsFree (schema : Schema) (text : List ℕ) (table : Table) : Type 0 where
   index_reals : AllByRecursion (λ key. index_reals (table_reals table) key ≡ 0) table.uniques
   formed : is_formed table ≡ true
   fit : is_fit (Text (codes "table")) (Text table.name) (Text table.name) (Text text) ≡ true
+  short : 2 * length table.name + length text + 200 < 10 ^ 9
 
 small : (n : ℕ) → n ≡ 0 → 2 ^ 64 ≤ n → ⊥
 small n e h = omega (arith, e, h)
@@ -100,26 +102,29 @@ module _ (schema : Schema) (text : List ℕ) (table : Table) (f : IsFree schema 
   never_refused BadText (t, is, h) = never_both _ (subst (λ (t : Table). is_fit (Text (codes "table")) (Text t.name) (Text t.name) (Text text) ≡ true) (same t is) f.fit) h
   never_refused (Violates rule) h = h
 
-module _ (old new : State) (schema : Schema) (text : List ℕ) (table : Table) (has : old.now.schema ≡ schema) (makes : Makes schema text table) (takes : Takes schema text) where
-  refused : (stop : Option Error) → MakesTable text old.now (Err stop) → stop ≡ None
-  refused None h = refl
-  refused (Some e) (inl h) = absurd (h.0 takes.utf8)
-  refused (Some e) (inr h) = absurd (takes.never h.0 (subst (λ s. RefusesTable s text h.0) has h.1))
+  never_long : IsLongTable text → ⊥
+  never_long (t, is, long) = let long = subst (λ (t : Table). 10 ^ 9 ≤ 2 * length t.name + length text + 200) (sym (same t is)) long in let short = f.short in omega (arith, short, long)
 
-  never_made : (e : Error) → Does old.step_limit (mode_of old) [] old.now text None CreateTable (Err (Some e)) → ⊥
-  never_made e (inl (stop, inl (why, first, ends), is)) = let none = refused why first in absurd cc
-  never_made e (inl (stop, inr (after, made, more), is)) =
+module _ (old new : State) (schema : Schema) (text : List ℕ) (table : Table) (has : old.now.schema ≡ schema) (makes : Makes schema text table) (takes : Takes schema text) where
+  never_refuses : (stop : Option Error) → MakesTable text old.now (Err stop) → ⊥
+  never_refuses None h = takes.short h
+  never_refuses (Some e) (inl h) = h.0 takes.utf8
+  never_refuses (Some e) (inr h) = takes.never h.0 (subst (λ s. RefusesTable s text h.0) has h.1)
+
+  never_stops : (stop : Option Error) → Does old.step_limit (mode_of old) [] old.now text None CreateTable (Err stop) → ⊥
+  never_stops e (inl (stop, inl (why, first, ends), is)) = never_refuses why first
+  never_stops e (inl (stop, inr (after, made, more), is)) =
       let both : Ok made.table ≡ Ok table = sym made.defined ∙ makes.defined in
       let same : made.table ≡ table = same_value both in
       let now : after.schema ≡ created schema table = made.is ∙ ap (λ s. created s made.table) has ∙ ap (created schema) same in
       let plain : lacks_sequence after.schema ≡ false = ap lacks_sequence now ∙ makes.uncounted in
       absurd (let x = rw plain at more in cc)
-  never_made e (inr (after, made, h)) = absurd cc
+  never_stops e (inr (after, made, h)) = absurd cc
 
-  pub make_fails : (e : Error) → ExecutesInside 0 text [] old new (Err e) → IsStoreFault e
+  pub make_fails : (e : Error) → ExecutesInside 0 text [] old new (Err e) → IsDiskFaultOrWant e
   make_fails =
       only_fails old new schema text [] CreateTable has (record { writing = tt; quiet = refl; is = same_command (understood schema text) ∙ makes.command; plain = makes.plain; whole = takes.whole })
-      (λ e h. never_made e (subst (λ t. Does old.step_limit (mode_of old) [] old.now t None CreateTable (Err (Some e))) (same_statement text (understood schema text) ∙ makes.whole) h))
+      (λ stop h. never_stops stop (subst (λ t. Does old.step_limit (mode_of old) [] old.now t None CreateTable (Err stop)) (same_statement text (understood schema text) ∙ makes.whole) h))
 
 -- ---- the seven texts
 
@@ -156,10 +161,11 @@ meta_free = record {
   index_reals = tt;
   formed = refl;
   fit = meta_fit;
+  short = lit≤ tt;
 }
 
 pub takes_meta : Takes (no_schema) meta_text
-takes_meta = record { utf8 = ascii_text meta_text refl; whole = meta_whole; never = never_refused (no_schema) meta_text (record meta { tree = 0 }) meta_free }
+takes_meta = record { utf8 = ascii_text meta_text refl; whole = meta_whole; never = never_refused (no_schema) meta_text (record meta { tree = 0 }) meta_free; short = never_long (no_schema) meta_text (record meta { tree = 0 }) meta_free }
 
 batches_whole : IsWhole (length batches_text) 0 (understood (created no_schema (record meta { tree = 0 })) batches_text)
 unfolding understood everything
@@ -182,10 +188,11 @@ batches_free = record {
   index_reals = (refl, tt);
   formed = refl;
   fit = batches_fit;
+  short = lit≤ tt;
 }
 
 pub takes_batches : Takes (created no_schema (record meta { tree = 0 })) batches_text
-takes_batches = record { utf8 = ascii_text batches_text refl; whole = batches_whole; never = never_refused (created no_schema (record meta { tree = 0 })) batches_text (record batches { tree = 0 }) batches_free }
+takes_batches = record { utf8 = ascii_text batches_text refl; whole = batches_whole; never = never_refused (created no_schema (record meta { tree = 0 })) batches_text (record batches { tree = 0 }) batches_free; short = never_long (created no_schema (record meta { tree = 0 })) batches_text (record batches { tree = 0 }) batches_free }
 
 sentences_whole : IsWhole (length sentences_text) 0 (understood (created (created no_schema (record meta { tree = 0 })) (record batches { tree = 0 })) sentences_text)
 unfolding understood everything
@@ -208,10 +215,11 @@ sentences_free = record {
   index_reals = (refl, tt);
   formed = refl;
   fit = sentences_fit;
+  short = lit≤ tt;
 }
 
 pub takes_sentences : Takes (created (created no_schema (record meta { tree = 0 })) (record batches { tree = 0 })) sentences_text
-takes_sentences = record { utf8 = ascii_text sentences_text refl; whole = sentences_whole; never = never_refused (created (created no_schema (record meta { tree = 0 })) (record batches { tree = 0 })) sentences_text (record sentences { tree = 0 }) sentences_free }
+takes_sentences = record { utf8 = ascii_text sentences_text refl; whole = sentences_whole; never = never_refused (created (created no_schema (record meta { tree = 0 })) (record batches { tree = 0 })) sentences_text (record sentences { tree = 0 }) sentences_free; short = never_long (created (created no_schema (record meta { tree = 0 })) (record batches { tree = 0 })) sentences_text (record sentences { tree = 0 }) sentences_free }
 
 revisions_whole : IsWhole (length revisions_text) 0 (understood (created (created (created no_schema (record meta { tree = 0 })) (record batches { tree = 0 })) (record sentences { tree = 0 })) revisions_text)
 unfolding understood everything
@@ -234,10 +242,11 @@ revisions_free = record {
   index_reals = (refl, tt);
   formed = refl;
   fit = revisions_fit;
+  short = lit≤ tt;
 }
 
 pub takes_revisions : Takes (created (created (created no_schema (record meta { tree = 0 })) (record batches { tree = 0 })) (record sentences { tree = 0 })) revisions_text
-takes_revisions = record { utf8 = ascii_text revisions_text refl; whole = revisions_whole; never = never_refused (created (created (created no_schema (record meta { tree = 0 })) (record batches { tree = 0 })) (record sentences { tree = 0 })) revisions_text (record revisions { tree = 0 }) revisions_free }
+takes_revisions = record { utf8 = ascii_text revisions_text refl; whole = revisions_whole; never = never_refused (created (created (created no_schema (record meta { tree = 0 })) (record batches { tree = 0 })) (record sentences { tree = 0 })) revisions_text (record revisions { tree = 0 }) revisions_free; short = never_long (created (created (created no_schema (record meta { tree = 0 })) (record batches { tree = 0 })) (record sentences { tree = 0 })) revisions_text (record revisions { tree = 0 }) revisions_free }
 
 moves_whole : IsWhole (length moves_text) 0 (understood (first_schema) moves_text)
 unfolding understood everything
@@ -260,10 +269,11 @@ moves_free = record {
   index_reals = tt;
   formed = refl;
   fit = moves_fit;
+  short = lit≤ tt;
 }
 
 pub takes_moves : Takes (first_schema) moves_text
-takes_moves = record { utf8 = ascii_text moves_text refl; whole = moves_whole; never = never_refused (first_schema) moves_text (record moves { tree = 0 }) moves_free }
+takes_moves = record { utf8 = ascii_text moves_text refl; whole = moves_whole; never = never_refused (first_schema) moves_text (record moves { tree = 0 }) moves_free; short = never_long (first_schema) moves_text (record moves { tree = 0 }) moves_free }
 
 totals_whole : IsWhole (length totals_text) 0 (understood (created (first_schema) (record moves { tree = 0 })) totals_text)
 unfolding understood everything
@@ -286,10 +296,11 @@ totals_free = record {
   index_reals = tt;
   formed = refl;
   fit = totals_fit;
+  short = lit≤ tt;
 }
 
 pub takes_totals : Takes (created (first_schema) (record moves { tree = 0 })) totals_text
-takes_totals = record { utf8 = ascii_text totals_text refl; whole = totals_whole; never = never_refused (created (first_schema) (record moves { tree = 0 })) totals_text (record totals { tree = 0 }) totals_free }
+takes_totals = record { utf8 = ascii_text totals_text refl; whole = totals_whole; never = never_refused (created (first_schema) (record moves { tree = 0 })) totals_text (record totals { tree = 0 }) totals_free; short = never_long (created (first_schema) (record moves { tree = 0 })) totals_text (record totals { tree = 0 }) totals_free }
 
 pulled_whole : IsWhole (length pulled_text) 0 (understood (created (created (first_schema) (record moves { tree = 0 })) (record totals { tree = 0 })) pulled_text)
 unfolding understood everything
@@ -312,10 +323,11 @@ pulled_free = record {
   index_reals = tt;
   formed = refl;
   fit = pulled_fit;
+  short = lit≤ tt;
 }
 
 pub takes_pulled : Takes (created (created (first_schema) (record moves { tree = 0 })) (record totals { tree = 0 })) pulled_text
-takes_pulled = record { utf8 = ascii_text pulled_text refl; whole = pulled_whole; never = never_refused (created (created (first_schema) (record moves { tree = 0 })) (record totals { tree = 0 })) pulled_text (record pulled { tree = 0 }) pulled_free }
+takes_pulled = record { utf8 = ascii_text pulled_text refl; whole = pulled_whole; never = never_refused (created (created (first_schema) (record moves { tree = 0 })) (record totals { tree = 0 })) pulled_text (record pulled { tree = 0 }) pulled_free; short = never_long (created (created (first_schema) (record moves { tree = 0 })) (record totals { tree = 0 })) pulled_text (record pulled { tree = 0 }) pulled_free }
 
 -- ---- the first rows
 
@@ -334,13 +346,13 @@ version_given db e (inr h) = let x = h.1 in absurd cc
 abbrev all_unique : AreUnique empty_tables
 all_unique = record { batches = tt; sentences = tt; revisions = tt }
 
-pub version_fails : (old new : State) (e : Error) → IsBare old desk_schema → old.step_limit ≡ None → ExecutesInside 0 insert_version [] old new (Err e) → IsStoreFault e
+pub version_fails : (old new : State) (e : Error) → IsBare old desk_schema → old.step_limit ≡ None → ExecutesInside 0 insert_version [] old new (Err e) → IsDiskFaultOrWant e
 version_fails old new e bare unlimited ran =
     let db = old.now.trees in
     let none : db 0 ≡ [] = bare.empty.0 in
     let stored : Row = Int (pos 1) ∷ Int (pos 2) ∷ [] in
     let it : edit_of db meta [] Chosen 0 ((Null ∷ Int (pos 2) ∷ []) ∷ []) ≡ one_row meta stored = rw (cast_null, cast_int (pos 2), none) refl in
-    let allowed : IsAllowed (Unit {0}) db (one_row meta stored) = record {
+    let allowed : IsAllowed ⊥ db (one_row meta stored) = record {
       typed = refl;
       present = refl;
       checked = refl;
@@ -349,10 +361,10 @@ version_fails old new e bare unlimited ran =
       fits = rw (in_range 1 (omega arith)) refl;
       referred = refl;
       unique = keeps_unique empty_tables (with_tree db 0 (put_row stored (db 0))) (none_shown batch_view _ bare.empty.1.0) (none_shown sentence_view _ bare.empty.1.1.0) (none_shown revision_view _ bare.empty.1.1.1.0) all_unique;
-      big = λ _. tt;
+      big = λ h. version_fits (pos 1) h.0 h.1 h.2;
     } in
-    store_fault old new e (rows_fail (Unit {0}) old new insert_version [] (Insert 0 (Values insert_version_terms 2)) meta bare.is unlimited version_is (λ e h. h)
-    (inserts_stop db meta [] (Unit {0}) (Values insert_version_terms 2) refl (version_given db) (λ rows is. subst (IsAllowed (Unit {0}) db) (sym (ap (edit_of db meta [] Chosen 0) is.1 ∙ it)) allowed)) e ran)
+    disk_fault old new e (rows_fail ⊥ old new insert_version [] (Insert 0 (Values insert_version_terms 2)) meta bare.is unlimited version_is (λ e h. h)
+    (inserts_stop db meta [] ⊥ (Values insert_version_terms 2) refl (version_given db) (λ rows is. subst (IsAllowed ⊥ db) (sym (ap (edit_of db meta [] Chosen 0) is.1 ∙ it)) allowed)) e ran)
 
 totals_whole_text : IsWhole (length insert_totals) 0 (understood desk_schema insert_totals)
 unfolding understood everything
@@ -366,14 +378,14 @@ unfolding everything
 totals_given db e (inl h) = let x = h.1 in absurd cc
 totals_given db e (inr h) = let x = h.1 in absurd cc
 
-pub totals_fails : (old new : State) (e : Error) → IsVersioned old → old.step_limit ≡ None → ExecutesInside 0 insert_totals [] old new (Err e) → IsStoreFault e
+pub totals_fails : (old new : State) (e : Error) → IsVersioned old → old.step_limit ≡ None → ExecutesInside 0 insert_totals [] old new (Err e) → IsDiskFaultOrWant e
 totals_fails old new e start unlimited ran =
     let db = old.now.trees in
     let none : db 8 ≡ [] = start.empty.1.1.1.1.0 in
     let fill : Edit = record { table = totals; gone = []; news = six } in
     let it : edit_of db totals [] Chosen 0 six ≡ fill = rw (cast_int (pos 0), cast_int (pos 1), cast_int (pos 2), cast_int (pos 3), cast_int (pos 4), cast_int (pos 5), cast_int (pos 6), cast_null) refl in
     let fresh : are_fresh (db 8) six ≡ true = rw (none, lower 1 2 (omega arith), lower 1 3 (omega arith), lower 2 3 (omega arith), lower 1 4 (omega arith), lower 2 4 (omega arith), lower 3 4 (omega arith), lower 1 5 (omega arith), lower 2 5 (omega arith), lower 3 5 (omega arith), lower 4 5 (omega arith), lower 1 6 (omega arith), lower 2 6 (omega arith), lower 3 6 (omega arith), lower 4 6 (omega arith), lower 5 6 (omega arith)) refl in
-    let allowed : IsAllowed (Unit {0}) db fill = record {
+    let allowed : IsAllowed ⊥ db fill = record {
       typed = refl;
       present = refl;
       checked = refl;
@@ -382,13 +394,13 @@ totals_fails old new e start unlimited ran =
       referred = refl;
       fits = rw (in_range 1 (omega arith), in_range 2 (omega arith), in_range 3 (omega arith), in_range 4 (omega arith), in_range 5 (omega arith), in_range 6 (omega arith)) refl;
       unique = keeps_unique empty_tables (with_tree db 8 (edited db fill)) (none_shown batch_view _ start.empty.0) (none_shown sentence_view _ start.empty.1.0) (none_shown revision_view _ start.empty.1.1.0) all_unique;
-      big = λ _. tt;
+      big = λ h. first_totals_fit h.0 h.1 h.2;
     } in
-    store_fault old new e (rows_fail (Unit {0}) old new insert_totals [] (Insert 5 (Values insert_totals_terms 4)) totals start.inside.schema unlimited totals_is (λ e h. h)
-    (inserts_stop db totals [] (Unit {0}) (Values insert_totals_terms 4) refl (totals_given db) (λ rows is. subst (IsAllowed (Unit {0}) db) (sym (ap (edit_of db totals [] Chosen 0) is.1 ∙ it)) allowed)) e ran)
+    disk_fault old new e (rows_fail ⊥ old new insert_totals [] (Insert 5 (Values insert_totals_terms 4)) totals start.inside.schema unlimited totals_is (λ e h. h)
+    (inserts_stop db totals [] ⊥ (Values insert_totals_terms 4) refl (totals_given db) (λ rows is. subst (IsAllowed ⊥ db) (sym (ap (edit_of db totals [] Chosen 0) is.1 ∙ it)) allowed)) e ran)
 
 -- ---- the commit
 
-pub commit_fails : (old new : State) (e : Error) → IsTrue old.in_transaction → FailsToCommit old new e → IsStoreFault e
-commit_fails old new e begun (inl f) = (f.0, f.1)
+pub commit_fails : (old new : State) (e : Error) → IsTrue old.in_transaction → FailsToCommit old new e → IsDiskFaultOrWant e
+commit_fails old new e begun (inl f) = disk_fault old new e f
 commit_fails old new e begun (inr late) = absurd (let x = begun in let y = late.1 in cc)

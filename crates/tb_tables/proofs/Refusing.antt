@@ -40,7 +40,7 @@ use Rattle.sqlite_trees.specs.declared.error.StoreError.{StoreError}
 use Rattle.sqlite_trees.specs.declared.error.StoreError.TheVariants.{OutOfMemory, Io, Corrupt, Full, Broken, Unstorable}
 use Rattle.sqlite_trees.proofs.ListLemmas.{all_of}
 use Rattle.tb_tables.specs.Layout.{desk_schema}
-use Rattle.tb_tables.specs.Failing.{IsStoreFault, IsWhole}
+use Rattle.tb_tables.specs.Failing.{IsDiskFaultOrWant, IsStoreFault, IsWant, IsWhole, NeedsNoFault}
 
 -- ---- an edit
 
@@ -300,16 +300,30 @@ fault_only : {Big : Type 0} (old new : State) (e : Error) → Fails old new Big 
 fault_only old new e (inl fault) = fault
 fault_only old new e (inr none) = absurd none
 
--- of a command that is refused nothing, whatever its size
+-- a failure where nothing is too big
+pub disk_fault : (old new : State) (e : Error) → Fails old new ⊥ e → IsDiskFaultOrWant e
+disk_fault old new e (OutOfMemory, is, cause, rolled, reported) = (OutOfMemory, (λ x. absurd cc), is)
+disk_fault old new e (Io, is, cause, rolled, reported) = (Io, (λ x. absurd cc), is)
+disk_fault old new e (Corrupt, is, cause, rolled, reported) = (Corrupt, (λ x. absurd cc), is)
+disk_fault old new e (Full, is, cause, rolled, reported) = (Full, (λ x. absurd cc), is)
+disk_fault old new e (Broken, is, cause, rolled, reported) = (Broken, (λ x. absurd cc), is)
+disk_fault old new e (Unstorable, is, cause, rolled, reported) = absurd cause
+
+-- an error that needs neither a size nor a fault of the disk is want of memory
+pub want_left : (e : Error) → IsDiskFaultOrWant e → NeedsNoFault e → IsWant e
+want_left e (OutOfMemory, small, is) none = is
+want_left e (Io, small, is) none = absurd (subst NeedsNoFault is none)
+want_left e (Corrupt, small, is) none = absurd (subst NeedsNoFault is none)
+want_left e (Full, small, is) none = absurd (subst NeedsNoFault is none)
+want_left e (Broken, small, is) none = absurd (subst NeedsNoFault is none)
+want_left e (Unstorable, small, is) none = absurd (small refl)
+
+-- of a command that is refused nothing, and to which nothing is too big
 pub only_fails : (old new : State) (schema : Schema) (sql : List ℕ) (params : Row) (command : Command) → old.now.schema ≡ schema → IsWrite schema sql (length params) command
-    → ((e : Error) → Does old.step_limit (mode_of old) params old.now (statement_of sql (understood schema sql)) None command (Err (Some e)) → ⊥)
-    → (e : Error) → ExecutesInside 0 sql params old new (Err e) → IsStoreFault e
+    → ((stop : Option Error) → Does old.step_limit (mode_of old) params old.now (statement_of sql (understood schema sql)) None command (Err stop) → ⊥)
+    → (e : Error) → ExecutesInside 0 sql params old new (Err e) → IsDiskFaultOrWant e
 only_fails old new schema sql params command has it never e ran =
-    store_fault old new e (fault_only old new e (fails_or (Unit {0}) (λ _. ⊥) old new schema sql params command has it any e ran))
-  where
-    any : (stop : Option Error) → Does old.step_limit (mode_of old) params old.now (statement_of sql (understood schema sql)) None command (Err stop) → Stops (Unit {0}) (λ _. ⊥) stop
-    any None h = tt
-    any (Some e) h = never e h
+    disk_fault old new e (fault_only old new e (fails_or ⊥ (λ _. ⊥) old new schema sql params command has it (λ stop h. absurd (never stop h)) e ran))
 
 -- a statement on the rows of one of the tables
 pub rows_fail_or : (Big : Type 0) (P : Error → Type 0) (old new : State) (sql : List ℕ) (params : Row) (command : Command) (table : Table) → old.now.schema ≡ desk_schema → old.step_limit ≡ None

@@ -6,9 +6,9 @@ use Rattle.std.specs.Ordering.{int_cmp}
 use Rattle.std.specs.List.{AllByRecursion}
 use Rattle.sqlite.specs.declared.types.Value.{Value}
 use Rattle.sqlite.specs.declared.types.Value.TheVariants.{Int}
-use Rattle.sqlite.specs.Order.{Row, value_cmp}
+use Rattle.sqlite.specs.Order.{Row, column, value_cmp}
 use Rattle.sqlite.specs.State.{State}
-use Rattle.sqlite.specs.Tree.{rowid, put_row}
+use Rattle.sqlite.specs.Tree.{Trees, rowid, put_row}
 use Rattle.sqlite_value.proofs.OrderLemmas.{value_cmp-Int}
 use Rattle.sqlite_trees.specs.Tree.{IsTable}
 use Rattle.sqlite_trees.specs.View.{is_int}
@@ -19,7 +19,7 @@ use Rattle.sqlite_rules.proofs.ListLemmas.{all_has, all_from}
 use Rattle.sqlite_rules.proofs.TableLemmas.{int_is, next_after}
 use Rattle.tb_tables.specs.Records.{Tables, Revision}
 use Rattle.tb_tables.specs.Changes.{with_revision}
-use Rattle.tb_tables.specs.Failing.{HasRowids}
+use Rattle.tb_tables.specs.Failing.{HasMetaRowids, HasRowids}
 use Rattle.tb_tables.proofs.Meaning.{Sets, Puts, no_index, revision_stored}
 
 abbrev AreKeyed : List Row → Type 0
@@ -83,3 +83,12 @@ pub rowids_left : (old new : State) (d : Tables) (r : Revision) → Puts old new
 rowids_left old new d r puts n h =
     let fewer : n - length (with_revision d r).revisions ≡ (n - length d.revisions) - 1 = omega (arith, length-append d.revisions (r ∷ [])) in
     subst (λ k. HasRowids k (new.now.trees 5)) (sym fewer) (subst (HasRowids ((n - length d.revisions) - 1)) (sym puts.sets.rows) (one_fewer (old.now.trees 5) _ (n - length d.revisions) h))
+
+-- the number of the only row of `meta`
+pub meta_in_range : (db : Trees) (r : Row) (n : ℤ) → db 0 ≡ r ∷ [] → column r 0 ≡ Int n → HasMetaRowids db → fits_i64 n ≡ true
+meta_in_range db r n one id has =
+    let first = subst (AllByRecursion (λ (x : Row). fits_i64 (id_in (rowid x)) ≡ true)) one has in
+    subst (λ (v : Value). fits_i64 (id_in v) ≡ true) id first.0
+
+pub same_meta_rowids : (before after : Trees) → after 0 ≡ before 0 → HasMetaRowids before → HasMetaRowids after
+same_meta_rowids before after same has = subst (AllByRecursion (λ (x : Row). fits_i64 (id_in (rowid x)) ≡ true)) (sym same) has

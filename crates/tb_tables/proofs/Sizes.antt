@@ -16,9 +16,11 @@ use Rattle.sqlite_schema.specs.Rules.{table_reals, index_reals}
 use Rattle.sqlite_rules.specs.Lists.{Has}
 use Rattle.sqlite_rules.specs.Edit.{IsOversized, next_rowid}
 use Rattle.sqlite_rules.proofs.ListLemmas.{all_has}
-use Rattle.tb_tables.specs.Layout.{desk_schema, batches, sentences, revisions, moves, totals, pulled}
+use Rattle.tb_tables.specs.Layout.{desk_schema, meta, batches, sentences, revisions, moves, totals, pulled}
 use Rattle.tb_tables.specs.Records.{Batch, Sentence, Revision, Move, Total}
 use Rattle.tb_tables.specs.Failing.{IsShort}
+use Rattle.tb_tables.specs.Making.{no_total}
+use Rattle.tb_tables.proofs.Filling.{six}
 use Rattle.tb_tables.proofs.Meaning.{batch_stored, sentence_stored, revision_stored, move_stored, pulled_stored}
 
 storable : (entry : Row) → (0 < length entry) × (length entry ≤ 2001) → AllByRecursion (λ v. NotNan (number v)) entry → sum_by (λ v. 18 + length (bytes v)) entry ≤ 10 ^ 9 → IsStorable 0 entry
@@ -87,3 +89,21 @@ unfolding is_nan
 pulled_fits n =
     let row : IsStorable 0 (pulled_stored n) = storable (pulled_stored n) (omega arith) (tt, (tt, tt)) (simp sum_by-cons (omega arith)) in
     none_big pulled (pulled_stored n) (row, omega arith) ((λ at. absurd (omega (arith, at))), ((λ at. absurd (omega (arith, at))), ((λ at. absurd (omega (arith, at))), tt)))
+
+-- the row of the version
+pub version_fits : (n : ℤ) (row : Row) → Has ((Int n ∷ Int (pos 2) ∷ []) ∷ []) row → IsOversized desk_schema meta row → ⊥
+unfolding is_nan
+version_fits n =
+    let stored : Row = Int n ∷ Int (pos 2) ∷ [] in
+    let row : IsStorable 0 stored = storable stored (omega arith) (whole n, (tt, tt)) (simp sum_by-cons (omega arith)) in
+    none_big meta stored (row, omega arith) ((λ at. absurd (omega (arith, at))), ((λ at. absurd (omega (arith, at))), ((λ at. absurd (omega (arith, at))), tt)))
+
+-- the six rows of a new desk's totals
+pub first_totals_fit : (row : Row) → Has six row → IsOversized desk_schema totals row → ⊥
+first_totals_fit row (inl is) = total_fits 1 no_total row (inl is)
+first_totals_fit row (inr (inl is)) = total_fits 2 no_total row (inl is)
+first_totals_fit row (inr (inr (inl is))) = total_fits 3 no_total row (inl is)
+first_totals_fit row (inr (inr (inr (inl is)))) = total_fits 4 no_total row (inl is)
+first_totals_fit row (inr (inr (inr (inr (inl is))))) = total_fits 5 no_total row (inl is)
+first_totals_fit row (inr (inr (inr (inr (inr (inl is)))))) = total_fits 6 no_total row (inl is)
+first_totals_fit row (inr (inr (inr (inr (inr (inr none)))))) = absurd none

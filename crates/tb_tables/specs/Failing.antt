@@ -8,18 +8,23 @@ use Rattle.sqlite.specs.declared.error.ErrorCode.TheVariants.{NoRowid, OutOfMemo
 use Rattle.sqlite.specs.declared.error.ErrorCode.TheVariants.{DiskFull, Closed}
 use Rattle.sqlite.specs.State.{store_error}
 use Rattle.sqlite.specs.Order.{Row}
-use Rattle.sqlite.specs.Tree.{IsTable, rowid}
+use Rattle.sqlite.specs.Tree.{IsTable, rowid, Trees}
 use Rattle.sqlite_resolve.specs.declared.compiled.Compiled.{Compiled}
 use Rattle.sqlite_resolve.specs.declared.error.CompileError.{CompileError}
 use Rattle.sqlite_trees.specs.declared.error.StoreError.{StoreError}
+use Rattle.sqlite_trees.specs.declared.error.StoreError.TheVariants.{Unstorable}
 use Rattle.sqlite_trees.specs.View.{is_int}
 use Rattle.sqlite_sql.specs.Ops.{fits_i64}
-use Rattle.sqlite_rules.specs.Edit.{next_rowid}
+use Rattle.sqlite_rules.specs.Edit.{id_in, next_rowid}
 use Rattle.tb_tables.specs.Records.{Tables, Batch, Sentence, Revision}
 
 -- a fault of the store, of its size, or want of memory: the database refused nothing
 abbrev pub IsStoreFault : Error → Type 0
 IsStoreFault e = (cause : StoreError) × (e ≡ store_error cause)
+
+-- a fault of the store, or want of memory: the database refused nothing, and nothing is too big
+abbrev pub IsDiskFaultOrWant : Error → Type 0
+IsDiskFaultOrWant e = (cause : StoreError) × (cause ≢ Unstorable) × (e ≡ store_error cause)
 
 -- a fault of the store, or no rowid is left for one more row
 abbrev pub IsRoomFault : Error → Type 0
@@ -53,6 +58,10 @@ pub record HasRowids (count : ℕ) (rows : List Row) : Type 0 where
   pub ascend : IsTable rows
   pub keyed : AllByRecursion (λ r. IsTrue (is_int (rowid r))) rows
   pub room : (i : ℕ) → i < count → fits_i64 (next_rowid rows +ℤ pos i) ≡ true
+
+-- The rows of `meta` have numbers of 64 bits, as all rows of a file have.
+abbrev pub HasMetaRowids : Trees → Type 0
+HasMetaRowids trees = AllByRecursion (λ r. fits_i64 (id_in (rowid r)) ≡ true) (trees 0)
 
 -- a text of n bytes is one statement, with k parameters
 abbrev pub IsWhole : ℕ → ℕ → Result Compiled CompileError → Type 0

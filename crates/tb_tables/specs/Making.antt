@@ -18,7 +18,7 @@ use Rattle.sqlite_resolve.specs.declared.error.CompileError.{CompileError}
 use Rattle.tb_tables.specs.Layout.{meta, batches, sentences, revisions}
 use Rattle.tb_tables.specs.Records.{Tables, Total, Shows, meta_view, number_shown}
 use Rattle.sqlite_catalog.specs.declared.error.Refusal.{Refusal}
-use Rattle.sqlite_catalog.specs.Calls.{RefusesTable}
+use Rattle.sqlite_catalog.specs.Calls.{IsLongTable, RefusesTable}
 use Rattle.tb_tables.specs.Changes.{IsInside}
 use Rattle.tb_tables.specs.Failing.{IsWhole}
 
@@ -80,8 +80,10 @@ pub record Makes (schema : Schema) (text : List ℕ) (table : Table) : Type 0 wh
   pub defined : table_defined_by text ≡ Ok table
   pub uncounted : lacks_sequence (created schema table) ≡ false
 
--- CREATE TABLE accepts the text in the schema: it is one statement without parameters, and nothing refuses it
+-- CREATE TABLE accepts the text in the schema: it is one statement without parameters, nothing refuses it, and the row
+-- that SQLite keeps for it can be stored
 pub record Takes (schema : Schema) (text : List ℕ) : Type 0 where
   pub utf8 : IsUtf8 text
   pub whole : IsWhole (length text) 0 (understood schema text)
   pub never : (why : Refusal) → RefusesTable schema text why → ⊥
+  pub short : IsLongTable text → ⊥

@@ -11,7 +11,7 @@ ghost use Rattle.tb_tables.specs.Records.{AreStored};
 ghost use Rattle.tb_tables.specs.Changes.{IsInside, Holds};
 ghost use Rattle.tb_tables.specs.Making.{no_schema, first_schema, empty_tables, IsBlank, IsBare, IsVersioned, Makes};
 ghost use Rattle.tb_tables.specs.Making.{Takes};
-ghost use Rattle.tb_tables.specs.Failing.{IsStoreFault, NeedsNoFault};
+ghost use Rattle.tb_tables.specs.Failing.{IsDiskFaultOrWant, NeedsNoFault};
 ghost use Rattle.tb_tables.specs.Leaving.{BlamesNoDisk, KeepsCommitted};
 
 use sqlite::{Alter, Connection, Error, Transaction};
@@ -24,7 +24,7 @@ fn make<S: Alter>(tx: &mut Transaction<'_, S>, text: &str) -> Result<(), Error>
         → IsBare (state S.Store tx.new.conn.now) (created schema table)) }
     ensures fails { HasCleanDisk (state S.Store tx.new.conn.now) → (schema : Schema) → (table : Table)
         → IsBare (state S.Store tx.old.conn.now) schema → Makes schema text.now table → Takes schema text.now
-        → IfErr result IsStoreFault }
+        → IfErr result IsDiskFaultOrWant }
     ensures cause { BlamesNoDisk NeedsNoFault S.Store tx.old.conn.now tx.new.conn.now result }
     ensures keeps_committed { KeepsCommitted S.Store tx.old.conn.now tx.new.conn.now }
     ensures survives { Survives (state S.Store tx.old.conn.now) (state S.Store tx.new.conn.now) (λ _. ⊥) }
@@ -40,7 +40,7 @@ fn make_first<S: Alter>(tx: &mut Transaction<'_, S>) -> Result<(), Error>
         → OnOk result (IsBare (state S.Store tx.old.conn.now) no_schema
         → IsBare (state S.Store tx.new.conn.now) first_schema) }
     ensures fails { HasCleanDisk (state S.Store tx.new.conn.now) → IsBare (state S.Store tx.old.conn.now) no_schema
-        → IfErr result IsStoreFault }
+        → IfErr result IsDiskFaultOrWant }
     ensures cause { BlamesNoDisk NeedsNoFault S.Store tx.old.conn.now tx.new.conn.now result }
     ensures keeps_committed { KeepsCommitted S.Store tx.old.conn.now tx.new.conn.now }
     ensures survives { Survives (state S.Store tx.old.conn.now) (state S.Store tx.new.conn.now) (λ _. ⊥) }
@@ -68,7 +68,7 @@ fn make_last<S: Alter>(tx: &mut Transaction<'_, S>) -> Result<(), Error>
         → OnOk result (IsBare (state S.Store tx.old.conn.now) first_schema
         → IsBare (state S.Store tx.new.conn.now) desk_schema) }
     ensures fails { HasCleanDisk (state S.Store tx.new.conn.now) → IsBare (state S.Store tx.old.conn.now) first_schema
-        → IfErr result IsStoreFault }
+        → IfErr result IsDiskFaultOrWant }
     ensures cause { BlamesNoDisk NeedsNoFault S.Store tx.old.conn.now tx.new.conn.now result }
     ensures keeps_committed { KeepsCommitted S.Store tx.old.conn.now tx.new.conn.now }
     ensures survives { Survives (state S.Store tx.old.conn.now) (state S.Store tx.new.conn.now) (λ _. ⊥) }
@@ -92,7 +92,7 @@ fn insert_version<S: Alter>(tx: &mut Transaction<'_, S>) -> Result<(), Error>
         → OnOk result (IsBare (state S.Store tx.old.conn.now) desk_schema
         → IsVersioned (state S.Store tx.new.conn.now)) }
     ensures fails { HasCleanDisk (state S.Store tx.new.conn.now) → (state S.Store tx.old.conn.now).step_limit ≡ None
-        → IsBare (state S.Store tx.old.conn.now) desk_schema → IfErr result IsStoreFault }
+        → IsBare (state S.Store tx.old.conn.now) desk_schema → IfErr result IsDiskFaultOrWant }
     ensures cause { BlamesNoDisk NeedsNoFault S.Store tx.old.conn.now tx.new.conn.now result }
     ensures keeps_committed { KeepsCommitted S.Store tx.old.conn.now tx.new.conn.now }
     ensures survives { Survives (state S.Store tx.old.conn.now) (state S.Store tx.new.conn.now) (λ _. ⊥) }
@@ -108,7 +108,7 @@ fn insert_totals<S: Alter>(tx: &mut Transaction<'_, S>) -> Result<(), Error>
         → OnOk result (IsVersioned (state S.Store tx.old.conn.now) → IsInside (state S.Store tx.new.conn.now)
         × AreStored empty_tables (state S.Store tx.new.conn.now).now.trees) }
     ensures fails { HasCleanDisk (state S.Store tx.new.conn.now) → (state S.Store tx.old.conn.now).step_limit ≡ None
-        → IsVersioned (state S.Store tx.old.conn.now) → IfErr result IsStoreFault }
+        → IsVersioned (state S.Store tx.old.conn.now) → IfErr result IsDiskFaultOrWant }
     ensures cause { BlamesNoDisk NeedsNoFault S.Store tx.old.conn.now tx.new.conn.now result }
     ensures keeps_committed { KeepsCommitted S.Store tx.old.conn.now tx.new.conn.now }
     ensures survives { Survives (state S.Store tx.old.conn.now) (state S.Store tx.new.conn.now) (λ _. ⊥) }
@@ -127,7 +127,7 @@ fn make_all<S: Alter>(tx: &mut Transaction<'_, S>) -> Result<(), Error>
         → OnOk result (IsBare (state S.Store tx.old.conn.now) no_schema → IsInside (state S.Store tx.new.conn.now)
         × AreStored empty_tables (state S.Store tx.new.conn.now).now.trees) }
     ensures fails { HasCleanDisk (state S.Store tx.new.conn.now) → (state S.Store tx.old.conn.now).step_limit ≡ None
-        → IsBare (state S.Store tx.old.conn.now) no_schema → IfErr result IsStoreFault }
+        → IsBare (state S.Store tx.old.conn.now) no_schema → IfErr result IsDiskFaultOrWant }
     ensures cause { BlamesNoDisk NeedsNoFault S.Store tx.old.conn.now tx.new.conn.now result }
     ensures keeps_committed { KeepsCommitted S.Store tx.old.conn.now tx.new.conn.now }
     ensures survives { Survives (state S.Store tx.old.conn.now) (state S.Store tx.new.conn.now) (λ _. ⊥) }
@@ -158,7 +158,7 @@ pub fn create<S: Alter>(conn: &mut Connection<S>) -> Result<(), Error>
     ensures err { HasCleanDisk (state S.Store conn.new) → IsTrue (state S.Store conn.new).is_open
         → OnErr result (IsBlank S.Store conn.old → IsBlank S.Store conn.new) }
     ensures fails { HasCleanDisk (state S.Store conn.new) → (state S.Store conn.old).step_limit ≡ None
-        → IsBlank S.Store conn.old → IfErr result IsStoreFault }
+        → IsBlank S.Store conn.old → IfErr result IsDiskFaultOrWant }
     ensures cause { BlamesNoDisk NeedsNoFault S.Store conn.old conn.new result }
     ensures autocommit { conn.new.in_transaction ≡ false }
     ensures crash { Survives (state S.Store conn.old) (state S.Store conn.new) (λ db. IsBlank S.Store conn.old

@@ -1,10 +1,10 @@
 //! Whether a store is a desk of version 1, and the change of one into a desk.
 
 ghost use Rattle.std.specs.Prelude.{◌≡◌, ◌≢◌, ◌≤◌, [], false, None, Err, IsTrue, IfOk, OnOk, OnErr};
-ghost use Rattle.tb_verify.specs.Prelude.{AnyFault, AnyRefusal, AreStored, BlamesNoDisk, HasCleanDisk, Holds, IsDeskOf};
-ghost use Rattle.tb_verify.specs.Prelude.{IsUnchanged, Machine, state, Survives, Tables, tables_of};
+ghost use Rattle.tb_verify.specs.Prelude.{AnyFault, AnyRefusal, AreStored, AreUnique, BlamesNoDisk, HasCleanDisk};
+ghost use Rattle.tb_verify.specs.Prelude.{HasMetaRowids, Holds, IsDeskOf, IsUnchanged, Machine, state, Survives, Tables, tables_of};
 ghost use Rattle.tb_verify.specs.Summary.{IsSummaryOf};
-ghost use Rattle.tb_verify.specs.Version1.{HoldsFirst, AreStoredInVersion1};
+ghost use Rattle.tb_verify.specs.Version1.{AreStoredInVersion1, HoldsFirst};
 ghost use Rattle.tb_verify.specs.Version1Desk.{IsFirstDesk, LooksFirst};
 
 use crate::faults::answered;
@@ -14,7 +14,7 @@ use crate::version1_reading::read_version1_rows;
 use crate::version1_summary::summary_without_pulls;
 use sqlite::{Alter, Connection};
 use std::alloc::Global;
-use tb_core::Fault;
+use tb_core::{Fault, reached_states_are_well};
 use tb_tables::has_version_one_schema;
 
 /// Whether the connection is in no transaction, and its database has exactly the tables of version 1.
@@ -63,6 +63,9 @@ fn convert<S: Alter>(conn: &mut Connection<S>) -> Result<(), Fault>
         → HoldsFirst S.Store conn.old d → Holds S.Store conn.new d) }
     ensures err { HasCleanDisk (state S.Store conn.new) → IsTrue (state S.Store conn.new).is_open
         → OnErr result ((d : Tables) → HoldsFirst S.Store conn.old d → HoldsFirst S.Store conn.new d) }
+    ensures cause { (state S.Store conn.old).step_limit ≡ None → (d : Tables) → HoldsFirst S.Store conn.old d
+        → AreUnique d → HasMetaRowids (state S.Store conn.old).now.trees
+        → BlamesNoDisk (λ (fault : AnyFault). fault ≢ Fault.Device) S.Store conn.old conn.new result }
     ensures no_form { result ≢ Err Fault.NotADesk }
     ensures never_refuses { (r : AnyRefusal) → result ≢ Err (Fault.Refused r) }
     ensures output { result ≢ Err Fault.Output }
@@ -100,8 +103,8 @@ pub fn migrate<S: Alter>(alloc: Global, conn: &mut Connection<S>) -> Result<Desk
     ensures never_refuses { (r : AnyRefusal) → result ≢ Err (Fault.Refused r) }
     ensures output { result ≢ Err Fault.Output }
     ensures wants { result ≡ Err Fault.Memory → LooksFirst S.Store conn.old }
-    ensures cause { ((s : Machine) → IsFirstDesk S.Store conn.old s → ⊥)
-        → (state S.Store conn.old).step_limit ≡ None
+    ensures cause { ((s : Machine) → IsFirstDesk S.Store conn.old s
+        → HasMetaRowids (state S.Store conn.old).now.trees) → (state S.Store conn.old).step_limit ≡ None
         → BlamesNoDisk (λ (fault : AnyFault). fault ≢ Fault.Device) S.Store conn.old conn.new result }
     ensures autocommit { conn.old.in_transaction ≡ false → conn.new.in_transaction ≡ false }
     ensures again { HasCleanDisk (state S.Store conn.new) → IsTrue (state S.Store conn.new).is_open
@@ -109,6 +112,7 @@ pub fn migrate<S: Alter>(alloc: Global, conn: &mut Connection<S>) -> Result<Desk
     ensures crash { Survives (state S.Store conn.old) (state S.Store conn.new) (λ db. (s : Machine)
         → IsFirstDesk S.Store conn.old s → AreStored (tables_of s) db) }
 {
+    reached_states_are_well();
     let summary = read_first_desk(alloc, conn)?;
     convert(conn)?;
     Ok(summary)

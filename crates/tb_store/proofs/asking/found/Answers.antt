@@ -15,12 +15,12 @@ returns-in-Ok-clause-refused g c clean = if_err c.there.result c.there.ensures.n
 
 pub returns-in-Err-clause-refused : goal.returns-in-Err-clause-refused
 returns-in-Err-clause-refused g c clean s desk =
-    refuses_id s c.args.sent_id.now c.in-Err.fault (λ r is. c.in-Err.ensures.never_refuses r (ap Err is))
+    refuses_id s c.args.sent_id.now c.in-Err.fault (λ r is. c.in-Err.ensures.read.never_refuses r (ap Err is))
 
 pub returns-in-Err-clause-fails : goal.returns-in-Err-clause-fails
 returns-in-Err-clause-fails g c clean unlimited s desk bad =
     let failed : c.in-Err.fault ≡ NotADesk = cc in
-    c.in-Err.ensures.fails clean unlimited s desk (ap Err failed)
+    c.in-Err.ensures.read.fails clean unlimited s desk (ap Err failed)
 
 pub returns-in-Ok-clause-read_only : goal.returns-in-Ok-clause-read_only
-returns-in-Ok-clause-read_only g c = read_on _ c.in-Ok.ensures.read_only
+returns-in-Ok-clause-read_only g c = read_on _ c.in-Ok.ensures.read.read_only

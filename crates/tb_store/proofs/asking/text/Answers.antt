@@ -1,7 +1,4 @@
-use Rattle.std.proofs.Common.{◌≡◌, Err}
-use Rattle.std.proofs.lemmas.Result.{err_from_is_err_and}
-use Rattle.tb_core.specs.declared.refusals.Fault.TheVariants.{NotADesk}
-use Rattle.tb_reads.proofs.ReadOnly.{read_failed}
+use Rattle.tb_refine.proofs.DeskReads.{read_stopped, read_well}
 use Rattle.tb_store.proofs.asking.text.Goals as goal
 
 pub returns-clause-answered : goal.returns-clause-answered
@@ -9,14 +6,9 @@ returns-clause-answered g c clean s desk x there =
     let it = c.in_ok-row.ensures.answered clean s desk x there in
     (it.0, it.1, it.2)
 
-pub returns-in_err-row-clause-fails : goal.returns-in_err-row-clause-fails
-returns-in_err-row-clause-fails g c clean unlimited s desk x there q has bad =
-    let reported = err_from_is_err_and c.from_residual.result c.from_residual.ensures.1 in
-    let failed : c.revision_row.result ≡ Err NotADesk = let was = c.in_err-row.was in let one = reported.1 in let two = reported.2 in cc in
-    c.revision_row.ensures.fails clean unlimited s desk x there q has failed
+pub returns-in_err-row-clause-read : goal.returns-in_err-row-clause-read
+returns-in_err-row-clause-read g c =
+    read_stopped c.from_residual.result c.in_err-row.field-0.0 c.from_residual.ensures.1 c.in_err-row.ensures.read (λ clean s desk fails on x there q has. on (fails x there q has))
 
-pub returns-in_err-row-clause-read_only : goal.returns-in_err-row-clause-read_only
-returns-in_err-row-clause-read_only g c = read_failed c.from_residual.result _ c.from_residual.ensures.1 c.revision_row.ensures.read_only
-
-pub returns-clause-read_only : goal.returns-clause-read_only
-returns-clause-read_only g c = c.in_ok-row.ensures.read_only
+pub returns-clause-read : goal.returns-clause-read
+returns-clause-read g c = read_well c.in_ok-row.ensures.read.read_only (λ s fine x there q has. fine)

@@ -1,6 +1,6 @@
 use Rattle.std.proofs.Common.{None, ◌≡◌, ◌≤◌, arith, rules, sym, subst, IsTrue}
 use Rattle.std.proofs.lemmas.Result.{err_from_is_err_and}
-use Rattle.tb_tables.specs.Failing.{IsStoreFault, NeedsNoFault}
+use Rattle.tb_tables.specs.Failing.{IsDiskFaultOrWant, NeedsNoFault}
 use Rattle.tb_tables.proofs.Creating.{commit_fails}
 use Rattle.sqlite.specs.State.{HasCleanDisk}
 use Rattle.sqlite.specs.Held.{state}
@@ -46,7 +46,7 @@ returns-in_err-make_all-clause-fails g c clean unlimited blank =
     let reported = err_from_is_err_and c.from_residual.result c.from_residual.ensures.1 in
     let was : HasCleanDisk (state g.S.Store c.make_all.new.tx.conn.now) = search rules in
     let limit : begun.step_limit ≡ None = rw c.transaction-tx.ensures.begun unlimited in
-    rw reported.1 (subst IsStoreFault (sym reported.2) (c.in_err-make_all.ensures.fails was limit (blank_begins g.S.Store old begun c.transaction-tx.ensures.begun blank)))
+    rw reported.1 (subst IsDiskFaultOrWant (sym reported.2) (c.in_err-make_all.ensures.fails was limit (blank_begins g.S.Store old begun c.transaction-tx.ensures.begun blank)))
 
 pub returns-in_err-commit-clause-fails : goal.returns-in_err-commit-clause-fails
 returns-in_err-commit-clause-fails g c clean unlimited blank =
@@ -58,7 +58,7 @@ returns-in_err-commit-clause-fails g c clean unlimited blank =
     let late : HasCleanDisk (state g.S.Store end) = search rules in
     let was : HasCleanDisk (state g.S.Store last) = omega (arith, c.commit.ensures.survives.clean) in
     let made = c.in_ok-make_all.ensures.ok was (blank_begins g.S.Store old begun c.transaction-tx.ensures.begun blank) in
-    rw reported.1 (subst IsStoreFault (sym reported.2) (commit_fails (state g.S.Store last) (state g.S.Store end) _ made.0.begun (c.in_err-commit.ensures.err late)))
+    rw reported.1 (subst IsDiskFaultOrWant (sym reported.2) (commit_fails (state g.S.Store last) (state g.S.Store end) _ made.0.begun (c.in_err-commit.ensures.err late)))
 
 pub returns-in_err-make_all-clause-cause : goal.returns-in_err-make_all-clause-cause
 returns-in_err-make_all-clause-cause g c clean good =

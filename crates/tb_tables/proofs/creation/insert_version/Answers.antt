@@ -1,6 +1,6 @@
 use Rattle.std.proofs.Common.{sym, subst}
 use Rattle.std.proofs.lemmas.Result.{err_from_is_err_and}
-use Rattle.tb_tables.specs.Failing.{IsStoreFault, NeedsNoFault}
+use Rattle.tb_tables.specs.Failing.{IsDiskFaultOrWant, NeedsNoFault}
 use Rattle.tb_tables.proofs.Creating.{version_fails}
 use Rattle.sqlite.specs.Held.{state}
 use Rattle.tb_tables.proofs.Filling.{versioned}
@@ -18,7 +18,7 @@ returns-in_err-execute-clause-fails g c clean unlimited bare =
     let new = state g.S.Store c.execute.new.self.conn.now in
     let reported = err_from_is_err_and c.from_residual.result c.from_residual.ensures.1 in
     let ran = c.in_err-execute.ensures.runs clean bare.begun in
-    rw reported.1 (subst IsStoreFault (sym reported.2) (version_fails old new c.in_err-execute.field-0.0 bare unlimited ran))
+    rw reported.1 (subst IsDiskFaultOrWant (sym reported.2) (version_fails old new c.in_err-execute.field-0.0 bare unlimited ran))
 
 pub returns-in_err-execute-clause-cause : goal.returns-in_err-execute-clause-cause
 returns-in_err-execute-clause-cause g c clean good =

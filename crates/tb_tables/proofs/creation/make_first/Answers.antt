@@ -1,6 +1,6 @@
 use Rattle.std.proofs.Common.{arith, sym, subst}
 use Rattle.std.proofs.lemmas.Result.{err_from_is_err_and}
-use Rattle.tb_tables.specs.Failing.{IsStoreFault, NeedsNoFault}
+use Rattle.tb_tables.specs.Failing.{IsDiskFaultOrWant, NeedsNoFault}
 use Rattle.tb_tables.proofs.Creating.{takes_meta, takes_batches, takes_sentences, takes_revisions}
 use Rattle.sqlite.specs.State.{HasCleanDisk}
 use Rattle.sqlite.specs.Held.{state}
@@ -21,14 +21,14 @@ returns-clause-ok g c clean bare =
 pub returns-in_err-make-clause-fails : goal.returns-in_err-make-clause-fails
 returns-in_err-make-clause-fails g c clean bare =
     let reported = err_from_is_err_and c.from_residual.result c.from_residual.ensures.1 in
-    rw reported.1 (subst IsStoreFault (sym reported.2) (c.in_err-make.ensures.fails clean _ _ bare makes_meta takes_meta))
+    rw reported.1 (subst IsDiskFaultOrWant (sym reported.2) (c.in_err-make.ensures.fails clean _ _ bare makes_meta takes_meta))
 
 pub returns-in_err-make-2-clause-fails : goal.returns-in_err-make-2-clause-fails
 returns-in_err-make-2-clause-fails g c clean bare =
     let reported = err_from_is_err_and c.from_residual-in_err-make-2.result c.from_residual-in_err-make-2.ensures.1 in
     let first : HasCleanDisk (state g.S.Store c.make.new.tx.conn.now) = omega (arith, c.make-2.ensures.survives.clean) in
     let a = c.in_ok-make.ensures.ok first _ _ bare makes_meta in
-    rw reported.1 (subst IsStoreFault (sym reported.2) (c.in_err-make-2.ensures.fails clean _ _ a makes_batches takes_batches))
+    rw reported.1 (subst IsDiskFaultOrWant (sym reported.2) (c.in_err-make-2.ensures.fails clean _ _ a makes_batches takes_batches))
 
 pub returns-in_err-make-3-clause-fails : goal.returns-in_err-make-3-clause-fails
 returns-in_err-make-3-clause-fails g c clean bare =
@@ -37,7 +37,7 @@ returns-in_err-make-3-clause-fails g c clean bare =
     let first : HasCleanDisk (state g.S.Store c.make.new.tx.conn.now) = omega (arith, c.make-2.ensures.survives.clean) in
     let a = c.in_ok-make.ensures.ok first _ _ bare makes_meta in
     let b = c.in_ok-make-2.ensures.ok second _ _ a makes_batches in
-    rw reported.1 (subst IsStoreFault (sym reported.2) (c.in_err-make-3.ensures.fails clean _ _ b makes_sentences takes_sentences))
+    rw reported.1 (subst IsDiskFaultOrWant (sym reported.2) (c.in_err-make-3.ensures.fails clean _ _ b makes_sentences takes_sentences))
 
 pub returns-in_err-make-4-clause-fails : goal.returns-in_err-make-4-clause-fails
 returns-in_err-make-4-clause-fails g c clean bare =
@@ -48,7 +48,7 @@ returns-in_err-make-4-clause-fails g c clean bare =
     let a = c.in_ok-make.ensures.ok first _ _ bare makes_meta in
     let b = c.in_ok-make-2.ensures.ok second _ _ a makes_batches in
     let d = c.in_ok-make-3.ensures.ok third _ _ b makes_sentences in
-    rw reported.1 (subst IsStoreFault (sym reported.2) (c.in_err-make-4.ensures.fails clean _ _ d makes_revisions takes_revisions))
+    rw reported.1 (subst IsDiskFaultOrWant (sym reported.2) (c.in_err-make-4.ensures.fails clean _ _ d makes_revisions takes_revisions))
 
 pub returns-in_err-make-2-clause-cause : goal.returns-in_err-make-2-clause-cause
 returns-in_err-make-2-clause-cause g c clean good =

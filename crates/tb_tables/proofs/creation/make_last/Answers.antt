@@ -1,6 +1,6 @@
 use Rattle.std.proofs.Common.{arith, subst, sym}
 use Rattle.std.proofs.lemmas.Result.{err_from_is_err_and}
-use Rattle.tb_tables.specs.Failing.{IsStoreFault, NeedsNoFault}
+use Rattle.tb_tables.specs.Failing.{IsDiskFaultOrWant, NeedsNoFault}
 use Rattle.tb_tables.proofs.Creating.{takes_moves, takes_totals, takes_pulled}
 use Rattle.sqlite.specs.State.{HasCleanDisk}
 use Rattle.sqlite.specs.Held.{state}
@@ -20,14 +20,14 @@ returns-clause-ok g c clean bare =
 pub returns-in_err-make-clause-fails : goal.returns-in_err-make-clause-fails
 returns-in_err-make-clause-fails g c clean bare =
     let reported = err_from_is_err_and c.from_residual.result c.from_residual.ensures.1 in
-    rw reported.1 (subst IsStoreFault (sym reported.2) (c.in_err-make.ensures.fails clean _ _ bare makes_moves takes_moves))
+    rw reported.1 (subst IsDiskFaultOrWant (sym reported.2) (c.in_err-make.ensures.fails clean _ _ bare makes_moves takes_moves))
 
 pub returns-in_err-make-2-clause-fails : goal.returns-in_err-make-2-clause-fails
 returns-in_err-make-2-clause-fails g c clean bare =
     let reported = err_from_is_err_and c.from_residual-in_err-make-2.result c.from_residual-in_err-make-2.ensures.1 in
     let first : HasCleanDisk (state g.S.Store c.make.new.tx.conn.now) = omega (arith, c.make-2.ensures.survives.clean) in
     let a = c.in_ok-make.ensures.ok first _ _ bare makes_moves in
-    rw reported.1 (subst IsStoreFault (sym reported.2) (c.in_err-make-2.ensures.fails clean _ _ a makes_totals takes_totals))
+    rw reported.1 (subst IsDiskFaultOrWant (sym reported.2) (c.in_err-make-2.ensures.fails clean _ _ a makes_totals takes_totals))
 
 pub returns-in_err-make-3-clause-fails : goal.returns-in_err-make-3-clause-fails
 returns-in_err-make-3-clause-fails g c clean bare =
@@ -36,7 +36,7 @@ returns-in_err-make-3-clause-fails g c clean bare =
     let first : HasCleanDisk (state g.S.Store c.make.new.tx.conn.now) = omega (arith, c.make-2.ensures.survives.clean) in
     let a = c.in_ok-make.ensures.ok first _ _ bare makes_moves in
     let b = c.in_ok-make-2.ensures.ok second _ _ a makes_totals in
-    rw reported.1 (subst IsStoreFault (sym reported.2) (c.in_err-make-3.ensures.fails clean _ _ b makes_pulled takes_pulled))
+    rw reported.1 (subst IsDiskFaultOrWant (sym reported.2) (c.in_err-make-3.ensures.fails clean _ _ b makes_pulled takes_pulled))
 
 pub returns-in_err-make-2-clause-cause : goal.returns-in_err-make-2-clause-cause
 returns-in_err-make-2-clause-cause g c clean good =

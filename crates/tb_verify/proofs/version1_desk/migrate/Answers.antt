@@ -1,12 +1,16 @@
-use Rattle.std.proofs.Common.{◌≡◌, ◌≢◌, Err, arith}
+use Rattle.std.proofs.Common.{◌≡◌, ◌≢◌, ◌∙◌, Err, arith, subst, sym}
 use Rattle.std.proofs.lemmas.Result.{err_from_is_err_and}
 use Rattle.sqlite.specs.State.{HasCleanDisk}
 use Rattle.sqlite.specs.Held.{state}
 use Rattle.sqlite.proofs.StateLemmas.{survives_weaker}
 use Rattle.tb_core.specs.declared.refusals.Fault.{Fault}
 use Rattle.tb_core.specs.declared.refusals.Fault.TheVariants.{Device, NotADesk}
-use Rattle.tb_tables.proofs.Causes.{handed_on}
+use Rattle.sqlite.specs.Effect.{Database}
+use Rattle.tb_refine.specs.DeskTables.{tables_of}
+use Rattle.tb_refine.proofs.Unique.{unique_tables}
+use Rattle.tb_tables.proofs.Causes.{faultless_next, handed_on}
 use Rattle.tb_tables.proofs.Commands.{on_err}
+use Rattle.tb_tables.specs.Failing.{HasMetaRowids}
 use Rattle.tb_verify.proofs.Begun.{first_unchanged}
 use Rattle.tb_verify.proofs.Version1Whole.{becomes_desk, first_stays, migration_survives}
 use Rattle.tb_verify.proofs.version1_desk.migrate.Goals as goal
@@ -51,11 +55,21 @@ returns-in_err-summary-clause-cause g c none unlimited clean good =
     handed_on (λ (fault : Fault). fault ≢ Device) c.from_residual.result c.in_err-summary.field-0.0 c.from_residual.ensures.1 (c.in_err-summary.ensures.cause unlimited clean good)
 
 pub returns-in_err-convert-clause-cause : goal.returns-in_err-convert-clause-cause
-returns-in_err-convert-clause-cause g c none unlimited clean good =
+returns-in_err-convert-clause-cause g c in_range unlimited clean good =
+    let old = c.args.conn.now in
+    let read = c.read_first_desk.new.conn in
+    let new = c.convert.new.conn in
     let late = c.convert.ensures.crash.clean in
-    let was : HasCleanDisk (state g.S.Store c.read_first_desk.new.conn) = omega (arith, clean, late) in
+    let was : HasCleanDisk (state g.S.Store read) = omega (arith, clean, late) in
     let reported = c.in_ok-summary.ensures.answered was in
-    absurd (none reported.0 reported.1)
+    let s = reported.0 in
+    let same = c.in_ok-summary.ensures.unchanged was in
+    let holds = first_unchanged g.S.Store old read (tables_of s) reported.1.holds same in
+    let unique = unique_tables s (c.reached_states_are_well.ensures s reported.1.reachable.reached) in
+    let numbered = subst (λ (db : Database). HasMetaRowids db.trees) (sym same.0.now_is) (in_range s reported.1) in
+    let here = faultless_next (state g.S.Store old) (state g.S.Store read) (state g.S.Store new) good c.read_first_desk.ensures.survives was c.convert.ensures.crash.counts in
+    let none = c.in_err-convert.ensures.cause (c.read_first_desk.ensures.survives.limit ∙ unlimited) (tables_of s) holds unique numbered clean here in
+    handed_on (λ (fault : Fault). fault ≢ Device) c.from_residual-in_err-convert.result c.in_err-convert.field-0.0 c.from_residual-in_err-convert.ensures.1 none
 
 pub returns-in_err-convert-clause-unfit : goal.returns-in_err-convert-clause-unfit
 returns-in_err-convert-clause-unfit g c clean bad s desk =

@@ -6,6 +6,10 @@ use Rattle.tb_tables.specs.Records.{AreStored}
 use Rattle.tb_tables.specs.Making.{IsBlank, empty_tables}
 use Rattle.tb_store.specs.Kept.{Kept}
 use Rattle.tb_store.specs.Represents.{unlimited}
+use Rattle.tb_core.specs.declared.refusals.Fault.TheVariants.{Memory}
+use Rattle.tb_store.proofs.Adopted.{faultless_unlimited}
+use Rattle.tb_refine.specs.Faults.{fault_of_making}
+use Rattle.tb_tables.proofs.Refusing.{want_left}
 use Rattle.tb_store.proofs.Beginning.{still_blank, stands_empty}
 use Rattle.tb_store.proofs.desk.Desk.make.Goals as goal
 
@@ -38,3 +42,11 @@ returns-in-Ok-clause-no_step_limit g c =
 
 pub returns-in-Err-clause-limit_off : goal.returns-in-Err-clause-limit_off
 returns-in-Err-clause-limit_off g c = c.create.ensures.crash.limit ∙ ap (λ h. (state g.S.Store h).step_limit) c.without_limit-conn.ensures
+
+pub returns-in-Err-clause-cause : goal.returns-in-Err-clause-cause
+returns-in-Err-clause-cause g c blank clean good =
+    let is = c.without_limit-conn.ensures in
+    let fails = c.in-Err.ensures.fails clean (ap (λ h. (state g.S.Store h).step_limit) is) (still_blank g.S.Store c.args.conn c.without_limit-conn.result is blank) in
+    let none = c.in-Err.ensures.cause clean (faultless_unlimited g.S.Store c.args.conn c.without_limit-conn.result c.create.new.conn is good) in
+    let wants : c.of_making.result ≡ Memory = c.of_making.ensures.value ∙ ap fault_of_making (want_left c.in-Err.error fails none) in
+    λ device. absurd (let x = sym wants ∙ device in cc)

@@ -1,6 +1,7 @@
 use Rattle.std.proofs.Common.{◌≡◌, None, Err, sym, ap, subst, ◌∙◌}
 use Rattle.sqlite.specs.State.{HasCleanDisk, Survives}
 use Rattle.sqlite.specs.Held.{state}
+use Rattle.tb_tables.specs.Failing.{HasMetaRowids}
 use Rattle.tb_verify.specs.Version1Desk.{LooksFirst}
 use Rattle.tb_store.specs.Kept.{Kept}
 use Rattle.tb_store.specs.Represents.{unlimited}
@@ -52,9 +53,9 @@ pub returns-in-Err-clause-limit_off : goal.returns-in-Err-clause-limit_off
 returns-in-Err-clause-limit_off g c = c.migrate.ensures.crash.limit ∙ ap (λ h. (state g.S.Store h).step_limit) c.without_limit-conn.ensures
 
 pub returns-in-Err-clause-cause : goal.returns-in-Err-clause-cause
-returns-in-Err-clause-cause g c none clean good =
+returns-in-Err-clause-cause g c in_range clean good =
     let is = c.without_limit-conn.ensures in
-    c.in-Err.ensures.cause (λ s desk. none s (first_before g.S.Store c.args.conn c.without_limit-conn.result is s desk)) (ap (λ h. (state g.S.Store h).step_limit) is) clean
+    c.in-Err.ensures.cause (λ s desk. subst (λ h. HasMetaRowids (state g.S.Store h).now.trees) (sym is) (in_range s (first_before g.S.Store c.args.conn c.without_limit-conn.result is s desk))) (ap (λ h. (state g.S.Store h).step_limit) is) clean
     (faultless_unlimited g.S.Store c.args.conn c.without_limit-conn.result c.migrate.new.conn is good)
 
 pub returns-in-Err-clause-wants : goal.returns-in-Err-clause-wants

@@ -8,13 +8,13 @@ use Rattle.tb_store.proofs.desk.Desk.revisions.Goals as goal
 
 pub returns-clause-question : goal.returns-clause-question
 returns-clause-question g c =
-    asked_of g.S.Store c.self.view_is c.list_revisions.new.conn c.list_revisions.result c.self.invariant.unlimited c.list_revisions.ensures.read_only
+    asked_of g.S.Store c.self.view_is c.list_revisions.new.conn c.list_revisions.result c.self.invariant.unlimited c.list_revisions.ensures.read.read_only
     (λ clean s here.
     let stands = subst (λ k. Represents g.S.Store k s) c.self.view_is here in
     let fits = c.in-Some.ensures.stands in
     let it = sentence_there s c.args.number c.in-Some.number fits.0 fits.1 (omega (arith, fits.2, stands.sentences, here.sentences)) in
-    c.list_revisions.ensures.fails clean c.self.invariant.unlimited s here.desk it.0 it.1)
-    (λ good clean unlimited s desk. c.list_revisions.ensures.cause good clean unlimited desk.holds.schema)
+    c.list_revisions.ensures.read.fails clean c.self.invariant.unlimited s here.desk it.0 it.1)
+    (λ good clean unlimited s desk. c.list_revisions.ensures.read.cause good clean unlimited desk.holds.schema)
 
 pub returns-clause-answered : goal.returns-clause-answered
 returns-clause-answered g c clean = if_ok c.list_revisions.result (c.list_revisions.ensures.answered clean) (λ v reported s stands.
@@ -29,4 +29,4 @@ returns-clause-refused g c s stands =
     let here = subst (λ k. Represents g.S.Store k s) (sym c.self.view_is) stands in
     let fits = c.in-Some.ensures.stands in
     let it = sentence_there s c.args.number c.in-Some.number fits.0 fits.1 (omega (arith, fits.2, stands.sentences, here.sentences)) in
-    ((λ e place x has. c.list_revisions.ensures.never_refuses _ e), (λ lacks. absurd (lacks _ it.0 it.2)))
+    ((λ e place x has. c.list_revisions.ensures.read.never_refuses _ e), (λ lacks. absurd (lacks _ it.0 it.2)))

@@ -7,8 +7,8 @@ use Rattle.tb_store.proofs.desk.Desk.totals.Goals as goal
 
 pub returns-clause-question : goal.returns-clause-question
 returns-clause-question g c =
-    asked g.S.Store c.self.view_is c.totals.new.conn c.totals.result c.self.invariant.unlimited c.totals.ensures.read_only c.totals.ensures.fails
-    (λ good clean unlimited s desk. c.totals.ensures.cause good clean unlimited desk.holds.schema)
+    asked g.S.Store c.self.view_is c.totals.new.conn c.totals.result c.self.invariant.unlimited c.totals.ensures.read.read_only c.totals.ensures.read.fails
+    (λ good clean unlimited s desk. c.totals.ensures.read.cause good clean unlimited desk.holds.schema)
 
 pub returns-clause-net : goal.returns-clause-net
 returns-clause-net g c clean = if_ok c.totals.result (c.totals.ensures.answered clean) (λ t sums s stands.
