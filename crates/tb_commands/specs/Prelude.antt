@@ -22,10 +22,11 @@ pub use Rattle.tb_tables.specs.Failing.{IsShort}
 pub use Rattle.tb_tables.specs.Leaving.{FailsOnlyAs, IsFaultless, KeepsRecordsOnErr}
 pub use Rattle.tb_tables.specs.Records.{AreStored}
 pub use Rattle.tb_reads.specs.ReadOnly.{IsReadOnly}
-pub use Rattle.tb_refine.specs.Calls.{BlamesNoDevice, CrashesTo, KnowsDesk, KnowsDeskWhere, RefusesAs, Tells, TellsOnOk}
+pub use Rattle.tb_refine.specs.Calls.{BlamesNoDevice, CrashesTo, KnowsDeskWhere, RefusesAs, Tells, TellsOnOk}
 pub use Rattle.tb_refine.specs.Counted.{IsCounted, IsPrepared, IsWithin}
 pub use Rattle.tb_refine.specs.DeskTables.{IsDeskOf, tables_of}
 pub use Rattle.tb_refine.specs.Faults.{IsNoDevice}
 pub use Rattle.tb_refine.specs.Numbers.{state_number}
+pub use Rattle.tb_refine.specs.DeskReads.{IsRead, IsReadWhere}
 pub use Rattle.tb_refine.specs.Recorded.{IsWritten}
 pub use Rattle.tb_refine.specs.Room.{HasRoomIfWritten}

@@ -5,9 +5,9 @@ ghost use Rattle.std.specs.Prelude.{Err, slice_get, string_bytes, false, IfOk, I
 ghost use Rattle.tb_commands.specs.Prelude.{after, Answer, AnyLimits, AnyRefusal, AreStored, BlamesNoDevice};
 ghost use Rattle.tb_commands.specs.Prelude.{correct_it, correcting, CrashesTo, FailsOnlyAs, HasCleanDisk};
 ghost use Rattle.tb_commands.specs.Prelude.{HasRoomIfWritten, IsAllowed, IsCounted, IsDeskOf, IsFaultless};
-ghost use Rattle.tb_commands.specs.Prelude.{IsNamedCorrection, IsNoDevice, IsReachable, IsReadOnly, IsWithin};
-ghost use Rattle.tb_commands.specs.Prelude.{KeepsRecordsOnErr, KnowsDeskWhere, LacksSentence, Machine, Reached};
-ghost use Rattle.tb_commands.specs.Prelude.{refused_by, RefusesAs, replied, reply_to, Sentence, state, Steps};
+ghost use Rattle.tb_commands.specs.Prelude.{IsNamedCorrection, IsNoDevice, IsReachable, IsReadOnly, IsReadWhere};
+ghost use Rattle.tb_commands.specs.Prelude.{IsWithin, KeepsRecordsOnErr, KnowsDeskWhere, LacksSentence, Machine};
+ghost use Rattle.tb_commands.specs.Prelude.{Reached, refused_by, RefusesAs, replied, reply_to, Sentence, state, Steps};
 ghost use Rattle.tb_commands.specs.Prelude.{tables_of, Tells, text_of};
 ghost use Rattle.tb_commands.specs.Correcting.{PlanText, IsCurrentRead, IsPlannedCorrection, Decides, Corrects};
 ghost use Rattle.tb_commands.specs.Correcting.{current_seen, correction_move};
@@ -65,12 +65,8 @@ fn find_current<S: Alter>(conn: &mut Connection<S>, number: u32) -> Result<Curre
     requires { 0 < number }
     ensures answered { Tells S.Store conn.old conn.new result (λ s f. (x : Sentence)
         → slice_get s.sentences (number - 1) ≡ Some x → IsCurrentRead s x f) }
-    ensures never_refuses { (r : AnyRefusal) → result ≢ Err (Fault.Refused r) }
-    ensures output { result ≢ Err Fault.Output }
-    ensures fails { KnowsDeskWhere S.Store conn.old conn.new result (λ s so. (x : Sentence)
+    ensures read { IsReadWhere S.Store conn.old conn.new result (λ s so. (x : Sentence)
         → slice_get s.sentences (number - 1) ≡ Some x → so) }
-    ensures cause { IsFaultless S.Store conn.old conn.new → FailsOnlyAs IsNoDevice S.Store conn.old conn.new result }
-    ensures read_only { IsReadOnly S.Store conn.old conn.new (is_ok result) }
 {
     let sentence = find_sentence(conn, number)?;
     let row = revision_row(conn, number, sentence.rev)?;

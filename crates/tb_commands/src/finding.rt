@@ -1,10 +1,9 @@
 //! What a command reads of a desk before it is judged.
 
-ghost use Rattle.std.specs.Prelude.{◌≡◌, ◌≢◌, ◌-◌, ◌<◌, Some, None, Err, slice_get, option_map, is_ok, string_bytes};
-ghost use Rattle.std.specs.Prelude.{IfOk, IfErr};
-ghost use Rattle.tb_commands.specs.Prelude.{AnyRefusal, AnyState, Batch, FailsOnlyAs, FindsBatch, IsFaultless};
-ghost use Rattle.tb_commands.specs.Prelude.{IsNoDevice, IsReadOnly, KnowsDesk, KnowsDeskWhere, Sentence, state};
-ghost use Rattle.tb_commands.specs.Prelude.{state_number, Tells};
+ghost use Rattle.std.specs.Prelude.{◌≡◌, ◌≢◌, ◌-◌, ◌<◌, Some, None, Err, slice_get, option_map, string_bytes, IfOk};
+ghost use Rattle.std.specs.Prelude.{IfErr};
+ghost use Rattle.tb_commands.specs.Prelude.{AnyRefusal, AnyState, Batch, FindsBatch, IsNoDevice, IsRead, IsReadWhere};
+ghost use Rattle.tb_commands.specs.Prelude.{Sentence, state, state_number, Tells};
 ghost use Rattle.tb_commands.specs.ReadOf.{IsSentenceRead};
 
 use sqlite::{Alter, Connection};
@@ -46,12 +45,8 @@ fn read_batch(row: BatchRow, number: u32) -> Result<BatchRead, Fault>
 fn batch<S: Alter>(conn: &mut Connection<S>, number: u32) -> Result<BatchRead, Fault>
     ensures answered { Tells S.Store conn.old conn.new result (λ s f. (b : Batch) → slice_get s.batches (number - 1)
         ≡ Some b → (f.number ≡ number) × (f.state ≡ b.state) × (string_bytes f.worker ≡ b.worker)) }
-    ensures never_refuses { (r : AnyRefusal) → result ≢ Err (Fault.Refused r) }
-    ensures output { result ≢ Err Fault.Output }
-    ensures fails { KnowsDeskWhere S.Store conn.old conn.new result (λ s so. 0 < number → (b : Batch)
+    ensures read { IsReadWhere S.Store conn.old conn.new result (λ s so. 0 < number → (b : Batch)
         → slice_get s.batches (number - 1) ≡ Some b → so) }
-    ensures cause { IsFaultless S.Store conn.old conn.new → FailsOnlyAs IsNoDevice S.Store conn.old conn.new result }
-    ensures read_only { IsReadOnly S.Store conn.old conn.new (is_ok result) }
 {
     let row = batch_row(conn, number)?;
     read_batch(row, number)
@@ -68,11 +63,7 @@ pub fn find_batch<S: Alter>(
 ) -> Result<Option<BatchRead>, Fault>
     ensures answered { Tells S.Store conn.old conn.new result (λ s found. FindsBatch s name.now (option_map (λ f.
         record { number = f.number; state = f.state; worker = string_bytes f.worker }) found)) }
-    ensures never_refuses { (r : AnyRefusal) → result ≢ Err (Fault.Refused r) }
-    ensures output { result ≢ Err Fault.Output }
-    ensures fails { KnowsDesk S.Store conn.old conn.new result }
-    ensures cause { IsFaultless S.Store conn.old conn.new → FailsOnlyAs IsNoDevice S.Store conn.old conn.new result }
-    ensures read_only { IsReadOnly S.Store conn.old conn.new (is_ok result) }
+    ensures read { IsRead S.Store conn.old conn.new result }
 {
     let Some(number) = batch_number(conn, name)? else {
         return Ok(None);
@@ -106,12 +97,8 @@ pub fn find_sentence<S: Alter>(conn: &mut Connection<S>, number: u32) -> Result<
     requires { 0 < number }
     ensures answered { Tells S.Store conn.old conn.new result (λ s f. (x : Sentence)
         → slice_get s.sentences (number - 1) ≡ Some x → IsSentenceRead s x f) }
-    ensures never_refuses { (r : AnyRefusal) → result ≢ Err (Fault.Refused r) }
-    ensures output { result ≢ Err Fault.Output }
-    ensures fails { KnowsDeskWhere S.Store conn.old conn.new result (λ s so. (x : Sentence)
+    ensures read { IsReadWhere S.Store conn.old conn.new result (λ s so. (x : Sentence)
         → slice_get s.sentences (number - 1) ≡ Some x → so) }
-    ensures cause { IsFaultless S.Store conn.old conn.new → FailsOnlyAs IsNoDevice S.Store conn.old conn.new result }
-    ensures read_only { IsReadOnly S.Store conn.old conn.new (is_ok result) }
 {
     reached_states_are_well();
     let row = sentence_row(conn, number)?;

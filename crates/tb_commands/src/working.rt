@@ -1,8 +1,8 @@
 //! The part of a batch that its events move: its sentences that are not pulled.
 
-ghost use Rattle.std.specs.Prelude.{◌≡◌, ◌≢◌, ◌<◌, ◌≤◌, ◌+◌, ◌^◌, length, Err, sum_by, is_ok, IfOk, IfErr};
-ghost use Rattle.tb_commands.specs.Prelude.{AnyRefusal, at_work, FailsOnlyAs, IsAscending, IsFaultless, IsNoDevice};
-ghost use Rattle.tb_commands.specs.Prelude.{IsReadOnly, KnowsDesk, one, Tells, weigh, words};
+ghost use Rattle.std.specs.Prelude.{◌≡◌, ◌≢◌, ◌<◌, ◌≤◌, ◌+◌, ◌^◌, length, Err, sum_by, IfOk, IfErr};
+ghost use Rattle.tb_commands.specs.Prelude.{AnyRefusal, at_work, IsAscending, IsNoDevice, IsRead, one, Tells, weigh};
+ghost use Rattle.tb_commands.specs.Prelude.{words};
 ghost use Rattle.tb_commands.specs.Working.{unless_pulled, each_one, its_words};
 
 use sqlite::{Alter, Connection};
@@ -88,11 +88,7 @@ pub(crate) fn find_work<S: Alter>(
     ensures answered { Tells S.Store conn.old conn.new result (λ s r.
         (r.sentences ≡ weigh (at_work number one) s.sentences)
         × (r.words ≡ weigh (at_work number words) s.sentences)) }
-    ensures never_refuses { (r : AnyRefusal) → result ≢ Err (Fault.Refused r) }
-    ensures output { result ≢ Err Fault.Output }
-    ensures fails { KnowsDesk S.Store conn.old conn.new result }
-    ensures cause { IsFaultless S.Store conn.old conn.new → FailsOnlyAs IsNoDevice S.Store conn.old conn.new result }
-    ensures read_only { IsReadOnly S.Store conn.old conn.new (is_ok result) }
+    ensures read { IsRead S.Store conn.old conn.new result }
 {
     reached_states_are_well();
     let work = read_work(alloc, conn, number)?;

@@ -7,6 +7,7 @@ pub mod Names
 pub mod Written
 pub mod Faultless
 pub mod Reported
+pub mod DeskReads
 pub mod Unique
 pub mod Bounded
 pub mod Short

@@ -11,5 +11,6 @@ pub mod Written
 pub mod Fitting
 pub mod Found
 pub mod Calls
+pub mod DeskReads
 pub mod Numbered
 pub mod Listed

@@ -15,8 +15,6 @@ pub use Rattle.tb_core.specs.declared.kinds.Kind.{Kind as AnyKind}
 pub use Rattle.tb_core.specs.declared.kinds.State.{State as AnyState}
 pub use Rattle.tb_core.specs.declared.refusals.Refusal.{Refusal as AnyRefusal}
 pub use Rattle.tb_core.specs.declared.sums.Totals.{Totals as AnyTotals}
-pub use Rattle.tb_tables.specs.Leaving.{FailsOnlyAs, IsFaultless}
 pub use Rattle.tb_tables.specs.Records.{AreStored, Tables, Total}
 pub use Rattle.tb_tables.specs.Values.{batch_of, move_of, sentence_of}
 pub use Rattle.tb_reads.specs.Found.{IsNumberOf, work_of}
-pub use Rattle.tb_reads.specs.ReadOnly.{IsReadOnly}

@@ -4,16 +4,14 @@
 //! Of each read, `NotADesk` comes, with no limit on steps, only where the store is no desk; else want of memory or a fault
 //! of the device.
 
-ghost use Rattle.std.specs.Prelude.{◌≡◌, ◌≢◌, ◌-◌, ◌<◌, ◌∷◌, [], Err, MatchBool, Some, is_ok, map, slice_get};
-ghost use Rattle.std.specs.Prelude.{string_bytes};
-ghost use Rattle.tb_refine.specs.Prelude.{AnyRefusal, Batch, batch_of, FailsOnlyAs, ids_of, IsAscending, IsFaultless};
-ghost use Rattle.tb_refine.specs.Prelude.{IsNumberOf, IsReadOnly, Lacks, move_of, pulled_from, Revision, Sentence};
-ghost use Rattle.tb_refine.specs.Prelude.{sentence_of, text_of, work_of};
-ghost use Rattle.tb_refine.specs.Calls.{KnowsDesk, KnowsDeskWhere, Tells};
+ghost use Rattle.std.specs.Prelude.{◌≡◌, ◌-◌, ◌<◌, ◌∷◌, [], Err, MatchBool, Some, map, slice_get, string_bytes};
+ghost use Rattle.tb_refine.specs.Prelude.{Batch, batch_of, ids_of, IsAscending, IsNumberOf, Lacks, move_of};
+ghost use Rattle.tb_refine.specs.Prelude.{pulled_from, Revision, Sentence, sentence_of, text_of, work_of};
+ghost use Rattle.tb_refine.specs.Calls.{Tells};
 ghost use Rattle.tb_refine.specs.DeskTables.{batch_record, move_record, sentence_record};
-ghost use Rattle.tb_refine.specs.Faults.{IsNoDevice};
 ghost use Rattle.tb_refine.specs.Finding.{HasNumber};
 ghost use Rattle.tb_refine.specs.Listed.{is_listed};
+ghost use Rattle.tb_refine.specs.DeskReads.{IsRead, IsReadWhere};
 ghost use Rattle.tb_refine.specs.Revisions.{HasRevision};
 
 use crate::{desk_rows_are_readable, desk_rows_fit, faults, one_list_for_the_rows, read_moves};
@@ -26,11 +24,7 @@ use tb_tables::{BatchRow, MoveRow, RevisionRow, SentenceRow};
 /// The number of the batch with this name, from 1, or none where no batch has it.
 pub fn batch_number<S: Alter>(conn: &mut Connection<S>, name: &str) -> Result<Option<u32>, Fault>
     ensures answered { Tells S.Store conn.old conn.new result (λ s found. HasNumber s name.now found) }
-    ensures never_refuses { (r : AnyRefusal) → result ≢ Err (Fault.Refused r) }
-    ensures output { result ≢ Err Fault.Output }
-    ensures fails { KnowsDesk S.Store conn.old conn.new result }
-    ensures cause { IsFaultless S.Store conn.old conn.new → FailsOnlyAs IsNoDevice S.Store conn.old conn.new result }
-    ensures read_only { IsReadOnly S.Store conn.old conn.new (is_ok result) }
+    ensures read { IsRead S.Store conn.old conn.new result }
 {
     desk_rows_fit();
     faults::reported(tb_reads::batch_named(conn, name))
@@ -43,11 +37,7 @@ pub fn sentence_number<S: Alter>(
 ) -> Result<Option<u32>, Fault>
     ensures answered { Tells S.Store conn.old conn.new result (λ s found.
         IsNumberOf (λ (x : Sentence). x.sent_id) sent_id.now s.sentences found) }
-    ensures never_refuses { (r : AnyRefusal) → result ≢ Err (Fault.Refused r) }
-    ensures output { result ≢ Err Fault.Output }
-    ensures fails { KnowsDesk S.Store conn.old conn.new result }
-    ensures cause { IsFaultless S.Store conn.old conn.new → FailsOnlyAs IsNoDevice S.Store conn.old conn.new result }
-    ensures read_only { IsReadOnly S.Store conn.old conn.new (is_ok result) }
+    ensures read { IsRead S.Store conn.old conn.new result }
 {
     desk_rows_fit();
     faults::reported(tb_reads::sentence_named(conn, sent_id))
@@ -57,11 +47,7 @@ pub fn sentence_number<S: Alter>(
 pub fn is_taken<S: Alter>(conn: &mut Connection<S>, sent_id: &str) -> Result<bool, Fault>
     ensures answered { Tells S.Store conn.old conn.new result (λ s taken.
         MatchBool taken (Lacks (ids_of s.sentences) sent_id.now → ⊥) (Lacks (ids_of s.sentences) sent_id.now)) }
-    ensures never_refuses { (r : AnyRefusal) → result ≢ Err (Fault.Refused r) }
-    ensures output { result ≢ Err Fault.Output }
-    ensures fails { KnowsDesk S.Store conn.old conn.new result }
-    ensures cause { IsFaultless S.Store conn.old conn.new → FailsOnlyAs IsNoDevice S.Store conn.old conn.new result }
-    ensures read_only { IsReadOnly S.Store conn.old conn.new (is_ok result) }
+    ensures read { IsRead S.Store conn.old conn.new result }
 {
     let found = sentence_number(conn, sent_id)?;
     Ok(found.is_some())
@@ -76,12 +62,8 @@ pub fn batch_row<S: Alter>(conn: &mut Connection<S>, number: u32) -> Result<Batc
     ensures answered { Tells S.Store conn.old conn.new result (λ s row. (b : Batch)
         → slice_get s.batches (number - 1) ≡ Some b → batch_of row ≡ batch_record b) }
     ensures zero { number ≡ 0 → result ≡ Err Fault.NotADesk }
-    ensures never_refuses { (r : AnyRefusal) → result ≢ Err (Fault.Refused r) }
-    ensures output { result ≢ Err Fault.Output }
-    ensures fails { KnowsDeskWhere S.Store conn.old conn.new result (λ s so. 0 < number → (b : Batch)
+    ensures read { IsReadWhere S.Store conn.old conn.new result (λ s so. 0 < number → (b : Batch)
         → slice_get s.batches (number - 1) ≡ Some b → so) }
-    ensures cause { IsFaultless S.Store conn.old conn.new → FailsOnlyAs IsNoDevice S.Store conn.old conn.new result }
-    ensures read_only { IsReadOnly S.Store conn.old conn.new (is_ok result) }
 {
     desk_rows_are_readable();
     if number == 0 {
@@ -95,12 +77,8 @@ pub fn sentence_row<S: Alter>(conn: &mut Connection<S>, number: u32) -> Result<S
     requires { 0 < number }
     ensures answered { Tells S.Store conn.old conn.new result (λ s row. (x : Sentence)
         → slice_get s.sentences (number - 1) ≡ Some x → sentence_of row ≡ sentence_record x) }
-    ensures never_refuses { (r : AnyRefusal) → result ≢ Err (Fault.Refused r) }
-    ensures output { result ≢ Err Fault.Output }
-    ensures fails { KnowsDeskWhere S.Store conn.old conn.new result (λ s so. (x : Sentence)
+    ensures read { IsReadWhere S.Store conn.old conn.new result (λ s so. (x : Sentence)
         → slice_get s.sentences (number - 1) ≡ Some x → so) }
-    ensures cause { IsFaultless S.Store conn.old conn.new → FailsOnlyAs IsNoDevice S.Store conn.old conn.new result }
-    ensures read_only { IsReadOnly S.Store conn.old conn.new (is_ok result) }
 {
     desk_rows_are_readable();
     faults::reported_row(tb_reads::sentence(conn, number))
@@ -116,12 +94,8 @@ pub fn revision_row<S: Alter>(
     ensures answered { Tells S.Store conn.old conn.new result (λ s row. (x : Sentence)
         → slice_get s.sentences (number - 1) ≡ Some x → (q : Revision) × HasRevision x rev q
         × (string_bytes row.body ≡ text_of (q.body ∷ [])) × (string_bytes row.who ≡ q.who)) }
-    ensures never_refuses { (r : AnyRefusal) → result ≢ Err (Fault.Refused r) }
-    ensures output { result ≢ Err Fault.Output }
-    ensures fails { KnowsDeskWhere S.Store conn.old conn.new result (λ s so. (x : Sentence)
+    ensures read { IsReadWhere S.Store conn.old conn.new result (λ s so. (x : Sentence)
         → slice_get s.sentences (number - 1) ≡ Some x → (q : Revision) → HasRevision x rev q → so) }
-    ensures cause { IsFaultless S.Store conn.old conn.new → FailsOnlyAs IsNoDevice S.Store conn.old conn.new result }
-    ensures read_only { IsReadOnly S.Store conn.old conn.new (is_ok result) }
 {
     desk_rows_are_readable();
     faults::reported_row(tb_reads::revision(conn, number, rev))
@@ -137,11 +111,7 @@ pub fn is_among(number: u32, numbers: &[u32]) -> bool
 /// The numbers of all pulled sentences, ascending.
 pub fn read_pulled<S: Alter>(alloc: Global, conn: &mut Connection<S>) -> Result<Vec<u32>, Fault>
     ensures answered { Tells S.Store conn.old conn.new result (λ s v. v.items ≡ pulled_from 1 s.sentences) }
-    ensures never_refuses { (r : AnyRefusal) → result ≢ Err (Fault.Refused r) }
-    ensures output { result ≢ Err Fault.Output }
-    ensures fails { KnowsDesk S.Store conn.old conn.new result }
-    ensures cause { IsFaultless S.Store conn.old conn.new → FailsOnlyAs IsNoDevice S.Store conn.old conn.new result }
-    ensures read_only { IsReadOnly S.Store conn.old conn.new (is_ok result) }
+    ensures read { IsRead S.Store conn.old conn.new result }
 {
     desk_rows_are_readable();
     faults::reported(tb_reads::pulled(alloc, conn))
@@ -155,11 +125,7 @@ pub fn read_work<S: Alter>(
 ) -> Result<Vec<BatchSentence>, Fault>
     ensures answered { Tells S.Store conn.old conn.new result (λ s v.
         v.items ≡ work_of number 1 (map sentence_record s.sentences)) }
-    ensures never_refuses { (r : AnyRefusal) → result ≢ Err (Fault.Refused r) }
-    ensures output { result ≢ Err Fault.Output }
-    ensures fails { KnowsDesk S.Store conn.old conn.new result }
-    ensures cause { IsFaultless S.Store conn.old conn.new → FailsOnlyAs IsNoDevice S.Store conn.old conn.new result }
-    ensures read_only { IsReadOnly S.Store conn.old conn.new (is_ok result) }
+    ensures read { IsRead S.Store conn.old conn.new result }
 {
     desk_rows_fit();
     desk_rows_are_readable();
@@ -171,11 +137,7 @@ pub fn is_pulled<S: Alter>(conn: &mut Connection<S>, number: u32) -> Result<bool
     requires { 0 < number }
     ensures answered { Tells S.Store conn.old conn.new result (λ s pulled. (x : Sentence)
         → slice_get s.sentences (number - 1) ≡ Some x → pulled ≡ x.pulled) }
-    ensures never_refuses { (r : AnyRefusal) → result ≢ Err (Fault.Refused r) }
-    ensures output { result ≢ Err Fault.Output }
-    ensures fails { KnowsDesk S.Store conn.old conn.new result }
-    ensures cause { IsFaultless S.Store conn.old conn.new → FailsOnlyAs IsNoDevice S.Store conn.old conn.new result }
-    ensures read_only { IsReadOnly S.Store conn.old conn.new (is_ok result) }
+    ensures read { IsRead S.Store conn.old conn.new result }
 {
     faults::reported(tb_reads::is_pulled(conn, number))
 }
@@ -184,11 +146,7 @@ pub fn is_pulled<S: Alter>(conn: &mut Connection<S>, number: u32) -> Result<bool
 fn move_rows<S: Alter>(alloc: Global, conn: &mut Connection<S>) -> Result<Vec<MoveRow>, Fault>
     ensures answered { Tells S.Store conn.old conn.new result (λ s v.
         map move_of v.items ≡ map move_record s.moves) }
-    ensures never_refuses { (r : AnyRefusal) → result ≢ Err (Fault.Refused r) }
-    ensures output { result ≢ Err Fault.Output }
-    ensures fails { KnowsDesk S.Store conn.old conn.new result }
-    ensures cause { IsFaultless S.Store conn.old conn.new → FailsOnlyAs IsNoDevice S.Store conn.old conn.new result }
-    ensures read_only { IsReadOnly S.Store conn.old conn.new (is_ok result) }
+    ensures read { IsRead S.Store conn.old conn.new result }
 {
     desk_rows_are_readable();
     one_list_for_the_rows();
@@ -198,11 +156,7 @@ fn move_rows<S: Alter>(alloc: Global, conn: &mut Connection<S>) -> Result<Vec<Mo
 /// All moves of a desk, in their order.
 pub fn all_moves<S: Alter>(alloc: Global, conn: &mut Connection<S>) -> Result<Vec<Move>, Fault>
     ensures answered { Tells S.Store conn.old conn.new result (λ s v. v.items ≡ s.moves) }
-    ensures never_refuses { (r : AnyRefusal) → result ≢ Err (Fault.Refused r) }
-    ensures output { result ≢ Err Fault.Output }
-    ensures fails { KnowsDesk S.Store conn.old conn.new result }
-    ensures cause { IsFaultless S.Store conn.old conn.new → FailsOnlyAs IsNoDevice S.Store conn.old conn.new result }
-    ensures read_only { IsReadOnly S.Store conn.old conn.new (is_ok result) }
+    ensures read { IsRead S.Store conn.old conn.new result }
 {
     let rows = move_rows(alloc, conn)?;
     read_moves(alloc, rows.as_slice())

@@ -1,35 +1,20 @@
-use Rattle.std.proofs.Common.{◌≡◌, Err, ◌∙◌}
-use Rattle.std.proofs.lemmas.Result.{err_from_is_err_and}
-use Rattle.tb_core.specs.declared.refusals.Fault.TheVariants.{NotADesk}
-use Rattle.tb_refine.proofs.Unchanged.{second_clear, desk_after}
-use Rattle.tb_reads.proofs.ReadOnly.{read_then, read_failed, was_clean}
+use Rattle.tb_reads.proofs.ReadOnly.{read_then}
+use Rattle.tb_refine.proofs.DeskReads.{next_stopped, read_stopped, read_well}
 use Rattle.tb_commands.proofs.finding.find_batch.Goals as goal
 
-pub returns-in_err-number-clause-fails : goal.returns-in_err-number-clause-fails
-returns-in_err-number-clause-fails g c clean unlimited s desk bad =
-    let reported = err_from_is_err_and c.from_residual.result c.from_residual.ensures.1 in
-    let failed : c.batch_number.result ≡ Err NotADesk = let was = c.in_err-number.was in let one = reported.1 in let two = reported.2 in cc in
-    c.batch_number.ensures.fails clean unlimited s desk failed
+pub returns-in_err-number-clause-read : goal.returns-in_err-number-clause-read
+returns-in_err-number-clause-read g c =
+    read_stopped c.from_residual.result c.in_err-number.field-0.0 c.from_residual.ensures.1 c.in_err-number.ensures.read (λ clean s desk fails on. on fails)
 
-pub returns-in_err-found-clause-fails : goal.returns-in_err-found-clause-fails
-returns-in_err-found-clause-fails g c clean unlimited s desk bad =
-    let reported = err_from_is_err_and c.from_residual-in_err-found.result c.from_residual-in_err-found.ensures.1 in
-    let failed : c.batch.result ≡ Err NotADesk = let was = c.in_err-found.was in let one = reported.1 in let two = reported.2 in cc in
-    let mid = was_clean c.batch.ensures.read_only clean in
-    let first = desk_after c.in_ok-number.ensures.read_only mid desk in
+pub returns-in_err-found-clause-read : goal.returns-in_err-found-clause-read
+returns-in_err-found-clause-read g c =
+    next_stopped c.from_residual-in_err-found.result c.in_err-found.field-0.0 c.from_residual-in_err-found.ensures.1 c.in_ok-number.ensures.read.read_only c.in_err-found.ensures.read (λ mid s desk fails on.
     let has = rw c.in-Some.is at c.in_ok-number.ensures.answered in
     let it = has mid s desk in
-    c.batch.ensures.fails clean (c.batch_number.ensures.read_only.commits_nothing.limit ∙ unlimited) s first it.1 it.0 it.2 failed
+    on (fails it.1 it.0 it.2))
 
-pub returns-in_err-found-clause-cause : goal.returns-in_err-found-clause-cause
-returns-in_err-found-clause-cause g c =
-    second_clear c.from_residual-in_err-found.result c.in_err-found.field-0.0 c.from_residual-in_err-found.ensures.1 c.in_ok-number.ensures.read_only c.batch.ensures.read_only c.in_err-found.ensures.cause
+pub returns-in_default-clause-read : goal.returns-in_default-clause-read
+returns-in_default-clause-read g c = read_well c.in_ok-number.ensures.read.read_only (λ s fine. fine)
 
-pub returns-in_err-number-clause-read_only : goal.returns-in_err-number-clause-read_only
-returns-in_err-number-clause-read_only g c = read_failed c.from_residual.result _ c.from_residual.ensures.1 c.batch_number.ensures.read_only
-
-pub returns-in_err-found-clause-read_only : goal.returns-in_err-found-clause-read_only
-returns-in_err-found-clause-read_only g c = read_failed c.from_residual-in_err-found.result _ c.from_residual-in_err-found.ensures.1 (read_then c.in_ok-number.ensures.read_only c.batch.ensures.read_only)
-
-pub returns-clause-read_only : goal.returns-clause-read_only
-returns-clause-read_only g c = read_then c.in_ok-number.ensures.read_only c.in_ok-found.ensures.read_only
+pub returns-clause-read : goal.returns-clause-read
+returns-clause-read g c = read_well (read_then c.in_ok-number.ensures.read.read_only c.in_ok-found.ensures.read.read_only) (λ s fine. fine)

@@ -12,19 +12,19 @@ use Rattle.tb_import.proofs.new_sentences.first_taken.Goals as goal
 
 pub returns-in_err-is_taken-clause-left : goal.returns-in_err-is_taken-clause-left
 returns-in_err-is_taken-clause-left g c =
-    let read = c.is_taken.ensures.read_only in
+    let read = c.is_taken.ensures.read.read_only in
     left_then g.S.Store c.args.conn.now c.loop-one.conn c.is_taken.new.conn c.loop-one.invariant.1 c.loop-one.invariant.2 (left_from read)
 
 pub returns-then-branch-clause-left : goal.returns-then-branch-clause-left
 returns-then-branch-clause-left g c =
-    let read = c.is_taken.ensures.read_only in
+    let read = c.is_taken.ensures.read.read_only in
     left_then g.S.Store c.args.conn.now c.loop-one.conn c.is_taken.new.conn c.loop-one.invariant.1 c.loop-one.invariant.2 (left_from read)
 
 pub returns-then-branch-clause-answered : goal.returns-then-branch-clause-answered
 returns-then-branch-clause-answered g c clean s bs desk is =
     let inv = c.loop-one.invariant in
     let i = c.loop-one.one-index in
-    let mid = was_clean c.is_taken.ensures.read_only clean in
+    let mid = was_clean c.is_taken.ensures.read.read_only clean in
     let here = desk_stays g.S.Store c.args.conn.now c.loop-one.conn inv.2 mid s desk in
     let reported = rw c.if-branch.true at (c.in_ok-is_taken.ensures.answered clean s here) in
     let named = ap (λ (t : NewSentenceText). t.sent_id) c.one.view_is in
@@ -37,9 +37,9 @@ pub loop-one-preserved : goal.loop-one-preserved
 loop-one-preserved g c =
     let inv = c.loop-one.invariant in
     let i = c.loop-one.one-index in
-    let read = c.is_taken.ensures.read_only in
+    let read = c.is_taken.ensures.read.read_only in
     let left = left_from read in
-    let stays = stays_from c.in_ok-is_taken.ensures.read_only in
+    let stays = stays_from c.in_ok-is_taken.ensures.read.read_only in
     let low : i < length c.args.taken.now = omega (arith, c.loop-one-test.true) in (
       (let same = inv.0 in omega (arith, same)),
       left_then g.S.Store c.args.conn.now c.loop-one.conn c.is_taken.new.conn inv.1 inv.2 left,
@@ -62,19 +62,19 @@ returns-in_err-is_taken-clause-fails g c clean unlimited s desk bad =
     let reported = err_from_is_err_and c.from_residual.result c.from_residual.ensures.1 in
     let failed : c.is_taken.result ≡ Err NotADesk = let was = c.in_err-is_taken.was in let one = reported.1 in let two = reported.2 in cc in
     let inv = c.loop-one.invariant in
-    let mid = was_clean c.is_taken.ensures.read_only clean in
+    let mid = was_clean c.is_taken.ensures.read.read_only clean in
     let here = desk_stays g.S.Store c.args.conn.now c.loop-one.conn inv.2 mid s desk in
-    c.is_taken.ensures.fails clean (inv.1.commits_nothing.limit ∙ unlimited) s here failed
+    c.is_taken.ensures.read.fails clean (inv.1.commits_nothing.limit ∙ unlimited) s here failed
 
 pub returns-then-branch-clause-stays : goal.returns-then-branch-clause-stays
 returns-then-branch-clause-stays g c =
-    let read = c.is_taken.ensures.read_only in
+    let read = c.is_taken.ensures.read.read_only in
     stays_then g.S.Store c.args.conn.now c.loop-one.conn c.is_taken.new.conn c.loop-one.invariant.2
-    (left_from read) (stays_from c.in_ok-is_taken.ensures.read_only)
+    (left_from read) (stays_from c.in_ok-is_taken.ensures.read.read_only)
 
 pub returns-in_err-is_taken-clause-cause : goal.returns-in_err-is_taken-clause-cause
 returns-in_err-is_taken-clause-cause g c =
     let inv = c.loop-one.invariant in
-    let read = c.is_taken.ensures.read_only in
+    let read = c.is_taken.ensures.read.read_only in
     left_clear g.S.Store c.args.conn.now c.loop-one.conn c.is_taken.new.conn c.from_residual.result c.in_err-is_taken.field-0.0 c.from_residual.ensures.1
-    inv.1 inv.2 (left_from read) c.in_err-is_taken.ensures.cause
+    inv.1 inv.2 (left_from read) c.in_err-is_taken.ensures.read.cause

@@ -1,14 +1,14 @@
-use Rattle.std.proofs.Common.{Err, map, sym, ap, ◌∙◌}
+use Rattle.std.proofs.Common.{map}
 use Rattle.sqlite.specs.Held.{state}
-use Rattle.tb_core.specs.declared.refusals.Fault.TheVariants.{NotADesk}
 use Rattle.tb_tables.specs.Values.{move_of}
 use Rattle.tb_reads.specs.Readable.{IsMove}
 use Rattle.tb_reads.proofs.Shown.{if_ok}
 use Rattle.tb_refine.specs.DeskTables.{tables_of}
 use Rattle.tb_refine.specs.Faults.{fault_of_read}
 use Rattle.tb_refine.specs.Fitting.{IsReadableMove}
-use Rattle.tb_refine.proofs.Faultless.{read_reported, fit, want_reported}
-use Rattle.tb_refine.proofs.Reported.{reported_if, reported_not, reported_clear, reported_only}
+use Rattle.tb_refine.proofs.Faultless.{fit}
+use Rattle.tb_refine.proofs.DeskReads.{read_of}
+use Rattle.tb_refine.proofs.Reported.{reported_if}
 use Rattle.tb_refine.proofs.reading.move_rows.Goals as goal
 
 pub returns-clause-answered : goal.returns-clause-answered
@@ -24,8 +24,10 @@ returns-clause-answered g c clean = rw c.reported.ensures.value (reported_if fau
       pulled = stands.pulled;
     }) stands).moves)))
 
-pub returns-clause-fails : goal.returns-clause-fails
-returns-clause-fails g c clean unlimited s desk bad =
+pub returns-clause-read : goal.returns-clause-read
+returns-clause-read g c =
+    read_of c.reported.result c.reported.ensures.never_refuses c.reported.ensures.output c.moves.result c.reported.ensures.value c.moves.ensures.fails c.moves.ensures.cause c.moves.ensures.read_only
+    (λ clean s desk unfit.
     let readable = c.desk_rows_are_readable.ensures s desk.reachable in
     let fits = fit IsReadableMove IsMove (λ x h. record {
       kind_fits = h.kind_fits;
@@ -38,17 +40,4 @@ returns-clause-fails g c clean unlimited s desk bad =
       words_in_fits = h.words_in_fits;
       who_fits = h.who_fits;
     }) (tables_of s).moves readable.moves in
-    reported_not fault_of_read NotADesk c.moves.result (λ e failed.
-    let fails = rw failed at c.moves.ensures.fails in
-    read_reported e (fails clean unlimited desk.holds.schema) (λ unfit. c.moves.ensures.form clean (failed ∙ ap Err unfit) desk.holds.schema (tables_of s).moves fits desk.holds.stands.moves))
-    (sym c.reported.ensures.value ∙ bad)
-
-pub returns-clause-cause : goal.returns-clause-cause
-returns-clause-cause g c good clean unlimited has =
-    rw c.reported.ensures.value (reported_clear fault_of_read c.moves.result (λ e failed.
-    let want = rw failed at c.moves.ensures.cause in
-    want_reported e (want good clean unlimited has)))
-
-pub returns-clause-read_only : goal.returns-clause-read_only
-returns-clause-read_only g c =
-    rw c.reported.ensures.value (reported_only fault_of_read g.S.Store c.args.conn.now c.moves.new.conn c.moves.result c.moves.ensures.read_only)
+    c.moves.ensures.form clean unfit desk.holds.schema (tables_of s).moves fits desk.holds.stands.moves)

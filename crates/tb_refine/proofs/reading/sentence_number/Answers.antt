@@ -1,32 +1,20 @@
-use Rattle.std.proofs.Common.{◌<◌, ◌^◌, Err, length, sym, ap, ◌∙◌, arith}
-use Rattle.tb_core.specs.declared.refusals.Fault.TheVariants.{NotADesk}
+use Rattle.std.proofs.Common.{◌<◌, ◌^◌, length, arith}
 use Rattle.tb_reads.proofs.Shown.{if_ok}
 use Rattle.tb_refine.specs.DeskTables.{tables_of}
 use Rattle.tb_refine.specs.Faults.{fault_of_read}
-use Rattle.tb_refine.proofs.Faultless.{read_reported, want_reported}
 use Rattle.tb_refine.proofs.Names.{id_reported}
-use Rattle.tb_refine.proofs.Reported.{reported_if, reported_not, reported_clear, reported_only}
+use Rattle.tb_refine.proofs.DeskReads.{read_of}
+use Rattle.tb_refine.proofs.Reported.{reported_if}
 use Rattle.tb_refine.proofs.reading.sentence_number.Goals as goal
 
 pub returns-clause-answered : goal.returns-clause-answered
 returns-clause-answered g c clean =
     rw c.reported.ensures.value (reported_if fault_of_read _ c.sentence_named.result (if_ok c.sentence_named.result (c.sentence_named.ensures.ok clean) (λ found read s desk. id_reported s c.args.sent_id.now found (read desk.holds.schema (tables_of s).sentences desk.holds.stands.sentences))))
 
-pub returns-clause-fails : goal.returns-clause-fails
-returns-clause-fails g c clean unlimited s desk bad =
+pub returns-clause-read : goal.returns-clause-read
+returns-clause-read g c =
+    read_of c.reported.result c.reported.ensures.never_refuses c.reported.ensures.output c.sentence_named.result c.reported.ensures.value c.sentence_named.ensures.fails c.sentence_named.ensures.cause c.sentence_named.ensures.read_only
+    (λ clean s desk unfit.
     let fitting = c.desk_rows_fit.ensures s desk.reachable in
     let few : length (tables_of s).sentences < 2 ^ 32 = let low = fitting.sentences_few in omega (arith, low) in
-    reported_not fault_of_read NotADesk c.sentence_named.result (λ e failed.
-    let fails = rw failed at c.sentence_named.ensures.fails in
-    read_reported e (fails clean unlimited desk.holds.schema) (λ unfit. c.sentence_named.ensures.form clean (failed ∙ ap Err unfit) desk.holds.schema (tables_of s).sentences few desk.holds.stands.sentences))
-    (sym c.reported.ensures.value ∙ bad)
-
-pub returns-clause-cause : goal.returns-clause-cause
-returns-clause-cause g c good clean unlimited has =
-    rw c.reported.ensures.value (reported_clear fault_of_read c.sentence_named.result (λ e failed.
-    let want = rw failed at c.sentence_named.ensures.cause in
-    want_reported e (want good clean unlimited has)))
-
-pub returns-clause-read_only : goal.returns-clause-read_only
-returns-clause-read_only g c =
-    rw c.reported.ensures.value (reported_only fault_of_read g.S.Store c.args.conn.now c.sentence_named.new.conn c.sentence_named.result c.sentence_named.ensures.read_only)
+    c.sentence_named.ensures.form clean unfit desk.holds.schema (tables_of s).sentences few desk.holds.stands.sentences)
