@@ -18,13 +18,13 @@ pub use Rattle.tb_core.specs.Machine.{Machine}
 pub use Rattle.tb_core.specs.Taking.{IsBody}
 pub use Rattle.tb_core.specs.declared.refusals.Refusal.{Refusal as AnyRefusal}
 pub use Rattle.tb_tables.specs.Leaving.{CommitsNothing}
-pub use Rattle.tb_report.specs.Csv.{freq_csv, moves_csv, totals_csv}
+pub use Rattle.tb_report.specs.Csv.{freq_csv, moves_csv}
 pub use Rattle.tb_report.specs.Tables.{IsRankingOf, IsTableOf, Row, total_of}
 pub use Rattle.tb_report.specs.Trees.{trees_page}
 pub use Rattle.tb_search.specs.Searched.{keys, Occurrence}
 pub use Rattle.tb_search.specs.Visited.{HasReason}
 pub use Rattle.tb_lists.specs.Batches.{batch_lines}
-pub use Rattle.tb_lists.specs.Csv.{batches_csv, found_csv, revisions_csv, sentences_csv}
+pub use Rattle.tb_lists.specs.Csv.{batches_csv}
 pub use Rattle.tb_store.specs.Answers.{HasNoSentence, IsCurrent, IsRevisionText, RefusesId}
 pub use Rattle.tb_store.specs.Blaming.{BlamesNoDevice}
 pub use Rattle.tb_store.specs.Calls.{CrashesWhole, Does, Gives, GivesOnErr, InState, KeepsState, KnowsItself}

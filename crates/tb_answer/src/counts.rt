@@ -11,9 +11,10 @@ ghost use Rattle.tb_answer.specs.Responses.{IsSent, body_response, reply_respons
 ghost use Rattle.tb_answer.specs.Found.{count_by, IsCounted, IsCountOutput, IsCountResponse, IsReportedOfQuery};
 ghost use Rattle.tb_answer.specs.OnlyRead.{IsOnlyRead, IsReadResult};
 
-use crate::bodies::{body_of, or_memory};
+use crate::bodies::body_of;
 use crate::commands::reply_for_fault;
 use crate::finding::{Count, accepted};
+use crate::listed::text_of;
 use crate::responses::{respond_body, respond_reply};
 use crate::written::Ran;
 use sqlite::Alter;
@@ -22,7 +23,7 @@ use tb_conllu::Sink;
 use tb_core::Fault;
 use tb_http::{Reply, Status};
 use tb_query::Query;
-use tb_report::{Freq, csv_freq};
+use tb_report::Freq;
 use tb_store::Desk;
 
 /// The table of a count as CSV, and how many hits it counts.
@@ -38,15 +39,13 @@ fn table_text(alloc: Global, table: &Freq) -> Result<CountTable, Reply>
         × (v.text.items ≡ freq_csv rows) × (v.hits ≡ total_of table.now)) }
     ensures failed { IfErr result (λ r. r ≡ Reply.Memory) }
 {
-    let mut text = Vec::new(alloc);
-    let put = csv_freq(table, &mut text);
-    or_memory(
-        put,
-        CountTable {
+    match text_of(alloc, table) {
+        Ok(text) => Ok(CountTable {
             text,
             hits: table.total(),
-        },
-    )
+        }),
+        Err(reply) => Err(reply),
+    }
 }
 
 /// The text of the table that was counted, or the reply for the fault of the count.

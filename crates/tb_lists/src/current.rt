@@ -1,8 +1,7 @@
 //! Sentences with their current revisions, read from the tables one at a time.
 
-ghost use Rattle.std.specs.Prelude.{◌≡◌, ◌≢◌, ◌-◌, ◌<◌, ◌^◌, Err, Some, is_ok, length, map, slice_get};
-ghost use Rattle.tb_lists.specs.Prelude.{AnyRefusal, FailsOnlyAs, IsFaultless, IsNoDevice, IsReadOnly, KnowsDeskWhere};
-ghost use Rattle.tb_lists.specs.Prelude.{Sentence, sentence_of, sentence_record, Tells};
+ghost use Rattle.std.specs.Prelude.{◌≡◌, ◌-◌, ◌<◌, ◌^◌, Some, length, map, slice_get};
+ghost use Rattle.tb_lists.specs.Prelude.{IsReadWhere, Sentence, sentence_of, sentence_record, Tells};
 ghost use Rattle.tb_lists.specs.Sentences.{sentence_line, sentence_lines};
 
 use crate::sentences::{SentenceLine, line_of};
@@ -24,12 +23,8 @@ fn read_line<S: Alter>(
     ensures answered { Tells S.Store conn.old conn.new result (λ s line. (x : Sentence)
         → slice_get s.sentences (no - 1) ≡ Some x → sentence_of row.now ≡ sentence_record x
         → is_pulled ≡ x.pulled → line ≡ sentence_line no x) }
-    ensures never_refuses { (r : AnyRefusal) → result ≢ Err (Fault.Refused r) }
-    ensures output { result ≢ Err Fault.Output }
-    ensures fails { KnowsDeskWhere S.Store conn.old conn.new result (λ s so. (x : Sentence)
+    ensures read { IsReadWhere S.Store conn.old conn.new result (λ s so. (x : Sentence)
         → slice_get s.sentences (no - 1) ≡ Some x → sentence_of row.now ≡ sentence_record x → so) }
-    ensures cause { IsFaultless S.Store conn.old conn.new → FailsOnlyAs IsNoDevice S.Store conn.old conn.new result }
-    ensures read_only { IsReadOnly S.Store conn.old conn.new (is_ok result) }
 {
     revisions_read_back();
     let current = revision_row(conn, no, row.rev)?;
@@ -46,12 +41,8 @@ pub(crate) fn read_lines<S: Alter>(
     requires { length rows.now < 2 ^ 32 }
     ensures answered { Tells S.Store conn.old conn.new result (λ s v.
         map sentence_of rows.now ≡ map sentence_record s.sentences → v.items ≡ sentence_lines s batch) }
-    ensures never_refuses { (r : AnyRefusal) → result ≢ Err (Fault.Refused r) }
-    ensures output { result ≢ Err Fault.Output }
-    ensures fails { KnowsDeskWhere S.Store conn.old conn.new result (λ s so.
+    ensures read { IsReadWhere S.Store conn.old conn.new result (λ s so.
         map sentence_of rows.now ≡ map sentence_record s.sentences → so) }
-    ensures cause { IsFaultless S.Store conn.old conn.new → FailsOnlyAs IsNoDevice S.Store conn.old conn.new result }
-    ensures read_only { IsReadOnly S.Store conn.old conn.new (is_ok result) }
 {
     let pulled = read_pulled(alloc, conn)?;
     let mut lines = Vec::new(alloc);

@@ -1,9 +1,8 @@
 //! Finds a sentence by its `sent_id`. Contracts state what is found as facts of the state that the tables represent. No
 //! read changes that state, also after an error.
 
-ghost use Rattle.std.specs.Prelude.{◌≡◌, ◌≢◌, ◌-◌, ◌<◌, Err, Some, is_ok, slice_get};
-ghost use Rattle.tb_lists.specs.Prelude.{AnyRefusal, FailsOnlyAs, IsFaultless, IsNoDevice, IsReadOnly, KnowsDesk};
-ghost use Rattle.tb_lists.specs.Prelude.{KnowsDeskWhere, Sentence, Tells};
+ghost use Rattle.std.specs.Prelude.{◌≡◌, ◌-◌, ◌<◌, Err, Some, slice_get};
+ghost use Rattle.tb_lists.specs.Prelude.{IsRead, IsReadWhere, Sentence, Tells};
 ghost use Rattle.tb_lists.specs.Found.{Finds, found_line};
 
 use crate::found::{FoundLine, line_of};
@@ -15,12 +14,8 @@ use tb_refine::{batch_row, is_pulled, sentence_number, sentence_row};
 fn line_at<S: Alter>(conn: &mut Connection<S>, number: u32) -> Result<FoundLine, Fault>
     ensures answered { Tells S.Store conn.old conn.new result (λ s line. (x : Sentence)
         → slice_get s.sentences (number - 1) ≡ Some x → line ≡ found_line s number x) }
-    ensures never_refuses { (r : AnyRefusal) → result ≢ Err (Fault.Refused r) }
-    ensures output { result ≢ Err Fault.Output }
-    ensures fails { KnowsDeskWhere S.Store conn.old conn.new result (λ s so. 0 < number → (x : Sentence)
+    ensures read { IsReadWhere S.Store conn.old conn.new result (λ s so. 0 < number → (x : Sentence)
         → slice_get s.sentences (number - 1) ≡ Some x → so) }
-    ensures cause { IsFaultless S.Store conn.old conn.new → FailsOnlyAs IsNoDevice S.Store conn.old conn.new result }
-    ensures read_only { IsReadOnly S.Store conn.old conn.new (is_ok result) }
 {
     reached_states_are_well();
     if number == 0 {
@@ -43,11 +38,7 @@ pub fn find_sentence<S: Alter>(
     sent_id: &str,
 ) -> Result<Option<FoundLine>, Fault>
     ensures answered { Tells S.Store conn.old conn.new result (λ s found. Finds s sent_id.now found) }
-    ensures never_refuses { (r : AnyRefusal) → result ≢ Err (Fault.Refused r) }
-    ensures output { result ≢ Err Fault.Output }
-    ensures fails { KnowsDesk S.Store conn.old conn.new result }
-    ensures cause { IsFaultless S.Store conn.old conn.new → FailsOnlyAs IsNoDevice S.Store conn.old conn.new result }
-    ensures read_only { IsReadOnly S.Store conn.old conn.new (is_ok result) }
+    ensures read { IsRead S.Store conn.old conn.new result }
 {
     let Some(number) = sentence_number(conn, sent_id)? else {
         return Ok(None);

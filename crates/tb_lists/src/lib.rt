@@ -16,7 +16,6 @@ mod revisions;
 mod sentences;
 
 pub use batches::BatchLine;
-pub use csvs::{csv_batches, csv_found, csv_revisions, csv_sentences};
 pub use finding::find_sentence;
 pub use found::FoundLine;
 pub use laws::batches_add_up;

@@ -2,10 +2,9 @@
 //! read changes that state, also after an error.
 
 ghost use Rattle.std.specs.Prelude.{◌≡◌, ◌≢◌, ◌-◌, ◌<◌, ◌≤◌, ◌^◌, Err, IfErr, IfOk, List, Some, length, map};
-ghost use Rattle.std.specs.Prelude.{is_ok, slice_get};
-ghost use Rattle.tb_lists.specs.Prelude.{AnyRefusal, batch_of, batch_record, FailsOnlyAs, IsFaultless, IsNoDevice};
-ghost use Rattle.tb_lists.specs.Prelude.{IsReadOnly, KnowsDesk, KnowsDeskWhere, pulled_from, rev, Sentence};
-ghost use Rattle.tb_lists.specs.Prelude.{sentence_of, sentence_record, Tells};
+ghost use Rattle.std.specs.Prelude.{slice_get};
+ghost use Rattle.tb_lists.specs.Prelude.{AnyRefusal, batch_of, batch_record, IsNoDevice, IsRead, IsReadWhere};
+ghost use Rattle.tb_lists.specs.Prelude.{pulled_from, rev, Sentence, sentence_of, sentence_record, Tells};
 ghost use Rattle.tb_lists.specs.Batches.{batch_lines};
 ghost use Rattle.tb_lists.specs.Counted.{AreCounts};
 ghost use Rattle.tb_lists.specs.Revisions.{revision_lines};
@@ -28,11 +27,7 @@ use tb_tables::{BatchRow, SentenceRow};
 fn read_batches<S: Alter>(alloc: Global, conn: &mut Connection<S>) -> Result<Vec<BatchRow>, Fault>
     ensures answered { Tells S.Store conn.old conn.new result (λ s v.
         map batch_of v.items ≡ map batch_record s.batches) }
-    ensures never_refuses { (r : AnyRefusal) → result ≢ Err (Fault.Refused r) }
-    ensures output { result ≢ Err Fault.Output }
-    ensures fails { KnowsDesk S.Store conn.old conn.new result }
-    ensures cause { IsFaultless S.Store conn.old conn.new → FailsOnlyAs IsNoDevice S.Store conn.old conn.new result }
-    ensures read_only { IsReadOnly S.Store conn.old conn.new (is_ok result) }
+    ensures read { IsRead S.Store conn.old conn.new result }
 {
     desk_rows_are_readable();
     one_list_for_the_rows();
@@ -46,11 +41,7 @@ fn read_sentences<S: Alter>(
 ) -> Result<Vec<SentenceRow>, Fault>
     ensures answered { Tells S.Store conn.old conn.new result (λ s v.
         map sentence_of v.items ≡ map sentence_record s.sentences) }
-    ensures never_refuses { (r : AnyRefusal) → result ≢ Err (Fault.Refused r) }
-    ensures output { result ≢ Err Fault.Output }
-    ensures fails { KnowsDesk S.Store conn.old conn.new result }
-    ensures cause { IsFaultless S.Store conn.old conn.new → FailsOnlyAs IsNoDevice S.Store conn.old conn.new result }
-    ensures read_only { IsReadOnly S.Store conn.old conn.new (is_ok result) }
+    ensures read { IsRead S.Store conn.old conn.new result }
 {
     desk_rows_are_readable();
     one_list_for_the_rows();
@@ -85,11 +76,7 @@ fn read_counts<S: Alter>(
     batches: usize,
 ) -> Result<Vec<Count>, Fault>
     ensures answered { Tells S.Store conn.old conn.new result (λ s v. AreCounts batches s.sentences v.items) }
-    ensures never_refuses { (r : AnyRefusal) → result ≢ Err (Fault.Refused r) }
-    ensures output { result ≢ Err Fault.Output }
-    ensures fails { KnowsDesk S.Store conn.old conn.new result }
-    ensures cause { IsFaultless S.Store conn.old conn.new → FailsOnlyAs IsNoDevice S.Store conn.old conn.new result }
-    ensures read_only { IsReadOnly S.Store conn.old conn.new (is_ok result) }
+    ensures read { IsRead S.Store conn.old conn.new result }
 {
     let rows = read_sentences(alloc, conn)?;
     let pulled = read_pulled(alloc, conn)?;
@@ -106,11 +93,7 @@ pub fn list_batches<S: Alter>(
     conn: &mut Connection<S>,
 ) -> Result<Vec<BatchLine>, Fault>
     ensures answered { Tells S.Store conn.old conn.new result (λ s v. v.items ≡ batch_lines s) }
-    ensures never_refuses { (r : AnyRefusal) → result ≢ Err (Fault.Refused r) }
-    ensures output { result ≢ Err Fault.Output }
-    ensures fails { KnowsDesk S.Store conn.old conn.new result }
-    ensures cause { IsFaultless S.Store conn.old conn.new → FailsOnlyAs IsNoDevice S.Store conn.old conn.new result }
-    ensures read_only { IsReadOnly S.Store conn.old conn.new (is_ok result) }
+    ensures read { IsRead S.Store conn.old conn.new result }
 {
     let batches = read_batches(alloc, conn)?;
     let counts = read_counts(alloc, conn, batches.len())?;
@@ -132,12 +115,8 @@ pub fn list_revisions<S: Alter>(
     ensures answered { Tells S.Store conn.old conn.new result (λ s v. (x : Sentence)
         → slice_get s.sentences (number - 1) ≡ Some x
         → (v.items ≡ revision_lines s number x) × (length v.items ≡ rev x)) }
-    ensures never_refuses { (r : AnyRefusal) → result ≢ Err (Fault.Refused r) }
-    ensures output { result ≢ Err Fault.Output }
-    ensures fails { KnowsDeskWhere S.Store conn.old conn.new result (λ s so. (x : Sentence)
+    ensures read { IsReadWhere S.Store conn.old conn.new result (λ s so. (x : Sentence)
         → slice_get s.sentences (number - 1) ≡ Some x → so) }
-    ensures cause { IsFaultless S.Store conn.old conn.new → FailsOnlyAs IsNoDevice S.Store conn.old conn.new result }
-    ensures read_only { IsReadOnly S.Store conn.old conn.new (is_ok result) }
 {
     let row = sentence_row(conn, number)?;
     let steps = all_moves(alloc, conn)?;
@@ -158,12 +137,8 @@ fn sentences_of<S: Alter>(
 ) -> Result<Vec<SentenceLine>, Fault>
     ensures answered { Tells S.Store conn.old conn.new result (λ s v.
         map sentence_of rows.now ≡ map sentence_record s.sentences → v.items ≡ sentence_lines s batch) }
-    ensures never_refuses { (r : AnyRefusal) → result ≢ Err (Fault.Refused r) }
-    ensures output { result ≢ Err Fault.Output }
-    ensures fails { KnowsDeskWhere S.Store conn.old conn.new result (λ s so.
+    ensures read { IsReadWhere S.Store conn.old conn.new result (λ s so.
         map sentence_of rows.now ≡ map sentence_record s.sentences → so) }
-    ensures cause { IsFaultless S.Store conn.old conn.new → FailsOnlyAs IsNoDevice S.Store conn.old conn.new result }
-    ensures read_only { IsReadOnly S.Store conn.old conn.new (is_ok result) }
     ensures many { 2 ^ 32 ≤ length rows.now → result ≡ Err Fault.NotADesk }
 {
     if rows.len() > u32::MAX as usize {
@@ -185,11 +160,7 @@ pub fn list_sentences<S: Alter>(
     batch: u32,
 ) -> Result<Vec<SentenceLine>, Fault>
     ensures answered { Tells S.Store conn.old conn.new result (λ s v. v.items ≡ sentence_lines s batch) }
-    ensures never_refuses { (r : AnyRefusal) → result ≢ Err (Fault.Refused r) }
-    ensures output { result ≢ Err Fault.Output }
-    ensures fails { KnowsDesk S.Store conn.old conn.new result }
-    ensures cause { IsFaultless S.Store conn.old conn.new → FailsOnlyAs IsNoDevice S.Store conn.old conn.new result }
-    ensures read_only { IsReadOnly S.Store conn.old conn.new (is_ok result) }
+    ensures read { IsRead S.Store conn.old conn.new result }
 {
     let rows = read_sentences(alloc, conn)?;
     sentences_of(alloc, conn, rows.as_slice(), batch)

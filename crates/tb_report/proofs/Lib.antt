@@ -10,7 +10,6 @@ pub mod OneRanking
 pub mod WordLists
 pub mod HitTexts
 pub mod CsvRows
-pub mod Parts
 pub mod Unwrapped
 pub mod Escapes
 pub mod Grown

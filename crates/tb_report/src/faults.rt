@@ -1,11 +1,10 @@
 //! The list of faults as CSV.
 
-ghost use Rattle.std.specs.Prelude.{◌≡◌, [], ◌∷◌, IfOk, IsOk, OnOk, false, map, string_bytes};
+ghost use Rattle.std.specs.Prelude.{◌≡◌, [], ◌∷◌, IfOk, IsOk, OnOk, false, string_bytes};
 ghost use Rattle.tb_report.specs.Csv.{PutsRows};
-ghost use Rattle.tb_report.specs.FaultList.{fault_fields, faults_csv, faults_head, last_rows, line_fields, more_fields};
-ghost use Rattle.tb_report.specs.FaultList.{FaultText, rule_fields};
+ghost use Rattle.tb_report.specs.FaultList.{FaultText, faults_csv, last_rows, line_fields, more_fields, rule_fields};
 
-use crate::table::{finish, new_rows, put_row};
+use crate::table::{TableRow, finish, new_rows, put_row, put_rows};
 use csv::Writer;
 use itoa::Buffer;
 use std::alloc::{AllocError, Global};
@@ -107,44 +106,38 @@ fn put_rule<W: Write + Drop>(
     )
 }
 
-fn put_fault<W: Write + Drop>(rows: &mut Writer<W>, listed: &FaultRow) -> Result<(), AllocError>
-    ensures { OnOk result (PutsRows W.contents rows.old rows.new (fault_fields listed.now ∷ [])) }
-{
-    match listed.fault {
-        Fault::Line { line, code } => put_line(rows, line, code, listed),
-        Fault::Rule {
-            sentence,
-            rule,
-            row,
-        } => put_rule(rows, sentence, rule, row, listed),
-    }
-}
+impl TableRow for FaultRow {
+    ghost use Rattle.tb_report.specs.FaultList.{fault_fields, faults_head};
 
-fn put_faults<W: Write + Drop>(rows: &mut Writer<W>, faults: &[FaultRow]) -> Result<(), AllocError>
-    ensures put { OnOk result (PutsRows W.contents rows.old rows.new (map fault_fields faults.now)) }
-    ensures sure { faults.now ≡ [] → IsOk result }
-{
-    for listed in faults {
-        put_fault(rows, listed)?;
-    }
-    Ok(())
-}
+    ghost head = { faults_head };
 
-fn put_head<W: Write + Drop>(rows: &mut Writer<W>) -> Result<(), AllocError>
-    ensures { OnOk result (PutsRows W.contents rows.old rows.new (faults_head ∷ [])) }
-{
-    let head = [
-        "line".as_bytes(),
-        "code".as_bytes(),
-        "sentence".as_bytes(),
-        "rule".as_bytes(),
-        "row".as_bytes(),
-        "id".as_bytes(),
-        "column".as_bytes(),
-        "value".as_bytes(),
-        "message".as_bytes(),
-    ];
-    put_row(rows, &head)
+    ghost fields = { fault_fields };
+
+    fn put_head<W: Write + Drop>(rows: &mut Writer<W>) -> Result<(), AllocError> {
+        let head = [
+            "line".as_bytes(),
+            "code".as_bytes(),
+            "sentence".as_bytes(),
+            "rule".as_bytes(),
+            "row".as_bytes(),
+            "id".as_bytes(),
+            "column".as_bytes(),
+            "value".as_bytes(),
+            "message".as_bytes(),
+        ];
+        put_row(rows, &head)
+    }
+
+    fn put<W: Write + Drop>(&self, rows: &mut Writer<W>) -> Result<(), AllocError> {
+        match self.fault {
+            Fault::Line { line, code } => put_line(rows, line, code, self),
+            Fault::Rule {
+                sentence,
+                rule,
+                row,
+            } => put_rule(rows, sentence, rule, row, self),
+        }
+    }
 }
 
 fn put_more<W: Write + Drop>(rows: &mut Writer<W>) -> Result<(), AllocError>
@@ -185,8 +178,8 @@ pub fn faults_text(alloc: Global, faults: &[FaultRow], more: bool) -> Result<Vec
     ensures { IfOk result (λ v. v.items ≡ faults_csv more faults.now) }
 {
     let mut rows = new_rows(alloc);
-    put_head(&mut rows)?;
-    put_faults(&mut rows, faults)?;
+    FaultRow::put_head(&mut rows)?;
+    put_rows(&mut rows, faults)?;
     put_last(&mut rows, more)?;
     finish(rows)
 }

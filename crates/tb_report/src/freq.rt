@@ -56,11 +56,6 @@ impl Freq {
         self.total
     }
 
-    /// Where memory comes from.
-    pub(crate) fn allocator(&self) -> Global {
-        self.alloc
-    }
-
     /// The rows, the greatest count first.
     pub(crate) fn ranking(&self) -> Result<Vec<Rank<'_>>, AllocError>
         ensures { IfOk result (λ v. IsRankingOf self.now (map ranked_row v.items)) }

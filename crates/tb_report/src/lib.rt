@@ -18,7 +18,6 @@ mod trees;
 mod words;
 
 pub use assets::{PAGE_CSS, ROWS_JS, TREE_JS};
-pub use csvs::{csv_freq, csv_moves, csv_totals};
 pub use fault::ReportFault;
 pub use faults::{FaultRow, faults_text};
 pub use freq::Freq;
@@ -27,5 +26,5 @@ pub use laws::{
     counts_sum_to_keys, keys_have_one_table, order_of_keys_is_nothing, pages_of_trees_are_html,
     sentences_begin_no_tag, table_has_one_ranking, tables_add_up,
 };
-pub use table::{finish, new_rows, put_row, put_text};
+pub use table::{Table, TableRow, put_row, rows_text, write_csv};
 pub use trees::trees_page;

@@ -5,7 +5,7 @@ use crate::telling::{assert_bytes, assert_same};
 use std::alloc::Global;
 use std::process::Abort;
 use tb_core::{Move, Totals};
-use tb_report::{Freq, csv_freq, csv_moves, csv_totals};
+use tb_report::{Freq, Table, write_csv};
 
 /// Keys, separated by bars.
 const KEYS: &str =
@@ -38,10 +38,10 @@ fn sum_of_rows(rt: &impl Abort, freq: &Freq) -> u64 {
     sum
 }
 
-/// Asserts what the table of counts is, as CSV.
-pub(crate) fn assert_table(rt: &impl Abort, alloc: Global, freq: &Freq, wanted: &str) {
+/// Asserts what a table is, as CSV.
+pub(crate) fn assert_table(rt: &impl Abort, alloc: Global, table: &impl Table, wanted: &str) {
     let mut out = Vec::new(alloc);
-    csv_freq(freq, &mut out).expect(rt, "a table");
+    write_csv(alloc, table, &mut out).expect(rt, "a table");
     assert_bytes(rt, &out, wanted, "a table");
 }
 
@@ -76,25 +76,13 @@ const MOVES: &str =
 const MOVES_WRITTEN: &str =
     "no,kind,batch,sentence,from,to,sentences,words_out,words_in,who\n1,import,1,0,none,open,2,0,4,ann\n2,pull,1,2,open,withdrawn,1,1,1,dan\n3,assign,1,0,open,assigned,1,3,3,ann\n4,restore,1,2,withdrawn,assigned,1,1,1,dan\n5,pull,1,2,assigned,withdrawn,1,1,1,dan\n6,withdraw,1,0,assigned,withdrawn,1,3,3,cem\n7,reopen,1,0,withdrawn,open,1,3,3,ben\n8,pull,1,1,open,withdrawn,1,3,3,dan\n9,assign,1,0,open,assigned,0,0,0,ben\n10,unassign,1,0,assigned,open,0,0,0,ben\n11,correct,2,3,assigned,assigned,1,3,4,ann\n12,submit,2,0,assigned,submitted,1,4,4,ann\n13,send-back,2,0,submitted,assigned,1,4,4,ben\n14,adjudicate,2,0,submitted,adjudicated,1,4,4,ben\n15,release,2,0,adjudicated,released,1,4,4,cem\n18446744073709551615,submit,1,0,assigned,submitted,1,18446744073709551615,0,\"a,b\"\n18446744073709551615,submit,1,0,assigned,submitted,1,18446744073709551615,0,\"say \"\"x\"\"\"\n18446744073709551615,submit,1,0,assigned,submitted,1,18446744073709551615,0,\"line\nfeed\"\n18446744073709551615,submit,1,0,assigned,submitted,1,18446744073709551615,0,книга\n18446744073709551615,submit,1,0,assigned,submitted,1,18446744073709551615,0,北京\n18446744073709551615,submit,1,0,assigned,submitted,1,18446744073709551615,0,שלום\n18446744073709551615,submit,1,0,assigned,submitted,1,18446744073709551615,0,=1+1\n18446744073709551615,submit,1,0,assigned,submitted,1,18446744073709551615,0,-\n18446744073709551615,submit,1,0,assigned,submitted,1,18446744073709551615,0, lead\n18446744073709551615,submit,1,0,assigned,submitted,1,18446744073709551615,0,\ttab\n18446744073709551615,submit,1,0,assigned,submitted,1,18446744073709551615,0,\"\"\"\"\n18446744073709551615,submit,1,0,assigned,submitted,1,18446744073709551615,0,\n18446744073709551615,submit,1,0,assigned,submitted,1,18446744073709551615,0,\"é, ü\"\n";
 
-fn assert_totals(rt: &impl Abort, alloc: Global) {
+#[test]
+fn totals_and_moves(rt: HostRuntime) {
     let totals = Totals {
         sentences: [0, 0, 0, 0, 0, 2],
         words: [0, 0, 0, 0, 0, 4],
     };
-    let mut out = Vec::new(alloc);
-    csv_totals(alloc, &totals, &mut out).expect(rt, "a table");
-    assert_bytes(rt, &out, TOTALS, "totals");
-}
-
-fn assert_moves(rt: &impl Abort, alloc: Global, moves: &[Move]) {
-    let mut out = Vec::new(alloc);
-    csv_moves(alloc, moves, &mut out).expect(rt, "a table");
-    assert_bytes(rt, &out, MOVES_WRITTEN, "moves");
-}
-
-#[test]
-fn totals_and_moves(rt: HostRuntime) {
-    assert_totals(&rt, rt.alloc());
+    assert_table(&rt, rt.alloc(), &totals, TOTALS);
     let moves: Vec<Move> = rows_of(&rt, rt.alloc(), MOVES, "|");
-    assert_moves(&rt, rt.alloc(), &moves);
+    assert_table(&rt, rt.alloc(), &moves, MOVES_WRITTEN);
 }

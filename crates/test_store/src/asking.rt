@@ -7,11 +7,10 @@ use std::alloc::Global;
 use std::process::Abort;
 use tb_answer::{DeskCommand, obey};
 use tb_conllu::Sink;
-use tb_core::{Event, Fault, Move, Totals};
+use tb_core::{Event, Fault};
 use tb_http::{Reply, attribute_of, event_of, strategy_of};
-use tb_lists::{csv_batches, csv_found, csv_revisions, csv_sentences};
 use tb_query::{Query, Strategy, parse};
-use tb_report::{Freq, csv_freq, csv_moves, csv_totals};
+use tb_report::{Freq, Table, write_csv};
 use tb_store::Desk;
 
 const NOUN_PHRASES: &str =
@@ -166,17 +165,18 @@ fn put_count<S: Alter>(
     let query = query_of(rt, alloc, line);
     let column = attribute_of(word_at(line, 2)).expect(rt, line);
     let counted = desk.count(&query, strategy_at(rt, line), column);
-    put_table(rt, counted, out)
+    put_table(rt, alloc, counted, out)
 }
 
 /// Writes a table, and returns the sum of its rows. The query of the table is no value here, so that no exit drops it.
 fn put_table(
     rt: &impl Abort,
+    alloc: Global,
     counted: Result<Freq, Fault>,
     out: &mut Vec<u8>,
 ) -> Result<u64, Fault> {
     let table = counted?;
-    csv_freq(&table, out).expect(rt, "a table");
+    write_csv(alloc, &table, out).expect(rt, "a table");
     Ok(table.total())
 }
 
@@ -188,7 +188,7 @@ fn put_batches<S: Alter>(
     out: &mut Vec<u8>,
 ) -> Result<u64, Fault> {
     let batches = desk.batches()?;
-    csv_batches(alloc, batches.as_slice(), out).expect(rt, "batches");
+    write_csv(alloc, &batches, out).expect(rt, "batches");
     Ok(batches.len() as u64)
 }
 
@@ -201,7 +201,7 @@ fn put_sentences<S: Alter>(
     out: &mut Vec<u8>,
 ) -> Result<u64, Fault> {
     let sentences = desk.sentences(word_at(line, 1))?;
-    csv_sentences(alloc, sentences.as_slice(), out).expect(rt, line);
+    write_csv(alloc, &sentences, out).expect(rt, line);
     Ok(sentences.len() as u64)
 }
 
@@ -214,7 +214,7 @@ fn put_revisions<S: Alter>(
     out: &mut Vec<u8>,
 ) -> Result<u64, Fault> {
     let revisions = desk.revisions(number_at(rt, line, 1))?;
-    csv_revisions(alloc, revisions.as_slice(), out).expect(rt, line);
+    write_csv(alloc, &revisions, out).expect(rt, line);
     Ok(revisions.len() as u64)
 }
 
@@ -227,7 +227,7 @@ fn put_found<S: Alter>(
     out: &mut Vec<u8>,
 ) -> Result<u64, Fault> {
     let found = desk.find(word_at(line, 1))?;
-    csv_found(alloc, &found, out).expect(rt, line);
+    write_csv(alloc, &found, out).expect(rt, line);
     Ok(found.no)
 }
 
@@ -276,27 +276,15 @@ pub(crate) fn obeyed<S: Alter>(
 }
 
 /// Appends the lines of a table, each after a space, without the header and without those that end in `but`.
-fn push_lines(rt: &impl Abort, text: &mut String, table: &[u8], but: &str) {
-    for line in text_of(rt, table).lines().skip(1) {
+fn push_lines(rt: &impl Abort, alloc: Global, text: &mut String, table: &impl Table, but: &str) {
+    let mut csv: Vec<u8> = Vec::new(alloc);
+    write_csv(alloc, table, &mut csv).expect(rt, "a table");
+    for line in text_of(rt, csv.as_slice()).lines().skip(1) {
         if !line.ends_with(but) {
             put(rt, text, " ");
             put(rt, text, line);
         }
     }
-}
-
-/// Appends the totals that are not zero, each after a space.
-fn push_totals(rt: &impl Abort, alloc: Global, text: &mut String, totals: &Totals) {
-    let mut table: Vec<u8> = Vec::new(alloc);
-    csv_totals(alloc, totals, &mut table).expect(rt, "totals");
-    push_lines(rt, text, table.as_slice(), ",0,0");
-}
-
-/// Appends the moves, each after a space.
-fn push_moves(rt: &impl Abort, alloc: Global, text: &mut String, moves: &[Move]) {
-    let mut table: Vec<u8> = Vec::new(alloc);
-    csv_moves(alloc, moves, &mut table).expect(rt, "moves");
-    push_lines(rt, text, table.as_slice(), "\n");
 }
 
 /// Appends the totals that are not zero, and the moves.
@@ -307,9 +295,9 @@ fn push_standing<S: Alter>(
     text: &mut String,
 ) -> Result<(), Fault> {
     let totals = desk.totals()?;
-    push_totals(rt, alloc, text, &totals);
+    push_lines(rt, alloc, text, &totals, ",0,0");
     let moves = desk.moves()?;
-    push_moves(rt, alloc, text, moves.as_slice());
+    push_lines(rt, alloc, text, &moves, "\n");
     Ok(())
 }
 

@@ -1,18 +1,19 @@
-use Rattle.std.proofs.Common.{◌≡◌, ◌+◌, ◌-◌, ◌++◌, ◌<◌, length, nat_eq, true, false, Some, Err, slice_get, sym, ap, subst, ◌∙◌, arith, append-nil}
+use Rattle.std.proofs.Common.{◌≡◌, ◌+◌, ◌-◌, ◌++◌, ◌<◌, length, nat_eq, true, false, Some, slice_get, refl, sym, ap, subst, ◌∙◌, arith, append-nil}
 use Rattle.std.proofs.lemmas.List.{length-map}
-use Rattle.std.proofs.lemmas.Result.{err_from_is_err_and}
 use Rattle.std.proofs.lemmas.Bool.Decides.{nat_tests}
 use Rattle.sqlite_trees.specs.Tree.{IsAscending}
-use Rattle.tb_core.specs.declared.refusals.Fault.TheVariants.{NotADesk}
+use Rattle.tb_core.specs.declared.refusals.Fault.TheVariants.{Memory}
 use Rattle.tb_tables.specs.Records.{Sentence}
 use Rattle.tb_tables.specs.Values.{sentence_of}
-use Rattle.tb_reads.proofs.ReadOnly.{read_then, read_failed, was_clean}
+use Rattle.tb_tables.proofs.Causes.{handed_on}
+use Rattle.tb_reads.proofs.ReadOnly.{read_then, was_clean}
 use Rattle.tb_refine.specs.DeskTables.{sentence_record}
 use Rattle.tb_refine.specs.Listed.{is_listed}
 use Rattle.tb_refine.proofs.Unchanged.{desk_after}
 use Rattle.tb_lists.specs.Sentences.{sentence_line, sentences_from}
 use Rattle.tb_lists.proofs.Summed.{drop_end}
 use Rattle.tb_lists.proofs.Told.{IsSoFar, row_there, flag_is, with_line, without_line}
+use Rattle.tb_refine.proofs.DeskReads.{next_stopped, read_stopped, read_wanting, read_well}
 use Rattle.tb_lists.proofs.current.read_lines.Goals as goal
 use Rattle.tb_lists.proofs.current.read_lines.Goals.{then-row-batch+in_ok-read_line+in_ok-push, else-row-batch}
 
@@ -25,7 +26,7 @@ loop-row-preserved g c =
       at,
       elim c.if-row-batch.branch [
         | then-row-batch+in_ok-read_line+in_ok-push w ↦
-            let read = w.in_ok-read_line.ensures.read_only in
+            let read = w.in_ok-read_line.ensures.read.read_only in
             subst (λ conn. IsSoFar g.S.Store c.args.conn.now conn c.in_ok-pulled.pulled.items c.args.rows.now c.args.batch (i + 1) c.if-row-batch.lines.items) (sym w.conn-is)
             (subst (λ ls. IsSoFar g.S.Store c.args.conn.now w.read_line.new.conn c.in_ok-pulled.pulled.items c.args.rows.now c.args.batch (i + 1) ls) (ap (λ v. v.items) (sym w.lines-is)) (
               read_then inv.1.0 read,
@@ -73,22 +74,23 @@ returns-clause-answered g c clean s desk same =
     let past = drop_end s.sentences i (omega (arith, c.loop-row-test.false, size)) in
     sym (append-nil lines) ∙ ap (λ l. lines ++ sentences_from c.args.batch (i + 1) l) (sym past) ∙ was.1 same
 
-pub returns-in_err-read_line-clause-fails : goal.returns-in_err-read_line-clause-fails
-returns-in_err-read_line-clause-fails g c clean unlimited s desk same bad =
-    let reported = err_from_is_err_and c.from_residual-in_err-read_line.result c.from_residual-in_err-read_line.ensures.1 in
-    let failed : c.read_line.result ≡ Err NotADesk = let was = c.in_err-read_line.was in let one = reported.1 in let two = reported.2 in cc in
-    let i = c.loop-row.row-index in
-    let inv = c.loop-row.invariant in
-    let mid = was_clean c.read_line.ensures.read_only clean in
-    let still = desk_after inv.1.0 mid desk in
-    let it = row_there c.args.rows.now s.sentences i c.row-item.result (omega (arith, c.loop-row-test.true)) c.row-item.is same in
-    let number = inv.0 in
-    let place : c.loop-row.no + 1 - 1 ≡ i = omega (arith, number) in
+pub returns-in_err-pulled-clause-read : goal.returns-in_err-pulled-clause-read
+returns-in_err-pulled-clause-read g c =
+    read_stopped c.from_residual.result c.in_err-pulled.field-0.0 c.from_residual.ensures.1 c.in_err-pulled.ensures.read (λ clean s desk fails on same. on fails)
+
+pub returns-in_err-read_line-clause-read : goal.returns-in_err-read_line-clause-read
+returns-in_err-read_line-clause-read g c =
+    next_stopped c.from_residual-in_err-read_line.result c.in_err-read_line.field-0.0 c.from_residual-in_err-read_line.ensures.1 c.loop-row.invariant.1.0 c.in_err-read_line.ensures.read (λ mid s desk fails on same.
+    let it = row_there c.args.rows.now s.sentences c.loop-row.row-index c.row-item.result (omega (arith, c.loop-row-test.true)) c.row-item.is same in
+    let number = c.loop-row.invariant.0 in
+    let place : c.loop-row.no + 1 - 1 ≡ c.loop-row.row-index = omega (arith, number) in
     let there : slice_get s.sentences (c.loop-row.no + 1 - 1) ≡ Some it.0 = ap (slice_get s.sentences) place ∙ it.1 in
-    c.read_line.ensures.fails clean (inv.1.0.commits_nothing.limit ∙ unlimited) s still it.0 there it.3 failed
+    on (fails it.0 there it.3))
 
-pub returns-in_err-read_line-clause-read_only : goal.returns-in_err-read_line-clause-read_only
-returns-in_err-read_line-clause-read_only g c = read_failed c.from_residual-in_err-read_line.result _ c.from_residual-in_err-read_line.ensures.1 (read_then c.loop-row.invariant.1.0 c.read_line.ensures.read_only)
+pub returns-in_err-push-clause-read : goal.returns-in_err-push-clause-read
+returns-in_err-push-clause-read g c =
+    read_wanting c.from_residual-in_err-push.result (read_then c.loop-row.invariant.1.0 c.in_ok-read_line.ensures.read.read_only)
+    (handed_on (λ e. e ≡ Memory) c.from_residual-in_err-push.result Memory c.from_residual-in_err-push.ensures.1 refl) (λ s fine same. fine)
 
-pub returns-in_err-push-clause-read_only : goal.returns-in_err-push-clause-read_only
-returns-in_err-push-clause-read_only g c = read_failed c.from_residual-in_err-push.result _ c.from_residual-in_err-push.ensures.1 (read_then c.loop-row.invariant.1.0 c.in_ok-read_line.ensures.read_only)
+pub returns-clause-read : goal.returns-clause-read
+returns-clause-read g c = read_well c.loop-row.invariant.1.0 (λ s fine same. fine)

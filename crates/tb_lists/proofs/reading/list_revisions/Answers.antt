@@ -1,19 +1,18 @@
-use Rattle.std.proofs.Common.{◌≡◌, ◌∙◌, Err, length, ap, rules}
-use Rattle.std.proofs.lemmas.Result.{err_from_is_err_and}
-use Rattle.tb_core.specs.declared.refusals.Fault.TheVariants.{NotADesk}
+use Rattle.std.proofs.Common.{◌≡◌, ◌∙◌, length, ap, rules}
 use Rattle.tb_tables.specs.Records.{Sentence}
 use Rattle.tb_reads.proofs.Shown.{if_ok}
-use Rattle.tb_refine.proofs.Unchanged.{second_clear, desk_after}
-use Rattle.tb_reads.proofs.ReadOnly.{read_then, read_on, read_failed, was_clean}
+use Rattle.tb_refine.proofs.Unchanged.{desk_after}
+use Rattle.tb_reads.proofs.ReadOnly.{read_then, was_clean}
 use Rattle.tb_lists.specs.Made.{lines_by}
 use Rattle.tb_lists.specs.Revisions.{makers}
 use Rattle.tb_lists.proofs.Makers.{are_revisions}
+use Rattle.tb_refine.proofs.DeskReads.{next_stopped, read_stopped, read_wanting}
 use Rattle.tb_lists.proofs.reading.list_revisions.Goals as goal
 
 pub returns-clause-answered : goal.returns-clause-answered
 returns-clause-answered g c clean = if_ok c.lines_by.result c.lines_by.ensures.lines (λ v reported s desk x there.
-    let mid = was_clean c.all_moves.ensures.read_only clean in
-    let first = desk_after c.in_ok-row.ensures.read_only mid desk in
+    let mid = was_clean c.all_moves.ensures.read.read_only clean in
+    let first = desk_after c.in_ok-row.ensures.read.read_only mid desk in
     let row = c.in_ok-row.ensures.answered mid s desk x there in
     let steps : c.as_slice.result.now ≡ s.moves = search rules ∙ c.in_ok-steps.ensures.answered clean s first in
     let number : c.from.result ≡ c.args.number = search rules in
@@ -23,29 +22,14 @@ returns-clause-answered g c clean = if_ok c.lines_by.result c.lines_by.ensures.l
     reported ∙ ap (λ l. lines_by 1 (makers c.from.result c.from-2.result l)) steps ∙ ap (λ n. lines_by 1 (makers n c.from-2.result s.moves)) number ∙ ap (λ b. lines_by 1 (makers c.args.number b s.moves)) batch in
     (all ∙ is.0, ap length all ∙ is.1))
 
-pub returns-in_err-row-clause-fails : goal.returns-in_err-row-clause-fails
-returns-in_err-row-clause-fails g c clean unlimited s desk x there bad =
-    let reported = err_from_is_err_and c.from_residual.result c.from_residual.ensures.1 in
-    let failed : c.sentence_row.result ≡ Err NotADesk = let was = c.in_err-row.was in let one = reported.1 in let two = reported.2 in cc in
-    c.sentence_row.ensures.fails clean unlimited s desk x there failed
+pub returns-in_err-row-clause-read : goal.returns-in_err-row-clause-read
+returns-in_err-row-clause-read g c =
+    read_stopped c.from_residual.result c.in_err-row.field-0.0 c.from_residual.ensures.1 c.in_err-row.ensures.read (λ clean s desk fails on x there. on (fails x there))
 
-pub returns-in_err-steps-clause-fails : goal.returns-in_err-steps-clause-fails
-returns-in_err-steps-clause-fails g c clean unlimited s desk x there bad =
-    let reported = err_from_is_err_and c.from_residual-in_err-steps.result c.from_residual-in_err-steps.ensures.1 in
-    let failed : c.all_moves.result ≡ Err NotADesk = let was = c.in_err-steps.was in let one = reported.1 in let two = reported.2 in cc in
-    let mid = was_clean c.all_moves.ensures.read_only clean in
-    let first = desk_after c.in_ok-row.ensures.read_only mid desk in
-    c.all_moves.ensures.fails clean (c.sentence_row.ensures.read_only.commits_nothing.limit ∙ unlimited) s first failed
+pub returns-in_err-steps-clause-read : goal.returns-in_err-steps-clause-read
+returns-in_err-steps-clause-read g c =
+    next_stopped c.from_residual-in_err-steps.result c.in_err-steps.field-0.0 c.from_residual-in_err-steps.ensures.1 c.in_ok-row.ensures.read.read_only c.in_err-steps.ensures.read (λ mid s desk fails on x there. on fails)
 
-pub returns-in_err-steps-clause-cause : goal.returns-in_err-steps-clause-cause
-returns-in_err-steps-clause-cause g c =
-    second_clear c.from_residual-in_err-steps.result c.in_err-steps.field-0.0 c.from_residual-in_err-steps.ensures.1 c.in_ok-row.ensures.read_only c.all_moves.ensures.read_only c.in_err-steps.ensures.cause
-
-pub returns-in_err-row-clause-read_only : goal.returns-in_err-row-clause-read_only
-returns-in_err-row-clause-read_only g c = read_failed c.from_residual.result _ c.from_residual.ensures.1 c.sentence_row.ensures.read_only
-
-pub returns-in_err-steps-clause-read_only : goal.returns-in_err-steps-clause-read_only
-returns-in_err-steps-clause-read_only g c = read_failed c.from_residual-in_err-steps.result _ c.from_residual-in_err-steps.ensures.1 (read_then c.in_ok-row.ensures.read_only c.all_moves.ensures.read_only)
-
-pub returns-clause-read_only : goal.returns-clause-read_only
-returns-clause-read_only g c = read_on _ (read_then c.in_ok-row.ensures.read_only c.in_ok-steps.ensures.read_only)
+pub returns-clause-read : goal.returns-clause-read
+returns-clause-read g c =
+    read_wanting c.lines_by.result (read_then c.in_ok-row.ensures.read.read_only c.in_ok-steps.ensures.read.read_only) c.lines_by.ensures.fault (λ s fine x there. fine)

@@ -1,14 +1,14 @@
-use Rattle.std.proofs.Common.{Err, map, sym, ap, ◌∙◌}
+use Rattle.std.proofs.Common.{map}
 use Rattle.sqlite.specs.Held.{state}
-use Rattle.tb_core.specs.declared.refusals.Fault.TheVariants.{NotADesk}
 use Rattle.tb_tables.specs.Values.{batch_of}
 use Rattle.tb_reads.specs.Readable.{IsBatch}
 use Rattle.tb_reads.proofs.Shown.{if_ok}
 use Rattle.tb_refine.specs.DeskTables.{tables_of}
 use Rattle.tb_refine.specs.Faults.{fault_of_read}
 use Rattle.tb_refine.specs.Fitting.{IsReadableBatch}
-use Rattle.tb_refine.proofs.Faultless.{read_reported, fit, want_reported}
-use Rattle.tb_refine.proofs.Reported.{reported_if, reported_not, reported_clear, reported_only}
+use Rattle.tb_refine.proofs.Faultless.{fit}
+use Rattle.tb_refine.proofs.Reported.{reported_if}
+use Rattle.tb_refine.proofs.DeskReads.{read_of}
 use Rattle.tb_lists.proofs.reading.read_batches.Goals as goal
 
 pub returns-clause-answered : goal.returns-clause-answered
@@ -24,21 +24,10 @@ returns-clause-answered g c clean = rw c.reported.ensures.value (reported_if fau
       pulled = stands.pulled;
     }) stands).batches)))
 
-pub returns-clause-fails : goal.returns-clause-fails
-returns-clause-fails g c clean unlimited s desk bad =
+pub returns-clause-read : goal.returns-clause-read
+returns-clause-read g c =
+    read_of c.reported.result c.reported.ensures.never_refuses c.reported.ensures.output c.batches.result c.reported.ensures.value c.batches.ensures.fails c.batches.ensures.cause c.batches.ensures.read_only
+    (λ clean s desk unfit.
     let readable = c.desk_rows_are_readable.ensures s desk.reachable in
     let fits = fit IsReadableBatch IsBatch (λ y h. record { name_fits = h.name_fits; state_fits = h.state_fits; worker_fits = h.worker_fits }) (tables_of s).batches readable.batches in
-    reported_not fault_of_read NotADesk c.batches.result (λ e failed.
-    let fails = rw failed at c.batches.ensures.fails in
-    read_reported e (fails clean unlimited desk.holds.schema) (λ unfit. c.batches.ensures.form clean (failed ∙ ap Err unfit) desk.holds.schema (tables_of s).batches fits desk.holds.stands.batches))
-    (sym c.reported.ensures.value ∙ bad)
-
-pub returns-clause-cause : goal.returns-clause-cause
-returns-clause-cause g c good clean unlimited has =
-    rw c.reported.ensures.value (reported_clear fault_of_read c.batches.result (λ e failed.
-    let want = rw failed at c.batches.ensures.cause in
-    want_reported e (want good clean unlimited has)))
-
-pub returns-clause-read_only : goal.returns-clause-read_only
-returns-clause-read_only g c =
-    rw c.reported.ensures.value (reported_only fault_of_read g.S.Store c.args.conn.now c.batches.new.conn c.batches.result c.batches.ensures.read_only)
+    c.batches.ensures.form clean unfit desk.holds.schema (tables_of s).batches fits desk.holds.stands.batches)

@@ -1,14 +1,14 @@
-use Rattle.std.proofs.Common.{Err, map, sym, ap, ◌∙◌}
+use Rattle.std.proofs.Common.{map}
 use Rattle.sqlite.specs.Held.{state}
-use Rattle.tb_core.specs.declared.refusals.Fault.TheVariants.{NotADesk}
 use Rattle.tb_tables.specs.Values.{sentence_of}
 use Rattle.tb_reads.specs.Readable.{IsSentence}
 use Rattle.tb_reads.proofs.Shown.{if_ok}
 use Rattle.tb_refine.specs.DeskTables.{tables_of}
 use Rattle.tb_refine.specs.Faults.{fault_of_read}
 use Rattle.tb_refine.specs.Fitting.{IsReadableSentence}
-use Rattle.tb_refine.proofs.Faultless.{read_reported, fit, want_reported}
-use Rattle.tb_refine.proofs.Reported.{reported_if, reported_not, reported_clear, reported_only}
+use Rattle.tb_refine.proofs.Faultless.{fit}
+use Rattle.tb_refine.proofs.Reported.{reported_if}
+use Rattle.tb_refine.proofs.DeskReads.{read_of}
 use Rattle.tb_lists.proofs.reading.read_sentences.Goals as goal
 
 pub returns-clause-answered : goal.returns-clause-answered
@@ -24,21 +24,10 @@ returns-clause-answered g c clean = rw c.reported.ensures.value (reported_if fau
       pulled = stands.pulled;
     }) stands).sentences)))
 
-pub returns-clause-fails : goal.returns-clause-fails
-returns-clause-fails g c clean unlimited s desk bad =
+pub returns-clause-read : goal.returns-clause-read
+returns-clause-read g c =
+    read_of c.reported.result c.reported.ensures.never_refuses c.reported.ensures.output c.sentences.result c.reported.ensures.value c.sentences.ensures.fails c.sentences.ensures.cause c.sentences.ensures.read_only
+    (λ clean s desk unfit.
     let readable = c.desk_rows_are_readable.ensures s desk.reachable in
     let fits = fit IsReadableSentence IsSentence (λ y h. record { sent_id_fits = h.sent_id_fits; batch_fits = h.batch_fits; rev_fits = h.rev_fits; words_fits = h.words_fits }) (tables_of s).sentences readable.sentences in
-    reported_not fault_of_read NotADesk c.sentences.result (λ e failed.
-    let fails = rw failed at c.sentences.ensures.fails in
-    read_reported e (fails clean unlimited desk.holds.schema) (λ unfit. c.sentences.ensures.form clean (failed ∙ ap Err unfit) desk.holds.schema (tables_of s).sentences fits desk.holds.stands.sentences))
-    (sym c.reported.ensures.value ∙ bad)
-
-pub returns-clause-cause : goal.returns-clause-cause
-returns-clause-cause g c good clean unlimited has =
-    rw c.reported.ensures.value (reported_clear fault_of_read c.sentences.result (λ e failed.
-    let want = rw failed at c.sentences.ensures.cause in
-    want_reported e (want good clean unlimited has)))
-
-pub returns-clause-read_only : goal.returns-clause-read_only
-returns-clause-read_only g c =
-    rw c.reported.ensures.value (reported_only fault_of_read g.S.Store c.args.conn.now c.sentences.new.conn c.sentences.result c.sentences.ensures.read_only)
+    c.sentences.ensures.form clean unfit desk.holds.schema (tables_of s).sentences fits desk.holds.stands.sentences)

@@ -1,0 +1,13 @@
+use Rattle.std.proofs.Common.{◌≡◌, [], ◌∷◌, ℕ, List, subst}
+use Rattle.std.specs.Result.{OnOk}
+use Rattle.tb_report.specs.Csv.{PutsRows}
+use Rattle.tb_lists.specs.Csv.{batches_head}
+use Rattle.tb_lists.proofs.csvs.BatchLineTableRow.put_head.Goals as goal
+
+pub returns : goal.returns
+returns g c =
+    let head : c.as_bytes.result.now ∷ c.as_bytes-2.result.now ∷ c.as_bytes-3.result.now ∷ c.as_bytes-4.result.now ∷ c.as_bytes-5.result.now ∷ c.as_bytes-6.result.now ∷ c.as_bytes-7.result.now
+    ∷ c.as_bytes-8.result.now ∷ c.as_bytes-9.result.now ∷ [] ≡ batches_head =
+    λ i. c.as_bytes.ensures.value i ∷ c.as_bytes-2.ensures.value i ∷ c.as_bytes-3.ensures.value i ∷ c.as_bytes-4.ensures.value i ∷ c.as_bytes-5.ensures.value i ∷ c.as_bytes-6.ensures.value i ∷ c.as_bytes-7.ensures.value i
+    ∷ c.as_bytes-8.ensures.value i ∷ c.as_bytes-9.ensures.value i ∷ [] in
+    subst (λ (fields : List (List ℕ)). OnOk c.put_row.result (PutsRows g.W.Write.contents c.args.rows.now c.put_row.new.rows (fields ∷ []))) head c.put_row.ensures
