@@ -1,9 +1,9 @@
 -- Inner: no contract beyond this crate cites a definition of this module.
 -- What is said of a sentence that breaks a rule: each sentence with what makes it true.
 -- CoNLL-U format page, "Words, Tokens and Empty Nodes" and "Syntactic Annotation"; UD v2 guidelines.
-use Rattle.std.specs.Prelude.{◌≡◌, ◌≢◌, ℕ, ◌+◌, ◌-◌, ◌^◌, ◌<◌, ◌≤◌, ◌⊎◌, List, length, min, None, Bool}
+use Rattle.std.specs.Prelude.{◌≡◌, ◌≢◌, ℕ, ◌+◌, ◌-◌, ◌^◌, ◌<◌, ◌≤◌, ◌⊎◌, List, drop, length, min, None, Option, option_map, Bool}
 use Rattle.std.specs.Prelude.{true, false, is_some, nat_le, count_by, position, IsSomeAnd, MatchOption}
-use Rattle.std.specs.List.{list_any}
+use Rattle.std.specs.List.{list_any, slice_get}
 use Rattle.tb_conllu.specs.declared.id.LineId.{LineId}
 use Rattle.tb_conllu.specs.declared.id.LineId.TheVariants.{Word, Span, Empty}
 use Rattle.tb_conllu.specs.Text.{RowText}
@@ -14,7 +14,7 @@ use Rattle.tb_fields.specs.Tags.{is_universal_tag}
 use Rattle.tb_rules.specs.Tree.{is_root}
 use Rattle.tb_words.specs.Columns.{first_filled}
 use Rattle.tb_words.specs.FileSentences.{comment_line_of, row_line_of}
-use Rattle.tb_words.specs.declared.findings.Detail.TheVariants.{Words}
+use Rattle.tb_words.specs.declared.findings.Detail.TheVariants.{And, Words}
 use Rattle.tb_words.specs.declared.findings.Finding.{Finding}
 use Rattle.tb_words.specs.declared.places.Placed.{Placed}
 use Rattle.tb_words.specs.declared.sentences.TheConstants.{DEPREL_UNKNOWN, HEAD_0_NOT_ROOT, HEAD_BEYOND, HEAD_MISSING}
@@ -120,9 +120,20 @@ SaysWords placed count found =
     (found.line ≡ comment_line_of placed 0) × (found.detail ≡ Words count)
     × (((found.sentence.now ≡ NO_WORDS.now) × (count ≡ 0)) ⊎ ((found.sentence.now ≡ TOO_MANY_WORDS.now) × (count ≢ 0)))
 
--- The roots: no word is one, or the first of them is told.
+-- the first root after a row
+abbrev pub root_after : List RowText → ℕ → Option ℕ
+root_after rows first = option_map (λ k. first + 1 + k) (position is_root (drop (first + 1) rows))
+
+-- two rows are told, each by its line and its ID
+abbrev pub SaysPairOf : Placed → (first second : ℕ) → Finding → Type 0
+SaysPairOf placed first second found =
+    (found.sentence.now ≡ TWO_ROOTS.now) × (found.line ≡ row_line_of placed first)
+    × (found.id ≡ option_map (λ row. row.id) (slice_get placed.block.rows first))
+    × IsSomeAnd (slice_get placed.block.rows second) (λ row. found.detail ≡ And (row_line_of placed second) row.id)
+
+-- the roots: no word is one, or the first two are told
 abbrev pub SaysRoots : Placed → Finding → Type 0
 SaysRoots placed found =
     MatchOption (position is_root placed.block.rows) ((found.sentence.now ≡ NO_ROOT.now)
-    × (found.line ≡ comment_line_of placed 0)) (λ first. (found.sentence.now ≡ TWO_ROOTS.now)
-    × (found.line ≡ row_line_of placed first))
+    × (found.line ≡ comment_line_of placed 0)) (λ first.
+    IsSomeAnd (root_after placed.block.rows first) (λ second. SaysPairOf placed first second found))

@@ -13,10 +13,10 @@ ghost use Rattle.tb_words.specs.FileSentences.{comment_line_of, line_of_word, ro
 ghost use Rattle.tb_words.specs.Keyed.{IsAtName, IsKeyed, IsMisplaced, IsMisplacedRow, SaysKey, SaysOrder, SaysSentId, SaysTaken};
 ghost use Rattle.tb_words.specs.Keyed.{next_id, order_sentence};
 ghost use Rattle.tb_words.specs.RowFaults.{SaysHead, SaysHeaded, SaysNode, SaysRange, SaysRangePlace};
-ghost use Rattle.tb_words.specs.RowFaults.{SaysRelation, SaysRoots, SaysWord, SaysWords, range_last, reaches};
-ghost use Rattle.tb_words.specs.RowFaults.{IsRangePlaced, SaysName, word_number};
-ghost use Rattle.tb_words.specs.declared.findings.Detail.TheVariants.{And, Instead};
-ghost use Rattle.tb_words.specs.declared.sentences.TheConstants.{CIRCLE, TEXT_MISSING, TEXT_TWICE, TWO_ROOTS};
+ghost use Rattle.tb_words.specs.RowFaults.{SaysPairOf, SaysRelation, SaysRoots, SaysWord, SaysWords, range_last, reaches};
+ghost use Rattle.tb_words.specs.RowFaults.{IsRangePlaced, SaysName, root_after, word_number};
+ghost use Rattle.tb_words.specs.declared.findings.Detail.TheVariants.{Instead};
+ghost use Rattle.tb_words.specs.declared.sentences.TheConstants.{CIRCLE, TEXT_MISSING, TEXT_TWICE};
 
 use crate::circles::{circle_text, heads_of, on_circle};
 use crate::columns::{DEPREL, DEPS, FEATS, HEAD, ID, UPOS, filled, value_in};
@@ -452,18 +452,15 @@ fn is_root(row: &RowRef<'_>) -> bool
 
 /// The place of the first word with HEAD 0.
 fn first_root(rows: &[RowRef<'_>]) -> Option<usize>
-    ensures { result ≡ position is_root_row rows.now }
+    ensures first { result ≡ position is_root_row rows.now }
+    ensures within { IfSome result (λ at. at < length rows.now) }
 {
     rows.iter().position(|row| is_root(row))
 }
 
 /// What is wrong with two words that have HEAD 0, at these places.
 fn two_roots<'a>(placed: &Placed<'a>, first: usize, second: usize) -> Option<Finding<'a>>
-    ensures line { IfSome result (λ f. f.line ≡ row_line_of placed.now first) }
-    ensures row { IfSome result (λ f. f.id ≡ option_map (λ row. row.id) (slice_get placed.now.block.rows first)) }
-    ensures said { IfSome result (λ f. f.sentence.now ≡ TWO_ROOTS.now) }
-    ensures other { IfSome result (λ f. IfSome (slice_get placed.now.block.rows second) (λ row.
-        f.detail ≡ And (row_line_of placed.now second) row.id)) }
+    ensures { IfSome result (SaysPairOf placed.now first second) }
 {
     let one = row_at(&placed.block, first)?.id;
     let other = row_at(&placed.block, second)?.id;
@@ -476,7 +473,7 @@ fn two_roots<'a>(placed: &Placed<'a>, first: usize, second: usize) -> Option<Fin
 
 /// The place of the second word with HEAD 0, where the first is at this place.
 fn second_root(rows: &[RowRef<'_>], first: usize) -> Option<usize>
-    ensures { IfSome result (λ second. first < second) }
+    ensures { IfSome result (λ second. root_after rows.now first ≡ Some second) }
 {
     let from = first.saturating_add(1);
     let after = first_root(rows.get(from..)?)?;
