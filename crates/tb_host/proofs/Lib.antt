@@ -1,3 +1,4 @@
 mod Handed
+mod Led
 mod Listed
 mod Shown

@@ -50,6 +50,11 @@ file_cause kind.StaleNetworkFileHandle = file.Lost
 file_cause kind.TimedOut = file.NoAnswer
 file_cause kind.NotConnected = file.NoAnswer
 file_cause kind.HostUnreachable = file.NoAnswer
+file_cause kind.NetworkUnreachable = file.NoAnswer
+file_cause kind.NetworkDown = file.NoAnswer
+file_cause kind.ConnectionRefused = file.NoAnswer
+file_cause kind.ConnectionReset = file.NoAnswer
+file_cause kind.ConnectionAborted = file.NoAnswer
 file_cause kind.Unsupported = file.SecondName
 file_cause _ = file.Unopened
 
@@ -90,6 +95,8 @@ misfit_of _ = None
 abbrev pub reply_of : FileCause → Reply
 reply_of file.Memory = reply.Memory
 reply_of file.Busy = reply.Device
+reply_of file.Lost = reply.Device
+reply_of file.NoAnswer = reply.Device
 reply_of file.Full = reply.Device
 reply_of file.Quota = reply.Device
 reply_of file.TooLarge = reply.Device

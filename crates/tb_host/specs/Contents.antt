@@ -1,9 +1,13 @@
 -- Between crates: no contract of a front door cites a definition of this module.
 -- What the bytes of a file and of its log show of its tables (the file format of SQLite, sections 1.3, 1.6 and 4.1).
-use Rattle.std.specs.Prelude.{◌≡◌, ◌≢◌, ◌++◌, ◌+◌, ◌*◌, ◌⊎◌, ◌≤◌, ◌<◌, ℕ, List, [], ◌∷◌, All, codes, length, take, drop, slice_get, Option, None, Some}
+use Rattle.std.specs.Prelude.{◌≡◌, ◌≢◌, ◌++◌, ◌+◌, ◌*◌, ◌⊎◌, ◌↔◌, ◌≤◌, ◌<◌, ℕ, List, [], ◌∷◌, All, codes, length, take, drop, slice_get, Option, None, Some}
 use Rattle.std.specs.Prelude.{Bool, true, false, min, nat_eq, not, Result, Ok, Err, MatchResult}
-use Rattle.std.specs.Fs.{IsFile, file_type, metadata_len}
+use Rattle.std.specs.Prelude.{IsTrue}
+use Rattle.std.specs.Fs.{IsDir, IsFile, file_type, metadata_len}
 use Rattle.std.specs.IoError.{error_kind}
+use Rattle.std.specs.Path.{path_buf_bytes}
+use Rattle.std.specs.Global.{Global}
+use Rattle.std.specs.declared.path.buf.PathBuf.{PathBuf}
 use Rattle.std.specs.declared.fs.attrs.Metadata.{Metadata}
 use Rattle.std.specs.declared.io.Error.{Error}
 use Rattle.std.specs.declared.io.ErrorKind.{ErrorKind}
@@ -79,6 +83,24 @@ abbrev pub odd_cause : (is_folder : Bool) → FileCause
 odd_cause true = file.Folder
 odd_cause false = file.NotPlain
 
+-- a path without links
+abbrev pub Path : Type 0
+Path = PathBuf Global
+
+-- Where a path leads, by what the system says of it: to nothing, or to a plain file with this path.
+abbrev pub LeadsTo : (IsTarget : Result (Option Metadata) FileCause → Type 0)
+    → (IsReal : Result Path FileCause → Type 0) → Option Path → Type 0
+LeadsTo IsTarget IsReal None = IsTarget (Ok None)
+LeadsTo IsTarget IsReal (Some real) = (found : Metadata) × IsTarget (Ok (Some found)) × IsFile (file_type found)
+    × IsReal (Ok real)
+
+-- Why a path does not lead to a plain file: the system refuses it, or something else is there, as a folder.
+abbrev pub IsNotPlain : (IsTarget : Result (Option Metadata) FileCause → Type 0)
+    → (IsReal : Result Path FileCause → Type 0) → FileCause → Type 0
+IsNotPlain IsTarget IsReal cause = IsTarget (Err cause) ⊎ IsReal (Err cause)
+    ⊎ ((found : Metadata) × IsTarget (Ok (Some found)) × (¬ IsFile (file_type found))
+    × ((folder : Bool) × (IsTrue folder ↔ IsDir (file_type found)) × (cause ≡ odd_cause folder)))
+
 abbrev pub AreZero : List ℕ → Type 0
 AreZero bytes = All (λ b. b ≡ 0) bytes
 
@@ -152,6 +174,11 @@ HasOwnLog IsThere IsBeginning path = IsThere (path ++ codes "-wal") None
     ⊎ ((found : Metadata) × (bytes : List ℕ) × IsThere (path ++ codes "-wal") (Some found)
     × IsFile (file_type found) × (metadata_len found ≤ own_log_limit)
     × IsBeginning (path ++ codes "-wal") own_log_limit bytes × MayBeOwnLog bytes)
+
+-- where a new desk's file is: at the path without links, or where nothing is there, at the path as it is given
+abbrev pub place_of : (path : List ℕ) → (real : Option Path) → List ℕ
+place_of path (Some real) = path_buf_bytes real
+place_of path None = path
 
 -- A desk may be made in the file at a path: it is blank, as far as its first 65,536 bytes tell, no journal has to be
 -- played back, and its log may be written over.

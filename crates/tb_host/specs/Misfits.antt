@@ -1,9 +1,13 @@
 -- Inner: no contract beyond this crate cites a definition of this module.
 -- Names of tables, in the words for what is wrong with their rows and in the queries that look for it. Which sentence
 -- has rows that belong to none.
-use Rattle.std.specs.Prelude.{ℕ, min, List, [], ◌∷◌, codes, Option, None, Some, Result, Ok, Err}
+use Rattle.std.specs.Prelude.{◌≡◌, ℕ, min, List, [], ◌∷◌, codes, ⊤, Option, None, Some}
+use Rattle.std.specs.Prelude.{Result, Ok, Err}
+use Rattle.tb_reads.specs.declared.error.ReadError.{ReadError}
+use Rattle.tb_reads.specs.declared.error.ReadError.TheVariants.{Form, Store}
 use Rattle.tb_tables.specs.declared.rows.RevisionRow.{RevisionRow}
 use Rattle.tb_host.specs.declared.misfit.Misfit.{Misfit}
+use Rattle.tb_host.specs.declared.misfit.Misfit.TheVariants as wrong
 use Rattle.tb_host.specs.declared.misfit.Stop.{Stop}
 use Rattle.tb_host.specs.declared.misfit.Stop.TheVariants.{Found, Failed}
 use Rattle.tb_host.specs.declared.misfit.Table.{Table}
@@ -43,3 +47,19 @@ abbrev pub found_by : Result (Unit {0}) Stop → Option Misfit
 found_by (Ok nothing) = None
 found_by (Err (Found misfit)) = Some misfit
 found_by (Err Failed) = None
+
+-- why a look ends at a read that failed: at the rows, as `form` says, or because the store failed
+abbrev pub stop_by : ReadError → (form : Stop) → Stop
+stop_by Form form = form
+stop_by (Store e) form = Failed
+
+-- why a look ends at a table that cannot be read: a row of it is missing, its values are wrong, or the store failed
+abbrev pub IsUnreadable : Table → Stop → Type 0
+IsUnreadable t Failed = ⊤
+IsUnreadable t (Found (wrong.Missing of number)) = of ≡ t
+IsUnreadable t (Found (wrong.Values name)) = name.now ≡ table_name t
+IsUnreadable t (Found _) = ⊥
+
+abbrev pub IsStopOf : ReadError → Table → Stop → Type 0
+IsStopOf Form t stop = IsUnreadable t stop
+IsStopOf (Store e) t stop = stop ≡ Failed

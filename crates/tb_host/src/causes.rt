@@ -109,9 +109,14 @@ impl FileCause {
             ErrorKind::ReadOnlyFilesystem => FileCause::ReadOnly,
             ErrorKind::FilesystemLoop => FileCause::Links,
             ErrorKind::StaleNetworkFileHandle => FileCause::Lost,
-            ErrorKind::TimedOut | ErrorKind::NotConnected | ErrorKind::HostUnreachable => {
-                FileCause::NoAnswer
-            }
+            ErrorKind::TimedOut
+            | ErrorKind::NotConnected
+            | ErrorKind::HostUnreachable
+            | ErrorKind::NetworkUnreachable
+            | ErrorKind::NetworkDown
+            | ErrorKind::ConnectionRefused
+            | ErrorKind::ConnectionReset
+            | ErrorKind::ConnectionAborted => FileCause::NoAnswer,
             // The database reports a file with two names so, and a link in the place of its log.
             ErrorKind::Unsupported => FileCause::SecondName,
             _ => FileCause::Unopened,
@@ -151,6 +156,8 @@ impl FileCause {
         match self {
             FileCause::Memory => Reply::Memory,
             FileCause::Busy
+            | FileCause::Lost
+            | FileCause::NoAnswer
             | FileCause::Full
             | FileCause::Quota
             | FileCause::TooLarge

@@ -2,11 +2,14 @@
 //! the file is no desk.
 
 ghost use Rattle.std.specs.Prelude.{◌≡◌, ◌⊎◌, ◌↔◌, ◌++◌, ◌<◌, ◌≤◌, ℕ, List, Bool, IfErr, IfOk, IsOkAnd, IsSomeAnd};
-ghost use Rattle.std.specs.Prelude.{IsTrue, Err as ErrOf, MatchResult, OnOk, Some, codes, false, string_bytes};
+ghost use Rattle.std.specs.Prelude.{IsTrue, Err as ErrOf, MatchResult, OnOk, Option, Some, codes, false};
+ghost use Rattle.std.specs.Prelude.{string_bytes};
 ghost use Rattle.std.specs.Fs.{IsDir, IsFile, file_type, metadata_len};
+ghost use Rattle.std.specs.Path.{path_buf_bytes};
 ghost use Rattle.tb_host.specs.Contents.{BeginsWith, HasNoJournal, HasOwnLog, IsBlank, IsListed, IsOtherFile};
-ghost use Rattle.tb_host.specs.Contents.{IsReserved, ListsDesk, ListsTables, MayBeOwnLog, MayBecomeDesk, is_hot};
-ghost use Rattle.tb_host.specs.Contents.{is_looked_at_again, odd_cause, own_log_limit, version_by};
+ghost use Rattle.tb_host.specs.Contents.{IsNotPlain, IsReserved, LeadsTo, ListsDesk, ListsTables};
+ghost use Rattle.tb_host.specs.Contents.{MayBeOwnLog, MayBecomeDesk, Path};
+ghost use Rattle.tb_host.specs.Contents.{is_hot, is_looked_at_again, odd_cause, own_log_limit, place_of, version_by};
 
 use crate::causes::FileCause;
 use crate::contents::{Version, is_blank, listed_in};
@@ -14,6 +17,7 @@ use crate::logs::has_commits;
 use crate::system::System;
 use std::alloc::Global;
 use std::fs;
+use std::path::PathBuf;
 
 /// The first bytes of a database file (the file format of SQLite, section 1.3).
 const HEADER: &[u8] = b"SQLite format 3\0";
@@ -215,20 +219,42 @@ fn listed_alone<S: System>(system: &S, path: &str) -> Result<Version, FileCause>
     listed(system, path)
 }
 
-/// The version of the desk that a plain file may be, by its first bytes.
-pub(crate) fn version_of<S: System>(system: &S, path: &str) -> Result<Version, FileCause>
+/// The path without links of the plain file to which a path leads. `None` where nothing is there.
+fn plain_at<S: System>(system: &S, path: &str) -> Result<Option<PathBuf>, FileCause>
+    ensures leads { IfOk result (LeadsTo (S.IsTarget system.now path.now) (S.IsReal system.now path.now)) }
+    ensures refused { IfErr result (IsNotPlain (S.IsTarget system.now path.now) (S.IsReal system.now path.now)) }
+{
+    let Some(found) = system.target(path)? else {
+        return Ok(None);
+    };
+    plain(&found)?;
+    Ok(Some(system.real(path)?))
+}
+
+/// The same, where SQLite gives the name no meaning of its own.
+fn file_at<S: System>(system: &S, path: &str) -> Result<Option<PathBuf>, FileCause>
     ensures reserved { IsReserved path.now → result ≡ ErrOf FileCause.ReservedName }
-    ensures lists { IfOk result (λ version. (real : List ℕ)
-        × ListsDesk (S.IsBeginning system.now) real version × HasNoJournal (S.IsBeginning system.now) real) }
+    ensures leads { IfOk result (LeadsTo (S.IsTarget system.now path.now) (S.IsReal system.now path.now)) }
+    ensures refused { IfErr result (λ cause. IsReserved path.now
+        ⊎ IsNotPlain (S.IsTarget system.now path.now) (S.IsReal system.now path.now) cause) }
 {
     if is_no_path(path) {
         return Err(FileCause::ReservedName);
     }
-    let Some(found) = system.target(path)? else {
+    plain_at(system, path)
+}
+
+/// The version of the desk that a plain file may be, by its first bytes.
+pub(crate) fn version_of<S: System>(system: &S, path: &str) -> Result<Version, FileCause>
+    ensures reserved { IsReserved path.now → result ≡ ErrOf FileCause.ReservedName }
+    ensures lists { IfOk result (λ version. (real : Path)
+        × LeadsTo (S.IsTarget system.now path.now) (S.IsReal system.now path.now) (Some real)
+        × ListsDesk (S.IsBeginning system.now) (path_buf_bytes real) version
+        × HasNoJournal (S.IsBeginning system.now) (path_buf_bytes real)) }
+{
+    let Some(real) = file_at(system, path)? else {
         return Err(FileCause::Missing);
     };
-    plain(&found)?;
-    let real = system.real(path)?;
     listed_alone(system, real.as_str())
 }
 
@@ -317,15 +343,12 @@ fn look_at_new<S: System>(system: &S, path: &str) -> Result<(), FileCause>
 /// database, and no log of another desk.
 pub(crate) fn may_become_desk<S: System>(system: &S, path: &str) -> Result<(), FileCause>
     ensures reserved { IsReserved path.now → result ≡ ErrOf FileCause.ReservedName }
-    ensures new { OnOk result ((real : List ℕ)
-        × MayBecomeDesk (S.IsThere system.now) (S.IsBeginning system.now) real) }
+    ensures new { OnOk result ((real : Option Path)
+        × LeadsTo (S.IsTarget system.now path.now) (S.IsReal system.now path.now) real
+        × MayBecomeDesk (S.IsThere system.now) (S.IsBeginning system.now) (place_of path.now real)) }
 {
-    if is_no_path(path) {
-        return Err(FileCause::ReservedName);
+    match file_at(system, path)? {
+        Some(real) => look_at_new(system, real.as_str()),
+        None => look_at_new(system, path),
     }
-    let Some(found) = system.target(path)? else {
-        return look_at_new(system, path);
-    };
-    plain(&found)?;
-    look_at_new(system, system.real(path)?.as_str())
 }

@@ -1,8 +1,10 @@
 //! Which row is wrong first in a file whose rows are not those of a desk, for the words about it. This decides nothing:
 //! it reads the tables once more, after the file was refused.
 
-ghost use Rattle.std.specs.Prelude.{◌≡◌, ◌≢◌, ◌↔◌, ◌≤◌, [], ◌∷◌, IsOk, IsTrue};
-ghost use Rattle.tb_host.specs.Misfits.{first_pulled, first_revised, found_by, query_of_numbers, smaller, table_name};
+ghost use Rattle.std.specs.Prelude.{◌≡◌, ◌≢◌, ◌↔◌, ◌≤◌, [], ◌∷◌, IsErrAnd, IsOk, IsTrue, MatchResult, Some};
+ghost use Rattle.std.specs.Prelude.{Err as ErrOf, Ok as Read, false};
+ghost use Rattle.tb_host.specs.Misfits.{IsStopOf, IsUnreadable, first_pulled, first_revised, found_by};
+ghost use Rattle.tb_host.specs.Misfits.{query_of_numbers, smaller, stop_by, table_name};
 
 use sqlite::types::ValueRef;
 use sqlite::{Alter, Connection, Row};
@@ -128,7 +130,9 @@ fn first_gap(rows: &[Row]) -> Option<u64> {
 }
 
 /// What is wrong with a table that cannot be read: a row is missing, or a value is of another kind.
-fn misfit_of<S: Alter>(conn: &mut Connection<S>, table: Table) -> Stop {
+fn misfit_of<S: Alter>(conn: &mut Connection<S>, table: Table) -> Stop
+    ensures { IsUnreadable table result }
+{
     match conn.query_all(table.numbers(), &[]) {
         Ok(rows) => match first_gap(rows.as_slice()) {
             Some(number) => Stop::Found(Misfit::Missing(table, number)),
@@ -143,7 +147,9 @@ fn rows_of<S: Alter, T>(
     conn: &mut Connection<S>,
     table: Table,
     read: Result<Vec<T>, ReadError>,
-) -> Result<Vec<T>, Stop> {
+) -> Result<Vec<T>, Stop>
+    ensures { MatchResult read (λ rows. result ≡ Read rows) (λ e. IsErrAnd result (IsStopOf e table)) }
+{
     match read {
         Ok(rows) => Ok(rows),
         Err(ReadError::Form) => Err(misfit_of(conn, table)),
@@ -152,7 +158,10 @@ fn rows_of<S: Alter, T>(
 }
 
 /// The rows of a table whose rows have other keys.
-fn keyed_rows<T>(read: Result<Vec<T>, ReadError>, table: &'static str) -> Result<Vec<T>, Stop> {
+fn keyed_rows<T>(read: Result<Vec<T>, ReadError>, table: &'static str) -> Result<Vec<T>, Stop>
+    ensures { MatchResult read (λ rows. result ≡ Read rows)
+        (λ e. result ≡ ErrOf (stop_by e (Stop.Found (Misfit.Values table.entry)))) }
+{
     match read {
         Ok(rows) => Ok(rows),
         Err(ReadError::Form) => Err(Stop::Found(Misfit::Values(table))),
@@ -253,7 +262,12 @@ impl<'a> Rest<'a> {
     }
 
     /// Whether the sentence with this number is pulled. Its number is taken.
-    fn takes_pulled(&mut self, number: u64) -> bool {
+    fn takes_pulled(&mut self, number: u64) -> bool
+        ensures taken { IsTrue result → self.old.pulled.now ≡ number ∷ self.new.pulled.now }
+        ensures other { result ≡ false → (first_pulled self.old.pulled.now ≢ Some number)
+            × (self.new.pulled ≡ self.old.pulled) }
+        ensures revisions { self.new.revisions ≡ self.old.revisions }
+    {
         match self.pulled.split_first() {
             Some((first, later)) if u64::from(*first) == number => {
                 self.pulled = later;

@@ -95,8 +95,12 @@ fn time_to_read<L: Link>(
     whole: Duration,
     since: Instant,
 ) -> io::Result<Duration>
-    ensures { IfOk result (λ time. (elapsed : Time) × L.IsElapsed link.now since (Done elapsed)
+    ensures time { IfOk result (λ time. (elapsed : Time) × L.IsElapsed link.now since (Done elapsed)
         × IsReadTime (as_nanos each) (as_nanos whole) (as_nanos elapsed) (Some time)) }
+    ensures late { IfErr result (λ e. L.IsElapsed link.now since (ErrOf e)
+        ⊎ ((elapsed : Time) × L.IsElapsed link.now since (Done elapsed)
+        × IsReadTime (as_nanos each) (as_nanos whole) (as_nanos elapsed) None
+        × (error_kind e ≡ ErrorKind.TimedOut))) }
 {
     let elapsed = link.elapsed(since)?;
     match read_time(each, whole, elapsed) {
@@ -204,7 +208,9 @@ impl<'a> Patient<'a> {
     }
 
     /// The connection, with the places of the desk's files.
-    fn link(&self) -> Connected<'a> {
+    fn link(&self) -> Connected<'a>
+        ensures { (result.stream ≡ self.now.stream) × (result.place ≡ self.now.place) }
+    {
         Connected {
             rt: self.rt,
             stream: self.stream,

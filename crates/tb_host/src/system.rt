@@ -18,11 +18,20 @@ use std::path::PathBuf;
 pub(crate) trait System {
     ghost use Rattle.std.specs.Prelude.{ℕ, List, Option, Result};
     ghost use Rattle.std.specs.declared.fs.attrs.Metadata.{Metadata};
+    ghost use Rattle.std.specs.Global.{Global};
     ghost use Rattle.std.specs.declared.io.Error.{Error};
+    ghost use Rattle.std.specs.declared.path.buf.PathBuf.{PathBuf as Path};
+    ghost use Rattle.tb_host.specs.declared.causes.FileCause.{FileCause};
     ghost use Rattle.tb_host.specs.declared.found.Found.{Found};
 
     // what it says of the file to which a path leads
     ghost IsFound: { Self → List ℕ → Result Found Error → Type 0 };
+
+    // what it says of the kind of that file; none where it is missing
+    ghost IsTarget: { Self → List ℕ → Result (Option Metadata) FileCause → Type 0 };
+
+    // what it says of the path without links
+    ghost IsReal: { Self → List ℕ → Result (Path Global) FileCause → Type 0 };
 
     // what it says of what is at a path itself, where that may be a link; none where it is missing
     ghost IsThere: { Self → List ℕ → Option Metadata → Type 0 };
@@ -42,7 +51,8 @@ pub(crate) trait System {
 
     /// Finds the file to which a path leads, and says of what kind it is.
     fn target(&self, path: &str) -> Result<Option<fs::Metadata>, FileCause>
-        ensures { IfErr result IsSystemCause };
+        ensures said { IsTarget self.now path.now result }
+        ensures cause { IfErr result IsSystemCause };
 
     /// Finds what is at a path itself, where that may be a link.
     fn there(&self, path: &str) -> Result<Option<fs::Metadata>, FileCause>
@@ -51,7 +61,8 @@ pub(crate) trait System {
 
     /// The path without links: a log is beside the file to which a link leads.
     fn real(&self, path: &str) -> Result<PathBuf, FileCause>
-        ensures { IfErr result IsSystemCause };
+        ensures said { IsReal self.now path.now result }
+        ensures cause { IfErr result IsSystemCause };
 
     /// Reads the first bytes of a file, at most so many; none of a missing one.
     fn beginning(&self, path: &str, most: u64) -> Result<Vec<u8>, FileCause>
@@ -140,6 +151,10 @@ fn first_bytes<R: Read + Drop>(alloc: Global, reader: R, most: u64) -> Result<Ve
 
 impl System for HostRuntime {
     ghost IsFound = { λ _ _ _. Unit {0} };
+
+    ghost IsTarget = { λ _ _ _. Unit {0} };
+
+    ghost IsReal = { λ _ _ _. Unit {0} };
 
     ghost IsThere = { λ _ _ _. Unit {0} };
 

@@ -1,8 +1,8 @@
 //! Which word of a command line does not have its form, where clap accepts the words but they are no command.
 
-ghost use Rattle.std.specs.Prelude.{◌≡◌, ◌<◌, ◌⊎◌, IfSome, None, length};
+ghost use Rattle.std.specs.Prelude.{◌≡◌, ◌<◌, ◌⊎◌, ◌+◌, IfSome, None, false, length, min, true};
 ghost use Rattle.tb_host.specs.declared.causes.Form.{Form as AnyForm};
-ghost use Rattle.tb_host.specs.Forms.{HasForm, IsFormOfOption};
+ghost use Rattle.tb_host.specs.Forms.{HasForm, IsFormOfOption, IsPlaceOf};
 
 use crate::causes::{Cause, Form};
 use crate::diagnostics::Diagnostic;
@@ -42,7 +42,9 @@ fn form_of_option(name: &str) -> Option<Form>
 }
 
 /// The name and the form of a value without an option, after `before` others. A query may be any text.
-fn place_of(command: &str, before: usize) -> (&'static str, Option<Form>) {
+fn place_of(command: &str, before: usize) -> (&'static str, Option<Form>)
+    ensures { IsPlaceOf command.now before result.0.now result.1 }
+{
     match (command, before) {
         ("import" | "event" | "export" | "sentences", 0) => ("<name>", Some(Form::Batch)),
         ("event", 1) => ("<event>", Some(Form::Event)),
@@ -56,7 +58,10 @@ fn place_of(command: &str, before: usize) -> (&'static str, Option<Form>) {
 }
 
 impl<'a> Values<'a> {
-    fn new(command: &'a str, words: &'a [String]) -> Values<'a> {
+    fn new(command: &'a str, words: &'a [String]) -> Values<'a>
+        ensures words { (result.command.now ≡ command.now) × (result.words.now ≡ words.now) }
+        ensures first { (result.before ≡ 0) × (result.has_options ≡ true) }
+    {
         Values {
             command,
             words,
@@ -66,21 +71,35 @@ impl<'a> Values<'a> {
     }
 
     /// The next word.
-    fn word(&mut self) -> Option<&'a str> {
+    fn word(&mut self) -> Option<&'a str>
+        ensures none { length self.old.words.now ≡ 0 → result ≡ None }
+        ensures same { (self.new.command ≡ self.old.command) × (self.new.before ≡ self.old.before)
+            × (self.new.has_options ≡ self.old.has_options) }
+    {
         let (first, rest) = self.words.split_first()?;
         self.words = rest;
         Some(first.as_str())
     }
 
     /// A value without an option.
-    fn without_option(&mut self, value: &'a str) -> Given<'a> {
+    fn without_option(&mut self, value: &'a str) -> Given<'a>
+        ensures place { IsPlaceOf self.old.command.now self.old.before result.name.now result.form }
+        ensures value { result.value ≡ value.entry }
+        ensures before { self.new.before ≡ min (self.old.before + 1) 18446744073709551615 }
+        ensures same { (self.new.command ≡ self.old.command) × (self.new.words ≡ self.old.words)
+            × (self.new.has_options ≡ self.old.has_options) }
+    {
         let (name, form) = place_of(self.command, self.before);
         self.before = self.before.saturating_add(1);
         Given { name, form, value }
     }
 
     /// The value of an option, in the same word or in the next one.
-    fn of_option(&mut self, word: &'a str) -> Given<'a> {
+    fn of_option(&mut self, word: &'a str) -> Given<'a>
+        ensures form { IsFormOfOption result.name.now result.form }
+        ensures same { (self.new.command ≡ self.old.command) × (self.new.before ≡ self.old.before)
+            × (self.new.has_options ≡ self.old.has_options) }
+    {
         let (name, value) = match word.split_once('=') {
             Some(both) => both,
             None => (word, self.word().unwrap_or("")),
@@ -92,7 +111,13 @@ impl<'a> Values<'a> {
         }
     }
 
-    fn next(&mut self) -> Option<Given<'a>> {
+    fn next(&mut self) -> Option<Given<'a>>
+        ensures form { IfSome result (λ given. IsFormOfOption given.name.now given.form
+            ⊎ IsPlaceOf self.old.command.now self.old.before given.name.now given.form) }
+        ensures value { self.old.has_options ≡ false → IfSome result (λ given.
+            IsPlaceOf self.old.command.now self.old.before given.name.now given.form) }
+        ensures command { self.new.command ≡ self.old.command }
+    {
         let word = self.word()?;
         if !self.has_options || !word.starts_with("--") {
             return Some(self.without_option(word));
