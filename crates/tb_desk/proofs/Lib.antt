@@ -1,6 +1,7 @@
 mod Aged
 mod Asked
 mod Awaiting
+mod Making
 mod Noted
 mod Ran
 mod Rooms

@@ -18,8 +18,14 @@ pub data ExchangeStep : Type 0 where
   looked_for : (has_moved : Bool) → ExchangeStep
   -- the line that it is not done was written
   refused : Reply → ExchangeStep
-  -- it was read and answered, as far as that was possible
-  tried_so : Tried → ExchangeStep
+  -- its bytes were asked for: whether they can be read
+  begun : (can_be_read : Bool) → ExchangeStep
+  -- room for its answer was asked for: whether there is some
+  opened : (has_room : Bool) → ExchangeStep
+  -- what it asks was done, and the answer was written
+  answered_so : Result Status Broken → ExchangeStep
+  -- what was written was handed on to the client
+  handed_on : ExchangeStep
 
 -- these steps were added to those that are kept
 abbrev pub Adds : (old new : Option (List ExchangeStep)) → (more : List ExchangeStep) → Type 0
@@ -31,6 +37,12 @@ Adds (Some before) (Some all) more = all ≡ before ++ more
 abbrev pub looked : (has_moved : Bool) → List ExchangeStep
 looked true = looked_for true ∷ refused reply.Device ∷ []
 looked false = looked_for false ∷ []
+
+-- An attempt to answer. What was written is handed on, also where the answer is not whole.
+abbrev pub attempted : Tried → List ExchangeStep
+attempted tried.Lost = begun false ∷ []
+attempted tried.Memory = begun true ∷ (opened false ∷ [])
+attempted (tried.Answered answered) = begun true ∷ (opened true ∷ (answered_so answered ∷ (handed_on ∷ [])))
 
 -- What follows an attempt to answer: a read that failed may have failed because the files have left their place, and a
 -- client is told where memory was wanting.
@@ -51,7 +63,7 @@ led_to (tried.Answered answered) moved shut = ended_by answered moved shut
 abbrev pub IsExchange : (old new : Option (List ExchangeStep)) → Result Bool Cause → Type 0
 IsExchange old new result = (Adds old new (looked true) × (result ≡ Err cause.FilesMoved))
     ⊎ ((tried : Tried) × (moved shut : Bool)
-    × Adds old new (looked_for false ∷ (tried_so tried ∷ after tried moved)) × (result ≡ led_to tried moved shut))
+    × Adds old new (looked_for false ∷ (attempted tried ++ after tried moved)) × (result ≡ led_to tried moved shut))
 
 -- why a desk cannot be served any further
 abbrev pub IsDeskEnd : Cause → Type 0

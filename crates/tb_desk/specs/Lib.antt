@@ -12,6 +12,7 @@ pub mod Reported
 pub mod Running
 pub mod Served
 pub mod Serving
+pub mod Sockets
 pub mod Targets
 pub mod Viewing
 pub mod Waiting

@@ -12,15 +12,16 @@ use Rattle.tb_host.specs.declared.causes.Cause.{Cause}
 use Rattle.tb_host.specs.declared.causes.Cause.TheVariants as cause
 use Rattle.tb_host.specs.declared.causes.PortCause.{PortCause}
 use Rattle.tb_desk.specs.declared.service.Service.{Service}
+use Rattle.tb_desk.specs.declared.serving.Beside.TheVariants as beside
 
 -- what a line asks a server for, if it is one of `serve`
 abbrev pub service_of : Said → Option Service
-service_of (serve db number count) = Some record { port = number; requests = count }
+service_of (serve db number count) = Some record { port = number; requests = count; beside = beside.Nothing }
 service_of _ = None
 
 -- what the page asks a server for: it is served until the program is ended
 abbrev pub page_service : (number : ℕ) → Service
-page_service number = record { port = number; requests = 2 ^ 64 - 1 }
+page_service number = record { port = number; requests = 2 ^ 64 - 1; beside = beside.Page }
 
 -- the line asks for a service, of which P holds
 abbrev pub WithService : Said → (Service → Type 0) → Type 0

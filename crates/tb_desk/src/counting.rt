@@ -1,8 +1,10 @@
 //! Calls of the system that are counted: reads of a connection, and questions whether one has come. What they answer is
 //! not known; that they are made is.
 
-ghost use Rattle.std.specs.Prelude.{◌≡◌, ◌≤◌, ◌+◌, ◌-◌, ◌^◌, IfOk, length, min, take};
+ghost use Rattle.std.specs.Prelude.{◌≡◌, ◌≤◌, ◌+◌, ◌-◌, ◌^◌, [], ◌∷◌, IfOk, length, min, take};
+ghost use Rattle.tb_desk.specs.Sockets.{Makes, accepted};
 
+use crate::sockets::Sockets;
 use std::io::{self, Read};
 use std::net::{TcpListener, TcpStream};
 
@@ -55,11 +57,15 @@ impl AcceptCount {
     }
 
     /// The next connection of a listener.
-    pub(crate) fn accept(&mut self, listener: &TcpListener) -> io::Result<TcpStream>
-        ensures { self.new.count ≡ min (self.old.count + 1) (2 ^ 64 - 1) }
+    pub(crate) fn accept<S: Sockets>(
+        &mut self,
+        sockets: &mut S,
+        listener: &TcpListener,
+    ) -> io::Result<TcpStream>
+        ensures counted { self.new.count ≡ min (self.old.count + 1) (2 ^ 64 - 1) }
+        ensures called { Makes (S.calls sockets.old) (S.calls sockets.new) (accepted listener.now result ∷ []) }
     {
         self.count = self.count.saturating_add(1);
-        let (stream, _) = listener.accept()?;
-        Ok(stream)
+        sockets.accept(listener)
     }
 }

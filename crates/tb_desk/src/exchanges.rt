@@ -1,10 +1,11 @@
 //! One request, and what is done for it.
 
 ghost use Rattle.std.specs.Prelude.{◌≡◌, Bool, IfErr, IsTrue, Err as ErrOf};
-ghost use Rattle.tb_desk.specs.Exchanges.{Adds, IsDeskEnd, IsExchange, after, led_to, looked};
+ghost use Rattle.tb_desk.specs.Exchanges.{Adds, IsDeskEnd, IsExchange, after, attempted, led_to, looked};
 
 use crate::serving::{ended_by, has_shut};
 use sqlite::Alter;
+use std::io;
 use tb_answer::Broken;
 use tb_host::Cause;
 use tb_http::{Reply, Status};
@@ -23,8 +24,15 @@ pub(crate) enum Tried {
 
 /// A request on a connection. What is made of its calls is proved over any, so over one that keeps a list of them too.
 pub(crate) trait Exchange {
-    ghost use Rattle.std.specs.Prelude.{◌≡◌, [], ◌∷◌, IsTrue, List, Option};
-    ghost use Rattle.tb_desk.specs.Exchanges.{Adds, ExchangeStep, looked_for, refused, tried_so};
+    ghost use Rattle.std.specs.Prelude.{◌≡◌, [], ◌∷◌, IsTrue, List, Option, is_ok};
+    ghost use Rattle.tb_desk.specs.Exchanges.{Adds, ExchangeStep, answered_so, begun, handed_on, looked_for, opened};
+    ghost use Rattle.tb_desk.specs.Exchanges.{refused};
+
+    /// Gives the bytes of the request.
+    type Request: Drop;
+
+    /// Takes the answer.
+    type Out: Drop;
 
     // what was done for the request, where that is kept
     ghost done: { Self → Option (List ExchangeStep) };
@@ -43,11 +51,31 @@ pub(crate) trait Exchange {
         ensures kept { HasFiles self.new → HasFiles self.old }
         ensures done { Adds (done self.old) (done self.new) (refused reply ∷ []) };
 
-    /// Reads the request, does what it asks, and answers it.
-    fn answer<S: Alter>(&mut self, desk: &mut Desk<S>) -> Tried
+    /// What gives the request, from its first byte on.
+    fn request(&mut self) -> io::Result<Self::Request>
+        ensures kept { HasFiles self.new → HasFiles self.old }
+        ensures done { Adds (done self.old) (done self.new) (begun (is_ok result) ∷ []) };
+
+    /// What takes the answer. It may keep a part of it back.
+    fn out(&mut self) -> io::Result<Self::Out>
+        ensures kept { HasFiles self.new → HasFiles self.old }
+        ensures done { Adds (done self.old) (done self.new) (opened (is_ok result) ∷ []) };
+
+    /// Reads the request, does what it asks, and writes the answer.
+    fn answer<S: Alter>(
+        &mut self,
+        desk: &mut Desk<S>,
+        request: &mut Self::Request,
+        out: &mut Self::Out,
+    ) -> Result<Status, Broken>
         ensures limits { desk.new.limits ≡ desk.old.limits }
         ensures kept { HasFiles self.new → HasFiles self.old }
-        ensures done { Adds (done self.old) (done self.new) (tried_so result ∷ []) };
+        ensures done { Adds (done self.old) (done self.new) (answered_so result ∷ []) };
+
+    /// Hands on to the client what was kept back.
+    fn hand_on(&mut self, out: Self::Out)
+        ensures kept { HasFiles self.new → HasFiles self.old }
+        ensures done { Adds (done self.old) (done self.new) (handed_on ∷ []) };
 }
 
 /// Whether the desk's files are no longer in their place. The client is told so.
@@ -61,6 +89,23 @@ fn is_lost<E: Exchange>(exchange: &mut E) -> bool
         exchange.refuse(Reply::Device);
     }
     has_moved
+}
+
+/// Tries to answer a request. What is written of the answer is handed on, whatever came of it.
+fn attempt<S: Alter, E: Exchange>(exchange: &mut E, desk: &mut Desk<S>) -> Tried
+    ensures done { Adds (E.done exchange.old) (E.done exchange.new) (attempted result) }
+    ensures kept { E.HasFiles exchange.new → E.HasFiles exchange.old }
+    ensures limits { desk.new.limits ≡ desk.old.limits }
+{
+    let Ok(mut request) = exchange.request() else {
+        return Tried::Lost;
+    };
+    let Ok(mut out) = exchange.out() else {
+        return Tried::Memory;
+    };
+    let answered = exchange.answer(desk, &mut request, &mut out);
+    exchange.hand_on(out);
+    Tried::Answered(answered)
 }
 
 /// What follows from an attempt to answer a request.
@@ -113,6 +158,6 @@ pub(crate) fn serve_one<S: Alter, E: Exchange>(
     if is_lost(exchange) {
         return Err(Cause::FilesMoved);
     }
-    let tried = exchange.answer(desk);
+    let tried = attempt(exchange, desk);
     follow(exchange, desk, tried)
 }

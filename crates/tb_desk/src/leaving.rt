@@ -1,15 +1,18 @@
 //! Connections whose client has its answer. Their end keeps nobody from the desk.
 
-ghost use Rattle.std.specs.Prelude.{◌≡◌, ◌↔◌, ◌⊎◌, ◌≤◌, ◌+◌, ◌-◌, ◌*◌, ◌^◌, IfOk, IfSome, IsTrue, MatchResult, min, true};
+ghost use Rattle.std.specs.Prelude.{◌≡◌, ◌↔◌, ◌⊎◌, ◌≤◌, ◌+◌, ◌-◌, ◌*◌, ◌^◌, IfErr, IfOk, IfSome, IsTrue, MatchResult};
+ghost use Rattle.std.specs.Prelude.{is_some, min, true};
 ghost use Rattle.std.specs.Duration.{as_nanos};
 ghost use Rattle.tb_host.specs.Patience.{seconds, wait_left};
 ghost use Rattle.tb_desk.specs.Serving.{end_after};
+ghost use Rattle.tb_desk.specs.Sockets.{FailsFarewell, Makes, farewell};
 ghost use Rattle.tb_http.specs.Asks.{body_limit};
 
 use crate::callers::is_none_yet;
 use crate::counting::ReadCount;
+use crate::sockets::Sockets;
 use std::io;
-use std::net::{Shutdown, TcpStream};
+use std::net::TcpStream;
 use std::time::Duration;
 use tb_host::left_after;
 use tb_http::BODY_BYTES;
@@ -44,13 +47,17 @@ fn is_over(has_ended: bool, left: Duration) -> bool
 
 impl Leaver {
     /// Ends the answer. Returns `None` where the client has ended the connection too.
-    pub(crate) fn new(stream: TcpStream) -> io::Result<Option<Leaver>>
+    pub(crate) fn new<S: Sockets>(sockets: &mut S, stream: TcpStream) -> io::Result<Option<Leaver>>
         ensures left { IfOk result (λ made. IfSome made (λ leaver. as_nanos leaver.left ≡ seconds 2)) }
         ensures most { IfOk result (λ made. IfSome made (λ leaver. leaver.most ≤ body_limit * 2)) }
         ensures read { IfOk result (λ made. IfSome made (λ leaver. 1 ≤ leaver.reads.count)) }
+        ensures stream { IfOk result (λ made. IfSome made (λ leaver. leaver.stream ≡ stream)) }
+        ensures called { IfOk result (λ made.
+            Makes (S.calls sockets.old) (S.calls sockets.new) (farewell stream (is_some made))) }
+        ensures failed { IfErr result (FailsFarewell (S.calls sockets.old) (S.calls sockets.new) stream) }
     {
-        stream.shutdown(Shutdown::Write)?;
-        stream.set_read_timeout(Some(Duration::from_millis(FIRST)))?;
+        sockets.shut_writing(&stream)?;
+        sockets.set_read_time(&stream, Duration::from_millis(FIRST))?;
         let mut leaver = Leaver {
             stream,
             left: Duration::from_secs(FAREWELL),
@@ -60,7 +67,7 @@ impl Leaver {
         if leaver.has_ended() {
             return Ok(None);
         }
-        leaver.stream.set_nonblocking(true)?;
+        sockets.set_stream(&leaver.stream, true)?;
         Ok(Some(leaver))
     }
 
@@ -71,6 +78,7 @@ impl Leaver {
         ensures most { MatchResult came (λ count. self.new.most ≡ self.old.most - count)
             (λ _. self.new.most ≡ self.old.most) }
         ensures unread { self.new.reads ≡ self.old.reads }
+        ensures stream { self.new.stream ≡ self.old.stream }
     {
         match came {
             Ok(0) => Some(true),
@@ -87,6 +95,7 @@ impl Leaver {
         ensures left { self.new.left ≡ self.old.left }
         ensures most { self.new.most ≤ self.old.most }
         ensures read { min (self.old.reads.count + 1) (2 ^ 64 - 1) ≤ self.new.reads.count }
+        ensures stream { self.new.stream ≡ self.old.stream }
     {
         let mut rest = [0; 16_384];
         for _ in 0..READS {
@@ -103,6 +112,7 @@ impl Leaver {
         ensures left { as_nanos self.new.left ≡ wait_left (as_nanos self.old.left) (as_nanos passed) }
         ensures late { as_nanos self.new.left ≡ 0 → IsTrue result }
         ensures read { min (self.old.reads.count + 1) (2 ^ 64 - 1) ≤ self.new.reads.count }
+        ensures stream { self.new.stream ≡ self.old.stream }
     {
         self.left = left_after(self.left, passed);
         is_over(self.has_ended(), self.left)

@@ -14,7 +14,7 @@ ghost use Rattle.tb_desk.specs.Targets.{changes, in_file, in_memory, place_in, r
 use crate::explaining::run_reported;
 use crate::memory::put_memory;
 use crate::service::{Service, service_of};
-use crate::serving::{Beside, serve, serve_in_file};
+use crate::serving::{serve, serve_in_file};
 use crate::targets::Target;
 use crate::words::{TREEDESK, put_file_cause};
 use sqlite::Alter;
@@ -84,7 +84,7 @@ fn run_on_desk<S: Alter, W: Write>(
         desk.old desk.new (said_by line.now) (taken_of (λ v. v.items) body.now)) }
 {
     match service_of(line) {
-        Some(service) => serve_in_file(rt, path, desk, Beside::Nothing, service, out),
+        Some(service) => serve_in_file(rt, path, desk, service, out),
         None => run_reported(rt, line, body, desk, out),
     }
 }
@@ -176,7 +176,7 @@ fn serve_in_memory<S: Alter, W: Write>(
     if wants_words(rt) {
         let _reported = eprintln!(rt; "{}: {}", TREEDESK, Cause::NothingWillBeKept);
     }
-    serve(rt, desk, None, Beside::Nothing, service, out)
+    serve(rt, desk, None, service, out)
 }
 
 /// Does a line on a desk in memory, with its body.

@@ -4,13 +4,16 @@ ghost use Rattle.std.specs.Prelude.{◌≡◌};
 ghost use Rattle.tb_cli.specs.Lines.{said_by};
 ghost use Rattle.tb_desk.specs.Served.{page_service, service_of};
 
+use crate::serving::Beside;
 use tb_cli::Line;
 
-/// A port of loopback, 0 for one that the system chooses, and how many connections are to be served.
+/// A port of loopback, 0 for one that the system chooses, how many connections are to be served, and what is served
+/// beside the desk.
 #[derive(Clone, Copy)]
 pub(crate) struct Service {
     pub port: u16,
     pub requests: u64,
+    pub beside: Beside,
 }
 
 /// What a line asks a server for, if it is one of `serve`.
@@ -25,6 +28,7 @@ pub(crate) fn service_of(line: &Line) -> Option<Service>
         } => Some(Service {
             port: *port,
             requests: *requests,
+            beside: Beside::Nothing,
         }),
         _ => None,
     }
@@ -37,5 +41,6 @@ pub(crate) fn page_service(port: u16) -> Service
     Service {
         port,
         requests: u64::MAX,
+        beside: Beside::Page,
     }
 }

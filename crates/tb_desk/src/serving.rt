@@ -20,11 +20,13 @@ ghost use Rattle.tb_page.specs.Visits.{VisitText, Visits};
 ghost use Rattle.tb_store.specs.Handing.{WantsToTell};
 ghost use Rattle.tb_tables.specs.Leaving.{IsFaultless};
 
-use crate::callers::Caller;
+use crate::callers::{Caller, Request};
 use crate::clients::{Clients, serve_all};
-use crate::exchanges::{Exchange, Tried, serve_one};
+use crate::exchanges::{Exchange, serve_one};
+use crate::keeping::Keeper;
 use crate::memory::put_memory;
 use crate::service::Service;
+use crate::sockets::SystemSockets;
 use crate::waiting::{Next, Waiting};
 use crate::words::put_file_cause;
 use arrayvec::ArrayString;
@@ -120,8 +122,19 @@ struct Visit<'a> {
     caller: &'a Caller,
 }
 
-impl Exchange for Visit<'_> {
+impl<'a> Visit<'a> {
+    /// The client, as it takes an answer.
+    fn client(&self) -> Answer<'a> {
+        Answer::new(self.rt, self.caller.stream())
+    }
+}
+
+impl<'a> Exchange for Visit<'a> {
     ghost use Rattle.std.specs.Prelude.{◌≢◌, None};
+
+    type Request = Request<'a>;
+
+    type Out = BufWriter<Answer<'a>>;
 
     ghost done = { λ _. None };
 
@@ -132,30 +145,37 @@ impl Exchange for Visit<'_> {
     }
 
     fn refuse(&mut self, reply: Reply) {
-        let mut out = Answer::new(self.rt, self.caller.stream());
-        let _ = respond_reply(&mut out, reply);
+        let _ = respond_reply(&mut self.client(), reply);
     }
 
-    fn answer<S: Alter>(&mut self, desk: &mut Desk<S>) -> Tried {
+    fn request(&mut self) -> io::Result<Request<'a>> {
+        self.caller.request(self.rt, self.place)
+    }
+
+    fn out(&mut self) -> io::Result<BufWriter<Answer<'a>>> {
+        BufWriter::with_capacity(self.rt.alloc(), BUFFER, self.client())
+    }
+
+    fn answer<S: Alter>(
+        &mut self,
+        desk: &mut Desk<S>,
+        request: &mut Request<'a>,
+        out: &mut BufWriter<Answer<'a>>,
+    ) -> Result<Status, Broken> {
         let alloc = self.rt.alloc();
-        let Ok(mut reader) = self.caller.request(self.rt, self.place) else {
-            return Tried::Lost;
-        };
-        let stream = Answer::new(self.rt, self.caller.stream());
-        let Ok(mut out) = BufWriter::with_capacity(alloc, BUFFER, stream) else {
-            return Tried::Memory;
-        };
-        let answered = answer_at(
+        answer_at(
             alloc,
             self.routes,
             self.page,
             self.caller,
             desk,
-            &mut reader,
-            &mut out,
-        );
+            request,
+            out,
+        )
+    }
+
+    fn hand_on(&mut self, mut out: BufWriter<Answer<'a>>) {
         let _ = out.flush();
-        Tried::Answered(answered)
     }
 }
 
@@ -194,15 +214,16 @@ fn listening(port: u16) -> ArrayString<32>
 }
 
 /// Prints the port at once, for programs that wait to connect to it.
-fn announce<W: Write>(port: u16, out: &mut W) -> Result<(), WriteFault>
-    ensures told { OnOk result (Appends (W.contents out.old) (W.contents out.new) (listening port)) }
-    ensures part { OnErr result (AppendsPart (W.contents out.old) (W.contents out.new) (listening port)) }
+fn announce<W: Keeper>(port: u16, out: &mut W) -> Result<(), WriteFault>
+    ensures told { OnOk result (Appends (W.held out.old) (W.held out.new) (listening port)) }
+    ensures part { OnErr result (AppendsPart (W.held out.old) (W.held out.new) (listening port)) }
+    ensures at_once { OnOk result (W.HasHandedOn out.new (OkOf tt)) }
 {
     let line = listening(port);
     let Ok(()) = out.put(line.as_str().as_bytes()) else {
         return Err(WriteFault);
     };
-    match out.flush() {
+    match out.hand_on() {
         Ok(()) => Ok(()),
         Err(_) => Err(WriteFault),
     }
@@ -270,11 +291,26 @@ fn listen(rt: &HostRuntime, port: u16) -> Result<(TcpListener, u16), PortCause>
 #[derive(Drop)]
 struct Server<'a> {
     rt: &'a HostRuntime,
+    sockets: SystemSockets<'a>,
     routes: Routes,
     waiting: Waiting,
     listener: TcpListener,
     place: Option<&'a Place>,
-    page: Option<u16>,
+    service: Service,
+    /// The port at which it listens.
+    port: u16,
+}
+
+impl Server<'_> {
+    ghost use Rattle.std.specs.Prelude.{◌≡◌};
+    ghost use Rattle.tb_desk.specs.Serving.{page_at};
+
+    /// The port of the page, if one is served.
+    fn page(&self) -> Option<u16>
+        ensures { result ≡ page_at self.now.service.beside self.now.port }
+    {
+        self.service.beside.page_at(self.port)
+    }
 }
 
 impl Clients for Server<'_> {
@@ -285,26 +321,28 @@ impl Clients for Server<'_> {
     ghost HasFiles = { λ self. self.place ≢ None };
 
     fn next(&mut self) -> io::Result<Option<Next>> {
-        self.waiting.next(self.rt, &self.routes, &self.listener)
+        self.waiting
+            .next(&mut self.sockets, &self.routes, &self.listener)
     }
 
     fn serve<S: Alter>(&mut self, desk: &mut Desk<S>, caller: &Caller) -> Result<bool, Cause> {
+        let page = self.page();
         let mut visit = Visit {
             rt: self.rt,
             routes: &self.routes,
             place: self.place,
-            page: self.page,
+            page,
             caller,
         };
         serve_one(&mut visit, desk)
     }
 
     fn part(&mut self, caller: Caller) {
-        self.waiting.part(caller);
+        self.waiting.part(&mut self.sockets, caller);
     }
 
     fn part_all(&mut self) {
-        self.waiting.part_all(self.rt);
+        self.waiting.part_all(&mut self.sockets);
     }
 }
 
@@ -350,40 +388,34 @@ fn put_end<W: Sink>(served: Result<u64, Cause>, requests: u64, out: &mut W) -> O
     }
 }
 
-/// Serves so many connections, once the port is printed.
+/// Serves the connections of a server, once its port is printed.
 fn serve_heard<S: Alter, W: Sink>(
     mut server: Server<'_>,
     desk: &mut Desk<S>,
-    requests: u64,
     out: &mut W,
 ) -> Outcome
     ensures ended { IsEnded (W.held out.old) (W.held out.new) (W.IsRefusal out.new) result.status
-        (IsTold result.reported) requests }
+        (IsTold result.reported) server.entry.service.requests }
     ensures in_memory { server.entry.place ≡ None → ¬ IsReported result.reported Cause.FilesMoved }
     ensures limits { desk.new.limits ≡ desk.old.limits }
 {
-    if let Some(port) = server.page {
+    let requests = server.service.requests;
+    if let Some(port) = server.page() {
         tell_address(server.rt, port);
     }
     let served = serve_all(&mut server, desk, requests);
     put_end(served, requests, out)
 }
 
-/// Prints the port of a server, and serves so many connections.
-fn serve_at<S: Alter, W: Write>(
-    server: Server<'_>,
-    desk: &mut Desk<S>,
-    port: u16,
-    requests: u64,
-    out: &mut W,
-) -> Outcome
+/// Prints the port of a server, and serves its connections.
+fn serve_at<S: Alter, W: Write>(server: Server<'_>, desk: &mut Desk<S>, out: &mut W) -> Outcome
     ensures ended { IsServedAt (W.contents out.old) (W.contents out.new) (λ (_ : WriteFault). Unit {0}) result.status
-        (IsTold result.reported) port requests }
+        (IsTold result.reported) server.entry.port server.entry.service.requests }
     ensures in_memory { server.entry.place ≡ None → ¬ IsReported result.reported Cause.FilesMoved }
     ensures limits { desk.new.limits ≡ desk.old.limits }
 {
-    match announce(port, out) {
-        Ok(()) => serve_heard(server, desk, requests, out),
+    match announce(server.port, out) {
+        Ok(()) => serve_heard(server, desk, out),
         Err(_) => Outcome::from(3),
     }
 }
@@ -395,7 +427,6 @@ fn serve_with<S: Alter, W: Write>(
     waiting: Waiting,
     desk: &mut Desk<S>,
     place: Option<&Place>,
-    beside: Beside,
     service: Service,
     out: &mut W,
 ) -> Outcome
@@ -408,13 +439,15 @@ fn serve_with<S: Alter, W: Write>(
         Ok((listener, port)) => {
             let server = Server {
                 rt,
+                sockets: SystemSockets { rt },
                 routes,
                 waiting,
                 listener,
                 place,
-                page: beside.page_at(port),
+                service,
+                port,
             };
-            serve_at(server, desk, port, service.requests, out)
+            serve_at(server, desk, out)
         }
         Err(cause) => put_port_cause(rt, service.port, cause, out),
     }
@@ -428,7 +461,6 @@ pub(crate) fn serve<S: Alter, W: Write>(
     rt: &HostRuntime,
     desk: &mut Desk<S>,
     place: Option<&Place>,
-    beside: Beside,
     service: Service,
     out: &mut W,
 ) -> Outcome
@@ -443,7 +475,7 @@ pub(crate) fn serve<S: Alter, W: Write>(
     let Ok(waiting) = Waiting::new(rt.alloc()) else {
         return put_memory(out);
     };
-    serve_with(rt, routes, waiting, desk, place, beside, service, out)
+    serve_with(rt, routes, waiting, desk, place, service, out)
 }
 
 /// Serves the desk in the file at this path, while its files are in their place.
@@ -451,7 +483,6 @@ pub(crate) fn serve_in_file<S: Alter, W: Write>(
     rt: &HostRuntime,
     path: &str,
     desk: &mut Desk<S>,
-    beside: Beside,
     service: Service,
     out: &mut W,
 ) -> Outcome
@@ -459,7 +490,7 @@ pub(crate) fn serve_in_file<S: Alter, W: Write>(
         (IsTold result.reported) service }
 {
     match Place::new(rt, path) {
-        Ok(place) => serve(rt, desk, Some(&place), beside, service, out),
+        Ok(place) => serve(rt, desk, Some(&place), service, out),
         Err(cause) => put_file_cause(rt, path, cause, out),
     }
 }

@@ -17,7 +17,7 @@ use crate::faults::list_faults_of;
 use crate::memory::put_memory;
 use crate::programs::Program;
 use crate::service::page_service;
-use crate::serving::{Beside, serve_in_file};
+use crate::serving::serve_in_file;
 use crate::words::{put_clap, put_file_cause, put_usage};
 use sqlite::Alter;
 use std::io::Write;
@@ -134,7 +134,7 @@ fn serve_page<S: Alter, W: Write>(
     ensures { IsServedInFile (W.contents out.old) (W.contents out.new) (λ (_ : WriteFault). Unit {0}) result.status
         (IsTold result.reported) (page_service port) }
 {
-    serve_in_file(rt, path, desk, Beside::Page, page_service(port), out)
+    serve_in_file(rt, path, desk, page_service(port), out)
 }
 
 /// Serves the desk in the file at this path, and the page beside it.

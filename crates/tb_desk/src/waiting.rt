@@ -1,15 +1,18 @@
 //! Connections that wait to be served. One that sends nothing, or sends slowly, keeps nobody from the desk.
 
-ghost use Rattle.std.specs.Prelude.{◌≡◌, ◌≢◌, ◌↔◌, ◌≤◌, ◌<◌, ◌+◌, ◌-◌, ◌^◌, ◌⊎◌, ◌++◌, [], ◌∷◌};
+ghost use Rattle.std.specs.Prelude.{◌≡◌, ◌≢◌, ◌↔◌, ◌≤◌, ◌<◌, ◌+◌, ◌-◌, ◌^◌, ◌⊎◌, ◌++◌, ◌==◌, ◌&&◌, [], ◌∷◌, List};
 ghost use Rattle.std.specs.Prelude.{All, IsTrue, IfErr, IfOk, IfSome, IsSomeAnd, MatchResult};
-ghost use Rattle.std.specs.Prelude.{None, Some, Err, Ok, true, false, drop, max, min, vec_capacity, vec_len};
+ghost use Rattle.std.specs.Prelude.{None, Some, Err, Ok, true, false, drop, max, min, not, vec_capacity, vec_len};
 ghost use Rattle.std.specs.Duration.{as_nanos};
 ghost use Rattle.std.specs.IoError.{error_kind, raw_os_error};
+ghost use Rattle.std.specs.declared.io.Error.{Error as IoError};
 ghost use Rattle.tb_desk.specs.Serving.{IsWantOfRoom, is_no_connection, most_waiting};
 ghost use Rattle.std.specs.List.{AllWithin, HoldsAt};
 ghost use Rattle.tb_desk.specs.Callers.{IsHeard};
-ghost use Rattle.tb_desk.specs.Waiting.{AgeTo, Ages, HasTime, IsFirstToGo, IsLate, IsNext, KeepsRoom, LetsOneGo};
-ghost use Rattle.tb_desk.specs.Waiting.{NoLongerWaits, StayInTime, Waits};
+ghost use Rattle.tb_desk.specs.Sockets.{Call, EndsBy, FailsBy, FailsToAsk, HasAsked, IsFailedWelcome, Makes};
+ghost use Rattle.tb_desk.specs.Sockets.{clock_read, first_call, pause_if, stream_set, welcome};
+ghost use Rattle.tb_desk.specs.Waiting.{AgeTo, Ages, HasTime, IsClockRead, IsFirstToGo, IsLate, IsLetGo, IsNext};
+ghost use Rattle.tb_desk.specs.Waiting.{IsParted, KeepsRoom, LetsOneGo, NoLongerWaits, StayInTime, Waits};
 ghost use Rattle.tb_desk.specs.Waiting.{kept_by, time_since};
 ghost use Rattle.tb_desk.specs.declared.arriving.Awaited.TheVariants.{Head, Nothing};
 ghost use Rattle.tb_host.specs.Patience.{seconds};
@@ -18,10 +21,10 @@ use crate::arriving::most_size;
 use crate::callers::Caller;
 use crate::counting::AcceptCount;
 use crate::leaving::Leaver;
+use crate::sockets::Sockets;
 use std::alloc::{AllocError, Global};
 use std::io::{self, ErrorKind};
 use std::net::{TcpListener, TcpStream};
-use std::thread;
 use std::time::{Duration, Instant};
 use tb_http::{HEAD_BYTES, Routes};
 
@@ -117,7 +120,7 @@ fn first_to_go(callers: &[Caller]) -> usize
 
 /// Reads what has come of a request, and looks whether it is whole (`true`), or its time is over (`false`).
 fn look_at(
-    rt: &HostRuntime,
+    alloc: Global,
     routes: &Routes,
     caller: &mut Caller,
     passed: Duration,
@@ -131,7 +134,7 @@ fn look_at(
     ensures read { IsHeard most caller.old caller.new }
     ensures stream { caller.new.stream ≡ caller.old.stream }
 {
-    caller.hear(rt.alloc(), routes, most);
+    caller.hear(alloc, routes, most);
     if caller.is_ready() {
         return Some(true);
     }
@@ -141,34 +144,62 @@ fn look_at(
     None
 }
 
+/// Sets how a new connection is read: where no other waits, the server waits a moment for its request.
+fn await_first<S: Sockets>(sockets: &mut S, stream: &TcpStream, is_alone: bool) -> io::Result<()>
+    ensures { Makes (S.calls sockets.old) (S.calls sockets.new) (first_call stream.now is_alone result ∷ []) }
+{
+    if is_alone {
+        sockets.set_read_time(stream, Duration::from_millis(FIRST))
+    } else {
+        sockets.set_stream(stream, true)
+    }
+}
+
+/// Sets how a connection is read that waited a moment. If it still waits, no further read waits for a byte.
+fn await_rest<S: Sockets>(sockets: &mut S, caller: &Caller, is_alone: bool) -> io::Result<()>
+    ensures waits { is_alone ≡ true → caller.now.awaited ≢ Nothing
+        → Makes (S.calls sockets.old) (S.calls sockets.new) (stream_set caller.now.stream true result ∷ []) }
+    ensures others { (is_alone ≡ false) ⊎ (caller.now.awaited ≡ Nothing) → (result ≡ Ok tt)
+        × (sockets.new ≡ sockets.old) }
+{
+    if is_alone && !caller.is_ready() {
+        return sockets.set_stream(caller.stream(), true);
+    }
+    Ok(())
+}
+
 /// A new connection. Where no other waits, the server waits a moment for its request.
-fn heard(rt: &HostRuntime, routes: &Routes, stream: TcpStream, is_alone: bool) -> io::Result<Caller>
+fn heard<S: Sockets>(
+    sockets: &mut S,
+    routes: &Routes,
+    stream: TcpStream,
+    is_alone: bool,
+) -> io::Result<Caller>
     ensures stream { IfOk result (λ caller. caller.stream ≡ stream) }
     ensures room { IfOk result (λ caller. vec_len caller.room ≤ 8192) }
     ensures time { IfOk result (λ caller. caller.awaited ≡ Head → as_nanos caller.left ≡ seconds 10) }
     ensures read { IfOk result (λ caller. (1 ≤ caller.reads.count) ⊎ (caller.awaited ≡ Nothing)) }
+    ensures called { IfOk result (λ caller.
+        Makes (S.calls sockets.old) (S.calls sockets.new) (welcome stream is_alone caller.awaited)) }
+    ensures failed { IfErr result (λ e. (made : List Call) × IsFailedWelcome stream is_alone e made
+        × Makes (S.calls sockets.old) (S.calls sockets.new) made) }
 {
-    if is_alone {
-        stream.set_read_timeout(Some(Duration::from_millis(FIRST)))?;
-    } else {
-        stream.set_nonblocking(true)?;
-    }
-    let mut caller = Caller::new(rt.alloc(), stream);
-    caller.hear(rt.alloc(), routes, HEAD_BYTES);
-    if is_alone && !caller.is_ready() {
-        caller.stream().set_nonblocking(true)?;
-    }
+    await_first(sockets, &stream, is_alone)?;
+    let alloc = sockets.memory();
+    let mut caller = Caller::new(alloc, stream);
+    caller.hear(alloc, routes, HEAD_BYTES);
+    await_rest(sockets, &caller, is_alone)?;
     Ok(caller)
 }
 
 /// A connection that no longer waits. What is answered to it may take a while.
-fn next_of(caller: Caller, is_whole: bool) -> Next
-    ensures { IsNext caller is_whole result }
+fn next_of<S: Sockets>(sockets: &mut S, caller: Caller, is_whole: bool) -> Next
+    ensures { IsNext (S.calls sockets.old) (S.calls sockets.new) caller is_whole result }
 {
     if !is_whole {
         return Next::Late(caller);
     }
-    match caller.stream().set_nonblocking(false) {
+    match sockets.set_stream(caller.stream(), false) {
         Ok(()) => Next::Whole(caller),
         Err(error) => Next::Broken(error),
     }
@@ -228,6 +259,8 @@ impl Waiting {
             → (result ≡ Ok false) × LetsOneGo self.old.callers.items self.new.callers.items }
         ensures fault { is_no_connection (error_kind error) ≡ false → IsWantOfRoom (raw_os_error error) false
             → (result ≡ Err error) × (self.new.callers ≡ self.old.callers) }
+        ensures without { IfOk result (λ has_come. has_come ≡ false) }
+        ensures cause { IfErr result (λ e. e ≡ error) }
         ensures most { vec_len self.new.callers ≤ vec_len self.old.callers }
         ensures others { (self.new.leavers ≡ self.old.leavers) × (self.new.looked ≡ self.old.looked)
             × (self.new.looks ≡ self.old.looks) }
@@ -243,31 +276,43 @@ impl Waiting {
         Err(error)
     }
 
+    /// Whether no connection waits, and none ends.
+    fn is_alone(&self) -> bool
+        ensures { result ≡ ((vec_len self.now.callers == 0) && (vec_len self.now.leavers == 0)) }
+    {
+        self.callers.is_empty() && self.leavers.is_empty()
+    }
+
     /// Accepts one more connection, and returns whether there was one. It waits for one only where no other connection
     /// waits.
-    fn take(
+    fn take<S: Sockets>(
         &mut self,
-        rt: &HostRuntime,
+        sockets: &mut S,
         routes: &Routes,
         listener: &TcpListener,
     ) -> io::Result<bool>
         ensures full { most_waiting ≤ vec_len self.old.callers
-            → (result ≡ Ok false) × (self.new.callers ≡ self.old.callers) }
+            → (result ≡ Ok false) × (self.new.callers ≡ self.old.callers) × (sockets.new ≡ sockets.old) }
         ensures most { vec_len self.new.callers ≤ max (vec_len self.old.callers) most_waiting }
         ensures asked { IfOk result (λ _. vec_len self.old.callers < most_waiting
             → min (self.old.accepts.count + 1) (2 ^ 64 - 1) ≤ self.new.accepts.count) }
         ensures counted { min self.old.accepts.count (2 ^ 64 - 1) ≤ self.new.accepts.count }
         ensures others { (self.new.leavers ≡ self.old.leavers) × (self.new.looked ≡ self.old.looked)
             × (self.new.looks ≡ self.old.looks) }
+        ensures called { IfOk result (λ has_come. vec_len self.old.callers < most_waiting
+            → HasAsked (S.calls sockets.old) (S.calls sockets.new) listener.now
+            ((vec_len self.old.callers == 0) && (vec_len self.old.leavers == 0)) has_come) }
+        ensures failed { IfErr result (FailsToAsk (S.calls sockets.old) (S.calls sockets.new) listener.now
+            ((vec_len self.old.callers == 0) && (vec_len self.old.leavers == 0))) }
     {
-        let is_alone = self.callers.is_empty() && self.leavers.is_empty();
+        let is_alone = self.is_alone();
         if is_full(self.callers.len()) {
             return Ok(false);
         }
-        listener.set_nonblocking(!is_alone)?;
-        match self.accepts.accept(listener) {
+        sockets.set_listener(listener, !is_alone)?;
+        match self.accepts.accept(sockets, listener) {
             Ok(stream) => {
-                self.add(heard(rt, routes, stream, is_alone));
+                self.add(heard(sockets, routes, stream, is_alone));
                 Ok(true)
             }
             Err(error) => self.go_without(error),
@@ -275,15 +320,19 @@ impl Waiting {
     }
 
     /// How long ago the server last looked at the connections. It looks now.
-    fn passed(&mut self, rt: &HostRuntime) -> io::Result<Duration>
+    fn passed<S: Sockets>(&mut self, sockets: &mut S) -> io::Result<Duration>
         ensures passed { IfOk result (λ d. IsSomeAnd self.new.looked (λ now.
             as_nanos d ≡ time_since self.old.looked now)) }
         ensures failed { IfErr result (λ _. self.new.looked ≡ self.old.looked) }
         ensures looks { IfOk result (λ _. self.new.looks ≡ min (self.old.looks + 1) (2 ^ 64 - 1)) }
         ensures others { (self.new.callers ≡ self.old.callers) × (self.new.leavers ≡ self.old.leavers) }
         ensures unasked { self.new.accepts ≡ self.old.accepts }
+        ensures called { IfOk result (λ _.
+            IsClockRead (S.calls sockets.old) (S.calls sockets.new) self.new.looked []) }
+        ensures cause { IfErr result (λ e.
+            Makes (S.calls sockets.old) (S.calls sockets.new) (clock_read (Err e) ∷ [])) }
     {
-        let now = Instant::now(rt)?;
+        let now = sockets.instant()?;
         let passed = time_since(self.looked, now);
         self.looked = Some(now);
         self.looks = self.looks.saturating_add(1);
@@ -302,12 +351,7 @@ impl Waiting {
     }
 
     /// The place of the first connection whose request is whole, or whose time for it is over; and whether it is whole.
-    fn place(
-        &mut self,
-        rt: &HostRuntime,
-        routes: &Routes,
-        passed: Duration,
-    ) -> Option<(usize, bool)>
+    fn place(&mut self, alloc: Global, routes: &Routes, passed: Duration) -> Option<(usize, bool)>
         ensures bound { IfSome result (λ found. found.0 < vec_len self.new.callers) }
         ensures whole { IfSome result (λ found. found.1 ≡ true
             → HoldsAt (λ caller. caller.awaited ≡ Nothing) self.new.callers.items found.0) }
@@ -330,7 +374,7 @@ impl Waiting {
                 return None;
             };
             let others = kept.saturating_sub(caller.kept());
-            let seen = look_at(rt, routes, caller, passed, most_size(others, at == 0));
+            let seen = look_at(alloc, routes, caller, passed, most_size(others, at == 0));
             if let Some(is_whole) = seen {
                 return Some((at, is_whole));
             }
@@ -352,7 +396,11 @@ impl Waiting {
 
     /// Looks at all connections once. It closes those that have ended, and finds the first whose request is whole, or
     /// whose time for it is over; and whether it is whole.
-    fn look(&mut self, rt: &HostRuntime, routes: &Routes) -> io::Result<Option<(usize, bool)>>
+    fn look<S: Sockets>(
+        &mut self,
+        sockets: &mut S,
+        routes: &Routes,
+    ) -> io::Result<Option<(usize, bool)>>
         ensures bound { IfOk result (λ seen. IfSome seen (λ found. found.0 < vec_len self.new.callers)) }
         ensures whole { IfOk result (λ seen. IfSome seen (λ found. found.1 ≡ true
             → HoldsAt (λ caller. caller.awaited ≡ Nothing) self.new.callers.items found.0)) }
@@ -362,12 +410,21 @@ impl Waiting {
             StayInTime (time_since self.old.looked now) self.old.leavers.items self.new.leavers.items)) }
         ensures time { IfOk result (λ seen. IsSomeAnd self.new.looked (λ now. IfSome seen (λ found.
             AgeTo (time_since self.old.looked now) self.old.callers.items self.new.callers.items found.0))) }
+        ensures first { IfOk result (λ seen. IfSome seen (λ found.
+            AllWithin Waits self.new.callers.items 0 found.0)) }
+        ensures none { IfOk result (λ seen. seen ≡ None
+            → AllWithin Waits self.new.callers.items 0 (vec_len self.new.callers)) }
+        ensures room { IfOk result (λ _. KeepsRoom self.old.callers.items self.new.callers.items) }
         ensures looks { IfOk result (λ _. self.new.looks ≡ min (self.old.looks + 1) (2 ^ 64 - 1)) }
         ensures unasked { self.new.accepts ≡ self.old.accepts }
+        ensures called { IfOk result (λ _.
+            IsClockRead (S.calls sockets.old) (S.calls sockets.new) self.new.looked []) }
+        ensures cause { IfErr result (λ e.
+            Makes (S.calls sockets.old) (S.calls sockets.new) (clock_read (Err e) ∷ [])) }
     {
-        let passed = self.passed(rt)?;
+        let passed = self.passed(sockets)?;
         self.close_ended(passed);
-        Ok(self.place(rt, routes, passed))
+        Ok(self.place(sockets.memory(), routes, passed))
     }
 
     /// Adds a connection that ends. Where too many others end meanwhile, the first of them is closed.
@@ -387,53 +444,82 @@ impl Waiting {
     }
 
     /// Ends the connection of a client that has its answer. A connection that fails has ended.
-    pub(crate) fn part(&mut self, caller: Caller)
-        ensures { (self.new.callers ≡ self.old.callers) × (self.new.looked ≡ self.old.looked) }
+    pub(crate) fn part<S: Sockets>(&mut self, sockets: &mut S, caller: Caller)
+        ensures others { (self.new.callers ≡ self.old.callers) × (self.new.looked ≡ self.old.looked) }
+        ensures parted { IsParted (S.calls sockets.old) (S.calls sockets.new) caller.stream
+            (vec_capacity self.old.leavers) self.old.leavers.items self.new.leavers.items }
     {
-        let Ok(Some(leaver)) = Leaver::new(caller.into_stream()) else {
-            return;
-        };
-        self.leave(leaver);
+        match Leaver::new(sockets, caller.into_stream()) {
+            Ok(Some(leaver)) => self.leave(leaver),
+            Ok(None) => {}
+            Err(_) => {}
+        }
     }
 
-    /// Waits until all clients that have their answer have ended.
-    pub(crate) fn part_all(&mut self, rt: &HostRuntime)
-        ensures { self.new.callers ≡ self.old.callers }
+    /// Looks once at the clients that have their answer, and waits a little where one has not ended. Returns whether it
+    /// waited.
+    fn await_ends<S: Sockets>(&mut self, sockets: &mut S) -> io::Result<bool>
+        ensures callers { self.new.callers ≡ self.old.callers }
+        ensures ended { result ≡ Ok false → self.new.leavers.items ≡ [] }
+        ensures time { IfOk result (λ _. IsSomeAnd self.new.looked (λ now.
+            StayInTime (time_since self.old.looked now) self.old.leavers.items self.new.leavers.items)) }
+        ensures looks { IfOk result (λ _. self.new.looks ≡ min (self.old.looks + 1) (2 ^ 64 - 1)) }
+        ensures called { IfOk result (λ waits.
+            IsClockRead (S.calls sockets.old) (S.calls sockets.new) self.new.looked (pause_if waits)) }
+        ensures cause { IfErr result (λ e.
+            Makes (S.calls sockets.old) (S.calls sockets.new) (clock_read (Err e) ∷ [])) }
+    {
+        let ago = self.passed(sockets)?;
+        self.close_ended(ago);
+        if self.leavers.is_empty() {
+            return Ok(false);
+        }
+        sockets.sleep(Duration::from_millis(PAUSE));
+        Ok(true)
+    }
+
+    /// Waits until all clients that have their answer have ended. It gives up where the clock fails, and after so many
+    /// looks that no server makes.
+    pub(crate) fn part_all<S: Sockets>(&mut self, sockets: &mut S)
+        ensures callers { self.new.callers ≡ self.old.callers }
+        ensures ended { (self.new.leavers.items ≡ []) ⊎ ((e : IoError)
+            × EndsBy (S.calls sockets.old) (S.calls sockets.new) (clock_read (Err e)))
+            ⊎ (2 ^ 64 - 1 ≤ self.new.looks) }
     {
         for _ in 0..u64::MAX {
-            let Ok(passed) = self.passed(rt) else {
-                return;
-            };
-            self.close_ended(passed);
-            if self.leavers.is_empty() {
-                return;
+            match self.await_ends(sockets) {
+                Ok(true) => {}
+                Ok(false) => return,
+                Err(_) => return,
             }
-            thread::sleep(rt, Duration::from_millis(PAUSE));
         }
     }
 
     /// Waits a little. Where all places are taken, drops a connection at once to make room for those that the system
     /// queues.
-    fn rest(&mut self, rt: &HostRuntime, has_come: bool)
+    fn rest<S: Sockets>(&mut self, sockets: &mut S, has_come: bool)
         ensures full { most_waiting ≤ vec_len self.old.callers
             → LetsOneGo self.old.callers.items self.new.callers.items }
         ensures room { vec_len self.old.callers < most_waiting → self.new.callers ≡ self.old.callers }
         ensures others { (self.new.leavers ≡ self.old.leavers) × (self.new.looked ≡ self.old.looked)
             × (self.new.looks ≡ self.old.looks) }
         ensures unasked { self.new.accepts ≡ self.old.accepts }
+        ensures pause { vec_len self.old.callers < most_waiting
+            → Makes (S.calls sockets.old) (S.calls sockets.new) (pause_if (not has_come)) }
+        ensures no_pause { most_waiting ≤ vec_len self.old.callers → sockets.new ≡ sockets.old }
     {
         if is_full(self.callers.len()) {
             self.let_one_go();
         } else if !has_come {
-            thread::sleep(rt, Duration::from_millis(PAUSE));
+            sockets.sleep(Duration::from_millis(PAUSE));
         }
     }
 
     /// Waits for a connection with a request, or one whose time is over. It gives up only after so many looks that no
     /// server makes.
-    pub(crate) fn next(
+    pub(crate) fn next<S: Sockets>(
         &mut self,
-        rt: &HostRuntime,
+        sockets: &mut S,
         routes: &Routes,
         listener: &TcpListener,
     ) -> io::Result<Option<Next>>
@@ -442,15 +528,17 @@ impl Waiting {
         ensures ended { IfOk result (λ next. IfSome next (λ _. All HasTime self.new.leavers.items)) }
         ensures asked { IfOk result (λ next. IfSome next (λ _. vec_len self.old.callers < most_waiting
             → min (self.old.accepts.count + 1) (2 ^ 64 - 1) ≤ self.new.accepts.count)) }
+        ensures called { IfOk result (λ next. IfSome next (IsLetGo (S.calls sockets.old) (S.calls sockets.new))) }
+        ensures failed { IfErr result (FailsBy (S.calls sockets.old) (S.calls sockets.new)) }
     {
         for _ in 0..u64::MAX {
-            let has_come = self.take(rt, routes, listener)?;
-            match self.look(rt, routes)? {
+            let has_come = self.take(sockets, routes, listener)?;
+            match self.look(sockets, routes)? {
                 Some((at, is_whole)) => {
                     let caller = self.callers.remove(at);
-                    return Ok(Some(next_of(caller, is_whole)));
+                    return Ok(Some(next_of(sockets, caller, is_whole)));
                 }
-                None => self.rest(rt, has_come),
+                None => self.rest(sockets, has_come),
             }
         }
         Ok(None)

@@ -1,13 +1,53 @@
-use Rattle.std.proofs.Common.{◌≤◌, ◌+◌, min, vec_len, subst, sym, ap, inl, inr, refl, rules, arith}
+use Rattle.std.proofs.Common.{◌≤◌, ◌+◌, ◌∙◌, min, vec_len, subst, sym, ap, rules, Err, IfErr}
+use Rattle.std.proofs.lemmas.Result.{err_from_is_err_and}
+use Rattle.tb_desk.specs.Sockets.{FailsBy}
 use Rattle.tb_desk.proofs.Asked.{asked_now}
+use Rattle.tb_desk.proofs.Making.{asked_made, asking_fails, clock_fails, clock_made, lets_go, made_by_room, made_more}
 use Rattle.tb_desk.proofs.Staying.{have_time_now}
 use Rattle.tb_desk.proofs.waiting.Waiting.next.Goals as goal
 
 pub returns-in-Some-clause-ended : goal.returns-in-Some-clause-ended
-returns-in-Some-clause-ended c = have_time_now c.look.new.self.looked c.take.new.self.looked c.take.new.self.leavers.items c.look.new.self.leavers.items c.in_ok-at.ensures.ended
+returns-in-Some-clause-ended g c = have_time_now c.look.new.self.looked c.take.new.self.looked c.take.new.self.leavers.items c.look.new.self.leavers.items c.in_ok-at.ensures.ended
 
 pub returns-in-Some-clause-asked : goal.returns-in-Some-clause-asked
-returns-in-Some-clause-asked c = λ few.
+returns-in-Some-clause-asked g c = λ few.
     subst (λ a. min (c.args.self.now.accepts.count + 1) 18446744073709551615 ≤ a) (sym (ap (λ a. a.count) c.look.ensures.unasked))
     (asked_now (vec_len c.args.self.now.callers) c.args.self.now.accepts.count (vec_len c.loop.self.callers) c.loop.self.accepts.count c.take.new.self.accepts.count
     c.loop.invariant.1 c.in_ok-has_come.ensures.asked c.take.ensures.counted few)
+
+pub returns-in-Some-clause-called : goal.returns-in-Some-clause-called
+returns-in-Some-clause-called g c =
+    let calls = g.S.Sockets.calls in
+    let took = made_by_room (vec_len c.loop.self.callers) (calls c.loop.sockets) (calls c.take.new.sockets) (λ full. ap calls (c.take.ensures.full full).2)
+    (λ room. asked_made _ _ _ _ _ (c.in_ok-has_come.ensures.called room)) in
+    let looked = clock_made (calls c.take.new.sockets) (calls c.look.new.sockets) c.look.new.self.looked _ c.in_ok-at.ensures.called in
+    lets_go _ (calls c.look.new.sockets) _ _ _ _ (made_more _ _ _ c.loop.invariant.2 (made_more _ _ _ took looked)) c.next_of.ensures
+
+pub returns-in_err-has_come-clause-failed : goal.returns-in_err-has_come-clause-failed
+returns-in_err-has_come-clause-failed g c =
+    let calls = g.S.Sockets.calls in
+    let p = err_from_is_err_and c.from_residual.result c.from_residual.ensures.1 in
+    subst (λ r. IfErr r (FailsBy (calls c.args.sockets.now) (calls c.take.new.sockets))) (sym (p.1 ∙ ap Err p.2))
+    (asking_fails _ (calls c.loop.sockets) _ _ _ _ c.loop.invariant.2 c.in_err-has_come.ensures.failed)
+
+pub returns-in_err-at-clause-failed : goal.returns-in_err-at-clause-failed
+returns-in_err-at-clause-failed g c =
+    let calls = g.S.Sockets.calls in
+    let took = made_by_room (vec_len c.loop.self.callers) (calls c.loop.sockets) (calls c.take.new.sockets) (λ full. ap calls (c.take.ensures.full full).2)
+    (λ room. asked_made _ _ _ _ _ (c.in_ok-has_come.ensures.called room)) in
+    let p = err_from_is_err_and c.from_residual-in_err-at.result c.from_residual-in_err-at.ensures.1 in
+    subst (λ r. IfErr r (FailsBy (calls c.args.sockets.now) (calls c.look.new.sockets))) (sym (p.1 ∙ ap Err p.2))
+    (clock_fails _ (calls c.take.new.sockets) _ _ (made_more _ _ _ c.loop.invariant.2 took) c.in_err-at.ensures.cause)
+
+pub loop-preserved : goal.loop-preserved
+loop-preserved g c =
+    let calls = g.S.Sockets.calls in
+    let took = made_by_room (vec_len c.loop.self.callers) (calls c.loop.sockets) (calls c.take.new.sockets) (λ full. ap calls (c.take.ensures.full full).2)
+    (λ room. asked_made _ _ _ _ _ (c.in_ok-has_come.ensures.called room)) in
+    let looked = clock_made (calls c.take.new.sockets) (calls c.look.new.sockets) c.look.new.self.looked _ c.in_ok-at.ensures.called in
+    let rested = made_by_room (vec_len c.look.new.self.callers) (calls c.look.new.sockets) (calls c.rest.new.sockets) (λ full. ap calls (c.rest.ensures.no_pause full))
+    (λ room. (_, c.rest.ensures.pause room)) in (
+      search rules,
+      search rules,
+      made_more _ _ _ c.loop.invariant.2 (made_more _ _ _ took (made_more _ _ _ looked rested)),
+    )
