@@ -38,8 +38,16 @@ class Chromium(driver.Browser):
         self.base = f"http://127.0.0.1:{port}/session"
         size = "--window-size=%d,%d" % driver.SIZE
         options = {"args": ["--headless=new", "--no-sandbox", "--disable-dev-shm-usage", "--disable-gpu", "--lang=en-US", size, *args]}
-        capabilities = {"browserName": "chrome", "goog:chromeOptions": options, "goog:loggingPrefs": {"browser": "ALL"}}
-        self.base += "/" + self.call("POST", "", {"capabilities": {"alwaysMatch": capabilities}})["sessionId"]
+        self.base += "/" + self.begin({"browserName": "chrome", "goog:chromeOptions": options, "goog:loggingPrefs": {"browser": "ALL"}})
+
+    def begin(self, capabilities):
+        """Begins a session, and gives its name. On a busy machine the browser may not be there in time, so a few times."""
+        for attempt in range(5):
+            try:
+                return self.call("POST", "", {"capabilities": {"alwaysMatch": capabilities}})["sessionId"]
+            except driver.Faulty:
+                if attempt == 4:
+                    raise
 
     def call(self, method, path, body=None):
         data = None if body is None else json.dumps(body).encode()

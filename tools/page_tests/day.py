@@ -222,7 +222,7 @@ def searches(cem, desk, folder):
     cem.save_in(folder)
     cem.click(".save", "CSV")
     saved = pathlib.Path(folder) / "count-upos.csv"
-    for _ in range(100):
+    for _ in range(600):
         if saved.exists():
             break
         time.sleep(0.05)

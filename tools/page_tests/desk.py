@@ -3,6 +3,7 @@
 import argparse
 import atexit
 import collections
+import os
 import pathlib
 import socket
 import subprocess
@@ -24,6 +25,12 @@ def same(what, wanted, found):
 
 def holds(what, found):
     same(what, True, bool(found))
+
+
+def is_soon(what, seconds, limit):
+    """Compares a time with its limit. Where others keep the processors busy, five times as long is soon enough."""
+    limit *= 1 if os.getloadavg()[0] < os.cpu_count() else 5
+    holds(f"{what} takes {seconds:.2f} seconds, and has to take less than {limit}", seconds < limit)
 
 
 def sample(name):

@@ -64,8 +64,8 @@ class Browser:
     def texts(self, css):
         return self.run("return [...document.querySelectorAll(arguments[0])].map(node => node.textContent)", css)
 
-    def until(self, script, *args, seconds=20):
-        """Waits until the script gives something that is true, and gives it."""
+    def until(self, script, *args, seconds=60):
+        """Waits until the script gives something that is true, and gives it. The time is that of a machine that is busy."""
         end = time.monotonic() + seconds
         while time.monotonic() < end:
             value = self.run(script, *args)

@@ -10,7 +10,7 @@ import time
 import types
 import urllib.parse
 
-from page_tests.desk import Desk, ROOT, STEPS, asked, holds, same, sample, tally
+from page_tests.desk import Desk, ROOT, STEPS, asked, holds, is_soon, same, sample, tally
 
 TYPES = {".html": "text/html", ".css": "text/css", ".js": "text/javascript"}
 FILES = {"/": "index.html", **{f"/page/{name}": name for name in ("page.css", "desk.js", "rows.js", "conllu.js", "tree.js", "edit.js", "find.js", "page.js")}}
@@ -147,7 +147,7 @@ def texts_that_come_slowly():
         begun = time.monotonic()
         for _ in range(10):
             same("a request beside a slow check", 200, desk.ask("GET /totals")[0])
-        holds("ten requests beside a slow check take less than two seconds", time.monotonic() - begun < 2)
+        is_soon("ten requests beside a slow check", time.monotonic() - begun, 2)
         slow.sendall(whole[at + 10:])
         has("the slow check", b"".join(iter(lambda: slow.recv(65536), b"")), 200, "text/plain", wanted)
     for cut in (at, at + 10, len(whole) - 1):
@@ -310,7 +310,7 @@ def silent_clients():
     begun = time.monotonic()
     for _ in range(20):
         same("a request beside silent clients", 200, desk.ask("GET /totals")[0])
-    holds("twenty requests beside silent clients take less than two seconds", time.monotonic() - begun < 2)
+    is_soon("twenty requests beside silent clients", time.monotonic() - begun, 2)
     held[1].sendall(f"TP/1.1\r\nHost: 127.0.0.1:{desk.port}\r\n\r\n".encode())
     same("a head that comes later", "200", split(held[1].recv(65536))[0][0].split()[1])
     for connection in held:

@@ -231,15 +231,19 @@ def cutting(desk, keep):
         start = answer.find(b"\r\n\r\n") + 4
         connection.sendall(answer[:start + keep] if head.startswith(b"POST /search/") else answer)
 
+    def answer(connection):
+        connection.settimeout(30)
+        with connection, contextlib.suppress(OSError):
+            relay(connection)
+
     def serve():
         while True:
             try:
                 connection, _ = listener.accept()
             except OSError:
                 return
-            connection.settimeout(0.3)  # (a browser opens some that it does not use)
-            with connection, contextlib.suppress(OSError):
-                relay(connection)
+            # (a browser opens some that it does not use, which keep no other waiting)
+            threading.Thread(target=answer, args=[connection], daemon=True).start()
 
     threading.Thread(target=serve, daemon=True).start()
     return port, listener.close
@@ -260,8 +264,9 @@ def broken_answers(driver):
         same("a number to cite", None, browser.text("#cite"))
         close()
     at_board(browser, desk)
+    browser.run("window.before = document.querySelector('.card')")
     say_who(browser, "ann")
-    time.sleep(0.5)
+    browser.until("return !window.before.isConnected")
     browser.click("#e-1-withdraw")
     desk.close()
     browser.click("#e-1-withdraw")
