@@ -124,14 +124,14 @@ SaysWords placed count found =
 abbrev pub root_after : List RowText → ℕ → Option ℕ
 root_after rows first = option_map (λ k. first + 1 + k) (position is_root (drop (first + 1) rows))
 
--- two rows are told, each by its line and its ID
+-- two rows are named, each by its line and its ID
 abbrev pub SaysPairOf : Placed → (first second : ℕ) → Finding → Type 0
 SaysPairOf placed first second found =
     (found.sentence.now ≡ TWO_ROOTS.now) × (found.line ≡ row_line_of placed first)
     × (found.id ≡ option_map (λ row. row.id) (slice_get placed.block.rows first))
     × IsSomeAnd (slice_get placed.block.rows second) (λ row. found.detail ≡ And (row_line_of placed second) row.id)
 
--- the roots: no word is one, or the first two are told
+-- the roots: no word is one, or the first two are named
 abbrev pub SaysRoots : Placed → Finding → Type 0
 SaysRoots placed found =
     MatchOption (position is_root placed.block.rows) ((found.sentence.now ≡ NO_ROOT.now)
